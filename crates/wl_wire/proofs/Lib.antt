@@ -1,0 +1,4 @@
+pub mod Prefixes
+pub mod Counted
+pub mod Found
+pub mod ReadAgain
