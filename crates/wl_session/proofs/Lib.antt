@@ -1,0 +1,7 @@
+pub mod Colors
+pub mod Desktops
+pub mod Images
+pub mod Marks
+pub mod Peers
+pub mod Runs
+pub mod Written

@@ -1,0 +1,26 @@
+use Rattle.std.proofs.Common.{◌≡◌, false, refl, ap, sym, [], inl, inr}
+use Rattle.std.proofs.lemmas.List.{append-nil}
+use Rattle.wl_session.specs.declared.steps.Done.TheVariants as gave
+use Rattle.wl_session.specs.Step.{Connect, act_of}
+use Rattle.wl_session.specs.Run.{takes_memory}
+use Rattle.wl_session.proofs.Runs.{Leads-none, Shows-none}
+use Rattle.wl_session.proofs.sessions.Session.take_step.Goals as goal
+
+pub returns-in-Feed : goal.returns-in-Feed
+returns-in-Feed g c =
+    let quiet : takes_memory (act_of c.args.step.now) ≡ false = elim c.in-Feed.is [
+      | inl h ↦ ap (λ s. takes_memory (act_of s)) h.2
+      | inr (inl h) ↦ ap (λ s. takes_memory (act_of s)) h.1
+      | inr (inr (inl h)) ↦ ap (λ s. takes_memory (act_of s)) h.2
+      | inr (inr (inr h)) ↦ ap (λ s. takes_memory (act_of s)) h.1
+    ] in record {
+      taken = λ _. ([], sym (append-nil _), Leads-none _ c.step.result _ _ c.step.ensures.step (Shows-none _ _ _ quiet c.step.ensures.frame));
+      refused = λ h. absurd (cc);
+      shots = λ h. absurd (cc);
+    }
+
+pub returns-in-Ok-clause-taken : goal.returns-in-Ok-clause-taken
+returns-in-Ok-clause-taken g c = rw c.in-Connect.is (λ _. ([], sym (append-nil _), Leads-none Connect (gave.Connect c.connect.result) _ _ c.connect.ensures.step (refl, c.connect.ensures.frame)))
+
+pub returns-in-Ok-2-clause-taken : goal.returns-in-Ok-2-clause-taken
+returns-in-Ok-2-clause-taken g c = rw c.in-Connect.is (λ _. ([], sym (append-nil _), Leads-none Connect (gave.Connect c.connect.result) _ _ c.connect.ensures.step (refl, c.connect.ensures.frame)))

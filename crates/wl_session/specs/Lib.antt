@@ -1,0 +1,9 @@
+pub mod Agreement
+pub mod Damage
+pub mod Desktop
+pub mod Frame
+pub mod Image
+pub mod Run
+pub mod Step
+pub mod View
+pub use Rattle.wl_wire.specs.Wire

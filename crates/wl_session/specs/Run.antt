@@ -1,0 +1,90 @@
+-- Runs of a session: the frames of its ticks, and whole lists of steps.
+use Rattle.std.specs.List.{list_any}
+use Rattle.std.specs.Prelude.{ℕ, ◌≡◌, ◌+◌, List, [], ◌∷◌, ◌++◌, slice_get, Bool, true, false, ◌&&◌, ◌==◌, nat_le, nat_lt, IsTrue, IsSomeAnd}
+use Rattle.wl_session.specs.Frame.{Image, color_at}
+use Rattle.wl_session.specs.Desktop.{Desktop}
+use Rattle.wl_session.specs.Step.{Act, Connect, Feed, Leave, Tick, Send, Close, Steps, act_of}
+use Rattle.wl_session.specs.Agreement.{Agrees}
+use Rattle.wl_session.specs.View.{SessionView}
+use Rattle.wl_session.specs.declared.steps.Done.{Done}
+use Rattle.wl_session.specs.declared.steps.Step.{Step}
+use Rattle.wl_session.specs.declared.steps.RunError.{RunError}
+use Rattle.wl_session.specs.declared.steps.RunError.TheVariants.{Memory}
+use Rattle.wl_session.specs.declared.shots.Run.{Run}
+use Rattle.wl_session.specs.declared.shots.Shot.{Shot}
+
+-- A frame follows another: its pixels outside the damage are those of the frame before. No request that is served
+-- yet changes what is seen, so nothing is damaged and the frame stays as it was.
+pub record IsNextFrame (before after : Image) (damaged : ℕ → ℕ → Bool) : Type 0 where
+  pub kept : (x y : ℕ) → damaged x y ≡ false → color_at after x y ≡ color_at before x y
+  pub nothing : (x y : ℕ) → damaged x y ≡ false
+  pub same : after ≡ before
+
+-- a frame as it is reported: when, which runs of pixels were painted, and the bytes of the whole image
+pub record Film : Type 0 where
+  pub time : ℕ
+  pub runs : List Run
+  pub pixels : List ℕ
+
+abbrev pub film_of : {A : Type 0} → Shot A → Film
+film_of shot = record { time = shot.time; runs = shot.runs.items; pixels = shot.pixels.items }
+
+-- some run holds the point
+abbrev pub in_runs : List Run → ℕ → ℕ → Bool
+in_runs runs x y = list_any (λ run. (run.y == y) && (nat_le run.x x && nat_lt x (run.x + run.w))) runs
+
+-- the frame of a tick at this time, and its report
+pub record IsFilm (time : ℕ) (before : Image) (film : Film) (after : Image) : Type 0 where
+  pub shown : film.time ≡ time
+  pub none : film.runs ≡ []
+  pub pixels : film.pixels ≡ after.pixels
+  pub next : IsNextFrame before after (in_runs film.runs)
+
+-- a tick shows one frame, and another step none
+abbrev pub Shows : Act → Image → List Film → Image → Type 0
+Shows (Tick time) before films after = (film : Film) × (films ≡ film ∷ []) × IsFilm time before film after
+Shows Connect before films after = (films ≡ []) × (after ≡ before)
+Shows (Feed c piece) before films after = (films ≡ []) × (after ≡ before)
+Shows (Leave c) before films after = (films ≡ []) × (after ≡ before)
+Shows (Send c n) before films after = (films ≡ []) × (after ≡ before)
+Shows (Close c) before films after = (films ≡ []) × (after ≡ before)
+
+-- one step leads a session from old to new, and shows these frames
+abbrev pub Leads : Act → List Film → SessionView → SessionView → Type 0
+Leads act films old new =
+    ((d : Desktop) → Agrees old.clients d → (e : Desktop) × (done : Done) × Steps d act done e × Agrees new.clients e)
+    × Shows act old.frame films new.frame
+
+-- a session stands for every desktop that it stood for, and shows the same frame
+abbrev pub Stays : SessionView → SessionView → Type 0
+Stays old new = ((d : Desktop) → Agrees old.clients d → Agrees new.clients d) × (new.frame ≡ old.frame)
+
+-- A whole run: these steps lead from the first desktop to the second, and these are the frames of their ticks.
+abbrev pub Runs : Image → Desktop → List Act → List Film → Image → Desktop → Type 0
+Runs before old [] films after new = (films ≡ []) × (after ≡ before) × (new ≡ old)
+Runs before old (act ∷ acts) films after new =
+    (mid : Desktop) × (done : Done) × (image : Image) × (first : List Film) × (later : List Film)
+    × Steps old act done mid × Shows act before first image × (films ≡ first ++ later) × Runs image mid acts later after new
+
+-- These steps lead a session from old to new: whatever desktop agrees before, there is a run with these frames from it
+-- to one that agrees after.
+abbrev pub TakesSteps : List Act → List Film → SessionView → SessionView → Type 0
+TakesSteps acts films old new =
+    (d : Desktop) → Agrees old.clients d → (e : Desktop) × Runs old.frame d acts films new.frame e × Agrees new.clients e
+
+-- how many steps were taken before a run stopped
+abbrev pub taken_by : RunError → ℕ
+taken_by (Memory n) = n
+
+-- only a connect and a frame's report take memory that a run may want
+abbrev pub takes_memory : Act → Bool
+takes_memory Connect = true
+takes_memory (Tick time) = true
+takes_memory (Feed c piece) = false
+takes_memory (Leave c) = false
+takes_memory (Send c n) = false
+takes_memory (Close c) = false
+
+-- the step with this index, counted from 0, may want memory
+abbrev pub MayStopAt : List Step → ℕ → Type 0
+MayStopAt steps n = IsSomeAnd (slice_get steps n) (λ step. IsTrue (takes_memory (act_of step)))

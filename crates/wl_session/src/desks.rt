@@ -1,0 +1,209 @@
+//! The desk: all clients, by number.
+
+ghost use Rattle.std.specs.Prelude.{◌≡◌, ℕ, ◌+◌, ◌<◌, ◌≤◌, List, Option, length, IfOk, IfSome, IfNone, ◌⊎◌, false, Result, Ok, Err};
+ghost use Rattle.std.specs.Option.{option_copied};
+ghost use Rattle.wl_session.specs.Desktop.{Peer, Desktop, empty, lowest, peer_at};
+ghost use Rattle.wl_session.specs.Step.{ChangesAt, IsFed, IsLeft, IsSent, IsClosed, Connect, Feed, Leave, Send, Close, unsent_of, status_of};
+ghost use Rattle.wl_session.specs.Agreement.{IsSlot, Agrees, TakesStep};
+
+use crate::clients::Client;
+use crate::steps::{ClientNo, ConnectError, Done, Fed};
+use std::alloc::{AllocError, Allocator};
+use std::marker::Model;
+
+/// How many clients there may be at once.
+const CLIENT_LIMIT: usize = 32;
+
+/// All clients. It is seen as what is kept of each, by number from 1.
+#[derive(Drop)]
+pub struct Desk<A: Allocator> {
+    clients: Vec<Option<Client<A>>, A>,
+}
+
+impl<A: Allocator> Model for Desk<A> {
+    ghost use Rattle.std.specs.Prelude.{◌≡◌, List, Option, length};
+    ghost use Rattle.wl_session.specs.View.{ClientView};
+
+    ghost Value = { List (Option ClientView) };
+
+    ghost view = { λ d. d.clients.items };
+
+    ghost invariant = { λ d. length d.clients.items ≡ 32 };
+}
+
+impl<A: Allocator + Copy> Desk<A> {
+    /// A desk without clients.
+    pub fn new(alloc: A) -> Result<Self, AllocError>
+        ensures { IfOk result (λ desk. Agrees desk empty) }
+    {
+        let mut clients = Vec::with_capacity(alloc, CLIENT_LIMIT)?;
+        for _ in 0..CLIENT_LIMIT {
+            clients.push(None)?;
+        }
+        Ok(Desk { clients })
+    }
+
+    /// A client connects. It gets the lowest free number.
+    pub fn connect(&mut self) -> Result<ClientNo, ConnectError>
+        ensures { TakesStep Connect (Done.Connect result) self.old self.new }
+    {
+        let Some(k) = free_place(&self.clients) else {
+            return Err(ConnectError::Full);
+        };
+        let Ok(client) = Client::new(*self.clients.allocator()) else {
+            return Err(ConnectError::Memory);
+        };
+        self.clients[k] = Some(client);
+        Ok(k as u32 + 1)
+    }
+
+    /// A piece of a client's stream comes.
+    pub fn feed(&mut self, client: ClientNo, piece: &[u8]) -> Fed
+        ensures { TakesStep (Feed client piece.now) (Done.Feed result) self.old self.new }
+    {
+        let Some(k) = place_of(&self.clients, client) else {
+            return Fed::NoClient;
+        };
+        let slot = &mut self.clients[k];
+        feed_slot(slot, piece)
+    }
+
+    /// A client goes. True where it was alive.
+    pub fn gone(&mut self, client: ClientNo) -> bool
+        ensures { TakesStep (Leave client) (Done.Gone result) self.old self.new }
+    {
+        let Some(k) = place_of(&self.clients, client) else {
+            return false;
+        };
+        let slot = &mut self.clients[k];
+        gone_slot(slot)
+    }
+
+    /// So many of a client's unsent bytes were sent. False and unchanged where there are fewer.
+    pub fn sent(&mut self, client: ClientNo, count: usize) -> bool
+        ensures { TakesStep (Send client count) (Done.Sent result) self.old self.new }
+    {
+        let Some(k) = place_of(&self.clients, client) else {
+            return false;
+        };
+        let slot = &mut self.clients[k];
+        sent_slot(slot, count)
+    }
+
+    /// Frees the number of a client that ended. True where it had.
+    pub fn close(&mut self, client: ClientNo) -> bool
+        ensures { TakesStep (Close client) (Done.Close result) self.old self.new }
+    {
+        let Some(k) = place_of(&self.clients, client) else {
+            return false;
+        };
+        let slot = &mut self.clients[k];
+        close_slot(slot)
+    }
+
+    /// The unsent bytes of a client.
+    pub fn out(&self, client: ClientNo) -> Option<&[u8]>
+        ensures { (d : Desktop) → Agrees self.now d → option_copied result ≡ unsent_of (peer_at d client) }
+    {
+        let Some(k) = place_of(&self.clients, client) else {
+            return None;
+        };
+        let slot = &self.clients[k];
+        out_of(slot)
+    }
+
+    /// How a client is.
+    pub fn status(&self, client: ClientNo) -> Fed
+        ensures { (d : Desktop) → Agrees self.now d → result ≡ status_of (peer_at d client) }
+    {
+        let Some(k) = place_of(&self.clients, client) else {
+            return Fed::NoClient;
+        };
+        let slot = &self.clients[k];
+        status_in(slot)
+    }
+}
+
+/// Where the client of this number stands, if it is a number.
+fn place_of<A: Allocator>(clients: &[Option<Client<A>>], client: ClientNo) -> Option<usize>
+    ensures some { IfSome result (λ k. (client ≡ k + 1) × (k < length clients.now)) }
+    ensures none { IfNone result ((client ≡ 0) ⊎ (length clients.now < client)) }
+{
+    if client == 0 || client as usize > clients.len() {
+        return None;
+    }
+    Some(client as usize - 1)
+}
+
+fn free_place<A: Allocator>(clients: &[Option<Client<A>>]) -> Option<usize>
+    ensures lowest { result ≡ lowest clients.now }
+    ensures within { IfSome result (λ k. k < length clients.now) }
+{
+    for (k, slot) in clients.iter().enumerate() {
+        if slot.is_none() {
+            return Some(k);
+        }
+    }
+    None
+}
+
+fn feed_slot<A: Allocator + Copy>(slot: &mut Option<Client<A>>, piece: &[u8]) -> Fed
+    ensures { (o : Option Peer) → IsSlot slot.old o → (q : Option Peer) × ChangesAt (IsFed piece.now) (Done.Feed Fed.NoClient) o (Done.Feed result) q × IsSlot slot.new q }
+{
+    match slot {
+        None => Fed::NoClient,
+        Some(client) => {
+            client.feed(piece);
+            client.status()
+        }
+    }
+}
+
+fn gone_slot<A: Allocator + Copy>(slot: &mut Option<Client<A>>) -> bool
+    ensures { (o : Option Peer) → IsSlot slot.old o → (q : Option Peer) × ChangesAt IsLeft (Done.Gone false) o (Done.Gone result) q × IsSlot slot.new q }
+{
+    match slot {
+        None => false,
+        Some(client) => client.gone(),
+    }
+}
+
+fn sent_slot<A: Allocator + Copy>(slot: &mut Option<Client<A>>, count: usize) -> bool
+    ensures { (o : Option Peer) → IsSlot slot.old o → (q : Option Peer) × ChangesAt (IsSent count) (Done.Sent false) o (Done.Sent result) q × IsSlot slot.new q }
+{
+    match slot {
+        None => false,
+        Some(client) => client.sent(count),
+    }
+}
+
+fn close_slot<A: Allocator + Copy>(slot: &mut Option<Client<A>>) -> bool
+    ensures { (o : Option Peer) → IsSlot slot.old o → (q : Option Peer) × ChangesAt IsClosed (Done.Close false) o (Done.Close result) q × IsSlot slot.new q }
+{
+    let ended = match slot {
+        None => false,
+        Some(client) => client.has_ended(),
+    };
+    if ended {
+        *slot = None;
+    }
+    ended
+}
+
+fn out_of<A: Allocator + Copy>(slot: &Option<Client<A>>) -> Option<&[u8]>
+    ensures { (o : Option Peer) → IsSlot slot.now o → option_copied result ≡ unsent_of o }
+{
+    match slot {
+        None => None,
+        Some(client) => Some(client.unsent()),
+    }
+}
+
+fn status_in<A: Allocator + Copy>(slot: &Option<Client<A>>) -> Fed
+    ensures { (o : Option Peer) → IsSlot slot.now o → result ≡ status_of o }
+{
+    match slot {
+        None => Fed::NoClient,
+        Some(client) => client.status(),
+    }
+}

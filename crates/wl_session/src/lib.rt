@@ -1,0 +1,23 @@
+//! The core of a compositor: clients, their streams, and steps of all of them in any order.
+#![tactic(auto)]
+
+mod backlog;
+mod clients;
+mod colour;
+mod damage;
+mod desks;
+mod framebuffer;
+mod ppm;
+mod row;
+mod sessions;
+mod shots;
+mod steps;
+
+pub use clients::Cause;
+pub use colour::Rgb;
+pub use damage::Damage;
+pub use framebuffer::{FrameError, Framebuffer, MAX_SIDE};
+pub use ppm::write_ppm;
+pub use sessions::{Config, Session};
+pub use shots::{Frame, Run, Shot};
+pub use steps::{ClientNo, ConnectError, Done, Fed, RunError, Step};

@@ -1,0 +1,245 @@
+//! The session: all clients and the frames that are shown of them.
+
+ghost use Rattle.std.specs.Prelude.{◌≡◌, ℕ, ◌*◌, ◌<◌, ◌≤◌, ◌+◌, ◌&&◌, ◌++◌, ◌↔◌, length, vec_len, map, take, true, false, IfOk, IfErr, OnOk, OnErr, IsErrOf};
+ghost use Rattle.std.specs.Borrow.{sem};
+ghost use Rattle.std.specs.Io.BufRead.{Rests};
+ghost use Rattle.std.specs.Option.{option_copied};
+ghost use Rattle.std.specs.Vec.{vec_capacity};
+ghost use Rattle.wl_session.specs.Damage.{has};
+ghost use Rattle.wl_session.specs.Desktop.{Desktop, empty, peer_at};
+ghost use Rattle.wl_session.specs.Frame.{color_at, filled, is_side};
+ghost use Rattle.wl_session.specs.Step.{Connect, Feed, Leave, Tick, Send, Close, act_of, unsent_of, status_of};
+ghost use Rattle.wl_session.specs.Agreement.{Agrees, TakesStep};
+
+use crate::colour::Rgb;
+use crate::damage::Damage;
+use crate::desks::Desk;
+use crate::framebuffer::{FrameError, Framebuffer};
+use crate::shots::{Frame, Shot};
+use crate::steps::{ClientNo, ConnectError, Done, Fed, RunError, Step};
+use std::alloc::{AllocError, Allocator};
+use std::marker::Model;
+
+/// What a session is made with.
+#[derive(Clone, Copy, Debug, PartialEq, Eq)]
+pub struct Config {
+    /// The output's width in pixels, 1 to 4,096.
+    pub width: u32,
+    /// The output's height in pixels, 1 to 4,096.
+    pub height: u32,
+    /// The colour where no window is.
+    pub background: Rgb,
+}
+
+/// All clients and the last frame. It is seen as what is kept of each client, by number from 1, and that frame.
+#[derive(Drop)]
+pub struct Session<A: Allocator> {
+    desk: Desk<A>,
+    framebuffer: Framebuffer<A>,
+    painted: Damage<A>,
+    alloc: A,
+}
+
+impl<A: Allocator> Model for Session<A> {
+    ghost use Rattle.std.specs.Prelude.{◌≡◌, ℕ, false};
+    ghost use Rattle.wl_session.specs.Damage.{has};
+    ghost use Rattle.wl_session.specs.View.{SessionView};
+
+    ghost Value = { SessionView };
+
+    ghost view = { λ s. record { clients = s.desk; frame = s.framebuffer } };
+
+    ghost invariant = { λ s. (x y : ℕ) → has s.painted x y ≡ false };
+}
+
+impl<A: Allocator + Copy> Session<A> {
+    ghost use Rattle.wl_session.specs.contracts.sessions.Session.{the_row};
+    ghost use Rattle.wl_session.specs.Run.{Film, IsFilm, IsNextFrame, Leads, MayStopAt, Stays, TakesSteps, film_of, taken_by, takes_memory};
+    ghost use Rattle.std.specs.Prelude.{List, [], ◌∷◌, IsTrue};
+
+    /// A session without clients, whose frame is the background.
+    pub fn new(alloc: A, config: Config) -> Result<Self, FrameError>
+        ensures clients { IfOk result (λ s. Agrees s.clients empty) }
+        ensures width { IfOk result (λ s. s.frame.width ≡ config.width) }
+        ensures height { IfOk result (λ s. s.frame.height ≡ config.height) }
+        ensures pixels { IfOk result (λ s. s.frame.pixels ≡ filled (config.width * config.height) config.background) }
+        ensures colors { IfOk result (λ s. (x y : ℕ) → x < config.width → y < config.height → color_at s.frame x y ≡ config.background) }
+        ensures bad { IsErrOf result FrameError.BadSize ↔ ((is_side config.width && is_side config.height) ≡ false) }
+    {
+        let framebuffer = Framebuffer::new(alloc, config.width, config.height, config.background)?;
+        let Ok(painted) = Damage::new(alloc, config.width, config.height) else {
+            return Err(FrameError::Memory);
+        };
+        let Ok(desk) = Desk::new(alloc) else {
+            return Err(FrameError::Memory);
+        };
+        Ok(Session {
+            desk,
+            framebuffer,
+            painted,
+            alloc,
+        })
+    }
+
+    /// A client connects. It gets the lowest free number.
+    pub fn connect(&mut self) -> Result<ClientNo, ConnectError>
+        ensures step { TakesStep Connect (Done.Connect result) self.old.clients self.new.clients }
+        ensures frame { self.new.frame ≡ self.old.frame }
+    {
+        self.desk.connect()
+    }
+
+    /// A piece of a client's stream comes. A stream may be cut anywhere; each whole message is taken once its last byte
+    /// is there. After an end the rest of the piece is dropped, and a piece for an ended client does nothing.
+    pub fn feed(&mut self, client: ClientNo, piece: &[u8]) -> Fed
+        ensures step { TakesStep (Feed client piece.now) (Done.Feed result) self.old.clients self.new.clients }
+        ensures frame { self.new.frame ≡ self.old.frame }
+    {
+        self.desk.feed(client, piece)
+    }
+
+    /// A client goes. True where it was alive.
+    pub fn gone(&mut self, client: ClientNo) -> bool
+        ensures step { TakesStep (Leave client) (Done.Gone result) self.old.clients self.new.clients }
+        ensures frame { self.new.frame ≡ self.old.frame }
+    {
+        self.desk.gone(client)
+    }
+
+    /// So many of a client's unsent bytes were sent. False and unchanged where there are fewer.
+    pub fn sent(&mut self, client: ClientNo, count: usize) -> bool
+        ensures step { TakesStep (Send client count) (Done.Sent result) self.old.clients self.new.clients }
+        ensures frame { self.new.frame ≡ self.old.frame }
+    {
+        self.desk.sent(client, count)
+    }
+
+    /// Gives back the number of a client that ended, with its unsent bytes. True where it had ended.
+    pub fn close(&mut self, client: ClientNo) -> bool
+        ensures step { TakesStep (Close client) (Done.Close result) self.old.clients self.new.clients }
+        ensures frame { self.new.frame ≡ self.old.frame }
+    {
+        self.desk.close(client)
+    }
+
+    /// The bytes that wait to be sent to a client, an ended one too. None where no client has the number.
+    pub fn out(&self, client: ClientNo) -> Option<&[u8]>
+        ensures { (d : Desktop) → Agrees self.now.clients d → option_copied result ≡ unsent_of (peer_at d client) }
+    {
+        self.desk.out(client)
+    }
+
+    /// How a client is.
+    pub fn status(&self, client: ClientNo) -> Fed
+        ensures { (d : Desktop) → Agrees self.now.clients d → result ≡ status_of (peer_at d client) }
+    {
+        self.desk.status(client)
+    }
+
+    /// A frame is shown. Its damage is what was painted for it.
+    ///
+    /// No request that is served yet changes what is seen: nothing is damaged, and the frame stays the background.
+    pub fn tick(&mut self, time: u32) -> Frame<'_, A>
+        ensures* after { sem 𝓛 (Rests (the_row A.row A.Allocator) self.entry (λ v. TakesStep (Tick time) Done.Tick self.old.clients v.clients × (v.frame ≡ result.pixels.now))) }
+        ensures frame { IsNextFrame self.old.frame result.pixels.now (has result.damage.now) }
+        ensures time { result.time ≡ time }
+    {
+        self.frame(time)
+    }
+
+    /// The last frame.
+    fn frame(&self, time: u32) -> Frame<'_, A>
+        ensures pixels { result.pixels.now ≡ self.now.frame }
+        ensures nothing { (x y : ℕ) → has result.damage.now x y ≡ false }
+        ensures time { result.time ≡ time }
+    {
+        Frame {
+            pixels: &self.framebuffer,
+            damage: &self.painted,
+            time,
+        }
+    }
+
+    /// Any one step. A tick's frame isn't given back.
+    pub fn step(&mut self, step: &Step) -> Done
+        ensures step { TakesStep (act_of step.now) result self.old.clients self.new.clients }
+        ensures frame { self.new.frame ≡ self.old.frame }
+    {
+        match *step {
+            Step::Connect => Done::Connect(self.connect()),
+            Step::Feed { client, piece } => Done::Feed(self.feed(client, piece)),
+            Step::Gone { client } => Done::Gone(self.gone(client)),
+            Step::Tick { time } => {
+                let _ = self.tick(time);
+                Done::Tick
+            }
+            Step::Sent { client, count } => Done::Sent(self.sent(client, count)),
+            Step::Close { client } => Done::Close(self.close(client)),
+        }
+    }
+
+    /// Steps in order, with a copy of each tick's frame. A copy has its memory before its tick is taken.
+    ///
+    /// An `Err` says how many steps were taken; the next found no memory, and nothing of it was taken.
+    pub fn run(&mut self, steps: &[Step]) -> Result<Vec<Shot<A>, A>, RunError>
+        ensures ok { IfOk result (λ shots. TakesSteps (map act_of steps.now) (map film_of shots.items) self.old self.new) }
+        ensures err { IfErr result (λ e. (films : List Film) × TakesSteps (map act_of (take (taken_by e) steps.now)) films self.old self.new) }
+        ensures stopped { IfErr result (λ e. MayStopAt steps.now (taken_by e)) }
+    {
+        let mut shots = Vec::new(self.alloc);
+        for (n, step) in steps.iter().enumerate() {
+            if !self.take_step(step, &mut shots) {
+                return Err(RunError::Memory(n));
+            }
+        }
+        Ok(shots)
+    }
+
+    /// Takes one step of a run. False where it found no memory; then nothing of it was taken.
+    fn take_step(&mut self, step: &Step, shots: &mut Vec<Shot<A>, A>) -> bool
+        ensures taken { result ≡ true → (films : List Film) × (map film_of shots.new.items ≡ map film_of shots.old.items ++ films) × Leads (act_of step.now) films self.old self.new }
+        ensures refused { result ≡ false → Stays self.old self.new × IsTrue (takes_memory (act_of step.now)) }
+        ensures shots { result ≡ false → map film_of shots.new.items ≡ map film_of shots.old.items }
+    {
+        match *step {
+            Step::Connect => match self.connect() {
+                Err(ConnectError::Memory) => false,
+                Ok(_) | Err(ConnectError::Full) => true,
+            },
+            Step::Tick { time } => self.shoot(time, shots).is_ok(),
+            Step::Feed { .. } | Step::Gone { .. } | Step::Sent { .. } | Step::Close { .. } => {
+                self.step(step);
+                true
+            }
+        }
+    }
+
+    /// A tick with a copy of its frame. An `Err` changes nothing.
+    fn shoot(&mut self, time: u32, shots: &mut Vec<Shot<A>, A>) -> Result<(), AllocError>
+        ensures ok { OnOk result ((film : Film) × (map film_of shots.new.items ≡ map film_of shots.old.items ++ film ∷ []) × IsFilm time self.old.frame film self.new.frame) }
+        ensures step { OnOk result (TakesStep (Tick time) Done.Tick self.old.clients self.new.clients) }
+        ensures err { OnErr result ((self.new ≡ self.old) × (shots.new.items ≡ shots.old.items)) }
+    {
+        let alloc = self.alloc;
+        shots.reserve(1)?;
+        let mut pixels = Vec::with_capacity(alloc, self.framebuffer.pixels().len())?;
+        let frame = self.tick(time);
+        append_reserved(&mut pixels, frame.pixels.pixels());
+        shots.push_reserved(Shot {
+            time,
+            runs: Vec::new(alloc),
+            pixels,
+        });
+        Ok(())
+    }
+}
+
+/// Appends bytes for which there is room.
+fn append_reserved<A: Allocator>(bytes: &mut Vec<u8, A>, more: &[u8])
+    requires { vec_len bytes.old + length more.now ≤ vec_capacity bytes.old }
+    ensures { bytes.new.items ≡ bytes.old.items ++ more.now }
+{
+    let Ok(()) = bytes.extend_from_slice(more) else {
+        unreachable!()
+    };
+}
