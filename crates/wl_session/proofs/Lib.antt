@@ -1,7 +1,13 @@
 pub mod Colors
+pub mod Cuts
 pub mod Desktops
 pub mod Images
 pub mod Marks
+pub mod OnlyRun
+pub mod Others
 pub mod Peers
+pub mod Pieces
+pub mod Rows
 pub mod Runs
+pub mod Unique
 pub mod Written

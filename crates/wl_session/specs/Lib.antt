@@ -3,6 +3,8 @@ pub mod Damage
 pub mod Desktop
 pub mod Frame
 pub mod Image
+pub mod Laws
+pub mod Plain
 pub mod Run
 pub mod Step
 pub mod View
