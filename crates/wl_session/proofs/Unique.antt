@@ -83,4 +83,3 @@ one_at None a p q r h k kept left =
     (reached_is k.0 start k.1 (subst (λ (x : Peer). x.status ≢ Some Memory) t.0 left) k.2)
     s.1 t.1
     ∙ sym t.0
-

@@ -239,7 +239,7 @@ impl<A: Allocator + Copy> Client<A> {
         ensures idle { result ≡ false → (self.new ≡ self.old) × IsIdleAt self.old.ended self.old.rest }
         ensures less { result ≡ true → length self.new.rest < length self.old.rest }
     {
-        if self.ended.is_some() {
+        if self.has_ended() {
             return false;
         }
         match split(self.rest.as_slice()) {

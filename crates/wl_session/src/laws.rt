@@ -5,17 +5,14 @@ ghost use Rattle.wl_session.specs.Laws.{AnyPieces, OneRun, OthersStay};
 /// A client's stream may be cut into any pieces: two pieces lead where they lead as one.
 pub fn any_pieces()
     ensures { AnyPieces }
-{
-}
+{}
 
 /// Where no want of memory is met, a list of steps has one run: one desktop at its end, and one list of frames.
 pub fn one_run()
     ensures { OneRun }
-{
-}
+{}
 
 /// A step of one client leaves every other client as it was.
 pub fn others_stay()
     ensures { OthersStay }
-{
-}
+{}
