@@ -1,0 +1,116 @@
+//! Each allocation of a session refused in turn. The heap refuses every allocation after its last.
+
+use std::alloc::Allocator;
+use std::test::Fail;
+use test_support::Refusing;
+use wl_session::{Cause, Config, ConnectError, Fed, FrameError, Rgb, RunError, Session, Step};
+
+const CONFIG: Config = Config {
+    width: 2,
+    height: 1,
+    background: Rgb { r: 0, g: 0, b: 0 },
+};
+
+/// wl_display.sync with the new callback 2.
+const SYNC: [u8; 12] = [1, 0, 0, 0, 0, 0, 12, 0, 2, 0, 0, 0];
+
+/// What became of a run, with how its client is afterwards and how many bytes wait for it.
+#[derive(Clone, Copy, Debug, PartialEq, Eq)]
+enum Outcome {
+    NoSession(FrameError),
+    Stopped(RunError, Fed),
+    Ran(Fed, usize),
+}
+
+fn waiting<A: Allocator + Copy>(session: &Session<A>) -> usize {
+    session.out(1).map_or(0, |out| out.len())
+}
+
+fn run_of_a_sync<A: Allocator + Copy>(alloc: A) -> Outcome {
+    let steps = [
+        Step::Connect,
+        Step::Feed {
+            client: 1,
+            piece: &SYNC,
+        },
+        Step::Tick { time: 0 },
+    ];
+    let mut session = match Session::new(alloc, CONFIG) {
+        Ok(session) => session,
+        Err(error) => return Outcome::NoSession(error),
+    };
+    match session.run(&steps) {
+        Ok(_) => Outcome::Ran(session.status(1), waiting(&session)),
+        Err(error) => Outcome::Stopped(error, session.status(1)),
+    }
+}
+
+/// A session that finds no memory isn't made. A run stops at the connect or at the tick that finds none, with the steps
+/// before it taken: the client isn't there yet, or is there, and where there was none for its message, has ended for it.
+#[test]
+fn a_run_stops_where_memory_is_refused(rt: HostRuntime) -> Result<(), Fail> {
+    let mut at_connect = 0_u32;
+    let mut at_tick = 0_u32;
+    let mut ran = false;
+    for served in 0..1000_u64 {
+        let heap = Refusing::new(rt.alloc(), served);
+        let outcome = run_of_a_sync(&heap);
+        if !heap.refused() {
+            assert_eq!(rt; outcome, Outcome::Ran(Fed::Alive, 24));
+            ran = true;
+            break;
+        }
+        match outcome {
+            Outcome::NoSession(error) => assert_eq!(rt; error, FrameError::Memory),
+            Outcome::Stopped(RunError::Memory(0), status) => {
+                assert_eq!(rt; status, Fed::NoClient);
+                at_connect = at_connect.saturating_add(1);
+            }
+            Outcome::Stopped(RunError::Memory(2), status) => {
+                assert!(rt; status == Fed::Alive || status == Fed::Ended(Cause::Memory));
+                at_tick = at_tick.saturating_add(1);
+            }
+            other => assert!(rt; false, "{other:?} after {served} allocations"),
+        }
+    }
+    assert!(rt; ran && at_connect > 0 && at_tick > 0);
+    Ok(())
+}
+
+/// A connect that finds no memory gives no number, and a client whose message finds none ends for it, with nothing of
+/// an event that wasn't queued.
+#[test]
+fn a_client_ends_where_memory_is_refused(rt: HostRuntime) -> Result<(), Fail> {
+    let mut refused = 0_u32;
+    let mut ended = 0_u32;
+    let mut answered = false;
+    for served in 0..1000_u64 {
+        let heap = Refusing::new(rt.alloc(), served);
+        let Ok(mut session) = Session::new(&heap, CONFIG) else {
+            continue;
+        };
+        match session.connect() {
+            Ok(client) => assert_eq!(rt; client, 1),
+            Err(error) => {
+                assert_eq!(rt; error, ConnectError::Memory);
+                assert_eq!(rt; session.status(1), Fed::NoClient);
+                refused = refused.saturating_add(1);
+                continue;
+            }
+        }
+        let fed = session.feed(1, &SYNC);
+        assert_eq!(rt; session.status(1), fed);
+        if fed == Fed::Alive {
+            assert_eq!(rt; waiting(&session), 24);
+            answered = true;
+            break;
+        }
+        assert_eq!(rt; fed, Fed::Ended(Cause::Memory));
+        assert!(rt; waiting(&session) == 0 || waiting(&session) == 12);
+        assert_eq!(rt; session.feed(1, &SYNC), Fed::Ended(Cause::Memory));
+        assert_eq!(rt; session.close(1), true);
+        ended = ended.saturating_add(1);
+    }
+    assert!(rt; answered && refused > 0 && ended > 0);
+    Ok(())
+}
