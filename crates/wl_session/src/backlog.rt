@@ -1,6 +1,6 @@
 //! Bytes that wait: they come in at the end and are taken at the front.
 
-ghost use Rattle.std.specs.Prelude.{◌≡◌, ℕ, ◌+◌, ◌≤◌, ◌<◌, [], ◌∷◌, ◌++◌, List, length, drop, OnOk, OnErr, IfErr};
+ghost use Rattle.std.specs.Prelude.{◌≡◌, ℕ, ◌+◌, ◌≤◌, ◌<◌, [], ◌∷◌, ◌++◌, List, length, drop, ◌↔◌, OnOk, OnErr, IsErrOf};
 ghost use Rattle.wl_wire.specs.Wire.{message_bytes, args_bytes, fields_of};
 
 use std::alloc::{AllocError, Allocator};
@@ -54,9 +54,10 @@ impl<A: Allocator> Backlog<A> {
         self.bytes.extend_from_slice(more)
     }
 
-    /// Adds a message at the end. An `Err` changes nothing.
+    /// Adds a message at the end. An `Err` changes nothing; it is `TooLong` where the message would pass 65,532 bytes.
     pub fn put(&mut self, object: u32, opcode: u16, args: &[Arg]) -> Result<(), PutError>
         ensures ok { OnOk result (self.new ≡ self.old ++ message_bytes object opcode (fields_of args.now)) }
+        ensures too_long { IsErrOf result PutError.TooLong ↔ (65532 < 8 + length (args_bytes args.now)) }
         ensures err { OnErr result (self.new ≡ self.old) }
     {
         self.make_room();
