@@ -1,6 +1,6 @@
 //! Messages, written at the end of a buffer.
 
-ghost use Rattle.std.specs.Prelude.{◌≡◌, ℕ, List, ◌+◌, ◌^◌, ◌<◌, ◌≤◌, ◌↔◌, [], ◌∷◌, ◌++◌, length, IfSome, IfNone, OnOk, OnErr, IsErrOf};
+ghost use Rattle.std.specs.Prelude.{◌≡◌, ℕ, List, ◌+◌, ◌^◌, ◌<◌, ◌≤◌, ◌↔◌, [], ◌∷◌, ◌++◌, length, take, IfSome, IfNone, OnOk, OnErr, IsErrOf};
 ghost use Rattle.wl_wire.specs.Wire.{padding as spec_padding, message_bytes, args_bytes, arg_bytes, counted_bytes, fields_of, IsPrefix, SpellsMessage};
 
 use crate::{Arg, PutError};
@@ -88,7 +88,7 @@ fn put_str<A: Allocator>(out: &mut Vec<u8, A>, text: &[u8]) -> Result<(), AllocE
     out.extend_from_slice(&(count as u32).to_le_bytes())?;
     out.extend_from_slice(text)?;
     out.push(0)?;
-    out.extend_from_slice(&[0, 0, 0][..padding(count)])
+    put_padding(out, count)
 }
 
 fn put_array<A: Allocator>(out: &mut Vec<u8, A>, block: &[u8]) -> Result<(), AllocError>
@@ -99,6 +99,14 @@ fn put_array<A: Allocator>(out: &mut Vec<u8, A>, block: &[u8]) -> Result<(), All
     let count = block.len();
     out.extend_from_slice(&(count as u32).to_le_bytes())?;
     out.extend_from_slice(block)?;
+    put_padding(out, count)
+}
+
+// Fills up the last word after `count` bytes.
+fn put_padding<A: Allocator>(out: &mut Vec<u8, A>, count: usize) -> Result<(), AllocError>
+    ensures ok { OnOk result (out.new.items ≡ out.old.items ++ take (spec_padding count) (0 ∷ 0 ∷ 0 ∷ [])) }
+    ensures err { OnErr result (out.new.items ≡ out.old.items) }
+{
     out.extend_from_slice(&[0, 0, 0][..padding(count)])
 }
 

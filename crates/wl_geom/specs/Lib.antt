@@ -1,0 +1,2 @@
+pub mod Rect
+pub mod Region

@@ -1,0 +1,69 @@
+ghost use Rattle.std.specs.Prelude.{◌≡◌, ◌+ℤ◌, ◌<ℤ◌, ◌≤ℤ◌, ◌⊎◌, ◌↔◌, ◌&&◌, ℤ, IsTrue, false, pos};
+ghost use Rattle.wl_geom.specs.Rect.{in_rect};
+
+use crate::span::{end_of, is_in_span, may_meet};
+
+/// A rectangle of points: the columns from `x` to `x + w - 1` of the rows from `y` to `y + h - 1`.
+/// One whose width or height is not above 0 has no points.
+#[derive(Clone, Copy, Debug, PartialEq, Eq)]
+pub struct Rect {
+    pub x: i32,
+    pub y: i32,
+    pub w: i32,
+    pub h: i32,
+}
+
+impl Rect {
+    /// Whether the point (x, y) is in it.
+    pub fn contains(&self, x: i32, y: i32) -> bool
+        ensures { result ≡ in_rect x y self.now }
+    {
+        is_in_span(self.x, self.w, x) && is_in_span(self.y, self.h, y)
+    }
+
+    pub(crate) fn is_empty(&self) -> bool
+        ensures { IsTrue result ↔ ((self.now.w ≤ℤ pos 0) ⊎ (self.now.h ≤ℤ pos 0)) }
+    {
+        self.w <= 0 || self.h <= 0
+    }
+
+    /// Whether it shares no point with the other, as one without points or one beside it.
+    pub(crate) fn misses(&self, other: &Rect) -> bool
+        ensures apart { IsTrue result → (x y : ℤ) → (in_rect x y self.now && in_rect x y other.now) ≡ false }
+        ensures wide { result ≡ false → pos 0 <ℤ other.now.w }
+        ensures high { result ≡ false → pos 0 <ℤ other.now.h }
+    {
+        other.is_empty() || !self.may_meet(other)
+    }
+
+    /// Whether it shares points with the other, where both have points.
+    fn may_meet(&self, other: &Rect) -> bool
+        ensures { result ≡ false → (x y : ℤ) → (in_rect x y self.now && in_rect x y other.now) ≡ false }
+    {
+        may_meet(self.x, self.w, other.x, other.w) && may_meet(self.y, self.h, other.y, other.h)
+    }
+
+    pub(crate) fn left(&self) -> i64
+        ensures { result ≡ self.now.x }
+    {
+        i64::from(self.x)
+    }
+
+    pub(crate) fn top(&self) -> i64
+        ensures { result ≡ self.now.y }
+    {
+        i64::from(self.y)
+    }
+
+    pub(crate) fn right(&self) -> i64
+        ensures { result ≡ self.now.x +ℤ self.now.w }
+    {
+        end_of(self.x, self.w)
+    }
+
+    pub(crate) fn bottom(&self) -> i64
+        ensures { result ≡ self.now.y +ℤ self.now.h }
+    {
+        end_of(self.y, self.h)
+    }
+}

@@ -1,0 +1,67 @@
+//! Spans of one coordinate: the `len` numbers from `start` on, none where `len` is not above 0.
+//! An end may lie past the last coordinate, so ends are computed in 64 bits.
+
+ghost use Rattle.std.specs.Prelude.{◌≡◌, ◌^◌, ◌+ℤ◌, ◌-ℤ◌, ◌<ℤ◌, ◌≤ℤ◌, ◌&&◌, ℤ, false, int_le, int_lt, pos};
+ghost use Rattle.wl_geom.specs.Rect.{in_span};
+
+/// Whether `at` is in the span.
+pub(crate) fn is_in_span(start: i32, len: i32, at: i32) -> bool
+    ensures { result ≡ in_span start len at }
+{
+    start <= at && i64::from(at) < end_of(start, len)
+}
+
+/// The number after the last of the span, where it has any.
+pub(crate) fn end_of(start: i32, len: i32) -> i64
+    ensures { result ≡ start +ℤ len }
+{
+    i64::from(start) + i64::from(len)
+}
+
+/// Whether two spans that both have numbers share some. One without any may seem to share them.
+pub(crate) fn may_meet(start: i32, len: i32, other: i32, other_len: i32) -> bool
+    ensures { result ≡ false → (at : ℤ) → (in_span start len at && in_span other other_len at) ≡ false }
+{
+    i64::from(start) < end_of(other, other_len) && i64::from(other) < end_of(start, len)
+}
+
+/// The difference of two places that are near each other.
+fn distance(from: i64, to: i64) -> i32
+    requires ordered { from ≤ℤ to }
+    requires near { (to -ℤ from) <ℤ pos (2 ^ 31) }
+    ensures { result ≡ to -ℤ from }
+{
+    (to - from) as i32
+}
+
+/// How many numbers of the span come before the line.
+pub(crate) fn len_before(start: i32, len: i32, line: i64) -> i32
+    ensures points { (at : ℤ) → in_span start result at ≡ (in_span start len at && int_lt at line) }
+    ensures before { start ≤ℤ line → (start +ℤ result) ≤ℤ line }
+    ensures ends { (start +ℤ len) ≤ℤ pos (2 ^ 31) → (start +ℤ result) ≤ℤ pos (2 ^ 31) }
+{
+    let first = i64::from(start);
+    if line <= first {
+        0
+    } else if line < end_of(start, len) {
+        distance(first, line)
+    } else {
+        len
+    }
+}
+
+/// The start and the length of the part of the span from the line on.
+pub(crate) fn span_from(start: i32, len: i32, line: i64) -> (i32, i32)
+    requires { (start +ℤ len) ≤ℤ pos (2 ^ 31) }
+    ensures points { (at : ℤ) → in_span result.0 result.1 at ≡ (in_span start len at && int_le line at) }
+    ensures ends { (result.0 +ℤ result.1) ≤ℤ pos (2 ^ 31) }
+{
+    let end = end_of(start, len);
+    if line <= i64::from(start) {
+        (start, len)
+    } else if line < end {
+        (line as i32, distance(line, end))
+    } else {
+        (start, 0)
+    }
+}

@@ -1,0 +1,5 @@
+pub mod Table
+pub mod Messages
+pub mod Spelling
+pub mod Objects
+pub mod Laws

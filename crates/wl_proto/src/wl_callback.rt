@@ -1,0 +1,25 @@
+//! The messages of wl_callback.
+
+ghost use Rattle.wl_proto.specs.Spelling.{Puts};
+ghost use Rattle.wl_proto.specs.Messages.{wl_callback_event};
+
+use std::alloc::Allocator;
+use wl_wire::{Arg, PutError, put};
+
+/// An event of wl_callback.
+#[derive(Clone, Copy, Debug)]
+pub enum WlCallbackEvent {
+    Done { callback_data: u32 },
+}
+
+pub(crate) fn encode<A: Allocator>(
+    object: u32,
+    event: &WlCallbackEvent,
+    out: &mut Vec<u8, A>,
+) -> Result<(), PutError>
+    ensures { Puts object (wl_callback_event event.now) result out.old.items out.new.items }
+{
+    match *event {
+        WlCallbackEvent::Done { callback_data } => put(out, object, 0, &[Arg::Uint(callback_data)]),
+    }
+}

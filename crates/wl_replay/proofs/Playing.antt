@@ -1,0 +1,85 @@
+-- A recording that was played up to a line.
+use Rattle.std.proofs.Common.{◌≡◌, ℕ, ◌+◌, ◌-◌, List, [], ◌∷◌, ◌++◌, Option, Some, length, refl, ap, sym, subst, ◌∙◌, inl, inr, arith}
+use Rattle.std.specs.Io.KnownBytes.{Appends, IsAtEnd}
+use Rattle.std.proofs.KnownBytes.{Appends-nil, Appends-trans}
+use Rattle.std.proofs.lemmas.List.{length_push}
+use Rattle.wl_session.specs.View.{SessionView}
+use Rattle.wl_replay.specs.declared.error.ReplayError.{ReplayError}
+use Rattle.wl_replay.specs.declared.error.ReplayError.TheVariants as error
+use Rattle.wl_replay.specs.Report.{Counts, FailsAt, IsBadLine, IsPlayed, Reads, Reported, Stage, Stands, StopsAs, TakesOne, Tells, Told, and_then, words, more, none}
+
+-- so many lines were played, with so many frames and clients, and the session stands for the last stage
+pub record PlayedTo (first : Stage) (session : SessionView) (read left report reported images imaged : Option (List ℕ)) (lines frames clients : ℕ) : Type 0 where
+  pub run : Reported first read left report reported images imaged
+  pub stands : Stands session run.last
+  pub lines_told : length run.lines ≡ lines
+  pub frames_told : run.told.frames ≡ frames
+  pub clients_told : run.told.clients ≡ clients
+
+pub PlayedTo-none : (first : Stage) (session : SessionView) (read report images : Option (List ℕ)) → Stands session first
+    → PlayedTo first session read read report report images images 0 0 0
+PlayedTo-none first session read report images stands =
+    record {
+      run = record {
+        lines = [];
+        told = words [];
+        last = first;
+        reads = none;
+        tells = none;
+        written = Appends-nil report;
+        shown = Appends-nil images
+      };
+      stands = stands;
+      lines_told = refl;
+      frames_told = refl;
+      clients_told = refl
+    }
+
+-- one more line was played
+pub PlayedTo-more : (first : Stage) (before after : SessionView) (read mid left report wrote reported images showed imaged : Option (List ℕ))
+    (lines frames clients more_frames more_clients : ℕ) → PlayedTo first before read mid report wrote images showed lines frames clients
+    → TakesOne mid left before after wrote reported (Counts showed imaged more_frames more_clients)
+    → PlayedTo first after read left report reported images imaged (lines + 1) (frames + more_frames) (clients + more_clients)
+PlayedTo-more first before after read mid left report wrote reported images showed imaged lines frames clients more_frames more_clients p one =
+    let r = p.run in
+    let next = one.4 r.last p.stands in
+    record {
+      run = record {
+        lines = r.lines ++ one.0 ∷ [];
+        told = and_then r.told next.1;
+        last = next.0;
+        reads = more r.lines mid left one.0 r.reads one.2;
+        tells = more r.lines r.told next.1 r.last next.0 one.0 one.1 r.tells one.3 next.2;
+        written = Appends-trans _ _ _ r.told.text next.1.text r.written next.4;
+        shown = Appends-trans _ _ _ r.told.images next.1.images r.shown next.5.0
+      };
+      stands = next.3;
+      lines_told = length_push r.lines one.0 ∙ ap (λ (n : ℕ). n + 1) p.lines_told;
+      frames_told = omega (arith, p.frames_told, next.5.1);
+      clients_told = omega (arith, p.clients_told, next.5.2)
+    }
+
+-- nothing is left, and nothing more was told
+pub IsPlayed-end : (first : Stage) (session : SessionView) (read left report wrote reported images showed imaged : Option (List ℕ)) (lines frames clients : ℕ)
+    → PlayedTo first session read left report wrote images showed lines frames clients → IsAtEnd left → reported ≡ wrote → imaged ≡ showed
+    → IsPlayed first (record { lines = lines; frames = frames; clients = clients }) read report reported images imaged
+IsPlayed-end first session read left report wrote reported images showed imaged lines frames clients p ends same_text same_images = rw (same_text, same_images)
+    (left, p.run, ends, rw (p.lines_told, p.frames_told, p.clients_told) refl)
+
+-- the next line wasn't played
+pub StopsAs-line : (e : ReplayError) (first : Stage) (session : SessionView) (read left report wrote reported images showed imaged : Option (List ℕ))
+    (lines frames clients : ℕ) (IsQuiet : Type 0) → PlayedTo first session read left report wrote images showed lines frames clients
+    → (IsQuiet → (reported ≡ wrote) × (imaged ≡ showed)) → FailsAt e (lines + 1) left IsQuiet → StopsAs e first read report reported images imaged
+StopsAs-line error.Read first session read left report wrote reported images showed imaged lines frames clients IsQuiet p same fails =
+    let e = same fails in rw (e.0, e.1) (left, p.run)
+StopsAs-line error.Write first session read left report wrote reported images showed imaged lines frames clients IsQuiet p same fails = tt
+StopsAs-line (error.BadLine n) first session read left report wrote reported images showed imaged lines frames clients IsQuiet p same fails =
+    let e = same fails.2 in rw (e.0, e.1) (left, p.run, fails.0 ∙ ap (λ (k : ℕ). k + 1) (sym p.lines_told), inr fails.1)
+StopsAs-line (error.Side n) first session read left report wrote reported images showed imaged lines frames clients IsQuiet p same fails = fails
+StopsAs-line error.Memory first session read left report wrote reported images showed imaged lines frames clients IsQuiet p same fails = tt
+
+-- the line past the greatest number of lines
+pub StopsAs-past : (first : Stage) (session : SessionView) (read left report reported images imaged : Option (List ℕ)) (frames clients : ℕ)
+    → PlayedTo first session read left report reported images imaged 1000000 frames clients → StopsAs (error.BadLine 1000001) first read report reported images imaged
+StopsAs-past first session read left report reported images imaged frames clients p =
+    (left, p.run, ap (λ (k : ℕ). k + 1) (sym p.lines_told), inl p.lines_told)

@@ -1,0 +1,11 @@
+pub mod Line
+pub mod Lines
+pub mod Text
+pub mod Report
+pub mod Side
+pub use Rattle.wl_session.specs.Damage
+pub use Rattle.wl_session.specs.Desktop
+pub use Rattle.wl_session.specs.Frame
+pub use Rattle.wl_session.specs.Image
+pub use Rattle.wl_session.specs.Run
+pub use Rattle.wl_session.specs.Step

@@ -1,0 +1,118 @@
+//! The replay of a recording.
+
+ghost use Rattle.std.specs.Prelude.{◌≡◌, ◌≤◌, ◌⊎◌, ⊤, None, Some, IfOk, IfErr, MatchOption, Ok, true, false};
+ghost use Rattle.std.specs.Io.KnownBytes.{IsAtEnd};
+ghost use Rattle.wl_session.specs.Frame.{is_side};
+ghost use Rattle.wl_replay.specs.Lines.{IsTooLong, TakesLine};
+ghost use Rattle.wl_replay.specs.Report.{Counts, FailsAt, IsPlayed, Reported, Stage, Stands, StopsAs, TakesOne, first_stage, images_in};
+
+use crate::error::{ReplayError, Summary};
+use crate::line::parse;
+use crate::lines::{LineError, read_line};
+use crate::side::SideFiles;
+use crate::step::{Shown, take_line};
+use std::alloc::Allocator;
+use std::io::{BufRead, Write};
+use wl_session::{Config, Session};
+
+/// The greatest number of lines of a recording.
+pub const MAX_LINES: u32 = 1_000_000;
+
+/// Plays a recording, and writes a report of what the clients are sent and of the frames that are shown. `ppm` gets an image
+/// for each frame, where there is one. The output's sides are 1 to 4,096 pixels.
+///
+/// `BadLine` is decided before anything of its line is done. No line that is served yet names a side file.
+pub fn replay<A: Allocator + Copy, R: BufRead, W: Write, P: Write, S: SideFiles>(
+    alloc: A,
+    config: Config,
+    reader: &mut R,
+    writer: &mut W,
+    ppm: &mut Option<P>,
+    _side: &mut S,
+) -> Result<Summary, ReplayError>
+    requires width { is_side config.width ≡ true }
+    requires height { is_side config.height ≡ true }
+    ensures played { IfOk result (λ summary. IsPlayed (first_stage config) summary (R.remaining reader.old) (W.contents writer.old) (W.contents writer.new)
+        (images_in P.contents ppm.old) (images_in P.contents ppm.new)) }
+    ensures stopped { IfErr result (λ error. StopsAs error (first_stage config) (R.remaining reader.old) (W.contents writer.old) (W.contents writer.new)
+        (images_in P.contents ppm.old) (images_in P.contents ppm.new)) }
+{
+    match Session::new(alloc, config) {
+        Ok(mut session) => play(alloc, &mut session, reader, writer, ppm),
+        Err(_) => Err(ReplayError::Memory),
+    }
+}
+
+/// Plays a recording to a session.
+fn play<A: Allocator + Copy, R: BufRead, W: Write, P: Write>(
+    alloc: A,
+    session: &mut Session<A>,
+    reader: &mut R,
+    writer: &mut W,
+    ppm: &mut Option<P>,
+) -> Result<Summary, ReplayError>
+    ensures played { IfOk result (λ summary. (first : Stage) → Stands session.old first → IsPlayed first summary (R.remaining reader.old) (W.contents writer.old) (W.contents writer.new)
+        (images_in P.contents ppm.old) (images_in P.contents ppm.new)) }
+    ensures stopped { IfErr result (λ error. (first : Stage) → Stands session.old first → StopsAs error first (R.remaining reader.old) (W.contents writer.old) (W.contents writer.new)
+        (images_in P.contents ppm.old) (images_in P.contents ppm.new)) }
+{
+    let mut text = Vec::new(alloc);
+    let mut piece = Vec::new(alloc);
+    let mut frames = 0;
+    let mut clients = 0;
+    for lines in 0..MAX_LINES {
+        match play_line(session, lines + 1, &mut text, &mut piece, reader, writer, ppm)? {
+            None => return Ok(Summary { lines, frames, clients }),
+            Some(shown) => {
+                frames += shown.frames;
+                clients += shown.clients;
+            }
+        }
+    }
+    if read_text(MAX_LINES + 1, reader, &mut text)? {
+        return Err(ReplayError::BadLine(MAX_LINES + 1));
+    }
+    Ok(Summary {
+        lines: MAX_LINES,
+        frames,
+        clients,
+    })
+}
+
+/// Plays the next line. None at the end of the recording.
+fn play_line<A: Allocator + Copy, R: BufRead, W: Write, P: Write>(
+    session: &mut Session<A>,
+    number: u32,
+    text: &mut Vec<u8, A>,
+    piece: &mut Vec<u8, A>,
+    reader: &mut R,
+    writer: &mut W,
+    ppm: &mut Option<P>,
+) -> Result<Option<Shown>, ReplayError>
+    ensures played { IfOk result (λ shown. MatchOption shown (IsAtEnd (R.remaining reader.old) × (writer.new ≡ writer.old) × (ppm.new ≡ ppm.old))
+        (λ shown. TakesOne (R.remaining reader.old) (R.remaining reader.new) session.old session.new (W.contents writer.old) (W.contents writer.new)
+        (Counts (images_in P.contents ppm.old) (images_in P.contents ppm.new) shown.frames shown.clients))) }
+    ensures small { IfOk result (λ shown. MatchOption shown ⊤ (λ shown. (shown.frames ≤ 1) × (shown.clients ≤ 1))) }
+    ensures failed { IfErr result (λ error. FailsAt error number (R.remaining reader.old) ((writer.new ≡ writer.old) × (ppm.new ≡ ppm.old))) }
+{
+    if !read_text(number, reader, text)? {
+        return Ok(None);
+    }
+    let Some(line) = parse(text, piece)? else {
+        return Err(ReplayError::BadLine(number));
+    };
+    Ok(Some(take_line(session, line, piece, writer, ppm)?))
+}
+
+/// Reads the next line, which has this number, without its line feed. False at the end.
+fn read_text<R: BufRead, A: Allocator>(number: u32, reader: &mut R, text: &mut Vec<u8, A>) -> Result<bool, ReplayError>
+    ensures taken { result ≡ Ok true → TakesLine (R.remaining reader.old) (R.remaining reader.new) text.new.items }
+    ensures end { result ≡ Ok false → IsAtEnd (R.remaining reader.old) }
+    ensures failed { IfErr result (λ error. FailsAt error number (R.remaining reader.old) ⊤) }
+{
+    read_line(reader, text).map_err(|error| match error {
+        LineError::Read => ReplayError::Read,
+        LineError::TooLong => ReplayError::BadLine(number),
+        LineError::Memory => ReplayError::Memory,
+    })
+}

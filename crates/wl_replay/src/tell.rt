@@ -1,0 +1,69 @@
+//! One step of a recording: it is taken, and what it leads to is told.
+
+ghost use Rattle.std.specs.Prelude.{◌≡◌, ◌≤◌, ◌+◌, ◌*◌, ℕ, List, OnOk, IfOk, Ok, Err};
+ghost use Rattle.std.specs.Io.KnownBytes.{Appends};
+ghost use Rattle.wl_session.specs.Agreement.{Agrees};
+ghost use Rattle.wl_session.specs.Desktop.{Desktop, peer_at};
+ghost use Rattle.wl_session.specs.Step.{status_of, unsent_of};
+ghost use Rattle.wl_replay.specs.Report.{Closes, Sends, TellsClient, TellsFirst};
+
+use crate::report::{write_end, write_to};
+use std::alloc::Allocator;
+use std::io;
+use std::io::Write;
+use wl_session::{Fed, Session};
+
+/// The greatest number of a client.
+const CLIENTS: u32 = 32;
+
+/// Sends each client its unsent bytes, in rising number, and closes those that ended.
+pub(crate) fn tell_clients<A: Allocator + Copy, W: Write>(session: &mut Session<A>, writer: &mut W) -> io::Result<()>
+    ensures told { OnOk result ((d : Desktop) → Agrees session.old.clients d → (e : Desktop) × (text : List ℕ) × TellsFirst 32 d text e
+        × Agrees session.new.clients e × Appends (W.contents writer.old) (W.contents writer.new) text) }
+    ensures frame { session.new.frame ≡ session.old.frame }
+{
+    for before in 0..CLIENTS {
+        tell_client(session, before + 1, writer)?;
+    }
+    Ok(())
+}
+
+fn tell_client<A: Allocator + Copy, W: Write>(session: &mut Session<A>, client: u32, writer: &mut W) -> io::Result<()>
+    ensures told { OnOk result ((d : Desktop) → Agrees session.old.clients d → (e : Desktop) × (text : List ℕ) × TellsClient client d text e
+        × Agrees session.new.clients e × Appends (W.contents writer.old) (W.contents writer.new) text) }
+    ensures frame { session.new.frame ≡ session.old.frame }
+{
+    send(session, client, writer)?;
+    close(session, client, writer)
+}
+
+/// Sends a client all its unsent bytes.
+fn send<A: Allocator + Copy, W: Write>(session: &mut Session<A>, client: u32, writer: &mut W) -> io::Result<()>
+    ensures told { OnOk result ((d : Desktop) → Agrees session.old.clients d → (e : Desktop) × (text : List ℕ)
+        × Sends client (unsent_of (peer_at d client)) d text e × Agrees session.new.clients e × Appends (W.contents writer.old) (W.contents writer.new) text) }
+    ensures frame { session.new.frame ≡ session.old.frame }
+{
+    let Some(bytes) = session.out(client) else {
+        return Ok(());
+    };
+    let count = bytes.len();
+    if count == 0 {
+        return Ok(());
+    }
+    write_to(client, bytes, writer)?;
+    session.sent(client, count);
+    Ok(())
+}
+
+/// Closes a client that ended.
+fn close<A: Allocator + Copy, W: Write>(session: &mut Session<A>, client: u32, writer: &mut W) -> io::Result<()>
+    ensures told { OnOk result ((d : Desktop) → Agrees session.old.clients d → (e : Desktop) × (text : List ℕ)
+        × Closes client (status_of (peer_at d client)) d text e × Agrees session.new.clients e × Appends (W.contents writer.old) (W.contents writer.new) text) }
+    ensures frame { session.new.frame ≡ session.old.frame }
+{
+    if let Fed::Ended(cause) = session.status(client) {
+        write_end(client, cause, writer)?;
+        session.close(client);
+    }
+    Ok(())
+}

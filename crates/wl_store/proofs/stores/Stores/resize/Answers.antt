@@ -1,0 +1,71 @@
+use Rattle.std.proofs.Common.{ℕ, ◌-◌, ◌++◌, List, length, replicate, ap, subst, ◌∙◌, arith, w32}
+use Rattle.std.specs.Prelude.{unsigned_abs}
+use Rattle.std.proofs.lemmas.Int.{to_z-of_z}
+use Rattle.wl_store.specs.Stores.{Held, IsPlace, Stock, resized}
+use Rattle.wl_store.proofs.Places.{reads-same}
+use Rattle.wl_store.proofs.Refusals.{resize-refused}
+use Rattle.wl_store.proofs.Sound.{changed-is, sound-grown}
+use Rattle.wl_store.proofs.stores.Stores.resize.Goals as goal
+
+pub returns-in-Some-size_refusal-clause-refused : goal.returns-in-Some-size_refusal-clause-refused
+returns-in-Some-size_refusal-clause-refused g c =
+    let held = c.self.inside.held.items in
+    let read = c.index.result.now in
+    let at = subst (λ h. IsPlace h c.args.store c.in-Some.place) c.deref.ensures.value c.in-Some.ensures.found in
+    let refused = resize-refused held c.self.inside.made c.self.inside.total c.args.self.now c.args.store c.in-Some.place c.args.size read c.self.view_is c.self.invariant at c.index.ensures in
+    let first = simp (to_z-of_z w32 c.args.size c.ranges.size, c.size-present.ensures.value) at c.in-Some-size_refusal.ensures.first in
+    rw (refused, ← first)
+
+pub returns-in-Some-size_refusal-clause-accepted : goal.returns-in-Some-size_refusal-clause-accepted
+returns-in-Some-size_refusal-clause-accepted g c =
+    let held = c.self.inside.held.items in
+    let read = c.index.result.now in
+    let at = subst (λ h. IsPlace h c.args.store c.in-Some.place) c.deref.ensures.value c.in-Some.ensures.found in
+    let refused = resize-refused held c.self.inside.made c.self.inside.total c.args.self.now c.args.store c.in-Some.place c.args.size read c.self.view_is c.self.invariant at c.index.ensures in
+    let first = simp (to_z-of_z w32 c.args.size c.ranges.size, c.size-present.ensures.value) at c.in-Some-size_refusal.ensures.first in
+    rw (refused, ← first) tt
+
+pub invariant_of-self : goal.invariant_of-self
+invariant_of-self g c =
+    let held = c.self.inside.held.items in
+    let place = c.in-Some.place in
+    let at = subst (λ h. IsPlace h c.args.store place) c.deref.ensures.value c.in-Some.ensures.found in
+    let old = c.index_mut.result.now in
+    let fits = to_z-of_z w32 c.args.size c.ranges.size in
+    let sized = simp fits at c.unsigned_abs-size.ensures.value in
+    let grows = simp fits at c.in_default-size_refusal.ensures.grows in
+    let room = simp fits at c.in_default-size_refusal.ensures.room in
+    let same = reads-same held place c.index.result.now old at.within c.index.ensures c.index_mut.ensures.value in
+    sound-grown held c.self.inside.made c.self.inside.total c.size-present.result c.unsigned_abs-size.result c.args.store place old c.grow.new.self c.self.invariant at c.index_mut.ensures.value
+    (c.size-present.ensures.value ∙ ap (λ s. length s.bytes) same) (omega (arith, sized, grows)) (omega (arith, sized, room)) c.in-Ok.ensures.ok
+
+pub returns-in-Ok-clause-refused : goal.returns-in-Ok-clause-refused
+returns-in-Ok-clause-refused g c =
+    let held = c.self.inside.held.items in
+    let read = c.index.result.now in
+    let at = subst (λ h. IsPlace h c.args.store c.in-Some.place) c.deref.ensures.value c.in-Some.ensures.found in
+    let refused = resize-refused held c.self.inside.made c.self.inside.total c.args.self.now c.args.store c.in-Some.place c.args.size read c.self.view_is c.self.invariant at c.index.ensures in
+    let first = simp (to_z-of_z w32 c.args.size c.ranges.size, c.size-present.ensures.value) at c.in_default-size_refusal.ensures.first in
+    rw (refused, ← first) tt
+
+pub returns-in-Ok-clause-ok : goal.returns-in-Ok-clause-ok
+returns-in-Ok-clause-ok g c =
+    let stock : List Held → Stock = λ held. record { held = held; made = c.self.inside.made } in
+    let held = c.self.inside.held.items in
+    let place = c.in-Some.place in
+    let at = subst (λ h. IsPlace h c.args.store place) c.deref.ensures.value c.in-Some.ensures.found in
+    let change : Held → Held = λ s. record s { bytes = s.bytes ++ replicate (unsigned_abs c.args.size - length s.bytes) 0 } in
+    let sized = simp (to_z-of_z w32 c.args.size c.ranges.size) at c.unsigned_abs-size.ensures.value in
+    let old = c.index_mut.result.now in
+    let grown : ℕ → Held = λ n. record old { bytes = old.bytes ++ replicate (n - length old.bytes) 0 } in
+    ap stock (changed-is held c.self.inside.made c.self.inside.total c.args.store place change c.index_mut.result.now c.grow.new.self c.self.invariant at c.index_mut.ensures.value (c.in-Ok.ensures.ok ∙ ap grown sized))
+    ∙ ap (resized c.args.store (unsigned_abs c.args.size)) c.self.view_is
+
+pub returns-in-Err-clause-refused : goal.returns-in-Err-clause-refused
+returns-in-Err-clause-refused g c =
+    let held = c.self.inside.held.items in
+    let read = c.index.result.now in
+    let at = subst (λ h. IsPlace h c.args.store c.in-Some.place) c.deref.ensures.value c.in-Some.ensures.found in
+    let refused = resize-refused held c.self.inside.made c.self.inside.total c.args.self.now c.args.store c.in-Some.place c.args.size read c.self.view_is c.self.invariant at c.index.ensures in
+    let first = simp (to_z-of_z w32 c.args.size c.ranges.size, c.size-present.ensures.value) at c.in_default-size_refusal.ensures.first in
+    rw (refused, ← first) tt

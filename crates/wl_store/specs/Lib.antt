@@ -1,0 +1,4 @@
+pub mod Layout
+pub mod Picture
+pub mod Stores
+pub mod Transform

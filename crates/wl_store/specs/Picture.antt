@@ -1,0 +1,27 @@
+-- What is seen of a picture: bytes, where a buffer lies in them, and how a surface shows it.
+use Rattle.std.specs.Prelude.{ℕ, ◌+◌, ◌*◌, nat_le, List, length, cond, Option, Some, None}
+use Rattle.wl_store.specs.declared.color.Argb.{Argb}
+use Rattle.wl_store.specs.declared.place.Layout.{Layout}
+use Rattle.wl_store.specs.declared.transform.Transform.{Transform}
+use Rattle.wl_store.specs.Layout.{buffer_color}
+use Rattle.wl_store.specs.Transform.{is_turned, buffer_point}
+
+pub record Shown : Type 0 where
+  pub bytes : List ℕ
+  pub layout : Layout
+  pub transform : Transform
+
+-- the picture of a buffer that lies so in these bytes, if it ends within them
+abbrev pub lent : List ℕ → Layout → Transform → Option Shown
+lent bytes l transform = cond (nat_le (l.offset + l.stride * l.h) (length bytes)) (Some (record { bytes = bytes; layout = l; transform = transform })) None
+
+-- a surface's width and height, where it shows a buffer that lies so: an odd transform exchanges them
+abbrev pub surface_width : Transform → Layout → ℕ
+surface_width t l = cond (is_turned t) l.h l.w
+
+abbrev pub surface_height : Transform → Layout → ℕ
+surface_height t l = cond (is_turned t) l.w l.h
+
+-- the colour at the point (i, j) of the surface
+abbrev pub color_at : Shown → ℕ → ℕ → Argb
+color_at p i j = buffer_color p.bytes p.layout (buffer_point p.transform (surface_width p.transform p.layout) (surface_height p.transform p.layout) i j)

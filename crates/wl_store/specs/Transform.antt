@@ -1,0 +1,30 @@
+-- The eight transforms, and the buffer point that a surface point shows.
+use Rattle.std.specs.Prelude.{ℕ, ◌-◌, Bool, true, false, [], ◌∷◌, slice_index_or}
+use Rattle.wl_store.specs.declared.transform.Transform.{Transform}
+use Rattle.wl_store.specs.declared.transform.Transform.TheVariants.{Normal, Rotated90, Rotated180, Rotated270, Flipped, Flipped90, Flipped180, Flipped270}
+
+-- the transform of a number, as wl_output.transform counts them
+abbrev pub transform_of : ℕ → Transform
+transform_of number = slice_index_or (Normal ∷ Rotated90 ∷ Rotated180 ∷ Rotated270 ∷ Flipped ∷ Flipped90 ∷ Flipped180 ∷ Flipped270 ∷ []) number Flipped270
+
+-- it exchanges width and height
+abbrev pub is_turned : Transform → Bool
+is_turned Normal = false
+is_turned Rotated90 = true
+is_turned Rotated180 = false
+is_turned Rotated270 = true
+is_turned Flipped = false
+is_turned Flipped90 = true
+is_turned Flipped180 = false
+is_turned Flipped270 = true
+
+-- the buffer point that the point (i, j) of a surface of w by h shows
+abbrev pub buffer_point : Transform → ℕ → ℕ → ℕ → ℕ → ℕ × ℕ
+buffer_point Normal w h i j = (i, j)
+buffer_point Rotated90 w h i j = (j, w - 1 - i)
+buffer_point Rotated180 w h i j = (w - 1 - i, h - 1 - j)
+buffer_point Rotated270 w h i j = (h - 1 - j, i)
+buffer_point Flipped w h i j = (w - 1 - i, j)
+buffer_point Flipped90 w h i j = (j, i)
+buffer_point Flipped180 w h i j = (i, h - 1 - j)
+buffer_point Flipped270 w h i j = (h - 1 - j, w - 1 - i)

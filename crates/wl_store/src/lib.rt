@@ -1,0 +1,22 @@
+//! Stores of bytes, as `wl_shm_pool` shares them, and pictures that lend a store's bytes as the content
+//! of a surface.
+//!
+//! [`Stores`] is a client's stores by their numbers. [`layout`] judges where a buffer's pixels lie in a
+//! store, and [`Stores::picture`] lends them: a [`Picture`] copies nothing, so its colours are those of
+//! the store's bytes at the moment.
+#![tactic(auto)]
+
+mod accept;
+mod color;
+mod picture;
+mod place;
+mod store;
+mod stores;
+mod transform;
+
+pub use accept::layout;
+pub use color::{Argb, Format};
+pub use picture::Picture;
+pub use place::{Layout, LayoutError};
+pub use stores::{MAX_STORES, MAX_TOTAL, StoreError, StoreNo, Stores};
+pub use transform::Transform;

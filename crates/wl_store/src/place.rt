@@ -1,0 +1,30 @@
+ghost use Rattle.std.specs.Prelude.{◌≤◌, ◌<◌, ◌*◌, ◌^◌};
+
+use crate::color::Format;
+use thiserror::Error;
+
+/// Where a buffer's pixels lie in a store: `h` rows of `w` pixels of four bytes each, the first row at
+/// `offset` and each `stride` bytes after the one before.
+#[derive(Clone, Copy, Debug)]
+pub struct Layout {
+    pub offset: u32,
+    pub w: u32,
+    pub h: u32,
+    pub stride: u32,
+    pub format: Format,
+    pub ghost wide_rows: { 4 * w ≤ stride },
+    pub ghost some_columns: { 0 < w },
+    pub ghost some_rows: { 0 < h },
+    pub ghost offset_fits: { offset < 2 ^ 31 },
+    pub ghost height_fits: { h < 2 ^ 31 },
+    pub ghost stride_fits: { stride < 2 ^ 31 },
+}
+
+/// Why a buffer can't lie as it was asked for.
+#[derive(Clone, Copy, Debug, PartialEq, Eq, Error)]
+pub enum LayoutError {
+    #[error("invalid stride")]
+    Stride,
+    #[error("invalid format")]
+    Format,
+}

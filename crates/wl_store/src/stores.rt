@@ -1,0 +1,289 @@
+ghost use Rattle.std.specs.Prelude.{◌≡◌, ◌+◌, ◌-◌, ◌≤◌, ◌<◌, ◌↔◌, ◌==◌, ◌<ℤ◌, if◌then◌else◌, [], false, is_some, None, IsTrue, IsSome, IfSome, IfNone, IsOk, IfOk, OnOk, OnErr, IfErr, MatchBool, length, position, find, pos, unsigned_abs};
+ghost use Rattle.std.specs.Option.{option_copied, option_map};
+ghost use Rattle.wl_store.specs.Stores.{IsPlace, size_refusal};
+
+use crate::picture::Picture;
+use crate::place::Layout;
+use crate::store::Store;
+use crate::transform::Transform;
+use std::alloc::{AllocError, AllocFailed, Allocator};
+use std::marker::Model;
+use thiserror::Error;
+
+/// How many stores may be live at once.
+pub const MAX_STORES: usize = 64;
+
+/// How many bytes the live stores may have together.
+pub const MAX_TOTAL: u32 = 268_435_456;
+
+/// The number of a store. Numbers rise from 1 and aren't used again.
+pub type StoreNo = u32;
+
+/// Why a store wasn't made or changed.
+#[derive(Clone, Copy, Debug, PartialEq, Eq, Error)]
+pub enum StoreError {
+    #[error("a store's size is at least 1")]
+    BadSize,
+    #[error("a store doesn't shrink")]
+    Shrinks,
+    #[error("there is no such store")]
+    NoStore,
+    #[error("the bytes don't lie in the store")]
+    OutOfRange,
+    #[error("too many stores")]
+    TooMany,
+    #[error("the stores would be too large together")]
+    TooLarge,
+    #[error("out of memory")]
+    Memory,
+}
+
+impl From<AllocError> for StoreError {
+    ghost use Rattle.std.specs.Prelude.{◌≡◌};
+    ghost use Rattle.wl_store.specs.declared.stores.StoreError.TheVariants.{Memory};
+
+    ghost from_gives = { λ _ e. e ≡ Memory };
+
+    fn from(_error: AllocError) -> Self {
+        StoreError::Memory
+    }
+}
+
+impl<T: Drop> From<AllocFailed<T>> for StoreError {
+    ghost use Rattle.std.specs.Prelude.{◌≡◌};
+    ghost use Rattle.wl_store.specs.declared.stores.StoreError.TheVariants.{Memory};
+
+    ghost from_gives = { λ _ e. e ≡ Memory };
+
+    fn from(_error: AllocFailed<T>) -> Self {
+        StoreError::Memory
+    }
+}
+
+/// A client's stores. At most 64 are live, together of at most 268,435,456 bytes.
+#[derive(Drop)]
+pub struct Stores<A: Allocator> {
+    // In rising number.
+    held: Vec<Store<A>, A>,
+    made: u32,
+    total: u32,
+}
+
+impl<A: Allocator> Model for Stores<A> {
+    ghost use Rattle.wl_store.specs.Stores.{IsSound, Stock};
+
+    ghost Value = { Stock };
+
+    ghost view = { λ stores. record { held = stores.held.items; made = stores.made } };
+
+    ghost invariant = { λ stores. IsSound stores.held.items stores.made stores.total };
+}
+
+/// The place of the first store of this number.
+fn position_of<A: Allocator>(held: &[Store<A>], number: StoreNo) -> Option<usize>
+    ensures { result ≡ position (λ s. s.number == number) held.now }
+{
+    held.iter().position(|store| store.number() == number)
+}
+
+/// Where the store of this number lies.
+fn place_of<A: Allocator>(held: &[Store<A>], number: StoreNo) -> Option<usize>
+    ensures found { IfSome result (IsPlace held.now number) }
+    ensures absent { IfNone result (find (λ s. s.number == number) held.now ≡ None) }
+{
+    position_of(held, number)
+}
+
+/// Why a store of `present` bytes, of `total` in all, doesn't get this size, if it doesn't.
+fn size_refusal(total: u32, present: u32, size: i32) -> Option<StoreError>
+    ensures first { result ≡ size_refusal total present size }
+    ensures grows { IfNone result (present ≤ unsigned_abs size) }
+    ensures room { IfNone result (total + unsigned_abs size ≤ MAX_TOTAL + present) }
+{
+    let size = i64::from(size);
+    let present = i64::from(present);
+    if i64::from(total) - present + size > i64::from(MAX_TOTAL) {
+        return Some(StoreError::TooLarge);
+    }
+    if size < present {
+        return Some(StoreError::Shrinks);
+    }
+    None
+}
+
+impl<A: Allocator> Stores<A> {
+    ghost use Rattle.wl_store.specs.Stores.{bytes_of, can_hold, is_full, let_go, picture_of, store_at, used, write_refusal, written};
+
+    fn is_full(&self) -> bool
+        ensures { result ≡ is_full self.now }
+    {
+        self.held.len() == MAX_STORES || self.made == u32::MAX
+    }
+
+    /// How many bytes the store has; None where it isn't live.
+    pub fn size(&self, store: StoreNo) -> Option<u32>
+        ensures { result ≡ option_map (λ s. length s.bytes) (store_at store self.now) }
+    {
+        let found = self.held.iter().find(|held| held.number() == store)?;
+        Some(found.size())
+    }
+
+    /// The bytes of the store as they are now; None where it isn't live.
+    pub fn bytes(&self, store: StoreNo) -> Option<&[u8]>
+        ensures { option_copied result ≡ bytes_of store self.now }
+    {
+        let found = self.held.iter().find(|held| held.number() == store)?;
+        Some(found.bytes())
+    }
+
+    /// Puts these bytes in place of those from `at` on.
+    ///
+    /// `NoStore`, or `OutOfRange` where they pass the end of the store; nothing is changed then.
+    pub fn write(&mut self, store: StoreNo, at: u32, bytes: &[u8]) -> Result<(), StoreError>
+        ensures refused { IfSome (write_refusal store at (length bytes.now) self.old) (λ error. result ≡ Err error) }
+        ensures accepted { IfNone (write_refusal store at (length bytes.now) self.old) (IsOk result) }
+        ensures ok { OnOk result (self.new ≡ written store at bytes.now self.old) }
+        ensures err { OnErr result (self.new ≡ self.old) }
+    {
+        let Some(place) = place_of(&self.held, store) else {
+            return Err(StoreError::NoStore);
+        };
+        let size = self.held[place].size();
+        if at > size || ((size - at) as usize) < bytes.len() {
+            return Err(StoreError::OutOfRange);
+        }
+        self.held[place].write(at, bytes);
+        Ok(())
+    }
+
+    /// Counts one use more. False where the store isn't live or has 4,294,967,295 uses.
+    pub fn hold(&mut self, store: StoreNo) -> bool
+        ensures allowed { result ≡ can_hold store self.old }
+        ensures counted { self.new ≡ (if result then used store self.old else self.old) }
+    {
+        let Some(place) = place_of(&self.held, store) else {
+            return false;
+        };
+        let uses = self.held[place].uses();
+        if uses == u32::MAX {
+            return false;
+        }
+        self.held[place].set_uses(uses + 1);
+        true
+    }
+
+    /// Counts one use less; at none the store is gone. False where the store isn't live.
+    pub fn let_go(&mut self, store: StoreNo) -> bool
+        ensures live { result ≡ is_some (store_at store self.old) }
+        ensures counted { self.new ≡ (if result then let_go store self.old else self.old) }
+    {
+        let Some(place) = place_of(&self.held, store) else {
+            return false;
+        };
+        let uses = self.held[place].uses();
+        if uses <= 1 {
+            self.total -= self.held[place].size();
+            let _gone = self.held.remove(place);
+        } else {
+            self.held[place].set_uses(uses - 1);
+        }
+        true
+    }
+
+    /// Lends the store's bytes as the content of a surface. `transform` is the protocol's number.
+    ///
+    /// None where the store isn't live or the layout passes its end.
+    pub fn picture(&self, store: StoreNo, layout: &Layout, transform: u32) -> Option<Picture<'_>>
+        requires { transform < 8 }
+        ensures { result ≡ picture_of store layout.now transform self.now }
+    {
+        let bytes = self.bytes(store)?;
+        Picture::new(bytes, layout, Transform::from_number(transform))
+    }
+}
+
+impl<A: Allocator + Copy> Stores<A> {
+    ghost use Rattle.wl_store.specs.Stores.{create_refusal, created, is_full, resize_refusal, resized, store_at, total_size};
+
+    /// No stores. It keeps the allocator.
+    pub fn new(alloc: A) -> Self
+        ensures { result ≡ record { held = []; made = 0 } }
+    {
+        Stores {
+            held: Vec::new(alloc),
+            made: 0,
+            total: 0,
+        }
+    }
+
+    /// Makes a store of `size` zeros with one use.
+    ///
+    /// `TooMany` where 64 stores are live or 4,294,967,295 were made, then `TooLarge` where all stores
+    /// would have more than 268,435,456 bytes, then `BadSize` where the size isn't positive, then
+    /// `Memory`; nothing is changed then.
+    pub fn create(&mut self, size: i32) -> Result<StoreNo, StoreError>
+        ensures refused { IfSome (create_refusal size self.old) (λ error. result ≡ Err error) }
+        ensures accepted { IfNone (create_refusal size self.old) (IfErr result (λ error. error ≡ StoreError.Memory)) }
+        ensures number { IfOk result (λ number. number ≡ self.old.made + 1) }
+        ensures fresh { OnOk result (store_at (self.old.made + 1) self.old ≡ None) }
+        ensures ok { OnOk result (self.new ≡ created (unsigned_abs size) self.old) }
+        ensures err { OnErr result (self.new ≡ self.old) }
+    {
+        if self.is_full() {
+            return Err(StoreError::TooMany);
+        }
+        if i64::from(self.total) + i64::from(size) > i64::from(MAX_TOTAL) {
+            return Err(StoreError::TooLarge);
+        }
+        if size <= 0 {
+            return Err(StoreError::BadSize);
+        }
+        self.make(size.unsigned_abs())
+    }
+
+    /// Makes a store, for which there is room.
+    fn make(&mut self, size: u32) -> Result<StoreNo, StoreError>
+        requires few { is_full self.old ≡ false }
+        requires room { total_size self.old + size ≤ MAX_TOTAL }
+        ensures memory { IfErr result (λ error. error ≡ StoreError.Memory) }
+        ensures number { IfOk result (λ number. number ≡ self.old.made + 1) }
+        ensures fresh { OnOk result (store_at (self.old.made + 1) self.old ≡ None) }
+        ensures ok { OnOk result (self.new ≡ created size self.old) }
+        ensures err { OnErr result (self.new ≡ self.old) }
+    {
+        let alloc = *self.held.allocator();
+        let made = self.made + 1;
+        let store = Store::zeroed(alloc, made, size)?;
+        self.held.push(store)?;
+        self.made = made;
+        self.total += size;
+        Ok(made)
+    }
+
+    /// Puts zeros at the end of the store, up to `size` bytes.
+    ///
+    /// `NoStore`, then `TooLarge` where all stores would have more than 268,435,456 bytes, then
+    /// `Shrinks` where the store has more, then `Memory`; nothing is changed then.
+    pub fn resize(&mut self, store: StoreNo, size: i32) -> Result<(), StoreError>
+        ensures refused { IfSome (resize_refusal store size self.old) (λ error. result ≡ Err error) }
+        ensures accepted { IfNone (resize_refusal store size self.old) (IfErr result (λ error. error ≡ StoreError.Memory)) }
+        ensures ok { OnOk result (self.new ≡ resized store (unsigned_abs size) self.old) }
+        ensures err { OnErr result (self.new ≡ self.old) }
+    {
+        let Some(place) = place_of(&self.held, store) else {
+            return Err(StoreError::NoStore);
+        };
+        let present = self.held[place].size();
+        if let Some(error) = size_refusal(self.total, present, size) {
+            return Err(error);
+        }
+        let size = size.unsigned_abs();
+        match self.held[place].grow(size) {
+            Ok(()) => {
+                self.total = self.total - present + size;
+                Ok(())
+            }
+            Err(AllocError) => Err(StoreError::Memory),
+        }
+    }
+}

@@ -1,0 +1,44 @@
+//! What is held under an id.
+
+use std::alloc::AllocFailed;
+use thiserror::Error;
+use wl_proto::Interface;
+
+/// What is held under an id.
+#[derive(Clone, Copy, Debug, PartialEq, Eq)]
+pub struct Entry {
+    /// The interface of the object.
+    pub interface: Interface,
+    /// The version that it was bound at, or that of the object that made it.
+    pub version: u32,
+    /// The place of what it stands for, among those of its interface.
+    pub target: usize,
+}
+
+/// Why an object can't be held.
+#[derive(Clone, Copy, Debug, PartialEq, Eq, Error)]
+pub enum TableError {
+    /// The id is 0 or above 0xfeffffff.
+    #[error("no id of a client's object")]
+    BadId = 1,
+    /// An object is held under the id.
+    #[error("the id is in use")]
+    InUse = 2,
+    /// 8,192 objects are held.
+    #[error("too many objects")]
+    TooMany = 3,
+    /// There is no memory for it.
+    #[error("out of memory")]
+    Memory = 4,
+}
+
+impl<T: Drop> From<AllocFailed<T>> for TableError {
+    ghost use Rattle.std.specs.Prelude.{◌≡◌};
+    ghost use Rattle.wl_table.specs.declared.entry.TableError.TheVariants.{Memory};
+
+    ghost from_gives = { λ _ e. e ≡ Memory };
+
+    fn from(_e: AllocFailed<T>) -> TableError {
+        TableError::Memory
+    }
+}
