@@ -72,22 +72,24 @@ pub taken_by : (part : Part) (old new : Option (List ℕ)) (shown : List ℕ) (e
     → (length shown ≡ 0 → OnSome old (IsAtEnd new)) → TakenAs part kept old new shown
 taken_by part old new shown end kept is held within some before moved ends =
     elim (cases_lt 0 end) [
-      inl positive ↦
-        let long : 0 < length (take end shown) = rw (length-take-le end shown within) positive in
-        let low : end ≡ (end - 1) + 1 = omega arith in
-        let choice : part ≡ (if get_or shown (end - 1) 0 == 10 then LineFeed else More) =
-            is ∙ part_of-some (take end shown) long ∙ ap (λ (b : ℕ). if b == 10 then LineFeed else More) (at_last shown end positive within) in
-        elim (cases_Bool (get_or shown (end - 1) 0 == 10)) [
-          inl feed ↦
-            (let a : part ≡ LineFeed = choice ∙ rw feed refl in
-            let k : kept ≡ end - 1 = held ∙ ap (λ (p : Part). end - ending_len p) a in
-            rw (a, k) (taken_feed old new shown (end - 1) end low within (eqb-true (get_or shown (end - 1) 0) 10 feed) before moved))
-        | inr more ↦
-            (let a : part ≡ More = choice ∙ rw more refl in
-            let k : kept ≡ end = held ∙ ap (λ (p : Part). end - ending_len p) a ∙ omega arith in
-            rw (a, k) (taken_more old new shown end (end - 1) low within (eqb-false (get_or shown (end - 1) 0) 10 more) before moved)) ]
-    | inr none ↦
-        (let zero_end : end ≡ 0 = omega arith in
-        let empty : length shown ≡ 0 = no_bytes (length shown) end some zero_end in
-        let a : part ≡ End = is ∙ ap (λ (n : ℕ). part_of (take n shown)) zero_end in
-        rw a (taken_none old new shown kept (held ∙ omega arith) (subst (λ (n : ℕ). Consumes old new (take n shown)) zero_end moved) (ends empty))) ]
+      | inl positive ↦
+          let long : 0 < length (take end shown) = rw (length-take-le end shown within) positive in
+          let low : end ≡ (end - 1) + 1 = omega arith in
+          let choice : part ≡ (if get_or shown (end - 1) 0 == 10 then LineFeed else More) =
+          is ∙ part_of-some (take end shown) long ∙ ap (λ (b : ℕ). if b == 10 then LineFeed else More) (at_last shown end positive within) in
+          elim (cases_Bool (get_or shown (end - 1) 0 == 10)) [
+            | inl feed ↦
+                (let a : part ≡ LineFeed = choice ∙ rw feed refl in
+                let k : kept ≡ end - 1 = held ∙ ap (λ (p : Part). end - ending_len p) a in
+                rw (a, k) (taken_feed old new shown (end - 1) end low within (eqb-true (get_or shown (end - 1) 0) 10 feed) before moved))
+            | inr more ↦
+                (let a : part ≡ More = choice ∙ rw more refl in
+                let k : kept ≡ end = held ∙ ap (λ (p : Part). end - ending_len p) a ∙ omega arith in
+                rw (a, k) (taken_more old new shown end (end - 1) low within (eqb-false (get_or shown (end - 1) 0) 10 more) before moved))
+          ]
+      | inr none ↦
+          (let zero_end : end ≡ 0 = omega arith in
+          let empty : length shown ≡ 0 = no_bytes (length shown) end some zero_end in
+          let a : part ≡ End = is ∙ ap (λ (n : ℕ). part_of (take n shown)) zero_end in
+          rw a (taken_none old new shown kept (held ∙ omega arith) (subst (λ (n : ℕ). Consumes old new (take n shown)) zero_end moved) (ends empty)))
+    ]

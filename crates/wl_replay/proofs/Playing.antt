@@ -27,12 +27,12 @@ PlayedTo-none first session read report images stands =
         reads = none;
         tells = none;
         written = Appends-nil report;
-        shown = Appends-nil images
+        shown = Appends-nil images;
       };
       stands = stands;
       lines_told = refl;
       frames_told = refl;
-      clients_told = refl
+      clients_told = refl;
     }
 
 -- one more line was played
@@ -51,12 +51,12 @@ PlayedTo-more first before after read mid left report wrote reported images show
         reads = more r.lines mid left one.0 r.reads one.2;
         tells = more r.lines r.told next.1 r.last next.0 one.0 one.1 r.tells one.3 next.2;
         written = Appends-trans _ _ _ r.told.text next.1.text r.written next.4;
-        shown = Appends-trans _ _ _ r.told.images next.1.images r.shown next.5.0
+        shown = Appends-trans _ _ _ r.told.images next.1.images r.shown next.5.0;
       };
       stands = next.3;
       lines_told = length_push r.lines one.0 ∙ ap (λ (n : ℕ). n + 1) p.lines_told;
       frames_told = omega (arith, p.frames_told, next.5.1);
-      clients_told = omega (arith, p.clients_told, next.5.2)
+      clients_told = omega (arith, p.clients_told, next.5.2);
     }
 
 -- nothing is left, and nothing more was told

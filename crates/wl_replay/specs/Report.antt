@@ -58,8 +58,8 @@ first_stage config =
       frame = record {
         width = config.width;
         height = config.height;
-        pixels = filled (config.width * config.height) config.background
-      }
+        pixels = filled (config.width * config.height) config.background;
+      };
     }
 
 -- All of a client's unsent bytes are sent, where there are any.
@@ -116,7 +116,7 @@ TellsStep (Tick time) old told new =
       text = frame_line time (count_points damage.width damage.height (has damage));
       images = image_of new.frame.width new.frame.height new.frame.pixels;
       frames = 1;
-      clients = 0
+      clients = 0;
     })
 TellsStep Nothing old told new = (told ≡ words []) × (new ≡ old)
 

@@ -13,7 +13,6 @@ mod step;
 mod tell;
 mod word;
 
-
 pub use error::{ReplayError, Summary};
 pub use lines::LINE_LIMIT;
 pub use numbers::number;

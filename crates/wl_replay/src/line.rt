@@ -14,22 +14,19 @@ use std::alloc::{AllocError, Allocator};
 pub(crate) enum Line {
     Connect,
     /// A piece of a client's stream, whose bytes stand beside.
-    Bytes {
-        client: u32,
-    },
-    Gone {
-        client: u32,
-    },
-    Tick {
-        time: u32,
-    },
+    Bytes { client: u32 },
+    Gone { client: u32 },
+    Tick { time: u32 },
     /// A comment, or no words.
     Nothing,
 }
 
 /// Parses a line without its line feed, and puts the bytes of its piece into `piece`. None where it is no line of a
 /// recording.
-pub(crate) fn parse<A: Allocator>(text: &[u8], piece: &mut Vec<u8, A>) -> Result<Option<Line>, AllocError>
+pub(crate) fn parse<A: Allocator>(
+    text: &[u8],
+    piece: &mut Vec<u8, A>,
+) -> Result<Option<Line>, AllocError>
     ensures { IfOk result (λ line. option_map (meaning piece.new.items) line ≡ asked_by text.now) }
 {
     if is_comment(text) {
@@ -46,7 +43,11 @@ fn is_comment(text: &[u8]) -> bool
 }
 
 /// Parses a line by its first word and what follows it.
-fn parse_words<A: Allocator>(word: &[u8], rest: &[u8], piece: &mut Vec<u8, A>) -> Result<Option<Line>, AllocError>
+fn parse_words<A: Allocator>(
+    word: &[u8],
+    rest: &[u8],
+    piece: &mut Vec<u8, A>,
+) -> Result<Option<Line>, AllocError>
     ensures { IfOk result (λ line. option_map (meaning piece.new.items) line ≡ asked_with word.now rest.now) }
 {
     if word.is_empty() {
@@ -68,7 +69,10 @@ fn parse_words<A: Allocator>(word: &[u8], rest: &[u8], piece: &mut Vec<u8, A>) -
     }
 }
 
-fn parse_piece<A: Allocator>(rest: &[u8], piece: &mut Vec<u8, A>) -> Result<Option<Line>, AllocError>
+fn parse_piece<A: Allocator>(
+    rest: &[u8],
+    piece: &mut Vec<u8, A>,
+) -> Result<Option<Line>, AllocError>
     ensures { IfOk result (λ line. option_map (meaning piece.new.items) line ≡ asked_piece rest.now) }
 {
     let (word, digits) = next_word(rest);

@@ -29,7 +29,10 @@ pub(crate) enum Part {
 }
 
 /// Reads the next line into `line`, without its line feed, which the last may lack. False at the end.
-pub(crate) fn read_line<R: BufRead, A: Allocator>(reader: &mut R, line: &mut Vec<u8, A>) -> Result<bool, LineError>
+pub(crate) fn read_line<R: BufRead, A: Allocator>(
+    reader: &mut R,
+    line: &mut Vec<u8, A>,
+) -> Result<bool, LineError>
     ensures taken { result ≡ Ok true → TakesLine (R.remaining reader.old) (R.remaining reader.new) line.new.items }
     ensures end { result ≡ Ok false → IsAtEnd (R.remaining reader.old) }
     ensures long { result ≡ Err LineError.TooLong → IsTooLong LINE_LIMIT (R.remaining reader.old) }
@@ -52,7 +55,11 @@ pub(crate) fn read_line<R: BufRead, A: Allocator>(reader: &mut R, line: &mut Vec
 }
 
 /// Takes at most `room` bytes that the reader has at hand, up to a line feed, and appends them without it.
-fn take_part<R: BufRead, A: Allocator>(reader: &mut R, line: &mut Vec<u8, A>, room: usize) -> Result<Part, LineError>
+fn take_part<R: BufRead, A: Allocator>(
+    reader: &mut R,
+    line: &mut Vec<u8, A>,
+    room: usize,
+) -> Result<Part, LineError>
     requires { 1 ≤ room }
     ensures taken { IfOk result (λ part. (front : List ℕ) × (line.new.items ≡ line.old.items ++ front) × All InLine front
         × IsTaken part (R.remaining reader.old) (R.remaining reader.new) front) }

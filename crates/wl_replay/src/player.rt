@@ -61,8 +61,20 @@ fn play<A: Allocator + Copy, R: BufRead, W: Write, P: Write>(
     let mut frames = 0;
     let mut clients = 0;
     for lines in 0..MAX_LINES {
-        match play_line(session, lines + 1, &mut text, &mut piece, reader, writer, ppm)? {
-            None => return Ok(Summary { lines, frames, clients }),
+        match play_line(
+            session,
+            lines + 1,
+            &mut text,
+            &mut piece,
+            reader,
+            writer,
+            ppm,
+        )? {
+            None => return Ok(Summary {
+                lines,
+                frames,
+                clients,
+            }),
             Some(shown) => {
                 frames += shown.frames;
                 clients += shown.clients;
@@ -105,7 +117,11 @@ fn play_line<A: Allocator + Copy, R: BufRead, W: Write, P: Write>(
 }
 
 /// Reads the next line, which has this number, without its line feed. False at the end.
-fn read_text<R: BufRead, A: Allocator>(number: u32, reader: &mut R, text: &mut Vec<u8, A>) -> Result<bool, ReplayError>
+fn read_text<R: BufRead, A: Allocator>(
+    number: u32,
+    reader: &mut R,
+    text: &mut Vec<u8, A>,
+) -> Result<bool, ReplayError>
     ensures taken { result ≡ Ok true → TakesLine (R.remaining reader.old) (R.remaining reader.new) text.new.items }
     ensures end { result ≡ Ok false → IsAtEnd (R.remaining reader.old) }
     ensures failed { IfErr result (λ error. FailsAt error number (R.remaining reader.old) ⊤) }

@@ -29,7 +29,13 @@ const NOTHING: Shown = Shown {
 };
 
 /// Takes the step that a line asks, and tells of it. The bytes of its piece stand beside.
-pub(crate) fn take_line<A: Allocator + Copy, W: Write, P: Write>(session: &mut Session<A>, line: Line, piece: &[u8], writer: &mut W, ppm: &mut Option<P>) -> Result<Shown, ReplayError>
+pub(crate) fn take_line<A: Allocator + Copy, W: Write, P: Write>(
+    session: &mut Session<A>,
+    line: Line,
+    piece: &[u8],
+    writer: &mut W,
+    ppm: &mut Option<P>,
+) -> Result<Shown, ReplayError>
     ensures told { IfOk result (λ shown. Leads (TellsLine (meaning piece.now line)) session.old session.new (W.contents writer.old) (W.contents writer.new)
         (Counts (images_in P.contents ppm.old) (images_in P.contents ppm.new) shown.frames shown.clients)) }
     ensures small { IfOk result (λ shown. (shown.frames ≤ 1) × (shown.clients ≤ 1)) }
@@ -43,7 +49,13 @@ pub(crate) fn take_line<A: Allocator + Copy, W: Write, P: Write>(session: &mut S
     Ok(shown)
 }
 
-fn take_step<A: Allocator + Copy, W: Write, P: Write>(session: &mut Session<A>, line: Line, piece: &[u8], writer: &mut W, ppm: &mut Option<P>) -> Result<Shown, ReplayError>
+fn take_step<A: Allocator + Copy, W: Write, P: Write>(
+    session: &mut Session<A>,
+    line: Line,
+    piece: &[u8],
+    writer: &mut W,
+    ppm: &mut Option<P>,
+) -> Result<Shown, ReplayError>
     ensures told { IfOk result (λ shown. Leads (TellsStep (meaning piece.now line)) session.old session.new (W.contents writer.old) (W.contents writer.new)
         (Counts (images_in P.contents ppm.old) (images_in P.contents ppm.new) shown.frames shown.clients)) }
     ensures small { IfOk result (λ shown. (shown.frames ≤ 1) × (shown.clients ≤ 1)) }
@@ -74,7 +86,10 @@ fn take_step<A: Allocator + Copy, W: Write, P: Write>(session: &mut Session<A>, 
 }
 
 /// A client connects. Answers how many did.
-fn connect<A: Allocator + Copy, W: Write>(session: &mut Session<A>, writer: &mut W) -> Result<u32, ReplayError>
+fn connect<A: Allocator + Copy, W: Write>(
+    session: &mut Session<A>,
+    writer: &mut W,
+) -> Result<u32, ReplayError>
     ensures told { IfOk result (λ count. Leads (TellsStep asked.Connect) session.old session.new (W.contents writer.old) (W.contents writer.new)
         (λ told. (told.images ≡ []) × (told.frames ≡ 0) × (told.clients ≡ count))) }
     ensures small { IfOk result (λ count. count ≤ 1) }
@@ -94,7 +109,12 @@ fn connect<A: Allocator + Copy, W: Write>(session: &mut Session<A>, writer: &mut
 }
 
 /// A piece of a client's stream comes.
-fn feed<A: Allocator + Copy, W: Write>(session: &mut Session<A>, client: u32, piece: &[u8], writer: &mut W) -> Result<(), ReplayError>
+fn feed<A: Allocator + Copy, W: Write>(
+    session: &mut Session<A>,
+    client: u32,
+    piece: &[u8],
+    writer: &mut W,
+) -> Result<(), ReplayError>
     ensures told { OnOk result (Leads (TellsStep (asked.Bytes client piece.now)) session.old session.new (W.contents writer.old) (W.contents writer.new)
         (λ told. (told.images ≡ []) × (told.frames ≡ 0) × (told.clients ≡ 0))) }
     ensures kind { IfErr result (λ e. e ≡ ReplayError.Write) }
@@ -105,7 +125,11 @@ fn feed<A: Allocator + Copy, W: Write>(session: &mut Session<A>, client: u32, pi
 }
 
 /// A client goes.
-fn gone<A: Allocator + Copy, W: Write>(session: &mut Session<A>, client: u32, writer: &mut W) -> Result<(), ReplayError>
+fn gone<A: Allocator + Copy, W: Write>(
+    session: &mut Session<A>,
+    client: u32,
+    writer: &mut W,
+) -> Result<(), ReplayError>
     ensures told { OnOk result (Leads (TellsStep (asked.Gone client)) session.old session.new (W.contents writer.old) (W.contents writer.new)
         (λ told. (told.images ≡ []) × (told.frames ≡ 0) × (told.clients ≡ 0))) }
     ensures kind { IfErr result (λ e. e ≡ ReplayError.Write) }
@@ -116,7 +140,12 @@ fn gone<A: Allocator + Copy, W: Write>(session: &mut Session<A>, client: u32, wr
 }
 
 /// A frame is shown.
-fn tick<A: Allocator + Copy, W: Write, P: Write>(session: &mut Session<A>, time: u32, writer: &mut W, ppm: &mut Option<P>) -> Result<(), ReplayError>
+fn tick<A: Allocator + Copy, W: Write, P: Write>(
+    session: &mut Session<A>,
+    time: u32,
+    writer: &mut W,
+    ppm: &mut Option<P>,
+) -> Result<(), ReplayError>
     ensures told { OnOk result (Leads (TellsStep (asked.Tick time)) session.old session.new (W.contents writer.old) (W.contents writer.new)
         (Counts (images_in P.contents ppm.old) (images_in P.contents ppm.new) 1 0)) }
     ensures kind { IfErr result (λ e. e ≡ ReplayError.Write) }
@@ -139,7 +168,10 @@ fn write_absent<W: Write>(client: u32, before: Fed, writer: &mut W) -> Result<()
 }
 
 /// Appends the image of a frame, where images are wanted.
-fn write_image<A: Allocator, P: Write>(frame: &Framebuffer<A>, ppm: &mut Option<P>) -> Result<(), ReplayError>
+fn write_image<A: Allocator, P: Write>(
+    frame: &Framebuffer<A>,
+    ppm: &mut Option<P>,
+) -> Result<(), ReplayError>
     ensures told { OnOk result (Appends (images_in P.contents ppm.old) (images_in P.contents ppm.new)
         (image_of frame.now.width frame.now.height frame.now.pixels)) }
     ensures kind { IfErr result (λ e. e ≡ ReplayError.Write) }

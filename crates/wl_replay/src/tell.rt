@@ -17,7 +17,10 @@ use wl_session::{Fed, Session};
 const CLIENTS: u32 = 32;
 
 /// Sends each client its unsent bytes, in rising number, and closes those that ended.
-pub(crate) fn tell_clients<A: Allocator + Copy, W: Write>(session: &mut Session<A>, writer: &mut W) -> io::Result<()>
+pub(crate) fn tell_clients<A: Allocator + Copy, W: Write>(
+    session: &mut Session<A>,
+    writer: &mut W,
+) -> io::Result<()>
     ensures told { OnOk result ((d : Desktop) → Agrees session.old.clients d → (e : Desktop) × (text : List ℕ) × TellsFirst 32 d text e
         × Agrees session.new.clients e × Appends (W.contents writer.old) (W.contents writer.new) text) }
     ensures frame { session.new.frame ≡ session.old.frame }
@@ -28,7 +31,11 @@ pub(crate) fn tell_clients<A: Allocator + Copy, W: Write>(session: &mut Session<
     Ok(())
 }
 
-fn tell_client<A: Allocator + Copy, W: Write>(session: &mut Session<A>, client: u32, writer: &mut W) -> io::Result<()>
+fn tell_client<A: Allocator + Copy, W: Write>(
+    session: &mut Session<A>,
+    client: u32,
+    writer: &mut W,
+) -> io::Result<()>
     ensures told { OnOk result ((d : Desktop) → Agrees session.old.clients d → (e : Desktop) × (text : List ℕ) × TellsClient client d text e
         × Agrees session.new.clients e × Appends (W.contents writer.old) (W.contents writer.new) text) }
     ensures frame { session.new.frame ≡ session.old.frame }
@@ -38,7 +45,11 @@ fn tell_client<A: Allocator + Copy, W: Write>(session: &mut Session<A>, client: 
 }
 
 /// Sends a client all its unsent bytes.
-fn send<A: Allocator + Copy, W: Write>(session: &mut Session<A>, client: u32, writer: &mut W) -> io::Result<()>
+fn send<A: Allocator + Copy, W: Write>(
+    session: &mut Session<A>,
+    client: u32,
+    writer: &mut W,
+) -> io::Result<()>
     ensures told { OnOk result ((d : Desktop) → Agrees session.old.clients d → (e : Desktop) × (text : List ℕ)
         × Sends client (unsent_of (peer_at d client)) d text e × Agrees session.new.clients e × Appends (W.contents writer.old) (W.contents writer.new) text) }
     ensures frame { session.new.frame ≡ session.old.frame }
@@ -56,7 +67,11 @@ fn send<A: Allocator + Copy, W: Write>(session: &mut Session<A>, client: u32, wr
 }
 
 /// Closes a client that ended.
-fn close<A: Allocator + Copy, W: Write>(session: &mut Session<A>, client: u32, writer: &mut W) -> io::Result<()>
+fn close<A: Allocator + Copy, W: Write>(
+    session: &mut Session<A>,
+    client: u32,
+    writer: &mut W,
+) -> io::Result<()>
     ensures told { OnOk result ((d : Desktop) → Agrees session.old.clients d → (e : Desktop) × (text : List ℕ)
         × Closes client (status_of (peer_at d client)) d text e × Agrees session.new.clients e × Appends (W.contents writer.old) (W.contents writer.new) text) }
     ensures frame { session.new.frame ≡ session.old.frame }

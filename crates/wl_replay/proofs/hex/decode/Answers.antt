@@ -9,7 +9,7 @@ pub loop-at-preserved-then-text-at-eq32 : goal.loop-at-preserved-then-text-at-eq
 loop-at-preserved-then-text-at-eq32 g c =
     record {
       within = omega arith;
-      spelt = spelt_space _ c.args.text.now c.loop-at.at _ c.loop-at-test.true c.if-text-at-eq32.true c.loop-at.invariant.spelt
+      spelt = spelt_space _ c.args.text.now c.loop-at.at _ c.loop-at-test.true c.if-text-at-eq32.true c.loop-at.invariant.spelt;
     }
 
 pub loop-at-preserved : goal.loop-at-preserved
@@ -17,5 +17,5 @@ loop-at-preserved g c =
     let within : c.loop-at.at + 1 < length c.args.text.now = omega arith in
     record {
       within = omega arith;
-      spelt = spelt_pair _ _ c.args.text.now c.loop-at.at c.in-Some.byte _ within c.if-text-at-eq32.false c.in-Some.ensures c.in_ok-push.ensures.items c.loop-at.invariant.spelt
+      spelt = spelt_pair _ _ c.args.text.now c.loop-at.at c.in-Some.byte _ within c.if-text-at-eq32.false c.in-Some.ensures c.in_ok-push.ensures.items c.loop-at.invariant.spelt;
     }

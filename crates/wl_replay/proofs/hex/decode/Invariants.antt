@@ -7,7 +7,7 @@ use Rattle.wl_replay.proofs.hex.decode.Given as goal
 abbrev pub invariant-loop-at : goal.invariant-loop-at
 invariant-loop-at g l = record {
   within : l.at ≤ length l.text;
-  spelt : option_map (λ rest. l.bytes.items ++ rest) (bytes_in (drop l.at l.text)) ≡ bytes_in l.text
+  spelt : option_map (λ rest. l.bytes.items ++ rest) (bytes_in (drop l.at l.text)) ≡ bytes_in l.text;
 }
 
 abbrev pub decreases-loop-at : goal.decreases-loop-at

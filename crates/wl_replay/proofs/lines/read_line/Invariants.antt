@@ -8,5 +8,5 @@ abbrev pub invariant-loop : goal.invariant-loop
 invariant-loop g l = record {
   taken : Consumes (g.R.Read.remaining l.fn.reader) (g.R.Read.remaining l.reader) l.line.items;
   plain : All InLine l.line.items;
-  bound : vec_len l.line ≤ 140000
+  bound : vec_len l.line ≤ 140000;
 }

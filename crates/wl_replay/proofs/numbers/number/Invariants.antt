@@ -8,5 +8,5 @@ abbrev pub invariant-loop-b : goal.invariant-loop-b
 invariant-loop-b l = record {
   digits : list_all is_digit (take l.b-index l.word) ≡ true;
   value : l.value ≡ value_of (take l.b-index l.word);
-  small : l.value < 2 ^ 32
+  small : l.value < 2 ^ 32;
 }

@@ -14,19 +14,19 @@ loop-lines-preserved g c =
     let small = rw c.in-Some.is at c.in_ok-play_line.ensures.small in
     record {
       played = λ first stands.
-        PlayedTo-more first c.loop-lines.session c.play_line.new.session _ _ _ _ _ _ _ _ _ c.loop-lines.lines c.loop-lines.frames c.loop-lines.clients
-        c.in-Some.shown.frames c.in-Some.shown.clients (c.loop-lines.invariant.played first stands) one;
+          PlayedTo-more first c.loop-lines.session c.play_line.new.session _ _ _ _ _ _ _ _ _ c.loop-lines.lines c.loop-lines.frames c.loop-lines.clients
+          c.in-Some.shown.frames c.in-Some.shown.clients (c.loop-lines.invariant.played first stands) one;
       few_frames = omega (arith, small.0);
-      few_clients = omega (arith, small.1)
+      few_clients = omega (arith, small.1);
     }
 
 pub returns-in_err-play_line-clause-stopped : goal.returns-in_err-play_line-clause-stopped
 returns-in_err-play_line-clause-stopped g c =
     let p = err_from_is_err_and c.from_residual.result c.from_residual.ensures.1 in
     rw (p.1, p.2) (λ first stands.
-      StopsAs-line _ first c.loop-lines.session _ _ _ _ _ _ _ _ c.loop-lines.lines c.loop-lines.frames c.loop-lines.clients _
-      (c.loop-lines.invariant.played first stands) (λ quiet. (ap g.W.Write.contents quiet.0, ap (images_in g.P.Write.contents) quiet.1))
-      c.in_err-play_line.ensures.failed)
+    StopsAs-line _ first c.loop-lines.session _ _ _ _ _ _ _ _ c.loop-lines.lines c.loop-lines.frames c.loop-lines.clients _
+    (c.loop-lines.invariant.played first stands) (λ quiet. (ap g.W.Write.contents quiet.0, ap (images_in g.P.Write.contents) quiet.1))
+    c.in_err-play_line.ensures.failed)
 
 pub returns-in-None-clause-played : goal.returns-in-None-clause-played
 returns-in-None-clause-played g c = λ first stands.
@@ -39,9 +39,9 @@ returns-in_err-read_text-clause-stopped g c =
     let p = err_from_is_err_and c.from_residual-in_err-read_text.result c.from_residual-in_err-read_text.ensures.1 in
     let all : c.loop-lines.lines ≡ 1000000 = omega arith in
     rw (p.1, p.2) (λ first stands.
-      let played = c.loop-lines.invariant.played first stands in
-      StopsAs-line _ first c.loop-lines.session _ _ _ _ _ _ _ _ 1000000 c.loop-lines.frames c.loop-lines.clients _ (rw all at played)
-      (λ quiet. (refl, refl)) c.in_err-read_text.ensures.failed)
+    let played = c.loop-lines.invariant.played first stands in
+    StopsAs-line _ first c.loop-lines.session _ _ _ _ _ _ _ _ 1000000 c.loop-lines.frames c.loop-lines.clients _ (rw all at played)
+    (λ quiet. (refl, refl)) c.in_err-read_text.ensures.failed)
 
 pub returns-then-branch-clause-stopped : goal.returns-then-branch-clause-stopped
 returns-then-branch-clause-stopped g c = λ first stands.

@@ -7,8 +7,8 @@ use Rattle.wl_replay.proofs.player.play.Given as goal
 abbrev pub invariant-loop-lines : goal.invariant-loop-lines
 invariant-loop-lines g l = record {
   played : (first : Stage) → Stands l.fn.session first → PlayedTo first l.session (g.R.Read.remaining l.fn.reader) (g.R.Read.remaining l.reader)
-    (g.W.Write.contents l.fn.writer) (g.W.Write.contents l.writer) (images_in g.P.Write.contents l.fn.ppm) (images_in g.P.Write.contents l.ppm)
-    l.lines l.frames l.clients;
+      (g.W.Write.contents l.fn.writer) (g.W.Write.contents l.writer) (images_in g.P.Write.contents l.fn.ppm) (images_in g.P.Write.contents l.ppm)
+      l.lines l.frames l.clients;
   few_frames : l.frames ≤ l.lines;
-  few_clients : l.clients ≤ l.lines
+  few_clients : l.clients ≤ l.lines;
 }

@@ -9,5 +9,5 @@ loop-done-preserved g c =
     record {
       some = omega arith;
       written = Appends-join _ _ _ _ _ _ c.loop-done.invariant.written c.in_ok-write_chunk.ensures
-      (hex_of-chunk c.loop-done.done c.min-end.result c.args.bytes.now order)
+          (hex_of-chunk c.loop-done.done c.min-end.result c.args.bytes.now order);
     }

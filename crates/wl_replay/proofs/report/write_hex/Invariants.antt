@@ -7,7 +7,7 @@ use Rattle.wl_replay.proofs.report.write_hex.Given as goal
 abbrev pub invariant-loop-done : goal.invariant-loop-done
 invariant-loop-done g l = record {
   some : l.done ≤ length l.bytes;
-  written : Appends (g.W.Write.contents l.fn.writer) (g.W.Write.contents l.writer) (hex_of (take l.done l.bytes))
+  written : Appends (g.W.Write.contents l.fn.writer) (g.W.Write.contents l.writer) (hex_of (take l.done l.bytes));
 }
 
 abbrev pub decreases-loop-done : goal.decreases-loop-done

@@ -7,7 +7,7 @@ pub returns-clause-told : goal.returns-clause-told
 returns-clause-told g c =
     on_ok_weaker c.close.result
     (λ closed. λ d agrees.
-      let sent = c.in_ok-send.ensures.told d agrees in
-      let ends = closed sent.0 sent.3 in
-      (ends.0, sent.1 ++ ends.1, (sent.0, sent.1, ends.1, sent.2, ends.2, refl), ends.3, Appends-trans _ _ _ sent.1 ends.1 sent.4 ends.4))
+    let sent = c.in_ok-send.ensures.told d agrees in
+    let ends = closed sent.0 sent.3 in
+    (ends.0, sent.1 ++ ends.1, (sent.0, sent.1, ends.1, sent.2, ends.2, refl), ends.3, Appends-trans _ _ _ sent.1 ends.1 sent.4 ends.4))
     c.close.ensures.told

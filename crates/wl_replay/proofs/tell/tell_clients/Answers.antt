@@ -10,8 +10,8 @@ pub loop-before-preserved : goal.loop-before-preserved
 loop-before-preserved g c =
     record {
       told = λ d agrees.
-        let before = c.loop-before.invariant.told d agrees in
-        let next = c.in_ok-tell_client.ensures.told before.0 before.3 in
-        (next.0, before.1 ++ next.1, TellsFirst-more c.loop-before.before d before.0 next.0 before.1 next.1 before.2 next.2, next.3, Appends-trans _ _ _ before.1 next.1 before.4 next.4);
-      frame = c.in_ok-tell_client.ensures.frame ∙ c.loop-before.invariant.frame
+          let before = c.loop-before.invariant.told d agrees in
+          let next = c.in_ok-tell_client.ensures.told before.0 before.3 in
+          (next.0, before.1 ++ next.1, TellsFirst-more c.loop-before.before d before.0 next.0 before.1 next.1 before.2 next.2, next.3, Appends-trans _ _ _ before.1 next.1 before.4 next.4);
+      frame = c.in_ok-tell_client.ensures.frame ∙ c.loop-before.invariant.frame;
     }

@@ -1,0 +1,7 @@
+//! Tests of the crates without crates below them, with allocations that are refused.
+#![tactic(auto)]
+
+#[cfg(test)]
+mod regions;
+#[cfg(test)]
+mod stores;

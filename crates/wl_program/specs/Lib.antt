@@ -1,0 +1,2 @@
+pub mod Status
+pub use Rattle.wl_replay.specs.Side

@@ -1,0 +1,13 @@
+-- The exit status of a fault.
+use Rattle.wl_program.specs.declared.fault.Fault.{Fault}
+use Rattle.wl_program.specs.declared.fault.Fault.TheVariants.{Read, Write, Side, Size, BadLine, Memory}
+use Rattle.wl_program.specs.declared.fault.Status.{Status}
+use Rattle.wl_program.specs.declared.fault.Status.TheVariants as status
+
+abbrev pub status_of : Fault → Status
+status_of Read = status.Failed
+status_of Write = status.Failed
+status_of (Side line) = status.Failed
+status_of Size = status.Usage
+status_of (BadLine line) = status.BadLine
+status_of Memory = status.Memory

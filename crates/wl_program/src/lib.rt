@@ -1,0 +1,12 @@
+//! All of the program but its `main`: the command line, the side files of a folder, and how it ends.
+#![tactic(auto)]
+
+mod command;
+mod fault;
+mod folder;
+mod run;
+
+pub use command::{CommandError, Replay, Size, parse};
+pub use fault::{Fault, Status};
+pub use folder::Folder;
+pub use run::run_program;
