@@ -1,5 +1,5 @@
 -- What a step leads to, with what is told besides.
-use Rattle.std.proofs.Common.{◌≡◌, ℕ, ◌+◌, List, [], ◌++◌, Option, refl, ap, sym, subst, ◌∙◌, add-zero, append-nil}
+use Rattle.std.proofs.Common.{◌≡◌, ℕ, List, [], Option, refl, sym, subst, ◌∙◌, add-zero, append-nil}
 use Rattle.std.specs.Io.KnownBytes.{Appends}
 use Rattle.std.proofs.KnownBytes.{Appends-nil, Appends-trans}
 use Rattle.wl_session.specs.Agreement.{Agrees}
@@ -8,7 +8,7 @@ use Rattle.wl_session.specs.View.{SessionView}
 use Rattle.wl_replay.specs.declared.line.Line.{Line}
 use Rattle.wl_replay.specs.declared.line.Line.TheVariants as line
 use Rattle.wl_replay.specs.Line.{Asked, meaning}
-use Rattle.wl_replay.specs.Report.{Counts, Leads, Stage, Stands, TellsAll, TellsFirst, TellsLine, TellsStep, Told, and_then, words}
+use Rattle.wl_replay.specs.Report.{Counts, Leads, Stage, TellsAll, TellsFirst, TellsLine, TellsStep, Told, and_then, words}
 
 pub Leads-weaker : (R S : Stage → Told → Stage → Type 0) (before after : SessionView) (report reported : Option (List ℕ)) (P Q : Told → Type 0)
     → ((old new : Stage) (told : Told) → R old told new → S old told new) → ((told : Told) → P told → Q told)

@@ -1,12 +1,12 @@
 -- A recording that was played up to a line.
-use Rattle.std.proofs.Common.{◌≡◌, ℕ, ◌+◌, ◌-◌, List, [], ◌∷◌, ◌++◌, Option, Some, length, refl, ap, sym, subst, ◌∙◌, inl, inr, arith}
-use Rattle.std.specs.Io.KnownBytes.{Appends, IsAtEnd}
+use Rattle.std.proofs.Common.{◌≡◌, ◌<◌, ℕ, ◌+◌, List, [], ◌∷◌, ◌++◌, Option, length, refl, ap, sym, ◌∙◌, inl, inr, arith}
+use Rattle.std.specs.Io.KnownBytes.{IsAtEnd}
 use Rattle.std.proofs.KnownBytes.{Appends-nil, Appends-trans}
 use Rattle.std.proofs.lemmas.List.{length_push}
 use Rattle.wl_session.specs.View.{SessionView}
 use Rattle.wl_replay.specs.declared.error.ReplayError.{ReplayError}
 use Rattle.wl_replay.specs.declared.error.ReplayError.TheVariants as error
-use Rattle.wl_replay.specs.Report.{Counts, FailsAt, IsBadLine, IsPlayed, Reads, Reported, Stage, Stands, StopsAs, TakesOne, Tells, Told, and_then, words, more, none}
+use Rattle.wl_replay.specs.Report.{Counts, FailsAt, IsPlayed, Reported, Stage, Stands, StopsAs, TakesOne, and_then, words, more, none}
 
 -- so many lines were played, with so many frames and clients, and the session stands for the last stage
 pub record PlayedTo (first : Stage) (session : SessionView) (read left report reported images imaged : Option (List ℕ)) (lines frames clients : ℕ) : Type 0 where
@@ -21,6 +21,7 @@ pub PlayedTo-none : (first : Stage) (session : SessionView) (read report images 
 PlayedTo-none first session read report images stands =
     record {
       run = record {
+        few = omega arith;
         lines = [];
         told = words [];
         last = first;
@@ -37,19 +38,20 @@ PlayedTo-none first session read report images stands =
 
 -- one more line was played
 pub PlayedTo-more : (first : Stage) (before after : SessionView) (read mid left report wrote reported images showed imaged : Option (List ℕ))
-    (lines frames clients more_frames more_clients : ℕ) → PlayedTo first before read mid report wrote images showed lines frames clients
+    (lines frames clients more_frames more_clients : ℕ) → lines < 1000000 → PlayedTo first before read mid report wrote images showed lines frames clients
     → TakesOne mid left before after wrote reported (Counts showed imaged more_frames more_clients)
     → PlayedTo first after read left report reported images imaged (lines + 1) (frames + more_frames) (clients + more_clients)
-PlayedTo-more first before after read mid left report wrote reported images showed imaged lines frames clients more_frames more_clients p one =
+PlayedTo-more first before after read mid left report wrote reported images showed imaged lines frames clients more_frames more_clients low p one =
     let r = p.run in
-    let next = one.4 r.last p.stands in
+    let next = one.5 r.last p.stands in
     record {
       run = record {
+        few = omega (arith, length_push r.lines one.0, p.lines_told);
         lines = r.lines ++ one.0 ∷ [];
         told = and_then r.told next.1;
         last = next.0;
-        reads = more r.lines mid left one.0 r.reads one.2;
-        tells = more r.lines r.told next.1 r.last next.0 one.0 one.1 r.tells one.3 next.2;
+        reads = more r.lines mid left one.0 r.reads one.2 one.3;
+        tells = more r.lines r.told next.1 r.last next.0 one.0 one.1 r.tells one.4 next.2;
         written = Appends-trans _ _ _ r.told.text next.1.text r.written next.4;
         shown = Appends-trans _ _ _ r.told.images next.1.images r.shown next.5.0;
       };

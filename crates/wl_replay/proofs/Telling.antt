@@ -1,5 +1,5 @@
 -- The clients up to a number, one after another.
-use Rattle.std.proofs.Common.{◌≡◌, ℕ, suc, ◌+◌, List, [], ◌++◌, refl, sym, subst, arith, add-one}
+use Rattle.std.proofs.Common.{ℕ, suc, ◌+◌, List, [], ◌++◌, refl, sym, subst, add-one}
 use Rattle.wl_session.specs.Desktop.{Desktop}
 use Rattle.wl_replay.specs.Report.{TellsClient, TellsFirst}
 

@@ -1,5 +1,5 @@
 -- What a recording leads to, and the report and the images that tell of it.
-use Rattle.std.specs.Prelude.{◌≡◌, ◌+◌, ◌*◌, ℕ, zero, suc, Option, Some, None, Result, Ok, Err, List, [], ◌∷◌, ◌++◌, length, ◌⊎◌, ⊤}
+use Rattle.std.specs.Prelude.{◌≡◌, ◌+◌, ◌*◌, ℕ, zero, suc, Option, Some, None, Result, Ok, Err, List, [], ◌∷◌, ◌++◌, length, ◌⊎◌, ◌≤◌, ⊤}
 use Rattle.std.specs.Io.KnownBytes.{Appends, IsAtEnd}
 use Rattle.std.specs.Option.{option_and_then}
 use Rattle.wl_session.specs.Agreement.{Agrees}
@@ -151,21 +151,22 @@ pub data Tells (first : Stage) : List (List ℕ) → Told → Stage → Type 0 w
   more : (lines : List (List ℕ)) (told own : Told) (mid last : Stage) (line : List ℕ) → (asked : Asked) → Tells first lines told mid
       → asked_by line ≡ Some asked → TellsLine asked mid own last → Tells first (lines ++ line ∷ []) (and_then told own) last
 
--- The known bytes begin with these lines, and lose them. The newest line stands last.
+-- The known bytes begin with these lines of at most 140,000 bytes, and lose them. The newest line stands last.
 pub data Reads (first : Option (List ℕ)) : List (List ℕ) → Option (List ℕ) → Type 0 where
   none : Reads first [] first
   more : (lines : List (List ℕ)) (mid last : Option (List ℕ)) (line : List ℕ) → Reads first lines mid → TakesLine mid last line
-      → Reads first (lines ++ line ∷ []) last
+      → length line ≤ 140000 → Reads first (lines ++ line ∷ []) last
 
 -- The bytes that a writer of images holds, where there is one and they are known.
 abbrev pub images_in : {P : Type 0} → (P → Option (List ℕ)) → Option P → Option (List ℕ)
 images_in contents writer = option_and_then contents writer
 
--- Lines were read, what they lead to was told in a report and in images, and this is left to be read.
+-- At most 1,000,000 lines were read, what they lead to was told in a report and in images, and this is left to be read.
 pub record Reported (first : Stage) (read left report reported images imaged : Option (List ℕ)) : Type 0 where
   pub lines : List (List ℕ)
   pub told : Told
   pub last : Stage
+  pub few : length lines ≤ 1000000
   pub reads : Reads read lines left
   pub tells : Tells first lines told last
   pub written : Appends report reported told.text
@@ -178,7 +179,7 @@ IsBadLine left = IsTooLong 140000 left ⊎ ((line : List ℕ) × (rest : Option 
 -- one line was taken and told of
 abbrev pub TakesOne : Option (List ℕ) → Option (List ℕ) → SessionView → SessionView → Option (List ℕ) → Option (List ℕ) → (Told → Type 0) → Type 0
 TakesOne read left before after report reported P =
-    (line : List ℕ) × (asked : Asked) × TakesLine read left line × (asked_by line ≡ Some asked) × Leads (TellsLine asked) before after report reported P
+    (line : List ℕ) × (asked : Asked) × TakesLine read left line × (length line ≤ 140000) × (asked_by line ≡ Some asked) × Leads (TellsLine asked) before after report reported P
 
 -- the line of this number wasn't played, and where the recording is at fault, or could not be read, nothing of it was told
 abbrev pub FailsAt : ReplayError → ℕ → Option (List ℕ) → Type 0 → Type 0

@@ -36,7 +36,7 @@ pub(crate) fn read_line<R: BufRead, A: Allocator>(
     ensures taken { result ≡ Ok true → TakesLine (R.remaining reader.old) (R.remaining reader.new) line.new.items }
     ensures end { result ≡ Ok false → IsAtEnd (R.remaining reader.old) }
     ensures long { result ≡ Err LineError.TooLong → IsTooLong LINE_LIMIT (R.remaining reader.old) }
-    ensures bound { OnOk result (vec_len line.new ≤ LINE_LIMIT) }
+    ensures bound { OnOk result (length line.new.items ≤ LINE_LIMIT) }
 {
     line.clear();
     for _ in 0..u64::MAX {

@@ -1,6 +1,6 @@
 //! The replay of a recording.
 
-ghost use Rattle.std.specs.Prelude.{◌≡◌, ◌≤◌, ◌⊎◌, ⊤, None, Some, IfOk, IfErr, MatchOption, Ok, true, false};
+ghost use Rattle.std.specs.Prelude.{◌≡◌, ◌≤◌, ◌⊎◌, ⊤, None, Some, IfOk, IfErr, OnOk, MatchOption, length, Ok, true, false};
 ghost use Rattle.std.specs.Io.KnownBytes.{IsAtEnd};
 ghost use Rattle.wl_session.specs.Frame.{is_side};
 ghost use Rattle.wl_replay.specs.Lines.{IsTooLong, TakesLine};
@@ -124,6 +124,7 @@ fn read_text<R: BufRead, A: Allocator>(
 ) -> Result<bool, ReplayError>
     ensures taken { result ≡ Ok true → TakesLine (R.remaining reader.old) (R.remaining reader.new) text.new.items }
     ensures end { result ≡ Ok false → IsAtEnd (R.remaining reader.old) }
+    ensures short { OnOk result (length text.new.items ≤ 140000) }
     ensures failed { IfErr result (λ error. FailsAt error number (R.remaining reader.old) ⊤) }
 {
     read_line(reader, text).map_err(|error| match error {

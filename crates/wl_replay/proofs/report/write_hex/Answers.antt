@@ -1,4 +1,4 @@
-use Rattle.std.proofs.Common.{arith, ◌≤◌, length}
+use Rattle.std.proofs.Common.{arith, ◌≤◌}
 use Rattle.wl_replay.proofs.Digits.{hex_of-chunk}
 use Rattle.wl_session.proofs.Written.{Appends-join}
 use Rattle.wl_replay.proofs.report.write_hex.Goals as goal

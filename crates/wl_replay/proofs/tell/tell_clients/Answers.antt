@@ -1,4 +1,4 @@
-use Rattle.std.proofs.Common.{◌++◌, [], refl, ◌∙◌, arith}
+use Rattle.std.proofs.Common.{◌++◌, [], refl, ◌∙◌}
 use Rattle.std.proofs.KnownBytes.{Appends-trans, Appends-nil}
 use Rattle.wl_replay.proofs.Telling.{TellsFirst-none, TellsFirst-more}
 use Rattle.wl_replay.proofs.tell.tell_clients.Goals as goal
