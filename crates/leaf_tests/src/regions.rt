@@ -113,50 +113,73 @@ fn the_513th_change_is_one_too_many(rt: HostRuntime) -> Result<(), Fail> {
     Ok(())
 }
 
+/// Which calls were refused.
+#[derive(Clone, Copy, Debug, PartialEq, Eq)]
+struct Refused {
+    add: bool,
+    subtract: bool,
+    copy: bool,
+}
+
+const NONE: Refused = Refused {
+    add: false,
+    subtract: false,
+    copy: false,
+};
+
+// Two adds, a subtract and a copy on a region and on one that meets no refusal, up to the first that
+// is refused. None where the two differ, or where the answer isn't Memory.
+fn scene<A: Allocator + Copy, B: Allocator + Copy>(
+    region: &mut Region<A>,
+    known: &mut Region<B>,
+) -> Option<Refused> {
+    for rect in [FOUR_BY_FOUR, FAR] {
+        match region.add(rect) {
+            Ok(()) => known.add(rect).ok()?,
+            Err(RegionError::Memory) => return Some(Refused { add: true, ..NONE }),
+            Err(RegionError::TooMany) => return None,
+        }
+    }
+    match region.subtract(HOLE) {
+        Ok(()) => known.subtract(HOLE).ok()?,
+        Err(RegionError::Memory) => {
+            return Some(Refused {
+                subtract: true,
+                ..NONE
+            });
+        }
+        Err(RegionError::TooMany) => return None,
+    }
+    match region.copy() {
+        Ok(copy) if same(&copy, known) => Some(NONE),
+        Err(RegionError::Memory) => Some(Refused { copy: true, ..NONE }),
+        _ => None,
+    }
+}
+
 // Each allocation is refused in turn, and the refused call leaves the region as it was.
 #[test]
 fn each_refusal_leaves_a_region_as_it_was(rt: HostRuntime) -> Result<(), Fail> {
-    let mut refusals = 0u32;
+    let mut met = NONE;
     for served in 0..1000_u64 {
         let heap = Refusing::new(rt.alloc(), served);
         let mut region = Region::new(&heap);
         let mut known = Region::new(rt.alloc());
-        let mut refused = false;
-        for rect in [FOUR_BY_FOUR, FAR] {
-            match region.add(rect) {
-                Ok(()) => known.add(rect)?,
-                Err(error) => {
-                    assert_eq!(rt; error, RegionError::Memory);
-                    refused = true;
-                    break;
-                }
-            }
-        }
-        if !refused {
-            match region.subtract(HOLE) {
-                Ok(()) => known.subtract(HOLE)?,
-                Err(error) => {
-                    assert_eq!(rt; error, RegionError::Memory);
-                    refused = true;
-                }
-            }
-        }
-        if !refused {
-            match region.copy() {
-                Ok(copy) => assert!(rt; same(&copy, &known)),
-                Err(error) => {
-                    assert_eq!(rt; error, RegionError::Memory);
-                    refused = true;
-                }
-            }
-        }
+        let came = scene(&mut region, &mut known);
         assert!(rt; same(&region, &known), "{served}");
-        assert_eq!(rt; heap.refused(), refused, "{served}");
-        if !refused {
+        let Some(refused) = came else {
+            return Err(Fail::from("a call answered what it can't"));
+        };
+        assert_eq!(rt; heap.refused(), refused != NONE, "{served}");
+        if refused == NONE {
             break;
         }
-        refusals = refusals.saturating_add(1);
+        met = Refused {
+            add: met.add || refused.add,
+            subtract: met.subtract || refused.subtract,
+            copy: met.copy || refused.copy,
+        };
     }
-    assert!(rt; refusals > 3 && refusals < 100, "{refusals}");
+    assert!(rt; met.add && met.subtract && met.copy, "{met:?}");
     Ok(())
 }

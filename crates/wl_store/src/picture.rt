@@ -1,4 +1,4 @@
-ghost use Rattle.std.specs.Prelude.{◌≡◌, ◌+◌, ◌*◌, ◌≤◌, ◌<◌, slice_range, length};
+ghost use Rattle.std.specs.Prelude.{◌≡◌, ◌+◌, ◌*◌, ◌≤◌, ◌<◌, slice_range, length, IfSome};
 ghost use Rattle.wl_store.specs.Layout.{FitsIn, buffer_color};
 ghost use Rattle.wl_store.specs.Picture.{color_at, lent, surface_height, surface_width};
 
@@ -50,7 +50,8 @@ fn buffer_pixel(bytes: &[u8], layout: &Layout, x: u32, y: u32) -> Argb
 impl<'a> Picture<'a> {
     /// None where the layout passes the end of the bytes.
     pub(crate) fn new(bytes: &'a [u8], layout: &Layout, transform: Transform) -> Option<Self>
-        ensures { result ≡ lent bytes.now layout.now transform }
+        ensures there { result ≡ lent bytes.now layout.now transform }
+        ensures shown { IfSome result (λ p. p ≡ record { bytes = bytes.now; layout = layout.now; transform = transform }) }
     {
         let end = u64::from(layout.offset) + u64::from(layout.stride) * u64::from(layout.h);
         if end > bytes.len() as u64 {

@@ -1,6 +1,7 @@
 ghost use Rattle.std.specs.Prelude.{◌≡◌, ◌+◌, ◌-◌, ◌≤◌, ◌<◌, ◌↔◌, ◌==◌, ◌<ℤ◌, if◌then◌else◌, [], false, is_some, None, IsTrue, IsSome, IfSome, IfNone, IsOk, IfOk, OnOk, OnErr, IfErr, MatchBool, length, position, find, pos, unsigned_abs};
 ghost use Rattle.std.specs.Option.{option_copied, option_map};
 ghost use Rattle.wl_store.specs.Stores.{IsPlace, size_refusal};
+ghost use Rattle.wl_store.specs.Transform.{transform_of};
 
 use crate::picture::Picture;
 use crate::place::Layout;
@@ -195,7 +196,10 @@ impl<A: Allocator> Stores<A> {
     /// None where the store isn't live or the layout passes its end.
     pub fn picture(&self, store: StoreNo, layout: &Layout, transform: u32) -> Option<Picture<'_>>
         requires { transform < 8 }
-        ensures { result ≡ picture_of store layout.now transform self.now }
+        ensures there { result ≡ picture_of store layout.now transform self.now }
+        ensures bytes { IfSome result (λ p. bytes_of store self.now ≡ Some p.bytes) }
+        ensures layout { IfSome result (λ p. p.layout ≡ layout.now) }
+        ensures transform { IfSome result (λ p. p.transform ≡ transform_of transform) }
     {
         let bytes = self.bytes(store)?;
         Picture::new(bytes, layout, Transform::from_number(transform))

@@ -1,0 +1,11 @@
+//! Tests of recordings, their reports and their images.
+#![tactic(auto)]
+
+#[cfg(test)]
+mod faults;
+#[cfg(test)]
+mod limits;
+#[cfg(test)]
+mod reports;
+#[cfg(test)]
+mod support;

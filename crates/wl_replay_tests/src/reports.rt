@@ -1,0 +1,125 @@
+//! The reports of recordings, worked out from the protocol by hand.
+
+use crate::support::play;
+use std::test::Fail;
+use wl_replay::{ReplayError, Summary};
+
+/// A recording and its report. The last line of each report has its line feed.
+const REPORTS: [(&[u8], &[u8]); 9] = [
+    // One sync in one piece.
+    (
+        b"connect\nbytes 1 01000000 00000c00 02000000\ntick 0\n",
+        b"client 1\nto 1 0200000000000c00000000000100000001000c0002000000\nframe 0 0\n",
+    ),
+    // The same in twelve pieces.
+    (
+        b"connect\nbytes 1 01\nbytes 1 00\nbytes 1 00\nbytes 1 00\nbytes 1 00\nbytes 1 00\nbytes 1 0c\nbytes 1 00\nbytes 1 02\nbytes 1 00\nbytes 1 00\nbytes 1 00\ntick 0\n",
+        b"client 1\nto 1 0200000000000c00000000000100000001000c0002000000\nframe 0 0\n",
+    ),
+    // A header whose size is too small: invalid_method.
+    (
+        b"connect\nbytes 1 01000000 00000400\n",
+        b"client 1\nto 1 010000000000240001000000010000000f000000696e76616c69645f6d6574686f640000\nend 1 protocol 1 1\n",
+    ),
+    // A sync whose new id is in use, and one whose new id is out of range: invalid_object.
+    (
+        b"connect\nbytes 1 01000000 00000c00 01000000\n",
+        b"client 1\nto 1 010000000000240001000000000000000f000000696e76616c69645f6f626a6563740000\nend 1 protocol 1 0\n",
+    ),
+    (
+        b"connect\nbytes 1 01000000 00000c00 000000ff\n",
+        b"client 1\nto 1 010000000000240001000000000000000f000000696e76616c69645f6f626a6563740000\nend 1 protocol 1 0\n",
+    ),
+    // A client goes in the middle of a message; then nobody has its number.
+    (
+        b"connect\nbytes 1 01000000 0000\ngone 1\nbytes 1 00\ngone 1\n",
+        b"client 1\nend 1 gone\nnone 1\nnone 1\n",
+    ),
+    // The lowest free number is taken, and numbers that no client can have are nobody's.
+    (
+        b"connect\nconnect\ngone 1\nconnect\ngone 0\ngone 4294967295\n",
+        b"client 1\nclient 2\nend 1 gone\nclient 1\nnone 0\nnone 4294967295\n",
+    ),
+    // Words may have spaces round them, numbers leading zeros, and hex either case.
+    (
+        b"\n   \n# bytes\n#\n  connect  \n bytes   01 0100 0000 00000C00  fF000000 \ntick 0004294967295",
+        b"client 1\nto 1 ff00000000000c00000000000100000001000c00ff000000\nframe 4294967295 0\n",
+    ),
+    (b"", b""),
+];
+
+#[test]
+fn reports(rt: HostRuntime) -> Result<(), Fail> {
+    for (recording, report) in REPORTS {
+        let mut written = Vec::new(rt.alloc());
+        let mut none = None::<Vec<u8>>;
+        let played = play(rt.alloc(), &mut &*recording, &mut written, &mut none);
+        assert!(rt; played.is_ok());
+        assert_eq!(rt; written.as_slice(), report);
+    }
+    Ok(())
+}
+
+#[test]
+fn images(rt: HostRuntime) -> Result<(), Fail> {
+    let mut written = Vec::new(rt.alloc());
+    let mut ppm = Some(Vec::new(rt.alloc()));
+    let played = play(
+        rt.alloc(),
+        &mut b"tick 0\ntick 1\n".as_slice(),
+        &mut written,
+        &mut ppm,
+    );
+    assert_eq!(rt;
+        played,
+        Ok(Summary {
+            lines: 2,
+            frames: 2,
+            clients: 0
+        })
+    );
+    assert_eq!(rt; written.as_slice(), b"frame 0 0\nframe 1 0\n".as_slice());
+    let image = ppm.unwrap_or(Vec::new(rt.alloc()));
+    assert_eq!(rt;
+        image.as_slice(),
+        b"P6\n2 1\n255\n\0\0\0\0\0\0P6\n2 1\n255\n\0\0\0\0\0\0".as_slice()
+    );
+    Ok(())
+}
+
+#[test]
+fn bad_lines(rt: HostRuntime) -> Result<(), Fail> {
+    for line in [
+        "tock 1",
+        "connect 1",
+        "Connect",
+        "tick",
+        "tick 1 2",
+        "tick -1",
+        "tick +1",
+        "tick 4294967296",
+        "tick 1x",
+        "gone",
+        "gone x",
+        "bytes 1",
+        "bytes 1 0",
+        "bytes 1 0 0",
+        "bytes 1 0g",
+        "bytes x 00",
+        " # comment",
+        "tick\t1",
+        "tick 1\r",
+        "store 1 1 0 00",
+        "file 1 1 0 a",
+        "motion 0 0 0",
+        "button 0 272 1",
+    ] {
+        let mut written = Vec::new(rt.alloc());
+        let mut none = None::<Vec<u8>>;
+        let text = format!(in rt.alloc(); "connect\n{line}\ntick 0\n")?;
+        let played = play(rt.alloc(), &mut text.as_bytes(), &mut written, &mut none);
+        assert_eq!(rt; played, Err(ReplayError::BadLine(2)), "{line}");
+        assert_eq!(rt; written.as_slice(), b"client 1\n".as_slice());
+    }
+    Ok(())
+}
