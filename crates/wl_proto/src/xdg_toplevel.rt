@@ -164,6 +164,7 @@ pub enum XdgToplevelEvent<'a> {
     Configure {
         width: i32,
         height: i32,
+        /// The states, each as a uint of four bytes, little endian.
         states: &'a [u8],
     },
 }
