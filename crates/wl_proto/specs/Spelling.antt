@@ -1,5 +1,5 @@
 -- Which bytes spell which request or event.
-use Rattle.std.specs.Prelude.{◌≡◌, ℕ, ◌+◌, List, ◌++◌, map, length, Option, Some, None, Result, Ok, Err, MatchResult, OnOk, OnErr, IsErrOf, ◌<◌, ◌↔◌, slice_get}
+use Rattle.std.specs.Prelude.{◌≡◌, ℕ, ◌+◌, List, ◌++◌, map, length, Option, Some, None, Result, Ok, Err, MatchResult, OnOk, OnErr, IsErrOf, ◌<◌, ◌≤◌, ◌↔◌, slice_get}
 use Rattle.std.specs.List.{AllByRecursion}
 use Rattle.wl_wire.specs.declared.error.ArgError.{ArgError}
 use Rattle.wl_wire.specs.declared.error.PutError.{PutError}
@@ -54,8 +54,17 @@ pub record SpellsEvent (object : ℕ) (event : Message) (bytes : List ℕ) : Typ
   pub kinds : map kind_of event.fields ≡ kinds_of signature.arguments
   pub message : SpellsMessage object event.opcode event.fields bytes
 
+-- how many bytes spell an event, its header included
+abbrev pub event_size : Message → ℕ
+event_size event = 8 + length (fields_bytes event.fields)
+
 -- The event's one spelling with zeros for padding is appended, or nothing is; it is too long above 65,532 bytes.
 pub record Puts (object : ℕ) (event : Message) (result : Result (Unit {0}) PutError) (old new : List ℕ) : Type 0 where
   pub ok : OnOk result (new ≡ old ++ message_bytes object event.opcode event.fields)
-  pub too_long : IsErrOf result TooLong ↔ (65532 < 8 + length (fields_bytes event.fields))
+  pub too_long : IsErrOf result TooLong ↔ (65532 < event_size event)
   pub err : OnErr result (new ≡ old)
+
+-- the size of an event's spelling, or none where it is too long
+abbrev pub HasSize : Message → Option ℕ → Type 0
+HasSize event None = 65532 < event_size event
+HasSize event (Some size) = (size ≡ event_size event) × (size ≤ 65532)

@@ -1,6 +1,6 @@
 //! An event of any interface.
 
-ghost use Rattle.wl_proto.specs.Spelling.{Puts};
+ghost use Rattle.wl_proto.specs.Spelling.{Puts, HasSize};
 ghost use Rattle.wl_proto.specs.Messages.{event_message};
 
 use crate::wl_buffer::{self, WlBufferEvent};
@@ -66,5 +66,29 @@ pub(crate) fn write<A: Allocator>(
             },
         ) => { xdg_toplevel::encode_configure(object, *width, *height, states, out) }
         EventBody::XdgPopup(event) => xdg_popup::encode(object, event, out),
+    }
+}
+
+pub(crate) fn size(body: &EventBody) -> Option<u16>
+    ensures { HasSize (event_message body.now) result }
+{
+    match body {
+        EventBody::WlDisplay(event) => wl_display::size(event),
+        EventBody::WlRegistry(event) => wl_registry::size(event),
+        EventBody::WlCallback(event) => wl_callback::size(event),
+        EventBody::WlShm(event) => wl_shm::size(event),
+        EventBody::WlBuffer(event) => wl_buffer::size(event),
+        EventBody::WlOutput(event) => wl_output::size(event),
+        EventBody::WlSeat(event) => wl_seat::size(event),
+        EventBody::WlPointer(event) => wl_pointer::size(event),
+        EventBody::XdgSurface(event) => xdg_surface::size(event),
+        EventBody::XdgToplevel(
+            XdgToplevelEvent::Configure {
+                width,
+                height,
+                states,
+            },
+        ) => { xdg_toplevel::configure_size(*width, *height, states) }
+        EventBody::XdgPopup(event) => xdg_popup::size(event),
     }
 }

@@ -6,11 +6,11 @@
 //! argument is an id, 0 for the null object; a new id is an id too.
 #![tactic(auto)]
 
-ghost use Rattle.std.specs.Prelude.{◌≡◌, ◌↔◌, List, None, IfOk, IsOkAnd, OnOk, IsErrOf};
+ghost use Rattle.std.specs.Prelude.{◌≡◌, ◌↔◌, List, length, None, IfOk, IfSome, IsOkAnd, OnOk, IsErrOf};
 ghost use Rattle.wl_wire.specs.Wire.{Field, message_bytes};
 ghost use Rattle.wl_proto.specs.Table.{request_at};
 ghost use Rattle.wl_proto.specs.Messages.{request_message, event_message, says};
-ghost use Rattle.wl_proto.specs.Spelling.{SpellsRequest, SpellsEvent, Gives, Puts, decoded};
+ghost use Rattle.wl_proto.specs.Spelling.{SpellsRequest, SpellsEvent, Gives, HasSize, Puts, decoded};
 ghost use Rattle.wl_proto.specs.Laws.{RequestsAreFound, EventsAreFound, NoRequestBeginsAnother, NoEventBeginsAnother};
 
 mod argument;
@@ -107,6 +107,18 @@ pub fn encode<A: Allocator>(event: &Event, out: &mut Vec<u8, A>) -> Result<(), P
 {
     let object = event.object;
     event::write(object, &event.body, out)
+}
+
+/// The size in bytes of an event's message, its header included: how many bytes `encode` would append.
+///
+/// `None` where there would be more than 65,532, which `encode` refuses as `TooLong`.
+pub fn encoded_size(event: &Event) -> Option<u16>
+    ensures exact { HasSize (event_message event.now.body) result }
+
+    // It is the length of what `encode` appends.
+    ensures appended { IfSome result (λ size. size ≡ length (message_bytes event.now.object (event_message event.now.body).opcode (event_message event.now.body).fields)) }
+{
+    event::size(&event.body)
 }
 
 /// Whatever follows a request, its header is found, and its body says what was spelled.

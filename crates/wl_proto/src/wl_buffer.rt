@@ -1,13 +1,13 @@
 //! The messages of wl_buffer.
 
-ghost use Rattle.wl_proto.specs.Spelling.{Gives, decoded, Puts};
+ghost use Rattle.wl_proto.specs.Spelling.{Gives, decoded, Puts, HasSize};
 ghost use Rattle.wl_proto.specs.Messages.{wl_buffer_request, wl_buffer_event};
 ghost use Rattle.wl_proto.specs.declared.interface.Interface.TheVariants.{WlBuffer};
 
 use crate::ProtoError;
 use crate::body::nothing;
 use std::alloc::Allocator;
-use wl_wire::{PutError, put};
+use wl_wire::{PutError, message_size, put};
 
 /// A request of wl_buffer.
 #[derive(Clone, Copy, Debug)]
@@ -42,5 +42,13 @@ pub(crate) fn encode<A: Allocator>(
 {
     match *event {
         WlBufferEvent::Release => put(out, object, 0, &[]),
+    }
+}
+
+pub(crate) fn size(event: &WlBufferEvent) -> Option<u16>
+    ensures { HasSize (wl_buffer_event event.now) result }
+{
+    match *event {
+        WlBufferEvent::Release => message_size(&[]),
     }
 }

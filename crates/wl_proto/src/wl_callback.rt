@@ -1,10 +1,10 @@
 //! The messages of wl_callback.
 
-ghost use Rattle.wl_proto.specs.Spelling.{Puts};
+ghost use Rattle.wl_proto.specs.Spelling.{Puts, HasSize};
 ghost use Rattle.wl_proto.specs.Messages.{wl_callback_event};
 
 use std::alloc::Allocator;
-use wl_wire::{Arg, PutError, put};
+use wl_wire::{Arg, PutError, message_size, put};
 
 /// An event of wl_callback.
 #[derive(Clone, Copy, Debug)]
@@ -21,5 +21,13 @@ pub(crate) fn encode<A: Allocator>(
 {
     match *event {
         WlCallbackEvent::Done { callback_data } => put(out, object, 0, &[Arg::Uint(callback_data)]),
+    }
+}
+
+pub(crate) fn size(event: &WlCallbackEvent) -> Option<u16>
+    ensures { HasSize (wl_callback_event event.now) result }
+{
+    match *event {
+        WlCallbackEvent::Done { callback_data } => message_size(&[Arg::Uint(callback_data)]),
     }
 }

@@ -1,7 +1,7 @@
 //! The messages of wl_display.
 
 ghost use Rattle.std.specs.Prelude.{◌≡◌};
-ghost use Rattle.wl_proto.specs.Spelling.{Gives, decoded, Puts};
+ghost use Rattle.wl_proto.specs.Spelling.{Gives, decoded, Puts, HasSize};
 ghost use Rattle.wl_proto.specs.Objects.{new_id_in};
 ghost use Rattle.wl_proto.specs.Messages.{wl_display_request, wl_display_event};
 ghost use Rattle.wl_proto.specs.declared.interface.Interface.TheVariants.{WlDisplay};
@@ -9,7 +9,7 @@ ghost use Rattle.wl_proto.specs.declared.interface.Interface.TheVariants.{WlDisp
 use crate::body::word;
 use crate::{Interface, NewId, ProtoError};
 use std::alloc::Allocator;
-use wl_wire::{Arg, PutError, put};
+use wl_wire::{Arg, PutError, message_size, put};
 
 /// A request of wl_display.
 #[derive(Clone, Copy, Debug)]
@@ -86,5 +86,18 @@ pub(crate) fn encode<A: Allocator>(
             &[Arg::Object(object_id), Arg::Uint(code), Arg::Str(message)],
         ),
         WlDisplayEvent::DeleteId { id } => put(out, object, 1, &[Arg::Uint(id)]),
+    }
+}
+
+pub(crate) fn size(event: &WlDisplayEvent) -> Option<u16>
+    ensures { HasSize (wl_display_event event.now) result }
+{
+    match *event {
+        WlDisplayEvent::Error {
+            object_id,
+            code,
+            message,
+        } => message_size(&[Arg::Object(object_id), Arg::Uint(code), Arg::Str(message)]),
+        WlDisplayEvent::DeleteId { id } => message_size(&[Arg::Uint(id)]),
     }
 }

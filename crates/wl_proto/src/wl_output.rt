@@ -1,10 +1,10 @@
 //! The messages of wl_output.
 
-ghost use Rattle.wl_proto.specs.Spelling.{Puts};
+ghost use Rattle.wl_proto.specs.Spelling.{Puts, HasSize};
 ghost use Rattle.wl_proto.specs.Messages.{wl_output_event};
 
 use std::alloc::Allocator;
-use wl_wire::{Arg, PutError, put};
+use wl_wire::{Arg, PutError, message_size, put};
 
 /// An event of wl_output.
 #[derive(Clone, Copy, Debug)]
@@ -75,5 +75,42 @@ pub(crate) fn encode<A: Allocator>(
                 Arg::Int(refresh),
             ],
         ),
+    }
+}
+
+pub(crate) fn size(event: &WlOutputEvent) -> Option<u16>
+    ensures { HasSize (wl_output_event event.now) result }
+{
+    match *event {
+        WlOutputEvent::Geometry {
+            x,
+            y,
+            physical_width,
+            physical_height,
+            subpixel,
+            make,
+            model,
+            transform,
+        } => message_size(&[
+            Arg::Int(x),
+            Arg::Int(y),
+            Arg::Int(physical_width),
+            Arg::Int(physical_height),
+            Arg::Int(subpixel),
+            Arg::Str(make),
+            Arg::Str(model),
+            Arg::Int(transform),
+        ]),
+        WlOutputEvent::Mode {
+            flags,
+            width,
+            height,
+            refresh,
+        } => message_size(&[
+            Arg::Uint(flags),
+            Arg::Int(width),
+            Arg::Int(height),
+            Arg::Int(refresh),
+        ]),
     }
 }

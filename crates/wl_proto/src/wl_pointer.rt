@@ -1,7 +1,7 @@
 //! The messages of wl_pointer.
 
 ghost use Rattle.std.specs.Prelude.{◌≡◌, flat_map, option_to_list};
-ghost use Rattle.wl_proto.specs.Spelling.{Gives, decoded, Puts};
+ghost use Rattle.wl_proto.specs.Spelling.{Gives, decoded, Puts, HasSize};
 ghost use Rattle.wl_proto.specs.Objects.{objects_in};
 ghost use Rattle.wl_proto.specs.Messages.{wl_pointer_request, wl_pointer_event};
 ghost use Rattle.wl_proto.specs.declared.interface.Interface.TheVariants.{WlPointer};
@@ -9,7 +9,7 @@ ghost use Rattle.wl_proto.specs.declared.interface.Interface.TheVariants.{WlPoin
 use crate::body::two_words_two_ints;
 use crate::{Interface, ObjectArg, ProtoError};
 use std::alloc::Allocator;
-use wl_wire::{Arg, Fixed, PutError, put};
+use wl_wire::{Arg, Fixed, PutError, message_size, put};
 
 /// A request of wl_pointer.
 #[derive(Clone, Copy, Debug)]
@@ -141,5 +141,47 @@ pub(crate) fn encode<A: Allocator>(
                 Arg::Uint(state),
             ],
         ),
+    }
+}
+
+pub(crate) fn size(event: &WlPointerEvent) -> Option<u16>
+    ensures { HasSize (wl_pointer_event event.now) result }
+{
+    match *event {
+        WlPointerEvent::Enter {
+            serial,
+            surface,
+            surface_x,
+            surface_y,
+        } => message_size(&[
+            Arg::Uint(serial),
+            Arg::Object(surface),
+            Arg::Fixed(surface_x),
+            Arg::Fixed(surface_y),
+        ]),
+        WlPointerEvent::Leave { serial, surface } => message_size(&[
+            Arg::Uint(serial),
+            Arg::Object(surface),
+        ]),
+        WlPointerEvent::Motion {
+            time,
+            surface_x,
+            surface_y,
+        } => message_size(&[
+            Arg::Uint(time),
+            Arg::Fixed(surface_x),
+            Arg::Fixed(surface_y),
+        ]),
+        WlPointerEvent::Button {
+            serial,
+            time,
+            button,
+            state,
+        } => message_size(&[
+            Arg::Uint(serial),
+            Arg::Uint(time),
+            Arg::Uint(button),
+            Arg::Uint(state),
+        ]),
     }
 }

@@ -1,7 +1,7 @@
 //! The messages of wl_registry.
 
 ghost use Rattle.std.specs.Prelude.{◌≡◌};
-ghost use Rattle.wl_proto.specs.Spelling.{Gives, decoded, Puts};
+ghost use Rattle.wl_proto.specs.Spelling.{Gives, decoded, Puts, HasSize};
 ghost use Rattle.wl_proto.specs.Objects.{new_id_in};
 ghost use Rattle.wl_proto.specs.Messages.{wl_registry_request, wl_registry_event};
 ghost use Rattle.wl_proto.specs.declared.interface.Interface.TheVariants.{WlRegistry};
@@ -9,7 +9,7 @@ ghost use Rattle.wl_proto.specs.declared.interface.Interface.TheVariants.{WlRegi
 use crate::body::word_text_two_words;
 use crate::{NewId, ProtoError};
 use std::alloc::Allocator;
-use wl_wire::{Arg, PutError, put};
+use wl_wire::{Arg, PutError, message_size, put};
 
 /// A request of wl_registry.
 #[derive(Clone, Copy, Debug)]
@@ -83,5 +83,17 @@ pub(crate) fn encode<A: Allocator>(
             0,
             &[Arg::Uint(name), Arg::Str(interface), Arg::Uint(version)],
         ),
+    }
+}
+
+pub(crate) fn size(event: &WlRegistryEvent) -> Option<u16>
+    ensures { HasSize (wl_registry_event event.now) result }
+{
+    match *event {
+        WlRegistryEvent::Global {
+            name,
+            interface,
+            version,
+        } => message_size(&[Arg::Uint(name), Arg::Str(interface), Arg::Uint(version)]),
     }
 }

@@ -1,7 +1,7 @@
 //! The messages of wl_seat.
 
 ghost use Rattle.std.specs.Prelude.{◌≡◌};
-ghost use Rattle.wl_proto.specs.Spelling.{Gives, decoded, Puts};
+ghost use Rattle.wl_proto.specs.Spelling.{Gives, decoded, Puts, HasSize};
 ghost use Rattle.wl_proto.specs.Objects.{new_id_in};
 ghost use Rattle.wl_proto.specs.Messages.{wl_seat_request, wl_seat_event};
 ghost use Rattle.wl_proto.specs.declared.interface.Interface.TheVariants.{WlSeat};
@@ -9,7 +9,7 @@ ghost use Rattle.wl_proto.specs.declared.interface.Interface.TheVariants.{WlSeat
 use crate::body::word;
 use crate::{Interface, NewId, ProtoError};
 use std::alloc::Allocator;
-use wl_wire::{Arg, PutError, put};
+use wl_wire::{Arg, PutError, message_size, put};
 
 /// A request of wl_seat.
 #[derive(Clone, Copy, Debug)]
@@ -79,5 +79,13 @@ pub(crate) fn encode<A: Allocator>(
             0,
             &[Arg::Uint(capabilities)],
         ),
+    }
+}
+
+pub(crate) fn size(event: &WlSeatEvent) -> Option<u16>
+    ensures { HasSize (wl_seat_event event.now) result }
+{
+    match *event {
+        WlSeatEvent::Capabilities { capabilities } => message_size(&[Arg::Uint(capabilities)]),
     }
 }

@@ -1,7 +1,7 @@
 //! The messages of wl_shm.
 
 ghost use Rattle.std.specs.Prelude.{◌≡◌};
-ghost use Rattle.wl_proto.specs.Spelling.{Gives, decoded, Puts};
+ghost use Rattle.wl_proto.specs.Spelling.{Gives, decoded, Puts, HasSize};
 ghost use Rattle.wl_proto.specs.Objects.{new_id_in};
 ghost use Rattle.wl_proto.specs.Messages.{wl_shm_request, wl_shm_event};
 ghost use Rattle.wl_proto.specs.declared.interface.Interface.TheVariants.{WlShm};
@@ -9,7 +9,7 @@ ghost use Rattle.wl_proto.specs.declared.interface.Interface.TheVariants.{WlShm}
 use crate::body::word_int;
 use crate::{Interface, NewId, ProtoError};
 use std::alloc::Allocator;
-use wl_wire::{Arg, PutError, put};
+use wl_wire::{Arg, PutError, message_size, put};
 
 /// A request of wl_shm.
 #[derive(Clone, Copy, Debug)]
@@ -56,5 +56,13 @@ pub(crate) fn encode<A: Allocator>(
 {
     match *event {
         WlShmEvent::Format { format } => put(out, object, 0, &[Arg::Uint(format)]),
+    }
+}
+
+pub(crate) fn size(event: &WlShmEvent) -> Option<u16>
+    ensures { HasSize (wl_shm_event event.now) result }
+{
+    match *event {
+        WlShmEvent::Format { format } => message_size(&[Arg::Uint(format)]),
     }
 }

@@ -1,7 +1,7 @@
 //! The messages of xdg_popup.
 
 ghost use Rattle.std.specs.Prelude.{◌≡◌, flat_map, option_to_list};
-ghost use Rattle.wl_proto.specs.Spelling.{Gives, decoded, Puts};
+ghost use Rattle.wl_proto.specs.Spelling.{Gives, decoded, Puts, HasSize};
 ghost use Rattle.wl_proto.specs.Objects.{objects_in};
 ghost use Rattle.wl_proto.specs.Messages.{xdg_popup_request, xdg_popup_event};
 ghost use Rattle.wl_proto.specs.declared.interface.Interface.TheVariants.{XdgPopup};
@@ -9,7 +9,7 @@ ghost use Rattle.wl_proto.specs.declared.interface.Interface.TheVariants.{XdgPop
 use crate::body::{nothing, two_words};
 use crate::{Interface, ObjectArg, ProtoError};
 use std::alloc::Allocator;
-use wl_wire::{Arg, PutError, put};
+use wl_wire::{Arg, PutError, message_size, put};
 
 /// A request of xdg_popup.
 #[derive(Clone, Copy, Debug)]
@@ -76,5 +76,19 @@ pub(crate) fn encode<A: Allocator>(
             &[Arg::Int(x), Arg::Int(y), Arg::Int(width), Arg::Int(height)],
         ),
         XdgPopupEvent::PopupDone => put(out, object, 1, &[]),
+    }
+}
+
+pub(crate) fn size(event: &XdgPopupEvent) -> Option<u16>
+    ensures { HasSize (xdg_popup_event event.now) result }
+{
+    match *event {
+        XdgPopupEvent::Configure {
+            x,
+            y,
+            width,
+            height,
+        } => message_size(&[Arg::Int(x), Arg::Int(y), Arg::Int(width), Arg::Int(height)]),
+        XdgPopupEvent::PopupDone => message_size(&[]),
     }
 }

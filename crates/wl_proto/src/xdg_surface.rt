@@ -1,7 +1,7 @@
 //! The messages of xdg_surface.
 
 ghost use Rattle.std.specs.Prelude.{◌≡◌, flat_map, option_to_list};
-ghost use Rattle.wl_proto.specs.Spelling.{Gives, decoded, Puts};
+ghost use Rattle.wl_proto.specs.Spelling.{Gives, decoded, Puts, HasSize};
 ghost use Rattle.wl_proto.specs.Objects.{objects_in, new_id_in};
 ghost use Rattle.wl_proto.specs.Messages.{xdg_surface_request, xdg_surface_event};
 ghost use Rattle.wl_proto.specs.declared.interface.Interface.TheVariants.{XdgSurface};
@@ -9,7 +9,7 @@ ghost use Rattle.wl_proto.specs.declared.interface.Interface.TheVariants.{XdgSur
 use crate::body::{four_ints, nothing, three_words, word};
 use crate::{Interface, NewId, ObjectArg, ProtoError};
 use std::alloc::Allocator;
-use wl_wire::{Arg, PutError, put};
+use wl_wire::{Arg, PutError, message_size, put};
 
 /// A request of xdg_surface.
 #[derive(Clone, Copy, Debug)]
@@ -124,5 +124,13 @@ pub(crate) fn encode<A: Allocator>(
 {
     match *event {
         XdgSurfaceEvent::Configure { serial } => put(out, object, 0, &[Arg::Uint(serial)]),
+    }
+}
+
+pub(crate) fn size(event: &XdgSurfaceEvent) -> Option<u16>
+    ensures { HasSize (xdg_surface_event event.now) result }
+{
+    match *event {
+        XdgSurfaceEvent::Configure { serial } => message_size(&[Arg::Uint(serial)]),
     }
 }

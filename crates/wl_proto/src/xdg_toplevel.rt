@@ -2,7 +2,7 @@
 
 ghost use Rattle.std.specs.Prelude.{◌≡◌, [], ◌∷◌, flat_map, option_to_list};
 ghost use Rattle.wl_wire.specs.Wire.{Number, Block};
-ghost use Rattle.wl_proto.specs.Spelling.{Gives, decoded, Puts};
+ghost use Rattle.wl_proto.specs.Spelling.{Gives, decoded, Puts, HasSize};
 ghost use Rattle.wl_proto.specs.Objects.{objects_in};
 ghost use Rattle.wl_proto.specs.Messages.{xdg_toplevel_request, says};
 ghost use Rattle.wl_proto.specs.declared.interface.Interface.TheVariants.{XdgToplevel};
@@ -10,7 +10,7 @@ ghost use Rattle.wl_proto.specs.declared.interface.Interface.TheVariants.{XdgTop
 use crate::body::{nothing, text, three_words, two_ints, two_words, two_words_two_ints, word};
 use crate::{Interface, ObjectArg, ProtoError};
 use std::alloc::Allocator;
-use wl_wire::{Arg, PutError, put};
+use wl_wire::{Arg, PutError, message_size, put};
 
 /// A request of xdg_toplevel.
 #[derive(Clone, Copy, Debug)]
@@ -184,4 +184,10 @@ pub(crate) fn encode_configure<A: Allocator>(
         0,
         &[Arg::Int(width), Arg::Int(height), Arg::Array(states)],
     )
+}
+
+pub(crate) fn configure_size(width: i32, height: i32, states: &[u8]) -> Option<u16>
+    ensures { HasSize (says XdgToplevel 0 (Number width ∷ Number height ∷ Block states.now ∷ [])) result }
+{
+    message_size(&[Arg::Int(width), Arg::Int(height), Arg::Array(states)])
 }

@@ -20,7 +20,7 @@ pub use error::{ArgError, PutError};
 pub use header::Split;
 pub use reading::Args;
 use reading::word_at;
-pub use writing::put;
+pub use writing::{message_size, put};
 
 /// Looks for the first message of a stream, of which these are the bytes received so far.
 ///

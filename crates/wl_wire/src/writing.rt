@@ -139,8 +139,8 @@ fn counted_len(count: usize) -> Option<usize>
     Some(4 + count + padding(count))
 }
 
-// The size of a message with its header, where it is allowed.
-fn message_size(args: &[Arg]) -> Option<u16>
+/// The size of a message with its header in bytes, where it is allowed: at most 65,532.
+pub fn message_size(args: &[Arg]) -> Option<u16>
     ensures some { IfSome result (λ n. (n ≡ 8 + length (args_bytes args.now)) × (n ≤ 65532)) }
     ensures none { IfNone result (65532 < 8 + length (args_bytes args.now)) }
 {
