@@ -1,6 +1,7 @@
 pub mod Colors
 pub mod Cuts
 pub mod Desktops
+pub mod Finds
 pub mod Images
 pub mod Marks
 pub mod OnlyRun

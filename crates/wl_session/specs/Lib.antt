@@ -4,8 +4,10 @@ pub mod Desktop
 pub mod Frame
 pub mod Image
 pub mod Laws
+pub mod Objects
 pub mod Plain
 pub mod Run
+pub mod Said
 pub mod Step
 pub mod View
 pub use Rattle.wl_wire.specs.Wire

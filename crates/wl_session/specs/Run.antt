@@ -52,12 +52,12 @@ Shows (Close c) before films after = (films ≡ []) × (after ≡ before)
 -- one step leads a session from old to new, and shows these frames
 abbrev pub Leads : Act → List Film → SessionView → SessionView → Type 0
 Leads act films old new =
-    ((d : Desktop) → Agrees old.clients d → (e : Desktop) × (done : Done) × Steps d act done e × Agrees new.clients e)
+    ((d : Desktop) → Agrees old.desk d → (e : Desktop) × (done : Done) × Steps d act done e × Agrees new.desk e)
     × Shows act old.frame films new.frame
 
 -- a session stands for every desktop that it stood for, and shows the same frame
 abbrev pub Stays : SessionView → SessionView → Type 0
-Stays old new = ((d : Desktop) → Agrees old.clients d → Agrees new.clients d) × (new.frame ≡ old.frame)
+Stays old new = ((d : Desktop) → Agrees old.desk d → Agrees new.desk d) × (new.frame ≡ old.frame)
 
 -- A whole run: these steps lead from the first desktop to the second, and these are the frames of their ticks.
 abbrev pub Runs : Image → Desktop → List Act → List Film → Image → Desktop → Type 0
@@ -70,7 +70,7 @@ Runs before old (act ∷ acts) films after new =
 -- to one that agrees after.
 abbrev pub TakesSteps : List Act → List Film → SessionView → SessionView → Type 0
 TakesSteps acts films old new =
-    (d : Desktop) → Agrees old.clients d → (e : Desktop) × Runs old.frame d acts films new.frame e × Agrees new.clients e
+    (d : Desktop) → Agrees old.desk d → (e : Desktop) × Runs old.frame d acts films new.frame e × Agrees new.desk e
 
 -- how many steps were taken before a run stopped
 abbrev pub taken_by : RunError → ℕ

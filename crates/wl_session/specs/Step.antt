@@ -9,7 +9,7 @@ use Rattle.wl_session.specs.declared.steps.Done.TheVariants as gave
 use Rattle.wl_session.specs.declared.steps.Step.{Step}
 use Rattle.wl_session.specs.declared.steps.Step.TheVariants as step
 use Rattle.wl_session.specs.declared.steps.ConnectError.TheVariants.{Full, Memory}
-use Rattle.wl_session.specs.Desktop.{Peer, Desktop, Feeds, ended, lowest, newcomer, peer_at, with_peer, with_place}
+use Rattle.wl_session.specs.Desktop.{Peer, Desktop, Feeds, ended, lowest, newcomer, peer_at, with_peer}
 
 -- a step, with the bytes of a piece as a list
 pub data Act : Type 0 where
@@ -70,11 +70,11 @@ IsClosed p done q = (q ≡ closed_by p.status p) × (done ≡ gave.Close (is_som
 abbrev pub ConnectsAt : Option ℕ → Desktop → Done → Desktop → Type 0
 ConnectsAt None old done new = (done ≡ gave.Connect (Err Full)) × (new ≡ old)
 ConnectsAt (Some k) old done new =
-    ((done ≡ gave.Connect (Err Memory)) × (new ≡ old)) ⊎ ((done ≡ gave.Connect (Ok (k + 1))) × (new ≡ with_place k (Some newcomer) old))
+    ((done ≡ gave.Connect (Err Memory)) × (new ≡ old)) ⊎ ((done ≡ gave.Connect (Ok (k + 1))) × (new ≡ with_peer (k + 1) (Some (newcomer old.output)) old))
 
 -- What a step may do: from `old` it may answer `done` and lead to `new`. Want of memory is its only choice.
 abbrev pub Steps : Desktop → Act → Done → Desktop → Type 0
-Steps old Connect done new = ConnectsAt (lowest old) old done new
+Steps old Connect done new = ConnectsAt (lowest old.clients) old done new
 Steps old (Feed c piece) done new = Changes c (IsFed piece) (gave.Feed NoClient) old done new
 Steps old (Leave c) done new = Changes c IsLeft (gave.Gone false) old done new
 Steps old (Tick time) done new = (done ≡ gave.Tick) × (new ≡ old)

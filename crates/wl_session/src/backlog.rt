@@ -1,11 +1,13 @@
 //! Bytes that wait: they come in at the end and are taken at the front.
 
-ghost use Rattle.std.specs.Prelude.{◌≡◌, ℕ, ◌+◌, ◌≤◌, ◌<◌, [], ◌∷◌, ◌++◌, List, length, drop, ◌↔◌, OnOk, OnErr, IsErrOf};
-ghost use Rattle.wl_wire.specs.Wire.{message_bytes, args_bytes, fields_of};
+ghost use Rattle.std.specs.Prelude.{◌≡◌, ◌≤◌, [], ◌++◌, length, drop, OnOk, OnErr};
+ghost use Rattle.wl_proto.specs.Messages.{event_message};
+ghost use Rattle.wl_proto.specs.Spelling.{Puts};
 
 use std::alloc::{AllocError, Allocator};
 use std::marker::Model;
-use wl_wire::{Arg, PutError, put};
+use wl_proto::{Event, encode};
+use wl_wire::PutError;
 
 /// Bytes that wait to be read or sent, first in, first out.
 ///
@@ -54,14 +56,13 @@ impl<A: Allocator> Backlog<A> {
         self.bytes.extend_from_slice(more)
     }
 
-    /// Adds a message at the end. An `Err` changes nothing; it is `TooLong` where the message would pass 65,532 bytes.
-    pub fn put(&mut self, object: u32, opcode: u16, args: &[Arg]) -> Result<(), PutError>
-        ensures ok { OnOk result (self.new ≡ self.old ++ message_bytes object opcode (fields_of args.now)) }
-        ensures too_long { IsErrOf result PutError.TooLong ↔ (65532 < 8 + length (args_bytes args.now)) }
-        ensures err { OnErr result (self.new ≡ self.old) }
+    /// Adds an event's message at the end. An `Err` changes nothing; it is `TooLong` where the message would pass 65,532
+    /// bytes.
+    pub fn encode(&mut self, event: &Event) -> Result<(), PutError>
+        ensures { Puts event.now.object (event_message event.now.body) result self.old self.new }
     {
         self.make_room();
-        put(&mut self.bytes, object, opcode, args)
+        encode(event, &mut self.bytes)
     }
 
     /// Takes `count` bytes at the front.

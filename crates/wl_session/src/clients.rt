@@ -1,13 +1,24 @@
 //! One client: what came from it, what is to be sent to it, and what its messages ask.
 
-ghost use Rattle.std.specs.Prelude.{◌≡◌, ◌++◌, [], length, ◌<◌, ◌≤◌, OnOk, OnErr, IfOk, Some, None, true, false, is_some, is_none, nat_le};
-ghost use Rattle.wl_session.specs.Desktop.{code_number, code_name, event_bytes, verdict_of, is_free, is_live, only_word};
+ghost use Rattle.std.specs.Prelude.{◌≡◌, ◌++◌, [], length, ◌<◌, ◌≤◌, OnOk, OnErr, IfOk, IfErr, IsTrue, MatchBool, Some, None, true, false, is_some, is_none, map, nat_le};
+ghost use Rattle.wl_session.specs.Agreement.{output_of};
+ghost use Rattle.wl_session.specs.Desktop.{bind_told, has_room, object_at_version, said_bytes};
+ghost use Rattle.wl_session.specs.Said.{said_of};
 
+use crate::actions::{Action, judged};
 use crate::backlog::Backlog;
+use crate::events::{
+    callback_event, capabilities_told, deletion_event, error_event, formats_told, output_told,
+};
+use crate::globals::globals_told;
+use crate::outputs::Output;
+use crate::refusals::{ErrorCode, Refusal};
 use crate::steps::Fed;
 use std::alloc::{AllocError, Allocator};
 use std::marker::Model;
-use wl_wire::{Arg, Args, PutError, Split, split};
+use wl_proto::{Event, Interface, encoded_size};
+use wl_table::{Entry, Objects};
+use wl_wire::{PutError, Split, split};
 
 /// Why a client ended.
 #[derive(Clone, Copy, Debug, PartialEq, Eq)]
@@ -22,124 +33,8 @@ pub enum Cause {
     Gone,
 }
 
-/// An error of wl_display (wayland.xml, wl_display.error). Its object is wl_display itself.
-#[derive(Clone, Copy, Debug, PartialEq, Eq)]
-pub enum ErrorCode {
-    InvalidObject,
-    InvalidMethod,
-    Implementation,
-}
-
-impl ErrorCode {
-    fn number(self) -> u32
-        ensures { result ≡ code_number self }
-    {
-        match self {
-            ErrorCode::InvalidObject => 0,
-            ErrorCode::InvalidMethod => 1,
-            ErrorCode::Implementation => 3,
-        }
-    }
-
-    fn name(self) -> &'static [u8]
-        ensures { result.now ≡ code_name self }
-    {
-        match self {
-            ErrorCode::InvalidObject => b"invalid_object",
-            ErrorCode::InvalidMethod => b"invalid_method",
-            ErrorCode::Implementation => b"implementation",
-        }
-    }
-}
-
-/// What a client is told.
-#[derive(Clone, Copy, Debug, PartialEq, Eq)]
-pub enum Event {
-    /// wl_callback.done of this callback.
-    Done(u32),
-    /// wl_display.delete_id: this id may be used again.
-    DeleteId(u32),
-    /// wl_display.error about wl_display.
-    Error(ErrorCode),
-}
-
-impl Event {
-    /// Adds the event's spelling at the end. An `Err` changes nothing.
-    fn put<A: Allocator>(self, unsent: &mut Backlog<A>) -> Result<(), PutError>
-        ensures ok { OnOk result (unsent.new ≡ unsent.old ++ event_bytes self) }
-        ensures err { OnErr result (unsent.new ≡ unsent.old) }
-    {
-        match self {
-            Event::Done(callback) => unsent.put(callback, 0, &[Arg::Uint(0)]),
-            Event::DeleteId(id) => unsent.put(1, 1, &[Arg::Uint(id)]),
-            Event::Error(code) => unsent.put(
-                1,
-                0,
-                &[
-                    Arg::Object(1),
-                    Arg::Uint(code.number()),
-                    Arg::Str(code.name()),
-                ],
-            ),
-        }
-    }
-}
-
-/// What a message asks.
-#[derive(Clone, Copy, Debug, PartialEq, Eq)]
-pub enum Verdict {
-    /// wl_display.sync with this new callback.
-    Sync(u32),
-    /// It is refused.
-    Refuse(ErrorCode),
-}
-
-fn is_live_id(objects: &[u32], id: u32) -> bool
-    ensures { result ≡ is_live objects.now id }
-{
-    objects.iter().any(|object| *object == id)
-}
-
-fn is_free_id(objects: &[u32], id: u32) -> bool
-    ensures { result ≡ is_free objects.now id }
-{
-    id != 0 && id <= 0xfeff_ffff && !is_live_id(objects, id)
-}
-
-fn only_argument(body: &[u8]) -> Option<u32>
-    ensures { result ≡ only_word body.now }
-{
-    let mut args = Args::new(body);
-    let Ok(id) = args.uint() else {
-        return None;
-    };
-    if args.finish().is_err() {
-        return None;
-    }
-    Some(id)
-}
-
-/// What a message asks of these objects.
-fn verdict_on(objects: &[u32], object: u32, opcode: u16, body: &[u8]) -> Verdict
-    ensures { result ≡ verdict_of objects.now object opcode body.now }
-{
-    if !is_live_id(objects, object) {
-        return Verdict::Refuse(ErrorCode::InvalidObject);
-    }
-    if opcode > 1 {
-        return Verdict::Refuse(ErrorCode::InvalidMethod);
-    }
-    let Some(id) = only_argument(body) else {
-        return Verdict::Refuse(ErrorCode::InvalidMethod);
-    };
-    if !is_free_id(objects, id) {
-        return Verdict::Refuse(ErrorCode::InvalidObject);
-    }
-    if opcode == 1 {
-        return Verdict::Refuse(ErrorCode::Implementation);
-    }
-    Verdict::Sync(id)
-}
+/// How many bytes may wait for a client.
+const UNSENT_LIMIT: usize = 1_048_576;
 
 /// One client. It is seen as the values that it keeps.
 #[derive(Drop)]
@@ -147,7 +42,9 @@ pub struct Client<A: Allocator> {
     ended: Option<Cause>,
     rest: Backlog<A>,
     unsent: Backlog<A>,
-    objects: Vec<u32, A>,
+    objects: Objects<A>,
+    output: Output,
+    alloc: A,
 }
 
 impl<A: Allocator> Model for Client<A> {
@@ -155,34 +52,54 @@ impl<A: Allocator> Model for Client<A> {
 
     ghost Value = { ClientView };
 
-    ghost view = { λ c. record { ended = c.ended; rest = c.rest; unsent = c.unsent; objects = c.objects.items } };
+    ghost view = { λ c. record { ended = c.ended; rest = c.rest; unsent = c.unsent; objects = c.objects; output = c.output } };
 }
 
 impl<A: Allocator + Copy> Client<A> {
-    ghost use Rattle.wl_session.specs.Desktop.{Peer, IsIdleAt, newcomer, Queues, Errs, Answers, Serves, Feeds};
+    ghost use Rattle.wl_session.specs.Desktop.{Peer, IsIdleAt, newcomer, Queues, Errs, LacksMemory, Makes, Acts, Answers, Serves, Feeds, counted};
     ghost use Rattle.wl_session.specs.Step.{fed_of, left_by, sent_by};
     ghost use Rattle.wl_session.specs.Agreement.{IsPeer};
 
-    /// A client that has just connected. Its one object is wl_display.
-    pub fn new(alloc: A) -> Result<Self, AllocError>
-        ensures { IfOk result (λ c. IsPeer c newcomer) }
+    /// A client that has just connected and is shown on this output. Its one object is wl_display.
+    pub fn new(alloc: A, output: Output) -> Result<Self, AllocError>
+        ensures { IfOk result (λ c. IsPeer c (newcomer (output_of output))) }
     {
-        let mut objects = Vec::new(alloc);
-        objects.push(1)?;
+        let mut objects = Objects::new(alloc);
+        let display = Entry {
+            interface: Interface::WlDisplay,
+            version: 1,
+            target: 0,
+        };
+        if objects.insert(1, display).is_err() {
+            return Err(AllocError);
+        }
         Ok(Client {
             ended: None,
             rest: Backlog::new(alloc),
             unsent: Backlog::new(alloc),
             objects,
+            output,
+            alloc,
         })
     }
 
-    /// Queues an event. An `Err` changes nothing; only want of memory gives it.
-    fn queue(&mut self, event: Event) -> Result<(), PutError>
-        ensures ok { OnOk result (self.new ≡ record self.old { unsent = self.old.unsent ++ event_bytes event }) }
+    /// Queues an event. An `Err` says why it can't be queued, and changes nothing.
+    fn queue(&mut self, event: &Event) -> Result<(), Cause>
+        ensures ok { OnOk result (IsTrue (has_room self.old.unsent (said_of event.now)) × (self.new ≡ record self.old { unsent = self.old.unsent ++ said_bytes (said_of event.now) })) }
         ensures err { OnErr result (self.new ≡ self.old) }
+        ensures cause { IfErr result (λ e. MatchBool (has_room self.old.unsent (said_of event.now)) (e ≡ Cause.Memory) (e ≡ Cause.Slow)) }
     {
-        event.put(&mut self.unsent)
+        let Some(size) = encoded_size(event) else {
+            return Err(Cause::Slow);
+        };
+        if self.unsent.as_slice().len() + size as usize > UNSENT_LIMIT {
+            return Err(Cause::Slow);
+        }
+        match self.unsent.encode(event) {
+            Ok(()) => Ok(()),
+            Err(PutError::TooLong) => Err(Cause::Slow),
+            Err(PutError::Memory) => Err(Cause::Memory),
+        }
     }
 
     fn end(&mut self, cause: Cause)
@@ -190,46 +107,99 @@ impl<A: Allocator + Copy> Client<A> {
     {
         self.ended = Some(cause);
         self.rest.clear();
-        self.objects.clear();
+        self.objects = Objects::new(self.alloc);
     }
 
     /// Ends the client with an error, of which it is told.
-    fn refuse(&mut self, code: ErrorCode)
-        ensures errs { (p : Peer) → IsPeer self.old p → (q : Peer) × Errs code p q × IsPeer self.new q }
+    fn refuse(&mut self, refusal: Refusal)
+        ensures errs { (p : Peer) → IsPeer self.old p → (q : Peer) × Errs refusal p q × IsPeer self.new q }
         ensures rest { length self.new.rest ≡ 0 }
     {
-        let cause = match self.queue(Event::Error(code)) {
+        let cause = match self.queue(&error_event(refusal)) {
             Ok(()) => Cause::Protocol {
-                object: 1,
-                code: code.number(),
+                object: refusal.object,
+                code: refusal.code.number(),
             },
-            Err(_) => Cause::Memory,
+            Err(cause) => cause,
         };
         self.end(cause);
     }
 
     /// Queues events in turn. Where one isn't queued, the client ends.
     fn queue_all(&mut self, events: &[Event])
-        ensures queues { (p : Peer) → IsPeer self.old p → (q : Peer) × Queues events.now p q × IsPeer self.new q }
+        ensures queues { (p : Peer) → IsPeer self.old p → (q : Peer) × Queues (map said_of events.now) p q × IsPeer self.new q }
         ensures rest { length self.new.rest ≤ length self.old.rest }
     {
         for event in events {
-            if let Err(_) = self.queue(*event) {
-                self.end(Cause::Memory);
+            if let Err(cause) = self.queue(event) {
+                self.end(cause);
                 return;
             }
         }
     }
 
-    fn answer(&mut self, verdict: Verdict)
-        ensures answers { (p : Peer) → IsPeer self.old p → (q : Peer) × Answers verdict p q × IsPeer self.new q }
+    /// Ends the client for want of memory, of which it is told where that can be.
+    fn lack_memory(&mut self)
+        ensures lacks { (p : Peer) → IsPeer self.old p → (q : Peer) × LacksMemory p q × IsPeer self.new q }
+        ensures rest { length self.new.rest ≡ 0 }
+    {
+        let _ = self.queue(&error_event(Refusal::of_display(ErrorCode::NoMemory)));
+        self.end(Cause::Memory);
+    }
+
+    /// Makes an object, which tells these events.
+    fn make(&mut self, id: u32, interface: Interface, version: u32, events: &[Event])
+        ensures makes { (p : Peer) → IsPeer self.old p → (q : Peer) × Makes id (object_at_version interface version) (map said_of events.now) p q × IsPeer self.new q }
         ensures rest { length self.new.rest ≤ length self.old.rest }
     {
-        match verdict {
-            Verdict::Sync(callback) => {
-                self.queue_all(&[Event::Done(callback), Event::DeleteId(callback)]);
+        let entry = Entry {
+            interface,
+            version,
+            target: 0,
+        };
+        match self.objects.insert(id, entry) {
+            Ok(()) => self.queue_all(events),
+            Err(_) => self.lack_memory(),
+        }
+    }
+
+    /// Answers an accepted message, or refuses it.
+    fn answer(&mut self, judged: Result<Action, Refusal>)
+        ensures answers { (p : Peer) → IsPeer self.old p → (q : Peer) × Answers judged p q × IsPeer self.new q }
+        ensures rest { length self.new.rest ≤ length self.old.rest }
+    {
+        match judged {
+            Ok(action) => self.act(action),
+            Err(refusal) => self.refuse(refusal),
+        }
+    }
+
+    /// Does what an accepted message asks.
+    fn act(&mut self, action: Action)
+        ensures acts { (p : Peer) → IsPeer self.old p → (q : Peer) × Acts action (counted p) q × IsPeer self.new q }
+        ensures rest { length self.new.rest ≤ length self.old.rest }
+    {
+        match action {
+            Action::Sync(callback) => {
+                self.queue_all(&[callback_event(callback), deletion_event(callback)]);
             }
-            Verdict::Refuse(code) => self.refuse(code),
+            Action::GetRegistry(registry) => {
+                self.make(registry, Interface::WlRegistry, 1, &globals_told(registry));
+            }
+            Action::Bind(id, interface, version) => self.bind(id, interface, version),
+        }
+    }
+
+    /// Makes the object of a bind, which tells what its interface tells at once.
+    fn bind(&mut self, id: u32, interface: Interface, version: u32)
+        ensures makes { (p : Peer) → IsPeer self.old p → (q : Peer) × Makes id (object_at_version interface version) (bind_told (output_of self.old.output) id interface) p q × IsPeer self.new q }
+        ensures rest { length self.new.rest ≤ length self.old.rest }
+    {
+        match interface {
+            Interface::WlShm => self.make(id, interface, version, &formats_told(id)),
+            Interface::WlSeat => self.make(id, interface, version, &capabilities_told(id)),
+            Interface::WlOutput => self.make(id, interface, version, &output_told(id, self.output)),
+            _ => self.make(id, interface, version, &[]),
         }
     }
 
@@ -245,7 +215,7 @@ impl<A: Allocator + Copy> Client<A> {
         match split(self.rest.as_slice()) {
             Split::More => false,
             Split::Bad => {
-                self.refuse(ErrorCode::InvalidMethod);
+                self.refuse(Refusal::of_display(ErrorCode::InvalidMethod));
                 true
             }
             Split::Message {
@@ -254,14 +224,14 @@ impl<A: Allocator + Copy> Client<A> {
                 size,
             } => {
                 let size = size as usize;
-                let verdict = verdict_on(
+                let judged = judged(
                     &self.objects,
                     object,
                     opcode,
                     &self.rest.as_slice()[8..size],
                 );
                 self.rest.take_front(size);
-                self.answer(verdict);
+                self.answer(judged);
                 true
             }
         }

@@ -4,9 +4,10 @@ ghost use Rattle.std.specs.Prelude.{◌≡◌, ℕ, ◌+◌, ◌<◌, ◌≤◌,
 ghost use Rattle.std.specs.Option.{option_copied};
 ghost use Rattle.wl_session.specs.Desktop.{Peer, Desktop, empty, lowest, peer_at};
 ghost use Rattle.wl_session.specs.Step.{ChangesAt, IsFed, IsLeft, IsSent, IsClosed, Connect, Feed, Leave, Send, Close, unsent_of, status_of};
-ghost use Rattle.wl_session.specs.Agreement.{IsSlot, Agrees, TakesStep};
+ghost use Rattle.wl_session.specs.Agreement.{IsSlot, Agrees, TakesStep, output_of};
 
 use crate::clients::Client;
+use crate::outputs::Output;
 use crate::steps::{ClientNo, ConnectError, Done, Fed};
 use std::alloc::{AllocError, Allocator};
 use std::marker::Model;
@@ -14,33 +15,34 @@ use std::marker::Model;
 /// How many clients there may be at once.
 const CLIENT_LIMIT: usize = 32;
 
-/// All clients. It is seen as what is kept of each, by number from 1.
+/// All clients. It is seen as the output, and what is kept of each client, by number from 1.
 #[derive(Drop)]
 pub struct Desk<A: Allocator> {
+    output: Output,
     clients: Vec<Option<Client<A>>, A>,
 }
 
 impl<A: Allocator> Model for Desk<A> {
-    ghost use Rattle.std.specs.Prelude.{◌≡◌, List, Option, length};
-    ghost use Rattle.wl_session.specs.View.{ClientView};
+    ghost use Rattle.std.specs.Prelude.{◌≡◌, length};
+    ghost use Rattle.wl_session.specs.View.{DeskView};
 
-    ghost Value = { List (Option ClientView) };
+    ghost Value = { DeskView };
 
-    ghost view = { λ d. d.clients.items };
+    ghost view = { λ d. record { output = d.output; clients = d.clients.items } };
 
     ghost invariant = { λ d. length d.clients.items ≡ 32 };
 }
 
 impl<A: Allocator + Copy> Desk<A> {
-    /// A desk without clients.
-    pub fn new(alloc: A) -> Result<Self, AllocError>
-        ensures { IfOk result (λ desk. Agrees desk empty) }
+    /// A desk without clients, with this output.
+    pub fn new(alloc: A, output: Output) -> Result<Self, AllocError>
+        ensures { IfOk result (λ desk. Agrees desk (empty (output_of output))) }
     {
         let mut clients = Vec::with_capacity(alloc, CLIENT_LIMIT)?;
         for _ in 0..CLIENT_LIMIT {
             clients.push(None)?;
         }
-        Ok(Desk { clients })
+        Ok(Desk { output, clients })
     }
 
     /// A client connects. It gets the lowest free number.
@@ -50,7 +52,7 @@ impl<A: Allocator + Copy> Desk<A> {
         let Some(k) = free_place(&self.clients) else {
             return Err(ConnectError::Full);
         };
-        let Ok(client) = Client::new(*self.clients.allocator()) else {
+        let Ok(client) = Client::new(*self.clients.allocator(), self.output) else {
             return Err(ConnectError::Memory);
         };
         self.clients[k] = Some(client);

@@ -1,14 +1,19 @@
 //! The core of a compositor: clients, their streams, and steps of all of them in any order.
 #![tactic(auto)]
 
+mod actions;
 mod backlog;
 mod clients;
 mod colour;
 mod damage;
 mod desks;
+mod events;
 mod framebuffer;
+mod globals;
 mod laws;
+mod outputs;
 mod ppm;
+mod refusals;
 mod row;
 mod sessions;
 mod shots;

@@ -15,6 +15,7 @@ use crate::colour::Rgb;
 use crate::damage::Damage;
 use crate::desks::Desk;
 use crate::framebuffer::{FrameError, Framebuffer};
+use crate::outputs::Output;
 use crate::shots::{Frame, Shot};
 use crate::steps::{ClientNo, ConnectError, Done, Fed, RunError, Step};
 use std::alloc::{AllocError, Allocator};
@@ -31,7 +32,8 @@ pub struct Config {
     pub background: Rgb,
 }
 
-/// All clients and the last frame. It is seen as what is kept of each client, by number from 1, and that frame.
+/// All clients and the last frame. It is seen as the output with what is kept of each client, by number
+/// from 1, and that frame.
 #[derive(Drop)]
 pub struct Session<A: Allocator> {
     desk: Desk<A>,
@@ -47,7 +49,7 @@ impl<A: Allocator> Model for Session<A> {
 
     ghost Value = { SessionView };
 
-    ghost view = { λ s. record { clients = s.desk; frame = s.framebuffer } };
+    ghost view = { λ s. record { desk = s.desk; frame = s.framebuffer } };
 
     ghost invariant = { λ s. (x y : ℕ) → has s.painted x y ≡ false };
 }
@@ -59,7 +61,7 @@ impl<A: Allocator + Copy> Session<A> {
 
     /// A session without clients, whose frame is the background.
     pub fn new(alloc: A, config: Config) -> Result<Self, FrameError>
-        ensures clients { IfOk result (λ s. Agrees s.clients empty) }
+        ensures desk { IfOk result (λ s. Agrees s.desk (empty (record { width = config.width; height = config.height }))) }
         ensures width { IfOk result (λ s. s.frame.width ≡ config.width) }
         ensures height { IfOk result (λ s. s.frame.height ≡ config.height) }
         ensures pixels { IfOk result (λ s. s.frame.pixels ≡ filled (config.width * config.height) config.background) }
@@ -70,7 +72,11 @@ impl<A: Allocator + Copy> Session<A> {
         let Ok(painted) = Damage::new(alloc, config.width, config.height) else {
             return Err(FrameError::Memory);
         };
-        let Ok(desk) = Desk::new(alloc) else {
+        let output = Output {
+            width: config.width,
+            height: config.height,
+        };
+        let Ok(desk) = Desk::new(alloc, output) else {
             return Err(FrameError::Memory);
         };
         Ok(Session {
@@ -83,7 +89,7 @@ impl<A: Allocator + Copy> Session<A> {
 
     /// A client connects. It gets the lowest free number.
     pub fn connect(&mut self) -> Result<ClientNo, ConnectError>
-        ensures step { TakesStep Connect (Done.Connect result) self.old.clients self.new.clients }
+        ensures step { TakesStep Connect (Done.Connect result) self.old.desk self.new.desk }
         ensures frame { self.new.frame ≡ self.old.frame }
     {
         self.desk.connect()
@@ -92,7 +98,7 @@ impl<A: Allocator + Copy> Session<A> {
     /// A piece of a client's stream comes. A stream may be cut anywhere; each whole message is taken once its last byte
     /// is there. After an end the rest of the piece is dropped, and a piece for an ended client does nothing.
     pub fn feed(&mut self, client: ClientNo, piece: &[u8]) -> Fed
-        ensures step { TakesStep (Feed client piece.now) (Done.Feed result) self.old.clients self.new.clients }
+        ensures step { TakesStep (Feed client piece.now) (Done.Feed result) self.old.desk self.new.desk }
         ensures frame { self.new.frame ≡ self.old.frame }
     {
         self.desk.feed(client, piece)
@@ -100,7 +106,7 @@ impl<A: Allocator + Copy> Session<A> {
 
     /// A client goes. True where it was alive.
     pub fn gone(&mut self, client: ClientNo) -> bool
-        ensures step { TakesStep (Leave client) (Done.Gone result) self.old.clients self.new.clients }
+        ensures step { TakesStep (Leave client) (Done.Gone result) self.old.desk self.new.desk }
         ensures frame { self.new.frame ≡ self.old.frame }
     {
         self.desk.gone(client)
@@ -108,7 +114,7 @@ impl<A: Allocator + Copy> Session<A> {
 
     /// So many of a client's unsent bytes were sent. False and unchanged where there are fewer.
     pub fn sent(&mut self, client: ClientNo, count: usize) -> bool
-        ensures step { TakesStep (Send client count) (Done.Sent result) self.old.clients self.new.clients }
+        ensures step { TakesStep (Send client count) (Done.Sent result) self.old.desk self.new.desk }
         ensures frame { self.new.frame ≡ self.old.frame }
     {
         self.desk.sent(client, count)
@@ -116,7 +122,7 @@ impl<A: Allocator + Copy> Session<A> {
 
     /// Gives back the number of a client that ended, with its unsent bytes. True where it had ended.
     pub fn close(&mut self, client: ClientNo) -> bool
-        ensures step { TakesStep (Close client) (Done.Close result) self.old.clients self.new.clients }
+        ensures step { TakesStep (Close client) (Done.Close result) self.old.desk self.new.desk }
         ensures frame { self.new.frame ≡ self.old.frame }
     {
         self.desk.close(client)
@@ -124,14 +130,14 @@ impl<A: Allocator + Copy> Session<A> {
 
     /// The bytes that wait to be sent to a client, an ended one too. None where no client has the number.
     pub fn out(&self, client: ClientNo) -> Option<&[u8]>
-        ensures { (d : Desktop) → Agrees self.now.clients d → option_copied result ≡ unsent_of (peer_at d client) }
+        ensures { (d : Desktop) → Agrees self.now.desk d → option_copied result ≡ unsent_of (peer_at d client) }
     {
         self.desk.out(client)
     }
 
     /// How a client is.
     pub fn status(&self, client: ClientNo) -> Fed
-        ensures { (d : Desktop) → Agrees self.now.clients d → result ≡ status_of (peer_at d client) }
+        ensures { (d : Desktop) → Agrees self.now.desk d → result ≡ status_of (peer_at d client) }
     {
         self.desk.status(client)
     }
@@ -140,7 +146,7 @@ impl<A: Allocator + Copy> Session<A> {
     ///
     /// No request that is served yet changes what is seen: nothing is damaged, and the frame stays the background.
     pub fn tick(&mut self, time: u32) -> Frame<'_, A>
-        ensures* after { sem 𝓛 (Rests (the_row A.row A.Allocator) self.entry (λ v. TakesStep (Tick time) Done.Tick self.old.clients v.clients × (v.frame ≡ result.pixels.now))) }
+        ensures* after { sem 𝓛 (Rests (the_row A.row A.Allocator) self.entry (λ v. TakesStep (Tick time) Done.Tick self.old.desk v.desk × (v.frame ≡ result.pixels.now))) }
         ensures frame { IsNextFrame self.old.frame result.pixels.now (has result.damage.now) }
         ensures time { result.time ≡ time }
     {
@@ -162,7 +168,7 @@ impl<A: Allocator + Copy> Session<A> {
 
     /// Any one step. A tick's frame isn't given back.
     pub fn step(&mut self, step: &Step) -> Done
-        ensures step { TakesStep (act_of step.now) result self.old.clients self.new.clients }
+        ensures step { TakesStep (act_of step.now) result self.old.desk self.new.desk }
         ensures frame { self.new.frame ≡ self.old.frame }
     {
         match *step {
@@ -217,7 +223,7 @@ impl<A: Allocator + Copy> Session<A> {
     /// A tick with a copy of its frame. An `Err` changes nothing.
     fn shoot(&mut self, time: u32, shots: &mut Vec<Shot<A>, A>) -> Result<(), AllocError>
         ensures ok { OnOk result ((film : Film) × (map film_of shots.new.items ≡ map film_of shots.old.items ++ film ∷ []) × IsFilm time self.old.frame film self.new.frame) }
-        ensures step { OnOk result (TakesStep (Tick time) Done.Tick self.old.clients self.new.clients) }
+        ensures step { OnOk result (TakesStep (Tick time) Done.Tick self.old.desk self.new.desk) }
         ensures err { OnErr result ((self.new ≡ self.old) × (shots.new.items ≡ shots.old.items)) }
     {
         let alloc = self.alloc;

@@ -1,13 +1,11 @@
-use Rattle.wl_session.specs.Desktop.{counted}
-use Rattle.wl_session.proofs.Peers.{IsPeer-counted}
 use Rattle.wl_session.proofs.clients.Client.answer.Goals as goal
 
-pub returns-in-Sync-clause-answers : goal.returns-in-Sync-clause-answers
-returns-in-Sync-clause-answers g c = λ p is.
-    let h = c.queue_all.ensures.queues (counted p) (IsPeer-counted _ p is) in
-    (h.0, rw c.in-Sync.is h.1, h.2)
+pub returns-in-Ok-clause-answers : goal.returns-in-Ok-clause-answers
+returns-in-Ok-clause-answers g c = λ p is.
+    let next = c.act.ensures.acts p is in
+    (next.0, rw c.in-Ok.is next.1, next.2)
 
-pub returns-in-Refuse-clause-answers : goal.returns-in-Refuse-clause-answers
-returns-in-Refuse-clause-answers g c = λ p is.
-    let h = c.refuse.ensures.errs p is in
-    (h.0, rw c.in-Refuse.is h.1, h.2)
+pub returns-in-Err-clause-answers : goal.returns-in-Err-clause-answers
+returns-in-Err-clause-answers g c = λ p is.
+    let next = c.refuse.ensures.errs p is in
+    (next.0, rw c.in-Err.is next.1, next.2)

@@ -9,7 +9,7 @@ returns-in-Bad-clause-serves g c = λ _ p is.
     let seen = rw (← c.self.view_is) at is in
     let next = c.refuse.ensures.errs p is in (
       next.0,
-      Serves-bad _ p next.0 seen (absent _ (rw (← c.self.view_is) at c.if-has_ended.ensures)) (c.in-Bad.ensures ∙ ap split_of c.as_slice.ensures) next.1,
+      Serves-bad _ p next.0 seen (absent _ (rw (← c.self.view_is) at c.if-has_ended.ensures)) (c.in-Bad.ensures ∙ ap split_of c.as_slice.ensures) (rw c.of_display.ensures at next.1),
       next.2,
     )
 
@@ -20,8 +20,6 @@ returns-in-Message-clause-serves g c = λ _ p is.
     let next = c.answer.ensures.answers (with_rest left p) (rw c.take_front.ensures (IsPeer-with_rest _ p left seen)) in
     let first = c.in-Message.ensures ∙ ap split_of c.as_slice.ensures in (
       next.0,
-      Serves-message _ p next.0 c.in-Message.object c.in-Message.opcode c.in-Message.size seen (absent _ (rw (← c.self.view_is) at c.if-has_ended.ensures)) first (
-          rw (c.verdict_on-verdict.ensures, c.deref.ensures.value, c.as_slice-in-Message.ensures) at next.1
-          ),
+      Serves-message _ p next.0 c.in-Message.object c.in-Message.opcode c.in-Message.size _ _ seen (absent _ (rw (← c.self.view_is) at c.if-has_ended.ensures)) first c.as_slice-in-Message.ensures c.judged-judged.ensures next.1,
       next.2,
     )
