@@ -8,33 +8,33 @@ use Rattle.wl_session.specs.Step.{Feed, Steps, Changes, ChangesAt, IsFed}
 use Rattle.wl_session.specs.Laws.{AnyPieces}
 use Rattle.wl_session.proofs.Pieces.{Feeds-append}
 
-place-with_place : (d : Desktop) (k : ℕ) (p : Peer) (q : Option Peer) → place d k ≡ Some p → place (with_place k q d) k ≡ q
+place-with_place : (ps : List (Option Peer)) (k : ℕ) (p : Peer) (q : Option Peer) → place ps k ≡ Some p → place (with_place k q ps) k ≡ q
 place-with_place [] k p q h = absurd (cc)
-place-with_place (x ∷ d) zero p q h = refl
-place-with_place (x ∷ d) (suc k) p q h = place-with_place d k p q h
+place-with_place (x ∷ ps) zero p q h = refl
+place-with_place (x ∷ ps) (suc k) p q h = place-with_place ps k p q h
 
 -- what was put there is there, where somebody was
 pub peer_at-with_peer : (d : Desktop) (c : ℕ) (p : Peer) (q : Option Peer) → peer_at d c ≡ Some p → peer_at (with_peer c q d) c ≡ q
 peer_at-with_peer d zero p q h = absurd (cc)
-peer_at-with_peer d (suc k) p q h = place-with_place d k p q h
+peer_at-with_peer d (suc k) p q h = place-with_place d.clients k p q h
 
-with_place-place : (d : Desktop) (k : ℕ) → with_place k (place d k) d ≡ d
+with_place-place : (ps : List (Option Peer)) (k : ℕ) → with_place k (place ps k) ps ≡ ps
 with_place-place [] k = refl
-with_place-place (x ∷ d) zero = refl
-with_place-place (x ∷ d) (suc k) = ap (λ (e : Desktop). x ∷ e) (with_place-place d k)
+with_place-place (x ∷ ps) zero = refl
+with_place-place (x ∷ ps) (suc k) = ap (λ (qs : List (Option Peer)). x ∷ qs) (with_place-place ps k)
 
 with_peer-peer_at : (d : Desktop) (c : ℕ) → with_peer c (peer_at d c) d ≡ d
 with_peer-peer_at d zero = refl
-with_peer-peer_at d (suc k) = with_place-place d k
+with_peer-peer_at d (suc k) = ap (λ (ps : List (Option Peer)). record d { clients = ps }) (with_place-place d.clients k)
 
-with_place-twice : (d : Desktop) (k : ℕ) (p q : Option Peer) → with_place k q (with_place k p d) ≡ with_place k q d
+with_place-twice : (ps : List (Option Peer)) (k : ℕ) (p q : Option Peer) → with_place k q (with_place k p ps) ≡ with_place k q ps
 with_place-twice [] k p q = refl
-with_place-twice (x ∷ d) zero p q = refl
-with_place-twice (x ∷ d) (suc k) p q = ap (λ (e : Desktop). x ∷ e) (with_place-twice d k p q)
+with_place-twice (x ∷ ps) zero p q = refl
+with_place-twice (x ∷ ps) (suc k) p q = ap (λ (qs : List (Option Peer)). x ∷ qs) (with_place-twice ps k p q)
 
 with_peer-twice : (d : Desktop) (c : ℕ) (p q : Option Peer) → with_peer c q (with_peer c p d) ≡ with_peer c q d
 with_peer-twice d zero p q = refl
-with_peer-twice d (suc k) p q = with_place-twice d k p q
+with_peer-twice d (suc k) p q = ap (λ (ps : List (Option Peer)). record d { clients = ps }) (with_place-twice d.clients k p q)
 
 -- two changes of one client are one
 two_changes : (a b : List ℕ) (first second : Done) (old mid new : Desktop) (c : ℕ) (o q r : Option Peer) → peer_at old c ≡ o → ChangesAt (IsFed a) (gave.Feed NoClient) o first q → mid ≡ with_peer c q old → ChangesAt (IsFed b) (gave.Feed NoClient) (peer_at mid c) second r → new ≡ with_peer c r mid → Changes c (IsFed (a ++ b)) (gave.Feed NoClient) old second new

@@ -67,7 +67,7 @@ one_feed c piece old new end done other (Some p) (Some q) (Some r) at here there
 
 -- where memory is there, a step has one answer and leads to one desktop
 one_step : (act : Act) (old new end : Desktop) (done other : Done) → HadMemory old done new → HadMemory old other end → Steps old act done new → Steps old act other end → Same done new other end
-one_step Connect old new end done other here there h k = one_connect (lowest old) old new end done other here.0 there.0 h k
+one_step Connect old new end done other here there h k = one_connect (lowest old.clients) old new end done other here.0 there.0 h k
 one_step (Feed c piece) old new end done other here there (q, h, e) (r, k, f) = one_feed c piece old new end done other (peer_at old c) q r refl here there h e k f
 one_step (Leave c) old new end done other here there h k = one_change IsLeft _ c old new end done other (one_left done other) h k
 one_step (Tick time) old new end done other here there h k = (h.0 ∙ sym k.0, h.1 ∙ sym k.1)

@@ -1,20 +1,20 @@
 -- A stream in any pieces.
-use Rattle.std.proofs.Common.{◌≡◌, ℕ, zero, suc, ◌+◌, ◌-◌, List, [], ◌∷◌, ◌++◌, length, take, drop, Bool, true, false, Option, Some, None, refl, ap, subst, sym, ◌∙◌, inl, inr, append_assoc, arith, length-append, length-drop, ◌≢◌, ◌/◌, ◌%◌, ◌≤◌}
-use Rattle.std.specs.Prelude.{nat_lt, if◌then◌else◌}
+use Rattle.std.proofs.Common.{◌≡◌, ℕ, zero, suc, ◌+◌, ◌-◌, List, [], ◌∷◌, ◌++◌, length, take, drop, Bool, true, false, Option, Some, None, Result, refl, ap, subst, sym, ◌∙◌, inl, inr, append_assoc, arith, length-append, length-drop, ◌≢◌, ◌/◌, ◌%◌, ◌≤◌}
+use Rattle.std.specs.Prelude.{Ok, Err, nat_lt, if◌then◌else◌}
+use Rattle.wl_proto.specs.declared.interface.Interface.TheVariants.{WlRegistry}
 use Rattle.std.proofs.lemmas.Bool.Decides.{nat_tests}
 use Rattle.std.proofs.lemmas.List.{take-append-le, drop-append-le}
 use Rattle.wl_wire.specs.Wire.{split_of, word_of, is_size}
 use Rattle.wl_wire.specs.declared.header.Split.{Split}
 use Rattle.wl_wire.specs.declared.header.Split.TheVariants.{Message, More, Bad}
 use Rattle.wl_session.specs.declared.clients.Cause.{Cause}
-use Rattle.wl_session.specs.declared.clients.Cause.TheVariants.{Protocol, Memory}
-use Rattle.wl_session.specs.declared.clients.ErrorCode.{ErrorCode}
-use Rattle.wl_session.specs.declared.clients.ErrorCode.TheVariants.{InvalidMethod}
-use Rattle.wl_session.specs.declared.clients.Event.{Event}
-use Rattle.wl_session.specs.declared.clients.Verdict.{Verdict}
-use Rattle.wl_session.specs.declared.clients.Verdict.TheVariants.{Sync, Refuse}
-use Rattle.wl_session.specs.declared.clients.Event.TheVariants.{Done, DeleteId, Error}
-use Rattle.wl_session.specs.Desktop.{Peer, code_number, counted, queued, ended, with_rest, verdict_of, QueuesOr, Queues, Errs, Answers, Takes, Serves, Reaches, IsIdle, Stops, FeedsAt, Feeds}
+use Rattle.wl_session.specs.declared.clients.Cause.TheVariants.{Protocol, Memory, Slow}
+use Rattle.wl_session.specs.declared.actions.Action.{Action}
+use Rattle.wl_session.specs.declared.actions.Action.TheVariants.{Sync, GetRegistry, Bind}
+use Rattle.wl_session.specs.declared.refusals.ErrorCode.TheVariants.{InvalidMethod, NoMemory}
+use Rattle.wl_session.specs.declared.refusals.Refusal.{Refusal}
+use Rattle.wl_session.specs.Objects.{Object}
+use Rattle.wl_session.specs.Desktop.{Peer, Said, judge, code_number, counted, made, queued, ended, with_rest, bind_told, callback_done, display_error, error_told, has_room, id_deleted, object_at_version, registry_told, QueuesOr, Queues, Errs, LacksMemory, Makes, Acts, Answers, Takes, Serves, Reaches, IsIdle, Stops, FeedsAt, Feeds}
 
 -- more bytes come behind: to a client that lives
 abbrev grown_at : Option Cause → List ℕ → Peer → Peer
@@ -27,27 +27,45 @@ grown more p = grown_at p.status more p
 grown_alive : (more : List ℕ) (p : Peer) → p.status ≡ None → grown more p ≡ with_rest (p.rest ++ more) p
 grown_alive more p alive = ap (λ (s : Option Cause). grown_at s more p) alive
 
-QueuesOr-grown : (Later Then : Type 0) (more : List ℕ) (p q : Peer) → p.status ≡ None → (Later → Then) → QueuesOr Later p q → QueuesOr Then (grown more p) (grown more q)
-QueuesOr-grown Later Then more p q alive next (inl h) =
-    let e : grown more q ≡ ended Memory p = ap (λ (x : Peer). grown more x) h in
-    inl (e ∙ sym (ap (λ (x : Peer). ended Memory x) (grown_alive more p alive)))
-QueuesOr-grown Later Then more p q alive next (inr h) = inr (next h)
+-- bytes that come behind an end are dropped
+ended_grown : (cause : Cause) (more : List ℕ) (p q : Peer) → p.status ≡ None → q ≡ ended cause p → grown more q ≡ ended cause (grown more p)
+ended_grown cause more p q alive h =
+    let e : grown more q ≡ ended cause p = ap (λ (x : Peer). grown more x) h in
+    e ∙ sym (ap (λ (x : Peer). ended cause x) (grown_alive more p alive))
 
-Queues-grown : (events : List Event) (more : List ℕ) (p q : Peer) → p.status ≡ None → Queues events p q → Queues events (with_rest (p.rest ++ more) p) (grown more q)
+QueuesOr-grown : (b : Bool) (Later Then : Type 0) (more : List ℕ) (p q : Peer) → p.status ≡ None → (Later → Then) → QueuesOr b Later p q → QueuesOr b Then (grown more p) (grown more q)
+QueuesOr-grown false Later Then more p q alive next h = ended_grown Slow more p q alive h
+QueuesOr-grown true Later Then more p q alive next (inl h) = inl (ended_grown Memory more p q alive h)
+QueuesOr-grown true Later Then more p q alive next (inr h) = inr (next h)
+
+Queues-grown : (events : List Said) (more : List ℕ) (p q : Peer) → p.status ≡ None → Queues events p q → Queues events (with_rest (p.rest ++ more) p) (grown more q)
 Queues-grown [] more p q alive h = ap (λ (x : Peer). grown more x) h ∙ grown_alive more p alive
 Queues-grown (e ∷ events) more p q alive h =
-    let next = QueuesOr-grown (Queues events (queued e p) q) (Queues events (with_rest (p.rest ++ more) (queued e p)) (grown more q)) more p q alive (Queues-grown events more (queued e p) q alive) h in
-    subst (λ (x : Peer). QueuesOr (Queues events (with_rest (p.rest ++ more) (queued e p)) (grown more q)) x (grown more q)) (grown_alive more p alive) next
+    let next = QueuesOr-grown (has_room p.unsent e) (Queues events (queued e p) q) (Queues events (with_rest (p.rest ++ more) (queued e p)) (grown more q)) more p q alive (Queues-grown events more (queued e p) q alive) h in
+    subst (λ (x : Peer). QueuesOr (has_room p.unsent e) (Queues events (with_rest (p.rest ++ more) (queued e p)) (grown more q)) x (grown more q)) (grown_alive more p alive) next
 
-Errs-grown : (code : ErrorCode) (more : List ℕ) (p q : Peer) → p.status ≡ None → Errs code p q → Errs code (with_rest (p.rest ++ more) p) (grown more q)
-Errs-grown code more p q alive h =
-    let last = ended (Protocol 1 (code_number code)) (queued (Error code) p) in
-    let next = QueuesOr-grown (q ≡ last) (grown more q ≡ last) more p q alive (λ e. ap (λ (x : Peer). grown more x) e) h in
-    subst (λ (x : Peer). QueuesOr (grown more q ≡ last) x (grown more q)) (grown_alive more p alive) next
+Errs-grown : (refusal : Refusal) (more : List ℕ) (p q : Peer) → p.status ≡ None → Errs refusal p q → Errs refusal (with_rest (p.rest ++ more) p) (grown more q)
+Errs-grown refusal more p q alive h =
+    let last = ended (Protocol refusal.object (code_number refusal.code)) (queued (error_told refusal) p) in
+    let next = QueuesOr-grown (has_room p.unsent (error_told refusal)) (q ≡ last) (grown more q ≡ last) more p q alive (λ e. ap (λ (x : Peer). grown more x) e) h in
+    subst (λ (x : Peer). QueuesOr (has_room p.unsent (error_told refusal)) (grown more q ≡ last) x (grown more q)) (grown_alive more p alive) next
 
-Answers-grown : (v : Verdict) (more : List ℕ) (p q : Peer) → p.status ≡ None → Answers v p q → Answers v (with_rest (p.rest ++ more) p) (grown more q)
-Answers-grown (Sync id) more p q alive h = Queues-grown (Done id ∷ DeleteId id ∷ []) more (counted p) q alive h
-Answers-grown (Refuse code) more p q alive h = Errs-grown code more p q alive h
+LacksMemory-grown : (more : List ℕ) (p q : Peer) → p.status ≡ None → LacksMemory p q → LacksMemory (with_rest (p.rest ++ more) p) (grown more q)
+LacksMemory-grown more p q alive (inl h) = inl (ap (λ (x : Peer). grown more x) h)
+LacksMemory-grown more p q alive (inr h) = inr (h.0, ap (λ (x : Peer). grown more x) h.1)
+
+Makes-grown : (id : ℕ) (object : Object) (events : List Said) (more : List ℕ) (p q : Peer) → p.status ≡ None → Makes id object events p q → Makes id object events (with_rest (p.rest ++ more) p) (grown more q)
+Makes-grown id object events more p q alive (inl h) = inl (LacksMemory-grown more p q alive h)
+Makes-grown id object events more p q alive (inr h) = inr (Queues-grown events more (made id object p) q alive h)
+
+Acts-grown : (action : Action) (more : List ℕ) (p q : Peer) → p.status ≡ None → Acts action p q → Acts action (with_rest (p.rest ++ more) p) (grown more q)
+Acts-grown (Sync callback) more p q alive h = Queues-grown (callback_done callback ∷ id_deleted callback ∷ []) more p q alive h
+Acts-grown (GetRegistry registry) more p q alive h = Makes-grown registry (object_at_version WlRegistry 1) (registry_told registry) more p q alive h
+Acts-grown (Bind id interface version) more p q alive h = Makes-grown id (object_at_version interface version) (bind_told p.output id interface) more p q alive h
+
+Answers-grown : (judged : Result Action Refusal) (more : List ℕ) (p q : Peer) → p.status ≡ None → Answers judged p q → Answers judged (with_rest (p.rest ++ more) p) (grown more q)
+Answers-grown (Ok action) more p q alive h = Acts-grown action more (counted p) q alive h
+Answers-grown (Err refusal) more p q alive h = Errs-grown refusal more p q alive h
 
 -- a split by its tests
 abbrev split_by : Bool → Bool → Bool → ℕ → ℕ → ℕ → Split
@@ -129,11 +147,11 @@ Takes-grown (Message object opcode size) more p q alive e h =
     let body : take (size - 8) (drop 8 (r ++ more)) ≡ take (size - 8) (drop 8 r) =
     ap (λ (xs : List ℕ). take (size - 8) xs) (drop-append-le 8 r more long) ∙ take-append-le (size - 8) (drop 8 r) more (omega (arith, length-drop 8 r)) in
     let left : drop size (r ++ more) ≡ drop size r ++ more = drop-append-le size r more within in
-    let goal = λ (b d : List ℕ). Answers (verdict_of p.objects object opcode b) (with_rest d p) (grown more q) in
-    let h2 : goal (take (size - 8) (drop 8 r)) (drop size r ++ more) = Answers-grown (verdict_of p.objects object opcode (take (size - 8) (drop 8 r))) more (with_rest (drop size r) p) q alive h in
+    let goal = λ (b d : List ℕ). Answers (judge p.objects p.held object opcode b) (with_rest d p) (grown more q) in
+    let h2 : goal (take (size - 8) (drop 8 r)) (drop size r ++ more) = Answers-grown (judge p.objects p.held object opcode (take (size - 8) (drop 8 r))) more (with_rest (drop size r) p) q alive h in
     let h3 : goal (take (size - 8) (drop 8 r)) (drop size (r ++ more)) = subst (λ (d : List ℕ). goal (take (size - 8) (drop 8 r)) d) (sym left) h2 in
     subst (λ (b : List ℕ). goal b (drop size (r ++ more))) (sym body) h3
-Takes-grown Bad more p q alive e h = Errs-grown InvalidMethod more p q alive h
+Takes-grown Bad more p q alive e h = Errs-grown (display_error InvalidMethod) more p q alive h
 Takes-grown More more p q alive e h = absurd h
 
 pub Serves-grown : (more : List ℕ) (p q : Peer) → Serves p q → Serves (with_rest (p.rest ++ more) p) (grown more q)

@@ -69,7 +69,7 @@ Shows-none (Send c n) before after quiet same = (refl, same)
 Shows-none (Close c) before after quiet same = (refl, same)
 
 -- a step that shows no frame leads on
-pub Leads-none : (act : Act) (done : Done) (old new : SessionView) → TakesStep act done old.clients new.clients → Shows act old.frame [] new.frame → Leads act [] old new
+pub Leads-none : (act : Act) (done : Done) (old new : SessionView) → TakesStep act done old.desk new.desk → Shows act old.frame [] new.frame → Leads act [] old new
 Leads-none act done old new step shows = (λ d a. let e = step d a in (e.0, done, e.1, e.2), shows)
 
 -- the step at a place may want memory

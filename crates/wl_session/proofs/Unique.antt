@@ -1,37 +1,52 @@
 -- Where memory is there, a piece leads to one place.
-use Rattle.std.proofs.Common.{◌≡◌, ◌≢◌, ℕ, ◌-◌, take, drop, zero, suc, List, [], ◌∷◌, ◌++◌, Bool, true, false, Option, Some, None, refl, ap, subst, sym, ◌∙◌, inl, inr}
+use Rattle.std.proofs.Common.{◌≡◌, ◌≢◌, ℕ, ◌-◌, take, drop, zero, suc, List, [], ◌∷◌, ◌++◌, Bool, true, false, Option, Some, None, Result, refl, ap, subst, sym, ◌∙◌, inl, inr}
+use Rattle.std.specs.Prelude.{Ok, Err}
+use Rattle.wl_proto.specs.declared.interface.Interface.TheVariants.{WlRegistry}
 use Rattle.wl_wire.specs.Wire.{split_of}
 use Rattle.wl_wire.specs.declared.header.Split.{Split}
 use Rattle.wl_wire.specs.declared.header.Split.TheVariants.{Message, More, Bad}
 use Rattle.wl_session.specs.declared.clients.Cause.{Cause}
 use Rattle.wl_session.specs.declared.clients.Cause.TheVariants.{Memory}
-use Rattle.wl_session.specs.declared.clients.ErrorCode.{ErrorCode}
-use Rattle.wl_session.specs.declared.clients.ErrorCode.TheVariants.{InvalidMethod}
-use Rattle.wl_session.specs.declared.clients.Event.{Event}
-use Rattle.wl_session.specs.declared.clients.Event.TheVariants.{Done, DeleteId, Error}
-use Rattle.wl_session.specs.declared.clients.Verdict.{Verdict}
-use Rattle.wl_session.specs.declared.clients.Verdict.TheVariants.{Sync, Refuse}
-use Rattle.wl_session.specs.Desktop.{verdict_of, counted, Peer, queued, ended, with_rest, QueuesOr, Queues, Errs, Answers, Takes, Serves, Reaches, IsIdle, IsIdleAt, Stops, FeedsAt, Feeds}
-use Rattle.wl_session.specs.Plain.{told, refused, answered, taken, served, served_at, served_all}
+use Rattle.wl_session.specs.declared.actions.Action.{Action}
+use Rattle.wl_session.specs.declared.actions.Action.TheVariants.{Sync, GetRegistry, Bind}
+use Rattle.wl_session.specs.declared.refusals.ErrorCode.TheVariants.{InvalidMethod}
+use Rattle.wl_session.specs.declared.refusals.Refusal.{Refusal}
+use Rattle.wl_session.specs.Objects.{Object}
+use Rattle.wl_session.specs.Desktop.{Peer, Said, judge, counted, made, queued, ended, with_rest, bind_told, callback_done, display_error, error_told, has_room, id_deleted, object_at_version, registry_told, QueuesOr, Queues, Errs, LacksMemory, Makes, Acts, Answers, Takes, Serves, Reaches, IsIdle, IsIdleAt, Stops, FeedsAt, Feeds}
+use Rattle.wl_session.specs.Plain.{acted, answered, or_slow, refused, served, served_all, served_at, taken, told}
 
-choice : (Later : Type 0) (p q x : Peer) → (Later → q ≡ x) → q.status ≢ Some Memory → QueuesOr Later p q → q ≡ x
-choice Later p q x next kept (inl h) = absurd (kept (ap (λ (y : Peer). y.status) h))
-choice Later p q x next kept (inr h) = next h
+choice : (b : Bool) (Later : Type 0) (p q x : Peer) → (Later → q ≡ x) → q.status ≢ Some Memory → QueuesOr b Later p q → q ≡ or_slow b x p
+choice false Later p q x next kept h = h
+choice true Later p q x next kept (inl h) = absurd (kept (ap (λ (y : Peer). y.status) h))
+choice true Later p q x next kept (inr h) = next h
 
-told_is : (es : List Event) (p q : Peer) → q.status ≢ Some Memory → Queues es p q → q ≡ told es p
+told_is : (es : List Said) (p q : Peer) → q.status ≢ Some Memory → Queues es p q → q ≡ told es p
 told_is [] p q kept h = h
-told_is (e ∷ es) p q kept h = choice (Queues es (queued e p) q) p q (told es (queued e p)) (told_is es (queued e p) q kept) kept h
+told_is (e ∷ es) p q kept h = choice (has_room p.unsent e) (Queues es (queued e p) q) p q (told es (queued e p)) (told_is es (queued e p) q kept) kept h
 
-refused_is : (code : ErrorCode) (p q : Peer) → q.status ≢ Some Memory → Errs code p q → q ≡ refused code p
-refused_is code p q kept h = choice _ p q _ (λ e. e) kept h
+refused_is : (refusal : Refusal) (p q : Peer) → q.status ≢ Some Memory → Errs refusal p q → q ≡ refused refusal p
+refused_is refusal p q kept h = choice (has_room p.unsent (error_told refusal)) _ p q _ (λ e. e) kept h
 
-answered_is : (v : Verdict) (p q : Peer) → q.status ≢ Some Memory → Answers v p q → q ≡ answered v p
-answered_is (Sync id) p q kept h = told_is (Done id ∷ DeleteId id ∷ []) (counted p) q kept h
-answered_is (Refuse code) p q kept h = refused_is code p q kept h
+lacked : (p q : Peer) → q.status ≢ Some Memory → LacksMemory p q → ⊥
+lacked p q kept (inl h) = kept (ap (λ (y : Peer). y.status) h)
+lacked p q kept (inr h) = kept (ap (λ (y : Peer). y.status) h.1)
+
+made_is : (id : ℕ) (object : Object) (events : List Said) (p q : Peer) → q.status ≢ Some Memory → Makes id object events p q → q ≡ told events (made id object p)
+made_is id object events p q kept (inl h) = absurd (lacked p q kept h)
+made_is id object events p q kept (inr h) = told_is events (made id object p) q kept h
+
+acted_is : (action : Action) (p q : Peer) → q.status ≢ Some Memory → Acts action p q → q ≡ acted action p
+acted_is (Sync callback) p q kept h = told_is (callback_done callback ∷ id_deleted callback ∷ []) p q kept h
+acted_is (GetRegistry registry) p q kept h = made_is registry (object_at_version WlRegistry 1) (registry_told registry) p q kept h
+acted_is (Bind id interface version) p q kept h = made_is id (object_at_version interface version) (bind_told p.output id interface) p q kept h
+
+answered_is : (judged : Result Action Refusal) (p q : Peer) → q.status ≢ Some Memory → Answers judged p q → q ≡ answered judged p
+answered_is (Ok action) p q kept h = acted_is action (counted p) q kept h
+answered_is (Err refusal) p q kept h = refused_is refusal p q kept h
 
 taken_is : (s : Split) (p q : Peer) → q.status ≢ Some Memory → Takes s p q → q ≡ taken s p
-taken_is (Message object opcode size) p q kept h = answered_is (verdict_of p.objects object opcode (take (size - 8) (drop 8 p.rest))) (with_rest (drop size p.rest) p) q kept h
-taken_is Bad p q kept h = refused_is InvalidMethod p q kept h
+taken_is (Message object opcode size) p q kept h = answered_is (judge p.objects p.held object opcode (take (size - 8) (drop 8 p.rest))) (with_rest (drop size p.rest) p) q kept h
+taken_is Bad p q kept h = refused_is (display_error InvalidMethod) p q kept h
 taken_is More p q kept h = absurd h
 
 served_is : (p q : Peer) → q.status ≢ Some Memory → Serves p q → q ≡ served p

@@ -1,33 +1,43 @@
 -- What a piece leads to where memory is always there, as a function.
-use Rattle.std.specs.Prelude.{ℕ, suc, zero, ◌++◌, ◌-◌, List, [], ◌∷◌, length, take, drop, Option, Some, None}
+use Rattle.std.specs.Prelude.{ℕ, suc, zero, ◌++◌, ◌-◌, List, [], ◌∷◌, Bool, true, false, length, take, drop, Option, Some, None, Result, Ok, Err}
+use Rattle.wl_proto.specs.declared.interface.Interface.TheVariants.{WlRegistry}
 use Rattle.wl_wire.specs.Wire.{split_of}
 use Rattle.wl_wire.specs.declared.header.Split.{Split}
 use Rattle.wl_wire.specs.declared.header.Split.TheVariants.{Message, More, Bad}
+use Rattle.wl_session.specs.declared.actions.Action.{Action}
+use Rattle.wl_session.specs.declared.actions.Action.TheVariants.{Sync, GetRegistry, Bind}
 use Rattle.wl_session.specs.declared.clients.Cause.{Cause}
-use Rattle.wl_session.specs.declared.clients.Cause.TheVariants.{Protocol}
-use Rattle.wl_session.specs.declared.clients.ErrorCode.{ErrorCode}
-use Rattle.wl_session.specs.declared.clients.ErrorCode.TheVariants.{InvalidMethod}
-use Rattle.wl_session.specs.declared.clients.Event.{Event}
-use Rattle.wl_session.specs.declared.clients.Event.TheVariants.{Done, DeleteId, Error}
-use Rattle.wl_session.specs.declared.clients.Verdict.{Verdict}
-use Rattle.wl_session.specs.declared.clients.Verdict.TheVariants.{Sync, Refuse}
-use Rattle.wl_session.specs.Desktop.{Peer, code_number, verdict_of, ended, queued, counted, with_rest}
+use Rattle.wl_session.specs.declared.clients.Cause.TheVariants.{Protocol, Slow}
+use Rattle.wl_session.specs.declared.refusals.ErrorCode.TheVariants.{InvalidMethod}
+use Rattle.wl_session.specs.declared.refusals.Refusal.{Refusal}
+use Rattle.wl_session.specs.Desktop.{Peer, Said, bind_told, callback_done, code_number, counted, display_error, ended, error_told, has_room, id_deleted, judge, made, object_at_version, queued, registry_told, with_rest}
 
-abbrev pub told : List Event → Peer → Peer
+-- where there is room for an event, what comes then; else the client is too slow
+abbrev pub or_slow : Bool → Peer → Peer → Peer
+or_slow true next p = next
+or_slow false next p = ended Slow p
+
+abbrev pub told : List Said → Peer → Peer
 told [] p = p
-told (event ∷ events) p = told events (queued event p)
+told (event ∷ events) p = or_slow (has_room p.unsent event) (told events (queued event p)) p
 
-abbrev pub refused : ErrorCode → Peer → Peer
-refused code p = ended (Protocol 1 (code_number code)) (queued (Error code) p)
+abbrev pub refused : Refusal → Peer → Peer
+refused refusal p =
+    or_slow (has_room p.unsent (error_told refusal)) (ended (Protocol refusal.object (code_number refusal.code)) (queued (error_told refusal) p)) p
 
-abbrev pub answered : Verdict → Peer → Peer
-answered (Sync callback) p = told (Done callback ∷ DeleteId callback ∷ []) (counted p)
-answered (Refuse code) p = refused code p
+abbrev pub acted : Action → Peer → Peer
+acted (Sync callback) p = told (callback_done callback ∷ id_deleted callback ∷ []) p
+acted (GetRegistry registry) p = told (registry_told registry) (made registry (object_at_version WlRegistry 1) p)
+acted (Bind id interface version) p = told (bind_told p.output id interface) (made id (object_at_version interface version) p)
+
+abbrev pub answered : Result Action Refusal → Peer → Peer
+answered (Ok action) p = acted action (counted p)
+answered (Err refusal) p = refused refusal p
 
 abbrev pub taken : Split → Peer → Peer
 taken (Message object opcode size) p =
-    answered (verdict_of p.objects object opcode (take (size - 8) (drop 8 p.rest))) (with_rest (drop size p.rest) p)
-taken Bad p = refused InvalidMethod p
+    answered (judge p.objects p.held object opcode (take (size - 8) (drop 8 p.rest))) (with_rest (drop size p.rest) p)
+taken Bad p = refused (display_error InvalidMethod) p
 taken More p = p
 
 abbrev pub served_at : Option Cause → Peer → Peer
