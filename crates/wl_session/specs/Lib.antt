@@ -1,11 +1,11 @@
 pub mod Agreement
-pub mod Damage
 pub mod Desktop
-pub mod Frame
-pub mod Image
 pub mod Laws
 pub mod Plain
 pub mod Run
 pub mod Step
 pub mod View
+pub use Rattle.wl_paint.specs.Damage
+pub use Rattle.wl_paint.specs.Frame
+pub use Rattle.wl_paint.specs.Image
 pub use Rattle.wl_wire.specs.Wire

@@ -1,6 +1,6 @@
 -- What a session keeps, as plain values.
 use Rattle.std.specs.Prelude.{ℕ, List, Option}
-use Rattle.wl_session.specs.Frame.{Image}
+use Rattle.wl_paint.specs.Frame.{Image}
 use Rattle.wl_session.specs.declared.clients.Cause.{Cause}
 
 -- of one client: why it ended, the bytes that wait to be read and to be sent, the ids of its live objects

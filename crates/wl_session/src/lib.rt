@@ -3,23 +3,16 @@
 
 mod backlog;
 mod clients;
-mod colour;
-mod damage;
 mod desks;
-mod framebuffer;
 mod laws;
-mod ppm;
-mod row;
 mod sessions;
 mod shots;
 mod steps;
 
 pub use clients::Cause;
-pub use colour::Rgb;
-pub use damage::Damage;
-pub use framebuffer::{FrameError, Framebuffer, MAX_SIDE};
 pub use laws::{any_pieces, one_run, others_stay};
-pub use ppm::write_ppm;
 pub use sessions::{Config, Session};
 pub use shots::{Frame, Run, Shot};
 pub use steps::{ClientNo, ConnectError, Done, Fed, RunError, Step};
+pub use wl_blend::Rgb;
+pub use wl_paint::{Damage, FrameError, Framebuffer, MAX_SIDE, write_ppm};

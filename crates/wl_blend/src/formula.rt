@@ -1,0 +1,26 @@
+ghost use Rattle.std.specs.Prelude.{◌≡◌};
+ghost use Rattle.wl_blend.specs.Blend.{blended, blended_channel};
+
+use crate::color::Rgb;
+use wl_store::Argb;
+
+/// One channel with that of a colour with this alpha laid over it.
+fn blend_channel(under: u8, over: u8, alpha: u8) -> u8
+    ensures { result ≡ blended_channel under over alpha }
+{
+    let shown = u32::from(under) * u32::from(255 - alpha);
+    (u32::from(over) + (2 * shown + 255) / 510).min(255) as u8
+}
+
+/// The colour `under` with `over` laid over it. The channels of `over` are premultiplied by its alpha,
+/// so each is added to what its alpha lets through of the other's, to the nearest; a sum above 255 is
+/// held at 255.
+pub fn blend(under: Rgb, over: Argb) -> Rgb
+    ensures { result ≡ blended under over }
+{
+    Rgb {
+        r: blend_channel(under.r, over.r, over.a),
+        g: blend_channel(under.g, over.g, over.a),
+        b: blend_channel(under.b, over.b, over.a),
+    }
+}
