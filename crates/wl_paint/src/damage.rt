@@ -48,10 +48,9 @@ impl<A: Allocator + Copy> Damage<A> {
 }
 
 impl<A: Allocator> Damage<A> {
-    /// Whether the point in column `x` of row `y` is damaged.
+    /// Whether the point in column `x` of row `y` is damaged. None past the right edge is.
     pub fn has(&self, x: u32, y: u32) -> bool
-        requires column { x < self.now.width }
-        requires row { y < self.now.height }
+        requires { y < self.now.height }
         ensures { result ≡ has self.now x y }
     {
         self.rows[y as usize].has(x)

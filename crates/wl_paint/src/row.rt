@@ -32,10 +32,12 @@ impl<A: Allocator> Row<A> {
     }
 
     pub(crate) fn has(&self, x: u32) -> bool
-        requires { x < length self.now }
         ensures { result ≡ marked self.now x }
     {
-        self.marks[x as usize]
+        match self.marks.get(x as usize) {
+            Some(mark) => *mark,
+            None => false,
+        }
     }
 
     /// Marks the points from `first` up to `end`.
