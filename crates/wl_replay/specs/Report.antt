@@ -58,6 +58,7 @@ first_stage config =
       frame = record {
         width = config.width;
         height = config.height;
+        background = config.background;
         pixels = filled (config.width * config.height) config.background;
       };
     }

@@ -1,9 +1,6 @@
-pub mod Colors
 pub mod Cuts
 pub mod Desktops
 pub mod Finds
-pub mod Images
-pub mod Marks
 pub mod OnlyRun
 pub mod Others
 pub mod Peers
@@ -11,4 +8,4 @@ pub mod Pieces
 pub mod Rows
 pub mod Runs
 pub mod Unique
-pub mod Written
+pub use Rattle.wl_paint.proofs.Written

@@ -8,7 +8,7 @@ use Rattle.wl_session.specs.declared.steps.Done.{Done}
 use Rattle.wl_session.specs.declared.steps.Done.TheVariants as gave
 use Rattle.wl_session.specs.declared.steps.Fed.TheVariants.{NoClient}
 use Rattle.wl_session.specs.declared.shots.Run.{Run}
-use Rattle.wl_session.specs.Frame.{Image}
+use Rattle.wl_paint.specs.Frame.{Image}
 use Rattle.wl_session.specs.Desktop.{Peer, Desktop, newcomer, lowest, peer_at, with_peer, with_place, FeedsAt}
 use Rattle.wl_session.specs.Step.{Act, Connect, Feed, Leave, Tick, Send, Close, ConnectsAt, Steps, Changes, ChangesAt, IsFed, IsLeft, IsSent, IsClosed, fed_of}
 use Rattle.wl_session.specs.Run.{Film, Shows}

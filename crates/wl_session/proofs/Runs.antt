@@ -3,7 +3,7 @@ use Rattle.std.proofs.Common.{◌≡◌, ℕ, ◌+◌, ◌<◌, List, [], ◌∷
 use Rattle.std.specs.Prelude.{Err, Bool, IsTrue, false}
 use Rattle.std.proofs.lemmas.List.{map-append, take_more, append-nil}
 use Rattle.std.proofs.lemmas.Option.{slice_get-get_or}
-use Rattle.wl_session.specs.Frame.{Image, color_at}
+use Rattle.wl_paint.specs.Frame.{Image, color_at}
 use Rattle.wl_session.specs.View.{SessionView}
 use Rattle.wl_session.specs.declared.steps.Done.{Done}
 use Rattle.wl_session.specs.declared.steps.Done.TheVariants as gave

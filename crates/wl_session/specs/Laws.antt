@@ -5,7 +5,7 @@ use Rattle.wl_session.specs.declared.clients.Cause.TheVariants as cause
 use Rattle.wl_session.specs.declared.steps.ConnectError.TheVariants.{Memory}
 use Rattle.wl_session.specs.declared.steps.Done.{Done}
 use Rattle.wl_session.specs.declared.steps.Done.TheVariants as gave
-use Rattle.wl_session.specs.Frame.{Image}
+use Rattle.wl_paint.specs.Frame.{Image}
 use Rattle.wl_session.specs.Desktop.{Peer, Desktop, peer_at}
 use Rattle.wl_session.specs.Step.{Act, Connect, Feed, Leave, Tick, Send, Close, Steps}
 use Rattle.wl_session.specs.Run.{Film, Shows}

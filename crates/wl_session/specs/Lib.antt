@@ -1,8 +1,5 @@
 pub mod Agreement
-pub mod Damage
 pub mod Desktop
-pub mod Frame
-pub mod Image
 pub mod Laws
 pub mod Objects
 pub mod Plain
@@ -10,4 +7,7 @@ pub mod Run
 pub mod Said
 pub mod Step
 pub mod View
+pub use Rattle.wl_paint.specs.Damage
+pub use Rattle.wl_paint.specs.Frame
+pub use Rattle.wl_paint.specs.Image
 pub use Rattle.wl_wire.specs.Wire

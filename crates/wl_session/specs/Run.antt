@@ -1,7 +1,7 @@
 -- Runs of a session: the frames of its ticks, and whole lists of steps.
 use Rattle.std.specs.List.{list_any}
 use Rattle.std.specs.Prelude.{ℕ, ◌≡◌, ◌+◌, List, [], ◌∷◌, ◌++◌, slice_get, Bool, true, false, ◌&&◌, ◌==◌, nat_le, nat_lt, IsTrue, IsSomeAnd}
-use Rattle.wl_session.specs.Frame.{Image, color_at}
+use Rattle.wl_paint.specs.Frame.{Image, color_at}
 use Rattle.wl_session.specs.Desktop.{Desktop}
 use Rattle.wl_session.specs.Step.{Act, Connect, Feed, Leave, Tick, Send, Close, Steps, act_of}
 use Rattle.wl_session.specs.Agreement.{Agrees}

@@ -1,7 +1,7 @@
 -- What a session keeps, as plain values.
 use Rattle.std.specs.Prelude.{ℕ, List, Option}
+use Rattle.wl_paint.specs.Frame.{Image}
 use Rattle.wl_table.specs.Objects.{Held}
-use Rattle.wl_session.specs.Frame.{Image}
 use Rattle.wl_session.specs.declared.clients.Cause.{Cause}
 use Rattle.wl_session.specs.declared.outputs.Output.{Output}
 

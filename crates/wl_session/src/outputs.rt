@@ -1,7 +1,7 @@
 //! The output that clients are shown on.
 
 ghost use Rattle.std.specs.Prelude.{◌≡◌, true};
-ghost use Rattle.wl_session.specs.Frame.{is_side};
+ghost use Rattle.wl_paint.specs.Frame.{is_side};
 
 /// The sides of the output in pixels, each 1 to 4,096.
 #[derive(Clone, Copy, Debug, PartialEq, Eq)]

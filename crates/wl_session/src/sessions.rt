@@ -5,21 +5,20 @@ ghost use Rattle.std.specs.Borrow.{sem};
 ghost use Rattle.std.specs.Io.BufRead.{Rests};
 ghost use Rattle.std.specs.Option.{option_copied};
 ghost use Rattle.std.specs.Vec.{vec_capacity};
-ghost use Rattle.wl_session.specs.Damage.{has};
+ghost use Rattle.wl_paint.specs.Damage.{has};
 ghost use Rattle.wl_session.specs.Desktop.{Desktop, empty, peer_at};
-ghost use Rattle.wl_session.specs.Frame.{color_at, filled, is_side};
+ghost use Rattle.wl_paint.specs.Frame.{color_at, filled, is_side};
 ghost use Rattle.wl_session.specs.Step.{Connect, Feed, Leave, Tick, Send, Close, act_of, unsent_of, status_of};
 ghost use Rattle.wl_session.specs.Agreement.{Agrees, TakesStep};
 
-use crate::colour::Rgb;
-use crate::damage::Damage;
 use crate::desks::Desk;
-use crate::framebuffer::{FrameError, Framebuffer};
 use crate::outputs::Output;
 use crate::shots::{Frame, Shot};
 use crate::steps::{ClientNo, ConnectError, Done, Fed, RunError, Step};
 use std::alloc::{AllocError, Allocator};
 use std::marker::Model;
+use wl_blend::Rgb;
+use wl_paint::{Damage, FrameError, Framebuffer};
 
 /// What a session is made with.
 #[derive(Clone, Copy, Debug, PartialEq, Eq)]
@@ -44,7 +43,7 @@ pub struct Session<A: Allocator> {
 
 impl<A: Allocator> Model for Session<A> {
     ghost use Rattle.std.specs.Prelude.{◌≡◌, ℕ, false};
-    ghost use Rattle.wl_session.specs.Damage.{has};
+    ghost use Rattle.wl_paint.specs.Damage.{has};
     ghost use Rattle.wl_session.specs.View.{SessionView};
 
     ghost Value = { SessionView };
@@ -64,6 +63,7 @@ impl<A: Allocator + Copy> Session<A> {
         ensures desk { IfOk result (λ s. Agrees s.desk (empty (record { width = config.width; height = config.height }))) }
         ensures width { IfOk result (λ s. s.frame.width ≡ config.width) }
         ensures height { IfOk result (λ s. s.frame.height ≡ config.height) }
+        ensures background { IfOk result (λ s. s.frame.background ≡ config.background) }
         ensures pixels { IfOk result (λ s. s.frame.pixels ≡ filled (config.width * config.height) config.background) }
         ensures colors { IfOk result (λ s. (x y : ℕ) → x < config.width → y < config.height → color_at s.frame x y ≡ config.background) }
         ensures bad { IsErrOf result FrameError.BadSize ↔ ((is_side config.width && is_side config.height) ≡ false) }

@@ -1,8 +1,7 @@
 //! Frames and their reports.
 
-use crate::damage::Damage;
-use crate::framebuffer::Framebuffer;
 use std::alloc::Allocator;
+use wl_paint::{Damage, Framebuffer};
 
 /// What a tick shows.
 #[derive(Drop)]

@@ -1,0 +1,57 @@
+use crate::two::Two;
+use std::test::Fail;
+use wl_blend::Rgb;
+use wl_geom::{Rect, Region};
+use wl_paint::{Damage, Framebuffer};
+use wl_store::{Stores, layout};
+
+const WHITE: Rgb = Rgb {
+    r: 255,
+    g: 255,
+    b: 255,
+};
+
+/// Two green pixels whose fourth byte means nothing, and two of half red.
+const BYTES: [u8; 16] = [0, 255, 0, 7, 0, 255, 0, 7, 0, 0, 128, 128, 0, 0, 128, 128];
+
+// Green lies at columns 0 and 1, half red over it at columns 1 and 2. What isn't damaged stays.
+#[test]
+fn two_windows(rt: HostRuntime) -> Result<(), Fail> {
+    let alloc = rt.alloc();
+    let mut stores = Stores::new(alloc);
+    let store = stores.create(16)?;
+    stores.write(store, 0, &BYTES)?;
+    let opaque = Region::new(alloc);
+    let windows = Two {
+        stores: &stores,
+        store,
+        lower: layout(16, 0, 2, 1, 8, 1)?,
+        upper: layout(16, 8, 2, 1, 8, 0)?,
+        opaque: &opaque,
+    };
+    let mut frame = Framebuffer::new(alloc, 3, 1, WHITE)?;
+    let mut damage = Damage::new(alloc, 3, 1)?;
+    frame.paint(&damage, &windows);
+    assert_eq!(rt; frame.pixels(), [255; 12].as_slice());
+
+    damage.add(Rect {
+        x: -4,
+        y: 0,
+        w: 6,
+        h: 1,
+    });
+    frame.paint(&damage, &windows);
+    let part = [0, 255, 0, 255, 0, 127, 128, 255, 255, 255, 255, 255];
+    assert_eq!(rt; frame.pixels(), part.as_slice());
+
+    damage.add(Rect {
+        x: 2,
+        y: 0,
+        w: 1,
+        h: 1,
+    });
+    frame.paint(&damage, &windows);
+    let whole = [0, 255, 0, 255, 0, 127, 128, 255, 127, 127, 255, 255];
+    assert_eq!(rt; frame.pixels(), whole.as_slice());
+    Ok(())
+}

@@ -1,0 +1,2 @@
+pub mod Blend
+pub use Rattle.wl_store.specs.Layout

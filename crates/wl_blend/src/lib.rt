@@ -1,0 +1,10 @@
+//! Colours laid over colours: one pixel, and runs of pixels side by side.
+#![tactic(auto)]
+
+mod color;
+mod formula;
+mod run;
+
+pub use color::Rgb;
+pub use formula::blend;
+pub use run::{blend_run, is_opaque_run};

@@ -1,0 +1,9 @@
+pub mod Clips
+pub mod Colors
+pub mod Images
+pub mod Layers
+pub mod MarkedRows
+pub mod Marks
+pub mod PaintedRows
+pub mod PaintedRuns
+pub mod Written

@@ -1,0 +1,11 @@
+pub mod Damage
+pub mod Frame
+pub mod Image
+pub mod Painting
+pub mod Window
+pub use Rattle.wl_blend.specs.Blend
+pub use Rattle.wl_geom.specs.Rect
+pub use Rattle.wl_geom.specs.Region
+pub use Rattle.wl_store.specs.Layout
+pub use Rattle.wl_store.specs.Picture
+pub use Rattle.wl_store.specs.Transform

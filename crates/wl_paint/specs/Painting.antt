@@ -1,0 +1,31 @@
+-- What is seen of a window that is lent, and images of which a part is painted.
+use Rattle.std.specs.Prelude.{◌≡◌, ℕ, ◌+◌, ◌*◌, ◌<◌, ◌≤◌, ℤ, pos, ◌-ℤ◌, unsigned_abs, Bool, true, false, List, slice_index, Option, Some, None}
+use Rattle.wl_geom.specs.Rect.{in_span}
+use Rattle.wl_blend.specs.declared.color.Rgb.{Rgb}
+use Rattle.wl_blend.specs.Blend.{color_of}
+use Rattle.wl_paint.specs.declared.windows.Painted.{Painted}
+use Rattle.wl_paint.specs.Window.{Window}
+
+-- the window that is lent
+abbrev pub window_of : {A : Type 0} → Painted A → Window
+window_of p = record { x = p.x; y = p.y; picture = p.picture; opaque = p.opaque.now }
+
+-- pixel k: its colour, and its fourth byte
+abbrev pub pixel_of : List ℕ → ℕ → Rgb × ℕ
+pixel_of pixels k = (color_of pixels k, slice_index pixels (4 * k + 3))
+
+-- a pixel of this colour, as a framebuffer has it
+abbrev pub opaque : Rgb → Rgb × ℕ
+opaque color = (color, 255)
+
+-- the first rows are painted where they are damaged, and the rest is as it was
+pub record IsPaintedAbove (was now : ℕ → Rgb × ℕ) (paint : ℕ → ℕ → Rgb) (damaged : ℕ → ℕ → Bool) (width rows : ℕ) : Type 0 where
+  pub painted : (x y : ℕ) → x < width → y < rows → damaged x y ≡ true → now (y * width + x) ≡ opaque (paint x y)
+  pub kept : (x y : ℕ) → x < width → y < rows → damaged x y ≡ false → now (y * width + x) ≡ was (y * width + x)
+  pub below : (x y : ℕ) → x < width → rows ≤ y → now (y * width + x) ≡ was (y * width + x)
+
+-- how far the place is from the start, where it is one of the len numbers from there on
+abbrev pub OffsetIn : ℤ → ℕ → ℕ → Option ℕ → Type 0
+OffsetIn start len place (Some offset) =
+    (in_span start (pos len) (pos place) ≡ true) × (offset ≡ unsigned_abs (pos place -ℤ start)) × (offset < len)
+OffsetIn start len place None = in_span start (pos len) (pos place) ≡ false

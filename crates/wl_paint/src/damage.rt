@@ -1,0 +1,123 @@
+ghost use Rattle.std.specs.Prelude.{◌≡◌, ◌<◌, ◌≤◌, ◌||◌, ◌&&◌, ℕ, [], false, pos, length, slice_index_or, IfOk};
+ghost use Rattle.wl_geom.specs.Rect.{in_rect};
+ghost use Rattle.wl_paint.specs.Damage.{GivesRun, count_points, has, is_between, marked};
+
+use crate::row::Row;
+use crate::span::clipped;
+use std::alloc::{AllocError, Allocator};
+use std::marker::Model;
+use wl_geom::Rect;
+
+/// Which points of an output are to be painted again. Only `new` takes memory.
+#[derive(Drop)]
+pub struct Damage<A: Allocator> {
+    width: u32,
+    height: u32,
+    rows: Vec<Row<A>, A>,
+}
+
+impl<A: Allocator> Model for Damage<A> {
+    ghost use Rattle.wl_paint.specs.Damage.{Damaged, IsDamage};
+
+    ghost Value = { Damaged };
+
+    ghost view = { λ d. record { width = d.width; height = d.height; rows = d.rows.items } };
+
+    ghost invariant = { λ d. IsDamage (record { width = d.width; height = d.height; rows = d.rows.items }) };
+}
+
+impl<A: Allocator + Copy> Damage<A> {
+    /// No damage, of an output with these sides in pixels.
+    pub fn new(alloc: A, width: u32, height: u32) -> Result<Self, AllocError>
+        requires wide { width ≤ 4096 }
+        requires high { height ≤ 4096 }
+        ensures width { IfOk result (λ damage. damage.width ≡ width) }
+        ensures height { IfOk result (λ damage. damage.height ≡ height) }
+        ensures empty { IfOk result (λ damage. (x y : ℕ) → has damage x y ≡ false) }
+    {
+        let mut rows = Vec::with_capacity(alloc, height as usize)?;
+        for _ in 0..height {
+            rows.push(Row::new(alloc, width)?)?;
+        }
+        Ok(Damage {
+            width,
+            height,
+            rows,
+        })
+    }
+}
+
+impl<A: Allocator> Damage<A> {
+    /// Whether the point in column `x` of row `y` is damaged. None past the right edge is.
+    pub fn has(&self, x: u32, y: u32) -> bool
+        requires { y < self.now.height }
+        ensures { result ≡ has self.now x y }
+    {
+        self.rows[y as usize].has(x)
+    }
+
+    /// Adds the points of the rectangle that lie in the output.
+    pub fn add(&mut self, rect: Rect)
+        ensures points { (x y : ℕ) → x < self.old.width → y < self.old.height
+            → has self.new x y ≡ (has self.old x y || in_rect (pos x) (pos y) rect) }
+        ensures width { self.new.width ≡ self.old.width }
+        ensures height { self.new.height ≡ self.old.height }
+    {
+        let (left, right) = clipped(rect.x, rect.w, self.width);
+        let (top, bottom) = clipped(rect.y, rect.h, self.height);
+        mark_rows(&mut self.rows, top, bottom, left, right);
+    }
+
+    /// How many points are damaged.
+    pub fn count(&self) -> u32
+        ensures { result ≡ count_points self.now.width self.now.height (has self.now) }
+    {
+        let mut count = 0;
+        for y in 0..self.rows.len() {
+            count += self.rows[y].count();
+        }
+        count
+    }
+
+    /// Makes it that of no points. Rows without damage are passed over.
+    pub fn clear(&mut self)
+        ensures empty { (x y : ℕ) → has self.new x y ≡ false }
+        ensures width { self.new.width ≡ self.old.width }
+        ensures height { self.new.height ≡ self.old.height }
+    {
+        clear_rows(&mut self.rows);
+    }
+
+    /// The start and the length of the first damaged run of row `y` at or after column `from`.
+    pub fn next_run(&self, y: u32, from: u32) -> Option<(u32, u32)>
+        requires { y < self.now.height }
+        ensures { GivesRun (λ x. has self.now x y) self.now.width from result }
+    {
+        self.rows[y as usize].next_run(from)
+    }
+}
+
+fn clear_rows<A: Allocator>(rows: &mut [Row<A>])
+    ensures empty { (x y : ℕ) → marked (slice_index_or rows.new y []) x ≡ false }
+    ensures widths { (y : ℕ) → length (slice_index_or rows.new y []) ≡ length (slice_index_or rows.old y []) }
+{
+    for row in rows.iter_mut() {
+        row.clear();
+    }
+}
+
+/// Marks the points from column `left` up to column `right` of the rows from `top` up to `bottom`.
+fn mark_rows<A: Allocator>(rows: &mut [Row<A>], top: u32, bottom: u32, left: u32, right: u32)
+    requires rows { top ≤ bottom }
+    requires columns { left ≤ right }
+    requires within { bottom ≤ length rows.old }
+    requires wide { (y : ℕ) → y < length rows.old → right ≤ length (slice_index_or rows.old y []) }
+    requires narrow { (y : ℕ) → y < length rows.old → length (slice_index_or rows.old y []) ≤ 4096 }
+    ensures points { (x y : ℕ) → marked (slice_index_or rows.new y []) x
+        ≡ (marked (slice_index_or rows.old y []) x || (is_between left right x && is_between top bottom y)) }
+    ensures widths { (y : ℕ) → length (slice_index_or rows.new y []) ≡ length (slice_index_or rows.old y []) }
+{
+    for y in top..bottom {
+        rows[y as usize].add(left, right);
+    }
+}

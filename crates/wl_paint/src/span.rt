@@ -1,0 +1,35 @@
+ghost use Rattle.std.specs.Prelude.{◌≡◌, ℕ, ℤ, ◌+ℤ◌, ◌<◌, ◌≤◌, pos, int_lt, nat_lt};
+ghost use Rattle.wl_geom.specs.Rect.{in_span};
+ghost use Rattle.wl_paint.specs.Damage.{is_between};
+
+/// The place, or the nearest from 0 to `size`.
+fn held_to(place: i64, size: u32) -> u32
+    ensures same { (at : ℕ) → at < size → nat_lt at result ≡ int_lt (pos at) place }
+    ensures within { result ≤ size }
+{
+    if place <= 0 {
+        0
+    } else if place >= i64::from(size) {
+        size
+    } else {
+        place as u32
+    }
+}
+
+/// The place after the last of the `len` places from the start on.
+fn end_of(start: i32, len: i32) -> i64
+    ensures { result ≡ start +ℤ len }
+{
+    i64::from(start) + i64::from(len)
+}
+
+/// The part of a span of `len` places that lies from 0 up to `size`, by its start and its end.
+pub(crate) fn clipped(start: i32, len: i32, size: u32) -> (u32, u32)
+    ensures same { (at : ℕ) → at < size → in_span start len (pos at) ≡ is_between result.0 result.1 at }
+    ensures order { result.0 ≤ result.1 }
+    ensures within { result.1 ≤ size }
+{
+    let first = held_to(i64::from(start), size);
+    let end = held_to(end_of(start, len), size);
+    (first, end.max(first))
+}

@@ -1,7 +1,0 @@
-use Rattle.std.proofs.Common.{◌≡◌, ◌++◌}
-use Rattle.wl_session.specs.Frame.{filled}
-use Rattle.wl_session.proofs.framebuffer.fill.Given as goal
-
--- as many pixels as were counted were appended
-abbrev pub invariant-loop : goal.invariant-loop
-invariant-loop g l = l.bytes.items ≡ l.initial.bytes.items ++ filled l.counter l.fn.color
