@@ -29,15 +29,15 @@ Counts-words images imaged frames clients own text h =
 -- a step, and then each client is told of
 pub Leads-all : (asked : Asked) (before mid after : SessionView) (report wrote reported images imaged : Option (List ℕ)) (frames clients : ℕ)
     → Leads (TellsStep asked) before mid report wrote (Counts images imaged frames clients)
-    → ((d : Desktop) → Agrees mid.clients d → (e : Desktop) × (text : List ℕ) × TellsFirst 32 d text e × Agrees after.clients e × Appends wrote reported text)
+    → ((d : Desktop) → Agrees mid.desk d → (e : Desktop) × (text : List ℕ) × TellsFirst 32 d text e × Agrees after.desk e × Appends wrote reported text)
     → after.frame ≡ mid.frame → Leads (TellsAll asked) before after report reported (Counts images imaged frames clients)
 Leads-all asked before mid after report wrote reported images imaged frames clients leads tells same = λ old stands.
     let m = leads old stands in
-    let n = tells m.0.desktop m.3.clients in (
+    let n = tells m.0.desktop m.3.desk in (
       record { desktop = n.0; frame = m.0.frame },
       and_then m.1 (words n.1),
       (m.0, m.1, n.1, m.2, n.2, refl, refl),
-      record { clients = n.3; frame = same ∙ m.3.frame },
+      record { desk = n.3; frame = same ∙ m.3.frame },
       Appends-trans _ _ _ m.1.text n.1 m.4 n.4,
       Counts-words images imaged frames clients m.1 n.1 m.5,
     )

@@ -1,12 +1,18 @@
 -- A recording that was played up to a line.
-use Rattle.std.proofs.Common.{◌≡◌, ◌<◌, ℕ, ◌+◌, List, [], ◌∷◌, ◌++◌, Option, length, refl, ap, sym, ◌∙◌, inl, inr, arith}
+use Rattle.std.proofs.Common.{◌≡◌, ◌<◌, ℕ, ◌+◌, ◌*◌, List, [], ◌∷◌, ◌++◌, Option, Result, length, refl, ap, sym, ◌∙◌, inl, inr, arith}
+use Rattle.std.specs.Prelude.{IfErr, IfOk, Ok, Err}
 use Rattle.std.specs.Io.KnownBytes.{IsAtEnd}
 use Rattle.std.proofs.KnownBytes.{Appends-nil, Appends-trans}
 use Rattle.std.proofs.lemmas.List.{length_push}
+use Rattle.wl_session.specs.Agreement.{Agrees}
+use Rattle.wl_session.specs.Desktop.{empty}
+use Rattle.wl_session.specs.Frame.{Image, filled}
 use Rattle.wl_session.specs.View.{SessionView}
+use Rattle.wl_session.specs.declared.sessions.Config.{Config}
+use Rattle.wl_replay.specs.declared.error.Summary.{Summary}
 use Rattle.wl_replay.specs.declared.error.ReplayError.{ReplayError}
 use Rattle.wl_replay.specs.declared.error.ReplayError.TheVariants as error
-use Rattle.wl_replay.specs.Report.{Counts, FailsAt, IsPlayed, Reported, Stage, Stands, StopsAs, TakesOne, and_then, words, more, none}
+use Rattle.wl_replay.specs.Report.{Counts, FailsAt, IsPlayed, Reported, Stage, Stands, StopsAs, TakesOne, and_then, first_stage, words, more, none}
 
 -- so many lines were played, with so many frames and clients, and the session stands for the last stage
 pub record PlayedTo (first : Stage) (session : SessionView) (read left report reported images imaged : Option (List ℕ)) (lines frames clients : ℕ) : Type 0 where
@@ -85,3 +91,19 @@ pub StopsAs-past : (first : Stage) (session : SessionView) (read left report rep
     → PlayedTo first session read left report reported images imaged 1000000 frames clients → StopsAs (error.BadLine 1000001) first read report reported images imaged
 StopsAs-past first session read left report reported images imaged frames clients p =
     (left, p.run, ap (λ (k : ℕ). k + 1) (sym p.lines_told), inl p.lines_told)
+
+-- what an error says of every stage that the session stands for, it says of the first
+pub StopsAs-at : (r : Result Summary ReplayError) (session : SessionView) (first : Stage) (read report reported images imaged : Option (List ℕ)) → Stands session first → IfErr r (λ e. (x : Stage) → Stands session x → StopsAs e x read report reported images imaged) → IfErr r (λ e. StopsAs e first read report reported images imaged)
+StopsAs-at (Ok t) session first read report reported images imaged stands h = h
+StopsAs-at (Err e) session first read report reported images imaged stands h = h first stands
+
+pub IsPlayed-at : (r : Result Summary ReplayError) (session : SessionView) (first : Stage) (read report reported images imaged : Option (List ℕ)) → Stands session first → IfOk r (λ t. (x : Stage) → Stands session x → IsPlayed x t read report reported images imaged) → IfOk r (λ t. IsPlayed first t read report reported images imaged)
+IsPlayed-at (Ok t) session first read report reported images imaged stands h = h first stands
+IsPlayed-at (Err e) session first read report reported images imaged stands h = h
+
+image_is : (i : Image) (config : Config) (pixels : List ℕ) → i.width ≡ config.width → i.height ≡ config.height → i.background ≡ config.background → i.pixels ≡ pixels → i ≡ record { width = config.width; height = config.height; background = config.background; pixels = pixels }
+image_is i config pixels a b c d = rw (← a, ← b, ← c, ← d) refl
+
+-- a session that was just made stands for the first stage
+pub Stands-first : (s : SessionView) (config : Config) → Agrees s.desk (empty (record { width = config.width; height = config.height })) → s.frame.width ≡ config.width → s.frame.height ≡ config.height → s.frame.background ≡ config.background → s.frame.pixels ≡ filled (config.width * config.height) config.background → Stands s (first_stage config)
+Stands-first s config agrees a b c d = record { desk = agrees; frame = image_is s.frame config _ a b c d }

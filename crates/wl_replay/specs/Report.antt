@@ -47,14 +47,14 @@ pub record Stage : Type 0 where
 
 -- a session stands for a stage
 pub record Stands (session : SessionView) (stage : Stage) : Type 0 where
-  pub clients : Agrees session.clients stage.desktop
+  pub desk : Agrees session.desk stage.desktop
   pub frame : session.frame ≡ stage.frame
 
 -- no client, and the background
 abbrev pub first_stage : Config → Stage
 first_stage config =
     record {
-      desktop = empty;
+      desktop = empty (record { width = config.width; height = config.height });
       frame = record {
         width = config.width;
         height = config.height;

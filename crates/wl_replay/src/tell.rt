@@ -21,8 +21,8 @@ pub(crate) fn tell_clients<A: Allocator + Copy, W: Write>(
     session: &mut Session<A>,
     writer: &mut W,
 ) -> io::Result<()>
-    ensures told { OnOk result ((d : Desktop) → Agrees session.old.clients d → (e : Desktop) × (text : List ℕ) × TellsFirst 32 d text e
-        × Agrees session.new.clients e × Appends (W.contents writer.old) (W.contents writer.new) text) }
+    ensures told { OnOk result ((d : Desktop) → Agrees session.old.desk d → (e : Desktop) × (text : List ℕ) × TellsFirst 32 d text e
+        × Agrees session.new.desk e × Appends (W.contents writer.old) (W.contents writer.new) text) }
     ensures frame { session.new.frame ≡ session.old.frame }
 {
     for before in 0..CLIENTS {
@@ -36,8 +36,8 @@ fn tell_client<A: Allocator + Copy, W: Write>(
     client: u32,
     writer: &mut W,
 ) -> io::Result<()>
-    ensures told { OnOk result ((d : Desktop) → Agrees session.old.clients d → (e : Desktop) × (text : List ℕ) × TellsClient client d text e
-        × Agrees session.new.clients e × Appends (W.contents writer.old) (W.contents writer.new) text) }
+    ensures told { OnOk result ((d : Desktop) → Agrees session.old.desk d → (e : Desktop) × (text : List ℕ) × TellsClient client d text e
+        × Agrees session.new.desk e × Appends (W.contents writer.old) (W.contents writer.new) text) }
     ensures frame { session.new.frame ≡ session.old.frame }
 {
     send(session, client, writer)?;
@@ -50,8 +50,8 @@ fn send<A: Allocator + Copy, W: Write>(
     client: u32,
     writer: &mut W,
 ) -> io::Result<()>
-    ensures told { OnOk result ((d : Desktop) → Agrees session.old.clients d → (e : Desktop) × (text : List ℕ)
-        × Sends client (unsent_of (peer_at d client)) d text e × Agrees session.new.clients e × Appends (W.contents writer.old) (W.contents writer.new) text) }
+    ensures told { OnOk result ((d : Desktop) → Agrees session.old.desk d → (e : Desktop) × (text : List ℕ)
+        × Sends client (unsent_of (peer_at d client)) d text e × Agrees session.new.desk e × Appends (W.contents writer.old) (W.contents writer.new) text) }
     ensures frame { session.new.frame ≡ session.old.frame }
 {
     let Some(bytes) = session.out(client) else {
@@ -72,8 +72,8 @@ fn close<A: Allocator + Copy, W: Write>(
     client: u32,
     writer: &mut W,
 ) -> io::Result<()>
-    ensures told { OnOk result ((d : Desktop) → Agrees session.old.clients d → (e : Desktop) × (text : List ℕ)
-        × Closes client (status_of (peer_at d client)) d text e × Agrees session.new.clients e × Appends (W.contents writer.old) (W.contents writer.new) text) }
+    ensures told { OnOk result ((d : Desktop) → Agrees session.old.desk d → (e : Desktop) × (text : List ℕ)
+        × Closes client (status_of (peer_at d client)) d text e × Agrees session.new.desk e × Appends (W.contents writer.old) (W.contents writer.new) text) }
     ensures frame { session.new.frame ≡ session.old.frame }
 {
     if let Fed::Ended(cause) = session.status(client) {

@@ -9,12 +9,12 @@ pub returns-clause-told : goal.returns-clause-told
 returns-clause-told g c =
     on_ok_weaker c.write_absent.result
     (λ wrote. λ old stands.
-    let step = c.feed.ensures.step old.desktop stands.clients in
-    let before : c.status-before.result ≡ status_of (peer_at old.desktop c.args.client) = c.status-before.ensures old.desktop stands.clients in (
+    let step = c.feed.ensures.step old.desktop stands.desk in
+    let before : c.status-before.result ≡ status_of (peer_at old.desktop c.args.client) = c.status-before.ensures old.desktop stands.desk in (
       record { desktop = step.0; frame = old.frame },
       words (absent_text c.args.client c.status-before.result),
       (_, step.1, refl, ap (λ fed. words (absent_text c.args.client fed)) before),
-      record { clients = step.2; frame = c.feed.ensures.frame ∙ stands.frame },
+      record { desk = step.2; frame = c.feed.ensures.frame ∙ stands.frame },
       wrote,
       (refl, refl, refl),
     ))

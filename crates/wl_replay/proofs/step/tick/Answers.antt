@@ -17,7 +17,7 @@ returns-clause-told g c =
     let after = c.tick-frame.follows.holds-at-none in
     on_ok_weaker c.write_image.result
     (λ shown. λ old stands.
-    let step = after.0 old.desktop stands.clients in (
+    let step = after.0 old.desktop stands.desk in (
       record { desktop = step.0; frame = frame },
       record {
         text = frame_line c.args.time (count_points damage.width damage.height (has damage));
@@ -26,7 +26,7 @@ returns-clause-told g c =
         clients = 0;
       },
       (damage, step.1, subst (λ (before : Image). IsNextFrame before frame (has damage)) stands.frame c.tick-frame.ensures.frame, refl),
-      record { clients = step.2; frame = after.1 },
+      record { desk = step.2; frame = after.1 },
       subst (λ (n : ℕ). Appends (g.W.Write.contents c.args.writer.now) (g.W.Write.contents c.write_frame.new.writer) (frame_line c.args.time n)) c.count-count.ensures wrote,
       (shown, refl, refl),
     ))
