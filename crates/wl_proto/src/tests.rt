@@ -3,7 +3,8 @@
 use crate::*;
 use std::alloc::Global;
 use std::process::Abort;
-use wl_wire::Fixed;
+use std::test::Fail;
+use wl_wire::{Fixed, PutError};
 
 // The body of these words, at version 2, is this request.
 fn reads(
@@ -28,15 +29,35 @@ fn reads(
     );
 }
 
-// The event is written as these words.
+// The event is written as these words, and its size is told to be theirs.
 fn writes(rt: &impl Abort, alloc: Global, object: u32, body: EventBody, words: &[u32]) {
     let mut expected = Vec::new(alloc);
     for word in words {
         let _ = expected.extend_from_slice(&word.to_le_bytes());
     }
+    let event = Event { object, body };
     let mut out = Vec::new(alloc);
-    assert!(rt; encode(&Event { object, body }, &mut out).is_ok());
+    assert!(rt; encode(&event, &mut out).is_ok());
     assert!(rt; out.as_slice() == expected.as_slice());
+    assert!(rt; encoded_size(&event).is_some_and(|size| size as usize == expected.len()));
+}
+
+// The event has as many bytes as a message may have.
+fn is_longest(rt: &impl Abort, alloc: Global, body: EventBody) {
+    let event = Event { object: 1, body };
+    let mut out = Vec::new(alloc);
+    assert!(rt; encode(&event, &mut out).is_ok());
+    assert!(rt; out.len() == 65_532);
+    assert_eq!(rt; encoded_size(&event), Some(65_532));
+}
+
+// The event has more bytes than a message may have, so nothing is written.
+fn is_too_long(rt: &impl Abort, alloc: Global, body: EventBody) {
+    let event = Event { object: 1, body };
+    let mut out = Vec::new(alloc);
+    assert_eq!(rt; encode(&event, &mut out), Err(PutError::TooLong));
+    assert!(rt; out.is_empty());
+    assert_eq!(rt; encoded_size(&event), None);
 }
 
 #[test]
@@ -615,4 +636,68 @@ fn shell_events(rt: HostRuntime) {
         EventBody::XdgPopup(XdgPopupEvent::PopupDone),
         &[17, 0x00080001],
     );
+}
+
+// An error with this text.
+fn error_of(message: &[u8]) -> EventBody<'_> {
+    EventBody::WlDisplay(WlDisplayEvent::Error {
+        object_id: 7,
+        code: 3,
+        message,
+    })
+}
+
+// A global whose interface has this name.
+fn global_of(interface: &[u8]) -> EventBody<'_> {
+    EventBody::WlRegistry(WlRegistryEvent::Global {
+        name: 1,
+        interface,
+        version: 2,
+    })
+}
+
+// The geometry of an output of this maker and model.
+fn geometry_of<'a>(make: &'a [u8], model: &'a [u8]) -> EventBody<'a> {
+    EventBody::WlOutput(WlOutputEvent::Geometry {
+        x: 0,
+        y: 1,
+        physical_width: 2,
+        physical_height: 3,
+        subpixel: 4,
+        make,
+        model,
+        transform: -1,
+    })
+}
+
+// A configure event of a toplevel in these states.
+fn configure_of(states: &[u8]) -> EventBody<'_> {
+    EventBody::XdgToplevel(XdgToplevelEvent::Configure {
+        width: 5,
+        height: 6,
+        states,
+    })
+}
+
+// A message has at most 65,532 bytes. Of them the header takes 8, a number or an object 4, the length of a string or
+// an array 4, and a string ends in a NUL.
+#[test]
+fn longest_events(rt: HostRuntime) -> Result<(), Fail> {
+    let alloc = rt.alloc();
+    let text = vec![in alloc; b'a'; 65_511]?;
+    let longer = vec![in alloc; b'a'; 65_512]?;
+    is_longest(&rt, alloc, error_of(&text));
+    is_too_long(&rt, alloc, error_of(&longer));
+    is_longest(&rt, alloc, global_of(&text));
+    is_too_long(&rt, alloc, global_of(&longer));
+    let states = vec![in alloc; 0_u8; 65_512]?;
+    let more_states = vec![in alloc; 0_u8; 65_513]?;
+    is_longest(&rt, alloc, configure_of(&states));
+    is_too_long(&rt, alloc, configure_of(&more_states));
+    let model = vec![in alloc; b'a'; 65_487]?;
+    let longer_model = vec![in alloc; b'a'; 65_488]?;
+    is_longest(&rt, alloc, geometry_of(b"", &model));
+    is_too_long(&rt, alloc, geometry_of(b"", &longer_model));
+    is_too_long(&rt, alloc, geometry_of(b"make", &model));
+    Ok(())
 }
