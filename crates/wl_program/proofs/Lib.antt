@@ -1,2 +1,3 @@
 mod Accepted
 mod Ending
+mod Rows
