@@ -2,11 +2,14 @@
 //! memory that fail or go in small pieces at a chosen call. The product doesn't use it.
 #![tactic(auto)]
 
-pub mod refusing;
-pub mod streams;
+mod reader;
+mod reading;
+mod refusing;
+mod writer;
 
+pub use reader::FaultyReader;
 pub use refusing::Refusing;
-pub use streams::{FaultyReader, FaultyWriter};
+pub use writer::FaultyWriter;
 
 #[cfg(test)]
 mod tests;

@@ -1,0 +1,3 @@
+mod Accepted
+mod Ending
+mod Rows

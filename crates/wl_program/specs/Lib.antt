@@ -1,2 +1,9 @@
+pub mod Command
+pub mod Folder
+pub mod Run
+pub mod Size
 pub mod Status
+pub use Rattle.wl_replay.specs.Line
+pub use Rattle.wl_replay.specs.Lines
+pub use Rattle.wl_replay.specs.Report
 pub use Rattle.wl_replay.specs.Side

@@ -1,47 +1,14 @@
 //! The command line.
 
-ghost use Rattle.std.specs.Prelude.{◌≡◌, ◌≤◌, IfSome, Some, true, ◌&&◌, nat_le};
-ghost use Rattle.wl_session.specs.Frame.{is_side};
-ghost use Rattle.wl_replay.specs.Line.{number_of};
+ghost use Rattle.std.specs.Prelude.{◌≡◌, IfErr, IfOk, MatchResult, None, false, map, string_bytes};
+ghost use Rattle.clap.specs.Words.{app_of, first_value, found_of, rule_of};
+ghost use Rattle.wl_program.specs.Command.{Asks, IsGiven, IsRefused, IsToldAs, asked_size, dir_option, ppm_option, program, size_option};
 
 use crate::fault::Fault;
+use crate::size::Size;
 use clap::error::ErrorKind;
 use clap::{Arg, ArgMatches, Command};
 use std::alloc::{AllocError, Global};
-use wl_replay::number;
-use wl_session::MAX_SIDE;
-
-/// The sides of an output, in pixels: each is 1 to 4,096.
-#[derive(Clone, Copy, Debug, PartialEq, Eq)]
-pub struct Size {
-    pub width: u32,
-    pub height: u32,
-    ghost wide: { is_side width ≡ true },
-    ghost high: { is_side height ≡ true },
-}
-
-impl Size {
-    /// Two numbers from 1 to 4,096, parted by `x`.
-    pub fn parse(text: &str) -> Option<Size> {
-        let (width, height) = text.split_once('x')?;
-        Some(Size {
-            width: side(width.as_bytes())?,
-            height: side(height.as_bytes())?,
-        })
-    }
-}
-
-/// A number that a side may be.
-fn side(word: &[u8]) -> Option<u32>
-    ensures value { IfSome result (λ side. number_of word.now ≡ Some side) }
-    ensures within { IfSome result (λ side. is_side side ≡ true) }
-{
-    let side = number(word)?;
-    if side < 1 || side > MAX_SIDE {
-        return None;
-    }
-    Some(side)
-}
 
 /// What is asked: a recording is to be played.
 #[derive(Clone, Copy, Debug, PartialEq, Eq)]
@@ -62,12 +29,19 @@ pub enum CommandError {
 }
 
 impl From<AllocError> for CommandError {
+    ghost use Rattle.wl_program.specs.declared.command.CommandError.TheVariants.{Fault};
+    ghost use Rattle.wl_program.specs.declared.fault.Fault.TheVariants.{Memory};
+
+    ghost from_gives = { λ _ e. e ≡ Fault Memory };
+
     fn from(_error: AllocError) -> CommandError {
         CommandError::Fault(Fault::Memory)
     }
 }
 
 impl From<clap::Error> for CommandError {
+    ghost from_gives = { IsToldAs };
+
     fn from(error: clap::Error) -> CommandError {
         match error.kind() {
             ErrorKind::OutOfMemory => CommandError::Fault(Fault::Memory),
@@ -77,15 +51,23 @@ impl From<clap::Error> for CommandError {
 }
 
 /// What these words ask, of which the first is the program's name.
-pub fn parse<'a>(alloc: Global, words: &'a [String]) -> Result<Replay<'a>, CommandError> {
-    let matches = command(alloc)?.try_get_matches_from(words)?;
+///
+/// `Usage` is clap's answer where it refuses the words or shows its help; `Fault::Size` is for a size that is none, and
+/// `Fault::Memory` for want of memory.
+pub fn parse<'a>(alloc: Global, words: &'a [String]) -> Result<Replay<'a>, CommandError>
+    ensures { MatchResult result (Asks (map string_bytes words.entry.now)) (IsRefused (map string_bytes words.entry.now)) }
+{
+    let command = command(alloc)?;
+    let matches = command.try_get_matches_from(words)?;
     match matches.subcommand() {
         Some((_, matches)) => replay_of(matches),
         None => Err(CommandError::Fault(Fault::Size)),
     }
 }
 
-fn command<'a>(alloc: Global) -> Result<Command<'a>, AllocError> {
+fn command<'a>(alloc: Global) -> Result<Command<'a>, AllocError>
+    ensures { IfOk result (λ command. app_of command ≡ program) }
+{
     let replay = Command::new(alloc, "replay")
         .about("Plays a recording from standard input")
         .arg(size_option(alloc))?
@@ -98,7 +80,10 @@ fn command<'a>(alloc: Global) -> Result<Command<'a>, AllocError> {
         .subcommand(replay)
 }
 
-fn size_option<'a>(alloc: Global) -> Arg<'a> {
+fn size_option<'a>(alloc: Global) -> Arg<'a>
+    ensures rule { rule_of result ≡ size_option }
+    ensures own { result.global ≡ false }
+{
     Arg::new(alloc, "size")
         .long("size")
         .value_name("WxH")
@@ -106,14 +91,20 @@ fn size_option<'a>(alloc: Global) -> Arg<'a> {
         .default_value("640x480")
 }
 
-fn ppm_option<'a>(alloc: Global) -> Arg<'a> {
+fn ppm_option<'a>(alloc: Global) -> Arg<'a>
+    ensures rule { rule_of result ≡ ppm_option }
+    ensures own { result.global ≡ false }
+{
     Arg::new(alloc, "ppm")
         .long("ppm")
         .value_name("FILE")
         .help("Writes an image of each frame to this file")
 }
 
-fn dir_option<'a>(alloc: Global) -> Arg<'a> {
+fn dir_option<'a>(alloc: Global) -> Arg<'a>
+    ensures rule { rule_of result ≡ dir_option }
+    ensures own { result.global ≡ false }
+{
     Arg::new(alloc, "dir")
         .long("dir")
         .value_name("DIR")
@@ -121,7 +112,11 @@ fn dir_option<'a>(alloc: Global) -> Arg<'a> {
         .default_value(".")
 }
 
-fn replay_of<'a>(matches: &ArgMatches<'a>) -> Result<Replay<'a>, CommandError> {
+/// The replay that these matches ask.
+fn replay_of<'a>(matches: &ArgMatches<'a>) -> Result<Replay<'a>, CommandError>
+    ensures asked { IfOk result (IsGiven (first_value (found_of matches.now))) }
+    ensures no_size { IfErr result (λ e. (e ≡ CommandError.Fault Fault.Size) × (asked_size (first_value (found_of matches.now)) ≡ None)) }
+{
     let Some(size) = Size::parse(matches.get_str("size").unwrap_or("")) else {
         return Err(CommandError::Fault(Fault::Size));
     };

@@ -1,7 +1,7 @@
 //! How the program ends.
 
 ghost use Rattle.std.specs.Prelude.{◌≡◌};
-ghost use Rattle.wl_program.specs.Status.{status_of};
+ghost use Rattle.wl_program.specs.Status.{fault_by, status_of};
 
 use thiserror::Error;
 use wl_replay::ReplayError;
@@ -34,6 +34,7 @@ pub enum Fault {
 }
 
 impl Fault {
+    /// How the program ends for it.
     pub fn status(self) -> Status
         ensures { result ≡ status_of self }
     {
@@ -55,6 +56,8 @@ impl Fault {
 }
 
 impl From<ReplayError> for Fault {
+    ghost from_gives = { λ error fault. fault ≡ fault_by error };
+
     fn from(error: ReplayError) -> Fault {
         match error {
             ReplayError::Read => Fault::Read,

@@ -5,8 +5,10 @@ mod command;
 mod fault;
 mod folder;
 mod run;
+mod size;
 
-pub use command::{CommandError, Replay, Size, parse};
+pub use command::{CommandError, Replay, parse};
 pub use fault::{Fault, Status};
 pub use folder::Folder;
 pub use run::run_program;
+pub use size::Size;

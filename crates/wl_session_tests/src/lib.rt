@@ -5,3 +5,5 @@
 mod memory;
 #[cfg(test)]
 mod recordings;
+#[cfg(test)]
+mod registry;

@@ -1,9 +1,10 @@
 //! Each allocation of a session refused in turn. The heap refuses every allocation after its last.
 
-use std::alloc::Allocator;
+use std::alloc::{Allocator, Global};
 use std::test::Fail;
 use test_support::Refusing;
 use wl_session::{Cause, Config, ConnectError, Fed, FrameError, Rgb, RunError, Session, Step};
+use wl_wire::{Arg, put};
 
 const CONFIG: Config = Config {
     width: 2,
@@ -112,5 +113,53 @@ fn a_client_ends_where_memory_is_refused(rt: HostRuntime) -> Result<(), Fail> {
         ended = ended.saturating_add(1);
     }
     assert!(rt; answered && refused > 0 && ended > 0);
+    Ok(())
+}
+
+/// wl_display.get_registry of 2, wl_registry.bind of the seat as 3 and wl_display.sync of 4, in one piece.
+fn registry_and_seat(alloc: Global) -> Result<Vec<u8, Global>, Fail> {
+    let mut piece = Vec::new(alloc);
+    put(&mut piece, 1, 1, &[Arg::NewId(2)])?;
+    let seat = [
+        Arg::Uint(5),
+        Arg::Str(b"wl_seat"),
+        Arg::Uint(1),
+        Arg::NewId(3),
+    ];
+    put(&mut piece, 2, 0, &seat)?;
+    put(&mut piece, 1, 0, &[Arg::NewId(4)])?;
+    Ok(piece)
+}
+
+/// Where there is no memory for an object or for an event, the client ends for it. What was queued before stays.
+#[test]
+fn a_registry_finds_no_memory(rt: HostRuntime) -> Result<(), Fail> {
+    let piece = registry_and_seat(rt.alloc())?;
+    let mut whole = Session::new(rt.alloc(), CONFIG)?;
+    whole.connect()?;
+    assert_eq!(rt; whole.feed(1, &piece), Fed::Alive);
+    let all = whole.out(1).unwrap_or(&[]);
+    let mut ended = 0_u32;
+    let mut answered = false;
+    for served in 0..1000_u64 {
+        let heap = Refusing::new(rt.alloc(), served);
+        let Ok(mut session) = Session::new(&heap, CONFIG) else {
+            continue;
+        };
+        if session.connect().is_err() {
+            continue;
+        }
+        let fed = session.feed(1, &piece);
+        let out = session.out(1).unwrap_or(&[]);
+        if fed == Fed::Alive {
+            assert!(rt; out == all);
+            answered = true;
+            break;
+        }
+        assert_eq!(rt; fed, Fed::Ended(Cause::Memory));
+        assert!(rt; out.len() < all.len() && all.starts_with(out));
+        ended = ended.saturating_add(1);
+    }
+    assert!(rt; answered && ended > 2);
     Ok(())
 }

@@ -1,0 +1,86 @@
+-- What clap's clauses say of the program's command line.
+use Rattle.std.proofs.Common.{◌≡◌, ◌∙◌, sym, ap, subst, refl, inl, inr, true, codes, List, [], Option, Some, None, Result, Ok, Err, option_map, unwrap_or}
+use Rattle.std.specs.Option.{option_and_then}
+use Rattle.std.specs.Result.{IfErr, IfOk, MatchResult}
+use Rattle.clap.specs.Words.{App, FailsBy, HasKind, HasMatchesOf, IsAmong, Row, Text, fault_of, first_of, first_value, is_simple, is_simple_and_free, kind_of, rows_of, subcommand_rows_of}
+use Rattle.clap.specs.declared.error.Error.{Error}
+use Rattle.clap.specs.declared.parser.matches.ArgMatches.{ArgMatches}
+use Rattle.clap.specs.declared.parser.matches.Found.{Found}
+use Rattle.clap.proofs.WalkLemmas.{first_value-rows}
+use Rattle.wl_program.specs.Command.{Asks, IsGiven, IsRefused, IsToldAs, asked_size, entered, given, program, refusals}
+use Rattle.wl_program.specs.Size.{size_of}
+use Rattle.wl_program.specs.declared.command.Replay.{Replay}
+use Rattle.wl_program.specs.declared.command.CommandError.{CommandError}
+use Rattle.wl_program.specs.declared.command.CommandError.TheVariants as refused
+use Rattle.wl_program.specs.declared.fault.Fault.{Fault}
+use Rattle.wl_program.specs.declared.fault.Fault.TheVariants as fault
+
+-- its options use nothing of which clap's clauses are silent
+pub program-is_simple : is_simple program ≡ true
+unfolding program
+program-is_simple = refl
+
+pub program-is_simple_and_free : is_simple_and_free program ≡ true
+unfolding program
+program-is_simple_and_free = refl
+
+-- words that clap's parse of the program takes are refused by no kind
+pub accepted-of : (app : App) (words : List Text) (matches : ArgMatches) → app ≡ program
+    → (is_simple_and_free app ≡ true → FailsBy (fault_of app words) (Ok matches)) → refusals words ≡ []
+unfolding refusals
+accepted-of app words matches is kinds =
+    subst (λ (a : App). is_simple_and_free a ≡ true → fault_of a words ≡ []) is kinds program-is_simple_and_free
+
+-- and those that it doesn't take by one of them, or for want of memory
+pub refused-of : (app : App) (words : List Text) (error : Error) → app ≡ program
+    → (is_simple_and_free app ≡ true → FailsBy {T = ArgMatches} (fault_of app words) (Err error)) → HasKind (refusals words) error
+unfolding refusals
+refused-of app words error is kinds =
+    subst (λ (a : App). is_simple_and_free a ≡ true → HasKind (fault_of a words) error) is kinds program-is_simple_and_free
+
+-- the subcommand that the parse entered
+pub entered-of : (app : App) (words : List Text) (matches : ArgMatches) → app ≡ program → HasMatchesOf app words matches
+    → subcommand_rows_of matches ≡ entered words
+unfolding entered
+entered-of app words matches is has = (subst (λ (a : App). HasMatchesOf a words matches) is has program-is_simple).1
+
+-- clap's error is told as one of those
+pub told-refused : (words : List Text) (error : Error) (told : CommandError) → IsToldAs error told → HasKind (refusals words) error → IsRefused words told
+told-refused words error (refused.Usage same) is (inl memory) = absurd (is.1 memory)
+told-refused words error (refused.Usage same) is (inr among) = subst (λ (e : Error). IsAmong (kind_of e) (refusals words)) (sym is.0) among
+told-refused words error (refused.Fault _) is has = subst (λ (f : Fault). IsRefused words (refused.Fault f)) (sym is.0) tt
+
+-- with no subcommand there is no size
+pub not-entered : (words : List Text) → None ≡ option_map (λ p. p.1) (entered words) → asked_size (given words) ≡ None
+not-entered words e = go (entered words) e
+  where
+    go : (subcommand : Option (Text × List Row)) → None ≡ option_map (λ p. p.1) subcommand
+        → option_and_then size_of (option_and_then (λ p. first_of (codes "size") p.1) subcommand) ≡ None
+    go None e = refl
+    go (Some p) e = cc
+
+-- what an option is given is what its getter finds
+pub given-found : (words : List Text) (name : Text) (found : Found) → option_map (λ p. p.1) (entered words) ≡ Some (rows_of found)
+    → given words name ≡ first_value found name
+given-found words name found e = go (entered words) e ∙ sym (first_value-rows found name)
+  where
+    go : (subcommand : Option (Text × List Row)) → option_map (λ p. p.1) subcommand ≡ Some (rows_of found)
+        → option_and_then (λ p. first_of name p.1) subcommand ≡ first_of name (rows_of found)
+    go None e = cc
+    go (Some p) e = let same : p.1 ≡ rows_of found = cc in ap (first_of name) same
+
+-- what is asked by the values that the getters find is asked by the words
+pub asked-by : (words : List Text) (found : Found) (answer : Result Replay CommandError) → refusals words ≡ []
+    → option_map (λ p. p.1) (entered words) ≡ Some (rows_of found) → IfOk answer (IsGiven (first_value found))
+    → IfErr answer (λ e. (e ≡ refused.Fault fault.Size) × (asked_size (first_value found) ≡ None)) → MatchResult answer (Asks words) (IsRefused words)
+asked-by words found (Ok replay) accepted rows asked no_size =
+    let same : (name : Text) → given words name ≡ first_value found name = λ name. given-found words name found rows in (
+      accepted,
+      record {
+        size = ap (option_and_then size_of) (same (codes "size")) ∙ asked.size;
+        dir = asked.dir ∙ ap (λ value. unwrap_or value (codes ".")) (sym (same (codes "dir")));
+        ppm = asked.ppm ∙ sym (same (codes "ppm"));
+      },
+    )
+asked-by words found (Err e) accepted rows asked no_size =
+    subst (IsRefused words) (sym no_size.0) (accepted, ap (option_and_then size_of) (given-found words (codes "size") found rows) ∙ no_size.1)

@@ -1,0 +1,56 @@
+-- Worked command lines, computed on the definitions.
+use Rattle.std.proofs.Common.{◌≡◌, refl, codes, List, [], ◌∷◌, Some, None}
+use Rattle.clap.specs.Words.{Text}
+use Rattle.clap.specs.declared.error.kind.ErrorKind.TheVariants.{DisplayHelp, DisplayHelpOnMissingArgumentOrSubcommand, UnknownArgument}
+use Rattle.clap.proofs.OnLiterals.{clap_on_literals}
+use Rattle.wl_program.specs.Command.{asked_size, entered, given, program, refusals}
+
+abbrev replay : List Text → List Text
+replay words = codes "wlframe" ∷ codes "replay" ∷ words
+
+-- accepted, with what is given and what isn't
+sized : List Text
+sized = replay (codes "--size" ∷ codes "064x48" ∷ codes "--ppm=a" ∷ [])
+
+sized-accepted : refusals sized ≡ []
+unfolding clap_on_literals refusals program sized
+sized-accepted = refl
+
+sized-size : asked_size (given sized) ≡ Some (64, 48)
+unfolding clap_on_literals entered program sized
+sized-size = refl
+
+sized-ppm : given sized (codes "ppm") ≡ Some (codes "a")
+unfolding clap_on_literals entered program sized
+sized-ppm = refl
+
+sized-dir : given sized (codes "dir") ≡ Some (codes ".")
+unfolding clap_on_literals entered program sized
+sized-dir = refl
+
+-- with no option: 640 by 480 and no images
+plain-size : asked_size (given (replay [])) ≡ Some (640, 480)
+unfolding clap_on_literals entered program
+plain-size = refl
+
+plain-ppm : given (replay []) (codes "ppm") ≡ None
+unfolding clap_on_literals entered program
+plain-ppm = refl
+
+-- a second `x` is part of no number
+twice-size : asked_size (given (replay (codes "--size" ∷ codes "64x64x64" ∷ []))) ≡ None
+unfolding clap_on_literals entered program
+twice-size = refl
+
+-- help that was asked for, and words that are refused
+help-refusals : refusals (codes "wlframe" ∷ codes "--help" ∷ []) ≡ DisplayHelp ∷ []
+unfolding clap_on_literals refusals program
+help-refusals = refl
+
+bare-refusals : refusals (codes "wlframe" ∷ []) ≡ DisplayHelpOnMissingArgumentOrSubcommand ∷ []
+unfolding clap_on_literals refusals program
+bare-refusals = refl
+
+extra-refusals : refusals (replay (codes "extra" ∷ [])) ≡ UnknownArgument ∷ []
+unfolding clap_on_literals refusals program
+extra-refusals = refl

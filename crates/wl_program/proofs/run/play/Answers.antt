@@ -1,0 +1,11 @@
+-- The flush keeps what was told.
+use Rattle.wl_program.proofs.Ending.{on_ok, played-kept, stops-kept}
+use Rattle.wl_program.proofs.run.play.Goals as goal
+
+pub returns-in-Ok-clause-played : goal.returns-in-Ok-clause-played
+returns-in-Ok-clause-played g c =
+    on_ok c.flush-flushed.result (played-kept c.args.replay c.in-Ok.field-0 _ _ _ _ _ _ c.in-Ok.ensures.played c.flush-flushed.ensures.kept)
+
+pub returns-clause-failed : goal.returns-clause-failed
+returns-clause-failed g c =
+    rw c.from.ensures (stops-kept c.args.replay c.in-Err.error _ _ _ _ _ _ c.in-Err.ensures.stopped c.flush-flushed.ensures.kept)
