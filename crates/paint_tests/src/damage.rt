@@ -23,6 +23,7 @@ fn runs_and_counts(rt: HostRuntime) -> Result<(), Fail> {
     damage.add(rect(60, 0, 10, 1));
     assert_eq!(rt; damage.count(), 140);
     assert!(rt; damage.has(60, 0) && damage.has(69, 0) && !damage.has(59, 0) && !damage.has(70, 0));
+    assert!(rt; !damage.has(130, 0) && !damage.has(4_294_967_295, 1));
     damage.clear();
     assert_eq!(rt; damage.count(), 0);
     assert!(rt; !damage.has(60, 0));

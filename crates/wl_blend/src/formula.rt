@@ -4,8 +4,8 @@ ghost use Rattle.wl_blend.specs.Blend.{blended, blended_channel};
 use crate::color::Rgb;
 use wl_store::Argb;
 
-/// The sum of two channels, held at 255. It has no branch: of random pixels one in a few is above, which
-/// a processor can't foretell.
+/// The sum of two channels, held at 255. There is no branch in it, since a processor could not foretell which
+/// sums are above.
 fn held(sum: u32) -> u8
     requires { sum ≤ 510 }
     ensures { result ≡ min 255 sum }
