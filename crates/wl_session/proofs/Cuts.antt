@@ -4,7 +4,7 @@ use Rattle.wl_session.specs.declared.steps.Done.{Done}
 use Rattle.wl_session.specs.declared.steps.Done.TheVariants as gave
 use Rattle.wl_session.specs.declared.steps.Fed.TheVariants.{NoClient}
 use Rattle.wl_session.specs.Desktop.{Peer, Desktop, peer_at, place, with_place, with_peer}
-use Rattle.wl_session.specs.Step.{Feed, Steps, Changes, ChangesAt, IsFed}
+use Rattle.wl_session.specs.Step.{Changes, ChangesAt, IsFed}
 use Rattle.wl_session.specs.Laws.{AnyPieces}
 use Rattle.wl_session.proofs.Pieces.{Feeds-append}
 

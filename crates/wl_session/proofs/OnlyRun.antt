@@ -1,15 +1,15 @@
 -- Where no want of memory is met, a list of steps has one run.
-use Rattle.std.proofs.Common.{◌≡◌, ◌≢◌, ℕ, ◌+◌, zero, suc, List, [], ◌∷◌, ◌++◌, Option, Some, None, refl, ap, subst, sym, ◌∙◌, inl, inr}
-use Rattle.std.specs.Prelude.{Ok, Err}
+use Rattle.std.proofs.Common.{◌≡◌, ◌≢◌, ℕ, List, [], ◌∷◌, ◌++◌, Option, Some, None, refl, ap, subst, sym, ◌∙◌, inl, inr}
+use Rattle.std.specs.Prelude.{Err}
 use Rattle.wl_session.specs.declared.clients.Cause.{Cause}
 use Rattle.wl_session.specs.declared.clients.Cause.TheVariants as cause
-use Rattle.wl_session.specs.declared.steps.ConnectError.TheVariants.{Memory, Full}
+use Rattle.wl_session.specs.declared.steps.ConnectError.TheVariants.{Memory}
 use Rattle.wl_session.specs.declared.steps.Done.{Done}
 use Rattle.wl_session.specs.declared.steps.Done.TheVariants as gave
 use Rattle.wl_session.specs.declared.steps.Fed.TheVariants.{NoClient}
 use Rattle.wl_session.specs.declared.shots.Run.{Run}
 use Rattle.wl_paint.specs.Frame.{Image}
-use Rattle.wl_session.specs.Desktop.{Peer, Desktop, newcomer, lowest, peer_at, with_peer, with_place, FeedsAt}
+use Rattle.wl_session.specs.Desktop.{Peer, Desktop, lowest, peer_at, with_peer, FeedsAt}
 use Rattle.wl_session.specs.Step.{Act, Connect, Feed, Leave, Tick, Send, Close, ConnectsAt, Steps, Changes, ChangesAt, IsFed, IsLeft, IsSent, IsClosed, fed_of}
 use Rattle.wl_session.specs.Run.{Film, Shows}
 use Rattle.wl_session.specs.Laws.{EndedByMemory, HadMemory, OneRun, RunsAmply}

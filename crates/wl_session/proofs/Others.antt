@@ -1,6 +1,5 @@
 -- What a step leaves to the clients that it isn't of.
-use Rattle.std.specs.Prelude.{Ok, Err}
-use Rattle.std.proofs.Common.{◌≡◌, ◌≢◌, ℕ, ◌+◌, zero, suc, List, [], ◌∷◌, Option, Some, None, refl, ap, ◌∙◌, inl, inr, arith}
+use Rattle.std.proofs.Common.{◌≡◌, ◌≢◌, ℕ, ◌+◌, zero, suc, List, [], ◌∷◌, Option, Some, None, refl, ap, ◌∙◌, inl, inr}
 use Rattle.wl_session.specs.declared.steps.Done.{Done}
 use Rattle.wl_session.specs.Desktop.{Peer, Desktop, lowest, newcomer, peer_at, place, with_place, with_peer}
 use Rattle.wl_session.specs.Step.{Connect, Feed, Leave, Tick, Send, Close, ConnectsAt, Changes}

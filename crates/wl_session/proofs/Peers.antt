@@ -1,5 +1,5 @@
 -- What each change of a client does to what is kept of it.
-use Rattle.std.proofs.Common.{◌≡◌, ◌≢◌, ℕ, suc, ◌+◌, ◌-◌, ◌<◌, List, [], ◌∷◌, ◌++◌, Bool, true, false, Some, None, Option, Result, refl, ap, subst, sym, ◌∙◌, inl, inr, ◌⊎◌, length, map, take, drop, ◌≤◌, get_or, drop-cons, arith}
+use Rattle.std.proofs.Common.{◌≡◌, ◌≢◌, ℕ, suc, ◌+◌, ◌-◌, ◌<◌, List, [], ◌∷◌, ◌++◌, Bool, true, false, Some, None, Option, Result, refl, ap, subst, sym, ◌∙◌, inl, inr, length, map, take, drop, ◌≤◌, get_or, drop-cons, arith}
 use Rattle.std.specs.Prelude.{is_some, IsTrue, MatchBool, OnOk, OnErr, Ok, Err, ◌==◌, if◌then◌else◌}
 use Rattle.std.specs.Option.{option_map}
 use Rattle.std.proofs.lemmas.List.{drop_all}

@@ -11,7 +11,7 @@ use Rattle.wl_session.specs.declared.clients.Cause.{Cause}
 use Rattle.wl_session.specs.declared.clients.Cause.TheVariants.{Protocol, Memory, Slow}
 use Rattle.wl_session.specs.declared.actions.Action.{Action}
 use Rattle.wl_session.specs.declared.actions.Action.TheVariants.{Sync, GetRegistry, Bind}
-use Rattle.wl_session.specs.declared.refusals.ErrorCode.TheVariants.{InvalidMethod, NoMemory}
+use Rattle.wl_session.specs.declared.refusals.ErrorCode.TheVariants.{InvalidMethod}
 use Rattle.wl_session.specs.declared.refusals.Refusal.{Refusal}
 use Rattle.wl_session.specs.Objects.{Object}
 use Rattle.wl_session.specs.Desktop.{Peer, Said, judge, code_number, counted, made, queued, ended, with_rest, bind_told, callback_done, display_error, error_told, has_room, id_deleted, object_at_version, registry_told, QueuesOr, Queues, Errs, LacksMemory, Makes, Acts, Answers, Takes, Serves, Reaches, IsIdle, Stops, FeedsAt, Feeds}

@@ -1,7 +1,7 @@
 -- Worked recordings, computed on the definitions: the run is there, and with ample memory it is the only one.
-use Rattle.std.proofs.Common.{◌≡◌, ◌≢◌, ℕ, List, [], ◌∷◌, ◌++◌, ap, inl, inr, refl, take, Some, None, ◌∙◌}
+use Rattle.std.proofs.Common.{◌≡◌, ◌≢◌, ℕ, List, [], ◌∷◌, ap, inl, inr, refl, take, Some, None}
 use Rattle.wl_session.specs.declared.clients.Cause.TheVariants.{Protocol, Memory, Gone}
-use Rattle.wl_session.specs.Desktop.{Peer, newcomer, ended, Feeds, with_rest}
+use Rattle.wl_session.specs.Desktop.{Peer, newcomer, Feeds, with_rest}
 use Rattle.wl_session.specs.Step.{left_by}
 use Rattle.wl_session.specs.Plain.{fed}
 use Rattle.wl_session.proofs.Pieces.{Feeds-append}

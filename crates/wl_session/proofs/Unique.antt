@@ -12,7 +12,7 @@ use Rattle.wl_session.specs.declared.actions.Action.TheVariants.{Sync, GetRegist
 use Rattle.wl_session.specs.declared.refusals.ErrorCode.TheVariants.{InvalidMethod}
 use Rattle.wl_session.specs.declared.refusals.Refusal.{Refusal}
 use Rattle.wl_session.specs.Objects.{Object}
-use Rattle.wl_session.specs.Desktop.{Peer, Said, judge, counted, made, queued, ended, with_rest, bind_told, callback_done, display_error, error_told, has_room, id_deleted, object_at_version, registry_told, QueuesOr, Queues, Errs, LacksMemory, Makes, Acts, Answers, Takes, Serves, Reaches, IsIdle, IsIdleAt, Stops, FeedsAt, Feeds}
+use Rattle.wl_session.specs.Desktop.{Peer, Said, judge, counted, made, queued, with_rest, bind_told, callback_done, display_error, error_told, has_room, id_deleted, object_at_version, registry_told, QueuesOr, Queues, Errs, LacksMemory, Makes, Acts, Answers, Takes, Serves, Reaches, IsIdle, IsIdleAt, Stops, FeedsAt}
 use Rattle.wl_session.specs.Plain.{acted, answered, or_slow, refused, served, served_all, served_at, taken, told}
 
 choice : (b : Bool) (Later : Type 0) (p q x : Peer) → (Later → q ≡ x) → q.status ≢ Some Memory → QueuesOr b Later p q → q ≡ or_slow b x p

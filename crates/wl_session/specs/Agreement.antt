@@ -1,5 +1,5 @@
 -- What a session keeps agrees with a desktop.
-use Rattle.std.specs.Prelude.{ℕ, ◌≡◌, List, [], ◌∷◌, length, Option, Some, None}
+use Rattle.std.specs.Prelude.{◌≡◌, List, [], ◌∷◌, length, Option, Some, None}
 use Rattle.wl_session.specs.View.{ClientView, DeskView}
 use Rattle.wl_session.specs.declared.outputs.Output.{Output as Kept}
 use Rattle.wl_session.specs.declared.steps.Done.{Done}

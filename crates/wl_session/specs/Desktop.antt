@@ -52,7 +52,7 @@ newcomer output =
       serial = 1;
       unsent = [];
       rest = [];
-      output = output
+      output = output;
     }
 
 -- the codes of errors (wayland.xml, wl_display.error and wl_seat.error)

@@ -1,5 +1,4 @@
 -- What the code's values say: an event is what an object says, and a global of the code is one of the standard.
-use Rattle.std.specs.Prelude.{ℕ}
 use Rattle.wl_proto.specs.declared.event.Event.{Event}
 use Rattle.wl_proto.specs.Messages.{event_message}
 use Rattle.wl_session.specs.declared.globals.Global.{Global as Kept}

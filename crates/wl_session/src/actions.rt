@@ -11,7 +11,8 @@ use crate::globals::interface_bound;
 use crate::refusals::{ErrorCode, Refusal};
 use std::alloc::Allocator;
 use wl_proto::{
-    Interface, NewId, ObjectArg, Request, WlDisplayRequest, WlRegistryRequest, WlSeatRequest, decode,
+    Interface, NewId, ObjectArg, Request, WlDisplayRequest, WlRegistryRequest, WlSeatRequest,
+    decode,
 };
 use wl_table::Objects;
 
@@ -76,26 +77,36 @@ fn own_action(object: u32, request: &Request) -> Result<Action, Refusal>
 {
     match request {
         Request::WlDisplay(WlDisplayRequest::Sync { callback }) => Ok(Action::Sync(*callback)),
-        Request::WlDisplay(WlDisplayRequest::GetRegistry { registry }) => Ok(Action::GetRegistry(*registry)),
-        Request::WlRegistry(WlRegistryRequest::Bind {
-            name,
-            interface,
-            version,
-            id,
-        }) => match interface_bound(*name, interface, *version) {
+        Request::WlDisplay(WlDisplayRequest::GetRegistry { registry }) => Ok(Action::GetRegistry(
+            *registry,
+        )),
+        Request::WlRegistry(
+            WlRegistryRequest::Bind {
+                name,
+                interface,
+                version,
+                id,
+            },
+        ) => match interface_bound(*name, interface, *version) {
             None => Err(Refusal::of_display(ErrorCode::InvalidObject)),
             Some(interface) => Ok(Action::Bind(*id, interface, *version)),
         },
-        Request::WlSeat(WlSeatRequest::GetKeyboard { .. } | WlSeatRequest::GetTouch { .. }) => Err(Refusal {
-            object,
-            code: ErrorCode::MissingCapability,
-        }),
+        Request::WlSeat(WlSeatRequest::GetKeyboard { .. } | WlSeatRequest::GetTouch { .. }) => Err(
+            Refusal {
+                object,
+                code: ErrorCode::MissingCapability,
+            },
+        ),
         _ => Err(Refusal::of_display(ErrorCode::Implementation)),
     }
 }
 
 /// A new id must be free, and there must be room for another object.
-fn check_new_id<A: Allocator>(objects: &Objects<A>, new_id: Option<NewId>, action: Result<Action, Refusal>) -> Result<Action, Refusal>
+fn check_new_id<A: Allocator>(
+    objects: &Objects<A>,
+    new_id: Option<NewId>,
+    action: Result<Action, Refusal>,
+) -> Result<Action, Refusal>
     ensures { result ≡ after_new_id (objects_in objects.now) (length objects.now) new_id action }
 {
     let Some(new) = new_id else {
@@ -111,7 +122,12 @@ fn check_new_id<A: Allocator>(objects: &Objects<A>, new_id: Option<NewId>, actio
 }
 
 /// What a message to an object asks, or the first error that it has.
-pub fn judged<A: Allocator>(objects: &Objects<A>, object: u32, opcode: u16, body: &[u8]) -> Result<Action, Refusal>
+pub fn judged<A: Allocator>(
+    objects: &Objects<A>,
+    object: u32,
+    opcode: u16,
+    body: &[u8],
+) -> Result<Action, Refusal>
     ensures { result ≡ judge (objects_in objects.now) (length objects.now) object opcode body.now }
 {
     let Some(entry) = objects.get(object) else {

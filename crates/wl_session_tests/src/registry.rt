@@ -3,7 +3,7 @@
 use std::alloc::{Allocator, Global};
 use std::test::Fail;
 use wl_session::{Cause, Config, Fed, Rgb, Session};
-use wl_wire::{Arg, put};
+use wl_wire::{Arg, PutError, put};
 
 const CONFIG: Config = Config {
     width: 64,
@@ -101,107 +101,119 @@ fn error_bytes(
     )
 }
 
+fn put_global(
+    out: &mut Vec<u8, Global>,
+    name: u32,
+    interface: &[u8],
+    version: u32,
+) -> Result<(), PutError> {
+    put(
+        out,
+        2,
+        0,
+        &[Arg::Uint(name), Arg::Str(interface), Arg::Uint(version)],
+    )
+}
+
+/// What the registry 2 tells.
+fn globals_told(alloc: Global) -> Result<Vec<u8, Global>, PutError> {
+    let mut told = Vec::new(alloc);
+    put_global(&mut told, 1, b"wl_compositor", 2)?;
+    put_global(&mut told, 2, b"wl_subcompositor", 1)?;
+    put_global(&mut told, 3, b"wl_shm", 1)?;
+    put_global(&mut told, 4, b"wl_output", 1)?;
+    put_global(&mut told, 5, b"wl_seat", 1)?;
+    put_global(&mut told, 6, b"xdg_wm_base", 1)?;
+    Ok(told)
+}
+
 #[test]
 fn a_registry_tells_the_globals(rt: HostRuntime) -> Result<(), Fail> {
     let mut session = one_client(rt.alloc())?;
     assert_eq!(rt; get_registry(rt.alloc(), &mut session, 2)?, Fed::Alive);
-    let globals = [
-        (1, b"wl_compositor".as_slice(), 2),
-        (2, b"wl_subcompositor".as_slice(), 1),
-        (3, b"wl_shm".as_slice(), 1),
-        (4, b"wl_output".as_slice(), 1),
-        (5, b"wl_seat".as_slice(), 1),
-        (6, b"xdg_wm_base".as_slice(), 1),
-    ];
-    let mut told = Vec::new(rt.alloc());
-    for (name, interface, version) in globals {
-        put(
-            &mut told,
-            2,
-            0,
-            &[Arg::Uint(name), Arg::Str(interface), Arg::Uint(version)],
-        )?;
-    }
+    let told = globals_told(rt.alloc())?;
     assert!(rt; has_out(&session, &told));
     let first = [
         2, 0, 0, 0, 0, 0, 36, 0, 1, 0, 0, 0, 14, 0, 0, 0, b'w', b'l', b'_', b'c', b'o', b'm', b'p',
         b'o', b's', b'i', b't', b'o', b'r', 0, 0, 0, 2, 0, 0, 0,
     ];
     assert!(rt; told.starts_with(&first));
-    for (name, interface, version) in globals {
-        let fed = bind(
-            rt.alloc(),
-            &mut session,
-            name,
-            interface,
-            version,
-            name.saturating_add(10),
-        )?;
-        assert_eq!(rt; fed, Fed::Alive);
-    }
     Ok(())
 }
 
+/// A client with the registry 2 and an object of each global: 3 to 8 in their order.
+fn with_all_globals(alloc: Global) -> Result<Session<Global>, Fail> {
+    let mut session = with_registry(alloc)?;
+    bind(alloc, &mut session, 1, b"wl_compositor", 2, 3)?;
+    bind(alloc, &mut session, 2, b"wl_subcompositor", 1, 4)?;
+    bind(alloc, &mut session, 3, b"wl_shm", 1, 5)?;
+    bind(alloc, &mut session, 4, b"wl_output", 1, 6)?;
+    bind(alloc, &mut session, 5, b"wl_seat", 1, 7)?;
+    bind(alloc, &mut session, 6, b"xdg_wm_base", 1, 8)?;
+    Ok(session)
+}
+
+fn put_geometry(out: &mut Vec<u8, Global>, output: u32) -> Result<(), PutError> {
+    put(
+        out,
+        output,
+        0,
+        &[
+            Arg::Int(0),
+            Arg::Int(0),
+            Arg::Int(0),
+            Arg::Int(0),
+            Arg::Int(0),
+            Arg::Str(b"wlframe"),
+            Arg::Str(b"framebuffer"),
+            Arg::Int(0),
+        ],
+    )
+}
+
+/// wl_shm tells its formats, wl_output its geometry and its mode, wl_seat that it has a pointer, and the others nothing.
 #[test]
 fn bound_objects_tell_what_they_are(rt: HostRuntime) -> Result<(), Fail> {
-    let mut session = with_registry(rt.alloc())?;
-    bind(rt.alloc(), &mut session, 3, b"wl_shm", 1, 4)?;
-    bind(rt.alloc(), &mut session, 5, b"wl_seat", 1, 5)?;
-    bind(rt.alloc(), &mut session, 4, b"wl_output", 1, 6)?;
+    let session = with_all_globals(rt.alloc())?;
+    assert_eq!(rt; session.status(1), Fed::Alive);
     let mut told = Vec::new(rt.alloc());
-    put(&mut told, 4, 0, &[Arg::Uint(0)])?;
-    put(&mut told, 4, 0, &[Arg::Uint(1)])?;
+    put(&mut told, 5, 0, &[Arg::Uint(0)])?;
     put(&mut told, 5, 0, &[Arg::Uint(1)])?;
-    let geometry = [
-        Arg::Int(0),
-        Arg::Int(0),
-        Arg::Int(0),
-        Arg::Int(0),
-        Arg::Int(0),
-        Arg::Str(b"wlframe"),
-        Arg::Str(b"framebuffer"),
-        Arg::Int(0),
-    ];
-    put(&mut told, 6, 0, &geometry)?;
+    put_geometry(&mut told, 6)?;
     put(
         &mut told,
         6,
         1,
         &[Arg::Uint(3), Arg::Int(64), Arg::Int(48), Arg::Int(0)],
     )?;
+    put(&mut told, 7, 0, &[Arg::Uint(1)])?;
     assert!(rt; has_out(&session, &told));
     Ok(())
 }
 
+/// How a client is that binds so.
+fn bound(alloc: Global, name: u32, interface: &[u8], version: u32) -> Result<Fed, Fail> {
+    let mut session = with_registry(alloc)?;
+    bind(alloc, &mut session, name, interface, version, 3)
+}
+
 #[test]
-fn only_a_global_of_that_version_is_bound(rt: HostRuntime) -> Result<(), Fail> {
-    let wrong = [
-        (1, b"wl_compositor".as_slice(), 5),
-        (1, b"wl_compositor".as_slice(), 3),
-        (1, b"wl_compositor".as_slice(), 0),
-        (2, b"wl_compositor".as_slice(), 1),
-        (0, b"wl_compositor".as_slice(), 1),
-        (7, b"xdg_wm_base".as_slice(), 1),
-        (5, b"wl_seat\0".as_slice(), 1),
-        (5, b"wl_sea".as_slice(), 1),
-    ];
-    let error = error_bytes(rt.alloc(), 1, 0, b"invalid_object")?;
-    for (name, interface, version) in wrong {
-        let mut session = with_registry(rt.alloc())?;
-        assert_eq!(rt;
-            bind(rt.alloc(), &mut session, name, interface, version, 3)?,
-            protocol(1, 0)
-        );
-        assert!(rt; has_out(&session, &error));
-    }
-    for version in [1, 2] {
-        let mut session = with_registry(rt.alloc())?;
-        assert_eq!(rt;
-            bind(rt.alloc(), &mut session, 1, b"wl_compositor", version, 3)?,
-            Fed::Alive
-        );
-        assert_eq!(rt; waiting(&session), 0);
-    }
+fn only_a_version_of_the_global_is_bound(rt: HostRuntime) -> Result<(), Fail> {
+    assert_eq!(rt; bound(rt.alloc(), 1, b"wl_compositor", 0)?, protocol(1, 0));
+    assert_eq!(rt; bound(rt.alloc(), 1, b"wl_compositor", 1)?, Fed::Alive);
+    assert_eq!(rt; bound(rt.alloc(), 1, b"wl_compositor", 2)?, Fed::Alive);
+    assert_eq!(rt; bound(rt.alloc(), 1, b"wl_compositor", 3)?, protocol(1, 0));
+    assert_eq!(rt; bound(rt.alloc(), 1, b"wl_compositor", 5)?, protocol(1, 0));
+    Ok(())
+}
+
+#[test]
+fn only_the_name_of_the_global_is_bound(rt: HostRuntime) -> Result<(), Fail> {
+    assert_eq!(rt; bound(rt.alloc(), 2, b"wl_compositor", 1)?, protocol(1, 0));
+    assert_eq!(rt; bound(rt.alloc(), 0, b"wl_compositor", 1)?, protocol(1, 0));
+    assert_eq!(rt; bound(rt.alloc(), 7, b"xdg_wm_base", 1)?, protocol(1, 0));
+    assert_eq!(rt; bound(rt.alloc(), 5, b"wl_sea", 1)?, protocol(1, 0));
+    assert_eq!(rt; bound(rt.alloc(), 5, b"wl_seat\0", 1)?, protocol(1, 0));
     Ok(())
 }
 
@@ -229,54 +241,68 @@ fn an_unknown_object_is_refused(rt: HostRuntime) -> Result<(), Fail> {
     Ok(())
 }
 
-/// Each message breaks more than one rule, or is of a request that isn't served. The first rule in order refuses it.
+/// How a client with an object of each global is after one more message.
+fn after(alloc: Global, object: u32, opcode: u16, args: &[Arg]) -> Result<Fed, Fail> {
+    let mut session = with_all_globals(alloc)?;
+    send(alloc, &mut session, object, opcode, args)
+}
+
+/// An unknown object goes before an unknown opcode, and that before the arguments.
 #[test]
-fn the_first_rule_that_is_broken_refuses(rt: HostRuntime) -> Result<(), Fail> {
-    let none: &[Arg] = &[];
-    let in_use = [Arg::NewId(2)];
-    let free = [Arg::NewId(9)];
-    let null_string = [Arg::Uint(1), Arg::Uint(0), Arg::Uint(1), Arg::NewId(9)];
-    let no_surfaces = [Arg::NewId(2), Arg::Object(7), Arg::Object(7)];
-    let wrong_interface = [Arg::NewId(2), Arg::Object(3)];
-    let null_surface = [Arg::NewId(9), Arg::Object(0)];
-    let messages = [
-        // an unknown object before an unknown opcode
-        (7, 99, none, 1, 0, b"invalid_object".as_slice()),
-        // an unknown opcode before its arguments
-        (2, 1, &in_use, 1, 1, b"invalid_method".as_slice()),
-        (4, 1, &free, 1, 1, b"invalid_method".as_slice()),
-        // arguments before new ids
-        (2, 0, &null_string, 1, 1, b"invalid_method".as_slice()),
-        (1, 1, none, 1, 1, b"invalid_method".as_slice()),
-        // object arguments before new ids
-        (6, 1, &no_surfaces, 1, 1, b"invalid_method".as_slice()),
-        (8, 2, &wrong_interface, 1, 1, b"invalid_method".as_slice()),
-        (8, 2, &null_surface, 1, 1, b"invalid_method".as_slice()),
-        // new ids before what isn't served and before the request's own errors
-        (3, 0, &in_use, 1, 0, b"invalid_object".as_slice()),
-        (5, 1, &in_use, 1, 0, b"invalid_object".as_slice()),
-        // what isn't served
-        (3, 0, &free, 1, 3, b"implementation".as_slice()),
-        (5, 0, &free, 1, 3, b"implementation".as_slice()),
-        (8, 0, none, 1, 3, b"implementation".as_slice()),
-        // the request's own errors
-        (5, 1, &free, 5, 0, b"missing_capability".as_slice()),
-        (5, 2, &free, 5, 0, b"missing_capability".as_slice()),
-    ];
-    for (object, opcode, args, with, code, name) in messages {
-        let mut session = with_registry(rt.alloc())?;
-        bind(rt.alloc(), &mut session, 1, b"wl_compositor", 2, 3)?;
-        bind(rt.alloc(), &mut session, 4, b"wl_output", 1, 4)?;
-        bind(rt.alloc(), &mut session, 5, b"wl_seat", 1, 5)?;
-        bind(rt.alloc(), &mut session, 2, b"wl_subcompositor", 1, 6)?;
-        bind(rt.alloc(), &mut session, 6, b"xdg_wm_base", 1, 8)?;
-        take_all(&mut session);
-        assert_eq!(rt;
-            send(rt.alloc(), &mut session, object, opcode, args)?,
-            protocol(with, code)
-        );
-        assert!(rt; has_out(&session, &error_bytes(rt.alloc(), with, code, name)?));
-    }
+fn objects_and_opcodes_are_looked_at_first(rt: HostRuntime) -> Result<(), Fail> {
+    assert_eq!(rt; after(rt.alloc(), 9, 99, &[])?, protocol(1, 0));
+    assert_eq!(rt; after(rt.alloc(), 2, 1, &[Arg::NewId(2)])?, protocol(1, 1));
+    assert_eq!(rt; after(rt.alloc(), 6, 0, &[])?, protocol(1, 1));
+    Ok(())
+}
+
+/// Arguments, and the objects that they name, go before a new id that is in use.
+#[test]
+fn arguments_are_looked_at_before_new_ids(rt: HostRuntime) -> Result<(), Fail> {
+    assert_eq!(rt; after(rt.alloc(), 1, 1, &[])?, protocol(1, 1));
+    let null_string = [Arg::Uint(1), Arg::Uint(0), Arg::Uint(1), Arg::NewId(2)];
+    assert_eq!(rt; after(rt.alloc(), 2, 0, &null_string)?, protocol(1, 1));
+    let unknown = [Arg::NewId(2), Arg::Object(9), Arg::Object(9)];
+    assert_eq!(rt; after(rt.alloc(), 4, 1, &unknown)?, protocol(1, 1));
+    let of_another_interface = [Arg::NewId(2), Arg::Object(3)];
+    assert_eq!(rt;
+        after(rt.alloc(), 8, 2, &of_another_interface)?,
+        protocol(1, 1)
+    );
+    let null = [Arg::NewId(9), Arg::Object(0)];
+    assert_eq!(rt; after(rt.alloc(), 8, 2, &null)?, protocol(1, 1));
+    Ok(())
+}
+
+/// A new id that is in use goes before what isn't served and before the request's own errors.
+#[test]
+fn new_ids_are_looked_at_before_own_errors(rt: HostRuntime) -> Result<(), Fail> {
+    assert_eq!(rt; after(rt.alloc(), 3, 0, &[Arg::NewId(2)])?, protocol(1, 0));
+    assert_eq!(rt; after(rt.alloc(), 7, 1, &[Arg::NewId(2)])?, protocol(1, 0));
+    Ok(())
+}
+
+#[test]
+fn a_seat_has_no_keyboard_and_no_touch(rt: HostRuntime) -> Result<(), Fail> {
+    assert_eq!(rt; after(rt.alloc(), 7, 1, &[Arg::NewId(9)])?, protocol(7, 0));
+    assert_eq!(rt; after(rt.alloc(), 7, 2, &[Arg::NewId(9)])?, protocol(7, 0));
+    let mut session = with_all_globals(rt.alloc())?;
+    take_all(&mut session);
+    send(rt.alloc(), &mut session, 7, 1, &[Arg::NewId(9)])?;
+    assert!(rt;
+        has_out(
+            &session,
+            &error_bytes(rt.alloc(), 7, 0, b"missing_capability")?
+        )
+    );
+    Ok(())
+}
+
+#[test]
+fn what_is_not_served_is_refused_as_a_limit(rt: HostRuntime) -> Result<(), Fail> {
+    assert_eq!(rt; after(rt.alloc(), 3, 0, &[Arg::NewId(9)])?, protocol(1, 3));
+    assert_eq!(rt; after(rt.alloc(), 7, 0, &[Arg::NewId(9)])?, protocol(1, 3));
+    assert_eq!(rt; after(rt.alloc(), 8, 0, &[])?, protocol(1, 3));
     Ok(())
 }
 

@@ -1,5 +1,5 @@
 use Rattle.std.proofs.Common.{ap, sym, ◌∙◌}
-use Rattle.wl_proto.specs.declared.interface.Interface.TheVariants.{WlShm, WlSeat, WlOutput}
+use Rattle.wl_proto.specs.declared.interface.Interface.TheVariants.{WlOutput}
 use Rattle.wl_session.specs.Agreement.{output_of}
 use Rattle.wl_session.specs.Desktop.{bind_told}
 use Rattle.wl_session.proofs.Peers.{Makes-told, bind_told-nothing}
