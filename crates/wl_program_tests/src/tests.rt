@@ -5,7 +5,8 @@ use std::io::{BufRead, Write};
 use std::test::Fail;
 use std::{env, fs, io, process};
 use test_support::{FaultyReader, FaultyWriter, Refusing};
-use wl_program::{Status, run_program};
+use wl_program::{Folder, Status, run_program};
+use wl_replay::{SideFault, SideFiles};
 
 const SYNC: &[u8] = b"connect\nbytes 1 01000000 00000c00 02000000\ntick 0\n";
 
@@ -117,6 +118,31 @@ fn writes_images(rt: HostRuntime) -> Result<(), Fail> {
     assert_eq!(rt; status, Status::Done);
     assert_eq!(rt; output.as_slice(), b"frame 0 0\n".as_slice());
     assert_eq!(rt; image.as_slice(), b"P6\n2 1\n255\n\0\0\0\0\0\0".as_slice());
+    Ok(())
+}
+
+#[test]
+fn reads_side_files(rt: HostRuntime) -> Result<(), Fail> {
+    let folder = env::temp_dir(&rt)?;
+    let name = format!(in rt.alloc(); "wlframe-{}.side", process::id(rt.process()))?;
+    let path = folder.join(rt.alloc(), name.as_str())?;
+    fs::write(&rt, path.as_path(), b"pixels")?;
+    let text = format!(in rt.alloc(); "{}", folder.as_path().display())?;
+    let inside = format!(in rt.alloc(); "{name}/inside")?;
+
+    let mut side = Folder::new(&rt, text.as_str());
+    let mut buf = [0u8; 8];
+    assert_eq!(rt; side.read(&mut buf), Ok(0));
+    assert_eq!(rt; side.open(name.as_str()), Ok(true));
+    assert_eq!(rt; side.read(&mut buf), Ok(6));
+    assert_eq!(rt; buf, *b"pixels\0\0");
+    assert_eq!(rt; side.read(&mut buf), Ok(0));
+    assert_eq!(rt; side.faults(), 0);
+    assert_eq!(rt; side.open(inside.as_str()), Err(SideFault));
+    assert_eq!(rt; side.read(&mut buf), Ok(0));
+    fs::remove_file(&rt, path.as_path())?;
+    assert_eq!(rt; side.open(name.as_str()), Ok(false));
+    assert_eq!(rt; side.faults(), 1);
     Ok(())
 }
 
