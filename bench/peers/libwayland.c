@@ -64,6 +64,10 @@ static void serve(struct wl_display *display, const char *bytes, size_t count, s
         ssize_t n;
         while ((n = read(ends[1], buffer, sizeof buffer)) > 0)
             read_back += (size_t)n;
+        if (n == 0) {
+            fprintf(stderr, "the server ended its client\n");
+            exit(1);
+        }
     }
     close(ends[1]);
     wl_event_loop_dispatch(wl_display_get_event_loop(display), 0);
