@@ -54,11 +54,6 @@ alone : (o other : Option Entry) → other ≡ None → either o other ≡ o
 alone None other e = e
 alone (Some x) other e = refl
 
--- the other is none where either is
-second_of : (o other : Option Entry) → either o other ≡ None → other ≡ None
-second_of None other e = e
-second_of (Some x) other e = cc
-
 pub in_row : (row : List (Option Entry)) (others : BTreeMap ℕ Entry) (count id k : ℕ) → IsTable row others count → id ≡ k + 1 → k < length row → entry_of (placed 1 row ++ others.entries) id ≡ get_or row k None
 in_row row others count id k table e h = entry_at row others.entries id k e ∙ alone (get_or row k None) (entry_of others.entries id) (table.apart id (omega (arith, table.short)))
 
