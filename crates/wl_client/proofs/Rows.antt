@@ -3,6 +3,7 @@ use Rattle.std.proofs.Common.{◌≡◌, ◌≢◌, ℕ, List, [], ◌∷◌, ap
 use Rattle.wl_client.specs.declared.clients.Cause.TheVariants.{Protocol, Memory, Gone}
 use Rattle.wl_client.specs.Peer.{Peer, newcomer, Feeds, with_rest}
 use Rattle.wl_client.specs.Peer.{left_by}
+use Rattle.wl_store.specs.Stores.{size_of}
 use Rattle.wl_client.specs.Plain.{fed}
 use Rattle.wl_client.proofs.Pieces.{Feeds-append}
 use Rattle.wl_client.proofs.Unique.{one_at}
@@ -116,3 +117,40 @@ row_long_sync = refl
 
 pub row_unknown : (fed (7 ∷ 0 ∷ 0 ∷ 0 ∷ 0 ∷ 0 ∷ 12 ∷ 0 ∷ 2 ∷ 0 ∷ 0 ∷ 0 ∷ []) fresh).unsent ≡ invalid_object
 row_unknown = refl
+
+-- wl_registry.bind of wl_shm, as object 4
+abbrev bind_shm : List ℕ
+bind_shm =
+    2 ∷ 0 ∷ 0 ∷ 0 ∷ 0 ∷ 0 ∷ 32 ∷ 0 ∷ 3 ∷ 0 ∷ 0 ∷ 0 ∷ 7 ∷ 0 ∷ 0 ∷ 0 ∷ 119 ∷ 108 ∷ 95 ∷ 115 ∷ 104 ∷ 109 ∷ 0 ∷ 0 ∷ 1 ∷ 0 ∷ 0 ∷ 0 ∷ 4 ∷ 0 ∷ 0 ∷ 0 ∷ []
+
+-- a client with the wl_shm 4 and a pool 9 of so many bytes
+abbrev with_pool : ℕ → ℕ → Peer
+with_pool low high = fed (4 ∷ 0 ∷ 0 ∷ 0 ∷ 0 ∷ 0 ∷ 16 ∷ 0 ∷ 9 ∷ 0 ∷ 0 ∷ 0 ∷ low ∷ high ∷ 0 ∷ 0 ∷ []) (fed bind_shm (fed get_registry fresh))
+
+-- a pool has bytes
+pub row_pool_of_no_bytes : (with_pool 0 0).status ≡ Some (Protocol 4 1)
+row_pool_of_no_bytes = refl
+
+-- with a buffer 10 of 40 by 40 pixels, whose rows have 160 bytes
+abbrev with_buffer : ℕ → ℕ → Peer
+with_buffer low high =
+    fed (9 ∷ 0 ∷ 0 ∷ 0 ∷ 0 ∷ 0 ∷ 32 ∷ 0 ∷ 10 ∷ 0 ∷ 0 ∷ 0 ∷ 0 ∷ 0 ∷ 0 ∷ 0 ∷ 40 ∷ 0 ∷ 0 ∷ 0 ∷ 40 ∷ 0 ∷ 0 ∷ 0 ∷ 160 ∷ 0 ∷ 0 ∷ 0 ∷ 1 ∷ 0 ∷ 0 ∷ 0 ∷ [])
+    (with_pool low high)
+
+-- it lies in 6,400 bytes, and not in 6,399
+pub row_buffer : (with_buffer 0 25).status ≡ None
+row_buffer = refl
+
+pub row_buffer_past_its_store : (with_buffer 255 24).status ≡ Some (Protocol 9 1)
+row_buffer_past_its_store = refl
+
+-- wl_shm_pool.destroy of 9, and wl_buffer.destroy of 10
+abbrev without_pool : Peer
+without_pool = fed (9 ∷ 0 ∷ 0 ∷ 0 ∷ 1 ∷ 0 ∷ 8 ∷ 0 ∷ []) (with_buffer 0 25)
+
+-- the store lives on while the buffer does
+pub row_store_lives : size_of 1 without_pool.stores ≡ 6400
+row_store_lives = refl
+
+pub row_store_goes : size_of 1 (fed (10 ∷ 0 ∷ 0 ∷ 0 ∷ 0 ∷ 0 ∷ 8 ∷ 0 ∷ []) without_pool).stores ≡ 0
+row_store_goes = refl

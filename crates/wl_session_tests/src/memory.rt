@@ -4,7 +4,7 @@ use std::alloc::{Allocator, Global};
 use std::test::Fail;
 use test_support::Refusing;
 use wl_session::{Cause, Config, ConnectError, Fed, FrameError, Rgb, RunError, Session, Step};
-use wl_wire::{Arg, put};
+use wl_wire::{Arg, PutError, put};
 
 const CONFIG: Config = Config {
     width: 2,
@@ -161,5 +161,88 @@ fn a_registry_finds_no_memory(rt: HostRuntime) -> Result<(), Fail> {
         ended = ended.saturating_add(1);
     }
     assert!(rt; answered && ended > 2);
+    Ok(())
+}
+
+/// A bind by the registry 2.
+fn put_bind(
+    piece: &mut Vec<u8, Global>,
+    name: u32,
+    interface: &[u8],
+    version: u32,
+    id: u32,
+) -> Result<(), PutError> {
+    let args = [
+        Arg::Uint(name),
+        Arg::Str(interface),
+        Arg::Uint(version),
+        Arg::NewId(id),
+    ];
+    put(piece, 2, 0, &args)
+}
+
+/// The registry 2, the wl_compositor 3 and the wl_shm 4; the region 5, to which a rectangle is added.
+fn put_region(piece: &mut Vec<u8, Global>) -> Result<(), PutError> {
+    put(piece, 1, 1, &[Arg::NewId(2)])?;
+    put_bind(piece, 1, b"wl_compositor", 2, 3)?;
+    put_bind(piece, 3, b"wl_shm", 1, 4)?;
+    put(piece, 3, 1, &[Arg::NewId(5)])?;
+    let rect = [Arg::Int(0), Arg::Int(0), Arg::Int(4), Arg::Int(4)];
+    put(piece, 5, 1, &rect)
+}
+
+/// The pool 6 of 64 bytes with the buffer 7, which then grows to 128.
+fn put_pool(piece: &mut Vec<u8, Global>) -> Result<(), PutError> {
+    put(piece, 4, 0, &[Arg::NewId(6), Arg::Int(64)])?;
+    let buffer = [
+        Arg::NewId(7),
+        Arg::Int(0),
+        Arg::Int(4),
+        Arg::Int(4),
+        Arg::Int(16),
+        Arg::Uint(1),
+    ];
+    put(piece, 6, 0, &buffer)?;
+    put(piece, 6, 2, &[Arg::Int(128)])
+}
+
+/// How a client is that is fed a piece with so many allocations served, and how many bytes its store 1 has. None where it couldn't
+/// connect.
+fn fed_with(alloc: Global, served: u64, piece: &[u8]) -> Option<(Fed, Option<u32>)> {
+    let heap = Refusing::new(alloc, served);
+    let Ok(mut session) = Session::new(&heap, CONFIG) else {
+        return None;
+    };
+    if session.connect().is_err() {
+        return None;
+    }
+    let fed = session.feed(1, piece);
+    Some((fed, session.store_size(1, 1)))
+}
+
+/// Where there is no memory for a region, its change, a pool, its store, a buffer or more bytes, the client ends for it, and has no stores.
+#[test]
+fn a_pool_finds_no_memory(rt: HostRuntime) -> Result<(), Fail> {
+    let mut piece = Vec::new(rt.alloc());
+    put_region(&mut piece)?;
+    put_pool(&mut piece)?;
+    let mut ended = 0_u32;
+    let mut answered = false;
+    for served in 0..1000_u64 {
+        match fed_with(rt.alloc(), served, &piece) {
+            None => {}
+            Some((Fed::Alive, size)) => {
+                assert_eq!(rt; size, Some(128));
+                answered = true;
+                break;
+            }
+            Some((fed, size)) => {
+                assert_eq!(rt; fed, Fed::Ended(Cause::Memory));
+                assert_eq!(rt; size, None);
+                ended = ended.saturating_add(1);
+            }
+        }
+    }
+    assert!(rt; answered && ended > 8);
     Ok(())
 }
