@@ -3,10 +3,11 @@ use Rattle.std.proofs.Common.{◌≡◌, ℕ, zero, suc, List, [], ◌∷◌, �
 use Rattle.wl_session.specs.declared.steps.Done.{Done}
 use Rattle.wl_session.specs.declared.steps.Done.TheVariants as gave
 use Rattle.wl_session.specs.declared.steps.Fed.TheVariants.{NoClient}
-use Rattle.wl_session.specs.Desktop.{Peer, Desktop, peer_at, place, with_place, with_peer}
+use Rattle.wl_client.specs.Peer.{Peer}
+use Rattle.wl_session.specs.Desktop.{Desktop, peer_at, place, with_place, with_peer}
 use Rattle.wl_session.specs.Step.{Changes, ChangesAt, IsFed}
 use Rattle.wl_session.specs.Laws.{AnyPieces}
-use Rattle.wl_session.proofs.Pieces.{Feeds-append}
+use Rattle.wl_client.proofs.Pieces.{Feeds-append}
 
 place-with_place : (ps : List (Option Peer)) (k : ℕ) (p : Peer) (q : Option Peer) → place ps k ≡ Some p → place (with_place k q ps) k ≡ q
 place-with_place [] k p q h = absurd (cc)

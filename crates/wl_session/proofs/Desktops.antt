@@ -1,13 +1,17 @@
 -- What a change of one client does to the whole.
 use Rattle.std.proofs.Common.{◌≡◌, ℕ, ◌+◌, suc, zero, ◌<◌, List, [], ◌∷◌, length, take, Option, Some, None, get_or, set, refl, subst, sym, ◌∙◌, ap, arith, ◌≤◌, ◌⊎◌, inl, inr}
 use Rattle.std.specs.Prelude.{is_some, replicate, true, false, Ok, Err}
-use Rattle.wl_session.specs.View.{ClientView, DeskView}
+use Rattle.wl_client.specs.View.{ClientView}
+use Rattle.wl_session.specs.View.{DeskView}
 use Rattle.wl_session.specs.declared.steps.Done.{Done}
 use Rattle.wl_session.specs.declared.steps.Done.TheVariants as gave
 use Rattle.wl_session.specs.declared.steps.ConnectError.TheVariants.{Full, Memory}
-use Rattle.wl_session.specs.Desktop.{Output, Peer, Desktop, peer_at, newcomer, place, with_peer, with_place, lowest, next_of}
+use Rattle.wl_client.specs.Told.{Output}
+use Rattle.wl_client.specs.Peer.{Peer, newcomer}
+use Rattle.wl_session.specs.Desktop.{Desktop, peer_at, place, with_peer, with_place, lowest, next_of}
 use Rattle.wl_session.specs.Step.{ConnectsAt, Changes, ChangesAt}
-use Rattle.wl_session.specs.Agreement.{IsPeer, IsSlot, AgreeAll, Agrees, output_of}
+use Rattle.wl_client.specs.Agreement.{IsPeer, output_of}
+use Rattle.wl_session.specs.Agreement.{IsSlot, AgreeAll, Agrees}
 
 pub IsSlot-place : (vs : List (Option ClientView)) (d : List (Option Peer)) (k : ℕ) (w : Option ClientView) → k < length vs → AgreeAll vs d → IsSlot (get_or vs k w) (place d k)
 IsSlot-place [] [] k w h a = absurd (omega arith)

@@ -1,11 +1,8 @@
 pub mod Cuts
 pub mod Desktops
-pub mod Finds
 pub mod OnlyRun
 pub mod Others
-pub mod Peers
-pub mod Pieces
-pub mod Rows
 pub mod Runs
-pub mod Unique
+pub use Rattle.wl_client.proofs.Pieces
+pub use Rattle.wl_client.proofs.Unique
 pub use Rattle.wl_paint.proofs.Written

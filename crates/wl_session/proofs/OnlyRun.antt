@@ -1,20 +1,21 @@
 -- Where no want of memory is met, a list of steps has one run.
 use Rattle.std.proofs.Common.{◌≡◌, ◌≢◌, ℕ, List, [], ◌∷◌, ◌++◌, Option, Some, None, refl, ap, subst, sym, ◌∙◌, inl, inr}
 use Rattle.std.specs.Prelude.{Err}
-use Rattle.wl_session.specs.declared.clients.Cause.{Cause}
-use Rattle.wl_session.specs.declared.clients.Cause.TheVariants as cause
+use Rattle.wl_client.specs.declared.clients.Cause.{Cause}
+use Rattle.wl_client.specs.declared.clients.Cause.TheVariants as cause
 use Rattle.wl_session.specs.declared.steps.ConnectError.TheVariants.{Memory}
 use Rattle.wl_session.specs.declared.steps.Done.{Done}
 use Rattle.wl_session.specs.declared.steps.Done.TheVariants as gave
 use Rattle.wl_session.specs.declared.steps.Fed.TheVariants.{NoClient}
 use Rattle.wl_session.specs.declared.shots.Run.{Run}
 use Rattle.wl_paint.specs.Frame.{Image}
-use Rattle.wl_session.specs.Desktop.{Peer, Desktop, lowest, peer_at, with_peer, FeedsAt}
-use Rattle.wl_session.specs.Step.{Act, Connect, Feed, Leave, Tick, Send, Close, ConnectsAt, Steps, Changes, ChangesAt, IsFed, IsLeft, IsSent, IsClosed, fed_of}
+use Rattle.wl_client.specs.Peer.{Peer, FeedsAt}
+use Rattle.wl_session.specs.Desktop.{Desktop, lowest, peer_at, with_peer}
+use Rattle.wl_session.specs.Step.{Act, Connect, Feed, Store, Leave, Tick, Send, Close, ConnectsAt, Steps, Changes, ChangesAt, IsFed, IsStored, IsLeft, IsSent, IsClosed, fed_of}
 use Rattle.wl_session.specs.Run.{Film, Shows}
 use Rattle.wl_session.specs.Laws.{EndedByMemory, HadMemory, OneRun, RunsAmply}
 use Rattle.wl_session.proofs.Cuts.{peer_at-with_peer}
-use Rattle.wl_session.proofs.Unique.{one_at}
+use Rattle.wl_client.proofs.Unique.{one_at}
 
 -- two answers with their desktops are the same
 abbrev Same : Done → Desktop → Done → Desktop → Type 0
@@ -39,6 +40,9 @@ one_change R absent c old new end done other only (q, h, e) (r, k, f) =
 
 one_left : (done other : Done) (p : Peer) (q r : Option Peer) → IsLeft p done q → IsLeft p other r → (done ≡ other) × (q ≡ r)
 one_left done other p q r h k = (h.1 ∙ sym k.1, h.0 ∙ sym k.0)
+
+one_stored : (store at : ℕ) (bytes : List ℕ) (done other : Done) (p : Peer) (q r : Option Peer) → IsStored store at bytes p done q → IsStored store at bytes p other r → (done ≡ other) × (q ≡ r)
+one_stored store at bytes done other p q r h k = (h.1 ∙ sym k.1, h.0 ∙ sym k.0)
 
 one_sent : (n : ℕ) (done other : Done) (p : Peer) (q r : Option Peer) → IsSent n p done q → IsSent n p other r → (done ≡ other) × (q ≡ r)
 one_sent n done other p q r h k = (h.1 ∙ sym k.1, h.0 ∙ sym k.0)
@@ -69,6 +73,7 @@ one_feed c piece old new end done other (Some p) (Some q) (Some r) at here there
 one_step : (act : Act) (old new end : Desktop) (done other : Done) → HadMemory old done new → HadMemory old other end → Steps old act done new → Steps old act other end → Same done new other end
 one_step Connect old new end done other here there h k = one_connect (lowest old.clients) old new end done other here.0 there.0 h k
 one_step (Feed c piece) old new end done other here there (q, h, e) (r, k, f) = one_feed c piece old new end done other (peer_at old c) q r refl here there h e k f
+one_step (Store c store at bytes) old new end done other here there h k = one_change (IsStored store at bytes) _ c old new end done other (one_stored store at bytes done other) h k
 one_step (Leave c) old new end done other here there h k = one_change IsLeft _ c old new end done other (one_left done other) h k
 one_step (Tick time) old new end done other here there h k = (h.0 ∙ sym k.0, h.1 ∙ sym k.1)
 one_step (Send c n) old new end done other here there h k = one_change (IsSent n) _ c old new end done other (one_sent n done other) h k
@@ -78,6 +83,7 @@ one_step (Close c) old new end done other here there h k = one_change IsClosed _
 one_frame : (act : Act) (before after next : Image) (films shots : List Film) → Shows act before films after → Shows act before shots next → (films ≡ shots) × (after ≡ next)
 one_frame Connect before after next films shots h k = (h.0 ∙ sym k.0, h.1 ∙ sym k.1)
 one_frame (Feed c piece) before after next films shots h k = (h.0 ∙ sym k.0, h.1 ∙ sym k.1)
+one_frame (Store c store at bytes) before after next films shots h k = (h.0 ∙ sym k.0, h.1 ∙ sym k.1)
 one_frame (Leave c) before after next films shots h k = (h.0 ∙ sym k.0, h.1 ∙ sym k.1)
 one_frame (Tick time) before after next films shots (film, h, is) (shot, k, was) =
     let image : after ≡ next = is.next.same ∙ sym was.next.same in

@@ -1,8 +1,9 @@
 -- What a step leaves to the clients that it isn't of.
 use Rattle.std.proofs.Common.{◌≡◌, ◌≢◌, ℕ, ◌+◌, zero, suc, List, [], ◌∷◌, Option, Some, None, refl, ap, ◌∙◌, inl, inr}
 use Rattle.wl_session.specs.declared.steps.Done.{Done}
-use Rattle.wl_session.specs.Desktop.{Peer, Desktop, lowest, newcomer, peer_at, place, with_place, with_peer}
-use Rattle.wl_session.specs.Step.{Connect, Feed, Leave, Tick, Send, Close, ConnectsAt, Changes}
+use Rattle.wl_client.specs.Peer.{Peer, newcomer}
+use Rattle.wl_session.specs.Desktop.{Desktop, lowest, peer_at, place, with_place, with_peer}
+use Rattle.wl_session.specs.Step.{Connect, Feed, Store, Leave, Tick, Send, Close, ConnectsAt, Changes}
 use Rattle.wl_session.specs.Laws.{given_by, OthersStay}
 
 place-other : (ps : List (Option Peer)) (k j : ℕ) (q : Option Peer) → k ≢ j → place (with_place k q ps) j ≡ place ps j
@@ -30,6 +31,7 @@ connect-other (Some k) old new done other (inr h) differ =
 pub others_stay : OthersStay
 others_stay old new Connect done other h differ = connect-other (lowest old.clients) old new done other h differ
 others_stay old new (Feed c piece) done other h differ = Changes-other c other _ _ done old new h differ
+others_stay old new (Store c store at bytes) done other h differ = Changes-other c other _ _ done old new h differ
 others_stay old new (Leave c) done other h differ = Changes-other c other _ _ done old new h differ
 others_stay old new (Tick time) done other h differ = ap (λ (d : Desktop). peer_at d other) h.1
 others_stay old new (Send c n) done other h differ = Changes-other c other _ _ done old new h differ

@@ -10,7 +10,7 @@ use Rattle.wl_session.specs.declared.steps.Done.TheVariants as gave
 use Rattle.wl_session.specs.declared.steps.Step.{Step}
 use Rattle.wl_session.specs.declared.steps.ConnectError.TheVariants.{Memory}
 use Rattle.wl_session.specs.Desktop.{Desktop}
-use Rattle.wl_session.specs.Step.{Act, Connect, Feed, Leave, Tick, Send, Close, ConnectsAt, Steps, act_of}
+use Rattle.wl_session.specs.Step.{Act, Connect, Feed, Store, Leave, Tick, Send, Close, ConnectsAt, Steps, act_of}
 use Rattle.wl_session.specs.Run.{Film, IsNextFrame, Leads, Runs, MayStopAt, Shows, takes_memory}
 use Rattle.wl_session.specs.Agreement.{TakesStep}
 
@@ -63,6 +63,7 @@ IsNextFrame-same before after damaged none same = record {
 pub Shows-none : (act : Act) (before after : Image) → takes_memory act ≡ false → after ≡ before → Shows act before [] after
 Shows-none Connect before after quiet same = (refl, same)
 Shows-none (Feed c piece) before after quiet same = (refl, same)
+Shows-none (Store c store at bytes) before after quiet same = (refl, same)
 Shows-none (Leave c) before after quiet same = (refl, same)
 Shows-none (Tick time) before after quiet same = absurd (cc)
 Shows-none (Send c n) before after quiet same = (refl, same)

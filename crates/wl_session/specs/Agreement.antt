@@ -1,23 +1,12 @@
 -- What a session keeps agrees with a desktop.
-use Rattle.std.specs.Prelude.{◌≡◌, List, [], ◌∷◌, length, Option, Some, None}
-use Rattle.wl_session.specs.View.{ClientView, DeskView}
-use Rattle.wl_session.specs.declared.outputs.Output.{Output as Kept}
+use Rattle.std.specs.Prelude.{◌≡◌, List, [], ◌∷◌, Option, Some, None}
+use Rattle.wl_client.specs.Agreement.{IsPeer, output_of}
+use Rattle.wl_client.specs.Peer.{Peer}
+use Rattle.wl_client.specs.View.{ClientView}
+use Rattle.wl_session.specs.View.{DeskView}
 use Rattle.wl_session.specs.declared.steps.Done.{Done}
-use Rattle.wl_session.specs.Objects.{objects_in}
-use Rattle.wl_session.specs.Desktop.{Output, Peer, Desktop}
+use Rattle.wl_session.specs.Desktop.{Desktop}
 use Rattle.wl_session.specs.Step.{Act, Steps}
-
-abbrev pub output_of : Kept → Output
-output_of output = record { width = output.width; height = output.height }
-
--- what is kept of a client are its values
-pub record IsPeer (v : ClientView) (p : Peer) : Type 0 where
-  pub status : v.ended ≡ p.status
-  pub objects : objects_in v.objects ≡ p.objects
-  pub held : length v.objects ≡ p.held
-  pub unsent : v.unsent ≡ p.unsent
-  pub rest : v.rest ≡ p.rest
-  pub output : output_of v.output ≡ p.output
 
 abbrev pub IsSlot : Option ClientView → Option Peer → Type 0
 IsSlot None None = Unit {0}

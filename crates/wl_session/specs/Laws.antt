@@ -1,13 +1,14 @@
 -- Laws of the plain desktop: cutting streams changes nothing, only want of memory leaves a choice, and a step of one
 -- client leaves every other as it was.
 use Rattle.std.specs.Prelude.{ℕ, ◌≡◌, ◌≢◌, List, [], ◌∷◌, ◌++◌, Option, Some, None, Ok, Err}
-use Rattle.wl_session.specs.declared.clients.Cause.TheVariants as cause
+use Rattle.wl_client.specs.declared.clients.Cause.TheVariants as cause
 use Rattle.wl_session.specs.declared.steps.ConnectError.TheVariants.{Memory}
 use Rattle.wl_session.specs.declared.steps.Done.{Done}
 use Rattle.wl_session.specs.declared.steps.Done.TheVariants as gave
 use Rattle.wl_paint.specs.Frame.{Image}
-use Rattle.wl_session.specs.Desktop.{Peer, Desktop, peer_at}
-use Rattle.wl_session.specs.Step.{Act, Connect, Feed, Leave, Tick, Send, Close, Steps}
+use Rattle.wl_client.specs.Peer.{Peer}
+use Rattle.wl_session.specs.Desktop.{Desktop, peer_at}
+use Rattle.wl_session.specs.Step.{Act, Connect, Feed, Store, Leave, Tick, Send, Close, Steps}
 use Rattle.wl_session.specs.Run.{Film, Shows}
 
 -- Two pieces of a stream, one after the other, lead where they lead as one.
@@ -50,6 +51,7 @@ given_by done = 0
 abbrev pub client_of : Act → Done → ℕ
 client_of Connect done = given_by done
 client_of (Feed c piece) done = c
+client_of (Store c store at bytes) done = c
 client_of (Leave c) done = c
 client_of (Tick time) done = 0
 client_of (Send c n) done = c

@@ -1,13 +1,10 @@
 pub mod Agreement
 pub mod Desktop
 pub mod Laws
-pub mod Objects
-pub mod Plain
 pub mod Run
-pub mod Said
 pub mod Step
 pub mod View
+pub use Rattle.wl_client.specs.Peer
 pub use Rattle.wl_paint.specs.Damage
 pub use Rattle.wl_paint.specs.Frame
 pub use Rattle.wl_paint.specs.Image
-pub use Rattle.wl_wire.specs.Wire

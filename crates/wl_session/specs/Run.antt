@@ -3,7 +3,7 @@ use Rattle.std.specs.List.{list_any}
 use Rattle.std.specs.Prelude.{ℕ, ◌≡◌, ◌+◌, List, [], ◌∷◌, ◌++◌, slice_get, Bool, true, false, ◌&&◌, ◌==◌, nat_le, nat_lt, IsTrue, IsSomeAnd}
 use Rattle.wl_paint.specs.Frame.{Image, color_at}
 use Rattle.wl_session.specs.Desktop.{Desktop}
-use Rattle.wl_session.specs.Step.{Act, Connect, Feed, Leave, Tick, Send, Close, Steps, act_of}
+use Rattle.wl_session.specs.Step.{Act, Connect, Feed, Store, Leave, Tick, Send, Close, Steps, act_of}
 use Rattle.wl_session.specs.Agreement.{Agrees}
 use Rattle.wl_session.specs.View.{SessionView}
 use Rattle.wl_session.specs.declared.steps.Done.{Done}
@@ -45,6 +45,7 @@ abbrev pub Shows : Act → Image → List Film → Image → Type 0
 Shows (Tick time) before films after = (film : Film) × (films ≡ film ∷ []) × IsFilm time before film after
 Shows Connect before films after = (films ≡ []) × (after ≡ before)
 Shows (Feed c piece) before films after = (films ≡ []) × (after ≡ before)
+Shows (Store c store at bytes) before films after = (films ≡ []) × (after ≡ before)
 Shows (Leave c) before films after = (films ≡ []) × (after ≡ before)
 Shows (Send c n) before films after = (films ≡ []) × (after ≡ before)
 Shows (Close c) before films after = (films ≡ []) × (after ≡ before)
@@ -81,6 +82,7 @@ abbrev pub takes_memory : Act → Bool
 takes_memory Connect = true
 takes_memory (Tick time) = true
 takes_memory (Feed c piece) = false
+takes_memory (Store c store at bytes) = false
 takes_memory (Leave c) = false
 takes_memory (Send c n) = false
 takes_memory (Close c) = false

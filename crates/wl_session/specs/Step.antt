@@ -1,20 +1,27 @@
 -- What may happen to the plain desktop: steps, their answers, and runs of them.
-use Rattle.std.specs.Prelude.{ℕ, ◌≡◌, ◌+◌, List, length, drop, false, nat_le, if◌then◌else◌, Option, Some, None, Ok, Err, ◌⊎◌, is_none, is_some}
-use Rattle.wl_session.specs.declared.clients.Cause.{Cause}
-use Rattle.wl_session.specs.declared.clients.Cause.TheVariants.{Gone}
+use Rattle.std.specs.Option.{option_map}
+use Rattle.std.specs.Prelude.{ℕ, ◌≡◌, ◌+◌, List, length, false, nat_le, Option, Some, None, Ok, Err, ◌⊎◌, is_none, is_some}
+use Rattle.wl_store.specs.Stores.{store_at, write_refusal}
+use Rattle.wl_store.specs.declared.stores.StoreError.{StoreError}
+use Rattle.wl_store.specs.declared.stores.StoreError.TheVariants as refused
+use Rattle.wl_client.specs.declared.clients.Cause.{Cause}
 use Rattle.wl_session.specs.declared.steps.Fed.{Fed}
 use Rattle.wl_session.specs.declared.steps.Fed.TheVariants.{Alive, Ended, NoClient}
+use Rattle.wl_session.specs.declared.steps.Stored.{Stored}
+use Rattle.wl_session.specs.declared.steps.Stored.TheVariants as stored
 use Rattle.wl_session.specs.declared.steps.Done.{Done}
 use Rattle.wl_session.specs.declared.steps.Done.TheVariants as gave
 use Rattle.wl_session.specs.declared.steps.Step.{Step}
 use Rattle.wl_session.specs.declared.steps.Step.TheVariants as step
 use Rattle.wl_session.specs.declared.steps.ConnectError.TheVariants.{Full, Memory}
-use Rattle.wl_session.specs.Desktop.{Peer, Desktop, Feeds, ended, lowest, newcomer, peer_at, with_peer}
+use Rattle.wl_client.specs.Peer.{Peer, Feeds, left_by, newcomer, sent_by, stored_at}
+use Rattle.wl_session.specs.Desktop.{Desktop, lowest, peer_at, with_peer}
 
 -- a step, with the bytes of a piece as a list
 pub data Act : Type 0 where
   Connect : Act
   Feed : ℕ → List ℕ → Act
+  Store : ℕ → ℕ → ℕ → List ℕ → Act
   Leave : ℕ → Act
   Tick : ℕ → Act
   Send : ℕ → ℕ → Act
@@ -23,6 +30,7 @@ pub data Act : Type 0 where
 abbrev pub act_of : Step → Act
 act_of step.Connect = Connect
 act_of (step.Feed client piece) = Feed client piece.now
+act_of (step.Store client store at bytes) = Store client store at bytes.now
 act_of (step.Gone client) = Leave client
 act_of (step.Tick time) = Tick time
 act_of (step.Sent client count) = Send client count
@@ -45,16 +53,23 @@ abbrev pub IsFed : List ℕ → Peer → Done → Option Peer → Type 0
 IsFed piece p done None = ⊥
 IsFed piece p done (Some q) = Feeds piece p q × (done ≡ gave.Feed (fed_of q.status))
 
-abbrev pub left_by : Option Cause → Peer → Peer
-left_by None p = ended Gone p
-left_by (Some cause) p = p
+-- what a write of a store answers: an ended client has none
+abbrev pub answer_of : Option StoreError → Stored
+answer_of None = stored.Done
+answer_of (Some refused.OutOfRange) = stored.OutOfRange
+answer_of (Some error) = stored.NoStore
+
+abbrev pub stored_of : Option Cause → Option StoreError → Stored
+stored_of None refusal = answer_of refusal
+stored_of (Some cause) refusal = stored.NoClient
+
+-- bytes are put into the store of this number, from `at` on
+abbrev pub IsStored : ℕ → ℕ → List ℕ → Peer → Done → Option Peer → Type 0
+IsStored store at bytes p done q =
+    (q ≡ Some (stored_at p.status store at bytes p)) × (done ≡ gave.Store (stored_of p.status (write_refusal store at (length bytes) p.stores)))
 
 abbrev pub IsLeft : Peer → Done → Option Peer → Type 0
 IsLeft p done q = (q ≡ Some (left_by p.status p)) × (done ≡ gave.Gone (is_none p.status))
-
--- so many of the unsent bytes were sent, if there are so many
-abbrev pub sent_by : ℕ → Peer → Peer
-sent_by n p = if nat_le n (length p.unsent) then record p { unsent = drop n p.unsent } else p
 
 abbrev pub IsSent : ℕ → Peer → Done → Option Peer → Type 0
 IsSent n p done q = (q ≡ Some (sent_by n p)) × (done ≡ gave.Sent (nat_le n (length p.unsent)))
@@ -76,6 +91,7 @@ ConnectsAt (Some k) old done new =
 abbrev pub Steps : Desktop → Act → Done → Desktop → Type 0
 Steps old Connect done new = ConnectsAt (lowest old.clients) old done new
 Steps old (Feed c piece) done new = Changes c (IsFed piece) (gave.Feed NoClient) old done new
+Steps old (Store c store at bytes) done new = Changes c (IsStored store at bytes) (gave.Store stored.NoClient) old done new
 Steps old (Leave c) done new = Changes c IsLeft (gave.Gone false) old done new
 Steps old (Tick time) done new = (done ≡ gave.Tick) × (new ≡ old)
 Steps old (Send c n) done new = Changes c (IsSent n) (gave.Sent false) old done new
@@ -89,3 +105,8 @@ unsent_of (Some p) = Some p.unsent
 abbrev pub status_of : Option Peer → Fed
 status_of None = NoClient
 status_of (Some p) = fed_of p.status
+
+-- how many bytes a client's store has
+abbrev pub store_size_of : ℕ → Option Peer → Option ℕ
+store_size_of store None = None
+store_size_of store (Some p) = option_map (λ s. length s.bytes) (store_at store p.stores)

@@ -2,15 +2,17 @@
 
 ghost use Rattle.std.specs.Prelude.{◌≡◌, ℕ, ◌+◌, ◌<◌, ◌≤◌, List, Option, length, IfOk, IfSome, IfNone, ◌⊎◌, false, Result, Ok, Err};
 ghost use Rattle.std.specs.Option.{option_copied};
-ghost use Rattle.wl_session.specs.Desktop.{Peer, Desktop, empty, lowest, peer_at};
-ghost use Rattle.wl_session.specs.Step.{ChangesAt, IsFed, IsLeft, IsSent, IsClosed, Connect, Feed, Leave, Send, Close, unsent_of, status_of};
-ghost use Rattle.wl_session.specs.Agreement.{IsSlot, Agrees, TakesStep, output_of};
+ghost use Rattle.wl_store.specs.Stores.{write_refusal};
+ghost use Rattle.wl_client.specs.Peer.{Peer, stored_at};
+ghost use Rattle.wl_session.specs.Desktop.{Desktop, empty, lowest, peer_at};
+ghost use Rattle.wl_session.specs.Step.{ChangesAt, IsFed, IsStored, IsLeft, IsSent, IsClosed, Connect, Feed, Store, Leave, Send, Close, unsent_of, status_of, stored_of, store_size_of};
+ghost use Rattle.wl_client.specs.Agreement.{IsPeer, output_of};
+ghost use Rattle.wl_session.specs.Agreement.{IsSlot, Agrees, TakesStep};
 
-use crate::clients::Client;
-use crate::outputs::Output;
-use crate::steps::{ClientNo, ConnectError, Done, Fed};
+use crate::steps::{ClientNo, ConnectError, Done, Fed, Stored};
 use std::alloc::{AllocError, Allocator};
 use std::marker::Model;
+use wl_client::{Client, Output, StoreNo};
 
 /// How many clients there may be at once.
 const CLIENT_LIMIT: usize = 32;
@@ -68,6 +70,28 @@ impl<A: Allocator + Copy> Desk<A> {
         };
         let slot = &mut self.clients[k];
         feed_slot(slot, piece)
+    }
+
+    /// Puts bytes into a client's store.
+    pub fn store(&mut self, client: ClientNo, store: StoreNo, at: u32, bytes: &[u8]) -> Stored
+        ensures { TakesStep (Store client store at bytes.now) (Done.Store result) self.old self.new }
+    {
+        let Some(k) = place_of(&self.clients, client) else {
+            return Stored::NoClient;
+        };
+        let slot = &mut self.clients[k];
+        store_in_slot(slot, store, at, bytes)
+    }
+
+    /// How many bytes a client's store has.
+    pub fn store_size(&self, client: ClientNo, store: StoreNo) -> Option<u32>
+        ensures { (d : Desktop) → Agrees self.now d → result ≡ store_size_of store (peer_at d client) }
+    {
+        let Some(k) = place_of(&self.clients, client) else {
+            return None;
+        };
+        let slot = &self.clients[k];
+        store_size_in(slot, store)
     }
 
     /// A client goes. True where it was alive.
@@ -156,9 +180,38 @@ fn feed_slot<A: Allocator + Copy>(slot: &mut Option<Client<A>>, piece: &[u8]) ->
         None => Fed::NoClient,
         Some(client) => {
             client.feed(piece);
-            client.status()
+            Fed::of(client.ended())
         }
     }
+}
+
+fn store_in_slot<A: Allocator + Copy>(
+    slot: &mut Option<Client<A>>,
+    store: StoreNo,
+    at: u32,
+    bytes: &[u8],
+) -> Stored
+    ensures { (o : Option Peer) → IsSlot slot.old o → (q : Option Peer) × ChangesAt (IsStored store at bytes.now) (Done.Store Stored.NoClient) o (Done.Store result) q × IsSlot slot.new q }
+{
+    match slot {
+        None => Stored::NoClient,
+        Some(client) => store_of(client, store, at, bytes),
+    }
+}
+
+/// Puts bytes into a store of a client that lives.
+fn store_of<A: Allocator + Copy>(
+    client: &mut Client<A>,
+    store: StoreNo,
+    at: u32,
+    bytes: &[u8],
+) -> Stored
+    ensures { (p : Peer) → IsPeer client.old p → IsPeer client.new (stored_at p.status store at bytes.now p) × (result ≡ stored_of p.status (write_refusal store at (length bytes.now) p.stores)) }
+{
+    if client.has_ended() {
+        return Stored::NoClient;
+    }
+    Stored::of(client.store(store, at, bytes))
 }
 
 fn gone_slot<A: Allocator + Copy>(slot: &mut Option<Client<A>>) -> bool
@@ -206,6 +259,15 @@ fn status_in<A: Allocator + Copy>(slot: &Option<Client<A>>) -> Fed
 {
     match slot {
         None => Fed::NoClient,
-        Some(client) => client.status(),
+        Some(client) => Fed::of(client.ended()),
+    }
+}
+
+fn store_size_in<A: Allocator + Copy>(slot: &Option<Client<A>>, store: StoreNo) -> Option<u32>
+    ensures { (o : Option Peer) → IsSlot slot.now o → result ≡ store_size_of store o }
+{
+    match slot {
+        None => None,
+        Some(client) => client.store_size(store),
     }
 }

@@ -8,16 +8,16 @@ ghost use Rattle.std.specs.Vec.{vec_capacity};
 ghost use Rattle.wl_paint.specs.Damage.{has};
 ghost use Rattle.wl_session.specs.Desktop.{Desktop, empty, peer_at};
 ghost use Rattle.wl_paint.specs.Frame.{color_at, filled, is_side};
-ghost use Rattle.wl_session.specs.Step.{Connect, Feed, Leave, Tick, Send, Close, act_of, unsent_of, status_of};
+ghost use Rattle.wl_session.specs.Step.{Connect, Feed, Store, Leave, Tick, Send, Close, act_of, unsent_of, status_of, store_size_of};
 ghost use Rattle.wl_session.specs.Agreement.{Agrees, TakesStep};
 
 use crate::desks::Desk;
-use crate::outputs::Output;
 use crate::shots::{Frame, Shot};
-use crate::steps::{ClientNo, ConnectError, Done, Fed, RunError, Step};
+use crate::steps::{ClientNo, ConnectError, Done, Fed, RunError, Step, Stored};
 use std::alloc::{AllocError, Allocator};
 use std::marker::Model;
 use wl_blend::Rgb;
+use wl_client::{Output, StoreNo};
 use wl_paint::{Damage, FrameError, Framebuffer};
 
 /// What a session is made with.
@@ -104,6 +104,22 @@ impl<A: Allocator + Copy> Session<A> {
         self.desk.feed(client, piece)
     }
 
+    /// Puts bytes into a client's store, from `at` on: its k-th pool has the store k. `NoClient` for an ended client too, then
+    /// `NoStore`, then `OutOfRange` where they pass the store's end; nothing is changed then.
+    pub fn store(&mut self, client: ClientNo, store: StoreNo, at: u32, bytes: &[u8]) -> Stored
+        ensures step { TakesStep (Store client store at bytes.now) (Done.Store result) self.old.desk self.new.desk }
+        ensures frame { self.new.frame ≡ self.old.frame }
+    {
+        self.desk.store(client, store, at, bytes)
+    }
+
+    /// How many bytes a client's store has. None where the client or the store isn't live.
+    pub fn store_size(&self, client: ClientNo, store: StoreNo) -> Option<u32>
+        ensures { (d : Desktop) → Agrees self.now.desk d → result ≡ store_size_of store (peer_at d client) }
+    {
+        self.desk.store_size(client, store)
+    }
+
     /// A client goes. True where it was alive.
     pub fn gone(&mut self, client: ClientNo) -> bool
         ensures step { TakesStep (Leave client) (Done.Gone result) self.old.desk self.new.desk }
@@ -174,6 +190,12 @@ impl<A: Allocator + Copy> Session<A> {
         match *step {
             Step::Connect => Done::Connect(self.connect()),
             Step::Feed { client, piece } => Done::Feed(self.feed(client, piece)),
+            Step::Store {
+                client,
+                store,
+                at,
+                bytes,
+            } => Done::Store(self.store(client, store, at, bytes)),
             Step::Gone { client } => Done::Gone(self.gone(client)),
             Step::Tick { time } => {
                 let _ = self.tick(time);
@@ -212,11 +234,27 @@ impl<A: Allocator + Copy> Session<A> {
                 Err(ConnectError::Memory) => false,
                 Ok(_) | Err(ConnectError::Full) => true,
             },
-            Step::Tick { time } => self.shoot(time, shots).is_ok(),
-            Step::Feed { .. } | Step::Gone { .. } | Step::Sent { .. } | Step::Close { .. } => {
+            Step::Tick { time } => self.take_tick(time, shots),
+            Step::Feed { .. }
+            | Step::Store { .. }
+            | Step::Gone { .. }
+            | Step::Sent { .. }
+            | Step::Close { .. } => {
                 self.step(step);
                 true
             }
+        }
+    }
+
+    /// Takes a tick of a run. False where its shot found no memory; then nothing of it was taken.
+    fn take_tick(&mut self, time: u32, shots: &mut Vec<Shot<A>, A>) -> bool
+        ensures taken { result ≡ true → (films : List Film) × (map film_of shots.new.items ≡ map film_of shots.old.items ++ films) × Leads (Tick time) films self.old self.new }
+        ensures refused { result ≡ false → Stays self.old self.new }
+        ensures shots { result ≡ false → map film_of shots.new.items ≡ map film_of shots.old.items }
+    {
+        match self.shoot(time, shots) {
+            Ok(()) => true,
+            Err(AllocError) => false,
         }
     }
 

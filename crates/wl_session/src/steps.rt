@@ -1,7 +1,7 @@
 //! Steps as values, and their answers.
 
-use crate::clients::Cause;
 use thiserror::Error;
+use wl_client::{Cause, StoreError, StoreNo};
 
 /// A client's number: 1 to 32, the lowest free one first. Any other number is nobody's.
 pub type ClientNo = u32;
@@ -12,15 +12,34 @@ pub enum Step<'a> {
     /// A client connects.
     Connect,
     /// A piece of a client's stream comes. A stream may be cut anywhere.
-    Feed { client: ClientNo, piece: &'a [u8] },
+    Feed {
+        client: ClientNo,
+        piece: &'a [u8],
+    },
+    /// Bytes are put into a store of a client, from `at` on.
+    Store {
+        client: ClientNo,
+        store: StoreNo,
+        at: u32,
+        bytes: &'a [u8],
+    },
     /// A client goes.
-    Gone { client: ClientNo },
+    Gone {
+        client: ClientNo,
+    },
     /// A frame is shown. `time` is in milliseconds, from any start.
-    Tick { time: u32 },
+    Tick {
+        time: u32,
+    },
     /// So many of a client's unsent bytes were sent.
-    Sent { client: ClientNo, count: usize },
+    Sent {
+        client: ClientNo,
+        count: usize,
+    },
     /// The number of a client that ended is given back.
-    Close { client: ClientNo },
+    Close {
+        client: ClientNo,
+    },
 }
 
 /// How a client is.
@@ -34,11 +53,58 @@ pub enum Fed {
     NoClient,
 }
 
+impl Fed {
+    ghost use Rattle.std.specs.Prelude.{◌≡◌};
+    ghost use Rattle.wl_session.specs.Step.{fed_of};
+
+    /// How a client is that ended so, or didn't.
+    pub(crate) fn of(ended: Option<Cause>) -> Fed
+        ensures { result ≡ fed_of ended }
+    {
+        match ended {
+            None => Fed::Alive,
+            Some(cause) => Fed::Ended(cause),
+        }
+    }
+}
+
+/// What became of bytes for a store.
+#[derive(Clone, Copy, Debug, PartialEq, Eq)]
+pub enum Stored {
+    /// They are there.
+    Done,
+    /// No client that lives has the number.
+    NoClient,
+    /// The client has no such store.
+    NoStore,
+    /// They don't lie in the store.
+    OutOfRange,
+}
+
+impl Stored {
+    ghost use Rattle.std.specs.Prelude.{◌≡◌, ℕ, Option};
+    ghost use Rattle.wl_store.specs.declared.stores.StoreError.{StoreError};
+    ghost use Rattle.wl_client.specs.View.{stored};
+    ghost use Rattle.wl_session.specs.Step.{answer_of};
+
+    /// What a write of a store answered.
+    pub(crate) fn of(written: Result<(), StoreError>) -> Stored
+        ensures { (refusal : Option StoreError) → written ≡ stored refusal → result ≡ answer_of refusal }
+    {
+        match written {
+            Ok(()) => Stored::Done,
+            Err(StoreError::OutOfRange) => Stored::OutOfRange,
+            Err(_) => Stored::NoStore,
+        }
+    }
+}
+
 /// What a step answered: for each kind of step what its call gives.
 #[derive(Clone, Copy, Debug, PartialEq, Eq)]
 pub enum Done {
     Connect(Result<ClientNo, ConnectError>),
     Feed(Fed),
+    Store(Stored),
     Gone(bool),
     Tick,
     Sent(bool),

@@ -4,6 +4,12 @@
 #[cfg(test)]
 mod memory;
 #[cfg(test)]
+mod pools;
+#[cfg(test)]
 mod recordings;
 #[cfg(test)]
+mod regions;
+#[cfg(test)]
 mod registry;
+#[cfg(test)]
+mod support;

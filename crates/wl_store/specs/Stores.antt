@@ -26,6 +26,10 @@ store_at number stock = find (λ s. s.number == number) stock.held
 abbrev pub bytes_of : ℕ → Stock → Option (List ℕ)
 bytes_of number stock = option_map (λ s. s.bytes) (store_at number stock)
 
+-- how many bytes the store of this number has: none where it isn't live
+abbrev pub size_of : ℕ → Stock → ℕ
+size_of number stock = option_map_or (λ s. length s.bytes) (store_at number stock) 0
+
 -- how many bytes the live stores have together
 abbrev pub total_size : Stock → ℕ
 total_size stock = sum_by (λ s. length s.bytes) stock.held

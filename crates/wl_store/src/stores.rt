@@ -113,7 +113,7 @@ fn size_refusal(total: u32, present: u32, size: i32) -> Option<StoreError>
 }
 
 impl<A: Allocator> Stores<A> {
-    ghost use Rattle.wl_store.specs.Stores.{bytes_of, can_hold, is_full, let_go, picture_of, store_at, used, write_refusal, written};
+    ghost use Rattle.wl_store.specs.Stores.{bytes_of, can_hold, create_refusal, is_full, let_go, picture_of, resize_refusal, store_at, total_size, used, write_refusal, written};
 
     fn is_full(&self) -> bool
         ensures { result ≡ is_full self.now }
@@ -155,6 +155,44 @@ impl<A: Allocator> Stores<A> {
         }
         self.held[place].write(at, bytes);
         Ok(())
+    }
+
+    /// Why no store of this size is made, but for want of memory: `TooMany`, `TooLarge` or `BadSize`, as `create` answers them.
+    pub fn create_refusal(&self, size: i32) -> Option<StoreError>
+        ensures first { result ≡ create_refusal size self.now }
+        ensures few { IfNone result (is_full self.now ≡ false) }
+        ensures room { IfNone result (total_size self.now + unsigned_abs size ≤ MAX_TOTAL) }
+    {
+        if self.is_full() {
+            return Some(StoreError::TooMany);
+        }
+        if i64::from(self.total) + i64::from(size) > i64::from(MAX_TOTAL) {
+            return Some(StoreError::TooLarge);
+        }
+        if size <= 0 {
+            return Some(StoreError::BadSize);
+        }
+        None
+    }
+
+    /// Why the store doesn't get this size, but for want of memory: `NoStore`, `TooLarge` or `Shrinks`, as `resize` answers them.
+    pub fn resize_refusal(&self, store: StoreNo, size: i32) -> Option<StoreError>
+        ensures { result ≡ resize_refusal store size self.now }
+    {
+        let Some(place) = place_of(&self.held, store) else {
+            return Some(StoreError::NoStore);
+        };
+        size_refusal(self.total, self.held[place].size(), size)
+    }
+
+    /// Whether one use more can be counted: the store is live and has fewer than 4,294,967,295.
+    pub fn can_hold(&self, store: StoreNo) -> bool
+        ensures { result ≡ can_hold store self.now }
+    {
+        let Some(place) = place_of(&self.held, store) else {
+            return false;
+        };
+        self.held[place].uses() < u32::MAX
     }
 
     /// Counts one use more. False where the store isn't live or has 4,294,967,295 uses.
@@ -233,14 +271,8 @@ impl<A: Allocator + Copy> Stores<A> {
         ensures ok { OnOk result (self.new ≡ created (unsigned_abs size) self.old) }
         ensures err { OnErr result (self.new ≡ self.old) }
     {
-        if self.is_full() {
-            return Err(StoreError::TooMany);
-        }
-        if i64::from(self.total) + i64::from(size) > i64::from(MAX_TOTAL) {
-            return Err(StoreError::TooLarge);
-        }
-        if size <= 0 {
-            return Err(StoreError::BadSize);
+        if let Some(error) = self.create_refusal(size) {
+            return Err(error);
         }
         self.make(size.unsigned_abs())
     }

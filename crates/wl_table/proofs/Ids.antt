@@ -39,11 +39,9 @@ client_id id least most = grind (arith, nat_tests)
 room_left : (n : ℕ) → n < 8192 → nat_le 8192 n ≡ false
 room_left n h = grind (arith, nat_tests)
 
-pub allowed : (held : Held) (map : BTreeMap ℕ Entry) (id : ℕ) → map.entries ≡ held → 0 < id → id ≤ 0xfeffffff → false ≡ is_some (entry_of map.entries id) → length map.entries < 8192 → refusal held id ≡ None
-allowed held map id is least most free room =
-    chosen (is_client_id id) (is_some (entry_of held id)) (nat_le 8192 (length held)) (client_id id least most)
-    (ap (λ (u : Held). is_some (entry_of u id)) (sym is) ∙ sym free)
-    (room_left (length held) (omega (arith, ap length is)))
+pub allowed : (held : Held) (id : ℕ) → 0 < id → id ≤ 0xfeffffff → false ≡ is_some (entry_of held id) → length held < 8192 → refusal held id ≡ None
+allowed held id least most free room =
+    chosen (is_client_id id) (is_some (entry_of held id)) (nat_le 8192 (length held)) (client_id id least most) (sym free) (room_left (length held) room)
 
 -- what is no `Some` is none
 none_from : (o : Option Entry) → (IsSome o → ⊥) → o ≡ None

@@ -1,6 +1,6 @@
 //! What is held under an id.
 
-use std::alloc::AllocFailed;
+use std::alloc::{AllocError, AllocFailed};
 use thiserror::Error;
 use wl_proto::Interface;
 
@@ -30,6 +30,17 @@ pub enum TableError {
     /// There is no memory for it.
     #[error("out of memory")]
     Memory = 4,
+}
+
+impl From<AllocError> for TableError {
+    ghost use Rattle.std.specs.Prelude.{◌≡◌};
+    ghost use Rattle.wl_table.specs.declared.entry.TableError.TheVariants.{Memory};
+
+    ghost from_gives = { λ _ e. e ≡ Memory };
+
+    fn from(_e: AllocError) -> TableError {
+        TableError::Memory
+    }
 }
 
 impl<T: Drop> From<AllocFailed<T>> for TableError {

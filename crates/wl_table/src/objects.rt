@@ -1,11 +1,11 @@
 //! A map from ids to objects.
 
-ghost use Rattle.std.specs.Prelude.{◌≡◌, ◌≢◌, ℕ, ◌+◌, ◌<◌, ◌≤◌, ◌↔◌, [], if◌then◌else◌, length, is_some, IsTrue, IsSome, None, MatchOption, OnOk, OnErr, IsOkUnless, Err};
+ghost use Rattle.std.specs.Prelude.{◌≡◌, ◌≢◌, ℕ, ◌+◌, ◌-◌, ◌++◌, replicate, ◌<◌, ◌≤◌, ◌↔◌, ◌⊎◌, [], if◌then◌else◌, length, is_some, IsTrue, IsSome, IfSome, IfNone, IfErr, None, Some, MatchOption, slice_index_or, OnOk, OnErr, IsOkUnless, Err};
 ghost use Rattle.std.specs.Option.{option_map};
 ghost use Rattle.wl_table.specs.Objects.{Held, entry_of, refusal, with_target, HoldsAt};
 
 use crate::{Entry, TableError};
-use std::alloc::Allocator;
+use std::alloc::{AllocError, Allocator};
 use std::collections::BTreeMap;
 use std::marker::Model;
 use std::ops::Bound;
@@ -14,24 +14,32 @@ const LAST_ID: u32 = 0xfeffffff;
 
 const MOST_OBJECTS: usize = 8192;
 
+/// The last id that has a place in a row.
+const LAST_PLACED: u32 = 8192;
+
 /// The objects of a client, by their ids; at most 8,192.
 ///
 /// It is seen as the list of what is held, each with its id; the ids rise.
+///
+/// Clients mostly take the least ids that are free. So the ids up to 8,192 have places in a row, which reaches as far as
+/// the greatest of them that came. A map keeps what is held under the others.
 #[derive(Drop)]
 pub struct Objects<A: Allocator> {
-    entries: BTreeMap<u32, Entry, A>,
+    row: Vec<Option<Entry>, A>,
+    others: BTreeMap<u32, Entry, A>,
+    count: u32,
 }
 
 impl<A: Allocator> Model for Objects<A> {
-    ghost use Rattle.std.specs.Prelude.{◌≤◌};
-    ghost use Rattle.std.specs.BTreeMap.{btree_map_len};
+    ghost use Rattle.std.specs.Prelude.{◌++◌};
     ghost use Rattle.wl_table.specs.Objects.{Held};
+    ghost use Rattle.wl_table.specs.Places.{placed, IsTable};
 
     ghost Value = { Held };
 
-    ghost view = { λ o. o.entries.entries };
+    ghost view = { λ o. placed 1 o.row.items ++ o.others.entries };
 
-    ghost invariant = { λ o. btree_map_len o.entries ≤ 8192 };
+    ghost invariant = { λ o. IsTable o.row.items o.others o.count };
 }
 
 impl<A: Allocator> Objects<A> {
@@ -39,21 +47,24 @@ impl<A: Allocator> Objects<A> {
     pub fn len(&self) -> usize
         ensures { result ≡ length self.now }
     {
-        self.entries.len()
+        self.count as usize
     }
 
     /// There are no objects.
     pub fn is_empty(&self) -> bool
         ensures { IsTrue result ↔ (length self.now ≡ 0) }
     {
-        self.entries.is_empty()
+        self.count == 0
     }
 
     /// What is held under an id.
     pub fn get(&self, id: u32) -> Option<Entry>
         ensures { result ≡ entry_of self.now id }
     {
-        self.entries.get(&id).copied()
+        match place_of(id, self.row.len()) {
+            Some(place) => self.row[place],
+            None => self.others.get(&id).copied(),
+        }
     }
 
     /// Sets the target of the object under an id, where there is one, and says whether there is.
@@ -62,7 +73,14 @@ impl<A: Allocator> Objects<A> {
         ensures set { HoldsAt self.old self.new id (option_map (with_target target) (entry_of self.old id)) }
         ensures len { length self.new ≡ length self.old }
     {
-        let Some(entry) = self.entries.get_mut(&id) else {
+        if let Some(place) = place_of(id, self.row.len()) {
+            let Some(entry) = self.row[place] else {
+                return false;
+            };
+            self.row[place] = Some(Entry { target, ..entry });
+            return true;
+        }
+        let Some(entry) = self.others.get_mut(&id) else {
             return false;
         };
         entry.target = target;
@@ -75,17 +93,33 @@ impl<A: Allocator> Objects<A> {
         ensures removed { HoldsAt self.old self.new id None }
         ensures len { length self.new + (if is_some result then 1 else 0) ≡ length self.old }
     {
-        self.entries.remove(&id)
+        let Some(entry) = self.get(id) else {
+            return None;
+        };
+        match place_of(id, self.row.len()) {
+            Some(place) => self.row[place] = None,
+            None => {
+                self.others.remove(&id);
+            }
+        }
+        self.count -= 1;
+        Some(entry)
     }
 
     /// The least id above an id, of those under which an object is held.
     pub fn next_after(&self, id: u32) -> Option<u32>
         ensures { MatchOption result ((other : ℕ) → id < other → entry_of self.now other ≡ None) (λ next. (id < next) × IsSome (entry_of self.now next) × ((other : ℕ) → id < other → other < next → entry_of self.now other ≡ None)) }
     {
-        let (next, _) = self
-            .entries
+        if let Some(place) = first_held(&self.row, id as usize) {
+            return Some(place as u32 + 1);
+        }
+        let Some((next, _)) = self
+            .others
             .range((Bound::Excluded(id), Bound::Unbounded))
-            .next()?;
+            .next()
+        else {
+            return None;
+        };
         Some(*next)
     }
 }
@@ -96,7 +130,9 @@ impl<A: Allocator + Copy> Objects<A> {
         ensures { result ≡ [] }
     {
         Objects {
-            entries: BTreeMap::new(alloc),
+            row: Vec::new(alloc),
+            others: BTreeMap::new(alloc),
+            count: 0,
         }
     }
 
@@ -116,13 +152,67 @@ impl<A: Allocator + Copy> Objects<A> {
         if id == 0 || id > LAST_ID {
             return Err(TableError::BadId);
         }
-        if self.entries.contains_key(&id) {
+        if self.get(id).is_some() {
             return Err(TableError::InUse);
         }
-        if self.entries.len() >= MOST_OBJECTS {
+        if self.len() >= MOST_OBJECTS {
             return Err(TableError::TooMany);
         }
-        self.entries.insert(id, entry)?;
+        self.put(id, entry)
+    }
+
+    /// Holds an object under a free id, where there is room for it.
+    fn put(&mut self, id: u32, entry: Entry) -> Result<(), TableError>
+        requires id { 0 < id }
+        requires free { entry_of self.old id ≡ None }
+        requires room { length self.old < 8192 }
+        ensures ok { OnOk result (HoldsAt self.old self.new id (Some entry)) }
+        ensures len { OnOk result (length self.new ≡ length self.old + 1) }
+        ensures cause { IsOkUnless result TableError.Memory }
+        ensures err { OnErr result (self.new ≡ self.old) }
+    {
+        if id > LAST_PLACED {
+            self.others.insert(id, entry)?;
+        } else {
+            extend(&mut self.row, id as usize)?;
+            self.row[id as usize - 1] = Some(entry);
+        }
+        self.count += 1;
         Ok(())
     }
+}
+
+/// Gives a row at least so many places; the new ones are empty.
+fn extend<A: Allocator>(row: &mut Vec<Option<Entry>, A>, places: usize) -> Result<(), AllocError>
+    ensures ok { OnOk result (row.new.items ≡ row.old.items ++ replicate (places - length row.old.items) None) }
+    ensures err { OnErr result (row.new.items ≡ row.old.items) }
+{
+    if places <= row.len() {
+        return Ok(());
+    }
+    row.resize(places, None)
+}
+
+/// The place of an id in a row of so many, where it has one.
+fn place_of(id: u32, places: usize) -> Option<usize>
+    ensures some { IfSome result (λ place. (id ≡ place + 1) × (place < places)) }
+    ensures none { IfNone result ((id ≡ 0) ⊎ (places < id)) }
+{
+    if id == 0 || id as usize > places {
+        return None;
+    }
+    Some(id as usize - 1)
+}
+
+/// The first place of a row, from this one on, at which an object stands.
+fn first_held(row: &[Option<Entry>], from: usize) -> Option<usize>
+    ensures some { IfSome result (λ place. (from ≤ place) × (place < length row.now) × IsSome (slice_index_or row.now place None) × ((other : ℕ) → from ≤ other → other < place → slice_index_or row.now other None ≡ None)) }
+    ensures none { IfNone result ((other : ℕ) → from ≤ other → slice_index_or row.now other None ≡ None) }
+{
+    for place in from..row.len() {
+        if row[place].is_some() {
+            return Some(place);
+        }
+    }
+    None
 }

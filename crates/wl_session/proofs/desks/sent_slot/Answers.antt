@@ -1,6 +1,6 @@
 use Rattle.std.proofs.Common.{Some, ap, refl}
 use Rattle.wl_session.specs.declared.steps.Done.TheVariants as gave
-use Rattle.wl_session.specs.Step.{sent_by}
+use Rattle.wl_client.specs.Peer.{sent_by}
 use Rattle.wl_session.proofs.Desktops.{ChangesAt-some}
 use Rattle.wl_session.proofs.desks.sent_slot.Goals as goal
 

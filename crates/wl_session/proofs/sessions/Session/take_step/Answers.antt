@@ -10,9 +10,10 @@ pub returns-in-Feed : goal.returns-in-Feed
 returns-in-Feed g c =
     let quiet : takes_memory (act_of c.args.step.now) ≡ false = elim c.in-Feed.is [
       | inl h ↦ ap (λ s. takes_memory (act_of s)) h.2
-      | inr (inl h) ↦ ap (λ s. takes_memory (act_of s)) h.1
-      | inr (inr (inl h)) ↦ ap (λ s. takes_memory (act_of s)) h.2
-      | inr (inr (inr h)) ↦ ap (λ s. takes_memory (act_of s)) h.1
+      | inr (inl h) ↦ ap (λ s. takes_memory (act_of s)) h.4
+      | inr (inr (inl h)) ↦ ap (λ s. takes_memory (act_of s)) h.1
+      | inr (inr (inr (inl h))) ↦ ap (λ s. takes_memory (act_of s)) h.2
+      | inr (inr (inr (inr h))) ↦ ap (λ s. takes_memory (act_of s)) h.1
     ] in record {
       taken = λ _. ([], sym (append-nil _), Leads-none _ c.step.result _ _ c.step.ensures.step (Shows-none _ _ _ quiet c.step.ensures.frame));
       refused = λ h. absurd (cc);
@@ -24,3 +25,9 @@ returns-in-Ok-clause-taken g c = rw c.in-Connect.is (λ _. ([], sym (append-nil 
 
 pub returns-in-Ok-2-clause-taken : goal.returns-in-Ok-2-clause-taken
 returns-in-Ok-2-clause-taken g c = rw c.in-Connect.is (λ _. ([], sym (append-nil _), Leads-none Connect (gave.Connect c.connect.result) _ _ c.connect.ensures.step (refl, c.connect.ensures.frame)))
+
+pub returns-in-Tick-clause-taken : goal.returns-in-Tick-clause-taken
+returns-in-Tick-clause-taken g c = rw c.in-Tick.is c.take_tick.ensures.taken
+
+pub returns-in-Tick-clause-refused : goal.returns-in-Tick-clause-refused
+returns-in-Tick-clause-refused g c = λ h. (c.take_tick.ensures.refused h, rw c.in-Tick.is refl)

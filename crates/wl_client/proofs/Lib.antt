@@ -1,0 +1,5 @@
+pub mod Finds
+pub mod Peers
+pub mod Pieces
+pub mod Rows
+pub mod Unique

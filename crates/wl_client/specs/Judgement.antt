@@ -1,0 +1,183 @@
+-- The order of refusals: what a message asks, or the first error that it has.
+use Rattle.std.specs.List.{list_all}
+use Rattle.std.specs.Prelude.{ℕ, ℤ, pos, List, length, Bool, ◌&&◌, ◌==◌, not, nat_le, if◌then◌else◌, is_some, Option, Some, None, Result, Ok, Err, slice_index_or, []}
+use Rattle.wl_wire.specs.Wire.{Field, Word, Number, Text, Block}
+use Rattle.wl_proto.specs.declared.interface.Interface.{Interface}
+use Rattle.wl_proto.specs.declared.interface.Interface.TheVariants.{WlDisplay, WlRegistry, WlCompositor, WlRegion, WlShm, WlShmPool, WlBuffer, WlSeat}
+use Rattle.wl_proto.specs.declared.error.ProtoError.{ProtoError}
+use Rattle.wl_proto.specs.declared.argument.NewId.{NewId}
+use Rattle.wl_proto.specs.Messages.{Message}
+use Rattle.wl_proto.specs.Objects.{objects_in as objects_named, new_id_in}
+use Rattle.wl_proto.specs.Spelling.{decoded}
+use Rattle.wl_geom.specs.declared.rect.Rect.{Rect}
+use Rattle.wl_store.specs.Layout.{layout_refusal}
+use Rattle.wl_store.specs.Stores.{Stock, can_hold, create_refusal, resize_refusal, size_of}
+use Rattle.wl_store.specs.declared.place.LayoutError.{LayoutError}
+use Rattle.wl_store.specs.declared.place.LayoutError.TheVariants.{Format, Stride}
+use Rattle.wl_store.specs.declared.stores.StoreError.{StoreError}
+use Rattle.wl_store.specs.declared.stores.StoreError.TheVariants.{BadSize, Shrinks}
+use Rattle.wl_client.specs.declared.refusals.ErrorCode.TheVariants.{InvalidObject, InvalidMethod, Implementation, MissingCapability, InvalidFormat, InvalidStride, InvalidFd}
+use Rattle.wl_client.specs.declared.refusals.Refusal.{Refusal}
+use Rattle.wl_client.specs.declared.actions.Action.{Action}
+use Rattle.wl_client.specs.declared.actions.Action.TheVariants.{Sync, GetRegistry, Bind, CreateRegion, AddToRegion, SubtractFromRegion, DestroyRegion, CreatePool, CreateBuffer, ResizePool, DestroyPool, DestroyBuffer}
+use Rattle.wl_client.specs.Buffers.{Buffer, buffer_asked}
+use Rattle.wl_client.specs.Objects.{ById, Object, Objects, bound_interface, fits}
+use Rattle.wl_client.specs.Told.{display_error}
+
+-- What a judgement looks at: the live objects, and how many they are; how many changes each region had; the stores of the pools; the
+-- buffers; and the stores.
+pub record Known : Type 0 where
+  pub objects : Objects
+  pub held : ℕ
+  pub changes : ById ℕ
+  pub pools : ById ℕ
+  pub buffers : ById Buffer
+  pub stores : Stock
+
+-- After the header come the object, the opcode at the object's version, the arguments, the objects
+-- that they name, the new id, the limits, and the request's own errors. Want of memory comes last.
+
+-- a new object may have this id: 1 to 0xfeffffff are the client's (Wayland protocol, 'Creating Objects'), and none has it
+abbrev pub is_free : Objects → ℕ → Bool
+is_free objects id = nat_le 1 id && (nat_le id 4278190079 && not (is_some (objects id)))
+
+abbrev pub word_of_field : Field → ℕ
+word_of_field (Word n) = n
+word_of_field (Number z) = 0
+word_of_field (Text text) = 0
+word_of_field (Block block) = 0
+
+abbrev pub number_of_field : Field → ℤ
+number_of_field (Number z) = z
+number_of_field (Word n) = pos 0
+number_of_field (Text text) = pos 0
+number_of_field (Block block) = pos 0
+
+abbrev pub text_of_field : Field → List ℕ
+text_of_field (Text text) = text
+text_of_field (Word n) = []
+text_of_field (Number z) = []
+text_of_field (Block block) = []
+
+abbrev pub word_in : ℕ → List Field → ℕ
+word_in k fields = word_of_field (slice_index_or fields k (Word 0))
+
+abbrev pub number_in : ℕ → List Field → ℤ
+number_in k fields = number_of_field (slice_index_or fields k (Word 0))
+
+abbrev pub text_in : ℕ → List Field → List ℕ
+text_in k fields = text_of_field (slice_index_or fields k (Word 0))
+
+-- wl_display
+abbrev pub display_action : ℕ → List Field → Action
+display_action opcode fields = if opcode == 0 then Sync (word_in 0 fields) else GetRegistry (word_in 0 fields)
+
+-- wl_registry.bind: one of the globals' versions
+abbrev pub binds : ℕ → ℕ → Option Interface → Result Action Refusal
+binds id version None = Err (display_error InvalidObject)
+binds id version (Some interface) = Ok (Bind id interface version)
+
+abbrev pub registry_action : List Field → Result Action Refusal
+registry_action fields = binds (word_in 3 fields) (word_in 2 fields) (bound_interface (word_in 0 fields) (text_in 1 fields) (word_in 2 fields))
+
+-- wl_compositor: surfaces aren't served yet
+abbrev pub compositor_action : ℕ → ℕ → List Field → Result Action Refusal
+compositor_action version opcode fields =
+    if opcode == 1 then Ok (CreateRegion (word_in 0 fields) version) else Err (display_error Implementation)
+
+-- wl_region: a region takes 512 changes
+abbrev pub rect_in : List Field → Rect
+rect_in fields = record { x = number_in 0 fields; y = number_in 1 fields; w = number_in 2 fields; h = number_in 3 fields }
+
+abbrev pub changed_unless_full : ℕ → Action → Result Action Refusal
+changed_unless_full changes change = if nat_le 512 changes then Err (display_error Implementation) else Ok change
+
+abbrev pub region_action : ℕ → Option ℕ → ℕ → List Field → Result Action Refusal
+region_action object None opcode fields = Err (display_error Implementation)
+region_action object (Some changes) opcode fields =
+    if opcode == 0
+    then Ok (DestroyRegion object)
+    else changed_unless_full changes (if opcode == 1 then AddToRegion object (rect_in fields) else SubtractFromRegion object (rect_in fields))
+
+-- wl_shm.create_pool: the limits on stores come first
+abbrev pub pool_created : ℕ → ℕ → ℕ → ℤ → Option StoreError → Result Action Refusal
+pool_created object version id size None = Ok (CreatePool id version size)
+pool_created object version id size (Some BadSize) = Err (record { object = object; code = InvalidStride })
+pool_created object version id size (Some error) = Err (display_error Implementation)
+
+abbrev pub shm_action : ℕ → ℕ → Stock → List Field → Result Action Refusal
+shm_action object version stores fields =
+    pool_created object version (word_in 0 fields) (number_in 1 fields) (create_refusal (number_in 1 fields) stores)
+
+-- wl_shm_pool.create_buffer
+abbrev pub layout_refused : ℕ → LayoutError → Refusal
+layout_refused object Format = record { object = object; code = InvalidFormat }
+layout_refused object Stride = record { object = object; code = InvalidStride }
+
+abbrev pub buffer_laid : ℕ → ℕ → ℕ → Buffer → Option LayoutError → Result Action Refusal
+buffer_laid object version id buffer None = Ok (CreateBuffer id version buffer)
+buffer_laid object version id buffer (Some error) = Err (layout_refused object error)
+
+-- The buffer lies in the store. A store has at most 4,294,967,295 uses.
+abbrev pub buffer_created : ℕ → ℕ → ℕ → Stock → ℕ → ℤ → ℤ → ℤ → ℤ → ℕ → Result Action Refusal
+buffer_created object version store stores id offset width height stride format =
+    if can_hold store stores
+    then buffer_laid object version id (buffer_asked store offset width height stride format) (layout_refusal (size_of store stores) offset width height stride format)
+    else Err (display_error Implementation)
+
+-- wl_shm_pool.resize: the limit on the bytes of all stores comes first
+abbrev pub pool_resized : ℕ → ℕ → ℤ → Option StoreError → Result Action Refusal
+pool_resized object store size None = Ok (ResizePool store size)
+pool_resized object store size (Some Shrinks) = Err (record { object = object; code = InvalidFd })
+pool_resized object store size (Some error) = Err (display_error Implementation)
+
+abbrev pub pool_action : ℕ → ℕ → Stock → Option ℕ → ℕ → List Field → Result Action Refusal
+pool_action object version stores None opcode fields = Err (display_error Implementation)
+pool_action object version stores (Some store) opcode fields =
+    if opcode == 0
+    then buffer_created object version store stores (word_in 0 fields) (number_in 1 fields) (number_in 2 fields) (number_in 3 fields) (number_in 4 fields) (word_in 5 fields)
+    else (if opcode == 1 then Ok (DestroyPool object store) else pool_resized object store (number_in 0 fields) (resize_refusal store (number_in 0 fields) stores))
+
+-- wl_buffer.destroy
+abbrev pub buffer_destroyed : ℕ → Option Buffer → Result Action Refusal
+buffer_destroyed object None = Err (display_error Implementation)
+buffer_destroyed object (Some buffer) = Ok (DestroyBuffer object buffer.store)
+
+-- wl_seat has a pointer, which isn't served yet, and no keyboard and no touch
+abbrev pub seat_refusal : ℕ → ℕ → Refusal
+seat_refusal object opcode = if opcode == 0 then display_error Implementation else record { object = object; code = MissingCapability }
+
+-- The request's own errors, and what it asks. What isn't served yet is refused as a limit would be.
+abbrev pub action_of : Known → ℕ → ℕ → Interface → ℕ → List Field → Result Action Refusal
+action_of known object version WlDisplay opcode fields = Ok (display_action opcode fields)
+action_of known object version WlRegistry opcode fields = registry_action fields
+action_of known object version WlCompositor opcode fields = compositor_action version opcode fields
+action_of known object version WlRegion opcode fields = region_action object (known.changes object) opcode fields
+action_of known object version WlShm opcode fields = shm_action object version known.stores fields
+action_of known object version WlShmPool opcode fields = pool_action object version known.stores (known.pools object) opcode fields
+action_of known object version WlBuffer opcode fields = buffer_destroyed object (known.buffers object)
+action_of known object version WlSeat opcode fields = Err (seat_refusal object opcode)
+action_of known object version interface opcode fields = Err (display_error Implementation)
+
+-- A new id must be free, and no client has more than 8,192 objects.
+abbrev pub after_new_id : Objects → ℕ → Option NewId → Result Action Refusal → Result Action Refusal
+after_new_id objects held None action = action
+after_new_id objects held (Some new) action =
+    if is_free objects new.id
+    then (if nat_le 8192 held then Err (display_error Implementation) else action)
+    else Err (display_error InvalidObject)
+
+abbrev pub judged : Known → ℕ → ℕ → Result Message ProtoError → Result Action Refusal
+judged known object version (Err error) = Err (display_error InvalidMethod)
+judged known object version (Ok request) =
+    if list_all (fits known.objects) (objects_named request)
+    then after_new_id known.objects known.held (new_id_in request) (action_of known object version request.interface request.opcode request.fields)
+    else Err (display_error InvalidMethod)
+
+abbrev pub judged_at : Known → ℕ → ℕ → List ℕ → Option Object → Result Action Refusal
+judged_at known object opcode body None = Err (display_error InvalidObject)
+judged_at known object opcode body (Some o) = judged known object o.version (decoded o.interface o.version opcode body)
+
+-- what a message to an object asks, or the first error that it has
+abbrev pub judge : Known → ℕ → ℕ → List ℕ → Result Action Refusal
+judge known object opcode body = judged_at known object opcode body (known.objects object)

@@ -1,0 +1,10 @@
+pub mod Agreement
+pub mod Buffers
+pub mod Judgement
+pub mod Objects
+pub mod Peer
+pub mod Plain
+pub mod Said
+pub mod Told
+pub mod View
+pub use Rattle.wl_wire.specs.Wire

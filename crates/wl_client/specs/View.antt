@@ -1,0 +1,40 @@
+-- What is kept of a client, as plain values.
+use Rattle.std.specs.Prelude.{ℕ, List, [], Option, Some, None, Result, Ok, Err}
+use Rattle.wl_geom.specs.Region.{Area}
+use Rattle.wl_store.specs.Stores.{Stock}
+use Rattle.wl_table.specs.Objects.{Held}
+use Rattle.wl_store.specs.declared.stores.StoreError.{StoreError}
+use Rattle.wl_client.specs.declared.clients.Cause.{Cause}
+use Rattle.wl_client.specs.declared.outputs.Output.{Output}
+use Rattle.wl_client.specs.Buffers.{Buffer}
+
+-- why it ended; the bytes that wait to be read and to be sent; the table of its live objects; by their ids the regions, the stores of
+-- the pools, and the buffers; the stores; and the output that it is shown on
+pub record ClientView : Type 0 where
+  pub ended : Option Cause
+  pub rest : List ℕ
+  pub unsent : List ℕ
+  pub objects : Held
+  pub regions : List (ℕ × Area)
+  pub pools : List (ℕ × ℕ)
+  pub buffers : List (ℕ × Buffer)
+  pub stores : Stock
+  pub output : Output
+
+-- nothing but what waits to be sent is kept of a client that ended
+abbrev pub cleared : Cause → ClientView → ClientView
+cleared cause v =
+    record v {
+      ended = Some cause;
+      rest = [];
+      objects = [];
+      regions = [];
+      pools = [];
+      buffers = [];
+      stores = record { held = []; made = 0 };
+    }
+
+-- what a write of a store answers
+abbrev pub stored : Option StoreError → Result Unit StoreError
+stored None = Ok tt
+stored (Some error) = Err error

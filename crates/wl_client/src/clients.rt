@@ -1,0 +1,321 @@
+//! One client: what came from it, what is to be sent to it, and what its messages ask.
+
+ghost use Rattle.std.specs.Option.{option_map};
+ghost use Rattle.std.specs.Prelude.{◌≡◌, ◌++◌, [], length, ◌<◌, ◌≤◌, ◌∷◌, OnOk, OnErr, IfOk, IfErr, IsTrue, MatchBool, Some, None, true, false, is_some, is_none, map, nat_le};
+ghost use Rattle.wl_client.specs.Agreement.{output_of};
+ghost use Rattle.wl_client.specs.Told.{id_deleted, said_bytes};
+ghost use Rattle.wl_client.specs.Peer.{has_room, object_at_version};
+ghost use Rattle.wl_client.specs.Said.{said_of};
+
+use crate::actions::Action;
+use crate::backlog::Backlog;
+use crate::buffers::ShmBuffer;
+use crate::events::{deletion_event, error_event};
+use crate::outputs::Output;
+use crate::refusals::{ErrorCode, Refusal};
+use std::alloc::{AllocError, Allocator};
+use std::collections::BTreeMap;
+use std::marker::Model;
+use wl_geom::Region;
+use wl_proto::{Event, Interface, encoded_size};
+use wl_store::{StoreError, StoreNo, Stores};
+use wl_table::{Entry, Objects};
+use wl_wire::{PutError, Split, split};
+
+/// Why a client ended.
+#[derive(Clone, Copy, Debug, PartialEq, Eq)]
+pub enum Cause {
+    /// It broke the protocol. It was told so by wl_display.error with this object and code.
+    Protocol { object: u32, code: u32 },
+    /// There was no memory for it.
+    Memory,
+    /// It left too many bytes unread.
+    Slow,
+    /// It went.
+    Gone,
+}
+
+/// How many bytes may wait for a client.
+const UNSENT_LIMIT: usize = 1_048_576;
+
+/// One client. It is seen as the values that it keeps.
+#[derive(Drop)]
+pub struct Client<A: Allocator> {
+    pub(crate) ended: Option<Cause>,
+    pub(crate) rest: Backlog<A>,
+    pub(crate) unsent: Backlog<A>,
+    pub(crate) objects: Objects<A>,
+    pub(crate) regions: BTreeMap<u32, Region<A>, A>,
+    pub(crate) pools: BTreeMap<u32, StoreNo, A>,
+    pub(crate) buffers: BTreeMap<u32, ShmBuffer, A>,
+    pub(crate) stores: Stores<A>,
+    pub(crate) output: Output,
+    pub(crate) alloc: A,
+}
+
+impl<A: Allocator> Model for Client<A> {
+    ghost use Rattle.wl_client.specs.View.{ClientView};
+
+    ghost Value = { ClientView };
+
+    ghost view = { λ c. record { ended = c.ended; rest = c.rest; unsent = c.unsent; objects = c.objects; regions = c.regions.entries; pools = c.pools.entries; buffers = c.buffers.entries; stores = c.stores; output = c.output } };
+}
+
+impl<A: Allocator + Copy> Client<A> {
+    ghost use Rattle.wl_client.specs.Peer.{Peer, IsIdleAt, newcomer, Queues, Errs, LacksMemory, WantsOr, Acts, Answers, Serves, Feeds, counted, made, removed, left_by, sent_by, stored_by};
+    ghost use Rattle.wl_client.specs.View.{cleared, stored};
+    ghost use Rattle.wl_store.specs.Stores.{store_at, write_refusal};
+    ghost use Rattle.wl_client.specs.Agreement.{IsPeer};
+
+    /// A client that has just connected and is shown on this output. Its one object is wl_display.
+    pub fn new(alloc: A, output: Output) -> Result<Self, AllocError>
+        ensures { IfOk result (λ c. IsPeer c (newcomer (output_of output))) }
+    {
+        let mut objects = Objects::new(alloc);
+        let display = Entry {
+            interface: Interface::WlDisplay,
+            version: 1,
+            target: 0,
+        };
+        let Ok(()) = objects.insert(1, display) else {
+            return Err(AllocError);
+        };
+        Ok(Client {
+            ended: None,
+            rest: Backlog::new(alloc),
+            unsent: Backlog::new(alloc),
+            objects,
+            regions: BTreeMap::new(alloc),
+            pools: BTreeMap::new(alloc),
+            buffers: BTreeMap::new(alloc),
+            stores: Stores::new(alloc),
+            output,
+            alloc,
+        })
+    }
+
+    /// Queues an event. An `Err` says why it can't be queued, and changes nothing.
+    fn queue(&mut self, event: &Event) -> Result<(), Cause>
+        ensures ok { OnOk result (IsTrue (has_room self.old.unsent (said_of event.now)) × (self.new ≡ record self.old { unsent = self.old.unsent ++ said_bytes (said_of event.now) })) }
+        ensures err { OnErr result (self.new ≡ self.old) }
+        ensures cause { IfErr result (λ e. MatchBool (has_room self.old.unsent (said_of event.now)) (e ≡ Cause.Memory) (e ≡ Cause.Slow)) }
+    {
+        let Some(size) = encoded_size(event) else {
+            return Err(Cause::Slow);
+        };
+        if self.unsent.as_slice().len() + size as usize > UNSENT_LIMIT {
+            return Err(Cause::Slow);
+        }
+        match self.unsent.encode(event) {
+            Ok(()) => Ok(()),
+            Err(PutError::TooLong) => Err(Cause::Slow),
+            Err(PutError::Memory) => Err(Cause::Memory),
+        }
+    }
+
+    fn end(&mut self, cause: Cause)
+        ensures { self.new ≡ cleared cause self.old }
+    {
+        self.ended = Some(cause);
+        self.rest.clear();
+        self.objects = Objects::new(self.alloc);
+        self.regions = BTreeMap::new(self.alloc);
+        self.pools = BTreeMap::new(self.alloc);
+        self.buffers = BTreeMap::new(self.alloc);
+        self.stores = Stores::new(self.alloc);
+    }
+
+    /// Ends the client with an error, of which it is told.
+    fn refuse(&mut self, refusal: Refusal)
+        ensures errs { (p : Peer) → IsPeer self.old p → (q : Peer) × Errs refusal p q × IsPeer self.new q }
+        ensures rest { length self.new.rest ≡ 0 }
+    {
+        let cause = match self.queue(&error_event(refusal)) {
+            Ok(()) => Cause::Protocol {
+                object: refusal.object,
+                code: refusal.code.number(),
+            },
+            Err(cause) => cause,
+        };
+        self.end(cause);
+    }
+
+    /// Queues events in turn. Where one isn't queued, the client ends.
+    pub(crate) fn queue_all(&mut self, events: &[Event])
+        ensures queues { (p : Peer) → IsPeer self.old p → (q : Peer) × Queues (map said_of events.now) p q × IsPeer self.new q }
+        ensures rest { length self.new.rest ≤ length self.old.rest }
+    {
+        for event in events {
+            if let Err(cause) = self.queue(event) {
+                self.end(cause);
+                return;
+            }
+        }
+    }
+
+    /// Ends the client for want of memory, of which it is told where that can be.
+    pub(crate) fn lack_memory(&mut self)
+        ensures lacks { (p : Peer) → IsPeer self.old p → (q : Peer) × LacksMemory p q × IsPeer self.new q }
+        ensures rest { length self.new.rest ≡ 0 }
+    {
+        let _ = self.queue(&error_event(Refusal::of_display(ErrorCode::NoMemory)));
+        self.end(Cause::Memory);
+    }
+
+    /// Makes an object, which tells these events.
+    pub(crate) fn make(&mut self, id: u32, interface: Interface, version: u32, events: &[Event])
+        ensures makes { (p : Peer) → IsPeer self.old p → (q : Peer) × WantsOr true (Queues (map said_of events.now) (made id (object_at_version interface version) p) q) p q × IsPeer self.new q }
+        ensures rest { length self.new.rest ≤ length self.old.rest }
+    {
+        let entry = Entry {
+            interface,
+            version,
+            target: 0,
+        };
+        match self.objects.insert(id, entry) {
+            Ok(()) => self.queue_all(events),
+            Err(_) => self.lack_memory(),
+        }
+    }
+
+    /// Removes an object, whose id is given back.
+    pub(crate) fn remove(&mut self, id: u32)
+        ensures removes { (p : Peer) → IsPeer self.old p → (q : Peer) × Queues (id_deleted id ∷ []) (removed id p) q × IsPeer self.new q }
+        ensures rest { length self.new.rest ≤ length self.old.rest }
+    {
+        let _removed = self.objects.remove(id);
+        self.queue_all(&[deletion_event(id)]);
+    }
+
+    /// Answers an accepted message, or refuses it.
+    fn answer(&mut self, judged: Result<Action, Refusal>)
+        ensures answers { (p : Peer) → IsPeer self.old p → (q : Peer) × Answers judged p q × IsPeer self.new q }
+        ensures rest { length self.new.rest ≤ length self.old.rest }
+    {
+        match judged {
+            Ok(action) => self.act(action),
+            Err(refusal) => self.refuse(refusal),
+        }
+    }
+
+    /// Does what an accepted message asks.
+    fn act(&mut self, action: Action)
+        ensures acts { (p : Peer) → IsPeer self.old p → (q : Peer) × Acts action (counted p) q × IsPeer self.new q }
+        ensures rest { length self.new.rest ≤ length self.old.rest }
+    {
+        match action {
+            Action::Sync(callback) => self.sync(callback),
+            Action::GetRegistry(registry) => self.get_registry(registry),
+            Action::Bind(id, interface, version) => self.bind(id, interface, version),
+            Action::CreateRegion(id, version) => self.create_region(id, version),
+            Action::AddToRegion(id, rect) => self.add_to_region(id, rect),
+            Action::SubtractFromRegion(id, rect) => self.subtract_from_region(id, rect),
+            Action::DestroyRegion(id) => self.destroy_region(id),
+            Action::CreatePool(id, version, size) => self.create_pool(id, version, size),
+            Action::CreateBuffer(id, version, buffer) => self.create_buffer(id, version, buffer),
+            Action::ResizePool(store, size) => self.resize_pool(store, size),
+            Action::DestroyPool(id, store) => self.destroy_pool(id, store),
+            Action::DestroyBuffer(id, store) => self.destroy_buffer(id, store),
+        }
+    }
+
+    /// Takes the first whole message of a client that lives, and answers whether there was one.
+    fn serve(&mut self) -> bool
+        ensures serves { result ≡ true → (p : Peer) → IsPeer self.old p → (q : Peer) × Serves p q × IsPeer self.new q }
+        ensures idle { result ≡ false → (self.new ≡ self.old) × IsIdleAt self.old.ended self.old.rest }
+        ensures less { result ≡ true → length self.new.rest < length self.old.rest }
+    {
+        if self.has_ended() {
+            return false;
+        }
+        match split(self.rest.as_slice()) {
+            Split::More => false,
+            Split::Bad => {
+                self.refuse(Refusal::of_display(ErrorCode::InvalidMethod));
+                true
+            }
+            Split::Message {
+                object,
+                opcode,
+                size,
+            } => {
+                let size = size as usize;
+                let judged = self.judged(object, opcode, &self.rest.as_slice()[8..size]);
+                self.rest.take_front(size);
+                self.answer(judged);
+                true
+            }
+        }
+    }
+
+    /// A piece comes. Each whole message in it is taken, until one ends the client.
+    pub fn feed(&mut self, piece: &[u8])
+        ensures { (p : Peer) → IsPeer self.old p → (q : Peer) × Feeds piece.now p q × IsPeer self.new q }
+    {
+        if self.ended.is_some() {
+            return;
+        }
+        if self.rest.append(piece).is_err() {
+            self.end(Cause::Memory);
+            return;
+        }
+        while self.serve() {}
+    }
+
+    /// Why the client ended, if it did.
+    pub fn ended(&self) -> Option<Cause>
+        ensures { result ≡ self.now.ended }
+    {
+        self.ended
+    }
+
+    pub fn has_ended(&self) -> bool
+        ensures { result ≡ is_some self.now.ended }
+    {
+        self.ended.is_some()
+    }
+
+    /// The bytes that wait to be sent to the client.
+    pub fn unsent(&self) -> &[u8]
+        ensures { result.now ≡ self.now.unsent }
+    {
+        self.unsent.as_slice()
+    }
+
+    /// The client goes. True where it was alive.
+    pub fn gone(&mut self) -> bool
+        ensures { (p : Peer) → IsPeer self.old p → IsPeer self.new (left_by p.status p) × (result ≡ is_none p.status) }
+    {
+        if self.ended.is_some() {
+            return false;
+        }
+        self.end(Cause::Gone);
+        true
+    }
+
+    /// So many unsent bytes were sent. False and unchanged where there are fewer.
+    pub fn sent(&mut self, count: usize) -> bool
+        ensures { (p : Peer) → IsPeer self.old p → IsPeer self.new (sent_by count p) × (result ≡ nat_le count (length p.unsent)) }
+    {
+        if count > self.unsent.as_slice().len() {
+            return false;
+        }
+        self.unsent.take_front(count);
+        true
+    }
+
+    /// Puts bytes into a store. `NoStore`, or `OutOfRange` where they pass its end; nothing is changed then.
+    pub fn store(&mut self, store: StoreNo, at: u32, bytes: &[u8]) -> Result<(), StoreError>
+        ensures answer { result ≡ stored (write_refusal store at (length bytes.now) self.old.stores) }
+        ensures stored { (p : Peer) → IsPeer self.old p → IsPeer self.new (stored_by store at bytes.now (write_refusal store at (length bytes.now) p.stores) p) }
+    {
+        self.stores.write(store, at, bytes)
+    }
+
+    /// How many bytes a store has; None where it isn't live.
+    pub fn store_size(&self, store: StoreNo) -> Option<u32>
+        ensures { result ≡ option_map (λ s. length s.bytes) (store_at store self.now.stores) }
+    {
+        self.stores.size(store)
+    }
+}

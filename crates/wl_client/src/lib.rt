@@ -1,0 +1,24 @@
+//! One client of a compositor: the bytes that came from it, its objects and what they hold, and the bytes that wait to be sent to it.
+#![tactic(auto)]
+
+mod actions;
+mod backlog;
+mod buffers;
+mod clients;
+mod events;
+mod globals;
+mod judgement;
+mod outputs;
+mod refusals;
+mod wl_buffer;
+mod wl_compositor;
+mod wl_display;
+mod wl_region;
+mod wl_registry;
+mod wl_seat;
+mod wl_shm;
+mod wl_shm_pool;
+
+pub use clients::{Cause, Client};
+pub use outputs::Output;
+pub use wl_store::{StoreError, StoreNo};

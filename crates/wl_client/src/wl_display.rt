@@ -1,0 +1,44 @@
+//! The requests of wl_display.
+
+ghost use Rattle.std.specs.Prelude.{◌≡◌, ◌≤◌, length};
+ghost use Rattle.wl_proto.specs.Messages.{wl_display_request};
+ghost use Rattle.wl_client.specs.Judgement.{display_action};
+
+use crate::actions::Action;
+use crate::clients::Client;
+use crate::events::{callback_event, deletion_event};
+use crate::globals::globals_told;
+use std::alloc::Allocator;
+use wl_proto::{Interface, WlDisplayRequest};
+
+/// What a request of wl_display asks.
+pub(crate) fn action(request: &WlDisplayRequest) -> Action
+    ensures { result ≡ display_action (wl_display_request request.now).opcode (wl_display_request request.now).fields }
+{
+    match *request {
+        WlDisplayRequest::Sync { callback } => Action::Sync(callback),
+        WlDisplayRequest::GetRegistry { registry } => Action::GetRegistry(registry),
+    }
+}
+
+impl<A: Allocator + Copy> Client<A> {
+    ghost use Rattle.wl_client.specs.Agreement.{IsPeer};
+    ghost use Rattle.wl_client.specs.Peer.{Acts, Peer, counted};
+    ghost use Rattle.wl_client.specs.declared.actions.Action.TheVariants.{Sync, GetRegistry};
+
+    /// A sync: its callback is done at once, and its id given back.
+    pub(crate) fn sync(&mut self, callback: u32)
+        ensures acts { (p : Peer) → IsPeer self.old p → (q : Peer) × Acts (Sync callback) (counted p) q × IsPeer self.new q }
+        ensures rest { length self.new.rest ≤ length self.old.rest }
+    {
+        self.queue_all(&[callback_event(callback), deletion_event(callback)]);
+    }
+
+    /// A registry, which tells the globals.
+    pub(crate) fn get_registry(&mut self, registry: u32)
+        ensures acts { (p : Peer) → IsPeer self.old p → (q : Peer) × Acts (GetRegistry registry) (counted p) q × IsPeer self.new q }
+        ensures rest { length self.new.rest ≤ length self.old.rest }
+    {
+        self.make(registry, Interface::WlRegistry, 1, &globals_told(registry));
+    }
+}

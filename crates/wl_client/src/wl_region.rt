@@ -1,0 +1,110 @@
+//! The requests of wl_region.
+
+ghost use Rattle.std.specs.Prelude.{◌≡◌, ◌≤◌, length};
+ghost use Rattle.std.specs.Option.{option_map};
+ghost use Rattle.wl_proto.specs.Messages.{wl_region_request};
+ghost use Rattle.wl_client.specs.Judgement.{changed_unless_full, region_action};
+ghost use Rattle.wl_client.specs.Objects.{held_at};
+
+use crate::actions::Action;
+use crate::clients::Client;
+use crate::refusals::{ErrorCode, Refusal};
+use std::alloc::Allocator;
+use std::collections::BTreeMap;
+use wl_geom::{MAX_CHANGES, Rect, Region};
+use wl_proto::{Interface, WlRegionRequest};
+
+/// What a request of a wl_region asks, or its refusal where the region has all its changes.
+pub(crate) fn action<A: Allocator>(
+    regions: &BTreeMap<u32, Region<A>, A>,
+    object: u32,
+    request: &WlRegionRequest,
+) -> Result<Action, Refusal>
+    ensures { result ≡ region_action object (option_map (λ area. area.changes) (held_at regions.now.entries object)) (wl_region_request request.now).opcode (wl_region_request request.now).fields }
+{
+    let Some(region) = regions.get(&object) else {
+        return Err(Refusal::of_display(ErrorCode::Implementation));
+    };
+    match *request {
+        WlRegionRequest::Destroy => Ok(Action::DestroyRegion(object)),
+        WlRegionRequest::Add {
+            x,
+            y,
+            width: w,
+            height: h,
+        } => change(region, Action::AddToRegion(object, Rect { x, y, w, h })),
+        WlRegionRequest::Subtract {
+            x,
+            y,
+            width: w,
+            height: h,
+        } => change(
+            region,
+            Action::SubtractFromRegion(object, Rect { x, y, w, h }),
+        ),
+    }
+}
+
+/// A change, unless the region has all its changes.
+fn change<A: Allocator>(region: &Region<A>, change: Action) -> Result<Action, Refusal>
+    ensures { result ≡ changed_unless_full region.now.changes change }
+{
+    if region.changes() >= MAX_CHANGES {
+        return Err(Refusal::of_display(ErrorCode::Implementation));
+    }
+    Ok(change)
+}
+
+impl<A: Allocator + Copy> Client<A> {
+    ghost use Rattle.wl_client.specs.Agreement.{IsPeer};
+    ghost use Rattle.wl_client.specs.Peer.{Acts, Peer, counted};
+    ghost use Rattle.wl_client.specs.declared.actions.Action.TheVariants.{CreateRegion, AddToRegion, SubtractFromRegion, DestroyRegion};
+
+    /// A new region, which is empty.
+    pub(crate) fn create_region(&mut self, id: u32, version: u32)
+        ensures acts { (p : Peer) → IsPeer self.old p → (q : Peer) × Acts (CreateRegion id version) (counted p) q × IsPeer self.new q }
+        ensures rest { length self.new.rest ≤ length self.old.rest }
+    {
+        match self.regions.insert(id, Region::new(self.alloc)) {
+            Ok(_) => self.make(id, Interface::WlRegion, version, &[]),
+            Err(_) => self.lack_memory(),
+        }
+    }
+
+    /// The rectangle is added to a region.
+    pub(crate) fn add_to_region(&mut self, id: u32, rect: Rect)
+        ensures acts { (p : Peer) → IsPeer self.old p → (q : Peer) × Acts (AddToRegion id rect) (counted p) q × IsPeer self.new q }
+        ensures rest { length self.new.rest ≤ length self.old.rest }
+    {
+        let Some(region) = self.regions.get_mut(&id) else {
+            return;
+        };
+        match region.add(rect) {
+            Ok(()) => {}
+            Err(_) => self.lack_memory(),
+        }
+    }
+
+    /// The rectangle is taken from a region.
+    pub(crate) fn subtract_from_region(&mut self, id: u32, rect: Rect)
+        ensures acts { (p : Peer) → IsPeer self.old p → (q : Peer) × Acts (SubtractFromRegion id rect) (counted p) q × IsPeer self.new q }
+        ensures rest { length self.new.rest ≤ length self.old.rest }
+    {
+        let Some(region) = self.regions.get_mut(&id) else {
+            return;
+        };
+        match region.subtract(rect) {
+            Ok(()) => {}
+            Err(_) => self.lack_memory(),
+        }
+    }
+
+    /// A region goes.
+    pub(crate) fn destroy_region(&mut self, id: u32)
+        ensures acts { (p : Peer) → IsPeer self.old p → (q : Peer) × Acts (DestroyRegion id) (counted p) q × IsPeer self.new q }
+        ensures rest { length self.new.rest ≤ length self.old.rest }
+    {
+        let _region = self.regions.remove(&id);
+        self.remove(id);
+    }
+}

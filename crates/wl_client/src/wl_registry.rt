@@ -1,0 +1,49 @@
+//! The requests of wl_registry.
+
+ghost use Rattle.std.specs.Prelude.{◌≡◌, ◌≤◌, length};
+ghost use Rattle.wl_proto.specs.Messages.{wl_registry_request};
+ghost use Rattle.wl_client.specs.Judgement.{registry_action};
+
+use crate::actions::Action;
+use crate::clients::Client;
+use crate::events::{capabilities_told, formats_told, output_told};
+use crate::globals::interface_bound;
+use crate::refusals::{ErrorCode, Refusal};
+use std::alloc::Allocator;
+use wl_proto::{Interface, WlRegistryRequest};
+
+/// What a bind asks, where it is of one of the globals' versions.
+pub(crate) fn action(request: &WlRegistryRequest) -> Result<Action, Refusal>
+    ensures { result ≡ registry_action (wl_registry_request request.now).fields }
+{
+    match request {
+        WlRegistryRequest::Bind {
+            name,
+            interface,
+            version,
+            id,
+        } => match interface_bound(*name, interface, *version) {
+            None => Err(Refusal::of_display(ErrorCode::InvalidObject)),
+            Some(interface) => Ok(Action::Bind(*id, interface, *version)),
+        },
+    }
+}
+
+impl<A: Allocator + Copy> Client<A> {
+    ghost use Rattle.wl_client.specs.Agreement.{IsPeer};
+    ghost use Rattle.wl_client.specs.Peer.{Acts, Peer, counted};
+    ghost use Rattle.wl_client.specs.declared.actions.Action.TheVariants.{Bind};
+
+    /// Makes the object of a bind, which tells what its interface tells at once.
+    pub(crate) fn bind(&mut self, id: u32, interface: Interface, version: u32)
+        ensures acts { (p : Peer) → IsPeer self.old p → (q : Peer) × Acts (Bind id interface version) (counted p) q × IsPeer self.new q }
+        ensures rest { length self.new.rest ≤ length self.old.rest }
+    {
+        match interface {
+            Interface::WlShm => self.make(id, interface, version, &formats_told(id)),
+            Interface::WlSeat => self.make(id, interface, version, &capabilities_told(id)),
+            Interface::WlOutput => self.make(id, interface, version, &output_told(id, self.output)),
+            _ => self.make(id, interface, version, &[]),
+        }
+    }
+}

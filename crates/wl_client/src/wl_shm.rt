@@ -1,0 +1,54 @@
+//! The requests of wl_shm.
+
+ghost use Rattle.std.specs.Prelude.{◌≡◌, ◌≤◌, length};
+ghost use Rattle.wl_proto.specs.Messages.{wl_shm_request};
+ghost use Rattle.wl_client.specs.Judgement.{shm_action};
+
+use crate::actions::Action;
+use crate::clients::Client;
+use crate::refusals::{ErrorCode, Refusal};
+use std::alloc::Allocator;
+use wl_proto::{Interface, WlShmRequest};
+use wl_store::{StoreError, Stores};
+
+/// What a create_pool to a wl_shm of this version asks, or its refusal: the limits on stores, then its size.
+pub(crate) fn action<A: Allocator>(
+    stores: &Stores<A>,
+    object: u32,
+    version: u32,
+    request: &WlShmRequest,
+) -> Result<Action, Refusal>
+    ensures { result ≡ shm_action object version stores.now (wl_shm_request request.now).fields }
+{
+    match *request {
+        WlShmRequest::CreatePool { id, size } => match stores.create_refusal(size) {
+            None => Ok(Action::CreatePool(id, version, size)),
+            Some(StoreError::BadSize) => Err(Refusal {
+                object,
+                code: ErrorCode::InvalidStride,
+            }),
+            Some(_) => Err(Refusal::of_display(ErrorCode::Implementation)),
+        },
+    }
+}
+
+impl<A: Allocator + Copy> Client<A> {
+    ghost use Rattle.wl_client.specs.Agreement.{IsPeer};
+    ghost use Rattle.wl_client.specs.Peer.{Acts, Peer, counted};
+    ghost use Rattle.wl_client.specs.declared.actions.Action.TheVariants.{CreatePool};
+
+    /// A new pool with the client's next store.
+    pub(crate) fn create_pool(&mut self, id: u32, version: u32, size: i32)
+        ensures acts { (p : Peer) → IsPeer self.old p → (q : Peer) × Acts (CreatePool id version size) (counted p) q × IsPeer self.new q }
+        ensures rest { length self.new.rest ≤ length self.old.rest }
+    {
+        let Ok(store) = self.stores.create(size) else {
+            self.lack_memory();
+            return;
+        };
+        match self.pools.insert(id, store) {
+            Ok(_) => self.make(id, Interface::WlShmPool, version, &[]),
+            Err(_) => self.lack_memory(),
+        }
+    }
+}

@@ -1,0 +1,163 @@
+//! The requests of wl_shm_pool.
+
+ghost use Rattle.std.specs.Prelude.{◌≡◌, ◌≤◌, length};
+ghost use Rattle.wl_proto.specs.Messages.{wl_shm_pool_request};
+ghost use Rattle.wl_client.specs.Judgement.{buffer_created, layout_refused, pool_action, pool_resized};
+ghost use Rattle.wl_client.specs.Objects.{held_at};
+ghost use Rattle.wl_store.specs.Stores.{resize_refusal};
+
+use crate::actions::Action;
+use crate::buffers::ShmBuffer;
+use crate::clients::Client;
+use crate::refusals::{ErrorCode, Refusal};
+use std::alloc::Allocator;
+use std::collections::BTreeMap;
+use wl_proto::{Interface, WlShmPoolRequest};
+use wl_store::{LayoutError, StoreError, StoreNo, Stores, layout};
+
+/// What a request to a wl_shm_pool of this version asks, or its refusal.
+pub(crate) fn action<A: Allocator>(
+    pools: &BTreeMap<u32, StoreNo, A>,
+    stores: &Stores<A>,
+    object: u32,
+    version: u32,
+    request: &WlShmPoolRequest,
+) -> Result<Action, Refusal>
+    ensures { result ≡ pool_action object version stores.now (held_at pools.now.entries object) (wl_shm_pool_request request.now).opcode (wl_shm_pool_request request.now).fields }
+{
+    let Some(&store) = pools.get(&object) else {
+        return Err(Refusal::of_display(ErrorCode::Implementation));
+    };
+    match *request {
+        WlShmPoolRequest::CreateBuffer {
+            id,
+            offset,
+            width,
+            height,
+            stride,
+            format,
+        } => {
+            let asked = Asked {
+                store,
+                offset,
+                width,
+                height,
+                stride,
+                format,
+            };
+            create_buffer(stores, object, version, id, &asked)
+        }
+        WlShmPoolRequest::Destroy => Ok(Action::DestroyPool(object, store)),
+        WlShmPoolRequest::Resize { size } => resize(stores, object, store, size),
+    }
+}
+
+/// A buffer as it is asked for.
+#[derive(Clone, Copy)]
+struct Asked {
+    store: StoreNo,
+    offset: i32,
+    width: i32,
+    height: i32,
+    stride: i32,
+    format: u32,
+}
+
+/// A new buffer, or its refusal: the limit on a store's uses, then the format, then where the buffer lies.
+fn create_buffer<A: Allocator>(
+    stores: &Stores<A>,
+    object: u32,
+    version: u32,
+    id: u32,
+    asked: &Asked,
+) -> Result<Action, Refusal>
+    ensures { result ≡ buffer_created object version asked.now.store stores.now id asked.now.offset asked.now.width asked.now.height asked.now.stride asked.now.format }
+{
+    if !stores.can_hold(asked.store) {
+        return Err(Refusal::of_display(ErrorCode::Implementation));
+    }
+    let size = stores.size(asked.store).unwrap_or(0);
+    match layout(
+        size,
+        asked.offset,
+        asked.width,
+        asked.height,
+        asked.stride,
+        asked.format,
+    ) {
+        Ok(layout) => Ok(Action::CreateBuffer(id, version, ShmBuffer::new(asked.store, layout))),
+        Err(error) => Err(layout_refusal(object, error)),
+    }
+}
+
+/// Why a buffer doesn't lie in its store.
+fn layout_refusal(object: u32, error: LayoutError) -> Refusal
+    ensures { result ≡ layout_refused object error }
+{
+    let code = match error {
+        LayoutError::Format => ErrorCode::InvalidFormat,
+        LayoutError::Stride => ErrorCode::InvalidStride,
+    };
+    Refusal { object, code }
+}
+
+/// A pool's new size, or its refusal: the limit on the bytes of all stores, then a smaller size.
+fn resize<A: Allocator>(
+    stores: &Stores<A>,
+    object: u32,
+    store: StoreNo,
+    size: i32,
+) -> Result<Action, Refusal>
+    ensures { result ≡ pool_resized object store size (resize_refusal store size stores.now) }
+{
+    match stores.resize_refusal(store, size) {
+        None => Ok(Action::ResizePool(store, size)),
+        Some(StoreError::Shrinks) => Err(Refusal {
+            object,
+            code: ErrorCode::InvalidFd,
+        }),
+        Some(_) => Err(Refusal::of_display(ErrorCode::Implementation)),
+    }
+}
+
+impl<A: Allocator + Copy> Client<A> {
+    ghost use Rattle.wl_client.specs.Agreement.{IsPeer};
+    ghost use Rattle.wl_client.specs.Peer.{Acts, Peer, counted};
+    ghost use Rattle.wl_client.specs.declared.actions.Action.TheVariants.{CreateBuffer, ResizePool, DestroyPool};
+
+    /// A new buffer, which uses its store.
+    pub(crate) fn create_buffer(&mut self, id: u32, version: u32, buffer: ShmBuffer)
+        ensures acts { (p : Peer) → IsPeer self.old p → (q : Peer) × Acts (CreateBuffer id version buffer) (counted p) q × IsPeer self.new q }
+        ensures rest { length self.new.rest ≤ length self.old.rest }
+    {
+        if !self.stores.hold(buffer.store()) {
+            self.lack_memory();
+            return;
+        }
+        match self.buffers.insert(id, buffer) {
+            Ok(_) => self.make(id, Interface::WlBuffer, version, &[]),
+            Err(_) => self.lack_memory(),
+        }
+    }
+
+    /// The store of a pool grows.
+    pub(crate) fn resize_pool(&mut self, store: StoreNo, size: i32)
+        ensures acts { (p : Peer) → IsPeer self.old p → (q : Peer) × Acts (ResizePool store size) (counted p) q × IsPeer self.new q }
+        ensures rest { length self.new.rest ≤ length self.old.rest }
+    {
+        match self.stores.resize(store, size) {
+            Ok(()) => {}
+            Err(_) => self.lack_memory(),
+        }
+    }
+
+    /// A pool goes. Its store lives on while buffers use it.
+    pub(crate) fn destroy_pool(&mut self, id: u32, store: StoreNo)
+        ensures acts { (p : Peer) → IsPeer self.old p → (q : Peer) × Acts (DestroyPool id store) (counted p) q × IsPeer self.new q }
+        ensures rest { length self.new.rest ≤ length self.old.rest }
+    {
+        let _pool = self.pools.remove(&id);
+        let _live = self.stores.let_go(store);
+        self.remove(id);
+    }
+}
