@@ -7,3 +7,5 @@ pub use Rattle.wl_replay.specs.Line
 pub use Rattle.wl_replay.specs.Lines
 pub use Rattle.wl_replay.specs.Report
 pub use Rattle.wl_replay.specs.Side
+pub use Rattle.wl_replay.specs.Storing
+pub use Rattle.wl_replay.specs.Told

@@ -3,10 +3,13 @@ use Rattle.std.specs.Prelude.{◌≡◌, ◌≢◌, ⊤, ◌⊎◌, ℕ, List, O
 use Rattle.clap.specs.Words.{IsAmong, Text}
 use Rattle.clap.specs.declared.error.kind.ErrorKind.{ErrorKind}
 use Rattle.clap.specs.declared.error.kind.ErrorKind.TheVariants.{DisplayHelp, DisplayVersion}
-use Rattle.wl_replay.specs.Report.{IsPlayed, Stage, StopsAs, first_stage}
+use Rattle.wl_replay.specs.Report.{IsPlayed, StopsAs}
+use Rattle.wl_replay.specs.Told.{Stage, first_stage}
+use Rattle.wl_replay.specs.declared.error.ReplayError.{ReplayError}
 use Rattle.wl_replay.specs.declared.error.ReplayError.TheVariants as stopped
 use Rattle.wl_replay.specs.declared.error.Summary.{Summary}
 use Rattle.wl_program.specs.Command.{Asks, HasNoSize, refusals}
+use Rattle.wl_program.specs.Folder.{FolderView, folder_files, new_folder}
 use Rattle.wl_program.specs.declared.command.Replay.{Replay}
 use Rattle.wl_program.specs.declared.fault.Fault.{Fault}
 use Rattle.wl_program.specs.declared.fault.Fault.TheVariants.{Read, Write, Side, Size, BadLine, Memory}
@@ -18,23 +21,27 @@ abbrev pub stage_of : Replay → Stage
 stage_of replay =
     first_stage (record { width = replay.size.width; height = replay.size.height; background = record { r = 0; g = 0; b = 0 } })
 
+-- the side files are those of the replay's folder
+abbrev pub folder_of : Replay → FolderView
+folder_of replay = new_folder replay.dir.now
+
 -- The whole recording was read and told of.
 abbrev pub IsReported : Replay → Option (List ℕ) → Option (List ℕ) → Option (List ℕ) → Type 0
 IsReported replay read report reported =
-    (summary : Summary) × (images : Option (List ℕ)) × (imaged : Option (List ℕ))
-    × IsPlayed (stage_of replay) summary read report reported images imaged
+    (summary : Summary) × (images : Option (List ℕ)) × (imaged : Option (List ℕ)) × (side : FolderView)
+    × IsPlayed folder_files (stage_of replay) (folder_of replay) side summary read report reported images imaged
 
--- The recording was told of up to the line of this number, which is bad.
-abbrev pub IsReportedTo : ℕ → Replay → Option (List ℕ) → Option (List ℕ) → Option (List ℕ) → Type 0
-IsReportedTo line replay read report reported =
-    (images : Option (List ℕ)) × (imaged : Option (List ℕ))
-    × StopsAs (stopped.BadLine line) (stage_of replay) read report reported images imaged
+-- The recording was told of up to the line by whose fault it stopped.
+abbrev pub IsReportedTo : ReplayError → Replay → Option (List ℕ) → Option (List ℕ) → Option (List ℕ) → Type 0
+IsReportedTo error replay read report reported =
+    (images : Option (List ℕ)) × (imaged : Option (List ℕ)) × (side : FolderView)
+    × StopsAs folder_files error (stage_of replay) (folder_of replay) side read report reported images imaged
 
 -- How a replay fails. Nothing is said of what was told where a stream failed or memory was wanted.
 abbrev pub Fails : Fault → Replay → Option (List ℕ) → Option (List ℕ) → Option (List ℕ) → Type 0
-Fails (BadLine line) replay read report reported = IsReportedTo line replay read report reported
+Fails (BadLine line) replay read report reported = IsReportedTo (stopped.BadLine line) replay read report reported
+Fails (Side line) replay read report reported = IsReportedTo (stopped.Side line) replay read report reported
 Fails Size replay read report reported = ⊥
-Fails (Side line) replay read report reported = ⊥
 Fails Read replay read report reported = ⊤
 Fails Write replay read report reported = ⊤
 Fails Memory replay read report reported = ⊤
@@ -55,7 +62,7 @@ IsToldBy kind status.BadLine = ⊥
 IsToldBy kind status.Memory = ⊥
 
 -- Done: the recording was played, or help was shown. Usage: the words are refused, or the size is none. BadLine: the recording
--- was played up to a line. With Failed a stream failed, and with Memory memory was wanted: nothing is said of them.
+-- was played up to a line. With Failed a stream or a side file failed, and with Memory memory was wanted: nothing is said of them.
 abbrev pub Ends : List Text → Status → Option (List ℕ) → Option (List ℕ) → Option (List ℕ) → Type 0
 Ends words status.Done read report reported =
     ((replay : Replay) × Asks words replay × IsReported replay read report reported)
@@ -64,6 +71,6 @@ Ends words status.Usage read report reported =
     (((kind : ErrorKind) × IsAmong kind (refusals words) × IsMisuse kind) ⊎ HasNoSize words)
     × (reported ≡ report)
 Ends words status.BadLine read report reported =
-    (replay : Replay) × (line : ℕ) × Asks words replay × IsReportedTo line replay read report reported
+    (replay : Replay) × (line : ℕ) × Asks words replay × IsReportedTo (stopped.BadLine line) replay read report reported
 Ends words status.Failed read report reported = ⊤
 Ends words status.Memory read report reported = ⊤

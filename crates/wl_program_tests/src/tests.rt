@@ -146,6 +146,57 @@ fn reads_side_files(rt: HostRuntime) -> Result<(), Fail> {
     Ok(())
 }
 
+/// The recording of a client that has a pool of 16 bytes.
+const POOL: &[u8] = b"connect
+bytes 1 01000000 01000c00 02000000
+bytes 1 02000000 00002000 03000000 07000000 776c5f73686d0000 01000000 04000000
+bytes 1 04000000 00001000 09000000 10000000
+";
+
+#[test]
+fn tells_of_side_files(rt: HostRuntime) -> Result<(), Fail> {
+    let folder = env::temp_dir(&rt)?;
+    let name = format!(in rt.alloc(); "wlframe-{}.store", process::id(rt.process()))?;
+    let path = folder.join(rt.alloc(), name.as_str())?;
+    fs::write(&rt, path.as_path(), b"pixels")?;
+    let text = format!(in rt.alloc(); "wlframe replay --size 2x1 --dir {}", folder.as_path().display())?;
+    let mut report = Vec::new(rt.alloc());
+    told(&rt, rt.alloc(), text.as_str(), &mut &*POOL, &mut report)?;
+
+    let mut recording = Vec::new(rt.alloc());
+    recording.extend_from_slice(POOL)?;
+    recording.extend_from_slice(b"file 1 1 10 ")?;
+    recording.extend_from_slice(name.as_bytes())?;
+    recording.push(b'\n')?;
+    let mut output = Vec::new(rt.alloc());
+    let (status, fault) = told(&rt, rt.alloc(), text.as_str(), &mut recording.as_slice(), &mut output)?;
+    assert_eq!(rt; status, Status::Done);
+    assert_eq!(rt; fault.as_str(), "");
+    assert_eq!(rt; output.as_slice(), report.as_slice());
+
+    // The file is gone.
+    fs::remove_file(&rt, path.as_path())?;
+    let mut output = Vec::new(rt.alloc());
+    let (status, fault) = told(&rt, rt.alloc(), text.as_str(), &mut recording.as_slice(), &mut output)?;
+    assert_eq!(rt; status, Status::Failed);
+    assert_eq!(rt; fault.as_str(), "wlframe: side file failed at line 5\n");
+    assert_eq!(rt; output.as_slice(), report.as_slice());
+
+    // The folder is a file, and one that can't be read is a folder.
+    for (folder, line) in [("/dev/null", "file 1 1 0 a\n"), ("/", "file 1 1 0 dev\n")] {
+        let text = format!(in rt.alloc(); "wlframe replay --size 2x1 --dir {folder}")?;
+        let mut recording = Vec::new(rt.alloc());
+        recording.extend_from_slice(POOL)?;
+        recording.extend_from_slice(line.as_bytes())?;
+        let mut output = Vec::new(rt.alloc());
+        let (status, fault) = told(&rt, rt.alloc(), text.as_str(), &mut recording.as_slice(), &mut output)?;
+        assert_eq!(rt; status, Status::Failed);
+        assert_eq!(rt; fault.as_str(), "wlframe: side file failed at line 5\n");
+        assert_eq!(rt; output.as_slice(), report.as_slice());
+    }
+    Ok(())
+}
+
 #[test]
 fn tells_usage(rt: HostRuntime) -> Result<(), Fail> {
     for (text, wanted) in [

@@ -8,7 +8,10 @@ use Rattle.wl_session.specs.View.{SessionView}
 use Rattle.wl_replay.specs.declared.line.Line.{Line}
 use Rattle.wl_replay.specs.declared.line.Line.TheVariants as line
 use Rattle.wl_replay.specs.Line.{Asked, meaning}
-use Rattle.wl_replay.specs.Report.{Counts, Leads, Stage, TellsAll, TellsFirst, TellsLine, TellsStep, Told, and_then, words}
+use Rattle.wl_replay.specs.Clients.{TellsFirst}
+use Rattle.wl_replay.specs.Report.{TellsAll, TellsLine, TellsNothing, TellsStep}
+use Rattle.wl_replay.specs.Side.{Files}
+use Rattle.wl_replay.specs.Told.{Counts, IsSilent, Leads, Stage, Told, and_then, words}
 
 pub Leads-weaker : (R S : Stage → Told → Stage → Type 0) (before after : SessionView) (report reported : Option (List ℕ)) (P Q : Told → Type 0)
     → ((old new : Stage) (told : Told) → R old told new → S old told new) → ((told : Told) → P told → Q told)
@@ -17,9 +20,9 @@ Leads-weaker R S before after report reported P Q f g leads = λ old stands.
     let m = leads old stands in (m.0, m.1, f old m.0 m.1 m.2, m.3, m.4, g m.1 m.5)
 
 -- a step that shows no image
-pub Counts-silent : (images : Option (List ℕ)) (frames clients : ℕ) (told : Told) → (told.images ≡ []) × (told.frames ≡ frames) × (told.clients ≡ clients)
-    → Counts images images frames clients told
-Counts-silent images frames clients told h = (subst (Appends images images) (sym h.0) (Appends-nil images), h.1, h.2)
+pub Counts-silent : (images : Option (List ℕ)) (clients : ℕ) (told : Told) → IsSilent clients told
+    → Counts images images 0 clients told
+Counts-silent images clients told h = (subst (Appends images images) (sym h.0) (Appends-nil images), h.1, h.2)
 
 Counts-words : (images imaged : Option (List ℕ)) (frames clients : ℕ) (own : Told) (text : List ℕ) → Counts images imaged frames clients own
     → Counts images imaged frames clients (and_then own (words text))
@@ -27,11 +30,11 @@ Counts-words images imaged frames clients own text h =
     (subst (Appends images imaged) (sym (append-nil own.images)) h.0, add-zero own.frames ∙ h.1, add-zero own.clients ∙ h.2)
 
 -- a step, and then each client is told of
-pub Leads-all : (asked : Asked) (before mid after : SessionView) (report wrote reported images imaged : Option (List ℕ)) (frames clients : ℕ)
-    → Leads (TellsStep asked) before mid report wrote (Counts images imaged frames clients)
+pub Leads-all : {S : Type 0} (files : Files S) (from to : S) (asked : Asked) (before mid after : SessionView) (report wrote reported images imaged : Option (List ℕ)) (frames clients : ℕ)
+    → Leads (TellsStep files asked from to) before mid report wrote (Counts images imaged frames clients)
     → ((d : Desktop) → Agrees mid.desk d → (e : Desktop) × (text : List ℕ) × TellsFirst 32 d text e × Agrees after.desk e × Appends wrote reported text)
-    → after.frame ≡ mid.frame → Leads (TellsAll asked) before after report reported (Counts images imaged frames clients)
-Leads-all asked before mid after report wrote reported images imaged frames clients leads tells same = λ old stands.
+    → after.frame ≡ mid.frame → Leads (TellsAll files asked from to) before after report reported (Counts images imaged frames clients)
+Leads-all files from to asked before mid after report wrote reported images imaged frames clients leads tells same = λ old stands.
     let m = leads old stands in
     let n = tells m.0.desktop m.3.desk in (
       record { desktop = n.0; frame = m.0.frame },
@@ -43,31 +46,34 @@ Leads-all asked before mid after report wrote reported images imaged frames clie
     )
 
 -- each line but one that asks nothing
-pub TellsLine-all : (l : Line) (piece : List ℕ) → (l ≡ line.Nothing → ⊥) → (old new : Stage) (told : Told) → TellsAll (meaning piece l) old told new
-    → TellsLine (meaning piece l) old told new
-TellsLine-all line.Connect piece some old new told tells = tells
-TellsLine-all (line.Bytes client) piece some old new told tells = tells
-TellsLine-all (line.Gone client) piece some old new told tells = tells
-TellsLine-all (line.Tick time) piece some old new told tells = tells
-TellsLine-all line.Nothing piece some old new told tells = absurd (some refl)
+pub TellsLine-all : {S : Type 0} (files : Files S) (from to : S) (l : Line) (piece : List ℕ) → (l ≡ line.Nothing → ⊥) → (old new : Stage) (told : Told)
+    → TellsAll files (meaning piece l) from to old told new → TellsLine files (meaning piece l) from to old told new
+TellsLine-all files from to line.Connect piece some old new told tells = tells
+TellsLine-all files from to (line.Bytes client) piece some old new told tells = tells
+TellsLine-all files from to (line.Store place) piece some old new told tells = tells
+TellsLine-all files from to (line.File place name) piece some old new told tells = tells
+TellsLine-all files from to (line.Gone client) piece some old new told tells = tells
+TellsLine-all files from to (line.Tick time) piece some old new told tells = tells
+TellsLine-all files from to line.Nothing piece some old new told tells = absurd (some refl)
 
 -- the step of a line that is known
-pub Leads-at : (l m : Line) (piece : List ℕ) (before after : SessionView) (report reported : Option (List ℕ)) (P Q : Told → Type 0) → l ≡ m
-    → ((told : Told) → P told → Q told) → Leads (TellsStep (meaning piece m)) before after report reported P
-    → Leads (TellsStep (meaning piece l)) before after report reported Q
-Leads-at l m piece before after report reported P Q is g leads =
-    Leads-weaker (TellsStep (meaning piece m)) (TellsStep (meaning piece l)) before after report reported P Q
-    (λ old new told tells. subst (λ (k : Line). TellsStep (meaning piece k) old told new) (sym is) tells) g leads
+pub Leads-at : {S : Type 0} (files : Files S) (from to : S) (l m : Line) (piece : List ℕ) (R : Stage → Told → Stage → Type 0) (before after : SessionView)
+    (report reported : Option (List ℕ)) (P Q : Told → Type 0) → l ≡ m
+    → ((old new : Stage) (told : Told) → R old told new → TellsStep files (meaning piece m) from to old told new) → ((told : Told) → P told → Q told)
+    → Leads R before after report reported P → Leads (TellsStep files (meaning piece l) from to) before after report reported Q
+Leads-at files from to l m piece R before after report reported P Q is f g leads =
+    Leads-weaker R (TellsStep files (meaning piece l) from to) before after report reported P Q
+    (λ old new told tells. subst (λ (k : Line). TellsStep files (meaning piece k) from to old told new) (sym is) (f old new told tells)) g leads
 
 -- nothing is asked
 pub Leads-nothing : (session : SessionView) (report images : Option (List ℕ))
-    → Leads (TellsStep (meaning [] line.Nothing)) session session report report (Counts images images 0 0)
+    → Leads TellsNothing session session report report (Counts images images 0 0)
 Leads-nothing session report images = λ old stands.
     (old, words [], (refl, refl), stands, Appends-nil report, (Appends-nil images, refl, refl))
 
 -- a line that asks nothing
-pub Leads-passed : (l : Line) (piece : List ℕ) (session : SessionView) (report images : Option (List ℕ)) → l ≡ line.Nothing
-    → Leads (TellsLine (meaning piece l)) session session report report (Counts images images 0 0)
-Leads-passed l piece session report images is =
-    Leads-weaker (TellsStep (meaning [] line.Nothing)) (TellsLine (meaning piece l)) session session report report (Counts images images 0 0) (Counts images images 0 0)
-    (λ old new told tells. subst (λ (k : Line). TellsLine (meaning piece k) old told new) (sym is) tells) (λ told counts. counts) (Leads-nothing session report images)
+pub Leads-passed : {S : Type 0} (files : Files S) (from : S) (l : Line) (piece : List ℕ) (session : SessionView) (report images : Option (List ℕ)) → l ≡ line.Nothing
+    → Leads (TellsLine files (meaning piece l) from from) session session report report (Counts images images 0 0)
+Leads-passed files from l piece session report images is =
+    Leads-weaker TellsNothing (TellsLine files (meaning piece l) from from) session session report report (Counts images images 0 0) (Counts images images 0 0)
+    (λ old new told tells. subst (λ (k : Line). TellsLine files (meaning piece k) from from old told new) (sym is) (tells, refl)) (λ told counts. counts) (Leads-nothing session report images)

@@ -4,27 +4,29 @@ use Rattle.std.specs.Prelude.{IfErr, IfOk, Ok, Err}
 use Rattle.std.specs.Io.KnownBytes.{IsAtEnd}
 use Rattle.std.proofs.KnownBytes.{Appends-nil, Appends-trans}
 use Rattle.std.proofs.lemmas.List.{length_push}
-use Rattle.wl_session.specs.Agreement.{Agrees}
-use Rattle.wl_session.specs.Desktop.{empty}
+use Rattle.wl_session.specs.Desktop.{Desktop, empty}
 use Rattle.wl_session.specs.Frame.{Image, filled}
 use Rattle.wl_session.specs.View.{SessionView}
 use Rattle.wl_session.specs.declared.sessions.Config.{Config}
 use Rattle.wl_replay.specs.declared.error.Summary.{Summary}
 use Rattle.wl_replay.specs.declared.error.ReplayError.{ReplayError}
 use Rattle.wl_replay.specs.declared.error.ReplayError.TheVariants as error
-use Rattle.wl_replay.specs.Report.{Counts, FailsAt, IsPlayed, Reported, Stage, Stands, StopsAs, TakesOne, and_then, first_stage, words, more, none}
+use Rattle.wl_session.specs.Agreement.{Agrees}
+use Rattle.wl_replay.specs.Report.{FailsAt, IsLackingLine, IsPlayed, Reported, StopsAs, TakesOne, more, none}
+use Rattle.wl_replay.specs.Side.{Files}
+use Rattle.wl_replay.specs.Told.{Counts, Stage, Stands, and_then, first_stage, words}
 
 -- so many lines were played, with so many frames and clients, and the session stands for the last stage
-pub record PlayedTo (first : Stage) (session : SessionView) (read left report reported images imaged : Option (List ℕ)) (lines frames clients : ℕ) : Type 0 where
-  pub run : Reported first read left report reported images imaged
+pub record PlayedTo {S : Type 0} (files : Files S) (first : Stage) (from to : S) (session : SessionView) (read left report reported images imaged : Option (List ℕ)) (lines frames clients : ℕ) : Type 0 where
+  pub run : Reported files first from to read left report reported images imaged
   pub stands : Stands session run.last
   pub lines_told : length run.lines ≡ lines
   pub frames_told : run.told.frames ≡ frames
   pub clients_told : run.told.clients ≡ clients
 
-pub PlayedTo-none : (first : Stage) (session : SessionView) (read report images : Option (List ℕ)) → Stands session first
-    → PlayedTo first session read read report report images images 0 0 0
-PlayedTo-none first session read report images stands =
+pub PlayedTo-none : {S : Type 0} (files : Files S) (first : Stage) (from : S) (session : SessionView) (read report images : Option (List ℕ)) → Stands session first
+    → PlayedTo files first from from session read read report report images images 0 0 0
+PlayedTo-none files first from session read report images stands =
     record {
       run = record {
         few = omega arith;
@@ -33,6 +35,7 @@ PlayedTo-none first session read report images stands =
         last = first;
         reads = none;
         tells = none;
+        calm = refl;
         written = Appends-nil report;
         shown = Appends-nil images;
       };
@@ -43,11 +46,11 @@ PlayedTo-none first session read report images stands =
     }
 
 -- one more line was played
-pub PlayedTo-more : (first : Stage) (before after : SessionView) (read mid left report wrote reported images showed imaged : Option (List ℕ))
-    (lines frames clients more_frames more_clients : ℕ) → lines < 1000000 → PlayedTo first before read mid report wrote images showed lines frames clients
-    → TakesOne mid left before after wrote reported (Counts showed imaged more_frames more_clients)
-    → PlayedTo first after read left report reported images imaged (lines + 1) (frames + more_frames) (clients + more_clients)
-PlayedTo-more first before after read mid left report wrote reported images showed imaged lines frames clients more_frames more_clients low p one =
+pub PlayedTo-more : {S : Type 0} (files : Files S) (first : Stage) (from between to : S) (before after : SessionView) (read mid left report wrote reported images showed imaged : Option (List ℕ))
+    (lines frames clients more_frames more_clients : ℕ) → lines < 1000000 → PlayedTo files first from between before read mid report wrote images showed lines frames clients
+    → TakesOne files between to mid left before after wrote reported (Counts showed imaged more_frames more_clients)
+    → PlayedTo files first from to after read left report reported images imaged (lines + 1) (frames + more_frames) (clients + more_clients)
+PlayedTo-more files first from between to before after read mid left report wrote reported images showed imaged lines frames clients more_frames more_clients low p one =
     let r = p.run in
     let next = one.5 r.last p.stands in
     record {
@@ -57,7 +60,8 @@ PlayedTo-more first before after read mid left report wrote reported images show
         told = and_then r.told next.1;
         last = next.0;
         reads = more r.lines mid left one.0 r.reads one.2 one.3;
-        tells = more r.lines r.told next.1 r.last next.0 one.0 one.1 r.tells one.4 next.2;
+        tells = more r.lines r.told next.1 r.last next.0 between to one.0 one.1 r.tells one.4 next.2;
+        calm = one.6 ∙ r.calm;
         written = Appends-trans _ _ _ r.told.text next.1.text r.written next.4;
         shown = Appends-trans _ _ _ r.told.images next.1.images r.shown next.5.0;
       };
@@ -67,39 +71,44 @@ PlayedTo-more first before after read mid left report wrote reported images show
       clients_told = omega (arith, p.clients_told, next.5.2);
     }
 
--- nothing is left, and nothing more was told
-pub IsPlayed-end : (first : Stage) (session : SessionView) (read left report wrote reported images showed imaged : Option (List ℕ)) (lines frames clients : ℕ)
-    → PlayedTo first session read left report wrote images showed lines frames clients → IsAtEnd left → reported ≡ wrote → imaged ≡ showed
-    → IsPlayed first (record { lines = lines; frames = frames; clients = clients }) read report reported images imaged
-IsPlayed-end first session read left report wrote reported images showed imaged lines frames clients p ends same_text same_images = rw (same_text, same_images)
+-- nothing is left, and nothing more was told or read
+pub IsPlayed-end : {S : Type 0} (files : Files S) (first : Stage) (from between to : S) (session : SessionView) (read left report wrote reported images showed imaged : Option (List ℕ)) (lines frames clients : ℕ)
+    → PlayedTo files first from between session read left report wrote images showed lines frames clients → IsAtEnd left → reported ≡ wrote → imaged ≡ showed → to ≡ between
+    → IsPlayed files first from to (record { lines = lines; frames = frames; clients = clients }) read report reported images imaged
+IsPlayed-end files first from between to session read left report wrote reported images showed imaged lines frames clients p ends same_text same_images same_side = rw (same_text, same_images, same_side)
     (left, p.run, ends, rw (p.lines_told, p.frames_told, p.clients_told) refl)
 
 -- the next line wasn't played
-pub StopsAs-line : (e : ReplayError) (first : Stage) (session : SessionView) (read left report wrote reported images showed imaged : Option (List ℕ))
-    (lines frames clients : ℕ) (IsQuiet : Type 0) → PlayedTo first session read left report wrote images showed lines frames clients
-    → (IsQuiet → (reported ≡ wrote) × (imaged ≡ showed)) → FailsAt e (lines + 1) left IsQuiet → StopsAs e first read report reported images imaged
-StopsAs-line error.Read first session read left report wrote reported images showed imaged lines frames clients IsQuiet p same fails =
-    let e = same fails in rw (e.0, e.1) (left, p.run)
-StopsAs-line error.Write first session read left report wrote reported images showed imaged lines frames clients IsQuiet p same fails = tt
-StopsAs-line (error.BadLine n) first session read left report wrote reported images showed imaged lines frames clients IsQuiet p same fails =
-    let e = same fails.2 in rw (e.0, e.1) (left, p.run, fails.0 ∙ ap (λ (k : ℕ). k + 1) (sym p.lines_told), inr fails.1)
-StopsAs-line (error.Side n) first session read left report wrote reported images showed imaged lines frames clients IsQuiet p same fails = fails
-StopsAs-line error.Memory first session read left report wrote reported images showed imaged lines frames clients IsQuiet p same fails = tt
+pub StopsAs-line : {S : Type 0} (files : Files S) (e : ReplayError) (first : Stage) (from between to : S) (session : SessionView) (read left report wrote reported images showed imaged : Option (List ℕ))
+    (lines frames clients : ℕ) (IsQuiet IsLacking : Type 0) → PlayedTo files first from between session read left report wrote images showed lines frames clients
+    → (IsQuiet → (reported ≡ wrote) × (imaged ≡ showed) × (to ≡ between))
+    → (IsLacking → (reported ≡ wrote) × (imaged ≡ showed) × ((d : Desktop) → Agrees session.desk d → IsLackingLine files left d between to))
+    → FailsAt e (lines + 1) left IsQuiet IsLacking → StopsAs files e first from to read report reported images imaged
+StopsAs-line files error.Read first from between to session read left report wrote reported images showed imaged lines frames clients IsQuiet IsLacking p same lacks fails =
+    let e = same fails in rw (e.0, e.1, e.2) (left, p.run)
+StopsAs-line files error.Write first from between to session read left report wrote reported images showed imaged lines frames clients IsQuiet IsLacking p same lacks fails = tt
+StopsAs-line files (error.BadLine n) first from between to session read left report wrote reported images showed imaged lines frames clients IsQuiet IsLacking p same lacks fails =
+    let e = same fails.2 in rw (e.0, e.1, e.2) (left, p.run, fails.0 ∙ ap (λ (k : ℕ). k + 1) (sym p.lines_told), inr fails.1)
+StopsAs-line files (error.Side n) first from between to session read left report wrote reported images showed imaged lines frames clients IsQuiet IsLacking p same lacks fails =
+    let e = lacks fails.1 in rw (e.0, e.1) (left, between, p.run, fails.0 ∙ ap (λ (k : ℕ). k + 1) (sym p.lines_told), e.2 p.run.last.desktop p.stands.desk)
+StopsAs-line files error.Memory first from between to session read left report wrote reported images showed imaged lines frames clients IsQuiet IsLacking p same lacks fails = tt
 
 -- the line past the greatest number of lines
-pub StopsAs-past : (first : Stage) (session : SessionView) (read left report reported images imaged : Option (List ℕ)) (frames clients : ℕ)
-    → PlayedTo first session read left report reported images imaged 1000000 frames clients → StopsAs (error.BadLine 1000001) first read report reported images imaged
-StopsAs-past first session read left report reported images imaged frames clients p =
+pub StopsAs-past : {S : Type 0} (files : Files S) (first : Stage) (from to : S) (session : SessionView) (read left report reported images imaged : Option (List ℕ)) (frames clients : ℕ)
+    → PlayedTo files first from to session read left report reported images imaged 1000000 frames clients → StopsAs files (error.BadLine 1000001) first from to read report reported images imaged
+StopsAs-past files first from to session read left report reported images imaged frames clients p =
     (left, p.run, ap (λ (k : ℕ). k + 1) (sym p.lines_told), inl p.lines_told)
 
--- what an error says of every stage that the session stands for, it says of the first
-pub StopsAs-at : (r : Result Summary ReplayError) (session : SessionView) (first : Stage) (read report reported images imaged : Option (List ℕ)) → Stands session first → IfErr r (λ e. (x : Stage) → Stands session x → StopsAs e x read report reported images imaged) → IfErr r (λ e. StopsAs e first read report reported images imaged)
-StopsAs-at (Ok t) session first read report reported images imaged stands h = h
-StopsAs-at (Err e) session first read report reported images imaged stands h = h first stands
+-- what an answer says of every stage that the session stands for, it says of the first
+pub IfErr-at : (r : Result Summary ReplayError) (P : ReplayError → Stage → Type 0) (session : SessionView) (first : Stage) → Stands session first
+    → IfErr r (λ e. (x : Stage) → Stands session x → P e x) → IfErr r (λ e. P e first)
+IfErr-at (Ok t) P session first stands h = h
+IfErr-at (Err e) P session first stands h = h first stands
 
-pub IsPlayed-at : (r : Result Summary ReplayError) (session : SessionView) (first : Stage) (read report reported images imaged : Option (List ℕ)) → Stands session first → IfOk r (λ t. (x : Stage) → Stands session x → IsPlayed x t read report reported images imaged) → IfOk r (λ t. IsPlayed first t read report reported images imaged)
-IsPlayed-at (Ok t) session first read report reported images imaged stands h = h first stands
-IsPlayed-at (Err e) session first read report reported images imaged stands h = h
+pub IfOk-at : (r : Result Summary ReplayError) (P : Summary → Stage → Type 0) (session : SessionView) (first : Stage) → Stands session first
+    → IfOk r (λ t. (x : Stage) → Stands session x → P t x) → IfOk r (λ t. P t first)
+IfOk-at (Ok t) P session first stands h = h first stands
+IfOk-at (Err e) P session first stands h = h
 
 image_is : (i : Image) (config : Config) (pixels : List ℕ) → i.width ≡ config.width → i.height ≡ config.height → i.background ≡ config.background → i.pixels ≡ pixels → i ≡ record { width = config.width; height = config.height; background = config.background; pixels = pixels }
 image_is i config pixels a b c d = rw (← a, ← b, ← c, ← d) refl

@@ -1,8 +1,11 @@
 pub mod Line
 pub mod Lines
 pub mod Text
-pub mod Report
+pub mod Told
+pub mod Clients
 pub mod Side
+pub mod Storing
+pub mod Report
 pub use Rattle.wl_session.specs.Damage
 pub use Rattle.wl_session.specs.Desktop
 pub use Rattle.wl_session.specs.Frame

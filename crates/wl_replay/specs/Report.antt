@@ -1,17 +1,14 @@
 -- What a recording leads to, and the report and the images that tell of it.
-use Rattle.std.specs.Prelude.{◌≡◌, ◌+◌, ◌*◌, ℕ, zero, suc, Option, Some, None, Result, Ok, Err, List, [], ◌∷◌, ◌++◌, length, ◌⊎◌, ◌≤◌, ⊤}
+use Rattle.std.specs.Prelude.{◌≡◌, ◌+◌, ℕ, Option, Some, None, Result, Ok, Err, List, [], ◌∷◌, ◌++◌, length, ◌⊎◌, ◌≤◌, ⊤}
 use Rattle.std.specs.Io.KnownBytes.{Appends, IsAtEnd}
 use Rattle.std.specs.Option.{option_and_then}
-use Rattle.wl_session.specs.Agreement.{Agrees}
 use Rattle.wl_session.specs.View.{SessionView}
 use Rattle.wl_session.specs.Damage.{Damaged, count_points, has}
-use Rattle.wl_session.specs.Desktop.{Desktop, empty, peer_at}
-use Rattle.wl_session.specs.Frame.{Image, filled}
+use Rattle.wl_session.specs.Desktop.{Desktop, peer_at}
 use Rattle.wl_session.specs.Image.{image_of}
 use Rattle.wl_session.specs.Run.{IsNextFrame}
 use Rattle.wl_session.specs.Step as act
-use Rattle.wl_session.specs.Step.{Steps, status_of, unsent_of}
-use Rattle.wl_session.specs.declared.sessions.Config.{Config}
+use Rattle.wl_session.specs.Step.{Steps, status_of}
 use Rattle.wl_session.specs.declared.steps.ConnectError.{ConnectError}
 use Rattle.wl_session.specs.declared.steps.ConnectError.TheVariants.{Full, Memory}
 use Rattle.wl_session.specs.declared.steps.Done.{Done}
@@ -21,72 +18,13 @@ use Rattle.wl_session.specs.declared.steps.Fed.TheVariants.{Alive, Ended, NoClie
 use Rattle.wl_replay.specs.declared.error.ReplayError.{ReplayError}
 use Rattle.wl_replay.specs.declared.error.ReplayError.TheVariants as error
 use Rattle.wl_replay.specs.declared.error.Summary.{Summary}
-use Rattle.wl_replay.specs.Line.{Asked, Connect, Bytes, Gone, Tick, Nothing, asked_by}
+use Rattle.wl_replay.specs.Clients.{TellsFirst}
+use Rattle.wl_replay.specs.Line.{Asked, Connect, Bytes, Store, File, Gone, Tick, Nothing, asked_by}
 use Rattle.wl_replay.specs.Lines.{IsTooLong, TakesLine}
-use Rattle.wl_replay.specs.Text.{client_line, end_line, frame_line, full_line, none_line, to_line}
-
--- what is told: the report, the images of the frames, how many frames there were, and how many clients connected
-pub record Told : Type 0 where
-  pub text : List ℕ
-  pub images : List ℕ
-  pub frames : ℕ
-  pub clients : ℕ
-
-abbrev pub words : List ℕ → Told
-words text = record { text = text; images = []; frames = 0; clients = 0 }
-
--- one thing is told, and then another
-abbrev pub and_then : Told → Told → Told
-and_then a b =
-    record { text = a.text ++ b.text; images = a.images ++ b.images; frames = a.frames + b.frames; clients = a.clients + b.clients }
-
--- the plain desktop with the last frame that was shown of it
-pub record Stage : Type 0 where
-  pub desktop : Desktop
-  pub frame : Image
-
--- a session stands for a stage
-pub record Stands (session : SessionView) (stage : Stage) : Type 0 where
-  pub desk : Agrees session.desk stage.desktop
-  pub frame : session.frame ≡ stage.frame
-
--- no client, and the background
-abbrev pub first_stage : Config → Stage
-first_stage config =
-    record {
-      desktop = empty (record { width = config.width; height = config.height });
-      frame = record {
-        width = config.width;
-        height = config.height;
-        background = config.background;
-        pixels = filled (config.width * config.height) config.background;
-      };
-    }
-
--- All of a client's unsent bytes are sent, where there are any.
-abbrev pub Sends : ℕ → Option (List ℕ) → Desktop → List ℕ → Desktop → Type 0
-Sends client None old text new = (text ≡ []) × (new ≡ old)
-Sends client (Some []) old text new = (text ≡ []) × (new ≡ old)
-Sends client (Some (b ∷ bytes)) old text new =
-    (done : Done) × Steps old (act.Send client (length (b ∷ bytes))) done new × (text ≡ to_line client (b ∷ bytes))
-
--- A client that ended is closed.
-abbrev pub Closes : ℕ → Fed → Desktop → List ℕ → Desktop → Type 0
-Closes client (Ended cause) old text new = (done : Done) × Steps old (act.Close client) done new × (text ≡ end_line client cause)
-Closes client Alive old text new = (text ≡ []) × (new ≡ old)
-Closes client NoClient old text new = (text ≡ []) × (new ≡ old)
-
-abbrev pub TellsClient : ℕ → Desktop → List ℕ → Desktop → Type 0
-TellsClient client old text new =
-    (mid : Desktop) × (sent : List ℕ) × (closed : List ℕ) × Sends client (unsent_of (peer_at old client)) old sent mid
-    × Closes client (status_of (peer_at mid client)) mid closed new × (text ≡ sent ++ closed)
-
--- the clients 1 to n, in rising number
-unfoldable pub TellsFirst : ℕ → Desktop → List ℕ → Desktop → Type 0
-TellsFirst zero old text new = (text ≡ []) × (new ≡ old)
-TellsFirst (suc n) old text new =
-    (mid : Desktop) × (front : List ℕ) × (last : List ℕ) × TellsFirst n old front mid × TellsClient (suc n) mid last new
-    × (text ≡ front ++ last)
+use Rattle.wl_replay.specs.Side.{Files}
+use Rattle.wl_replay.specs.Storing.{LacksFile, TellsFile, TellsStore}
+use Rattle.wl_replay.specs.Text.{client_line, frame_line, full_line, none_line}
+use Rattle.wl_replay.specs.Told.{Leads, Stage, Told, and_then, words}
 
 -- what a connect tells, unless it wanted memory
 abbrev pub connect_told : Result ℕ ConnectError → Option Told
@@ -100,18 +38,24 @@ absent_text client NoClient = none_line client
 absent_text client Alive = []
 absent_text client (Ended cause) = []
 
--- The step that a line asks, and what is told of it.
-abbrev pub TellsStep : Asked → Stage → Told → Stage → Type 0
-TellsStep Connect old told new =
+-- The step that each kind of line asks, and what is told of it.
+abbrev pub TellsConnect : Stage → Told → Stage → Type 0
+TellsConnect old told new =
     (answer : Result ℕ ConnectError) × Steps old.desktop act.Connect (gave.Connect answer) new.desktop × (new.frame ≡ old.frame)
     × (connect_told answer ≡ Some told)
-TellsStep (Bytes client piece) old told new =
+
+abbrev pub TellsBytes : ℕ → List ℕ → Stage → Told → Stage → Type 0
+TellsBytes client piece old told new =
     (done : Done) × Steps old.desktop (act.Feed client piece) done new.desktop × (new.frame ≡ old.frame)
     × (told ≡ words (absent_text client (status_of (peer_at old.desktop client))))
-TellsStep (Gone client) old told new =
+
+abbrev pub TellsGone : ℕ → Stage → Told → Stage → Type 0
+TellsGone client old told new =
     (done : Done) × Steps old.desktop (act.Leave client) done new.desktop × (new.frame ≡ old.frame)
     × (told ≡ words (absent_text client (status_of (peer_at old.desktop client))))
-TellsStep (Tick time) old told new =
+
+abbrev pub TellsTick : ℕ → Stage → Told → Stage → Type 0
+TellsTick time old told new =
     (damage : Damaged) × Steps old.desktop (act.Tick time) gave.Tick new.desktop × IsNextFrame old.frame new.frame (has damage)
     × (told ≡ record {
       text = frame_line time (count_points damage.width damage.height (has damage));
@@ -119,38 +63,43 @@ TellsStep (Tick time) old told new =
       frames = 1;
       clients = 0;
     })
-TellsStep Nothing old told new = (told ≡ words []) × (new ≡ old)
 
--- A session goes from before to after by R: whatever stage it stands for before, it stands for one that R gives after. What is
--- told of it was written, and P holds of it.
-abbrev pub Leads : (Stage → Told → Stage → Type 0) → SessionView → SessionView → Option (List ℕ) → Option (List ℕ) → (Told → Type 0) → Type 0
-Leads R before after report reported P =
-    (old : Stage) → Stands before old → (new : Stage) × (told : Told) × R old told new × Stands after new
-    × Appends report reported told.text × P told
+abbrev pub TellsNothing : Stage → Told → Stage → Type 0
+TellsNothing old told new = (told ≡ words []) × (new ≡ old)
 
--- the images that are told were appended, and so many frames and clients are told of
-abbrev pub Counts : Option (List ℕ) → Option (List ℕ) → ℕ → ℕ → Told → Type 0
-Counts images imaged frames clients told = Appends images imaged told.images × (told.frames ≡ frames) × (told.clients ≡ clients)
+-- What a line asks leads from old to new, and the side files from one state to another. Only a file's line touches them.
+abbrev pub TellsStep : {S : Type 0} → Files S → Asked → S → S → Stage → Told → Stage → Type 0
+TellsStep files Connect from to old told new = TellsConnect old told new × (to ≡ from)
+TellsStep files (Bytes client piece) from to old told new = TellsBytes client piece old told new × (to ≡ from)
+TellsStep files (Store place bytes) from to old told new = TellsStore place bytes old told new × (to ≡ from)
+TellsStep files (File place name) from to old told new = TellsFile files place name from to old told new
+TellsStep files (Gone client) from to old told new = TellsGone client old told new × (to ≡ from)
+TellsStep files (Tick time) from to old told new = TellsTick time old told new × (to ≡ from)
+TellsStep files Nothing from to old told new = TellsNothing old told new × (to ≡ from)
 
 -- A step, and then what each of the clients 1 to 32 is sent and whether it ended.
-abbrev pub TellsAll : Asked → Stage → Told → Stage → Type 0
-TellsAll asked old told new =
-    (mid : Stage) × (own : Told) × (rest : List ℕ) × TellsStep asked old own mid × TellsFirst 32 mid.desktop rest new.desktop
+abbrev pub TellsAll : {S : Type 0} → Files S → Asked → S → S → Stage → Told → Stage → Type 0
+TellsAll files asked from to old told new =
+    (mid : Stage) × (own : Told) × (rest : List ℕ) × TellsStep files asked from to old own mid × TellsFirst 32 mid.desktop rest new.desktop
     × (new.frame ≡ mid.frame) × (told ≡ and_then own (words rest))
 
 -- A line leads from old to new, and this is told of it. A line that asks nothing is passed over.
-abbrev pub TellsLine : Asked → Stage → Told → Stage → Type 0
-TellsLine Nothing old told new = TellsStep Nothing old told new
-TellsLine Connect old told new = TellsAll Connect old told new
-TellsLine (Bytes client piece) old told new = TellsAll (Bytes client piece) old told new
-TellsLine (Gone client) old told new = TellsAll (Gone client) old told new
-TellsLine (Tick time) old told new = TellsAll (Tick time) old told new
+abbrev pub TellsLine : {S : Type 0} → Files S → Asked → S → S → Stage → Told → Stage → Type 0
+TellsLine files Nothing from to old told new = TellsStep files Nothing from to old told new
+TellsLine files Connect from to old told new = TellsAll files Connect from to old told new
+TellsLine files (Bytes client piece) from to old told new = TellsAll files (Bytes client piece) from to old told new
+TellsLine files (Store place bytes) from to old told new = TellsAll files (Store place bytes) from to old told new
+TellsLine files (File place name) from to old told new = TellsAll files (File place name) from to old told new
+TellsLine files (Gone client) from to old told new = TellsAll files (Gone client) from to old told new
+TellsLine files (Tick time) from to old told new = TellsAll files (Tick time) from to old told new
 
--- These lines lead from the first stage to the last, and this is told of them. The newest line stands last.
-pub data Tells (first : Stage) : List (List ℕ) → Told → Stage → Type 0 where
-  none : Tells first [] (words []) first
-  more : (lines : List (List ℕ)) (told own : Told) (mid last : Stage) (line : List ℕ) → (asked : Asked) → Tells first lines told mid
-      → asked_by line ≡ Some asked → TellsLine asked mid own last → Tells first (lines ++ line ∷ []) (and_then told own) last
+-- These lines lead from the first stage to the last, and the side files from one state to another, and this is told of it. The
+-- newest line stands last.
+pub data Tells {S : Type 0} (files : Files S) (first : Stage) (from : S) : List (List ℕ) → Told → Stage → S → Type 0 where
+  none : Tells files first from [] (words []) first from
+  more : (lines : List (List ℕ)) (told own : Told) (mid last : Stage) (between to : S) (line : List ℕ) (asked : Asked)
+      → Tells files first from lines told mid between → asked_by line ≡ Some asked → TellsLine files asked between to mid own last
+      → Tells files first from (lines ++ line ∷ []) (and_then told own) last to
 
 -- The known bytes begin with these lines of at most 140,000 bytes, and lose them. The newest line stands last.
 pub data Reads (first : Option (List ℕ)) : List (List ℕ) → Option (List ℕ) → Type 0 where
@@ -162,14 +111,16 @@ pub data Reads (first : Option (List ℕ)) : List (List ℕ) → Option (List �
 abbrev pub images_in : {P : Type 0} → (P → Option (List ℕ)) → Option P → Option (List ℕ)
 images_in contents writer = option_and_then contents writer
 
--- At most 1,000,000 lines were read, what they lead to was told in a report and in images, and this is left to be read.
-pub record Reported (first : Stage) (read left report reported images imaged : Option (List ℕ)) : Type 0 where
+-- At most 1,000,000 lines were read, what they lead to was told in a report and in images, no side file failed, and this is
+-- left to be read.
+pub record Reported {S : Type 0} (files : Files S) (first : Stage) (from to : S) (read left report reported images imaged : Option (List ℕ)) : Type 0 where
   pub lines : List (List ℕ)
   pub told : Told
   pub last : Stage
   pub few : length lines ≤ 1000000
   pub reads : Reads read lines left
-  pub tells : Tells first lines told last
+  pub tells : Tells files first from lines told last to
+  pub calm : files.faults to ≡ files.faults from
   pub written : Appends report reported told.text
   pub shown : Appends images imaged told.images
 
@@ -177,32 +128,53 @@ pub record Reported (first : Stage) (read left report reported images imaged : O
 abbrev pub IsBadLine : Option (List ℕ) → Type 0
 IsBadLine left = IsTooLong 140000 left ⊎ ((line : List ℕ) × (rest : Option (List ℕ)) × TakesLine left rest line × (asked_by line ≡ None))
 
--- one line was taken and told of
-abbrev pub TakesOne : Option (List ℕ) → Option (List ℕ) → SessionView → SessionView → Option (List ℕ) → Option (List ℕ) → (Told → Type 0) → Type 0
-TakesOne read left before after report reported P =
-    (line : List ℕ) × (asked : Asked) × TakesLine read left line × (length line ≤ 140000) × (asked_by line ≡ Some asked) × Leads (TellsLine asked) before after report reported P
+-- the file that a line asks for isn't there, or failed
+abbrev pub LacksAsked : {S : Type 0} → Files S → Asked → Desktop → S → S → Type 0
+LacksAsked files (File place name) d from to = LacksFile files place name d from to
+LacksAsked files Connect d from to = ⊥
+LacksAsked files (Bytes client piece) d from to = ⊥
+LacksAsked files (Store place bytes) d from to = ⊥
+LacksAsked files (Gone client) d from to = ⊥
+LacksAsked files (Tick time) d from to = ⊥
+LacksAsked files Nothing d from to = ⊥
 
--- the line of this number wasn't played, and where the recording is at fault, or could not be read, nothing of it was told
-abbrev pub FailsAt : ReplayError → ℕ → Option (List ℕ) → Type 0 → Type 0
-FailsAt error.Read number left IsQuiet = IsQuiet
-FailsAt error.Write number left IsQuiet = ⊤
-FailsAt (error.BadLine n) number left IsQuiet = (n ≡ number) × IsBadLine left × IsQuiet
-FailsAt (error.Side n) number left IsQuiet = ⊥
-FailsAt error.Memory number left IsQuiet = ⊤
+-- the next line asks for such a file
+abbrev pub IsLackingLine : {S : Type 0} → Files S → Option (List ℕ) → Desktop → S → S → Type 0
+IsLackingLine files left d from to =
+    (line : List ℕ) × (asked : Asked) × (rest : Option (List ℕ)) × TakesLine left rest line × (asked_by line ≡ Some asked)
+    × LacksAsked files asked d from to
+
+-- one line was taken and told of
+abbrev pub TakesOne : {S : Type 0} → Files S → S → S → Option (List ℕ) → Option (List ℕ) → SessionView → SessionView → Option (List ℕ) → Option (List ℕ) → (Told → Type 0) → Type 0
+TakesOne files from to read left before after report reported P =
+    (line : List ℕ) × (asked : Asked) × TakesLine read left line × (length line ≤ 140000) × (asked_by line ≡ Some asked)
+    × Leads (TellsLine files asked from to) before after report reported P × (files.faults to ≡ files.faults from)
+
+-- The line of this number wasn't played. Where the recording is at fault, or could not be read, nothing of it was done.
+abbrev pub FailsAt : ReplayError → ℕ → Option (List ℕ) → Type 0 → Type 0 → Type 0
+FailsAt error.Read number left IsQuiet IsLacking = IsQuiet
+FailsAt error.Write number left IsQuiet IsLacking = ⊤
+FailsAt (error.BadLine n) number left IsQuiet IsLacking = (n ≡ number) × IsBadLine left × IsQuiet
+FailsAt (error.Side n) number left IsQuiet IsLacking = (n ≡ number) × IsLacking
+FailsAt error.Memory number left IsQuiet IsLacking = ⊤
 
 -- The whole recording was read and told of, and this is its summary.
-abbrev pub IsPlayed : Stage → Summary → Option (List ℕ) → Option (List ℕ) → Option (List ℕ) → Option (List ℕ) → Option (List ℕ) → Type 0
-IsPlayed first summary read report reported images imaged =
-    (left : Option (List ℕ)) × (r : Reported first read left report reported images imaged) × IsAtEnd left
+abbrev pub IsPlayed : {S : Type 0} → Files S → Stage → S → S → Summary → Option (List ℕ) → Option (List ℕ) → Option (List ℕ) → Option (List ℕ) → Option (List ℕ) → Type 0
+IsPlayed files first from to summary read report reported images imaged =
+    (left : Option (List ℕ)) × (r : Reported files first from to read left report reported images imaged) × IsAtEnd left
     × (summary ≡ record { lines = length r.lines; frames = r.told.frames; clients = r.told.clients })
 
 -- The recording was played up to a line. A bad one is named by its number from 1; the line past the greatest number of lines is
--- bad too. Nothing is said of what was told where the report or the images could not be written, or memory was wanted.
-abbrev pub StopsAs : ReplayError → Stage → Option (List ℕ) → Option (List ℕ) → Option (List ℕ) → Option (List ℕ) → Option (List ℕ) → Type 0
-StopsAs error.Read first read report reported images imaged = (left : Option (List ℕ)) × Reported first read left report reported images imaged
-StopsAs error.Write first read report reported images imaged = ⊤
-StopsAs (error.BadLine n) first read report reported images imaged =
-    (left : Option (List ℕ)) × (r : Reported first read left report reported images imaged) × (n ≡ length r.lines + 1)
+-- bad too. So is one whose side file isn't there or failed, of which nothing is told. Nothing is said of what was told where the
+-- report or the images could not be written, or memory was wanted.
+abbrev pub StopsAs : {S : Type 0} → Files S → ReplayError → Stage → S → S → Option (List ℕ) → Option (List ℕ) → Option (List ℕ) → Option (List ℕ) → Option (List ℕ) → Type 0
+StopsAs {S} files error.Read first from to read report reported images imaged =
+    (left : Option (List ℕ)) × Reported files first from to read left report reported images imaged
+StopsAs {S} files error.Write first from to read report reported images imaged = ⊤
+StopsAs {S} files (error.BadLine n) first from to read report reported images imaged =
+    (left : Option (List ℕ)) × (r : Reported files first from to read left report reported images imaged) × (n ≡ length r.lines + 1)
     × ((length r.lines ≡ 1000000) ⊎ IsBadLine left)
-StopsAs (error.Side n) first read report reported images imaged = ⊥
-StopsAs error.Memory first read report reported images imaged = ⊤
+StopsAs {S} files (error.Side n) first from to read report reported images imaged =
+    (left : Option (List ℕ)) × (between : S) × (r : Reported files first from between read left report reported images imaged)
+    × (n ≡ length r.lines + 1) × IsLackingLine files left r.last.desktop between to
+StopsAs {S} files error.Memory first from to read report reported images imaged = ⊤

@@ -13,6 +13,14 @@ full_line = codes "full\n"
 abbrev pub none_line : ℕ → List ℕ
 none_line client = codes "none " ++ decimal client ++ codes "\n"
 
+-- the client has no store of this number
+abbrev pub nostore_line : ℕ → ℕ → List ℕ
+nostore_line client store = codes "nostore " ++ decimal client ++ codes " " ++ decimal store ++ codes "\n"
+
+-- a place outside the store
+abbrev pub outside_line : ℕ → ℕ → List ℕ
+outside_line client store = codes "outside " ++ decimal client ++ codes " " ++ decimal store ++ codes "\n"
+
 -- when, and how many pixels are damaged
 abbrev pub frame_line : ℕ → ℕ → List ℕ
 frame_line time count = codes "frame " ++ decimal time ++ codes " " ++ decimal count ++ codes "\n"

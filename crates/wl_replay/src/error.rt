@@ -4,6 +4,7 @@ ghost use Rattle.std.specs.Prelude.{◌≡◌};
 ghost use Rattle.wl_replay.specs.declared.error.ReplayError.TheVariants.{Memory};
 
 use std::alloc::AllocError;
+use std::io;
 use thiserror::Error;
 
 /// What a recording held.
@@ -38,4 +39,19 @@ impl From<AllocError> for ReplayError {
     fn from(_error: AllocError) -> ReplayError {
         ReplayError::Memory
     }
+}
+
+/// Why the step of a line wasn't taken, or not told of.
+#[derive(Clone, Copy, Debug, PartialEq, Eq)]
+pub(crate) enum StepError {
+    Write,
+    /// A side file isn't there or failed.
+    Side,
+    Memory,
+}
+
+pub(crate) fn write_failed(_error: io::Error) -> StepError
+    ensures { result ≡ StepError.Write }
+{
+    StepError::Write
 }

@@ -2,14 +2,18 @@
 #![tactic(auto)]
 
 mod error;
+mod filling;
 mod hex;
 mod line;
 mod lines;
+mod name;
 mod numbers;
+mod place;
 mod player;
 mod report;
 mod side;
 mod step;
+mod storing;
 mod tell;
 mod word;
 

@@ -1,12 +1,16 @@
 //! The replay of a recording.
 
-ghost use Rattle.std.specs.Prelude.{◌≡◌, ◌≤◌, ◌⊎◌, ⊤, None, Some, IfOk, IfErr, OnOk, MatchOption, length, Ok, true, false};
+ghost use Rattle.std.specs.Prelude.{◌≡◌, ◌≤◌, ◌⊎◌, ⊤, IfOk, IfErr, OnOk, MatchOption, length, Ok, true, false};
 ghost use Rattle.std.specs.Io.KnownBytes.{IsAtEnd};
 ghost use Rattle.wl_session.specs.Frame.{is_side};
-ghost use Rattle.wl_replay.specs.Lines.{IsTooLong, TakesLine};
-ghost use Rattle.wl_replay.specs.Report.{Counts, FailsAt, IsPlayed, Reported, Stage, Stands, StopsAs, TakesOne, first_stage, images_in};
+ghost use Rattle.wl_session.specs.Agreement.{Agrees};
+ghost use Rattle.wl_session.specs.Desktop.{Desktop};
+ghost use Rattle.wl_replay.specs.Lines.{TakesLine};
+ghost use Rattle.wl_replay.specs.Report.{FailsAt, IsLackingLine, IsPlayed, StopsAs, TakesOne, images_in};
+ghost use Rattle.wl_replay.specs.Side.{files_of};
+ghost use Rattle.wl_replay.specs.Told.{Counts, Stage, Stands, first_stage};
 
-use crate::error::{ReplayError, Summary};
+use crate::error::{ReplayError, StepError, Summary};
 use crate::line::parse;
 use crate::lines::{LineError, read_line};
 use crate::side::SideFiles;
@@ -21,39 +25,41 @@ pub const MAX_LINES: u32 = 1_000_000;
 /// Plays a recording, and writes a report of what the clients are sent and of the frames that are shown. `ppm` gets an image
 /// for each frame, where there is one. The output's sides are 1 to 4,096 pixels.
 ///
-/// `BadLine` is decided before anything of its line is done. No line that is served yet names a side file.
+/// `BadLine` is decided before anything of its line is done. `Side` is answered only where a side file that is asked for isn't
+/// there, or a call on the side files failed. After both the report tells of the lines before.
 pub fn replay<A: Allocator + Copy, R: BufRead, W: Write, P: Write, S: SideFiles>(
     alloc: A,
     config: Config,
     reader: &mut R,
     writer: &mut W,
     ppm: &mut Option<P>,
-    _side: &mut S,
+    side: &mut S,
 ) -> Result<Summary, ReplayError>
     requires width { is_side config.width ≡ true }
     requires height { is_side config.height ≡ true }
-    ensures played { IfOk result (λ summary. IsPlayed (first_stage config) summary (R.remaining reader.old) (W.contents writer.old) (W.contents writer.new)
+    ensures played { IfOk result (λ summary. IsPlayed (files_of S.opens S.gives S.fault_count) (first_stage config) side.old side.new summary (R.remaining reader.old) (W.contents writer.old) (W.contents writer.new)
         (images_in P.contents ppm.old) (images_in P.contents ppm.new)) }
-    ensures stopped { IfErr result (λ error. StopsAs error (first_stage config) (R.remaining reader.old) (W.contents writer.old) (W.contents writer.new)
+    ensures stopped { IfErr result (λ error. StopsAs (files_of S.opens S.gives S.fault_count) error (first_stage config) side.old side.new (R.remaining reader.old) (W.contents writer.old) (W.contents writer.new)
         (images_in P.contents ppm.old) (images_in P.contents ppm.new)) }
 {
     match Session::new(alloc, config) {
-        Ok(mut session) => play(alloc, &mut session, reader, writer, ppm),
+        Ok(mut session) => play(alloc, &mut session, reader, writer, ppm, side),
         Err(_) => Err(ReplayError::Memory),
     }
 }
 
 /// Plays a recording to a session.
-fn play<A: Allocator + Copy, R: BufRead, W: Write, P: Write>(
+fn play<A: Allocator + Copy, R: BufRead, W: Write, P: Write, S: SideFiles>(
     alloc: A,
     session: &mut Session<A>,
     reader: &mut R,
     writer: &mut W,
     ppm: &mut Option<P>,
+    side: &mut S,
 ) -> Result<Summary, ReplayError>
-    ensures played { IfOk result (λ summary. (first : Stage) → Stands session.old first → IsPlayed first summary (R.remaining reader.old) (W.contents writer.old) (W.contents writer.new)
+    ensures played { IfOk result (λ summary. (first : Stage) → Stands session.old first → IsPlayed (files_of S.opens S.gives S.fault_count) first side.old side.new summary (R.remaining reader.old) (W.contents writer.old) (W.contents writer.new)
         (images_in P.contents ppm.old) (images_in P.contents ppm.new)) }
-    ensures stopped { IfErr result (λ error. (first : Stage) → Stands session.old first → StopsAs error first (R.remaining reader.old) (W.contents writer.old) (W.contents writer.new)
+    ensures stopped { IfErr result (λ error. (first : Stage) → Stands session.old first → StopsAs (files_of S.opens S.gives S.fault_count) error first side.old side.new (R.remaining reader.old) (W.contents writer.old) (W.contents writer.new)
         (images_in P.contents ppm.old) (images_in P.contents ppm.new)) }
 {
     let mut text = Vec::new(alloc);
@@ -69,6 +75,7 @@ fn play<A: Allocator + Copy, R: BufRead, W: Write, P: Write>(
             reader,
             writer,
             ppm,
+            side,
         )? {
             None => return Ok(Summary {
                 lines,
@@ -92,7 +99,7 @@ fn play<A: Allocator + Copy, R: BufRead, W: Write, P: Write>(
 }
 
 /// Plays the next line. None at the end of the recording.
-fn play_line<A: Allocator + Copy, R: BufRead, W: Write, P: Write>(
+fn play_line<A: Allocator + Copy, R: BufRead, W: Write, P: Write, S: SideFiles>(
     session: &mut Session<A>,
     number: u32,
     text: &mut Vec<u8, A>,
@@ -100,12 +107,15 @@ fn play_line<A: Allocator + Copy, R: BufRead, W: Write, P: Write>(
     reader: &mut R,
     writer: &mut W,
     ppm: &mut Option<P>,
+    side: &mut S,
 ) -> Result<Option<Shown>, ReplayError>
-    ensures played { IfOk result (λ shown. MatchOption shown (IsAtEnd (R.remaining reader.old) × (writer.new ≡ writer.old) × (ppm.new ≡ ppm.old))
-        (λ shown. TakesOne (R.remaining reader.old) (R.remaining reader.new) session.old session.new (W.contents writer.old) (W.contents writer.new)
+    ensures played { IfOk result (λ shown. MatchOption shown (IsAtEnd (R.remaining reader.old) × (writer.new ≡ writer.old) × (ppm.new ≡ ppm.old) × (side.new ≡ side.old))
+        (λ shown. TakesOne (files_of S.opens S.gives S.fault_count) side.old side.new (R.remaining reader.old) (R.remaining reader.new) session.old session.new (W.contents writer.old) (W.contents writer.new)
         (Counts (images_in P.contents ppm.old) (images_in P.contents ppm.new) shown.frames shown.clients))) }
     ensures small { IfOk result (λ shown. MatchOption shown ⊤ (λ shown. (shown.frames ≤ 1) × (shown.clients ≤ 1))) }
-    ensures failed { IfErr result (λ error. FailsAt error number (R.remaining reader.old) ((writer.new ≡ writer.old) × (ppm.new ≡ ppm.old))) }
+    ensures failed { IfErr result (λ error. FailsAt error number (R.remaining reader.old) ((writer.new ≡ writer.old) × (ppm.new ≡ ppm.old) × (side.new ≡ side.old))
+        ((writer.new ≡ writer.old) × (ppm.new ≡ ppm.old) × ((d : Desktop) → Agrees session.old.desk d
+        → IsLackingLine (files_of S.opens S.gives S.fault_count) (R.remaining reader.old) d side.old side.new))) }
 {
     if !read_text(number, reader, text)? {
         return Ok(None);
@@ -113,7 +123,12 @@ fn play_line<A: Allocator + Copy, R: BufRead, W: Write, P: Write>(
     let Some(line) = parse(text, piece)? else {
         return Err(ReplayError::BadLine(number));
     };
-    Ok(Some(take_line(session, line, piece, writer, ppm)?))
+    match take_line(session, line, piece, writer, ppm, side) {
+        Ok(shown) => Ok(Some(shown)),
+        Err(StepError::Write) => Err(ReplayError::Write),
+        Err(StepError::Side) => Err(ReplayError::Side(number)),
+        Err(StepError::Memory) => Err(ReplayError::Memory),
+    }
 }
 
 /// Reads the next line, which has this number, without its line feed. False at the end.
@@ -125,7 +140,7 @@ fn read_text<R: BufRead, A: Allocator>(
     ensures taken { result ≡ Ok true → TakesLine (R.remaining reader.old) (R.remaining reader.new) text.new.items }
     ensures end { result ≡ Ok false → IsAtEnd (R.remaining reader.old) }
     ensures short { OnOk result (length text.new.items ≤ 140000) }
-    ensures failed { IfErr result (λ error. FailsAt error number (R.remaining reader.old) ⊤) }
+    ensures failed { IfErr result (λ error. FailsAt error number (R.remaining reader.old) ⊤ ⊥) }
 {
     read_line(reader, text).map_err(|error| match error {
         LineError::Read => ReplayError::Read,

@@ -2,7 +2,7 @@
 
 ghost use Rattle.std.specs.Prelude.{◌≡◌, ◌*◌, ◌<◌, ◌≤◌, length, take, OnOk};
 ghost use Rattle.std.specs.Io.KnownBytes.{Appends};
-ghost use Rattle.wl_replay.specs.Text.{cause_text, client_line, end_line, frame_line, full_line, hex_digit, hex_of, none_line, to_line};
+ghost use Rattle.wl_replay.specs.Text.{cause_text, client_line, end_line, frame_line, full_line, hex_digit, hex_of, none_line, nostore_line, outside_line, to_line};
 
 use std::io;
 use std::io::Write;
@@ -30,6 +30,20 @@ pub(crate) fn write_none<W: Write>(client: u32, writer: &mut W) -> io::Result<()
     ensures { OnOk result (Appends (W.contents writer.old) (W.contents writer.new) (none_line client)) }
 {
     write!(writer, "none {client}\n")
+}
+
+/// The client has no store of this number.
+pub(crate) fn write_nostore<W: Write>(client: u32, store: u32, writer: &mut W) -> io::Result<()>
+    ensures { OnOk result (Appends (W.contents writer.old) (W.contents writer.new) (nostore_line client store)) }
+{
+    write!(writer, "nostore {client} {store}\n")
+}
+
+/// The place is outside the store.
+pub(crate) fn write_outside<W: Write>(client: u32, store: u32, writer: &mut W) -> io::Result<()>
+    ensures { OnOk result (Appends (W.contents writer.old) (W.contents writer.new) (outside_line client store)) }
+{
+    write!(writer, "outside {client} {store}\n")
 }
 
 /// A frame was shown, with so many damaged pixels.

@@ -10,7 +10,7 @@ use thiserror::Error;
 #[error("a side file failed")]
 pub struct SideFault;
 
-/// Files by name, of which one is open at a time. No line that is served yet names one.
+/// Files by name, of which one is open at a time.
 pub trait SideFiles {
     /// How many faults there were; it stays at its greatest value.
     ghost fault_count: { Self → ℕ };

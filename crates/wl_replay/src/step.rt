@@ -1,18 +1,23 @@
 //! The steps that the lines of a recording ask.
 
-ghost use Rattle.std.specs.Prelude.{◌≡◌, ◌≤◌, ◌⊎◌, [], IfOk, IfErr, OnOk};
+ghost use Rattle.std.specs.Prelude.{◌≡◌, ◌≤◌, ◌⊎◌, Err, IfOk, IfErr, OnOk};
 ghost use Rattle.std.specs.Io.KnownBytes.{Appends};
 ghost use Rattle.wl_session.specs.Image.{image_of};
-ghost use Rattle.wl_replay.specs.Line as asked;
+ghost use Rattle.wl_session.specs.Agreement.{Agrees};
+ghost use Rattle.wl_session.specs.Desktop.{Desktop};
 ghost use Rattle.wl_replay.specs.Line.{meaning};
-ghost use Rattle.wl_replay.specs.Report.{Counts, Leads, TellsLine, TellsStep, absent_text, images_in};
+ghost use Rattle.wl_replay.specs.Report.{LacksAsked, TellsBytes, TellsConnect, TellsGone, TellsLine, TellsStep, TellsTick, absent_text, images_in};
+ghost use Rattle.wl_replay.specs.Side.{files_of};
+ghost use Rattle.wl_replay.specs.Told.{Counts, IsSilent, Leads};
 
-use crate::error::ReplayError;
+use crate::error::{StepError, write_failed};
+use crate::filling::put_file;
 use crate::line::Line;
 use crate::report::{write_client, write_frame, write_full, write_none};
+use crate::side::SideFiles;
+use crate::storing::store;
 use crate::tell::tell_clients;
 use std::alloc::Allocator;
-use std::io;
 use std::io::Write;
 use wl_session::{ConnectError, Fed, Framebuffer, Session, write_ppm};
 
@@ -28,38 +33,44 @@ const NOTHING: Shown = Shown {
     clients: 0,
 };
 
-/// Takes the step that a line asks, and tells of it. The bytes of its piece stand beside.
-pub(crate) fn take_line<A: Allocator + Copy, W: Write, P: Write>(
+/// Takes the step that a line asks, and tells of it. The bytes that it spells stand beside.
+pub(crate) fn take_line<A: Allocator + Copy, W: Write, P: Write, S: SideFiles>(
     session: &mut Session<A>,
     line: Line,
     piece: &[u8],
     writer: &mut W,
     ppm: &mut Option<P>,
-) -> Result<Shown, ReplayError>
-    ensures told { IfOk result (λ shown. Leads (TellsLine (meaning piece.now line)) session.old session.new (W.contents writer.old) (W.contents writer.new)
+    side: &mut S,
+) -> Result<Shown, StepError>
+    ensures told { IfOk result (λ shown. Leads (TellsLine (files_of S.opens S.gives S.fault_count) (meaning piece.now line.entry) side.old side.new) session.old session.new (W.contents writer.old) (W.contents writer.new)
         (Counts (images_in P.contents ppm.old) (images_in P.contents ppm.new) shown.frames shown.clients)) }
     ensures small { IfOk result (λ shown. (shown.frames ≤ 1) × (shown.clients ≤ 1)) }
-    ensures kind { IfErr result (λ e. (e ≡ ReplayError.Write) ⊎ (e ≡ ReplayError.Memory)) }
+    ensures calm { OnOk result (S.fault_count side.new ≡ S.fault_count side.old) }
+    ensures lacking { result ≡ Err StepError.Side → (writer.new ≡ writer.old) × (ppm.new ≡ ppm.old) × ((d : Desktop) → Agrees session.old.desk d
+        → LacksAsked (files_of S.opens S.gives S.fault_count) (meaning piece.now line.entry) d side.old side.new) }
 {
     if let Line::Nothing = line {
         return Ok(NOTHING);
     }
-    let shown = take_step(session, line, piece, writer, ppm)?;
+    let shown = take_step(session, line, piece, writer, ppm, side)?;
     tell_clients(session, writer).map_err(write_failed)?;
     Ok(shown)
 }
 
-fn take_step<A: Allocator + Copy, W: Write, P: Write>(
+fn take_step<A: Allocator + Copy, W: Write, P: Write, S: SideFiles>(
     session: &mut Session<A>,
     line: Line,
     piece: &[u8],
     writer: &mut W,
     ppm: &mut Option<P>,
-) -> Result<Shown, ReplayError>
-    ensures told { IfOk result (λ shown. Leads (TellsStep (meaning piece.now line)) session.old session.new (W.contents writer.old) (W.contents writer.new)
+    side: &mut S,
+) -> Result<Shown, StepError>
+    ensures told { IfOk result (λ shown. Leads (TellsStep (files_of S.opens S.gives S.fault_count) (meaning piece.now line.entry) side.old side.new) session.old session.new (W.contents writer.old) (W.contents writer.new)
         (Counts (images_in P.contents ppm.old) (images_in P.contents ppm.new) shown.frames shown.clients)) }
     ensures small { IfOk result (λ shown. (shown.frames ≤ 1) × (shown.clients ≤ 1)) }
-    ensures kind { IfErr result (λ e. (e ≡ ReplayError.Write) ⊎ (e ≡ ReplayError.Memory)) }
+    ensures calm { OnOk result (S.fault_count side.new ≡ S.fault_count side.old) }
+    ensures lacking { result ≡ Err StepError.Side → (writer.new ≡ writer.old) × (ppm.new ≡ ppm.old) × ((d : Desktop) → Agrees session.old.desk d
+        → LacksAsked (files_of S.opens S.gives S.fault_count) (meaning piece.now line.entry) d side.old side.new) }
 {
     match line {
         Line::Connect => {
@@ -68,6 +79,14 @@ fn take_step<A: Allocator + Copy, W: Write, P: Write>(
         }
         Line::Bytes { client } => {
             feed(session, client, piece, writer)?;
+            Ok(NOTHING)
+        }
+        Line::Store { place } => {
+            store(session, place, piece, writer)?;
+            Ok(NOTHING)
+        }
+        Line::File { place, name } => {
+            put_file(session, place, name, writer, side)?;
             Ok(NOTHING)
         }
         Line::Gone { client } => {
@@ -89,11 +108,11 @@ fn take_step<A: Allocator + Copy, W: Write, P: Write>(
 fn connect<A: Allocator + Copy, W: Write>(
     session: &mut Session<A>,
     writer: &mut W,
-) -> Result<u32, ReplayError>
-    ensures told { IfOk result (λ count. Leads (TellsStep asked.Connect) session.old session.new (W.contents writer.old) (W.contents writer.new)
-        (λ told. (told.images ≡ []) × (told.frames ≡ 0) × (told.clients ≡ count))) }
+) -> Result<u32, StepError>
+    ensures told { IfOk result (λ count. Leads TellsConnect session.old session.new (W.contents writer.old) (W.contents writer.new)
+        (IsSilent count)) }
     ensures small { IfOk result (λ count. count ≤ 1) }
-    ensures kind { IfErr result (λ e. (e ≡ ReplayError.Write) ⊎ (e ≡ ReplayError.Memory)) }
+    ensures kind { IfErr result (λ e. (e ≡ StepError.Write) ⊎ (e ≡ StepError.Memory)) }
 {
     match session.connect() {
         Ok(client) => {
@@ -104,7 +123,7 @@ fn connect<A: Allocator + Copy, W: Write>(
             write_full(writer).map_err(write_failed)?;
             Ok(0)
         }
-        Err(ConnectError::Memory) => Err(ReplayError::Memory),
+        Err(ConnectError::Memory) => Err(StepError::Memory),
     }
 }
 
@@ -114,10 +133,10 @@ fn feed<A: Allocator + Copy, W: Write>(
     client: u32,
     piece: &[u8],
     writer: &mut W,
-) -> Result<(), ReplayError>
-    ensures told { OnOk result (Leads (TellsStep (asked.Bytes client piece.now)) session.old session.new (W.contents writer.old) (W.contents writer.new)
-        (λ told. (told.images ≡ []) × (told.frames ≡ 0) × (told.clients ≡ 0))) }
-    ensures kind { IfErr result (λ e. e ≡ ReplayError.Write) }
+) -> Result<(), StepError>
+    ensures told { OnOk result (Leads (TellsBytes client piece.now) session.old session.new (W.contents writer.old) (W.contents writer.new)
+        (IsSilent 0)) }
+    ensures kind { IfErr result (λ e. e ≡ StepError.Write) }
 {
     let before = session.status(client);
     session.feed(client, piece);
@@ -129,10 +148,10 @@ fn gone<A: Allocator + Copy, W: Write>(
     session: &mut Session<A>,
     client: u32,
     writer: &mut W,
-) -> Result<(), ReplayError>
-    ensures told { OnOk result (Leads (TellsStep (asked.Gone client)) session.old session.new (W.contents writer.old) (W.contents writer.new)
-        (λ told. (told.images ≡ []) × (told.frames ≡ 0) × (told.clients ≡ 0))) }
-    ensures kind { IfErr result (λ e. e ≡ ReplayError.Write) }
+) -> Result<(), StepError>
+    ensures told { OnOk result (Leads (TellsGone client) session.old session.new (W.contents writer.old) (W.contents writer.new)
+        (IsSilent 0)) }
+    ensures kind { IfErr result (λ e. e ≡ StepError.Write) }
 {
     let before = session.status(client);
     session.gone(client);
@@ -145,10 +164,10 @@ fn tick<A: Allocator + Copy, W: Write, P: Write>(
     time: u32,
     writer: &mut W,
     ppm: &mut Option<P>,
-) -> Result<(), ReplayError>
-    ensures told { OnOk result (Leads (TellsStep (asked.Tick time)) session.old session.new (W.contents writer.old) (W.contents writer.new)
+) -> Result<(), StepError>
+    ensures told { OnOk result (Leads (TellsTick time) session.old session.new (W.contents writer.old) (W.contents writer.new)
         (Counts (images_in P.contents ppm.old) (images_in P.contents ppm.new) 1 0)) }
-    ensures kind { IfErr result (λ e. e ≡ ReplayError.Write) }
+    ensures kind { IfErr result (λ e. e ≡ StepError.Write) }
 {
     let frame = session.tick(time);
     let count = frame.damage.count();
@@ -157,9 +176,9 @@ fn tick<A: Allocator + Copy, W: Write, P: Write>(
 }
 
 /// Says so where no client had the number.
-fn write_absent<W: Write>(client: u32, before: Fed, writer: &mut W) -> Result<(), ReplayError>
+fn write_absent<W: Write>(client: u32, before: Fed, writer: &mut W) -> Result<(), StepError>
     ensures told { OnOk result (Appends (W.contents writer.old) (W.contents writer.new) (absent_text client before)) }
-    ensures kind { IfErr result (λ e. e ≡ ReplayError.Write) }
+    ensures kind { IfErr result (λ e. e ≡ StepError.Write) }
 {
     match before {
         Fed::NoClient => write_none(client, writer).map_err(write_failed),
@@ -171,19 +190,13 @@ fn write_absent<W: Write>(client: u32, before: Fed, writer: &mut W) -> Result<()
 fn write_image<A: Allocator, P: Write>(
     frame: &Framebuffer<A>,
     ppm: &mut Option<P>,
-) -> Result<(), ReplayError>
+) -> Result<(), StepError>
     ensures told { OnOk result (Appends (images_in P.contents ppm.old) (images_in P.contents ppm.new)
         (image_of frame.now.width frame.now.height frame.now.pixels)) }
-    ensures kind { IfErr result (λ e. e ≡ ReplayError.Write) }
+    ensures kind { IfErr result (λ e. e ≡ StepError.Write) }
 {
     match ppm {
         Some(ppm) => write_ppm(frame, ppm).map_err(write_failed),
         None => Ok(()),
     }
-}
-
-fn write_failed(_error: io::Error) -> ReplayError
-    ensures { result ≡ ReplayError.Write }
-{
-    ReplayError::Write
 }

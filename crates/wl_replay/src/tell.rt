@@ -5,7 +5,7 @@ ghost use Rattle.std.specs.Io.KnownBytes.{Appends};
 ghost use Rattle.wl_session.specs.Agreement.{Agrees};
 ghost use Rattle.wl_session.specs.Desktop.{Desktop, peer_at};
 ghost use Rattle.wl_session.specs.Step.{status_of, unsent_of};
-ghost use Rattle.wl_replay.specs.Report.{Closes, Sends, TellsClient, TellsFirst};
+ghost use Rattle.wl_replay.specs.Clients.{Closes, Sends, TellsClient, TellsFirst};
 
 use crate::report::{write_end, write_to};
 use std::alloc::Allocator;

@@ -4,7 +4,11 @@
 #[cfg(test)]
 mod faults;
 #[cfg(test)]
+mod files;
+#[cfg(test)]
 mod limits;
+#[cfg(test)]
+mod pools;
 #[cfg(test)]
 mod reports;
 #[cfg(test)]

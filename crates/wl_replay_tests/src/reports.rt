@@ -5,7 +5,7 @@ use std::test::Fail;
 use wl_replay::{ReplayError, Summary};
 
 /// A recording and its report. The last line of each report has its line feed.
-const REPORTS: [(&[u8], &[u8]); 9] = [
+const REPORTS: [(&[u8], &[u8]); 10] = [
     // One sync in one piece.
     (
         b"connect\nbytes 1 01000000 00000c00 02000000\ntick 0\n",
@@ -44,6 +44,11 @@ const REPORTS: [(&[u8], &[u8]); 9] = [
     (
         b"\n   \n# bytes\n#\n  connect  \n bytes   01 0100 0000 00000C00  fF000000 \ntick 0004294967295",
         b"client 1\nto 1 ff00000000000c00000000000100000001000c00ff000000\nframe 4294967295 0\n",
+    ),
+    // A client without stores, and numbers that no client has.
+    (
+        b"connect\nstore 1 1 0 00\nfile 1 4294967295 0 a\nstore 2 1 0 00\nfile 0 1 0 a\ngone 1\nstore 1 1 0 00\nfile 1 1 0 a\n",
+        b"client 1\nnostore 1 1\nnostore 1 4294967295\nnone 2\nnone 0\nend 1 gone\nnone 1\nnone 1\n",
     ),
     (b"", b""),
 ];
@@ -109,8 +114,34 @@ fn bad_lines(rt: HostRuntime) -> Result<(), Fail> {
         " # comment",
         "tick\t1",
         "tick 1\r",
-        "store 1 1 0 00",
-        "file 1 1 0 a",
+        "store 1 1 0",
+        "store 1 1 00",
+        "store 1 1 0 0",
+        "store 1 1 0 00 0g",
+        "store 1 1 -1 00",
+        "store 1 1 4294967296 00",
+        "store 1 4294967296 0 00",
+        "store 4294967296 1 0 00",
+        "store 1 1 x 00",
+        "store 9 1 0 x",
+        "file 1 1 0",
+        "file 1 1 a",
+        "file 1 1 0 a b",
+        "file 1 1 4294967296 a",
+        "file 1 1 +1 a",
+        "file x 1 0 a",
+        "file 9 1 0 .a",
+        "file 1 1 0 ..",
+        "file 1 1 0 .",
+        "file 1 1 0 a/b",
+        "file 1 1 0 a\0",
+        "file 1 1 0 a:b",
+        "file 1 1 0 @",
+        "file 1 1 0 [",
+        "file 1 1 0 `",
+        "file 1 1 0 {",
+        "file 1 1 0 \u{e4}",
+        "file 1 1 0 abcdefghijklmnopqrstuvwxyzABCDEFGHIJKLMNOPQRSTUVWXYZ0123456789._-",
         "motion 0 0 0",
         "button 0 272 1",
     ] {

@@ -1,5 +1,7 @@
 //! What the tests share.
 
+ghost use Rattle.std.specs.Prelude.{◌≡◌, ◌++◌, true};
+
 use std::alloc::Allocator;
 use std::io::{BufRead, Write};
 use wl_replay::{ReplayError, SideFault, SideFiles, Summary, replay};
@@ -29,6 +31,85 @@ impl SideFiles for NoFiles {
     }
 }
 
+/// One file in memory. It counts what is asked of it, and a read may fail.
+#[derive(Drop)]
+pub(crate) struct OneFile<'a> {
+    name: &'a str,
+    bytes: &'a [u8],
+    rest: &'a [u8],
+    fails_at: u64,
+    pub(crate) opens: u64,
+    pub(crate) reads: u64,
+    pub(crate) asked: u64,
+    pub(crate) given: u64,
+    faults: u64,
+}
+
+impl<'a> OneFile<'a> {
+    pub(crate) fn new(name: &'a str, bytes: &'a [u8]) -> OneFile<'a> {
+        OneFile {
+            name,
+            bytes,
+            rest: &[],
+            fails_at: u64::MAX,
+            opens: 0,
+            reads: 0,
+            asked: 0,
+            given: 0,
+            faults: 0,
+        }
+    }
+
+    /// The read of this number, from 0, fails.
+    pub(crate) fn failing_at(self, read: u64) -> OneFile<'a> {
+        OneFile {
+            fails_at: read,
+            ..self
+        }
+    }
+
+    pub(crate) fn has_failed(&self) -> bool {
+        self.faults > 0
+    }
+}
+
+impl SideFiles for OneFile<'_> {
+    ghost fault_count = { λ side. side.faults };
+
+    ghost gives = { λ old bytes new. old.rest.now ≡ bytes ++ new.rest.now };
+
+    ghost opens = { λ old name there new. there ≡ true → new.rest.now ≡ old.bytes.now };
+
+    fn open(&mut self, name: &str) -> Result<bool, SideFault> {
+        self.opens = self.opens.saturating_add(1);
+        self.rest = &[];
+        if name != self.name {
+            return Ok(false);
+        }
+        self.rest = self.bytes;
+        Ok(true)
+    }
+
+    fn read(&mut self, buf: &mut [u8]) -> Result<usize, SideFault> {
+        if self.reads == self.fails_at {
+            self.faults = self.faults.saturating_add(1);
+            return Err(SideFault);
+        }
+        self.reads = self.reads.saturating_add(1);
+        self.asked = self.asked.saturating_add(buf.len() as u64);
+        let count = buf.len().min(self.rest.len());
+        let (front, rest) = self.rest.split_at(count);
+        buf[..count].copy_from_slice(front);
+        self.rest = rest;
+        self.given = self.given.saturating_add(count as u64);
+        Ok(count)
+    }
+
+    fn faults(&self) -> u64 {
+        self.faults
+    }
+}
+
 /// An output of 2 by 1 black pixels.
 pub(crate) const SMALL: Config = Config {
     width: 2,
@@ -44,4 +125,15 @@ pub(crate) fn play<A: Allocator + Copy, R: BufRead, W: Write, P: Write>(
     ppm: &mut Option<P>,
 ) -> Result<Summary, ReplayError> {
     replay(alloc, SMALL, reader, writer, ppm, &mut NoFiles)
+}
+
+/// Plays a recording with side files, and without images.
+pub(crate) fn play_with<A: Allocator + Copy, R: BufRead, W: Write, S: SideFiles>(
+    alloc: A,
+    reader: &mut R,
+    writer: &mut W,
+    side: &mut S,
+) -> Result<Summary, ReplayError> {
+    let mut none = None::<Vec<u8>>;
+    replay(alloc, SMALL, reader, writer, &mut none, side)
 }

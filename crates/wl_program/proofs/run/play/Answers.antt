@@ -4,8 +4,8 @@ use Rattle.wl_program.proofs.run.play.Goals as goal
 
 pub returns-in-Ok-clause-played : goal.returns-in-Ok-clause-played
 returns-in-Ok-clause-played g c =
-    on_ok c.flush-flushed.result (played-kept c.args.replay c.in-Ok.field-0 _ _ _ _ _ _ c.in-Ok.ensures.played c.flush-flushed.ensures.kept)
+    on_ok c.flush-flushed.result (played-kept c.args.replay c.in-Ok.field-0 _ c.replay-played.new.side _ _ _ _ _ _ c.new-side.ensures c.in-Ok.ensures.played c.flush-flushed.ensures.kept)
 
 pub returns-clause-failed : goal.returns-clause-failed
 returns-clause-failed g c =
-    rw c.from.ensures (stops-kept c.args.replay c.in-Err.error _ _ _ _ _ _ c.in-Err.ensures.stopped c.flush-flushed.ensures.kept)
+    rw c.from.ensures (stops-kept c.args.replay c.in-Err.error _ c.replay-played.new.side _ _ _ _ _ _ c.new-side.ensures c.in-Err.ensures.stopped c.flush-flushed.ensures.kept)

@@ -2,13 +2,14 @@ use Rattle.std.proofs.Common.{ℕ, List, Ok, Some, sym, ap, ◌∙◌}
 use Rattle.wl_replay.specs.Line.{asked_by, meaning}
 use Rattle.wl_replay.proofs.player.play_line.Goals as goal
 
-pub returns-clause-played : goal.returns-clause-played
-returns-clause-played g c =
+pub returns-in-Ok-clause-played : goal.returns-in-Ok-clause-played
+returns-in-Ok-clause-played g c =
     let asks = rw c.in-Some.is at c.in_ok-line.ensures in (
       c.read_text.new.text.items,
       meaning c.deref-2.result.now c.in-Some.line,
       c.in_ok-read_text.ensures.taken (ap Ok c.if-not-branch.false),
       c.in_ok-read_text.ensures.short,
       ap asked_by (sym c.deref.ensures.value) ∙ sym asks ∙ ap (λ (piece : List ℕ). Some (meaning piece c.in-Some.line)) (sym c.deref-2.ensures.value),
-      c.in_ok-take_line.ensures.told,
+      c.in-Ok.ensures.told,
+      c.in-Ok.ensures.calm,
     )

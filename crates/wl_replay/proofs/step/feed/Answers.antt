@@ -2,7 +2,8 @@ use Rattle.std.proofs.Common.{◌≡◌, refl, ap, ◌∙◌}
 use Rattle.std.proofs.lemmas.Result.{on_ok_weaker}
 use Rattle.wl_session.specs.Desktop.{peer_at}
 use Rattle.wl_session.specs.Step.{status_of}
-use Rattle.wl_replay.specs.Report.{absent_text, words}
+use Rattle.wl_replay.specs.Report.{absent_text}
+use Rattle.wl_replay.specs.Told.{words}
 use Rattle.wl_replay.proofs.step.feed.Goals as goal
 
 pub returns-clause-told : goal.returns-clause-told

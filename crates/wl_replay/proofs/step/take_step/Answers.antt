@@ -1,16 +1,27 @@
+use Rattle.std.proofs.Common.{refl}
+use Rattle.wl_replay.specs.Report.{TellsBytes, TellsGone, TellsNothing}
+use Rattle.wl_replay.specs.Side.{files_of}
+use Rattle.wl_replay.specs.Storing.{TellsStore}
 use Rattle.wl_replay.specs.declared.line.Line.TheVariants as line
 use Rattle.wl_replay.proofs.Leading.{Counts-silent, Leads-at, Leads-nothing}
 use Rattle.wl_replay.proofs.step.take_step.Goals as goal
 
 pub returns-in_ok-feed-in-Bytes-clause-told : goal.returns-in_ok-feed-in-Bytes-clause-told
 returns-in_ok-feed-in-Bytes-clause-told g c =
-    Leads-at c.args.line (line.Bytes c.in-Bytes.client) c.args.piece.now _ _ _ _ _ _ c.in-Bytes.is (Counts-silent _ 0 0) c.in_ok-feed-in-Bytes.ensures.told
+    Leads-at (files_of g.S.SideFiles.opens g.S.SideFiles.gives g.S.SideFiles.fault_count) c.args.side.now c.args.side.now c.args.line (line.Bytes c.in-Bytes.client) c.args.piece.now (TellsBytes c.in-Bytes.client c.args.piece.now) _ _ _ _ _ _ c.in-Bytes.is
+    (λ old new told tells. (tells, refl)) (Counts-silent _ 0) c.in_ok-feed-in-Bytes.ensures.told
+
+pub returns-in_ok-store-in-Store-clause-told : goal.returns-in_ok-store-in-Store-clause-told
+returns-in_ok-store-in-Store-clause-told g c =
+    Leads-at (files_of g.S.SideFiles.opens g.S.SideFiles.gives g.S.SideFiles.fault_count) c.args.side.now c.args.side.now c.args.line (line.Store c.in-Store.place) c.args.piece.now (TellsStore c.in-Store.place c.args.piece.now) _ _ _ _ _ _ c.in-Store.is
+    (λ old new told tells. (tells, refl)) (Counts-silent _ 0) c.in_ok-store-in-Store.ensures.told
 
 pub returns-in_ok-gone-in-Gone-clause-told : goal.returns-in_ok-gone-in-Gone-clause-told
 returns-in_ok-gone-in-Gone-clause-told g c =
-    Leads-at c.args.line (line.Gone c.in-Gone.client) c.args.piece.now _ _ _ _ _ _ c.in-Gone.is (Counts-silent _ 0 0) c.in_ok-gone-in-Gone.ensures.told
+    Leads-at (files_of g.S.SideFiles.opens g.S.SideFiles.gives g.S.SideFiles.fault_count) c.args.side.now c.args.side.now c.args.line (line.Gone c.in-Gone.client) c.args.piece.now (TellsGone c.in-Gone.client) _ _ _ _ _ _ c.in-Gone.is
+    (λ old new told tells. (tells, refl)) (Counts-silent _ 0) c.in_ok-gone-in-Gone.ensures.told
 
 pub returns-in-Nothing-clause-told : goal.returns-in-Nothing-clause-told
 returns-in-Nothing-clause-told g c =
-    Leads-at c.args.line line.Nothing c.args.piece.now _ _ _ _ _ _ c.in-Nothing.is (λ told counts. counts)
+    Leads-at (files_of g.S.SideFiles.opens g.S.SideFiles.gives g.S.SideFiles.fault_count) c.args.side.now c.args.side.now c.args.line line.Nothing c.args.piece.now TellsNothing _ _ _ _ _ _ c.in-Nothing.is (λ old new told tells. (tells, refl)) (λ told counts. counts)
     (Leads-nothing c.args.session.now (g.W.Write.contents c.args.writer.now) _)

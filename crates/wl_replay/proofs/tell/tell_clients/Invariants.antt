@@ -2,7 +2,7 @@ use Rattle.std.proofs.Common.{◌≡◌, ℕ, List}
 use Rattle.std.specs.Io.KnownBytes.{Appends}
 use Rattle.wl_session.specs.Agreement.{Agrees}
 use Rattle.wl_session.specs.Desktop.{Desktop}
-use Rattle.wl_replay.specs.Report.{TellsFirst}
+use Rattle.wl_replay.specs.Clients.{TellsFirst}
 use Rattle.wl_replay.proofs.tell.tell_clients.Given as goal
 
 -- the clients up to this number were told of

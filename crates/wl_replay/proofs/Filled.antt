@@ -1,0 +1,44 @@
+-- A store that is filled from a file, read by read.
+use Rattle.std.proofs.Common.{◌≡◌, ◌<◌, ◌≤◌, ◌+◌, ℕ, List, [], ◌∷◌, length, refl, sym, subst, inr, arith}
+use Rattle.wl_session.specs.Agreement.{Agrees, TakesStep}
+use Rattle.wl_session.specs.Step as act
+use Rattle.wl_session.specs.declared.steps.Done.{Done}
+use Rattle.wl_session.specs.Desktop.{Desktop}
+use Rattle.wl_session.specs.View.{DeskView}
+use Rattle.wl_replay.specs.declared.place.Place.{Place}
+use Rattle.wl_replay.specs.Side.{Files}
+use Rattle.wl_replay.specs.Storing.{Fills, FillsAll, Puts, more}
+
+abbrev pub at_byte : Place → ℕ → Place
+at_byte place at = record { client = place.client; store = place.store; at = at }
+
+-- one read more, which gave something
+pub Fills-more : {S : Type 0} (files : Files S) (place : Place) (size : ℕ) (first : Desktop) (opened : S) (at count : ℕ) (mid : Desktop) (from to : S) (bytes : List ℕ)
+    (before after : DeskView) → Fills files place size first opened at mid from → Agrees before mid → length bytes ≡ count → (count ≡ 0 → ⊥) → count ≤ 4096 → at + count ≤ size
+    → files.gives from bytes to → Puts (at_byte place at) bytes before after
+    → (e : Desktop) × Fills files place size first opened (at + count) e to × Agrees after e
+Fills-more files place size first opened at count mid from to [] before after fills agrees is some few room gives puts = absurd (some (sym is))
+Fills-more files place size first opened at count mid from to (b ∷ bytes) before after fills agrees is some few room gives puts =
+    let step = puts.1 mid agrees in (
+      step.0,
+      subst (λ (n : ℕ). Fills files place size first opened (at + n) step.0 to) is
+          (more at mid step.0 from to (b ∷ bytes) puts.0 fills (λ e. cc) (rw is few) (rw is room) gives step.1),
+      step.2,
+    )
+
+-- a read that gave nothing
+pub FillsAll-end : {S : Type 0} (files : Files S) (place : Place) (size : ℕ) (first : Desktop) (opened : S) (at count : ℕ) (mid : Desktop) (from to : S) (bytes : List ℕ)
+    (before after : DeskView) → Fills files place size first opened at mid from → Agrees before mid → length bytes ≡ count → count ≡ 0 → at < size
+    → files.gives from bytes to → Puts (at_byte place at) bytes before after → (e : Desktop) × FillsAll files place size first opened e to × Agrees after e
+FillsAll-end files place size first opened at count mid from to [] before after fills agrees is none room gives puts =
+    (mid, (at, from, fills, inr (room, gives)), subst (λ (v : DeskView). Agrees v mid) (sym puts) agrees)
+FillsAll-end files place size first opened at count mid from to (b ∷ bytes) before after fills agrees is none room gives puts = absurd (omega (arith, is, none))
+
+pub Puts-some : (place : Place) (bytes : List ℕ) (old new : DeskView) (done : Done) → 0 < length bytes
+    → TakesStep (act.Store place.client place.store place.at bytes) done old new → Puts place bytes old new
+Puts-some place [] old new done some takes = absurd (omega (arith, some))
+Puts-some place (b ∷ bytes) old new done some takes = (done, takes)
+
+pub Puts-none : (place : Place) (bytes : List ℕ) (old new : DeskView) → length bytes ≡ 0 → new ≡ old → Puts place bytes old new
+Puts-none place [] old new none same = same
+Puts-none place (b ∷ bytes) old new none same = absurd (omega (arith, none))

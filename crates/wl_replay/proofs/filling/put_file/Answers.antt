@@ -1,0 +1,23 @@
+use Rattle.std.proofs.Common.{◌≡◌, Result, Ok, Err, ℕ, refl, sym, subst, ◌∙◌, arith}
+use Rattle.std.proofs.lemmas.Result.{on_ok_weaker}
+use Rattle.wl_session.specs.declared.steps.Stored.{Stored}
+use Rattle.wl_replay.specs.Side.{files_of}
+use Rattle.wl_replay.specs.Storing.{TellsFileAs, room_in, stored_text}
+use Rattle.wl_replay.specs.Told.{words}
+use Rattle.wl_replay.proofs.filling.put_file.Goals as goal
+
+pub returns-in-Err-clause-told : goal.returns-in-Err-clause-told
+returns-in-Err-clause-told g c =
+    on_ok_weaker c.write_stored.result
+    (λ wrote. λ old stands.
+    let side = c.args.side.now in
+    let room : Err c.in-Err.stored ≡ room_in old.desktop c.args.place = sym c.in-Err.is ∙ c.room_for.ensures.room old.desktop stands.desk in (
+      old,
+      words (stored_text c.args.place c.in-Err.stored),
+      subst (λ (r : Result ℕ Stored). TellsFileAs (files_of g.S.SideFiles.opens g.S.SideFiles.gives g.S.SideFiles.fault_count) c.args.place c.args.name.now r side side old (words (stored_text c.args.place c.in-Err.stored)) old)
+          room (refl, refl, refl),
+      stands,
+      wrote,
+      (refl, refl, refl),
+    ))
+    c.write_stored.ensures.told

@@ -1,0 +1,34 @@
+-- What each client is sent after a line, and how it is closed.
+use Rattle.std.specs.Prelude.{◌≡◌, ℕ, zero, suc, Option, Some, None, List, [], ◌∷◌, ◌++◌, length}
+use Rattle.wl_session.specs.Desktop.{Desktop, peer_at}
+use Rattle.wl_session.specs.Step as act
+use Rattle.wl_session.specs.Step.{Steps, status_of, unsent_of}
+use Rattle.wl_session.specs.declared.steps.Done.{Done}
+use Rattle.wl_session.specs.declared.steps.Fed.{Fed}
+use Rattle.wl_session.specs.declared.steps.Fed.TheVariants.{Alive, Ended, NoClient}
+use Rattle.wl_replay.specs.Text.{end_line, to_line}
+
+-- All of a client's unsent bytes are sent, where there are any.
+abbrev pub Sends : ℕ → Option (List ℕ) → Desktop → List ℕ → Desktop → Type 0
+Sends client None old text new = (text ≡ []) × (new ≡ old)
+Sends client (Some []) old text new = (text ≡ []) × (new ≡ old)
+Sends client (Some (b ∷ bytes)) old text new =
+    (done : Done) × Steps old (act.Send client (length (b ∷ bytes))) done new × (text ≡ to_line client (b ∷ bytes))
+
+-- A client that ended is closed.
+abbrev pub Closes : ℕ → Fed → Desktop → List ℕ → Desktop → Type 0
+Closes client (Ended cause) old text new = (done : Done) × Steps old (act.Close client) done new × (text ≡ end_line client cause)
+Closes client Alive old text new = (text ≡ []) × (new ≡ old)
+Closes client NoClient old text new = (text ≡ []) × (new ≡ old)
+
+abbrev pub TellsClient : ℕ → Desktop → List ℕ → Desktop → Type 0
+TellsClient client old text new =
+    (mid : Desktop) × (sent : List ℕ) × (closed : List ℕ) × Sends client (unsent_of (peer_at old client)) old sent mid
+    × Closes client (status_of (peer_at mid client)) mid closed new × (text ≡ sent ++ closed)
+
+-- the clients 1 to n, in rising number
+unfoldable pub TellsFirst : ℕ → Desktop → List ℕ → Desktop → Type 0
+TellsFirst zero old text new = (text ≡ []) × (new ≡ old)
+TellsFirst (suc n) old text new =
+    (mid : Desktop) × (front : List ℕ) × (last : List ℕ) × TellsFirst n old front mid × TellsClient (suc n) mid last new
+    × (text ≡ front ++ last)

@@ -1,0 +1,129 @@
+//! The lines that put side files into stores.
+
+ghost use Rattle.std.specs.Prelude.{◌≡◌, ◌≤◌, ℕ, List, length, true, false, Ok, Err, IfOk, OnOk};
+ghost use Rattle.wl_session.specs.Agreement.{Agrees};
+ghost use Rattle.wl_session.specs.Desktop.{Desktop};
+ghost use Rattle.wl_replay.specs.Side.{CountsFault, files_of};
+ghost use Rattle.wl_replay.specs.Storing.{FillsAll, LacksFile, Puts, TellsFile, room_in};
+ghost use Rattle.wl_replay.specs.Told.{IsSilent, Leads};
+
+use crate::error::StepError;
+use crate::place::Place;
+use crate::side::{SideFault, SideFiles};
+use crate::storing::write_stored;
+use std::alloc::Allocator;
+use std::io::Write;
+use wl_session::{Fed, Session, Stored};
+
+/// The greatest number of bytes that are asked of a file at once.
+const PIECE: usize = 4096;
+
+/// The bytes of a side file come into a store, up to the end of either.
+pub(crate) fn put_file<A: Allocator + Copy, W: Write, S: SideFiles>(
+    session: &mut Session<A>,
+    place: Place,
+    name: &str,
+    writer: &mut W,
+    side: &mut S,
+) -> Result<(), StepError>
+    ensures told { OnOk result (Leads (TellsFile (files_of S.opens S.gives S.fault_count) place name.now side.old side.new) session.old session.new
+        (W.contents writer.old) (W.contents writer.new) (IsSilent 0)) }
+    ensures calm { OnOk result (S.fault_count side.new ≡ S.fault_count side.old) }
+    ensures lacking { result ≡ Err StepError.Side → (writer.new ≡ writer.old) × ((d : Desktop) → Agrees session.old.desk d
+        → LacksFile (files_of S.opens S.gives S.fault_count) place name.now d side.old side.new) }
+{
+    match room_for(session, place) {
+        Err(stored) => write_stored(place, stored, writer),
+        Ok(size) => match load(session, place, size, name, side) {
+            Ok(true) => Ok(()),
+            Ok(false) | Err(SideFault) => Err(StepError::Side),
+        },
+    }
+}
+
+/// The size of a store, where a file may be put into it from this place on; else why not.
+fn room_for<A: Allocator + Copy>(session: &Session<A>, place: Place) -> Result<u32, Stored>
+    ensures room { (d : Desktop) → Agrees session.now.desk d → result ≡ room_in d place }
+    ensures within { IfOk result (λ size. place.at ≤ size) }
+{
+    match session.status(place.client) {
+        Fed::NoClient | Fed::Ended(_) => Err(Stored::NoClient),
+        Fed::Alive => match session.store_size(place.client, place.store) {
+            None => Err(Stored::NoStore),
+            Some(size) => if place.at > size {
+                Err(Stored::OutOfRange)
+            } else {
+                Ok(size)
+            },
+        },
+    }
+}
+
+/// Opens a file and puts its bytes into a store of this size. False where there is no such file.
+fn load<A: Allocator + Copy, S: SideFiles>(
+    session: &mut Session<A>,
+    place: Place,
+    size: u32,
+    name: &str,
+    side: &mut S,
+) -> Result<bool, SideFault>
+    requires { place.at ≤ size }
+    ensures filled { result ≡ Ok true → (opened : S) × S.opens side.old name.now true opened × ((d : Desktop) → Agrees session.old.desk d
+        → (e : Desktop) × FillsAll (files_of S.opens S.gives S.fault_count) place size d opened e side.new × Agrees session.new.desk e) }
+    ensures missing { result ≡ Ok false → S.opens side.old name.now false side.new }
+    ensures frame { session.new.frame ≡ session.old.frame }
+    ensures faults { CountsFault (S.fault_count side.old) (S.fault_count side.new) result }
+{
+    if !side.open(name)? {
+        return Ok(false);
+    }
+    fill(session, place, size, side)?;
+    Ok(true)
+}
+
+/// Writes what the open file gives to a store of this size.
+fn fill<A: Allocator + Copy, S: SideFiles>(
+    session: &mut Session<A>,
+    place: Place,
+    size: u32,
+    side: &mut S,
+) -> Result<(), SideFault>
+    requires { place.at ≤ size }
+    ensures filled { OnOk result ((d : Desktop) → Agrees session.old.desk d
+        → (e : Desktop) × FillsAll (files_of S.opens S.gives S.fault_count) place size d side.old e side.new × Agrees session.new.desk e) }
+    ensures frame { session.new.frame ≡ session.old.frame }
+    ensures faults { CountsFault (S.fault_count side.old) (S.fault_count side.new) result }
+{
+    let mut buf = [0; PIECE];
+    let mut at = place.at;
+    while at < size {
+        let room = PIECE.min((size - at) as usize);
+        let count = write_piece(session, Place { at, ..place }, &mut buf[..room], side)?;
+        if count == 0 {
+            return Ok(());
+        }
+        at += count;
+    }
+    Ok(())
+}
+
+/// Writes what one read of the open file gives to a place, and answers how many bytes. None only at the file's end.
+fn write_piece<A: Allocator + Copy, S: SideFiles>(
+    session: &mut Session<A>,
+    place: Place,
+    buf: &mut [u8],
+    side: &mut S,
+) -> Result<u32, SideFault>
+    requires { length buf.old ≤ PIECE }
+    ensures wrote { IfOk result (λ count. (bytes : List ℕ) × (length bytes ≡ count) × S.gives side.old bytes side.new
+        × Puts place bytes session.old.desk session.new.desk) }
+    ensures within { IfOk result (λ count. count ≤ length buf.old) }
+    ensures frame { session.new.frame ≡ session.old.frame }
+    ensures faults { CountsFault (S.fault_count side.old) (S.fault_count side.new) result }
+{
+    let count = side.read(buf)?;
+    if count > 0 {
+        session.store(place.client, place.store, place.at, &buf[..count]);
+    }
+    Ok(count as u32)
+}
