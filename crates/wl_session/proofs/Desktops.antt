@@ -1,5 +1,5 @@
 -- What a change of one client does to the whole.
-use Rattle.std.proofs.Common.{◌≡◌, ℕ, ◌+◌, suc, zero, ◌<◌, List, [], ◌∷◌, length, take, Option, Some, None, get_or, set, refl, subst, sym, ◌∙◌, ap, arith, ◌≤◌, ◌⊎◌, inl, inr}
+use Rattle.std.proofs.Common.{◌≡◌, ℕ, ◌+◌, suc, zero, ◌<◌, List, [], ◌∷◌, ◌++◌, length, take, Option, Some, None, get_or, set, refl, subst, sym, ◌∙◌, ap, arith, ◌≤◌, ◌⊎◌, inl, inr}
 use Rattle.std.specs.Prelude.{is_some, replicate, true, false, Ok, Err}
 use Rattle.wl_client.specs.View.{ClientView}
 use Rattle.wl_session.specs.View.{DeskView}
@@ -104,6 +104,14 @@ pub Connects-refused : (us : List (Option ClientView)) (w : DeskView) (d : Deskt
 Connects-refused us w d k same found a =
     let at : lowest d.clients ≡ Some k = sym (lowest-AgreeAll w.clients d.clients a.clients) ∙ sym (found ∙ ap (λ (xs : List (Option ClientView)). lowest xs) same) in
     (d, rw at (inl (refl, refl)), a)
+
+none-behind : {X : Type 0} (n : ℕ) (none : Option X) → replicate n none ++ none ∷ [] ≡ replicate (suc n) none
+none-behind zero none = refl
+none-behind (suc n) none = ap (λ xs. none ∷ xs) (none-behind n none)
+
+-- a place more without a client
+pub none-more : {X : Type 0} (xs : List (Option X)) (n : ℕ) → xs ≡ replicate n None → xs ++ None ∷ [] ≡ replicate (n + 1) None
+none-more xs n is = let e : n + 1 ≡ suc n = omega arith in rw (is, e) (none-behind n None)
 
 -- no client is anywhere
 pub AgreeAll-none : (n : ℕ) → AgreeAll (replicate n None) (replicate n None)
