@@ -1,9 +1,10 @@
-use Rattle.std.proofs.Common.{◌≡◌, Result, Ok, Err, ℕ, refl, sym, subst, ◌∙◌, arith}
+use Rattle.std.proofs.Common.{◌≡◌, [], Result, Ok, Err, ℕ, refl, ap, sym, subst, ◌∙◌, arith}
+use Rattle.std.proofs.KnownBytes.{Appends-nil}
 use Rattle.std.proofs.lemmas.Result.{on_ok_weaker}
 use Rattle.wl_session.specs.declared.steps.Stored.{Stored}
 use Rattle.wl_replay.specs.Side.{files_of}
 use Rattle.wl_replay.specs.Storing.{TellsFileAs, room_in, stored_text}
-use Rattle.wl_replay.specs.Told.{words}
+use Rattle.wl_replay.specs.Told.{Stage, words}
 use Rattle.wl_replay.proofs.filling.put_file.Goals as goal
 
 pub returns-in-Err-clause-told : goal.returns-in-Err-clause-told
@@ -21,3 +22,19 @@ returns-in-Err-clause-told g c =
       (refl, refl, refl),
     ))
     c.write_stored.ensures.told
+
+pub returns-in-Ok-true-clause-told : goal.returns-in-Ok-true-clause-told
+returns-in-Ok-true-clause-told g c = λ old stands.
+    let files = files_of g.S.SideFiles.opens g.S.SideFiles.gives g.S.SideFiles.fault_count in
+    let room : Ok c.in-Ok.size ≡ room_in old.desktop c.args.place = sym c.in-Ok.is ∙ c.room_for.ensures.room old.desktop stands.desk in
+    let loaded = c.load.ensures.filled (c.in-Ok-true.is ∙ ap Ok c.in-Ok-true.field-0-test) in
+    let filled = loaded.2 old.desktop stands.desk in
+    let new : Stage = record { desktop = filled.0; frame = old.frame } in (
+      new,
+      words [],
+      subst (λ (r : Result ℕ Stored). TellsFileAs files c.args.place c.args.name.now r c.args.side.now c.load.new.side old (words []) new) room
+      (refl, refl, (loaded.0, loaded.1, filled.1)),
+      record { desk = filled.2; frame = c.load.ensures.frame ∙ stands.frame },
+      Appends-nil _,
+      (refl, refl, refl),
+    )
