@@ -1,6 +1,6 @@
 //! What the reader that fails gives, by `read` and as a buffer.
 
-ghost use Rattle.std.specs.Prelude.{◌≡◌, ◌↔◌, [], None, Some, IfOk, IsErr, length, min};
+ghost use Rattle.std.specs.Prelude.{◌≡◌, ◌+◌, ◌↔◌, [], None, Some, IfOk, IsErr, length, min};
 ghost use Rattle.std.specs.Borrow.{sem};
 ghost use Rattle.std.specs.Io.{ReadsAtMost, StartsWith};
 ghost use Rattle.std.specs.Io.BufRead.{FillKeeps, Rests};
@@ -20,6 +20,7 @@ impl Read for FaultyReader<'_> {
         ensures bytes { ReadConsumes (Some self.old.rest.now) (Some self.new.rest.now) result buf.new }
         ensures fails { IsErr result ↔ (self.old.calls ≡ self.old.fails_at) }
         ensures count { IfOk result (λ n. n ≡ min (min (length buf.new) (length self.old.rest.now)) self.old.largest) }
+        ensures calls { self.new.calls ≡ min (self.old.calls + 1) u64.MAX }
     {
         let call = self.calls;
         self.calls = call.saturating_add(1);

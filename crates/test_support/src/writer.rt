@@ -1,6 +1,7 @@
 //! A writer that fails or goes in small pieces at a chosen call.
 
-ghost use Rattle.std.specs.Prelude.{◌≡◌, ◌<◌, ◌⊎◌, ◌↔◌, [], Some, IsTrue, IsErr, IfErr, IfOk, length, min};
+ghost use Rattle.std.specs.Prelude.{◌≡◌, ◌≢◌, ◌+◌, ◌<◌, ◌≤◌, ◌⊎◌, ◌↔◌, [], Some, IsTrue, IsOk, IsErr, IfErr, IfOk, length, min};
+ghost use Rattle.std.specs.Vec.{vec_len, vec_capacity};
 ghost use Rattle.std.specs.IoError.{error_kind};
 ghost use Rattle.std.specs.Io.{WritesAtMost};
 ghost use Rattle.std.specs.Io.KnownBytes.{WriteAppends, Keeps};
@@ -71,6 +72,8 @@ impl<A: Allocator> Write for FaultyWriter<A> {
         ensures fails { self.old.calls ≡ self.old.fails_at → IsErr result }
         ensures cause { IfErr result (λ e. (self.old.calls ≡ self.old.fails_at) ⊎ (error_kind e ≡ ErrorKind.OutOfMemory)) }
         ensures count { IfOk result (λ n. n ≡ min (length buf.now) self.old.largest) }
+        ensures room { self.old.calls ≢ self.old.fails_at → vec_len self.old.written + min (length buf.now) self.old.largest ≤ vec_capacity self.old.written → IsOk result }
+        ensures calls { self.new.calls ≡ min (self.old.calls + 1) u64.MAX }
     {
         let call = self.calls;
         self.calls = call.saturating_add(1);
@@ -87,6 +90,7 @@ impl<A: Allocator> Write for FaultyWriter<A> {
     fn flush(&mut self) -> io::Result<()>
         ensures bytes { Keeps (Some self.old.written.items) (Some self.new.written.items) }
         ensures fails { IsErr result ↔ (self.old.calls ≡ self.old.fails_at) }
+        ensures calls { self.new.calls ≡ min (self.old.calls + 1) u64.MAX }
     {
         let call = self.calls;
         self.calls = call.saturating_add(1);
