@@ -159,7 +159,10 @@ fn tells_of_side_files(rt: HostRuntime) -> Result<(), Fail> {
     let name = format!(in rt.alloc(); "wlframe-{}.store", process::id(rt.process()))?;
     let path = folder.join(rt.alloc(), name.as_str())?;
     fs::write(&rt, path.as_path(), b"pixels")?;
-    let text = format!(in rt.alloc(); "wlframe replay --size 2x1 --dir {}", folder.as_path().display())?;
+    let text = format!(in rt.alloc();
+        "wlframe replay --size 2x1 --dir {}",
+        folder.as_path().display()
+    )?;
     let mut report = Vec::new(rt.alloc());
     told(&rt, rt.alloc(), text.as_str(), &mut &*POOL, &mut report)?;
 
@@ -169,7 +172,13 @@ fn tells_of_side_files(rt: HostRuntime) -> Result<(), Fail> {
     recording.extend_from_slice(name.as_bytes())?;
     recording.push(b'\n')?;
     let mut output = Vec::new(rt.alloc());
-    let (status, fault) = told(&rt, rt.alloc(), text.as_str(), &mut recording.as_slice(), &mut output)?;
+    let (status, fault) = told(
+        &rt,
+        rt.alloc(),
+        text.as_str(),
+        &mut recording.as_slice(),
+        &mut output,
+    )?;
     assert_eq!(rt; status, Status::Done);
     assert_eq!(rt; fault.as_str(), "");
     assert_eq!(rt; output.as_slice(), report.as_slice());
@@ -177,7 +186,13 @@ fn tells_of_side_files(rt: HostRuntime) -> Result<(), Fail> {
     // The file is gone.
     fs::remove_file(&rt, path.as_path())?;
     let mut output = Vec::new(rt.alloc());
-    let (status, fault) = told(&rt, rt.alloc(), text.as_str(), &mut recording.as_slice(), &mut output)?;
+    let (status, fault) = told(
+        &rt,
+        rt.alloc(),
+        text.as_str(),
+        &mut recording.as_slice(),
+        &mut output,
+    )?;
     assert_eq!(rt; status, Status::Failed);
     assert_eq!(rt; fault.as_str(), "wlframe: side file failed at line 5\n");
     assert_eq!(rt; output.as_slice(), report.as_slice());
@@ -189,7 +204,13 @@ fn tells_of_side_files(rt: HostRuntime) -> Result<(), Fail> {
         recording.extend_from_slice(POOL)?;
         recording.extend_from_slice(line.as_bytes())?;
         let mut output = Vec::new(rt.alloc());
-        let (status, fault) = told(&rt, rt.alloc(), text.as_str(), &mut recording.as_slice(), &mut output)?;
+        let (status, fault) = told(
+            &rt,
+            rt.alloc(),
+            text.as_str(),
+            &mut recording.as_slice(),
+            &mut output,
+        )?;
         assert_eq!(rt; status, Status::Failed);
         assert_eq!(rt; fault.as_str(), "wlframe: side file failed at line 5\n");
         assert_eq!(rt; output.as_slice(), report.as_slice());
