@@ -81,8 +81,8 @@ def play(folder, path):
     with path.open("rb") as recording:
         taken = timed([PROGRAM, "replay", "--size", "2x1", "--dir", folder], recording, subprocess.PIPE)
     report = taken[2].decode().splitlines()
-    if len(report) != 3 or not report[2].startswith("frame 0"):
-        sys.exit(f"the report isn't that of a pool and nothing more: {report[2:]}")
+    if any(not line.startswith(("client 1", "to 1 ", "frame 0 ")) for line in report):
+        sys.exit(f"the report isn't that of a pool and nothing more: {report}")
     return taken[:2]
 
 
