@@ -1,5 +1,5 @@
 -- A store that is filled from a file, read by read.
-use Rattle.std.proofs.Common.{◌≡◌, ◌<◌, ◌≤◌, ◌+◌, ℕ, List, [], ◌∷◌, length, refl, sym, subst, inr, arith}
+use Rattle.std.proofs.Common.{◌≡◌, ◌<◌, ◌≤◌, ◌+◌, ℕ, List, [], ◌∷◌, length, sym, subst, inr, arith}
 use Rattle.wl_session.specs.Agreement.{Agrees, TakesStep}
 use Rattle.wl_session.specs.Step as act
 use Rattle.wl_session.specs.declared.steps.Done.{Done}

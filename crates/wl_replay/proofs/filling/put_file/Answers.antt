@@ -1,4 +1,4 @@
-use Rattle.std.proofs.Common.{◌≡◌, [], Result, Ok, Err, ℕ, refl, ap, sym, subst, ◌∙◌, arith}
+use Rattle.std.proofs.Common.{◌≡◌, [], Result, Ok, Err, ℕ, refl, ap, sym, subst, ◌∙◌}
 use Rattle.std.proofs.KnownBytes.{Appends-nil}
 use Rattle.std.proofs.lemmas.Result.{on_ok_weaker}
 use Rattle.wl_session.specs.declared.steps.Stored.{Stored}
@@ -33,7 +33,7 @@ returns-in-Ok-true-clause-told g c = λ old stands.
       new,
       words [],
       subst (λ (r : Result ℕ Stored). TellsFileAs files c.args.place c.args.name.now r c.args.side.now c.load.new.side old (words []) new) room
-      (refl, refl, (loaded.0, loaded.1, filled.1)),
+          (refl, refl, (loaded.0, loaded.1, filled.1)),
       record { desk = filled.2; frame = c.load.ensures.frame ∙ stands.frame },
       Appends-nil _,
       (refl, refl, refl),

@@ -1,6 +1,5 @@
-use Rattle.std.proofs.Common.{◌≡◌, ◌<◌, length, take, refl, ap, ◌∙◌, arith}
+use Rattle.std.proofs.Common.{◌≡◌, ◌<◌, length, take, refl, arith}
 use Rattle.std.proofs.lemmas.List.{length-take-le}
-use Rattle.wl_session.specs.View.{SessionView}
 use Rattle.wl_replay.proofs.Filled.{Puts-none, Puts-some}
 use Rattle.wl_replay.proofs.filling.write_piece.Goals as goal
 use Rattle.wl_replay.proofs.filling.write_piece.Goals.{then-count-gt0, else-count-gt0}
