@@ -1,0 +1,4 @@
+pub mod Laws
+pub mod Request
+pub mod State
+pub mod Surfaces

@@ -1,0 +1,9 @@
+//! The state of surfaces: what was asked of each, and what of it counts.
+#![tactic(auto)]
+
+ghost use Rattle.wl_surface.specs.Laws.{CommitTakesAll};
+
+/// After a commit what is held is what was pending, and once the surface is applied that is what counts.
+pub fn commit_takes_all()
+    ensures { CommitTakesAll }
+{}
