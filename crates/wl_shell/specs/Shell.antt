@@ -1,0 +1,103 @@
+-- The states of xdg surfaces (xdg-shell.xml, xdg_surface, xdg_toplevel and xdg_popup).
+use Rattle.std.specs.Prelude.{ℕ, ℤ, ◌+◌, ◌==◌, nat_le, Bool, true, false, if◌then◌else◌, Option, Some, None, List, [], ◌∷◌, length}
+use Rattle.std.specs.List.{list_any}
+use Rattle.wl_shell.specs.Positioner.{Placed, Positioner}
+
+-- how far a role object is: nothing was configured; a configure is to be acknowledged; one was; its surface is mapped
+pub data Stage : Type 0 where
+  Fresh : Stage
+  Waiting : Stage
+  Ready : Stage
+  Mapped : Stage
+
+-- A popup: the xdg_surface of its parent, the copy of its positioner, where it was placed last, whether it was dismissed, whether it has a
+-- grab, and its number among the popups in order of creation.
+pub record Popup : Type 0 where
+  pub parent : ℕ
+  pub positioner : Positioner
+  pub placement : Option Placed
+  pub is_dismissed : Bool
+  pub has_grab : Bool
+  pub number : ℕ
+
+pub data Kind : Type 0 where
+  Toplevel : Kind
+  IsPopup : Popup → Kind
+
+-- the role object of an xdg_surface
+pub record RoleObject : Type 0 where
+  pub kind : Kind
+  pub stage : Stage
+
+-- An xdg_surface: its surface, its role object, if there is one, the serials of its configures that weren't acknowledged, the earliest
+-- first, and the place in its surface's list from which on a window geometry counts.
+pub record XdgSurface : Type 0 where
+  pub surface : ℕ
+  pub role : Option RoleObject
+  pub serials : List ℕ
+  pub since : ℕ
+
+-- what a commit comes to
+pub data Effect : Type 0 where
+  -- nothing
+  Stays : Effect
+  -- unconfigured_buffer
+  Unconfigured : Effect
+  -- the role object's configure and that of the xdg_surface are sent
+  Configures : Effect
+  Maps : Effect
+  -- the window geometry is unset and the serials are forgotten
+  Unmaps : Effect
+
+-- A commit by the stage of the role object, and whether the state that it would give has a buffer (xdg-shell.xml, xdg_surface: the initial
+-- commit, and mapping).
+abbrev pub on_commit : Option Stage → Bool → Effect
+on_commit None false = Stays
+on_commit None true = Unconfigured
+on_commit (Some Fresh) false = Configures
+on_commit (Some Fresh) true = Unconfigured
+on_commit (Some Waiting) false = Stays
+on_commit (Some Waiting) true = Unconfigured
+on_commit (Some Ready) false = Stays
+on_commit (Some Ready) true = Maps
+on_commit (Some Mapped) false = Unmaps
+on_commit (Some Mapped) true = Stays
+
+-- the stage after a commit
+abbrev pub stage_after : Effect → Stage → Stage
+stage_after Stays stage = stage
+stage_after Unconfigured stage = stage
+stage_after Configures stage = Waiting
+stage_after Maps stage = Mapped
+stage_after Unmaps stage = Fresh
+
+-- the stage after an acknowledgement: one that waits is ready
+abbrev pub acknowledged : Stage → Stage
+acknowledged Fresh = Fresh
+acknowledged Waiting = Ready
+acknowledged Ready = Ready
+acknowledged Mapped = Mapped
+
+-- An acknowledgement forgets its serial, the latest of that number, and those before it; no other serial may be acknowledged
+-- (xdg-shell.xml, xdg_surface.ack_configure).
+abbrev pub is_waiting : ℕ → List ℕ → Bool
+is_waiting serial serials = list_any (λ other. other == serial) serials
+
+abbrev pub later_than : ℕ → List ℕ → List ℕ
+later_than serial [] = []
+later_than serial (s ∷ ss) = if is_waiting serial ss then later_than serial ss else (if s == serial then ss else s ∷ later_than serial ss)
+
+-- an xdg_surface has at most 64 configures that weren't acknowledged
+abbrev pub is_full : List ℕ → Bool
+is_full serials = nat_le 64 (length serials)
+
+-- A configure is answered to a request for another state where one was configured before (xdg-shell.xml, xdg_toplevel.set_maximized).
+abbrev pub answers_states : Stage → Bool
+answers_states Fresh = false
+answers_states Waiting = true
+answers_states Ready = true
+answers_states Mapped = true
+
+-- serials are one counter of a client: after 4,294,967,295 comes 1
+abbrev pub next_serial : ℕ → ℕ
+next_serial serial = if serial == 4294967295 then 1 else serial + 1
