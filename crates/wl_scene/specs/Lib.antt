@@ -1,0 +1,3 @@
+pub mod Laws
+pub mod Pointer
+pub mod Windows
