@@ -7,7 +7,7 @@ use Rattle.wl_scene.specs.Windows.{Place, Window}
 use Rattle.wl_desk.specs.Marks.{Applied, at_least, at_most}
 
 abbrev buffer : ℕ → Buffer
-buffer side = record { number = 1; store = 1; offset = 0; width = side; height = side; stride = 160; format = Xrgb8888 }
+buffer side = record { number = 1; object = 1; store = 1; offset = 0; width = side; height = side; stride = 160; format = Xrgb8888 }
 
 -- a window of a client's surface 6, so large and there
 abbrev window : ℕ → ℕ → ℤ → Window
