@@ -1,6 +1,5 @@
 -- The plain desktop: what a compositor holds of its clients and of its screen, whatever a program keeps.
 use Rattle.std.specs.Prelude.{ℕ, suc, zero, List, [], ◌∷◌, Option, Some, None, replicate}
-use Rattle.std.specs.Option.{option_map_or}
 use Rattle.wl_client.specs.Objects.{ById, nothing}
 use Rattle.wl_client.specs.Told.{Output}
 use Rattle.wl_client.specs.declared.clients.Cause.{Cause}

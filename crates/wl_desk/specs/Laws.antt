@@ -1,5 +1,5 @@
 -- Laws of marks.
-use Rattle.std.specs.Prelude.{ℕ, ◌≡◌, ℤ, List, Option, IsTrue}
+use Rattle.std.specs.Prelude.{ℕ, ℤ, List, Option, IsTrue}
 use Rattle.wl_scene.specs.Windows.{Window}
 use Rattle.wl_desk.specs.Marks.{Applied, at_least, at_most}
 

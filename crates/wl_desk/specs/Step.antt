@@ -1,7 +1,7 @@
 -- One message of one client: what it asks of the desktop, or why it is refused, and what becomes of the desktop.
-use Rattle.std.specs.Prelude.{ℕ, zero, suc, ◌≡◌, ◌+◌, ◌-◌, ◌==◌, ◌&&◌, Bool, true, false, not, if◌then◌else◌, is_some, Option, Some, None, Result, Ok, Err, List, [], ◌∷◌, ◌++◌, length, take, drop, filter, fold, ◌⊎◌, pos}
+use Rattle.std.specs.Prelude.{ℕ, zero, suc, ◌≡◌, ◌+◌, ◌-◌, ◌==◌, ◌&&◌, Bool, true, false, not, if◌then◌else◌, Option, Some, None, Result, Ok, Err, List, [], ◌∷◌, ◌++◌, length, take, drop, filter, fold, ◌⊎◌, pos}
 use Rattle.std.specs.Option.{option_map_or}
-use Rattle.wl_wire.specs.Wire.{Field, Word, Number, Block, split_of}
+use Rattle.wl_wire.specs.Wire.{Word, Number, Block, split_of}
 use Rattle.wl_wire.specs.declared.header.Split.{Split}
 use Rattle.wl_wire.specs.declared.header.Split.TheVariants.{Message as Whole, More, Bad}
 use Rattle.wl_proto.specs.declared.interface.Interface.{Interface}
@@ -15,19 +15,19 @@ use Rattle.wl_client.specs.declared.clients.Cause.TheVariants as cause
 use Rattle.wl_client.specs.declared.refusals.ErrorCode.TheVariants.{InvalidMethod}
 use Rattle.wl_client.specs.declared.refusals.Refusal.{Refusal}
 use Rattle.wl_client.specs.Judgement.{action_of, judged_at, word_in}
-use Rattle.wl_client.specs.Objects.{ById, with_id}
+use Rattle.wl_client.specs.Objects.{with_id}
 use Rattle.wl_client.specs.Peer.{Peer, Errs, IsIdle, LacksMemory, Queues, changed, counted, ended, known_of, made, object_at_version, released, removed, with_rest}
 use Rattle.wl_client.specs.Peer.{answers_to as own_answers, takes_memory as own_takes_memory}
 use Rattle.wl_client.specs.Told.{Said, display_error, id_deleted, said}
 use Rattle.wl_surface.specs.Request.{Buffer, Request, Commit}
 use Rattle.wl_surface.specs.State.{History}
-use Rattle.wl_surface.specs.Surfaces.{AsToplevel, Surface, Surfaces, applying, asking, buffers_of, history_in, is_used, surface_at, with_change, with_new, with_role, without_surface}
+use Rattle.wl_surface.specs.Surfaces.{AsToplevel, Surfaces, applying, asking, buffers_of, history_in, is_used, with_change, with_new, with_role, without_surface}
 use Rattle.wl_shell.specs.Shell.{Effect, Stays, Unconfigured, Configures, Maps, Unmaps, Fresh, Waiting, Mapped, Toplevel, RoleObject, Shell, XdgSurface as Xdg, acknowledged, in_stage, later_than, next_serial, xdg_at, xdg_of, without_xdg}
 use Rattle.wl_shell.specs.Shell.{with_change as with_xdg_change, with_new as with_new_xdg}
-use Rattle.wl_scene.specs.Stacking.{Owned, with_mapped, without_surface_of}
+use Rattle.wl_scene.specs.Stacking.{with_mapped, without_surface_of}
 use Rattle.wl_desk.specs.Ask.{Ask, Own, CreateSurface, DestroySurface, AskSurface, CommitSurface, DestroyBase, GetXdgSurface, DestroyXdgSurface, GetToplevel, Acknowledge, ConfigureAgain, DestroyToplevel, Ignore, owns}
 use Rattle.wl_desk.specs.Desktop.{Desktop, Resident, become, client_at}
-use Rattle.wl_desk.specs.WlSurface.{refuse_limit, surface_ask, surface_created, xdg_id}
+use Rattle.wl_desk.specs.WlSurface.{refuse_limit, surface_ask, surface_created}
 use Rattle.wl_desk.specs.XdgShell.{base_ask, toplevel_ask, xdg_ask}
 
 -- Which requests aren't served, by interface and opcode: they are refused as a limit would be.

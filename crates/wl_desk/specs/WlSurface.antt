@@ -9,10 +9,10 @@ use Rattle.wl_client.specs.declared.refusals.Refusal.{Refusal}
 use Rattle.wl_client.specs.Buffers.{Buffer as Laid}
 use Rattle.wl_client.specs.Judgement.{number_in, rect_in, word_in}
 use Rattle.wl_client.specs.Told.{display_error}
-use Rattle.wl_surface.specs.Request.{Buffer, Request, Attach, Damage, Frame, SetOpaqueRegion, SetInputRegion, SetBufferTransform}
+use Rattle.wl_surface.specs.Request.{Buffer, Attach, Damage, Frame, SetOpaqueRegion, SetInputRegion, SetBufferTransform}
 use Rattle.wl_surface.specs.State.{pending}
 use Rattle.wl_surface.specs.Surfaces.{history_in, is_there}
-use Rattle.wl_shell.specs.Shell.{Effect, Stays, Unconfigured, Configures, Maps, Unmaps, XdgSurface, is_full, on_commit, stage_of, xdg_of}
+use Rattle.wl_shell.specs.Shell.{Effect, Stays, Unconfigured, Configures, XdgSurface, is_full, on_commit, stage_of, xdg_of}
 use Rattle.wl_desk.specs.Ask.{Ask, CreateSurface, DestroySurface, AskSurface, CommitSurface}
 use Rattle.wl_desk.specs.Desktop.{Resident}
 

@@ -1,15 +1,15 @@
 -- What is asked of the shell (xdg-shell.xml, xdg_wm_base, xdg_surface and xdg_toplevel).
-use Rattle.std.specs.Prelude.{ℕ, pos, ◌==◌, ◌&&◌, ◌||◌, not, nat_le, int_lt, Bool, true, false, if◌then◌else◌, Option, Some, None, Result, Ok, Err, List, is_some}
+use Rattle.std.specs.Prelude.{ℕ, pos, ◌==◌, ◌&&◌, ◌||◌, nat_le, int_lt, Bool, true, false, if◌then◌else◌, Option, Some, None, Result, Ok, List, is_some}
 use Rattle.std.specs.List.{list_any}
-use Rattle.std.specs.Option.{option_and_then, option_map, option_map_or}
+use Rattle.std.specs.Option.{option_and_then, option_map_or}
 use Rattle.wl_wire.specs.Wire.{Field}
 use Rattle.wl_geom.specs.declared.rect.Rect.{Rect}
 use Rattle.wl_client.specs.declared.refusals.ErrorCode.TheVariants as error
 use Rattle.wl_client.specs.declared.refusals.Refusal.{Refusal}
 use Rattle.wl_client.specs.Judgement.{rect_in, word_in}
-use Rattle.wl_surface.specs.Request.{Request, SetWindowGeometry}
-use Rattle.wl_surface.specs.Surfaces.{Role, AsToplevel, AsPopup, AsSubsurface, AsCursor, Surface, has_content, history_in, surface_at}
-use Rattle.wl_shell.specs.Shell.{Shell, XdgSurface, answers_states, is_full, is_waiting, stage_of, xdg_at, xdg_of, xdg_with}
+use Rattle.wl_surface.specs.Request.{SetWindowGeometry}
+use Rattle.wl_surface.specs.Surfaces.{Role, AsToplevel, AsPopup, AsSubsurface, AsCursor, has_content, history_in, surface_at}
+use Rattle.wl_shell.specs.Shell.{XdgSurface, answers_states, is_full, is_waiting, stage_of, xdg_at, xdg_of, xdg_with}
 use Rattle.wl_desk.specs.Ask.{Ask, AskSurface, DestroyBase, GetXdgSurface, DestroyXdgSurface, GetToplevel, Acknowledge, ConfigureAgain, DestroyToplevel, Ignore}
 use Rattle.wl_desk.specs.Desktop.{Resident}
 use Rattle.wl_desk.specs.WlSurface.{refuse, refuse_limit}
