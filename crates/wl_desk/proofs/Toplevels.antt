@@ -17,13 +17,13 @@ use Rattle.wl_desk.specs.Scratch.{scratch}
 use Rattle.wl_desk.specs.Step.{beyond_toplevels}
 
 -- two clients on an output of 64 by 64
-abbrev start : Desktop
+abbrev pub start : Desktop
 start =
     let output : Output = record { width = 64; height = 64 } in
     with_client 1 (Some (arrival output)) (with_client 2 (Some (arrival output)) (empty output))
 
 -- a request of a client to an object
-abbrev asks : ℕ → ℕ → ℕ → List Field → Desktop → Desktop
+abbrev pub asks : ℕ → ℕ → ℕ → List Field → Desktop → Desktop
 asks c object opcode fields d = fed beyond_toplevels c (message_bytes object opcode fields) d
 
 abbrev quiet : ℕ → Option Resident → Desktop → Desktop
@@ -31,7 +31,7 @@ quiet c None d = d
 quiet c (Some r) d = with_client c (Some (record r { peer = record r.peer { unsent = [] } })) d
 
 -- what waits for a client is sent
-abbrev sent : ℕ → Desktop → Desktop
+abbrev pub sent : ℕ → Desktop → Desktop
 sent c d = quiet c (client_at c d) d
 
 abbrev unsent : ℕ → Desktop → List ℕ
@@ -56,7 +56,7 @@ with_globals c d =
 abbrev with_toplevel : ℕ → Desktop → Desktop
 with_toplevel c d = asks c 7 1 (Word 8 ∷ []) (asks c 5 2 (Word 7 ∷ Word 6 ∷ []) (asks c 3 0 (Word 6 ∷ []) (sent c (with_globals c d))))
 
-abbrev commit : ℕ → Desktop → Desktop
+abbrev pub commit : ℕ → Desktop → Desktop
 commit c d = asks c 6 6 [] d
 
 -- which was configured
@@ -84,26 +84,26 @@ with_buffers c d =
 abbrev acknowledged : ℕ → ℕ → Desktop → Desktop
 acknowledged serial c d = asks c 7 4 (Word serial ∷ []) d
 
-abbrev attach : ℕ → ℤ → ℕ → Desktop → Desktop
+abbrev pub attach : ℕ → ℤ → ℕ → Desktop → Desktop
 attach buffer x c d = asks c 6 1 (Word buffer ∷ Number x ∷ Number (pos 0) ∷ []) d
 
-abbrev damage : ℤ → ℤ → ℤ → ℤ → ℕ → Desktop → Desktop
+abbrev pub damage : ℤ → ℤ → ℤ → ℤ → ℕ → Desktop → Desktop
 damage x y w h c d = asks c 6 2 (Number x ∷ Number y ∷ Number w ∷ Number h ∷ []) d
 
 -- which is configured, acknowledged, and shows the first buffer
-abbrev ready : ℕ → Desktop → Desktop
+abbrev pub ready : ℕ → Desktop → Desktop
 ready c d = sent c (with_buffers c (acknowledged 1 c (configured c d)))
 
-abbrev shown : ℕ → Desktop → Desktop
+abbrev pub shown : ℕ → Desktop → Desktop
 shown c d = commit c (damage (pos 0) (pos 0) (pos 40) (pos 40) c (attach 10 (pos 0) c (ready c d)))
 
-abbrev black : Rgb
+abbrev pub black : Rgb
 black = record { r = 0; g = 0; b = 0 }
 
-abbrev red : Rgb
+abbrev pub red : Rgb
 red = record { r = 255; g = 0; b = 0 }
 
-abbrev green : Rgb
+abbrev pub green : Rgb
 green = record { r = 0; g = 255; b = 0 }
 
 abbrev color : Desktop → ℤ → ℤ → Rgb
@@ -114,7 +114,7 @@ stores_by store at bytes None c d = d
 stores_by store at bytes (Some r) c d = with_client c (Some (record r { peer = stored_at r.peer.status store at bytes r.peer })) d
 
 -- bytes are put into a store of a client
-abbrev stores : ℕ → ℕ → List ℕ → ℕ → Desktop → Desktop
+abbrev pub stores : ℕ → ℕ → List ℕ → ℕ → Desktop → Desktop
 stores store at bytes c d = stores_by store at bytes (client_at c d) c d
 
 abbrev corners : Desktop → List Place
@@ -124,7 +124,7 @@ abbrev at : ℤ → ℤ → Place
 at x y = record { x = x; y = y }
 
 -- one window of 40 by 40 pixels, in the corner
-abbrev one : Desktop
+abbrev pub one : Desktop
 one = shown 1 start
 
 pub row_shown : corners one ≡ at (pos 0) (pos 0) ∷ []
@@ -161,10 +161,10 @@ abbrev green_pixels : ℕ → List ℕ
 green_pixels zero = []
 green_pixels (suc n) = 0 ∷ 255 ∷ 0 ∷ 0 ∷ green_pixels n
 
-abbrev two_ready : Desktop
+abbrev pub two_ready : Desktop
 two_ready = sent 2 (stores 1 0 (green_pixels 64) 2 (with_small_buffers 2 (acknowledged 1 2 (configured 2 (reddened one)))))
 
-abbrev two : Desktop
+abbrev pub two : Desktop
 two = commit 2 (damage (pos 0) (pos 0) (pos 8) (pos 8) 2 (attach 10 (pos 0) 2 two_ready))
 
 -- it stands in the next place
@@ -190,10 +190,10 @@ unfolding tree
 row_two-marks-beside = refl
 
 -- the first client attaches it, with damage where it differs
-abbrev three_ready : Desktop
+abbrev pub three_ready : Desktop
 three_ready = damage (pos 31) (pos 33) (pos 3) (pos 3) 1 (attach 11 (pos 0) 1 two)
 
-abbrev three : Desktop
+abbrev pub three : Desktop
 three = commit 1 three_ready
 
 pub row_three-red : color three (pos 31) (pos 35) ≡ red
@@ -225,7 +225,7 @@ pub row_three-others : unsent 2 three ≡ []
 row_three-others = refl
 
 -- a write to a store that is shown marks nothing, and shows only there
-abbrev rewritten : Desktop
+abbrev pub rewritten : Desktop
 rewritten = stores 1 0 (0 ∷ 0 ∷ 255 ∷ 0 ∷ []) 2 two
 
 pub row_rewritten-marks : marks_at_least two rewritten (pos 32) (pos 32) ≡ false
@@ -359,7 +359,7 @@ unfolding tree
 row_mapped_again = refl
 
 -- an attach with an offset moves the window, and marks its old and its new place
-abbrev moved : Desktop
+abbrev pub moved : Desktop
 moved = commit 1 (attach 11 (pos 3) 1 one)
 
 pub row_moved : corners moved ≡ at (pos 3) (pos 0) ∷ []
