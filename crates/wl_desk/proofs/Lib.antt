@@ -4,3 +4,5 @@ pub mod Toplevels
 pub mod Places
 pub mod OneRun
 pub mod Others
+pub mod Alone
+pub mod Served

@@ -29,9 +29,18 @@ number-other clients c zero x differ = refl
 number-other clients zero (suc j) x differ = refl
 number-other clients (suc k) (suc j) x differ = place-other clients k j x (λ e. differ (ap (λ (n : ℕ). suc n) e))
 
+-- what is left of a client that is told something
+abbrev pub left_by : Option Cause → Resident → Peer → Resident
+left_by None r q = record r { peer = q }
+left_by (Some cause) r q = resident_of q
+
+pub client-become : (s : Option Cause) (c : ℕ) (r : Resident) (q : Peer) (d : Desktop) (there : Resident) → client_at c d ≡ Some there → client_at c (become_by s c r q d) ≡ Some (left_by s r q)
+client-become None c r q d there h = number-same d.clients c (Some (record r { peer = q })) there h
+client-become (Some cause) c r q d there h = number-same d.clients c (Some (resident_of q)) there h
+
 status-by : (s : Option Cause) (c : ℕ) (r : Resident) (q : Peer) (d : Desktop) (there : Resident) → client_at c d ≡ Some there → status_in c (become_by s c r q d) ≡ q.status
-status-by None c r q d there h = ap status_of (number-same d.clients c (Some (record r { peer = q })) there h)
-status-by (Some cause) c r q d there h = ap status_of (number-same d.clients c (Some (resident_of q)) there h)
+status-by None c r q d there h = ap status_of (client-become None c r q d there h)
+status-by (Some cause) c r q d there h = ap status_of (client-become (Some cause) c r q d there h)
 
 -- it has the status of its peer
 pub status-become : (c : ℕ) (r : Resident) (q : Peer) (d : Desktop) (there : Resident) → client_at c d ≡ Some there → status_in c (become c r q d) ≡ q.status

@@ -1,8 +1,11 @@
 -- Laws of the plain desktop.
-use Rattle.std.specs.Prelude.{ℕ, ◌≡◌, ◌≢◌, ◌==◌, ℤ, List, Option, Some, None, IsTrue, filter}
+use Rattle.std.specs.Prelude.{ℕ, ◌≡◌, ◌≢◌, ◌==◌, ℤ, List, Option, Some, None, IsTrue, true, false, filter}
+use Rattle.wl_proto.specs.declared.interface.Interface.TheVariants.{WlCompositor, WlSurface, WlSubcompositor, WlSubsurface, WlSeat, WlPointer, XdgWmBase, XdgPositioner, XdgSurface, XdgToplevel, XdgPopup}
 use Rattle.wl_client.specs.declared.clients.Cause.{Cause}
 use Rattle.wl_client.specs.declared.clients.Cause.TheVariants.{Memory}
-use Rattle.wl_scene.specs.Stacking.{Standing}
+use Rattle.wl_client.specs.Peer.{Peer}
+use Rattle.wl_client.specs.Peer.{Feeds as FeedsAlone}
+use Rattle.wl_scene.specs.Stacking.{Standing, nothing_owned}
 use Rattle.wl_scene.specs.Windows.{Window}
 use Rattle.wl_desk.specs.Desktop.{Desktop, Resident, client_at}
 use Rattle.wl_desk.specs.Marks.{Applied, at_least, at_most}
@@ -39,3 +42,30 @@ OthersStay =
     (unserved : Unserved) (c other : ℕ) (piece : List ℕ) (r : Resident) (old new : Desktop) → client_at c old ≡ Some r
     → Feeds unserved c piece r old new → c ≢ other
     → (client_at other new ≡ client_at other old) × (toplevels_of other new ≡ toplevels_of other old)
+
+-- what is left out where a client's own interfaces are served, and no surfaces, shell and pointers
+abbrev pub beyond_clients : Unserved
+beyond_clients WlCompositor opcode = opcode == 0
+beyond_clients WlSurface opcode = true
+beyond_clients WlSubcompositor opcode = true
+beyond_clients WlSubsurface opcode = true
+beyond_clients WlSeat opcode = opcode == 0
+beyond_clients WlPointer opcode = true
+beyond_clients XdgWmBase opcode = true
+beyond_clients XdgPositioner opcode = true
+beyond_clients XdgSurface opcode = true
+beyond_clients XdgToplevel opcode = true
+beyond_clients XdgPopup opcode = true
+beyond_clients interface opcode = false
+
+-- the client there is this one, and owns nothing
+abbrev pub IsAlone : Peer → Option Resident → Type 0
+IsAlone p None = ⊥
+IsAlone p (Some r) = (r.peer ≡ p) × (r.owned ≡ nothing_owned)
+
+-- What a piece makes of a client by itself, it makes of the desktop's client where no more than that is served.
+abbrev pub ServedAlone : Type 0
+ServedAlone =
+    (c : ℕ) (piece : List ℕ) (r : Resident) (p q : Peer) (old : Desktop) → client_at c old ≡ Some r → r.peer ≡ p → r.owned ≡ nothing_owned
+    → FeedsAlone piece p q
+    → (new : Desktop) × Feeds beyond_clients c piece r old new × IsAlone q (client_at c new)

@@ -1,7 +1,7 @@
 //! The desk: the windows of all clients, what a message does to them, and which points a step marks to be painted again.
 #![tactic(auto)]
 
-ghost use Rattle.wl_desk.specs.Laws.{LeastIsMost, OneRun, OthersStay};
+ghost use Rattle.wl_desk.specs.Laws.{LeastIsMost, OneRun, OthersStay, ServedAlone};
 
 /// What a step marks at least is among what it marks at most.
 pub fn least_is_most()
@@ -16,4 +16,9 @@ pub fn one_run()
 /// A piece of a client's leaves every other client as it was.
 pub fn others_stay()
     ensures { OthersStay }
+{}
+
+/// Where no more is served than a client's own interfaces, a piece makes of the desktop's client what it makes of the client by itself.
+pub fn served_alone()
+    ensures { ServedAlone }
 {}
