@@ -4,4 +4,6 @@
 #[cfg(test)]
 mod regions;
 #[cfg(test)]
+mod scenes;
+#[cfg(test)]
 mod stores;

@@ -1,2 +1,3 @@
 pub mod Hits
 pub mod Rows
+pub mod Stacks

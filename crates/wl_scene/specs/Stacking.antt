@@ -1,10 +1,11 @@
 -- What a client owns, and which of its toplevels stand where.
-use Rattle.std.specs.Prelude.{ℕ, ◌==◌, ◌&&◌, not, Option, List, [], ◌∷◌, ◌++◌, map, filter, Bool}
+use Rattle.std.specs.Prelude.{ℕ, ◌+◌, ◌%◌, ◌==◌, ◌&&◌, not, if◌then◌else◌, Option, List, [], ◌∷◌, ◌++◌, map, filter, Bool}
 use Rattle.std.specs.Option.{option_and_then}
 use Rattle.wl_geom.specs.declared.rect.Rect.{Rect}
 use Rattle.wl_surface.specs.State.{History, geometry}
 use Rattle.wl_surface.specs.Surfaces.{Surfaces, history_in, no_surfaces}
 use Rattle.wl_shell.specs.Shell.{Shell, XdgSurface, xdg_of}
+use Rattle.wl_scene.specs.declared.scene.Toplevel.{Toplevel}
 use Rattle.wl_scene.specs.Windows.{Place, Root, Window, mapping_place, windows}
 
 -- a client's surfaces and its xdg_surfaces
@@ -21,6 +22,11 @@ pub record Standing : Type 0 where
   pub surface : ℕ
   pub place : Place
 
+-- The same as a program keeps them: the mapped toplevels, and which of the eight places is the next one's.
+pub record Stack : Type 0 where
+  pub standing : List Standing
+  pub next : ℕ
+
 -- a toplevel that is mapped stands on top of the others, in the next place
 abbrev pub with_mapped : ℕ → ℕ → ℕ → List Standing → List Standing
 with_mapped mappings client surface standing = standing ++ record { client = client; surface = surface; place = mapping_place mappings } ∷ []
@@ -30,6 +36,23 @@ is_of client surface s = (s.client == client) && (s.surface == surface)
 
 abbrev pub without_surface_of : ℕ → ℕ → List Standing → List Standing
 without_surface_of client surface standing = filter (λ s. not (is_of client surface s)) standing
+
+-- the toplevel of this surface on top of the others
+abbrev pub raised : ℕ → ℕ → List Standing → List Standing
+raised client surface [] = []
+raised client surface (s ∷ ss) = if is_of client surface s then ss ++ s ∷ [] else s ∷ raised client surface ss
+
+-- the toplevel of this surface at another place
+abbrev pub moved_to : ℕ → ℕ → Place → List Standing → List Standing
+moved_to client surface place [] = []
+moved_to client surface place (s ∷ ss) = if is_of client surface s then record s { place = place } ∷ ss else s ∷ moved_to client surface place ss
+
+-- what a mapping makes of what is kept
+abbrev pub mapped_on : ℕ → ℕ → Stack → Stack
+mapped_on client surface stack = record { standing = with_mapped stack.next client surface stack.standing; next = (stack.next + 1) % 8 }
+
+abbrev pub standing_of : Toplevel → Standing
+standing_of t = record { client = t.surface.client; surface = t.surface.surface; place = record { x = t.x; y = t.y } }
 
 abbrev pub without_client : ℕ → List Standing → List Standing
 without_client client standing = filter (λ s. not (s.client == client)) standing

@@ -3,6 +3,10 @@
 
 ghost use Rattle.wl_scene.specs.Laws.{TopmostIsHit};
 
+mod scene;
+
+pub use scene::{Scene, Surface, Toplevel};
+
 /// The topmost window that takes a point's input is the one that it hits.
 pub fn topmost_is_hit()
     ensures { TopmostIsHit }

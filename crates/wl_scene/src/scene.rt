@@ -1,0 +1,138 @@
+//! Which toplevels are mapped, and where they stand.
+
+ghost use Rattle.std.specs.Prelude.{◌≡◌, ◌<◌, ◌++◌, ◌∷◌, [], OnOk, OnErr, length, map, position, remove, slice_index_or};
+ghost use Rattle.wl_scene.specs.Stacking.{is_of, mapped_on, moved_to, raised, standing_of, without_surface_of};
+
+use std::alloc::{AllocError, Allocator};
+use std::marker::Model;
+
+/// How many places there are for toplevels that are mapped, one after another.
+const PLACES: u8 = 8;
+
+/// How far a place is from the one before it in pixels, to the right and down.
+const STEP: i32 = 32;
+
+/// A surface of a client, each by its number.
+#[derive(Clone, Copy, Debug, PartialEq, Eq)]
+pub struct Surface {
+    pub client: u32,
+    pub surface: u32,
+}
+
+/// A mapped toplevel, and where its surface's place is in the output in pixels.
+#[derive(Clone, Copy, Debug)]
+pub struct Toplevel {
+    pub surface: Surface,
+    pub x: i32,
+    pub y: i32,
+}
+
+/// The mapped toplevels of all clients from bottom to top. It is seen as that list, and which place is the next one's.
+#[derive(Drop)]
+pub struct Scene<A: Allocator> {
+    standing: Vec<Toplevel, A>,
+    next: u8,
+}
+
+impl<A: Allocator> Model for Scene<A> {
+    ghost use Rattle.std.specs.Prelude.{◌<◌, map};
+    ghost use Rattle.wl_scene.specs.Stacking.{Stack, standing_of};
+
+    ghost Value = { Stack };
+
+    ghost view = { λ scene. record { standing = map standing_of scene.standing.items; next = scene.next } };
+
+    ghost invariant = { λ scene. scene.next < 8 };
+}
+
+fn is_surface(toplevel: &Toplevel, surface: Surface) -> bool
+    ensures { result ≡ is_of surface.client surface.surface (standing_of toplevel.now) }
+{
+    toplevel.surface.client == surface.client && toplevel.surface.surface == surface.surface
+}
+
+/// The place of the toplevel of this surface.
+fn position_of(standing: &[Toplevel], surface: Surface) -> Option<usize>
+    ensures { result ≡ position (λ t. is_of surface.client surface.surface (standing_of t)) standing.now }
+{
+    standing
+        .iter()
+        .position(|toplevel| is_surface(toplevel, surface))
+}
+
+/// The toplevel at this place moves up to the top.
+fn to_top(standing: &mut [Toplevel], place: usize)
+    requires { place < length standing.old }
+    ensures len { length standing.new ≡ length standing.old }
+    ensures top { (d : Toplevel) → standing.new ≡ remove standing.old place ++ slice_index_or standing.old place d ∷ [] }
+{
+    standing[place..].rotate_left(1);
+}
+
+impl<A: Allocator> Scene<A> {
+    /// A scene without toplevels.
+    pub fn new(alloc: A) -> Self
+        ensures { result ≡ record { standing = []; next = 0 } }
+    {
+        Scene {
+            standing: Vec::new(alloc),
+            next: 0,
+        }
+    }
+
+    /// The mapped toplevels, from bottom to top.
+    pub fn toplevels(&self) -> &[Toplevel]
+        ensures { map standing_of result.now ≡ self.now.standing }
+    {
+        &self.standing[..]
+    }
+
+    /// A toplevel is mapped: it stands on top, in the next place (xdg-shell.xml, xdg_surface: mapping). That it isn't mapped yet is the
+    /// caller's condition. Without memory nothing changes.
+    pub fn map(&mut self, surface: Surface) -> Result<(), AllocError>
+        ensures ok { OnOk result (self.new ≡ mapped_on surface.client surface.surface self.old) }
+        ensures err { OnErr result (self.new ≡ self.old) }
+    {
+        let at = i32::from(self.next) * STEP;
+        self.standing.try_reserve(1)?;
+        let toplevel = Toplevel {
+            surface,
+            x: at,
+            y: at,
+        };
+        self.standing.push(toplevel)?;
+        self.next = (self.next + 1) % PLACES;
+        Ok(())
+    }
+
+    /// A toplevel isn't mapped any more. Nothing changes where it wasn't.
+    pub fn unmap(&mut self, surface: Surface)
+        ensures standing { self.new.standing ≡ without_surface_of surface.client surface.surface self.old.standing }
+        ensures next { self.new.next ≡ self.old.next }
+    {
+        self.standing
+            .retain(|toplevel| !is_surface(toplevel, surface));
+    }
+
+    /// A toplevel moves up to the top. Nothing changes where it isn't mapped.
+    pub fn raise(&mut self, surface: Surface)
+        ensures standing { self.new.standing ≡ raised surface.client surface.surface self.old.standing }
+        ensures next { self.new.next ≡ self.old.next }
+    {
+        let Some(place) = position_of(&self.standing, surface) else {
+            return;
+        };
+        to_top(&mut self.standing, place);
+    }
+
+    /// A toplevel stands at another place, given in pixels of the output. Nothing changes where it isn't mapped.
+    pub fn move_to(&mut self, surface: Surface, x: i32, y: i32)
+        ensures standing { self.new.standing ≡ moved_to surface.client surface.surface (record { x = x; y = y }) self.old.standing }
+        ensures next { self.new.next ≡ self.old.next }
+    {
+        let Some(place) = position_of(&self.standing, surface) else {
+            return;
+        };
+        self.standing[place] = Toplevel { surface, x, y };
+    }
+}
