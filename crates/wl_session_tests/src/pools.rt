@@ -1,232 +1,288 @@
 //! Pools, buffers and the stores behind them.
 
-use crate::support::{
-    bind, deletion_bytes, error_bytes, has_out, protocol, send, take_all, with_registry,
-};
-use std::alloc::Global;
-use std::test::Fail;
-use wl_session::{Done, Fed, Session, Step, Stored};
+use crate::support::{Case, Message, REGISTRY, Row, play};
+use wl_session::{Cause, Done, Fed, Step, Stored};
 use wl_wire::Arg;
 
-/// A client with the registry 2, the wl_compositor 3 and the wl_shm 4.
-pub(crate) fn with_shm(alloc: Global) -> Result<Session<Global>, Fail> {
-    let mut session = with_registry(alloc)?;
-    bind(alloc, &mut session, 1, b"wl_compositor", 2, 3)?;
-    bind(alloc, &mut session, 3, b"wl_shm", 1, 4)?;
-    take_all(&mut session);
-    Ok(session)
-}
+/// The wl_compositor 3 and the wl_shm 4, by the registry 2.
+pub(crate) const SHM: &[Row] = &[
+    Row::Binds(1, b"wl_compositor", 2, 3, Fed::Alive),
+    Row::Binds(3, b"wl_shm", 1, 4, Fed::Alive),
+    Row::Takes,
+];
 
-fn create_pool(
-    alloc: Global,
-    session: &mut Session<Global>,
-    id: u32,
-    size: i32,
-) -> Result<Fed, Fail> {
-    send(alloc, session, 4, 0, &[Arg::NewId(id), Arg::Int(size)])
-}
-
-/// A buffer of the pool 9, of 40 by 40 pixels with a stride of 160.
-fn create_buffer(
-    alloc: Global,
-    session: &mut Session<Global>,
-    id: u32,
-    offset: i32,
-    format: u32,
-) -> Result<Fed, Fail> {
-    let args = [
-        Arg::NewId(id),
-        Arg::Int(offset),
+/// The buffer 10 of the pool 9 at its start, and the buffer 11 behind it: 40 by 40 pixels with a stride of 160, of the format 1.
+const BUFFER_10: Message = Message(
+    9,
+    0,
+    &[
+        Arg::NewId(10),
+        Arg::Int(0),
         Arg::Int(40),
         Arg::Int(40),
         Arg::Int(160),
-        Arg::Uint(format),
-    ];
-    send(alloc, session, 9, 0, &args)
-}
+        Arg::Uint(1),
+    ],
+);
 
-/// A client with the pool 9 of 12,800 bytes and its buffers 10 and 11.
-fn with_buffers(alloc: Global) -> Result<Session<Global>, Fail> {
-    let mut session = with_shm(alloc)?;
-    create_pool(alloc, &mut session, 9, 12800)?;
-    create_buffer(alloc, &mut session, 10, 0, 1)?;
-    create_buffer(alloc, &mut session, 11, 6400, 1)?;
-    Ok(session)
-}
+const BUFFER_11: Message = Message(
+    9,
+    0,
+    &[
+        Arg::NewId(11),
+        Arg::Int(6400),
+        Arg::Int(40),
+        Arg::Int(40),
+        Arg::Int(160),
+        Arg::Uint(1),
+    ],
+);
 
-fn destroy(
-    alloc: Global,
-    session: &mut Session<Global>,
-    id: u32,
-    opcode: u16,
-) -> Result<Fed, Fail> {
-    take_all(session);
-    send(alloc, session, id, opcode, &[])
-}
+/// The pool 9 of so many bytes.
+const POOL_12800: Message = Message(4, 0, &[Arg::NewId(9), Arg::Int(12800)]);
 
-fn resize(alloc: Global, session: &mut Session<Global>, size: i32) -> Result<Fed, Fail> {
-    send(alloc, session, 9, 2, &[Arg::Int(size)])
-}
+const POOL_12799: Message = Message(4, 0, &[Arg::NewId(9), Arg::Int(12799)]);
+
+const POOL_6399: Message = Message(4, 0, &[Arg::NewId(9), Arg::Int(6399)]);
+
+/// The pool 9 of 12,800 bytes and its buffers 10 and 11.
+const BUFFERS: &[Row] = &[
+    Row::Sends(POOL_12800),
+    Row::Sends(BUFFER_10),
+    Row::Sends(BUFFER_11),
+];
+
+const STORED: &[Row] = &[
+    Row::Waits(1, Some(&[])),
+    Row::Store(1, 1, Some(12800)),
+    Row::Calls(
+        Step::Store {
+            client: 1,
+            store: 1,
+            at: 12799,
+            bytes: &[0],
+        },
+        Done::Store(Stored::Done),
+    ),
+    Row::Calls(
+        Step::Store {
+            client: 1,
+            store: 1,
+            at: 12800,
+            bytes: &[0],
+        },
+        Done::Store(Stored::OutOfRange),
+    ),
+    Row::Calls(
+        Step::Store {
+            client: 1,
+            store: 1,
+            at: 4294967295,
+            bytes: &[0, 0],
+        },
+        Done::Store(Stored::OutOfRange),
+    ),
+    Row::Calls(
+        Step::Store {
+            client: 1,
+            store: 2,
+            at: 0,
+            bytes: &[0],
+        },
+        Done::Store(Stored::NoStore),
+    ),
+    Row::Calls(
+        Step::Store {
+            client: 2,
+            store: 1,
+            at: 0,
+            bytes: &[0],
+        },
+        Done::Store(Stored::NoClient),
+    ),
+    Row::Store(1, 2, None),
+    Row::Store(2, 1, None),
+];
+
+const STEPS: &[Row] = &[
+    Row::Steps(
+        Step::Store {
+            client: 1,
+            store: 1,
+            at: 0,
+            bytes: &[1, 2, 3],
+        },
+        Done::Store(Stored::Done),
+    ),
+    Row::Steps(
+        Step::Store {
+            client: 1,
+            store: 1,
+            at: 12798,
+            bytes: &[1, 2, 3],
+        },
+        Done::Store(Stored::OutOfRange),
+    ),
+];
+
+const ENDED: &[Row] = &[
+    Row::Calls(Step::Gone { client: 1 }, Done::Gone(true)),
+    Row::Calls(
+        Step::Store {
+            client: 1,
+            store: 1,
+            at: 0,
+            bytes: &[0],
+        },
+        Done::Store(Stored::NoClient),
+    ),
+    Row::Store(1, 1, None),
+];
+
+const DESTROYED: &[Row] = &[
+    Row::Takes,
+    Row::Sends(Message(10, 0, &[])),
+    Row::Told(&[Message(1, 1, &[Arg::Uint(10)])]),
+];
+
+const LIVES: &[Row] = &[
+    Row::Takes,
+    Row::Sends(Message(9, 1, &[])),
+    Row::Told(&[Message(1, 1, &[Arg::Uint(9)])]),
+    Row::Calls(
+        Step::Store {
+            client: 1,
+            store: 1,
+            at: 0,
+            bytes: &[0, 0, 255, 0],
+        },
+        Done::Store(Stored::Done),
+    ),
+    Row::Takes,
+    Row::Sends(Message(10, 0, &[])),
+    Row::Store(1, 1, Some(12800)),
+    Row::Takes,
+    Row::Sends(Message(11, 0, &[])),
+    Row::Store(1, 1, None),
+];
+
+const SECOND_STORE: &[Row] = &[
+    Row::Sends(Message(4, 0, &[Arg::NewId(12), Arg::Int(7)])),
+    Row::Store(1, 2, Some(7)),
+];
+
+const RESIZED: &[Row] = &[
+    Row::Sends(Message(9, 2, &[Arg::Int(12800)])),
+    Row::Sends(Message(9, 2, &[Arg::Int(12801)])),
+    Row::Store(1, 1, Some(12801)),
+    Row::Takes,
+    Row::Errs(Message(9, 2, &[Arg::Int(12800)]), 9, 2),
+    Row::ErrorTold(9, 2, b"invalid_fd"),
+];
+
+const NO_BYTES: &[Row] = &[
+    Row::Errs(Message(4, 0, &[Arg::NewId(9), Arg::Int(0)]), 4, 1),
+    Row::ErrorTold(4, 1, b"invalid_stride"),
+];
+
+const TOO_MANY_BYTES: &[Row] = &[
+    Row::Errs(Message(4, 0, &[Arg::NewId(9), Arg::Int(268435457)]), 1, 3),
+    Row::ErrorTold(1, 3, b"implementation"),
+];
+
+const STORE_65: &[Row] = &[
+    Row::MakesPools(5, 69),
+    Row::Errs(Message(4, 0, &[Arg::NewId(69), Arg::Int(0)]), 1, 3),
+];
+
+const WITHIN: &[Row] = &[
+    Row::Sends(POOL_12800),
+    Row::Sends(BUFFER_11),
+    Row::Is(1, Fed::Alive),
+];
+
+const PAST: &[Row] = &[
+    Row::Sends(POOL_12799),
+    Row::Errs(BUFFER_11, 9, 1),
+    Row::Is(1, Fed::Ended(Cause::Protocol { object: 9, code: 1 })),
+];
+
+const SHORT: &[Row] = &[
+    Row::Sends(POOL_6399),
+    Row::Errs(BUFFER_10, 9, 1),
+    Row::Is(1, Fed::Ended(Cause::Protocol { object: 9, code: 1 })),
+    Row::ErrorTold(9, 1, b"invalid_stride"),
+];
+
+const BAD_FORMAT: &[Row] = &[
+    Row::Sends(POOL_6399),
+    Row::Errs(
+        Message(
+            9,
+            0,
+            &[
+                Arg::NewId(10),
+                Arg::Int(0),
+                Arg::Int(40),
+                Arg::Int(40),
+                Arg::Int(160),
+                Arg::Uint(2),
+            ],
+        ),
+        9,
+        0,
+    ),
+    Row::Is(1, Fed::Ended(Cause::Protocol { object: 9, code: 0 })),
+    Row::ErrorTold(9, 0, b"invalid_format"),
+];
+
+const CASES: &[Case] = &[
+    (
+        "bytes lie in their store",
+        &[REGISTRY, SHM, BUFFERS, STORED],
+    ),
+    (
+        "a step stores as its call",
+        &[REGISTRY, SHM, BUFFERS, STEPS],
+    ),
+    (
+        "an ended client has no stores",
+        &[REGISTRY, SHM, BUFFERS, ENDED],
+    ),
+    (
+        "a destroyed buffer gives its id back",
+        &[REGISTRY, SHM, BUFFERS, DESTROYED],
+    ),
+    (
+        "a store lives while its pool or a buffer does",
+        &[REGISTRY, SHM, BUFFERS, LIVES],
+    ),
+    (
+        "stores are numbered by their pools",
+        &[REGISTRY, SHM, BUFFERS, SECOND_STORE],
+    ),
+    (
+        "a pool grows and does not shrink",
+        &[REGISTRY, SHM, BUFFERS, RESIZED],
+    ),
+    ("a pool has bytes", &[REGISTRY, SHM, NO_BYTES]),
+    (
+        "all stores have at most 268435456 bytes",
+        &[REGISTRY, SHM, TOO_MANY_BYTES],
+    ),
+    (
+        "the format is looked at first",
+        &[REGISTRY, SHM, BAD_FORMAT],
+    ),
+    ("at most 64 stores are live", &[REGISTRY, SHM, STORE_65]),
+    ("a buffer lies in its store", &[REGISTRY, SHM, WITHIN]),
+    ("a buffer past its store", &[REGISTRY, SHM, PAST]),
+    ("a store that is too short", &[REGISTRY, SHM, SHORT]),
+];
 
 #[test]
-fn bytes_lie_in_their_store(rt: HostRuntime) -> Result<(), Fail> {
-    let mut session = with_buffers(rt.alloc())?;
-    assert!(rt; has_out(&session, b""));
-    assert_eq!(rt; session.store_size(1, 1), Some(12800));
-    assert_eq!(rt; session.store(1, 1, 12799, &[0]), Stored::Done);
-    assert_eq!(rt; session.store(1, 1, 12800, &[0]), Stored::OutOfRange);
-    assert_eq!(rt;
-        session.store(1, 1, 4294967295, &[0, 0]),
-        Stored::OutOfRange
-    );
-    assert_eq!(rt; session.store(1, 2, 0, &[0]), Stored::NoStore);
-    assert_eq!(rt; session.store(2, 1, 0, &[0]), Stored::NoClient);
-    assert_eq!(rt; session.store_size(1, 2), None);
-    assert_eq!(rt; session.store_size(2, 1), None);
-    Ok(())
-}
-
-#[test]
-fn a_step_stores_as_its_call(rt: HostRuntime) -> Result<(), Fail> {
-    let mut session = with_buffers(rt.alloc())?;
-    let within = Step::Store {
-        client: 1,
-        store: 1,
-        at: 0,
-        bytes: &[1, 2, 3],
-    };
-    assert_eq!(rt; session.step(&within), Done::Store(Stored::Done));
-    let past = Step::Store {
-        client: 1,
-        store: 1,
-        at: 12798,
-        bytes: &[1, 2, 3],
-    };
-    assert_eq!(rt; session.step(&past), Done::Store(Stored::OutOfRange));
-    Ok(())
-}
-
-#[test]
-fn an_ended_client_has_no_stores(rt: HostRuntime) -> Result<(), Fail> {
-    let mut session = with_buffers(rt.alloc())?;
-    assert!(rt; session.gone(1));
-    assert_eq!(rt; session.store(1, 1, 0, &[0]), Stored::NoClient);
-    assert_eq!(rt; session.store_size(1, 1), None);
-    Ok(())
-}
-
-#[test]
-fn a_destroyed_buffer_gives_its_id_back(rt: HostRuntime) -> Result<(), Fail> {
-    let mut session = with_buffers(rt.alloc())?;
-    assert_eq!(rt; destroy(rt.alloc(), &mut session, 10, 0)?, Fed::Alive);
-    let told = deletion_bytes(rt.alloc(), 10)?;
-    assert!(rt; has_out(&session, &told));
-    Ok(())
-}
-
-#[test]
-fn a_store_lives_while_its_pool_or_a_buffer_does(rt: HostRuntime) -> Result<(), Fail> {
-    let mut session = with_buffers(rt.alloc())?;
-    assert_eq!(rt; destroy(rt.alloc(), &mut session, 9, 1)?, Fed::Alive);
-    let told = deletion_bytes(rt.alloc(), 9)?;
-    assert!(rt; has_out(&session, &told));
-    assert_eq!(rt; session.store(1, 1, 0, &[0, 0, 255, 0]), Stored::Done);
-    assert_eq!(rt; destroy(rt.alloc(), &mut session, 10, 0)?, Fed::Alive);
-    assert_eq!(rt; session.store_size(1, 1), Some(12800));
-    assert_eq!(rt; destroy(rt.alloc(), &mut session, 11, 0)?, Fed::Alive);
-    assert_eq!(rt; session.store_size(1, 1), None);
-    Ok(())
-}
-
-#[test]
-fn stores_are_numbered_by_their_pools(rt: HostRuntime) -> Result<(), Fail> {
-    let mut session = with_buffers(rt.alloc())?;
-    assert_eq!(rt; create_pool(rt.alloc(), &mut session, 12, 7)?, Fed::Alive);
-    assert_eq!(rt; session.store_size(1, 2), Some(7));
-    Ok(())
-}
-
-#[test]
-fn a_pool_grows_and_does_not_shrink(rt: HostRuntime) -> Result<(), Fail> {
-    let mut session = with_buffers(rt.alloc())?;
-    assert_eq!(rt; resize(rt.alloc(), &mut session, 12800)?, Fed::Alive);
-    assert_eq!(rt; resize(rt.alloc(), &mut session, 12801)?, Fed::Alive);
-    assert_eq!(rt; session.store_size(1, 1), Some(12801));
-    take_all(&mut session);
-    assert_eq!(rt; resize(rt.alloc(), &mut session, 12800)?, protocol(9, 2));
-    let told = error_bytes(rt.alloc(), 9, 2, b"invalid_fd")?;
-    assert!(rt; has_out(&session, &told));
-    Ok(())
-}
-
-#[test]
-fn a_pool_has_bytes(rt: HostRuntime) -> Result<(), Fail> {
-    let mut session = with_shm(rt.alloc())?;
-    assert_eq!(rt;
-        create_pool(rt.alloc(), &mut session, 9, 0)?,
-        protocol(4, 1)
-    );
-    let told = error_bytes(rt.alloc(), 4, 1, b"invalid_stride")?;
-    assert!(rt; has_out(&session, &told));
-    Ok(())
-}
-
-#[test]
-fn all_stores_have_at_most_268435456_bytes(rt: HostRuntime) -> Result<(), Fail> {
-    let mut session = with_shm(rt.alloc())?;
-    assert_eq!(rt;
-        create_pool(rt.alloc(), &mut session, 9, 268435457)?,
-        protocol(1, 3)
-    );
-    let told = error_bytes(rt.alloc(), 1, 3, b"implementation")?;
-    assert!(rt; has_out(&session, &told));
-    Ok(())
-}
-
-#[test]
-fn at_most_64_stores_are_live(rt: HostRuntime) -> Result<(), Fail> {
-    let mut session = with_shm(rt.alloc())?;
-    for id in 5..69_u32 {
-        assert_eq!(rt; create_pool(rt.alloc(), &mut session, id, 1)?, Fed::Alive);
+fn pools_and_stores_are_as_worked(rt: HostRuntime) {
+    for &(name, parts) in CASES {
+        assert_eq!(rt; play(rt.alloc(), parts), Ok(()), "{name}");
     }
-    assert_eq!(rt;
-        create_pool(rt.alloc(), &mut session, 69, 0)?,
-        protocol(1, 3)
-    );
-    Ok(())
-}
-
-/// How the client is after a pool of so many bytes and a buffer there.
-fn after_buffer(
-    alloc: Global,
-    size: i32,
-    offset: i32,
-    format: u32,
-) -> Result<Session<Global>, Fail> {
-    let mut session = with_shm(alloc)?;
-    create_pool(alloc, &mut session, 9, size)?;
-    create_buffer(alloc, &mut session, 10, offset, format)?;
-    Ok(session)
-}
-
-#[test]
-fn a_buffer_lies_in_its_store(rt: HostRuntime) -> Result<(), Fail> {
-    let within = after_buffer(rt.alloc(), 12800, 6400, 1)?;
-    assert_eq!(rt; within.status(1), Fed::Alive);
-    let past = after_buffer(rt.alloc(), 12799, 6400, 1)?;
-    assert_eq!(rt; past.status(1), protocol(9, 1));
-    let short = after_buffer(rt.alloc(), 6399, 0, 1)?;
-    assert_eq!(rt; short.status(1), protocol(9, 1));
-    let told = error_bytes(rt.alloc(), 9, 1, b"invalid_stride")?;
-    assert!(rt; has_out(&short, &told));
-    Ok(())
-}
-
-#[test]
-fn the_format_is_looked_at_first(rt: HostRuntime) -> Result<(), Fail> {
-    let session = after_buffer(rt.alloc(), 6399, 0, 2)?;
-    assert_eq!(rt; session.status(1), protocol(9, 0));
-    let told = error_bytes(rt.alloc(), 9, 0, b"invalid_format")?;
-    assert!(rt; has_out(&session, &told));
-    Ok(())
 }

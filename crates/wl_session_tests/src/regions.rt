@@ -1,45 +1,43 @@
 //! Regions.
 
-use crate::pools::with_shm;
-use crate::support::{deletion_bytes, error_bytes, has_out, protocol, send};
-use std::alloc::Global;
-use std::test::Fail;
-use wl_session::{Fed, Session};
+use crate::pools::SHM;
+use crate::support::{Case, Message, REGISTRY, Row, play};
 use wl_wire::Arg;
 
-/// A client with the region 6.
-fn with_region(alloc: Global) -> Result<Session<Global>, Fail> {
-    let mut session = with_shm(alloc)?;
-    send(alloc, &mut session, 3, 1, &[Arg::NewId(6)])?;
-    Ok(session)
-}
+const RECT: &[Arg] = &[Arg::Int(0), Arg::Int(0), Arg::Int(4), Arg::Int(4)];
 
-/// wl_region.add where the opcode is 1, wl_region.subtract where it is 2.
-fn change(alloc: Global, session: &mut Session<Global>, opcode: u16) -> Result<Fed, Fail> {
-    let rect = [Arg::Int(0), Arg::Int(0), Arg::Int(4), Arg::Int(4)];
-    send(alloc, session, 6, opcode, &rect)
-}
+/// The region 6.
+const REGION: &[Row] = &[Row::Sends(Message(3, 1, &[Arg::NewId(6)]))];
+
+/// 512 changes, by turns wl_region.add and wl_region.subtract.
+const CHANGES: &[Row] = &[Row::Changes(256, Message(6, 1, RECT), Message(6, 2, RECT))];
+
+const CHANGE_513: &[Row] = &[
+    Row::Waits(1, Some(&[])),
+    Row::Errs(Message(6, 1, RECT), 1, 3),
+    Row::ErrorTold(1, 3, b"implementation"),
+];
+
+const DESTROYED: &[Row] = &[
+    Row::Sends(Message(6, 0, &[])),
+    Row::Told(&[Message(1, 1, &[Arg::Uint(6)])]),
+    Row::Errs(Message(6, 1, RECT), 1, 0),
+];
+
+const CASES: &[Case] = &[
+    (
+        "a destroyed region gives its id back",
+        &[REGISTRY, SHM, REGION, DESTROYED],
+    ),
+    (
+        "a region takes 512 changes",
+        &[REGISTRY, SHM, REGION, CHANGES, CHANGE_513],
+    ),
+];
 
 #[test]
-fn a_region_takes_512_changes(rt: HostRuntime) -> Result<(), Fail> {
-    let mut session = with_region(rt.alloc())?;
-    for _ in 0..256_u32 {
-        assert_eq!(rt; change(rt.alloc(), &mut session, 1)?, Fed::Alive);
-        assert_eq!(rt; change(rt.alloc(), &mut session, 2)?, Fed::Alive);
+fn regions_are_as_worked(rt: HostRuntime) {
+    for &(name, parts) in CASES {
+        assert_eq!(rt; play(rt.alloc(), parts), Ok(()), "{name}");
     }
-    assert!(rt; has_out(&session, b""));
-    assert_eq!(rt; change(rt.alloc(), &mut session, 1)?, protocol(1, 3));
-    let told = error_bytes(rt.alloc(), 1, 3, b"implementation")?;
-    assert!(rt; has_out(&session, &told));
-    Ok(())
-}
-
-#[test]
-fn a_destroyed_region_gives_its_id_back(rt: HostRuntime) -> Result<(), Fail> {
-    let mut session = with_region(rt.alloc())?;
-    assert_eq!(rt; send(rt.alloc(), &mut session, 6, 0, &[])?, Fed::Alive);
-    let told = deletion_bytes(rt.alloc(), 6)?;
-    assert!(rt; has_out(&session, &told));
-    assert_eq!(rt; change(rt.alloc(), &mut session, 1)?, protocol(1, 0));
-    Ok(())
 }

@@ -1,344 +1,365 @@
 //! The registry, binds, and the order in which messages are refused.
 
-use crate::support::{
-    bind, error_bytes, get_registry, has_out, message, one_client, protocol, send, take_all,
-    waiting, with_registry,
-};
-use std::alloc::Global;
-use std::test::Fail;
-use wl_session::{Cause, Fed, Session};
-use wl_wire::{Arg, PutError, put};
-
-fn put_global(
-    out: &mut Vec<u8, Global>,
-    name: u32,
-    interface: &[u8],
-    version: u32,
-) -> Result<(), PutError> {
-    put(
-        out,
-        2,
-        0,
-        &[Arg::Uint(name), Arg::Str(interface), Arg::Uint(version)],
-    )
-}
+use crate::support::{CLIENT, Case, INVALID_OBJECT, Message, REGISTRY, Row, SYNC, play, play_row};
+use wl_session::{Cause, Done, Fed, Step};
+use wl_wire::Arg;
 
 /// What the registry 2 tells.
-fn globals_told(alloc: Global) -> Result<Vec<u8, Global>, PutError> {
-    let mut told = Vec::new(alloc);
-    put_global(&mut told, 1, b"wl_compositor", 2)?;
-    put_global(&mut told, 2, b"wl_subcompositor", 1)?;
-    put_global(&mut told, 3, b"wl_shm", 1)?;
-    put_global(&mut told, 4, b"wl_output", 1)?;
-    put_global(&mut told, 5, b"wl_seat", 1)?;
-    put_global(&mut told, 6, b"xdg_wm_base", 1)?;
-    Ok(told)
-}
-
-#[test]
-fn a_registry_tells_the_globals(rt: HostRuntime) -> Result<(), Fail> {
-    let mut session = one_client(rt.alloc())?;
-    assert_eq!(rt; get_registry(rt.alloc(), &mut session, 2)?, Fed::Alive);
-    let told = globals_told(rt.alloc())?;
-    assert!(rt; has_out(&session, &told));
-    let first = [
-        2, 0, 0, 0, 0, 0, 36, 0, 1, 0, 0, 0, 14, 0, 0, 0, b'w', b'l', b'_', b'c', b'o', b'm', b'p',
-        b'o', b's', b'i', b't', b'o', b'r', 0, 0, 0, 2, 0, 0, 0,
-    ];
-    assert!(rt; told.starts_with(&first));
-    Ok(())
-}
-
-/// A client with the registry 2 and an object of each global: 3 to 8 in their order.
-fn with_all_globals(alloc: Global) -> Result<Session<Global>, Fail> {
-    let mut session = with_registry(alloc)?;
-    bind(alloc, &mut session, 1, b"wl_compositor", 2, 3)?;
-    bind(alloc, &mut session, 2, b"wl_subcompositor", 1, 4)?;
-    bind(alloc, &mut session, 3, b"wl_shm", 1, 5)?;
-    bind(alloc, &mut session, 4, b"wl_output", 1, 6)?;
-    bind(alloc, &mut session, 5, b"wl_seat", 1, 7)?;
-    bind(alloc, &mut session, 6, b"xdg_wm_base", 1, 8)?;
-    Ok(session)
-}
-
-fn put_geometry(out: &mut Vec<u8, Global>, output: u32) -> Result<(), PutError> {
-    put(
-        out,
-        output,
+const GLOBALS: &[Message] = &[
+    Message(
+        2,
         0,
-        &[
-            Arg::Int(0),
-            Arg::Int(0),
-            Arg::Int(0),
-            Arg::Int(0),
-            Arg::Int(0),
-            Arg::Str(b"wlframe"),
-            Arg::Str(b"framebuffer"),
-            Arg::Int(0),
-        ],
-    )
-}
+        &[Arg::Uint(1), Arg::Str(b"wl_compositor"), Arg::Uint(2)],
+    ),
+    Message(
+        2,
+        0,
+        &[Arg::Uint(2), Arg::Str(b"wl_subcompositor"), Arg::Uint(1)],
+    ),
+    Message(2, 0, &[Arg::Uint(3), Arg::Str(b"wl_shm"), Arg::Uint(1)]),
+    Message(2, 0, &[Arg::Uint(4), Arg::Str(b"wl_output"), Arg::Uint(1)]),
+    Message(2, 0, &[Arg::Uint(5), Arg::Str(b"wl_seat"), Arg::Uint(1)]),
+    Message(
+        2,
+        0,
+        &[Arg::Uint(6), Arg::Str(b"xdg_wm_base"), Arg::Uint(1)],
+    ),
+];
+
+/// The bytes of the first of them.
+const FIRST_GLOBAL: &[u8] = &[
+    2, 0, 0, 0, 0, 0, 36, 0, 1, 0, 0, 0, 14, 0, 0, 0, b'w', b'l', b'_', b'c', b'o', b'm', b'p',
+    b'o', b's', b'i', b't', b'o', b'r', 0, 0, 0, 2, 0, 0, 0,
+];
+
+const GLOBALS_TOLD: &[Row] = &[
+    Row::Sends(Message(1, 1, &[Arg::NewId(2)])),
+    Row::Told(GLOBALS),
+    Row::Starts(FIRST_GLOBAL),
+];
+
+/// Binds of each global: 3 to 8 in their order.
+const ALL_GLOBALS: &[Row] = &[
+    Row::Binds(1, b"wl_compositor", 2, 3, Fed::Alive),
+    Row::Binds(2, b"wl_subcompositor", 1, 4, Fed::Alive),
+    Row::Binds(3, b"wl_shm", 1, 5, Fed::Alive),
+    Row::Binds(4, b"wl_output", 1, 6, Fed::Alive),
+    Row::Binds(5, b"wl_seat", 1, 7, Fed::Alive),
+    Row::Binds(6, b"xdg_wm_base", 1, 8, Fed::Alive),
+];
 
 /// wl_shm tells its formats, wl_output its geometry and its mode, wl_seat that it has a pointer, and the others nothing.
-#[test]
-fn bound_objects_tell_what_they_are(rt: HostRuntime) -> Result<(), Fail> {
-    let session = with_all_globals(rt.alloc())?;
-    assert_eq!(rt; session.status(1), Fed::Alive);
-    let mut told = Vec::new(rt.alloc());
-    put(&mut told, 5, 0, &[Arg::Uint(0)])?;
-    put(&mut told, 5, 0, &[Arg::Uint(1)])?;
-    put_geometry(&mut told, 6)?;
-    put(
-        &mut told,
-        6,
-        1,
-        &[Arg::Uint(3), Arg::Int(64), Arg::Int(48), Arg::Int(0)],
-    )?;
-    put(&mut told, 7, 0, &[Arg::Uint(1)])?;
-    assert!(rt; has_out(&session, &told));
-    Ok(())
-}
+const OBJECTS_TOLD: &[Row] = &[
+    Row::Is(1, Fed::Alive),
+    Row::Told(&[
+        Message(5, 0, &[Arg::Uint(0)]),
+        Message(5, 0, &[Arg::Uint(1)]),
+        Message(
+            6,
+            0,
+            &[
+                Arg::Int(0),
+                Arg::Int(0),
+                Arg::Int(0),
+                Arg::Int(0),
+                Arg::Int(0),
+                Arg::Str(b"wlframe"),
+                Arg::Str(b"framebuffer"),
+                Arg::Int(0),
+            ],
+        ),
+        Message(
+            6,
+            1,
+            &[Arg::Uint(3), Arg::Int(64), Arg::Int(48), Arg::Int(0)],
+        ),
+        Message(7, 0, &[Arg::Uint(1)]),
+    ]),
+];
 
-/// How a client is that binds so.
-fn bound(alloc: Global, name: u32, interface: &[u8], version: u32) -> Result<Fed, Fail> {
-    let mut session = with_registry(alloc)?;
-    bind(alloc, &mut session, name, interface, version, 3)
-}
+/// The versions of wl_compositor that are bound, and others.
+const VERSIONS: &[Row] = &[
+    Row::Binds(1, b"wl_compositor", 0, 3, INVALID_OBJECT),
+    Row::Binds(1, b"wl_compositor", 1, 3, Fed::Alive),
+    Row::Binds(1, b"wl_compositor", 2, 3, Fed::Alive),
+    Row::Binds(1, b"wl_compositor", 3, 3, INVALID_OBJECT),
+    Row::Binds(1, b"wl_compositor", 5, 3, INVALID_OBJECT),
+];
 
-#[test]
-fn only_a_version_of_the_global_is_bound(rt: HostRuntime) -> Result<(), Fail> {
-    assert_eq!(rt; bound(rt.alloc(), 1, b"wl_compositor", 0)?, protocol(1, 0));
-    assert_eq!(rt; bound(rt.alloc(), 1, b"wl_compositor", 1)?, Fed::Alive);
-    assert_eq!(rt; bound(rt.alloc(), 1, b"wl_compositor", 2)?, Fed::Alive);
-    assert_eq!(rt; bound(rt.alloc(), 1, b"wl_compositor", 3)?, protocol(1, 0));
-    assert_eq!(rt; bound(rt.alloc(), 1, b"wl_compositor", 5)?, protocol(1, 0));
-    Ok(())
-}
+const WRONG_NAMES: &[Row] = &[
+    Row::Binds(2, b"wl_compositor", 1, 3, INVALID_OBJECT),
+    Row::Binds(0, b"wl_compositor", 1, 3, INVALID_OBJECT),
+    Row::Binds(7, b"xdg_wm_base", 1, 3, INVALID_OBJECT),
+    Row::Binds(5, b"wl_sea", 1, 3, INVALID_OBJECT),
+    Row::Binds(5, b"wl_seat\0", 1, 3, INVALID_OBJECT),
+];
 
-#[test]
-fn only_the_name_of_the_global_is_bound(rt: HostRuntime) -> Result<(), Fail> {
-    assert_eq!(rt; bound(rt.alloc(), 2, b"wl_compositor", 1)?, protocol(1, 0));
-    assert_eq!(rt; bound(rt.alloc(), 0, b"wl_compositor", 1)?, protocol(1, 0));
-    assert_eq!(rt; bound(rt.alloc(), 7, b"xdg_wm_base", 1)?, protocol(1, 0));
-    assert_eq!(rt; bound(rt.alloc(), 5, b"wl_sea", 1)?, protocol(1, 0));
-    assert_eq!(rt; bound(rt.alloc(), 5, b"wl_seat\0", 1)?, protocol(1, 0));
-    Ok(())
-}
+const WORD_TOO_MANY: &[Row] = &[
+    Row::Errs(Message(1, 0, &[Arg::NewId(2), Arg::Uint(0)]), 1, 1),
+    Row::ErrorTold(1, 1, b"invalid_method"),
+];
 
-#[test]
-fn a_word_too_many_is_refused(rt: HostRuntime) -> Result<(), Fail> {
-    let mut session = one_client(rt.alloc())?;
-    let fed = send(
-        rt.alloc(),
-        &mut session,
-        1,
-        0,
-        &[Arg::NewId(2), Arg::Uint(0)],
-    )?;
-    assert_eq!(rt; fed, protocol(1, 1));
-    assert!(rt; has_out(&session, &error_bytes(rt.alloc(), 1, 1, b"invalid_method")?));
-    Ok(())
-}
-
-#[test]
-fn an_unknown_object_is_refused(rt: HostRuntime) -> Result<(), Fail> {
-    let mut session = one_client(rt.alloc())?;
-    let fed = send(rt.alloc(), &mut session, 7, 0, &[Arg::NewId(2)])?;
-    assert_eq!(rt; fed, protocol(1, 0));
-    assert!(rt; has_out(&session, &error_bytes(rt.alloc(), 1, 0, b"invalid_object")?));
-    Ok(())
-}
-
-/// How a client with an object of each global is after one more message.
-fn after(alloc: Global, object: u32, opcode: u16, args: &[Arg]) -> Result<Fed, Fail> {
-    let mut session = with_all_globals(alloc)?;
-    send(alloc, &mut session, object, opcode, args)
-}
+const UNKNOWN_OBJECT: &[Row] = &[
+    Row::Errs(Message(7, 0, &[Arg::NewId(2)]), 1, 0),
+    Row::ErrorTold(1, 0, b"invalid_object"),
+];
 
 /// An unknown object goes before an unknown opcode, and that before the arguments.
-#[test]
-fn objects_and_opcodes_are_looked_at_first(rt: HostRuntime) -> Result<(), Fail> {
-    assert_eq!(rt; after(rt.alloc(), 9, 99, &[])?, protocol(1, 0));
-    assert_eq!(rt; after(rt.alloc(), 2, 1, &[Arg::NewId(2)])?, protocol(1, 1));
-    assert_eq!(rt; after(rt.alloc(), 6, 0, &[])?, protocol(1, 1));
-    Ok(())
-}
+const OBJECTS_AND_OPCODES: &[Row] = &[
+    Row::Errs(Message(9, 99, &[]), 1, 0),
+    Row::Errs(Message(2, 1, &[Arg::NewId(2)]), 1, 1),
+    Row::Errs(Message(6, 0, &[]), 1, 1),
+];
 
-/// Arguments, and the objects that they name, go before a new id that is in use.
-#[test]
-fn arguments_are_looked_at_before_new_ids(rt: HostRuntime) -> Result<(), Fail> {
-    assert_eq!(rt; after(rt.alloc(), 1, 1, &[])?, protocol(1, 1));
-    let null_string = [Arg::Uint(1), Arg::Uint(0), Arg::Uint(1), Arg::NewId(2)];
-    assert_eq!(rt; after(rt.alloc(), 2, 0, &null_string)?, protocol(1, 1));
-    let unknown = [Arg::NewId(2), Arg::Object(9), Arg::Object(9)];
-    assert_eq!(rt; after(rt.alloc(), 4, 1, &unknown)?, protocol(1, 1));
-    let of_another_interface = [Arg::NewId(2), Arg::Object(3)];
-    assert_eq!(rt;
-        after(rt.alloc(), 8, 2, &of_another_interface)?,
-        protocol(1, 1)
-    );
-    let null = [Arg::NewId(9), Arg::Object(0)];
-    assert_eq!(rt; after(rt.alloc(), 8, 2, &null)?, protocol(1, 1));
-    Ok(())
-}
+/// Arguments, and the objects that they name, go before a new id that is in use: no argument, a null text, objects that aren't
+/// there, an object of another interface, and a null object.
+const ARGUMENTS: &[Row] = &[
+    Row::Errs(Message(1, 1, &[]), 1, 1),
+    Row::Errs(
+        Message(
+            2,
+            0,
+            &[Arg::Uint(1), Arg::Uint(0), Arg::Uint(1), Arg::NewId(2)],
+        ),
+        1,
+        1,
+    ),
+    Row::Errs(
+        Message(4, 1, &[Arg::NewId(2), Arg::Object(9), Arg::Object(9)]),
+        1,
+        1,
+    ),
+    Row::Errs(Message(8, 2, &[Arg::NewId(2), Arg::Object(3)]), 1, 1),
+    Row::Errs(Message(8, 2, &[Arg::NewId(9), Arg::Object(0)]), 1, 1),
+];
 
 /// A new id that is in use goes before what isn't served and before the request's own errors.
-#[test]
-fn new_ids_are_looked_at_before_own_errors(rt: HostRuntime) -> Result<(), Fail> {
-    assert_eq!(rt; after(rt.alloc(), 3, 0, &[Arg::NewId(2)])?, protocol(1, 0));
-    assert_eq!(rt; after(rt.alloc(), 7, 1, &[Arg::NewId(2)])?, protocol(1, 0));
-    Ok(())
-}
+const NEW_IDS: &[Row] = &[
+    Row::Errs(Message(3, 0, &[Arg::NewId(2)]), 1, 0),
+    Row::Errs(Message(7, 1, &[Arg::NewId(2)]), 1, 0),
+];
 
-#[test]
-fn a_seat_has_no_keyboard_and_no_touch(rt: HostRuntime) -> Result<(), Fail> {
-    assert_eq!(rt; after(rt.alloc(), 7, 1, &[Arg::NewId(9)])?, protocol(7, 0));
-    assert_eq!(rt; after(rt.alloc(), 7, 2, &[Arg::NewId(9)])?, protocol(7, 0));
-    let mut session = with_all_globals(rt.alloc())?;
-    take_all(&mut session);
-    send(rt.alloc(), &mut session, 7, 1, &[Arg::NewId(9)])?;
-    assert!(rt;
-        has_out(
-            &session,
-            &error_bytes(rt.alloc(), 7, 0, b"missing_capability")?
-        )
-    );
-    Ok(())
-}
+const KEYBOARD_AND_TOUCH: &[Row] = &[
+    Row::Errs(Message(7, 1, &[Arg::NewId(9)]), 7, 0),
+    Row::Errs(Message(7, 2, &[Arg::NewId(9)]), 7, 0),
+];
 
-#[test]
-fn what_is_not_served_is_refused_as_a_limit(rt: HostRuntime) -> Result<(), Fail> {
-    assert_eq!(rt; after(rt.alloc(), 3, 0, &[Arg::NewId(9)])?, protocol(1, 3));
-    assert_eq!(rt; after(rt.alloc(), 7, 0, &[Arg::NewId(9)])?, protocol(1, 3));
-    assert_eq!(rt; after(rt.alloc(), 8, 0, &[])?, protocol(1, 3));
-    Ok(())
-}
+const KEYBOARD: &[Row] = &[
+    Row::Takes,
+    Row::Errs(Message(7, 1, &[Arg::NewId(9)]), 7, 0),
+    Row::ErrorTold(7, 0, b"missing_capability"),
+];
 
-/// 43,690 syncs leave 1,048,560 bytes. Then there is room for wl_callback.done, and none for wl_display.delete_id.
-#[test]
-fn a_client_that_reads_nothing_is_too_slow(rt: HostRuntime) -> Result<(), Fail> {
-    let mut session = one_client(rt.alloc())?;
-    let sync = message(rt.alloc(), 1, 0, &[Arg::NewId(2)])?;
-    for _ in 0..43_690_u32 {
-        session.feed(1, &sync);
-    }
-    assert_eq!(rt; session.status(1), Fed::Alive);
-    assert_eq!(rt; waiting(&session), 1_048_560);
-    assert_eq!(rt; session.feed(1, &sync), Fed::Ended(Cause::Slow));
-    assert_eq!(rt; waiting(&session), 1_048_572);
-    assert_eq!(rt; session.feed(1, &sync), Fed::Ended(Cause::Slow));
-    assert_eq!(rt; waiting(&session), 1_048_572);
-    Ok(())
-}
+const NOT_SERVED: &[Row] = &[
+    Row::Errs(Message(3, 0, &[Arg::NewId(9)]), 1, 3),
+    Row::Errs(Message(7, 0, &[Arg::NewId(9)]), 1, 3),
+    Row::Errs(Message(8, 0, &[]), 1, 3),
+];
+
+const TOO_SLOW: Done = Done::Feed(Fed::Ended(Cause::Slow));
+
+/// 43,690 syncs leave 1,048,560 bytes.
+const UNREAD: &[Row] = &[
+    Row::Syncs(43_690),
+    Row::Is(1, Fed::Alive),
+    Row::Waiting(1_048_560),
+];
+
+/// There is room for wl_callback.done, and none for wl_display.delete_id.
+const READS_NOTHING: &[Row] = &[
+    Row::Calls(
+        Step::Feed {
+            client: 1,
+            piece: SYNC,
+        },
+        TOO_SLOW,
+    ),
+    Row::Waiting(1_048_572),
+    Row::Calls(
+        Step::Feed {
+            client: 1,
+            piece: SYNC,
+        },
+        TOO_SLOW,
+    ),
+    Row::Waiting(1_048_572),
+];
 
 /// Where there is no room for the error event, the client ends as too slow.
-#[test]
-fn an_error_that_has_no_room_ends_as_slow(rt: HostRuntime) -> Result<(), Fail> {
-    let mut session = one_client(rt.alloc())?;
-    let sync = message(rt.alloc(), 1, 0, &[Arg::NewId(2)])?;
-    for _ in 0..43_690_u32 {
-        session.feed(1, &sync);
-    }
-    let fed = send(rt.alloc(), &mut session, 7, 0, &[])?;
-    assert_eq!(rt; fed, Fed::Ended(Cause::Slow));
-    assert_eq!(rt; waiting(&session), 1_048_560);
-    Ok(())
-}
+const NO_ROOM: &[Row] = &[
+    Row::Calls(
+        Step::Feed {
+            client: 1,
+            piece: &[7, 0, 0, 0, 0, 0, 8, 0],
+        },
+        TOO_SLOW,
+    ),
+    Row::Waiting(1_048_560),
+];
 
-/// A client with 8,192 objects: wl_display, the registry 2, the seat 3, and compositors.
-fn with_all_objects(alloc: Global) -> Result<Session<Global>, Fail> {
-    let mut session = with_registry(alloc)?;
-    bind(alloc, &mut session, 5, b"wl_seat", 1, 3)?;
-    for id in 4..8_193_u32 {
-        bind(alloc, &mut session, 1, b"wl_compositor", 2, id)?;
-    }
-    take_all(&mut session);
-    Ok(session)
-}
-
-/// How a client with 8,192 objects is after one more message.
-fn after_all(alloc: Global, object: u32, opcode: u16, args: &[Arg]) -> Result<Fed, Fail> {
-    let mut session = with_all_objects(alloc)?;
-    send(alloc, &mut session, object, opcode, args)
-}
+/// The client has 8,192 objects: wl_display, the registry 2, the seat 3, and compositors.
+const FULL: &[Row] = &[
+    Row::Binds(5, b"wl_seat", 1, 3, Fed::Alive),
+    Row::BindsCompositors(4, 8_193),
+    Row::Is(1, Fed::Alive),
+    Row::Takes,
+];
 
 /// The limit on objects is looked at before the request's own errors: of a sync, a wl_seat.get_keyboard, and a bind of a
 /// global that isn't there.
-#[test]
-fn the_limit_on_objects_goes_before_own_errors(rt: HostRuntime) -> Result<(), Fail> {
-    assert_eq!(rt; with_all_objects(rt.alloc())?.status(1), Fed::Alive);
-    assert_eq!(rt;
-        after_all(rt.alloc(), 1, 0, &[Arg::NewId(9000)])?,
-        protocol(1, 3)
-    );
-    assert_eq!(rt;
-        after_all(rt.alloc(), 3, 1, &[Arg::NewId(9000)])?,
-        protocol(1, 3)
-    );
-    let wrong = [
-        Arg::Uint(9),
-        Arg::Str(b"wl_compositor"),
-        Arg::Uint(2),
-        Arg::NewId(9000),
-    ];
-    assert_eq!(rt; after_all(rt.alloc(), 2, 0, &wrong)?, protocol(1, 3));
-    Ok(())
-}
+const OBJECT_8193: &[Row] = &[
+    Row::Errs(Message(1, 0, &[Arg::NewId(9000)]), 1, 3),
+    Row::Errs(Message(3, 1, &[Arg::NewId(9000)]), 1, 3),
+    Row::Errs(
+        Message(
+            2,
+            0,
+            &[
+                Arg::Uint(9),
+                Arg::Str(b"wl_compositor"),
+                Arg::Uint(2),
+                Arg::NewId(9000),
+            ],
+        ),
+        1,
+        3,
+    ),
+];
 
-#[test]
-fn no_client_has_8193_objects(rt: HostRuntime) -> Result<(), Fail> {
-    let mut session = one_client(rt.alloc())?;
-    for id in 2..8_193_u32 {
-        get_registry(rt.alloc(), &mut session, id)?;
-        take_all(&mut session);
-    }
-    assert_eq!(rt; session.status(1), Fed::Alive);
-    assert_eq!(rt;
-        get_registry(rt.alloc(), &mut session, 8_193)?,
-        protocol(1, 3)
-    );
-    assert!(rt; has_out(&session, &error_bytes(rt.alloc(), 1, 3, b"implementation")?));
-    Ok(())
-}
+const REGISTRY_8193: &[Row] = &[
+    Row::GetsRegistries(2, 8_193),
+    Row::Is(1, Fed::Alive),
+    Row::Errs(Message(1, 1, &[Arg::NewId(8_193)]), 1, 3),
+    Row::ErrorTold(1, 3, b"implementation"),
+];
 
 /// The id of a sync's callback is free again once it was given back.
-#[test]
-fn an_id_is_used_again(rt: HostRuntime) -> Result<(), Fail> {
-    let mut session = one_client(rt.alloc())?;
-    assert_eq!(rt;
-        send(rt.alloc(), &mut session, 1, 0, &[Arg::NewId(2)])?,
-        Fed::Alive
-    );
-    assert_eq!(rt; get_registry(rt.alloc(), &mut session, 2)?, Fed::Alive);
-    assert_eq!(rt;
-        send(rt.alloc(), &mut session, 1, 0, &[Arg::NewId(3)])?,
-        Fed::Alive
-    );
-    assert_eq!(rt;
-        send(rt.alloc(), &mut session, 1, 0, &[Arg::NewId(2)])?,
-        protocol(1, 0)
-    );
-    Ok(())
-}
+const USED_AGAIN: &[Row] = &[
+    Row::Sends(Message(1, 0, &[Arg::NewId(2)])),
+    Row::Sends(Message(1, 1, &[Arg::NewId(2)])),
+    Row::Sends(Message(1, 0, &[Arg::NewId(3)])),
+    Row::Errs(Message(1, 0, &[Arg::NewId(2)]), 1, 0),
+];
 
 /// A client's error ends that client alone: another keeps its objects and its bytes.
+const ANOTHER_ERRS: &[Row] = &[
+    Row::Binds(3, b"wl_shm", 1, 4, Fed::Alive),
+    Row::Calls(Step::Connect, Done::Connect(Ok(2))),
+    Row::Calls(
+        Step::Feed {
+            client: 2,
+            piece: &[7, 0, 0, 0, 0, 0, 8, 0],
+        },
+        Done::Feed(Fed::Ended(Cause::Protocol { object: 1, code: 0 })),
+    ),
+    Row::Is(1, Fed::Alive),
+    Row::Waiting(24),
+    Row::Binds(5, b"wl_seat", 1, 5, Fed::Alive),
+    Row::Waiting(36),
+    Row::Errs(
+        Message(
+            2,
+            0,
+            &[
+                Arg::Uint(5),
+                Arg::Str(b"wl_seat"),
+                Arg::Uint(1),
+                Arg::NewId(4),
+            ],
+        ),
+        1,
+        0,
+    ),
+];
+
+const CASES: &[Case] = &[
+    ("a registry tells the globals", &[CLIENT, GLOBALS_TOLD]),
+    (
+        "bound objects tell what they are",
+        &[REGISTRY, ALL_GLOBALS, OBJECTS_TOLD],
+    ),
+    ("a word too many is refused", &[CLIENT, WORD_TOO_MANY]),
+    ("an unknown object is refused", &[CLIENT, UNKNOWN_OBJECT]),
+    ("an id is used again", &[CLIENT, USED_AGAIN]),
+    ("an error ends its sender alone", &[REGISTRY, ANOTHER_ERRS]),
+    ("a seat has no keyboard", &[REGISTRY, ALL_GLOBALS, KEYBOARD]),
+    (
+        "a client that reads nothing is too slow",
+        &[CLIENT, UNREAD, READS_NOTHING],
+    ),
+    (
+        "an error that has no room ends as slow",
+        &[CLIENT, UNREAD, NO_ROOM],
+    ),
+    ("no client has 8193 objects", &[CLIENT, REGISTRY_8193]),
+];
+
 #[test]
-fn an_error_ends_its_sender_alone(rt: HostRuntime) -> Result<(), Fail> {
-    let mut session = with_registry(rt.alloc())?;
-    bind(rt.alloc(), &mut session, 3, b"wl_shm", 1, 4)?;
-    assert_eq!(rt; session.connect(), Ok(2));
-    let unknown = message(rt.alloc(), 7, 0, &[])?;
-    assert_eq!(rt; session.feed(2, &unknown), protocol(1, 0));
-    assert_eq!(rt; session.status(1), Fed::Alive);
-    assert_eq!(rt; waiting(&session), 24);
-    assert_eq!(rt;
-        bind(rt.alloc(), &mut session, 5, b"wl_seat", 1, 5)?,
-        Fed::Alive
-    );
-    assert_eq!(rt; waiting(&session), 36);
-    assert_eq!(rt;
-        bind(rt.alloc(), &mut session, 5, b"wl_seat", 1, 4)?,
-        protocol(1, 0)
-    );
-    Ok(())
+fn registries_are_as_worked(rt: HostRuntime) {
+    for &(name, parts) in CASES {
+        assert_eq!(rt; play(rt.alloc(), parts), Ok(()), "{name}");
+    }
+}
+
+/// Rows that are each played in a session of their own, by the name of the case and after its parts.
+const ROWS: &[(Case, &[Row])] = &[
+    (
+        ("only a version of the global is bound", &[REGISTRY]),
+        VERSIONS,
+    ),
+    (
+        ("only the name of the global is bound", &[REGISTRY]),
+        WRONG_NAMES,
+    ),
+    (
+        (
+            "objects and opcodes are looked at first",
+            &[REGISTRY, ALL_GLOBALS],
+        ),
+        OBJECTS_AND_OPCODES,
+    ),
+    (
+        (
+            "arguments are looked at before new ids",
+            &[REGISTRY, ALL_GLOBALS],
+        ),
+        ARGUMENTS,
+    ),
+    (
+        (
+            "new ids are looked at before own errors",
+            &[REGISTRY, ALL_GLOBALS],
+        ),
+        NEW_IDS,
+    ),
+    (
+        (
+            "a seat has no keyboard and no touch",
+            &[REGISTRY, ALL_GLOBALS],
+        ),
+        KEYBOARD_AND_TOUCH,
+    ),
+    (
+        (
+            "what is not served is refused as a limit",
+            &[REGISTRY, ALL_GLOBALS],
+        ),
+        NOT_SERVED,
+    ),
+    (
+        (
+            "the limit on objects goes before own errors",
+            &[REGISTRY, FULL],
+        ),
+        OBJECT_8193,
+    ),
+];
+
+#[test]
+fn messages_are_refused_in_order(rt: HostRuntime) {
+    for &((name, parts), rows) in ROWS {
+        for row in rows {
+            assert_eq!(rt; play_row(rt.alloc(), parts, row), Ok(()), "{name}");
+        }
+    }
 }

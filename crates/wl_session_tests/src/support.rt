@@ -1,8 +1,7 @@
-//! A client and its messages.
+//! Sessions as tables: rows of what is done in a session, or of how it is, each with what is wanted of it.
 
-use std::alloc::{Allocator, Global};
-use std::test::Fail;
-use wl_session::{Cause, Config, Fed, Rgb, Session};
+use std::alloc::Global;
+use wl_session::{Cause, Config, Done, Fed, Rgb, Session, Step};
 use wl_wire::{Arg, put};
 
 pub(crate) const CONFIG: Config = Config {
@@ -11,106 +10,318 @@ pub(crate) const CONFIG: Config = Config {
     background: Rgb { r: 0, g: 0, b: 0 },
 };
 
-pub(crate) fn one_client(alloc: Global) -> Result<Session<Global>, Fail> {
-    let mut session = Session::new(alloc, CONFIG)?;
-    session.connect()?;
-    Ok(session)
+/// A message: the object that it is to or from, its opcode and its arguments.
+#[derive(Clone, Copy)]
+pub(crate) struct Message<'a>(pub u32, pub u16, pub &'a [Arg<'a>]);
+
+/// Something that is done in a session, or how the session is, with what is wanted of it.
+#[derive(Clone, Copy)]
+pub(crate) enum Row<'a> {
+    /// A step, made by its own call, and its answer.
+    Calls(Step<'a>, Done),
+    /// A step, made by `step`, and its answer.
+    Steps(Step<'a>, Done),
+    /// The client 1 sends a message and lives on.
+    Sends(Message<'a>),
+    /// The client 1 binds by its registry 2: a global's name, interface and version, and the new id. How the client is afterwards.
+    Binds(u32, &'a [u8], u32, u32, Fed),
+    /// The client 1 sends a message, and ends by an error of this object and code.
+    Errs(Message<'a>, u32, u32),
+    /// A piece of the client 1 comes byte by byte. Nothing waits for it before each byte, and it lives on.
+    Drips(&'a [u8]),
+    /// The client 1 sends so many syncs with the new callback 2.
+    Syncs(u32),
+    /// Clients connect with the numbers from the one to before the other.
+    Connects(u32, u32),
+    /// The client 1 gets registries with these ids, and takes what waits.
+    GetsRegistries(u32, u32),
+    /// The client 1 binds compositors with these ids by its registry 2.
+    BindsCompositors(u32, u32),
+    /// The client 1 makes pools of one byte with these ids by its wl_shm 4, and lives on.
+    MakesPools(u32, u32),
+    /// The client 1 sends two messages by turns, each so many times, and lives on.
+    Changes(u32, Message<'a>, Message<'a>),
+    /// All that waits for the client 1 is taken.
+    Takes,
+    /// How a client is.
+    Is(u32, Fed),
+    /// The bytes that wait for a client. None where no client has the number.
+    Waits(u32, Option<&'a [u8]>),
+    /// The first bytes that wait for the client 1.
+    Starts(&'a [u8]),
+    /// The messages that wait for the client 1.
+    Told(&'a [Message<'a>]),
+    /// The one wl_display.error, of this object, code and text, that waits for the client 1.
+    ErrorTold(u32, u32, &'a [u8]),
+    /// How many bytes wait for the client 1.
+    Waiting(usize),
+    /// How many bytes a client's store has, by their numbers.
+    Store(u32, u32, Option<u32>),
 }
 
-pub(crate) fn protocol(object: u32, code: u32) -> Fed {
+/// What wasn't as wanted.
+#[derive(Clone, Copy, Debug, PartialEq, Eq)]
+pub(crate) enum Fault {
+    NoSession,
+    /// A row, by its part and its place there.
+    Row(usize, usize),
+}
+
+/// A client connects as the first.
+pub(crate) const CLIENT: &[Row] = &[Row::Calls(Step::Connect, Done::Connect(Ok(1)))];
+
+/// A client with the registry 2, whose globals were sent.
+pub(crate) const REGISTRY: &[Row] = &[
+    Row::Calls(Step::Connect, Done::Connect(Ok(1))),
+    Row::Sends(Message(1, 1, &[Arg::NewId(2)])),
+    Row::Takes,
+];
+
+/// How a client is after wl_display.error of wl_display with invalid_object.
+pub(crate) const INVALID_OBJECT: Fed = Fed::Ended(Cause::Protocol { object: 1, code: 0 });
+
+fn protocol(object: u32, code: u32) -> Fed {
     Fed::Ended(Cause::Protocol { object, code })
 }
 
-/// One message.
-pub(crate) fn message(
-    alloc: Global,
-    object: u32,
-    opcode: u16,
-    args: &[Arg],
-) -> Result<Vec<u8, Global>, Fail> {
+/// The bytes of messages. None where there is no memory for them.
+pub(crate) fn bytes_of(alloc: Global, messages: &[Message]) -> Option<Vec<u8, Global>> {
     let mut bytes = Vec::new(alloc);
-    put(&mut bytes, object, opcode, args)?;
-    Ok(bytes)
+    for &Message(object, opcode, args) in messages {
+        match put(&mut bytes, object, opcode, args) {
+            Ok(()) => {}
+            Err(_) => return None,
+        }
+    }
+    Some(bytes)
 }
 
-pub(crate) fn send(
-    alloc: Global,
-    session: &mut Session<Global>,
-    object: u32,
-    opcode: u16,
-    args: &[Arg],
-) -> Result<Fed, Fail> {
-    let bytes = message(alloc, object, opcode, args)?;
-    Ok(session.feed(1, &bytes))
+/// How the client 1 is after a message. None where there is no memory for its bytes.
+fn sent(alloc: Global, session: &mut Session<Global>, message: Message) -> Option<Fed> {
+    let bytes = bytes_of(alloc, &[message])?;
+    Some(session.feed(1, &bytes))
 }
 
-/// wl_registry.bind by the registry 2.
-pub(crate) fn bind(
+/// How the client 1 is after wl_registry.bind by its registry 2.
+fn bind(
     alloc: Global,
     session: &mut Session<Global>,
     name: u32,
     interface: &[u8],
     version: u32,
     id: u32,
-) -> Result<Fed, Fail> {
+) -> Option<Fed> {
     let args = [
         Arg::Uint(name),
         Arg::Str(interface),
         Arg::Uint(version),
         Arg::NewId(id),
     ];
-    send(alloc, session, 2, 0, &args)
+    sent(alloc, session, Message(2, 0, &args))
 }
 
-/// wl_display.get_registry.
-pub(crate) fn get_registry(
-    alloc: Global,
-    session: &mut Session<Global>,
-    id: u32,
-) -> Result<Fed, Fail> {
-    send(alloc, session, 1, 1, &[Arg::NewId(id)])
-}
-
-/// A client with the registry 2, whose globals were sent.
-pub(crate) fn with_registry(alloc: Global) -> Result<Session<Global>, Fail> {
-    let mut session = one_client(alloc)?;
-    get_registry(alloc, &mut session, 2)?;
-    take_all(&mut session);
-    Ok(session)
-}
-
-pub(crate) fn waiting<A: Allocator + Copy>(session: &Session<A>) -> usize {
+fn waiting(session: &Session<Global>) -> usize {
     session.out(1).map_or(0, |out| out.len())
 }
 
-pub(crate) fn take_all(session: &mut Session<Global>) {
+fn take_all(session: &mut Session<Global>) -> bool {
     let count = waiting(session);
-    session.sent(1, count);
+    session.sent(1, count)
 }
 
-pub(crate) fn has_out<A: Allocator + Copy>(session: &Session<A>, bytes: &[u8]) -> bool {
-    match session.out(1) {
+pub(crate) fn has_out(session: &Session<Global>, client: u32, bytes: &[u8]) -> bool {
+    match session.out(client) {
         Some(out) => out == bytes,
         None => false,
     }
 }
 
-/// The bytes of wl_display.error.
-pub(crate) fn error_bytes(
-    alloc: Global,
-    object: u32,
-    code: u32,
-    name: &[u8],
-) -> Result<Vec<u8, Global>, Fail> {
-    message(
-        alloc,
-        1,
-        0,
-        &[Arg::Object(object), Arg::Uint(code), Arg::Str(name)],
-    )
+fn is_told(alloc: Global, session: &Session<Global>, messages: &[Message]) -> bool {
+    match bytes_of(alloc, messages) {
+        Some(bytes) => has_out(session, 1, &bytes),
+        None => false,
+    }
 }
 
-/// The bytes of wl_display.delete_id.
-pub(crate) fn deletion_bytes(alloc: Global, id: u32) -> Result<Vec<u8, Global>, Fail> {
-    message(alloc, 1, 1, &[Arg::Uint(id)])
+fn is_error_told(
+    alloc: Global,
+    session: &Session<Global>,
+    object: u32,
+    code: u32,
+    text: &[u8],
+) -> bool {
+    let args = [Arg::Object(object), Arg::Uint(code), Arg::Str(text)];
+    is_told(alloc, session, &[Message(1, 0, &args)])
+}
+
+/// Makes a step by its own call.
+fn called(session: &mut Session<Global>, step: &Step) -> Done {
+    match *step {
+        Step::Connect => Done::Connect(session.connect()),
+        Step::Feed { client, piece } => Done::Feed(session.feed(client, piece)),
+        Step::Store {
+            client,
+            store,
+            at,
+            bytes,
+        } => Done::Store(session.store(client, store, at, bytes)),
+        Step::Gone { client } => Done::Gone(session.gone(client)),
+        Step::Tick { time } => {
+            let _ = session.tick(time);
+            Done::Tick
+        }
+        Step::Sent { client, count } => Done::Sent(session.sent(client, count)),
+        Step::Close { client } => Done::Close(session.close(client)),
+    }
+}
+
+fn drip(session: &mut Session<Global>, piece: &[u8]) -> bool {
+    for byte in piece {
+        if !has_out(session, 1, &[]) || session.feed(1, &[*byte]) != Fed::Alive {
+            return false;
+        }
+    }
+    true
+}
+
+/// wl_display.sync with the new callback 2.
+pub(crate) const SYNC: &[u8] = &[1, 0, 0, 0, 0, 0, 12, 0, 2, 0, 0, 0];
+
+fn sync(session: &mut Session<Global>, count: u32) -> bool {
+    for _ in 0..count {
+        session.feed(1, SYNC);
+    }
+    true
+}
+
+fn connect(session: &mut Session<Global>, first: u32, past: u32) -> bool {
+    for number in first..past {
+        if session.connect() != Ok(number) {
+            return false;
+        }
+    }
+    true
+}
+
+fn get_registries(alloc: Global, session: &mut Session<Global>, first: u32, past: u32) -> bool {
+    for id in first..past {
+        sent(alloc, session, Message(1, 1, &[Arg::NewId(id)]));
+        take_all(session);
+    }
+    true
+}
+
+fn bind_compositors(alloc: Global, session: &mut Session<Global>, first: u32, past: u32) -> bool {
+    for id in first..past {
+        bind(alloc, session, 1, b"wl_compositor", 2, id);
+    }
+    true
+}
+
+fn make_pools(alloc: Global, session: &mut Session<Global>, first: u32, past: u32) -> bool {
+    for id in first..past {
+        let made = sent(
+            alloc,
+            session,
+            Message(4, 0, &[Arg::NewId(id), Arg::Int(1)]),
+        );
+        if made != Some(Fed::Alive) {
+            return false;
+        }
+    }
+    true
+}
+
+fn change(alloc: Global, session: &mut Session<Global>, count: u32, messages: &[Message]) -> bool {
+    for _ in 0..count {
+        for &message in messages {
+            if sent(alloc, session, message) != Some(Fed::Alive) {
+                return false;
+            }
+        }
+    }
+    true
+}
+
+/// Does what a row says, and tells whether it is as wanted.
+fn is_met(alloc: Global, session: &mut Session<Global>, row: &Row) -> bool {
+    match *row {
+        Row::Calls(step, wanted) => called(session, &step) == wanted,
+        Row::Steps(step, wanted) => session.step(&step) == wanted,
+        Row::Sends(message) => sent(alloc, session, message) == Some(Fed::Alive),
+        Row::Binds(name, interface, version, id, fed) => {
+            bind(alloc, session, name, interface, version, id) == Some(fed)
+        }
+        Row::Errs(message, object, code) => {
+            sent(alloc, session, message) == Some(protocol(object, code))
+        }
+        Row::Drips(piece) => drip(session, piece),
+        Row::Syncs(count) => sync(session, count),
+        Row::Connects(first, past) => connect(session, first, past),
+        Row::GetsRegistries(first, past) => get_registries(alloc, session, first, past),
+        Row::BindsCompositors(first, past) => bind_compositors(alloc, session, first, past),
+        Row::MakesPools(first, past) => make_pools(alloc, session, first, past),
+        Row::Changes(count, one, other) => change(alloc, session, count, &[one, other]),
+        Row::Takes => take_all(session),
+        Row::Is(client, wanted) => session.status(client) == wanted,
+        Row::Waits(client, Some(bytes)) => has_out(session, client, bytes),
+        Row::Waits(client, None) => session.out(client).is_none(),
+        Row::Starts(bytes) => session.out(1).unwrap_or(&[]).starts_with(bytes),
+        Row::Told(messages) => is_told(alloc, session, messages),
+        Row::ErrorTold(object, code, text) => is_error_told(alloc, session, object, code, text),
+        Row::Waiting(count) => waiting(session) == count,
+        Row::Store(client, store, wanted) => session.store_size(client, store) == wanted,
+    }
+}
+
+/// The place of the first row that isn't as wanted.
+fn first_missed(alloc: Global, session: &mut Session<Global>, rows: &[Row]) -> Option<usize> {
+    for (place, row) in rows.iter().enumerate() {
+        if !is_met(alloc, session, row) {
+            return Some(place);
+        }
+    }
+    None
+}
+
+fn play_in(alloc: Global, session: &mut Session<Global>, parts: &[&[Row]]) -> Result<(), Fault> {
+    for (part, rows) in parts.iter().enumerate() {
+        if let Some(place) = first_missed(alloc, session, rows) {
+            return Err(Fault::Row(part, place));
+        }
+    }
+    Ok(())
+}
+
+/// A case: its name, and the parts of rows that are played in turn in a session of its own.
+pub(crate) type Case<'a> = (&'a str, &'a [&'a [Row<'a>]]);
+
+/// Plays the parts of a case.
+pub(crate) fn play(alloc: Global, parts: &[&[Row]]) -> Result<(), Fault> {
+    match Session::new(alloc, CONFIG) {
+        Ok(mut session) => play_in(alloc, &mut session, parts),
+        Err(_) => Err(Fault::NoSession),
+    }
+}
+
+fn play_row_in(
+    alloc: Global,
+    session: &mut Session<Global>,
+    parts: &[&[Row]],
+    row: &Row,
+) -> Result<(), Fault> {
+    play_in(alloc, session, parts)?;
+    if is_met(alloc, session, row) {
+        Ok(())
+    } else {
+        Err(Fault::Row(parts.len(), 0))
+    }
+}
+
+/// Plays the parts of a case, and then a row.
+pub(crate) fn play_row(alloc: Global, parts: &[&[Row]], row: &Row) -> Result<(), Fault> {
+    match Session::new(alloc, CONFIG) {
+        Ok(mut session) => play_row_in(alloc, &mut session, parts, row),
+        Err(_) => Err(Fault::NoSession),
+    }
 }
