@@ -1,2 +1,6 @@
 pub mod Bounds
 pub mod Rows
+pub mod Toplevels
+pub mod Places
+pub mod OneRun
+pub mod Others
