@@ -73,13 +73,15 @@ fn a_toplevel_is_raised_moved_and_unmapped(rt: HostRuntime) -> Result<(), Fail> 
 fn a_mapping_without_memory_changes_nothing(rt: HostRuntime) -> Result<(), Fail> {
     let heap = Refusing::new(rt.alloc(), 1);
     let mut scene = Scene::new(&heap);
-    let mut mapped: usize = 0;
-    while mapped < 1000 && scene.map(FIRST).is_ok() {
-        mapped += 1;
+    for surface in 0..1000_u32 {
+        if scene.map(Surface { client: 1, surface }).is_err() {
+            break;
+        }
     }
+    let mapped = scene.toplevels().len();
     assert!(rt; 0 < mapped && mapped < 1000);
+    assert!(rt; scene.map(SECOND).is_err());
     assert_eq!(rt; scene.toplevels().len(), mapped);
-    assert!(rt; stands(&scene, 0, FIRST, 0, 0));
     let nothing = Refusing::new(rt.alloc(), 0);
     let mut empty = Scene::new(&nothing);
     assert!(rt; empty.map(FIRST).is_err());
