@@ -19,11 +19,11 @@ choice false Later p q x next kept h = h
 choice true Later p q x next kept (inl h) = absurd (kept (ap (λ (y : Peer). y.status) h))
 choice true Later p q x next kept (inr h) = next h
 
-told_is : (es : List Said) (p q : Peer) → q.status ≢ Some Memory → Queues es p q → q ≡ told es p
+pub told_is : (es : List Said) (p q : Peer) → q.status ≢ Some Memory → Queues es p q → q ≡ told es p
 told_is [] p q kept h = h
 told_is (e ∷ es) p q kept h = choice (has_room p.unsent e) (Queues es (queued e p) q) p q (told es (queued e p)) (told_is es (queued e p) q kept) kept h
 
-refused_is : (refusal : Refusal) (p q : Peer) → q.status ≢ Some Memory → Errs refusal p q → q ≡ refused refusal p
+pub refused_is : (refusal : Refusal) (p q : Peer) → q.status ≢ Some Memory → Errs refusal p q → q ≡ refused refusal p
 refused_is refusal p q kept h = choice (has_room p.unsent (error_told refusal)) _ p q _ (λ e. e) kept h
 
 lacked : (p q : Peer) → q.status ≢ Some Memory → LacksMemory p q → ⊥

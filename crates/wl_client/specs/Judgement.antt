@@ -160,24 +160,27 @@ action_of known object version WlSeat opcode fields = Err (seat_refusal object o
 action_of known object version interface opcode fields = Err (display_error Implementation)
 
 -- A new id must be free, and no client has more than 8,192 objects.
-abbrev pub after_new_id : Objects → ℕ → Option NewId → Result Action Refusal → Result Action Refusal
-after_new_id objects held None action = action
-after_new_id objects held (Some new) action =
+abbrev pub after_new_id : {X : Type 0} → Objects → ℕ → Option NewId → Result X Refusal → Result X Refusal
+after_new_id objects held None asked = asked
+after_new_id objects held (Some new) asked =
     if is_free objects new.id
-    then (if nat_le 8192 held then Err (display_error Implementation) else action)
+    then (if nat_le 8192 held then Err (display_error Implementation) else asked)
     else Err (display_error InvalidObject)
 
-abbrev pub judged : Known → ℕ → ℕ → Result Message ProtoError → Result Action Refusal
-judged known object version (Err error) = Err (display_error InvalidMethod)
-judged known object version (Ok request) =
-    if list_all (fits known.objects) (objects_named request)
-    then after_new_id known.objects known.held (new_id_in request) (action_of known object version request.interface request.opcode request.fields)
+-- After these the request's own errors come, and what it asks.
+abbrev pub judged : {X : Type 0} → Objects → ℕ → (Message → Result X Refusal) → Result Message ProtoError → Result X Refusal
+judged objects held asks (Err error) = Err (display_error InvalidMethod)
+judged objects held asks (Ok request) =
+    if list_all (fits objects) (objects_named request)
+    then after_new_id objects held (new_id_in request) (asks request)
     else Err (display_error InvalidMethod)
 
-abbrev pub judged_at : Known → ℕ → ℕ → List ℕ → Option Object → Result Action Refusal
-judged_at known object opcode body None = Err (display_error InvalidObject)
-judged_at known object opcode body (Some o) = judged known object o.version (decoded o.interface o.version opcode body)
+abbrev pub judged_at : {X : Type 0} → Objects → ℕ → (ℕ → Message → Result X Refusal) → ℕ → List ℕ → Option Object → Result X Refusal
+judged_at objects held asks opcode body None = Err (display_error InvalidObject)
+judged_at objects held asks opcode body (Some o) = judged objects held (asks o.version) (decoded o.interface o.version opcode body)
 
 -- what a message to an object asks, or the first error that it has
 abbrev pub judge : Known → ℕ → ℕ → List ℕ → Result Action Refusal
-judge known object opcode body = judged_at known object opcode body (known.objects object)
+judge known object opcode body =
+    judged_at known.objects known.held (λ version request. action_of known object version request.interface request.opcode request.fields) opcode body
+    (known.objects object)

@@ -5,7 +5,7 @@ use Rattle.wl_proto.specs.declared.interface.Interface.{Interface}
 use Rattle.wl_proto.specs.declared.interface.Interface.TheVariants.{WlDisplay, WlRegistry, WlCallback, WlShm, WlOutput, WlSeat}
 use Rattle.wl_proto.specs.Messages.{Message, says}
 use Rattle.wl_client.specs.declared.refusals.ErrorCode.{ErrorCode}
-use Rattle.wl_client.specs.declared.refusals.ErrorCode.TheVariants.{InvalidObject, InvalidMethod, NoMemory, Implementation, MissingCapability, InvalidFormat, InvalidStride, InvalidFd}
+use Rattle.wl_client.specs.declared.refusals.ErrorCode.TheVariants.{InvalidObject, InvalidMethod, NoMemory, Implementation, MissingCapability, InvalidFormat, InvalidStride, InvalidFd, InvalidTransform, SurfaceHasRoleObject, BadSurface, BadParent, Role, DefunctSurfaces, NotTheTopmostPopup, InvalidPopupParent, InvalidSurfaceState, InvalidPositioner, NotConstructed, AlreadyConstructed, UnconfiguredBuffer, InvalidSerial, InvalidSize, DefunctRoleObject, InvalidInput, InvalidGrab}
 use Rattle.wl_client.specs.declared.refusals.Refusal.{Refusal}
 use Rattle.wl_client.specs.Objects.{Global, globals}
 
@@ -14,7 +14,8 @@ pub record Output : Type 0 where
   pub width : ℕ
   pub height : ℕ
 
--- the codes of errors (wayland.xml, the enums error of wl_display, wl_shm and wl_seat)
+-- The codes of errors (the enums error of wl_display, wl_seat, wl_shm, wl_surface, wl_subcompositor, wl_subsurface and wl_pointer in
+-- wayland.xml, and of xdg_wm_base, xdg_surface, xdg_positioner and xdg_popup in xdg-shell.xml).
 abbrev pub code_number : ErrorCode → ℕ
 code_number InvalidObject = 0
 code_number InvalidMethod = 1
@@ -24,6 +25,24 @@ code_number MissingCapability = 0
 code_number InvalidFormat = 0
 code_number InvalidStride = 1
 code_number InvalidFd = 2
+code_number InvalidTransform = 1
+code_number SurfaceHasRoleObject = 4
+code_number BadSurface = 0
+code_number BadParent = 1
+code_number Role = 0
+code_number DefunctSurfaces = 1
+code_number NotTheTopmostPopup = 2
+code_number InvalidPopupParent = 3
+code_number InvalidSurfaceState = 4
+code_number InvalidPositioner = 5
+code_number NotConstructed = 1
+code_number AlreadyConstructed = 2
+code_number UnconfiguredBuffer = 3
+code_number InvalidSerial = 4
+code_number InvalidSize = 5
+code_number DefunctRoleObject = 6
+code_number InvalidInput = 0
+code_number InvalidGrab = 0
 
 -- the text of an error is its code's name
 abbrev pub code_name : ErrorCode → List ℕ
@@ -35,6 +54,24 @@ code_name MissingCapability = codes "missing_capability"
 code_name InvalidFormat = codes "invalid_format"
 code_name InvalidStride = codes "invalid_stride"
 code_name InvalidFd = codes "invalid_fd"
+code_name InvalidTransform = codes "invalid_transform"
+code_name SurfaceHasRoleObject = codes "defunct_role_object"
+code_name BadSurface = codes "bad_surface"
+code_name BadParent = codes "bad_parent"
+code_name Role = codes "role"
+code_name DefunctSurfaces = codes "defunct_surfaces"
+code_name NotTheTopmostPopup = codes "not_the_topmost_popup"
+code_name InvalidPopupParent = codes "invalid_popup_parent"
+code_name InvalidSurfaceState = codes "invalid_surface_state"
+code_name InvalidPositioner = codes "invalid_positioner"
+code_name NotConstructed = codes "not_constructed"
+code_name AlreadyConstructed = codes "already_constructed"
+code_name UnconfiguredBuffer = codes "unconfigured_buffer"
+code_name InvalidSerial = codes "invalid_serial"
+code_name InvalidSize = codes "invalid_size"
+code_name DefunctRoleObject = codes "defunct_role_object"
+code_name InvalidInput = codes "invalid_input"
+code_name InvalidGrab = codes "invalid_grab"
 
 -- an error of wl_display, which is sent with object 1
 abbrev pub display_error : ErrorCode → Refusal

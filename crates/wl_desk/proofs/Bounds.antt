@@ -1,5 +1,5 @@
 -- The bounds of what is marked.
-use Rattle.std.proofs.Common.{◌≡◌, Bool, true, false, refl}
+use Rattle.std.proofs.Common.{Bool, true, false}
 use Rattle.std.specs.Prelude.{◌||◌, IsTrue}
 use Rattle.wl_desk.specs.Marks.{at_least}
 use Rattle.wl_desk.specs.Laws.{LeastIsMost}

@@ -1,13 +1,13 @@
 -- Worked examples, computed on the definitions.
-use Rattle.std.proofs.Common.{◌≡◌, ℕ, List, [], ◌∷◌, Option, Some, None, true, false, refl}
+use Rattle.std.proofs.Common.{◌≡◌, ℕ, List, [], ◌∷◌, Some, None, true, false, refl}
 use Rattle.std.specs.Prelude.{ℤ, pos, Bool}
 use Rattle.wl_store.specs.declared.color.Format.TheVariants.{Xrgb8888}
 use Rattle.wl_surface.specs.Request.{Buffer}
-use Rattle.wl_scene.specs.Windows.{Place, Window}
+use Rattle.wl_scene.specs.Windows.{Window}
 use Rattle.wl_desk.specs.Marks.{Applied, at_least, at_most}
 
 abbrev buffer : ℕ → Buffer
-buffer side = record { number = 1; store = 1; offset = 0; width = side; height = side; stride = 160; format = Xrgb8888 }
+buffer side = record { number = 1; object = 1; store = 1; offset = 0; width = side; height = side; stride = 160; format = Xrgb8888 }
 
 -- a window of a client's surface 6, so large and there
 abbrev window : ℕ → ℕ → ℤ → Window

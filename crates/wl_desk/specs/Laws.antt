@@ -1,10 +1,71 @@
--- Laws of marks.
-use Rattle.std.specs.Prelude.{ℕ, ◌≡◌, ℤ, List, Option, IsTrue}
+-- Laws of the plain desktop.
+use Rattle.std.specs.Prelude.{ℕ, ◌≡◌, ◌≢◌, ◌==◌, ℤ, List, Option, Some, None, IsTrue, true, false, filter}
+use Rattle.wl_proto.specs.declared.interface.Interface.TheVariants.{WlCompositor, WlSurface, WlSubcompositor, WlSubsurface, WlSeat, WlPointer, XdgWmBase, XdgPositioner, XdgSurface, XdgToplevel, XdgPopup}
+use Rattle.wl_client.specs.declared.clients.Cause.{Cause}
+use Rattle.wl_client.specs.declared.clients.Cause.TheVariants.{Memory}
+use Rattle.wl_client.specs.Peer.{Peer}
+use Rattle.wl_client.specs.Peer.{Feeds as FeedsAlone}
+use Rattle.wl_scene.specs.Stacking.{Standing, nothing_owned}
 use Rattle.wl_scene.specs.Windows.{Window}
+use Rattle.wl_desk.specs.Desktop.{Desktop, Resident, client_at}
 use Rattle.wl_desk.specs.Marks.{Applied, at_least, at_most}
+use Rattle.wl_desk.specs.Step.{Unserved, Feeds}
 
 -- What is marked at least is among what is marked at most.
 abbrev pub LeastIsMost : Type 0
 LeastIsMost =
     (width height : ℕ) (applied : Applied) (raised : Option (ℕ × ℕ)) (old new : List Window) (x y : ℤ)
     → IsTrue (at_least width height applied old new x y) → IsTrue (at_most width height applied raised old new x y)
+
+-- why a client ended, if it is there and did
+abbrev pub status_of : Option Resident → Option Cause
+status_of None = None
+status_of (Some r) = r.peer.status
+
+abbrev pub status_in : ℕ → Desktop → Option Cause
+status_in c d = status_of (client_at c d)
+
+-- A piece of a client's leads to one desktop, but for want of memory.
+abbrev pub OneRun : Type 0
+OneRun =
+    (unserved : Unserved) (c : ℕ) (piece : List ℕ) (r : Resident) (old new end : Desktop) → client_at c old ≡ Some r
+    → Feeds unserved c piece r old new → Feeds unserved c piece r old end → status_in c new ≢ Some Memory → status_in c end ≢ Some Memory
+    → new ≡ end
+
+-- the toplevels of a client, from the bottom
+abbrev pub toplevels_of : ℕ → Desktop → List Standing
+toplevels_of c d = filter (λ s. s.client == c) d.standing
+
+-- A piece of a client's leaves every other client as it was: what it holds and owns, and the places and the order of its toplevels.
+abbrev pub OthersStay : Type 0
+OthersStay =
+    (unserved : Unserved) (c other : ℕ) (piece : List ℕ) (r : Resident) (old new : Desktop) → client_at c old ≡ Some r
+    → Feeds unserved c piece r old new → c ≢ other
+    → (client_at other new ≡ client_at other old) × (toplevels_of other new ≡ toplevels_of other old)
+
+-- what is left out where a client's own interfaces are served, and no surfaces, shell and pointers
+abbrev pub beyond_clients : Unserved
+beyond_clients WlCompositor opcode = opcode == 0
+beyond_clients WlSurface opcode = true
+beyond_clients WlSubcompositor opcode = true
+beyond_clients WlSubsurface opcode = true
+beyond_clients WlSeat opcode = opcode == 0
+beyond_clients WlPointer opcode = true
+beyond_clients XdgWmBase opcode = true
+beyond_clients XdgPositioner opcode = true
+beyond_clients XdgSurface opcode = true
+beyond_clients XdgToplevel opcode = true
+beyond_clients XdgPopup opcode = true
+beyond_clients interface opcode = false
+
+-- the client there is this one, and owns nothing
+abbrev pub IsAlone : Peer → Option Resident → Type 0
+IsAlone p None = ⊥
+IsAlone p (Some r) = (r.peer ≡ p) × (r.owned ≡ nothing_owned)
+
+-- What a piece makes of a client by itself, it makes of the desktop's client where no more than that is served.
+abbrev pub ServedAlone : Type 0
+ServedAlone =
+    (c : ℕ) (piece : List ℕ) (r : Resident) (p q : Peer) (old : Desktop) → client_at c old ≡ Some r → r.peer ≡ p → r.owned ≡ nothing_owned
+    → FeedsAlone piece p q
+    → (new : Desktop) × Feeds beyond_clients c piece r old new × IsAlone q (client_at c new)

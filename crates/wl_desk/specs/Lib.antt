@@ -1,2 +1,10 @@
+pub mod Ask
+pub mod Desktop
 pub mod Laws
 pub mod Marks
+pub mod Moments
+pub mod Plain
+pub mod Scratch
+pub mod Step
+pub mod WlSurface
+pub mod XdgShell

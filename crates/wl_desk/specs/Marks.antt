@@ -1,7 +1,7 @@
 -- Which points of the output a step marks to be painted again, of the windows before it and after it.
-use Rattle.std.specs.Prelude.{ℕ, ℤ, pos, ◌-ℤ◌, ◌==◌, ◌&&◌, ◌||◌, int_le, int_lt, nat_lt, not, Bool, true, false, if◌then◌else◌, Option, Some, None, List, [], ◌∷◌, filter, find}
-use Rattle.std.specs.List.{list_all, list_any}
-use Rattle.wl_scene.specs.Windows.{Place, Window, contains}
+use Rattle.std.specs.Prelude.{ℕ, ℤ, pos, ◌-ℤ◌, ◌==◌, ◌&&◌, ◌||◌, int_le, int_lt, not, Bool, true, false, if◌then◌else◌, Option, Some, None, List, [], ◌∷◌, filter}
+use Rattle.std.specs.List.{list_any}
+use Rattle.wl_scene.specs.Windows.{Window, contains}
 
 abbrev pub int_eq : ℤ → ℤ → Bool
 int_eq a b = int_le a b && int_le b a

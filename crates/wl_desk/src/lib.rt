@@ -1,9 +1,24 @@
-//! The desk: the windows of all clients, and which points a step marks to be painted again.
+//! The desk: the windows of all clients, what a message does to them, and which points a step marks to be painted again.
 #![tactic(auto)]
 
-ghost use Rattle.wl_desk.specs.Laws.{LeastIsMost};
+ghost use Rattle.wl_desk.specs.Laws.{LeastIsMost, OneRun, OthersStay, ServedAlone};
 
 /// What a step marks at least is among what it marks at most.
 pub fn least_is_most()
     ensures { LeastIsMost }
+{}
+
+/// A piece of a client's leads to one desktop, but for want of memory.
+pub fn one_run()
+    ensures { OneRun }
+{}
+
+/// A piece of a client's leaves every other client as it was.
+pub fn others_stay()
+    ensures { OthersStay }
+{}
+
+/// Where no more is served than a client's own interfaces, a piece makes of the desktop's client what it makes of the client by itself.
+pub fn served_alone()
+    ensures { ServedAlone }
 {}

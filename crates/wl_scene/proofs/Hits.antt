@@ -1,7 +1,7 @@
 -- What a point hits.
 use Rattle.std.proofs.Common.{◌≡◌, List, [], ◌∷◌, ◌++◌, Option, Some, None, true, refl}
 use Rattle.std.specs.Prelude.{ℤ, fold}
-use Rattle.wl_scene.specs.Windows.{Window, hit, hit_after, is_hit}
+use Rattle.wl_scene.specs.Windows.{Window, hit_after, is_hit}
 use Rattle.wl_scene.specs.Laws.{TopmostIsHit}
 
 last_hit : (x y : ℤ) (found : Option Window) (below : List Window) (top : Window) → is_hit x y top ≡ true → fold (hit_after x y) found (below ++ top ∷ []) ≡ Some top

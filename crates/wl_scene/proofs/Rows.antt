@@ -1,25 +1,25 @@
 -- Worked examples, computed on the definitions.
 use Rattle.std.proofs.Common.{◌≡◌, ℕ, List, [], ◌∷◌, ◌++◌, Option, Some, None, true, false, refl, map, length}
-use Rattle.std.specs.Prelude.{ℤ, pos, negsuc, ◌==◌, if◌then◌else◌, Bool}
+use Rattle.std.specs.Prelude.{ℤ, pos}
 use Rattle.std.specs.Option.{option_map}
 use Rattle.wl_geom.specs.declared.rect.Rect.{Rect}
 use Rattle.wl_geom.specs.Region.{Add}
 use Rattle.wl_store.specs.declared.color.Format.TheVariants.{Xrgb8888}
 use Rattle.wl_surface.specs.Request.{Buffer, Itself, Request, Attach, SetInputRegion, Commit, AddChild, SetPosition, PlaceBelow}
 use Rattle.wl_surface.specs.State.{History}
-use Rattle.wl_surface.specs.Surfaces.{Link, Surfaces}
+use Rattle.wl_surface.specs.Surfaces.{Surface, Surfaces}
 use Rattle.wl_scene.specs.Pointer.{Pointer, first_pointer, fixed_from, is_press, settled}
 use Rattle.wl_scene.specs.Windows.{Place, Root, StackedPopup, Window, hit, mapping_place, tree, windows}
 
 abbrev buffer : ℕ → ℕ → Buffer
-buffer number side = record { number = number; store = 1; offset = 0; width = side; height = side; stride = 160; format = Xrgb8888 }
+buffer number side = record { number = number; object = number; store = 1; offset = 0; width = side; height = side; stride = 160; format = Xrgb8888 }
 
 abbrev at : ℤ → ℤ → Place
 at x y = record { x = x; y = y }
 
 -- a list of requests that all count
-abbrev all : List Request → Option History
-all requests = Some (record { requests = requests; cut = length requests })
+abbrev all : List Request → History
+all requests = record { requests = requests; cut = length requests }
 
 -- surface 1 shows 40 by 40 pixels and has a child, surface 2, of 4 by 4 pixels at (4, 4)
 abbrev parent : List Request
@@ -28,12 +28,15 @@ parent = Attach (Some (buffer 10 40)) (pos 0) (pos 0) ∷ AddChild 1 ∷ SetPosi
 abbrev child : List Request
 child = Attach (Some (buffer 18 4)) (pos 0) (pos 0) ∷ Commit ∷ []
 
-abbrev link_1 : ℕ → Option Link
-link_1 l = if l == 1 then Some (record { child = 2; parent = 1; synchronised = true; has_ended = false }) else None
+abbrev surface : ℕ → List Request → Surface
+surface id requests = record { id = id; history = all requests; role = None }
 
 abbrev surfaces_with : List Request → Surfaces
 surfaces_with requests =
-    record { histories = λ s. if s == 1 then all requests else (if s == 2 then all child else None); links = link_1 }
+    record {
+      surfaces = surface 1 requests ∷ surface 2 child ∷ [];
+      links = record { number = 1; child = 2; parent = 1; synchronised = true; has_ended = false } ∷ [];
+    }
 
 abbrev toplevel : Root
 toplevel = record { client = 1; surface = 1; toplevel = 1; geometry = None; place = at (pos 0) (pos 0) }

@@ -1,3 +1,4 @@
 pub mod Laws
 pub mod Pointer
+pub mod Stacking
 pub mod Windows

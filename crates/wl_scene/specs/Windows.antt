@@ -1,12 +1,11 @@
 -- The windows of a desktop, from bottom to top.
-use Rattle.std.specs.Prelude.{ℕ, zero, suc, ℤ, pos, ◌+ℤ◌, ◌-ℤ◌, ◌+◌, ◌*◌, ◌%◌, ◌==◌, ◌&&◌, ◌||◌, Bool, true, false, if◌then◌else◌, not, Option, Some, None, List, [], ◌∷◌, ◌++◌, take, fold, filter, flat_map}
-use Rattle.std.specs.List.{list_any}
+use Rattle.std.specs.Prelude.{ℕ, zero, suc, ℤ, pos, ◌+ℤ◌, ◌-ℤ◌, ◌*◌, ◌%◌, ◌==◌, ◌&&◌, Bool, true, if◌then◌else◌, Option, Some, None, List, [], ◌∷◌, ◌++◌, take, fold, flat_map}
 use Rattle.wl_geom.specs.declared.rect.Rect.{Rect}
 use Rattle.wl_geom.specs.Rect.{in_rect}
 use Rattle.wl_geom.specs.Region.{Change, holds}
 use Rattle.wl_surface.specs.Request.{Buffer, Member, Itself, Child, Request}
-use Rattle.wl_surface.specs.State.{History, Values, applied, height_of, offset, order, position, values, width_of, within_bounds}
-use Rattle.wl_surface.specs.Surfaces.{Link, Surfaces}
+use Rattle.wl_surface.specs.State.{History, Values, applied, height_of, offset, order, position, width_of, within_bounds}
+use Rattle.wl_surface.specs.Surfaces.{Link, Surfaces, history_in, link_at}
 
 -- a point, or the corner of a surface
 pub record Place : Type 0 where
@@ -71,7 +70,7 @@ child_windows next parent corner l (Some link) =
 
 abbrev pub member_windows : (ℕ → Place → List Window) → Owner → Surfaces → ℕ → History → Place → Member → List Window
 member_windows next owner surfaces surface h corner Itself = window_of owner surface corner h
-member_windows next owner surfaces surface h corner (Child l) = child_windows next h corner l (surfaces.links l)
+member_windows next owner surfaces surface h corner (Child l) = child_windows next h corner l (link_at l surfaces)
 
 abbrev pub shown_windows : (ℕ → Place → List Window) → Owner → Surfaces → ℕ → History → Place → Option Buffer → List Window
 shown_windows next owner surfaces surface h corner None = []
@@ -87,7 +86,7 @@ surface_windows next owner surfaces surface place (Some h) = shown_windows next 
 unfoldable pub tree : ℕ → Owner → Surfaces → ℕ → Place → List Window
 tree zero owner surfaces surface place = []
 tree (suc levels) owner surfaces surface place =
-    surface_windows (λ child at. tree levels owner surfaces child at) owner surfaces surface place (surfaces.histories surface)
+    surface_windows (λ child at. tree levels owner surfaces child at) owner surfaces surface place (history_in surface surfaces)
 
 -- A mapped toplevel with its place, or a popup that is to be stacked, with the surface of its parent, its placement relative to the parent's
 -- window geometry, and its own geometry; all of one client.
@@ -127,7 +126,7 @@ popup_place at p =
     }
 
 abbrev pub corner_in : Surfaces → Root → Place
-corner_in surfaces r = corner_or r.place (surfaces.histories r.surface)
+corner_in surfaces r = corner_or r.place (history_in r.surface surfaces)
   where
     corner_or : Place → Option History → Place
     corner_or place None = place

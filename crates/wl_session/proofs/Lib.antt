@@ -1,6 +1,7 @@
 pub mod Cuts
 pub mod Desktops
 pub mod OnlyRun
+pub mod Kept
 pub mod Others
 pub mod Runs
 pub use Rattle.wl_client.proofs.Pieces

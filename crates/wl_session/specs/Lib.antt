@@ -1,9 +1,11 @@
 pub mod Agreement
 pub mod Desktop
 pub mod Laws
+pub mod Promises
 pub mod Run
 pub mod Step
 pub mod View
+pub mod Viewer
 pub use Rattle.wl_client.specs.Peer
 pub use Rattle.wl_paint.specs.Damage
 pub use Rattle.wl_paint.specs.Frame

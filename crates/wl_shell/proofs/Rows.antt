@@ -1,9 +1,9 @@
 -- Worked examples, computed on the definitions.
-use Rattle.std.proofs.Common.{◌≡◌, ℕ, List, [], ◌∷◌, Option, Some, None, true, false, refl}
+use Rattle.std.proofs.Common.{◌≡◌, ℕ, [], ◌∷◌, Option, Some, None, true, false, refl}
 use Rattle.std.specs.Prelude.{ℤ, pos, negsuc}
 use Rattle.wl_geom.specs.declared.rect.Rect.{Rect}
 use Rattle.wl_shell.specs.Positioner.{Placed, Positioner, first_positioner, is_complete, place, rect_set}
-use Rattle.wl_shell.specs.Shell.{Fresh, Waiting, Ready, Mapped, Stays, Unconfigured, Configures, Maps, Unmaps, acknowledged, later_than, next_serial, on_commit}
+use Rattle.wl_shell.specs.Shell.{Fresh, Waiting, Ready, Mapped, Unconfigured, Configures, Maps, Unmaps, acknowledged, later_than, next_serial, on_commit}
 
 abbrev rect : ℤ → ℤ → ℤ → ℤ → Rect
 rect x y w h = record { x = x; y = y; w = w; h = h }

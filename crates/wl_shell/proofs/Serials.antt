@@ -1,5 +1,5 @@
 -- What an acknowledgement leaves of the serials.
-use Rattle.std.proofs.Common.{◌≡◌, ℕ, suc, ◌<◌, ◌≤◌, List, [], ◌∷◌, Bool, true, false, length, refl, arith}
+use Rattle.std.proofs.Common.{◌≡◌, ℕ, suc, ◌<◌, List, [], ◌∷◌, Bool, true, false, length, refl, arith}
 use Rattle.std.specs.Prelude.{◌==◌, ◌||◌, if◌then◌else◌}
 use Rattle.wl_shell.specs.Shell.{is_waiting, later_than}
 use Rattle.wl_shell.specs.Laws.{AcknowledgementForgets}

@@ -1,5 +1,5 @@
 -- Where a popup is placed (xdg-shell.xml, xdg_positioner).
-use Rattle.std.specs.Prelude.{ℕ, ℤ, pos, negsuc, ◌+ℤ◌, ◌-ℤ◌, neg_ℤ, int_lt, int_le, unsigned_abs, ◌/◌, ◌%◌, ◌==◌, ◌&&◌, ◌||◌, not, Bool, true, false, cond, if◌then◌else◌, Option, Some, None, is_some}
+use Rattle.std.specs.Prelude.{ℕ, ℤ, pos, negsuc, ◌+ℤ◌, ◌-ℤ◌, neg_ℤ, int_lt, int_le, unsigned_abs, ◌/◌, ◌%◌, ◌==◌, ◌&&◌, ◌||◌, not, Bool, if◌then◌else◌, Option, Some, None, is_some}
 use Rattle.std.specs.Int.{int_min, int_max}
 use Rattle.wl_geom.specs.declared.rect.Rect.{Rect}
 use Rattle.wl_surface.specs.State.{within_bounds}

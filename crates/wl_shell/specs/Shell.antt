@@ -1,5 +1,6 @@
 -- The states of xdg surfaces (xdg-shell.xml, xdg_surface, xdg_toplevel and xdg_popup).
-use Rattle.std.specs.Prelude.{ℕ, ℤ, ◌+◌, ◌==◌, nat_le, Bool, true, false, if◌then◌else◌, Option, Some, None, List, [], ◌∷◌, length}
+use Rattle.std.specs.Option.{option_map}
+use Rattle.std.specs.Prelude.{ℕ, ◌+◌, ◌==◌, nat_le, Bool, true, false, not, cond, if◌then◌else◌, Option, Some, None, List, [], ◌∷◌, ◌++◌, length, find, map, filter}
 use Rattle.std.specs.List.{list_any}
 use Rattle.wl_shell.specs.Positioner.{Placed, Positioner}
 
@@ -24,18 +25,60 @@ pub data Kind : Type 0 where
   Toplevel : Kind
   IsPopup : Popup → Kind
 
--- the role object of an xdg_surface
+-- the role object of an xdg_surface, by its id
 pub record RoleObject : Type 0 where
+  pub id : ℕ
   pub kind : Kind
   pub stage : Stage
 
--- An xdg_surface: its surface, its role object, if there is one, the serials of its configures that weren't acknowledged, the earliest
--- first, and the place in its surface's list from which on a window geometry counts.
+-- An xdg_surface by its id: the xdg_wm_base that made it, its surface, its role object, if there is one, the serials of its configures that
+-- weren't acknowledged, the earliest first, and the place in its surface's list from which on a window geometry counts.
 pub record XdgSurface : Type 0 where
+  pub id : ℕ
+  pub base : ℕ
   pub surface : ℕ
   pub role : Option RoleObject
   pub serials : List ℕ
   pub since : ℕ
+
+-- the xdg_surfaces of a client in order of creation
+abbrev pub Shell : Type 0
+Shell = List XdgSurface
+
+abbrev pub xdg_at : ℕ → Shell → Option XdgSurface
+xdg_at id shell = find (λ x. x.id == id) shell
+
+-- the xdg_surface of a surface
+abbrev pub xdg_of : ℕ → Shell → Option XdgSurface
+xdg_of surface shell = find (λ x. x.surface == surface) shell
+
+abbrev pub is_role : ℕ → Option RoleObject → Bool
+is_role id None = false
+is_role id (Some object) = object.id == id
+
+-- the xdg_surface that has this role object
+abbrev pub xdg_with : ℕ → Shell → Option XdgSurface
+xdg_with object shell = find (λ x. is_role object x.role) shell
+
+abbrev pub with_new : ℕ → ℕ → ℕ → Shell → Shell
+with_new id base surface shell =
+    shell ++ record { id = id; base = base; surface = surface; role = None; serials = []; since = 0 } ∷ []
+
+abbrev pub without_xdg : ℕ → Shell → Shell
+without_xdg id shell = filter (λ x. not (x.id == id)) shell
+
+-- the xdg_surface of this id changes, and no other
+abbrev pub with_change : ℕ → (XdgSurface → XdgSurface) → Shell → Shell
+with_change id change shell = map (λ x. cond (x.id == id) (change x) x) shell
+
+abbrev pub stage_of : XdgSurface → Option Stage
+stage_of x = option_map (λ object. object.stage) x.role
+
+abbrev pub at_stage : Stage → RoleObject → RoleObject
+at_stage stage object = record object { stage = stage }
+
+abbrev pub in_stage : Stage → XdgSurface → XdgSurface
+in_stage stage x = record x { role = option_map (at_stage stage) x.role }
 
 -- what a commit comes to
 pub data Effect : Type 0 where

@@ -1,16 +1,15 @@
 -- Worked examples, computed on the definitions.
-use Rattle.std.proofs.Common.{◌≡◌, ℕ, List, [], ◌∷◌, ◌++◌, length, Option, Some, None, true, false, refl}
-use Rattle.std.specs.Prelude.{ℤ, pos, negsuc, Bool}
+use Rattle.std.proofs.Common.{◌≡◌, ℕ, List, [], ◌∷◌, ◌++◌, Option, Some, None, true, false, refl}
+use Rattle.std.specs.Prelude.{ℤ, pos, negsuc}
 use Rattle.wl_geom.specs.declared.rect.Rect.{Rect}
-use Rattle.wl_geom.specs.Region.{Add, Subtract}
 use Rattle.wl_store.specs.declared.color.Format.TheVariants.{Xrgb8888}
-use Rattle.wl_surface.specs.Request.{Buffer, Itself, Child, Request, Attach, Damage, SetOpaqueRegion, SetInputRegion, SetBufferTransform, SetWindowGeometry, Commit, AddChild, SetPosition, PlaceAbove, PlaceBelow}
-use Rattle.wl_surface.specs.State.{History, Moving, applied, apply, between, committed, damaged_rects, geometry, held, height_of, is_damaged, offset, order, pending, position, width_of}
+use Rattle.wl_surface.specs.Request.{Buffer, Itself, Child, Request, Attach, Damage, SetWindowGeometry, Commit, AddChild, SetPosition, PlaceAbove, PlaceBelow}
+use Rattle.wl_surface.specs.State.{History, applied, apply, between, committed, damaged_rects, geometry, held, height_of, is_damaged, offset, order, pending, position, width_of}
 use Rattle.wl_surface.specs.Surfaces.{shows}
 
 -- a buffer of 40 by 40 pixels in store 1
 abbrev forty : ℕ → Buffer
-forty number = record { number = number; store = 1; offset = 6400; width = 40; height = 40; stride = 160; format = Xrgb8888 }
+forty number = record { number = number; object = number; store = 1; offset = 6400; width = 40; height = 40; stride = 160; format = Xrgb8888 }
 
 abbrev rect : ℤ → ℤ → ℤ → ℤ → Rect
 rect x y w h = record { x = x; y = y; w = w; h = h }
@@ -56,7 +55,7 @@ row_offset-back = refl
 
 -- two commits of a synchronised subsurface: both are held until the surface is applied, with the damage of both
 abbrev small : ℕ → Buffer
-small number = record { number = number; store = 2; offset = 0; width = 4; height = 4; stride = 16; format = Xrgb8888 }
+small number = record { number = number; object = number; store = 2; offset = 0; width = 4; height = 4; stride = 16; format = Xrgb8888 }
 
 abbrev twice : History
 twice =

@@ -1,7 +1,7 @@
 -- Laws of surfaces.
-use Rattle.std.specs.Prelude.{ℕ, ◌≡◌, List, [], ◌∷◌, ◌++◌, length, suc}
+use Rattle.std.specs.Prelude.{ℕ, ◌≡◌, List, [], ◌∷◌, ◌++◌}
 use Rattle.wl_surface.specs.Request.{Request, Commit}
-use Rattle.wl_surface.specs.State.{History, Values, applied, apply, committed, held, values}
+use Rattle.wl_surface.specs.State.{applied, apply, held, values}
 
 -- After a commit what is held is what was pending, and once the surface is applied that is what counts.
 abbrev pub CommitTakesAll : Type 0

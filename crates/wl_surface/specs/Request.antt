@@ -4,10 +4,11 @@ use Rattle.wl_geom.specs.declared.rect.Rect.{Rect}
 use Rattle.wl_geom.specs.Region.{Change}
 use Rattle.wl_store.specs.declared.color.Format.{Format}
 
--- A wl_buffer: its number among the client's buffers; `height` rows of `width` pixels in this store, the first row at `offset` and each
--- `stride` bytes after the one before (wayland.xml, wl_shm_pool.create_buffer).
+-- A wl_buffer: its number among the client's requests, and the id that it was made with; `height` rows of `width` pixels in this store, the
+-- first row at `offset` and each `stride` bytes after the one before (wayland.xml, wl_shm_pool.create_buffer).
 pub record Buffer : Type 0 where
   pub number : ℕ
+  pub object : ℕ
   pub store : ℕ
   pub offset : ℕ
   pub width : ℕ
