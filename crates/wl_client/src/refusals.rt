@@ -139,10 +139,17 @@ pub struct Refusal {
 impl Refusal {
     ghost use Rattle.wl_client.specs.Told.{display_error};
 
+    /// An error of an object.
+    pub fn of(object: u32, code: ErrorCode) -> Refusal
+        ensures { result ≡ record { object = object; code = code } }
+    {
+        Refusal { object, code }
+    }
+
     /// An error of wl_display, which is object 1.
     pub fn of_display(code: ErrorCode) -> Refusal
         ensures { result ≡ display_error code }
     {
-        Refusal { object: 1, code }
+        Refusal::of(1, code)
     }
 }

@@ -13,9 +13,8 @@ pub(crate) fn refusal(object: u32, request: &WlSeatRequest) -> Refusal
 {
     match request {
         WlSeatRequest::GetPointer { .. } => Refusal::of_display(ErrorCode::Implementation),
-        WlSeatRequest::GetKeyboard { .. } | WlSeatRequest::GetTouch { .. } => Refusal {
-            object,
-            code: ErrorCode::MissingCapability,
-        },
+        WlSeatRequest::GetKeyboard { .. } | WlSeatRequest::GetTouch { .. } => {
+            Refusal::of(object, ErrorCode::MissingCapability)
+        }
     }
 }

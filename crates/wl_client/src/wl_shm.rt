@@ -23,10 +23,7 @@ pub(crate) fn action<A: Allocator>(
     match *request {
         WlShmRequest::CreatePool { id, size } => match stores.create_refusal(size) {
             None => Ok(Action::CreatePool(id, version, size)),
-            Some(StoreError::BadSize) => Err(Refusal {
-                object,
-                code: ErrorCode::InvalidStride,
-            }),
+            Some(StoreError::BadSize) => Err(Refusal::of(object, ErrorCode::InvalidStride)),
             Some(_) => Err(Refusal::of_display(ErrorCode::Implementation)),
         },
     }

@@ -98,7 +98,7 @@ fn layout_refusal(object: u32, error: LayoutError) -> Refusal
         LayoutError::Format => ErrorCode::InvalidFormat,
         LayoutError::Stride => ErrorCode::InvalidStride,
     };
-    Refusal { object, code }
+    Refusal::of(object, code)
 }
 
 /// A pool's new size, or its refusal: the limit on the bytes of all stores, then a smaller size.
@@ -112,10 +112,7 @@ fn resize<A: Allocator>(
 {
     match stores.resize_refusal(store, size) {
         None => Ok(Action::ResizePool(store, size)),
-        Some(StoreError::Shrinks) => Err(Refusal {
-            object,
-            code: ErrorCode::InvalidFd,
-        }),
+        Some(StoreError::Shrinks) => Err(Refusal::of(object, ErrorCode::InvalidFd)),
         Some(_) => Err(Refusal::of_display(ErrorCode::Implementation)),
     }
 }
