@@ -109,7 +109,7 @@ stopped c None mid new h fine stops = absurd stops
 stopped c (Some r) mid new h fine (inl stops) = (stops.0, (r, h, stops.1))
 stopped c (Some r) mid new h fine (inr stops) = absurd (kept c r (ended Memory r.peer) mid new r h stops.1 fine refl)
 
-one_run-by : (unserved : Unserved) (c : ℕ) (piece : List ℕ) (s : Option Cause) (r : Resident) (old new end : Desktop) → FeedsAt unserved c piece s r old new → FeedsAt unserved c piece s r old end → status_in c new ≢ Some Memory → status_in c end ≢ Some Memory → new ≡ end
+pub one_run-by : (unserved : Unserved) (c : ℕ) (piece : List ℕ) (s : Option Cause) (r : Resident) (old new end : Desktop) → FeedsAt unserved c piece s r old new → FeedsAt unserved c piece s r old end → status_in c new ≢ Some Memory → status_in c end ≢ Some Memory → new ≡ end
 one_run-by unserved c piece (Some cause) r old new end h k fine well = h ∙ sym k
 one_run-by unserved c piece None r old new end h k fine well =
     let start = become c r (with_rest (r.peer.rest ++ piece) r.peer) old in

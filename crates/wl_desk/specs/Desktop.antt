@@ -9,13 +9,22 @@ use Rattle.wl_scene.specs.Pointer.{Pointer, first_pointer}
 use Rattle.wl_scene.specs.Stacking.{Owned, Standing, nothing_owned, windows_on, without_client}
 use Rattle.wl_scene.specs.Windows.{Window}
 
--- One client: its streams and tables; its surfaces and xdg_surfaces; by their ids the number of each wl_buffer's buffer, and the values of
--- each positioner; and the serials of the latest press and of the latest release that it was told of.
+-- a callback that a frame request asked for, by that request's number among the client's
+pub record Callback : Type 0 where
+  pub number : ℕ
+  pub id : ℕ
+
+-- One client: its streams and tables; its surfaces and xdg_surfaces; by their ids the number of each wl_buffer's buffer and of each
+-- wl_subsurface's link, and the values of each positioner; its frame callbacks in the order of their requests, and its wl_pointers in rising
+-- id; and the serials of the latest press and of the latest release that it was told of.
 pub record Resident : Type 0 where
   pub peer : Peer
   pub owned : Owned
   pub numbers : ById ℕ
+  pub links : ById ℕ
   pub positioners : ById Positioner
+  pub callbacks : List Callback
+  pub pointers : List ℕ
   pub press : Option ℕ
   pub release : Option ℕ
 
@@ -30,7 +39,17 @@ pub record Desktop : Type 0 where
 
 abbrev pub resident_of : Peer → Resident
 resident_of peer =
-    record { peer = peer; owned = nothing_owned; numbers = nothing; positioners = nothing; press = None; release = None }
+    record {
+      peer = peer;
+      owned = nothing_owned;
+      numbers = nothing;
+      links = nothing;
+      positioners = nothing;
+      callbacks = [];
+      pointers = [];
+      press = None;
+      release = None;
+    }
 
 -- a client that has just connected
 abbrev pub arrival : Output → Resident

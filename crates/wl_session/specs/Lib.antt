@@ -6,6 +6,7 @@ pub mod Run
 pub mod Step
 pub mod View
 pub mod Viewer
+pub mod Whole
 pub use Rattle.wl_client.specs.Peer
 pub use Rattle.wl_paint.specs.Damage
 pub use Rattle.wl_paint.specs.Frame

@@ -92,3 +92,7 @@ abbrev pub Keeps : Moment → Desktop → Desktop → ℕ → Type 0
 Keeps Writing old new c = KeepsBuffers old new c
 Keeps Ticking old new c = KeepsDamage old new c × KeepsOpaque old c
 Keeps Others old new c = KeepsDamage old new c
+
+-- Each client keeps its promises but those of a set.
+abbrev pub KeepBut : (ℕ → Bool) → Moment → Desktop → Desktop → Type 0
+KeepBut liars moment old new = (c : ℕ) → liars c ≡ false → Keeps moment old new c

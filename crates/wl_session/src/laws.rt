@@ -1,6 +1,7 @@
 //! Laws of the plain desktop, each the contract of an empty function.
 
 ghost use Rattle.wl_session.specs.Laws.{AnyPieces, OneRun, OthersStay};
+ghost use Rattle.wl_session.specs.Whole.{OneStep};
 
 /// A client's stream may be cut into any pieces: two pieces lead where they lead as one.
 pub fn any_pieces()
@@ -15,4 +16,9 @@ pub fn one_run()
 /// A step of one client leaves every other client as it was.
 pub fn others_stay()
     ensures { OthersStay }
+{}
+
+/// Where no want of memory is met, a step of the desktop with surfaces is the only one: its answer and the desktop after it are determined.
+pub fn one_step()
+    ensures { OneStep }
 {}
