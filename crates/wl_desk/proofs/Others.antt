@@ -34,11 +34,11 @@ left_out-at false false s xs ys other f keeps e = e
 left_out-at false true s xs ys other f keeps e = let k = keeps refl in absurd (cc)
 
 -- to leave out what isn't another client's leaves that client's as it is
-left_out : (test : Standing → Bool) (other : ℕ) → ((s : Standing) → (s.client == other) ≡ true → test s ≡ true) → (standing : List Standing) → of other (filter test standing) ≡ of other standing
+pub left_out : (test : Standing → Bool) (other : ℕ) → ((s : Standing) → (s.client == other) ≡ true → test s ≡ true) → (standing : List Standing) → of other (filter test standing) ≡ of other standing
 left_out test other keeps [] = refl
 left_out test other keeps (s ∷ ss) = left_out-at (test s) (s.client == other) s (filter test ss) ss other refl (keeps s) (left_out test other keeps ss)
 
-one_client : (c other : ℕ) → c ≢ other → (s : Standing) → (s.client == other) ≡ true → not (s.client == c) ≡ true
+pub one_client : (c other : ℕ) → c ≢ other → (s : Standing) → (s.client == other) ≡ true → not (s.client == c) ≡ true
 one_client c other differ s h = ap (λ (b : Bool). not b) (apart s.client c other differ h)
 
 one_surface : (c other surface : ℕ) → c ≢ other → (s : Standing) → (s.client == other) ≡ true → not (is_of c surface s) ≡ true
@@ -84,13 +84,13 @@ become-others-by None c other r q d differ = refl
 become-others-by (Some cause) c other r q d differ = left_out (λ s. not (s.client == c)) other (one_client c other differ) d.standing
 
 -- a client is as it was, and so are its toplevels
-abbrev IsLeft : ℕ → Desktop → Desktop → Type 0
+abbrev pub IsLeft : ℕ → Desktop → Desktop → Type 0
 IsLeft other old new = (client_at other new ≡ client_at other old) × (toplevels_of other new ≡ toplevels_of other old)
 
 left-then : (other : ℕ) (old mid new : Desktop) → IsLeft other old mid → IsLeft other mid new → IsLeft other old new
 left-then other old mid new h k = (k.0 ∙ h.0, k.1 ∙ h.1)
 
-become-left : (c other : ℕ) (r : Resident) (q : Peer) (d : Desktop) → c ≢ other → IsLeft other d (become c r q d)
+pub become-left : (c other : ℕ) (r : Resident) (q : Peer) (d : Desktop) → c ≢ other → IsLeft other d (become c r q d)
 become-left c other r q d differ = (other-become c other r q d differ, become-others-by q.status c other r q d differ)
 
 becomes-left : (Q : Peer → Type 0) (c other : ℕ) (r : Resident) (d new : Desktop) → c ≢ other → Becomes Q c r d new → IsLeft other d new
@@ -127,7 +127,7 @@ reaches-left unserved c other zero d new differ h = (ap (λ (x : Desktop). clien
 reaches-left unserved c other (suc n) d new differ h =
     left-then other d h.0 new (reaches-left unserved c other n d h.0 differ h.1) (serves-left unserved c other (client_at c h.0) h.0 new differ h.2)
 
-same-left : (other : ℕ) (d new : Desktop) → new ≡ d → IsLeft other d new
+pub same-left : (other : ℕ) (d new : Desktop) → new ≡ d → IsLeft other d new
 same-left other d new e = (ap (λ (x : Desktop). client_at other x) e, ap (λ (x : Desktop). toplevels_of other x) e)
 
 stops-left : (c other : ℕ) (o : Option Resident) (mid new : Desktop) → c ≢ other → StopsAt c o mid new → IsLeft other mid new
@@ -137,7 +137,7 @@ stops-left c other (Some r) mid new differ (inr h) =
     let gone : Peer = ended Memory r.peer in
     left-then other mid (become c r gone mid) new (become-left c other r gone mid differ) (same-left other (become c r gone mid) new h.1)
 
-feeds-left : (unserved : Unserved) (c other : ℕ) (piece : List ℕ) (s : Option Cause) (r : Resident) (old new : Desktop) → c ≢ other → FeedsAt unserved c piece s r old new → IsLeft other old new
+pub feeds-left : (unserved : Unserved) (c other : ℕ) (piece : List ℕ) (s : Option Cause) (r : Resident) (old new : Desktop) → c ≢ other → FeedsAt unserved c piece s r old new → IsLeft other old new
 feeds-left unserved c other piece (Some cause) r old new differ h = same-left other old new h
 feeds-left unserved c other piece None r old new differ h =
     let come : Peer = with_rest (r.peer.rest ++ piece) r.peer in

@@ -24,7 +24,7 @@ place-other (r ∷ rs) zero (suc j) x differ = refl
 place-other (r ∷ rs) (suc k) zero x differ = refl
 place-other (r ∷ rs) (suc k) (suc j) x differ = place-other rs k j x (λ e. differ (ap (λ (n : ℕ). suc n) e))
 
-number-other : (clients : List (Option Resident)) (c other : ℕ) (x : Option Resident) → c ≢ other → client_in (with_number c x clients) other ≡ client_in clients other
+pub number-other : (clients : List (Option Resident)) (c other : ℕ) (x : Option Resident) → c ≢ other → client_in (with_number c x clients) other ≡ client_in clients other
 number-other clients c zero x differ = refl
 number-other clients zero (suc j) x differ = refl
 number-other clients (suc k) (suc j) x differ = place-other clients k j x (λ e. differ (ap (λ (n : ℕ). suc n) e))

@@ -4,6 +4,7 @@ pub mod OneStep
 pub mod OnlyRun
 pub mod Kept
 pub mod Others
+pub mod OthersLeft
 pub mod Runs
 pub use Rattle.wl_client.proofs.Pieces
 pub use Rattle.wl_client.proofs.Unique

@@ -4,7 +4,7 @@ use Rattle.wl_client.specs.declared.clients.Cause.TheVariants as cause
 use Rattle.wl_client.specs.Peer.{Peer}
 use Rattle.wl_scene.specs.Stacking.{without_client}
 use Rattle.wl_desk.specs.Desktop.{Desktop, Resident, arrival, become, client_at, with_client, with_number}
-use Rattle.wl_desk.specs.Laws.{status_in}
+use Rattle.wl_desk.specs.Laws.{status_in, toplevels_of}
 use Rattle.wl_desk.specs.Step.{Unserved, Feeds}
 use Rattle.wl_session.specs.declared.steps.Fed.TheVariants.{NoClient}
 use Rattle.wl_session.specs.declared.steps.Stored.TheVariants as stored
@@ -12,6 +12,7 @@ use Rattle.wl_session.specs.declared.steps.Done.{Done}
 use Rattle.wl_session.specs.declared.steps.Done.TheVariants as gave
 use Rattle.wl_session.specs.declared.steps.ConnectError.TheVariants.{Full, Memory}
 use Rattle.wl_session.specs.Desktop.{lowest}
+use Rattle.wl_session.specs.Laws.{client_of}
 use Rattle.wl_session.specs.Step.{Act, Connect, Feed, Store, Leave, Tick, Send, Close, IsClosed, IsLeft, IsSent, IsStored, fed_of}
 
 -- what becomes of a client: it is left so, or its number is free
@@ -58,3 +59,9 @@ abbrev pub OneStep : Type 0
 OneStep =
     (unserved : Unserved) (act : Act) (old new end : Desktop) (done other : Done) → Steps unserved old act done new → Steps unserved old act other end
     → HadMemory old done new → HadMemory old other end → (done ≡ other) × (new ≡ end)
+
+-- A step leaves each client that it isn't of as it was: what it holds and owns, and the places and the order of its toplevels.
+abbrev pub OthersAreLeft : Type 0
+OthersAreLeft =
+    (unserved : Unserved) (act : Act) (old new : Desktop) (done : Done) (other : ℕ) → Steps unserved old act done new → client_of act done ≢ other
+    → (client_at other new ≡ client_at other old) × (toplevels_of other new ≡ toplevels_of other old)

@@ -1,7 +1,7 @@
 //! Laws of the plain desktop, each the contract of an empty function.
 
 ghost use Rattle.wl_session.specs.Laws.{AnyPieces, OneRun, OthersStay};
-ghost use Rattle.wl_session.specs.Whole.{OneStep};
+ghost use Rattle.wl_session.specs.Whole.{OneStep, OthersAreLeft};
 
 /// A client's stream may be cut into any pieces: two pieces lead where they lead as one.
 pub fn any_pieces()
@@ -21,4 +21,9 @@ pub fn others_stay()
 /// Where no want of memory is met, a step of the desktop with surfaces is the only one: its answer and the desktop after it are determined.
 pub fn one_step()
     ensures { OneStep }
+{}
+
+/// A step of the desktop with surfaces leaves each client that it isn't of as it was, with the places and the order of its toplevels.
+pub fn others_are_left()
+    ensures { OthersAreLeft }
 {}

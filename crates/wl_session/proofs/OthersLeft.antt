@@ -1,0 +1,48 @@
+-- What a step of the desktop with surfaces leaves to the clients that it isn't of.
+use Rattle.std.proofs.Common.{◌≡◌, ◌≢◌, ℕ, ◌+◌, List, Option, Some, None, refl, ap, sym, ◌∙◌, inl, inr}
+use Rattle.std.specs.Prelude.{◌==◌, ◌⊎◌, not}
+use Rattle.wl_client.specs.Peer.{Peer}
+use Rattle.wl_desk.specs.Desktop.{Desktop, Resident, arrival, client_at, with_client}
+use Rattle.wl_desk.specs.Laws.{toplevels_of}
+use Rattle.wl_desk.specs.Step.{Unserved}
+use Rattle.wl_desk.proofs.Others.{IsLeft, become-left, feeds-left, left_out, one_client, same-left}
+use Rattle.wl_desk.proofs.Places.{number-other}
+use Rattle.wl_session.specs.declared.steps.Done.{Done}
+use Rattle.wl_session.specs.Desktop.{lowest}
+use Rattle.wl_session.specs.Laws.{client_of, given_by}
+use Rattle.wl_session.specs.Step.{Act, Connect, Feed, Store, Leave, Tick, Send, Close}
+use Rattle.wl_session.specs.Whole.{ChangesAt, ConnectsAt, IsFedAt, OthersAreLeft, left_so}
+
+-- one desktop is the other
+moved : (other : ℕ) (old mid new : Desktop) → new ≡ mid → IsLeft other old mid → IsLeft other old new
+moved other old mid new e h = (ap (λ (d : Desktop). client_at other d) e ∙ h.0, ap (λ (d : Desktop). toplevels_of other d) e ∙ h.1)
+
+left_so-left : (c other : ℕ) (r : Resident) (q : Option Peer) (d : Desktop) → c ≢ other → IsLeft other d (left_so c r q d)
+left_so-left c other r None d differ =
+    (number-other d.clients c other None differ, left_out (λ s. not (s.client == c)) other (one_client c other differ) d.standing)
+left_so-left c other r (Some q) d differ = become-left c other r q d differ
+
+changes-left : (R : Peer → Done → Option Peer → Type 0) (absent done : Done) (c other : ℕ) (o : Option Resident) (old new : Desktop) → c ≢ other → ChangesAt R absent c o old done new → IsLeft other old new
+changes-left R absent done c other None old new differ h = same-left other old new h.1
+changes-left R absent done c other (Some r) old new differ h = moved other old (left_so c r h.0 old) new h.2 (left_so-left c other r h.0 old differ)
+
+connects-left : (k : Option ℕ) (old new : Desktop) (done : Done) (other : ℕ) → ConnectsAt k old done new → given_by done ≢ other → IsLeft other old new
+connects-left None old new done other h differ = same-left other old new h.1
+connects-left (Some k) old new done other (inl h) differ = same-left other old new h.1
+connects-left (Some k) old new done other (inr h) differ =
+    let number : given_by done ≡ k + 1 = ap given_by h.0 in
+    let entered = with_client (k + 1) (Some (arrival old.output)) old in
+    moved other old entered new h.1 (number-other old.clients (k + 1) other (Some (arrival old.output)) (λ e. differ (number ∙ e)), refl)
+
+fed-left : (unserved : Unserved) (c other : ℕ) (piece : List ℕ) (o : Option Resident) (old new : Desktop) (done : Done) → c ≢ other → IsFedAt unserved c piece o old done new → IsLeft other old new
+fed-left unserved c other piece None old new done differ h = same-left other old new h.1
+fed-left unserved c other piece (Some r) old new done differ h = feeds-left unserved c other piece r.peer.status r old new differ h.0
+
+pub others_are_left : OthersAreLeft
+others_are_left unserved Connect old new done other h differ = connects-left (lowest old.clients) old new done other h differ
+others_are_left unserved (Feed c piece) old new done other h differ = fed-left unserved c other piece (client_at c old) old new done differ h
+others_are_left unserved (Store c store at bytes) old new done other h differ = changes-left _ _ done c other (client_at c old) old new differ h
+others_are_left unserved (Leave c) old new done other h differ = changes-left _ _ done c other (client_at c old) old new differ h
+others_are_left unserved (Tick time) old new done other h differ = same-left other old new h.1
+others_are_left unserved (Send c n) old new done other h differ = changes-left _ _ done c other (client_at c old) old new differ h
+others_are_left unserved (Close c) old new done other h differ = changes-left _ _ done c other (client_at c old) old new differ h
