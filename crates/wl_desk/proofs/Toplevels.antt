@@ -1,6 +1,6 @@
 -- Worked recordings with toplevels, computed on the definitions.
 use Rattle.std.proofs.Common.{◌≡◌, ℕ, zero, suc, List, [], ◌∷◌, ◌++◌, Option, Some, None, true, false, refl, map}
-use Rattle.std.specs.Prelude.{ℤ, pos, negsuc, codes}
+use Rattle.std.specs.Prelude.{replicate, Ok, ℤ, pos, negsuc, codes}
 use Rattle.std.specs.Option.{option_map_or}
 use Rattle.wl_wire.specs.Wire.{Field, Word, Number, Text, message_bytes}
 use Rattle.wl_client.specs.declared.clients.Cause.{Cause}
@@ -15,6 +15,10 @@ use Rattle.wl_desk.specs.Moments.{marks_at_least}
 use Rattle.wl_desk.specs.Plain.{fed}
 use Rattle.wl_desk.specs.Scratch.{scratch}
 use Rattle.wl_desk.specs.Step.{beyond_toplevels}
+use Rattle.wl_desk.specs.Ask.{CreateSurface, ConfigureAgain}
+use Rattle.wl_desk.specs.WlSurface.{refuse_limit, surface_created}
+use Rattle.wl_desk.specs.XdgShell.{configured_again}
+use Rattle.wl_shell.specs.Shell.{Toplevel, Waiting, XdgSurface}
 
 -- two clients on an output of 64 by 64
 abbrev pub start : Desktop
@@ -454,3 +458,34 @@ row_frame_unserved = refl
 -- after its new id
 pub row_frame_in_use : status 1 (asks 1 6 3 (Word 6 ∷ []) one) ≡ Some (Protocol 1 0)
 row_frame_in_use = refl
+
+-- a client with so many surfaces may make another one, or not
+abbrev crowded : ℕ → Resident
+crowded n =
+    record (arrival (record { width = 64; height = 64 })) {
+      owned = record { surfaces = record { surfaces = replicate n (record { id = 6; history = record { requests = []; cut = 0 }; role = None }); links = [] }; shell = [] };
+    }
+
+pub row_surface_256 : surface_created (crowded 255) 12 2 ≡ Ok (CreateSurface 12 2)
+row_surface_256 = refl
+
+pub row_surface_257 : surface_created (crowded 256) 12 2 ≡ refuse_limit
+row_surface_257 = refl
+
+-- an xdg_surface whose toplevel waits with so many configures may be configured again, or not
+abbrev waiting : ℕ → XdgSurface
+waiting n =
+    record {
+      id = 7;
+      base = 5;
+      surface = 6;
+      role = Some (record { id = 8; kind = Toplevel; stage = Waiting });
+      serials = replicate n 1;
+      since = 0;
+    }
+
+pub row_configure_64 : configured_again (waiting 63) ≡ Ok (ConfigureAgain 7)
+row_configure_64 = refl
+
+pub row_configure_65 : configured_again (waiting 64) ≡ refuse_limit
+row_configure_65 = refl
