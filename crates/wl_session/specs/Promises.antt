@@ -14,6 +14,7 @@ use Rattle.wl_desk.specs.Desktop.{Desktop, Resident, client_at, owned_in, window
 use Rattle.wl_desk.specs.Marks.{has_same_record}
 use Rattle.wl_desk.specs.Moments.{applied_between}
 use Rattle.wl_desk.specs.Scratch.{color_in, pixel_at}
+use Rattle.wl_session.specs.Step.{Act, Store, Tick}
 
 abbrev pub is_same_color : Argb → Argb → Bool
 is_same_color c d = ((c.a == d.a) && (c.r == d.r)) && ((c.g == d.g) && (c.b == d.b))
@@ -81,18 +82,12 @@ KeepsOpaque d c = (x y : ℤ) → feigns_at d c x y ≡ false
 
 -- ---- in a step
 
--- the kinds of steps that the promises tell apart
-pub data Moment : Type 0 where
-  Writing : Moment
-  Ticking : Moment
-  Others : Moment
-
 -- A client keeps its promises in a step: in a store write that on buffers, in any other that on damage, in a tick that on opaque regions too.
-abbrev pub Keeps : Moment → Desktop → Desktop → ℕ → Type 0
-Keeps Writing old new c = KeepsBuffers old new c
-Keeps Ticking old new c = KeepsDamage old new c × KeepsOpaque old c
-Keeps Others old new c = KeepsDamage old new c
+abbrev pub Keeps : Act → Desktop → Desktop → ℕ → Type 0
+Keeps (Store client store at bytes) old new c = KeepsBuffers old new c
+Keeps (Tick time) old new c = KeepsDamage old new c × KeepsOpaque old c
+Keeps act old new c = KeepsDamage old new c
 
 -- Each client keeps its promises but those of a set.
-abbrev pub KeepBut : (ℕ → Bool) → Moment → Desktop → Desktop → Type 0
-KeepBut liars moment old new = (c : ℕ) → liars c ≡ false → Keeps moment old new c
+abbrev pub KeepBut : (ℕ → Bool) → Act → Desktop → Desktop → Type 0
+KeepBut liars act old new = (c : ℕ) → liars c ≡ false → Keeps act old new c
