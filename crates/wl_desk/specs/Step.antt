@@ -21,7 +21,8 @@ use Rattle.wl_client.specs.Peer.{answers_to as own_answers, takes_memory as own_
 use Rattle.wl_client.specs.Told.{Said, display_error, id_deleted, said}
 use Rattle.wl_surface.specs.Request.{Buffer, Request, Commit}
 use Rattle.wl_surface.specs.State.{History}
-use Rattle.wl_surface.specs.Surfaces.{AsToplevel, Surfaces, applying, asking, buffers_of, history_in, is_used, with_change, with_new, with_role, without_surface}
+use Rattle.wl_surface.specs.Surfaces.{Surfaces, applying, asking, buffers_of, history_in, is_used, with_change, with_new, with_role, without_surface}
+use Rattle.wl_surface.specs.declared.role.Role.TheVariants.{Toplevel as AsToplevel}
 use Rattle.wl_shell.specs.Shell.{Effect, Stays, Unconfigured, Configures, Maps, Unmaps, Fresh, Waiting, Mapped, Toplevel, RoleObject, Shell, XdgSurface as Xdg, acknowledged, in_stage, later_than, next_serial, xdg_at, xdg_of, without_xdg}
 use Rattle.wl_shell.specs.Shell.{with_change as with_xdg_change, with_new as with_new_xdg}
 use Rattle.wl_scene.specs.Stacking.{with_mapped, without_surface_of}

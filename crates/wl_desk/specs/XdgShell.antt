@@ -8,7 +8,9 @@ use Rattle.wl_client.specs.declared.refusals.ErrorCode.TheVariants as error
 use Rattle.wl_client.specs.declared.refusals.Refusal.{Refusal}
 use Rattle.wl_client.specs.Judgement.{rect_in, word_in}
 use Rattle.wl_surface.specs.Request.{SetWindowGeometry}
-use Rattle.wl_surface.specs.Surfaces.{Role, AsToplevel, AsPopup, AsSubsurface, AsCursor, has_content, history_in, surface_at}
+use Rattle.wl_surface.specs.Surfaces.{has_content, history_in, surface_at}
+use Rattle.wl_surface.specs.declared.role.Role.{Role}
+use Rattle.wl_surface.specs.declared.role.Role.TheVariants.{Toplevel as AsToplevel, Popup as AsPopup, Subsurface as AsSubsurface, Cursor as AsCursor}
 use Rattle.wl_shell.specs.Shell.{XdgSurface, answers_states, is_full, is_waiting, stage_of, xdg_at, xdg_of, xdg_with}
 use Rattle.wl_desk.specs.Ask.{Ask, AskSurface, DestroyBase, GetXdgSurface, DestroyXdgSurface, GetToplevel, Acknowledge, ConfigureAgain, DestroyToplevel, Ignore}
 use Rattle.wl_desk.specs.Desktop.{Resident}

@@ -34,7 +34,7 @@ impl Transform {
     }
 
     /// Whether it exchanges width and height.
-    pub(crate) fn is_turned(self) -> bool
+    pub fn is_turned(self) -> bool
         ensures { result ≡ is_turned self }
     {
         match self {

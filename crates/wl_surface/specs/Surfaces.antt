@@ -3,16 +3,11 @@ use Rattle.std.specs.Prelude.{ℕ, ◌==◌, Bool, true, false, ◌||◌, not, c
 use Rattle.std.specs.List.{list_any}
 use Rattle.std.specs.Option.{option_map}
 use Rattle.wl_surface.specs.Request.{Buffer, Request}
+use Rattle.wl_surface.specs.declared.role.Role.{Role}
 use Rattle.wl_surface.specs.State.{History, applied, apply, held, pending}
 
--- The role of a surface. It is for life: the same one may be given again (wayland.xml, wl_surface).
-pub data Role : Type 0 where
-  AsToplevel : Role
-  AsPopup : Role
-  AsSubsurface : Role
-  AsCursor : Role
-
--- a surface by the id of its wl_surface: what was asked of it, and its role, if it has one
+-- A surface by the id of its wl_surface: what was asked of it, and its role, if it has one. A role is for life: the same one may be given again
+-- (wayland.xml, wl_surface).
 pub record Surface : Type 0 where
   pub id : ℕ
   pub history : History
@@ -45,8 +40,11 @@ abbrev pub link_at : ℕ → Surfaces → Option Link
 link_at number all = find (λ l. l.number == number) all.links
 
 -- a new surface, of which nothing was asked
+abbrev pub new_surface : ℕ → Surface
+new_surface id = record { id = id; history = record { requests = []; cut = 0 }; role = None }
+
 abbrev pub with_new : ℕ → Surfaces → Surfaces
-with_new id all = record all { surfaces = all.surfaces ++ record { id = id; history = record { requests = []; cut = 0 }; role = None } ∷ [] }
+with_new id all = record all { surfaces = all.surfaces ++ new_surface id ∷ [] }
 
 abbrev pub without_surface : ℕ → Surfaces → Surfaces
 without_surface id all = record all { surfaces = filter (λ s. not (s.id == id)) all.surfaces }

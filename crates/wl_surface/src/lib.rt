@@ -3,6 +3,16 @@
 
 ghost use Rattle.wl_surface.specs.Laws.{CommitTakesAll};
 
+mod content;
+mod role;
+mod surface;
+mod surfaces;
+
+pub use content::{Attached, BufferNo, Offset};
+pub use role::{Role, SurfaceError};
+pub use surface::Current;
+pub use surfaces::{MAX_SURFACES, SurfaceNo, Surfaces};
+
 /// After a commit what is held is what was pending, and once the surface is applied that is what counts.
 pub fn commit_takes_all()
     ensures { CommitTakesAll }

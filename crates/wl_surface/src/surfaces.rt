@@ -1,0 +1,308 @@
+//! The surfaces of a client.
+
+ghost use Rattle.std.specs.Prelude.{ℕ, ◌≡◌, ◌≢◌, ◌+◌, ◌<◌, ◌↔◌, List, Option, Some, None, IfOk, OnOk, OnErr, IfErr, IsErr, IsOk, MatchBool, nat_le, unsigned_abs, option_copied, true};
+ghost use Rattle.std.specs.List.{list_any};
+ghost use Rattle.std.specs.Option.{option_map};
+ghost use Rattle.slab.specs.Slab.{entries};
+ghost use Rattle.wl_geom.specs.Region.{Change, Stands as Covers};
+ghost use Rattle.wl_surface.specs.Kept.{Changes, IsAny, IsCopied, IsCurrentAt, kept_at, one_if_kept, Numbered, StandForAll, buffer_of, content_at, count, has_at, is_transform, kept_has, kept_shows, nobody, pending_at, role_at, shows_at, with_at};
+ghost use Rattle.wl_surface.specs.Request.{Attach, Commit, Damage, SetBufferTransform, SetInputRegion, SetOpaqueRegion};
+ghost use Rattle.wl_surface.specs.Surfaces.{applying, asking, new_surface, with_role};
+
+use crate::content::{Attached, BufferNo};
+use crate::role::{Role, SurfaceError};
+use crate::surface::{Current, Surface};
+use slab::Slab;
+use std::alloc::Allocator;
+use std::marker::Model;
+use wl_geom::{Rect, Region};
+use wl_store::Transform;
+
+/// A surface's number among its client's.
+pub type SurfaceNo = usize;
+
+/// How many surfaces a client may have.
+pub const MAX_SURFACES: usize = 256;
+
+/// The surfaces of a client by their numbers. They are seen as what is kept of each.
+#[derive(Drop)]
+pub struct Surfaces<A: Allocator> {
+    slots: Slab<Surface<A>, A>,
+    alloc: A,
+}
+
+impl<A: Allocator> Model for Surfaces<A> {
+    ghost use Rattle.wl_surface.specs.Kept.{Slots};
+
+    ghost Value = { Slots };
+
+    ghost view = { λ surfaces. surfaces.slots.slots };
+}
+
+/// Whether one of the surfaces has the buffer held or applied.
+fn any_shows<A: Allocator>(slots: &Slab<Surface<A>, A>, buffer: BufferNo) -> bool
+    ensures { result ≡ list_any (λ e. kept_shows buffer e.1) (entries slots.now) }
+{
+    for (_, kept) in slots.iter() {
+        if kept.shows(buffer) {
+            return true;
+        }
+    }
+    false
+}
+
+/// Whether one of the surfaces has the buffer pending, held or applied.
+fn any_has<A: Allocator>(slots: &Slab<Surface<A>, A>, buffer: BufferNo) -> bool
+    ensures { result ≡ list_any (λ e. kept_has buffer e.1) (entries slots.now) }
+{
+    for (_, kept) in slots.iter() {
+        if kept.has(buffer) {
+            return true;
+        }
+    }
+    false
+}
+
+/// A copy of the region, as it is set.
+fn copy_of<A: Allocator + Copy>(region: &Region<A>) -> Result<Region<A>, SurfaceError>
+    ensures ok { IfOk result (λ copy. copy ≡ region.now) }
+    ensures err { IfErr result (λ e. e ≡ SurfaceError.Memory) }
+{
+    match region.copy() {
+        Ok(copy) => Ok(copy),
+        Err(_) => Err(SurfaceError::Memory),
+    }
+}
+
+impl<A: Allocator + Copy> Surfaces<A> {
+    /// No surfaces.
+    pub fn new(alloc: A) -> Self
+        ensures stand { StandForAll result nobody }
+        ensures count { count result ≡ 0 }
+    {
+        Surfaces {
+            slots: Slab::new(alloc),
+            alloc,
+        }
+    }
+
+    /// wl_compositor.create_surface: a surface of which nothing was asked, under a number that no other has. A client may have 256 surfaces.
+    /// On an error nothing changes.
+    pub fn create(&mut self) -> Result<SurfaceNo, SurfaceError>
+        ensures ok { IfOk result (λ number. (all : Numbered) (id : ℕ) → StandForAll self.old all
+            → (all number ≡ None) × StandForAll self.new (with_at number (Some (new_surface id)) all)) }
+        ensures count { OnOk result (count self.new ≡ count self.old + 1) }
+        ensures err { OnErr result (self.new ≡ self.old) }
+        ensures cause { IfErr result (λ e. MatchBool (nat_le 256 (count self.old)) (e ≡ SurfaceError.TooMany) (e ≡ SurfaceError.Memory)) }
+    {
+        if MAX_SURFACES <= self.slots.len() {
+            return Err(SurfaceError::TooMany);
+        }
+        let alloc = self.alloc;
+        let number = self.slots.insert(Surface::new(alloc))?;
+        Ok(number)
+    }
+
+    /// wl_surface.set_opaque_region of a copy of the region, in surface pixels, or of none: then no point is said to be opaque. Without memory
+    /// nothing changes.
+    pub fn set_opaque(
+        &mut self,
+        surface: SurfaceNo,
+        region: Option<&Region<A>>,
+    ) -> Result<(), SurfaceError>
+        ensures ok { OnOk result ((changes : Option (List Change)) → IsCopied (option_copied region.entry) changes → Changes self.old self.new surface (asking (SetOpaqueRegion changes))) }
+        ensures err { OnErr result (self.new ≡ self.old) }
+        ensures cause { IfErr result (λ e. e ≡ SurfaceError.Memory) }
+    {
+        match region {
+            Some(region) => self.set_opaque_to(surface, copy_of(region)?),
+            None => self.clear_opaque(surface),
+        }
+        Ok(())
+    }
+
+    /// wl_surface.set_input_region of a copy of the region, in surface pixels, or of none: then each point takes input. Without memory
+    /// nothing changes.
+    pub fn set_input(
+        &mut self,
+        surface: SurfaceNo,
+        region: Option<&Region<A>>,
+    ) -> Result<(), SurfaceError>
+        ensures ok { OnOk result ((changes : Option (List Change)) → IsCopied (option_copied region.entry) changes → Changes self.old self.new surface (asking (SetInputRegion changes))) }
+        ensures err { OnErr result (self.new ≡ self.old) }
+        ensures cause { IfErr result (λ e. e ≡ SurfaceError.Memory) }
+    {
+        match region {
+            Some(region) => self.set_input_to(surface, copy_of(region)?),
+            None => self.clear_input(surface),
+        }
+        Ok(())
+    }
+
+    fn clear_opaque(&mut self, surface: SurfaceNo)
+        ensures { Changes self.old self.new surface (asking (SetOpaqueRegion None)) }
+    {
+        if let Some(kept) = self.slots.get_mut(surface) {
+            kept.clear_opaque();
+        }
+    }
+}
+
+impl<A: Allocator> Surfaces<A> {
+    /// wl_surface.attach of a buffer, or of none, at this offset in pixels. It is pending until the next commit.
+    pub fn attach(&mut self, surface: SurfaceNo, buffer: Option<Attached>, x: i32, y: i32)
+        ensures { Changes self.old self.new surface (asking (Attach (option_map buffer_of buffer) x y)) }
+    {
+        if let Some(kept) = self.slots.get_mut(surface) {
+            kept.attach(buffer, x, y);
+        }
+    }
+
+    /// wl_surface.damage of a rectangle in surface pixels. Without memory nothing changes.
+    pub fn damage(&mut self, surface: SurfaceNo, rect: Rect) -> Result<(), SurfaceError>
+        ensures ok { OnOk result (Changes self.old self.new surface (asking (Damage rect))) }
+        ensures err { OnErr result (self.new ≡ self.old) }
+        ensures cause { IfErr result (λ e. e ≡ SurfaceError.Memory) }
+    {
+        if let Some(kept) = self.slots.get_mut(surface) {
+            kept.damage(rect)?;
+        }
+        Ok(())
+    }
+
+    fn set_opaque_to(&mut self, surface: SurfaceNo, region: Region<A>)
+        ensures { (changes : List Change) → Covers region changes → Changes self.old self.new surface (asking (SetOpaqueRegion (Some changes))) }
+    {
+        if let Some(kept) = self.slots.get_mut(surface) {
+            kept.set_opaque(region);
+        }
+    }
+
+    fn set_input_to(&mut self, surface: SurfaceNo, region: Region<A>)
+        ensures { (changes : List Change) → Covers region changes → Changes self.old self.new surface (asking (SetInputRegion (Some changes))) }
+    {
+        if let Some(kept) = self.slots.get_mut(surface) {
+            kept.set_input(region);
+        }
+    }
+
+    fn clear_input(&mut self, surface: SurfaceNo)
+        ensures { Changes self.old self.new surface (asking (SetInputRegion None)) }
+    {
+        if let Some(kept) = self.slots.get_mut(surface) {
+            kept.clear_input();
+        }
+    }
+
+    fn turn(&mut self, surface: SurfaceNo, number: u32)
+        requires { number < 8 }
+        ensures { Changes self.old self.new surface (asking (SetBufferTransform number)) }
+    {
+        if let Some(kept) = self.slots.get_mut(surface) {
+            kept.set_transform(Transform::from_number(number));
+        }
+    }
+
+    /// wl_surface.set_buffer_transform to one of the eight transforms. `Transform` is refused for any other number, and nothing changes then.
+    pub fn set_transform(&mut self, surface: SurfaceNo, transform: i32) -> Result<(), SurfaceError>
+        ensures ok { OnOk result (Changes self.old self.new surface (asking (SetBufferTransform (unsigned_abs transform)))) }
+        ensures valid { IsOk result ↔ (is_transform transform ≡ true) }
+        ensures err { OnErr result (self.new ≡ self.old) }
+        ensures cause { IfErr result (λ e. e ≡ SurfaceError.Transform) }
+    {
+        if !(0..=7).contains(&transform) {
+            return Err(SurfaceError::Transform);
+        }
+        self.turn(surface, transform.unsigned_abs());
+        Ok(())
+    }
+
+    /// wl_surface.commit: what is pending is applied. Without memory nothing changes.
+    pub fn commit(&mut self, surface: SurfaceNo) -> Result<(), SurfaceError>
+        ensures ok { OnOk result (Changes self.old self.new surface (λ s. applying (asking Commit s))) }
+        ensures err { OnErr result (self.new ≡ self.old) }
+        ensures cause { IfErr result (λ e. e ≡ SurfaceError.Memory) }
+    {
+        if let Some(kept) = self.slots.get_mut(surface) {
+            kept.commit_now()?;
+        }
+        Ok(())
+    }
+
+    /// Gives a surface its role, for life. `Role` is refused exactly where it has another one, and nothing changes then.
+    pub fn give_role(&mut self, surface: SurfaceNo, role: Role) -> Result<(), SurfaceError>
+        ensures ok { OnOk result (Changes self.old self.new surface (with_role role)) }
+        ensures err { OnErr result (self.new ≡ self.old) }
+        ensures refused { (all : Numbered) → StandForAll self.old all → (IsErr result) ↔ ((other : Role) × (role_at (all surface) ≡ Some other) × (other ≢ role)) }
+        ensures cause { IfErr result (λ e. e ≡ SurfaceError.Role) }
+    {
+        if let Some(kept) = self.slots.get_mut(surface) {
+            if !kept.give_role(role) {
+                return Err(SurfaceError::Role);
+            }
+        }
+        Ok(())
+    }
+
+    /// Whether a surface has the buffer held or applied: it is busy, and its client may not write to it (wayland.xml, wl_buffer.release).
+    pub fn is_busy(&self, buffer: BufferNo) -> bool
+        ensures { (all : Numbered) → StandForAll self.now all → IsAny (shows_at buffer) all result }
+    {
+        any_shows(&self.slots, buffer)
+    }
+
+    /// Whether a surface has the buffer pending, held or applied.
+    pub fn is_used(&self, buffer: BufferNo) -> bool
+        ensures { (all : Numbered) → StandForAll self.now all → IsAny (has_at buffer) all result }
+    {
+        any_has(&self.slots, buffer)
+    }
+
+    /// The buffer that the next commit would show.
+    pub fn pending_buffer(&self, surface: SurfaceNo) -> Option<Attached>
+        ensures { (all : Numbered) → StandForAll self.now all → option_map buffer_of result ≡ pending_at (all surface) }
+    {
+        match self.slots.get(surface) {
+            Some(kept) => kept.pending_buffer(),
+            None => None,
+        }
+    }
+
+    /// Whether a surface has a buffer pending, held or applied.
+    pub fn has_content(&self, surface: SurfaceNo) -> bool
+        ensures { (all : Numbered) → StandForAll self.now all → result ≡ content_at (all surface) }
+    {
+        match self.slots.get(surface) {
+            Some(kept) => kept.has_content(),
+            None => false,
+        }
+    }
+
+    /// What counts of a surface, if there is such a one.
+    pub fn current(&self, surface: SurfaceNo) -> Option<Current<'_, A>>
+        ensures { (all : Numbered) → StandForAll self.now all → IsCurrentAt result (all surface) }
+    {
+        match self.slots.get(surface) {
+            Some(kept) => Some(kept.current()),
+            None => None,
+        }
+    }
+
+    /// wl_surface.destroy: the surface is gone. Nothing changes where there is none of this number.
+    pub fn destroy(&mut self, surface: SurfaceNo)
+        ensures stand { (all : Numbered) → StandForAll self.old all → StandForAll self.new (with_at surface None all) }
+        ensures count { count self.new + one_if_kept (kept_at self.old surface) ≡ count self.old }
+    {
+        self.slots.try_remove(surface);
+    }
+
+    /// The role of a surface, if it has one.
+    pub fn role(&self, surface: SurfaceNo) -> Option<Role>
+        ensures { (all : Numbered) → StandForAll self.now all → result ≡ role_at (all surface) }
+    {
+        match self.slots.get(surface) {
+            Some(kept) => kept.role(),
+            None => None,
+        }
+    }
+}
