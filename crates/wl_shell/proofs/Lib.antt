@@ -1,2 +1,4 @@
+pub mod Books
 pub mod Rows
 pub mod Serials
+pub mod Waiting

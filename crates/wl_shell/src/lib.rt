@@ -3,6 +3,18 @@
 
 ghost use Rattle.wl_shell.specs.Laws.{AcknowledgementForgets};
 
+mod acts;
+mod error;
+mod shell;
+mod stage;
+mod xdg_surface;
+
+pub use acts::{Placed, ShellAct};
+pub use error::ShellError;
+pub use shell::{Shell, SurfaceNo};
+pub use stage::Stage;
+pub use xdg_surface::{Toplevel, XdgSurface};
+
 /// An acknowledgement of a serial that waits leaves fewer.
 pub fn acknowledgement_forgets()
     ensures { AcknowledgementForgets }
