@@ -51,14 +51,12 @@ is_of_base base entry = entry.1.base == base
 abbrev pub first_kept : ℕ → ℕ → Kept
 first_kept id base = record { id = id; base = base; role = None; serials = []; pending = None; applied = None }
 
+-- what was asked is forgotten, and so are the serials
+abbrev pub kept_forgetting : Kept → Kept
+kept_forgetting k = record k { serials = []; pending = None; applied = None }
+
 abbrev pub kept_toplevel : ℕ → Kept → Kept
-kept_toplevel id k =
-    record k {
-      role = Some (record { id = id; kind = Toplevel; stage = Fresh });
-      serials = [];
-      pending = None;
-      applied = None;
-    }
+kept_toplevel id k = record (kept_forgetting k) { role = Some (record { id = id; kind = Toplevel; stage = Fresh }) }
 
 abbrev pub kept_asking : Rect → Kept → Kept
 kept_asking rect k = record k { pending = Some rect }
@@ -70,7 +68,7 @@ abbrev pub kept_configuring : ℕ → Kept → Kept
 kept_configuring serial k = record k { serials = k.serials ++ serial ∷ [] }
 
 abbrev pub kept_without_role : Kept → Kept
-kept_without_role k = record k { role = None; serials = [] }
+kept_without_role k = record (kept_forgetting k) { role = None }
 
 -- what is pending counts
 abbrev pub kept_applied : Kept → Kept
@@ -79,9 +77,8 @@ kept_applied k = record k { applied = k.pending }
 abbrev pub kept_in_stage : Stage → Kept → Kept
 kept_in_stage stage k = record k { role = option_map (at_stage stage) k.role }
 
--- what was asked is forgotten, with the serials
 abbrev pub kept_unmapping : Kept → Kept
-kept_unmapping k = record k { role = option_map (at_stage Fresh) k.role; serials = []; pending = None; applied = None }
+kept_unmapping k = kept_in_stage Fresh (kept_forgetting k)
 
 abbrev pub kept_after : ℕ → ShellAct → Kept → Kept
 kept_after serial (Configure placed) k = kept_configuring serial (kept_in_stage Waiting (kept_applied k))

@@ -1,7 +1,7 @@
 //! The shell's side of surfaces: the states of xdg surfaces, and where popups are placed.
 #![tactic(auto)]
 
-ghost use Rattle.wl_shell.specs.Laws.{AcknowledgementForgets};
+ghost use Rattle.wl_shell.specs.Laws.{AcknowledgementForgets, ChangesStand};
 
 mod acts;
 mod error;
@@ -18,4 +18,9 @@ pub use xdg_surface::{Toplevel, XdgSurface};
 /// An acknowledgement of a serial that waits leaves fewer.
 pub fn acknowledgement_forgets()
     ensures { AcknowledgementForgets }
+{}
+
+/// What is kept of an xdg_surface stands for what the definition says of it, and does so after each call too.
+pub fn changes_stand()
+    ensures { ChangesStand }
 {}

@@ -4,7 +4,7 @@ ghost use Rattle.std.specs.Prelude.{◌≡◌, ◌≢◌, ◌<◌, ℕ, false, O
 ghost use Rattle.std.specs.Option.{option_map};
 ghost use Rattle.arrayvec.specs.ArrayVec.{array_vec_len};
 ghost use Rattle.wl_shell.specs.Shell.{is_full, is_waiting, later_than};
-ghost use Rattle.wl_shell.specs.Kept.{acknowledgement_answer, commit_answer, configure_answer, destruction_answer, first_kept, geometry_answer, kept_acknowledging, kept_after, kept_asking, kept_configured, kept_configuring, kept_in_stage, kept_toplevel, kept_unmapping, kept_without_role, role_of, stage_in, toplevel_answer};
+ghost use Rattle.wl_shell.specs.Kept.{acknowledgement_answer, commit_answer, configure_answer, destruction_answer, first_kept, geometry_answer, kept_acknowledging, kept_after, kept_asking, kept_configured, kept_configuring, kept_forgetting, kept_in_stage, kept_toplevel, kept_unmapping, kept_without_role, role_of, stage_in, toplevel_answer};
 ghost use Rattle.wl_shell.specs.declared.acts.Placed.{Placed};
 ghost use Rattle.wl_shell.specs.declared.acts.ShellAct.TheVariants.{Configure};
 
@@ -118,12 +118,21 @@ impl XdgSurface {
         self.applied
     }
 
+    /// What was asked is forgotten, and so are the serials.
+    fn forget(&mut self)
+        ensures { self.new ≡ kept_forgetting self.old }
+    {
+        self.serials.clear();
+        self.pending = None;
+        self.applied = None;
+    }
+
     pub(crate) fn get_toplevel(&mut self, id: u32, has_other_role: bool) -> Result<(), ShellError>
         ensures answer { result ≡ toplevel_answer has_other_role (Some self.old) }
         ensures ok { OnOk result (self.new ≡ kept_toplevel id self.old) }
         ensures err { OnErr result (self.new ≡ self.old) }
     {
-        if self.role.is_some() {
+        if self.has_role() {
             return Err(ShellError::AlreadyConstructed);
         }
         if has_other_role {
@@ -133,9 +142,7 @@ impl XdgSurface {
             id,
             stage: Stage::Fresh,
         });
-        self.serials.clear();
-        self.pending = None;
-        self.applied = None;
+        self.forget();
         Ok(())
     }
 
@@ -144,7 +151,7 @@ impl XdgSurface {
         ensures ok { OnOk result (self.new ≡ kept_asking rect self.old) }
         ensures err { OnErr result (self.new ≡ self.old) }
     {
-        if self.role.is_none() {
+        if !self.has_role() {
             return Err(ShellError::NotConstructed);
         }
         if rect.w <= 0 || rect.h <= 0 {
@@ -218,9 +225,7 @@ impl XdgSurface {
         ensures { self.new ≡ kept_unmapping self.old }
     {
         self.set_stage(Stage::Fresh);
-        self.serials.clear();
-        self.pending = None;
-        self.applied = None;
+        self.forget();
     }
 
     /// A commit comes to this.
@@ -272,6 +277,6 @@ impl XdgSurface {
         ensures { self.new ≡ kept_without_role self.old }
     {
         self.role = None;
-        self.serials.clear();
+        self.forget();
     }
 }
