@@ -1,6 +1,6 @@
 //! One xdg_surface.
 
-ghost use Rattle.std.specs.Prelude.{◌≡◌, ◌≢◌, ◌<◌, ℕ, false, Option, Some, OnOk, OnErr, IfOk, IfSome, IfNone, drop, is_some, length, slice_index_or};
+ghost use Rattle.std.specs.Prelude.{◌≡◌, ◌≢◌, ◌<◌, ◌↔◌, ℕ, false, Option, Some, OnOk, OnErr, IfOk, IfSome, IfNone, IsTrue, drop, is_some, length, slice_index_or};
 ghost use Rattle.std.specs.Option.{option_map};
 ghost use Rattle.arrayvec.specs.ArrayVec.{array_vec_len};
 ghost use Rattle.wl_shell.specs.Shell.{is_full, is_waiting, later_than};
@@ -108,6 +108,13 @@ impl XdgSurface {
         ensures { result ≡ is_some self.now.role }
     {
         self.role.is_some()
+    }
+
+    /// Its surface is mapped.
+    pub fn is_mapped(&self) -> bool
+        ensures { IsTrue result ↔ (stage_in self.now ≡ Some Stage.Mapped) }
+    {
+        self.stage() == Some(Stage::Mapped)
     }
 
     /// The window geometry that counts, if one was set since its role object was made and since its surface was last unmapped
