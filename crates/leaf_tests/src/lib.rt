@@ -6,4 +6,6 @@ mod regions;
 #[cfg(test)]
 mod scenes;
 #[cfg(test)]
+mod shells;
+#[cfg(test)]
 mod stores;

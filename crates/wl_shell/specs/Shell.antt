@@ -3,13 +3,8 @@ use Rattle.std.specs.Option.{option_map}
 use Rattle.std.specs.Prelude.{ℕ, ◌+◌, ◌==◌, nat_le, Bool, true, false, not, cond, if◌then◌else◌, Option, Some, None, List, [], ◌∷◌, ◌++◌, length, find, map, filter}
 use Rattle.std.specs.List.{list_any}
 use Rattle.wl_shell.specs.Positioner.{Placed, Positioner}
-
--- how far a role object is: nothing was configured; a configure is to be acknowledged; one was; its surface is mapped
-pub data Stage : Type 0 where
-  Fresh : Stage
-  Waiting : Stage
-  Ready : Stage
-  Mapped : Stage
+pub use Rattle.wl_shell.specs.declared.stage.Stage.{Stage}
+pub use Rattle.wl_shell.specs.declared.stage.Stage.TheVariants.{Fresh, Waiting, Ready, Mapped}
 
 -- A popup: the xdg_surface of its parent, the copy of its positioner, where it was placed last, whether it was dismissed, whether it has a
 -- grab, and its number among the popups in order of creation.
@@ -144,3 +139,37 @@ answers_states Mapped = true
 -- serials are one counter of a client: after 4,294,967,295 comes 1
 abbrev pub next_serial : ℕ → ℕ
 next_serial serial = if serial == 4294967295 then 1 else serial + 1
+
+-- ---- what each change makes of an xdg_surface
+
+-- a configure's serial waits to be acknowledged
+abbrev pub configuring : ℕ → XdgSurface → XdgSurface
+configuring serial x = record x { serials = x.serials ++ serial ∷ [] }
+
+-- The serials are forgotten, and no window geometry counts that was asked before this place.
+abbrev pub forgetting : ℕ → XdgSurface → XdgSurface
+forgetting since x = record x { serials = []; since = since }
+
+abbrev pub unmapping : ℕ → XdgSurface → XdgSurface
+unmapping since x = in_stage Fresh (forgetting since x)
+
+abbrev pub new_toplevel : ℕ → ℕ → XdgSurface → XdgSurface
+new_toplevel id since x = record x { role = Some (record { id = id; kind = Toplevel; stage = Fresh }); serials = []; since = since }
+
+-- a role object goes, and the serials with it
+abbrev pub without_role : XdgSurface → XdgSurface
+without_role x = record x { role = None; serials = [] }
+
+abbrev pub role_acknowledged : RoleObject → RoleObject
+role_acknowledged object = at_stage (acknowledged object.stage) object
+
+abbrev pub acknowledging : ℕ → XdgSurface → XdgSurface
+acknowledging serial x = record x { role = option_map role_acknowledged x.role; serials = later_than serial x.serials }
+
+-- What a commit comes to. Its configure has this serial, and so many requests, the commit among them, were made of its surface.
+abbrev pub with_effect : ℕ → ℕ → Effect → XdgSurface → XdgSurface
+with_effect serial since Stays x = x
+with_effect serial since Unconfigured x = x
+with_effect serial since Configures x = configuring serial (in_stage Waiting x)
+with_effect serial since Maps x = in_stage Mapped x
+with_effect serial since Unmaps x = unmapping since x

@@ -1,9 +1,26 @@
 //! The shell's side of surfaces: the states of xdg surfaces, and where popups are placed.
 #![tactic(auto)]
 
-ghost use Rattle.wl_shell.specs.Laws.{AcknowledgementForgets};
+ghost use Rattle.wl_shell.specs.Laws.{AcknowledgementForgets, ChangesStand};
+
+mod acts;
+mod error;
+mod shell;
+mod stage;
+mod xdg_surface;
+
+pub use acts::{Placed, ShellAct};
+pub use error::ShellError;
+pub use shell::Shell;
+pub use stage::Stage;
+pub use xdg_surface::{Toplevel, XdgSurface};
 
 /// An acknowledgement of a serial that waits leaves fewer.
 pub fn acknowledgement_forgets()
     ensures { AcknowledgementForgets }
+{}
+
+/// What is kept of an xdg_surface stands for what the definition says of it, and does so after each call too.
+pub fn changes_stand()
+    ensures { ChangesStand }
 {}

@@ -198,7 +198,7 @@ Stands-committed k h new s moved =
     let input = sym (latest-newer k.pending_input k.held_input k.current_input) in
     let shows = subst (λ (v : Values). Shows k.pending_buffer k.pending_transform (latest k.pending_opaque (latest k.held_opaque k.current_opaque)) (latest k.pending_input (latest k.held_input k.current_input)) v) (sym (values-asked h.requests Commit)) s.pending in
     let layered = subst (λ (a : Area). Shows k.pending_buffer k.pending_transform a (latest (option_or k.pending_input k.held_input) k.current_input) (values (h.requests ++ Commit ∷ []))) opaque
-        (subst (λ (a : Option Area). Shows k.pending_buffer k.pending_transform (latest k.pending_opaque (latest k.held_opaque k.current_opaque)) a (values (h.requests ++ Commit ∷ []))) input shows) in
+    (subst (λ (a : Option Area). Shows k.pending_buffer k.pending_transform (latest k.pending_opaque (latest k.held_opaque k.current_opaque)) a (values (h.requests ++ Commit ∷ []))) input shows) in
     let place : HasMoved new (h.requests ++ Commit ∷ []) = (m.0 ∙ ap (λ (x : Moving). x.x) offsets, m.1 ∙ ap (λ (x : Moving). x.y) offsets) in record {
       pending = layered;
       held = subst (λ (v : Values). Shows k.pending_buffer k.pending_transform (latest (option_or k.pending_opaque k.held_opaque) k.current_opaque) (latest (option_or k.pending_input k.held_input) k.current_input) v) (ap values whole) layered;

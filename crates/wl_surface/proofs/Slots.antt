@@ -45,9 +45,9 @@ standing-for slots number other k new change all false differs e to stand =
 
 pub Changes-at : (slots : Slots) (number : ℕ) (k new : Kept) (change : Surface → Surface) → kept_at slots number ≡ Some k → ((s : Surface) → StandsFor k s → StandsFor new (change s)) → Changes slots (slice_set slots number (Some new)) number change
 Changes-at slots number k new change e to = record {
-    stand = λ all stand other. standing-for slots number other k new change all (other == number) refl e to stand;
-    count = counted-after slots number k new e;
-  }
+  stand = λ all stand other. standing-for slots number other k new change all (other == number) refl e to stand;
+  count = counted-after slots number k new e;
+}
 
 nobody-at : (change : Surface → Surface) (at : Option Surface) → StandsAt None at → option_map change at ≡ at
 nobody-at change None s = refl
@@ -56,9 +56,9 @@ nobody-at change (Some at) s = absurd (s)
 -- where none is, none changes
 pub Changes-none : (slots : Slots) (number : ℕ) (change : Surface → Surface) → kept_at slots number ≡ None → Changes slots slots number change
 Changes-none slots number change e = record {
-    stand = λ all stand other. none-changes slots number other change all (other == number) refl e stand;
-    count = refl;
-  } where
+  stand = λ all stand other. none-changes slots number other change all (other == number) refl e stand;
+  count = refl;
+} where
   none-changes : (slots : Slots) (number other : ℕ) (change : Surface → Surface) (all : Numbered) (b : Bool) → (other == number) ≡ b → kept_at slots number ≡ None → StandForAll slots all → StandsAt (kept_at slots other) (cond b (option_map change (all other)) (all other))
   none-changes slots number other change all true same e stand =
       let at = eqb-true other number same in
@@ -70,16 +70,16 @@ pub with-new : (old new : Slots) (number : ℕ) (k : Kept) (s : Surface) → kep
     → (all : Numbered) → StandForAll old all → (all number ≡ None) × StandForAll new (with_at number (Some s) all)
 with-new old new number k s none here others t all stand =
     (no-surface (all number) (subst (λ (slot : Option Kept). StandsAt slot (all number)) none (stand number)), λ other. stands-new old new number other k s all (other == number) refl here others t stand) where
-  no-surface : (at : Option Surface) → StandsAt None at → at ≡ None
-  no-surface None s = refl
-  no-surface (Some at) s = absurd (s)
+      no-surface : (at : Option Surface) → StandsAt None at → at ≡ None
+      no-surface None s = refl
+      no-surface (Some at) s = absurd (s)
 
-  stands-new : (old new : Slots) (number other : ℕ) (k : Kept) (s : Surface) (all : Numbered) (b : Bool) → (other == number) ≡ b → kept_at new number ≡ Some k → ((other : ℕ) → other ≢ number → kept_at new other ≡ kept_at old other) → StandsFor k s → StandForAll old all
-      → StandsAt (kept_at new other) (cond b (Some s) (all other))
-  stands-new old new number other k s all true same here others t stand =
-      subst (λ (slot : Option Kept). StandsAt slot (Some s)) (sym (ap (kept_at new) (eqb-true other number same) ∙ here)) t
-  stands-new old new number other k s all false differs here others t stand =
-      subst (λ (slot : Option Kept). StandsAt slot (all other)) (sym (others other (eqb-false other number differs))) (stand other)
+      stands-new : (old new : Slots) (number other : ℕ) (k : Kept) (s : Surface) (all : Numbered) (b : Bool) → (other == number) ≡ b → kept_at new number ≡ Some k → ((other : ℕ) → other ≢ number → kept_at new other ≡ kept_at old other) → StandsFor k s → StandForAll old all
+          → StandsAt (kept_at new other) (cond b (Some s) (all other))
+      stands-new old new number other k s all true same here others t stand =
+          subst (λ (slot : Option Kept). StandsAt slot (Some s)) (sym (ap (kept_at new) (eqb-true other number same) ∙ here)) t
+      stands-new old new number other k s all false differs here others t stand =
+          subst (λ (slot : Option Kept). StandsAt slot (all other)) (sym (others other (eqb-false other number differs))) (stand other)
 
 -- a surface less
 pub without-one : (old new : Slots) (number : ℕ) → kept_at new number ≡ None → ((other : ℕ) → other ≢ number → kept_at new other ≡ kept_at old other)
@@ -132,9 +132,9 @@ none-from p key (Some x ∷ slots) e (suc number) k at = none-from p (key + 1) s
 pub IsAny-kept : (p : Kept → Bool) (q : Option Surface → Bool) → q None ≡ false → ((k : Kept) (s : Surface) → StandsFor k s → p k ≡ q (Some s)) → (slots : Slots) (all : Numbered) → StandForAll slots all → (b : Bool) → list_any (λ e. p e.1) (entries_from 0 slots) ≡ b → IsAny q all b
 IsAny-kept p q idle same slots all stand true e =
     let f = found-from p 0 slots e in (f.0, one (all f.0) f.1 (subst (λ (slot : Option Kept). StandsAt slot (all f.0)) f.2 (stand f.0)) f.3) where
-  one : (at : Option Surface) (k : Kept) → StandsAt (Some k) at → p k ≡ true → q at ≡ true
-  one None k s is = absurd (s)
-  one (Some at) k s is = sym (same k at s) ∙ is
+      one : (at : Option Surface) (k : Kept) → StandsAt (Some k) at → p k ≡ true → q at ≡ true
+      one None k s is = absurd (s)
+      one (Some at) k s is = sym (same k at s) ∙ is
 IsAny-kept p q idle same slots all stand false e = λ number. none (kept_at slots number) (all number) (stand number) (none-from p 0 slots e number) where
   none : (slot : Option Kept) (at : Option Surface) → StandsAt slot at → ((k : Kept) → slot ≡ Some k → p k ≡ false) → q at ≡ false
   none None None s lacks = idle

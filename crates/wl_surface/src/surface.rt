@@ -44,7 +44,7 @@ pub(crate) struct Surface<A: Allocator> {
 
 impl<A: Allocator> Model for Surface<A> {
     ghost use Rattle.wl_store.specs.Transform.{transform_of};
-ghost use Rattle.wl_surface.specs.Kept.{IsCurrent, Kept};
+    ghost use Rattle.wl_surface.specs.Kept.{IsCurrent, Kept};
 
     ghost Value = { Kept };
 

@@ -1,0 +1,23 @@
+//! What a commit comes to.
+
+/// Where a popup is placed, relative to the corner of its parent's window geometry, in pixels.
+#[derive(Clone, Copy, Debug, PartialEq, Eq)]
+pub struct Placed {
+    pub x: i32,
+    pub y: i32,
+    pub w: i32,
+    pub h: i32,
+}
+
+/// What a commit comes to (wayland.xml, wl_surface.commit; xdg-shell.xml, xdg_surface).
+#[derive(Clone, Copy, Debug, PartialEq, Eq)]
+pub enum ShellAct {
+    /// The role object's configure and that of the xdg_surface are to be sent; a popup's says where it is placed.
+    Configure(Option<Placed>),
+    /// The surface is mapped.
+    Map,
+    /// The surface isn't mapped any more.
+    Unmap,
+    /// Nothing more than the commit itself.
+    Nothing,
+}
