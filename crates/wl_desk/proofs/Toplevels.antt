@@ -18,7 +18,8 @@ use Rattle.wl_desk.specs.Step.{beyond_toplevels}
 use Rattle.wl_desk.specs.Ask.{CreateSurface, ConfigureAgain}
 use Rattle.wl_desk.specs.WlSurface.{refuse_limit, surface_created}
 use Rattle.wl_desk.specs.XdgShell.{configured_again}
-use Rattle.wl_shell.specs.Shell.{Toplevel, Waiting, XdgSurface}
+use Rattle.wl_shell.specs.declared.stage.Stage.TheVariants.{Waiting}
+use Rattle.wl_shell.specs.Shell.{Toplevel, XdgSurface}
 
 -- two clients on an output of 64 by 64
 abbrev pub start : Desktop

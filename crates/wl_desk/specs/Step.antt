@@ -23,7 +23,8 @@ use Rattle.wl_surface.specs.Request.{Buffer, Request, Commit}
 use Rattle.wl_surface.specs.State.{History}
 use Rattle.wl_surface.specs.Surfaces.{Surfaces, applying, asking, buffers_of, history_in, is_used, with_change, with_new, with_role, without_surface}
 use Rattle.wl_surface.specs.declared.role.Role.TheVariants.{Toplevel as AsToplevel}
-use Rattle.wl_shell.specs.Shell.{Effect, Stays, Unconfigured, Configures, Maps, Unmaps, Fresh, Waiting, Mapped, Toplevel, RoleObject, Shell, XdgSurface as Xdg, acknowledged, in_stage, later_than, next_serial, xdg_at, xdg_of, without_xdg}
+use Rattle.wl_shell.specs.declared.stage.Stage.TheVariants.{Waiting, Mapped}
+use Rattle.wl_shell.specs.Shell.{Effect, Stays, Unconfigured, Configures, Maps, Unmaps, RoleObject, Shell, XdgSurface as Xdg, acknowledging, configuring, in_stage, new_toplevel, next_serial, unmapping, without_role, xdg_at, xdg_of, without_xdg}
 use Rattle.wl_shell.specs.Shell.{with_change as with_xdg_change, with_new as with_new_xdg}
 use Rattle.wl_scene.specs.Stacking.{with_mapped, without_surface_of}
 use Rattle.wl_desk.specs.Ask.{Ask, Own, CreateSurface, DestroySurface, AskSurface, CommitSurface, DestroyBase, GetXdgSurface, DestroyXdgSurface, GetToplevel, Acknowledge, ConfigureAgain, DestroyToplevel, Ignore, owns}
@@ -142,9 +143,6 @@ abbrev pub xdg_changed : ℕ → (Xdg → Xdg) → Resident → Resident
 xdg_changed id change r = with_shell (with_xdg_change id change r.owned.shell) r
 
 -- A configure draws the next serial, which waits to be acknowledged.
-abbrev pub configuring : ℕ → Xdg → Xdg
-configuring serial x = record x { serials = x.serials ++ serial ∷ [] }
-
 abbrev pub configured : ℕ → Resident → Resident
 configured id r =
     with_peer (record r.peer { serial = next_serial r.peer.serial }) (xdg_changed id (configuring r.peer.serial) r)
@@ -152,13 +150,6 @@ configured id r =
 -- how many requests were made of a surface
 abbrev pub asked_so_far : ℕ → Resident → ℕ
 asked_so_far surface r = option_map_or (λ h. length h.requests) (history_in surface r.owned.surfaces) 0
-
--- a surface that is unmapped forgets its window geometry and its serials
-abbrev pub forgetting : ℕ → Xdg → Xdg
-forgetting since x = record x { serials = []; since = since }
-
-abbrev pub unmapping : ℕ → Xdg → Xdg
-unmapping since x = in_stage Fresh (forgetting since x)
 
 abbrev pub effect_on : ℕ → Effect → Option Xdg → Resident → Resident
 effect_on surface effect None r = r
@@ -168,25 +159,11 @@ effect_on surface Configures (Some x) r = configured x.id (xdg_changed x.id (in_
 effect_on surface Maps (Some x) r = xdg_changed x.id (in_stage Mapped) r
 effect_on surface Unmaps (Some x) r = xdg_changed x.id (unmapping (asked_so_far surface r)) r
 
-abbrev pub new_toplevel : ℕ → ℕ → Xdg → Xdg
-new_toplevel id since x = record x { role = Some (record { id = id; kind = Toplevel; stage = Fresh }); serials = []; since = since }
-
 abbrev pub toplevel_given : ℕ → ℕ → Option Xdg → Resident → Resident
 toplevel_given id xdg None r = r
 toplevel_given id xdg (Some x) r =
     xdg_changed xdg (new_toplevel id (asked_so_far x.surface r))
     (with_surfaces (with_change x.surface (with_role AsToplevel) r.owned.surfaces) r)
-
--- a role object goes, and its serials with it
-abbrev pub without_role : Xdg → Xdg
-without_role x = record x { role = None; serials = [] }
-
-abbrev pub stage_acknowledged : ℕ → Option RoleObject → Option RoleObject
-stage_acknowledged serial None = None
-stage_acknowledged serial (Some object) = Some (record object { stage = acknowledged object.stage })
-
-abbrev pub acknowledging : ℕ → Xdg → Xdg
-acknowledging serial x = record x { role = stage_acknowledged serial x.role; serials = later_than serial x.serials }
 
 abbrev pub making : Interface → ℕ → ℕ → Resident → Resident
 making interface id version r = with_peer (made id (object_at_version interface version) r.peer) r
