@@ -1,14 +1,16 @@
 //! The surfaces of a client.
 
-ghost use Rattle.std.specs.Prelude.{ℕ, ◌≡◌, ◌≢◌, ◌+◌, ◌<◌, ◌↔◌, List, Option, Some, None, IfOk, OnOk, OnErr, IfErr, IsErr, IsOk, MatchBool, nat_le, unsigned_abs, option_copied, true};
+ghost use Rattle.std.specs.Prelude.{ℕ, [], ◌≡◌, ◌≢◌, ◌+◌, ◌<◌, ◌≤◌, ◌||◌, ◌==◌, vec_len, vec_capacity, ◌↔◌, List, Option, Some, None, IfOk, OnOk, OnErr, IfErr, IsErr, IsOk, MatchBool, nat_le, unsigned_abs, option_copied, true};
 ghost use Rattle.std.specs.List.{list_any};
 ghost use Rattle.std.specs.Option.{option_map};
 ghost use Rattle.slab.specs.Slab.{entries};
-ghost use Rattle.wl_geom.specs.Region.{Change, Stands as Covers};
-ghost use Rattle.wl_surface.specs.Kept.{Changes, IsAny, IsCopied, IsCurrentAt, kept_at, one_if_kept, Numbered, StandForAll, buffer_of, content_at, count, has_at, is_transform, kept_has, kept_shows, nobody, pending_at, role_at, shows_at, with_at};
+ghost use Rattle.wl_geom.specs.Region.{Change as RegionChange, Stands as Covers};
+ghost use Rattle.wl_surface.specs.Applied.{AreChanges, AreFreed, with_freed};
+ghost use Rattle.wl_surface.specs.Kept.{Changes, IsAny, changed_at, shown_of, IsCopied, IsCurrentAt, kept_at, one_if_kept, Numbered, StandForAll, buffer_of, content_at, count, has_at, is_transform, kept_has, kept_shows, nobody, pending_at, role_at, shows_at, with_at};
 ghost use Rattle.wl_surface.specs.Request.{Attach, Commit, Damage, SetBufferTransform, SetInputRegion, SetOpaqueRegion};
 ghost use Rattle.wl_surface.specs.Surfaces.{applying, asking, new_surface, with_role};
 
+use crate::applied::Applied;
 use crate::content::{Attached, BufferNo};
 use crate::role::{Role, SurfaceError};
 use crate::surface::{Current, Surface};
@@ -63,6 +65,42 @@ fn any_has<A: Allocator>(slots: &Slab<Surface<A>, A>, buffer: BufferNo) -> bool
     false
 }
 
+/// Whether the number is among these.
+fn is_among(numbers: &[BufferNo], number: BufferNo) -> bool
+    ensures { result ≡ list_any (λ n. n == number) numbers.now }
+{
+    numbers.iter().any(|other| *other == number)
+}
+
+/// Whether the buffer is busy, or among those that are freed.
+fn is_busy_or_among<A: Allocator>(
+    slots: &Slab<Surface<A>, A>,
+    freed: &[BufferNo],
+    number: BufferNo,
+) -> bool
+    ensures { result ≡ (list_any (λ e. kept_shows number e.1) (entries slots.now) || list_any (λ n. n == number) freed.now) }
+{
+    any_shows(slots, number) || is_among(freed, number)
+}
+
+/// Adds the buffer, if it isn't busy and isn't among them. There is room for it.
+fn add_freed<A: Allocator>(
+    slots: &Slab<Surface<A>, A>,
+    buffer: Option<Attached>,
+    freed: &mut Vec<BufferNo, A>,
+)
+    requires { vec_len freed.old < vec_capacity freed.old }
+    ensures items { freed.new.items ≡ with_freed (λ b. list_any (λ e. kept_shows b e.1) (entries slots.now)) (option_map buffer_of buffer) freed.old.items }
+    ensures len { vec_len freed.new ≤ vec_len freed.old + 1 }
+    ensures capacity { vec_capacity freed.new ≡ vec_capacity freed.old }
+{
+    if let Some(attached) = buffer {
+        if !is_busy_or_among(slots, freed, attached.number) {
+            freed.push_reserved(attached.number);
+        }
+    }
+}
+
 /// A copy of the region, as it is set.
 fn copy_of<A: Allocator + Copy>(region: &Region<A>) -> Result<Region<A>, SurfaceError>
     ensures ok { IfOk result (λ copy. copy ≡ region.now) }
@@ -110,7 +148,7 @@ impl<A: Allocator + Copy> Surfaces<A> {
         surface: SurfaceNo,
         region: Option<&Region<A>>,
     ) -> Result<(), SurfaceError>
-        ensures ok { OnOk result ((changes : Option (List Change)) → IsCopied (option_copied region.entry) changes → Changes self.old self.new surface (asking (SetOpaqueRegion changes))) }
+        ensures ok { OnOk result ((changes : Option (List RegionChange)) → IsCopied (option_copied region.entry) changes → Changes self.old self.new surface (asking (SetOpaqueRegion changes))) }
         ensures err { OnErr result (self.new ≡ self.old) }
         ensures cause { IfErr result (λ e. e ≡ SurfaceError.Memory) }
     {
@@ -128,7 +166,7 @@ impl<A: Allocator + Copy> Surfaces<A> {
         surface: SurfaceNo,
         region: Option<&Region<A>>,
     ) -> Result<(), SurfaceError>
-        ensures ok { OnOk result ((changes : Option (List Change)) → IsCopied (option_copied region.entry) changes → Changes self.old self.new surface (asking (SetInputRegion changes))) }
+        ensures ok { OnOk result ((changes : Option (List RegionChange)) → IsCopied (option_copied region.entry) changes → Changes self.old self.new surface (asking (SetInputRegion changes))) }
         ensures err { OnErr result (self.new ≡ self.old) }
         ensures cause { IfErr result (λ e. e ≡ SurfaceError.Memory) }
     {
@@ -137,6 +175,32 @@ impl<A: Allocator + Copy> Surfaces<A> {
             None => self.clear_input(surface),
         }
         Ok(())
+    }
+
+    /// wl_surface.commit: what is pending is applied, and what that changes is told. Without memory nothing changes.
+    pub fn commit(&mut self, surface: SurfaceNo) -> Result<Applied<A>, SurfaceError>
+        ensures ok { OnOk result (Changes self.old self.new surface (λ s. applying (asking Commit s))) }
+        ensures changes { IfOk result (λ applied. (all : Numbered) → StandForAll self.old all → AreChanges surface (all surface) applied.changes.items) }
+        ensures freed { IfOk result (λ applied. (all : Numbered) → StandForAll self.old all
+            → AreFreed applied.freed.items all (changed_at surface (λ s. applying (asking Commit s)) all)) }
+        ensures callbacks { IfOk result (λ applied. applied.callbacks.items ≡ []) }
+        ensures err { OnErr result (self.new ≡ self.old) }
+        ensures cause { IfErr result (λ e. e ≡ SurfaceError.Memory) }
+    {
+        let alloc = self.alloc;
+        let mut changes = Vec::with_capacity(alloc, 1)?;
+        let mut freed = Vec::with_capacity(alloc, 2)?;
+        let (current, held) = self.shown(surface);
+        if let Some(kept) = self.slots.get_mut(surface) {
+            changes.push_reserved(kept.commit_change(surface, alloc)?);
+        }
+        add_freed(&self.slots, current, &mut freed);
+        add_freed(&self.slots, held, &mut freed);
+        Ok(Applied {
+            changes,
+            freed,
+            callbacks: Vec::new(alloc),
+        })
     }
 
     fn clear_opaque(&mut self, surface: SurfaceNo)
@@ -171,7 +235,7 @@ impl<A: Allocator> Surfaces<A> {
     }
 
     fn set_opaque_to(&mut self, surface: SurfaceNo, region: Region<A>)
-        ensures { (changes : List Change) → Covers region changes → Changes self.old self.new surface (asking (SetOpaqueRegion (Some changes))) }
+        ensures { (changes : List RegionChange) → Covers region changes → Changes self.old self.new surface (asking (SetOpaqueRegion (Some changes))) }
     {
         if let Some(kept) = self.slots.get_mut(surface) {
             kept.set_opaque(region);
@@ -179,7 +243,7 @@ impl<A: Allocator> Surfaces<A> {
     }
 
     fn set_input_to(&mut self, surface: SurfaceNo, region: Region<A>)
-        ensures { (changes : List Change) → Covers region changes → Changes self.old self.new surface (asking (SetInputRegion (Some changes))) }
+        ensures { (changes : List RegionChange) → Covers region changes → Changes self.old self.new surface (asking (SetInputRegion (Some changes))) }
     {
         if let Some(kept) = self.slots.get_mut(surface) {
             kept.set_input(region);
@@ -214,18 +278,6 @@ impl<A: Allocator> Surfaces<A> {
             return Err(SurfaceError::Transform);
         }
         self.turn(surface, transform.unsigned_abs());
-        Ok(())
-    }
-
-    /// wl_surface.commit: what is pending is applied. Without memory nothing changes.
-    pub fn commit(&mut self, surface: SurfaceNo) -> Result<(), SurfaceError>
-        ensures ok { OnOk result (Changes self.old self.new surface (λ s. applying (asking Commit s))) }
-        ensures err { OnErr result (self.new ≡ self.old) }
-        ensures cause { IfErr result (λ e. e ≡ SurfaceError.Memory) }
-    {
-        if let Some(kept) = self.slots.get_mut(surface) {
-            kept.commit_now()?;
-        }
         Ok(())
     }
 
@@ -275,6 +327,16 @@ impl<A: Allocator> Surfaces<A> {
         match self.slots.get(surface) {
             Some(kept) => kept.has_content(),
             None => false,
+        }
+    }
+
+    /// The buffers that a surface has applied and held.
+    fn shown(&self, surface: SurfaceNo) -> (Option<Attached>, Option<Attached>)
+        ensures { result ≡ shown_of (kept_at self.now surface) }
+    {
+        match self.slots.get(surface) {
+            Some(kept) => kept.shown(),
+            None => (None, None),
         }
     }
 
