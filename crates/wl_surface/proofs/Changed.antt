@@ -5,7 +5,7 @@ use Rattle.wl_store.specs.declared.transform.Transform.{Transform}
 use Rattle.wl_surface.specs.declared.applied.Change.{Change}
 use Rattle.wl_surface.specs.declared.applied.Shape.{Shape}
 use Rattle.wl_surface.specs.Applied.{AreFreed, with_freed, AreSame, HasShape, IsSameShape, newly_damaged, AreChanges, IsChange}
-use Rattle.wl_surface.specs.Kept.{IsAny, Kept, Numbered, Slots, StandForAll, StandsAt, StandsFor, buffer_of, changed_at, kept_at, kept_shows, shown_of, shows_at}
+use Rattle.wl_surface.specs.Kept.{IsAny, Kept, Numbered, Slots, StandForAll, StandsAt, StandsFor, buffer_of, changed_at, kept_at, kept_shows, shown_of, shows_at, with_at}
 use Rattle.wl_surface.specs.Request.{Buffer, Commit, Request}
 use Rattle.wl_surface.specs.State.{History, damaged_rects}
 use Rattle.wl_surface.specs.Surfaces.{Surface, asking, names}
@@ -28,18 +28,21 @@ damage-told k s t = t.history.held_damaged ∙ ap (λ (rs : List Request). take 
 -- the same shape is that of the same counting state
 same-shape : (a b : Shape) (old new : History) → HasShape a old → HasShape b new → AreSame a b → IsSameShape old new
 same-shape a b old new s t e = record {
-    width = sym s.width ∙ e.0.0 ∙ t.width;
-    height = sym s.height ∙ e.0.1 ∙ t.height;
-    transform = sym s.transform ∙ e.1 ∙ t.transform;
-    mapping = sym s.mapping ∙ e.2 ∙ t.mapping;
-    x = sym s.offset.0 ∙ e.3.0 ∙ t.offset.0;
-    y = sym s.offset.1 ∙ e.3.1 ∙ t.offset.1;
-  }
+  width = sym s.width ∙ e.0.0 ∙ t.width;
+  height = sym s.height ∙ e.0.1 ∙ t.height;
+  transform = sym s.transform ∙ e.1 ∙ t.transform;
+  mapping = sym s.mapping ∙ e.2 ∙ t.mapping;
+  x = sym s.offset.0 ∙ e.3.0 ∙ t.offset.0;
+  y = sym s.offset.1 ∙ e.3.1 ∙ t.offset.1;
+}
 
 shape-same : (a b : Shape) (old new : History) → HasShape a old → HasShape b new → IsSameShape old new → AreSame a b
-shape-same a b old new s t e =
-    ((s.width ∙ e.width ∙ sym t.width, s.height ∙ e.height ∙ sym t.height), s.transform ∙ e.transform ∙ sym t.transform, s.mapping ∙ e.mapping ∙ sym t.mapping,
-    (s.offset.0 ∙ e.x ∙ sym t.offset.0, s.offset.1 ∙ e.y ∙ sym t.offset.1))
+shape-same a b old new s t e = (
+  (s.width ∙ e.width ∙ sym t.width, s.height ∙ e.height ∙ sym t.height),
+  s.transform ∙ e.transform ∙ sym t.transform,
+  s.mapping ∙ e.mapping ∙ sym t.mapping,
+  (s.offset.0 ∙ e.x ∙ sym t.offset.0, s.offset.1 ∙ e.y ∙ sym t.offset.1),
+)
 
 pub shapes-tell : (a b : Shape) (old new : History) → HasShape a old → HasShape b new → AreSame a b ↔ IsSameShape old new
 shapes-tell a b old new s t = (same-shape a b old new s t, shape-same a b old new s t)
@@ -138,14 +141,14 @@ only-answer q all false true s t = absurd (differ (sym (s t.0) ∙ t.1)) where
   differ e = absurd (cc)
 
 -- A buffer that isn't busy any more was busy exactly where the surface that changed showed it.
-was-here : (q : Option Surface → Bool) (number : ℕ) (change : Surface → Surface) (all : Numbered) (was : Bool) → q None ≡ false → IsAny q all was → IsAny q (changed_at number change all) false → was ≡ q (all number)
-was-here q number change all true idle w none = from-there (w.0 == number) refl (none w.0) where
-  from-there : (same : Bool) → (w.0 == number) ≡ same → q (cond same (option_map change (all w.0)) (all w.0)) ≡ false → true ≡ q (all number)
-  from-there true e f = sym w.1 ∙ ap (λ n. q (all n)) (eqb-true w.0 number e)
-  from-there false e f = absurd (differ (sym w.1 ∙ f)) where
+was-here : (q : Option Surface → Bool) (number : ℕ) (all after : Numbered) (was : Bool) → ((other : ℕ) → (other == number) ≡ false → after other ≡ all other) → IsAny q all was → IsAny q after false → was ≡ q (all number)
+was-here q number all after true others w none = from-there (w.0 == number) refl where
+  from-there : (same : Bool) → (w.0 == number) ≡ same → true ≡ q (all number)
+  from-there true e = sym w.1 ∙ ap (λ n. q (all n)) (eqb-true w.0 number e)
+  from-there false e = absurd (differ (sym w.1 ∙ ap q (sym (others w.0 e)) ∙ none w.0)) where
     differ : true ≡ false → ⊥
     differ g = absurd (cc)
-was-here q number change all false idle w none = sym (w number)
+was-here q number all after false others w none = sym (w number)
 
 abbrev kept-names : ℕ → Option Attached × Option Attached → Bool
 kept-names b shown = names b (option_map buffer_of shown.0) || names b (option_map buffer_of shown.1)
@@ -157,15 +160,22 @@ shown-there b None (Some s) t = absurd (t)
 shown-there b (Some k) None t = absurd (t)
 
 -- what stops being busy is freed, once
-pub freed-told : (slots new : Slots) (number : ℕ) (change : Surface → Surface) (all : Numbered) → StandForAll slots all → StandForAll new (changed_at number change all)
-    → AreFreed (with_freed (λ b. list_any (λ e. kept_shows b e.1) (entries_from 0 new)) (option_map buffer_of (shown_of (kept_at slots number)).1) (with_freed (λ b. list_any (λ e. kept_shows b e.1) (entries_from 0 new)) (option_map buffer_of (shown_of (kept_at slots number)).0) [])) all (changed_at number change all)
-freed-told slots new number change all stand stands b was is w i =
+pub freed-told : (slots new : Slots) (number : ℕ) (all after : Numbered) → ((other : ℕ) → (other == number) ≡ false → after other ≡ all other) → StandForAll slots all → StandForAll new after
+    → AreFreed (with_freed (λ b. list_any (λ e. kept_shows b e.1) (entries_from 0 new)) (option_map buffer_of (shown_of (kept_at slots number)).1) (with_freed (λ b. list_any (λ e. kept_shows b e.1) (entries_from 0 new)) (option_map buffer_of (shown_of (kept_at slots number)).0) [])) all after
+freed-told slots new number all after others stand stands b was is w i =
     let busy : ℕ → Bool = λ n. list_any (λ e. kept_shows n e.1) (entries_from 0 new) in
     let shown = shown_of (kept_at slots number) in
     let told = both-freed busy (option_map buffer_of shown.0) (option_map buffer_of shown.1) b in
-    let after = IsAny-kept (kept_shows b) (shows_at b) refl (shows-same b) new (changed_at number change all) stands (busy b) refl in
-    told ∙ ap bit (same is w i (only-answer (shows_at b) (changed_at number change all) is (busy b) i after)) where
-  same : (is : Bool) → IsAny (shows_at b) all was → IsAny (shows_at b) (changed_at number change all) is → is ≡ list_any (λ e. kept_shows b e.1) (entries_from 0 new)
-      → ((names b (option_map buffer_of (shown_of (kept_at slots number)).0) || names b (option_map buffer_of (shown_of (kept_at slots number)).1)) && not (list_any (λ e. kept_shows b e.1) (entries_from 0 new))) ≡ (was && not is)
-  same true w i e = ap (λ x. kept-names b (shown_of (kept_at slots number)) && not x) (sym e) ∙ and-false (kept-names b (shown_of (kept_at slots number))) ∙ sym (and-false was)
-  same false w i e = ap (λ x. kept-names b (shown_of (kept_at slots number)) && not x) (sym e) ∙ ap (λ x. x && true) (sym (was-here (shows_at b) number change all was refl w i ∙ shown-there b (kept_at slots number) (all number) (stand number)))
+    let now = IsAny-kept (kept_shows b) (shows_at b) refl (shows-same b) new after stands (busy b) refl in
+    told ∙ ap bit (same is w i (only-answer (shows_at b) after is (busy b) i now)) where
+      same : (is : Bool) → IsAny (shows_at b) all was → IsAny (shows_at b) after is → is ≡ list_any (λ e. kept_shows b e.1) (entries_from 0 new)
+          → (kept-names b (shown_of (kept_at slots number)) && not (list_any (λ e. kept_shows b e.1) (entries_from 0 new))) ≡ (was && not is)
+      same true w i e = ap (λ x. kept-names b (shown_of (kept_at slots number)) && not x) (sym e) ∙ and-false (kept-names b (shown_of (kept_at slots number))) ∙ sym (and-false was)
+      same false w i e = ap (λ x. kept-names b (shown_of (kept_at slots number)) && not x) (sym e) ∙ ap (λ x. x && true) (sym (was-here (shows_at b) number all after was others w i ∙ shown-there b (kept_at slots number) (all number) (stand number)))
+
+-- a change of one surface leaves the others, and so does its end
+pub others-changed : (number : ℕ) (change : Surface → Surface) (all : Numbered) (other : ℕ) → (other == number) ≡ false → changed_at number change all other ≡ all other
+others-changed number change all other e = ap (λ b. cond b (option_map change (all other)) (all other)) e
+
+pub others-left : (number : ℕ) (at : Option Surface) (all : Numbered) (other : ℕ) → (other == number) ≡ false → with_at number at all other ≡ all other
+others-left number at all other e = ap (λ b. cond b at (all other)) e

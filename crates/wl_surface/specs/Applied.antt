@@ -50,6 +50,19 @@ abbrev pub AreChanges : {A : Type 0} → ℕ → Option Surface → List (Change
 AreChanges number None changes = changes ≡ []
 AreChanges {A} number (Some s) changes = (c : Change A) × (changes ≡ c ∷ []) × IsChange number s.history c
 
+-- it shows a buffer
+abbrev pub is_shown_at : Option Surface → Bool
+is_shown_at None = false
+is_shown_at (Some s) = is_there (applied s.history).buffer
+
+-- a surface that goes is told of where it showed a buffer
+abbrev pub AreGoneIf : {A : Type 0} → Bool → ℕ → List (Change A) → Type 0
+AreGoneIf false number changes = changes ≡ []
+AreGoneIf {A} true number changes = (c : Change A) × (changes ≡ c ∷ []) × (c.surface ≡ number) × (c.whole ≡ true) × (c.rects.items ≡ [])
+
+abbrev pub AreGone : {A : Type 0} → ℕ → Option Surface → List (Change A) → Type 0
+AreGone number at changes = AreGoneIf (is_shown_at at) number changes
+
 -- a buffer of these that isn't busy is freed, once
 abbrev pub with_freed : (ℕ → Bool) → Option Buffer → List ℕ → List ℕ
 with_freed busy None freed = freed

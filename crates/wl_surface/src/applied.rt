@@ -43,7 +43,10 @@ impl Shape {
     pub(crate) fn is_same(self, other: Shape) -> bool
         ensures { (result ≡ true) ↔ AreSame self other }
     {
-        self.is_as_large(other) && self.transform == other.transform && self.is_mapped == other.is_mapped && self.is_as_far(other)
+        self.is_as_large(other)
+            && self.transform == other.transform
+            && self.is_mapped == other.is_mapped
+            && self.is_as_far(other)
     }
 
     fn is_as_large(self, other: Shape) -> bool

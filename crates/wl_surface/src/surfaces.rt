@@ -5,17 +5,17 @@ ghost use Rattle.std.specs.List.{list_any};
 ghost use Rattle.std.specs.Option.{option_map};
 ghost use Rattle.slab.specs.Slab.{entries};
 ghost use Rattle.wl_geom.specs.Region.{Change as RegionChange, Stands as Covers};
-ghost use Rattle.wl_surface.specs.Applied.{AreChanges, AreFreed, with_freed};
+ghost use Rattle.wl_surface.specs.Applied.{AreChanges, AreFreed, AreGone, with_freed, is_shown_at};
 ghost use Rattle.wl_surface.specs.Kept.{Changes, IsAny, changed_at, shown_of, IsCopied, IsCurrentAt, kept_at, one_if_kept, Numbered, StandForAll, buffer_of, content_at, count, has_at, is_transform, kept_has, kept_shows, nobody, pending_at, role_at, shows_at, with_at};
 ghost use Rattle.wl_surface.specs.Request.{Attach, Commit, Damage, SetBufferTransform, SetInputRegion, SetOpaqueRegion};
 ghost use Rattle.wl_surface.specs.Surfaces.{applying, asking, new_surface, with_role};
 
-use crate::applied::Applied;
+use crate::applied::{Applied, Change};
 use crate::content::{Attached, BufferNo};
 use crate::role::{Role, SurfaceError};
 use crate::surface::{Current, Surface};
 use slab::Slab;
-use std::alloc::Allocator;
+use std::alloc::{AllocError, Allocator};
 use std::marker::Model;
 use wl_geom::{Rect, Region};
 use wl_store::Transform;
@@ -203,6 +203,48 @@ impl<A: Allocator + Copy> Surfaces<A> {
         })
     }
 
+    /// wl_surface.destroy: the surface is gone, and what that changes is told. Nothing changes where there is none of this number, nor
+    /// without memory.
+    pub fn destroy(&mut self, surface: SurfaceNo) -> Result<Applied<A>, SurfaceError>
+        ensures ok { OnOk result ((all : Numbered) → StandForAll self.old all → StandForAll self.new (with_at surface None all)) }
+        ensures count { OnOk result (count self.new + one_if_kept (kept_at self.old surface) ≡ count self.old) }
+        ensures changes { IfOk result (λ applied. (all : Numbered) → StandForAll self.old all → AreGone surface (all surface) applied.changes.items) }
+        ensures freed { IfOk result (λ applied. (all : Numbered) → StandForAll self.old all
+            → AreFreed applied.freed.items all (with_at surface None all)) }
+        ensures callbacks { IfOk result (λ applied. applied.callbacks.items ≡ []) }
+        ensures err { OnErr result (self.new ≡ self.old) }
+        ensures cause { IfErr result (λ e. e ≡ SurfaceError.Memory) }
+    {
+        let alloc = self.alloc;
+        let changes = self.going(surface)?;
+        let mut freed = Vec::with_capacity(alloc, 2)?;
+        let (current, held) = self.shown(surface);
+        self.remove(surface);
+        add_freed(&self.slots, current, &mut freed);
+        add_freed(&self.slots, held, &mut freed);
+        Ok(Applied {
+            changes,
+            freed,
+            callbacks: Vec::new(alloc),
+        })
+    }
+
+    /// What it changes that a surface goes.
+    fn going(&self, surface: SurfaceNo) -> Result<Vec<Change<A>, A>, AllocError>
+        ensures { IfOk result (λ changes. (all : Numbered) → StandForAll self.now all → AreGone surface (all surface) changes.items) }
+    {
+        let mut changes = Vec::new(self.alloc);
+        if !self.is_shown(surface) {
+            return Ok(changes);
+        }
+        changes.push(Change {
+            surface,
+            whole: true,
+            rects: Vec::new(self.alloc),
+        })?;
+        Ok(changes)
+    }
+
     fn clear_opaque(&mut self, surface: SurfaceNo)
         ensures { Changes self.old self.new surface (asking (SetOpaqueRegion None)) }
     {
@@ -330,6 +372,23 @@ impl<A: Allocator> Surfaces<A> {
         }
     }
 
+    fn remove(&mut self, surface: SurfaceNo)
+        ensures stand { (all : Numbered) → StandForAll self.old all → StandForAll self.new (with_at surface None all) }
+        ensures count { count self.new + one_if_kept (kept_at self.old surface) ≡ count self.old }
+    {
+        self.slots.try_remove(surface);
+    }
+
+    /// Whether a surface shows a buffer.
+    fn is_shown(&self, surface: SurfaceNo) -> bool
+        ensures { (all : Numbered) → StandForAll self.now all → result ≡ is_shown_at (all surface) }
+    {
+        match self.slots.get(surface) {
+            Some(kept) => kept.shown().0.is_some(),
+            None => false,
+        }
+    }
+
     /// The buffers that a surface has applied and held.
     fn shown(&self, surface: SurfaceNo) -> (Option<Attached>, Option<Attached>)
         ensures { result ≡ shown_of (kept_at self.now surface) }
@@ -348,14 +407,6 @@ impl<A: Allocator> Surfaces<A> {
             Some(kept) => Some(kept.current()),
             None => None,
         }
-    }
-
-    /// wl_surface.destroy: the surface is gone. Nothing changes where there is none of this number.
-    pub fn destroy(&mut self, surface: SurfaceNo)
-        ensures stand { (all : Numbered) → StandForAll self.old all → StandForAll self.new (with_at surface None all) }
-        ensures count { count self.new + one_if_kept (kept_at self.old surface) ≡ count self.old }
-    {
-        self.slots.try_remove(surface);
     }
 
     /// The role of a surface, if it has one.
