@@ -1,3 +1,4 @@
+pub mod Changed
 pub mod Commits
 pub mod Records
 pub mod Rows

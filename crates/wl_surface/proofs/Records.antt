@@ -41,7 +41,7 @@ offset-asked rs r = fold-last moving _ rs r
 held-kept : (rs : List Request) (r : Request) → is_commit r ≡ false → committed rs ≤ length rs → held_list (rs ++ r ∷ []) ≡ held_list rs
 held-kept rs r e le = ap (λ n. take n (rs ++ r ∷ [])) (committed-kept rs r 0 0 e) ∙ take-append-le (committed rs) rs (r ∷ []) le
 
-held-committed : (rs : List Request) → held_list (rs ++ Commit ∷ []) ≡ rs ++ Commit ∷ []
+pub held-committed : (rs : List Request) → held_list (rs ++ Commit ∷ []) ≡ rs ++ Commit ∷ []
 held-committed rs = let e = committed-last rs in take_all (committed (rs ++ Commit ∷ [])) (rs ++ Commit ∷ []) (omega (arith, e))
 
 applied-kept : (h : History) (r : Request) → h.cut ≤ committed h.requests → committed h.requests ≤ length h.requests → take h.cut (h.requests ++ r ∷ []) ≡ take h.cut h.requests

@@ -132,6 +132,11 @@ count slots = count_by is_some slots
 abbrev pub one_if_kept : Option Kept → ℕ
 one_if_kept slot = cond (is_some slot) 1 0
 
+-- the buffers that are applied and held
+abbrev pub shown_of : Option Kept → Option Attached × Option Attached
+shown_of None = (None, None)
+shown_of (Some k) = (k.current_buffer, k.held_buffer)
+
 abbrev pub StandsAt : Option Kept → Option Surface → Type 0
 StandsAt None None = Unit {0}
 StandsAt (Some k) (Some s) = StandsFor k s

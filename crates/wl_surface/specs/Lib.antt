@@ -1,3 +1,4 @@
+pub mod Applied
 pub mod Kept
 pub mod Laws
 pub mod Request

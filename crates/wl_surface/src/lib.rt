@@ -3,11 +3,13 @@
 
 ghost use Rattle.wl_surface.specs.Laws.{CommitTakesAll};
 
+mod applied;
 mod content;
 mod role;
 mod surface;
 mod surfaces;
 
+pub use applied::{Applied, Change};
 pub use content::{Attached, BufferNo, Offset};
 pub use role::{Role, SurfaceError};
 pub use surface::Current;

@@ -1,17 +1,21 @@
 //! One surface: what is pending, held and applied of it.
 
-ghost use Rattle.std.specs.Prelude.{ℕ, ◌≡◌, ◌↔◌, ◌≢◌, ◌||◌, is_some, MatchBool, false, ◌++◌, ◌∷◌, [], ◌<◌, Some, None, List, OnOk, OnErr, take};
+ghost use Rattle.std.specs.Prelude.{ℕ, ◌≡◌, ◌↔◌, ◌≢◌, ◌||◌, is_some, MatchBool, false, ◌++◌, ◌∷◌, [], ◌<◌, Some, None, List, IfOk, OnOk, OnErr, take};
 ghost use Rattle.std.specs.Option.{option_map, option_or};
 ghost use Rattle.wl_store.specs.Transform.{transform_of};
+ghost use Rattle.wl_surface.specs.Applied.{HasShape, IsChange, newly_damaged};
 ghost use Rattle.wl_surface.specs.Kept.{IsCurrent, IsFarther, StandsFor, buffer_of, kept_has, kept_shows, turned_height, turned_width};
-ghost use Rattle.wl_geom.specs.Region.{Change, Stands as Covers};
+ghost use Rattle.wl_geom.specs.Region.{Change as RegionChange, Stands as Covers};
 ghost use Rattle.wl_surface.specs.Request.{Attach, Commit, Damage, SetBufferTransform, SetInputRegion, SetOpaqueRegion};
 ghost use Rattle.wl_surface.specs.Surfaces.{Surface as Asked, applying, asking, names, new_surface};
 
+use crate::applied::{Change, Shape};
 use crate::content::{Attached, BufferNo, Offset};
 use crate::role::Role;
+use crate::surfaces::SurfaceNo;
 use std::alloc::{AllocError, Allocator};
 use std::marker::Model;
+use std::mem;
 use wl_geom::{Rect, Region};
 use wl_store::Transform;
 
@@ -164,7 +168,7 @@ impl<A: Allocator> Surface<A> {
 
     /// wl_surface.set_opaque_region of a copy of the region.
     pub(crate) fn set_opaque(&mut self, region: Region<A>)
-        ensures { (changes : List Change) → Covers region changes → (s : Asked) → StandsFor self.old s → StandsFor self.new (asking (SetOpaqueRegion (Some changes)) s) }
+        ensures { (changes : List RegionChange) → Covers region changes → (s : Asked) → StandsFor self.old s → StandsFor self.new (asking (SetOpaqueRegion (Some changes)) s) }
     {
         self.pending_opaque = Some(region);
     }
@@ -181,7 +185,7 @@ impl<A: Allocator> Surface<A> {
 
     /// wl_surface.set_input_region of a copy of the region.
     pub(crate) fn set_input(&mut self, region: Region<A>)
-        ensures { (changes : List Change) → Covers region changes → (s : Asked) → StandsFor self.old s → StandsFor self.new (asking (SetInputRegion (Some changes)) s) }
+        ensures { (changes : List RegionChange) → Covers region changes → (s : Asked) → StandsFor self.old s → StandsFor self.new (asking (SetInputRegion (Some changes)) s) }
     {
         self.pending_input = Some(Some(region));
     }
@@ -232,20 +236,22 @@ impl<A: Allocator> Surface<A> {
         Ok(())
     }
 
-    /// What is held is applied.
-    pub(crate) fn apply(&mut self)
-        ensures { (s : Asked) → StandsFor self.old s → StandsFor self.new (applying s) }
+    /// What is held is applied, and the damage that was held is given.
+    pub(crate) fn apply(&mut self, alloc: A) -> Vec<Rect, A>
+        ensures stands { (s : Asked) → StandsFor self.old s → StandsFor self.new (applying s) }
+        ensures damage { result.items ≡ self.old.held_damage }
     {
+        let damage = mem::replace(&mut self.held_damage, Vec::new(alloc));
         self.current_buffer = self.held_buffer;
         self.current_transform = self.held_transform;
         self.current_offset = self.held_offset;
-        self.held_damage.clear();
         if let Some(opaque) = self.held_opaque.take() {
             self.current_opaque = opaque;
         }
         if let Some(input) = self.held_input.take() {
             self.current_input = input;
         }
+        damage
     }
 
     /// The role, for life, unless the surface has another one: then nothing changes. Whether it has this role now.
@@ -260,6 +266,13 @@ impl<A: Allocator> Surface<A> {
                 true
             }
         }
+    }
+
+    /// The buffers that are applied and held.
+    pub(crate) fn shown(&self) -> (Option<Attached>, Option<Attached>)
+        ensures { result ≡ (self.now.current_buffer, self.now.held_buffer) }
+    {
+        (self.current_buffer, self.held_buffer)
     }
 
     /// Whether the buffer is what is held or applied.
@@ -277,13 +290,46 @@ impl<A: Allocator> Surface<A> {
     }
 
     /// wl_surface.commit of a surface that isn't synchronised: what is pending is held, and then applied. Without memory nothing changes.
-    pub(crate) fn commit_now(&mut self) -> Result<(), AllocError>
+    fn commit_now(&mut self, alloc: A) -> Result<Vec<Rect, A>, AllocError>
         ensures ok { OnOk result ((s : Asked) → StandsFor self.old s → StandsFor self.new (applying (asking Commit s))) }
+        ensures damage { IfOk result (λ damage. (s : Asked) → StandsFor self.old s → damage.items ≡ newly_damaged s.history) }
         ensures err { OnErr result (self.new ≡ self.old) }
     {
         self.commit()?;
-        self.apply();
-        Ok(())
+        Ok(self.apply(alloc))
+    }
+
+    /// How the surface stands.
+    fn shape(&self) -> Shape
+        ensures { (s : Asked) → StandsFor self.now s → HasShape result s.history }
+    {
+        let (w, h) = size_of(&self.current_buffer, self.current_transform);
+        Shape {
+            w,
+            h,
+            transform: self.current_transform,
+            is_mapped: self.current_buffer.is_some(),
+            offset: self.current_offset,
+        }
+    }
+
+    /// wl_surface.commit of a surface that isn't synchronised, and what it changes. Without memory nothing changes.
+    pub(crate) fn commit_change(
+        &mut self,
+        number: SurfaceNo,
+        alloc: A,
+    ) -> Result<Change<A>, AllocError>
+        ensures ok { OnOk result ((s : Asked) → StandsFor self.old s → StandsFor self.new (applying (asking Commit s))) }
+        ensures change { IfOk result (λ change. (s : Asked) → StandsFor self.old s → IsChange number s.history change) }
+        ensures err { OnErr result (self.new ≡ self.old) }
+    {
+        let before = self.shape();
+        let rects = self.commit_now(alloc)?;
+        Ok(Change {
+            surface: number,
+            whole: !before.is_same(self.shape()),
+            rects,
+        })
     }
 
     /// What counts.

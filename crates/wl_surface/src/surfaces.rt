@@ -1,19 +1,21 @@
 //! The surfaces of a client.
 
-ghost use Rattle.std.specs.Prelude.{ℕ, ◌≡◌, ◌≢◌, ◌+◌, ◌<◌, ◌↔◌, List, Option, Some, None, IfOk, OnOk, OnErr, IfErr, IsErr, IsOk, MatchBool, nat_le, unsigned_abs, option_copied, true};
+ghost use Rattle.std.specs.Prelude.{ℕ, [], ◌≡◌, ◌≢◌, ◌+◌, ◌<◌, ◌≤◌, ◌||◌, ◌==◌, vec_len, vec_capacity, ◌↔◌, List, Option, Some, None, IfOk, OnOk, OnErr, IfErr, IsErr, IsOk, MatchBool, nat_le, unsigned_abs, option_copied, true};
 ghost use Rattle.std.specs.List.{list_any};
 ghost use Rattle.std.specs.Option.{option_map};
 ghost use Rattle.slab.specs.Slab.{entries};
-ghost use Rattle.wl_geom.specs.Region.{Change, Stands as Covers};
-ghost use Rattle.wl_surface.specs.Kept.{Changes, IsAny, IsCopied, IsCurrentAt, kept_at, one_if_kept, Numbered, StandForAll, buffer_of, content_at, count, has_at, is_transform, kept_has, kept_shows, nobody, pending_at, role_at, shows_at, with_at};
+ghost use Rattle.wl_geom.specs.Region.{Change as RegionChange, Stands as Covers};
+ghost use Rattle.wl_surface.specs.Applied.{AreChanges, AreFreed, AreGone, with_freed, is_shown_at};
+ghost use Rattle.wl_surface.specs.Kept.{Changes, IsAny, changed_at, shown_of, IsCopied, IsCurrentAt, kept_at, one_if_kept, Numbered, StandForAll, buffer_of, content_at, count, has_at, is_transform, kept_has, kept_shows, nobody, pending_at, role_at, shows_at, with_at};
 ghost use Rattle.wl_surface.specs.Request.{Attach, Commit, Damage, SetBufferTransform, SetInputRegion, SetOpaqueRegion};
 ghost use Rattle.wl_surface.specs.Surfaces.{applying, asking, new_surface, with_role};
 
+use crate::applied::{Applied, Change};
 use crate::content::{Attached, BufferNo};
 use crate::role::{Role, SurfaceError};
 use crate::surface::{Current, Surface};
 use slab::Slab;
-use std::alloc::Allocator;
+use std::alloc::{AllocError, Allocator};
 use std::marker::Model;
 use wl_geom::{Rect, Region};
 use wl_store::Transform;
@@ -63,6 +65,42 @@ fn any_has<A: Allocator>(slots: &Slab<Surface<A>, A>, buffer: BufferNo) -> bool
     false
 }
 
+/// Whether the number is among these.
+fn is_among(numbers: &[BufferNo], number: BufferNo) -> bool
+    ensures { result ≡ list_any (λ n. n == number) numbers.now }
+{
+    numbers.iter().any(|other| *other == number)
+}
+
+/// Whether the buffer is busy, or among those that are freed.
+fn is_busy_or_among<A: Allocator>(
+    slots: &Slab<Surface<A>, A>,
+    freed: &[BufferNo],
+    number: BufferNo,
+) -> bool
+    ensures { result ≡ (list_any (λ e. kept_shows number e.1) (entries slots.now) || list_any (λ n. n == number) freed.now) }
+{
+    any_shows(slots, number) || is_among(freed, number)
+}
+
+/// Adds the buffer, if it isn't busy and isn't among them. There is room for it.
+fn add_freed<A: Allocator>(
+    slots: &Slab<Surface<A>, A>,
+    buffer: Option<Attached>,
+    freed: &mut Vec<BufferNo, A>,
+)
+    requires { vec_len freed.old < vec_capacity freed.old }
+    ensures items { freed.new.items ≡ with_freed (λ b. list_any (λ e. kept_shows b e.1) (entries slots.now)) (option_map buffer_of buffer) freed.old.items }
+    ensures len { vec_len freed.new ≤ vec_len freed.old + 1 }
+    ensures capacity { vec_capacity freed.new ≡ vec_capacity freed.old }
+{
+    if let Some(attached) = buffer {
+        if !is_busy_or_among(slots, freed, attached.number) {
+            freed.push_reserved(attached.number);
+        }
+    }
+}
+
 /// A copy of the region, as it is set.
 fn copy_of<A: Allocator + Copy>(region: &Region<A>) -> Result<Region<A>, SurfaceError>
     ensures ok { IfOk result (λ copy. copy ≡ region.now) }
@@ -110,7 +148,7 @@ impl<A: Allocator + Copy> Surfaces<A> {
         surface: SurfaceNo,
         region: Option<&Region<A>>,
     ) -> Result<(), SurfaceError>
-        ensures ok { OnOk result ((changes : Option (List Change)) → IsCopied (option_copied region.entry) changes → Changes self.old self.new surface (asking (SetOpaqueRegion changes))) }
+        ensures ok { OnOk result ((changes : Option (List RegionChange)) → IsCopied (option_copied region.entry) changes → Changes self.old self.new surface (asking (SetOpaqueRegion changes))) }
         ensures err { OnErr result (self.new ≡ self.old) }
         ensures cause { IfErr result (λ e. e ≡ SurfaceError.Memory) }
     {
@@ -128,7 +166,7 @@ impl<A: Allocator + Copy> Surfaces<A> {
         surface: SurfaceNo,
         region: Option<&Region<A>>,
     ) -> Result<(), SurfaceError>
-        ensures ok { OnOk result ((changes : Option (List Change)) → IsCopied (option_copied region.entry) changes → Changes self.old self.new surface (asking (SetInputRegion changes))) }
+        ensures ok { OnOk result ((changes : Option (List RegionChange)) → IsCopied (option_copied region.entry) changes → Changes self.old self.new surface (asking (SetInputRegion changes))) }
         ensures err { OnErr result (self.new ≡ self.old) }
         ensures cause { IfErr result (λ e. e ≡ SurfaceError.Memory) }
     {
@@ -137,6 +175,74 @@ impl<A: Allocator + Copy> Surfaces<A> {
             None => self.clear_input(surface),
         }
         Ok(())
+    }
+
+    /// wl_surface.commit: what is pending is applied, and what that changes is told. Without memory nothing changes.
+    pub fn commit(&mut self, surface: SurfaceNo) -> Result<Applied<A>, SurfaceError>
+        ensures ok { OnOk result (Changes self.old self.new surface (λ s. applying (asking Commit s))) }
+        ensures changes { IfOk result (λ applied. (all : Numbered) → StandForAll self.old all → AreChanges surface (all surface) applied.changes.items) }
+        ensures freed { IfOk result (λ applied. (all : Numbered) → StandForAll self.old all
+            → AreFreed applied.freed.items all (changed_at surface (λ s. applying (asking Commit s)) all)) }
+        ensures callbacks { IfOk result (λ applied. applied.callbacks.items ≡ []) }
+        ensures err { OnErr result (self.new ≡ self.old) }
+        ensures cause { IfErr result (λ e. e ≡ SurfaceError.Memory) }
+    {
+        let alloc = self.alloc;
+        let mut changes = Vec::with_capacity(alloc, 1)?;
+        let mut freed = Vec::with_capacity(alloc, 2)?;
+        let (current, held) = self.shown(surface);
+        if let Some(kept) = self.slots.get_mut(surface) {
+            changes.push_reserved(kept.commit_change(surface, alloc)?);
+        }
+        add_freed(&self.slots, current, &mut freed);
+        add_freed(&self.slots, held, &mut freed);
+        Ok(Applied {
+            changes,
+            freed,
+            callbacks: Vec::new(alloc),
+        })
+    }
+
+    /// wl_surface.destroy: the surface is gone, and what that changes is told. Nothing changes where there is none of this number, nor
+    /// without memory.
+    pub fn destroy(&mut self, surface: SurfaceNo) -> Result<Applied<A>, SurfaceError>
+        ensures ok { OnOk result ((all : Numbered) → StandForAll self.old all → StandForAll self.new (with_at surface None all)) }
+        ensures count { OnOk result (count self.new + one_if_kept (kept_at self.old surface) ≡ count self.old) }
+        ensures changes { IfOk result (λ applied. (all : Numbered) → StandForAll self.old all → AreGone surface (all surface) applied.changes.items) }
+        ensures freed { IfOk result (λ applied. (all : Numbered) → StandForAll self.old all
+            → AreFreed applied.freed.items all (with_at surface None all)) }
+        ensures callbacks { IfOk result (λ applied. applied.callbacks.items ≡ []) }
+        ensures err { OnErr result (self.new ≡ self.old) }
+        ensures cause { IfErr result (λ e. e ≡ SurfaceError.Memory) }
+    {
+        let alloc = self.alloc;
+        let changes = self.going(surface)?;
+        let mut freed = Vec::with_capacity(alloc, 2)?;
+        let (current, held) = self.shown(surface);
+        self.remove(surface);
+        add_freed(&self.slots, current, &mut freed);
+        add_freed(&self.slots, held, &mut freed);
+        Ok(Applied {
+            changes,
+            freed,
+            callbacks: Vec::new(alloc),
+        })
+    }
+
+    /// What it changes that a surface goes.
+    fn going(&self, surface: SurfaceNo) -> Result<Vec<Change<A>, A>, AllocError>
+        ensures { IfOk result (λ changes. (all : Numbered) → StandForAll self.now all → AreGone surface (all surface) changes.items) }
+    {
+        let mut changes = Vec::new(self.alloc);
+        if !self.is_shown(surface) {
+            return Ok(changes);
+        }
+        changes.push(Change {
+            surface,
+            whole: true,
+            rects: Vec::new(self.alloc),
+        })?;
+        Ok(changes)
     }
 
     fn clear_opaque(&mut self, surface: SurfaceNo)
@@ -171,7 +277,7 @@ impl<A: Allocator> Surfaces<A> {
     }
 
     fn set_opaque_to(&mut self, surface: SurfaceNo, region: Region<A>)
-        ensures { (changes : List Change) → Covers region changes → Changes self.old self.new surface (asking (SetOpaqueRegion (Some changes))) }
+        ensures { (changes : List RegionChange) → Covers region changes → Changes self.old self.new surface (asking (SetOpaqueRegion (Some changes))) }
     {
         if let Some(kept) = self.slots.get_mut(surface) {
             kept.set_opaque(region);
@@ -179,7 +285,7 @@ impl<A: Allocator> Surfaces<A> {
     }
 
     fn set_input_to(&mut self, surface: SurfaceNo, region: Region<A>)
-        ensures { (changes : List Change) → Covers region changes → Changes self.old self.new surface (asking (SetInputRegion (Some changes))) }
+        ensures { (changes : List RegionChange) → Covers region changes → Changes self.old self.new surface (asking (SetInputRegion (Some changes))) }
     {
         if let Some(kept) = self.slots.get_mut(surface) {
             kept.set_input(region);
@@ -214,18 +320,6 @@ impl<A: Allocator> Surfaces<A> {
             return Err(SurfaceError::Transform);
         }
         self.turn(surface, transform.unsigned_abs());
-        Ok(())
-    }
-
-    /// wl_surface.commit: what is pending is applied. Without memory nothing changes.
-    pub fn commit(&mut self, surface: SurfaceNo) -> Result<(), SurfaceError>
-        ensures ok { OnOk result (Changes self.old self.new surface (λ s. applying (asking Commit s))) }
-        ensures err { OnErr result (self.new ≡ self.old) }
-        ensures cause { IfErr result (λ e. e ≡ SurfaceError.Memory) }
-    {
-        if let Some(kept) = self.slots.get_mut(surface) {
-            kept.commit_now()?;
-        }
         Ok(())
     }
 
@@ -278,6 +372,33 @@ impl<A: Allocator> Surfaces<A> {
         }
     }
 
+    fn remove(&mut self, surface: SurfaceNo)
+        ensures stand { (all : Numbered) → StandForAll self.old all → StandForAll self.new (with_at surface None all) }
+        ensures count { count self.new + one_if_kept (kept_at self.old surface) ≡ count self.old }
+    {
+        self.slots.try_remove(surface);
+    }
+
+    /// Whether a surface shows a buffer.
+    fn is_shown(&self, surface: SurfaceNo) -> bool
+        ensures { (all : Numbered) → StandForAll self.now all → result ≡ is_shown_at (all surface) }
+    {
+        match self.slots.get(surface) {
+            Some(kept) => kept.shown().0.is_some(),
+            None => false,
+        }
+    }
+
+    /// The buffers that a surface has applied and held.
+    fn shown(&self, surface: SurfaceNo) -> (Option<Attached>, Option<Attached>)
+        ensures { result ≡ shown_of (kept_at self.now surface) }
+    {
+        match self.slots.get(surface) {
+            Some(kept) => kept.shown(),
+            None => (None, None),
+        }
+    }
+
     /// What counts of a surface, if there is such a one.
     pub fn current(&self, surface: SurfaceNo) -> Option<Current<'_, A>>
         ensures { (all : Numbered) → StandForAll self.now all → IsCurrentAt result (all surface) }
@@ -286,14 +407,6 @@ impl<A: Allocator> Surfaces<A> {
             Some(kept) => Some(kept.current()),
             None => None,
         }
-    }
-
-    /// wl_surface.destroy: the surface is gone. Nothing changes where there is none of this number.
-    pub fn destroy(&mut self, surface: SurfaceNo)
-        ensures stand { (all : Numbered) → StandForAll self.old all → StandForAll self.new (with_at surface None all) }
-        ensures count { count self.new + one_if_kept (kept_at self.old surface) ≡ count self.old }
-    {
-        self.slots.try_remove(surface);
     }
 
     /// The role of a surface, if it has one.

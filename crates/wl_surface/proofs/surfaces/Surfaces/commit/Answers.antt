@@ -1,12 +1,31 @@
-use Rattle.std.proofs.Common.{sym}
+use Rattle.std.proofs.Common.{Option, Some, None, sym, subst, ◌∙◌}
+use Rattle.wl_surface.specs.Kept.{Kept, StandsAt, changed_at}
+use Rattle.wl_surface.specs.Request.{Commit}
+use Rattle.wl_surface.specs.Surfaces.{Surface, applying, asking}
+use Rattle.wl_surface.proofs.Changed.{freed-told, others-changed, told-none, told-some}
 use Rattle.wl_surface.proofs.Slots.{Changes-at, Changes-none}
 use Rattle.wl_surface.proofs.surfaces.Surfaces.commit.Goals as goal
-use Rattle.wl_surface.proofs.surfaces.Surfaces.commit.Goals.{in-Some+in_ok-commit_now, in_default}
+use Rattle.wl_surface.proofs.surfaces.Surfaces.commit.Goals.{in-Some+in_ok-commit_change, in_default}
 
 pub returns-clause-ok : goal.returns-clause-ok
 returns-clause-ok g c =
     let at = c.get_mut.ensures.value in
     elim c.match-get_mut.branch [
-      | in-Some+in_ok-commit_now w ↦ rw (← c.self.view_is, w.self-inside-is) (Changes-at c.self.inside.slots.slots c.args.surface _ _ _ (sym (rw w.in-Some.is at at)) w.in_ok-commit_now.ensures.ok)
+      | in-Some+in_ok-commit_change w ↦ rw (← c.self.view_is, w.self-inside-is) (Changes-at c.self.inside.slots.slots c.args.surface _ _ _ (sym (rw w.in-Some.is at at)) w.in_ok-commit_change.ensures.ok)
       | in_default w ↦ rw (← c.self.view_is, w.self-inside-is) (Changes-none c.self.inside.slots.slots c.args.surface _ (sym (rw w.in_default.is at at)))
     ]
+
+pub returns-clause-changes : goal.returns-clause-changes
+returns-clause-changes g c = λ all stand.
+    let at = c.get_mut.ensures.value in
+    let here = rw (← c.self.view_is) at stand c.args.surface in
+    elim c.match-get_mut.branch [
+      | in-Some+in_ok-commit_change w ↦ rw (w.changes-is, w.push_reserved.ensures.items, c.in_ok-changes.ensures.items) (told-some c.args.surface w.in-Some.kept.now (all c.args.surface) _ (subst (λ (slot : Option Kept). StandsAt slot (all c.args.surface)) (sym (rw w.in-Some.is at at)) here) w.in_ok-commit_change.ensures.change)
+      | in_default w ↦ rw (w.changes-is, c.in_ok-changes.ensures.items) (told-none _ c.args.surface (all c.args.surface) (subst (λ (slot : Option Kept). StandsAt slot (all c.args.surface)) (sym (rw w.in_default.is at at)) here))
+    ]
+
+pub returns-clause-freed : goal.returns-clause-freed
+returns-clause-freed g c = λ all stand.
+    let stands = (returns-clause-ok g c).stand all stand in
+    rw (c.add_freed-2.ensures.items, c.add_freed.ensures.items, c.in_ok-freed.ensures.items, c.shown-current.ensures, ← c.self.view_is)
+    (freed-told c.self.inside.slots.slots c.match-get_mut.self-inside.slots.slots c.args.surface all (changed_at c.args.surface (λ (s : Surface). applying (asking Commit s)) all) (others-changed c.args.surface (λ (s : Surface). applying (asking Commit s)) all) (rw (← c.self.view_is) at stand) stands)
