@@ -42,7 +42,7 @@ none-since rs = ap (fold geometry_asked None) (drop_all (length rs) rs (omega ar
 none-counts : (n : ℕ) (h : History) → length h.requests ≤ n → geometry n h ≡ None
 none-counts n h le = ap (fold geometry_asked None) (drop_all n (take h.cut h.requests) (let e = length-take h.cut h.requests in omega (arith, e)))
 
-new_stands : NewStands
+pub new_stands : NewStands
 new_stands id base surface h within = record {
   id = refl;
   base = refl;
