@@ -9,8 +9,9 @@ use Rattle.wl_surface.specs.State.{History, apply, committed, geometry, geometry
 use Rattle.wl_surface.proofs.Commits.{committed-last}
 use Rattle.wl_shell.specs.declared.acts.ShellAct.{ShellAct}
 use Rattle.wl_shell.specs.declared.acts.ShellAct.TheVariants.{Configure, Map, Unmap, Nothing}
+use Rattle.wl_shell.specs.declared.stage.Stage.{Stage}
 use Rattle.wl_shell.specs.Kept.{Kept, Stands, effect_answer, kept_after, stage_in}
-use Rattle.wl_shell.specs.Shell.{Effect, Stays, Unconfigured, Configures, Maps, Unmaps, Fresh, Waiting, Mapped, RoleObject, Stage, XdgSurface, at_stage, is_full, later_than, on_commit, role_acknowledged, stage_of, with_effect}
+use Rattle.wl_shell.specs.Shell.{Effect, Stays, Unconfigured, Configures, Maps, Unmaps, Fresh, Waiting, Mapped, RoleObject, XdgSurface, at_stage, is_full, later_than, on_commit, role_acknowledged, stage_of, with_effect}
 use Rattle.wl_shell.specs.Laws.{AcknowledgementStands, ChangesStand, CommitStands, ConfigureStands, DestructionStands, GeometryStands, NewStands, OtherStands, ToplevelStands, one_more}
 
 -- one request more since a place
@@ -41,7 +42,7 @@ none-since rs = ap (fold geometry_asked None) (drop_all (length rs) rs (omega ar
 none-counts : (n : ℕ) (h : History) → length h.requests ≤ n → geometry n h ≡ None
 none-counts n h le = ap (fold geometry_asked None) (drop_all n (take h.cut h.requests) (let e = length-take h.cut h.requests in omega (arith, e)))
 
-new_stands : NewStands
+pub new_stands : NewStands
 new_stands id base surface h within = record {
   id = refl;
   base = refl;

@@ -9,8 +9,9 @@ use Rattle.wl_shell.specs.declared.acts.ShellAct.{ShellAct}
 use Rattle.wl_shell.specs.declared.acts.ShellAct.TheVariants.{Configure, Map, Unmap, Nothing}
 use Rattle.wl_shell.specs.declared.error.ShellError.{ShellError}
 use Rattle.wl_shell.specs.declared.error.ShellError.TheVariants as error
+use Rattle.wl_shell.specs.declared.stage.Stage.{Stage}
 use Rattle.wl_shell.specs.declared.xdg_surface.Toplevel.{Toplevel as KeptToplevel}
-use Rattle.wl_shell.specs.Shell.{Effect, Stays, Unconfigured, Configures, Maps, Unmaps, Fresh, Waiting, Mapped, RoleObject, Stage, Toplevel, XdgSurface, answers_states, at_stage, is_full, is_waiting, later_than, on_commit, role_acknowledged}
+use Rattle.wl_shell.specs.Shell.{Effect, Stays, Unconfigured, Configures, Maps, Unmaps, Fresh, Waiting, Mapped, RoleObject, Toplevel, XdgSurface, answers_states, at_stage, is_full, is_waiting, later_than, on_commit, role_acknowledged}
 
 -- An xdg_surface: its id, the xdg_wm_base that made it, its role object, the serials that wait, the earliest first, and its window geometry:
 -- the last one that was asked, and the one that counts.

@@ -1,11 +1,13 @@
 -- Laws of the shell.
-use Rattle.std.specs.Prelude.{ℕ, ◌≡◌, ◌<◌, ◌≤◌, Bool, List, [], ◌∷◌, ◌++◌, length, true, None, Some, Option, Ok}
+use Rattle.std.specs.Prelude.{ℕ, ◌≡◌, ◌<◌, ◌≤◌, Bool, List, [], ◌∷◌, ◌++◌, ◌==◌, ◌≢◌, length, true, false, None, Some, Option, Ok, IfSome, IsSomeAnd}
+use Rattle.std.specs.List.{list_any}
 use Rattle.wl_geom.specs.declared.rect.Rect.{Rect}
 use Rattle.wl_surface.specs.Request.{Request, Commit, SetWindowGeometry}
 use Rattle.wl_surface.specs.State.{History, apply, geometry_asked}
 use Rattle.wl_shell.specs.declared.acts.ShellAct.{ShellAct}
-use Rattle.wl_shell.specs.Kept.{Kept, Stands, commit_answer, first_kept, kept_acknowledging, kept_after, kept_asking, kept_configuring, kept_toplevel, kept_without_role}
-use Rattle.wl_shell.specs.Shell.{XdgSurface, acknowledging, configuring, is_waiting, later_than, new_toplevel, on_commit, stage_of, with_effect, without_role}
+use Rattle.wl_shell.specs.Agreement.{IsShell, with_history}
+use Rattle.wl_shell.specs.Kept.{Kept, Stands, changing, commit_answer, first_kept, kept_acknowledging, kept_after, kept_asking, kept_configuring, kept_toplevel, kept_without_role, with_kept}
+use Rattle.wl_shell.specs.Shell.{Shell, XdgSurface, acknowledging, configuring, is_waiting, later_than, new_toplevel, on_commit, stage_of, with_change, with_effect, with_new, without_role, without_xdg, xdg_at, xdg_of}
 
 -- An acknowledgement of a serial that waits leaves fewer.
 abbrev pub AcknowledgementForgets : Type 0
@@ -70,3 +72,59 @@ pub record ChangesStand : Type 0 where
   pub configure : ConfigureStands
   pub destruction : DestructionStands
   pub other : OtherStands
+
+-- ---- and so does what is kept of all xdg_surfaces of a client
+
+-- a new xdg_surface of a surface that has none
+abbrev pub NewShell : Type 0
+NewShell =
+    (id base surface : ℕ) (h : History) (kept : ℕ → Option Kept) (histories : ℕ → Option History) (shell : Shell)
+    → IsShell kept histories shell
+    → kept surface ≡ None
+    → xdg_at id shell ≡ None
+    → histories surface ≡ Some h
+    → h.cut ≤ length h.requests
+    → IsShell (with_kept surface (Some (first_kept id base)) kept) histories (with_new id base surface shell)
+
+-- One changes, and maybe its surface's history, and what is kept of it stands for it then.
+abbrev pub ChangedShell : Type 0
+ChangedShell =
+    (surface : ℕ) (change : Kept → Kept) (step : XdgSurface → XdgSurface) (k : Kept) (x : XdgSurface) (h : History) (kept : ℕ → Option Kept) (histories : ℕ → Option History) (shell : Shell)
+    → ((y : XdgSurface) → (step y).id ≡ y.id)
+    → ((y : XdgSurface) → (step y).surface ≡ y.surface)
+    → IsShell kept histories shell
+    → kept surface ≡ Some k
+    → xdg_of surface shell ≡ Some x
+    → Stands (change k) (step x) h
+    → IsShell (changing surface change kept) (with_history surface (Some h) histories) (with_change x.id step shell)
+
+-- one goes
+abbrev pub GoneShell : Type 0
+GoneShell =
+    (surface : ℕ) (x : XdgSurface) (kept : ℕ → Option Kept) (histories : ℕ → Option History) (shell : Shell)
+    → IsShell kept histories shell
+    → xdg_of surface shell ≡ Some x
+    → IsShell (with_kept surface None kept) histories (without_xdg x.id shell)
+
+-- a surface without an xdg_surface is made, goes, or has another history
+abbrev pub OtherHistory : Type 0
+OtherHistory =
+    (surface : ℕ) (h : Option History) (kept : ℕ → Option Kept) (histories : ℕ → Option History) (shell : Shell)
+    → IsShell kept histories shell
+    → xdg_of surface shell ≡ None
+    → IsShell kept (with_history surface h histories) shell
+
+-- whether an xdg_wm_base made one can be read from what is kept
+abbrev pub BaseRead : Type 0
+BaseRead =
+    (base : ℕ) (kept : ℕ → Option Kept) (histories : ℕ → Option History) (shell : Shell)
+    → IsShell kept histories shell
+    → ((surface : ℕ) → IsSomeAnd (kept surface) (λ k. k.base ≡ base) → list_any (λ x. x.base == base) shell ≡ true)
+    × (((surface : ℕ) → IfSome (kept surface) (λ k. k.base ≢ base)) → list_any (λ x. x.base == base) shell ≡ false)
+
+pub record ShellsStand : Type 0 where
+  pub made : NewShell
+  pub changed : ChangedShell
+  pub gone : GoneShell
+  pub other : OtherHistory
+  pub base : BaseRead

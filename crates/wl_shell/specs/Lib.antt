@@ -1,3 +1,4 @@
+pub mod Agreement
 pub mod Kept
 pub mod Laws
 pub mod Positioner

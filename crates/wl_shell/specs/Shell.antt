@@ -3,8 +3,21 @@ use Rattle.std.specs.Option.{option_map}
 use Rattle.std.specs.Prelude.{ℕ, ◌+◌, ◌==◌, nat_le, Bool, true, false, not, cond, if◌then◌else◌, Option, Some, None, List, [], ◌∷◌, ◌++◌, length, find, map, filter}
 use Rattle.std.specs.List.{list_any}
 use Rattle.wl_shell.specs.Positioner.{Placed, Positioner}
-pub use Rattle.wl_shell.specs.declared.stage.Stage.{Stage}
-pub use Rattle.wl_shell.specs.declared.stage.Stage.TheVariants.{Fresh, Waiting, Ready, Mapped}
+use Rattle.wl_shell.specs.declared.stage.Stage.{Stage}
+use Rattle.wl_shell.specs.declared.stage.Stage.TheVariants as stage
+
+-- How far a role object is: nothing was configured; a configure is to be acknowledged; one was; its surface is mapped.
+abbrev pub Fresh : Stage
+Fresh = stage.Fresh
+
+abbrev pub Waiting : Stage
+Waiting = stage.Waiting
+
+abbrev pub Ready : Stage
+Ready = stage.Ready
+
+abbrev pub Mapped : Stage
+Mapped = stage.Mapped
 
 -- A popup: the xdg_surface of its parent, the copy of its positioner, where it was placed last, whether it was dismissed, whether it has a
 -- grab, and its number among the popups in order of creation.
@@ -92,14 +105,14 @@ pub data Effect : Type 0 where
 abbrev pub on_commit : Option Stage → Bool → Effect
 on_commit None false = Stays
 on_commit None true = Unconfigured
-on_commit (Some Fresh) false = Configures
-on_commit (Some Fresh) true = Unconfigured
-on_commit (Some Waiting) false = Stays
-on_commit (Some Waiting) true = Unconfigured
-on_commit (Some Ready) false = Stays
-on_commit (Some Ready) true = Maps
-on_commit (Some Mapped) false = Unmaps
-on_commit (Some Mapped) true = Stays
+on_commit (Some stage.Fresh) false = Configures
+on_commit (Some stage.Fresh) true = Unconfigured
+on_commit (Some stage.Waiting) false = Stays
+on_commit (Some stage.Waiting) true = Unconfigured
+on_commit (Some stage.Ready) false = Stays
+on_commit (Some stage.Ready) true = Maps
+on_commit (Some stage.Mapped) false = Unmaps
+on_commit (Some stage.Mapped) true = Stays
 
 -- the stage after a commit
 abbrev pub stage_after : Effect → Stage → Stage
@@ -111,10 +124,10 @@ stage_after Unmaps stage = Fresh
 
 -- the stage after an acknowledgement: one that waits is ready
 abbrev pub acknowledged : Stage → Stage
-acknowledged Fresh = Fresh
-acknowledged Waiting = Ready
-acknowledged Ready = Ready
-acknowledged Mapped = Mapped
+acknowledged stage.Fresh = Fresh
+acknowledged stage.Waiting = Ready
+acknowledged stage.Ready = Ready
+acknowledged stage.Mapped = Mapped
 
 -- An acknowledgement forgets its serial, the latest of that number, and those before it; no other serial may be acknowledged
 -- (xdg-shell.xml, xdg_surface.ack_configure).
@@ -131,10 +144,10 @@ is_full serials = nat_le 64 (length serials)
 
 -- A configure is answered to a request for another state where one was configured before (xdg-shell.xml, xdg_toplevel.set_maximized).
 abbrev pub answers_states : Stage → Bool
-answers_states Fresh = false
-answers_states Waiting = true
-answers_states Ready = true
-answers_states Mapped = true
+answers_states stage.Fresh = false
+answers_states stage.Waiting = true
+answers_states stage.Ready = true
+answers_states stage.Mapped = true
 
 -- serials are one counter of a client: after 4,294,967,295 comes 1
 abbrev pub next_serial : ℕ → ℕ

@@ -1,7 +1,7 @@
 //! The shell's side of surfaces: the states of xdg surfaces, and where popups are placed.
 #![tactic(auto)]
 
-ghost use Rattle.wl_shell.specs.Laws.{AcknowledgementForgets, ChangesStand};
+ghost use Rattle.wl_shell.specs.Laws.{AcknowledgementForgets, ChangesStand, ShellsStand};
 
 mod acts;
 mod error;
@@ -23,4 +23,9 @@ pub fn acknowledgement_forgets()
 /// What is kept of an xdg_surface stands for what the definition says of it, and does so after each call too.
 pub fn changes_stand()
     ensures { ChangesStand }
+{}
+
+/// What is kept of all xdg_surfaces of a client stands for them, and does so after each change of one.
+pub fn shells_stand()
+    ensures { ShellsStand }
 {}

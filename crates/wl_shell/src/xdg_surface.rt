@@ -134,6 +134,7 @@ impl XdgSurface {
         self.applied = None;
     }
 
+    /// Its role object is a new toplevel.
     pub(crate) fn get_toplevel(&mut self, id: u32, has_other_role: bool) -> Result<(), ShellError>
         ensures answer { result ≡ toplevel_answer has_other_role (Some self.old) }
         ensures ok { OnOk result (self.new ≡ kept_toplevel id self.old) }
@@ -153,6 +154,7 @@ impl XdgSurface {
         Ok(())
     }
 
+    /// A window geometry is asked.
     pub(crate) fn ask_geometry(&mut self, rect: Rect) -> Result<(), ShellError>
         ensures answer { result ≡ geometry_answer rect (Some self.old) }
         ensures ok { OnOk result (self.new ≡ kept_asking rect self.old) }
@@ -168,6 +170,7 @@ impl XdgSurface {
         Ok(())
     }
 
+    /// The last configure of this serial and those before it don't wait any more.
     pub(crate) fn acknowledge(&mut self, serial: u32) -> Result<(), ShellError>
         ensures answer { result ≡ acknowledgement_answer serial (Some self.old) }
         ensures ok { OnOk result (self.new ≡ kept_acknowledging serial self.old) }
@@ -240,10 +243,6 @@ impl XdgSurface {
         requires { (placed : Option Placed) → act ≡ Configure placed → is_full self.old.serials ≡ false }
         ensures { self.new ≡ kept_after serial act self.old }
     {
-        if act == ShellAct::Unmap {
-            self.unmap();
-            return;
-        }
         self.applied = self.pending;
         match act {
             ShellAct::Configure(_) => {
@@ -251,10 +250,12 @@ impl XdgSurface {
                 self.push_serial(serial);
             }
             ShellAct::Map => self.set_stage(Stage::Mapped),
-            ShellAct::Unmap | ShellAct::Nothing => {}
+            ShellAct::Unmap => self.unmap(),
+            ShellAct::Nothing => {}
         }
     }
 
+    /// Its surface is committed.
     pub(crate) fn commit(&mut self, has_buffer: bool, serial: u32) -> Result<ShellAct, ShellError>
         ensures answer { result ≡ commit_answer has_buffer (Some self.old) }
         ensures ok { IfOk result (λ act. self.new ≡ kept_after serial act self.old) }
@@ -265,6 +266,7 @@ impl XdgSurface {
         Ok(act)
     }
 
+    /// A request for another state, which is answered where a configure was sent before.
     pub(crate) fn configure(&mut self, serial: u32) -> Result<bool, ShellError>
         ensures answer { result ≡ configure_answer (Some self.old) }
         ensures ok { IfOk result (λ is_sent. self.new ≡ kept_configured is_sent serial self.old) }
@@ -280,6 +282,7 @@ impl XdgSurface {
         Ok(true)
     }
 
+    /// Its role object goes.
     pub(crate) fn destroy_toplevel(&mut self)
         ensures { self.new ≡ kept_without_role self.old }
     {
