@@ -52,7 +52,7 @@ impl<A: Allocator> Model for Scene<A> {
 fn is_surface(toplevel: &Toplevel, surface: Surface) -> bool
     ensures { result ≡ is_of surface.client surface.surface (standing_of toplevel.now) }
 {
-    toplevel.surface.client == surface.client && toplevel.surface.surface == surface.surface
+    toplevel.surface == surface
 }
 
 /// The place of the toplevel of this surface.
