@@ -1,3 +1,5 @@
 pub mod Hits
+pub mod Lends
+pub mod Lone
 pub mod Rows
 pub mod Stacks

@@ -1,4 +1,5 @@
 pub mod Laws
+pub mod Lent
 pub mod Pointer
 pub mod Stacking
 pub mod Windows

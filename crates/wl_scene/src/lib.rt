@@ -3,9 +3,13 @@
 
 ghost use Rattle.wl_scene.specs.Laws.{TopmostIsHit};
 
+mod owned;
 mod scene;
+mod window;
 
+pub use owned::Owned;
 pub use scene::{Scene, Surface, Toplevel};
+pub use window::Window;
 
 /// The topmost window that takes a point's input is the one that it hits.
 pub fn topmost_is_hit()

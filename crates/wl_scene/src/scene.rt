@@ -1,10 +1,14 @@
 //! Which toplevels are mapped, and where they stand.
 
-ghost use Rattle.std.specs.Prelude.{◌≡◌, ◌<◌, ◌++◌, ◌∷◌, [], OnOk, OnErr, length, map, position, remove, slice_index_or};
-ghost use Rattle.wl_scene.specs.Stacking.{is_of, mapped_on, moved_to, raised, standing_of, without_surface_of};
+ghost use Rattle.std.specs.Prelude.{ℕ, ◌≡◌, ◌<◌, ◌++◌, ◌∷◌, [], OnOk, OnErr, Some, length, map, position, remove, slice_get, slice_index_or};
+ghost use Rattle.wl_scene.specs.Lent.{AllShow, Stands, shown_by, told};
+ghost use Rattle.wl_scene.specs.Stacking.{Owned as Asked, is_of, mapped_on, moved_to, raised, standing_of, windows_on, without_surface_of};
 
+use crate::owned::Owned;
+use crate::window::{Window, window_of};
 use std::alloc::{AllocError, Allocator};
 use std::marker::Model;
+use wl_surface::SurfaceNo;
 
 /// How many places there are for toplevels that are mapped, one after another.
 const PLACES: u8 = 8;
@@ -16,7 +20,7 @@ const STEP: i32 = 32;
 #[derive(Clone, Copy, Debug, PartialEq, Eq)]
 pub struct Surface {
     pub client: u32,
-    pub surface: u32,
+    pub surface: SurfaceNo,
 }
 
 /// A mapped toplevel, and where its surface's place is in the output in pixels.
@@ -48,7 +52,7 @@ impl<A: Allocator> Model for Scene<A> {
 fn is_surface(toplevel: &Toplevel, surface: Surface) -> bool
     ensures { result ≡ is_of surface.client surface.surface (standing_of toplevel.now) }
 {
-    toplevel.surface.client == surface.client && toplevel.surface.surface == surface.surface
+    toplevel.surface == surface
 }
 
 /// The place of the toplevel of this surface.
@@ -85,6 +89,24 @@ impl<A: Allocator> Scene<A> {
         ensures { map standing_of result.now ≡ self.now.standing }
     {
         &self.standing[..]
+    }
+
+    /// How many windows there are. The surfaces and xdg_surfaces of client c are lent at index c - 1, and nothing of one that isn't there.
+    pub fn len(&self, lent: &[Option<Owned<A>>]) -> usize
+        ensures count { result ≡ length self.now.standing }
+        ensures windows { (owned : ℕ → Asked) → Stands lent.now owned → AllShow owned self.now.standing → result ≡ length (windows_on owned self.now.standing) }
+    {
+        self.toplevels().len()
+    }
+
+    /// The k-th window from the bottom, of those that are as many as `len` says. A toplevel whose surface isn't there has one without a
+    /// size, at its place.
+    pub fn window(&self, lent: &[Option<Owned<A>>], k: usize) -> Window
+        requires { k < length self.now.standing }
+        ensures shown { (owned : ℕ → Asked) → Stands lent.now owned → slice_get (map (shown_by owned) self.now.standing) k ≡ Some result }
+        ensures windows { (owned : ℕ → Asked) → Stands lent.now owned → AllShow owned self.now.standing → slice_get (map told (windows_on owned self.now.standing)) k ≡ Some result }
+    {
+        window_of(&self.standing[k], lent)
     }
 
     /// A toplevel is mapped: it stands on top, in the next place (xdg-shell.xml, xdg_surface: mapping). That it isn't mapped yet is the
