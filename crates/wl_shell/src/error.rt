@@ -1,6 +1,6 @@
 //! Why a request of the shell is refused.
 
-use std::alloc::{AllocError, AllocFailed};
+use std::alloc::AllocFailed;
 use thiserror::Error;
 
 /// Why a request of the shell is refused: the errors of the interfaces of xdg-shell.xml, and two for what the compositor lacks.
@@ -54,17 +54,6 @@ pub enum ShellError {
     /// There is no memory for it.
     #[error("out of memory")]
     Memory,
-}
-
-impl From<AllocError> for ShellError {
-    ghost use Rattle.std.specs.Prelude.{◌≡◌};
-    ghost use Rattle.wl_shell.specs.declared.error.ShellError.TheVariants.{Memory};
-
-    ghost from_gives = { λ _ e. e ≡ Memory };
-
-    fn from(_error: AllocError) -> ShellError {
-        ShellError::Memory
-    }
 }
 
 impl<T: Drop> From<AllocFailed<T>> for ShellError {
