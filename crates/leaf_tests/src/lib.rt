@@ -9,3 +9,5 @@ mod scenes;
 mod shells;
 #[cfg(test)]
 mod stores;
+#[cfg(test)]
+mod surfaces;
