@@ -153,8 +153,35 @@ fn the_windows_of_two_clients(rt: HostRuntime) -> Result<(), Fail> {
     scene.map(upper)?;
     scene.map(gone)?;
     assert_eq!(rt; scene.len(&lent), 3);
-    assert_eq!(rt; scene.window(&lent, 0), Window { surface: lower, x: 3, y: -5, w: 40, h: 30 });
-    assert_eq!(rt; scene.window(&lent, 1), Window { surface: upper, x: 16_777_216, y: 32, w: 10, h: 20 });
-    assert_eq!(rt; scene.window(&lent, 2), Window { surface: gone, x: 64, y: 64, w: 0, h: 0 });
+    assert_eq!(rt;
+        scene.window(&lent, 0),
+        Window {
+            surface: lower,
+            x: 3,
+            y: -5,
+            w: 40,
+            h: 30
+        }
+    );
+    assert_eq!(rt;
+        scene.window(&lent, 1),
+        Window {
+            surface: upper,
+            x: 16_777_216,
+            y: 32,
+            w: 10,
+            h: 20
+        }
+    );
+    assert_eq!(rt;
+        scene.window(&lent, 2),
+        Window {
+            surface: gone,
+            x: 64,
+            y: 64,
+            w: 0,
+            h: 0
+        }
+    );
     Ok(())
 }

@@ -4,7 +4,7 @@ use test_support::Refusing;
 use wl_geom::{Rect, Region};
 use wl_store::{Transform, layout};
 use wl_surface::{
-    Attached, BufferNo, MAX_SURFACES, Offset, Role, SurfaceError, SurfaceNo, Surfaces,
+    Applied, Attached, BufferNo, MAX_SURFACES, Offset, Role, SurfaceError, SurfaceNo, Surfaces,
 };
 
 const FOUR_BY_FOUR: Rect = Rect {
@@ -82,7 +82,7 @@ fn a_buffer_from_its_attach_on(rt: HostRuntime) -> Result<(), Fail> {
     assert_eq!(rt; reads(&surfaces, surface), (true, false, true));
     assert_eq!(rt; pending(&surfaces, surface), Some(7));
     assert_eq!(rt; size(&surfaces, surface), Some((0, 0)));
-    assert_eq!(rt; surfaces.commit(surface), Ok(()));
+    assert_eq!(rt; commit(&mut surfaces, surface), Ok(()));
     assert_eq!(rt; reads(&surfaces, surface), (true, true, true));
     assert_eq!(rt; shown(&surfaces, surface), Some(7));
     assert_eq!(rt; size(&surfaces, surface), Some((5, 8)));
@@ -90,7 +90,7 @@ fn a_buffer_from_its_attach_on(rt: HostRuntime) -> Result<(), Fail> {
     assert_eq!(rt; reads(&surfaces, surface), (true, true, true));
     assert_eq!(rt; pending(&surfaces, surface), None);
     assert_eq!(rt; shown(&surfaces, surface), Some(7));
-    assert_eq!(rt; surfaces.commit(surface), Ok(()));
+    assert_eq!(rt; commit(&mut surfaces, surface), Ok(()));
     assert_eq!(rt; reads(&surfaces, surface), (false, false, false));
     assert_eq!(rt; shown(&surfaces, surface), None);
     assert_eq!(rt; size(&surfaces, surface), Some((0, 0)));
@@ -104,28 +104,76 @@ fn one_buffer_after_another(rt: HostRuntime) -> Result<(), Fail> {
     let surface = surfaces.create()?;
     let other = surfaces.create()?;
     surfaces.attach(surface, buffer(7), 0, 0);
-    assert_eq!(rt; surfaces.commit(surface), Ok(()));
-    assert_eq!(rt; surfaces.commit(surface), Ok(()));
+    assert_eq!(rt; commit(&mut surfaces, surface), Ok(()));
+    assert_eq!(rt; commit(&mut surfaces, surface), Ok(()));
     assert_eq!(rt; shown(&surfaces, surface), Some(7));
     surfaces.attach(surface, buffer(8), 0, 0);
     assert!(rt; surfaces.is_used(8) && !surfaces.is_busy(8));
     assert_eq!(rt; reads(&surfaces, surface), (true, true, true));
-    assert_eq!(rt; surfaces.commit(surface), Ok(()));
+    assert_eq!(rt; commit(&mut surfaces, surface), Ok(()));
     assert!(rt; surfaces.is_used(8) && surfaces.is_busy(8));
     assert_eq!(rt; reads(&surfaces, surface), (false, false, true));
     surfaces.attach(other, buffer(7), 0, 0);
     assert_eq!(rt; reads(&surfaces, other), (true, false, true));
-    assert_eq!(rt; surfaces.commit(other), Ok(()));
+    assert_eq!(rt; commit(&mut surfaces, other), Ok(()));
     assert_eq!(rt; reads(&surfaces, other), (true, true, true));
     assert_eq!(rt; shown(&surfaces, surface), Some(8));
     assert!(rt; !surfaces.is_used(90) && !surfaces.is_busy(0));
     Ok(())
 }
 
+// Commits. What that tells is looked at in `a_commit_tells_what_it_changes`.
+fn commit<A: Allocator + Copy>(
+    surfaces: &mut Surfaces<A>,
+    surface: SurfaceNo,
+) -> Result<(), SurfaceError> {
+    surfaces.commit(surface)?;
+    Ok(())
+}
+
+fn destroy<A: Allocator + Copy>(
+    surfaces: &mut Surfaces<A>,
+    surface: SurfaceNo,
+) -> Result<(), SurfaceError> {
+    surfaces.destroy(surface)?;
+    Ok(())
+}
+
+// How many surfaces are told of, whether the first looks otherwise, how many rectangles of it are damaged, and how many buffers are free.
+fn told<A: Allocator>(applied: &Applied<A>) -> (usize, bool, usize, usize) {
+    let freed = applied.freed.len();
+    match applied.changes.first() {
+        Some(change) => (
+            applied.changes.len(),
+            change.whole,
+            change.rects.len(),
+            freed,
+        ),
+        None => (0, false, 0, freed),
+    }
+}
+
+#[test]
+fn a_commit_tells_what_it_changes(rt: HostRuntime) -> Result<(), Fail> {
+    let mut surfaces = Surfaces::new(rt.alloc());
+    let surface = surfaces.create()?;
+    surfaces.attach(surface, buffer(7), 0, 0);
+    surfaces.damage(surface, FOUR_BY_FOUR)?;
+    assert_eq!(rt; told(&surfaces.commit(surface)?), (1, true, 1, 0));
+    surfaces.attach(surface, buffer(8), 0, 0);
+    let next = surfaces.commit(surface)?;
+    assert_eq!(rt; told(&next), (1, false, 0, 1));
+    assert_eq!(rt; next.freed.first().copied(), Some(7));
+    let gone = surfaces.destroy(surface)?;
+    assert_eq!(rt; told(&gone), (1, true, 0, 1));
+    assert_eq!(rt; gone.freed.first().copied(), Some(8));
+    Ok(())
+}
+
 // Attaches at this offset, commits, and says whether the surface is at that place then.
-fn moves<A: Allocator>(surfaces: &mut Surfaces<A>, by: (i32, i32), to: (i32, i32)) -> bool {
+fn moves<A: Allocator + Copy>(surfaces: &mut Surfaces<A>, by: (i32, i32), to: (i32, i32)) -> bool {
     surfaces.attach(0, buffer(7), by.0, by.1);
-    surfaces.commit(0) == Ok(()) && is_at(surfaces, 0, to.0, to.1)
+    commit(surfaces, 0) == Ok(()) && is_at(surfaces, 0, to.0, to.1)
 }
 
 #[test]
@@ -134,7 +182,7 @@ fn offsets_add_up(rt: HostRuntime) -> Result<(), Fail> {
     assert_eq!(rt; surfaces.create(), Ok(0));
     assert!(rt; moves(&mut surfaces, (3, -4), (3, -4)));
     assert!(rt; moves(&mut surfaces, (5, 6), (8, 2)));
-    assert_eq!(rt; surfaces.commit(0), Ok(()));
+    assert_eq!(rt; commit(&mut surfaces, 0), Ok(()));
     assert!(rt; is_at(&surfaces, 0, 8, 2));
     // Of two attaches the last one counts, and not before the commit.
     surfaces.attach(0, None, 100, 100);
@@ -166,7 +214,7 @@ fn transforms_turn_the_size(rt: HostRuntime) -> Result<(), Fail> {
     let mut surfaces = Surfaces::new(rt.alloc());
     let surface = surfaces.create()?;
     surfaces.attach(surface, buffer(7), 0, 0);
-    assert_eq!(rt; surfaces.commit(surface), Ok(()));
+    assert_eq!(rt; commit(&mut surfaces, surface), Ok(()));
     assert_eq!(rt; surfaces.set_transform(surface, 1), Ok(()));
     assert_eq!(rt; size(&surfaces, surface), Some((5, 8)));
     assert_eq!(rt; transform(&surfaces, surface), Some(Transform::Normal));
@@ -181,7 +229,7 @@ fn transforms_turn_the_size(rt: HostRuntime) -> Result<(), Fail> {
         (0, Transform::Normal),
     ] {
         assert_eq!(rt; surfaces.set_transform(surface, number), Ok(()));
-        assert_eq!(rt; surfaces.commit(surface), Ok(()));
+        assert_eq!(rt; commit(&mut surfaces, surface), Ok(()));
         assert_eq!(rt; transform(&surfaces, surface), Some(turned));
         let wanted = if number % 2 == 1 { (8, 5) } else { (5, 8) };
         assert_eq!(rt; size(&surfaces, surface), Some(wanted));
@@ -190,7 +238,7 @@ fn transforms_turn_the_size(rt: HostRuntime) -> Result<(), Fail> {
         let refused = surfaces.set_transform(surface, number);
         assert_eq!(rt; refused, Err(SurfaceError::Transform));
     }
-    assert_eq!(rt; surfaces.commit(surface), Ok(()));
+    assert_eq!(rt; commit(&mut surfaces, surface), Ok(()));
     assert_eq!(rt; transform(&surfaces, surface), Some(Transform::Normal));
     Ok(())
 }
@@ -208,16 +256,16 @@ fn regions_count_from_the_commit_on(rt: HostRuntime) -> Result<(), Fail> {
     region.subtract(FOUR_BY_FOUR)?;
     assert!(rt; !is_opaque(&surfaces, 0, 0, 0) && takes_input(&surfaces, 0, 9, 9));
     for _ in 0..2_u32 {
-        assert_eq!(rt; surfaces.commit(0), Ok(()));
+        assert_eq!(rt; commit(&mut surfaces, 0), Ok(()));
         assert!(rt; is_opaque(&surfaces, 0, 3, 3) && !is_opaque(&surfaces, 0, 4, 3));
         assert!(rt; takes_input(&surfaces, 0, 0, 0) && !takes_input(&surfaces, 0, 9, 9));
     }
     assert_eq!(rt; surfaces.set_opaque(0, None), Ok(()));
-    assert_eq!(rt; surfaces.commit(0), Ok(()));
+    assert_eq!(rt; commit(&mut surfaces, 0), Ok(()));
     assert!(rt; !is_opaque(&surfaces, 0, 3, 3) && !takes_input(&surfaces, 0, 9, 9));
     assert_eq!(rt; surfaces.set_input(0, None), Ok(()));
     assert!(rt; !takes_input(&surfaces, 0, 9, 9));
-    assert_eq!(rt; surfaces.commit(0), Ok(()));
+    assert_eq!(rt; commit(&mut surfaces, 0), Ok(()));
     assert!(rt; takes_input(&surfaces, 0, 9, 9) && takes_input(&surfaces, 0, -1, -1));
     Ok(())
 }
@@ -255,8 +303,8 @@ fn the_257th_surface_is_one_too_many(rt: HostRuntime) -> Result<(), Fail> {
     surfaces.attach(40, buffer(7), 0, 0);
     assert_eq!(rt; surfaces.give_role(40, Role::Cursor), Ok(()));
     assert_eq!(rt; reads(&surfaces, 40), (true, false, true));
-    surfaces.destroy(40);
-    surfaces.destroy(40);
+    assert_eq!(rt; destroy(&mut surfaces, 40), Ok(()));
+    assert_eq!(rt; destroy(&mut surfaces, 40), Ok(()));
     assert!(rt; surfaces.current(40).is_none());
     assert_eq!(rt; surfaces.create(), Ok(40));
     assert_eq!(rt; reads(&surfaces, 40), (false, false, false));
@@ -275,9 +323,9 @@ fn no_surface(rt: HostRuntime) -> Result<(), Fail> {
     assert_eq!(rt; surfaces.set_input(0, None), Ok(()));
     assert_eq!(rt; surfaces.set_transform(0, 1), Ok(()));
     assert_eq!(rt; surfaces.set_transform(0, 8), Err(SurfaceError::Transform));
-    assert_eq!(rt; surfaces.commit(0), Ok(()));
+    assert_eq!(rt; commit(&mut surfaces, 0), Ok(()));
     assert_eq!(rt; surfaces.give_role(0, Role::Popup), Ok(()));
-    surfaces.destroy(0);
+    assert_eq!(rt; destroy(&mut surfaces, 0), Ok(()));
     assert_eq!(rt; reads(&surfaces, 0), (false, false, false));
     assert_eq!(rt; pending(&surfaces, 0), None);
     assert_eq!(rt; surfaces.role(0), None);
@@ -298,10 +346,8 @@ fn a_surface_without_memory_is_not_made(rt: HostRuntime) -> Result<(), Fail> {
         assert!(rt; surfaces.current(made).is_none());
         assert!(rt; (0..made).all(|surface| surfaces.current(surface).is_some()));
         if made > 0 {
-            // A place that is free takes no memory.
-            surfaces.destroy(0);
-            assert_eq!(rt; surfaces.create(), Ok(0));
-            assert_eq!(rt; surfaces.create(), Err(SurfaceError::Memory));
+            assert_eq!(rt; destroy(&mut surfaces, 0), Err(SurfaceError::Memory));
+            assert!(rt; surfaces.current(0).is_some());
         }
     }
     Ok(())
@@ -329,14 +375,14 @@ fn scene<A: Allocator + Copy>(surfaces: &mut Surfaces<A>) -> Option<Damaged> {
         Err(SurfaceError::Memory) => return Some(Damaged::NoDamage),
         Err(_) => return None,
     }
-    match surfaces.commit(0) {
+    match commit(surfaces, 0) {
         Ok(()) => Some(Damaged::All),
         Err(SurfaceError::Memory) => Some(Damaged::NotCommitted),
         Err(_) => None,
     }
 }
 
-// A commit that is refused applies nothing. Without damage it takes no memory.
+// A commit that is refused applies nothing.
 #[test]
 fn damage_and_commit_without_memory(rt: HostRuntime) -> Result<(), Fail> {
     let mut damages = false;
@@ -357,13 +403,12 @@ fn damage_and_commit_without_memory(rt: HostRuntime) -> Result<(), Fail> {
             Damaged::NoSurface => {}
             Damaged::NoDamage => {
                 damages = true;
-                assert_eq!(rt; surfaces.commit(0), Ok(()));
-                assert_eq!(rt; shown(&surfaces, 0), Some(7));
-                assert!(rt; is_at(&surfaces, 0, 1, 2));
+                assert_eq!(rt; commit(&mut surfaces, 0), Err(SurfaceError::Memory));
+                assert_eq!(rt; shown(&surfaces, 0), None);
             }
             Damaged::NotCommitted => {
                 commits = true;
-                assert_eq!(rt; surfaces.commit(0), Err(SurfaceError::Memory));
+                assert_eq!(rt; commit(&mut surfaces, 0), Err(SurfaceError::Memory));
                 assert_eq!(rt; shown(&surfaces, 0), None);
             }
             Damaged::All => break,
@@ -387,7 +432,7 @@ fn damage_without_end(rt: HostRuntime) -> Result<(), Fail> {
         assert_eq!(rt; surfaces.damage(0, FOUR_BY_FOUR), Ok(()));
     }
     assert_eq!(rt; heap.served(), served);
-    assert_eq!(rt; surfaces.commit(0), Ok(()));
+    assert_eq!(rt; commit(&mut surfaces, 0), Ok(()));
     Ok(())
 }
 
@@ -405,7 +450,7 @@ fn set_both<A: Allocator + Copy>(surfaces: &mut Surfaces<A>, region: &Region<A>)
     }
 }
 
-// Each allocation is refused in turn: the region that is refused leaves what was set before.
+// Each allocation is refused in turn, until both regions are set and committed.
 #[test]
 fn regions_without_memory(rt: HostRuntime) -> Result<(), Fail> {
     let mut met = (false, false);
@@ -419,14 +464,16 @@ fn regions_without_memory(rt: HostRuntime) -> Result<(), Fail> {
         let Some(set) = set_both(&mut surfaces, &region) else {
             return Err(Fail::from("a call answered what it can't"));
         };
-        assert_eq!(rt; surfaces.commit(0), Ok(()));
-        assert_eq!(rt; is_opaque(&surfaces, 0, 3, 3), set > 0);
-        assert_eq!(rt; takes_input(&surfaces, 0, 9, 9), set < 2);
         assert_eq!(rt; heap.refused(), set < 2);
         match set {
             0 => met.0 = true,
             1 => met.1 = true,
-            _ => break,
+            _ => {
+                if commit(&mut surfaces, 0).is_ok() {
+                    assert!(rt; is_opaque(&surfaces, 0, 3, 3) && !takes_input(&surfaces, 0, 9, 9));
+                    break;
+                }
+            }
         }
         // None takes no memory.
         assert_eq!(rt; surfaces.set_opaque(0, None), Ok(()));

@@ -130,6 +130,7 @@ impl<A: Allocator + Copy> Surfaces<A> {
         ensures ok { IfOk result (λ number. (all : Numbered) (id : ℕ) → StandForAll self.old all
             → (all number ≡ None) × StandForAll self.new (with_at number (Some (new_surface id)) all)) }
         ensures count { OnOk result (count self.new ≡ count self.old + 1) }
+        ensures room { OnOk result (count self.old < 256) }
         ensures err { OnErr result (self.new ≡ self.old) }
         ensures cause { IfErr result (λ e. MatchBool (nat_le 256 (count self.old)) (e ≡ SurfaceError.TooMany) (e ≡ SurfaceError.Memory)) }
     {
