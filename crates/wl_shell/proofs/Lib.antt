@@ -5,3 +5,4 @@ pub mod Serials
 pub mod Shells
 pub mod Standing
 pub mod Waiting
+pub mod Moves

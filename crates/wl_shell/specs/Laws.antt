@@ -1,7 +1,9 @@
 -- Laws of the shell.
-use Rattle.std.specs.Prelude.{ℕ, ◌≡◌, ◌<◌, ◌≤◌, Bool, List, [], ◌∷◌, ◌++◌, ◌==◌, ◌≢◌, length, true, false, None, Some, Option, Ok, IfSome, IsSomeAnd}
+use Rattle.std.specs.Prelude.{ℕ, ℤ, ◌≡◌, ◌<◌, ◌≤◌, Bool, List, [], ◌∷◌, ◌++◌, ◌==◌, ◌≢◌, length, true, false, None, Some, Option, Ok, IfSome, IsSomeAnd}
 use Rattle.std.specs.List.{list_any}
 use Rattle.wl_geom.specs.declared.rect.Rect.{Rect}
+use Rattle.wl_shell.specs.Moves.{moved_to}
+use Rattle.wl_shell.specs.Positioner.{Axis, placed_on}
 use Rattle.wl_surface.specs.Request.{Request, Commit, SetWindowGeometry}
 use Rattle.wl_surface.specs.State.{History, apply, geometry_asked}
 use Rattle.wl_shell.specs.declared.acts.ShellAct.{ShellAct}
@@ -12,6 +14,12 @@ use Rattle.wl_shell.specs.Shell.{Shell, XdgSurface, acknowledging, configuring, 
 -- An acknowledgement of a serial that waits leaves fewer.
 abbrev pub AcknowledgementForgets : Type 0
 AcknowledgementForgets = (serial : ℕ) (serials : List ℕ) → is_waiting serial serials ≡ true → length (later_than serial serials) < length serials
+
+-- Flipping, sliding and resizing, told one after the other, end at the definition's place, whichever side gravity slides to first.
+abbrev pub MovesAgree : Type 0
+MovesAgree =
+    (may_flip may_slide may_resize : Bool) (first end : ℤ) (a : Axis)
+    → moved_to may_flip may_slide may_resize first end a ≡ placed_on may_flip may_slide may_resize first end a
 
 -- ---- what is kept stands for what the definition says, after each change too
 

@@ -1,5 +1,6 @@
 pub mod Agreement
 pub mod Kept
 pub mod Laws
+pub mod Moves
 pub mod Positioner
 pub mod Shell

@@ -1,7 +1,7 @@
 //! The shell's side of surfaces: the states of xdg surfaces, and where popups are placed.
 #![tactic(auto)]
 
-ghost use Rattle.wl_shell.specs.Laws.{AcknowledgementForgets, ChangesStand, ShellsStand};
+ghost use Rattle.wl_shell.specs.Laws.{AcknowledgementForgets, ChangesStand, MovesAgree, ShellsStand};
 
 mod acts;
 mod error;
@@ -18,6 +18,12 @@ pub use xdg_surface::{Toplevel, XdgSurface};
 /// An acknowledgement of a serial that waits leaves fewer.
 pub fn acknowledgement_forgets()
     ensures { AcknowledgementForgets }
+{}
+
+/// A popup that is flipped, slid and resized, one after the other, ends at the place that the definition gives it (xdg-shell.xml,
+/// xdg_positioner.set_constraint_adjustment).
+pub fn moves_agree()
+    ensures { MovesAgree }
 {}
 
 /// What is kept of an xdg_surface stands for what the definition says of it, and does so after each call too.
