@@ -3,3 +3,4 @@ pub mod Commits
 pub mod Records
 pub mod Rows
 pub mod Slots
+pub mod Trees

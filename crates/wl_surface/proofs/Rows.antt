@@ -54,7 +54,7 @@ pub row_offset-back : (offset (Attach None (pos 2147483647) (pos 0) ∷ Commit �
 row_offset-back = refl
 
 -- two commits of a synchronised subsurface: both are held until the surface is applied, with the damage of both
-abbrev small : ℕ → Buffer
+abbrev pub small : ℕ → Buffer
 small number = record { number = number; object = number; store = 2; offset = 0; width = 4; height = 4; stride = 16; format = Xrgb8888 }
 
 abbrev twice : History

@@ -4,3 +4,4 @@ pub mod Laws
 pub mod Request
 pub mod State
 pub mod Surfaces
+pub mod Trees
