@@ -6,3 +6,5 @@ pub mod OneRun
 pub mod Others
 pub mod Alone
 pub mod Served
+pub mod Stacks
+pub mod Painted

@@ -1,14 +1,17 @@
 -- Laws of the plain desktop.
-use Rattle.std.specs.Prelude.{ℕ, ◌≡◌, ◌≢◌, ◌==◌, ℤ, List, Option, Some, None, IsTrue, true, false, filter}
+use Rattle.std.specs.Prelude.{ℕ, ◌≡◌, ◌≢◌, ◌==◌, ℤ, ◌-ℤ◌, slice_get, List, Option, Some, None, IsTrue, true, false, filter}
 use Rattle.wl_proto.specs.declared.interface.Interface.TheVariants.{WlCompositor, WlSurface, WlSubcompositor, WlSubsurface, WlSeat, WlPointer, XdgWmBase, XdgPositioner, XdgSurface, XdgToplevel, XdgPopup}
 use Rattle.wl_client.specs.declared.clients.Cause.{Cause}
 use Rattle.wl_client.specs.declared.clients.Cause.TheVariants.{Memory}
 use Rattle.wl_client.specs.Peer.{Peer}
 use Rattle.wl_client.specs.Peer.{Feeds as FeedsAlone}
 use Rattle.wl_scene.specs.Stacking.{Standing, nothing_owned}
-use Rattle.wl_scene.specs.Windows.{Window}
-use Rattle.wl_desk.specs.Desktop.{Desktop, Resident, client_at}
-use Rattle.wl_desk.specs.Marks.{Applied, at_least, at_most}
+use Rattle.wl_scene.specs.Windows.{Window, contains}
+use Rattle.wl_blend.specs.declared.color.Rgb.{Rgb}
+use Rattle.wl_desk.specs.Desktop.{Desktop, Resident, client_at, windows_in}
+use Rattle.wl_desk.specs.Marks.{Applied, AreDistinct, at_least, at_most, has_same_record, in_output}
+use Rattle.wl_desk.specs.Moments.{applied_between, marks_at_least}
+use Rattle.wl_desk.specs.Scratch.{color_in, scratch}
 use Rattle.wl_desk.specs.Step.{Unserved, Feeds}
 
 -- What is marked at least is among what is marked at most.
@@ -16,6 +19,28 @@ abbrev pub LeastIsMost : Type 0
 LeastIsMost =
     (width height : ℕ) (applied : Applied) (raised : Option (ℕ × ℕ)) (old new : List Window) (x y : ℤ)
     → IsTrue (at_least width height applied old new x y) → IsTrue (at_most width height applied raised old new x y)
+
+-- Windows that keep their records show at this point the colours that they did, where no damage was applied.
+abbrev pub ColorsStay : Desktop → Desktop → ℤ → ℤ → Type 0
+ColorsStay old new x y =
+    (i j : ℕ) (w v : Window)
+    → slice_get (windows_in old) i ≡ Some w
+    → slice_get (windows_in new) j ≡ Some v
+    → has_same_record w v ≡ true
+    → contains v x y ≡ true
+    → applied_between old new v.owner.client v.surface (x -ℤ v.corner.x) (y -ℤ v.corner.y) ≡ false
+    → color_in old w x y ≡ color_in new v x y
+
+-- A point of the output that a step doesn't mark is painted from nothing as before.
+abbrev pub ScratchStays : Type 0
+ScratchStays =
+    (background : Rgb) (old new : Desktop) (x y : ℤ)
+    → AreDistinct (windows_in old)
+    → AreDistinct (windows_in new)
+    → in_output old.output.width old.output.height x y ≡ true
+    → marks_at_least old new x y ≡ false
+    → ColorsStay old new x y
+    → scratch background old x y ≡ scratch background new x y
 
 -- why a client ended, if it is there and did
 abbrev pub status_of : Option Resident → Option Cause

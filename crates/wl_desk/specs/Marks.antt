@@ -1,5 +1,5 @@
 -- Which points of the output a step marks to be painted again, of the windows before it and after it.
-use Rattle.std.specs.Prelude.{ℕ, ℤ, pos, ◌-ℤ◌, ◌==◌, ◌&&◌, ◌||◌, int_le, int_lt, not, Bool, true, false, if◌then◌else◌, Option, Some, None, List, [], ◌∷◌, filter}
+use Rattle.std.specs.Prelude.{ℕ, ◌≡◌, ℤ, pos, ◌-ℤ◌, ◌==◌, ◌&&◌, ◌||◌, int_le, int_lt, not, Bool, true, false, if◌then◌else◌, Option, Some, None, List, [], ◌∷◌, filter}
 use Rattle.std.specs.List.{list_any}
 use Rattle.wl_scene.specs.Windows.{Window, contains}
 
@@ -19,6 +19,11 @@ has_same_record w v =
 -- the window is among these, with the same record
 abbrev pub is_kept_in : List Window → Window → Bool
 is_kept_in others w = list_any (has_same_record w) others
+
+-- no surface has two of these windows
+abbrev pub AreDistinct : List Window → Type 0
+AreDistinct [] = Unit {0}
+AreDistinct (w ∷ ws) = (list_any (is_same_surface w) ws ≡ false) × AreDistinct ws
 
 -- one window stands before another of these
 abbrev pub is_before : Window → Window → List Window → Bool

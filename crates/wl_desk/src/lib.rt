@@ -1,11 +1,17 @@
 //! The desk: the windows of all clients, what a message does to them, and which points a step marks to be painted again.
 #![tactic(auto)]
 
-ghost use Rattle.wl_desk.specs.Laws.{LeastIsMost, OneRun, OthersStay, ServedAlone};
+ghost use Rattle.wl_desk.specs.Laws.{LeastIsMost, OneRun, OthersStay, ScratchStays, ServedAlone};
 
 /// What a step marks at least is among what it marks at most.
 pub fn least_is_most()
     ensures { LeastIsMost }
+{}
+
+/// A point that a step doesn't mark is painted from nothing as before, where the windows that keep their records show the colours that they
+/// did outside the damage that was applied.
+pub fn scratch_stays()
+    ensures { ScratchStays }
 {}
 
 /// A piece of a client's leads to one desktop, but for want of memory.
