@@ -18,7 +18,7 @@ use Rattle.wl_desk.proofs.Stacks.{AreSame, Each, Fields, and-both, any-more, bef
 in-same : (px py : ℤ) (x x' y y' : ℤ) (w w' h h' : ℕ) → x ≡ x' → y ≡ y' → w ≡ w' → h ≡ h' → in_rect px py (record { x = x; y = y; w = pos w; h = pos h }) ≡ in_rect px py (record { x = x'; y = y'; w = pos w'; h = pos h' })
 in-same px py x x' y y' w w' h h' a b c d = rw (a, b, c, d) refl
 
-contains-same : (px py : ℤ) (w v : Window) → has_same_record w v ≡ true → contains w px py ≡ contains v px py
+pub contains-same : (px py : ℤ) (w v : Window) → has_same_record w v ≡ true → contains w px py ≡ contains v px py
 contains-same px py w v e =
     let f = fields w v e in
     in-same px py w.corner.x v.corner.x w.corner.y v.corner.y w.width v.width w.height v.height f.x f.y f.width f.height
@@ -169,7 +169,7 @@ fold-same d e x y (w ∷ ws) (v ∷ vs) same alike background =
 fold-same d e x y [] (v ∷ vs) same alike background = absurd (same)
 fold-same d e x y (w ∷ ws) [] same alike background = absurd (same)
 
-marked-none : (a b : Bool) → (a && b) ≡ false → a ≡ true → b ≡ false
+pub marked-none : (a b : Bool) → (a && b) ≡ false → a ≡ true → b ≡ false
 marked-none true b e f = e
 marked-none false b e f = absurd (differ f)
 

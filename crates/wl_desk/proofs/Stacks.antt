@@ -12,11 +12,11 @@ use Rattle.wl_desk.specs.Marks.{AreDistinct, has_same_record, int_eq, is_before,
 pub differ : false ≡ true → ⊥
 differ e = absurd (cc)
 
-and-left : (a b : Bool) → (a && b) ≡ true → a ≡ true
+pub and-left : (a b : Bool) → (a && b) ≡ true → a ≡ true
 and-left true b e = refl
 and-left false b e = e
 
-and-right : (a b : Bool) → (a && b) ≡ true → b ≡ true
+pub and-right : (a b : Bool) → (a && b) ≡ true → b ≡ true
 and-right true b e = e
 and-right false b e = absurd (cc)
 
@@ -80,7 +80,7 @@ either-none true b e f g = f refl
 either-none false b e f g = g e
 
 -- one that has it, and all that don't
-any-each : {X : Type 0} (q P : X → Bool) (xs : List X) → list_any q xs ≡ true → Each (λ x. P x ≡ false) xs → ((x : X) → q x ≡ true → P x ≡ true) → ⊥
+pub any-each : {X : Type 0} (q P : X → Bool) (xs : List X) → list_any q xs ≡ true → Each (λ x. P x ≡ false) xs → ((x : X) → q x ≡ true → P x ≡ true) → ⊥
 any-each q P [] e none f = differ e
 any-each q P (x ∷ xs) e none f = either-none (q x) (list_any q xs) e (λ g. differ (sym none.0 ∙ f x g)) (λ g. any-each q P xs g none.1 f)
 
@@ -123,7 +123,7 @@ fields w v e =
       transform = eqb-true w.transform v.transform (and-right (w.width == v.width && w.height == v.height) _ z);
     }
 
-equal-numbers : (a b : ℕ) → a ≡ b → (a == b) ≡ true
+pub equal-numbers : (a b : ℕ) → a ≡ b → (a == b) ≡ true
 equal-numbers a b e = subst (λ n. (a == n) ≡ true) e (same-number a)
 
 equal-ints : (a b : ℤ) → a ≡ b → int_eq a b ≡ true

@@ -6,6 +6,7 @@ pub mod Kept
 pub mod Others
 pub mod OthersLeft
 pub mod Runs
+pub mod Unmarked
 pub use Rattle.wl_client.proofs.Pieces
 pub use Rattle.wl_client.proofs.Unique
 pub use Rattle.wl_paint.proofs.Written

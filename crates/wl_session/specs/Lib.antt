@@ -4,6 +4,7 @@ pub mod Laws
 pub mod Promises
 pub mod Run
 pub mod Step
+pub mod Unmarked
 pub mod View
 pub mod Viewer
 pub mod Whole

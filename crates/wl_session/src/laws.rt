@@ -1,6 +1,7 @@
 //! Laws of the plain desktop, each the contract of an empty function.
 
 ghost use Rattle.wl_session.specs.Laws.{AnyPieces, OneRun, OthersStay};
+ghost use Rattle.wl_session.specs.Unmarked.{IncrementalIsFromScratch, UnmarkedStays, ViewerSeesScratch};
 ghost use Rattle.wl_session.specs.Whole.{OneStep, OthersAreLeft};
 
 /// A client's stream may be cut into any pieces: two pieces lead where they lead as one.
@@ -26,4 +27,21 @@ pub fn one_step()
 /// A step of the desktop with surfaces leaves each client that it isn't of as it was, with the places and the order of its toplevels.
 pub fn others_are_left()
     ensures { OthersAreLeft }
+{}
+
+/// A point of the output that a step doesn't mark is painted from nothing as before, if no window of a client that hid a change covers it
+/// (wayland.xml, wl_surface.damage).
+pub fn unmarked_stays()
+    ensures { UnmarkedStays }
+{}
+
+/// Over any list of steps that mark what they have to, and of frames that paint what is marked, each point of the output is marked, or
+/// covered by a window of a client that hid a change, or right; and a viewer that copies only what each frame painted holds the image.
+pub fn incremental_is_from_scratch()
+    ensures { IncrementalIsFromScratch }
+{}
+
+/// At each frame such a viewer holds the desktop painted from nothing, but where a window of a client that hid a change covers it.
+pub fn viewer_sees_scratch()
+    ensures { ViewerSeesScratch }
 {}

@@ -7,7 +7,10 @@ mod sessions;
 mod shots;
 mod steps;
 
-pub use laws::{any_pieces, one_run, one_step, others_are_left, others_stay};
+pub use laws::{
+    any_pieces, incremental_is_from_scratch, one_run, one_step, others_are_left, others_stay,
+    unmarked_stays, viewer_sees_scratch,
+};
 pub use sessions::{Config, Session};
 pub use shots::{Frame, Run, Shot};
 pub use steps::{ClientNo, ConnectError, Done, Fed, RunError, Step, Stored};

@@ -1,0 +1,141 @@
+-- What stays right at points that aren't marked.
+use Rattle.std.proofs.Common.{◌≡◌, ℕ, zero, suc, Bool, true, false, List, [], ◌∷◌, Option, Some, None, refl, ap, sym, subst, ◌∙◌}
+use Rattle.std.specs.Prelude.{ℤ, ◌-ℤ◌, ◌==◌, ◌&&◌, ◌||◌, not, filter, fold, cond, slice_get}
+use Rattle.std.specs.List.{list_any}
+use Rattle.std.proofs.lemmas.Bool.{eqb-true}
+use Rattle.wl_store.specs.declared.color.Argb.{Argb}
+use Rattle.wl_blend.specs.declared.color.Rgb.{Rgb}
+use Rattle.wl_scene.specs.Windows.{Window, contains}
+use Rattle.wl_desk.specs.Desktop.{Desktop, windows_in}
+use Rattle.wl_desk.specs.Laws.{ColorsStay}
+use Rattle.wl_client.specs.Told.{Output}
+use Rattle.wl_desk.specs.Marks.{in_output, has_same_record, is_changed_at, is_kept_in}
+use Rattle.wl_desk.specs.Moments.{applied_between, marks_at_least}
+use Rattle.wl_desk.specs.Scratch.{color_in, scratch}
+use Rattle.wl_desk.proofs.Painted.{contains-same, marked-none, scratch_stays}
+use Rattle.wl_desk.proofs.Stacks.{and-both, and-left, and-right, any-each, any-more, differ, each-false, equal-numbers, fields, or-left, or-right, same-number, unless}
+use Rattle.wl_session.specs.Promises.{is_hidden_in, is_same_color, windows_by}
+use Rattle.wl_session.specs.Unmarked.{AllDamageBut, Event, Holds, IncrementalIsFromScratch, IsHonest, Moment, Shown, Stepped, ViewerSeesScratch, after, IsRight, Marks, RepaintedIsRight, StaysRight, UnmarkedStays, ViewerHolds, covers_at, in_output_of, is_covered}
+
+-- ---- lists
+
+at-option : {X : Type 0} → (X → Bool) → Option X → Bool
+at-option p None = false
+at-option p (Some x) = p x
+
+value-or : {X : Type 0} → X → Option X → X
+value-or d None = d
+value-or d (Some x) = x
+
+none-at : {X : Type 0} (p : X → Bool) (xs : List X) (i : ℕ) (x : X) → slice_get xs i ≡ Some x → list_any p xs ≡ false → p x ≡ false
+unfolding at-option
+none-at p [] i x is e = absurd (cc)
+none-at {X} p (z ∷ zs) zero x is e = subst (λ (o : Option X). at-option p o ≡ false) is (or-left (p z) (list_any p zs) e)
+none-at p (z ∷ zs) (suc i) x is e = none-at p zs i x is (or-right (p z) (list_any p zs) e)
+
+-- the same of those that pass a test
+first-kept : {X : Type 0} (p : X → Bool) (z : X) (zs : List X) (b : Bool) → b ≡ true → list_any p (cond b (z ∷ zs) zs) ≡ false → p z ≡ false
+first-kept p z zs true is e = or-left (p z) (list_any p zs) e
+first-kept p z zs false is e = absurd (differ is)
+
+rest-kept : {X : Type 0} (p : X → Bool) (z : X) (zs : List X) (b : Bool) → list_any p (cond b (z ∷ zs) zs) ≡ false → list_any p zs ≡ false
+rest-kept p z zs true e = or-right (p z) (list_any p zs) e
+rest-kept p z zs false e = e
+
+none-kept : {X : Type 0} (c p : X → Bool) (xs : List X) (i : ℕ) (x : X) → slice_get xs i ≡ Some x → c x ≡ true → list_any p (filter c xs) ≡ false → p x ≡ false
+unfolding value-or
+none-kept c p [] i x is there e = absurd (cc)
+none-kept {X} c p (z ∷ zs) zero x is there e =
+    let same : z ≡ x = ap (λ (o : Option X). value-or z o) is in
+    sym (ap p same) ∙ first-kept p z (filter c zs) (c z) (ap c same ∙ there) e
+none-kept c p (z ∷ zs) (suc i) x is there e = none-kept c p zs i x is there (rest-kept p z (filter c zs) (c z) e)
+
+-- ---- colours
+
+abbrev argb : ℕ → ℕ → ℕ → ℕ → Argb
+argb a r g b = record { a = a; r = r; g = g; b = b }
+
+color-is : (a a' r r' g g' b b' : ℕ) → a ≡ a' → r ≡ r' → g ≡ g' → b ≡ b' → argb a r g b ≡ argb a' r' g' b'
+color-is a a' r r' g g' b b' e f h i = rw (e, f, h, i) refl
+
+same-color : (c d : Argb) → is_same_color c d ≡ true → c ≡ d
+same-color c d e =
+    let first = and-left ((c.a == d.a) && (c.r == d.r)) _ e in
+    let second = and-right ((c.a == d.a) && (c.r == d.r)) _ e in
+    color-is c.a d.a c.r d.r c.g d.g c.b d.b
+    (eqb-true c.a d.a (and-left (c.a == d.a) _ first)) (eqb-true c.r d.r (and-right (c.a == d.a) _ first)) (eqb-true c.g d.g (and-left (c.g == d.g) _ second)) (eqb-true c.b d.b (and-right (c.g == d.g) _ second))
+
+not-hidden : (a b s n : Bool) → (a && (b && (not s && not n))) ≡ false → a ≡ true → b ≡ true → n ≡ false → s ≡ true
+not-hidden true true true false e f g h = refl
+not-hidden true true false false e f g h = absurd (differ (sym e))
+not-hidden false b s n e f g h = absurd (differ f)
+not-hidden true false s n e f g h = absurd (differ g)
+not-hidden true true s true e f g h = absurd (differ (sym h))
+
+colors-stay : (liars : ℕ → Bool) (old new : Desktop) (x y : ℤ) → AllDamageBut liars old new → is_covered liars new x y ≡ false → ColorsStay old new x y
+colors-stay liars old new x y keep clear i j w v before after same here none =
+    let honest = without (liars v.owner.client) (contains v x y) (none-at (covers_at liars x y) (windows_in new) j v after clear) here in
+    let shown = none-kept (λ z. z.owner.client == v.owner.client) (λ z. list_any (λ b. is_hidden_in old new x y b z) (windows_by v.owner.client old)) (windows_in new) j v after (same-number v.owner.client) (keep v.owner.client honest x y) in
+    let seen = none-kept (λ z. z.owner.client == v.owner.client) (λ b. is_hidden_in old new x y b v) (windows_in old) i w before (equal-numbers w.owner.client v.owner.client (fields w v same).client) shown in
+    same-color (color_in old w x y) (color_in new v x y)
+    (not-hidden (has_same_record w v) (contains v x y) (is_same_color (color_in old w x y) (color_in new v x y)) (applied_between old new v.owner.client v.surface (x -ℤ v.corner.x) (y -ℤ v.corner.y)) seen same here none) where
+      without : (a b : Bool) → (a && b) ≡ false → b ≡ true → a ≡ false
+      without true b e f = absurd (differ (sym e ∙ f))
+      without false b e f = refl
+
+pub unmarked_stays : UnmarkedStays
+unmarked_stays liars background old new x y apart keep inside unmarked clear clear' =
+    scratch_stays background old new x y apart.0 apart.1 inside unmarked (colors-stay liars old new x y keep clear')
+
+-- ---- images
+
+-- what such a window covered is covered still, or marked
+covered-still : (liars : ℕ → Bool) (old new : Desktop) (x y : ℤ) → in_output_of old x y ≡ true → marks_at_least old new x y ≡ false → is_covered liars new x y ≡ false → is_covered liars old x y ≡ false
+covered-still liars old new x y inside unmarked clear =
+    let all = marked-none (in_output_of old x y) _ unmarked inside in
+    let changed = or-left (list_any (is_changed_at (windows_in new) x y) (windows_in old) || list_any (is_changed_at (windows_in old) x y) (windows_in new)) _ all in
+    let gone = or-left (list_any (is_changed_at (windows_in new) x y) (windows_in old)) _ changed in
+    unless (is_covered liars old x y)
+    (λ covered. any-each (covers_at liars x y) (is_changed_at (windows_in new) x y) (windows_in old) covered (each-false (is_changed_at (windows_in new) x y) (windows_in old) gone)
+    (λ w e. and-both (contains w x y) (not (is_kept_in (windows_in new) w)) (and-right (liars w.owner.client) (contains w x y) e)
+    (ap not (unless (is_kept_in (windows_in new) w) (λ kept. differ (sym clear ∙ any-more (has_same_record w) (covers_at liars x y)
+    (λ v same. and-both (liars v.owner.client) (contains v x y) (sym (ap liars (fields w v same).client) ∙ and-left (liars w.owner.client) (contains w x y) e) (sym (contains-same x y w v same) ∙ and-right (liars w.owner.client) (contains w x y) e))
+    (windows_in new) kept))))))
+
+pub stays_right : StaysRight
+stays_right liars background image before after old new sized apart keep marks right = λ x y inside undamaged clear.
+    let within : in_output_of old x y ≡ true = subst (λ (o : Output). in_output o.width o.height x y ≡ true) sized inside in
+    let unmarked = (marks x y undamaged).1 in
+    let was = covered-still liars old new x y within unmarked clear in
+    right x y within (marks x y undamaged).0 was ∙ unmarked_stays liars background old new x y apart keep within unmarked was clear
+
+pub repainted_is_right : RepaintedIsRight
+repainted_is_right liars background image damage d right = λ x y inside none clear. go x y inside clear (damage x y) refl where
+  go : (x y : ℤ) → in_output_of d x y ≡ true → is_covered liars d x y ≡ false → (b : Bool) → damage x y ≡ b → cond b (scratch background d x y) (image x y) ≡ scratch background d x y
+  go x y inside clear true is = refl
+  go x y inside clear false is = right x y inside is clear
+
+pub viewer_holds : ViewerHolds
+viewer_holds background image sight damage d same = λ x y. go x y (damage x y) where
+  go : (x y : ℤ) → (b : Bool) → cond b (cond b (scratch background d x y) (image x y)) (sight x y) ≡ cond b (scratch background d x y) (image x y)
+  go x y true = refl
+  go x y false = same x y
+
+-- ---- many steps and frames
+
+holds-after : (liars : ℕ → Bool) (background : Rgb) (m : Moment) (e : Event) → IsHonest liars m e → Holds liars background m → Holds liars background (after background m e)
+holds-after liars background m (Stepped new damage) honest holds =
+    (stays_right liars background m.image m.damage damage m.desktop new honest.0 honest.1 honest.2 honest.3 holds.0, holds.1)
+holds-after liars background m Shown honest holds =
+    (repainted_is_right liars background m.image m.damage m.desktop holds.0, viewer_holds background m.image m.sight m.damage m.desktop holds.1)
+
+pub incremental_is_from_scratch : IncrementalIsFromScratch
+incremental_is_from_scratch liars background [] m honest holds = holds
+incremental_is_from_scratch liars background (e ∷ es) m honest holds =
+    incremental_is_from_scratch liars background es (after background m e) honest.1 (holds-after liars background m e honest.0 holds)
+
+pub viewer_sees_scratch : ViewerSeesScratch
+viewer_sees_scratch liars background events m x y honest holds inside clear =
+    let end = fold (after background) m events in
+    let shown = holds-after liars background end Shown tt (incremental_is_from_scratch liars background events m honest holds) in
+    shown.1 x y ∙ shown.0 x y inside refl clear
