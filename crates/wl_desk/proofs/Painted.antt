@@ -27,7 +27,7 @@ each-at : {X : Type 0} (P : X → Type 0) (xs : List X) → ((i : ℕ) (x : X) �
 each-at P [] f = tt
 each-at P (x ∷ xs) f = (f 0 x refl, each-at P xs (λ i. f (suc i)))
 
-each-kept : {X : Type 0} (c : X → Bool) (P : X → Type 0) (xs : List X) → Each P xs → Each (λ x. (c x ≡ true) × P x) (filter c xs)
+pub each-kept : {X : Type 0} (c : X → Bool) (P : X → Type 0) (xs : List X) → Each P xs → Each (λ x. (c x ≡ true) × P x) (filter c xs)
 each-kept c P [] e = tt
 each-kept {X} c P (x ∷ xs) e = go (c x) refl (each-kept c P xs e.1) where
   go : (b : Bool) → c x ≡ b → Each (λ z. (c z ≡ true) × P z) (filter c xs) → Each (λ z. (c z ≡ true) × P z) (cond b (x ∷ filter c xs) (filter c xs))

@@ -7,6 +7,7 @@ pub mod Others
 pub mod OthersLeft
 pub mod Runs
 pub mod Unmarked
+pub mod StoreWrites
 pub use Rattle.wl_client.proofs.Pieces
 pub use Rattle.wl_client.proofs.Unique
 pub use Rattle.wl_paint.proofs.Written

@@ -8,6 +8,7 @@ pub mod Unmarked
 pub mod View
 pub mod Viewer
 pub mod Whole
+pub mod StoreWrites
 pub use Rattle.wl_client.specs.Peer
 pub use Rattle.wl_paint.specs.Damage
 pub use Rattle.wl_paint.specs.Frame

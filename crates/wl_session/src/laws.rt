@@ -1,6 +1,7 @@
 //! Laws of the plain desktop, each the contract of an empty function.
 
 ghost use Rattle.wl_session.specs.Laws.{AnyPieces, OneRun, OthersStay};
+ghost use Rattle.wl_session.specs.StoreWrites.{WriteHidesNothing};
 ghost use Rattle.wl_session.specs.Unmarked.{IncrementalIsFromScratch, UnmarkedStays, ViewerSeesScratch};
 ghost use Rattle.wl_session.specs.Whole.{OneStep, OthersAreLeft};
 
@@ -33,6 +34,11 @@ pub fn others_are_left()
 /// (wayland.xml, wl_surface.damage).
 pub fn unmarked_stays()
     ensures { UnmarkedStays }
+{}
+
+/// A client whose busy buffers keep their colours in a store write hides no change in it (wayland.xml, wl_buffer.release).
+pub fn write_hides_nothing()
+    ensures { WriteHidesNothing }
 {}
 
 /// Over any list of steps that mark what they have to, and of frames that paint what is marked, each point of the output is marked, or

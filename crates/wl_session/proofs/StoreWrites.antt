@@ -1,0 +1,255 @@
+-- A store write that leaves busy buffers alone hides nothing.
+use Rattle.std.proofs.Common.{◌≡◌, ℕ, zero, suc, ◌<◌, ◌-◌, ◌+◌, Bool, true, false, List, [], ◌∷◌, ◌++◌, Option, Some, None, refl, ap, sym, subst, ◌∙◌, arith, pos, negsuc}
+use Rattle.std.specs.Prelude.{ℤ, ◌-ℤ◌, ◌+ℤ◌, ◌==◌, ◌&&◌, ◌||◌, nat_lt, unsigned_abs, flat_map, find, cond, not, map}
+use Rattle.std.specs.List.{list_any}
+use Rattle.std.specs.Option.{option_map}
+use Rattle.std.proofs.lemmas.Int.{ints}
+use Rattle.wl_geom.specs.Rect.{in_rect, in_span}
+use Rattle.wl_store.specs.declared.color.Argb.{Argb}
+use Rattle.wl_store.specs.Transform.{buffer_point, is_turned, transform_of}
+use Rattle.wl_store.specs.declared.transform.Transform.{Transform}
+use Rattle.wl_store.specs.declared.transform.Transform.TheVariants.{Normal, Rotated90, Rotated180, Rotated270, Flipped, Flipped90, Flipped180, Flipped270}
+use Rattle.wl_surface.specs.Request.{Buffer, Member, Itself, Child}
+use Rattle.wl_surface.specs.State.{History, Values, applied, height_of, order, position, width_of}
+use Rattle.wl_surface.specs.Surfaces.{Link, Surface, Surfaces, history_in, link_at, listed}
+use Rattle.wl_scene.specs.Stacking.{Owned, Standing, root_of, windows_on}
+use Rattle.wl_scene.specs.Windows.{Owner, Place, Root, Window, child_windows, contains, corner_at, counting, member_windows, owner_of, shown_windows, surface_windows, tree, window_of, window_with, windows, windows_of}
+use Rattle.std.specs.Prelude.{◌⊎◌}
+use Rattle.std.proofs.Common.{inl, inr}
+use Rattle.std.proofs.lemmas.Bool.{eqb-false, eqb-true}
+use Rattle.wl_client.specs.declared.clients.Cause.{Cause}
+use Rattle.wl_client.specs.Peer.{Peer, stored_at}
+use Rattle.wl_scene.specs.Stacking.{nothing_owned}
+use Rattle.wl_desk.specs.Desktop.{Desktop, Resident, become, client_at, owned_in, owned_of, windows_in}
+use Rattle.wl_desk.specs.Scratch.{bytes_now, color_in, pixel_at}
+use Rattle.wl_desk.proofs.Places.{client-become, left_by, other-become}
+use Rattle.wl_desk.proofs.Stacks.{Each, Fields, and-left, and-right, differ, each-map, fields, or-left, or-right, unless}
+use Rattle.wl_desk.proofs.Painted.{each-kept}
+use Rattle.wl_desk.specs.Marks.{has_same_record}
+use Rattle.wl_session.specs.declared.steps.Done.{Done}
+use Rattle.wl_session.specs.declared.steps.Done.TheVariants as gave
+use Rattle.wl_session.specs.declared.steps.Stored.TheVariants as stored
+use Rattle.wl_session.specs.Promises.{KeepsBuffers, busy_of, bytes_by, bytes_in, is_hidden_in, is_rewritten_at, is_same_color, windows_by}
+use Rattle.wl_session.specs.StoreWrites.{WriteHidesNothing}
+use Rattle.wl_session.specs.Step.{IsStored}
+use Rattle.wl_session.specs.Whole.{ChangesAt, left_so}
+
+-- ---- each window shows the buffer that its surface has applied
+
+abbrev IsShown : (ℕ → Owned) → Window → Type 0
+IsShown owned w =
+    (h : History) × (history_in w.surface (owned w.owner.client).surfaces ≡ Some h) × ((applied h).buffer ≡ Some w.buffer)
+    × (w.width ≡ width_of (Some w.buffer) w.transform) × (w.height ≡ height_of (Some w.buffer) w.transform)
+
+each-append : {X : Type 0} (P : X → Type 0) (xs ys : List X) → Each P xs → Each P ys → Each P (xs ++ ys)
+each-append P [] ys e f = f
+each-append P (x ∷ xs) ys e f = (e.0, each-append P xs ys e.1 f)
+
+each-flat : {X Y : Type 0} (P : Y → Type 0) (f : X → List Y) → ((x : X) → Each P (f x)) → (xs : List X) → Each P (flat_map f xs)
+each-flat P f e [] = tt
+each-flat P f e (x ∷ xs) = each-append P (f x) (flat_map f xs) (e x) (each-flat P f e xs)
+
+shown-window : (owned : ℕ → Owned) (owner : Owner) (surface : ℕ) (corner : Place) (h : History) (buffer : Option Buffer) → history_in surface (owned owner.client).surfaces ≡ Some h → (applied h).buffer ≡ buffer
+    → Each (IsShown owned) (window_with owner surface corner (applied h) buffer)
+shown-window owned owner surface corner h None e f = tt
+shown-window owned owner surface corner h (Some buffer) e f = ((h, e, f, refl, refl), tt)
+
+shown-child : (owned : ℕ → Owned) (next : ℕ → Place → List Window) → ((child : ℕ) (at : Place) → Each (IsShown owned) (next child at)) → (h : History) (corner : Place) (l : ℕ) (link : Option Link) → Each (IsShown owned) (child_windows next h corner l link)
+shown-child owned next e h corner l None = tt
+shown-child owned next e h corner l (Some link) = go link.has_ended where
+  go : (b : Bool) → Each (IsShown owned) (cond b [] (next link.child (record { x = corner.x +ℤ (position l (counting h)).0; y = corner.y +ℤ (position l (counting h)).1 })))
+  go true = tt
+  go false = e link.child _
+
+shown-member : (owned : ℕ → Owned) (next : ℕ → Place → List Window) → ((child : ℕ) (at : Place) → Each (IsShown owned) (next child at)) → (owner : Owner) (surface : ℕ) (h : History) (corner : Place) → history_in surface (owned owner.client).surfaces ≡ Some h
+    → (m : Member) → Each (IsShown owned) (member_windows next owner (owned owner.client).surfaces surface h corner m)
+shown-member owned next e owner surface h corner is Itself = shown-window owned owner surface corner h (applied h).buffer is refl
+shown-member owned next e owner surface h corner is (Child l) = shown-child owned next e h corner l (link_at l (owned owner.client).surfaces)
+
+shown-all : (owned : ℕ → Owned) (next : ℕ → Place → List Window) → ((child : ℕ) (at : Place) → Each (IsShown owned) (next child at)) → (owner : Owner) (surface : ℕ) (h : History) (corner : Place) (buffer : Option Buffer) → history_in surface (owned owner.client).surfaces ≡ Some h
+    → Each (IsShown owned) (shown_windows next owner (owned owner.client).surfaces surface h corner buffer)
+shown-all owned next e owner surface h corner None is = tt
+shown-all owned next e owner surface h corner (Some buffer) is =
+    each-flat (IsShown owned) (member_windows next owner (owned owner.client).surfaces surface h corner) (shown-member owned next e owner surface h corner is) (order (counting h))
+
+shown-surface : (owned : ℕ → Owned) (next : ℕ → Place → List Window) → ((child : ℕ) (at : Place) → Each (IsShown owned) (next child at)) → (owner : Owner) (surface : ℕ) (place : Place) (h : Option History) → history_in surface (owned owner.client).surfaces ≡ h
+    → Each (IsShown owned) (surface_windows next owner (owned owner.client).surfaces surface place h)
+shown-surface owned next e owner surface place None is = tt
+shown-surface owned next e owner surface place (Some h) is = shown-all owned next e owner surface h (corner_at place h) (applied h).buffer is
+
+shown-tree : (levels : ℕ) (owned : ℕ → Owned) (owner : Owner) (surface : ℕ) (place : Place) → Each (IsShown owned) (tree levels owner (owned owner.client).surfaces surface place)
+unfolding tree
+shown-tree zero owned owner surface place = tt
+shown-tree (suc n) owned owner surface place =
+    shown-surface owned (λ child at. tree n owner (owned owner.client).surfaces child at) (λ child at. shown-tree n owned owner child at) owner surface place (history_in surface (owned owner.client).surfaces) refl
+
+pub all-shown : (owned : ℕ → Owned) (standing : List Standing) → Each (IsShown owned) (windows_on owned standing)
+all-shown owned standing =
+    each-flat (IsShown owned) (windows_of (λ client. (owned client).surfaces) (λ client. []))
+    (λ toplevel. each-append (IsShown owned) _ [] (shown-tree 17 owned (owner_of toplevel) toplevel.surface toplevel.place) tt)
+    (map (root_of owned) standing)
+
+-- ---- a point of a window is one of its buffer
+
+point-within : (t : Transform) (w h i j bw bh : ℕ) → w ≡ cond (is_turned t) bh bw → h ≡ cond (is_turned t) bw bh → i < w → j < h → ((buffer_point t w h i j).0 < bw) × ((buffer_point t w h i j).1 < bh)
+point-within Normal w h i j bw bh a b c d = (omega (arith, a, c), omega (arith, b, d))
+point-within Rotated90 w h i j bw bh a b c d = (omega (arith, b, d), omega (arith, a, c))
+point-within Rotated180 w h i j bw bh a b c d = (omega (arith, a, c), omega (arith, b, d))
+point-within Rotated270 w h i j bw bh a b c d = (omega (arith, b, d), omega (arith, a, c))
+point-within Flipped w h i j bw bh a b c d = (omega (arith, a, c), omega (arith, b, d))
+point-within Flipped90 w h i j bw bh a b c d = (omega (arith, b, d), omega (arith, a, c))
+point-within Flipped180 w h i j bw bh a b c d = (omega (arith, a, c), omega (arith, b, d))
+point-within Flipped270 w h i j bw bh a b c d = (omega (arith, b, d), omega (arith, a, c))
+
+-- how far a point of a span is from its start
+far-within : (at start : ℤ) (n : ℕ) (d : ℤ) → (at -ℤ start) ≡ d → in_span start (pos n) at ≡ true → unsigned_abs d < n
+far-within at start n (pos k) e f = grind (arith, ints)
+far-within at start n (negsuc k) e f = grind (arith, ints)
+
+-- ---- what a client owns after a store write
+
+abbrev Owns : ℕ → Desktop → Desktop → Type 0
+Owns c old new = (owned_in new c ≡ owned_in old c) ⊎ (owned_in new c ≡ nothing_owned)
+
+left-owns : (s : Option Cause) (r : Resident) (q : Peer) → (owned_of (Some (left_by s r q)) ≡ r.owned) ⊎ (owned_of (Some (left_by s r q)) ≡ nothing_owned)
+left-owns None r q = inl refl
+left-owns (Some cause) r q = inr refl
+
+became : (k c : ℕ) (r : Resident) (q : Peer) (old : Desktop) (same : Bool) → (k == c) ≡ same → client_at k old ≡ Some r → Owns c old (become k r q old)
+became k c r q old true e there =
+    let at = eqb-true k c e in
+    let now : client_at c (become k r q old) ≡ Some (left_by q.status r q) = subst (λ n. client_at n (become k r q old) ≡ Some (left_by q.status r q)) at (client-become q.status k r q old r there) in
+    let was : client_at c old ≡ Some r = subst (λ n. client_at n old ≡ Some r) at there in
+    by-case now was (left-owns q.status r q) where
+      by-case : client_at c (become k r q old) ≡ Some (left_by q.status r q) → client_at c old ≡ Some r → (owned_of (Some (left_by q.status r q)) ≡ r.owned) ⊎ (owned_of (Some (left_by q.status r q)) ≡ nothing_owned) → Owns c old (become k r q old)
+      by-case now was (inl f) = inl (ap owned_of now ∙ f ∙ sym (ap owned_of was))
+      by-case now was (inr f) = inr (ap owned_of now ∙ f)
+became k c r q old false e there = inl (ap owned_of (other-become k c r q old (λ same. eqb-false k c e same)))
+
+owned-after : (k store at c : ℕ) (bytes : List ℕ) (client : Option Resident) (old new : Desktop) (done : Done) → client_at k old ≡ client → ChangesAt (IsStored store at bytes) (gave.Store stored.NoClient) k client old done new → Owns c old new
+owned-after k store at c bytes None old new done e h = subst (λ (d : Desktop). Owns c old d) (sym h.1) (inl refl)
+owned-after k store at c bytes (Some r) old new done e h =
+    let becomes : new ≡ left_so k r (Some (stored_at r.peer.status store at bytes r.peer)) old = h.2 ∙ ap (λ (q : Option Peer). left_so k r q old) h.1.0 in
+    subst (λ (d : Desktop). Owns c old d) (sym becomes) (became k c r (stored_at r.peer.status store at bytes r.peer) old (k == c) refl e)
+
+-- ---- one buffer before and after
+
+abbrev value-in : {X : Type 0} → X → Option X → X
+value-in d None = d
+value-in d (Some x) = x
+
+same-buffer : (before after : ℕ → Owned) (w v : Window) → Fields w v → (after v.owner.client).surfaces ≡ (before v.owner.client).surfaces → IsShown before w → IsShown after v → w.buffer ≡ v.buffer
+same-buffer before after w v f same s t =
+    let there : history_in v.surface (before v.owner.client).surfaces ≡ Some s.0 = subst (λ n. history_in n (before v.owner.client).surfaces ≡ Some s.0) f.surface (subst (λ n. history_in w.surface (before n).surfaces ≡ Some s.0) f.client s.1) in
+    let here : history_in v.surface (before v.owner.client).surfaces ≡ Some t.0 = subst (λ (a : Surfaces). history_in v.surface a ≡ Some t.0) same t.1 in
+    let histories : s.0 ≡ t.0 = ap (value-in s.0) (sym there ∙ here) in
+    let buffers : Some w.buffer ≡ Some v.buffer = sym s.2 ∙ ap (λ (h : History). (applied h).buffer) histories ∙ t.2 in
+    ap (value-in w.buffer) buffers
+
+abbrev point_at : Window → ℤ → ℤ → ℕ × ℕ
+point_at w x y = buffer_point (transform_of w.transform) w.width w.height (unsigned_abs (x -ℤ w.corner.x)) (unsigned_abs (y -ℤ w.corner.y))
+
+bytes-same : (w : Window) (r : Option Resident) → bytes_now w r ≡ bytes_by w.buffer.store r
+bytes-same w None = refl
+bytes-same w (Some r) = refl
+
+points-same : (x y : ℤ) (t t' width width' height height' : ℕ) (cx cx' cy cy' : ℤ) → t ≡ t' → width ≡ width' → height ≡ height' → cx ≡ cx' → cy ≡ cy'
+    → buffer_point (transform_of t) width height (unsigned_abs (x -ℤ cx)) (unsigned_abs (y -ℤ cy)) ≡ buffer_point (transform_of t') width' height' (unsigned_abs (x -ℤ cx')) (unsigned_abs (y -ℤ cy'))
+points-same x y t t' width width' height height' cx cx' cy cy' a b c d e = rw (a, b, c, d, e) refl
+
+color-is : (d : Desktop) (w v : Window) (x y : ℤ) → Fields w v → w.buffer ≡ v.buffer → color_in d w x y ≡ pixel_at (bytes_in d v.owner.client v.buffer.store) v.buffer (point_at v x y)
+color-is d w v x y f b =
+    ap (λ (bytes : List ℕ). pixel_at bytes w.buffer (point_at w x y)) (bytes-same w (client_at w.owner.client d))
+    ∙ ap (λ c. pixel_at (bytes_in d c w.buffer.store) w.buffer (point_at w x y)) f.client
+    ∙ ap (λ (a : Buffer). pixel_at (bytes_in d v.owner.client a.store) a (point_at w x y)) b
+    ∙ ap (λ (p : ℕ × ℕ). pixel_at (bytes_in d v.owner.client v.buffer.store) v.buffer p) (points-same x y w.transform v.transform w.width v.width w.height v.height w.corner.x v.corner.x w.corner.y v.corner.y f.transform f.width f.height f.x f.y)
+
+-- ---- a busy buffer keeps its colours
+
+any-second : {X : Type 0} (p : X → Bool) (xs ys : List X) → list_any p (xs ++ ys) ≡ false → list_any p ys ≡ false
+any-second p [] ys e = e
+any-second p (x ∷ xs) ys e = any-second p xs ys (or-right (p x) (list_any p (xs ++ ys)) e)
+
+any-first : {X : Type 0} (p : X → Bool) (xs ys : List X) → list_any p (xs ++ ys) ≡ false → list_any p xs ≡ false
+any-first p [] ys e = refl
+any-first p (x ∷ xs) ys e = go (p x) (or-left (p x) (list_any p (xs ++ ys)) e) (any-first p xs ys (or-right (p x) (list_any p (xs ++ ys)) e)) where
+  go : (b : Bool) → b ≡ false → list_any p xs ≡ false → (b || list_any p xs) ≡ false
+  go true f g = absurd (differ (sym f))
+  go false f g = g
+
+found-none : (p : Buffer → Bool) (ss : List Surface) (t : Surface → Bool) (h : History) (b : Buffer) → list_any p (flat_map busy_of ss) ≡ false → option_map (λ (s : Surface). s.history) (find t ss) ≡ Some h → (applied h).buffer ≡ Some b → p b ≡ false
+found-none p [] t h b e f g = absurd (cc)
+found-none p (s ∷ ss) t h b e f g = go (t s) f (found-none p ss t h b (any-second p (busy_of s) (flat_map busy_of ss) e)) where
+  go : (same : Bool) → option_map (λ (z : Surface). z.history) (cond same (Some s) (find t ss)) ≡ Some h → (option_map (λ (z : Surface). z.history) (find t ss) ≡ Some h → (applied h).buffer ≡ Some b → p b ≡ false) → p b ≡ false
+  go true i next =
+      let same : s.history ≡ h = ap (value-in h) i in
+      let one : (applied s.history).buffer ≡ Some b = ap (λ (z : History). (applied z).buffer) same ∙ g in
+      let none : list_any p (listed (applied s.history).buffer) ≡ false = any-first p (listed (applied s.history).buffer) _ (any-first p (busy_of s) (flat_map busy_of ss) e) in
+      or-left (p b) false (subst (λ (o : Option Buffer). list_any p (listed o) ≡ false) one none)
+  go false i next = next i g
+
+fits : (a b : ℕ) → a < b → nat_lt a b ≡ true
+fits a b less = grind (arith)
+
+not-rewritten : (a b same : Bool) → ((a && b) && not same) ≡ false → a ≡ true → b ≡ true → same ≡ true
+not-rewritten true true true e f g = refl
+not-rewritten true true false e f g = absurd (differ (sym e))
+not-rewritten false b same e f g = absurd (differ f)
+not-rewritten true false same e f g = absurd (differ g)
+
+self : (v : Window) → Fields v v
+self v = record { client = refl; surface = refl; x = refl; y = refl; width = refl; height = refl; transform = refl }
+
+nothing-shown : (v : Window) (o : Owned) (h : History) → o ≡ nothing_owned → history_in v.surface o.surfaces ≡ Some h → ⊥
+nothing-shown v o h e f = none (subst (λ (a : Owned). history_in v.surface a.surfaces ≡ Some h) e f) where
+  none : history_in v.surface nothing_owned.surfaces ≡ Some h → ⊥
+  none g = absurd (cc)
+
+one-buffer : (old new : Desktop) (w v : Window) → Fields w v → Owns v.owner.client old new → IsShown (owned_in old) w → IsShown (owned_in new) v → w.buffer ≡ v.buffer
+one-buffer old new w v f (inl e) s t = same-buffer (owned_in old) (owned_in new) w v f (ap (λ (o : Owned). o.surfaces) e) s t
+one-buffer old new w v f (inr e) s t = absurd (nothing-shown v (owned_in new v.owner.client) t.0 e t.1)
+
+-- a window that kept its record shows the colour that it did
+same-colors : (old new : Desktop) (x y : ℤ) (w v : Window) → KeepsBuffers old new v.owner.client → Fields w v → w.buffer ≡ v.buffer → IsShown (owned_in old) w → IsShown (owned_in new) v → contains v x y ≡ true → is_same_color (color_in old w x y) (color_in new v x y) ≡ true
+same-colors old new x y w v keeps f b s t here =
+    let c = v.owner.client in
+    let p = point_at v x y in
+    let across = far-within x v.corner.x v.width (x -ℤ v.corner.x) refl (and-left (in_span v.corner.x (pos v.width) x) (in_span v.corner.y (pos v.height) y) here) in
+    let down = far-within y v.corner.y v.height (y -ℤ v.corner.y) refl (and-right (in_span v.corner.x (pos v.width) x) (in_span v.corner.y (pos v.height) y) here) in
+    let within = point-within (transform_of v.transform) v.width v.height (unsigned_abs (x -ℤ v.corner.x)) (unsigned_abs (y -ℤ v.corner.y)) v.buffer.width v.buffer.height t.3 t.4 across down in
+    let there : history_in w.surface (owned_in old c).surfaces ≡ Some s.0 = subst (λ n. history_in w.surface (owned_in old n).surfaces ≡ Some s.0) f.client s.1 in
+    let unwritten = found-none (is_rewritten_at old new c p.0 p.1) (owned_in old c).surfaces.surfaces (λ (z : Surface). z.id == w.surface) s.0 v.buffer (keeps p.0 p.1) there (s.2 ∙ ap (λ (a : Buffer). Some a) b) in
+    let was = pixel_at (bytes_in old c v.buffer.store) v.buffer p in
+    subst (λ (q : Argb). is_same_color q (color_in new v x y) ≡ true) (sym (color-is old w v x y f b))
+    (subst (λ (q : Argb). is_same_color was q ≡ true) (sym (color-is new v v x y (self v) refl))
+    (not-rewritten (nat_lt p.0 v.buffer.width) (nat_lt p.1 v.buffer.height) (is_same_color (pixel_at (bytes_in old c v.buffer.store) v.buffer p) (pixel_at (bytes_in new c v.buffer.store) v.buffer p)) unwritten (fits p.0 v.buffer.width within.0) (fits p.1 v.buffer.height within.1)))
+
+any-none : {X : Type 0} (p : X → Bool) (xs : List X) → Each (λ x. p x ≡ false) xs → list_any p xs ≡ false
+any-none p [] e = refl
+any-none p (x ∷ xs) e = go (p x) e.0 (any-none p xs e.1) where
+  go : (b : Bool) → b ≡ false → list_any p xs ≡ false → (b || list_any p xs) ≡ false
+  go true f g = absurd (differ (sym f))
+  go false f g = g
+
+not-hidden : (old new : Desktop) (c : ℕ) (x y : ℤ) (w v : Window) → KeepsBuffers old new c → Owns c old new → (w.owner.client == c) ≡ true → (v.owner.client == c) ≡ true → IsShown (owned_in old) w → IsShown (owned_in new) v → is_hidden_in old new x y w v ≡ false
+not-hidden old new c x y w v keeps owns of of' s t =
+    unless (is_hidden_in old new x y w v)
+    (λ e. let rest = and-right (has_same_record w v) _ e in
+    let f = fields w v (and-left (has_same_record w v) _ e) in
+    let here = and-left (contains v x y) _ rest in
+    let at = sym (eqb-true v.owner.client c of') in
+    let keeps' : KeepsBuffers old new v.owner.client = subst (λ n. KeepsBuffers old new n) at keeps in
+    let owns' : Owns v.owner.client old new = subst (λ n. Owns n old new) at owns in
+    let same = same-colors old new x y w v keeps' f (one-buffer old new w v f owns' s t) s t here in
+    differ (sym (ap not same) ∙ and-left (not (is_same_color (color_in old w x y) (color_in new v x y))) _ (and-right (contains v x y) _ rest)))
+
+pub write_hides_nothing : WriteHidesNothing
+write_hides_nothing unserved old new client store at c bytes done step keeps = λ x y.
+    let owns = owned-after client store at c bytes (client_at client old) old new done refl step in
+    let before = each-kept (λ (w : Window). w.owner.client == c) (IsShown (owned_in old)) (windows_in old) (all-shown (owned_in old) old.standing) in
+    let after = each-kept (λ (w : Window). w.owner.client == c) (IsShown (owned_in new)) (windows_in new) (all-shown (owned_in new) new.standing) in
+    any-none (λ v. list_any (λ w. is_hidden_in old new x y w v) (windows_by c old)) (windows_by c new)
+    (each-map (λ (v : Window). ((v.owner.client == c) ≡ true) × IsShown (owned_in new) v) (λ v. list_any (λ w. is_hidden_in old new x y w v) (windows_by c old) ≡ false)
+    (λ v t. any-none (λ w. is_hidden_in old new x y w v) (windows_by c old)
+    (each-map (λ (w : Window). ((w.owner.client == c) ≡ true) × IsShown (owned_in old) w) (λ w. is_hidden_in old new x y w v ≡ false) (λ w s. not-hidden old new c x y w v keeps owns s.0 t.0 s.1 t.1) (windows_by c old) before))
+    (windows_by c new) after)
