@@ -30,8 +30,8 @@ use Rattle.wl_session.specs.declared.steps.Done.{Done}
 use Rattle.wl_session.specs.declared.steps.Done.TheVariants as gave
 use Rattle.wl_session.specs.declared.steps.Stored.TheVariants as stored
 use Rattle.wl_session.specs.Promises.{KeepsBuffers, busy_of, bytes_by, bytes_in, is_hidden_in, is_rewritten_at, is_same_color, windows_by}
-use Rattle.wl_session.specs.StoreWrites.{WriteHidesNothing}
-use Rattle.wl_session.specs.Step.{IsStored}
+use Rattle.wl_session.specs.StoreWrites.{PromisesAreEnough, WriteHidesNothing}
+use Rattle.wl_session.specs.Step.{Connect, Feed, IsStored, Leave, Send, Close, Store, Tick}
 use Rattle.wl_session.specs.Whole.{ChangesAt, left_so}
 
 -- ---- each window shows the buffer that its surface has applied
@@ -253,3 +253,12 @@ write_hides_nothing unserved old new client store at c bytes done step keeps = �
     (λ v t. any-none (λ w. is_hidden_in old new x y w v) (windows_by c old)
     (each-map (λ (w : Window). ((w.owner.client == c) ≡ true) × IsShown (owned_in old) w) (λ w. is_hidden_in old new x y w v ≡ false) (λ w s. not-hidden old new c x y w v keeps owns s.0 t.0 s.1 t.1) (windows_by c old) before))
     (windows_by c new) after)
+
+pub promises_are_enough : PromisesAreEnough
+promises_are_enough unserved liars (Store client store at bytes) old new done step keep = λ c honest. write_hides_nothing unserved old new client store at c bytes done step (keep c honest)
+promises_are_enough unserved liars (Tick time) old new done step keep = λ c honest. (keep c honest).0
+promises_are_enough unserved liars Connect old new done step keep = keep
+promises_are_enough unserved liars (Feed c piece) old new done step keep = keep
+promises_are_enough unserved liars (Leave c) old new done step keep = keep
+promises_are_enough unserved liars (Send c n) old new done step keep = keep
+promises_are_enough unserved liars (Close c) old new done step keep = keep

@@ -1,10 +1,11 @@
--- A store write that leaves busy buffers alone.
-use Rattle.std.specs.Prelude.{ℕ, ◌≡◌, List}
+-- What the promises of a step are worth.
+use Rattle.std.specs.Prelude.{ℕ, ◌≡◌, Bool, List}
 use Rattle.wl_desk.specs.Desktop.{Desktop}
 use Rattle.wl_desk.specs.Step.{Unserved}
 use Rattle.wl_session.specs.declared.steps.Done.{Done}
-use Rattle.wl_session.specs.Promises.{KeepsBuffers, KeepsDamage}
-use Rattle.wl_session.specs.Step.{Store}
+use Rattle.wl_session.specs.Promises.{KeepBut, KeepsBuffers, KeepsDamage}
+use Rattle.wl_session.specs.Step.{Act, Store}
+use Rattle.wl_session.specs.Unmarked.{AllDamageBut}
 use Rattle.wl_session.specs.Whole.{Steps}
 
 -- A client whose busy buffers keep their colours in a store write hides no change in it (wayland.xml, wl_buffer.release).
@@ -14,3 +15,11 @@ WriteHidesNothing =
     → Steps unserved old (Store client store at bytes) done new
     → KeepsBuffers old new c
     → KeepsDamage old new c
+
+-- In a step of any kind, whoever keeps its promises hides no change.
+abbrev pub PromisesAreEnough : Type 0
+PromisesAreEnough =
+    (unserved : Unserved) (liars : ℕ → Bool) (act : Act) (old new : Desktop) (done : Done)
+    → Steps unserved old act done new
+    → KeepBut liars act old new
+    → AllDamageBut liars old new

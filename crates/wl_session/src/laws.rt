@@ -1,7 +1,7 @@
 //! Laws of the plain desktop, each the contract of an empty function.
 
 ghost use Rattle.wl_session.specs.Laws.{AnyPieces, OneRun, OthersStay};
-ghost use Rattle.wl_session.specs.StoreWrites.{WriteHidesNothing};
+ghost use Rattle.wl_session.specs.StoreWrites.{PromisesAreEnough, WriteHidesNothing};
 ghost use Rattle.wl_session.specs.Unmarked.{IncrementalIsFromScratch, UnmarkedStays, ViewerSeesScratch};
 ghost use Rattle.wl_session.specs.Whole.{OneStep, OthersAreLeft};
 
@@ -34,6 +34,11 @@ pub fn others_are_left()
 /// (wayland.xml, wl_surface.damage).
 pub fn unmarked_stays()
     ensures { UnmarkedStays }
+{}
+
+/// In a step of any kind, whoever keeps its promises hides no change (wayland.xml, wl_surface.damage and wl_buffer.release).
+pub fn promises_are_enough()
+    ensures { PromisesAreEnough }
 {}
 
 /// A client whose busy buffers keep their colours in a store write hides no change in it (wayland.xml, wl_buffer.release).
