@@ -8,3 +8,4 @@ pub mod Alone
 pub mod Served
 pub mod Stacks
 pub mod Painted
+pub mod Distinct

@@ -1,14 +1,15 @@
 -- Laws of the plain desktop.
-use Rattle.std.specs.Prelude.{ℕ, ◌≡◌, ◌≢◌, ◌==◌, ℤ, ◌-ℤ◌, slice_get, List, Option, Some, None, IsTrue, true, false, filter}
+use Rattle.std.specs.Prelude.{ℕ, ◌≡◌, ◌≢◌, ◌==◌, ℤ, [], ◌∷◌, ◌-ℤ◌, slice_get, List, Option, Some, None, IsTrue, true, false, filter}
+use Rattle.std.specs.List.{list_any}
 use Rattle.wl_proto.specs.declared.interface.Interface.TheVariants.{WlCompositor, WlSurface, WlSubcompositor, WlSubsurface, WlSeat, WlPointer, XdgWmBase, XdgPositioner, XdgSurface, XdgToplevel, XdgPopup}
 use Rattle.wl_client.specs.declared.clients.Cause.{Cause}
 use Rattle.wl_client.specs.declared.clients.Cause.TheVariants.{Memory}
 use Rattle.wl_client.specs.Peer.{Peer}
 use Rattle.wl_client.specs.Peer.{Feeds as FeedsAlone}
-use Rattle.wl_scene.specs.Stacking.{Standing, nothing_owned}
+use Rattle.wl_scene.specs.Stacking.{Standing, is_of, nothing_owned}
 use Rattle.wl_scene.specs.Windows.{Window, contains}
 use Rattle.wl_blend.specs.declared.color.Rgb.{Rgb}
-use Rattle.wl_desk.specs.Desktop.{Desktop, Resident, client_at, windows_in}
+use Rattle.wl_desk.specs.Desktop.{Desktop, Resident, client_at, owned_in, windows_in}
 use Rattle.wl_desk.specs.Marks.{Applied, AreDistinct, at_least, at_most, has_same_record, in_output}
 use Rattle.wl_desk.specs.Moments.{applied_between, marks_at_least}
 use Rattle.wl_desk.specs.Scratch.{color_in, scratch}
@@ -19,6 +20,15 @@ abbrev pub LeastIsMost : Type 0
 LeastIsMost =
     (width height : ℕ) (applied : Applied) (raised : Option (ℕ × ℕ)) (old new : List Window) (x y : ℤ)
     → IsTrue (at_least width height applied old new x y) → IsTrue (at_most width height applied raised old new x y)
+
+-- no toplevel stands twice
+abbrev pub AreApart : List Standing → Type 0
+AreApart [] = Unit {0}
+AreApart (s ∷ ss) = (list_any (is_of s.client s.surface) ss ≡ false) × AreApart ss
+
+-- Where no toplevel stands twice and no surface is linked to another, no surface has two windows.
+abbrev pub WindowsAreDistinct : Type 0
+WindowsAreDistinct = (d : Desktop) → ((c : ℕ) → (owned_in d c).surfaces.links ≡ []) → AreApart d.standing → AreDistinct (windows_in d)
 
 -- Windows that keep their records show at this point the colours that they did, where no damage was applied.
 abbrev pub ColorsStay : Desktop → Desktop → ℤ → ℤ → Type 0

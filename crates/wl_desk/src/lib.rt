@@ -1,11 +1,16 @@
 //! The desk: the windows of all clients, what a message does to them, and which points a step marks to be painted again.
 #![tactic(auto)]
 
-ghost use Rattle.wl_desk.specs.Laws.{LeastIsMost, OneRun, OthersStay, ScratchStays, ServedAlone};
+ghost use Rattle.wl_desk.specs.Laws.{LeastIsMost, OneRun, OthersStay, ScratchStays, ServedAlone, WindowsAreDistinct};
 
 /// What a step marks at least is among what it marks at most.
 pub fn least_is_most()
     ensures { LeastIsMost }
+{}
+
+/// Where no toplevel stands twice and no surface is linked to another, no surface has two windows.
+pub fn windows_are_distinct()
+    ensures { WindowsAreDistinct }
 {}
 
 /// A point that a step doesn't mark is painted from nothing as before, where the windows that keep their records show the colours that they

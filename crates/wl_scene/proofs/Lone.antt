@@ -62,10 +62,10 @@ all-same f none xs [] = refl
 all-same f none xs (r ∷ rs) = all-same f none (ordered xs r) rs ∙ ordered-same f none xs r
 
 -- whatever was asked, the order has the surface itself once
-order-once : {X : Type 0} (f : Member → List X) → ChildrenGiveNone f → (rs : List Request) → flat_map f (order rs) ≡ f Itself
+pub order-once : {X : Type 0} (f : Member → List X) → ChildrenGiveNone f → (rs : List Request) → flat_map f (order rs) ≡ f Itself
 order-once f none rs = all-same f none (Itself ∷ []) rs ∙ append-nil (f Itself)
 
-no-child : (next : ℕ → Place → List Window) (owner : Owner) (surfaces : Surfaces) (surface : ℕ) (h : History) (corner : Place) → surfaces.links ≡ [] → ChildrenGiveNone (member_windows next owner surfaces surface h corner)
+pub no-child : (next : ℕ → Place → List Window) (owner : Owner) (surfaces : Surfaces) (surface : ℕ) (h : History) (corner : Place) → surfaces.links ≡ [] → ChildrenGiveNone (member_windows next owner surfaces surface h corner)
 no-child next owner surfaces surface h corner unlinked l = rw unlinked refl
 
 -- what a surface that shows a buffer gives, with its children
