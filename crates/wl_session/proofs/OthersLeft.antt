@@ -5,13 +5,13 @@ use Rattle.wl_client.specs.Peer.{Peer}
 use Rattle.wl_desk.specs.Desktop.{Desktop, Resident, arrival, client_at, with_client}
 use Rattle.wl_desk.specs.Laws.{toplevels_of}
 use Rattle.wl_desk.specs.Step.{Unserved}
-use Rattle.wl_desk.proofs.Others.{IsLeft, become-left, feeds-left, left_out, one_client, same-left}
+use Rattle.wl_desk.proofs.Others.{IsLeft, become-left, feeds-left, left_out, one_client, same-left, become-keeps, feeds-keeps}
 use Rattle.wl_desk.proofs.Places.{number-other}
 use Rattle.wl_session.specs.declared.steps.Done.{Done}
 use Rattle.wl_session.specs.Desktop.{lowest}
 use Rattle.wl_session.specs.Laws.{client_of, given_by}
 use Rattle.wl_session.specs.Step.{Act, Connect, Feed, Store, Leave, Tick, Send, Close}
-use Rattle.wl_session.specs.Whole.{ChangesAt, ConnectsAt, IsFedAt, OthersAreLeft, left_so}
+use Rattle.wl_session.specs.Whole.{ChangesAt, ConnectsAt, IsFedAt, OthersAreLeft, OutputStays, left_so}
 
 -- one desktop is the other
 moved : (other : ℕ) (old mid new : Desktop) → new ≡ mid → IsLeft other old mid → IsLeft other old new
@@ -46,3 +46,31 @@ others_are_left unserved (Leave c) old new done other h differ = changes-left _ 
 others_are_left unserved (Tick time) old new done other h differ = same-left other old new h.1
 others_are_left unserved (Send c n) old new done other h differ = changes-left _ _ done c other (client_at c old) old new differ h
 others_are_left unserved (Close c) old new done other h differ = changes-left _ _ done c other (client_at c old) old new differ h
+
+-- ---- the output stays
+
+left_so-keeps : (c : ℕ) (r : Resident) (q : Option Peer) (d : Desktop) → (left_so c r q d).output ≡ d.output
+left_so-keeps c r None d = refl
+left_so-keeps c r (Some q) d = become-keeps c r q d
+
+changes-keeps : (R : Peer → Done → Option Peer → Type 0) (absent done : Done) (c : ℕ) (o : Option Resident) (old new : Desktop) → ChangesAt R absent c o old done new → new.output ≡ old.output
+changes-keeps R absent done c None old new h = ap (λ (d : Desktop). d.output) h.1
+changes-keeps R absent done c (Some r) old new h = ap (λ (d : Desktop). d.output) h.2 ∙ left_so-keeps c r h.0 old
+
+connects-keeps : (k : Option ℕ) (old new : Desktop) (done : Done) → ConnectsAt k old done new → new.output ≡ old.output
+connects-keeps None old new done h = ap (λ (d : Desktop). d.output) h.1
+connects-keeps (Some k) old new done (inl h) = ap (λ (d : Desktop). d.output) h.1
+connects-keeps (Some k) old new done (inr h) = ap (λ (d : Desktop). d.output) h.1
+
+fed-keeps : (unserved : Unserved) (c : ℕ) (piece : List ℕ) (o : Option Resident) (old new : Desktop) (done : Done) → IsFedAt unserved c piece o old done new → new.output ≡ old.output
+fed-keeps unserved c piece None old new done h = ap (λ (d : Desktop). d.output) h.1
+fed-keeps unserved c piece (Some r) old new done h = feeds-keeps unserved c piece r.peer.status r old new h.0
+
+pub output_stays : OutputStays
+output_stays unserved Connect old new done h = connects-keeps (lowest old.clients) old new done h
+output_stays unserved (Feed c piece) old new done h = fed-keeps unserved c piece (client_at c old) old new done h
+output_stays unserved (Store c store at bytes) old new done h = changes-keeps _ _ done c (client_at c old) old new h
+output_stays unserved (Leave c) old new done h = changes-keeps _ _ done c (client_at c old) old new h
+output_stays unserved (Tick time) old new done h = ap (λ (d : Desktop). d.output) h.1
+output_stays unserved (Send c n) old new done h = changes-keeps _ _ done c (client_at c old) old new h
+output_stays unserved (Close c) old new done h = changes-keeps _ _ done c (client_at c old) old new h

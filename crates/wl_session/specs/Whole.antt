@@ -65,3 +65,7 @@ abbrev pub OthersAreLeft : Type 0
 OthersAreLeft =
     (unserved : Unserved) (act : Act) (old new : Desktop) (done : Done) (other : ℕ) → Steps unserved old act done new → client_of act done ≢ other
     → (client_at other new ≡ client_at other old) × (toplevels_of other new ≡ toplevels_of other old)
+
+-- A step leaves the output as it was.
+abbrev pub OutputStays : Type 0
+OutputStays = (unserved : Unserved) (act : Act) (old new : Desktop) (done : Done) → Steps unserved old act done new → new.output ≡ old.output

@@ -3,7 +3,7 @@
 ghost use Rattle.wl_session.specs.Laws.{AnyPieces, OneRun, OthersStay};
 ghost use Rattle.wl_session.specs.StoreWrites.{PromisesAreEnough, WriteHidesNothing};
 ghost use Rattle.wl_session.specs.Unmarked.{IncrementalIsFromScratch, UnmarkedStays, ViewerSeesScratch};
-ghost use Rattle.wl_session.specs.Whole.{OneStep, OthersAreLeft};
+ghost use Rattle.wl_session.specs.Whole.{OneStep, OthersAreLeft, OutputStays};
 
 /// A client's stream may be cut into any pieces: two pieces lead where they lead as one.
 pub fn any_pieces()
@@ -28,6 +28,11 @@ pub fn one_step()
 /// A step of the desktop with surfaces leaves each client that it isn't of as it was, with the places and the order of its toplevels.
 pub fn others_are_left()
     ensures { OthersAreLeft }
+{}
+
+/// A step of the desktop with surfaces leaves the output as it was.
+pub fn output_stays()
+    ensures { OutputStays }
 {}
 
 /// A point of the output that a step doesn't mark is painted from nothing as before, if no window of a client that hid a change covers it

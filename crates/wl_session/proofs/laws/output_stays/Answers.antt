@@ -1,0 +1,5 @@
+use Rattle.wl_session.proofs.OthersLeft.{output_stays}
+use Rattle.wl_session.proofs.laws.output_stays.Goals as goal
+
+pub returns : goal.returns
+returns c = output_stays
