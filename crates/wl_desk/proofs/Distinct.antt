@@ -5,11 +5,11 @@ use Rattle.std.specs.List.{list_any}
 use Rattle.std.proofs.lemmas.List.{append-nil}
 use Rattle.std.proofs.lemmas.Bool.{eqb-true}
 use Rattle.wl_surface.specs.Request.{Buffer}
-use Rattle.wl_surface.specs.State.{History, Values, applied, height_of, width_of}
+use Rattle.wl_surface.specs.State.{History, Values, applied}
 use Rattle.wl_surface.specs.Surfaces.{Surfaces, history_in}
 use Rattle.wl_scene.proofs.Lone.{no-child, order-once}
 use Rattle.wl_scene.specs.Stacking.{Owned, Standing, is_of, root_of, windows_on}
-use Rattle.wl_scene.specs.Windows.{Owner, Place, Window, corner_at, counting, member_windows, owner_of, shown_windows, surface_windows, tree, window_of, window_with}
+use Rattle.wl_scene.specs.Windows.{Owner, Place, Window, corner_at, counting, member_windows, owner_of, shown_windows, surface_windows, tree, window_of, window_showing, window_with}
 use Rattle.wl_desk.specs.Desktop.{Desktop, owned_in, windows_in}
 use Rattle.wl_desk.specs.Laws.{AreApart, WindowsAreDistinct}
 use Rattle.wl_desk.specs.Marks.{AreDistinct, is_same_surface}
@@ -50,21 +50,6 @@ windows-own owned (s ∷ ss) unlinked =
 stands : List Standing → Window → Bool
 stands ss w = list_any (is_of w.owner.client w.surface) ss
 
--- the window of a surface that shows this buffer
-abbrev one-of : Owner → ℕ → Place → Values → Buffer → Window
-one-of owner surface corner v buffer =
-    record {
-      owner = owner;
-      surface = surface;
-      corner = corner;
-      width = width_of (Some buffer) v.transform;
-      height = height_of (Some buffer) v.transform;
-      transform = v.transform;
-      buffer = buffer;
-      opaque = v.opaque;
-      input = v.input;
-    }
-
 -- what a surface shows is one window of it, or none
 own-first : (owner : Owner) (surface : ℕ) (place : Place) (h : Option History) (ws : List Window) → AreDistinct ws → ((w : Window) → w.owner.client ≡ owner.client → w.surface ≡ surface → list_any (is_same_surface w) ws ≡ false) → AreDistinct (own owner surface place h ++ ws)
 unfolding own
@@ -72,7 +57,7 @@ own-first owner surface place None ws apart new = apart
 own-first owner surface place (Some h) ws apart new = go (applied h).buffer where
   go : (buffer : Option Buffer) → AreDistinct (window_with owner surface (corner_at place h) (applied h) buffer ++ ws)
   go None = apart
-  go (Some buffer) = (new (one-of owner surface (corner_at place h) (applied h) buffer) refl refl, apart)
+  go (Some buffer) = (new (window_showing owner surface (corner_at place h) (applied h) buffer) refl refl, apart)
 
 each-own : (P : Window → Type 0) (owner : Owner) (surface : ℕ) (place : Place) (h : Option History) (ws : List Window) → Each P ws → ((w : Window) → w.owner.client ≡ owner.client → w.surface ≡ surface → P w) → Each P (own owner surface place h ++ ws)
 unfolding own
@@ -80,7 +65,7 @@ each-own P owner surface place None ws e f = e
 each-own P owner surface place (Some h) ws e f = go (applied h).buffer where
   go : (buffer : Option Buffer) → Each P (window_with owner surface (corner_at place h) (applied h) buffer ++ ws)
   go None = e
-  go (Some buffer) = (f (one-of owner surface (corner_at place h) (applied h) buffer) refl refl, e)
+  go (Some buffer) = (f (window_showing owner surface (corner_at place h) (applied h) buffer) refl refl, e)
 
 is-it : (w : Window) (s : Standing) → w.owner.client ≡ s.client → w.surface ≡ s.surface → is_of w.owner.client w.surface s ≡ true
 is-it w s c e = both (s.client == w.owner.client) (s.surface == w.surface) (equal-numbers s.client w.owner.client (sym c)) (equal-numbers s.surface w.surface (sym e)) where

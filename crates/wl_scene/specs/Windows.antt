@@ -37,10 +37,9 @@ pub record Window : Type 0 where
 abbrev pub counting : History → List Request
 counting h = take h.cut h.requests
 
--- the window of a surface that stands there, if it shows a buffer
-abbrev pub window_with : Owner → ℕ → Place → Values → Option Buffer → List Window
-window_with owner surface corner v None = []
-window_with owner surface corner v (Some buffer) =
+-- the window of a surface that stands there and shows this buffer
+abbrev pub window_showing : Owner → ℕ → Place → Values → Buffer → Window
+window_showing owner surface corner v buffer =
     record {
       owner = owner;
       surface = surface;
@@ -51,7 +50,12 @@ window_with owner surface corner v (Some buffer) =
       buffer = buffer;
       opaque = v.opaque;
       input = v.input;
-    } ∷ []
+    }
+
+-- its window, if it shows one
+abbrev pub window_with : Owner → ℕ → Place → Values → Option Buffer → List Window
+window_with owner surface corner v None = []
+window_with owner surface corner v (Some buffer) = window_showing owner surface corner v buffer ∷ []
 
 abbrev pub window_of : Owner → ℕ → Place → History → List Window
 window_of owner surface corner h = window_with owner surface corner (applied h) (applied h).buffer

@@ -28,8 +28,8 @@ pub struct Offset {
     pub y: i32,
 }
 
-/// The sum, held within the bounds.
-fn sum(a: i32, b: i32) -> i32
+/// The sum of a place and an offset, in pixels, held within -16,777,216 to 16,777,216.
+pub fn bounded_sum(a: i32, b: i32) -> i32
     ensures { result ≡ within_bounds (a +ℤ b) }
 {
     let exact = i64::from(a) + i64::from(b);
@@ -50,8 +50,8 @@ impl Offset {
         match by {
             None => self,
             Some(by) => Offset {
-                x: sum(self.x, by.x),
-                y: sum(self.y, by.y),
+                x: bounded_sum(self.x, by.x),
+                y: bounded_sum(self.y, by.y),
             },
         }
     }

@@ -10,7 +10,7 @@ mod surface;
 mod surfaces;
 
 pub use applied::{Applied, Change};
-pub use content::{Attached, BufferNo, Offset};
+pub use content::{Attached, BufferNo, Offset, bounded_sum};
 pub use role::{Role, SurfaceError};
 pub use surface::Current;
 pub use surfaces::{MAX_SURFACES, SurfaceNo, Surfaces};

@@ -8,6 +8,6 @@ use Rattle.wl_surface.specs.Surfaces.{surface_at}
 pub returns : goal.returns
 returns g c = λ owned stands.
     let t = c.args.toplevel.now in
-    let x : to_z w32 (of_z w32 c.farther.result) ≡ within_bounds (t.x +ℤ c.in-Some.current.offset.x) = search rules in
-    let y : to_z w32 (of_z w32 c.farther-2.result) ≡ within_bounds (t.y +ℤ c.in-Some.current.offset.y) = search rules in
+    let x : to_z w32 (of_z w32 c.bounded_sum.result) ≡ within_bounds (t.x +ℤ c.in-Some.current.offset.x) = search rules in
+    let y : to_z w32 (of_z w32 c.bounded_sum-2.result) ≡ within_bounds (t.y +ℤ c.in-Some.current.offset.y) = search rules in
     rw (x, y) (shown-current (standing_of t) c.in-Some.current (surface_at t.surface.surface (owned t.surface.client).surfaces) (c.in-Some.ensures owned stands))
