@@ -37,12 +37,14 @@ use Rattle.wl_wire.specs.declared.header.Split.TheVariants.{Message, Bad}
 pub IsPeer-queued : (v : ClientView) (p : Peer) (e : Said) → IsPeer v p → IsPeer (record v { unsent = v.unsent ++ said_bytes e }) (queued e p)
 IsPeer-queued v p e is = record {
   status = is.status;
+  requests = is.requests;
   objects = is.objects;
   held = is.held;
   regions = is.regions;
   pools = is.pools;
   buffers = is.buffers;
   stores = is.stores;
+  serial = is.serial;
   unsent = ap (λ u. u ++ said_bytes e) is.unsent;
   rest = is.rest;
   output = is.output;
@@ -51,40 +53,30 @@ IsPeer-queued v p e is = record {
 pub IsPeer-ended : (v : ClientView) (p : Peer) (cause : Cause) → IsPeer v p → IsPeer (cleared cause v) (ended cause p)
 IsPeer-ended v p cause is = record {
   status = refl;
+  requests = is.requests;
   objects = refl;
   held = refl;
   regions = λ id. tt;
   pools = refl;
   buffers = refl;
   stores = refl;
+  serial = is.serial;
   unsent = is.unsent;
   rest = refl;
-  output = is.output;
-}
-
-pub IsPeer-counted : (v : ClientView) (p : Peer) → IsPeer v p → IsPeer v (counted p)
-IsPeer-counted v p is = record {
-  status = is.status;
-  objects = is.objects;
-  held = is.held;
-  regions = is.regions;
-  pools = is.pools;
-  buffers = is.buffers;
-  stores = is.stores;
-  unsent = is.unsent;
-  rest = is.rest;
   output = is.output;
 }
 
 pub IsPeer-with_rest : (v : ClientView) (p : Peer) (rest : List ℕ) → IsPeer v p → IsPeer (record v { rest = rest }) (with_rest rest p)
 IsPeer-with_rest v p rest is = record {
   status = is.status;
+  requests = is.requests;
   objects = is.objects;
   held = is.held;
   regions = is.regions;
   pools = is.pools;
   buffers = is.buffers;
   stores = is.stores;
+  serial = is.serial;
   unsent = is.unsent;
   rest = refl;
   output = is.output;
@@ -104,12 +96,14 @@ objects_in-with old new id entry holds = fun_ext (λ other. at other (other == i
 pub IsPeer-made : (v : ClientView) (p : Peer) (id : ℕ) (entry : Entry) (new : Held) → HoldsAt v.objects new id (Some entry) → length new ≡ length v.objects + 1 → IsPeer v p → IsPeer (record v { objects = new }) (made id (object_of entry) p)
 IsPeer-made v p id entry new holds longer is = record {
   status = is.status;
+  requests = is.requests;
   objects = objects_in-with v.objects new id (Some entry) holds ∙ ap (λ os. with_id id (Some (object_of entry)) os) is.objects;
   held = longer ∙ ap (λ n. n + 1) is.held;
   regions = is.regions;
   pools = is.pools;
   buffers = is.buffers;
   stores = is.stores;
+  serial = is.serial;
   unsent = is.unsent;
   rest = is.rest;
   output = is.output;
@@ -127,12 +121,14 @@ pub IsPeer-removed : (v : ClientView) (p : Peer) (id : ℕ) (was : Option Entry)
 IsPeer-removed v p id was new found holds shorter is =
     let there : is_some was ≡ is_some (p.objects id) = ap is_some found ∙ sym (object-there (entry_of v.objects id)) ∙ ap (λ (os : Objects). is_some (os id)) is.objects in record {
       status = is.status;
+  requests = is.requests;
       objects = objects_in-with v.objects new id None holds ∙ ap (λ os. with_id id None os) is.objects;
       held = less (is_some was) (length v.objects) (length new) shorter ∙ ap (λ (n : ℕ). n - (if is_some was then 1 else 0)) is.held ∙ ap (λ (b : Bool). p.held - (if b then 1 else 0)) there;
       regions = is.regions;
       pools = is.pools;
       buffers = is.buffers;
       stores = is.stores;
+      serial = is.serial;
       unsent = is.unsent;
       rest = is.rest;
       output = is.output;
@@ -153,12 +149,14 @@ pub IsPeer-regions : (v : ClientView) (p : Peer) (old new : BTreeMap ℕ Area) (
 IsPeer-regions v p old new id area changes same updates region is =
     let now = held_at-updates old new v.regions id area same updates in record {
       status = is.status;
+  requests = is.requests;
       objects = is.objects;
       held = is.held;
       regions = λ other. subst (λ (held : ById Area). IsRegion (held other) (with_id id changes p.regions other)) (sym now) (at other (other == id));
       pools = is.pools;
       buffers = is.buffers;
       stores = is.stores;
+      serial = is.serial;
       unsent = is.unsent;
       rest = is.rest;
       output = is.output;
@@ -171,12 +169,14 @@ IsPeer-regions v p old new id area changes same updates region is =
 pub IsPeer-pools : (v : ClientView) (p : Peer) (old new : BTreeMap ℕ ℕ) (id : ℕ) (store : Option ℕ) → old.entries ≡ v.pools → UpdatesBy nat_cmp (nat_cmp id) old new store → IsPeer v p → IsPeer (record v { pools = new.entries }) (record p { pools = with_id id store p.pools })
 IsPeer-pools v p old new id store same updates is = record {
   status = is.status;
+  requests = is.requests;
   objects = is.objects;
   held = is.held;
   regions = is.regions;
   pools = held_at-updates old new v.pools id store same updates ∙ ap (λ (held : ById ℕ). with_id id store held) is.pools;
   buffers = is.buffers;
   stores = is.stores;
+  serial = is.serial;
   unsent = is.unsent;
   rest = is.rest;
   output = is.output;
@@ -185,12 +185,14 @@ IsPeer-pools v p old new id store same updates is = record {
 pub IsPeer-buffers : (v : ClientView) (p : Peer) (old new : BTreeMap ℕ Buffer) (id : ℕ) (buffer : Option Buffer) → old.entries ≡ v.buffers → UpdatesBy nat_cmp (nat_cmp id) old new buffer → IsPeer v p → IsPeer (record v { buffers = new.entries }) (record p { buffers = with_id id buffer p.buffers })
 IsPeer-buffers v p old new id buffer same updates is = record {
   status = is.status;
+  requests = is.requests;
   objects = is.objects;
   held = is.held;
   regions = is.regions;
   pools = is.pools;
   buffers = held_at-updates old new v.buffers id buffer same updates ∙ ap (λ (held : ById Buffer). with_id id buffer held) is.buffers;
   stores = is.stores;
+  serial = is.serial;
   unsent = is.unsent;
   rest = is.rest;
   output = is.output;
@@ -199,12 +201,14 @@ IsPeer-buffers v p old new id buffer same updates is = record {
 pub IsPeer-stores : (v : ClientView) (p : Peer) (change : Stock → Stock) (new : Stock) → new ≡ change v.stores → IsPeer v p → IsPeer (record v { stores = new }) (record p { stores = change p.stores })
 IsPeer-stores v p change new same is = record {
   status = is.status;
+  requests = is.requests;
   objects = is.objects;
   held = is.held;
   regions = is.regions;
   pools = is.pools;
   buffers = is.buffers;
   stores = same ∙ ap change is.stores;
+  serial = is.serial;
   unsent = is.unsent;
   rest = is.rest;
   output = is.output;
@@ -358,15 +362,17 @@ Feeds-idle v w p mid n piece is alive reached now idle =
     subst (λ (s : Option Cause). FeedsAt s piece p mid) (sym none) (n, mid, reached, inl (refl, at))
 
 -- a client that has just connected
-pub IsPeer-new : (v : ClientView) (output : Output) (entry : Entry) → object_of entry ≡ record { interface = WlDisplay; version = 1 } → v.ended ≡ None → v.rest ≡ [] → v.unsent ≡ [] → HoldsAt [] v.objects 1 (Some entry) → length v.objects ≡ 1 → v.regions ≡ [] → v.pools ≡ [] → v.buffers ≡ [] → v.stores ≡ no_stores → output_of v.output ≡ output → IsPeer v (newcomer output)
-IsPeer-new v output entry display alive rest unsent holds held regions pools buffers stores shown = record {
+pub IsPeer-new : (v : ClientView) (output : Output) (entry : Entry) → object_of entry ≡ record { interface = WlDisplay; version = 1 } → v.ended ≡ None → v.requests ≡ 0 → v.serial ≡ 1 → v.rest ≡ [] → v.unsent ≡ [] → HoldsAt [] v.objects 1 (Some entry) → length v.objects ≡ 1 → v.regions ≡ [] → v.pools ≡ [] → v.buffers ≡ [] → v.stores ≡ no_stores → output_of v.output ≡ output → IsPeer v (newcomer output)
+IsPeer-new v output entry display alive none first rest unsent holds held regions pools buffers stores shown = record {
   status = alive;
+  requests = λ below. none;
   objects = objects_in-with [] v.objects 1 (Some entry) holds ∙ ap (λ (o : Object). with_id 1 (Some o) nothing) display;
   held = held;
   regions = λ id. rw regions tt;
   pools = ap (λ (m : List (ℕ × ℕ)). held_at m) pools;
   buffers = ap (λ (m : List (ℕ × Buffer)). held_at m) buffers;
   stores = stores;
+  serial = first;
   unsent = unsent;
   rest = rest;
   output = shown;
@@ -396,12 +402,14 @@ nobody (Some cs) change h = absurd h
 pub region-absent : (v : ClientView) (p : Peer) (id : ℕ) (change : Change) → held_at v.regions id ≡ None → IsPeer v p → IsPeer v (changed_region id change p)
 region-absent v p id change none is = record {
   status = is.status;
+  requests = is.requests;
   objects = is.objects;
   held = is.held;
   regions = λ other. at other (other == id) refl;
   pools = is.pools;
   buffers = is.buffers;
   stores = is.stores;
+  serial = is.serial;
   unsent = is.unsent;
   rest = is.rest;
   output = is.output;

@@ -1,5 +1,5 @@
 -- What is kept of a client agrees with a client of the plain desktop.
-use Rattle.std.specs.Prelude.{◌≡◌, ℕ, length, List, Option, Some, None}
+use Rattle.std.specs.Prelude.{◌≡◌, ◌≢◌, ℕ, length, List, Option, Some, None}
 use Rattle.std.specs.Option.{option_map}
 use Rattle.wl_geom.specs.Region.{Area, Change, Stands}
 use Rattle.wl_client.specs.declared.outputs.Output.{Output as Kept}
@@ -19,15 +19,24 @@ IsRegion (Some area) (Some changes) = Stands area changes
 IsRegion None (Some changes) = ⊥
 IsRegion (Some area) None = ⊥
 
+-- Requests are counted up to the greatest number that 64 bits hold. No more are counted then.
+abbrev pub most_counted : ℕ
+most_counted = 18446744073709551615
+
+abbrev pub IsCount : ℕ → ℕ → Type 0
+IsCount kept requests = kept ≢ most_counted → kept ≡ requests
+
 -- what is kept of a client are its values
 pub record IsPeer (v : ClientView) (p : Peer) : Type 0 where
   pub status : v.ended ≡ p.status
+  pub requests : IsCount v.requests p.requests
   pub objects : objects_in v.objects ≡ p.objects
   pub held : length v.objects ≡ p.held
   pub regions : (id : ℕ) → IsRegion (held_at v.regions id) (p.regions id)
   pub pools : held_at v.pools ≡ p.pools
   pub buffers : held_at v.buffers ≡ p.buffers
   pub stores : v.stores ≡ p.stores
+  pub serial : v.serial ≡ p.serial
   pub unsent : v.unsent ≡ p.unsent
   pub rest : v.rest ≡ p.rest
   pub output : output_of v.output ≡ p.output

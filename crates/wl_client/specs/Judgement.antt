@@ -20,7 +20,7 @@ use Rattle.wl_client.specs.declared.refusals.ErrorCode.TheVariants.{InvalidObjec
 use Rattle.wl_client.specs.declared.refusals.Refusal.{Refusal}
 use Rattle.wl_client.specs.declared.actions.Action.{Action}
 use Rattle.wl_client.specs.declared.actions.Action.TheVariants.{Sync, GetRegistry, Bind, CreateRegion, AddToRegion, SubtractFromRegion, DestroyRegion, CreatePool, CreateBuffer, ResizePool, DestroyPool, DestroyBuffer}
-use Rattle.wl_client.specs.Buffers.{Buffer, buffer_asked}
+use Rattle.wl_client.specs.Buffers.{Buffer, Laid, buffer_asked}
 use Rattle.wl_client.specs.Objects.{ById, Object, Objects, bound_interface, fits}
 use Rattle.wl_client.specs.Told.{display_error}
 
@@ -114,9 +114,9 @@ abbrev pub layout_refused : ℕ → LayoutError → Refusal
 layout_refused object Format = record { object = object; code = InvalidFormat }
 layout_refused object Stride = record { object = object; code = InvalidStride }
 
-abbrev pub buffer_laid : ℕ → ℕ → ℕ → Buffer → Option LayoutError → Result Action Refusal
-buffer_laid object version id buffer None = Ok (CreateBuffer id version buffer)
-buffer_laid object version id buffer (Some error) = Err (layout_refused object error)
+abbrev pub buffer_laid : ℕ → ℕ → ℕ → Laid → Option LayoutError → Result Action Refusal
+buffer_laid object version id laid None = Ok (CreateBuffer id version laid)
+buffer_laid object version id laid (Some error) = Err (layout_refused object error)
 
 -- The buffer lies in the store. A store has at most 4,294,967,295 uses.
 abbrev pub buffer_created : ℕ → ℕ → ℕ → Stock → ℕ → ℤ → ℤ → ℤ → ℤ → ℕ → Result Action Refusal
@@ -141,7 +141,7 @@ pool_action object version stores (Some store) opcode fields =
 -- wl_buffer.destroy
 abbrev pub buffer_destroyed : ℕ → Option Buffer → Result Action Refusal
 buffer_destroyed object None = Err (display_error Implementation)
-buffer_destroyed object (Some buffer) = Ok (DestroyBuffer object buffer.store)
+buffer_destroyed object (Some buffer) = Ok (DestroyBuffer object buffer.laid.store)
 
 -- wl_seat has a pointer, which isn't served yet, and no keyboard and no touch
 abbrev pub seat_refusal : ℕ → ℕ → Refusal

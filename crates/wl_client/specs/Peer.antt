@@ -16,13 +16,13 @@ use Rattle.wl_client.specs.declared.refusals.ErrorCode.TheVariants.{InvalidMetho
 use Rattle.wl_client.specs.declared.refusals.Refusal.{Refusal}
 use Rattle.wl_client.specs.declared.actions.Action.{Action}
 use Rattle.wl_client.specs.declared.actions.Action.TheVariants.{Sync, GetRegistry, Bind, CreateRegion, AddToRegion, SubtractFromRegion, DestroyRegion, CreatePool, CreateBuffer, ResizePool, DestroyPool, DestroyBuffer}
-use Rattle.wl_client.specs.Buffers.{Buffer}
+use Rattle.wl_client.specs.Buffers.{Buffer, numbered}
 use Rattle.wl_client.specs.Judgement.{Known, judge}
 use Rattle.wl_client.specs.Objects.{ById, Object, Objects, nothing, with_id}
 use Rattle.wl_client.specs.Told.{Output, Said, bind_told, callback_done, code_number, display_error, error_told, id_deleted, registry_told, said_bytes}
 
 -- One client: why it ended, if it did; how many requests it made; its live objects, and how many they are; of the regions, pools and
--- buffers among them each region's list of changes, each pool's store, and where each buffer lies; the stores; the next serial; the
+-- buffers among them each region's list of changes, each pool's store, and each buffer's number and place; the stores; the next serial; the
 -- bytes that wait to be sent to it; the bytes that came from it after its last whole message; and the output that it is shown on.
 pub record Peer : Type 0 where
   pub status : Option Cause
@@ -137,7 +137,8 @@ changed_region id change p = record p { regions = with_id id (option_map (λ cha
 abbrev pub released : ℕ → Stock → Stock
 released store stores = if is_some (store_at store stores) then let_go store stores else stores
 
--- What an accepted message changes. A pool's store is the next of the client's (wayland.xml, wl_shm.create_pool); its bytes are zeros.
+-- What an accepted message changes. A pool's store is the next of the client's (wayland.xml, wl_shm.create_pool); its bytes are zeros. A
+-- buffer's number is that of its request.
 abbrev pub changed : Action → Peer → Peer
 changed (Sync callback) p = p
 changed (GetRegistry registry) p = made registry (object_at_version WlRegistry 1) p
@@ -149,8 +150,9 @@ changed (DestroyRegion id) p = removed id (record p { regions = with_id id None 
 changed (CreatePool id version size) p =
     made id (object_at_version WlShmPool version)
     (record p { pools = with_id id (Some (p.stores.made + 1)) p.pools; stores = created (unsigned_abs size) p.stores })
-changed (CreateBuffer id version buffer) p =
-    made id (object_at_version WlBuffer version) (record p { buffers = with_id id (Some buffer) p.buffers; stores = used buffer.store p.stores })
+changed (CreateBuffer id version laid) p =
+    made id (object_at_version WlBuffer version)
+    (record p { buffers = with_id id (Some (numbered p.requests laid)) p.buffers; stores = used laid.store p.stores })
 changed (ResizePool store size) p = record p { stores = resized store (unsigned_abs size) p.stores }
 changed (DestroyPool id store) p = removed id (record p { pools = with_id id None p.pools; stores = released store p.stores })
 changed (DestroyBuffer id store) p = removed id (record p { buffers = with_id id None p.buffers; stores = released store p.stores })

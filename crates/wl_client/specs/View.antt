@@ -8,10 +8,11 @@ use Rattle.wl_client.specs.declared.clients.Cause.{Cause}
 use Rattle.wl_client.specs.declared.outputs.Output.{Output}
 use Rattle.wl_client.specs.Buffers.{Buffer}
 
--- why it ended; the bytes that wait to be read and to be sent; the table of its live objects; by their ids the regions, the stores of
--- the pools, and the buffers; the stores; and the output that it is shown on
+-- why it ended; how many requests were counted; the bytes that wait to be read and to be sent; the table of its live objects; by their ids
+-- the regions, the stores of the pools, and the buffers; the stores; the next serial; and the output that it is shown on
 pub record ClientView : Type 0 where
   pub ended : Option Cause
+  pub requests : ℕ
   pub rest : List ℕ
   pub unsent : List ℕ
   pub objects : Held
@@ -19,6 +20,7 @@ pub record ClientView : Type 0 where
   pub pools : List (ℕ × ℕ)
   pub buffers : List (ℕ × Buffer)
   pub stores : Stock
+  pub serial : ℕ
   pub output : Output
 
 -- nothing but what waits to be sent is kept of a client that ended

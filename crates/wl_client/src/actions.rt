@@ -6,7 +6,7 @@ ghost use Rattle.std.specs.Prelude.{flat_map, option_to_list};
 ghost use Rattle.wl_client.specs.Objects.{Object, fits, interface_number, is_of, object_of, objects_in};
 ghost use Rattle.wl_client.specs.Judgement.{after_new_id, is_free};
 
-use crate::buffers::ShmBuffer;
+use crate::buffers::Place;
 use crate::refusals::{ErrorCode, Refusal};
 use std::alloc::Allocator;
 use wl_geom::Rect;
@@ -36,8 +36,8 @@ pub enum Action {
     DestroyRegion(u32),
     /// wl_shm.create_pool of a new pool of this version and size in bytes.
     CreatePool(u32, u32, i32),
-    /// wl_shm_pool.create_buffer of a new buffer of this version.
-    CreateBuffer(u32, u32, ShmBuffer),
+    /// wl_shm_pool.create_buffer of a new buffer of this version, which lies there.
+    CreateBuffer(u32, u32, Place),
     /// wl_shm_pool.resize of a pool with this store.
     ResizePool(StoreNo, i32),
     /// wl_shm_pool.destroy of this pool, which has this store.

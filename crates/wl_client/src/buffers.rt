@@ -1,37 +1,68 @@
 //! Buffers of wl_shm_pools.
 
 ghost use Rattle.std.specs.Prelude.{◌≡◌};
-ghost use Rattle.wl_client.specs.Buffers.{Buffer, buffer_at};
+ghost use Rattle.wl_client.specs.Buffers.{buffer_at, numbered};
 
 use std::marker::Model;
 use wl_store::{Layout, StoreNo};
 
-/// A wl_buffer: a store, and where its pixels lie there.
+/// Where a wl_buffer lies: a store, and where its pixels are there.
 #[derive(Drop)]
-pub struct ShmBuffer {
+pub struct Place {
     store: StoreNo,
     layout: Layout,
 }
 
-impl Model for ShmBuffer {
-    ghost use Rattle.wl_client.specs.Buffers.{Buffer, buffer_at};
+impl Model for Place {
+    ghost use Rattle.wl_client.specs.Buffers.{Laid, buffer_at};
 
-    ghost Value = { Buffer };
+    ghost Value = { Laid };
 
     ghost view = { λ b. buffer_at b.store b.layout };
 }
 
-impl ShmBuffer {
-    /// The buffer that lies so in the store.
-    pub fn new(store: StoreNo, layout: Layout) -> ShmBuffer
+impl Place {
+    /// The place with this layout in the store.
+    pub fn new(store: StoreNo, layout: Layout) -> Place
         ensures { result ≡ buffer_at store layout }
     {
-        ShmBuffer { store, layout }
+        Place { store, layout }
     }
 
     pub fn store(&self) -> StoreNo
         ensures { result ≡ self.now.store }
     {
         self.store
+    }
+}
+
+/// A wl_buffer: its number among its client's buffers, and where it lies.
+#[derive(Drop)]
+pub struct ShmBuffer {
+    number: u64,
+    place: Place,
+}
+
+impl Model for ShmBuffer {
+    ghost use Rattle.wl_client.specs.Buffers.{Buffer, numbered};
+
+    ghost Value = { Buffer };
+
+    ghost view = { λ b. numbered b.number b.place };
+}
+
+impl ShmBuffer {
+    /// The buffer of this number that lies there.
+    pub fn new(number: u64, place: Place) -> ShmBuffer
+        ensures { result ≡ numbered number place }
+    {
+        ShmBuffer { number, place }
+    }
+
+    /// The store that it lies in.
+    pub fn store(&self) -> StoreNo
+        ensures { result ≡ self.now.laid.store }
+    {
+        self.place.store()
     }
 }

@@ -42,6 +42,7 @@ const UNSENT_LIMIT: usize = 1_048_576;
 #[derive(Drop)]
 pub struct Client<A: Allocator> {
     pub(crate) ended: Option<Cause>,
+    pub(crate) requests: u64,
     pub(crate) rest: Backlog<A>,
     pub(crate) unsent: Backlog<A>,
     pub(crate) objects: Objects<A>,
@@ -49,6 +50,7 @@ pub struct Client<A: Allocator> {
     pub(crate) pools: BTreeMap<u32, StoreNo, A>,
     pub(crate) buffers: BTreeMap<u32, ShmBuffer, A>,
     pub(crate) stores: Stores<A>,
+    pub(crate) serial: u32,
     pub(crate) output: Output,
     pub(crate) alloc: A,
 }
@@ -58,7 +60,7 @@ impl<A: Allocator> Model for Client<A> {
 
     ghost Value = { ClientView };
 
-    ghost view = { λ c. record { ended = c.ended; rest = c.rest; unsent = c.unsent; objects = c.objects; regions = c.regions.entries; pools = c.pools.entries; buffers = c.buffers.entries; stores = c.stores; output = c.output } };
+    ghost view = { λ c. record { ended = c.ended; requests = c.requests; rest = c.rest; unsent = c.unsent; objects = c.objects; regions = c.regions.entries; pools = c.pools.entries; buffers = c.buffers.entries; stores = c.stores; serial = c.serial; output = c.output } };
 }
 
 impl<A: Allocator + Copy> Client<A> {
@@ -82,6 +84,7 @@ impl<A: Allocator + Copy> Client<A> {
         };
         Ok(Client {
             ended: None,
+            requests: 0,
             rest: Backlog::new(alloc),
             unsent: Backlog::new(alloc),
             objects,
@@ -89,6 +92,7 @@ impl<A: Allocator + Copy> Client<A> {
             pools: BTreeMap::new(alloc),
             buffers: BTreeMap::new(alloc),
             stores: Stores::new(alloc),
+            serial: 1,
             output,
             alloc,
         })
@@ -198,11 +202,20 @@ impl<A: Allocator + Copy> Client<A> {
         }
     }
 
+    /// A request more is counted, as long as its number has 64 bits.
+    fn count(&mut self)
+        ensures counts { (p : Peer) → IsPeer self.old p → IsPeer self.new (counted p) }
+        ensures rest { length self.new.rest ≡ length self.old.rest }
+    {
+        self.requests = self.requests.saturating_add(1);
+    }
+
     /// Does what an accepted message asks.
     fn act(&mut self, action: Action)
         ensures acts { (p : Peer) → IsPeer self.old p → (q : Peer) × Acts action (counted p) q × IsPeer self.new q }
         ensures rest { length self.new.rest ≤ length self.old.rest }
     {
+        self.count();
         match action {
             Action::Sync(callback) => self.sync(callback),
             Action::GetRegistry(registry) => self.get_registry(registry),
@@ -212,7 +225,7 @@ impl<A: Allocator + Copy> Client<A> {
             Action::SubtractFromRegion(id, rect) => self.subtract_from_region(id, rect),
             Action::DestroyRegion(id) => self.destroy_region(id),
             Action::CreatePool(id, version, size) => self.create_pool(id, version, size),
-            Action::CreateBuffer(id, version, buffer) => self.create_buffer(id, version, buffer),
+            Action::CreateBuffer(id, version, place) => self.create_buffer(id, version, place),
             Action::ResizePool(store, size) => self.resize_pool(store, size),
             Action::DestroyPool(id, store) => self.destroy_pool(id, store),
             Action::DestroyBuffer(id, store) => self.destroy_buffer(id, store),

@@ -27,12 +27,12 @@ pub(crate) fn action<A: Allocator>(
 
 impl<A: Allocator + Copy> Client<A> {
     ghost use Rattle.wl_client.specs.Agreement.{IsPeer};
-    ghost use Rattle.wl_client.specs.Peer.{Acts, Peer, counted};
+    ghost use Rattle.wl_client.specs.Peer.{Acts, Peer};
     ghost use Rattle.wl_client.specs.declared.actions.Action.TheVariants.{DestroyBuffer};
 
     /// A buffer goes, and its use of the store.
     pub(crate) fn destroy_buffer(&mut self, id: u32, store: StoreNo)
-        ensures acts { (p : Peer) → IsPeer self.old p → (q : Peer) × Acts (DestroyBuffer id store) (counted p) q × IsPeer self.new q }
+        ensures acts { (p : Peer) → IsPeer self.old p → (q : Peer) × Acts (DestroyBuffer id store) p q × IsPeer self.new q }
         ensures rest { length self.new.rest ≤ length self.old.rest }
     {
         let _buffer = self.buffers.remove(&id);

@@ -23,12 +23,12 @@ pub(crate) fn action(request: &WlDisplayRequest) -> Action
 
 impl<A: Allocator + Copy> Client<A> {
     ghost use Rattle.wl_client.specs.Agreement.{IsPeer};
-    ghost use Rattle.wl_client.specs.Peer.{Acts, Peer, counted};
+    ghost use Rattle.wl_client.specs.Peer.{Acts, Peer};
     ghost use Rattle.wl_client.specs.declared.actions.Action.TheVariants.{Sync, GetRegistry};
 
     /// A sync: its callback is done at once, and its id given back.
     pub(crate) fn sync(&mut self, callback: u32)
-        ensures acts { (p : Peer) → IsPeer self.old p → (q : Peer) × Acts (Sync callback) (counted p) q × IsPeer self.new q }
+        ensures acts { (p : Peer) → IsPeer self.old p → (q : Peer) × Acts (Sync callback) p q × IsPeer self.new q }
         ensures rest { length self.new.rest ≤ length self.old.rest }
     {
         self.queue_all(&[callback_event(callback), deletion_event(callback)]);
@@ -36,7 +36,7 @@ impl<A: Allocator + Copy> Client<A> {
 
     /// A registry, which tells the globals.
     pub(crate) fn get_registry(&mut self, registry: u32)
-        ensures acts { (p : Peer) → IsPeer self.old p → (q : Peer) × Acts (GetRegistry registry) (counted p) q × IsPeer self.new q }
+        ensures acts { (p : Peer) → IsPeer self.old p → (q : Peer) × Acts (GetRegistry registry) p q × IsPeer self.new q }
         ensures rest { length self.new.rest ≤ length self.old.rest }
     {
         self.make(registry, Interface::WlRegistry, 1, &globals_told(registry));

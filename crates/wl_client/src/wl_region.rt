@@ -57,12 +57,12 @@ fn change<A: Allocator>(region: &Region<A>, change: Action) -> Result<Action, Re
 
 impl<A: Allocator + Copy> Client<A> {
     ghost use Rattle.wl_client.specs.Agreement.{IsPeer};
-    ghost use Rattle.wl_client.specs.Peer.{Acts, Peer, counted};
+    ghost use Rattle.wl_client.specs.Peer.{Acts, Peer};
     ghost use Rattle.wl_client.specs.declared.actions.Action.TheVariants.{CreateRegion, AddToRegion, SubtractFromRegion, DestroyRegion};
 
     /// A new region, which is empty.
     pub(crate) fn create_region(&mut self, id: u32, version: u32)
-        ensures acts { (p : Peer) → IsPeer self.old p → (q : Peer) × Acts (CreateRegion id version) (counted p) q × IsPeer self.new q }
+        ensures acts { (p : Peer) → IsPeer self.old p → (q : Peer) × Acts (CreateRegion id version) p q × IsPeer self.new q }
         ensures rest { length self.new.rest ≤ length self.old.rest }
     {
         match self.regions.insert(id, Region::new(self.alloc)) {
@@ -73,7 +73,7 @@ impl<A: Allocator + Copy> Client<A> {
 
     /// The rectangle is added to a region.
     pub(crate) fn add_to_region(&mut self, id: u32, rect: Rect)
-        ensures acts { (p : Peer) → IsPeer self.old p → (q : Peer) × Acts (AddToRegion id rect) (counted p) q × IsPeer self.new q }
+        ensures acts { (p : Peer) → IsPeer self.old p → (q : Peer) × Acts (AddToRegion id rect) p q × IsPeer self.new q }
         ensures rest { length self.new.rest ≤ length self.old.rest }
     {
         let Some(region) = self.regions.get_mut(&id) else {
@@ -87,7 +87,7 @@ impl<A: Allocator + Copy> Client<A> {
 
     /// The rectangle is taken from a region.
     pub(crate) fn subtract_from_region(&mut self, id: u32, rect: Rect)
-        ensures acts { (p : Peer) → IsPeer self.old p → (q : Peer) × Acts (SubtractFromRegion id rect) (counted p) q × IsPeer self.new q }
+        ensures acts { (p : Peer) → IsPeer self.old p → (q : Peer) × Acts (SubtractFromRegion id rect) p q × IsPeer self.new q }
         ensures rest { length self.new.rest ≤ length self.old.rest }
     {
         let Some(region) = self.regions.get_mut(&id) else {
@@ -101,7 +101,7 @@ impl<A: Allocator + Copy> Client<A> {
 
     /// A region goes.
     pub(crate) fn destroy_region(&mut self, id: u32)
-        ensures acts { (p : Peer) → IsPeer self.old p → (q : Peer) × Acts (DestroyRegion id) (counted p) q × IsPeer self.new q }
+        ensures acts { (p : Peer) → IsPeer self.old p → (q : Peer) × Acts (DestroyRegion id) p q × IsPeer self.new q }
         ensures rest { length self.new.rest ≤ length self.old.rest }
     {
         let _region = self.regions.remove(&id);

@@ -31,12 +31,12 @@ pub(crate) fn action<A: Allocator>(
 
 impl<A: Allocator + Copy> Client<A> {
     ghost use Rattle.wl_client.specs.Agreement.{IsPeer};
-    ghost use Rattle.wl_client.specs.Peer.{Acts, Peer, counted};
+    ghost use Rattle.wl_client.specs.Peer.{Acts, Peer};
     ghost use Rattle.wl_client.specs.declared.actions.Action.TheVariants.{CreatePool};
 
     /// A new pool with the client's next store.
     pub(crate) fn create_pool(&mut self, id: u32, version: u32, size: i32)
-        ensures acts { (p : Peer) → IsPeer self.old p → (q : Peer) × Acts (CreatePool id version size) (counted p) q × IsPeer self.new q }
+        ensures acts { (p : Peer) → IsPeer self.old p → (q : Peer) × Acts (CreatePool id version size) p q × IsPeer self.new q }
         ensures rest { length self.new.rest ≤ length self.old.rest }
     {
         let Ok(store) = self.stores.create(size) else {

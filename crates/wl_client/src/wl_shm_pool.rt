@@ -7,7 +7,7 @@ ghost use Rattle.wl_client.specs.Objects.{held_at};
 ghost use Rattle.wl_store.specs.Stores.{resize_refusal};
 
 use crate::actions::Action;
-use crate::buffers::ShmBuffer;
+use crate::buffers::{Place, ShmBuffer};
 use crate::clients::Client;
 use crate::refusals::{ErrorCode, Refusal};
 use std::alloc::Allocator;
@@ -85,7 +85,7 @@ fn create_buffer<A: Allocator>(
         asked.stride,
         asked.format,
     ) {
-        Ok(layout) => Ok(Action::CreateBuffer(id, version, ShmBuffer::new(asked.store, layout))),
+        Ok(layout) => Ok(Action::CreateBuffer(id, version, Place::new(asked.store, layout))),
         Err(error) => Err(layout_refusal(object, error)),
     }
 }
@@ -119,19 +119,24 @@ fn resize<A: Allocator>(
 
 impl<A: Allocator + Copy> Client<A> {
     ghost use Rattle.wl_client.specs.Agreement.{IsPeer};
-    ghost use Rattle.wl_client.specs.Peer.{Acts, Peer, counted};
+    ghost use Rattle.wl_client.specs.Peer.{Acts, Peer};
     ghost use Rattle.wl_client.specs.declared.actions.Action.TheVariants.{CreateBuffer, ResizePool, DestroyPool};
 
-    /// A new buffer, which uses its store.
-    pub(crate) fn create_buffer(&mut self, id: u32, version: u32, buffer: ShmBuffer)
-        ensures acts { (p : Peer) → IsPeer self.old p → (q : Peer) × Acts (CreateBuffer id version buffer) (counted p) q × IsPeer self.new q }
+    /// A new buffer, which uses its store. Its number is that of its request. There is no memory for a number of more than 64 bits.
+    pub(crate) fn create_buffer(&mut self, id: u32, version: u32, place: Place)
+        ensures acts { (p : Peer) → IsPeer self.old p → (q : Peer) × Acts (CreateBuffer id version place) p q × IsPeer self.new q }
         ensures rest { length self.new.rest ≤ length self.old.rest }
     {
-        if !self.stores.hold(buffer.store()) {
+        let number = self.requests;
+        if number == u64::MAX {
             self.lack_memory();
             return;
         }
-        match self.buffers.insert(id, buffer) {
+        if !self.stores.hold(place.store()) {
+            self.lack_memory();
+            return;
+        }
+        match self.buffers.insert(id, ShmBuffer::new(number, place)) {
             Ok(_) => self.make(id, Interface::WlBuffer, version, &[]),
             Err(_) => self.lack_memory(),
         }
@@ -139,7 +144,7 @@ impl<A: Allocator + Copy> Client<A> {
 
     /// The store of a pool grows.
     pub(crate) fn resize_pool(&mut self, store: StoreNo, size: i32)
-        ensures acts { (p : Peer) → IsPeer self.old p → (q : Peer) × Acts (ResizePool store size) (counted p) q × IsPeer self.new q }
+        ensures acts { (p : Peer) → IsPeer self.old p → (q : Peer) × Acts (ResizePool store size) p q × IsPeer self.new q }
         ensures rest { length self.new.rest ≤ length self.old.rest }
     {
         match self.stores.resize(store, size) {
@@ -150,7 +155,7 @@ impl<A: Allocator + Copy> Client<A> {
 
     /// A pool goes. Its store lives on while buffers use it.
     pub(crate) fn destroy_pool(&mut self, id: u32, store: StoreNo)
-        ensures acts { (p : Peer) → IsPeer self.old p → (q : Peer) × Acts (DestroyPool id store) (counted p) q × IsPeer self.new q }
+        ensures acts { (p : Peer) → IsPeer self.old p → (q : Peer) × Acts (DestroyPool id store) p q × IsPeer self.new q }
         ensures rest { length self.new.rest ≤ length self.old.rest }
     {
         let _pool = self.pools.remove(&id);

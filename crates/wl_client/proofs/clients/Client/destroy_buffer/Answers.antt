@@ -1,10 +1,10 @@
 use Rattle.std.proofs.Common.{None, refl}
-use Rattle.wl_client.specs.Peer.{counted, released}
-use Rattle.wl_client.proofs.Peers.{IsPeer-counted, IsPeer-buffers, IsPeer-stores}
+use Rattle.wl_client.specs.Peer.{released}
+use Rattle.wl_client.proofs.Peers.{IsPeer-buffers, IsPeer-stores}
 use Rattle.wl_client.proofs.clients.Client.destroy_buffer.Goals as goal
 
 pub returns-clause-acts : goal.returns-clause-acts
 returns-clause-acts g c = λ p is.
-    let seen = IsPeer-counted _ p (rw (← c.self.view_is) at is) in
-    let left = IsPeer-buffers _ (counted p) c.self.inside.buffers c.remove-buffer.new.self c.args.id None refl c.remove-buffer.ensures.updates seen in
+    let seen = rw (← c.self.view_is) at is in
+    let left = IsPeer-buffers _ p c.self.inside.buffers c.remove-buffer.new.self c.args.id None refl c.remove-buffer.ensures.updates seen in
     c.remove.ensures.removes _ (IsPeer-stores _ _ (released c.args.store) _ (rw c.let_go-live.ensures.live at c.let_go-live.ensures.counted) left)
