@@ -9,6 +9,7 @@ use Rattle.wl_client.specs.declared.actions.Action.TheVariants.{Sync, GetRegistr
 use Rattle.wl_client.specs.declared.clients.Cause.{Cause}
 use Rattle.wl_client.specs.declared.clients.Cause.TheVariants.{Memory}
 use Rattle.wl_client.specs.declared.refusals.Refusal.{Refusal}
+use Rattle.wl_client.specs.Buffers.{Buffer as Made}
 use Rattle.wl_client.specs.Judgement.{judge as judge_alone}
 use Rattle.wl_client.specs.Peer.{Peer, Queues, changed, counted, ended, known_of, with_rest}
 use Rattle.wl_client.specs.Peer.{Answers as AnswersAlone, FeedsAt as FeedsAloneAt, Reaches as ReachesAlone, Serves as ServesAlone, Stops as StopsAlone, Takes as TakesAlone, WantsOr as WantsOrAlone, answers_to as own_answers, takes_memory as own_takes_memory}
@@ -17,19 +18,19 @@ use Rattle.wl_scene.specs.Stacking.{Owned, nothing_owned}
 use Rattle.wl_desk.specs.Ask.{Ask, owns}
 use Rattle.wl_desk.specs.Desktop.{Desktop, Resident, become, become_by, client_at}
 use Rattle.wl_desk.specs.Laws.{IsAlone, ServedAlone, beyond_clients}
-use Rattle.wl_desk.specs.Step.{Answers, Becomes, FeedsAt, Reaches, Serves, ServesAt, StopsAt, Takes, WantsOr, has_number, keeps_store, own_changed, with_peer}
+use Rattle.wl_desk.specs.Step.{Answers, Becomes, FeedsAt, Reaches, Serves, ServesAt, StopsAt, Takes, WantsOr, has_buffer, keeps_store, own_changed, with_peer}
 use Rattle.wl_desk.proofs.Alone.{judge-owns}
 use Rattle.wl_desk.proofs.Places.{client-become}
 
 -- ---- what changes
 
-unused : (number : Option ℕ) → has_number number no_surfaces ≡ false
+unused : (made : Option Made) → has_buffer made no_surfaces ≡ false
 unused None = refl
 unused (Some n) = refl
 
 unkept : (r : Resident) (id store : ℕ) → r.owned ≡ nothing_owned → (own_changed (DestroyBuffer id store) r).peer ≡ changed (DestroyBuffer id store) r.peer
 unkept r id store alone =
-    ap (λ (b : Bool). keeps_store b r.peer.stores (changed (DestroyBuffer id store) r.peer)) (ap (λ (o : Owned). has_number (r.numbers id) o.surfaces) alone ∙ unused (r.numbers id))
+    ap (λ (b : Bool). keeps_store b r.peer.stores (changed (DestroyBuffer id store) r.peer)) (ap (λ (o : Owned). has_buffer (r.peer.buffers id) o.surfaces) alone ∙ unused (r.peer.buffers id))
 
 changed-alone : (action : Action) (r : Resident) → r.owned ≡ nothing_owned → (own_changed action r).peer ≡ changed action r.peer
 changed-alone (Sync callback) r alone = refl

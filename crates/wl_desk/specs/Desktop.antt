@@ -14,13 +14,11 @@ pub record Callback : Type 0 where
   pub number : ℕ
   pub id : ℕ
 
--- One client: its streams and tables; its surfaces and xdg_surfaces; by their ids the number of each wl_buffer's buffer and of each
--- wl_subsurface's link, and the values of each positioner; its frame callbacks in the order of their requests, and its wl_pointers in rising
+-- One client: its streams and tables; its surfaces and xdg_surfaces; by their ids the number of each wl_subsurface's link, and the values of each positioner; its frame callbacks in the order of their requests, and its wl_pointers in rising
 -- id; and the serials of the latest press and of the latest release that it was told of.
 pub record Resident : Type 0 where
   pub peer : Peer
   pub owned : Owned
-  pub numbers : ById ℕ
   pub links : ById ℕ
   pub positioners : ById Positioner
   pub callbacks : List Callback
@@ -42,7 +40,6 @@ resident_of peer =
     record {
       peer = peer;
       owned = nothing_owned;
-      numbers = nothing;
       links = nothing;
       positioners = nothing;
       callbacks = [];

@@ -9,13 +9,13 @@ use Rattle.wl_proto.specs.declared.interface.Interface.TheVariants.{WlCompositor
 use Rattle.wl_proto.specs.Messages.{Message, says}
 use Rattle.wl_store.specs.Stores.{Stock}
 use Rattle.wl_client.specs.declared.actions.Action.{Action}
-use Rattle.wl_client.specs.declared.actions.Action.TheVariants.{CreateBuffer, DestroyBuffer}
+use Rattle.wl_client.specs.declared.actions.Action.TheVariants.{DestroyBuffer}
 use Rattle.wl_client.specs.declared.clients.Cause.{Cause}
 use Rattle.wl_client.specs.declared.clients.Cause.TheVariants as cause
 use Rattle.wl_client.specs.declared.refusals.ErrorCode.TheVariants.{InvalidMethod}
 use Rattle.wl_client.specs.declared.refusals.Refusal.{Refusal}
+use Rattle.wl_client.specs.Buffers.{Buffer as Made}
 use Rattle.wl_client.specs.Judgement.{action_of, judged_at, word_in}
-use Rattle.wl_client.specs.Objects.{with_id}
 use Rattle.wl_client.specs.Peer.{Peer, Errs, IsIdle, LacksMemory, Queues, changed, counted, ended, known_of, made, object_at_version, released, removed, with_rest}
 use Rattle.wl_client.specs.Peer.{answers_to as own_answers, takes_memory as own_takes_memory}
 use Rattle.wl_client.specs.Told.{Said, display_error, id_deleted, said}
@@ -88,28 +88,22 @@ abbrev pub keeps_store : Bool → Stock → Peer → Peer
 keeps_store true stores p = record p { stores = stores }
 keeps_store false stores p = p
 
-abbrev pub has_number : Option ℕ → Surfaces → Bool
-has_number None surfaces = false
-has_number (Some number) surfaces = is_used number surfaces
+abbrev pub has_buffer : Option Made → Surfaces → Bool
+has_buffer None surfaces = false
+has_buffer (Some made) surfaces = is_used made.number surfaces
 
--- A new buffer has the number of the request that made it.
 abbrev pub own_changed : Action → Resident → Resident
-own_changed (CreateBuffer id version buffer) r =
-    record r { peer = changed (CreateBuffer id version buffer) r.peer; numbers = with_id id (Some r.peer.requests) r.numbers }
 own_changed (DestroyBuffer id store) r =
-    record r {
-      peer = keeps_store (has_number (r.numbers id) r.owned.surfaces) r.peer.stores (changed (DestroyBuffer id store) r.peer);
-      numbers = with_id id None r.numbers;
-    }
+    with_peer (keeps_store (has_buffer (r.peer.buffers id) r.owned.surfaces) r.peer.stores (changed (DestroyBuffer id store) r.peer)) r
 own_changed action r = with_peer (changed action r.peer) r
 
 -- a buffer that no surface has any more, and whose wl_buffer was destroyed, lets its store go
-abbrev pub is_number : ℕ → Option ℕ → Bool
+abbrev pub is_number : ℕ → Option Made → Bool
 is_number number None = false
-is_number number (Some other) = other == number
+is_number number (Some made) = made.number == number
 
 abbrev pub is_over : Resident → Buffer → Bool
-is_over r buffer = not (is_number buffer.number (r.numbers buffer.object)) && not (is_used buffer.number r.owned.surfaces)
+is_over r buffer = not (is_number buffer.number (r.peer.buffers buffer.object)) && not (is_used buffer.number r.owned.surfaces)
 
 abbrev pub without_buffer : ℕ → List Buffer → List Buffer
 without_buffer number buffers = filter (λ b. not (b.number == number)) buffers

@@ -6,7 +6,7 @@ use Rattle.wl_geom.specs.Region.{Change}
 use Rattle.wl_client.specs.declared.refusals.ErrorCode.{ErrorCode}
 use Rattle.wl_client.specs.declared.refusals.ErrorCode.TheVariants.{Implementation, InvalidTransform, SurfaceHasRoleObject, UnconfiguredBuffer as unconfigured}
 use Rattle.wl_client.specs.declared.refusals.Refusal.{Refusal}
-use Rattle.wl_client.specs.Buffers.{Buffer as Laid}
+use Rattle.wl_client.specs.Buffers.{Buffer as Made}
 use Rattle.wl_client.specs.Judgement.{number_in, rect_in, word_in}
 use Rattle.wl_client.specs.Told.{display_error}
 use Rattle.wl_surface.specs.Request.{Buffer, Attach, Damage, Frame, SetOpaqueRegion, SetInputRegion, SetBufferTransform}
@@ -27,22 +27,22 @@ abbrev pub surface_created : Resident → ℕ → ℕ → Result Ask Refusal
 surface_created r id version = if nat_le 256 (length r.owned.surfaces.surfaces) then refuse_limit else Ok (CreateSurface id version)
 
 -- the buffer of a wl_buffer
-abbrev pub numbered : ℕ → ℕ → Laid → Buffer
-numbered id number laid =
+abbrev pub buffer_of : ℕ → Made → Buffer
+buffer_of id made =
     record {
-      number = number;
+      number = made.number;
       object = id;
-      store = laid.store;
-      offset = laid.offset;
-      width = laid.width;
-      height = laid.height;
-      stride = laid.stride;
-      format = laid.format;
+      store = made.laid.store;
+      offset = made.laid.offset;
+      width = made.laid.width;
+      height = made.laid.height;
+      stride = made.laid.stride;
+      format = made.laid.format;
     }
 
 -- the buffer that is named, or none for null
 abbrev pub buffer_named : Resident → ℕ → Option Buffer
-buffer_named r id = option_and_then (λ laid. option_map (λ number. numbered id number laid) (r.numbers id)) (r.peer.buffers id)
+buffer_named r id = option_map (buffer_of id) (r.peer.buffers id)
 
 -- the changes of the region that is named, or none for null: a region is copied when it is set
 abbrev pub region_named : Resident → ℕ → Option (List Change)
