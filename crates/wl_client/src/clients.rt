@@ -65,7 +65,9 @@ impl<A: Allocator> Model for Client<A> {
 
 impl<A: Allocator + Copy> Client<A> {
     ghost use Rattle.wl_client.specs.Peer.{Peer, IsIdleAt, newcomer, Queues, Errs, LacksMemory, WantsOr, Acts, Answers, Serves, Feeds, counted, made, removed, left_by, sent_by, stored_by};
+    ghost use Rattle.wl_client.specs.Objects.{object_of};
     ghost use Rattle.wl_client.specs.View.{cleared, stored};
+    ghost use Rattle.wl_table.specs.Objects.{HoldsAt};
     ghost use Rattle.wl_store.specs.Stores.{store_at, write_refusal};
     ghost use Rattle.wl_client.specs.Agreement.{IsPeer};
 
@@ -130,7 +132,8 @@ impl<A: Allocator + Copy> Client<A> {
     }
 
     /// Ends the client with an error, of which it is told.
-    fn refuse(&mut self, refusal: Refusal)
+    pub fn refuse(&mut self, refusal: Refusal)
+        ensures ended { is_some self.new.ended ≡ true }
         ensures errs { (p : Peer) → IsPeer self.old p → (q : Peer) × Errs refusal p q × IsPeer self.new q }
         ensures rest { length self.new.rest ≡ 0 }
     {
@@ -145,7 +148,8 @@ impl<A: Allocator + Copy> Client<A> {
     }
 
     /// Queues events in turn. Where one isn't queued, the client ends.
-    pub(crate) fn queue_all(&mut self, events: &[Event])
+    pub fn queue_all(&mut self, events: &[Event])
+        ensures table { self.new.ended ≡ None → self.new.objects ≡ self.old.objects }
         ensures queues { (p : Peer) → IsPeer self.old p → (q : Peer) × Queues (map said_of events.now) p q × IsPeer self.new q }
         ensures rest { length self.new.rest ≤ length self.old.rest }
     {
@@ -158,7 +162,8 @@ impl<A: Allocator + Copy> Client<A> {
     }
 
     /// Ends the client for want of memory, of which it is told where that can be.
-    pub(crate) fn lack_memory(&mut self)
+    pub fn lack_memory(&mut self)
+        ensures ended { is_some self.new.ended ≡ true }
         ensures lacks { (p : Peer) → IsPeer self.old p → (q : Peer) × LacksMemory p q × IsPeer self.new q }
         ensures rest { length self.new.rest ≡ 0 }
     {
@@ -176,6 +181,15 @@ impl<A: Allocator + Copy> Client<A> {
             version,
             target: 0,
         };
+        self.add(id, entry, events);
+    }
+
+    /// Makes an object with this entry in the table, which tells these events. Want of memory ends the client.
+    pub fn add(&mut self, id: u32, entry: Entry, events: &[Event])
+        ensures makes { (p : Peer) → IsPeer self.old p → (q : Peer) × WantsOr true (Queues (map said_of events.now) (made id (object_of entry) p) q) p q × IsPeer self.new q }
+        ensures table { self.new.ended ≡ None → HoldsAt self.old.objects self.new.objects id (Some entry) }
+        ensures rest { length self.new.rest ≤ length self.old.rest }
+    {
         match self.objects.insert(id, entry) {
             Ok(()) => self.queue_all(events),
             Err(_) => self.lack_memory(),
@@ -183,7 +197,8 @@ impl<A: Allocator + Copy> Client<A> {
     }
 
     /// Removes an object, whose id is given back.
-    pub(crate) fn remove(&mut self, id: u32)
+    pub fn remove(&mut self, id: u32)
+        ensures table { self.new.ended ≡ None → HoldsAt self.old.objects self.new.objects id None }
         ensures removes { (p : Peer) → IsPeer self.old p → (q : Peer) × Queues (id_deleted id ∷ []) (removed id p) q × IsPeer self.new q }
         ensures rest { length self.new.rest ≤ length self.old.rest }
     {

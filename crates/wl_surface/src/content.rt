@@ -6,8 +6,8 @@ ghost use Rattle.wl_surface.specs.Kept.{IsFarther};
 
 use wl_store::{Layout, StoreNo};
 
-/// A buffer's number among its client's.
-pub type BufferNo = u32;
+/// A buffer's number among its client's: no other that is pending, held, applied or named by a wl_buffer has it.
+pub type BufferNo = u64;
 
 /// How far a surface may be from where it began, to each side, in pixels.
 const BOUND: i64 = 16_777_216;

@@ -1,9 +1,10 @@
-use Rattle.std.proofs.Common.{get_or, []}
+use Rattle.std.proofs.Common.{get_or, [], ap, ◌∙◌}
 use Rattle.wl_proto.specs.declared.event.Event.{Event}
 use Rattle.wl_proto.specs.declared.event.EventBody.TheVariants.{WlDisplay}
 use Rattle.wl_proto.specs.declared.wl_display.WlDisplayEvent.TheVariants.{Error}
 use Rattle.wl_client.specs.Peer.{queued, ended}
 use Rattle.wl_client.specs.Said.{said_of}
+use Rattle.wl_client.specs.View.{ClientView}
 use Rattle.wl_client.proofs.Peers.{IsPeer-queued, IsPeer-ended, Queues-refused, Queues-queued, Queues-none}
 use Rattle.wl_client.proofs.clients.Client.queue_all.Goals as goal
 
@@ -23,6 +24,7 @@ returns-in-Err-clause-queues g c = λ p is.
 pub loop-event-preserved : goal.loop-event-preserved
 loop-event-preserved g c = record {
   rest = rw c.in_default.ensures.ok.1 c.loop-event.invariant.rest;
+  table = ap (λ (v : ClientView). v.objects) c.in_default.ensures.ok.1 ∙ c.loop-event.invariant.table;
   told = λ p is.
       let m = c.loop-event.invariant.told p is in (
         queued (said_of (get_or c.args.events.now c.loop-event.event-index no_event)) m.0,

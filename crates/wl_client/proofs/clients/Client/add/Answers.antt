@@ -1,6 +1,6 @@
 use Rattle.std.proofs.Common.{inl, inr}
 use Rattle.wl_client.proofs.Peers.{IsPeer-made}
-use Rattle.wl_client.proofs.clients.Client.make.Goals as goal
+use Rattle.wl_client.proofs.clients.Client.add.Goals as goal
 
 pub returns-in-Ok-clause-makes : goal.returns-in-Ok-clause-makes
 returns-in-Ok-clause-makes g c = λ p is.
