@@ -1,6 +1,6 @@
 -- One message of one client: what it asks of the desktop, or why it is refused, and what becomes of the desktop.
 use Rattle.std.specs.Prelude.{ℕ, zero, suc, ◌≡◌, ◌+◌, ◌-◌, ◌==◌, ◌&&◌, Bool, true, false, not, if◌then◌else◌, Option, Some, None, Result, Ok, Err, List, [], ◌∷◌, ◌++◌, length, take, drop, filter, fold, ◌⊎◌, pos}
-use Rattle.std.specs.Option.{option_map_or}
+use Rattle.std.specs.Option.{option_map, option_map_or}
 use Rattle.wl_wire.specs.Wire.{Word, Number, Block, split_of}
 use Rattle.wl_wire.specs.declared.header.Split.{Split}
 use Rattle.wl_wire.specs.declared.header.Split.TheVariants.{Message as Whole, More, Bad}
@@ -98,12 +98,12 @@ own_changed (DestroyBuffer id store) r =
 own_changed action r = with_peer (changed action r.peer) r
 
 -- a buffer that no surface has any more, and whose wl_buffer was destroyed, lets its store go
-abbrev pub is_number : ℕ → Option Made → Bool
+abbrev pub is_number : ℕ → Option ℕ → Bool
 is_number number None = false
-is_number number (Some made) = made.number == number
+is_number number (Some other) = other == number
 
 abbrev pub is_over : Resident → Buffer → Bool
-is_over r buffer = not (is_number buffer.number (r.peer.buffers buffer.object)) && not (is_used buffer.number r.owned.surfaces)
+is_over r buffer = not (is_number buffer.number (option_map (λ made. made.number) (r.peer.buffers buffer.object))) && not (is_used buffer.number r.owned.surfaces)
 
 abbrev pub without_buffer : ℕ → List Buffer → List Buffer
 without_buffer number buffers = filter (λ b. not (b.number == number)) buffers
