@@ -9,3 +9,6 @@ pub mod Served
 pub mod Stacks
 pub mod Painted
 pub mod Distinct
+pub mod OwningKeys
+pub mod OwningNames
+pub mod OwningSurfaces

@@ -3,6 +3,7 @@ pub mod Desktop
 pub mod Laws
 pub mod Marks
 pub mod Moments
+pub mod Owning
 pub mod Plain
 pub mod Scratch
 pub mod Step

@@ -1,0 +1,84 @@
+-- What is kept of a client's surfaces and xdg_surfaces, under the numbers of the surfaces, and what the client owns, by ids.
+use Rattle.std.specs.Prelude.{ℕ, ◌≡◌, ◌==◌, Bool, true, false, if◌then◌else◌, is_some, Option, Some, None, List, [], ◌∷◌, find, length}
+use Rattle.std.specs.Option.{option_and_then}
+use Rattle.wl_proto.specs.declared.interface.Interface.{Interface}
+use Rattle.wl_proto.specs.declared.interface.Interface.TheVariants.{WlSurface, XdgSurface, XdgToplevel}
+use Rattle.wl_table.specs.Objects.{Held, entry_of}
+use Rattle.wl_table.specs.declared.entry.Entry.{Entry}
+use Rattle.wl_client.specs.Objects.{ById, interface_number, with_id}
+use Rattle.wl_surface.specs.Kept.{Numbered, Slots, StandForAll}
+use Rattle.wl_surface.specs.Kept.{count as count_kept}
+use Rattle.wl_surface.specs.Surfaces.{Surfaces, history_in, surface_at}
+use Rattle.wl_shell.specs.Agreement.{IsShell}
+use Rattle.wl_shell.specs.Kept.{Kept}
+use Rattle.wl_shell.specs.Shell.{XdgSurface as Xdg, is_role, xdg_at, xdg_with}
+use Rattle.wl_scene.specs.Stacking.{Owned}
+use Rattle.wl_desk.specs.Step.{is_number}
+
+-- what an object stands for among those of this interface, if it is one
+abbrev pub target_as : Interface → Entry → Option ℕ
+target_as interface entry = if interface_number entry.interface == interface_number interface then Some entry.target else None
+
+abbrev pub targets_in : Interface → Held → ById ℕ
+targets_in interface held = λ id. option_and_then (target_as interface) (entry_of held id)
+
+-- the numbers of surfaces that are named: by the ids of wl_surfaces, of their xdg_surfaces, and of the toplevels of those
+pub record Names : Type 0 where
+  pub surfaces : ById ℕ
+  pub shell : ById ℕ
+  pub toplevels : ById ℕ
+
+abbrev pub names_in : Held → Names
+names_in held = record { surfaces = targets_in WlSurface held; shell = targets_in XdgSurface held; toplevels = targets_in XdgToplevel held }
+
+abbrev pub with_surface : ℕ → Option ℕ → Names → Names
+with_surface id number names = record names { surfaces = with_id id number names.surfaces }
+
+abbrev pub with_xdg : ℕ → Option ℕ → Names → Names
+with_xdg id number names = record names { shell = with_id id number names.shell }
+
+abbrev pub with_toplevel : ℕ → Option ℕ → Names → Names
+with_toplevel id number names = record names { toplevels = with_id id number names.toplevels }
+
+-- the interfaces whose objects name the number of a surface
+abbrev pub names_surface : Interface → Bool
+names_surface WlSurface = true
+names_surface XdgSurface = true
+names_surface XdgToplevel = true
+names_surface interface = false
+
+-- each surface under its number
+abbrev pub by_number : ById ℕ → Surfaces → Numbered
+by_number numbers all = λ number. find (λ s. is_number number (numbers s.id)) all.surfaces
+
+-- what is kept by the ids of the surfaces
+abbrev pub by_id : ById ℕ → (ℕ → Option Kept) → ℕ → Option Kept
+by_id numbers kept = λ id. option_and_then kept (numbers id)
+
+-- no two of them have one key
+abbrev pub AreApartBy : {X : Type 0} → (ℕ → X → Bool) → List X → Type 0
+AreApartBy has [] = Unit {0}
+AreApartBy has (x ∷ xs) = ((key : ℕ) → has key x ≡ true → find (has key) xs ≡ None) × AreApartBy has xs
+
+-- What is kept stands for the surfaces, each under a number of its own. None of them is linked to another.
+pub record AreKept (numbers : ById ℕ) (slots : Slots) (all : Surfaces) : Type 0 where
+  pub links : all.links ≡ []
+  pub numbered : (id : ℕ) → is_some (numbers id) ≡ is_some (surface_at id all)
+  pub once : (a b number : ℕ) → numbers a ≡ Some number → numbers b ≡ Some number → a ≡ b
+  pub apart : AreApartBy (λ id s. s.id == id) all.surfaces
+  pub stand : StandForAll slots (by_number numbers all)
+  pub count : count_kept slots ≡ length all.surfaces
+
+-- the number of the surface of an xdg_surface
+abbrev pub number_of : ById ℕ → Option Xdg → Option ℕ
+number_of numbers x = option_and_then (λ x. numbers x.surface) x
+
+-- What is kept stands for what a client owns. An xdg_surface and a toplevel name the number of their surface, and only a surface has
+-- something of the shell's under its number.
+pub record IsOwned (names : Names) (slots : Slots) (kept : ℕ → Option Kept) (o : Owned) : Type 0 where
+  pub surfaces : AreKept names.surfaces slots o.surfaces
+  pub shell : IsShell (by_id names.surfaces kept) (λ id. history_in id o.surfaces) o.shell
+  pub known : (number : ℕ) → is_some (kept number) ≡ true → (id : ℕ) × (names.surfaces id ≡ Some number)
+  pub named : (id : ℕ) → names.shell id ≡ number_of names.surfaces (xdg_at id o.shell)
+  pub toplevels : (id : ℕ) → names.toplevels id ≡ number_of names.surfaces (xdg_with id o.shell)
+  pub roles : AreApartBy (λ object x. is_role object x.role) o.shell
