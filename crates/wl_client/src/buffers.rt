@@ -34,6 +34,12 @@ impl Place {
     {
         self.store
     }
+
+    pub fn layout(&self) -> Layout
+        ensures { buffer_at self.now.store result ≡ self.now }
+    {
+        self.layout
+    }
 }
 
 /// A wl_buffer: its number among its client's buffers, and where it lies.
@@ -57,6 +63,20 @@ impl ShmBuffer {
         ensures { result ≡ numbered number place }
     {
         ShmBuffer { number, place }
+    }
+
+    /// Its number among its client's buffers: that of the request that made it.
+    pub fn number(&self) -> u64
+        ensures { result ≡ self.now.number }
+    {
+        self.number
+    }
+
+    /// Where its pixels lie in its store.
+    pub fn layout(&self) -> Layout
+        ensures { buffer_at self.now.laid.store result ≡ self.now.laid }
+    {
+        self.place.layout()
     }
 
     /// The store that it lies in.

@@ -1,7 +1,7 @@
 //! One client: what came from it, what is to be sent to it, and what its messages ask.
 
-ghost use Rattle.std.specs.Option.{option_map};
-ghost use Rattle.std.specs.Prelude.{◌≡◌, ◌++◌, [], length, ◌<◌, ◌≤◌, ◌∷◌, OnOk, OnErr, IfOk, IfErr, IsTrue, MatchBool, Some, None, true, false, is_some, is_none, map, nat_le};
+ghost use Rattle.std.specs.Option.{option_copied, option_map};
+ghost use Rattle.std.specs.Prelude.{◌≡◌, ◌++◌, [], length, ◌<◌, ◌≤◌, ◌∷◌, ◌==◌, ◌+◌, if◌then◌else◌, OnOk, OnErr, IfOk, IfErr, IsTrue, MatchBool, Some, None, true, false, is_some, is_none, map, nat_le};
 ghost use Rattle.wl_client.specs.Agreement.{output_of};
 ghost use Rattle.wl_client.specs.Told.{id_deleted, said_bytes};
 ghost use Rattle.wl_client.specs.Peer.{has_room, object_at_version};
@@ -64,10 +64,10 @@ impl<A: Allocator> Model for Client<A> {
 }
 
 impl<A: Allocator + Copy> Client<A> {
-    ghost use Rattle.wl_client.specs.Peer.{Peer, IsIdleAt, newcomer, Queues, Errs, LacksMemory, WantsOr, Acts, Answers, Serves, Feeds, counted, made, removed, left_by, sent_by, stored_by};
-    ghost use Rattle.wl_client.specs.Objects.{object_of};
+    ghost use Rattle.wl_client.specs.Peer.{Peer, IsIdleAt, newcomer, Queues, Errs, LacksMemory, WantsOr, Acts, Answers, Serves, Feeds, counted, made, removed, left_by, released, sent_by, stored_by};
+    ghost use Rattle.wl_client.specs.Objects.{held_at, object_of};
     ghost use Rattle.wl_client.specs.View.{cleared, stored};
-    ghost use Rattle.wl_table.specs.Objects.{HoldsAt};
+    ghost use Rattle.wl_table.specs.Objects.{HoldsAt, entry_of};
     ghost use Rattle.wl_store.specs.Stores.{store_at, write_refusal};
     ghost use Rattle.wl_client.specs.Agreement.{IsPeer};
 
@@ -218,7 +218,8 @@ impl<A: Allocator + Copy> Client<A> {
     }
 
     /// A request more is counted, as long as its number has 64 bits.
-    fn count(&mut self)
+    pub fn count(&mut self)
+        ensures only { self.new ≡ record self.old { requests = self.new.requests } }
         ensures counts { (p : Peer) → IsPeer self.old p → IsPeer self.new (counted p) }
         ensures rest { length self.new.rest ≡ length self.old.rest }
     {
@@ -288,6 +289,48 @@ impl<A: Allocator + Copy> Client<A> {
             return;
         }
         while self.serve() {}
+    }
+
+    /// The object with this id, if there is one.
+    pub fn object(&self, id: u32) -> Option<Entry>
+        ensures { result ≡ entry_of self.now.objects id }
+    {
+        self.objects.get(id)
+    }
+
+    /// The region of the wl_region with this id, if there is one.
+    pub fn region(&self, id: u32) -> Option<&Region<A>>
+        ensures { option_copied result ≡ held_at self.now.regions id }
+    {
+        self.regions.get(&id)
+    }
+
+    /// The buffer of the wl_buffer with this id, if there is one.
+    pub fn buffer(&self, id: u32) -> Option<&ShmBuffer>
+        ensures { option_copied result ≡ held_at self.now.buffers id }
+    {
+        self.buffers.get(&id)
+    }
+
+    /// The serial that the next event with one has. It isn't drawn by that.
+    pub fn serial(&self) -> u32
+        ensures { result ≡ self.now.serial }
+    {
+        self.serial
+    }
+
+    /// Draws the serial: the next is one more, and after 4,294,967,295 comes 1.
+    pub fn draw_serial(&mut self)
+        ensures { self.new ≡ record self.old { serial = if self.old.serial == 4294967295 then 1 else self.old.serial + 1 } }
+    {
+        self.serial = self.serial.checked_add(1).unwrap_or(1);
+    }
+
+    /// One use of a store less. At none the store is gone.
+    pub fn let_go(&mut self, store: StoreNo)
+        ensures { self.new ≡ record self.old { stores = released store self.old.stores } }
+    {
+        let _live = self.stores.let_go(store);
     }
 
     /// Why the client ended, if it did.

@@ -19,6 +19,9 @@ mod wl_seat;
 mod wl_shm;
 mod wl_shm_pool;
 
+pub use actions::Action;
+pub use buffers::{Place, ShmBuffer};
 pub use clients::{Cause, Client};
 pub use outputs::Output;
+pub use refusals::{ErrorCode, Refusal};
 pub use wl_store::{StoreError, StoreNo};
