@@ -12,3 +12,4 @@ pub mod Distinct
 pub mod OwningKeys
 pub mod OwningNames
 pub mod OwningSurfaces
+pub mod OwningXdg

@@ -8,10 +8,11 @@ use Rattle.wl_table.specs.declared.entry.Entry.{Entry}
 use Rattle.wl_client.specs.Objects.{ById, interface_number, with_id}
 use Rattle.wl_surface.specs.Kept.{Numbered, Slots, StandForAll}
 use Rattle.wl_surface.specs.Kept.{count as count_kept}
+use Rattle.wl_surface.specs.State.{History}
 use Rattle.wl_surface.specs.Surfaces.{Surfaces, history_in, surface_at}
 use Rattle.wl_shell.specs.Agreement.{IsShell}
-use Rattle.wl_shell.specs.Kept.{Kept}
-use Rattle.wl_shell.specs.Shell.{XdgSurface as Xdg, is_role, xdg_at, xdg_with}
+use Rattle.wl_shell.specs.Kept.{Kept, Stands}
+use Rattle.wl_shell.specs.Shell.{XdgSurface as Xdg, is_role, xdg_at, xdg_of, xdg_with}
 use Rattle.wl_scene.specs.Stacking.{Owned}
 use Rattle.wl_desk.specs.Step.{is_number}
 
@@ -82,3 +83,18 @@ pub record IsOwned (names : Names) (slots : Slots) (kept : ℕ → Option Kept) 
   pub named : (id : ℕ) → names.shell id ≡ number_of names.surfaces (xdg_at id o.shell)
   pub toplevels : (id : ℕ) → names.toplevels id ≡ number_of names.surfaces (xdg_with id o.shell)
   pub roles : AreApartBy (λ object x. is_role object x.role) o.shell
+
+-- What is kept under this number stands for this xdg_surface of what a client owns, and its surface has this history.
+pub record IsXdg (names : Names) (kept : ℕ → Option Kept) (o : Owned) (number : ℕ) (k : Kept) (x : Xdg) (h : History) : Type 0 where
+  pub here : kept number ≡ Some k
+  pub surface : names.surfaces x.surface ≡ Some number
+  pub of_surface : xdg_of x.surface o.shell ≡ Some x
+  pub at_id : xdg_at x.id o.shell ≡ Some x
+  pub history : history_in x.surface o.surfaces ≡ Some h
+  pub stands : Stands k x h
+
+-- a change of an xdg_surface that leaves its id, its surface and its role object
+pub record KeepsRole (step : Xdg → Xdg) : Type 0 where
+  pub id : (x : Xdg) → (step x).id ≡ x.id
+  pub surface : (x : Xdg) → (step x).surface ≡ x.surface
+  pub role : (object : ℕ) (x : Xdg) → is_role object (step x).role ≡ is_role object x.role
