@@ -1,6 +1,12 @@
 //! The desk: the windows of all clients, what a message does to them, and which points a step marks to be painted again.
 #![tactic(auto)]
 
+mod residents;
+mod wl_compositor;
+mod wl_surface;
+
+pub use residents::Resident;
+
 ghost use Rattle.wl_desk.specs.Laws.{LeastIsMost, OneRun, OthersStay, ScratchStays, ServedAlone, WindowsAreDistinct};
 
 /// What a step marks at least is among what it marks at most.

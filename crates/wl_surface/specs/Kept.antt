@@ -1,5 +1,5 @@
 -- What is kept of a surface, and when it stands for what was asked.
-use Rattle.std.specs.Prelude.{ℕ, ℤ, pos, int_le, ◌&&◌, ◌+ℤ◌, ◌≡◌, ◌≤◌, ◌==◌, ◌||◌, Bool, true, false, cond, Option, Some, None, List, length, take, drop, count_by, is_some, option_copied, slice_index_or}
+use Rattle.std.specs.Prelude.{ℕ, ℤ, pos, int_le, ◌&&◌, ◌+ℤ◌, ◌≡◌, ◌≤◌, ◌==◌, ◌||◌, Bool, true, false, cond, Option, Some, None, List, [], ◌∷◌, length, take, drop, count_by, is_some, option_copied, slice_index_or}
 use Rattle.std.specs.Option.{option_map}
 use Rattle.wl_geom.specs.declared.rect.Rect.{Rect}
 use Rattle.wl_geom.specs.Region.{Area, Change, Stands as Covers}
@@ -170,6 +170,10 @@ role_at (Some s) = s.role
 abbrev pub pending_at : Option Surface → Option Buffer
 pending_at None = None
 pending_at (Some s) = (pending s.history).buffer
+
+abbrev pub had_at : Option Surface → List (Option Buffer)
+had_at None = None ∷ None ∷ None ∷ []
+had_at (Some s) = (pending s.history).buffer ∷ (held s.history).buffer ∷ (applied s.history).buffer ∷ []
 
 abbrev pub content_at : Option Surface → Bool
 content_at None = false

@@ -355,6 +355,13 @@ impl<A: Allocator> Surface<A> {
         self.pending_buffer
     }
 
+    /// The buffers that are pending, held and applied.
+    pub(crate) fn buffers(&self) -> [Option<Attached>; 3]
+        ensures { result ≡ self.now.pending_buffer ∷ self.now.held_buffer ∷ self.now.current_buffer ∷ [] }
+    {
+        [self.pending_buffer, self.held_buffer, self.current_buffer]
+    }
+
     /// Whether there is a buffer pending, held or applied.
     pub(crate) fn has_content(&self) -> bool
         ensures { result ≡ (is_some self.now.pending_buffer || (is_some self.now.held_buffer || is_some self.now.current_buffer)) }

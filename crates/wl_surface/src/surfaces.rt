@@ -1,12 +1,12 @@
 //! The surfaces of a client.
 
-ghost use Rattle.std.specs.Prelude.{ℕ, [], ◌≡◌, ◌≢◌, ◌+◌, ◌<◌, ◌≤◌, ◌||◌, ◌==◌, vec_len, vec_capacity, ◌↔◌, List, Option, Some, None, IfOk, OnOk, OnErr, IfErr, IsErr, IsOk, MatchBool, nat_le, unsigned_abs, option_copied, true};
+ghost use Rattle.std.specs.Prelude.{ℕ, [], ◌≡◌, ◌≢◌, ◌+◌, ◌<◌, ◌≤◌, ◌||◌, ◌==◌, vec_len, vec_capacity, ◌↔◌, List, map, Option, Some, None, IfOk, OnOk, OnErr, IfErr, IsErr, IsOk, MatchBool, nat_le, unsigned_abs, option_copied, true};
 ghost use Rattle.std.specs.List.{list_any};
 ghost use Rattle.std.specs.Option.{option_map};
 ghost use Rattle.slab.specs.Slab.{entries};
 ghost use Rattle.wl_geom.specs.Region.{Change as RegionChange, Stands as Covers};
 ghost use Rattle.wl_surface.specs.Applied.{AreChanges, AreFreed, AreGone, with_freed, is_shown_at};
-ghost use Rattle.wl_surface.specs.Kept.{Changes, IsAny, changed_at, shown_of, IsCopied, IsCurrentAt, kept_at, one_if_kept, Numbered, StandForAll, buffer_of, content_at, count, has_at, is_transform, kept_has, kept_shows, nobody, pending_at, role_at, shows_at, with_at};
+ghost use Rattle.wl_surface.specs.Kept.{Changes, IsAny, changed_at, shown_of, IsCopied, IsCurrentAt, kept_at, one_if_kept, Numbered, StandForAll, buffer_of, content_at, count, had_at, has_at, is_transform, kept_has, kept_shows, nobody, pending_at, role_at, shows_at, with_at};
 ghost use Rattle.wl_surface.specs.Request.{Attach, Commit, Damage, SetBufferTransform, SetInputRegion, SetOpaqueRegion};
 ghost use Rattle.wl_surface.specs.Surfaces.{applying, asking, new_surface, with_role};
 
@@ -360,6 +360,16 @@ impl<A: Allocator> Surfaces<A> {
         match self.slots.get(surface) {
             Some(kept) => kept.pending_buffer(),
             None => None,
+        }
+    }
+
+    /// The buffers that a surface has pending, held and applied.
+    pub fn buffers(&self, surface: SurfaceNo) -> [Option<Attached>; 3]
+        ensures { (all : Numbered) → StandForAll self.now all → map (option_map buffer_of) result ≡ had_at (all surface) }
+    {
+        match self.slots.get(surface) {
+            Some(kept) => kept.buffers(),
+            None => [None, None, None],
         }
     }
 
