@@ -38,13 +38,13 @@ pub offset-asked : (rs : List Request) (r : Request) → offset (rs ++ r ∷ [])
 offset-asked rs r = fold-last moving _ rs r
 
 -- what is held stays so without a commit, and what is applied always
-held-kept : (rs : List Request) (r : Request) → is_commit r ≡ false → committed rs ≤ length rs → held_list (rs ++ r ∷ []) ≡ held_list rs
+pub held-kept : (rs : List Request) (r : Request) → is_commit r ≡ false → committed rs ≤ length rs → held_list (rs ++ r ∷ []) ≡ held_list rs
 held-kept rs r e le = ap (λ n. take n (rs ++ r ∷ [])) (committed-kept rs r 0 0 e) ∙ take-append-le (committed rs) rs (r ∷ []) le
 
 pub held-committed : (rs : List Request) → held_list (rs ++ Commit ∷ []) ≡ rs ++ Commit ∷ []
 held-committed rs = let e = committed-last rs in take_all (committed (rs ++ Commit ∷ [])) (rs ++ Commit ∷ []) (omega (arith, e))
 
-applied-kept : (h : History) (r : Request) → h.cut ≤ committed h.requests → committed h.requests ≤ length h.requests → take h.cut (h.requests ++ r ∷ []) ≡ take h.cut h.requests
+pub applied-kept : (h : History) (r : Request) → h.cut ≤ committed h.requests → committed h.requests ≤ length h.requests → take h.cut (h.requests ++ r ∷ []) ≡ take h.cut h.requests
 applied-kept h r le within = take-append-le h.cut h.requests (r ∷ []) (omega (arith, le, within))
 
 -- damage is that of the first requests, and then of the others
