@@ -13,3 +13,4 @@ pub mod OwningKeys
 pub mod OwningNames
 pub mod OwningSurfaces
 pub mod OwningXdg
+pub mod OwningChanges
