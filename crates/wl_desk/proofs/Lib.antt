@@ -14,3 +14,4 @@ pub mod OwningNames
 pub mod OwningSurfaces
 pub mod OwningXdg
 pub mod OwningChanges
+pub mod OwningAsks

@@ -72,7 +72,7 @@ module _ (names : Names) (slots : Slots) (kept : ℕ → Option Kept) (o : Owned
   -- ---- surfaces
 
   -- other numbers of surfaces, by which what is kept of the xdg_surfaces is the same
-  renumbered : (numbers : ById ℕ) (new : Slots) (all : Surfaces) (id : ℕ) (h : Option History) → AreKept numbers new all → xdg_of id o.shell ≡ None → (λ other. history_in other all) ≡ with_history id h (λ other. history_in other o.surfaces)
+  pub renumbered : (numbers : ById ℕ) (new : Slots) (all : Surfaces) (id : ℕ) (h : Option History) → AreKept numbers new all → xdg_of id o.shell ≡ None → (λ other. history_in other all) ≡ with_history id h (λ other. history_in other o.surfaces)
       → by_id numbers kept ≡ by_id names.surfaces kept → ((x : XdgSurface) → names.surfaces x.surface ≢ None → xdg_of x.surface o.shell ≡ Some x → names.surfaces x.surface ≡ numbers x.surface)
       → ((number : ℕ) → is_some (kept number) ≡ true → (id : ℕ) × (numbers id ≡ Some number))
       → IsOwned (record names { surfaces = numbers }) new kept (record o { surfaces = all })
