@@ -14,3 +14,5 @@ pub mod OwningNames
 pub mod OwningSurfaces
 pub mod OwningXdg
 pub mod Letting
+pub mod OwningChanges
+pub mod OwningAsks

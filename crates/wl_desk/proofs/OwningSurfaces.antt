@@ -147,7 +147,7 @@ module _ (numbers : ById ℕ) (slots : Slots) (all : Surfaces) (is : AreKept num
     now = with_id id (Some number) numbers
 
     -- its number was nobody's
-    unnumbered : (other : ℕ) → numbers other ≢ Some number
+    pub unnumbered : (other : ℕ) → numbers other ≢ Some number
     unnumbered other named =
         let there = surface-named other number named in
         none-some there.0 (sym (created (by_number numbers all) id is.stand).0 ∙ surface-read other number named ∙ there.1)

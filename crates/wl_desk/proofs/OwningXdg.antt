@@ -168,15 +168,19 @@ module _ (names : Names) (slots : Slots) (kept : ℕ → Option Kept) (o : Owned
   xdg-unnumbered p e = found-none p o.shell (λ x found. none-some (xdg-found p x found).0 (sym e ∙ ap (number_of names.surfaces) found ∙ (xdg-found p x found).3.surface))
 
   -- by the id of its object
-  pub xdg-named : (id number : ℕ) → names.shell id ≡ Some number → (k : Kept) × (x : XdgSurface) × (h : History) × IsXdg names kept o number k x h × (xdg_at id o.shell ≡ Some x)
-  xdg-named id number named = xdg-numbered (has_xdg id) number (sym (is.named id) ∙ named)
+  pub xdg-named : (id number : ℕ) → names.shell id ≡ Some number → (k : Kept) × (x : XdgSurface) × (h : History) × IsXdg names kept o number k x h × (xdg_at id o.shell ≡ Some x) × (x.id ≡ id)
+  xdg-named id number named =
+      let one = xdg-numbered (has_xdg id) number (sym (is.named id) ∙ named) in
+      (one.0, one.1, one.2, one.3, one.4, eqb-true one.1.id id (found-passes (has_xdg id) o.shell one.1 one.4))
 
   pub xdg-unnamed : (id : ℕ) → names.shell id ≡ None → xdg_at id o.shell ≡ None
   xdg-unnamed id none = xdg-unnumbered (has_xdg id) (sym (is.named id) ∙ none)
 
   -- by the id of its toplevel
-  pub toplevel-named : (id number : ℕ) → names.toplevels id ≡ Some number → (k : Kept) × (x : XdgSurface) × (h : History) × IsXdg names kept o number k x h × (xdg_with id o.shell ≡ Some x)
-  toplevel-named id number named = xdg-numbered (has_role id) number (sym (is.toplevels id) ∙ named)
+  pub toplevel-named : (id number : ℕ) → names.toplevels id ≡ Some number → (k : Kept) × (x : XdgSurface) × (h : History) × IsXdg names kept o number k x h × (xdg_with id o.shell ≡ Some x) × (is_role id x.role ≡ true)
+  toplevel-named id number named =
+      let one = xdg-numbered (has_role id) number (sym (is.toplevels id) ∙ named) in
+      (one.0, one.1, one.2, one.3, one.4, found-passes (has_role id) o.shell one.1 one.4)
 
   pub toplevel-unnamed : (id : ℕ) → names.toplevels id ≡ None → xdg_with id o.shell ≡ None
   toplevel-unnamed id none = xdg-unnumbered (has_role id) (sym (is.toplevels id) ∙ none)
