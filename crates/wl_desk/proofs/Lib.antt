@@ -16,3 +16,4 @@ pub mod OwningXdg
 pub mod Letting
 pub mod OwningChanges
 pub mod OwningAsks
+pub mod Doing

@@ -33,8 +33,9 @@ impl<A: Allocator + Copy> Resident<A> {
     pub(crate) fn damage(&mut self, object: u32, surface: SurfaceNo, rect: Rect)
         ensures { IsSurface self.old object surface → Does (λ r. AskSurface object (DamageAsked rect)) self.old self.new }
     {
-        if self.owned.surfaces.damage(surface, rect).is_err() {
-            self.client.lack_memory();
+        match self.owned.surfaces.damage(surface, rect) {
+            Ok(()) => {}
+            Err(_) => self.client.lack_memory(),
         }
     }
 
@@ -43,8 +44,9 @@ impl<A: Allocator + Copy> Resident<A> {
         ensures { IsSurface self.old object surface → Does (λ r. AskSurface object (SetOpaqueRegion (region_named r region))) self.old self.new }
     {
         let region = self.client.region(region);
-        if self.owned.surfaces.set_opaque(surface, region).is_err() {
-            self.client.lack_memory();
+        match self.owned.surfaces.set_opaque(surface, region) {
+            Ok(()) => {}
+            Err(_) => self.client.lack_memory(),
         }
     }
 
@@ -53,8 +55,9 @@ impl<A: Allocator + Copy> Resident<A> {
         ensures { IsSurface self.old object surface → Does (λ r. AskSurface object (SetInputRegion (region_named r region))) self.old self.new }
     {
         let region = self.client.region(region);
-        if self.owned.surfaces.set_input(surface, region).is_err() {
-            self.client.lack_memory();
+        match self.owned.surfaces.set_input(surface, region) {
+            Ok(()) => {}
+            Err(_) => self.client.lack_memory(),
         }
     }
 
@@ -63,8 +66,9 @@ impl<A: Allocator + Copy> Resident<A> {
         ensures { is_transform transform ≡ true → IsSurface self.old object surface
             → Does (λ r. AskSurface object (SetBufferTransform (unsigned_abs transform))) self.old self.new }
     {
-        if self.owned.surfaces.set_transform(surface, transform).is_err() {
-            self.client.lack_memory();
+        match self.owned.surfaces.set_transform(surface, transform) {
+            Ok(()) => {}
+            Err(_) => self.client.lack_memory(),
         }
     }
 }

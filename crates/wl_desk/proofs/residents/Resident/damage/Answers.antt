@@ -1,20 +1,14 @@
-use Rattle.std.proofs.Common.{rules, ◌≡◌, ℕ, None, Some, true, unsigned_abs, ◌+◌, ◌-◌, ◌*◌, ◌<◌, ◌≤◌, length, ◌/◌, ◌%◌, Bool, false, nat_eq, nat_lt, List, [], ◌∷◌, ◌++◌, slice_index_or, slice_set, bit_and, bit_or, Fits, w8, w32, w64, Bor, MutBor}
-use Rattle.std.specs.Option.{option_map}
-use Rattle.wl_client.specs.Agreement.{IsPeer}
-use Rattle.wl_surface.specs.Kept.{buffer_of, is_transform}
-use Rattle.wl_surface.specs.Request.{Attach}
-use Rattle.wl_surface.specs.Request.{Damage as DamageAsked}
-use Rattle.wl_surface.specs.Request.{SetBufferTransform, SetInputRegion, SetOpaqueRegion}
-use Rattle.wl_desk.specs.Ask.{AskSurface}
-use Rattle.wl_desk.specs.Desktop.{Resident as Plain}
-use Rattle.wl_desk.specs.Residents.{Does, IsSurface}
-use Rattle.wl_desk.specs.WlSurface.{buffer_named, region_named}
+use Rattle.std.proofs.Common.{refl, inl, inr, sym}
+use Rattle.wl_surface.specs.Request.{Damage}
+use Rattle.wl_desk.proofs.Doing.{asked-so, lacked}
 use Rattle.wl_desk.proofs.residents.Resident.damage.Goals as goal
 
--- src/wl_surface.rt:33:5
-pub returns-then-is_err : goal.returns-then-is_err
-returns-then-is_err g c = ?
+pub returns-in-Ok : goal.returns-in-Ok
+returns-in-Ok g c = λ named r is.
+    let done = asked-so _ _ r c.args.object c.args.surface (Damage c.args.rect) is named refl (λ v. refl) (λ g. refl) c.in-Ok.ensures.ok refl refl in
+    (r.peer, inr (sym done.0), done.1)
 
--- src/wl_surface.rt:33:5
-pub returns-else-is_err : goal.returns-else-is_err
-returns-else-is_err g c = ?
+pub returns-in-Err : goal.returns-in-Err
+returns-in-Err g c = λ named r is.
+    let lacks = lacked _ _ r (c.lack_memory.ensures.lacks r.peer is.peer) c.lack_memory.ensures.ended in
+    (lacks.0, inl lacks.1, lacks.2)

@@ -1,0 +1,54 @@
+-- What is asked of a client leads to a client that is stood for.
+use Rattle.std.proofs.Common.{◌≡◌, ℕ, ◌≤◌, ◌+◌, ◌++◌, [], ◌∷◌, Bool, true, false, Option, Some, None, cond, length, refl, ap, sym, subst, ◌∙◌, inl, inr, arith}
+use Rattle.std.specs.Prelude.{is_some}
+use Rattle.std.specs.Option.{option_map}
+use Rattle.wl_geom.specs.declared.rect.Rect.{Rect}
+use Rattle.wl_client.specs.Agreement.{IsPeer}
+use Rattle.wl_client.specs.Peer.{LacksMemory, Peer, Queues}
+use Rattle.wl_surface.specs.Kept.{Changes, Slots, StandForAll, StandsAt, kept_at}
+use Rattle.wl_surface.specs.Kept.{Kept as KeptSurface}
+use Rattle.wl_surface.specs.Request.{Request}
+use Rattle.wl_surface.specs.State.{Values, asked, committed, geometry_asked, is_commit}
+use Rattle.wl_surface.specs.Surfaces.{Surface, asking, surface_at}
+use Rattle.wl_shell.specs.Kept.{Kept as KeptXdg, kept_of}
+use Rattle.wl_scene.specs.declared.owned.Owned.{Owned as Lent}
+use Rattle.wl_desk.specs.declared.residents.Resident.{Resident as Kept}
+use Rattle.wl_desk.specs.Ask.{Ask, AskSurface}
+use Rattle.wl_desk.specs.Desktop.{Resident}
+use Rattle.wl_desk.specs.Owning.{names_in}
+use Rattle.wl_desk.specs.Residents.{ActsFor, Does, IsLeft, IsResident, IsSurface, Owns}
+use Rattle.wl_desk.specs.Step.{after_surface, asked_of, changed_by}
+use Rattle.wl_desk.proofs.Letting.{asked-keeps}
+use Rattle.wl_desk.proofs.OwningAsks.{owned-asked}
+use Rattle.wl_desk.proofs.OwningSurfaces.{surface-named, surface-read}
+
+-- what ended isn't there
+gone : {X : Type 0} (o : Option X) → is_some o ≡ true → o ≡ None → ⊥
+gone None some none = cc
+gone (Some x) some none = cc
+
+-- There was no memory: of a client that ended nothing more is said.
+pub lacked : {A : Type 0} (v : Kept A) (after r : Resident) → (q : Peer) × LacksMemory r.peer q × IsPeer v.client q → is_some v.client.ended ≡ true → (q : Peer) × LacksMemory r.peer q × IsLeft v after q
+lacked v after r lacks ended = (lacks.0, lacks.1, record { peer = lacks.2; owns = λ none. absurd (gone v.client.ended ended none) })
+
+-- the cut of what is kept is within the list
+cut-bounds : (k : Option KeptSurface) (s : Surface) → StandsAt k (Some s) → (s.history.cut ≤ committed s.history.requests) × (committed s.history.requests ≤ length s.history.requests)
+cut-bounds None s stands = absurd stands
+cut-bounds (Some k) s stands = (stands.history.cut_within, stands.history.commits_within)
+
+-- A request of a surface that is no commit, attaches nothing and asks for no window geometry.
+pub asked-so : {A : Type 0} (old new : Kept A) (r : Resident) (id number : ℕ) (request : Request) → IsResident old r → IsSurface old id number → is_commit request ≡ false → ((v : Values) → (asked v request).buffer ≡ v.buffer)
+    → ((g : Option Rect) → geometry_asked g request ≡ g) → Changes old.owned.surfaces new.owned.surfaces number (asking request) → new.client ≡ old.client → kept_of new.owned.shell ≡ kept_of old.owned.shell
+    → ((changed_by (AskSurface id request) r).peer ≡ r.peer) × IsLeft new (changed_by (AskSurface id request) r) r.peer
+asked-so old new r id number request is named plain keeps other changes same shell =
+    let names = names_in old.client.objects in
+    let there = surface-named names.surfaces old.owned.surfaces r.owned.surfaces is.owns.surfaces id number named in
+    let read = surface-read names.surfaces old.owned.surfaces r.owned.surfaces is.owns.surfaces id number named ∙ there.1 in
+    let bounds = cut-bounds (kept_at old.owned.surfaces number) there.0 (subst (λ (o : Option Surface). StandsAt (kept_at old.owned.surfaces number) o) read (is.owns.surfaces.stand number)) in
+    let none = asked-keeps request plain keeps id r there.0 there.1 bounds.0 bounds.1 in (
+      ap (λ (q : Resident). q.peer) none,
+      record {
+        peer = rw same is.peer;
+        owns = λ alive. rw (same, shell) (owned-asked names old.owned.surfaces (kept_of old.owned.shell) r is.owns id number request new.owned.surfaces named other changes);
+      },
+    )
