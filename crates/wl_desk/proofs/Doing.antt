@@ -1,11 +1,14 @@
 -- What is asked of a client leads to a client that is stood for.
-use Rattle.std.proofs.Common.{◌≡◌, ℕ, ◌≤◌, ◌+◌, ◌++◌, [], ◌∷◌, Bool, true, false, Option, Some, None, cond, length, refl, ap, sym, subst, ◌∙◌, inl, inr, arith}
+use Rattle.std.proofs.Common.{◌≡◌, ℕ, List, ◌≤◌, ◌+◌, ◌++◌, [], ◌∷◌, Bool, true, false, Option, Some, None, cond, length, refl, ap, sym, subst, ◌∙◌, inl, inr, arith}
 use Rattle.std.specs.Prelude.{is_some}
 use Rattle.std.specs.Option.{option_map}
 use Rattle.wl_geom.specs.declared.rect.Rect.{Rect}
-use Rattle.wl_client.specs.Agreement.{IsPeer}
+use Rattle.wl_geom.specs.Region.{Area, Change}
+use Rattle.wl_client.specs.Agreement.{IsPeer, IsRegion}
+use Rattle.wl_client.specs.Objects.{held_at}
+use Rattle.wl_client.specs.View.{ClientView}
 use Rattle.wl_client.specs.Peer.{LacksMemory, Peer, Queues}
-use Rattle.wl_surface.specs.Kept.{Changes, Slots, StandForAll, StandsAt, kept_at}
+use Rattle.wl_surface.specs.Kept.{Changes, IsCopied, Slots, StandForAll, StandsAt, kept_at}
 use Rattle.wl_surface.specs.Kept.{Kept as KeptSurface}
 use Rattle.wl_surface.specs.Request.{Request}
 use Rattle.wl_surface.specs.State.{Values, asked, committed, geometry_asked, is_commit}
@@ -52,3 +55,13 @@ asked-so old new r id number request is named plain keeps other changes same she
         owns = λ alive. rw (same, shell) (owned-asked names old.owned.surfaces (kept_of old.owned.shell) r is.owns id number request new.owned.surfaces named other changes);
       },
     )
+
+-- a region that a client has can be copied
+pub copied-of : (area : Option Area) (changes : Option (List Change)) → IsRegion area changes → IsCopied area changes
+copied-of None None is = refl
+copied-of (Some area) (Some changes) is = is
+copied-of None (Some changes) is = absurd is
+copied-of (Some area) None is = absurd is
+
+pub copied-named : (v : ClientView) (p : Peer) (id : ℕ) (area : Option Area) → area ≡ held_at v.regions id → IsPeer v p → IsCopied area (p.regions id)
+copied-named v p id area same is = subst (λ (a : Option Area). IsCopied a (p.regions id)) (sym same) (copied-of (held_at v.regions id) (p.regions id) (is.regions id))
