@@ -15,3 +15,4 @@ pub mod OwningSurfaces
 pub mod OwningXdg
 pub mod OwningChanges
 pub mod OwningAsks
+pub mod OwningReads
