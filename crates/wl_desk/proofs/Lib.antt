@@ -17,3 +17,4 @@ pub mod Letting
 pub mod OwningChanges
 pub mod OwningAsks
 pub mod Doing
+pub mod OwningReads

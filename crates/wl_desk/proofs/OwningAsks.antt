@@ -149,10 +149,10 @@ module _ (names : Names) (slots : Slots) (kept : ℕ → Option Kept) (r : Resid
         let request = SetWindowGeometry rect in
         let all = with_surface_change x.surface (asking request) r.owned.surfaces in
         let stepped : IsOwned names slots (changing number (kept_asking rect) kept) (record { surfaces = all; shell = with_change x.id (λ y. y) r.owned.shell }) =
-            IsOwned-stepped names slots kept r.owned is number k x h one (kept_asking rect) (λ y. y) (one_more request h) slots all itself-keeps
-            (AreKept-changed names.surfaces slots r.owned.surfaces is.surfaces x.surface number one.surface (asking request) (λ s. refl) slots (geometry-asked slots number rect))
-            (histories-to x.surface (asking request) (one_more request) r.owned.surfaces h (λ s. refl) (λ s. refl) one.history)
-            (changes_stand.geometry rect k x h one.stands) in
+        IsOwned-stepped names slots kept r.owned is number k x h one (kept_asking rect) (λ y. y) (one_more request h) slots all itself-keeps
+        (AreKept-changed names.surfaces slots r.owned.surfaces is.surfaces x.surface number one.surface (asking request) (λ s. refl) slots (geometry-asked slots number rect))
+        (histories-to x.surface (asking request) (one_more request) r.owned.surfaces h (λ s. refl) (λ s. refl) one.history)
+        (changes_stand.geometry rect k x h one.stands) in
         subst (λ (ks : ℕ → Option Kept). IsOwned names slots ks (changed_by (AskSurface x.surface request) r).owned) (sym keeps)
         (subst (λ (s : Shell). IsOwned names slots (changing number (kept_asking rect) kept) (record { surfaces = all; shell = s })) (changed-same x.id r.owned.shell) stepped)
 
@@ -206,10 +206,10 @@ module _ (names : Names) (slots : Slots) (kept : ℕ → Option Kept) (r : Resid
         let now = apply (one_more Commit h) in
         let histories = histories-to x.surface commits (λ g. apply (one_more Commit g)) r.owned.surfaces h (λ s. refl) (λ s. refl) one.history in
         let since : asked_so_far x.surface then ≡ length (one_more Commit h).requests =
-            ap (λ (hs : ℕ → Option History). option_map_or (λ (h : History). length h.requests) (hs x.surface) 0) histories
-            ∙ ap (λ b. option_map_or (λ (h : History). length h.requests) (cond b (Some now) (history_in x.surface r.owned.surfaces)) 0) (eq-eqb x.surface x.surface refl) in
+        ap (λ (hs : ℕ → Option History). option_map_or (λ (h : History). length h.requests) (hs x.surface) 0) histories
+        ∙ ap (λ b. option_map_or (λ (h : History). length h.requests) (cond b (Some now) (history_in x.surface r.owned.surfaces)) 0) (eq-eqb x.surface x.surface refl) in
         let stands : Stands (kept_after r.peer.serial act k) (with_effect r.peer.serial (asked_so_far x.surface then) effect x) now =
-            subst (λ n. Stands (kept_after r.peer.serial act k) (with_effect r.peer.serial n effect x) now) (sym since) (changes_stand.commit shows r.peer.serial act k x h answer one.stands) in
+        subst (λ n. Stands (kept_after r.peer.serial act k) (with_effect r.peer.serial n effect x) now) (sym since) (changes_stand.commit shows r.peer.serial act k x h answer one.stands) in
         subst (λ (o : Owned). IsOwned names new (changing number (kept_after r.peer.serial act) kept) o) (sym (effect-owned x.surface effect x then))
         (IsOwned-stepped names slots kept r.owned is number k x h one (kept_after r.peer.serial act) (with_effect r.peer.serial (asked_so_far x.surface then) effect) now new all
         (effect-keeps r.peer.serial (asked_so_far x.surface then) effect)

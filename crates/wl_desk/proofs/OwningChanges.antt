@@ -79,9 +79,9 @@ module _ (names : Names) (slots : Slots) (kept : ℕ → Option Kept) (o : Owned
   renumbered numbers new all id h are none_of histories same reads known = record {
     surfaces = are;
     shell =
-    subst (λ (hs : ℕ → Option History). IsShell (by_id numbers kept) hs o.shell) (sym histories)
-    (subst (λ (ks : ℕ → Option Kept). IsShell ks (with_history id h (λ other. history_in other o.surfaces)) o.shell) (sym same)
-    (shells_stand.other id h (by_id names.surfaces kept) (λ other. history_in other o.surfaces) o.shell is.shell none_of));
+        subst (λ (hs : ℕ → Option History). IsShell (by_id numbers kept) hs o.shell) (sym histories)
+        (subst (λ (ks : ℕ → Option Kept). IsShell ks (with_history id h (λ other. history_in other o.surfaces)) o.shell) (sym same)
+        (shells_stand.other id h (by_id names.surfaces kept) (λ other. history_in other o.surfaces) o.shell is.shell none_of));
     known = known;
     named = λ other. is.named other ∙ same-number names.surfaces numbers (xdg_at other o.shell) (reads-by (has_xdg other));
     toplevels = λ other. is.toplevels other ∙ same-number names.surfaces numbers (xdg_with other o.shell) (reads-by (has_role other));
@@ -208,9 +208,9 @@ module _ (names : Names) (slots : Slots) (kept : ℕ → Option Kept) (o : Owned
       known = known-after change;
       named = named-after step keeps.id keeps.surface;
       toplevels = λ other.
-        is.toplevels other
-        ∙ sym (ap (number_of names.surfaces) (found-map (has_role other) (stepped step) o.shell (stepped-keeps (has_role other) step (keeps.role other)))
-        ∙ number-kept names.surfaces (stepped step) (xdg_with other o.shell) (stepped-keeps (λ z. z.surface) step keeps.surface));
+          is.toplevels other
+          ∙ sym (ap (number_of names.surfaces) (found-map (has_role other) (stepped step) o.shell (stepped-keeps (has_role other) step (keeps.role other)))
+          ∙ number-kept names.surfaces (stepped step) (xdg_with other o.shell) (stepped-keeps (λ z. z.surface) step keeps.surface));
       roles = apart-map has_role (stepped step) o.shell (λ other. stepped-keeps (has_role other) step (keeps.role other)) is.roles;
     }
 
@@ -275,8 +275,8 @@ module _ (names : Names) (slots : Slots) (kept : ℕ → Option Kept) (o : Owned
     IsOwned-unshelled bare = record {
       surfaces = is.surfaces;
       shell =
-      subst (λ (ks : ℕ → Option Kept). IsShell ks (λ other. history_in other o.surfaces) (without_xdg x.id o.shell)) (sym (by_id-with names.surfaces is.surfaces.once x.surface number one.surface None kept))
-      (shells_stand.gone x.surface x (by_id names.surfaces kept) (λ other. history_in other o.surfaces) o.shell is.shell one.of_surface);
+          subst (λ (ks : ℕ → Option Kept). IsShell ks (λ other. history_in other o.surfaces) (without_xdg x.id o.shell)) (sym (by_id-with names.surfaces is.surfaces.once x.surface number one.surface None kept))
+          (shells_stand.gone x.surface x (by_id names.surfaces kept) (λ other. history_in other o.surfaces) o.shell is.shell one.of_surface);
       known = λ other some. known other (other == number) refl some;
       named = λ other. at other (other == x.id) refl;
       toplevels = λ other. is.toplevels other ∙ sym (ap (number_of names.surfaces) (left-elsewhere has_xdg x.id x (has_role other) o.shell apart one.at_id (ap (is_role other) bare)));
@@ -302,9 +302,9 @@ module _ (names : Names) (slots : Slots) (kept : ℕ → Option Kept) (o : Owned
   IsOwned-shelled id base surface number named free unnamed = record {
     surfaces = is.surfaces;
     shell =
-    subst (λ (ks : ℕ → Option Kept). IsShell ks (λ other. history_in other o.surfaces) (with_new_xdg id base surface o.shell)) (sym (by_id-with names.surfaces is.surfaces.once surface number named (Some (first_kept id base)) kept))
-    (shells_stand.made id base surface there.0.history (by_id names.surfaces kept) (λ other. history_in other o.surfaces) o.shell is.shell (ap (option_and_then kept) named ∙ free) none history
-    (cut-within (kept_at slots number) (by_number names.surfaces o.surfaces number) there.0.history (is.surfaces.stand number) (ap (option_map (λ (s : Surface). s.history)) (surface-read names.surfaces slots o.surfaces is.surfaces surface number named) ∙ history)));
+        subst (λ (ks : ℕ → Option Kept). IsShell ks (λ other. history_in other o.surfaces) (with_new_xdg id base surface o.shell)) (sym (by_id-with names.surfaces is.surfaces.once surface number named (Some (first_kept id base)) kept))
+        (shells_stand.made id base surface there.0.history (by_id names.surfaces kept) (λ other. history_in other o.surfaces) o.shell is.shell (ap (option_and_then kept) named ∙ free) none history
+        (cut-within (kept_at slots number) (by_number names.surfaces o.surfaces number) there.0.history (is.surfaces.stand number) (ap (option_map (λ (s : Surface). s.history)) (surface-read names.surfaces slots o.surfaces is.surfaces surface number named) ∙ history)));
     known = λ other some. known other (other == number) refl some;
     named = λ other. at other (other == id) refl;
     toplevels = λ other. is.toplevels other ∙ sym (ap (number_of names.surfaces) (new-elsewhere (has_role other) o.shell (newest id base surface) refl));

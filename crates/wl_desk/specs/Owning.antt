@@ -1,10 +1,13 @@
 -- What is kept of a client's surfaces and xdg_surfaces, under the numbers of the surfaces, and what the client owns, by ids.
-use Rattle.std.specs.Prelude.{ℕ, ◌≡◌, ◌==◌, Bool, true, false, if◌then◌else◌, is_some, Option, Some, None, List, [], ◌∷◌, find, length}
-use Rattle.std.specs.Option.{option_and_then}
+use Rattle.std.specs.Prelude.{ℕ, ◌≡◌, ◌==◌, Bool, true, false, if◌then◌else◌, is_some, Option, Some, None, Result, Ok, Err, List, [], ◌∷◌, find, length}
+use Rattle.std.specs.Option.{option_and_then, option_map_or}
 use Rattle.wl_proto.specs.declared.interface.Interface.{Interface}
 use Rattle.wl_proto.specs.declared.interface.Interface.TheVariants.{WlSurface, XdgSurface, XdgToplevel}
 use Rattle.wl_table.specs.Objects.{Held, entry_of}
 use Rattle.wl_table.specs.declared.entry.Entry.{Entry}
+use Rattle.wl_client.specs.declared.refusals.ErrorCode.TheVariants as error
+use Rattle.wl_client.specs.declared.refusals.Refusal.{Refusal}
+use Rattle.wl_client.specs.Told.{display_error}
 use Rattle.wl_client.specs.Objects.{ById, interface_number, with_id}
 use Rattle.wl_surface.specs.Kept.{Numbered, Slots, StandForAll}
 use Rattle.wl_surface.specs.Kept.{count as count_kept}
@@ -12,8 +15,13 @@ use Rattle.wl_surface.specs.State.{History}
 use Rattle.wl_surface.specs.Surfaces.{Surfaces, history_in, surface_at}
 use Rattle.wl_shell.specs.Agreement.{IsShell}
 use Rattle.wl_shell.specs.Kept.{Kept, Stands}
-use Rattle.wl_shell.specs.Shell.{XdgSurface as Xdg, is_role, xdg_at, xdg_of, xdg_with}
+use Rattle.wl_shell.specs.declared.acts.ShellAct.{ShellAct}
+use Rattle.wl_shell.specs.declared.acts.ShellAct.TheVariants as act
+use Rattle.wl_shell.specs.declared.error.ShellError.{ShellError}
+use Rattle.wl_shell.specs.declared.error.ShellError.TheVariants as failed
+use Rattle.wl_shell.specs.Shell.{Effect, Stays, Configures, Maps, Unmaps, XdgSurface as Xdg, is_role, xdg_at, xdg_of, xdg_with}
 use Rattle.wl_scene.specs.Stacking.{Owned}
+use Rattle.wl_desk.specs.Ask.{Ask, ConfigureAgain, Ignore}
 use Rattle.wl_desk.specs.Step.{is_number}
 
 -- what an object stands for among those of this interface, if it is one
@@ -98,3 +106,49 @@ pub record KeepsRole (step : Xdg → Xdg) : Type 0 where
   pub id : (x : Xdg) → (step x).id ≡ x.id
   pub surface : (x : Xdg) → (step x).surface ≡ x.surface
   pub role : (object : ℕ) (x : Xdg) → is_role object (step x).role ≡ is_role object x.role
+
+-- ---- what is asked, by what the shell answers
+
+-- An error of the shell's with its object: the xdg_wm_base, the xdg_surface, wl_display, or else the object that was asked (xdg-shell.xml).
+abbrev pub shell_refusal : ℕ → ℕ → ℕ → ShellError → Refusal
+shell_refusal base xdg object failed.Role = record { object = base; code = error.Role }
+shell_refusal base xdg object failed.DefunctSurfaces = record { object = base; code = error.DefunctSurfaces }
+shell_refusal base xdg object failed.NotTheTopmostPopup = record { object = base; code = error.NotTheTopmostPopup }
+shell_refusal base xdg object failed.InvalidPopupParent = record { object = base; code = error.InvalidPopupParent }
+shell_refusal base xdg object failed.InvalidSurfaceState = record { object = base; code = error.InvalidSurfaceState }
+shell_refusal base xdg object failed.InvalidPositioner = record { object = base; code = error.InvalidPositioner }
+shell_refusal base xdg object failed.NotConstructed = record { object = xdg; code = error.NotConstructed }
+shell_refusal base xdg object failed.AlreadyConstructed = record { object = xdg; code = error.AlreadyConstructed }
+shell_refusal base xdg object failed.UnconfiguredBuffer = record { object = xdg; code = error.UnconfiguredBuffer }
+shell_refusal base xdg object failed.InvalidSerial = record { object = xdg; code = error.InvalidSerial }
+shell_refusal base xdg object failed.InvalidSize = record { object = xdg; code = error.InvalidSize }
+shell_refusal base xdg object failed.DefunctRoleObject = record { object = xdg; code = error.DefunctRoleObject }
+shell_refusal base xdg object failed.InvalidGrab = record { object = object; code = error.InvalidGrab }
+shell_refusal base xdg object failed.InvalidInput = record { object = object; code = error.InvalidInput }
+shell_refusal base xdg object failed.TooMany = display_error error.Implementation
+shell_refusal base xdg object failed.Memory = display_error error.NoMemory
+
+-- what an answer leads to
+abbrev pub asks_by : {X : Type 0} → (X → Ask) → (ShellError → Refusal) → Result X ShellError → Result Ask Refusal
+asks_by ask refusal (Ok x) = Ok (ask x)
+asks_by ask refusal (Err e) = Err (refusal e)
+
+-- the same where only an error is told
+abbrev pub asks_unless : Ask → (ShellError → Refusal) → Option ShellError → Result Ask Refusal
+asks_unless ask refusal None = Ok ask
+asks_unless ask refusal (Some e) = Err (refusal e)
+
+-- what a commit came to
+abbrev pub effect_by : ShellAct → Effect
+effect_by (act.Configure placed) = Configures
+effect_by act.Map = Maps
+effect_by act.Unmap = Unmaps
+effect_by act.Nothing = Stays
+
+abbrev pub configuring_if : Bool → ℕ → Ask
+configuring_if true xdg = ConfigureAgain xdg
+configuring_if false xdg = Ignore
+
+-- the id of an xdg_surface that is kept
+abbrev pub kept_id : Option Kept → ℕ
+kept_id k = option_map_or (λ k. k.id) k 0
