@@ -5,20 +5,22 @@ use Rattle.std.specs.Option.{option_map}
 use Rattle.wl_geom.specs.declared.rect.Rect.{Rect}
 use Rattle.wl_geom.specs.Region.{Area, Change}
 use Rattle.wl_client.specs.Agreement.{IsPeer, IsRegion}
-use Rattle.wl_client.specs.Objects.{held_at}
+use Rattle.wl_client.specs.Objects.{ById, held_at}
+use Rattle.wl_store.specs.Stores.{Stock}
+use Rattle.wl_client.proofs.Peers.{IsPeer-stores}
 use Rattle.wl_client.specs.View.{ClientView}
 use Rattle.wl_client.specs.Peer.{LacksMemory, Peer, Queues}
 use Rattle.wl_surface.specs.Kept.{Changes, IsCopied, Slots, StandForAll, StandsAt, kept_at}
 use Rattle.wl_surface.specs.Kept.{Kept as KeptSurface}
 use Rattle.wl_surface.specs.Request.{Request}
 use Rattle.wl_surface.specs.State.{Values, asked, committed, geometry_asked, is_commit}
-use Rattle.wl_surface.specs.Surfaces.{Surface, asking, surface_at}
+use Rattle.wl_surface.specs.Surfaces.{Surface, Surfaces, asking, surface_at}
 use Rattle.wl_shell.specs.Kept.{Kept as KeptXdg, kept_of}
 use Rattle.wl_scene.specs.declared.owned.Owned.{Owned as Lent}
 use Rattle.wl_desk.specs.declared.residents.Resident.{Resident as Kept}
 use Rattle.wl_desk.specs.Ask.{Ask, AskSurface}
 use Rattle.wl_desk.specs.Desktop.{Resident}
-use Rattle.wl_desk.specs.Owning.{names_in}
+use Rattle.wl_desk.specs.Owning.{AreKept, names_in}
 use Rattle.wl_desk.specs.Residents.{ActsFor, Does, IsLeft, IsResident, IsSurface, Owns}
 use Rattle.wl_desk.specs.Step.{after_surface, asked_of, changed_by}
 use Rattle.wl_desk.proofs.Letting.{asked-keeps}
@@ -65,3 +67,13 @@ copied-of (Some area) None is = absurd is
 
 pub copied-named : (v : ClientView) (p : Peer) (id : ℕ) (area : Option Area) → area ≡ held_at v.regions id → IsPeer v p → IsCopied area (p.regions id)
 copied-named v p id area same is = subst (λ (a : Option Area). IsCopied a (p.regions id)) (sym same) (copied-of (held_at v.regions id) (p.regions id) (is.regions id))
+
+-- its store went, or not
+pub one-let : (v w : ClientView) (r : Resident) (change : Stock → Stock) → IsPeer v r.peer → w ≡ record v { stores = w.stores } → w.stores ≡ change v.stores → IsPeer w (record r.peer { stores = change r.peer.stores })
+one-let v w r change is only stores = subst (λ (x : ClientView). IsPeer x (record r.peer { stores = change r.peer.stores })) (sym only) (IsPeer-stores v r.peer change w.stores stores is)
+
+pub kept-there : {A : Type 0} (v w : Lent A) (numbers : ById ℕ) (all : Surfaces) → w ≡ v → AreKept numbers v.surfaces all → AreKept numbers w.surfaces all
+kept-there v w numbers all same kept = rw same kept
+
+pub only-stores : (v w x : ClientView) → w ≡ record v { stores = w.stores } → x ≡ record w { stores = x.stores } → x ≡ record v { stores = x.stores }
+only-stores v w x first second = second ∙ ap (λ (y : ClientView). record y { stores = x.stores }) first

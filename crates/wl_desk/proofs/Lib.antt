@@ -18,3 +18,4 @@ pub mod OwningChanges
 pub mod OwningAsks
 pub mod Doing
 pub mod OwningReads
+pub mod Releases

@@ -5,6 +5,7 @@ pub mod Marks
 pub mod Moments
 pub mod Owning
 pub mod Plain
+pub mod Releases
 pub mod Residents
 pub mod Scratch
 pub mod Step
