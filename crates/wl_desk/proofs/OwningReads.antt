@@ -1,18 +1,21 @@
 -- What is read of what is kept of a client is what the plain desktop asks.
-use Rattle.std.proofs.Common.{◌≡◌, ◌≢◌, ℕ, [], ◌∷◌, Bool, true, false, Option, Some, None, Result, cond, length, refl, ap, sym, subst, ◌∙◌, eq-eqb}
-use Rattle.std.specs.Prelude.{◌==◌, ◌&&◌, ◌||◌, int_lt, pos, IfSome, IsSomeAnd, Ok, Err, is_some, nat_le, if◌then◌else◌}
+use Rattle.std.proofs.Common.{◌≡◌, ◌≢◌, ℕ, ◌+◌, List, [], ◌∷◌, Bool, true, false, Option, Some, None, Result, cond, length, refl, ap, sym, subst, ◌∙◌, eq-eqb}
+use Rattle.std.specs.Prelude.{◌==◌, ◌&&◌, ◌||◌, int_lt, pos, IfSome, IsSomeAnd, Ok, Err, count_by, is_some, nat_le, not, if◌then◌else◌}
 use Rattle.std.specs.List.{list_any}
 use Rattle.std.specs.Option.{option_and_then, option_map, option_map_or}
+use Rattle.std.proofs.Math.Path.{fun_ext}
 use Rattle.wl_geom.specs.declared.rect.Rect.{Rect}
 use Rattle.wl_client.specs.declared.refusals.ErrorCode.TheVariants as error
 use Rattle.wl_client.specs.declared.refusals.Refusal.{Refusal}
+use Rattle.wl_client.specs.Objects.{with_id}
 use Rattle.wl_surface.specs.declared.content.Attached.{Attached}
 use Rattle.wl_surface.specs.declared.role.Role.{Role}
-use Rattle.wl_surface.specs.Kept.{IsAny, Numbered, Slots, StandForAll, buffer_of, content_at, has_at, pending_at, role_at, shows_at}
+use Rattle.wl_surface.specs.Kept.{Changes, IsAny, Numbered, Slots, StandForAll, buffer_of, changed_at, content_at, has_at, kept_at, one_if_kept, pending_at, role_at, shows_at, with_at}
+use Rattle.wl_surface.specs.Applied.{AreFreed}
 use Rattle.wl_surface.specs.Kept.{count as count_kept}
 use Rattle.wl_surface.specs.Request.{Buffer, SetWindowGeometry}
 use Rattle.wl_surface.specs.State.{History, pending}
-use Rattle.wl_surface.specs.Surfaces.{Surface, has_content, history_in, is_busy, is_there, is_used, surface_at}
+use Rattle.wl_surface.specs.Surfaces.{Surface, has_content, history_in, is_busy, is_there, is_used, surface_at, with_change, without_surface}
 use Rattle.wl_shell.specs.declared.error.ShellError.{ShellError}
 use Rattle.wl_shell.specs.declared.error.ShellError.TheVariants as failed
 use Rattle.wl_shell.specs.declared.stage.Stage.{Stage}
@@ -24,7 +27,7 @@ use Rattle.wl_desk.specs.Desktop.{Resident}
 use Rattle.wl_desk.specs.Owning.{AreKept, IsOwned, IsXdg, Names, asks_by, asks_unless, by_id, by_number, configuring_if, effect_by, kept_id, shell_refusal}
 use Rattle.wl_desk.specs.WlSurface.{committed_for, effect_for, effect_of, refuse, refuse_limit, surface_committed, surface_created, surface_destroyed, waits_for_all, will_show, xdg_id}
 use Rattle.wl_desk.specs.XdgShell.{acknowledged_by, base_destroyed, configured_again, geometry_set, has_any, is_foreign, is_no_toplevel, role_of, toplevel_made, xdg_surface_destroyed, xdg_surface_made}
-use Rattle.wl_desk.proofs.OwningSurfaces.{busy-read, surface-read, used-read}
+use Rattle.wl_desk.proofs.OwningSurfaces.{AreKept-changed, AreKept-left, busy-is, busy-read, surfaces-changed, surfaces-left, surface-read, used-read}
 use Rattle.wl_desk.proofs.OwningXdg.{xdg-of, xdg-of-none, xdg-there}
 
 there-mapped : {X : Type 0} (f : X → Buffer) (o : Option X) → is_there (option_map f o) ≡ is_some o
@@ -65,6 +68,29 @@ module _ (names : Names) (slots : Slots) (kept : ℕ → Option Kept) (r : Resid
 
   pub busy : (buffer : ℕ) (result : Bool) → ((all : Numbered) → StandForAll slots all → IsAny (shows_at buffer) all result) → is_busy buffer r.owned.surfaces ≡ result
   busy buffer result told = busy-read names.surfaces slots r.owned.surfaces is.surfaces buffer result (told (by_number names.surfaces r.owned.surfaces) is.surfaces.stand)
+
+  -- what stops being busy by a change of a surface, or as it goes, is freed once
+  pub freed-changed : (id number : ℕ) (change : Surface → Surface) (new : Slots) (freed : List ℕ) → names.surfaces id ≡ Some number → ((s : Surface) → (change s).id ≡ s.id) → Changes slots new number change
+      → ((all : Numbered) → StandForAll slots all → AreFreed freed all (changed_at number change all))
+      → (buffer : ℕ) → count_by (λ n. n == buffer) freed ≡ cond (is_busy buffer r.owned.surfaces && not (is_busy buffer (with_change id change r.owned.surfaces))) 1 0
+  freed-changed id number change new freed named keeps changes told buffer =
+      let after = with_change id change r.owned.surfaces in
+      let now = AreKept-changed names.surfaces slots r.owned.surfaces is.surfaces id number named change keeps new changes in
+      told (by_number names.surfaces r.owned.surfaces) is.surfaces.stand buffer (is_busy buffer r.owned.surfaces) (is_busy buffer after)
+      (busy-is names.surfaces slots r.owned.surfaces is.surfaces buffer)
+      (subst (λ (all : Numbered). IsAny (shows_at buffer) all (is_busy buffer after)) (fun_ext (surfaces-changed names.surfaces slots r.owned.surfaces is.surfaces id number named change keeps))
+      (busy-is names.surfaces new after now buffer))
+
+  pub freed-left : (id number : ℕ) (new : Slots) (freed : List ℕ) → names.surfaces id ≡ Some number → ((all : Numbered) → StandForAll slots all → StandForAll new (with_at number None all)) → count_kept new + one_if_kept (kept_at slots number) ≡ count_kept slots
+      → ((all : Numbered) → StandForAll slots all → AreFreed freed all (with_at number None all))
+      → (buffer : ℕ) → count_by (λ n. n == buffer) freed ≡ cond (is_busy buffer r.owned.surfaces && not (is_busy buffer (without_surface id r.owned.surfaces))) 1 0
+  freed-left id number new freed named left counted told buffer =
+      let after = without_surface id r.owned.surfaces in
+      let now = AreKept-left names.surfaces slots r.owned.surfaces is.surfaces id number named new left counted in
+      told (by_number names.surfaces r.owned.surfaces) is.surfaces.stand buffer (is_busy buffer r.owned.surfaces) (is_busy buffer after)
+      (busy-is names.surfaces slots r.owned.surfaces is.surfaces buffer)
+      (subst (λ (all : Numbered). IsAny (shows_at buffer) all (is_busy buffer after)) (fun_ext (surfaces-left names.surfaces slots r.owned.surfaces is.surfaces id number named new))
+      (busy-is (with_id id None names.surfaces) new after now buffer))
 
   pub created-by : (id version : ℕ) → surface_created r id version ≡ (if nat_le 256 (count_kept slots) then refuse_limit else Ok (CreateSurface id version))
   created-by id version = ap (λ n. if nat_le 256 n then refuse_limit else Ok (CreateSurface id version)) (sym is.surfaces.count)

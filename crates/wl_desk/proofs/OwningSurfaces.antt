@@ -103,6 +103,25 @@ module _ (numbers : ById ℕ) (slots : Slots) (all : Surfaces) (is : AreKept num
   pub busy-read : (buffer : ℕ) (b : Bool) → IsAny (shows_at buffer) (by_number numbers all) b → is_busy buffer all ≡ b
   busy-read buffer b any = any-read (λ s. shows buffer s.history) (shows_at buffer) b refl (λ s. refl) any
 
+  -- whether one of them has it is so of what is kept
+  pub any-is : (property : Surface → Bool) (at : Option Surface → Bool) → at None ≡ false → ((s : Surface) → at (Some s) ≡ property s) → IsAny at (by_number numbers all) (list_any property all.surfaces)
+  any-is property at none some = either (list_any property all.surfaces) refl
+    where
+      either : (b : Bool) → list_any property all.surfaces ≡ b → IsAny at (by_number numbers all) b
+      either true e =
+          let one = any-found has_id property all.surfaces is.apart e in
+          let found = one.2 one.0.id (eq-eqb one.0.id one.0.id refl) in
+          let there = is-there (numbers one.0.id) (is.numbered one.0.id ∙ ap is_some found) in
+          (there.0, ap at (surface-read one.0.id there.0 there.1 ∙ found) ∙ some one.0 ∙ one.1)
+      either false e = λ number. lacks number (by_number numbers all number) refl
+        where
+          lacks : (number : ℕ) (o : Option Surface) → by_number numbers all number ≡ o → at o ≡ false
+          lacks number None found = none
+          lacks number (Some s) found = some s ∙ false_from_ne_true (property s) (λ has. differ (sym (found-any (has_number numbers number) property all.surfaces s found has) ∙ e))
+
+  pub busy-is : (buffer : ℕ) → IsAny (shows_at buffer) (by_number numbers all) (is_busy buffer all)
+  busy-is buffer = any-is (λ s. shows buffer s.history) (shows_at buffer) refl (λ s. refl)
+
   -- ---- one changes
 
   module _ (id number : ℕ) (named : numbers id ≡ Some number) (change : Surface → Surface) (keeps : (s : Surface) → (change s).id ≡ s.id) where
