@@ -1,5 +1,5 @@
 -- What each thing that is asked changes of what a client owns, and of what is kept of it.
-use Rattle.std.proofs.Common.{◌≡◌, ℕ, ◌+◌, ◌++◌, List, [], ◌∷◌, Bool, true, false, Option, Some, None, cond, length, map, refl, ap, sym, subst, ◌∙◌, eq-eqb}
+use Rattle.std.proofs.Common.{◌≡◌, ℕ, ◌+◌, List, [], ◌∷◌, Bool, true, false, Option, Some, None, cond, length, refl, ap, sym, subst, ◌∙◌, eq-eqb}
 use Rattle.std.specs.Prelude.{◌==◌, Ok, Result}
 use Rattle.std.specs.Option.{option_map, option_map_or}
 use Rattle.wl_geom.specs.declared.rect.Rect.{Rect}
@@ -8,14 +8,14 @@ use Rattle.wl_client.specs.declared.actions.Action.TheVariants.{CreateBuffer, De
 use Rattle.wl_surface.specs.Kept.{Changes, Numbered, Slots, StandForAll, kept_at, nobody, one_if_kept, with_at}
 use Rattle.wl_surface.specs.Kept.{count as count_kept}
 use Rattle.wl_surface.specs.Request.{Request, Commit, SetWindowGeometry}
-use Rattle.wl_surface.specs.State.{History, apply, geometry_asked}
+use Rattle.wl_surface.specs.State.{History, apply, geometry_asked, is_commit}
 use Rattle.wl_surface.specs.Surfaces.{Surface, Surfaces, applying, asking, history_in, new_surface, surface_at, with_role}
 use Rattle.wl_surface.specs.Surfaces.{with_change as with_surface_change}
 use Rattle.wl_surface.specs.declared.role.Role.TheVariants.{Toplevel as AsToplevel}
 use Rattle.wl_shell.specs.Agreement.{with_history}
 use Rattle.wl_shell.specs.Kept.{Kept, Stands, changing, commit_answer, effect_answer, first_kept, kept_acknowledging, kept_after, kept_asking, kept_configuring, kept_of, kept_toplevel, kept_without_role, stage_in, with_kept}
 use Rattle.wl_shell.specs.Laws.{one_more}
-use Rattle.wl_shell.specs.Shell.{Effect, Stays, Unconfigured, Configures, Maps, Unmaps, Fresh, Waiting, Mapped, RoleObject, Shell, XdgSurface, acknowledging, at_stage, configuring, in_stage, is_full, is_role, new_toplevel, on_commit, role_acknowledged, stage_of, unmapping, with_change, with_effect, without_role, xdg_at, xdg_of}
+use Rattle.wl_shell.specs.Shell.{Effect, Stays, Unconfigured, Configures, Maps, Unmaps, Fresh, Waiting, Mapped, RoleObject, Shell, XdgSurface, acknowledging, at_stage, configuring, in_stage, is_full, is_role, new_toplevel, on_commit, role_acknowledged, stage_of, with_change, with_effect, without_role, xdg_of}
 use Rattle.wl_shell.specs.declared.acts.ShellAct.{ShellAct}
 use Rattle.wl_shell.specs.declared.acts.ShellAct.TheVariants.{Configure, Map, Unmap, Nothing}
 use Rattle.wl_shell.specs.declared.error.ShellError.{ShellError}
@@ -25,10 +25,10 @@ use Rattle.wl_scene.specs.Stacking.{Owned, nothing_owned}
 use Rattle.wl_desk.specs.Ask.{Own, CreateSurface, DestroySurface, AskSurface, CommitSurface, GetXdgSurface, DestroyXdgSurface, GetToplevel, Acknowledge, ConfigureAgain, DestroyToplevel}
 use Rattle.wl_desk.specs.Desktop.{Resident}
 use Rattle.wl_desk.specs.Owning.{IsOwned, IsXdg, KeepsRole, Names, effect_by, names_in, with_surface, with_toplevel, with_xdg}
-use Rattle.wl_desk.specs.Step.{after_surface, asked_so_far, changed_by, committed_on, effect_on, own_changed, toplevel_given}
+use Rattle.wl_desk.specs.Step.{after_surface, asked_so_far, changed_by, committed_on, effect_on, toplevel_given}
 use Rattle.wl_desk.specs.WlSurface.{effect_for}
 use Rattle.wl_desk.proofs.OwningChanges.{IsOwned-history, IsOwned-left, IsOwned-made, IsOwned-shelled, IsOwned-stepped, IsOwned-toplevel, IsOwned-unshelled, IsOwned-untoplevel, changing-none, renumbered}
-use Rattle.wl_desk.proofs.OwningSurfaces.{AreKept-changed, geometry-asked, surface-named}
+use Rattle.wl_desk.proofs.OwningSurfaces.{AreKept-changed, counts-asking, geometry-asked, surface-named}
 use Rattle.wl_desk.proofs.OwningXdg.{histories-changed, histories-same, xdg-of, xdg-of-none}
 
 -- ---- histories of a surface that changes
@@ -122,12 +122,12 @@ module _ (names : Names) (slots : Slots) (kept : ℕ → Option Kept) (r : Resid
       (one.0.history, ap (option_map (λ (s : Surface). s.history)) one.1)
 
   -- of a surface all but a window geometry
-  pub owned-asked : (id number : ℕ) (request : Request) (new : Slots) → names.surfaces id ≡ Some number → ((asked : Option Rect) → geometry_asked asked request ≡ asked) → Changes slots new number (asking request)
+  pub owned-asked : (id number : ℕ) (request : Request) (new : Slots) → names.surfaces id ≡ Some number → is_commit request ≡ false → ((asked : Option Rect) → geometry_asked asked request ≡ asked) → Changes slots new number (asking request)
       → IsOwned names new kept (changed_by (AskSurface id request) r).owned
-  owned-asked id number request new named other changes =
+  owned-asked id number request new named plain other changes =
       let one = there id number named in
       IsOwned-history names slots kept r.owned is id one.0 (one_more request one.0) new (with_surface_change id (asking request) r.owned.surfaces)
-      (AreKept-changed names.surfaces slots r.owned.surfaces is.surfaces id number named (asking request) (λ s. refl) new changes)
+      (AreKept-changed names.surfaces slots r.owned.surfaces is.surfaces id number named (asking request) (λ s. refl) new (counts-asking request plain) changes)
       one.1
       (histories-to id (asking request) (one_more request) r.owned.surfaces one.0 (λ s. refl) (λ s. refl) one.1)
       (λ k x stands. changes_stand.other request k x one.0 other stands)
@@ -152,7 +152,7 @@ module _ (names : Names) (slots : Slots) (kept : ℕ → Option Kept) (r : Resid
         let all = with_surface_change x.surface (asking request) r.owned.surfaces in
         let stepped : IsOwned names slots (changing number (kept_asking rect) kept) (record { surfaces = all; shell = with_change x.id (λ y. y) r.owned.shell }) =
         IsOwned-stepped names slots kept r.owned is number k x h one (kept_asking rect) (λ y. y) (one_more request h) slots all itself-keeps
-        (AreKept-changed names.surfaces slots r.owned.surfaces is.surfaces x.surface number one.surface (asking request) (λ s. refl) slots (geometry-asked slots number rect))
+        (AreKept-changed names.surfaces slots r.owned.surfaces is.surfaces x.surface number one.surface (asking request) (λ s. refl) slots (counts-asking request refl) (geometry-asked slots number rect))
         (histories-to x.surface (asking request) (one_more request) r.owned.surfaces h (λ s. refl) (λ s. refl) one.history)
         (changes_stand.geometry rect k x h one.stands) in
         subst (λ (ks : ℕ → Option Kept). IsOwned names slots ks (changed_by (AskSurface x.surface request) r).owned) (sym keeps)
@@ -175,7 +175,7 @@ module _ (names : Names) (slots : Slots) (kept : ℕ → Option Kept) (r : Resid
         (subst (λ (ks : ℕ → Option Kept). IsOwned (with_toplevel id (Some number) names) new ks (changed_by (GetToplevel id version x.id) r).owned) (sym keeps)
         (subst (λ (o : Option XdgSurface). IsOwned (with_toplevel id (Some number) names) new (changing number (kept_toplevel id) kept) (toplevel_given id x.id o r).owned) (sym one.at_id)
         (IsOwned-toplevel names slots kept r.owned is number k x h one id (kept_toplevel id) step (record { id = id; kind = _; stage = Fresh }) h new all (λ y. refl) (λ y. refl) bare refl refl free
-        (AreKept-changed names.surfaces slots r.owned.surfaces is.surfaces x.surface number one.surface (with_role AsToplevel) (λ s. refl) new changes)
+        (AreKept-changed names.surfaces slots r.owned.surfaces is.surfaces x.surface number one.surface (with_role AsToplevel) (λ s. refl) new (λ s counts. counts) changes)
         (histories-to x.surface (with_role AsToplevel) (λ g. g) r.owned.surfaces h (λ s. refl) (λ s. refl) one.history)
         stands)))
 
@@ -215,7 +215,7 @@ module _ (names : Names) (slots : Slots) (kept : ℕ → Option Kept) (r : Resid
         subst (λ (o : Owned). IsOwned names new (changing number (kept_after r.peer.serial act) kept) o) (sym (effect-owned x.surface effect x then))
         (IsOwned-stepped names slots kept r.owned is number k x h one (kept_after r.peer.serial act) (with_effect r.peer.serial (asked_so_far x.surface then) effect) now new all
         (effect-keeps r.peer.serial (asked_so_far x.surface then) effect)
-        (AreKept-changed names.surfaces slots r.owned.surfaces is.surfaces x.surface number one.surface commits (λ s. refl) new changes)
+        (AreKept-changed names.surfaces slots r.owned.surfaces is.surfaces x.surface number one.surface commits (λ s. refl) new (λ s counts. refl) changes)
         histories stands)
 
   pub owned-committed : (id number : ℕ) (shows : Bool) (act : ShellAct) (new : Slots) (after : ℕ → Option Kept) → names.surfaces id ≡ Some number → Changes slots new number (λ s. applying (asking Commit s))
@@ -234,7 +234,7 @@ module _ (names : Names) (slots : Slots) (kept : ℕ → Option Kept) (r : Resid
           subst (λ (o : Option XdgSurface). IsOwned names new (changing number (kept_after r.peer.serial act) kept) (effect_on id (effect_for shows o) o (after_surface id r (committed_on id r))).owned) (sym none)
           (subst (λ (ks : ℕ → Option Kept). IsOwned names new ks (record r.owned { surfaces = with_surface_change id commits r.owned.surfaces })) (sym (changing-none number (kept_after r.peer.serial act) kept here))
           (renumbered names slots kept r.owned is names.surfaces new (with_surface_change id commits r.owned.surfaces) id (Some (apply (one_more Commit history.0)))
-          (AreKept-changed names.surfaces slots r.owned.surfaces is.surfaces id number named commits (λ s. refl) new changes)
+          (AreKept-changed names.surfaces slots r.owned.surfaces is.surfaces id number named commits (λ s. refl) new (λ s counts. refl) changes)
           none
           (histories-to id commits (λ g. apply (one_more Commit g)) r.owned.surfaces history.0 (λ s. refl) (λ s. refl) history.1)
           refl (λ x some found. refl) is.known))
@@ -278,6 +278,7 @@ owned-nothing slots stand counted = record {
     numbered = λ id. refl;
     once = λ a b number named other. absurd (cc);
     apart = tt;
+    counts = λ id h there. absurd (cc);
     stand = stand;
     count = counted;
   };
