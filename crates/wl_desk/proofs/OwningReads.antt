@@ -1,5 +1,5 @@
 -- What is read of what is kept of a client is what the plain desktop asks.
-use Rattle.std.proofs.Common.{◌≡◌, ◌≢◌, ℕ, ◌+◌, List, [], ◌∷◌, ◌++◌, take, Bool, true, false, Option, Some, None, cond, refl, ap, sym, subst, ◌∙◌, eq-eqb}
+use Rattle.std.proofs.Common.{◌≡◌, ◌≢◌, ℕ, ◌+◌, List, [], ◌∷◌, ◌++◌, take, Bool, true, false, Option, Some, None, Result, cond, refl, ap, sym, subst, ◌∙◌, eq-eqb}
 use Rattle.std.specs.Prelude.{◌==◌, ◌&&◌, ◌||◌, int_lt, pos, IfSome, IsSomeAnd, Ok, Err, count_by, is_some, nat_le, not, if◌then◌else◌}
 use Rattle.std.specs.List.{list_any}
 use Rattle.std.specs.Option.{option_and_then, option_map, option_map_or}
@@ -10,6 +10,7 @@ use Rattle.wl_client.specs.declared.refusals.Refusal.{Refusal}
 use Rattle.wl_client.specs.Objects.{with_id}
 use Rattle.wl_surface.specs.declared.content.Attached.{Attached}
 use Rattle.wl_surface.specs.declared.role.Role.{Role}
+use Rattle.wl_surface.specs.declared.role.Role.TheVariants.{Toplevel as AsToplevel, Popup as AsPopup, Subsurface as AsSubsurface, Cursor as AsCursor}
 use Rattle.wl_surface.specs.declared.surface.Current.{Current}
 use Rattle.wl_surface.specs.Kept.{Changes, IsAny, IsCurrentAt, Numbered, Slots, StandForAll, buffer_of, changed_at, content_at, has_at, kept_at, one_if_kept, pending_at, role_at, shows_at, with_at}
 use Rattle.wl_surface.specs.Applied.{AreFreed}
@@ -26,9 +27,10 @@ use Rattle.wl_shell.proofs.Shells.{shells_stand}
 use Rattle.wl_desk.specs.Ask.{CreateSurface, DestroySurface, AskSurface, CommitSurface, DestroyBase, GetXdgSurface, DestroyXdgSurface, GetToplevel, Acknowledge, ConfigureAgain, Ignore}
 use Rattle.wl_desk.specs.Desktop.{Resident}
 use Rattle.wl_desk.specs.Owning.{AllCounts, IsOwned, IsXdg, Names, asks_by, asks_unless, by_id, by_number, configuring_if, effect_by, kept_id, shell_refusal}
-use Rattle.wl_desk.specs.Step.{buffers_had, each_once, without_buffer}
+use Rattle.wl_desk.specs.Step.{buffers_had, configures_told, each_once, role_configured, without_buffer}
 use Rattle.wl_desk.specs.WlSurface.{committed_for, effect_for, effect_of, refuse, refuse_limit, surface_committed, surface_created, surface_destroyed, will_show}
 use Rattle.wl_desk.specs.XdgShell.{acknowledged_by, base_destroyed, configured_again, geometry_set, has_any, is_foreign, is_no_toplevel, role_of, toplevel_made, xdg_surface_destroyed, xdg_surface_made}
+use Rattle.wl_desk.proofs.OwningKeys.{none-some, some-same}
 use Rattle.wl_desk.proofs.OwningSurfaces.{AreKept-changed, AreKept-left, busy-is, busy-read, surfaces-changed, surfaces-left, surface-read, used-read}
 use Rattle.wl_desk.proofs.OwningXdg.{xdg-of, xdg-of-none, xdg-there}
 
@@ -255,3 +257,42 @@ module _ (names : Names) (kept : ℕ → Option Kept) (r : Resident) (number : �
           ≡ asks_by (λ sent. configuring_if sent x.id) refusal (stage_configured o x.serials)
       at None = refl
       at (Some stage) = by (answers_states stage) (is_full x.serials)
+
+  -- the configures of its role object, by what is kept
+  pub configures-read : (serial : ℕ) → configures_told serial (Some x) ≡ role_configured serial k.id k.role
+  configures-read serial = ap (λ (role : Option RoleObject). role_configured serial x.id role) (sym one.stands.role) ∙ ap (λ i. role_configured serial i k.role) (sym one.stands.id)
+
+  -- it has no role object where none is refused for it
+  bare : (o : Option RoleObject) → is_some o ≡ false → o ≡ None
+  bare None e = refl
+  bare (Some object) e = absurd (cc)
+
+  pub bare-destroyed : destruction_answer (kept number) ≡ Ok tt → x.role ≡ None
+  bare-destroyed answer = bare x.role (at (is_some x.role) (rw (one.here, one.stands.role) at answer))
+    where
+      at : (b : Bool) → ◌≡◌ {A = Result (Unit {0}) ShellError} (if b then Err failed.DefunctRoleObject else Ok tt) (Ok tt) → b ≡ false
+      at true e = absurd (cc)
+      at false e = refl
+
+  pub bare-toplevel : (other : Bool) → toplevel_answer other (kept number) ≡ Ok tt → (x.role ≡ None) × (other ≡ false)
+  bare-toplevel other answer = let both = at (is_some x.role) other (rw (one.here, one.stands.role) at answer) in (bare x.role both.0, both.1)
+    where
+      at : (b c : Bool) → ◌≡◌ {A = Result (Unit {0}) ShellError} (if b then Err failed.AlreadyConstructed else (if c then Err failed.Role else Ok tt)) (Ok tt) → (b ≡ false) × (c ≡ false)
+      at true c e = absurd (cc)
+      at false true e = absurd (cc)
+      at false false e = (refl, refl)
+
+-- nothing is kept of a surface of which an xdg_surface may be made, and it has no other role and no content
+pub free-made : (has_other_role has_content : Bool) (k : Option Kept) → making_refused has_other_role has_content k ≡ None → (has_other_role ≡ false) × (has_content ≡ false) × (k ≡ None)
+free-made true has_content k e = absurd (cc)
+free-made false has_content (Some k) e = absurd (cc)
+free-made false true None e = absurd (cc)
+free-made false false None e = (refl, refl, refl)
+
+-- a toplevel's role is refused to none that has no other
+pub role-fits : (role : Option Role) → is_no_toplevel role ≡ false → ((other : Role) × (role ≡ Some other) × (other ≢ AsToplevel)) → ⊥
+role-fits None fits other = none-some other.0 other.1
+role-fits (Some AsToplevel) fits other = other.2 (some-same other.0 AsToplevel (sym other.1))
+role-fits (Some AsPopup) fits other = absurd (cc)
+role-fits (Some AsSubsurface) fits other = absurd (cc)
+role-fits (Some AsCursor) fits other = absurd (cc)
