@@ -28,6 +28,7 @@ use Rattle.wl_desk.specs.Step.{is_number}
 abbrev pub target_as : Interface → Entry → Option ℕ
 target_as interface entry = if interface_number entry.interface == interface_number interface then Some entry.target else None
 
+-- what the objects of this interface stand for, by their ids
 abbrev pub targets_in : Interface → Held → ById ℕ
 targets_in interface held = λ id. option_and_then (target_as interface) (entry_of held id)
 
@@ -37,9 +38,11 @@ pub record Names : Type 0 where
   pub shell : ById ℕ
   pub toplevels : ById ℕ
 
+-- those that a table's objects name
 abbrev pub names_in : Held → Names
 names_in held = record { surfaces = targets_in WlSurface held; shell = targets_in XdgSurface held; toplevels = targets_in XdgToplevel held }
 
+-- a wl_surface, an xdg_surface or a toplevel of this id names another number, or none any more
 abbrev pub with_surface : ℕ → Option ℕ → Names → Names
 with_surface id number names = record names { surfaces = with_id id number names.surfaces }
 
@@ -151,6 +154,7 @@ effect_by act.Map = Maps
 effect_by act.Unmap = Unmaps
 effect_by act.Nothing = Stays
 
+-- a configure is sent, or nothing is
 abbrev pub configuring_if : Bool → ℕ → Ask
 configuring_if true xdg = ConfigureAgain xdg
 configuring_if false xdg = Ignore
