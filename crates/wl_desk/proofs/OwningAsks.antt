@@ -1,32 +1,34 @@
 -- What each thing that is asked changes of what a client owns, and of what is kept of it.
-use Rattle.std.proofs.Common.{◌≡◌, ℕ, ◌+◌, ◌++◌, [], ◌∷◌, Bool, true, false, Option, Some, None, cond, length, map, refl, ap, sym, subst, ◌∙◌, eq-eqb}
-use Rattle.std.specs.Prelude.{◌==◌, Ok}
+use Rattle.std.proofs.Common.{◌≡◌, ℕ, ◌+◌, List, [], ◌∷◌, Bool, true, false, Option, Some, None, cond, length, refl, ap, sym, subst, ◌∙◌, eq-eqb}
+use Rattle.std.specs.Prelude.{◌==◌, Ok, Result}
 use Rattle.std.specs.Option.{option_map, option_map_or}
 use Rattle.wl_geom.specs.declared.rect.Rect.{Rect}
 use Rattle.wl_client.specs.declared.actions.Action.{Action}
 use Rattle.wl_client.specs.declared.actions.Action.TheVariants.{CreateBuffer, DestroyBuffer}
-use Rattle.wl_surface.specs.Kept.{Changes, Numbered, Slots, StandForAll, kept_at, one_if_kept, with_at}
+use Rattle.wl_surface.specs.Kept.{Changes, Numbered, Slots, StandForAll, kept_at, nobody, one_if_kept, with_at}
 use Rattle.wl_surface.specs.Kept.{count as count_kept}
 use Rattle.wl_surface.specs.Request.{Request, Commit, SetWindowGeometry}
-use Rattle.wl_surface.specs.State.{History, apply, geometry_asked}
+use Rattle.wl_surface.specs.State.{History, apply, geometry_asked, is_commit}
 use Rattle.wl_surface.specs.Surfaces.{Surface, Surfaces, applying, asking, history_in, new_surface, surface_at, with_role}
 use Rattle.wl_surface.specs.Surfaces.{with_change as with_surface_change}
 use Rattle.wl_surface.specs.declared.role.Role.TheVariants.{Toplevel as AsToplevel}
 use Rattle.wl_shell.specs.Agreement.{with_history}
-use Rattle.wl_shell.specs.Kept.{Kept, Stands, changing, commit_answer, first_kept, kept_acknowledging, kept_after, kept_asking, kept_configuring, kept_toplevel, kept_without_role, with_kept}
+use Rattle.wl_shell.specs.Kept.{Kept, Stands, changing, commit_answer, effect_answer, first_kept, kept_acknowledging, kept_after, kept_asking, kept_configuring, kept_of, kept_toplevel, kept_without_role, stage_in, with_kept}
 use Rattle.wl_shell.specs.Laws.{one_more}
-use Rattle.wl_shell.specs.Shell.{Effect, Stays, Unconfigured, Configures, Maps, Unmaps, Fresh, Waiting, Mapped, RoleObject, Shell, XdgSurface, acknowledging, at_stage, configuring, in_stage, is_role, new_toplevel, on_commit, role_acknowledged, stage_of, unmapping, with_change, with_effect, without_role, xdg_at, xdg_of}
+use Rattle.wl_shell.specs.Shell.{Effect, Stays, Unconfigured, Configures, Maps, Unmaps, Fresh, Waiting, Mapped, RoleObject, Shell, XdgSurface, acknowledging, at_stage, configuring, in_stage, is_full, is_role, new_toplevel, on_commit, role_acknowledged, stage_of, with_change, with_effect, without_role, xdg_of}
 use Rattle.wl_shell.specs.declared.acts.ShellAct.{ShellAct}
+use Rattle.wl_shell.specs.declared.acts.ShellAct.TheVariants.{Configure, Map, Unmap, Nothing}
+use Rattle.wl_shell.specs.declared.error.ShellError.{ShellError}
 use Rattle.wl_shell.specs.declared.stage.Stage.{Stage}
 use Rattle.wl_shell.proofs.Standing.{changes_stand}
-use Rattle.wl_scene.specs.Stacking.{Owned}
+use Rattle.wl_scene.specs.Stacking.{Owned, nothing_owned}
 use Rattle.wl_desk.specs.Ask.{Own, CreateSurface, DestroySurface, AskSurface, CommitSurface, GetXdgSurface, DestroyXdgSurface, GetToplevel, Acknowledge, ConfigureAgain, DestroyToplevel}
 use Rattle.wl_desk.specs.Desktop.{Resident}
-use Rattle.wl_desk.specs.Owning.{IsOwned, IsXdg, KeepsRole, Names, with_surface, with_toplevel, with_xdg}
-use Rattle.wl_desk.specs.Step.{after_surface, asked_so_far, changed_by, committed_on, effect_on, own_changed, toplevel_given}
+use Rattle.wl_desk.specs.Owning.{IsOwned, IsXdg, KeepsRole, Names, effect_by, names_in, with_surface, with_toplevel, with_xdg}
+use Rattle.wl_desk.specs.Step.{after_surface, asked_so_far, changed_by, committed_on, effect_on, toplevel_given}
 use Rattle.wl_desk.specs.WlSurface.{effect_for}
 use Rattle.wl_desk.proofs.OwningChanges.{IsOwned-history, IsOwned-left, IsOwned-made, IsOwned-shelled, IsOwned-stepped, IsOwned-toplevel, IsOwned-unshelled, IsOwned-untoplevel, changing-none, renumbered}
-use Rattle.wl_desk.proofs.OwningSurfaces.{AreKept-changed, geometry-asked, surface-named}
+use Rattle.wl_desk.proofs.OwningSurfaces.{AreKept-changed, counts-asking, geometry-asked, surface-named}
 use Rattle.wl_desk.proofs.OwningXdg.{histories-changed, histories-same, xdg-of, xdg-of-none}
 
 -- ---- histories of a surface that changes
@@ -120,12 +122,12 @@ module _ (names : Names) (slots : Slots) (kept : ℕ → Option Kept) (r : Resid
       (one.0.history, ap (option_map (λ (s : Surface). s.history)) one.1)
 
   -- of a surface all but a window geometry
-  pub owned-asked : (id number : ℕ) (request : Request) (new : Slots) → names.surfaces id ≡ Some number → ((asked : Option Rect) → geometry_asked asked request ≡ asked) → Changes slots new number (asking request)
+  pub owned-asked : (id number : ℕ) (request : Request) (new : Slots) → names.surfaces id ≡ Some number → is_commit request ≡ false → ((asked : Option Rect) → geometry_asked asked request ≡ asked) → Changes slots new number (asking request)
       → IsOwned names new kept (changed_by (AskSurface id request) r).owned
-  owned-asked id number request new named other changes =
+  owned-asked id number request new named plain other changes =
       let one = there id number named in
       IsOwned-history names slots kept r.owned is id one.0 (one_more request one.0) new (with_surface_change id (asking request) r.owned.surfaces)
-      (AreKept-changed names.surfaces slots r.owned.surfaces is.surfaces id number named (asking request) (λ s. refl) new changes)
+      (AreKept-changed names.surfaces slots r.owned.surfaces is.surfaces id number named (asking request) (λ s. refl) new (counts-asking request plain) changes)
       one.1
       (histories-to id (asking request) (one_more request) r.owned.surfaces one.0 (λ s. refl) (λ s. refl) one.1)
       (λ k x stands. changes_stand.other request k x one.0 other stands)
@@ -150,7 +152,7 @@ module _ (names : Names) (slots : Slots) (kept : ℕ → Option Kept) (r : Resid
         let all = with_surface_change x.surface (asking request) r.owned.surfaces in
         let stepped : IsOwned names slots (changing number (kept_asking rect) kept) (record { surfaces = all; shell = with_change x.id (λ y. y) r.owned.shell }) =
         IsOwned-stepped names slots kept r.owned is number k x h one (kept_asking rect) (λ y. y) (one_more request h) slots all itself-keeps
-        (AreKept-changed names.surfaces slots r.owned.surfaces is.surfaces x.surface number one.surface (asking request) (λ s. refl) slots (geometry-asked slots number rect))
+        (AreKept-changed names.surfaces slots r.owned.surfaces is.surfaces x.surface number one.surface (asking request) (λ s. refl) slots (counts-asking request refl) (geometry-asked slots number rect))
         (histories-to x.surface (asking request) (one_more request) r.owned.surfaces h (λ s. refl) (λ s. refl) one.history)
         (changes_stand.geometry rect k x h one.stands) in
         subst (λ (ks : ℕ → Option Kept). IsOwned names slots ks (changed_by (AskSurface x.surface request) r).owned) (sym keeps)
@@ -173,7 +175,7 @@ module _ (names : Names) (slots : Slots) (kept : ℕ → Option Kept) (r : Resid
         (subst (λ (ks : ℕ → Option Kept). IsOwned (with_toplevel id (Some number) names) new ks (changed_by (GetToplevel id version x.id) r).owned) (sym keeps)
         (subst (λ (o : Option XdgSurface). IsOwned (with_toplevel id (Some number) names) new (changing number (kept_toplevel id) kept) (toplevel_given id x.id o r).owned) (sym one.at_id)
         (IsOwned-toplevel names slots kept r.owned is number k x h one id (kept_toplevel id) step (record { id = id; kind = _; stage = Fresh }) h new all (λ y. refl) (λ y. refl) bare refl refl free
-        (AreKept-changed names.surfaces slots r.owned.surfaces is.surfaces x.surface number one.surface (with_role AsToplevel) (λ s. refl) new changes)
+        (AreKept-changed names.surfaces slots r.owned.surfaces is.surfaces x.surface number one.surface (with_role AsToplevel) (λ s. refl) new (λ s counts. counts) changes)
         (histories-to x.surface (with_role AsToplevel) (λ g. g) r.owned.surfaces h (λ s. refl) (λ s. refl) one.history)
         stands)))
 
@@ -213,7 +215,7 @@ module _ (names : Names) (slots : Slots) (kept : ℕ → Option Kept) (r : Resid
         subst (λ (o : Owned). IsOwned names new (changing number (kept_after r.peer.serial act) kept) o) (sym (effect-owned x.surface effect x then))
         (IsOwned-stepped names slots kept r.owned is number k x h one (kept_after r.peer.serial act) (with_effect r.peer.serial (asked_so_far x.surface then) effect) now new all
         (effect-keeps r.peer.serial (asked_so_far x.surface then) effect)
-        (AreKept-changed names.surfaces slots r.owned.surfaces is.surfaces x.surface number one.surface commits (λ s. refl) new changes)
+        (AreKept-changed names.surfaces slots r.owned.surfaces is.surfaces x.surface number one.surface commits (λ s. refl) new (λ s counts. refl) changes)
         histories stands)
 
   pub owned-committed : (id number : ℕ) (shows : Bool) (act : ShellAct) (new : Slots) (after : ℕ → Option Kept) → names.surfaces id ≡ Some number → Changes slots new number (λ s. applying (asking Commit s))
@@ -232,7 +234,7 @@ module _ (names : Names) (slots : Slots) (kept : ℕ → Option Kept) (r : Resid
           subst (λ (o : Option XdgSurface). IsOwned names new (changing number (kept_after r.peer.serial act) kept) (effect_on id (effect_for shows o) o (after_surface id r (committed_on id r))).owned) (sym none)
           (subst (λ (ks : ℕ → Option Kept). IsOwned names new ks (record r.owned { surfaces = with_surface_change id commits r.owned.surfaces })) (sym (changing-none number (kept_after r.peer.serial act) kept here))
           (renumbered names slots kept r.owned is names.surfaces new (with_surface_change id commits r.owned.surfaces) id (Some (apply (one_more Commit history.0)))
-          (AreKept-changed names.surfaces slots r.owned.surfaces is.surfaces id number named commits (λ s. refl) new changes)
+          (AreKept-changed names.surfaces slots r.owned.surfaces is.surfaces id number named commits (λ s. refl) new (λ s counts. refl) changes)
           none
           (histories-to id commits (λ g. apply (one_more Commit g)) r.owned.surfaces history.0 (λ s. refl) (λ s. refl) history.1)
           refl (λ x some found. refl) is.known))
@@ -241,3 +243,48 @@ module _ (names : Names) (slots : Slots) (kept : ℕ → Option Kept) (r : Resid
           let done = committed-with number k xdg.0 xdg.1 xdg.2 shows act new changes (ap (commit_answer shows) (sym here) ∙ answer) in
           subst (λ (o : Option XdgSurface). IsOwned names new (changing number (kept_after r.peer.serial act) kept) (effect_on id (effect_for shows o) o (after_surface id r (committed_on id r))).owned) (sym xdg.3)
           (subst (λ i. IsOwned names new (changing number (kept_after r.peer.serial act) kept) (effect_on i (on_commit (stage_of xdg.0) shows) (Some xdg.0) (after_surface i r (committed_on i r))).owned) xdg.4 done)
+
+  -- the same by what the shell answered
+  pub owned-committed-by : (id number : ℕ) (shows : Bool) (act : ShellAct) (new : Slots) (after : ℕ → Option Kept) → names.surfaces id ≡ Some number → Changes slots new number (λ s. applying (asking Commit s))
+      → commit_answer shows (kept number) ≡ Ok act → after ≡ changing number (kept_after r.peer.serial act) kept → IsOwned names new after (changed_by (CommitSurface id (effect_by act)) r).owned
+  owned-committed-by id number shows act new after named changes answer keeps =
+      subst (λ effect. IsOwned names new after (changed_by (CommitSurface id effect) r).owned) (at (kept number) refl) (owned-committed id number shows act new after named changes answer keeps)
+    where
+      of-act : (a : ShellAct) → ◌≡◌ {A = Result ShellAct ShellError} (Ok a) (Ok act) → effect_by a ≡ effect_by act
+      of-act a e = let same : a ≡ act = cc in ap effect_by same
+
+      by-effect : (effect : Effect) (serials : List ℕ) (full : Bool) → is_full serials ≡ full → effect_answer effect serials ≡ Ok act → effect ≡ effect_by act
+      by-effect Stays serials full e answer = of-act Nothing answer
+      by-effect Unconfigured serials full e answer = absurd (cc)
+      by-effect Configures serials true e answer = absurd (let told = rw e at answer in cc)
+      by-effect Configures serials false e answer = of-act (Configure None) (rw e at answer)
+      by-effect Maps serials full e answer = of-act Map answer
+      by-effect Unmaps serials full e answer = of-act Unmap answer
+
+      at : (o : Option Kept) → kept number ≡ o → effect_for shows (xdg_of id r.owned.shell) ≡ effect_by act
+      at None here = ap (effect_for shows) (xdg-of-none names slots kept r.owned is id number named here) ∙ of-act Nothing (ap (commit_answer shows) (sym here) ∙ answer)
+      at (Some k) here =
+          let xdg = xdg-of names slots kept r.owned is id number k named here in
+          ap (effect_for shows) xdg.3
+          ∙ ap (λ (role : Option RoleObject). on_commit (option_map (λ object. object.stage) role) shows) (sym xdg.2.stands.role)
+          ∙ by-effect (on_commit (stage_in k) shows) k.serials (is_full k.serials) refl (ap (commit_answer shows) (sym here) ∙ answer)
+
+-- ---- a new client
+
+pub owned-nothing : (slots : Slots) → StandForAll slots nobody → count_kept slots ≡ 0 → IsOwned (names_in []) slots (kept_of []) nothing_owned
+owned-nothing slots stand counted = record {
+  surfaces = record {
+    links = refl;
+    numbered = λ id. refl;
+    once = λ a b number named other. absurd (cc);
+    apart = tt;
+    counts = λ id h there. absurd (cc);
+    stand = stand;
+    count = counted;
+  };
+  shell = record { each = λ id. tt; apart = tt };
+  known = λ number some. absurd (cc);
+  named = λ id. refl;
+  toplevels = λ id. refl;
+  roles = tt;
+}

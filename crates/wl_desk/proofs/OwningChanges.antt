@@ -5,14 +5,14 @@ use Rattle.std.specs.Option.{option_and_then, option_map}
 use Rattle.std.proofs.Math.Path.{fun_ext}
 use Rattle.std.proofs.lemmas.Bool.{eqb-true, eqb-false, ne_eqb}
 use Rattle.wl_client.specs.Objects.{ById, with_id}
-use Rattle.wl_surface.specs.Kept.{Numbered, Slots, StandForAll, StandsAt, StandsFor, kept_at, one_if_kept, with_at}
+use Rattle.wl_surface.specs.Kept.{Numbered, Slots, StandForAll, StandsAt, kept_at, one_if_kept, with_at}
 use Rattle.wl_surface.specs.Kept.{Kept as KeptSurface}
 use Rattle.wl_surface.specs.Kept.{count as count_kept}
 use Rattle.wl_surface.specs.State.{History}
 use Rattle.wl_surface.specs.Surfaces.{Surface, Surfaces, history_in, new_surface, surface_at, with_new, without_surface}
 use Rattle.wl_shell.specs.Agreement.{IsKept, IsShell, with_history}
 use Rattle.wl_shell.specs.Kept.{Kept, Stands, changing, first_kept, with_kept}
-use Rattle.wl_shell.specs.Shell.{RoleObject, Shell, XdgSurface, is_role, with_change, without_xdg, xdg_at, xdg_of, xdg_with}
+use Rattle.wl_shell.specs.Shell.{RoleObject, XdgSurface, is_role, with_change, without_xdg, xdg_at, xdg_of, xdg_with}
 use Rattle.wl_shell.specs.Shell.{with_new as with_new_xdg}
 use Rattle.wl_shell.proofs.Agreeing.{newest}
 use Rattle.wl_shell.proofs.Shells.{shells_stand}
@@ -21,7 +21,7 @@ use Rattle.wl_desk.specs.Owning.{AreApartBy, AreKept, IsOwned, IsXdg, KeepsRole,
 use Rattle.wl_desk.proofs.OwningKeys.{apart-left, apart-map, changed-apart, changed-elsewhere, changed-gone, changed-here, differ, found-map, gone, left-elsewhere, new-apart, new-elsewhere, new-here, none-some, some-same}
 use Rattle.wl_desk.proofs.OwningNames.{with_id-other}
 use Rattle.wl_desk.proofs.OwningSurfaces.{AreKept-left, AreKept-made, surface-absent, surface-named, surface-read, unnumbered}
-use Rattle.wl_desk.proofs.OwningXdg.{by_id-changing, by_id-with, has_role, has_xdg, histories-left, histories-made, histories-same, toplevel-unnamed, xdg-found, xdg-kept-none, xdg-of-nobody, xdg-unnamed, xdgs-apart}
+use Rattle.wl_desk.proofs.OwningXdg.{by_id-changing, by_id-with, has_role, has_xdg, histories-left, histories-made, toplevel-unnamed, xdg-found, xdg-kept-none, xdg-of-nobody, xdg-unnamed, xdgs-apart}
 
 -- ---- what is kept of nobody stays
 

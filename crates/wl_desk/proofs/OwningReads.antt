@@ -1,35 +1,51 @@
 -- What is read of what is kept of a client is what the plain desktop asks.
-use Rattle.std.proofs.Common.{◌≡◌, ◌≢◌, ℕ, [], ◌∷◌, Bool, true, false, Option, Some, None, Result, cond, length, refl, ap, sym, subst, ◌∙◌, eq-eqb}
-use Rattle.std.specs.Prelude.{◌==◌, ◌&&◌, ◌||◌, int_lt, pos, IfSome, IsSomeAnd, Ok, Err, is_some, nat_le, if◌then◌else◌}
+use Rattle.std.proofs.Common.{◌≡◌, ◌≢◌, ℕ, ◌+◌, List, [], ◌∷◌, ◌++◌, take, Bool, true, false, Option, Some, None, Result, cond, refl, ap, sym, subst, ◌∙◌, eq-eqb}
+use Rattle.std.specs.Prelude.{◌==◌, ◌&&◌, ◌||◌, int_lt, pos, IfSome, IsSomeAnd, Ok, Err, count_by, is_some, nat_le, not, if◌then◌else◌}
 use Rattle.std.specs.List.{list_any}
 use Rattle.std.specs.Option.{option_and_then, option_map, option_map_or}
+use Rattle.std.proofs.Math.Path.{fun_ext}
 use Rattle.wl_geom.specs.declared.rect.Rect.{Rect}
 use Rattle.wl_client.specs.declared.refusals.ErrorCode.TheVariants as error
 use Rattle.wl_client.specs.declared.refusals.Refusal.{Refusal}
+use Rattle.wl_client.specs.Objects.{with_id}
 use Rattle.wl_surface.specs.declared.content.Attached.{Attached}
 use Rattle.wl_surface.specs.declared.role.Role.{Role}
-use Rattle.wl_surface.specs.Kept.{IsAny, Numbered, Slots, StandForAll, buffer_of, content_at, has_at, pending_at, role_at, shows_at}
+use Rattle.wl_surface.specs.declared.role.Role.TheVariants.{Toplevel as AsToplevel, Popup as AsPopup, Subsurface as AsSubsurface, Cursor as AsCursor}
+use Rattle.wl_surface.specs.declared.surface.Current.{Current}
+use Rattle.wl_surface.specs.Kept.{Changes, IsAny, IsCurrentAt, Numbered, Slots, StandForAll, buffer_of, changed_at, content_at, has_at, kept_at, one_if_kept, pending_at, role_at, shows_at, with_at}
+use Rattle.wl_surface.specs.Applied.{AreFreed}
 use Rattle.wl_surface.specs.Kept.{count as count_kept}
-use Rattle.wl_surface.specs.Request.{Buffer, SetWindowGeometry}
-use Rattle.wl_surface.specs.State.{History, pending}
-use Rattle.wl_surface.specs.Surfaces.{Surface, has_content, history_in, is_busy, is_there, is_used, surface_at}
+use Rattle.wl_surface.specs.Request.{Buffer, Commit, SetWindowGeometry}
+use Rattle.wl_surface.specs.State.{History, applied, held, pending, values}
+use Rattle.wl_surface.specs.Surfaces.{Surface, applying, asking, has_content, history_in, is_busy, is_there, is_used, listed, surface_at, with_change, without_surface}
 use Rattle.wl_shell.specs.declared.error.ShellError.{ShellError}
 use Rattle.wl_shell.specs.declared.error.ShellError.TheVariants as failed
 use Rattle.wl_shell.specs.declared.stage.Stage.{Stage}
 use Rattle.wl_shell.specs.Kept.{Kept, acknowledgement_answer, commit_answer, configure_answer, destruction_answer, effect_answer, geometry_answer, making_refused, stage_configured, stage_in, toplevel_answer}
 use Rattle.wl_shell.specs.Shell.{Effect, Stays, Unconfigured, Configures, Maps, Unmaps, RoleObject, XdgSurface, answers_states, is_full, is_waiting, on_commit, stage_of, xdg_of}
 use Rattle.wl_shell.proofs.Shells.{shells_stand}
-use Rattle.wl_desk.specs.Ask.{Ask, CreateSurface, DestroySurface, AskSurface, CommitSurface, DestroyBase, GetXdgSurface, DestroyXdgSurface, GetToplevel, Acknowledge, ConfigureAgain, Ignore}
+use Rattle.wl_desk.specs.Ask.{CreateSurface, DestroySurface, AskSurface, CommitSurface, DestroyBase, GetXdgSurface, DestroyXdgSurface, GetToplevel, Acknowledge, ConfigureAgain, Ignore}
 use Rattle.wl_desk.specs.Desktop.{Resident}
-use Rattle.wl_desk.specs.Owning.{AreKept, IsOwned, IsXdg, Names, asks_by, asks_unless, by_id, by_number, configuring_if, effect_by, kept_id, shell_refusal}
-use Rattle.wl_desk.specs.WlSurface.{committed_for, effect_for, effect_of, refuse, refuse_limit, surface_committed, surface_created, surface_destroyed, waits_for_all, will_show, xdg_id}
+use Rattle.wl_desk.specs.Owning.{AllCounts, IsOwned, IsXdg, Names, asks_by, asks_unless, by_id, by_number, configuring_if, effect_by, kept_id, shell_refusal}
+use Rattle.wl_desk.specs.Step.{buffers_had, configures_told, each_once, role_configured, without_buffer}
+use Rattle.wl_desk.specs.WlSurface.{committed_for, effect_for, effect_of, refuse, refuse_limit, surface_committed, surface_created, surface_destroyed, will_show}
 use Rattle.wl_desk.specs.XdgShell.{acknowledged_by, base_destroyed, configured_again, geometry_set, has_any, is_foreign, is_no_toplevel, role_of, toplevel_made, xdg_surface_destroyed, xdg_surface_made}
-use Rattle.wl_desk.proofs.OwningSurfaces.{busy-read, surface-read, used-read}
+use Rattle.wl_desk.proofs.OwningKeys.{none-some, some-same}
+use Rattle.wl_desk.proofs.OwningSurfaces.{AreKept-changed, AreKept-left, busy-is, busy-read, surfaces-changed, surfaces-left, surface-read, used-read}
 use Rattle.wl_desk.proofs.OwningXdg.{xdg-of, xdg-of-none, xdg-there}
 
 there-mapped : {X : Type 0} (f : X → Buffer) (o : Option X) → is_there (option_map f o) ≡ is_some o
 there-mapped f None = refl
 there-mapped f (Some x) = refl
+
+-- a buffer twice is it once
+twice : (b : Option Buffer) → each_once (listed b ++ listed b) ≡ each_once (listed b)
+twice None = refl
+twice (Some b) = ap (λ c. b ∷ cond (not c) (b ∷ []) []) (eq-eqb b.number b.number refl)
+
+once-after : (a b : Option Buffer) → each_once (listed a ++ listed b ++ listed b) ≡ each_once (listed a ++ listed b)
+once-after None b = twice b
+once-after (Some a) b = ap (λ bs. a ∷ without_buffer a.number bs) (twice b)
 
 module _ (names : Names) (slots : Slots) (kept : ℕ → Option Kept) (r : Resident) (is : IsOwned names slots kept r.owned) where
   -- ---- a surface
@@ -60,11 +76,55 @@ module _ (names : Names) (slots : Slots) (kept : ℕ → Option Kept) (r : Resid
       at None = refl
       at (Some s) = refl
 
+  -- The buffers that a surface has: the pending one, and the one that is applied, which is the held one too.
+  pub buffers-read : {A : Type 0} (id number : ℕ) (next : Option Attached) (current : Option (Current A)) → names.surfaces id ≡ Some number → ((all : Numbered) → StandForAll slots all → option_map buffer_of next ≡ pending_at (all number))
+      → ((all : Numbered) → StandForAll slots all → IsCurrentAt current (all number))
+      → each_once (buffers_had (history_in id r.owned.surfaces)) ≡ each_once (listed (option_map buffer_of next) ++ listed (option_map buffer_of (option_and_then (λ (c : Current A). c.buffer) current)))
+  buffers-read {A} id number next current named waits told =
+      at (surface_at id r.owned.surfaces) current refl (read (λ at. option_map buffer_of next ≡ pending_at at) id number named waits) (read (λ at. IsCurrentAt current at) id number named told)
+    where
+      at : (o : Option Surface) (c : Option (Current A)) → surface_at id r.owned.surfaces ≡ o → option_map buffer_of next ≡ pending_at o → IsCurrentAt c o
+          → each_once (buffers_had (option_map (λ (s : Surface). s.history) o)) ≡ each_once (listed (option_map buffer_of next) ++ listed (option_map buffer_of (option_and_then (λ (c : Current A). c.buffer) c)))
+      at None None found waits told = rw waits refl
+      at None (Some c) found waits told = absurd told
+      at (Some s) None found waits told = absurd told
+      at (Some s) (Some c) found waits told =
+          let counts : AllCounts s.history = is.surfaces.counts id s.history (ap (option_map (λ (s : Surface). s.history)) found) in
+          let same : (held s.history).buffer ≡ (applied s.history).buffer = ap (λ n. (values (take n s.history.requests)).buffer) (sym counts) in
+          ap (λ b. each_once (listed (pending s.history).buffer ++ listed b ++ listed (applied s.history).buffer)) same
+          ∙ once-after (pending s.history).buffer (applied s.history).buffer
+          ∙ ap (λ b. each_once (listed (pending s.history).buffer ++ listed b)) (sym told.buffer)
+          ∙ ap (λ b. each_once (listed b ++ listed (option_map buffer_of c.buffer))) (sym waits)
+
   pub used : (buffer : ℕ) (result : Bool) → ((all : Numbered) → StandForAll slots all → IsAny (has_at buffer) all result) → is_used buffer r.owned.surfaces ≡ result
   used buffer result told = used-read names.surfaces slots r.owned.surfaces is.surfaces buffer result (told (by_number names.surfaces r.owned.surfaces) is.surfaces.stand)
 
   pub busy : (buffer : ℕ) (result : Bool) → ((all : Numbered) → StandForAll slots all → IsAny (shows_at buffer) all result) → is_busy buffer r.owned.surfaces ≡ result
   busy buffer result told = busy-read names.surfaces slots r.owned.surfaces is.surfaces buffer result (told (by_number names.surfaces r.owned.surfaces) is.surfaces.stand)
+
+  -- what stops being busy by a commit, or as a surface goes, is freed once
+  pub freed-committed : (id number : ℕ) (new : Slots) (freed : List ℕ) → names.surfaces id ≡ Some number → Changes slots new number (λ s. applying (asking Commit s))
+      → ((all : Numbered) → StandForAll slots all → AreFreed freed all (changed_at number (λ s. applying (asking Commit s)) all))
+      → (buffer : ℕ) → count_by (λ n. n == buffer) freed ≡ cond (is_busy buffer r.owned.surfaces && not (is_busy buffer (with_change id (λ s. applying (asking Commit s)) r.owned.surfaces))) 1 0
+  freed-committed id number new freed named changes told buffer =
+      let commits : Surface → Surface = λ s. applying (asking Commit s) in
+      let after = with_change id commits r.owned.surfaces in
+      let now = AreKept-changed names.surfaces slots r.owned.surfaces is.surfaces id number named commits (λ s. refl) new (λ s counts. refl) changes in
+      told (by_number names.surfaces r.owned.surfaces) is.surfaces.stand buffer (is_busy buffer r.owned.surfaces) (is_busy buffer after)
+      (busy-is names.surfaces slots r.owned.surfaces is.surfaces buffer)
+      (subst (λ (all : Numbered). IsAny (shows_at buffer) all (is_busy buffer after)) (fun_ext (surfaces-changed names.surfaces slots r.owned.surfaces is.surfaces id number named commits (λ s. refl)))
+      (busy-is names.surfaces new after now buffer))
+
+  pub freed-left : (id number : ℕ) (new : Slots) (freed : List ℕ) → names.surfaces id ≡ Some number → ((all : Numbered) → StandForAll slots all → StandForAll new (with_at number None all)) → count_kept new + one_if_kept (kept_at slots number) ≡ count_kept slots
+      → ((all : Numbered) → StandForAll slots all → AreFreed freed all (with_at number None all))
+      → (buffer : ℕ) → count_by (λ n. n == buffer) freed ≡ cond (is_busy buffer r.owned.surfaces && not (is_busy buffer (without_surface id r.owned.surfaces))) 1 0
+  freed-left id number new freed named left counted told buffer =
+      let after = without_surface id r.owned.surfaces in
+      let now = AreKept-left names.surfaces slots r.owned.surfaces is.surfaces id number named new left counted in
+      told (by_number names.surfaces r.owned.surfaces) is.surfaces.stand buffer (is_busy buffer r.owned.surfaces) (is_busy buffer after)
+      (busy-is names.surfaces slots r.owned.surfaces is.surfaces buffer)
+      (subst (λ (all : Numbered). IsAny (shows_at buffer) all (is_busy buffer after)) (fun_ext (surfaces-left names.surfaces slots r.owned.surfaces is.surfaces id number named new))
+      (busy-is (with_id id None names.surfaces) new after now buffer))
 
   pub created-by : (id version : ℕ) → surface_created r id version ≡ (if nat_le 256 (count_kept slots) then refuse_limit else Ok (CreateSurface id version))
   created-by id version = ap (λ n. if nat_le 256 n then refuse_limit else Ok (CreateSurface id version)) (sym is.surfaces.count)
@@ -197,3 +257,42 @@ module _ (names : Names) (kept : ℕ → Option Kept) (r : Resident) (number : �
           ≡ asks_by (λ sent. configuring_if sent x.id) refusal (stage_configured o x.serials)
       at None = refl
       at (Some stage) = by (answers_states stage) (is_full x.serials)
+
+  -- the configures of its role object, by what is kept
+  pub configures-read : (serial : ℕ) → configures_told serial (Some x) ≡ role_configured serial k.id k.role
+  configures-read serial = ap (λ (role : Option RoleObject). role_configured serial x.id role) (sym one.stands.role) ∙ ap (λ i. role_configured serial i k.role) (sym one.stands.id)
+
+  -- it has no role object where none is refused for it
+  bare : (o : Option RoleObject) → is_some o ≡ false → o ≡ None
+  bare None e = refl
+  bare (Some object) e = absurd (cc)
+
+  pub bare-destroyed : destruction_answer (kept number) ≡ Ok tt → x.role ≡ None
+  bare-destroyed answer = bare x.role (at (is_some x.role) (rw (one.here, one.stands.role) at answer))
+    where
+      at : (b : Bool) → ◌≡◌ {A = Result (Unit {0}) ShellError} (if b then Err failed.DefunctRoleObject else Ok tt) (Ok tt) → b ≡ false
+      at true e = absurd (cc)
+      at false e = refl
+
+  pub bare-toplevel : (other : Bool) → toplevel_answer other (kept number) ≡ Ok tt → (x.role ≡ None) × (other ≡ false)
+  bare-toplevel other answer = let both = at (is_some x.role) other (rw (one.here, one.stands.role) at answer) in (bare x.role both.0, both.1)
+    where
+      at : (b c : Bool) → ◌≡◌ {A = Result (Unit {0}) ShellError} (if b then Err failed.AlreadyConstructed else (if c then Err failed.Role else Ok tt)) (Ok tt) → (b ≡ false) × (c ≡ false)
+      at true c e = absurd (cc)
+      at false true e = absurd (cc)
+      at false false e = (refl, refl)
+
+-- nothing is kept of a surface of which an xdg_surface may be made, and it has no other role and no content
+pub free-made : (has_other_role has_content : Bool) (k : Option Kept) → making_refused has_other_role has_content k ≡ None → (has_other_role ≡ false) × (has_content ≡ false) × (k ≡ None)
+free-made true has_content k e = absurd (cc)
+free-made false has_content (Some k) e = absurd (cc)
+free-made false true None e = absurd (cc)
+free-made false false None e = (refl, refl, refl)
+
+-- a toplevel's role is refused to none that has no other
+pub role-fits : (role : Option Role) → is_no_toplevel role ≡ false → ((other : Role) × (role ≡ Some other) × (other ≢ AsToplevel)) → ⊥
+role-fits None fits other = none-some other.0 other.1
+role-fits (Some AsToplevel) fits other = other.2 (some-same other.0 AsToplevel (sym other.1))
+role-fits (Some AsPopup) fits other = absurd (cc)
+role-fits (Some AsSubsurface) fits other = absurd (cc)
+role-fits (Some AsCursor) fits other = absurd (cc)

@@ -1,5 +1,5 @@
 -- What is kept of a client's surfaces goes on standing for them.
-use Rattle.std.proofs.Common.{◌≡◌, ◌≢◌, ℕ, ◌+◌, List, [], ◌∷◌, Bool, true, false, Option, Some, None, cond, length, refl, ap, sym, subst, ◌∙◌, arith, eq-eqb}
+use Rattle.std.proofs.Common.{◌≡◌, ◌≢◌, ℕ, suc, ◌+◌, List, [], ◌∷◌, ◌++◌, Bool, true, false, Option, Some, None, cond, length, refl, ap, sym, subst, ◌∙◌, arith, eq-eqb}
 use Rattle.std.specs.Prelude.{◌==◌, find, is_some, not}
 use Rattle.std.specs.List.{list_any}
 use Rattle.std.specs.Option.{option_map}
@@ -8,10 +8,11 @@ use Rattle.wl_geom.specs.declared.rect.Rect.{Rect}
 use Rattle.wl_client.specs.Objects.{ById, with_id}
 use Rattle.wl_surface.specs.Kept.{Kept, Numbered, Slots, StandForAll, StandsAt, Changes, IsAny, changed_at, has_at, kept_at, one_if_kept, shows_at, with_at}
 use Rattle.wl_surface.specs.Kept.{count as count_kept}
-use Rattle.wl_surface.specs.Request.{SetWindowGeometry}
-use Rattle.wl_surface.specs.Surfaces.{Surface, Surfaces, asking, has, is_busy, is_used, new_surface, shows, surface_at, with_change, with_new, without_surface}
+use Rattle.wl_surface.specs.Request.{Request, SetWindowGeometry}
+use Rattle.wl_surface.specs.State.{History, committed_from, is_commit}
+use Rattle.wl_surface.specs.Surfaces.{Surface, Surfaces, asking, has, history_in, is_busy, is_used, new_surface, shows, surface_at, with_change, with_new, without_surface}
 use Rattle.wl_surface.proofs.Records.{For-asked, still, undamaged}
-use Rattle.wl_desk.specs.Owning.{AreApartBy, AreKept, by_number}
+use Rattle.wl_desk.specs.Owning.{AllCounts, AreApartBy, AreKept, by_number}
 use Rattle.wl_desk.specs.Step.{is_number}
 use Rattle.wl_desk.proofs.OwningKeys.{any-found, apart-left, apart-map, differ, found-any, found-by, found-fails, found-map, found-none, found-passes, left-elsewhere, left-here, length-left, length-map, length-new, new-apart, new-elsewhere, new-here, none-first, none-later, none-some, some-same, gone}
 use Rattle.wl_desk.proofs.OwningNames.{with_id-here, with_id-other}
@@ -103,6 +104,25 @@ module _ (numbers : ById ℕ) (slots : Slots) (all : Surfaces) (is : AreKept num
   pub busy-read : (buffer : ℕ) (b : Bool) → IsAny (shows_at buffer) (by_number numbers all) b → is_busy buffer all ≡ b
   busy-read buffer b any = any-read (λ s. shows buffer s.history) (shows_at buffer) b refl (λ s. refl) any
 
+  -- whether one of them has it is so of what is kept
+  pub any-is : (property : Surface → Bool) (at : Option Surface → Bool) → at None ≡ false → ((s : Surface) → at (Some s) ≡ property s) → IsAny at (by_number numbers all) (list_any property all.surfaces)
+  any-is property at none some = either (list_any property all.surfaces) refl
+    where
+      either : (b : Bool) → list_any property all.surfaces ≡ b → IsAny at (by_number numbers all) b
+      either true e =
+          let one = any-found has_id property all.surfaces is.apart e in
+          let found = one.2 one.0.id (eq-eqb one.0.id one.0.id refl) in
+          let there = is-there (numbers one.0.id) (is.numbered one.0.id ∙ ap is_some found) in
+          (there.0, ap at (surface-read one.0.id there.0 there.1 ∙ found) ∙ some one.0 ∙ one.1)
+      either false e = λ number. lacks number (by_number numbers all number) refl
+        where
+          lacks : (number : ℕ) (o : Option Surface) → by_number numbers all number ≡ o → at o ≡ false
+          lacks number None found = none
+          lacks number (Some s) found = some s ∙ false_from_ne_true (property s) (λ has. differ (sym (found-any (has_number numbers number) property all.surfaces s found has) ∙ e))
+
+  pub busy-is : (buffer : ℕ) → IsAny (shows_at buffer) (by_number numbers all) (is_busy buffer all)
+  busy-is buffer = any-is (λ s. shows buffer s.history) (shows_at buffer) refl (λ s. refl)
+
   -- ---- one changes
 
   module _ (id number : ℕ) (named : numbers id ≡ Some number) (change : Surface → Surface) (keeps : (s : Surface) → (change s).id ≡ s.id) where
@@ -130,8 +150,21 @@ module _ (numbers : ById ℕ) (slots : Slots) (all : Surfaces) (is : AreKept num
             let another : s.id ≢ id = λ it. eqb-false other number same (some-same other number (sym (surface-numbered other s found).0 ∙ ap numbers it ∙ named)) in
             ap (λ b. Some (cond b (change s) s)) (ne_eqb s.id id another)
 
-    pub AreKept-changed : (new : Slots) → Changes slots new number change → AreKept numbers new (with_change id change all)
-    AreKept-changed new changes = record {
+    counts-changed : ((s : Surface) → AllCounts s.history → AllCounts (change s).history) → (other : ℕ) (h : History) → history_in other (with_change id change all) ≡ Some h → AllCounts h
+    counts-changed counts other h found = at (surface_at other all) refl (sym (ap (option_map (λ (s : Surface). s.history)) (found-map (has_id other) one all.surfaces (λ s. ap (λ i. i == other) (one-id s)))) ∙ found)
+      where
+        still : (b : Bool) (s : Surface) → AllCounts s.history → AllCounts (cond b (change s) s).history
+        still true s e = counts s e
+        still false s e = e
+
+        at : (o : Option Surface) → surface_at other all ≡ o → option_map (λ (s : Surface). s.history) (option_map one o) ≡ Some h → AllCounts h
+        at None e found = absurd (cc)
+        at (Some s) e found =
+            subst (λ (g : History). AllCounts g) (some-same (one s).history h found) (still (s.id == id) s (is.counts other s.history (ap (option_map (λ (s : Surface). s.history)) e)))
+
+    pub AreKept-changed : (new : Slots) → ((s : Surface) → AllCounts s.history → AllCounts (change s).history) → Changes slots new number change → AreKept numbers new (with_change id change all)
+    AreKept-changed new counts changes = record {
+      counts = counts-changed counts;
       links = is.links;
       numbered = λ other. is.numbered other ∙ sym (still-there one (surface_at other all)) ∙ ap is_some (sym (found-map (has_id other) one all.surfaces (λ s. ap (λ i. i == other) (one-id s))));
       once = is.once;
@@ -191,8 +224,21 @@ module _ (numbers : ById ℕ) (slots : Slots) (all : Surfaces) (is : AreKept num
             new-elsewhere (has_number now other) all.surfaces (new_surface id) (ap (is_number other) (with_id-here id (Some number) numbers) ∙ ne_eqb number other (λ same. eqb-false other number here (sym same)))
             ∙ same-numbers all.surfaces other (surface-absent id free)
 
+    counts-made : (other : ℕ) (h : History) → history_in other (with_new id all) ≡ Some h → AllCounts h
+    counts-made other h found = at (other == id) refl
+      where
+        at : (b : Bool) → (other == id) ≡ b → AllCounts h
+        at true here =
+            let same = eqb-true other id here in
+            let first : history_in other (with_new id all) ≡ Some (new_surface id).history =
+            ap (option_map (λ (s : Surface). s.history)) (new-here (has_id other) all.surfaces (new_surface id) (surface-absent other (ap numbers same ∙ free)) (eq-eqb id other (sym same))) in
+            subst (λ (g : History). AllCounts g) (some-same (new_surface id).history h (sym first ∙ found)) refl
+        at false here =
+            is.counts other h (ap (option_map (λ (s : Surface). s.history)) (sym (new-elsewhere (has_id other) all.surfaces (new_surface id) (ne_eqb id other (λ same. eqb-false other id here (sym same))))) ∙ found)
+
     pub AreKept-made : count_kept new ≡ count_kept slots + 1 → AreKept now new (with_new id all)
     AreKept-made counted = record {
+      counts = counts-made;
       links = is.links;
       numbered = numbered-now;
       once = once-now;
@@ -225,6 +271,18 @@ module _ (numbers : ById ℕ) (slots : Slots) (all : Surfaces) (is : AreKept num
             is.numbered other
             ∙ sym (ap is_some (left-elsewhere has_id id there.0 (has_id other) all.surfaces is.apart there.1 (ne_eqb there.0.id other (λ same. eqb-false other id here (sym same ∙ there.2)))))
 
+    counts-left : (other : ℕ) (h : History) → history_in other (without_surface id all) ≡ Some h → AllCounts h
+    counts-left other h found = at (other == id) refl
+      where
+        at : (b : Bool) → (other == id) ≡ b → AllCounts h
+        at true here =
+            absurd (none-some h (sym (ap (λ i. history_in i (without_surface id all)) (eqb-true other id here) ∙ ap (option_map (λ (s : Surface). s.history)) (gone (has_id id) all.surfaces)) ∙ found))
+        at false here =
+            let there = surface-named id number named in
+            is.counts other h (ap (option_map (λ (s : Surface). s.history))
+            (sym (left-elsewhere has_id id there.0 (has_id other) all.surfaces is.apart there.1 (ne_eqb there.0.id other (λ same. eqb-false other id here (sym same ∙ there.2)))))
+            ∙ found)
+
     -- those that are left have the numbers that they had
     numbers-left : (xs : List Surface) (other : ℕ) → find (has_id id) xs ≡ None → find (has_number after other) xs ≡ find (has_number numbers other) xs
     numbers-left [] other none = refl
@@ -249,6 +307,7 @@ module _ (numbers : ById ℕ) (slots : Slots) (all : Surfaces) (is : AreKept num
 
     pub AreKept-left : ((named : Numbered) → StandForAll slots named → StandForAll new (with_at number None named)) → count_kept new + one_if_kept (kept_at slots number) ≡ count_kept slots → AreKept after new (without_surface id all)
     AreKept-left left counted = record {
+      counts = counts-left;
       links = is.links;
       numbered = numbered-after;
       once = λ a b other x y. is.once a b other (was a other x).0 (was b other y).0;
@@ -268,6 +327,15 @@ module _ (numbers : ById ℕ) (slots : Slots) (all : Surfaces) (is : AreKept num
             let shorter = length-left has_id id there.0 all.surfaces is.apart there.1 in
             let same = is.count in
             omega (arith, counted, one, shorter, same)
+
+-- ---- what counts
+
+committed-kept : (rs : List Request) (request : Request) (at last : ℕ) → is_commit request ≡ false → committed_from at last (rs ++ request ∷ []) ≡ committed_from at last rs
+committed-kept [] request at last e = ap (λ b. cond b (suc at) last) e
+committed-kept (x ∷ rs) request at last e = committed-kept rs request (suc at) (cond (is_commit x) (suc at) last) e
+
+pub counts-asking : (request : Request) → is_commit request ≡ false → (s : Surface) → AllCounts s.history → AllCounts (asking request s).history
+counts-asking request plain s e = e ∙ sym (committed-kept s.history.requests request 0 0 plain)
 
 -- ---- a window geometry is asked of a surface: of that nothing is kept here
 

@@ -11,11 +11,11 @@ use Rattle.wl_surface.specs.Surfaces.{Surface, Surfaces, history_in, new_surface
 use Rattle.wl_shell.specs.Agreement.{AreApart, IsKept, with_history}
 use Rattle.wl_shell.specs.Kept.{Kept, Stands, changing, with_kept}
 use Rattle.wl_shell.specs.Shell.{Shell, XdgSurface, is_role, xdg_at, xdg_of, xdg_with}
-use Rattle.wl_shell.proofs.Agreeing.{found-at, found-surface}
+use Rattle.wl_shell.proofs.Agreeing.{found-surface}
 use Rattle.wl_scene.specs.Stacking.{Owned}
-use Rattle.wl_desk.specs.Owning.{AreApartBy, AreKept, IsOwned, IsXdg, Names, by_id, number_of}
-use Rattle.wl_desk.proofs.OwningKeys.{differ, found-by, found-map, found-none, found-passes, gone, left-elsewhere, new-elsewhere, new-here, none-some, some-same}
-use Rattle.wl_desk.proofs.OwningSurfaces.{has_id, surface-absent, surface-named}
+use Rattle.wl_desk.specs.Owning.{AreApartBy, IsOwned, IsXdg, Names, by_id, number_of}
+use Rattle.wl_desk.proofs.OwningKeys.{found-by, found-map, found-none, found-passes, gone, left-elsewhere, new-elsewhere, new-here, none-some, some-same}
+use Rattle.wl_desk.proofs.OwningSurfaces.{has_id}
 
 -- the tests by id, by surface and by role object
 abbrev pub has_xdg : ℕ → XdgSurface → Bool

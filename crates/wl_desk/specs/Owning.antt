@@ -11,7 +11,7 @@ use Rattle.wl_client.specs.Told.{display_error}
 use Rattle.wl_client.specs.Objects.{ById, interface_number, with_id}
 use Rattle.wl_surface.specs.Kept.{Numbered, Slots, StandForAll}
 use Rattle.wl_surface.specs.Kept.{count as count_kept}
-use Rattle.wl_surface.specs.State.{History}
+use Rattle.wl_surface.specs.State.{History, committed}
 use Rattle.wl_surface.specs.Surfaces.{Surfaces, history_in, surface_at}
 use Rattle.wl_shell.specs.Agreement.{IsShell}
 use Rattle.wl_shell.specs.Kept.{Kept, Stands}
@@ -28,6 +28,7 @@ use Rattle.wl_desk.specs.Step.{is_number}
 abbrev pub target_as : Interface → Entry → Option ℕ
 target_as interface entry = if interface_number entry.interface == interface_number interface then Some entry.target else None
 
+-- what the objects of this interface stand for, by their ids
 abbrev pub targets_in : Interface → Held → ById ℕ
 targets_in interface held = λ id. option_and_then (target_as interface) (entry_of held id)
 
@@ -37,9 +38,11 @@ pub record Names : Type 0 where
   pub shell : ById ℕ
   pub toplevels : ById ℕ
 
+-- those that a table's objects name
 abbrev pub names_in : Held → Names
 names_in held = record { surfaces = targets_in WlSurface held; shell = targets_in XdgSurface held; toplevels = targets_in XdgToplevel held }
 
+-- a wl_surface, an xdg_surface or a toplevel of this id names another number, or none any more
 abbrev pub with_surface : ℕ → Option ℕ → Names → Names
 with_surface id number names = record names { surfaces = with_id id number names.surfaces }
 
@@ -69,12 +72,18 @@ abbrev pub AreApartBy : {X : Type 0} → (ℕ → X → Bool) → List X → Typ
 AreApartBy has [] = Unit {0}
 AreApartBy has (x ∷ xs) = ((key : ℕ) → has key x ≡ true → find (has key) xs ≡ None) × AreApartBy has xs
 
--- What is kept stands for the surfaces, each under a number of its own. None of them is linked to another.
+-- all that was committed counts
+abbrev pub AllCounts : History → Type 0
+AllCounts h = h.cut ≡ committed h.requests
+
+-- What is kept stands for the surfaces, each under a number of its own. None of them is linked to another, so that what one commits counts at
+-- once.
 pub record AreKept (numbers : ById ℕ) (slots : Slots) (all : Surfaces) : Type 0 where
   pub links : all.links ≡ []
   pub numbered : (id : ℕ) → is_some (numbers id) ≡ is_some (surface_at id all)
   pub once : (a b number : ℕ) → numbers a ≡ Some number → numbers b ≡ Some number → a ≡ b
   pub apart : AreApartBy (λ id s. s.id == id) all.surfaces
+  pub counts : (id : ℕ) (h : History) → history_in id all ≡ Some h → AllCounts h
   pub stand : StandForAll slots (by_number numbers all)
   pub count : count_kept slots ≡ length all.surfaces
 
@@ -145,6 +154,7 @@ effect_by act.Map = Maps
 effect_by act.Unmap = Unmaps
 effect_by act.Nothing = Stays
 
+-- a configure is sent, or nothing is
 abbrev pub configuring_if : Bool → ℕ → Ask
 configuring_if true xdg = ConfigureAgain xdg
 configuring_if false xdg = Ignore
