@@ -54,7 +54,7 @@ asked-so old new r id number request is named plain keeps other changes same she
       ap (λ (q : Resident). q.peer) none,
       record {
         peer = rw same is.peer;
-        owns = λ alive. rw (same, shell) (owned-asked names old.owned.surfaces (kept_of old.owned.shell) r is.owns id number request new.owned.surfaces named other changes);
+        owns = λ alive. rw (same, shell) (owned-asked names old.owned.surfaces (kept_of old.owned.shell) r is.owns id number request new.owned.surfaces named plain other changes);
       },
     )
 

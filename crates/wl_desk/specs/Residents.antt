@@ -1,14 +1,15 @@
 -- What the desk keeps of a client agrees with a client of the plain desktop, and what a request makes of both.
-use Rattle.std.specs.Prelude.{ℕ, ◌≡◌, None, Some}
+use Rattle.std.specs.Prelude.{ℕ, ◌≡◌, None, Some, Result, Ok, Err}
 use Rattle.wl_proto.specs.declared.interface.Interface.TheVariants.{WlSurface}
 use Rattle.wl_client.specs.Agreement.{IsPeer}
-use Rattle.wl_client.specs.Peer.{Peer, Queues, WantsOr}
+use Rattle.wl_client.specs.Peer.{Errs, Peer, Queues, WantsOr, counted}
+use Rattle.wl_client.specs.declared.refusals.Refusal.{Refusal}
 use Rattle.wl_shell.specs.Kept.{kept_of}
 use Rattle.wl_desk.specs.declared.residents.Resident.{Resident as Kept}
 use Rattle.wl_desk.specs.Ask.{Ask}
 use Rattle.wl_desk.specs.Desktop.{Resident}
 use Rattle.wl_desk.specs.Owning.{IsOwned, names_in, targets_in}
-use Rattle.wl_desk.specs.Step.{answers_to, changed_by, takes_memory}
+use Rattle.wl_desk.specs.Step.{answers_to, changed_by, takes_memory, with_peer}
 
 -- what is kept of the surfaces and of the shell stands for what the client owns
 abbrev pub Owns : {A : Type 0} → Kept A → Resident → Type 0
@@ -31,6 +32,14 @@ ActsFor ask r q = WantsOr (takes_memory ask) (Queues (answers_to ask r) (changed
 -- so it is done, whatever client is stood for
 abbrev pub Does : {A : Type 0} → (Resident → Ask) → Kept A → Kept A → Type 0
 Does ask old new = (r : Resident) → IsResident old r → (q : Peer) × ActsFor (ask r) r q × IsLeft new (changed_by (ask r) r) q
+
+-- What is judged so is answered: what is asked is done, with its request counted; a refusal ends the client.
+abbrev pub AnswersSo : {A : Type 0} → Result Ask Refusal → Resident → Kept A → Type 0
+AnswersSo (Ok ask) r new = (q : Peer) × ActsFor ask (with_peer (counted r.peer) r) q × IsLeft new (changed_by ask (with_peer (counted r.peer) r)) q
+AnswersSo (Err refusal) r new = (q : Peer) × Errs refusal r.peer q × IsLeft new r q
+
+abbrev pub Answers : {A : Type 0} → (Resident → Result Ask Refusal) → Kept A → Kept A → Type 0
+Answers judged old new = (r : Resident) → IsResident old r → AnswersSo (judged r) r new
 
 -- the wl_surface with this id has the surface of this number
 abbrev pub IsSurface : {A : Type 0} → Kept A → ℕ → ℕ → Type 0
