@@ -1,5 +1,5 @@
 -- What is asked of a client leads to a client that is stood for.
-use Rattle.std.proofs.Common.{◌≡◌, ℕ, List, ◌≤◌, ◌+◌, ◌++◌, [], ◌∷◌, Bool, true, false, Option, Some, None, cond, length, refl, ap, sym, subst, ◌∙◌, inl, inr, arith}
+use Rattle.std.proofs.Common.{◌≡◌, ℕ, List, map, ◌≤◌, ◌+◌, ◌++◌, [], ◌∷◌, Bool, true, false, Option, Some, None, cond, length, refl, ap, sym, subst, ◌∙◌, inl, inr, arith}
 use Rattle.std.specs.Prelude.{is_some}
 use Rattle.std.specs.Option.{option_map}
 use Rattle.wl_geom.specs.declared.rect.Rect.{Rect}
@@ -10,7 +10,8 @@ use Rattle.wl_store.specs.Stores.{Stock}
 use Rattle.wl_client.proofs.Peers.{IsPeer-stores}
 use Rattle.wl_client.specs.View.{ClientView}
 use Rattle.wl_client.specs.Peer.{LacksMemory, Peer, Queues}
-use Rattle.wl_surface.specs.Kept.{Changes, IsCopied, Slots, StandForAll, StandsAt, kept_at}
+use Rattle.wl_surface.specs.declared.content.Attached.{Attached}
+use Rattle.wl_surface.specs.Kept.{Changes, IsCopied, Numbered, Slots, buffer_of, had_at, StandForAll, StandsAt, kept_at}
 use Rattle.wl_surface.specs.Kept.{Kept as KeptSurface}
 use Rattle.wl_surface.specs.Request.{Request}
 use Rattle.wl_surface.specs.State.{Values, asked, committed, geometry_asked, is_commit}
@@ -20,7 +21,7 @@ use Rattle.wl_scene.specs.declared.owned.Owned.{Owned as Lent}
 use Rattle.wl_desk.specs.declared.residents.Resident.{Resident as Kept}
 use Rattle.wl_desk.specs.Ask.{Ask, AskSurface}
 use Rattle.wl_desk.specs.Desktop.{Resident}
-use Rattle.wl_desk.specs.Owning.{AreKept, names_in}
+use Rattle.wl_desk.specs.Owning.{AreKept, by_number, names_in}
 use Rattle.wl_desk.specs.Residents.{ActsFor, Does, IsLeft, IsResident, IsSurface, Owns}
 use Rattle.wl_desk.specs.Step.{after_surface, asked_of, changed_by}
 use Rattle.wl_desk.proofs.Letting.{asked-keeps}
@@ -77,3 +78,14 @@ kept-there v w numbers all same kept = rw same kept
 
 pub only-stores : (v w x : ClientView) → w ≡ record v { stores = w.stores } → x ≡ record w { stores = x.stores } → x ≡ record v { stores = x.stores }
 only-stores v w x first second = second ∙ ap (λ (y : ClientView). record y { stores = x.stores }) first
+
+-- The buffers that a surface had are let go of, once what was asked of it stands: so it was done.
+pub let-go-so : {A : Type 0} (v w : Kept A) (after : Resident) → Owns v after → w.client ≡ record v.client { stores = w.client.stores } → w.owned ≡ v.owned → IsPeer w.client after.peer → IsLeft w after after.peer
+let-go-so v w after owns only same peer =
+    let objects = ap (λ (c : ClientView). c.objects) only in
+    record { peer = peer; owns = λ alive. rw (objects, same) owns }
+
+-- what a surface had, by its id
+pub had-by : (numbers : ById ℕ) (slots : Slots) (all : Surfaces) (id number : ℕ) (had : List (Option Attached)) → AreKept numbers slots all → numbers id ≡ Some number
+    → ((named : Numbered) → StandForAll slots named → map (option_map buffer_of) had ≡ had_at (named number)) → map (option_map buffer_of) had ≡ had_at (surface_at id all)
+had-by numbers slots all id number had kept named reads = reads (by_number numbers all) kept.stand ∙ ap had_at (surface-read numbers slots all kept id number named)

@@ -107,6 +107,16 @@ impl<A: Allocator + Copy> Resident<A> {
         self.let_go_of_three(pending, held, applied);
     }
 
+    /// wl_surface.attach of the buffer with this id, or of none for null, at this offset in pixels.
+    pub(crate) fn attach(&mut self, object: u32, surface: SurfaceNo, buffer: u32, x: i32, y: i32)
+        ensures { IsSurface self.old object surface → Does (λ r. AskSurface object (Attach (buffer_named r buffer) x y)) self.old self.new }
+    {
+        let had = self.owned.surfaces.buffers(surface);
+        let attached = self.attached(buffer);
+        self.owned.surfaces.attach(surface, attached, x, y);
+        self.let_go_of(had);
+    }
+
     /// wl_surface.damage of a rectangle in surface pixels.
     pub(crate) fn damage(&mut self, object: u32, surface: SurfaceNo, rect: Rect)
         ensures { IsSurface self.old object surface → Does (λ r. AskSurface object (DamageAsked rect)) self.old self.new }
