@@ -21,7 +21,11 @@ use Rattle.wl_scene.specs.declared.owned.Owned.{Owned as Lent}
 use Rattle.wl_desk.specs.declared.residents.Resident.{Resident as Kept}
 use Rattle.wl_desk.specs.Ask.{Ask, AskSurface}
 use Rattle.wl_desk.specs.Desktop.{Resident}
-use Rattle.wl_desk.specs.Owning.{AreKept, by_number, names_in}
+use Rattle.wl_proto.specs.declared.interface.Interface.TheVariants.{WlSurface}
+use Rattle.wl_table.specs.Objects.{Held, entry_of}
+use Rattle.wl_table.specs.declared.entry.Entry.{Entry}
+use Rattle.wl_desk.specs.Owning.{AreKept, by_number, names_in, targets_in}
+use Rattle.wl_desk.proofs.OwningNames.{targets-at}
 use Rattle.wl_desk.specs.Residents.{ActsFor, Does, IsLeft, IsResident, IsSurface, Owns}
 use Rattle.wl_desk.specs.Step.{after_surface, asked_of, changed_by}
 use Rattle.wl_desk.proofs.Letting.{asked-keeps}
@@ -89,3 +93,7 @@ let-go-so v w after owns only same peer =
 pub had-by : (numbers : ById ℕ) (slots : Slots) (all : Surfaces) (id number : ℕ) (had : List (Option Attached)) → AreKept numbers slots all → numbers id ≡ Some number
     → ((named : Numbered) → StandForAll slots named → map (option_map buffer_of) had ≡ had_at (named number)) → map (option_map buffer_of) had ≡ had_at (surface_at id all)
 had-by numbers slots all id number had kept named reads = reads (by_number numbers all) kept.stand ∙ ap had_at (surface-read numbers slots all kept id number named)
+
+-- the object that is in the table names its surface
+pub named-by : (held : Held) (id number : ℕ) (entry : Entry) → entry_of held id ≡ Some entry → entry.interface ≡ WlSurface → entry.target ≡ number → targets_in WlSurface held id ≡ Some number
+named-by held id number entry found is target = targets-at WlSurface held id entry found is ∙ ap Some target

@@ -8,7 +8,10 @@ ghost use Rattle.wl_client.specs.Objects.{ById};
 ghost use Rattle.wl_client.specs.Peer.{Peer};
 ghost use Rattle.wl_surface.specs.Kept.{buffer_of, had_at, is_transform};
 ghost use Rattle.wl_surface.specs.Request.{Attach, Damage as DamageAsked, SetBufferTransform, SetInputRegion, SetOpaqueRegion};
-ghost use Rattle.wl_desk.specs.Ask.{AskSurface};
+ghost use Rattle.wl_shell.specs.Kept.{kept_of};
+ghost use Rattle.wl_table.specs.Objects.{entry_of};
+ghost use Rattle.wl_table.specs.declared.entry.Entry.{Entry as Object};
+ghost use Rattle.wl_desk.specs.Ask.{AskSurface, DestroySurface};
 ghost use Rattle.wl_desk.specs.Desktop.{Resident as Plain};
 ghost use Rattle.wl_desk.specs.Owning.{AreKept};
 ghost use Rattle.wl_desk.specs.Releases.{let_if, same_number};
@@ -20,6 +23,7 @@ ghost use Rattle.wl_desk.specs.WlSurface.{buffer_named, region_named};
 use crate::residents::Resident;
 use std::alloc::Allocator;
 use wl_geom::Rect;
+use wl_proto::Interface;
 use wl_surface::{Attached, SurfaceNo};
 
 /// Whether these are the same buffer.
@@ -105,6 +109,23 @@ impl<A: Allocator + Copy> Resident<A> {
     {
         let [pending, held, applied] = had;
         self.let_go_of_three(pending, held, applied);
+    }
+
+    /// wl_surface.destroy of a surface that has no xdg_surface.
+    pub(crate) fn destroy_surface(&mut self, object: u32, surface: SurfaceNo)
+        ensures { (entry : Object) → entry_of self.old.client.objects object ≡ Some entry → entry.interface ≡ Interface.WlSurface → entry.target ≡ surface
+            → kept_of self.old.owned.shell surface ≡ None → Does (λ r. DestroySurface object) self.old self.new }
+    {
+        let had = self.owned.surfaces.buffers(surface);
+        match self.owned.surfaces.destroy(surface) {
+            Ok(_) => {}
+            Err(_) => {
+                self.client.lack_memory();
+                return;
+            }
+        }
+        self.let_go_of(had);
+        self.client.remove(object);
     }
 
     /// wl_surface.attach of the buffer with this id, or of none for null, at this offset in pixels.
