@@ -5,6 +5,7 @@ pub mod Marks
 pub mod Moments
 pub mod Plain
 pub mod Scratch
+pub mod Served
 pub mod Step
 pub mod WlSurface
 pub mod XdgShell

@@ -4,7 +4,6 @@ pub mod OneStep
 pub mod OnlyRun
 pub mod Kept
 pub mod Others
-pub mod OthersLeft
 pub mod Runs
 pub mod Unmarked
 pub mod StoreWrites

@@ -1,6 +1,6 @@
--- What may happen to the plain desktop: steps, their answers, and runs of them.
+-- What may happen to the plain desktop: steps, and their answers.
 use Rattle.std.specs.Option.{option_map}
-use Rattle.std.specs.Prelude.{ℕ, ◌≡◌, ◌+◌, List, length, false, nat_le, Option, Some, None, Ok, Err, ◌⊎◌, is_none, is_some}
+use Rattle.std.specs.Prelude.{ℕ, ◌≡◌, ◌+◌, List, [], ◌∷◌, length, false, nat_le, Option, Some, None, Ok, Err, ◌⊎◌, is_none, is_some}
 use Rattle.wl_store.specs.Stores.{store_at, write_refusal}
 use Rattle.wl_store.specs.declared.stores.StoreError.{StoreError}
 use Rattle.wl_store.specs.declared.stores.StoreError.TheVariants as refused
@@ -14,8 +14,12 @@ use Rattle.wl_session.specs.declared.steps.Done.TheVariants as gave
 use Rattle.wl_session.specs.declared.steps.Step.{Step}
 use Rattle.wl_session.specs.declared.steps.Step.TheVariants as step
 use Rattle.wl_session.specs.declared.steps.ConnectError.TheVariants.{Full, Memory}
-use Rattle.wl_client.specs.Peer.{Peer, Feeds, left_by, newcomer, sent_by, stored_at}
-use Rattle.wl_session.specs.Desktop.{Desktop, lowest, peer_at, with_peer}
+use Rattle.wl_client.specs.Peer.{Peer, left_by, sent_by, stored_at}
+use Rattle.wl_scene.specs.Stacking.{without_client}
+use Rattle.wl_desk.specs.Desktop.{Desktop, Resident, arrival, become, client_at, with_client, with_number}
+use Rattle.wl_desk.specs.Laws.{status_in}
+use Rattle.wl_desk.specs.Served.{Unserved}
+use Rattle.wl_desk.specs.Step.{Feeds}
 
 -- a step, with the bytes of a piece as a list
 pub data Act : Type 0 where
@@ -40,18 +44,23 @@ abbrev pub fed_of : Option Cause → Fed
 fed_of None = Alive
 fed_of (Some cause) = Ended cause
 
--- what becomes of one number: its client changes by R, or there is none
-abbrev pub ChangesAt : (Peer → Done → Option Peer → Type 0) → Done → Option Peer → Done → Option Peer → Type 0
-ChangesAt R absent None done q = (done ≡ absent) × (q ≡ None)
-ChangesAt R absent (Some p) done q = R p done q
+-- what becomes of a client: it is left so, or its number is free
+abbrev pub left_so : ℕ → Resident → Option Peer → Desktop → Desktop
+left_so c r None d = record d { clients = with_number c None d.clients; standing = without_client c d.standing }
+left_so c r (Some q) d = become c r q d
+
+-- the client that is there changes by R, or there is none
+abbrev pub ChangesAt : (Peer → Done → Option Peer → Type 0) → Done → ℕ → Option Resident → Desktop → Done → Desktop → Type 0
+ChangesAt R absent c None d done new = (done ≡ absent) × (new ≡ d)
+ChangesAt R absent c (Some r) d done new = (q : Option Peer) × R r.peer done q × (new ≡ left_so c r q d)
 
 -- The client with this number changes by R, and no other.
 abbrev pub Changes : ℕ → (Peer → Done → Option Peer → Type 0) → Done → Desktop → Done → Desktop → Type 0
-Changes c R absent old done new = (q : Option Peer) × ChangesAt R absent (peer_at old c) done q × (new ≡ with_peer c q old)
+Changes c R absent d done new = ChangesAt R absent c (client_at c d) d done new
 
-abbrev pub IsFed : List ℕ → Peer → Done → Option Peer → Type 0
-IsFed piece p done None = ⊥
-IsFed piece p done (Some q) = Feeds piece p q × (done ≡ gave.Feed (fed_of q.status))
+abbrev pub IsFedAt : Unserved → ℕ → List ℕ → Option Resident → Desktop → Done → Desktop → Type 0
+IsFedAt unserved c piece None d done new = (done ≡ gave.Feed NoClient) × (new ≡ d)
+IsFedAt unserved c piece (Some r) d done new = Feeds unserved c piece r d new × (done ≡ gave.Feed (fed_of (status_in c new)))
 
 -- what a write of a store answers: an ended client has none
 abbrev pub answer_of : Option StoreError → Stored
@@ -81,21 +90,40 @@ closed_by (Some cause) p = None
 abbrev pub IsClosed : Peer → Done → Option Peer → Type 0
 IsClosed p done q = (q ≡ closed_by p.status p) × (done ≡ gave.Close (is_some p.status))
 
+abbrev pub next_of : Option ℕ → Option ℕ
+next_of None = None
+next_of (Some k) = Some (k + 1)
+
+-- the first place where there is none
+abbrev pub lowest : {X : Type 0} → List (Option X) → Option ℕ
+lowest [] = None
+lowest (None ∷ xs) = Some 0
+lowest (Some x ∷ xs) = next_of (lowest xs)
+
 -- The lowest free number is taken. Only want of memory may stop that.
 abbrev pub ConnectsAt : Option ℕ → Desktop → Done → Desktop → Type 0
-ConnectsAt None old done new = (done ≡ gave.Connect (Err Full)) × (new ≡ old)
-ConnectsAt (Some k) old done new =
-    ((done ≡ gave.Connect (Err Memory)) × (new ≡ old)) ⊎ ((done ≡ gave.Connect (Ok (k + 1))) × (new ≡ with_peer (k + 1) (Some (newcomer old.output)) old))
+ConnectsAt None d done new = (done ≡ gave.Connect (Err Full)) × (new ≡ d)
+ConnectsAt (Some k) d done new =
+    ((done ≡ gave.Connect (Err Memory)) × (new ≡ d)) ⊎ ((done ≡ gave.Connect (Ok (k + 1))) × (new ≡ with_client (k + 1) (Some (arrival d.output)) d))
 
--- What a step may do: from `old` it may answer `done` and lead to `new`. Want of memory is its only choice.
-abbrev pub Steps : Desktop → Act → Done → Desktop → Type 0
-Steps old Connect done new = ConnectsAt (lowest old.clients) old done new
-Steps old (Feed c piece) done new = Changes c (IsFed piece) (gave.Feed NoClient) old done new
-Steps old (Store c store at bytes) done new = Changes c (IsStored store at bytes) (gave.Store stored.NoClient) old done new
-Steps old (Leave c) done new = Changes c IsLeft (gave.Gone false) old done new
-Steps old (Tick time) done new = (done ≡ gave.Tick) × (new ≡ old)
-Steps old (Send c n) done new = Changes c (IsSent n) (gave.Sent false) old done new
-Steps old (Close c) done new = Changes c IsClosed (gave.Close false) old done new
+-- What a step may do where so much isn't served: from `d` it may answer `done` and lead to `new`. A tick changes nothing yet, since no frame
+-- callback is served. Want of memory is the only choice.
+abbrev pub Steps : Unserved → Desktop → Act → Done → Desktop → Type 0
+Steps unserved d Connect done new = ConnectsAt (lowest d.clients) d done new
+Steps unserved d (Feed c piece) done new = IsFedAt unserved c piece (client_at c d) d done new
+Steps unserved d (Store c store at bytes) done new = Changes c (IsStored store at bytes) (gave.Store stored.NoClient) d done new
+Steps unserved d (Leave c) done new = Changes c IsLeft (gave.Gone false) d done new
+Steps unserved d (Tick time) done new = (done ≡ gave.Tick) × (new ≡ d)
+Steps unserved d (Send c n) done new = Changes c (IsSent n) (gave.Sent false) d done new
+Steps unserved d (Close c) done new = Changes c IsClosed (gave.Close false) d done new
+
+-- the client with this number, without what it owns
+abbrev pub peer_of : Option Resident → Option Peer
+peer_of None = None
+peer_of (Some r) = Some r.peer
+
+abbrev pub peer_at : ℕ → Desktop → Option Peer
+peer_at c d = peer_of (client_at c d)
 
 -- the bytes that wait for a client
 abbrev pub unsent_of : Option Peer → Option (List ℕ)

@@ -4,10 +4,10 @@ ghost use Rattle.std.specs.Prelude.{◌≡◌, ℕ, ◌+◌, ◌<◌, ◌≤◌,
 ghost use Rattle.std.specs.Option.{option_copied};
 ghost use Rattle.wl_store.specs.Stores.{write_refusal};
 ghost use Rattle.wl_client.specs.Peer.{Peer, stored_at};
-ghost use Rattle.wl_session.specs.Desktop.{Desktop, empty, lowest, peer_at};
-ghost use Rattle.wl_session.specs.Step.{ChangesAt, IsFed, IsStored, IsLeft, IsSent, IsClosed, Connect, Feed, Store, Leave, Send, Close, unsent_of, status_of, stored_of, store_size_of};
+ghost use Rattle.wl_desk.specs.Desktop.{Desktop, empty};
+ghost use Rattle.wl_session.specs.Step.{IsStored, IsLeft, IsSent, IsClosed, Connect, Feed, Store, Leave, Send, Close, lowest, peer_at, unsent_of, status_of, stored_of, store_size_of};
 ghost use Rattle.wl_client.specs.Agreement.{IsPeer, output_of};
-ghost use Rattle.wl_session.specs.Agreement.{IsSlot, Agrees, TakesStep};
+ghost use Rattle.wl_session.specs.Agreement.{IsFed, IsSlot, Agrees, SlotChanges, TakesStep};
 
 use crate::steps::{ClientNo, ConnectError, Done, Fed, Stored};
 use std::alloc::{AllocError, Allocator};
@@ -85,7 +85,7 @@ impl<A: Allocator + Copy> Desk<A> {
 
     /// How many bytes a client's store has.
     pub fn store_size(&self, client: ClientNo, store: StoreNo) -> Option<u32>
-        ensures { (d : Desktop) → Agrees self.now d → result ≡ store_size_of store (peer_at d client) }
+        ensures { (d : Desktop) → Agrees self.now d → result ≡ store_size_of store (peer_at client d) }
     {
         let Some(k) = place_of(&self.clients, client) else {
             return None;
@@ -129,7 +129,7 @@ impl<A: Allocator + Copy> Desk<A> {
 
     /// The unsent bytes of a client.
     pub fn out(&self, client: ClientNo) -> Option<&[u8]>
-        ensures { (d : Desktop) → Agrees self.now d → option_copied result ≡ unsent_of (peer_at d client) }
+        ensures { (d : Desktop) → Agrees self.now d → option_copied result ≡ unsent_of (peer_at client d) }
     {
         let Some(k) = place_of(&self.clients, client) else {
             return None;
@@ -140,7 +140,7 @@ impl<A: Allocator + Copy> Desk<A> {
 
     /// How a client is.
     pub fn status(&self, client: ClientNo) -> Fed
-        ensures { (d : Desktop) → Agrees self.now d → result ≡ status_of (peer_at d client) }
+        ensures { (d : Desktop) → Agrees self.now d → result ≡ status_of (peer_at client d) }
     {
         let Some(k) = place_of(&self.clients, client) else {
             return Fed::NoClient;
@@ -174,7 +174,7 @@ fn free_place<A: Allocator>(clients: &[Option<Client<A>>]) -> Option<usize>
 }
 
 fn feed_slot<A: Allocator + Copy>(slot: &mut Option<Client<A>>, piece: &[u8]) -> Fed
-    ensures { (o : Option Peer) → IsSlot slot.old o → (q : Option Peer) × ChangesAt (IsFed piece.now) (Done.Feed Fed.NoClient) o (Done.Feed result) q × IsSlot slot.new q }
+    ensures { SlotChanges (IsFed piece.now) (Done.Feed Fed.NoClient) (Done.Feed result) slot.old slot.new }
 {
     match slot {
         None => Fed::NoClient,
@@ -191,7 +191,7 @@ fn store_in_slot<A: Allocator + Copy>(
     at: u32,
     bytes: &[u8],
 ) -> Stored
-    ensures { (o : Option Peer) → IsSlot slot.old o → (q : Option Peer) × ChangesAt (IsStored store at bytes.now) (Done.Store Stored.NoClient) o (Done.Store result) q × IsSlot slot.new q }
+    ensures { SlotChanges (IsStored store at bytes.now) (Done.Store Stored.NoClient) (Done.Store result) slot.old slot.new }
 {
     match slot {
         None => Stored::NoClient,
@@ -215,7 +215,7 @@ fn store_of<A: Allocator + Copy>(
 }
 
 fn gone_slot<A: Allocator + Copy>(slot: &mut Option<Client<A>>) -> bool
-    ensures { (o : Option Peer) → IsSlot slot.old o → (q : Option Peer) × ChangesAt IsLeft (Done.Gone false) o (Done.Gone result) q × IsSlot slot.new q }
+    ensures { SlotChanges IsLeft (Done.Gone false) (Done.Gone result) slot.old slot.new }
 {
     match slot {
         None => false,
@@ -224,7 +224,7 @@ fn gone_slot<A: Allocator + Copy>(slot: &mut Option<Client<A>>) -> bool
 }
 
 fn sent_slot<A: Allocator + Copy>(slot: &mut Option<Client<A>>, count: usize) -> bool
-    ensures { (o : Option Peer) → IsSlot slot.old o → (q : Option Peer) × ChangesAt (IsSent count) (Done.Sent false) o (Done.Sent result) q × IsSlot slot.new q }
+    ensures { SlotChanges (IsSent count) (Done.Sent false) (Done.Sent result) slot.old slot.new }
 {
     match slot {
         None => false,
@@ -233,7 +233,7 @@ fn sent_slot<A: Allocator + Copy>(slot: &mut Option<Client<A>>, count: usize) ->
 }
 
 fn close_slot<A: Allocator + Copy>(slot: &mut Option<Client<A>>) -> bool
-    ensures { (o : Option Peer) → IsSlot slot.old o → (q : Option Peer) × ChangesAt IsClosed (Done.Close false) o (Done.Close result) q × IsSlot slot.new q }
+    ensures { SlotChanges IsClosed (Done.Close false) (Done.Close result) slot.old slot.new }
 {
     let ended = match slot {
         None => false,

@@ -1,5 +1,5 @@
 use Rattle.std.proofs.Common.{◌≡◌, take, None}
-use Rattle.wl_session.specs.Desktop.{lowest}
+use Rattle.wl_session.specs.Step.{lowest}
 use Rattle.wl_session.proofs.desks.free_place.Given as goal
 
 abbrev pub invariant-loop-k : goal.invariant-loop-k

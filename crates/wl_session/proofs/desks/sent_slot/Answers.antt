@@ -1,10 +1,9 @@
 use Rattle.std.proofs.Common.{Some, ap, refl}
 use Rattle.wl_session.specs.declared.steps.Done.TheVariants as gave
 use Rattle.wl_client.specs.Peer.{sent_by}
-use Rattle.wl_session.proofs.Desktops.{ChangesAt-some}
 use Rattle.wl_session.proofs.desks.sent_slot.Goals as goal
 
 pub returns-in-Some : goal.returns-in-Some
-returns-in-Some g c = λ o is. ChangesAt-some _ _ _ c.in-Some.client (Some c.sent.new.self) o (rw c.in-Some.is at is) (λ p seen.
+returns-in-Some g c = rw c.in-Some.is (λ p seen.
     let next = c.sent.ensures p seen in
     (Some (sent_by c.args.count p), (refl, ap (λ b. gave.Sent b) next.1), next.0))

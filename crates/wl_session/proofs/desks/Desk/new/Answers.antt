@@ -5,7 +5,7 @@ use Rattle.wl_session.proofs.desks.Desk.new.Goals as goal
 pub returns : goal.returns
 returns g c =
     let full : c.loop.counter ≡ 32 = omega arith in
-    record { output = refl; clients = rw (c.loop.invariant, full) (AgreeAll-none 32) }
+    record { output = refl; clients = rw (c.loop.invariant, full) (AgreeAll-none 32); standing = refl }
 
 pub loop-preserved : goal.loop-preserved
 loop-preserved g c = c.in_ok-push.ensures.items ∙ none-more c.loop.clients.items c.loop.counter c.loop.invariant

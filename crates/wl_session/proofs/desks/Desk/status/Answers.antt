@@ -1,6 +1,5 @@
 use Rattle.std.proofs.Common.{ap, sym, ◌∙◌}
-use Rattle.wl_session.specs.Desktop.{peer_at}
-use Rattle.wl_session.specs.Step.{status_of}
+use Rattle.wl_session.specs.Step.{peer_at, status_of}
 use Rattle.wl_session.proofs.Desktops.{peer_at-none, IsSlot-peer_at}
 use Rattle.wl_session.proofs.desks.Desk.status.Goals as goal
 
@@ -9,5 +8,5 @@ returns-in_default g c = λ d a. sym (ap (λ o. status_of o) (peer_at-none _ _ d
 
 pub returns : goal.returns
 returns g c = λ d a.
-    c.status_in.ensures (peer_at d c.args.client)
+    c.status_in.ensures (peer_at c.args.client d)
     (IsSlot-peer_at _ (record { output = c.self.inside.output; clients = c.self.inside.clients.items }) d c.args.client c.in-Some.k _ c.deref.ensures.value c.in-Some.ensures.some c.index-slot.ensures (rw (← c.self.view_is) at a))

@@ -1,6 +1,5 @@
 use Rattle.std.proofs.Common.{ap, sym, ◌∙◌}
-use Rattle.wl_session.specs.Desktop.{peer_at}
-use Rattle.wl_session.specs.Step.{store_size_of}
+use Rattle.wl_session.specs.Step.{peer_at, store_size_of}
 use Rattle.wl_session.proofs.Desktops.{peer_at-none, IsSlot-peer_at}
 use Rattle.wl_session.proofs.desks.Desk.store_size.Goals as goal
 
@@ -9,5 +8,5 @@ returns-in_default g c = λ d a. sym (ap (λ o. store_size_of c.args.store o) (p
 
 pub returns : goal.returns
 returns g c = λ d a.
-    c.store_size_in.ensures (peer_at d c.args.client)
+    c.store_size_in.ensures (peer_at c.args.client d)
     (IsSlot-peer_at _ (record { output = c.self.inside.output; clients = c.self.inside.clients.items }) d c.args.client c.in-Some.k _ c.deref.ensures.value c.in-Some.ensures.some c.index-slot.ensures (rw (← c.self.view_is) at a))
