@@ -1,5 +1,4 @@
 pub mod Cuts
-pub mod Desktops
 pub mod OneStep
 pub mod OnlyRun
 pub mod Kept

@@ -8,9 +8,9 @@ use Rattle.wl_desk.specs.Laws.{status_in, status_of}
 use Rattle.wl_desk.specs.Served.{Unserved}
 use Rattle.wl_desk.specs.Step.{FeedsAt}
 use Rattle.wl_desk.proofs.OneRun.{one_run-by}
-use Rattle.wl_session.specs.declared.steps.Done.{Done}
-use Rattle.wl_session.specs.declared.steps.Done.TheVariants as gave
-use Rattle.wl_session.specs.Step.{Act, Connect, Feed, Store, Leave, Tick, Send, Close, ChangesAt, ConnectsAt, IsClosed, IsFedAt, IsLeft, IsSent, IsStored, Steps, fed_of, left_so, lowest}
+use Rattle.wl_desk.specs.declared.answers.Done.{Done}
+use Rattle.wl_desk.specs.declared.answers.Done.TheVariants as gave
+use Rattle.wl_desk.specs.Steps.{Act, Connect, Feed, Store, Leave, Tick, Send, Close, ChangesAt, ConnectsAt, IsClosed, IsFedAt, IsLeft, IsSent, IsStored, Steps, fed_of, left_so, lowest}
 use Rattle.wl_session.specs.Laws.{HadMemory}
 
 -- what both are, they are alike

@@ -2,9 +2,9 @@
 use Rattle.std.proofs.Common.{◌≡◌, ℕ, List, [], ◌∷◌, ◌++◌, ap, subst, sym, ◌∙◌}
 use Rattle.wl_paint.specs.Frame.{Image}
 use Rattle.wl_desk.specs.Desktop.{Desktop}
-use Rattle.wl_session.specs.declared.steps.Done.{Done}
+use Rattle.wl_desk.specs.declared.answers.Done.{Done}
 use Rattle.wl_session.specs.declared.shots.Run.{Run}
-use Rattle.wl_session.specs.Step.{Act, Connect, Feed, Store, Leave, Tick, Send, Close}
+use Rattle.wl_desk.specs.Steps.{Act, Connect, Feed, Store, Leave, Tick, Send, Close}
 use Rattle.wl_session.specs.Run.{Film, Shows}
 use Rattle.wl_session.specs.Laws.{OneRun, RunsAmply}
 use Rattle.wl_session.proofs.OneStep.{one_step}

@@ -7,9 +7,9 @@ use Rattle.wl_desk.specs.Laws.{toplevels_of}
 use Rattle.wl_desk.specs.Served.{Unserved}
 use Rattle.wl_desk.proofs.Others.{IsLeft, become-left, feeds-left, left_out, one_client, same-left, become-keeps, feeds-keeps}
 use Rattle.wl_desk.proofs.Places.{number-other}
-use Rattle.wl_session.specs.declared.steps.Done.{Done}
+use Rattle.wl_desk.specs.declared.answers.Done.{Done}
 use Rattle.wl_session.specs.Laws.{OthersStay, OutputStays, given_by}
-use Rattle.wl_session.specs.Step.{Connect, Feed, Store, Leave, Tick, Send, Close, ChangesAt, ConnectsAt, IsFedAt, left_so, lowest}
+use Rattle.wl_desk.specs.Steps.{Connect, Feed, Store, Leave, Tick, Send, Close, ChangesAt, ConnectsAt, IsFedAt, left_so, lowest}
 
 -- one desktop is the other
 moved : (other : ℕ) (old mid new : Desktop) → new ≡ mid → IsLeft other old mid → IsLeft other old new

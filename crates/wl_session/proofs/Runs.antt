@@ -5,15 +5,16 @@ use Rattle.std.proofs.lemmas.List.{map-append, take_more, append-nil}
 use Rattle.std.proofs.lemmas.Option.{slice_get-get_or}
 use Rattle.wl_paint.specs.Frame.{Image, color_at}
 use Rattle.wl_session.specs.View.{SessionView}
-use Rattle.wl_session.specs.declared.steps.Done.{Done}
-use Rattle.wl_session.specs.declared.steps.Done.TheVariants as gave
+use Rattle.wl_desk.specs.declared.answers.Done.{Done}
+use Rattle.wl_desk.specs.declared.answers.Done.TheVariants as gave
 use Rattle.wl_session.specs.declared.steps.Step.{Step}
-use Rattle.wl_session.specs.declared.steps.ConnectError.TheVariants.{Memory}
+use Rattle.wl_desk.specs.declared.answers.ConnectError.TheVariants.{Memory}
 use Rattle.wl_desk.specs.Desktop.{Desktop}
 use Rattle.wl_desk.specs.Served.{Unserved}
-use Rattle.wl_session.specs.Step.{Act, Connect, Feed, Store, Leave, Tick, Send, Close, ConnectsAt, Steps, act_of}
+use Rattle.wl_desk.specs.Steps.{Act, Connect, Feed, Store, Leave, Tick, Send, Close, ConnectsAt, Steps}
+use Rattle.wl_session.specs.Step.{act_of}
 use Rattle.wl_session.specs.Run.{Film, IsNextFrame, Leads, Runs, MayStopAt, Shows, takes_memory}
-use Rattle.wl_session.specs.Agreement.{TakesStep}
+use Rattle.wl_desk.specs.Agreement.{TakesStep}
 
 Runs-snoc : (unserved : Unserved) (acts : List Act) (act : Act) (before image after : Image) (old mid new : Desktop) (films first : List Film) (done : Done) → Runs unserved before old acts films image mid → Steps unserved mid act done new → Shows act image first after → Runs unserved before old (acts ++ act ∷ []) (films ++ first) after new
 Runs-snoc unserved [] act before image after old mid new films first done run step shows = (

@@ -26,12 +26,12 @@ use Rattle.wl_desk.proofs.Places.{client-become, left_by, other-become}
 use Rattle.wl_desk.proofs.Stacks.{Each, Fields, and-left, and-right, differ, each-map, fields, or-left, or-right, unless}
 use Rattle.wl_desk.proofs.Painted.{each-kept}
 use Rattle.wl_desk.specs.Marks.{has_same_record}
-use Rattle.wl_session.specs.declared.steps.Done.{Done}
-use Rattle.wl_session.specs.declared.steps.Done.TheVariants as gave
-use Rattle.wl_session.specs.declared.steps.Stored.TheVariants as stored
+use Rattle.wl_desk.specs.declared.answers.Done.{Done}
+use Rattle.wl_desk.specs.declared.answers.Done.TheVariants as gave
+use Rattle.wl_desk.specs.declared.answers.Stored.TheVariants as stored
 use Rattle.wl_session.specs.Promises.{KeepsBuffers, busy_of, bytes_by, bytes_in, is_hidden_in, is_rewritten_at, is_same_color, windows_by}
 use Rattle.wl_session.specs.StoreWrites.{PromisesAreEnough, WriteHidesNothing}
-use Rattle.wl_session.specs.Step.{ChangesAt, Connect, Feed, IsStored, Leave, Send, Close, Store, Tick, left_so}
+use Rattle.wl_desk.specs.Steps.{ChangesAt, Connect, Feed, IsStored, Leave, Send, Close, Store, Tick, left_so}
 
 -- ---- each window shows the buffer that its surface has applied
 

@@ -6,10 +6,10 @@ use Rattle.wl_paint.specs.Frame.{Image}
 use Rattle.wl_desk.specs.Desktop.{Desktop, client_at}
 use Rattle.wl_desk.specs.Laws.{status_in, toplevels_of}
 use Rattle.wl_desk.specs.Served.{Unserved, beyond_clients}
-use Rattle.wl_session.specs.declared.steps.ConnectError.TheVariants.{Memory}
-use Rattle.wl_session.specs.declared.steps.Done.{Done}
-use Rattle.wl_session.specs.declared.steps.Done.TheVariants as gave
-use Rattle.wl_session.specs.Step.{Act, Connect, Feed, Store, Leave, Tick, Send, Close, Steps}
+use Rattle.wl_desk.specs.declared.answers.ConnectError.TheVariants.{Memory}
+use Rattle.wl_desk.specs.declared.answers.Done.{Done}
+use Rattle.wl_desk.specs.declared.answers.Done.TheVariants as gave
+use Rattle.wl_desk.specs.Steps.{Act, Connect, Feed, Store, Leave, Tick, Send, Close, Steps}
 use Rattle.wl_session.specs.Run.{Film, Shows}
 
 -- Two pieces of a stream, one after the other, lead where they lead as one.

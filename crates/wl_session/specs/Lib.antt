@@ -1,4 +1,3 @@
-pub mod Agreement
 pub mod Laws
 pub mod Promises
 pub mod Run
@@ -8,8 +7,10 @@ pub mod View
 pub mod Viewer
 pub mod StoreWrites
 pub use Rattle.wl_client.specs.Peer
+pub use Rattle.wl_desk.specs.Agreement
 pub use Rattle.wl_desk.specs.Desktop
 pub use Rattle.wl_desk.specs.Served
+pub use Rattle.wl_desk.specs.Steps
 pub use Rattle.wl_paint.specs.Damage
 pub use Rattle.wl_paint.specs.Frame
 pub use Rattle.wl_paint.specs.Image

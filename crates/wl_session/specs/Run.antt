@@ -4,10 +4,11 @@ use Rattle.std.specs.Prelude.{ℕ, ◌≡◌, ◌+◌, List, [], ◌∷◌, ◌+
 use Rattle.wl_paint.specs.Frame.{Image, color_at}
 use Rattle.wl_desk.specs.Desktop.{Desktop}
 use Rattle.wl_desk.specs.Served.{Unserved, beyond_clients}
-use Rattle.wl_session.specs.Step.{Act, Connect, Feed, Store, Leave, Tick, Send, Close, Steps, act_of}
-use Rattle.wl_session.specs.Agreement.{Agrees}
+use Rattle.wl_desk.specs.Steps.{Act, Connect, Feed, Store, Leave, Tick, Send, Close, Steps}
+use Rattle.wl_session.specs.Step.{act_of}
+use Rattle.wl_desk.specs.Agreement.{Agrees}
 use Rattle.wl_session.specs.View.{SessionView}
-use Rattle.wl_session.specs.declared.steps.Done.{Done}
+use Rattle.wl_desk.specs.declared.answers.Done.{Done}
 use Rattle.wl_session.specs.declared.steps.Step.{Step}
 use Rattle.wl_session.specs.declared.steps.RunError.{RunError}
 use Rattle.wl_session.specs.declared.steps.RunError.TheVariants.{Memory}

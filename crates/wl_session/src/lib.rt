@@ -1,7 +1,6 @@
 //! The core of a compositor: clients, their streams, and steps of all of them in any order.
 #![tactic(auto)]
 
-mod desks;
 mod laws;
 mod sessions;
 mod shots;
@@ -13,7 +12,8 @@ pub use laws::{
 };
 pub use sessions::{Config, Session};
 pub use shots::{Frame, Run, Shot};
-pub use steps::{ClientNo, ConnectError, Done, Fed, RunError, Step, Stored};
+pub use steps::{RunError, Step};
 pub use wl_blend::Rgb;
 pub use wl_client::{Cause, StoreNo};
+pub use wl_desk::{ClientNo, ConnectError, Done, Fed, Stored};
 pub use wl_paint::{Damage, FrameError, Framebuffer, MAX_SIDE, write_ppm};

@@ -8,16 +8,17 @@ ghost use Rattle.std.specs.Vec.{vec_capacity};
 ghost use Rattle.wl_paint.specs.Damage.{has};
 ghost use Rattle.wl_desk.specs.Desktop.{Desktop, empty};
 ghost use Rattle.wl_paint.specs.Frame.{color_at, filled, is_side};
-ghost use Rattle.wl_session.specs.Step.{Connect, Feed, Store, Leave, Tick, Send, Close, act_of, peer_at, unsent_of, status_of, store_size_of};
-ghost use Rattle.wl_session.specs.Agreement.{Agrees, TakesStep};
+ghost use Rattle.wl_desk.specs.Steps.{Connect, Feed, Store, Leave, Tick, Send, Close, peer_at, unsent_of, status_of, store_size_of};
+ghost use Rattle.wl_session.specs.Step.{act_of};
+ghost use Rattle.wl_desk.specs.Agreement.{Agrees, TakesStep};
 
-use crate::desks::Desk;
 use crate::shots::{Frame, Shot};
-use crate::steps::{ClientNo, ConnectError, Done, Fed, RunError, Step, Stored};
+use crate::steps::{RunError, Step};
 use std::alloc::{AllocError, Allocator};
 use std::marker::Model;
 use wl_blend::Rgb;
 use wl_client::{Output, StoreNo};
+use wl_desk::{ClientNo, ConnectError, Desk, Done, Fed, Stored};
 use wl_paint::{Damage, FrameError, Framebuffer};
 
 /// What a session is made with.
