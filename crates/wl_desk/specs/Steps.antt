@@ -19,15 +19,21 @@ use Rattle.wl_desk.specs.Laws.{status_in}
 use Rattle.wl_desk.specs.Served.{Unserved}
 use Rattle.wl_desk.specs.Step.{Feeds}
 
--- a step, with the bytes of a piece as a list: a client connects, a piece of its stream or bytes for a store come, it goes, a frame is shown,
--- so many bytes were sent to it, its number is given back
+-- a step, of the client with a number
 pub data Act : Type 0 where
+  -- a client connects
   Connect : Act
+  -- a piece of a client's stream comes
   Feed : ℕ → List ℕ → Act
+  -- bytes are put into a client's store, from one byte of it on
   Store : ℕ → ℕ → ℕ → List ℕ → Act
+  -- a client goes
   Leave : ℕ → Act
+  -- a frame is shown, at this time
   Tick : ℕ → Act
+  -- so many of a client's unsent bytes were sent
   Send : ℕ → ℕ → Act
+  -- the number of a client that ended is given back
   Close : ℕ → Act
 
 abbrev pub fed_of : Option Cause → Fed
