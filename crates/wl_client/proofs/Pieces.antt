@@ -17,14 +17,14 @@ use Rattle.wl_client.specs.Judgement.{judge}
 use Rattle.wl_client.specs.Peer.{Peer, answers_to, changed, counted, ended, has_room, known_of, queued, takes_memory, with_rest, QueuesOr, Queues, Errs, LacksMemory, WantsOr, Acts, Answers, Takes, Serves, Reaches, IsIdle, Stops, FeedsAt, Feeds}
 
 -- more bytes come behind: to a client that lives
-abbrev grown_at : Option Cause → List ℕ → Peer → Peer
+abbrev pub grown_at : Option Cause → List ℕ → Peer → Peer
 grown_at None more p = with_rest (p.rest ++ more) p
 grown_at (Some cause) more p = p
 
-abbrev grown : List ℕ → Peer → Peer
+abbrev pub grown : List ℕ → Peer → Peer
 grown more p = grown_at p.status more p
 
-grown_alive : (more : List ℕ) (p : Peer) → p.status ≡ None → grown more p ≡ with_rest (p.rest ++ more) p
+pub grown_alive : (more : List ℕ) (p : Peer) → p.status ≡ None → grown more p ≡ with_rest (p.rest ++ more) p
 grown_alive more p alive = ap (λ (s : Option Cause). grown_at s more p) alive
 
 -- bytes that come behind an end are dropped
@@ -38,19 +38,19 @@ QueuesOr-grown false Later Then more p q alive next h = ended_grown Slow more p 
 QueuesOr-grown true Later Then more p q alive next (inl h) = inl (ended_grown Memory more p q alive h)
 QueuesOr-grown true Later Then more p q alive next (inr h) = inr (next h)
 
-Queues-grown : (events : List Said) (more : List ℕ) (p q : Peer) → p.status ≡ None → Queues events p q → Queues events (with_rest (p.rest ++ more) p) (grown more q)
+pub Queues-grown : (events : List Said) (more : List ℕ) (p q : Peer) → p.status ≡ None → Queues events p q → Queues events (with_rest (p.rest ++ more) p) (grown more q)
 Queues-grown [] more p q alive h = ap (λ (x : Peer). grown more x) h ∙ grown_alive more p alive
 Queues-grown (e ∷ events) more p q alive h =
     let next = QueuesOr-grown (has_room p.unsent e) (Queues events (queued e p) q) (Queues events (with_rest (p.rest ++ more) (queued e p)) (grown more q)) more p q alive (Queues-grown events more (queued e p) q alive) h in
     subst (λ (x : Peer). QueuesOr (has_room p.unsent e) (Queues events (with_rest (p.rest ++ more) (queued e p)) (grown more q)) x (grown more q)) (grown_alive more p alive) next
 
-Errs-grown : (refusal : Refusal) (more : List ℕ) (p q : Peer) → p.status ≡ None → Errs refusal p q → Errs refusal (with_rest (p.rest ++ more) p) (grown more q)
+pub Errs-grown : (refusal : Refusal) (more : List ℕ) (p q : Peer) → p.status ≡ None → Errs refusal p q → Errs refusal (with_rest (p.rest ++ more) p) (grown more q)
 Errs-grown refusal more p q alive h =
     let last = ended (Protocol refusal.object (code_number refusal.code)) (queued (error_told refusal) p) in
     let next = QueuesOr-grown (has_room p.unsent (error_told refusal)) (q ≡ last) (grown more q ≡ last) more p q alive (λ e. ap (λ (x : Peer). grown more x) e) h in
     subst (λ (x : Peer). QueuesOr (has_room p.unsent (error_told refusal)) (grown more q ≡ last) x (grown more q)) (grown_alive more p alive) next
 
-LacksMemory-grown : (more : List ℕ) (p q : Peer) → p.status ≡ None → LacksMemory p q → LacksMemory (with_rest (p.rest ++ more) p) (grown more q)
+pub LacksMemory-grown : (more : List ℕ) (p q : Peer) → p.status ≡ None → LacksMemory p q → LacksMemory (with_rest (p.rest ++ more) p) (grown more q)
 LacksMemory-grown more p q alive (inl h) = inl (ap (λ (x : Peer). grown more x) h)
 LacksMemory-grown more p q alive (inr h) = inr (h.0, ap (λ (x : Peer). grown more x) h.1)
 
@@ -60,7 +60,7 @@ WantsOr-grown true Later Then more p q alive next (inl h) = inl (LacksMemory-gro
 WantsOr-grown true Later Then more p q alive next (inr h) = inr (next h)
 
 -- what a message changes is neither whether the client lives nor what came from it
-changed-status : (action : Action) (p : Peer) → (changed action p).status ≡ p.status
+pub changed-status : (action : Action) (p : Peer) → (changed action p).status ≡ p.status
 changed-status (Sync callback) p = refl
 changed-status (GetRegistry registry) p = refl
 changed-status (Bind id interface version) p = refl
@@ -74,7 +74,7 @@ changed-status (ResizePool store size) p = refl
 changed-status (DestroyPool id store) p = refl
 changed-status (DestroyBuffer id store) p = refl
 
-changed-rest : (action : Action) (p : Peer) (rest : List ℕ) → with_rest rest (changed action p) ≡ changed action (with_rest rest p)
+pub changed-rest : (action : Action) (p : Peer) (rest : List ℕ) → with_rest rest (changed action p) ≡ changed action (with_rest rest p)
 changed-rest (Sync callback) p rest = refl
 changed-rest (GetRegistry registry) p rest = refl
 changed-rest (Bind id interface version) p rest = refl
@@ -88,7 +88,7 @@ changed-rest (ResizePool store size) p rest = refl
 changed-rest (DestroyPool id store) p rest = refl
 changed-rest (DestroyBuffer id store) p rest = refl
 
-changed-kept : (action : Action) (p : Peer) → (changed action p).rest ≡ p.rest
+pub changed-kept : (action : Action) (p : Peer) → (changed action p).rest ≡ p.rest
 changed-kept (Sync callback) p = refl
 changed-kept (GetRegistry registry) p = refl
 changed-kept (Bind id interface version) p = refl
@@ -177,7 +177,7 @@ split-append r more some =
     ∙ same_split _ _ _ (nat_lt (length all) 8) (nat_lt (length all) (size_of r)) _ _ _ some_by (nat_lt-false _ _ 8 longer) (nat_lt-false _ _ (size_of r) longer)
     ∙ sym (split_is r)
 
-split-long : (r : List ℕ) → split_of r ≢ More → 8 ≤ length r
+pub split-long : (r : List ℕ) → split_of r ≢ More → 8 ≤ length r
 split-long r some =
     let some_by = λ (e : split_by (nat_lt (length r) 8) (is_size (size_of r)) (nat_lt (length r) (size_of r)) (word_of 0 r) (word_of 4 r % 65536) (size_of r) ≡ More). some (split_is r ∙ e) in
     nat_lt-le (length r) 8 (not_short _ _ _ _ _ _ some_by)

@@ -20,7 +20,7 @@ use Rattle.wl_client.specs.Objects.{Object, Objects, fits}
 use Rattle.wl_client.specs.Told.{display_error}
 use Rattle.wl_desk.specs.Ask.{Ask, owns}
 use Rattle.wl_desk.specs.Desktop.{Resident}
-use Rattle.wl_desk.specs.Laws.{beyond_clients}
+use Rattle.wl_desk.specs.Served.{beyond_clients}
 use Rattle.wl_desk.specs.Step.{ask_of, judge}
 use Rattle.wl_client.specs.Peer.{known_of}
 

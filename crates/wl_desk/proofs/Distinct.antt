@@ -1,19 +1,19 @@
 -- No surface has two windows where no toplevel stands twice and no surface is linked.
-use Rattle.std.proofs.Common.{◌≡◌, ℕ, zero, suc, Bool, true, false, List, [], ◌∷◌, ◌++◌, Option, Some, None, refl, ap, sym, subst, ◌∙◌, map}
-use Rattle.std.specs.Prelude.{◌==◌, ◌&&◌, ◌||◌, flat_map}
+use Rattle.std.proofs.Common.{◌≡◌, ℕ, suc, Bool, true, false, List, [], ◌∷◌, ◌++◌, Option, Some, None, refl, ap, sym, subst, ◌∙◌}
+use Rattle.std.specs.Prelude.{◌==◌, ◌&&◌, ◌||◌}
 use Rattle.std.specs.List.{list_any}
 use Rattle.std.proofs.lemmas.List.{append-nil}
 use Rattle.std.proofs.lemmas.Bool.{eqb-true}
 use Rattle.wl_surface.specs.Request.{Buffer}
-use Rattle.wl_surface.specs.State.{History, Values, applied}
+use Rattle.wl_surface.specs.State.{History, applied}
 use Rattle.wl_surface.specs.Surfaces.{Surfaces, history_in}
 use Rattle.wl_scene.proofs.Lone.{no-child, order-once}
 use Rattle.wl_scene.specs.Stacking.{Owned, Standing, is_of, root_of, windows_on}
 use Rattle.wl_scene.specs.Windows.{Owner, Place, Window, corner_at, counting, member_windows, owner_of, shown_windows, surface_windows, tree, window_of, window_showing, window_with}
-use Rattle.wl_desk.specs.Desktop.{Desktop, owned_in, windows_in}
+use Rattle.wl_desk.specs.Desktop.{owned_in}
 use Rattle.wl_desk.specs.Laws.{AreApart, WindowsAreDistinct}
 use Rattle.wl_desk.specs.Marks.{AreDistinct, is_same_surface}
-use Rattle.wl_desk.proofs.Stacks.{Each, and-left, and-right, any-more, differ, each-map, equal-numbers, same-number, unless}
+use Rattle.wl_desk.proofs.Stacks.{Each, and-left, and-right, differ, each-map, equal-numbers, unless}
 
 -- the window of a surface, if it shows a buffer
 own : Owner → ℕ → Place → Option History → List Window

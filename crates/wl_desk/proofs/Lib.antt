@@ -1,6 +1,8 @@
+pub mod Desktops
 pub mod Bounds
 pub mod Rows
 pub mod Toplevels
+pub mod Pieces
 pub mod Places
 pub mod OneRun
 pub mod Others

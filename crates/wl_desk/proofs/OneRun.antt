@@ -16,7 +16,8 @@ use Rattle.wl_desk.specs.Ask.{Ask}
 use Rattle.wl_desk.specs.Desktop.{Desktop, Resident, become, client_at, client_in}
 use Rattle.wl_desk.specs.Laws.{OneRun, status_in, status_of}
 use Rattle.wl_desk.specs.Plain.{acted, answered, served, served_all, served_at, served_by, taken}
-use Rattle.wl_desk.specs.Step.{Unserved, Acts, Answers, Becomes, FeedsAt, Reaches, Serves, ServesAt, StopsAt, Takes, WantsOr, answers_to, changed_by, judge, stacked, takes_memory, with_peer}
+use Rattle.wl_desk.specs.Served.{Unserved}
+use Rattle.wl_desk.specs.Step.{Acts, Answers, Becomes, FeedsAt, Reaches, Serves, ServesAt, StopsAt, Takes, WantsOr, answers_to, changed_by, judge, stacked, takes_memory, with_peer}
 use Rattle.wl_desk.proofs.Places.{stacked-clients, status-become}
 
 lacking : (p q : Peer) → LacksMemory p q → q.status ≡ Some Memory

@@ -13,7 +13,8 @@ use Rattle.wl_scene.specs.Stacking.{Standing, is_of, with_mapped}
 use Rattle.wl_desk.specs.Ask.{Ask, Own, CreateSurface, DestroySurface, AskSurface, CommitSurface, DestroyBase, GetXdgSurface, DestroyXdgSurface, GetToplevel, Acknowledge, ConfigureAgain, DestroyToplevel, Ignore}
 use Rattle.wl_desk.specs.Desktop.{Desktop, Resident, become, become_by, client_at, client_in}
 use Rattle.wl_desk.specs.Laws.{OthersStay, toplevels_of}
-use Rattle.wl_desk.specs.Step.{Unserved, Answers, Becomes, FeedsAt, Reaches, ServesAt, StopsAt, Takes, WantsOr, changed_by, stacked, takes_memory}
+use Rattle.wl_desk.specs.Served.{Unserved}
+use Rattle.wl_desk.specs.Step.{Answers, Becomes, FeedsAt, Reaches, ServesAt, StopsAt, Takes, WantsOr, changed_by, stacked, takes_memory}
 use Rattle.wl_desk.proofs.Places.{other-become, stacked-clients}
 
 abbrev of : ℕ → List Standing → List Standing

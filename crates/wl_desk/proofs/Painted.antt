@@ -1,5 +1,5 @@
 -- A point that a step doesn't mark is painted as before, if the windows there show the colours that they did.
-use Rattle.std.proofs.Common.{◌≡◌, ℕ, zero, suc, Bool, true, false, List, [], ◌∷◌, Option, Some, refl, ap, sym, subst, ◌∙◌}
+use Rattle.std.proofs.Common.{◌≡◌, ℕ, suc, Bool, true, false, List, [], ◌∷◌, Some, refl, ap, sym, ◌∙◌}
 use Rattle.std.specs.Prelude.{ℤ, pos, ◌-ℤ◌, ◌&&◌, ◌||◌, not, filter, fold, cond, slice_get, if◌then◌else◌}
 use Rattle.std.specs.List.{list_any}
 use Rattle.wl_geom.specs.Rect.{in_rect}
@@ -8,10 +8,10 @@ use Rattle.wl_blend.specs.declared.color.Rgb.{Rgb}
 use Rattle.wl_scene.specs.Windows.{Window, contains}
 use Rattle.wl_desk.specs.Desktop.{Desktop, windows_in}
 use Rattle.wl_desk.specs.Laws.{ColorsStay, ScratchStays}
-use Rattle.wl_desk.specs.Marks.{Applied, AreDistinct, has_moved_past, has_same_record, in_output, is_before, is_changed_at, is_damaged_at, is_kept_in, is_restacked_at, is_same_surface, shared_by}
-use Rattle.wl_desk.specs.Moments.{applied_between, marks_at_least}
-use Rattle.wl_desk.specs.Scratch.{color_in, over, scratch}
-use Rattle.wl_desk.proofs.Stacks.{AreSame, Each, Fields, and-both, any-more, before-cons, differ, each-both, each-false, each-map, fields, or-left, or-right, record-turned, same-stack, surface-self, unless}
+use Rattle.wl_desk.specs.Marks.{AreDistinct, has_moved_past, has_same_record, in_output, is_before, is_changed_at, is_damaged_at, is_kept_in, is_restacked_at, is_same_surface, shared_by}
+use Rattle.wl_desk.specs.Moments.{applied_between}
+use Rattle.wl_desk.specs.Scratch.{color_in, over}
+use Rattle.wl_desk.proofs.Stacks.{AreSame, Each, and-both, before-cons, differ, each-both, each-false, each-map, fields, or-left, or-right, same-stack, surface-self, unless}
 
 -- ---- the windows that hold the point
 

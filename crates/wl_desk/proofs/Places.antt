@@ -4,7 +4,7 @@ use Rattle.wl_client.specs.declared.clients.Cause.{Cause}
 use Rattle.wl_client.specs.Peer.{Peer}
 use Rattle.wl_shell.specs.Shell.{Effect, Stays, Unconfigured, Configures, Maps, Unmaps}
 use Rattle.wl_desk.specs.Ask.{Ask, Own, CreateSurface, DestroySurface, AskSurface, CommitSurface, DestroyBase, GetXdgSurface, DestroyXdgSurface, GetToplevel, Acknowledge, ConfigureAgain, DestroyToplevel, Ignore}
-use Rattle.wl_desk.specs.Desktop.{Desktop, Resident, become, become_by, client_at, client_in, place, resident_of, with_number, with_place}
+use Rattle.wl_desk.specs.Desktop.{Desktop, Resident, become, become_by, client_at, client_in, place, resident_of, with_client, with_number, with_place}
 use Rattle.wl_desk.specs.Laws.{status_in, status_of}
 use Rattle.wl_desk.specs.Step.{stacked}
 
@@ -13,7 +13,7 @@ place-same [] k x r h = absurd (cc)
 place-same (y ∷ rs) zero x r h = refl
 place-same (y ∷ rs) (suc k) x r h = place-same rs k x r h
 
-number-same : (clients : List (Option Resident)) (c : ℕ) (x : Option Resident) (r : Resident) → client_in clients c ≡ Some r → client_in (with_number c x clients) c ≡ x
+pub number-same : (clients : List (Option Resident)) (c : ℕ) (x : Option Resident) (r : Resident) → client_in clients c ≡ Some r → client_in (with_number c x clients) c ≡ x
 number-same clients zero x r h = absurd (cc)
 number-same clients (suc k) x r h = place-same clients k x r h
 
@@ -28,6 +28,32 @@ pub number-other : (clients : List (Option Resident)) (c other : ℕ) (x : Optio
 number-other clients c zero x differ = refl
 number-other clients zero (suc j) x differ = refl
 number-other clients (suc k) (suc j) x differ = place-other clients k j x (λ e. differ (ap (λ (n : ℕ). suc n) e))
+
+place-twice : (rs : List (Option Resident)) (k : ℕ) (x y : Option Resident) → with_place k x (with_place k y rs) ≡ with_place k x rs
+place-twice [] k x y = refl
+place-twice (r ∷ rs) zero x y = refl
+place-twice (r ∷ rs) (suc k) x y = ap (λ (qs : List (Option Resident)). r ∷ qs) (place-twice rs k x y)
+
+number-twice : (clients : List (Option Resident)) (c : ℕ) (x y : Option Resident) → with_number c x (with_number c y clients) ≡ with_number c x clients
+number-twice clients zero x y = refl
+number-twice clients (suc k) x y = place-twice clients k x y
+
+-- who was put there last is there
+pub client-twice : (c : ℕ) (x y : Option Resident) (d : Desktop) → with_client c x (with_client c y d) ≡ with_client c x d
+client-twice c x y d = ap (λ (clients : List (Option Resident)). record d { clients = clients }) (number-twice d.clients c x y)
+
+place-kept : (rs : List (Option Resident)) (k : ℕ) → with_place k (place rs k) rs ≡ rs
+place-kept [] k = refl
+place-kept (r ∷ rs) zero = refl
+place-kept (r ∷ rs) (suc k) = ap (λ (qs : List (Option Resident)). r ∷ qs) (place-kept rs k)
+
+number-kept : (clients : List (Option Resident)) (c : ℕ) → with_number c (client_in clients c) clients ≡ clients
+number-kept clients zero = refl
+number-kept clients (suc k) = place-kept clients k
+
+-- to put there who is there changes nothing
+pub client-kept : (c : ℕ) (d : Desktop) → with_client c (client_at c d) d ≡ d
+client-kept c d = ap (λ (clients : List (Option Resident)). record d { clients = clients }) (number-kept d.clients c)
 
 -- what is left of a client that is told something
 abbrev pub left_by : Option Cause → Resident → Peer → Resident

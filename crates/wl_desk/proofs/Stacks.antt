@@ -1,10 +1,10 @@
 -- Windows that share a point and of which nothing is marked there stand in the same order before and after.
-use Rattle.std.proofs.Common.{◌≡◌, ℕ, Bool, true, false, List, [], ◌∷◌, refl, ap, sym, subst, ◌∙◌, arith}
-use Rattle.std.specs.Prelude.{ℤ, ◌==◌, ◌&&◌, ◌||◌, int_le, not, if◌then◌else◌, filter, fold, cond}
+use Rattle.std.proofs.Common.{◌≡◌, ℕ, Bool, true, false, List, [], ◌∷◌, refl, sym, subst, ◌∙◌, arith}
+use Rattle.std.specs.Prelude.{ℤ, ◌==◌, ◌&&◌, ◌||◌, if◌then◌else◌}
 use Rattle.std.specs.List.{list_any}
 use Rattle.std.proofs.lemmas.Bool.{eqb-false, eqb-true}
 use Rattle.std.proofs.lemmas.Int.{ints}
-use Rattle.wl_scene.specs.Windows.{Window, contains}
+use Rattle.wl_scene.specs.Windows.{Window}
 use Rattle.wl_desk.specs.Marks.{AreDistinct, has_same_record, int_eq, is_before, is_same_surface}
 
 -- ---- truth

@@ -14,7 +14,7 @@ use Rattle.wl_desk.specs.Desktop.{Desktop, Resident, arrival, client_at, empty, 
 use Rattle.wl_desk.specs.Moments.{marks_at_least}
 use Rattle.wl_desk.specs.Plain.{fed}
 use Rattle.wl_desk.specs.Scratch.{scratch}
-use Rattle.wl_desk.specs.Step.{beyond_toplevels}
+use Rattle.wl_desk.specs.Served.{beyond_toplevels}
 use Rattle.wl_desk.specs.Ask.{CreateSurface, ConfigureAgain}
 use Rattle.wl_desk.specs.WlSurface.{refuse_limit, surface_created}
 use Rattle.wl_desk.specs.XdgShell.{configured_again}

@@ -1,19 +1,19 @@
 -- Laws of the plain desktop.
 use Rattle.std.specs.Prelude.{ℕ, ◌≡◌, ◌≢◌, ◌==◌, ℤ, [], ◌∷◌, ◌-ℤ◌, slice_get, List, Option, Some, None, IsTrue, true, false, filter}
 use Rattle.std.specs.List.{list_any}
-use Rattle.wl_proto.specs.declared.interface.Interface.TheVariants.{WlCompositor, WlSurface, WlSubcompositor, WlSubsurface, WlSeat, WlPointer, XdgWmBase, XdgPositioner, XdgSurface, XdgToplevel, XdgPopup}
 use Rattle.wl_client.specs.declared.clients.Cause.{Cause}
 use Rattle.wl_client.specs.declared.clients.Cause.TheVariants.{Memory}
 use Rattle.wl_client.specs.Peer.{Peer}
 use Rattle.wl_client.specs.Peer.{Feeds as FeedsAlone}
-use Rattle.wl_scene.specs.Stacking.{Standing, is_of, nothing_owned}
+use Rattle.wl_scene.specs.Stacking.{Standing, is_of, without_client}
 use Rattle.wl_scene.specs.Windows.{Window, contains}
 use Rattle.wl_blend.specs.declared.color.Rgb.{Rgb}
-use Rattle.wl_desk.specs.Desktop.{Desktop, Resident, client_at, owned_in, windows_in}
+use Rattle.wl_desk.specs.Desktop.{Desktop, Resident, client_at, owned_in, resident_of, windows_in, with_client}
 use Rattle.wl_desk.specs.Marks.{Applied, AreDistinct, at_least, at_most, has_same_record, in_output}
 use Rattle.wl_desk.specs.Moments.{applied_between, marks_at_least}
 use Rattle.wl_desk.specs.Scratch.{color_in, scratch}
-use Rattle.wl_desk.specs.Step.{Unserved, Feeds}
+use Rattle.wl_desk.specs.Served.{Unserved, beyond_clients}
+use Rattle.wl_desk.specs.Step.{Feeds}
 
 -- What is marked at least is among what is marked at most.
 abbrev pub LeastIsMost : Type 0
@@ -78,29 +78,21 @@ OthersStay =
     → Feeds unserved c piece r old new → c ≢ other
     → (client_at other new ≡ client_at other old) × (toplevels_of other new ≡ toplevels_of other old)
 
--- what is left out where a client's own interfaces are served, and no surfaces, shell and pointers
-abbrev pub beyond_clients : Unserved
-beyond_clients WlCompositor opcode = opcode == 0
-beyond_clients WlSurface opcode = true
-beyond_clients WlSubcompositor opcode = true
-beyond_clients WlSubsurface opcode = true
-beyond_clients WlSeat opcode = opcode == 0
-beyond_clients WlPointer opcode = true
-beyond_clients XdgWmBase opcode = true
-beyond_clients XdgPositioner opcode = true
-beyond_clients XdgSurface opcode = true
-beyond_clients XdgToplevel opcode = true
-beyond_clients XdgPopup opcode = true
-beyond_clients interface opcode = false
+-- a client has nothing but its own objects: no surfaces and xdg_surfaces, links, positioners, callbacks and pointers
+abbrev pub OwnsNothing : Resident → Type 0
+OwnsNothing r = r ≡ resident_of r.peer
 
 -- the client there is this one, and owns nothing
 abbrev pub IsAlone : Peer → Option Resident → Type 0
 IsAlone p None = ⊥
-IsAlone p (Some r) = (r.peer ≡ p) × (r.owned ≡ nothing_owned)
+IsAlone p (Some r) = (r.peer ≡ p) × OwnsNothing r
+
+-- Where no toplevel of a client's stands, nothing of the desktop changes but the client.
+abbrev pub IsAllThatChanges : ℕ → Desktop → Desktop → Type 0
+IsAllThatChanges c old new = without_client c old.standing ≡ old.standing → new ≡ with_client c (client_at c new) old
 
 -- What a piece makes of a client by itself, it makes of the desktop's client where no more than that is served.
 abbrev pub ServedAlone : Type 0
 ServedAlone =
-    (c : ℕ) (piece : List ℕ) (r : Resident) (p q : Peer) (old : Desktop) → client_at c old ≡ Some r → r.peer ≡ p → r.owned ≡ nothing_owned
-    → FeedsAlone piece p q
-    → (new : Desktop) × Feeds beyond_clients c piece r old new × IsAlone q (client_at c new)
+    (c : ℕ) (piece : List ℕ) (r : Resident) (p q : Peer) (old : Desktop) → client_at c old ≡ Some r → IsAlone p (Some r) → FeedsAlone piece p q
+    → (new : Desktop) × Feeds beyond_clients c piece r old new × IsAlone q (client_at c new) × IsAllThatChanges c old new

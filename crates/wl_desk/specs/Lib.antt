@@ -1,3 +1,4 @@
+pub mod Agreement
 pub mod Ask
 pub mod Desktop
 pub mod Laws
@@ -8,6 +9,9 @@ pub mod Plain
 pub mod Releases
 pub mod Residents
 pub mod Scratch
+pub mod Served
 pub mod Step
+pub mod Steps
+pub mod View
 pub mod WlSurface
 pub mod XdgShell

@@ -11,7 +11,8 @@ use Rattle.wl_client.specs.Plain.{refused, told}
 use Rattle.wl_client.specs.Told.{display_error}
 use Rattle.wl_desk.specs.Ask.{Ask}
 use Rattle.wl_desk.specs.Desktop.{Desktop, Resident, become, client_at}
-use Rattle.wl_desk.specs.Step.{Unserved, answers_to, changed_by, judge, stacked, with_peer}
+use Rattle.wl_desk.specs.Served.{Unserved}
+use Rattle.wl_desk.specs.Step.{answers_to, changed_by, judge, stacked, with_peer}
 
 abbrev pub acted : Ask → ℕ → Resident → Desktop → Desktop
 acted ask c r d = become c (changed_by ask r) (told (answers_to ask r) (changed_by ask r).peer) (stacked c ask r d)

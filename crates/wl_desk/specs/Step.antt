@@ -5,7 +5,7 @@ use Rattle.wl_wire.specs.Wire.{Word, Number, Block, split_of}
 use Rattle.wl_wire.specs.declared.header.Split.{Split}
 use Rattle.wl_wire.specs.declared.header.Split.TheVariants.{Message as Whole, More, Bad}
 use Rattle.wl_proto.specs.declared.interface.Interface.{Interface}
-use Rattle.wl_proto.specs.declared.interface.Interface.TheVariants.{WlCompositor, WlSurface, WlSubcompositor, WlSubsurface, WlSeat, WlPointer, XdgWmBase, XdgPositioner, XdgSurface, XdgToplevel, XdgPopup}
+use Rattle.wl_proto.specs.declared.interface.Interface.TheVariants.{WlCompositor, WlSurface, XdgWmBase, XdgSurface, XdgToplevel}
 use Rattle.wl_proto.specs.Messages.{Message, says}
 use Rattle.wl_store.specs.Stores.{Stock}
 use Rattle.wl_client.specs.declared.actions.Action.{Action}
@@ -29,25 +29,9 @@ use Rattle.wl_shell.specs.Shell.{with_change as with_xdg_change, with_new as wit
 use Rattle.wl_scene.specs.Stacking.{with_mapped, without_surface_of}
 use Rattle.wl_desk.specs.Ask.{Ask, Own, CreateSurface, DestroySurface, AskSurface, CommitSurface, DestroyBase, GetXdgSurface, DestroyXdgSurface, GetToplevel, Acknowledge, ConfigureAgain, DestroyToplevel, Ignore, owns}
 use Rattle.wl_desk.specs.Desktop.{Desktop, Resident, become, client_at}
+use Rattle.wl_desk.specs.Served.{Unserved}
 use Rattle.wl_desk.specs.WlSurface.{refuse_limit, surface_ask, surface_created}
 use Rattle.wl_desk.specs.XdgShell.{base_ask, toplevel_ask, xdg_ask}
-
--- Which requests aren't served, by interface and opcode: they are refused as a limit would be.
-abbrev pub Unserved : Type 0
-Unserved = Interface → ℕ → Bool
-
--- what is left out where toplevels are served, but no frame callbacks, subsurfaces, popups and pointers
-abbrev pub beyond_toplevels : Unserved
-beyond_toplevels WlSurface opcode = opcode == 3
-beyond_toplevels WlSubcompositor opcode = true
-beyond_toplevels WlSubsurface opcode = true
-beyond_toplevels WlSeat opcode = opcode == 0
-beyond_toplevels WlPointer opcode = true
-beyond_toplevels XdgWmBase opcode = opcode == 1
-beyond_toplevels XdgPositioner opcode = true
-beyond_toplevels XdgSurface opcode = opcode == 2
-beyond_toplevels XdgPopup opcode = true
-beyond_toplevels interface opcode = false
 
 -- the request's own errors, and what it asks
 abbrev pub own_ask : Resident → ℕ → ℕ → Message → Result Ask Refusal

@@ -1,13 +1,18 @@
-//! The desk: the windows of all clients, what a message does to them, and which points a step marks to be painted again.
+//! The desk: all clients by number, and in definitions their windows, what a message does to them, and which points a step marks to be
+//! painted again.
 #![tactic(auto)]
 
+mod answers;
+mod desks;
 mod residents;
 mod wl_compositor;
 mod wl_surface;
 
-pub use residents::Resident;
 
 ghost use Rattle.wl_desk.specs.Laws.{LeastIsMost, OneRun, OthersStay, ScratchStays, ServedAlone, WindowsAreDistinct};
+
+pub use answers::{ClientNo, ConnectError, Done, Fed, Stored};
+pub use desks::Desk;
 
 /// What a step marks at least is among what it marks at most.
 pub fn least_is_most()

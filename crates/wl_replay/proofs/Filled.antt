@@ -1,10 +1,10 @@
 -- A store that is filled from a file, read by read.
 use Rattle.std.proofs.Common.{◌≡◌, ◌<◌, ◌≤◌, ◌+◌, ℕ, List, [], ◌∷◌, length, sym, subst, inr, arith}
-use Rattle.wl_session.specs.Agreement.{Agrees, TakesStep}
-use Rattle.wl_session.specs.Step as act
-use Rattle.wl_session.specs.declared.steps.Done.{Done}
-use Rattle.wl_session.specs.Desktop.{Desktop}
-use Rattle.wl_session.specs.View.{DeskView}
+use Rattle.wl_desk.specs.Agreement.{Agrees, TakesStep}
+use Rattle.wl_desk.specs.Steps as act
+use Rattle.wl_desk.specs.declared.answers.Done.{Done}
+use Rattle.wl_desk.specs.Desktop.{Desktop}
+use Rattle.wl_desk.specs.View.{DeskView}
 use Rattle.wl_replay.specs.declared.place.Place.{Place}
 use Rattle.wl_replay.specs.Side.{Files}
 use Rattle.wl_replay.specs.Storing.{Fills, FillsAll, Puts, more}

@@ -4,14 +4,14 @@ use Rattle.std.specs.Prelude.{IfErr, IfOk, Ok, Err}
 use Rattle.std.specs.Io.KnownBytes.{IsAtEnd}
 use Rattle.std.proofs.KnownBytes.{Appends-nil, Appends-trans}
 use Rattle.std.proofs.lemmas.List.{length_push}
-use Rattle.wl_session.specs.Desktop.{Desktop, empty}
+use Rattle.wl_desk.specs.Desktop.{Desktop, empty}
 use Rattle.wl_session.specs.Frame.{Image, filled}
 use Rattle.wl_session.specs.View.{SessionView}
 use Rattle.wl_session.specs.declared.sessions.Config.{Config}
 use Rattle.wl_replay.specs.declared.error.Summary.{Summary}
 use Rattle.wl_replay.specs.declared.error.ReplayError.{ReplayError}
 use Rattle.wl_replay.specs.declared.error.ReplayError.TheVariants as error
-use Rattle.wl_session.specs.Agreement.{Agrees}
+use Rattle.wl_desk.specs.Agreement.{Agrees}
 use Rattle.wl_replay.specs.Report.{FailsAt, IsLackingLine, IsPlayed, Reported, StopsAs, TakesOne, more, none}
 use Rattle.wl_replay.specs.Side.{Files}
 use Rattle.wl_replay.specs.Told.{Counts, Stage, Stands, and_then, first_stage, words}

@@ -1,6 +1,6 @@
 -- The clients up to a number, one after another.
 use Rattle.std.proofs.Common.{ℕ, suc, ◌+◌, List, [], ◌++◌, refl, sym, subst, add-one}
-use Rattle.wl_session.specs.Desktop.{Desktop}
+use Rattle.wl_desk.specs.Desktop.{Desktop}
 use Rattle.wl_replay.specs.Clients.{TellsClient, TellsFirst}
 
 pub TellsFirst-none : (d : Desktop) → TellsFirst 0 d [] d

@@ -1,11 +1,12 @@
 -- What each client is sent after a line, and how it is closed.
 use Rattle.std.specs.Prelude.{◌≡◌, ℕ, zero, suc, Option, Some, None, List, [], ◌∷◌, ◌++◌, length}
-use Rattle.wl_session.specs.Desktop.{Desktop, peer_at}
-use Rattle.wl_session.specs.Step as act
-use Rattle.wl_session.specs.Step.{Steps, status_of, unsent_of}
-use Rattle.wl_session.specs.declared.steps.Done.{Done}
-use Rattle.wl_session.specs.declared.steps.Fed.{Fed}
-use Rattle.wl_session.specs.declared.steps.Fed.TheVariants.{Alive, Ended, NoClient}
+use Rattle.wl_desk.specs.Desktop.{Desktop}
+use Rattle.wl_desk.specs.Served.{beyond_clients}
+use Rattle.wl_desk.specs.Steps as act
+use Rattle.wl_desk.specs.Steps.{Steps, peer_at, status_of, unsent_of}
+use Rattle.wl_desk.specs.declared.answers.Done.{Done}
+use Rattle.wl_desk.specs.declared.answers.Fed.{Fed}
+use Rattle.wl_desk.specs.declared.answers.Fed.TheVariants.{Alive, Ended, NoClient}
 use Rattle.wl_replay.specs.Text.{end_line, to_line}
 
 -- All of a client's unsent bytes are sent, where there are any.
@@ -13,18 +14,18 @@ abbrev pub Sends : ℕ → Option (List ℕ) → Desktop → List ℕ → Deskto
 Sends client None old text new = (text ≡ []) × (new ≡ old)
 Sends client (Some []) old text new = (text ≡ []) × (new ≡ old)
 Sends client (Some (b ∷ bytes)) old text new =
-    (done : Done) × Steps old (act.Send client (length (b ∷ bytes))) done new × (text ≡ to_line client (b ∷ bytes))
+    (done : Done) × Steps beyond_clients old (act.Send client (length (b ∷ bytes))) done new × (text ≡ to_line client (b ∷ bytes))
 
 -- A client that ended is closed.
 abbrev pub Closes : ℕ → Fed → Desktop → List ℕ → Desktop → Type 0
-Closes client (Ended cause) old text new = (done : Done) × Steps old (act.Close client) done new × (text ≡ end_line client cause)
+Closes client (Ended cause) old text new = (done : Done) × Steps beyond_clients old (act.Close client) done new × (text ≡ end_line client cause)
 Closes client Alive old text new = (text ≡ []) × (new ≡ old)
 Closes client NoClient old text new = (text ≡ []) × (new ≡ old)
 
 abbrev pub TellsClient : ℕ → Desktop → List ℕ → Desktop → Type 0
 TellsClient client old text new =
-    (mid : Desktop) × (sent : List ℕ) × (closed : List ℕ) × Sends client (unsent_of (peer_at old client)) old sent mid
-    × Closes client (status_of (peer_at mid client)) mid closed new × (text ≡ sent ++ closed)
+    (mid : Desktop) × (sent : List ℕ) × (closed : List ℕ) × Sends client (unsent_of (peer_at client old)) old sent mid
+    × Closes client (status_of (peer_at client mid)) mid closed new × (text ≡ sent ++ closed)
 
 -- the clients 1 to n, in rising number
 unfoldable pub TellsFirst : ℕ → Desktop → List ℕ → Desktop → Type 0

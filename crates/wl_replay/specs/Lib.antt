@@ -6,9 +6,9 @@ pub mod Clients
 pub mod Side
 pub mod Storing
 pub mod Report
+pub use Rattle.wl_desk.specs.Desktop
+pub use Rattle.wl_desk.specs.Steps
 pub use Rattle.wl_session.specs.Damage
-pub use Rattle.wl_session.specs.Desktop
 pub use Rattle.wl_session.specs.Frame
 pub use Rattle.wl_session.specs.Image
 pub use Rattle.wl_session.specs.Run
-pub use Rattle.wl_session.specs.Step

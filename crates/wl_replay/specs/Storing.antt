@@ -1,16 +1,17 @@
 -- What lines put into stores.
 use Rattle.std.specs.Prelude.{◌≡◌, ◌≢◌, ◌<◌, ◌≤◌, ◌+◌, ◌⊎◌, ℕ, true, nat_lt, if◌then◌else◌, List, [], ◌∷◌, length, Option, Some, None, Result, Ok, Err}
-use Rattle.wl_session.specs.Agreement.{TakesStep}
-use Rattle.wl_session.specs.View.{DeskView}
-use Rattle.wl_session.specs.Desktop.{Desktop, peer_at}
-use Rattle.wl_session.specs.Step as act
-use Rattle.wl_session.specs.Step.{Steps, status_of, store_size_of}
-use Rattle.wl_session.specs.declared.steps.Done.{Done}
-use Rattle.wl_session.specs.declared.steps.Done.TheVariants as gave
-use Rattle.wl_session.specs.declared.steps.Fed.{Fed}
-use Rattle.wl_session.specs.declared.steps.Fed.TheVariants.{Alive, Ended, NoClient}
-use Rattle.wl_session.specs.declared.steps.Stored.{Stored}
-use Rattle.wl_session.specs.declared.steps.Stored.TheVariants as stored
+use Rattle.wl_desk.specs.Agreement.{TakesStep}
+use Rattle.wl_desk.specs.View.{DeskView}
+use Rattle.wl_desk.specs.Desktop.{Desktop}
+use Rattle.wl_desk.specs.Served.{beyond_clients}
+use Rattle.wl_desk.specs.Steps as act
+use Rattle.wl_desk.specs.Steps.{Steps, peer_at, status_of, store_size_of}
+use Rattle.wl_desk.specs.declared.answers.Done.{Done}
+use Rattle.wl_desk.specs.declared.answers.Done.TheVariants as gave
+use Rattle.wl_desk.specs.declared.answers.Fed.{Fed}
+use Rattle.wl_desk.specs.declared.answers.Fed.TheVariants.{Alive, Ended, NoClient}
+use Rattle.wl_desk.specs.declared.answers.Stored.{Stored}
+use Rattle.wl_desk.specs.declared.answers.Stored.TheVariants as stored
 use Rattle.wl_replay.specs.declared.place.Place.{Place}
 use Rattle.wl_replay.specs.Side.{Files, Lacks}
 use Rattle.wl_replay.specs.Text.{none_line, nostore_line, outside_line}
@@ -26,8 +27,8 @@ stored_text place stored.OutOfRange = outside_line place.client place.store
 -- one store write
 abbrev pub TellsStore : Place → List ℕ → Stage → Told → Stage → Type 0
 TellsStore place bytes old told new =
-    (answer : Stored) × Steps old.desktop (act.Store place.client place.store place.at bytes) (gave.Store answer) new.desktop × (new.frame ≡ old.frame)
-    × (told ≡ words (stored_text place answer))
+    (answer : Stored) × Steps beyond_clients old.desktop (act.Store place.client place.store place.at bytes) (gave.Store answer) new.desktop
+    × (new.frame ≡ old.frame) × (told ≡ words (stored_text place answer))
 
 -- A store's size, where a file may be put into it from this byte on; it may be from its end. Else why not.
 abbrev pub room_at : Fed → Option ℕ → ℕ → Result ℕ Stored
@@ -38,7 +39,7 @@ room_at Alive (Some size) at = if nat_lt size at then Err stored.OutOfRange else
 
 abbrev pub room_in : Desktop → Place → Result ℕ Stored
 room_in d place =
-    room_at (status_of (peer_at d place.client)) (store_size_of place.store (peer_at d place.client)) place.at
+    room_at (status_of (peer_at place.client d)) (store_size_of place.store (peer_at place.client d)) place.at
 
 -- Reads of the open file up to a byte of the store. Each gives at most 4,096 bytes, and at most what is left of the store, and
 -- they are written there by one step.
@@ -46,7 +47,7 @@ pub data Fills {S : Type 0} (files : Files S) (place : Place) (size : ℕ) (firs
   none : Fills files place size first opened place.at first opened
   more : (at : ℕ) (mid last : Desktop) (from to : S) (bytes : List ℕ) (done : Done) → Fills files place size first opened at mid from
       → bytes ≢ [] → length bytes ≤ 4096 → at + length bytes ≤ size → files.gives from bytes to
-      → Steps mid (act.Store place.client place.store at bytes) done last
+      → Steps beyond_clients mid (act.Store place.client place.store at bytes) done last
       → Fills files place size first opened (at + length bytes) last to
 
 -- bytes are written to a place, if there are any

@@ -2,9 +2,9 @@
 
 ghost use Rattle.std.specs.Prelude.{◌≡◌, ◌≤◌, ◌+◌, ◌*◌, ℕ, List, OnOk, IfOk, Ok, Err};
 ghost use Rattle.std.specs.Io.KnownBytes.{Appends};
-ghost use Rattle.wl_session.specs.Agreement.{Agrees};
-ghost use Rattle.wl_session.specs.Desktop.{Desktop, peer_at};
-ghost use Rattle.wl_session.specs.Step.{status_of, unsent_of};
+ghost use Rattle.wl_desk.specs.Agreement.{Agrees};
+ghost use Rattle.wl_desk.specs.Desktop.{Desktop};
+ghost use Rattle.wl_desk.specs.Steps.{peer_at, status_of, unsent_of};
 ghost use Rattle.wl_replay.specs.Clients.{Closes, Sends, TellsClient, TellsFirst};
 
 use crate::report::{write_end, write_to};
@@ -51,7 +51,7 @@ fn send<A: Allocator + Copy, W: Write>(
     writer: &mut W,
 ) -> io::Result<()>
     ensures told { OnOk result ((d : Desktop) → Agrees session.old.desk d → (e : Desktop) × (text : List ℕ)
-        × Sends client (unsent_of (peer_at d client)) d text e × Agrees session.new.desk e × Appends (W.contents writer.old) (W.contents writer.new) text) }
+        × Sends client (unsent_of (peer_at client d)) d text e × Agrees session.new.desk e × Appends (W.contents writer.old) (W.contents writer.new) text) }
     ensures frame { session.new.frame ≡ session.old.frame }
 {
     let Some(bytes) = session.out(client) else {
@@ -73,7 +73,7 @@ fn close<A: Allocator + Copy, W: Write>(
     writer: &mut W,
 ) -> io::Result<()>
     ensures told { OnOk result ((d : Desktop) → Agrees session.old.desk d → (e : Desktop) × (text : List ℕ)
-        × Closes client (status_of (peer_at d client)) d text e × Agrees session.new.desk e × Appends (W.contents writer.old) (W.contents writer.new) text) }
+        × Closes client (status_of (peer_at client d)) d text e × Agrees session.new.desk e × Appends (W.contents writer.old) (W.contents writer.new) text) }
     ensures frame { session.new.frame ≡ session.old.frame }
 {
     if let Fed::Ended(cause) = session.status(client) {

@@ -1,10 +1,8 @@
 pub mod Cuts
-pub mod Desktops
 pub mod OneStep
 pub mod OnlyRun
 pub mod Kept
 pub mod Others
-pub mod OthersLeft
 pub mod Runs
 pub mod Unmarked
 pub mod StoreWrites

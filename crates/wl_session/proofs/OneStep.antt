@@ -1,18 +1,17 @@
--- Where memory is there, a step of the desktop with surfaces is the only one.
-use Rattle.std.proofs.Common.{◌≡◌, ◌≢◌, ℕ, ◌+◌, List, Option, Some, None, refl, ap, sym, ◌∙◌, inl, inr}
-use Rattle.std.specs.Prelude.{◌⊎◌, Ok, Err, false}
+-- Where memory is there, a step is the only one.
+use Rattle.std.proofs.Common.{◌≡◌, ◌≢◌, ℕ, List, Option, Some, None, refl, ap, sym, ◌∙◌, inl, inr}
 use Rattle.wl_client.specs.declared.clients.Cause.{Cause}
 use Rattle.wl_client.specs.declared.clients.Cause.TheVariants as cause
 use Rattle.wl_client.specs.Peer.{Peer}
 use Rattle.wl_desk.specs.Desktop.{Desktop, Resident, client_at}
 use Rattle.wl_desk.specs.Laws.{status_in, status_of}
-use Rattle.wl_desk.specs.Step.{Unserved, FeedsAt}
+use Rattle.wl_desk.specs.Served.{Unserved}
+use Rattle.wl_desk.specs.Step.{FeedsAt}
 use Rattle.wl_desk.proofs.OneRun.{one_run-by}
-use Rattle.wl_session.specs.declared.steps.Done.{Done}
-use Rattle.wl_session.specs.declared.steps.Done.TheVariants as gave
-use Rattle.wl_session.specs.Desktop.{lowest}
-use Rattle.wl_session.specs.Step.{Act, Connect, Feed, Store, Leave, Tick, Send, Close, IsClosed, IsLeft, IsSent, IsStored, fed_of}
-use Rattle.wl_session.specs.Whole.{ChangesAt, ConnectsAt, HadMemory, IsFedAt, OneStep, left_so}
+use Rattle.wl_desk.specs.declared.answers.Done.{Done}
+use Rattle.wl_desk.specs.declared.answers.Done.TheVariants as gave
+use Rattle.wl_desk.specs.Steps.{Act, Connect, Feed, Store, Leave, Tick, Send, Close, ChangesAt, ConnectsAt, IsClosed, IsFedAt, IsLeft, IsSent, IsStored, Steps, fed_of, left_so, lowest}
+use Rattle.wl_session.specs.Laws.{HadMemory}
 
 -- what both are, they are alike
 alike : {X : Type 0} (a b c : X) → a ≡ c → b ≡ c → a ≡ b
@@ -57,7 +56,7 @@ fed_once unserved c piece (Some r) old new end done other is h k fine well =
     let same = fed_once-by unserved c piece r.peer.status r old new end done other (ap status_of is) h.0 k.0 fine well in
     (h.1 ∙ ap (λ (d : Desktop). gave.Feed (fed_of (status_in c d))) same ∙ sym k.1, same)
 
-pub one_step : OneStep
+pub one_step : (unserved : Unserved) (act : Act) (old new end : Desktop) (done other : Done) → Steps unserved old act done new → Steps unserved old act other end → HadMemory old done new → HadMemory old other end → (done ≡ other) × (new ≡ end)
 one_step unserved Connect old new end done other h k fine well = connects_once (lowest old.clients) old new end done other h k fine well
 one_step unserved (Feed c piece) old new end done other h k fine well = fed_once unserved c piece (client_at c old) old new end done other refl h k fine well
 one_step unserved (Store c store at bytes) old new end done other h k fine well = changes_once _ (stored_once store at bytes) _ done other c (client_at c old) old new end h k

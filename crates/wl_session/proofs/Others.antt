@@ -1,38 +1,74 @@
 -- What a step leaves to the clients that it isn't of.
-use Rattle.std.proofs.Common.{◌≡◌, ◌≢◌, ℕ, ◌+◌, zero, suc, List, [], ◌∷◌, Option, Some, None, refl, ap, ◌∙◌, inl, inr}
-use Rattle.wl_session.specs.declared.steps.Done.{Done}
-use Rattle.wl_client.specs.Peer.{Peer, newcomer}
-use Rattle.wl_session.specs.Desktop.{Desktop, lowest, peer_at, place, with_place, with_peer}
-use Rattle.wl_session.specs.Step.{Connect, Feed, Store, Leave, Tick, Send, Close, ConnectsAt, Changes}
-use Rattle.wl_session.specs.Laws.{given_by, OthersStay}
+use Rattle.std.proofs.Common.{◌≡◌, ◌≢◌, ℕ, ◌+◌, List, Option, Some, None, refl, ap, ◌∙◌, inl, inr}
+use Rattle.std.specs.Prelude.{◌==◌, not}
+use Rattle.wl_client.specs.Peer.{Peer}
+use Rattle.wl_desk.specs.Desktop.{Desktop, Resident, arrival, client_at, with_client}
+use Rattle.wl_desk.specs.Laws.{toplevels_of}
+use Rattle.wl_desk.specs.Served.{Unserved}
+use Rattle.wl_desk.proofs.Others.{IsLeft, become-left, feeds-left, left_out, one_client, same-left, become-keeps, feeds-keeps}
+use Rattle.wl_desk.proofs.Places.{number-other}
+use Rattle.wl_desk.specs.declared.answers.Done.{Done}
+use Rattle.wl_session.specs.Laws.{OthersStay, OutputStays, given_by}
+use Rattle.wl_desk.specs.Steps.{Connect, Feed, Store, Leave, Tick, Send, Close, ChangesAt, ConnectsAt, IsFedAt, left_so, lowest}
 
-place-other : (ps : List (Option Peer)) (k j : ℕ) (q : Option Peer) → k ≢ j → place (with_place k q ps) j ≡ place ps j
-place-other [] k j q differ = refl
-place-other (p ∷ ps) zero zero q differ = absurd (differ refl)
-place-other (p ∷ ps) zero (suc j) q differ = refl
-place-other (p ∷ ps) (suc k) zero q differ = refl
-place-other (p ∷ ps) (suc k) (suc j) q differ = place-other ps k j q (λ e. differ (ap (λ (n : ℕ). suc n) e))
+-- one desktop is the other
+moved : (other : ℕ) (old mid new : Desktop) → new ≡ mid → IsLeft other old mid → IsLeft other old new
+moved other old mid new e h = (ap (λ (d : Desktop). client_at other d) e ∙ h.0, ap (λ (d : Desktop). toplevels_of other d) e ∙ h.1)
 
-peer_at-other : (d : Desktop) (c other : ℕ) (q : Option Peer) → c ≢ other → peer_at (with_peer c q d) other ≡ peer_at d other
-peer_at-other d c zero q differ = refl
-peer_at-other d zero (suc j) q differ = refl
-peer_at-other d (suc k) (suc j) q differ = place-other d.clients k j q (λ e. differ (ap (λ (n : ℕ). suc n) e))
+left_so-left : (c other : ℕ) (r : Resident) (q : Option Peer) (d : Desktop) → c ≢ other → IsLeft other d (left_so c r q d)
+left_so-left c other r None d differ =
+    (number-other d.clients c other None differ, left_out (λ s. not (s.client == c)) other (one_client c other differ) d.standing)
+left_so-left c other r (Some q) d differ = become-left c other r q d differ
 
-Changes-other : (c other : ℕ) (R : Peer → Done → Option Peer → Type 0) (absent done : Done) (old new : Desktop) → Changes c R absent old done new → c ≢ other → peer_at new other ≡ peer_at old other
-Changes-other c other R absent done old new h differ = ap (λ (d : Desktop). peer_at d other) h.2 ∙ peer_at-other old c other h.0 differ
+changes-left : (R : Peer → Done → Option Peer → Type 0) (absent done : Done) (c other : ℕ) (o : Option Resident) (old new : Desktop) → c ≢ other → ChangesAt R absent c o old done new → IsLeft other old new
+changes-left R absent done c other None old new differ h = same-left other old new h.1
+changes-left R absent done c other (Some r) old new differ h = moved other old (left_so c r h.0 old) new h.2 (left_so-left c other r h.0 old differ)
 
-connect-other : (k : Option ℕ) (old new : Desktop) (done : Done) (other : ℕ) → ConnectsAt k old done new → given_by done ≢ other → peer_at new other ≡ peer_at old other
-connect-other None old new done other h differ = ap (λ (d : Desktop). peer_at d other) h.1
-connect-other (Some k) old new done other (inl h) differ = ap (λ (d : Desktop). peer_at d other) h.1
-connect-other (Some k) old new done other (inr h) differ =
+connects-left : (k : Option ℕ) (old new : Desktop) (done : Done) (other : ℕ) → ConnectsAt k old done new → given_by done ≢ other → IsLeft other old new
+connects-left None old new done other h differ = same-left other old new h.1
+connects-left (Some k) old new done other (inl h) differ = same-left other old new h.1
+connects-left (Some k) old new done other (inr h) differ =
     let number : given_by done ≡ k + 1 = ap given_by h.0 in
-    ap (λ (d : Desktop). peer_at d other) h.1 ∙ peer_at-other old (k + 1) other (Some (newcomer old.output)) (λ e. differ (number ∙ e))
+    let entered = with_client (k + 1) (Some (arrival old.output)) old in
+    moved other old entered new h.1 (number-other old.clients (k + 1) other (Some (arrival old.output)) (λ e. differ (number ∙ e)), refl)
+
+fed-left : (unserved : Unserved) (c other : ℕ) (piece : List ℕ) (o : Option Resident) (old new : Desktop) (done : Done) → c ≢ other → IsFedAt unserved c piece o old done new → IsLeft other old new
+fed-left unserved c other piece None old new done differ h = same-left other old new h.1
+fed-left unserved c other piece (Some r) old new done differ h = feeds-left unserved c other piece r.peer.status r old new differ h.0
 
 pub others_stay : OthersStay
-others_stay old new Connect done other h differ = connect-other (lowest old.clients) old new done other h differ
-others_stay old new (Feed c piece) done other h differ = Changes-other c other _ _ done old new h differ
-others_stay old new (Store c store at bytes) done other h differ = Changes-other c other _ _ done old new h differ
-others_stay old new (Leave c) done other h differ = Changes-other c other _ _ done old new h differ
-others_stay old new (Tick time) done other h differ = ap (λ (d : Desktop). peer_at d other) h.1
-others_stay old new (Send c n) done other h differ = Changes-other c other _ _ done old new h differ
-others_stay old new (Close c) done other h differ = Changes-other c other _ _ done old new h differ
+others_stay unserved Connect old new done other h differ = connects-left (lowest old.clients) old new done other h differ
+others_stay unserved (Feed c piece) old new done other h differ = fed-left unserved c other piece (client_at c old) old new done differ h
+others_stay unserved (Store c store at bytes) old new done other h differ = changes-left _ _ done c other (client_at c old) old new differ h
+others_stay unserved (Leave c) old new done other h differ = changes-left _ _ done c other (client_at c old) old new differ h
+others_stay unserved (Tick time) old new done other h differ = same-left other old new h.1
+others_stay unserved (Send c n) old new done other h differ = changes-left _ _ done c other (client_at c old) old new differ h
+others_stay unserved (Close c) old new done other h differ = changes-left _ _ done c other (client_at c old) old new differ h
+
+-- ---- the output stays
+
+left_so-keeps : (c : ℕ) (r : Resident) (q : Option Peer) (d : Desktop) → (left_so c r q d).output ≡ d.output
+left_so-keeps c r None d = refl
+left_so-keeps c r (Some q) d = become-keeps c r q d
+
+changes-keeps : (R : Peer → Done → Option Peer → Type 0) (absent done : Done) (c : ℕ) (o : Option Resident) (old new : Desktop) → ChangesAt R absent c o old done new → new.output ≡ old.output
+changes-keeps R absent done c None old new h = ap (λ (d : Desktop). d.output) h.1
+changes-keeps R absent done c (Some r) old new h = ap (λ (d : Desktop). d.output) h.2 ∙ left_so-keeps c r h.0 old
+
+connects-keeps : (k : Option ℕ) (old new : Desktop) (done : Done) → ConnectsAt k old done new → new.output ≡ old.output
+connects-keeps None old new done h = ap (λ (d : Desktop). d.output) h.1
+connects-keeps (Some k) old new done (inl h) = ap (λ (d : Desktop). d.output) h.1
+connects-keeps (Some k) old new done (inr h) = ap (λ (d : Desktop). d.output) h.1
+
+fed-keeps : (unserved : Unserved) (c : ℕ) (piece : List ℕ) (o : Option Resident) (old new : Desktop) (done : Done) → IsFedAt unserved c piece o old done new → new.output ≡ old.output
+fed-keeps unserved c piece None old new done h = ap (λ (d : Desktop). d.output) h.1
+fed-keeps unserved c piece (Some r) old new done h = feeds-keeps unserved c piece r.peer.status r old new h.0
+
+pub output_stays : OutputStays
+output_stays unserved Connect old new done h = connects-keeps (lowest old.clients) old new done h
+output_stays unserved (Feed c piece) old new done h = fed-keeps unserved c piece (client_at c old) old new done h
+output_stays unserved (Store c store at bytes) old new done h = changes-keeps _ _ done c (client_at c old) old new h
+output_stays unserved (Leave c) old new done h = changes-keeps _ _ done c (client_at c old) old new h
+output_stays unserved (Tick time) old new done h = ap (λ (d : Desktop). d.output) h.1
+output_stays unserved (Send c n) old new done h = changes-keeps _ _ done c (client_at c old) old new h
+output_stays unserved (Close c) old new done h = changes-keeps _ _ done c (client_at c old) old new h

@@ -5,28 +5,30 @@ use Rattle.std.proofs.lemmas.List.{map-append, take_more, append-nil}
 use Rattle.std.proofs.lemmas.Option.{slice_get-get_or}
 use Rattle.wl_paint.specs.Frame.{Image, color_at}
 use Rattle.wl_session.specs.View.{SessionView}
-use Rattle.wl_session.specs.declared.steps.Done.{Done}
-use Rattle.wl_session.specs.declared.steps.Done.TheVariants as gave
+use Rattle.wl_desk.specs.declared.answers.Done.{Done}
+use Rattle.wl_desk.specs.declared.answers.Done.TheVariants as gave
 use Rattle.wl_session.specs.declared.steps.Step.{Step}
-use Rattle.wl_session.specs.declared.steps.ConnectError.TheVariants.{Memory}
-use Rattle.wl_session.specs.Desktop.{Desktop}
-use Rattle.wl_session.specs.Step.{Act, Connect, Feed, Store, Leave, Tick, Send, Close, ConnectsAt, Steps, act_of}
+use Rattle.wl_desk.specs.declared.answers.ConnectError.TheVariants.{Memory}
+use Rattle.wl_desk.specs.Desktop.{Desktop}
+use Rattle.wl_desk.specs.Served.{Unserved}
+use Rattle.wl_desk.specs.Steps.{Act, Connect, Feed, Store, Leave, Tick, Send, Close, ConnectsAt, Steps}
+use Rattle.wl_session.specs.Step.{act_of}
 use Rattle.wl_session.specs.Run.{Film, IsNextFrame, Leads, Runs, MayStopAt, Shows, takes_memory}
-use Rattle.wl_session.specs.Agreement.{TakesStep}
+use Rattle.wl_desk.specs.Agreement.{TakesStep}
 
-Runs-snoc : (acts : List Act) (act : Act) (before image after : Image) (old mid new : Desktop) (films first : List Film) (done : Done) → Runs before old acts films image mid → Steps mid act done new → Shows act image first after → Runs before old (acts ++ act ∷ []) (films ++ first) after new
-Runs-snoc [] act before image after old mid new films first done run step shows = (
+Runs-snoc : (unserved : Unserved) (acts : List Act) (act : Act) (before image after : Image) (old mid new : Desktop) (films first : List Film) (done : Done) → Runs unserved before old acts films image mid → Steps unserved mid act done new → Shows act image first after → Runs unserved before old (acts ++ act ∷ []) (films ++ first) after new
+Runs-snoc unserved [] act before image after old mid new films first done run step shows = (
   new,
   done,
   after,
   first,
   [],
-  subst (λ (x : Desktop). Steps x act done new) run.2 step,
+  subst (λ (x : Desktop). Steps unserved x act done new) run.2 step,
   subst (λ (x : Image). Shows act x first after) run.1 shows,
   rw run.0 (sym (append-nil first)),
   (refl, refl, refl),
 )
-Runs-snoc (a ∷ acts) act before image after old mid new films first done run step shows = (
+Runs-snoc unserved (a ∷ acts) act before image after old mid new films first done run step shows = (
   run.0,
   run.1,
   run.2,
@@ -35,15 +37,15 @@ Runs-snoc (a ∷ acts) act before image after old mid new films first done run s
   run.5,
   run.6,
   ap (λ (fs : List Film). fs ++ first) run.7 ∙ append_assoc run.3 run.4 first,
-  Runs-snoc acts act run.2 image after run.0 mid new run.4 first done run.8 step shows,
+  Runs-snoc unserved acts act run.2 image after run.0 mid new run.4 first done run.8 step shows,
 )
 
 -- a run goes on by one more step
-pub Runs-more : (steps : List Step) (i : ℕ) (x : Step) (before image after : Image) (old mid new : Desktop) (films first : List Film) (done : Done) → i < length steps → Runs before old (map act_of (take i steps)) films image mid → Steps mid (act_of (get_or steps i x)) done new → Shows (act_of (get_or steps i x)) image first after → Runs before old (map act_of (take (i + 1) steps)) (films ++ first) after new
-Runs-more steps i x before image after old mid new films first done h run step shows =
+pub Runs-more : (unserved : Unserved) (steps : List Step) (i : ℕ) (x : Step) (before image after : Image) (old mid new : Desktop) (films first : List Film) (done : Done) → i < length steps → Runs unserved before old (map act_of (take i steps)) films image mid → Steps unserved mid (act_of (get_or steps i x)) done new → Shows (act_of (get_or steps i x)) image first after → Runs unserved before old (map act_of (take (i + 1) steps)) (films ++ first) after new
+Runs-more unserved steps i x before image after old mid new films first done h run step shows =
     let e : map act_of (take (i + 1) steps) ≡ map act_of (take i steps) ++ act_of (get_or steps i x) ∷ [] =
     ap (λ (ss : List Step). map act_of ss) (take_more steps i x h) ∙ map-append act_of (take i steps) (get_or steps i x ∷ []) in
-    subst (λ (acts : List Act). Runs before old acts (films ++ first) after new) (sym e) (Runs-snoc (map act_of (take i steps)) (act_of (get_or steps i x)) before image after old mid new films first done run step shows)
+    subst (λ (acts : List Act). Runs unserved before old acts (films ++ first) after new) (sym e) (Runs-snoc unserved (map act_of (take i steps)) (act_of (get_or steps i x)) before image after old mid new films first done run step shows)
 
 -- a connect that found no memory changes nothing
 pub Connects-stays : (old new : Desktop) (k : Option ℕ) → ConnectsAt k old (gave.Connect (Err Memory)) new → new ≡ old

@@ -1,19 +1,19 @@
 -- A store write that leaves busy buffers alone hides nothing.
-use Rattle.std.proofs.Common.{◌≡◌, ℕ, zero, suc, ◌<◌, ◌-◌, ◌+◌, Bool, true, false, List, [], ◌∷◌, ◌++◌, Option, Some, None, refl, ap, sym, subst, ◌∙◌, arith, pos, negsuc}
+use Rattle.std.proofs.Common.{◌≡◌, ℕ, zero, suc, ◌<◌, Bool, true, false, List, [], ◌∷◌, ◌++◌, Option, Some, None, refl, ap, sym, subst, ◌∙◌, arith, pos, negsuc}
 use Rattle.std.specs.Prelude.{ℤ, ◌-ℤ◌, ◌+ℤ◌, ◌==◌, ◌&&◌, ◌||◌, nat_lt, unsigned_abs, flat_map, find, cond, not, map}
 use Rattle.std.specs.List.{list_any}
 use Rattle.std.specs.Option.{option_map}
 use Rattle.std.proofs.lemmas.Int.{ints}
-use Rattle.wl_geom.specs.Rect.{in_rect, in_span}
+use Rattle.wl_geom.specs.Rect.{in_span}
 use Rattle.wl_store.specs.declared.color.Argb.{Argb}
 use Rattle.wl_store.specs.Transform.{buffer_point, is_turned, transform_of}
 use Rattle.wl_store.specs.declared.transform.Transform.{Transform}
 use Rattle.wl_store.specs.declared.transform.Transform.TheVariants.{Normal, Rotated90, Rotated180, Rotated270, Flipped, Flipped90, Flipped180, Flipped270}
 use Rattle.wl_surface.specs.Request.{Buffer, Member, Itself, Child}
-use Rattle.wl_surface.specs.State.{History, Values, applied, height_of, order, position, width_of}
+use Rattle.wl_surface.specs.State.{History, applied, height_of, order, position, width_of}
 use Rattle.wl_surface.specs.Surfaces.{Link, Surface, Surfaces, history_in, link_at, listed}
 use Rattle.wl_scene.specs.Stacking.{Owned, Standing, root_of, windows_on}
-use Rattle.wl_scene.specs.Windows.{Owner, Place, Root, Window, child_windows, contains, corner_at, counting, member_windows, owner_of, shown_windows, surface_windows, tree, window_of, window_with, windows, windows_of}
+use Rattle.wl_scene.specs.Windows.{Owner, Place, Window, child_windows, contains, corner_at, counting, member_windows, owner_of, shown_windows, surface_windows, tree, window_with, windows_of}
 use Rattle.std.specs.Prelude.{◌⊎◌}
 use Rattle.std.proofs.Common.{inl, inr}
 use Rattle.std.proofs.lemmas.Bool.{eqb-false, eqb-true}
@@ -26,13 +26,12 @@ use Rattle.wl_desk.proofs.Places.{client-become, left_by, other-become}
 use Rattle.wl_desk.proofs.Stacks.{Each, Fields, and-left, and-right, differ, each-map, fields, or-left, or-right, unless}
 use Rattle.wl_desk.proofs.Painted.{each-kept}
 use Rattle.wl_desk.specs.Marks.{has_same_record}
-use Rattle.wl_session.specs.declared.steps.Done.{Done}
-use Rattle.wl_session.specs.declared.steps.Done.TheVariants as gave
-use Rattle.wl_session.specs.declared.steps.Stored.TheVariants as stored
+use Rattle.wl_desk.specs.declared.answers.Done.{Done}
+use Rattle.wl_desk.specs.declared.answers.Done.TheVariants as gave
+use Rattle.wl_desk.specs.declared.answers.Stored.TheVariants as stored
 use Rattle.wl_session.specs.Promises.{KeepsBuffers, busy_of, bytes_by, bytes_in, is_hidden_in, is_rewritten_at, is_same_color, windows_by}
 use Rattle.wl_session.specs.StoreWrites.{PromisesAreEnough, WriteHidesNothing}
-use Rattle.wl_session.specs.Step.{Connect, Feed, IsStored, Leave, Send, Close, Store, Tick}
-use Rattle.wl_session.specs.Whole.{ChangesAt, left_so}
+use Rattle.wl_desk.specs.Steps.{ChangesAt, Connect, Feed, IsStored, Leave, Send, Close, Store, Tick, left_so}
 
 -- ---- each window shows the buffer that its surface has applied
 

@@ -1,45 +1,42 @@
--- Laws of the plain desktop: cutting streams changes nothing, only want of memory leaves a choice, and a step of one
--- client leaves every other as it was.
-use Rattle.std.specs.Prelude.{ℕ, ◌≡◌, ◌≢◌, List, [], ◌∷◌, ◌++◌, Option, Some, None, Ok, Err}
+-- Laws of the plain desktop: cutting streams changes nothing, only want of memory leaves a choice, a step of one client leaves every other
+-- as it was, and the output stays.
+use Rattle.std.specs.Prelude.{ℕ, ◌≡◌, ◌≢◌, List, [], ◌∷◌, ◌++◌, Some, Ok, Err}
 use Rattle.wl_client.specs.declared.clients.Cause.TheVariants as cause
-use Rattle.wl_session.specs.declared.steps.ConnectError.TheVariants.{Memory}
-use Rattle.wl_session.specs.declared.steps.Done.{Done}
-use Rattle.wl_session.specs.declared.steps.Done.TheVariants as gave
 use Rattle.wl_paint.specs.Frame.{Image}
-use Rattle.wl_client.specs.Peer.{Peer}
-use Rattle.wl_session.specs.Desktop.{Desktop, peer_at}
-use Rattle.wl_session.specs.Step.{Act, Connect, Feed, Store, Leave, Tick, Send, Close, Steps}
+use Rattle.wl_desk.specs.Desktop.{Desktop, client_at}
+use Rattle.wl_desk.specs.Laws.{status_in, toplevels_of}
+use Rattle.wl_desk.specs.Served.{Unserved, beyond_clients}
+use Rattle.wl_desk.specs.declared.answers.ConnectError.TheVariants.{Memory}
+use Rattle.wl_desk.specs.declared.answers.Done.{Done}
+use Rattle.wl_desk.specs.declared.answers.Done.TheVariants as gave
+use Rattle.wl_desk.specs.Steps.{Act, Connect, Feed, Store, Leave, Tick, Send, Close, Steps}
 use Rattle.wl_session.specs.Run.{Film, Shows}
 
 -- Two pieces of a stream, one after the other, lead where they lead as one.
 abbrev pub AnyPieces : Type 0
 AnyPieces =
-    (old mid new : Desktop) (c : ℕ) (a b : List ℕ) (first second : Done) → Steps old (Feed c a) first mid → Steps mid (Feed c b) second new
-    → Steps old (Feed c (a ++ b)) second new
-
--- want of memory ended the client
-abbrev pub EndedByMemory : Option Peer → Type 0
-EndedByMemory None = ⊥
-EndedByMemory (Some p) = p.status ≡ Some cause.Memory
+    (old mid new : Desktop) (c : ℕ) (a b : List ℕ) (first second : Done) → Steps beyond_clients old (Feed c a) first mid
+    → Steps beyond_clients mid (Feed c b) second new → Steps beyond_clients old (Feed c (a ++ b)) second new
 
 -- a step met no want of memory: no connect was refused for it, and no client ended by it
 abbrev pub HadMemory : Desktop → Done → Desktop → Type 0
 HadMemory old done new =
-    (done ≢ gave.Connect (Err Memory)) × ((c : ℕ) → EndedByMemory (peer_at new c) → EndedByMemory (peer_at old c))
+    (done ≢ gave.Connect (Err Memory)) × ((c : ℕ) → status_in c new ≡ Some cause.Memory → status_in c old ≡ Some cause.Memory)
 
 -- a whole run that met no want of memory, with what its steps answered
-abbrev pub RunsAmply : Image → Desktop → List Act → List Done → List Film → Image → Desktop → Type 0
-RunsAmply before old [] answers films after new = (answers ≡ []) × (films ≡ []) × (after ≡ before) × (new ≡ old)
-RunsAmply before old (act ∷ acts) answers films after new =
+abbrev pub RunsAmply : Unserved → Image → Desktop → List Act → List Done → List Film → Image → Desktop → Type 0
+RunsAmply unserved before old [] answers films after new = (answers ≡ []) × (films ≡ []) × (after ≡ before) × (new ≡ old)
+RunsAmply unserved before old (act ∷ acts) answers films after new =
     (mid : Desktop) × (done : Done) × (image : Image) × (first : List Film) × (later : List Film) × (dones : List Done)
-    × Steps old act done mid × HadMemory old done mid × Shows act before first image × (films ≡ first ++ later)
-    × (answers ≡ done ∷ dones) × RunsAmply image mid acts dones later after new
+    × Steps unserved old act done mid × HadMemory old done mid × Shows act before first image × (films ≡ first ++ later)
+    × (answers ≡ done ∷ dones) × RunsAmply unserved image mid acts dones later after new
 
 -- Such a run is the only one: its answers, its frames and the desktop at its end are determined.
 abbrev pub OneRun : Type 0
 OneRun =
-    (acts : List Act) (before : Image) (old : Desktop) (answers others : List Done) (films shots : List Film) (after next : Image) (new end : Desktop)
-    → RunsAmply before old acts answers films after new → RunsAmply before old acts others shots next end
+    (unserved : Unserved) (acts : List Act) (before : Image) (old : Desktop) (answers others : List Done) (films shots : List Film)
+    (after next : Image) (new end : Desktop)
+    → RunsAmply unserved before old acts answers films after new → RunsAmply unserved before old acts others shots next end
     → (answers ≡ others) × (films ≡ shots) × (after ≡ next) × (new ≡ end)
 
 -- the number that a connect gave, or 0
@@ -57,8 +54,13 @@ client_of (Tick time) done = 0
 client_of (Send c n) done = c
 client_of (Close c) done = c
 
--- A step leaves each client that it isn't of as it was: status, requests, objects, serials, unsent bytes and rest.
+-- A step leaves each client that it isn't of as it was: its status, requests, objects, serials, unsent bytes and rest, what it owns, and the
+-- places and the order of its toplevels.
 abbrev pub OthersStay : Type 0
 OthersStay =
-    (old new : Desktop) (act : Act) (done : Done) (other : ℕ) → Steps old act done new → client_of act done ≢ other
-    → peer_at new other ≡ peer_at old other
+    (unserved : Unserved) (act : Act) (old new : Desktop) (done : Done) (other : ℕ) → Steps unserved old act done new → client_of act done ≢ other
+    → (client_at other new ≡ client_at other old) × (toplevels_of other new ≡ toplevels_of other old)
+
+-- A step leaves the output as it was.
+abbrev pub OutputStays : Type 0
+OutputStays = (unserved : Unserved) (act : Act) (old new : Desktop) (done : Done) → Steps unserved old act done new → new.output ≡ old.output

@@ -1,5 +1,3 @@
-pub mod Agreement
-pub mod Desktop
 pub mod Laws
 pub mod Promises
 pub mod Run
@@ -7,9 +5,12 @@ pub mod Step
 pub mod Unmarked
 pub mod View
 pub mod Viewer
-pub mod Whole
 pub mod StoreWrites
 pub use Rattle.wl_client.specs.Peer
+pub use Rattle.wl_desk.specs.Agreement
+pub use Rattle.wl_desk.specs.Desktop
+pub use Rattle.wl_desk.specs.Served
+pub use Rattle.wl_desk.specs.Steps
 pub use Rattle.wl_paint.specs.Damage
 pub use Rattle.wl_paint.specs.Frame
 pub use Rattle.wl_paint.specs.Image

@@ -14,7 +14,7 @@ use Rattle.wl_desk.specs.Desktop.{Desktop, Resident, client_at, owned_in, window
 use Rattle.wl_desk.specs.Marks.{has_same_record}
 use Rattle.wl_desk.specs.Moments.{applied_between}
 use Rattle.wl_desk.specs.Scratch.{color_in, pixel_at}
-use Rattle.wl_session.specs.Step.{Act, Store, Tick}
+use Rattle.wl_desk.specs.Steps.{Act, Store, Tick}
 
 abbrev pub is_same_color : Argb → Argb → Bool
 is_same_color c d = ((c.a == d.a) && (c.r == d.r)) && ((c.g == d.g) && (c.b == d.b))

@@ -2,11 +2,13 @@
 use Rattle.std.specs.List.{list_any}
 use Rattle.std.specs.Prelude.{ℕ, ◌≡◌, ◌+◌, List, [], ◌∷◌, ◌++◌, slice_get, Bool, true, false, ◌&&◌, ◌==◌, nat_le, nat_lt, IsTrue, IsSomeAnd}
 use Rattle.wl_paint.specs.Frame.{Image, color_at}
-use Rattle.wl_session.specs.Desktop.{Desktop}
-use Rattle.wl_session.specs.Step.{Act, Connect, Feed, Store, Leave, Tick, Send, Close, Steps, act_of}
-use Rattle.wl_session.specs.Agreement.{Agrees}
+use Rattle.wl_desk.specs.Desktop.{Desktop}
+use Rattle.wl_desk.specs.Served.{Unserved, beyond_clients}
+use Rattle.wl_desk.specs.Steps.{Act, Connect, Feed, Store, Leave, Tick, Send, Close, Steps}
+use Rattle.wl_session.specs.Step.{act_of}
+use Rattle.wl_desk.specs.Agreement.{Agrees}
 use Rattle.wl_session.specs.View.{SessionView}
-use Rattle.wl_session.specs.declared.steps.Done.{Done}
+use Rattle.wl_desk.specs.declared.answers.Done.{Done}
 use Rattle.wl_session.specs.declared.steps.Step.{Step}
 use Rattle.wl_session.specs.declared.steps.RunError.{RunError}
 use Rattle.wl_session.specs.declared.steps.RunError.TheVariants.{Memory}
@@ -53,7 +55,7 @@ Shows (Close c) before films after = (films ≡ []) × (after ≡ before)
 -- one step leads a session from old to new, and shows these frames
 abbrev pub Leads : Act → List Film → SessionView → SessionView → Type 0
 Leads act films old new =
-    ((d : Desktop) → Agrees old.desk d → (e : Desktop) × (done : Done) × Steps d act done e × Agrees new.desk e)
+    ((d : Desktop) → Agrees old.desk d → (e : Desktop) × (done : Done) × Steps beyond_clients d act done e × Agrees new.desk e)
     × Shows act old.frame films new.frame
 
 -- a session stands for every desktop that it stood for, and shows the same frame
@@ -61,17 +63,17 @@ abbrev pub Stays : SessionView → SessionView → Type 0
 Stays old new = ((d : Desktop) → Agrees old.desk d → Agrees new.desk d) × (new.frame ≡ old.frame)
 
 -- A whole run: these steps lead from the first desktop to the second, and these are the frames of their ticks.
-abbrev pub Runs : Image → Desktop → List Act → List Film → Image → Desktop → Type 0
-Runs before old [] films after new = (films ≡ []) × (after ≡ before) × (new ≡ old)
-Runs before old (act ∷ acts) films after new =
+abbrev pub Runs : Unserved → Image → Desktop → List Act → List Film → Image → Desktop → Type 0
+Runs unserved before old [] films after new = (films ≡ []) × (after ≡ before) × (new ≡ old)
+Runs unserved before old (act ∷ acts) films after new =
     (mid : Desktop) × (done : Done) × (image : Image) × (first : List Film) × (later : List Film)
-    × Steps old act done mid × Shows act before first image × (films ≡ first ++ later) × Runs image mid acts later after new
+    × Steps unserved old act done mid × Shows act before first image × (films ≡ first ++ later) × Runs unserved image mid acts later after new
 
 -- These steps lead a session from old to new: whatever desktop agrees before, there is a run with these frames from it
 -- to one that agrees after.
 abbrev pub TakesSteps : List Act → List Film → SessionView → SessionView → Type 0
 TakesSteps acts films old new =
-    (d : Desktop) → Agrees old.desk d → (e : Desktop) × Runs old.frame d acts films new.frame e × Agrees new.desk e
+    (d : Desktop) → Agrees old.desk d → (e : Desktop) × Runs beyond_clients old.frame d acts films new.frame e × Agrees new.desk e
 
 -- how many steps were taken before a run stopped
 abbrev pub taken_by : RunError → ℕ

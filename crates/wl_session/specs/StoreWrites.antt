@@ -1,12 +1,11 @@
 -- What the promises of a step are worth.
-use Rattle.std.specs.Prelude.{ℕ, ◌≡◌, Bool, List}
+use Rattle.std.specs.Prelude.{ℕ, Bool, List}
 use Rattle.wl_desk.specs.Desktop.{Desktop}
-use Rattle.wl_desk.specs.Step.{Unserved}
-use Rattle.wl_session.specs.declared.steps.Done.{Done}
+use Rattle.wl_desk.specs.Served.{Unserved}
+use Rattle.wl_desk.specs.declared.answers.Done.{Done}
 use Rattle.wl_session.specs.Promises.{KeepBut, KeepsBuffers, KeepsDamage}
-use Rattle.wl_session.specs.Step.{Act, Store}
+use Rattle.wl_desk.specs.Steps.{Act, Steps, Store}
 use Rattle.wl_session.specs.Unmarked.{AllDamageBut}
-use Rattle.wl_session.specs.Whole.{Steps}
 
 -- A client whose busy buffers keep their colours in a store write hides no change in it (wayland.xml, wl_buffer.release).
 abbrev pub WriteHidesNothing : Type 0

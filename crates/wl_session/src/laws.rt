@@ -1,9 +1,8 @@
 //! Laws of the plain desktop, each the contract of an empty function.
 
-ghost use Rattle.wl_session.specs.Laws.{AnyPieces, OneRun, OthersStay};
+ghost use Rattle.wl_session.specs.Laws.{AnyPieces, OneRun, OthersStay, OutputStays};
 ghost use Rattle.wl_session.specs.StoreWrites.{PromisesAreEnough, WriteHidesNothing};
 ghost use Rattle.wl_session.specs.Unmarked.{IncrementalIsFromScratch, UnmarkedStays, ViewerSeesScratch};
-ghost use Rattle.wl_session.specs.Whole.{OneStep, OthersAreLeft, OutputStays};
 
 /// A client's stream may be cut into any pieces: two pieces lead where they lead as one.
 pub fn any_pieces()
@@ -15,22 +14,12 @@ pub fn one_run()
     ensures { OneRun }
 {}
 
-/// A step of one client leaves every other client as it was.
+/// A step leaves each client that it isn't of as it was, with the places and the order of its toplevels.
 pub fn others_stay()
     ensures { OthersStay }
 {}
 
-/// Where no want of memory is met, a step of the desktop with surfaces is the only one: its answer and the desktop after it are determined.
-pub fn one_step()
-    ensures { OneStep }
-{}
-
-/// A step of the desktop with surfaces leaves each client that it isn't of as it was, with the places and the order of its toplevels.
-pub fn others_are_left()
-    ensures { OthersAreLeft }
-{}
-
-/// A step of the desktop with surfaces leaves the output as it was.
+/// A step leaves the output as it was.
 pub fn output_stays()
     ensures { OutputStays }
 {}

@@ -1,19 +1,19 @@
 //! The core of a compositor: clients, their streams, and steps of all of them in any order.
 #![tactic(auto)]
 
-mod desks;
 mod laws;
 mod sessions;
 mod shots;
 mod steps;
 
 pub use laws::{
-    any_pieces, incremental_is_from_scratch, one_run, one_step, others_are_left, others_stay,
-    output_stays, promises_are_enough, unmarked_stays, viewer_sees_scratch, write_hides_nothing,
+    any_pieces, incremental_is_from_scratch, one_run, others_stay, output_stays,
+    promises_are_enough, unmarked_stays, viewer_sees_scratch, write_hides_nothing,
 };
 pub use sessions::{Config, Session};
 pub use shots::{Frame, Run, Shot};
-pub use steps::{ClientNo, ConnectError, Done, Fed, RunError, Step, Stored};
+pub use steps::{RunError, Step};
 pub use wl_blend::Rgb;
 pub use wl_client::{Cause, StoreNo};
+pub use wl_desk::{ClientNo, ConnectError, Done, Fed, Stored};
 pub use wl_paint::{Damage, FrameError, Framebuffer, MAX_SIDE, write_ppm};

@@ -6,18 +6,19 @@ ghost use Rattle.std.specs.Io.BufRead.{Rests};
 ghost use Rattle.std.specs.Option.{option_copied};
 ghost use Rattle.std.specs.Vec.{vec_capacity};
 ghost use Rattle.wl_paint.specs.Damage.{has};
-ghost use Rattle.wl_session.specs.Desktop.{Desktop, empty, peer_at};
+ghost use Rattle.wl_desk.specs.Desktop.{Desktop, empty};
 ghost use Rattle.wl_paint.specs.Frame.{color_at, filled, is_side};
-ghost use Rattle.wl_session.specs.Step.{Connect, Feed, Store, Leave, Tick, Send, Close, act_of, unsent_of, status_of, store_size_of};
-ghost use Rattle.wl_session.specs.Agreement.{Agrees, TakesStep};
+ghost use Rattle.wl_desk.specs.Steps.{Connect, Feed, Store, Leave, Tick, Send, Close, peer_at, unsent_of, status_of, store_size_of};
+ghost use Rattle.wl_session.specs.Step.{act_of};
+ghost use Rattle.wl_desk.specs.Agreement.{Agrees, TakesStep};
 
-use crate::desks::Desk;
 use crate::shots::{Frame, Shot};
-use crate::steps::{ClientNo, ConnectError, Done, Fed, RunError, Step, Stored};
+use crate::steps::{RunError, Step};
 use std::alloc::{AllocError, Allocator};
 use std::marker::Model;
 use wl_blend::Rgb;
 use wl_client::{Output, StoreNo};
+use wl_desk::{ClientNo, ConnectError, Desk, Done, Fed, Stored};
 use wl_paint::{Damage, FrameError, Framebuffer};
 
 /// What a session is made with.
@@ -115,7 +116,7 @@ impl<A: Allocator + Copy> Session<A> {
 
     /// How many bytes a client's store has. None where the client or the store isn't live.
     pub fn store_size(&self, client: ClientNo, store: StoreNo) -> Option<u32>
-        ensures { (d : Desktop) → Agrees self.now.desk d → result ≡ store_size_of store (peer_at d client) }
+        ensures { (d : Desktop) → Agrees self.now.desk d → result ≡ store_size_of store (peer_at client d) }
     {
         self.desk.store_size(client, store)
     }
@@ -146,14 +147,14 @@ impl<A: Allocator + Copy> Session<A> {
 
     /// The bytes that wait to be sent to a client, an ended one too. None where no client has the number.
     pub fn out(&self, client: ClientNo) -> Option<&[u8]>
-        ensures { (d : Desktop) → Agrees self.now.desk d → option_copied result ≡ unsent_of (peer_at d client) }
+        ensures { (d : Desktop) → Agrees self.now.desk d → option_copied result ≡ unsent_of (peer_at client d) }
     {
         self.desk.out(client)
     }
 
     /// How a client is.
     pub fn status(&self, client: ClientNo) -> Fed
-        ensures { (d : Desktop) → Agrees self.now.desk d → result ≡ status_of (peer_at d client) }
+        ensures { (d : Desktop) → Agrees self.now.desk d → result ≡ status_of (peer_at client d) }
     {
         self.desk.status(client)
     }

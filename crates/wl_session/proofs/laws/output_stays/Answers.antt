@@ -1,4 +1,4 @@
-use Rattle.wl_session.proofs.OthersLeft.{output_stays}
+use Rattle.wl_session.proofs.Others.{output_stays}
 use Rattle.wl_session.proofs.laws.output_stays.Goals as goal
 
 pub returns : goal.returns

@@ -1,0 +1,6 @@
+use Rattle.std.proofs.Common.{◌≡◌, take, None}
+use Rattle.wl_desk.specs.Steps.{lowest}
+use Rattle.wl_desk.proofs.desks.free_place.Given as goal
+
+abbrev pub invariant-loop-k : goal.invariant-loop-k
+invariant-loop-k g l = lowest (take l.k l.clients) ≡ None
