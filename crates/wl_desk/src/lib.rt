@@ -5,9 +5,8 @@
 mod answers;
 mod desks;
 mod residents;
+mod surface_requests;
 mod wl_compositor;
-mod wl_surface;
-
 
 ghost use Rattle.wl_desk.specs.Laws.{LeastIsMost, OneRun, OthersStay, ScratchStays, ServedAlone, WindowsAreDistinct};
 
