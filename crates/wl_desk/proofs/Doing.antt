@@ -1,7 +1,6 @@
 -- What is asked of a client leads to a client that is stood for.
-use Rattle.std.proofs.Common.{◌≡◌, ℕ, List, ◌≤◌, ◌+◌, ◌++◌, [], ◌∷◌, Bool, true, false, Option, Some, None, cond, length, refl, ap, sym, subst, ◌∙◌, inl, inr, arith}
+use Rattle.std.proofs.Common.{◌≡◌, ℕ, List, ◌≤◌, true, false, Option, Some, None, length, refl, ap, sym, subst, ◌∙◌}
 use Rattle.std.specs.Prelude.{is_some}
-use Rattle.std.specs.Option.{option_map}
 use Rattle.wl_geom.specs.declared.rect.Rect.{Rect}
 use Rattle.wl_geom.specs.Region.{Area, Change}
 use Rattle.wl_client.specs.Agreement.{IsPeer, IsRegion}
@@ -9,20 +8,20 @@ use Rattle.wl_client.specs.Objects.{ById, held_at}
 use Rattle.wl_store.specs.Stores.{Stock}
 use Rattle.wl_client.proofs.Peers.{IsPeer-stores}
 use Rattle.wl_client.specs.View.{ClientView}
-use Rattle.wl_client.specs.Peer.{LacksMemory, Peer, Queues}
-use Rattle.wl_surface.specs.Kept.{Changes, IsCopied, Slots, StandForAll, StandsAt, kept_at}
+use Rattle.wl_client.specs.Peer.{LacksMemory, Peer}
+use Rattle.wl_surface.specs.Kept.{Changes, IsCopied, StandsAt, kept_at}
 use Rattle.wl_surface.specs.Kept.{Kept as KeptSurface}
 use Rattle.wl_surface.specs.Request.{Request}
 use Rattle.wl_surface.specs.State.{Values, asked, committed, geometry_asked, is_commit}
-use Rattle.wl_surface.specs.Surfaces.{Surface, Surfaces, asking, surface_at}
-use Rattle.wl_shell.specs.Kept.{Kept as KeptXdg, kept_of}
+use Rattle.wl_surface.specs.Surfaces.{Surface, Surfaces, asking}
+use Rattle.wl_shell.specs.Kept.{kept_of}
 use Rattle.wl_scene.specs.declared.owned.Owned.{Owned as Lent}
 use Rattle.wl_desk.specs.declared.residents.Resident.{Resident as Kept}
-use Rattle.wl_desk.specs.Ask.{Ask, AskSurface}
+use Rattle.wl_desk.specs.Ask.{AskSurface}
 use Rattle.wl_desk.specs.Desktop.{Resident}
 use Rattle.wl_desk.specs.Owning.{AreKept, names_in}
-use Rattle.wl_desk.specs.Residents.{ActsFor, Does, IsLeft, IsResident, IsSurface, Owns}
-use Rattle.wl_desk.specs.Step.{after_surface, asked_of, changed_by}
+use Rattle.wl_desk.specs.Residents.{IsLeft, IsResident, IsSurface}
+use Rattle.wl_desk.specs.Step.{changed_by}
 use Rattle.wl_desk.proofs.Letting.{asked-keeps}
 use Rattle.wl_desk.proofs.OwningAsks.{owned-asked}
 use Rattle.wl_desk.proofs.OwningSurfaces.{surface-named, surface-read}
@@ -37,7 +36,7 @@ pub lacked : {A : Type 0} (v : Kept A) (after r : Resident) → (q : Peer) × La
 lacked v after r lacks ended = (lacks.0, lacks.1, record { peer = lacks.2; owns = λ none. absurd (gone v.client.ended ended none) })
 
 -- the cut of what is kept is within the list
-cut-bounds : (k : Option KeptSurface) (s : Surface) → StandsAt k (Some s) → (s.history.cut ≤ committed s.history.requests) × (committed s.history.requests ≤ length s.history.requests)
+pub cut-bounds : (k : Option KeptSurface) (s : Surface) → StandsAt k (Some s) → (s.history.cut ≤ committed s.history.requests) × (committed s.history.requests ≤ length s.history.requests)
 cut-bounds None s stands = absurd stands
 cut-bounds (Some k) s stands = (stands.history.cut_within, stands.history.commits_within)
 

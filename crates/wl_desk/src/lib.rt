@@ -4,10 +4,13 @@
 mod residents;
 mod wl_compositor;
 mod wl_surface;
-
-pub use residents::Resident;
+mod xdg_surface;
+mod xdg_toplevel;
+mod xdg_wm_base;
 
 ghost use Rattle.wl_desk.specs.Laws.{LeastIsMost, OneRun, OthersStay, ScratchStays, ServedAlone, WindowsAreDistinct};
+
+pub use residents::Resident;
 
 /// What a step marks at least is among what it marks at most.
 pub fn least_is_most()
