@@ -16,10 +16,10 @@ use Rattle.wl_surface.specs.Kept.{Kept as KeptSurface}
 use Rattle.wl_surface.specs.Request.{Request}
 use Rattle.wl_surface.specs.State.{Values, asked, committed, geometry_asked, is_commit}
 use Rattle.wl_surface.specs.Surfaces.{Surface, Surfaces, asking, surface_at}
-use Rattle.wl_shell.specs.Kept.{Kept as KeptXdg, kept_of}
+use Rattle.wl_shell.specs.Kept.{kept_of}
 use Rattle.wl_scene.specs.declared.owned.Owned.{Owned as Lent}
 use Rattle.wl_desk.specs.declared.residents.Resident.{Resident as Kept}
-use Rattle.wl_desk.specs.Ask.{Ask, AskSurface}
+use Rattle.wl_desk.specs.Ask.{AskSurface}
 use Rattle.wl_desk.specs.Desktop.{Resident}
 use Rattle.wl_proto.specs.declared.interface.Interface.TheVariants.{WlSurface}
 use Rattle.wl_table.specs.Objects.{Held, entry_of}
@@ -42,7 +42,7 @@ pub lacked : {A : Type 0} (v : Kept A) (after r : Resident) → (q : Peer) × La
 lacked v after r lacks ended = (lacks.0, lacks.1, record { peer = lacks.2; owns = λ none. absurd (gone v.client.ended ended none) })
 
 -- the cut of what is kept is within the list
-cut-bounds : (k : Option KeptSurface) (s : Surface) → StandsAt k (Some s) → (s.history.cut ≤ committed s.history.requests) × (committed s.history.requests ≤ length s.history.requests)
+pub cut-bounds : (k : Option KeptSurface) (s : Surface) → StandsAt k (Some s) → (s.history.cut ≤ committed s.history.requests) × (committed s.history.requests ≤ length s.history.requests)
 cut-bounds None s stands = absurd stands
 cut-bounds (Some k) s stands = (stands.history.cut_within, stands.history.commits_within)
 

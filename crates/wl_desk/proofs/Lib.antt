@@ -21,3 +21,4 @@ pub mod OwningAsks
 pub mod Doing
 pub mod OwningReads
 pub mod Releases
+pub mod Shelling

@@ -162,3 +162,7 @@ configuring_if false xdg = Ignore
 -- the id of an xdg_surface that is kept
 abbrev pub kept_id : Option Kept → ℕ
 kept_id k = option_map_or (λ k. k.id) k 0
+
+-- the id of the xdg_wm_base that made it
+abbrev pub kept_base : Option Kept → ℕ
+kept_base k = option_map_or (λ k. k.base) k 0

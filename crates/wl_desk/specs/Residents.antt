@@ -1,7 +1,9 @@
 -- What the desk keeps of a client agrees with a client of the plain desktop, and what a request makes of both.
-use Rattle.std.specs.Prelude.{ℕ, ◌≡◌, None, Some, Result, Ok, Err}
-use Rattle.wl_proto.specs.declared.interface.Interface.TheVariants.{WlSurface}
+use Rattle.std.specs.Prelude.{ℕ, ◌≡◌, None, Some, Result, Ok, Err, true}
+use Rattle.wl_proto.specs.declared.interface.Interface.TheVariants.{WlSurface, XdgSurface, XdgToplevel, XdgWmBase}
+use Rattle.wl_table.specs.Objects.{entry_of}
 use Rattle.wl_client.specs.Agreement.{IsPeer}
+use Rattle.wl_client.specs.Objects.{is_of, objects_in}
 use Rattle.wl_client.specs.Peer.{Errs, Peer, Queues, WantsOr, counted}
 use Rattle.wl_client.specs.declared.refusals.Refusal.{Refusal}
 use Rattle.wl_shell.specs.Kept.{kept_of}
@@ -44,3 +46,19 @@ Answers judged old new = (r : Resident) → IsResident old r → AnswersSo (judg
 -- the wl_surface with this id has the surface of this number
 abbrev pub IsSurface : {A : Type 0} → Kept A → ℕ → ℕ → Type 0
 IsSurface v id surface = targets_in WlSurface v.client.objects id ≡ Some surface
+
+-- no object has this id
+abbrev pub IsFree : {A : Type 0} → Kept A → ℕ → Type 0
+IsFree v id = entry_of v.client.objects id ≡ None
+
+-- the object with this id is an xdg_wm_base
+abbrev pub IsBase : {A : Type 0} → Kept A → ℕ → Type 0
+IsBase v id = is_of XdgWmBase (objects_in v.client.objects id) ≡ true
+
+-- the xdg_surface with this id is that of the surface of this number
+abbrev pub IsXdgSurface : {A : Type 0} → Kept A → ℕ → ℕ → Type 0
+IsXdgSurface v id surface = targets_in XdgSurface v.client.objects id ≡ Some surface
+
+-- the toplevel with this id is that of the surface of this number
+abbrev pub IsToplevel : {A : Type 0} → Kept A → ℕ → ℕ → Type 0
+IsToplevel v id surface = targets_in XdgToplevel v.client.objects id ≡ Some surface

@@ -7,11 +7,15 @@ mod desks;
 mod residents;
 mod surface_requests;
 mod wl_compositor;
+mod xdg_surface;
+mod xdg_toplevel;
+mod xdg_wm_base;
 
 ghost use Rattle.wl_desk.specs.Laws.{LeastIsMost, OneRun, OthersStay, ScratchStays, ServedAlone, WindowsAreDistinct};
 
 pub use answers::{ClientNo, ConnectError, Done, Fed, Stored};
 pub use desks::Desk;
+pub use residents::Resident;
 
 /// What a step marks at least is among what it marks at most.
 pub fn least_is_most()

@@ -1,0 +1,87 @@
+//! The requests of xdg_surface.
+
+ghost use Rattle.std.specs.Prelude.{◌≡◌, is_some, true};
+ghost use Rattle.wl_client.specs.Agreement.{IsPeer};
+ghost use Rattle.wl_client.specs.Peer.{Errs, Peer};
+ghost use Rattle.wl_proto.specs.Messages.{xdg_surface_request};
+ghost use Rattle.wl_proto.specs.declared.xdg_surface.XdgSurfaceRequest.TheVariants.{AckConfigure, SetWindowGeometry};
+ghost use Rattle.wl_shell.specs.Kept.{kept_of};
+ghost use Rattle.wl_desk.specs.Owning.{kept_base, shell_refusal};
+ghost use Rattle.wl_desk.specs.Residents.{Answers, IsXdgSurface};
+ghost use Rattle.wl_desk.specs.Served.{beyond_toplevels};
+ghost use Rattle.wl_desk.specs.Step.{ask_of};
+
+use crate::residents::Resident;
+use std::alloc::Allocator;
+use wl_client::{ErrorCode, Refusal};
+use wl_geom::Rect;
+use wl_shell::ShellError;
+use wl_surface::SurfaceNo;
+
+/// An error of the shell's with its object: the xdg_wm_base, the xdg_surface, wl_display, or else the object that was asked.
+pub(crate) fn refusal_of(base: u32, xdg_surface: u32, object: u32, error: ShellError) -> Refusal
+    ensures { result ≡ shell_refusal base xdg_surface object error }
+{
+    match error {
+        ShellError::Role => Refusal::of(base, ErrorCode::Role),
+        ShellError::DefunctSurfaces => Refusal::of(base, ErrorCode::DefunctSurfaces),
+        ShellError::NotTheTopmostPopup => Refusal::of(base, ErrorCode::NotTheTopmostPopup),
+        ShellError::InvalidPopupParent => Refusal::of(base, ErrorCode::InvalidPopupParent),
+        ShellError::InvalidSurfaceState => Refusal::of(base, ErrorCode::InvalidSurfaceState),
+        ShellError::InvalidPositioner => Refusal::of(base, ErrorCode::InvalidPositioner),
+        ShellError::NotConstructed => Refusal::of(xdg_surface, ErrorCode::NotConstructed),
+        ShellError::AlreadyConstructed => Refusal::of(xdg_surface, ErrorCode::AlreadyConstructed),
+        ShellError::UnconfiguredBuffer => Refusal::of(xdg_surface, ErrorCode::UnconfiguredBuffer),
+        ShellError::InvalidSerial => Refusal::of(xdg_surface, ErrorCode::InvalidSerial),
+        ShellError::InvalidSize => Refusal::of(xdg_surface, ErrorCode::InvalidSize),
+        ShellError::DefunctRoleObject => Refusal::of(xdg_surface, ErrorCode::DefunctRoleObject),
+        ShellError::InvalidGrab => Refusal::of(object, ErrorCode::InvalidGrab),
+        ShellError::InvalidInput => Refusal::of(object, ErrorCode::InvalidInput),
+        ShellError::TooMany => Refusal::of_display(ErrorCode::Implementation),
+        ShellError::Memory => Refusal::of_display(ErrorCode::NoMemory),
+    }
+}
+
+impl<A: Allocator + Copy> Resident<A> {
+    /// The id of the xdg_wm_base that made the xdg_surface of a surface; 0 where it has none.
+    fn base_of(&self, surface: SurfaceNo) -> u32
+        ensures { result ≡ kept_base (kept_of self.now.owned.shell surface) }
+    {
+        match self.owned.shell.get(surface) {
+            Some(xdg_surface) => xdg_surface.base(),
+            None => 0,
+        }
+    }
+
+    /// Ends the client with an error of the shell's in a request of the xdg_surface of a surface.
+    fn refuse_xdg_surface(&mut self, object: u32, surface: SurfaceNo, error: ShellError)
+        ensures ended { is_some self.new.client.ended ≡ true }
+        ensures errs { (p : Peer) → IsPeer self.old.client p
+            → (q : Peer) × Errs (shell_refusal (kept_base (kept_of self.old.owned.shell surface)) object object error) p q × IsPeer self.new.client q }
+    {
+        let refusal = refusal_of(self.base_of(surface), object, object, error);
+        self.client.refuse(refusal);
+    }
+
+    /// xdg_surface.set_window_geometry of a rectangle in surface pixels.
+    fn set_window_geometry(&mut self, object: u32, version: u32, surface: SurfaceNo, rect: Rect)
+        ensures { IsXdgSurface self.old object surface
+            → Answers (λ r. ask_of beyond_toplevels r object version (xdg_surface_request (SetWindowGeometry rect.x rect.y rect.w rect.h))) self.old self.new }
+    {
+        match self.owned.shell.geometry(surface, rect) {
+            Ok(()) => self.client.count(),
+            Err(error) => self.refuse_xdg_surface(object, surface, error),
+        }
+    }
+
+    /// xdg_surface.ack_configure of the configure with this serial.
+    fn ack_configure(&mut self, object: u32, version: u32, surface: SurfaceNo, serial: u32)
+        ensures { IsXdgSurface self.old object surface
+            → Answers (λ r. ask_of beyond_toplevels r object version (xdg_surface_request (AckConfigure serial))) self.old self.new }
+    {
+        match self.owned.shell.ack(surface, serial) {
+            Ok(()) => self.client.count(),
+            Err(error) => self.refuse_xdg_surface(object, surface, error),
+        }
+    }
+}
