@@ -27,7 +27,7 @@ use Rattle.wl_client.specs.Buffers.{Buffer}
 use Rattle.wl_client.specs.Objects.{ById, Object, Objects, held_at, nothing, objects_in, object_of, with_id}
 use Rattle.wl_client.specs.Told.{Output, Said, bind_told, code_number, display_error, error_told, said_bytes}
 use Rattle.wl_client.specs.Judgement.{Known, buffer_created, judge, layout_refused}
-use Rattle.wl_client.specs.Peer.{Peer, changed_region, counted, ended, has_room, known_of, made, newcomer, no_stores, queued, removed, with_rest, QueuesOr, Queues, Answers, Errs, LacksMemory, WantsOr, Takes, Reaches, IsIdleAt, Serves, Feeds, FeedsAt}
+use Rattle.wl_client.specs.Peer.{Peer, changed_region, ended, has_room, known_of, made, newcomer, no_stores, queued, removed, with_rest, QueuesOr, Queues, Answers, Errs, LacksMemory, WantsOr, Takes, Reaches, IsIdleAt, Serves, Feeds, FeedsAt}
 use Rattle.wl_client.specs.Agreement.{IsPeer, IsRegion, known_in, output_of}
 use Rattle.wl_client.specs.declared.actions.Action.{Action}
 use Rattle.wl_wire.specs.declared.header.Split.{Split}
@@ -121,7 +121,7 @@ pub IsPeer-removed : (v : ClientView) (p : Peer) (id : ℕ) (was : Option Entry)
 IsPeer-removed v p id was new found holds shorter is =
     let there : is_some was ≡ is_some (p.objects id) = ap is_some found ∙ sym (object-there (entry_of v.objects id)) ∙ ap (λ (os : Objects). is_some (os id)) is.objects in record {
       status = is.status;
-  requests = is.requests;
+      requests = is.requests;
       objects = objects_in-with v.objects new id None holds ∙ ap (λ os. with_id id None os) is.objects;
       held = less (is_some was) (length v.objects) (length new) shorter ∙ ap (λ (n : ℕ). n - (if is_some was then 1 else 0)) is.held ∙ ap (λ (b : Bool). p.held - (if b then 1 else 0)) there;
       regions = is.regions;
@@ -149,7 +149,7 @@ pub IsPeer-regions : (v : ClientView) (p : Peer) (old new : BTreeMap ℕ Area) (
 IsPeer-regions v p old new id area changes same updates region is =
     let now = held_at-updates old new v.regions id area same updates in record {
       status = is.status;
-  requests = is.requests;
+      requests = is.requests;
       objects = is.objects;
       held = is.held;
       regions = λ other. subst (λ (held : ById Area). IsRegion (held other) (with_id id changes p.regions other)) (sym now) (at other (other == id));

@@ -1,6 +1,6 @@
 -- The order of refusals: what a message asks, or the first error that it has.
 use Rattle.std.specs.List.{list_all}
-use Rattle.std.specs.Prelude.{ℕ, ℤ, pos, List, length, Bool, ◌&&◌, ◌==◌, not, nat_le, if◌then◌else◌, is_some, Option, Some, None, Result, Ok, Err, slice_index_or, []}
+use Rattle.std.specs.Prelude.{ℕ, ℤ, pos, List, Bool, ◌&&◌, ◌==◌, not, nat_le, if◌then◌else◌, is_some, Option, Some, None, Result, Ok, Err, slice_index_or, []}
 use Rattle.wl_wire.specs.Wire.{Field, Word, Number, Text, Block}
 use Rattle.wl_proto.specs.declared.interface.Interface.{Interface}
 use Rattle.wl_proto.specs.declared.interface.Interface.TheVariants.{WlDisplay, WlRegistry, WlCompositor, WlRegion, WlShm, WlShmPool, WlBuffer, WlSeat}

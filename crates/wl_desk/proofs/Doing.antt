@@ -1,5 +1,5 @@
 -- What is asked of a client leads to a client that is stood for.
-use Rattle.std.proofs.Common.{◌≡◌, ℕ, List, map, ◌≤◌, ◌+◌, ◌++◌, [], ◌∷◌, Bool, true, false, Option, Some, None, cond, length, refl, ap, sym, subst, ◌∙◌, inl, inr, arith}
+use Rattle.std.proofs.Common.{◌≡◌, ℕ, List, map, ◌≤◌, true, false, Option, Some, None, length, refl, ap, sym, subst, ◌∙◌}
 use Rattle.std.specs.Prelude.{is_some}
 use Rattle.std.specs.Option.{option_map}
 use Rattle.wl_geom.specs.declared.rect.Rect.{Rect}
@@ -9,7 +9,7 @@ use Rattle.wl_client.specs.Objects.{ById, held_at}
 use Rattle.wl_store.specs.Stores.{Stock}
 use Rattle.wl_client.proofs.Peers.{IsPeer-stores}
 use Rattle.wl_client.specs.View.{ClientView}
-use Rattle.wl_client.specs.Peer.{LacksMemory, Peer, Queues}
+use Rattle.wl_client.specs.Peer.{LacksMemory, Peer}
 use Rattle.wl_surface.specs.declared.content.Attached.{Attached}
 use Rattle.wl_surface.specs.Kept.{Changes, IsCopied, Numbered, Slots, buffer_of, had_at, StandForAll, StandsAt, kept_at}
 use Rattle.wl_surface.specs.Kept.{Kept as KeptSurface}
@@ -26,8 +26,8 @@ use Rattle.wl_table.specs.Objects.{Held, entry_of}
 use Rattle.wl_table.specs.declared.entry.Entry.{Entry}
 use Rattle.wl_desk.specs.Owning.{AreKept, by_number, names_in, targets_in}
 use Rattle.wl_desk.proofs.OwningNames.{targets-at}
-use Rattle.wl_desk.specs.Residents.{ActsFor, Does, IsLeft, IsResident, IsSurface, Owns}
-use Rattle.wl_desk.specs.Step.{after_surface, asked_of, changed_by}
+use Rattle.wl_desk.specs.Residents.{IsLeft, IsResident, IsSurface, Owns}
+use Rattle.wl_desk.specs.Step.{changed_by}
 use Rattle.wl_desk.proofs.Letting.{asked-keeps}
 use Rattle.wl_desk.proofs.OwningAsks.{owned-asked}
 use Rattle.wl_desk.proofs.OwningSurfaces.{surface-named, surface-read}

@@ -1,7 +1,6 @@
 -- Stores of buffers that are over: a request that leaves a surface its buffers lets none go.
 use Rattle.std.proofs.Common.{◌≡◌, ℕ, ◌≤◌, List, [], ◌∷◌, ◌++◌, Bool, true, false, Option, Some, None, cond, length, refl, ap, subst, sym, ◌∙◌, eq-eqb}
 use Rattle.std.specs.Prelude.{◌==◌, ◌&&◌, ◌||◌, not, filter, fold, map}
-use Rattle.std.specs.List.{list_any}
 use Rattle.wl_client.specs.Buffers.{Buffer as Made}
 use Rattle.wl_client.specs.Peer.{released}
 use Rattle.wl_store.specs.Stores.{Stock}
@@ -10,7 +9,7 @@ use Rattle.wl_surface.specs.State.{History, Values, applied, asked, committed, h
 use Rattle.wl_surface.specs.Surfaces.{Surface, asking, buffers_of, has, history_in, is_used, listed, names, shows, surface_at}
 use Rattle.wl_surface.proofs.Records.{applied-kept, held-kept, values-asked}
 use Rattle.wl_desk.specs.Desktop.{Resident}
-use Rattle.wl_desk.specs.Step.{after_surface, asked_of, buffers_had, each_once, is_number, is_over, letting_go, with_peer, without_buffer}
+use Rattle.wl_desk.specs.Step.{after_surface, asked_of, buffers_had, each_once, is_number, is_over, letting_go, with_peer}
 use Rattle.std.specs.Option.{option_map}
 use Rattle.wl_desk.proofs.OwningKeys.{found-any, found-map, found-passes}
 use Rattle.wl_desk.proofs.Stacks.{Each, each-map}

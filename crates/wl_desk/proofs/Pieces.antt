@@ -13,7 +13,6 @@ use Rattle.wl_client.specs.declared.clients.Cause.TheVariants.{Memory}
 use Rattle.wl_client.specs.declared.refusals.ErrorCode.TheVariants.{InvalidMethod}
 use Rattle.wl_client.specs.declared.refusals.Refusal.{Refusal}
 use Rattle.wl_client.specs.Judgement.{judge as judge_alone}
-use Rattle.wl_client.specs.Objects.{with_id}
 use Rattle.wl_client.specs.Peer.{Peer, Queues, IsIdle, changed, counted, ended, known_of, with_rest}
 use Rattle.wl_client.specs.Peer.{answers_to as own_answers, takes_memory as own_takes_memory}
 use Rattle.wl_client.specs.Told.{Said, display_error}

@@ -1,13 +1,13 @@
 -- The stores of three buffers go one after another, each once.
-use Rattle.std.proofs.Common.{◌≡◌, ℕ, zero, suc, slice_index_or, map, List, [], ◌∷◌, ◌++◌, Bool, true, false, Option, Some, None, cond, refl, ap, sym, ◌∙◌}
-use Rattle.std.specs.Prelude.{◌==◌, ◌&&◌, ◌||◌, not, filter, fold}
+use Rattle.std.proofs.Common.{◌≡◌, ℕ, zero, suc, slice_index_or, map, List, [], ◌∷◌, ◌++◌, Bool, true, false, Option, Some, None, cond, refl, ap, ◌∙◌}
+use Rattle.std.specs.Prelude.{◌==◌, ◌||◌, not, filter, fold}
 use Rattle.wl_client.specs.Peer.{released}
 use Rattle.wl_store.specs.Stores.{Stock}
 use Rattle.wl_surface.specs.Request.{Buffer}
 use Rattle.std.specs.Option.{option_map}
 use Rattle.wl_surface.specs.declared.content.Attached.{Attached}
 use Rattle.wl_surface.specs.Kept.{buffer_of, had_at}
-use Rattle.wl_surface.specs.State.{applied, held, pending}
+use Rattle.wl_surface.specs.State.{held, pending}
 use Rattle.wl_surface.specs.Surfaces.{Surface, listed}
 use Rattle.wl_desk.specs.Releases.{let_if, same_number}
 use Rattle.wl_desk.specs.Step.{buffers_had, each_once, without_buffer}

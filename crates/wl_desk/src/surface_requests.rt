@@ -89,7 +89,12 @@ impl<A: Allocator + Copy> Resident<A> {
     }
 
     /// Lets the stores of these buffers go that are over, each once.
-    fn let_go_of_three(&mut self, first: Option<Attached>, second: Option<Attached>, third: Option<Attached>)
+    fn let_go_of_three(
+        &mut self,
+        first: Option<Attached>,
+        second: Option<Attached>,
+        third: Option<Attached>,
+    )
         ensures stores { (r : Plain) (numbers : ById ℕ) → IsPeer self.old.client r.peer → AreKept numbers self.old.owned.surfaces r.owned.surfaces
             → IsPeer self.new.client (letting_go (listed (option_map buffer_of first) ++ listed (option_map buffer_of second) ++ listed (option_map buffer_of third)) r).peer }
         ensures only { self.new.client ≡ record self.old.client { stores = self.new.client.stores } }

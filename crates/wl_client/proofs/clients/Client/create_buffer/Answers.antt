@@ -1,4 +1,4 @@
-use Rattle.std.proofs.Common.{◌≡◌, ℕ, Some, refl, sym, ◌∙◌, ap, inl, subst}
+use Rattle.std.proofs.Common.{◌≡◌, ℕ, Some, refl, ◌∙◌, ap, inl, subst}
 use Rattle.std.specs.BTreeMap.{UpdatesBy}
 use Rattle.std.specs.Ordering.{nat_cmp}
 use Rattle.wl_store.specs.Stores.{used}

@@ -1,4 +1,4 @@
-use Rattle.std.proofs.Common.{refl, inl, inr, sym}
+use Rattle.std.proofs.Common.{refl, inl}
 use Rattle.wl_proto.specs.declared.interface.Interface.TheVariants.{WlSurface}
 use Rattle.wl_shell.specs.Kept.{kept_of}
 use Rattle.wl_desk.specs.Owning.{names_in}

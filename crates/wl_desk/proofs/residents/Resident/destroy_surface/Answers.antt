@@ -1,8 +1,7 @@
-use Rattle.std.proofs.Common.{◌≡◌, None, ap, refl, inl, inr, sym, ◌∙◌}
+use Rattle.std.proofs.Common.{◌≡◌, None, ap, refl, inl, inr}
 use Rattle.wl_client.specs.View.{ClientView}
 use Rattle.wl_shell.specs.Kept.{kept_of}
 use Rattle.wl_surface.specs.Surfaces.{surface_at, without_surface}
-use Rattle.wl_table.specs.Objects.{Held, HoldsAt}
 use Rattle.wl_desk.specs.Owning.{Names, names_in, with_surface}
 use Rattle.wl_desk.specs.Step.{after_surface, with_surfaces}
 use Rattle.wl_desk.proofs.Doing.{had-by, lacked, named-by}
