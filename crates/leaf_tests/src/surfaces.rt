@@ -38,6 +38,19 @@ fn pending<A: Allocator>(surfaces: &Surfaces<A>, surface: SurfaceNo) -> Option<B
     Some(surfaces.pending_buffer(surface)?.number)
 }
 
+// The buffers that are pending, held and applied.
+fn had<A: Allocator>(
+    surfaces: &Surfaces<A>,
+    surface: SurfaceNo,
+) -> (Option<BufferNo>, Option<BufferNo>, Option<BufferNo>) {
+    let [pending, held, applied] = surfaces.buffers(surface);
+    (
+        pending.map(|buffer| buffer.number),
+        held.map(|buffer| buffer.number),
+        applied.map(|buffer| buffer.number),
+    )
+}
+
 fn shown<A: Allocator>(surfaces: &Surfaces<A>, surface: SurfaceNo) -> Option<BufferNo> {
     Some(surfaces.current(surface)?.buffer?.number)
 }
@@ -109,6 +122,8 @@ fn one_buffer_after_another(rt: HostRuntime) -> Result<(), Fail> {
     assert_eq!(rt; shown(&surfaces, surface), Some(7));
     surfaces.attach(surface, buffer(8), 0, 0);
     assert!(rt; surfaces.is_used(8) && !surfaces.is_busy(8));
+    assert_eq!(rt; had(&surfaces, surface), (Some(8), Some(7), Some(7)));
+    assert_eq!(rt; had(&surfaces, other), (None, None, None));
     assert_eq!(rt; reads(&surfaces, surface), (true, true, true));
     assert_eq!(rt; commit(&mut surfaces, surface), Ok(()));
     assert!(rt; surfaces.is_used(8) && surfaces.is_busy(8));

@@ -29,12 +29,14 @@ impl Place {
         Place { store, layout }
     }
 
+    /// The store.
     pub fn store(&self) -> StoreNo
         ensures { result ≡ self.now.store }
     {
         self.store
     }
 
+    /// Where the pixels lie in the store.
     pub fn layout(&self) -> Layout
         ensures { buffer_at self.now.store result ≡ self.now }
     {
