@@ -82,7 +82,7 @@ IsPeer-with_rest v p rest is = record {
   output = is.output;
 }
 
-differ : (a b : ℕ) → (a == b) ≡ false → a ≢ b
+pub differ : (a b : ℕ) → (a == b) ≡ false → a ≢ b
 differ a b e = λ same. grind (arith, nat_tests)
 
 -- what is held at an id, or no longer, is an object, or none

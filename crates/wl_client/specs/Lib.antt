@@ -1,10 +1,12 @@
 pub mod Agreement
 pub mod Buffers
+pub mod First
 pub mod Judgement
 pub mod Objects
 pub mod Peer
 pub mod Plain
 pub mod Said
+pub mod Serving
 pub mod Told
 pub mod View
 pub use Rattle.wl_wire.specs.Wire

@@ -1,5 +1,5 @@
 -- The live objects of a client, and the globals that it may bind.
-use Rattle.std.specs.Prelude.{ℕ, ◌==◌, ◌&&◌, Bool, false, nat_le, if◌then◌else◌, Option, Some, None, List, [], ◌∷◌, codes, find}
+use Rattle.std.specs.Prelude.{ℕ, ◌≡◌, ◌==◌, ◌&&◌, Bool, true, false, nat_le, if◌then◌else◌, Option, Some, None, List, [], ◌∷◌, codes, find}
 use Rattle.std.specs.Map.{lookup}
 use Rattle.std.specs.Option.{option_map}
 use Rattle.std.specs.Ordering.{nat_cmp, is_eq}
@@ -31,6 +31,10 @@ Objects = ById Object
 
 abbrev pub object_of : Entry → Object
 object_of entry = record { interface = entry.interface; version = entry.version }
+
+-- an object that stands for nothing with a place
+abbrev pub entry_at_version : Interface → ℕ → Entry
+entry_at_version interface version = record { interface = interface; version = version; target = 0 }
 
 -- the objects that a table holds
 abbrev pub objects_in : Held → Objects
@@ -65,6 +69,22 @@ interface_number XdgPopup = 18
 abbrev pub is_of : Interface → Option Object → Bool
 is_of interface None = false
 is_of interface (Some object) = interface_number object.interface == interface_number interface
+
+-- the objects that name a surface: a wl_surface, an xdg_surface and an xdg_toplevel
+abbrev pub is_of_surface : Interface → Bool
+is_of_surface WlSurface = true
+is_of_surface XdgSurface = true
+is_of_surface XdgToplevel = true
+is_of_surface interface = false
+
+-- what is held, where it is one of those
+abbrev pub of_surface : Option Entry → Option Entry
+of_surface None = None
+of_surface (Some entry) = if is_of_surface entry.interface then Some entry else None
+
+-- those are the same under each id
+abbrev pub KeepsSurfaces : Held → Held → Type 0
+KeepsSurfaces old new = (id : ℕ) → of_surface (entry_of new id) ≡ of_surface (entry_of old id)
 
 -- an argument that names an object names a live one of its interface, or is null where it may be
 abbrev pub fits : Objects → ObjectArg → Bool

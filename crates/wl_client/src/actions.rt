@@ -88,11 +88,11 @@ fn is_free_id<A: Allocator>(objects: &Objects<A>, id: u32) -> bool
 }
 
 /// A new id must be free, and there must be room for another object.
-pub(crate) fn check_new_id<A: Allocator>(
+pub(crate) fn check_new_id<A: Allocator, X: Drop>(
     objects: &Objects<A>,
     new_id: Option<NewId>,
-    action: Result<Action, Refusal>,
-) -> Result<Action, Refusal>
+    action: Result<X, Refusal>,
+) -> Result<X, Refusal>
     ensures { result ≡ after_new_id (objects_in objects.now) (length objects.now) new_id action }
 {
     let Some(new) = new_id else {

@@ -64,8 +64,9 @@ impl<A: Allocator> Model for Client<A> {
 }
 
 impl<A: Allocator + Copy> Client<A> {
-    ghost use Rattle.wl_client.specs.Peer.{Peer, IsIdleAt, newcomer, Queues, Errs, LacksMemory, WantsOr, Acts, Answers, Serves, Feeds, counted, made, removed, left_by, released, sent_by, stored_by};
-    ghost use Rattle.wl_client.specs.Objects.{held_at, object_of};
+    ghost use Rattle.wl_client.specs.Peer.{Peer, IsIdleAt, ended, newcomer, Queues, Errs, LacksMemory, WantsOr, Acts, Answers, Serves, Feeds, counted, made, removed, left_by, released, sent_by, stored_by};
+    ghost use Rattle.wl_client.specs.Objects.{entry_at_version, held_at, object_of};
+    ghost use Rattle.wl_client.specs.Serving.{ChangesTable, EndsBy};
     ghost use Rattle.wl_client.specs.View.{cleared, stored};
     ghost use Rattle.wl_table.specs.Objects.{HoldsAt, entry_of};
     ghost use Rattle.wl_store.specs.Stores.{store_at, write_refusal};
@@ -101,7 +102,7 @@ impl<A: Allocator + Copy> Client<A> {
     }
 
     /// Queues an event. An `Err` says why it can't be queued, and changes nothing.
-    fn queue(&mut self, event: &Event) -> Result<(), Cause>
+    pub fn queue(&mut self, event: &Event) -> Result<(), Cause>
         ensures ok { OnOk result (IsTrue (has_room self.old.unsent (said_of event.now)) × (self.new ≡ record self.old { unsent = self.old.unsent ++ said_bytes (said_of event.now) })) }
         ensures err { OnErr result (self.new ≡ self.old) }
         ensures cause { IfErr result (λ e. MatchBool (has_room self.old.unsent (said_of event.now)) (e ≡ Cause.Memory) (e ≡ Cause.Slow)) }
@@ -119,8 +120,10 @@ impl<A: Allocator + Copy> Client<A> {
         }
     }
 
-    fn end(&mut self, cause: Cause)
-        ensures { self.new ≡ cleared cause self.old }
+    /// Ends the client for this cause. It is told nothing.
+    pub fn end(&mut self, cause: Cause)
+        ensures cleared { self.new ≡ cleared cause self.old }
+        ensures ends { (p : Peer) → IsPeer self.old p → IsPeer self.new (ended cause p) }
     {
         self.ended = Some(cause);
         self.rest.clear();
@@ -135,6 +138,7 @@ impl<A: Allocator + Copy> Client<A> {
     pub fn refuse(&mut self, refusal: Refusal)
         ensures ended { is_some self.new.ended ≡ true }
         ensures errs { (p : Peer) → IsPeer self.old p → (q : Peer) × Errs refusal p q × IsPeer self.new q }
+        ensures cause { EndsBy refusal self.new.ended }
         ensures rest { length self.new.rest ≡ 0 }
     {
         let cause = match self.queue(&error_event(refusal)) {
@@ -174,6 +178,7 @@ impl<A: Allocator + Copy> Client<A> {
     /// Makes an object, which tells these events.
     pub(crate) fn make(&mut self, id: u32, interface: Interface, version: u32, events: &[Event])
         ensures makes { (p : Peer) → IsPeer self.old p → (q : Peer) × WantsOr true (Queues (map said_of events.now) (made id (object_at_version interface version) p) q) p q × IsPeer self.new q }
+        ensures table { self.new.ended ≡ None → HoldsAt self.old.objects self.new.objects id (Some (entry_at_version interface version)) }
         ensures rest { length self.new.rest ≤ length self.old.rest }
     {
         let entry = Entry {
@@ -227,8 +232,9 @@ impl<A: Allocator + Copy> Client<A> {
     }
 
     /// Does what an accepted message asks.
-    fn act(&mut self, action: Action)
+    pub(crate) fn act(&mut self, action: Action)
         ensures acts { (p : Peer) → IsPeer self.old p → (q : Peer) × Acts action (counted p) q × IsPeer self.new q }
+        ensures table { self.new.ended ≡ None → ChangesTable action self.old.objects self.new.objects }
         ensures rest { length self.new.rest ≤ length self.old.rest }
     {
         self.count();
@@ -249,7 +255,7 @@ impl<A: Allocator + Copy> Client<A> {
     }
 
     /// Takes the first whole message of a client that lives, and answers whether there was one.
-    fn serve(&mut self) -> bool
+    fn take_next(&mut self) -> bool
         ensures serves { result ≡ true → (p : Peer) → IsPeer self.old p → (q : Peer) × Serves p q × IsPeer self.new q }
         ensures idle { result ≡ false → (self.new ≡ self.old) × IsIdleAt self.old.ended self.old.rest }
         ensures less { result ≡ true → length self.new.rest < length self.old.rest }
@@ -288,7 +294,7 @@ impl<A: Allocator + Copy> Client<A> {
             self.end(Cause::Memory);
             return;
         }
-        while self.serve() {}
+        while self.take_next() {}
     }
 
     /// The object with this id, if there is one.
@@ -366,7 +372,8 @@ impl<A: Allocator + Copy> Client<A> {
 
     /// So many unsent bytes were sent. False and unchanged where there are fewer.
     pub fn sent(&mut self, count: usize) -> bool
-        ensures { (p : Peer) → IsPeer self.old p → IsPeer self.new (sent_by count p) × (result ≡ nat_le count (length p.unsent)) }
+        ensures sends { (p : Peer) → IsPeer self.old p → IsPeer self.new (sent_by count p) × (result ≡ nat_le count (length p.unsent)) }
+        ensures table { self.new.objects ≡ self.old.objects }
     {
         if count > self.unsent.as_slice().len() {
             return false;
@@ -378,6 +385,7 @@ impl<A: Allocator + Copy> Client<A> {
     /// Puts bytes into a store. `NoStore`, or `OutOfRange` where they pass its end; nothing is changed then.
     pub fn store(&mut self, store: StoreNo, at: u32, bytes: &[u8]) -> Result<(), StoreError>
         ensures answer { result ≡ stored (write_refusal store at (length bytes.now) self.old.stores) }
+        ensures table { self.new.objects ≡ self.old.objects }
         ensures stored { (p : Peer) → IsPeer self.old p → IsPeer self.new (stored_by store at bytes.now (write_refusal store at (length bytes.now) p.stores) p) }
     {
         self.stores.write(store, at, bytes)

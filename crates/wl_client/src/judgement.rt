@@ -33,7 +33,12 @@ impl<A: Allocator + Copy> Client<A> {
     }
 
     /// The request's own errors, and what it asks of the object.
-    fn own_action(&self, object: u32, version: u32, request: &Request) -> Result<Action, Refusal>
+    pub(crate) fn own_action(
+        &self,
+        object: u32,
+        version: u32,
+        request: &Request,
+    ) -> Result<Action, Refusal>
         ensures { result ≡ action_of (known_in self.now) object version (request_message request.now).interface (request_message request.now).opcode (request_message request.now).fields }
     {
         match request {

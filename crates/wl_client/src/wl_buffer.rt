@@ -1,8 +1,9 @@
 //! The requests of wl_buffer.
 
-ghost use Rattle.std.specs.Prelude.{◌≡◌, ◌≤◌, length};
+ghost use Rattle.std.specs.Prelude.{ℕ, Bool, ◌≡◌, ◌≤◌, length};
 ghost use Rattle.wl_client.specs.Judgement.{buffer_destroyed};
 ghost use Rattle.wl_client.specs.Objects.{held_at};
+ghost use Rattle.wl_client.specs.Serving.{ActsWith, AreUsed, has_used};
 
 use crate::actions::Action;
 use crate::buffers::ShmBuffer;
@@ -11,6 +12,7 @@ use crate::refusals::{ErrorCode, Refusal};
 use std::alloc::Allocator;
 use std::collections::BTreeMap;
 use wl_store::StoreNo;
+use wl_surface::Surfaces;
 
 /// What a wl_buffer's one request, destroy, asks.
 pub(crate) fn action<A: Allocator>(
@@ -27,16 +29,44 @@ pub(crate) fn action<A: Allocator>(
 
 impl<A: Allocator + Copy> Client<A> {
     ghost use Rattle.wl_client.specs.Agreement.{IsPeer};
+    ghost use Rattle.wl_table.specs.Objects.{HoldsAt};
+    ghost use Rattle.std.specs.Prelude.{Some, None};
     ghost use Rattle.wl_client.specs.Peer.{Acts, Peer};
     ghost use Rattle.wl_client.specs.declared.actions.Action.TheVariants.{DestroyBuffer};
 
     /// A buffer goes, and its use of the store.
     pub(crate) fn destroy_buffer(&mut self, id: u32, store: StoreNo)
         ensures acts { (p : Peer) → IsPeer self.old p → (q : Peer) × Acts (DestroyBuffer id store) p q × IsPeer self.new q }
+        ensures table { self.new.ended ≡ None → HoldsAt self.old.objects self.new.objects id None }
         ensures rest { length self.new.rest ≤ length self.old.rest }
     {
         let _buffer = self.buffers.remove(&id);
         let _live = self.stores.let_go(store);
         self.remove(id);
+    }
+
+    /// Whether a surface uses the buffer of this wl_buffer.
+    fn is_buffer_used(&self, id: u32, surfaces: &Surfaces<A>) -> bool
+        ensures { (used : ℕ → Bool) → AreUsed surfaces.now used → result ≡ has_used used (held_at self.now.buffers id) }
+    {
+        match self.buffers.get(&id) {
+            None => false,
+            Some(buffer) => surfaces.is_used(buffer.number()),
+        }
+    }
+
+    /// A buffer goes, and its use of the store, unless a surface uses it.
+    pub(crate) fn destroy_buffer_with(&mut self, id: u32, store: StoreNo, surfaces: &Surfaces<A>)
+        ensures acts { (used : ℕ → Bool) → AreUsed surfaces.now used → (p : Peer) → IsPeer self.old p
+            → (q : Peer) × ActsWith used (DestroyBuffer id store) p q × IsPeer self.new q }
+        ensures table { self.new.ended ≡ None → HoldsAt self.old.objects self.new.objects id None }
+        ensures rest { length self.new.rest ≤ length self.old.rest }
+    {
+        if self.is_buffer_used(id, surfaces) {
+            let _used = self.buffers.remove(&id);
+            self.remove(id);
+        } else {
+            self.destroy_buffer(id, store);
+        }
     }
 }

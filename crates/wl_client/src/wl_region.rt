@@ -57,12 +57,17 @@ fn change<A: Allocator>(region: &Region<A>, change: Action) -> Result<Action, Re
 
 impl<A: Allocator + Copy> Client<A> {
     ghost use Rattle.wl_client.specs.Agreement.{IsPeer};
+    ghost use Rattle.wl_client.specs.Objects.{entry_at_version};
+    ghost use Rattle.wl_proto.specs.declared.interface.Interface.TheVariants.{WlRegion};
+    ghost use Rattle.wl_table.specs.Objects.{HoldsAt};
+    ghost use Rattle.std.specs.Prelude.{Some, None};
     ghost use Rattle.wl_client.specs.Peer.{Acts, Peer};
     ghost use Rattle.wl_client.specs.declared.actions.Action.TheVariants.{CreateRegion, AddToRegion, SubtractFromRegion, DestroyRegion};
 
     /// A new region, which is empty.
-    pub(crate) fn create_region(&mut self, id: u32, version: u32)
+    pub fn create_region(&mut self, id: u32, version: u32)
         ensures acts { (p : Peer) → IsPeer self.old p → (q : Peer) × Acts (CreateRegion id version) p q × IsPeer self.new q }
+        ensures table { self.new.ended ≡ None → HoldsAt self.old.objects self.new.objects id (Some (entry_at_version WlRegion version)) }
         ensures rest { length self.new.rest ≤ length self.old.rest }
     {
         match self.regions.insert(id, Region::new(self.alloc)) {
@@ -74,6 +79,7 @@ impl<A: Allocator + Copy> Client<A> {
     /// The rectangle is added to a region.
     pub(crate) fn add_to_region(&mut self, id: u32, rect: Rect)
         ensures acts { (p : Peer) → IsPeer self.old p → (q : Peer) × Acts (AddToRegion id rect) p q × IsPeer self.new q }
+        ensures table { self.new.ended ≡ None → self.new.objects ≡ self.old.objects }
         ensures rest { length self.new.rest ≤ length self.old.rest }
     {
         let Some(region) = self.regions.get_mut(&id) else {
@@ -88,6 +94,7 @@ impl<A: Allocator + Copy> Client<A> {
     /// The rectangle is taken from a region.
     pub(crate) fn subtract_from_region(&mut self, id: u32, rect: Rect)
         ensures acts { (p : Peer) → IsPeer self.old p → (q : Peer) × Acts (SubtractFromRegion id rect) p q × IsPeer self.new q }
+        ensures table { self.new.ended ≡ None → self.new.objects ≡ self.old.objects }
         ensures rest { length self.new.rest ≤ length self.old.rest }
     {
         let Some(region) = self.regions.get_mut(&id) else {
@@ -102,6 +109,7 @@ impl<A: Allocator + Copy> Client<A> {
     /// A region goes.
     pub(crate) fn destroy_region(&mut self, id: u32)
         ensures acts { (p : Peer) → IsPeer self.old p → (q : Peer) × Acts (DestroyRegion id) p q × IsPeer self.new q }
+        ensures table { self.new.ended ≡ None → HoldsAt self.old.objects self.new.objects id None }
         ensures rest { length self.new.rest ≤ length self.old.rest }
     {
         let _region = self.regions.remove(&id);

@@ -31,12 +31,16 @@ pub(crate) fn action(request: &WlRegistryRequest) -> Result<Action, Refusal>
 
 impl<A: Allocator + Copy> Client<A> {
     ghost use Rattle.wl_client.specs.Agreement.{IsPeer};
+    ghost use Rattle.wl_client.specs.Objects.{entry_at_version};
+    ghost use Rattle.wl_table.specs.Objects.{HoldsAt};
+    ghost use Rattle.std.specs.Prelude.{Some, None};
     ghost use Rattle.wl_client.specs.Peer.{Acts, Peer};
     ghost use Rattle.wl_client.specs.declared.actions.Action.TheVariants.{Bind};
 
     /// Makes the object of a bind, which tells what its interface tells at once.
     pub(crate) fn bind(&mut self, id: u32, interface: Interface, version: u32)
         ensures acts { (p : Peer) → IsPeer self.old p → (q : Peer) × Acts (Bind id interface version) p q × IsPeer self.new q }
+        ensures table { self.new.ended ≡ None → HoldsAt self.old.objects self.new.objects id (Some (entry_at_version interface version)) }
         ensures rest { length self.new.rest ≤ length self.old.rest }
     {
         match interface {

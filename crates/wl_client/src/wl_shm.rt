@@ -31,12 +31,17 @@ pub(crate) fn action<A: Allocator>(
 
 impl<A: Allocator + Copy> Client<A> {
     ghost use Rattle.wl_client.specs.Agreement.{IsPeer};
+    ghost use Rattle.wl_client.specs.Objects.{entry_at_version};
+    ghost use Rattle.wl_table.specs.Objects.{HoldsAt};
+    ghost use Rattle.wl_proto.specs.declared.interface.Interface.TheVariants.{WlShmPool};
+    ghost use Rattle.std.specs.Prelude.{Some, None};
     ghost use Rattle.wl_client.specs.Peer.{Acts, Peer};
     ghost use Rattle.wl_client.specs.declared.actions.Action.TheVariants.{CreatePool};
 
     /// A new pool with the client's next store.
     pub(crate) fn create_pool(&mut self, id: u32, version: u32, size: i32)
         ensures acts { (p : Peer) → IsPeer self.old p → (q : Peer) × Acts (CreatePool id version size) p q × IsPeer self.new q }
+        ensures table { self.new.ended ≡ None → HoldsAt self.old.objects self.new.objects id (Some (entry_at_version WlShmPool version)) }
         ensures rest { length self.new.rest ≤ length self.old.rest }
     {
         let Ok(store) = self.stores.create(size) else {

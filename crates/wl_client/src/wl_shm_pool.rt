@@ -119,12 +119,17 @@ fn resize<A: Allocator>(
 
 impl<A: Allocator + Copy> Client<A> {
     ghost use Rattle.wl_client.specs.Agreement.{IsPeer};
+    ghost use Rattle.wl_client.specs.Objects.{entry_at_version};
+    ghost use Rattle.wl_table.specs.Objects.{HoldsAt};
+    ghost use Rattle.wl_proto.specs.declared.interface.Interface.TheVariants.{WlBuffer};
+    ghost use Rattle.std.specs.Prelude.{Some, None};
     ghost use Rattle.wl_client.specs.Peer.{Acts, Peer};
     ghost use Rattle.wl_client.specs.declared.actions.Action.TheVariants.{CreateBuffer, ResizePool, DestroyPool};
 
     /// A new buffer, which uses its store. Its number is that of its request. There is no memory for a number of more than 64 bits.
     pub(crate) fn create_buffer(&mut self, id: u32, version: u32, place: Place)
         ensures acts { (p : Peer) → IsPeer self.old p → (q : Peer) × Acts (CreateBuffer id version place) p q × IsPeer self.new q }
+        ensures table { self.new.ended ≡ None → HoldsAt self.old.objects self.new.objects id (Some (entry_at_version WlBuffer version)) }
         ensures rest { length self.new.rest ≤ length self.old.rest }
     {
         let number = self.requests;
@@ -145,6 +150,7 @@ impl<A: Allocator + Copy> Client<A> {
     /// The store of a pool grows.
     pub(crate) fn resize_pool(&mut self, store: StoreNo, size: i32)
         ensures acts { (p : Peer) → IsPeer self.old p → (q : Peer) × Acts (ResizePool store size) p q × IsPeer self.new q }
+        ensures table { self.new.ended ≡ None → self.new.objects ≡ self.old.objects }
         ensures rest { length self.new.rest ≤ length self.old.rest }
     {
         match self.stores.resize(store, size) {
@@ -156,6 +162,7 @@ impl<A: Allocator + Copy> Client<A> {
     /// A pool goes. Its store lives on while buffers use it.
     pub(crate) fn destroy_pool(&mut self, id: u32, store: StoreNo)
         ensures acts { (p : Peer) → IsPeer self.old p → (q : Peer) × Acts (DestroyPool id store) p q × IsPeer self.new q }
+        ensures table { self.new.ended ≡ None → HoldsAt self.old.objects self.new.objects id None }
         ensures rest { length self.new.rest ≤ length self.old.rest }
     {
         let _pool = self.pools.remove(&id);

@@ -1,157 +1,185 @@
--- What a change of one client does to the whole.
-use Rattle.std.proofs.Common.{◌≡◌, ℕ, ◌+◌, suc, zero, ◌<◌, List, [], ◌∷◌, ◌++◌, length, take, Option, Some, None, get_or, set, refl, subst, sym, ◌∙◌, ap, arith, ◌≤◌, ◌⊎◌, inl, inr}
-use Rattle.std.specs.Prelude.{is_some, replicate, true, false, Ok, Err}
-use Rattle.wl_client.specs.declared.clients.Cause.{Cause}
+-- What a change of one client does to the whole desk.
+use Rattle.std.proofs.Common.{◌≡◌, ◌≢◌, ℕ, ◌+◌, suc, zero, ◌<◌, List, [], ◌∷◌, ◌++◌, Bool, true, false, length, map, take, Option, Some, None, get_or, set, refl, sym, ◌∙◌, ap, arith, ◌≤◌, ◌⊎◌, inl, inr}
+use Rattle.std.specs.Option.{option_map}
+use Rattle.std.specs.Prelude.{if◌then◌else◌, is_some, replicate, ◌==◌}
+use Rattle.std.proofs.lemmas.Bool.{eqb-false, eqb-true}
+use Rattle.std.proofs.lemmas.List.{get_or-set_other, get_or-set_same, length-set}
 use Rattle.wl_client.specs.View.{ClientView}
-use Rattle.wl_desk.specs.View.{DeskView}
-use Rattle.wl_desk.specs.declared.answers.Done.{Done}
-use Rattle.wl_desk.specs.declared.answers.Done.TheVariants as gave
-use Rattle.wl_desk.specs.declared.answers.Fed.TheVariants.{NoClient}
-use Rattle.wl_desk.specs.declared.answers.ConnectError.TheVariants.{Full, Memory}
-use Rattle.wl_client.specs.Told.{Output}
-use Rattle.wl_client.specs.Peer.{Peer, newcomer}
-use Rattle.wl_scene.specs.Stacking.{Standing, without_client}
-use Rattle.wl_desk.specs.Desktop.{Desktop, Resident, arrival, become_by, client_at, place, with_client, with_place}
-use Rattle.wl_desk.specs.Laws.{OwnsNothing, status_of}
-use Rattle.wl_desk.specs.Served.{beyond_clients}
-use Rattle.wl_desk.proofs.Places.{client-kept}
-use Rattle.wl_desk.proofs.Served.{owns-on, served_alone, there-is}
-use Rattle.wl_desk.specs.Steps.{ConnectsAt, Changes, ChangesAt, IsFedAt, fed_of, left_so, lowest, next_of, peer_at, peer_of}
-use Rattle.wl_client.specs.Agreement.{IsPeer, output_of}
-use Rattle.wl_desk.specs.Agreement.{AgreeAll, Agrees, IsClient, IsFed, IsSlot, SlotChanges}
+use Rattle.wl_scene.specs.Stacking.{Stack}
+use Rattle.wl_desk.specs.Agreement.{Agrees, IsPlace, IsScene, IsSeat, numbers_in, numbers_of, with_numbers}
+use Rattle.wl_desk.specs.Desktop.{Desktop, Resident, client_at, place, with_number, with_place}
+use Rattle.wl_desk.specs.Seats.{IsSeated}
+use Rattle.wl_desk.specs.Standing.{MappedStand}
+use Rattle.wl_desk.specs.Steps.{lowest, next_of}
+use Rattle.wl_desk.specs.View.{DeskView, OwnedView, owned_view}
+use Rattle.wl_desk.specs.declared.residents.Resident.{Resident as Kept}
+use Rattle.wl_desk.proofs.Places.{number-kept}
+use Rattle.wl_desk.proofs.Scenes.{stack-by}
 
--- ---- places
+-- ---- lists of places
 
-IsClient-place : (vs : List (Option ClientView)) (d : List (Option Resident)) (k : ℕ) (w : Option ClientView) → k < length vs → AgreeAll vs d → IsClient (get_or vs k w) (place d k)
-IsClient-place [] [] k w h a = absurd (omega arith)
-IsClient-place (v ∷ vs) (r ∷ d) zero w h a = a.0
-IsClient-place (v ∷ vs) (r ∷ d) (suc k) w h a = IsClient-place vs d k w (omega arith) a.1
-IsClient-place [] (r ∷ d) k w h a = absurd a
-IsClient-place (v ∷ vs) [] k w h a = absurd a
+abbrev pub at : {X : Type 0} → List (Option X) → ℕ → Option X
+at xs k = get_or xs k None
 
-AgreeAll-place : (vs : List (Option ClientView)) (d : List (Option Resident)) (k : ℕ) (v : Option ClientView) (r : Option Resident) → AgreeAll vs d → IsClient v r → AgreeAll (set vs k v) (with_place k r d)
-AgreeAll-place [] [] k v r a is = tt
-AgreeAll-place (w ∷ vs) (q ∷ d) zero v r a is = (is, a.1)
-AgreeAll-place (w ∷ vs) (q ∷ d) (suc k) v r a is = (a.0, AgreeAll-place vs d k v r a.1 is)
-AgreeAll-place [] (q ∷ d) k v r a is = absurd a
-AgreeAll-place (w ∷ vs) [] k v r a is = absurd a
+pub at-within : {X : Type 0} (xs : List (Option X)) (k : ℕ) (d : Option X) → k < length xs → get_or xs k d ≡ at xs k
+at-within [] k d h = absurd (omega arith)
+at-within (x ∷ xs) zero d h = refl
+at-within (x ∷ xs) (suc k) d h = at-within xs k d (omega arith)
 
-place_past : (vs : List (Option ClientView)) (d : List (Option Resident)) (k : ℕ) → AgreeAll vs d → length vs ≤ k → place d k ≡ None
-place_past [] [] k a h = refl
-place_past (v ∷ vs) (r ∷ d) zero a h = absurd (omega arith)
-place_past (v ∷ vs) (r ∷ d) (suc k) a h = place_past vs d k a.1 (omega arith)
-place_past [] (r ∷ d) k a h = absurd a
-place_past (v ∷ vs) [] k a h = absurd a
+pub at-past : {X : Type 0} (xs : List (Option X)) (k : ℕ) → length xs ≤ k → at xs k ≡ None
+at-past [] k h = refl
+at-past (x ∷ xs) zero h = absurd (omega arith)
+at-past (x ∷ xs) (suc k) h = at-past xs k (omega arith)
 
--- no client has the number 0, or one past the last
-client-none : (us : List (Option ClientView)) (w : DeskView) (d : Desktop) (c : ℕ) → us ≡ w.clients → (c ≡ 0) ⊎ (length us < c) → Agrees w d → client_at c d ≡ None
-client-none us w d zero same h a = refl
-client-none us w d (suc k) same (inl h) a = absurd (omega arith)
-client-none us w d (suc k) same (inr h) a =
-    let past : length w.clients ≤ k = let h2 = rw same at h in omega arith in
-    place_past w.clients d.clients k a.clients past
+pub at-map : {X Y : Type 0} (f : X → Y) (xs : List (Option X)) (k : ℕ) → at (map (option_map f) xs) k ≡ option_map f (at xs k)
+at-map f [] k = refl
+at-map f (x ∷ xs) zero = refl
+at-map f (x ∷ xs) (suc k) = at-map f xs k
 
--- the client of a number is what is kept there
-client-slot : (us : List (Option ClientView)) (w : DeskView) (d : Desktop) (c k : ℕ) (u : Option ClientView) → us ≡ w.clients → (c ≡ k + 1) × (k < length us) → u ≡ get_or w.clients k u → Agrees w d → IsClient u (client_at c d)
-client-slot us w d c k u same found at a =
-    let number : c ≡ suc k = omega arith in
-    let within : k < length w.clients = rw same at found.1 in
-    rw number (rw at (IsClient-place w.clients d.clients k u within a.clients))
+map-length : {X Y : Type 0} (f : X → Y) (xs : List X) → length (map f xs) ≡ length xs
+map-length f [] = refl
+map-length f (x ∷ xs) = ap (λ (n : ℕ). suc n) (map-length f xs)
 
--- ---- what becomes of a client
+-- one place is this, and the others stay
+pub record IsPut {X : Type 0} (k : ℕ) (x : Option X) (old new : List (Option X)) : Type 0 where
+  pub here : at new k ≡ x
+  pub others : (j : ℕ) → j ≢ k → at new j ≡ at old j
+  pub count : length new ≡ length old
 
--- another client there, and the same toplevels
-agrees-place : (w : DeskView) (v : Option ClientView) (r : Option Resident) (d : Desktop) (c k : ℕ) → c ≡ k + 1 → Agrees w d → IsClient v r → Agrees (record w { clients = set w.clients k v }) (with_client c r d)
-agrees-place w v r d c k number a is =
-    let e : c ≡ suc k = omega arith in
-    rw e (record { output = a.output; clients = AgreeAll-place w.clients d.clients k v r a.clients is; standing = a.standing })
+pub put-set : {X : Type 0} (k : ℕ) (x : Option X) (xs : List (Option X)) → k < length xs → IsPut k x xs (set xs k x)
+put-set k x xs h = record { here = get_or-set_same xs k x None h; others = λ j differ. get_or-set_other xs k j x None differ; count = length-set xs k x }
 
--- no toplevels stay where none stand
-agrees-without : (v : DeskView) (c : ℕ) (d : Desktop) → Agrees v d → Agrees v (record d { standing = without_client c d.standing })
-agrees-without v c d a = record { output = a.output; clients = a.clients; standing = ap (λ (s : List Standing). without_client c s) a.standing }
+pub put-twice : {X : Type 0} (k : ℕ) (x y : Option X) (xs : List (Option X)) → k < length xs → IsPut k x xs (set (set xs k y) k x)
+put-twice k x y xs h =
+    let first = put-set k y xs h in
+    let second = put-set k x (set xs k y) (rw first.count h) in
+    record { here = second.here; others = λ j differ. second.others j differ ∙ first.others j differ; count = second.count ∙ first.count }
 
-agrees-become : (s : Option Cause) (w : DeskView) (v : Option ClientView) (r : Resident) (q : Peer) (d : Desktop) (c k : ℕ) → c ≡ k + 1 → Agrees w d → OwnsNothing r → IsSlot v (Some q) → Agrees (record w { clients = set w.clients k v }) (become_by s c r q d)
-agrees-become s w None r q d c k number a alone is = absurd is
-agrees-become None w (Some v) r q d c k number a alone is =
-    agrees-place w (Some v) (Some (record r { peer = q })) d c k number a (is, owns-on q r alone)
-agrees-become (Some cause) w (Some v) r q d c k number a alone is =
-    agrees-place w (Some v) _ (record d { standing = without_client c d.standing }) c k number (agrees-without w c d a) (is, refl)
+pub put-map : {X Y : Type 0} (f : X → Y) (k : ℕ) (x : Option X) (old new : List (Option X)) → IsPut k x old new → IsPut k (option_map f x) (map (option_map f) old) (map (option_map f) new)
+put-map f k x old new put =
+    record {
+      here = at-map f new k ∙ ap (λ (o : Option _). option_map f o) put.here;
+      others = λ j differ. at-map f new j ∙ (ap (λ (o : Option _). option_map f o) (put.others j differ) ∙ sym (at-map f old j));
+      count = map-length (option_map f) new ∙ (put.count ∙ sym (map-length (option_map f) old));
+    }
 
-agrees-left : (w : DeskView) (v : Option ClientView) (r : Resident) (q : Option Peer) (d : Desktop) (c k : ℕ) → c ≡ k + 1 → Agrees w d → OwnsNothing r → IsSlot v q → Agrees (record w { clients = set w.clients k v }) (left_so c r q d)
-agrees-left w None r None d c k number a alone is =
-    agrees-place w None None (record d { standing = without_client c d.standing }) c k number (agrees-without w c d a) tt
-agrees-left w (Some v) r None d c k number a alone is = absurd is
-agrees-left w v r (Some q) d c k number a alone is = agrees-become q.status w v r q d c k number a alone is
+-- ---- places of the desktop
 
--- a number stays free
-agrees-free : (w : DeskView) (v : Option ClientView) (d : Desktop) (c k : ℕ) → c ≡ k + 1 → client_at c d ≡ None → v ≡ None → Agrees w d → Agrees (record w { clients = set w.clients k v }) d
-agrees-free w v d c k number free none a =
-    let same : with_client c None d ≡ d = ap (λ (o : Option Resident). with_client c o d) (sym free) ∙ client-kept c d in
-    subst (λ (e : Desktop). Agrees (record w { clients = set w.clients k v }) e) same (agrees-place w v None d c k number a (rw none tt))
+place-past : (rs : List (Option Resident)) (k : ℕ) → length rs ≤ k → place rs k ≡ None
+place-past [] k h = refl
+place-past (r ∷ rs) zero h = absurd (omega arith)
+place-past (r ∷ rs) (suc k) h = place-past rs k (omega arith)
 
--- what one slot does, the session does
-changes : (R : Peer → Done → Option Peer → Type 0) (absent done : Done) (w : DeskView) (u v : Option ClientView) (o : Option Resident) (d : Desktop) (c k : ℕ) → c ≡ k + 1 → client_at c d ≡ o → Agrees w d → IsClient u o → SlotChanges R absent done u v → (e : Desktop) × ChangesAt R absent c o d done e × Agrees (record w { clients = set w.clients k v }) e
-changes R absent done w None v None d c k number there a is step = (d, (step.0, refl), agrees-free w v d c k number there step.1 a)
-changes R absent done w (Some u) v (Some r) d c k number there a is step =
-    let s = step r.peer is.0 in
-    (left_so c r s.0 d, (s.0, s.1, refl), agrees-left w v r s.0 d c k number a is.1 s.2)
-changes R absent done w None v (Some r) d c k number there a is step = absurd is
-changes R absent done w (Some u) v None d c k number there a is step = absurd is
+place-here : (rs : List (Option Resident)) (k : ℕ) (r : Option Resident) → k < length rs → place (with_place k r rs) k ≡ r
+place-here [] k r h = absurd (omega arith)
+place-here (x ∷ rs) zero r h = refl
+place-here (x ∷ rs) (suc k) r h = place-here rs k r (omega arith)
 
-pub Changes-slot : (R : Peer → Done → Option Peer → Type 0) (absent done : Done) (us : List (Option ClientView)) (w : DeskView) (u v : Option ClientView) (d : Desktop) (c k : ℕ) → us ≡ w.clients → (c ≡ k + 1) × (k < length us) → u ≡ get_or w.clients k u → Agrees w d → SlotChanges R absent done u v → (e : Desktop) × Changes c R absent d done e × Agrees (record w { clients = set w.clients k v }) e
-Changes-slot R absent done us w u v d c k same found at a step =
-    changes R absent done w u v (client_at c d) d c k found.0 refl a (client-slot us w d c k u same found at a) step
+place-else : (rs : List (Option Resident)) (k j : ℕ) (r : Option Resident) → j ≢ k → place (with_place k r rs) j ≡ place rs j
+place-else [] k j r differ = refl
+place-else (x ∷ rs) zero zero r differ = absurd (differ refl)
+place-else (x ∷ rs) zero (suc j) r differ = refl
+place-else (x ∷ rs) (suc k) zero r differ = refl
+place-else (x ∷ rs) (suc k) (suc j) r differ = place-else rs k j r (λ e. differ (ap (λ (n : ℕ). suc n) e))
 
-pub Changes-none : (R : Peer → Done → Option Peer → Type 0) (absent : Done) (us : List (Option ClientView)) (w : DeskView) (d : Desktop) (c : ℕ) → us ≡ w.clients → (c ≡ 0) ⊎ (length us < c) → Agrees w d → (e : Desktop) × Changes c R absent d absent e × Agrees w e
-Changes-none R absent us w d c same h a =
-    (d, subst (λ (o : Option Resident). ChangesAt R absent c o d absent d) (sym (client-none us w d c same h a)) (refl, refl), a)
+place-count : (rs : List (Option Resident)) (k : ℕ) (r : Option Resident) → length (with_place k r rs) ≡ length rs
+place-count [] k r = refl
+place-count (x ∷ rs) zero r = refl
+place-count (x ∷ rs) (suc k) r = ap (λ (n : ℕ). suc n) (place-count rs k r)
 
--- A piece makes of the desktop's client what it makes of the client by itself.
-fed : (piece : List ℕ) (done : Done) (w : DeskView) (v : Option ClientView) (r : Resident) (q : Option Peer) (d : Desktop) (c k : ℕ) → c ≡ k + 1 → client_at c d ≡ Some r → Agrees w d → OwnsNothing r → IsFed piece r.peer done q → IsSlot v q → (e : Desktop) × IsFedAt beyond_clients c piece (Some r) d done e × Agrees (record w { clients = set w.clients k v }) e
-fed piece done w v r None d c k number there a alone feeds is = absurd feeds
-fed piece done w None r (Some q) d c k number there a alone feeds is = absurd is
-fed piece done w (Some v) r (Some q) d c k number there a alone feeds is =
-    let f = served_alone c piece r r.peer q d there (refl, alone) feeds.0 in
-    let t = there-is q (client_at c f.0) f.2 in
-    let stands = ap (λ (s : List Standing). without_client c s) a.standing ∙ sym a.standing in
-    let all : f.0 ≡ with_client c (Some t.0) d = f.3 stands ∙ ap (λ (o : Option Resident). with_client c o d) t.1 in
-    let answer : fed_of q.status ≡ fed_of (status_of (client_at c f.0)) =
-    ap (λ (p : Peer). fed_of p.status) (sym t.2) ∙ ap (λ (o : Option Resident). fed_of (status_of o)) (sym t.1) in (
-      f.0,
-      (f.1, feeds.1 ∙ ap gave.Feed answer),
-      subst (λ (e : Desktop). Agrees (record w { clients = set w.clients k (Some v) }) e) (sym all)
-          (agrees-place w (Some v) (Some t.0) d c k number a (subst (λ (p : Peer). IsPeer v p) (sym t.2) is, t.3)),
+-- ---- one place of the desk changes
+
+-- the numbers of the surfaces of all but client k + 1
+pub numbers-put : (k : ℕ) (x : Option ClientView) (us vs : List (Option ClientView)) (a surface : ℕ) → IsPut k x us vs → numbers_in vs a surface ≡ with_numbers (suc k) (numbers_of x) (numbers_in us) a surface
+numbers-put k x us vs zero surface put = by (zero == suc k) refl
+  where
+    by : (b : Bool) → (zero == suc k) ≡ b → None ≡ (if b then numbers_of x else numbers_in us zero) surface
+    by true e = absurd (let h = eqb-true zero (suc k) e in omega (arith, h))
+    by false e = refl
+numbers-put k x us vs (suc j) surface put = by (suc j == suc k) refl
+  where
+    by : (b : Bool) → (suc j == suc k) ≡ b → numbers_of (at vs j) surface ≡ (if b then numbers_of x else numbers_in us (suc j)) surface
+    by true e =
+        let same : j ≡ k = let h = eqb-true (suc j) (suc k) e in omega (arith, h) in
+        ap (λ (o : Option ClientView). numbers_of o surface) (ap (λ (i : ℕ). at vs i) same ∙ put.here)
+    by false e =
+        let differ : j ≢ k = λ h. eqb-false (suc j) (suc k) e (ap (λ (n : ℕ). suc n) h) in
+        ap (λ (o : Option ClientView). numbers_of o surface) (put.others j differ)
+
+pub scene-put : (k : ℕ) (x : Option ClientView) (us vs : List (Option ClientView)) (stack : Stack) (d : Desktop) → IsPut k x us vs → IsScene (with_numbers (suc k) (numbers_of x) (numbers_in us)) stack d → IsScene (numbers_in vs) stack d
+scene-put k x us vs stack d put scene =
+    record { standing = stack-by _ (numbers_in vs) stack.standing d.standing (λ a surface n has is. numbers-put k x us vs a surface put ∙ is) scene.standing; next = scene.next }
+
+-- the other way: the place is as it is
+pub scene-out : (k : ℕ) (x : Option ClientView) (us : List (Option ClientView)) (stack : Stack) (d : Desktop) → at us k ≡ x → IsScene (numbers_in us) stack d → IsScene (with_numbers (suc k) (numbers_of x) (numbers_in us)) stack d
+scene-out k x us stack d here scene =
+    record {
+      standing = stack-by (numbers_in us) _ stack.standing d.standing (λ a surface n has is. sym (numbers-put k x us us a surface (record { here = here; others = λ j differ. refl; count = refl })) ∙ is) scene.standing;
+      next = scene.next;
+    }
+
+-- one place and the toplevels become others
+pub agrees-put : (w : DeskView) (k : ℕ) (x : Option ClientView) (o : Option OwnedView) (r : Option Resident) (us : List (Option ClientView)) (os : List (Option OwnedView)) (stack : Stack) (d e : Desktop) → Agrees w d → k < length w.clients
+    → IsPut k x w.clients us → IsPut k o w.owned os → e.output ≡ d.output → e.clients ≡ with_number (suc k) r d.clients → IsPlace x o r → IsScene (with_numbers (suc k) (numbers_of x) (numbers_in w.clients)) stack e → MappedStand e
+    → Agrees (record { output = w.output; clients = us; owned = os; scene = stack }) e
+agrees-put w k x o r us os stack d e a within puts owns output clients is scene mapped =
+    record {
+      output = a.output ∙ sym output;
+      count = puts.count ∙ (a.count ∙ (sym (place-count d.clients k r) ∙ ap (λ (rs : List (Option Resident)). length rs) (sym clients)));
+      clients = λ j. rw clients (each j (j == k) refl);
+      scene = scene-put k x w.clients us stack e puts scene;
+      mapped = mapped;
+    }
+  where
+    each : (j : ℕ) (b : Bool) → (j == k) ≡ b → IsPlace (at us j) (at os j) (place (with_place k r d.clients) j)
+    each j true e =
+        let same = eqb-true j k e in
+        rw (same, puts.here, owns.here, place-here d.clients k r (rw (← a.count) within)) is
+    each j false e =
+        let differ = eqb-false j k e in
+        rw (puts.others j differ, owns.others j differ, place-else d.clients k j r differ) (a.clients j)
+
+-- ---- a client is taken out, and put back
+
+-- what is kept of a number's client
+pub place-at : (w : DeskView) (d : Desktop) (k : ℕ) → Agrees w d → IsPlace (at w.clients k) (at w.owned k) (client_at (suc k) d)
+place-at w d k a = a.clients k
+
+pub client-past : (us : List (Option ClientView)) (w : DeskView) (d : Desktop) (c : ℕ) → us ≡ w.clients → (c ≡ 0) ⊎ (length us < c) → Agrees w d → client_at c d ≡ None
+client-past us w d zero same h a = refl
+client-past us w d (suc k) same (inl h) a = absurd (omega arith)
+client-past us w d (suc k) same (inr h) a =
+    let past : length d.clients ≤ k = let h2 = rw (same, a.count) at h in omega (arith, h2) in
+    place-past d.clients k past
+
+seat-of : {A : Type 0} (x : Option ClientView) (o : Option OwnedView) (r : Option Resident) (v : Kept A) → x ≡ Some v.client → o ≡ Some (owned_view v.owned) → IsPlace x o r → (s : Resident) × (r ≡ Some s) × IsSeat v.client (owned_view v.owned) s
+seat-of x o None v e f is = absurd (rw (e, f) at is)
+seat-of x o (Some s) v e f is = (s, refl, rw (e, f) at is)
+
+-- the one who is taken out, with the others' numbers
+pub seated-out : {A : Type 0} (w : DeskView) (d : Desktop) (k : ℕ) (v : Kept A) → at w.clients k ≡ Some v.client → at w.owned k ≡ Some (owned_view v.owned) → Agrees w d
+    → (s : Resident) × (client_at (suc k) d ≡ Some s) × IsSeated (suc k) (numbers_in w.clients) d v w.scene d s
+seated-out w d k v x o a =
+    let seat = seat-of (at w.clients k) (at w.owned k) (client_at (suc k) d) v x o (place-at w d k a) in (
+      seat.0,
+      seat.1,
+      record {
+        based = record { there = seat.1; output = refl; clients = sym (ap (λ (r : Option Resident). with_number (suc k) r d.clients) (sym seat.1) ∙ number-kept d.clients (suc k)) };
+        seat = seat.2;
+        scene = scene-out k (Some v.client) w.clients w.scene d x a.scene;
+        mapped = a.mapped;
+      },
     )
 
-feeds : (piece : List ℕ) (done : Done) (w : DeskView) (u v : Option ClientView) (o : Option Resident) (d : Desktop) (c k : ℕ) → c ≡ k + 1 → client_at c d ≡ o → Agrees w d → IsClient u o → SlotChanges (IsFed piece) (gave.Feed NoClient) done u v → (e : Desktop) × IsFedAt beyond_clients c piece o d done e × Agrees (record w { clients = set w.clients k v }) e
-feeds piece done w None v None d c k number there a is step = (d, (step.0, refl), agrees-free w v d c k number there step.1 a)
-feeds piece done w (Some u) v (Some r) d c k number there a is step =
-    let s = step r.peer is.0 in
-    fed piece done w v r s.0 d c k number there a is.1 s.1 s.2
-feeds piece done w None v (Some r) d c k number there a is step = absurd is
-feeds piece done w (Some u) v None d c k number there a is step = absurd is
-
-pub Feeds-slot : (piece : List ℕ) (done : Done) (us : List (Option ClientView)) (w : DeskView) (u v : Option ClientView) (d : Desktop) (c k : ℕ) → us ≡ w.clients → (c ≡ k + 1) × (k < length us) → u ≡ get_or w.clients k u → Agrees w d → SlotChanges (IsFed piece) (gave.Feed NoClient) done u v → (e : Desktop) × IsFedAt beyond_clients c piece (client_at c d) d done e × Agrees (record w { clients = set w.clients k v }) e
-Feeds-slot piece done us w u v d c k same found at a step =
-    feeds piece done w u v (client_at c d) d c k found.0 refl a (client-slot us w d c k u same found at a) step
-
-pub Feeds-none : (piece : List ℕ) (us : List (Option ClientView)) (w : DeskView) (d : Desktop) (c : ℕ) → us ≡ w.clients → (c ≡ 0) ⊎ (length us < c) → Agrees w d → (e : Desktop) × IsFedAt beyond_clients c piece (client_at c d) d (gave.Feed NoClient) e × Agrees w e
-Feeds-none piece us w d c same h a =
-    (d, subst (λ (o : Option Resident). IsFedAt beyond_clients c piece o d (gave.Feed NoClient) d) (sym (client-none us w d c same h a)) (refl, refl), a)
+-- put back as it is now
+pub seated-back : {A : Type 0} (w : DeskView) (k : ℕ) (v : Kept A) (s : Resident) (us : List (Option ClientView)) (os : List (Option OwnedView)) (stack : Stack) (d e : Desktop) → Agrees w d → k < length w.clients
+    → IsPut k (Some v.client) w.clients us → IsPut k (Some (owned_view v.owned)) w.owned os → IsSeated (suc k) (numbers_in w.clients) d v stack e s → Agrees (record { output = w.output; clients = us; owned = os; scene = stack }) e
+seated-back w k v s us os stack d e a within puts owns is =
+    agrees-put w k (Some v.client) (Some (owned_view v.owned)) (Some s) us os stack d e a within puts owns is.based.output is.based.clients is.seat is.scene is.mapped
 
 -- ---- free numbers
 
--- a free place is free in both
-lowest-AgreeAll : (vs : List (Option ClientView)) (d : List (Option Resident)) → AgreeAll vs d → lowest vs ≡ lowest d
-lowest-AgreeAll [] [] a = refl
-lowest-AgreeAll (None ∷ vs) (None ∷ d) a = refl
-lowest-AgreeAll (Some v ∷ vs) (Some r ∷ d) a = ap (λ (o : Option ℕ). next_of o) (lowest-AgreeAll vs d a.1)
-lowest-AgreeAll (None ∷ vs) (Some r ∷ d) a = absurd a.0
-lowest-AgreeAll (Some v ∷ vs) (None ∷ d) a = absurd a.0
-lowest-AgreeAll [] (r ∷ d) a = absurd a
-lowest-AgreeAll (v ∷ vs) [] a = absurd a
-
-none_of : (o : Option ℕ) → next_of o ≡ None → o ≡ None
+pub none_of : (o : Option ℕ) → next_of o ≡ None → o ≡ None
 none_of None h = refl
 none_of (Some k) h = absurd (cc)
 
@@ -169,16 +197,6 @@ lowest-more (None ∷ xs) (suc k) d x h none here = absurd (cc)
 lowest-more (Some y ∷ xs) zero d x h none here = refl
 lowest-more (Some y ∷ xs) (suc k) d x h none here = ap (λ (o : Option ℕ). next_of o) (lowest-more xs k d x (omega arith) (none_of (lowest (take k xs)) none) here)
 
-pub Connects-full : (us : List (Option ClientView)) (w : DeskView) (d : Desktop) → us ≡ w.clients → None ≡ lowest us → Agrees w d → (e : Desktop) × ConnectsAt (lowest d.clients) d (gave.Connect (Err Full)) e × Agrees w e
-Connects-full us w d same none a =
-    let at : lowest d.clients ≡ None = sym (lowest-AgreeAll w.clients d.clients a.clients) ∙ sym (none ∙ ap (λ (xs : List (Option ClientView)). lowest xs) same) in
-    (d, rw at (refl, refl), a)
-
-pub Connects-refused : (us : List (Option ClientView)) (w : DeskView) (d : Desktop) (k : ℕ) → us ≡ w.clients → Some k ≡ lowest us → Agrees w d → (e : Desktop) × ConnectsAt (lowest d.clients) d (gave.Connect (Err Memory)) e × Agrees w e
-Connects-refused us w d k same found a =
-    let at : lowest d.clients ≡ Some k = sym (lowest-AgreeAll w.clients d.clients a.clients) ∙ sym (found ∙ ap (λ (xs : List (Option ClientView)). lowest xs) same) in
-    (d, rw at (inl (refl, refl)), a)
-
 none-behind : {X : Type 0} (n : ℕ) (x : Option X) → replicate n x ++ x ∷ [] ≡ replicate (suc n) x
 none-behind zero x = refl
 none-behind (suc n) x = ap (λ xs. x ∷ xs) (none-behind n x)
@@ -186,20 +204,6 @@ none-behind (suc n) x = ap (λ xs. x ∷ xs) (none-behind n x)
 -- a place more without a client
 pub none-more : {X : Type 0} (xs : List (Option X)) (n : ℕ) → xs ≡ replicate n None → xs ++ None ∷ [] ≡ replicate (n + 1) None
 none-more xs n is = let e : n + 1 ≡ suc n = omega arith in rw (is, e) (none-behind n None)
-
--- no client is anywhere
-pub AgreeAll-none : (n : ℕ) → AgreeAll (replicate n None) (replicate n None)
-AgreeAll-none zero = tt
-AgreeAll-none (suc n) = (tt, AgreeAll-none n)
-
-pub Connects-new : (us : List (Option ClientView)) (w : DeskView) (v : ClientView) (d : Desktop) (k : ℕ) → us ≡ w.clients → Some k ≡ lowest us → IsPeer v (newcomer (output_of w.output)) → Agrees w d → (e : Desktop) × ConnectsAt (lowest d.clients) d (gave.Connect (Ok (k + 1))) e × Agrees (record w { clients = set w.clients k (Some v) }) e
-Connects-new us w v d k same found is a =
-    let at : lowest d.clients ≡ Some k = sym (lowest-AgreeAll w.clients d.clients a.clients) ∙ sym (found ∙ ap (λ (xs : List (Option ClientView)). lowest xs) same) in
-    let next : IsPeer v (newcomer d.output) = subst (λ (o : Output). IsPeer v (newcomer o)) a.output is in (
-      with_client (k + 1) (Some (arrival d.output)) d,
-      rw at (inr (refl, refl)),
-      agrees-place w (Some v) (Some (arrival d.output)) d (k + 1) k refl a (next, refl),
-    )
 
 pub lowest-here : {X : Type 0} (xs : List (Option X)) (k : ℕ) (u : Option X) → k < length xs → lowest (take k xs) ≡ None → u ≡ get_or xs k u → is_some u ≡ false → Some k ≡ lowest xs
 lowest-here xs k None h none at test = sym (lowest-found xs k None h none (sym at))
@@ -210,17 +214,3 @@ lowest-on xs k None h none at test = absurd (cc)
 lowest-on xs k (Some x) h none at test =
     let e : k + 1 ≡ suc k = omega arith in
     rw e (lowest-more xs k (Some x) x h none (sym at))
-
--- ---- what is read of a client
-
-IsSlot-peer : (v : Option ClientView) (r : Option Resident) → IsClient v r → IsSlot v (peer_of r)
-IsSlot-peer None None is = tt
-IsSlot-peer (Some v) (Some r) is = is.0
-IsSlot-peer None (Some r) is = absurd is
-IsSlot-peer (Some v) None is = absurd is
-
-pub peer_at-none : (us : List (Option ClientView)) (w : DeskView) (d : Desktop) (c : ℕ) → us ≡ w.clients → (c ≡ 0) ⊎ (length us < c) → Agrees w d → peer_at c d ≡ None
-peer_at-none us w d c same h a = ap (λ (o : Option Resident). peer_of o) (client-none us w d c same h a)
-
-pub IsSlot-peer_at : (us : List (Option ClientView)) (w : DeskView) (d : Desktop) (c k : ℕ) (u : Option ClientView) → us ≡ w.clients → (c ≡ k + 1) × (k < length us) → u ≡ get_or w.clients k u → Agrees w d → IsSlot u (peer_at c d)
-IsSlot-peer_at us w d c k u same found at a = IsSlot-peer u (client_at c d) (client-slot us w d c k u same found at a)

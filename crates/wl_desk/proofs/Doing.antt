@@ -29,6 +29,7 @@ use Rattle.wl_desk.proofs.OwningNames.{targets-at}
 use Rattle.wl_desk.specs.Residents.{IsLeft, IsResident, IsSurface, Owns}
 use Rattle.wl_desk.specs.Step.{changed_by}
 use Rattle.wl_desk.proofs.Letting.{asked-keeps}
+use Rattle.wl_desk.proofs.Numbers.{keeps-same}
 use Rattle.wl_desk.proofs.OwningAsks.{owned-asked}
 use Rattle.wl_desk.proofs.OwningSurfaces.{surface-named, surface-read}
 
@@ -38,8 +39,16 @@ gone None some none = cc
 gone (Some x) some none = cc
 
 -- There was no memory: of a client that ended nothing more is said.
-pub lacked : {A : Type 0} (v : Kept A) (after r : Resident) → (q : Peer) × LacksMemory r.peer q × IsPeer v.client q → is_some v.client.ended ≡ true → (q : Peer) × LacksMemory r.peer q × IsLeft v after q
-lacked v after r lacks ended = (lacks.0, lacks.1, record { peer = lacks.2; owns = λ none. absurd (gone v.client.ended ended none) })
+pub lacked : {A : Type 0} (old v : Kept A) (after r : Resident) → (q : Peer) × LacksMemory r.peer q × IsPeer v.client q → is_some v.client.ended ≡ true → (q : Peer) × LacksMemory r.peer q × IsLeft old v after q
+lacked old v after r lacks ended = (
+  lacks.0,
+  lacks.1,
+  record {
+    peer = lacks.2;
+    owns = λ none. absurd (gone v.client.ended ended none);
+    numbers = λ none. absurd (gone v.client.ended ended none);
+  },
+)
 
 -- the cut of what is kept is within the list
 pub cut-bounds : (k : Option KeptSurface) (s : Surface) → StandsAt k (Some s) → (s.history.cut ≤ committed s.history.requests) × (committed s.history.requests ≤ length s.history.requests)
@@ -49,7 +58,7 @@ cut-bounds (Some k) s stands = (stands.history.cut_within, stands.history.commit
 -- A request of a surface that is no commit, attaches nothing and asks for no window geometry.
 pub asked-so : {A : Type 0} (old new : Kept A) (r : Resident) (id number : ℕ) (request : Request) → IsResident old r → IsSurface old id number → is_commit request ≡ false → ((v : Values) → (asked v request).buffer ≡ v.buffer)
     → ((g : Option Rect) → geometry_asked g request ≡ g) → Changes old.owned.surfaces new.owned.surfaces number (asking request) → new.client ≡ old.client → kept_of new.owned.shell ≡ kept_of old.owned.shell
-    → ((changed_by (AskSurface id request) r).peer ≡ r.peer) × IsLeft new (changed_by (AskSurface id request) r) r.peer
+    → ((changed_by (AskSurface id request) r).peer ≡ r.peer) × IsLeft old new (changed_by (AskSurface id request) r) r.peer
 asked-so old new r id number request is named plain keeps other changes same shell =
     let names = names_in old.client.objects in
     let there = surface-named names.surfaces old.owned.surfaces r.owned.surfaces is.owns.surfaces id number named in
@@ -60,6 +69,7 @@ asked-so old new r id number request is named plain keeps other changes same she
       record {
         peer = rw same is.peer;
         owns = λ alive. rw (same, shell) (owned-asked names old.owned.surfaces (kept_of old.owned.shell) r is.owns id number request new.owned.surfaces named plain other changes);
+        numbers = λ alive. keeps-same old.client.objects new.client.objects (ap (λ (w : ClientView). w.objects) same);
       },
     )
 
@@ -84,10 +94,14 @@ pub only-stores : (v w x : ClientView) → w ≡ record v { stores = w.stores } 
 only-stores v w x first second = second ∙ ap (λ (y : ClientView). record y { stores = x.stores }) first
 
 -- The buffers that a surface had are let go of, once what was asked of it stands: so it was done.
-pub let-go-so : {A : Type 0} (v w : Kept A) (after : Resident) → Owns v after → w.client ≡ record v.client { stores = w.client.stores } → w.owned ≡ v.owned → IsPeer w.client after.peer → IsLeft w after after.peer
-let-go-so v w after owns only same peer =
+pub let-go-so : {A : Type 0} (old v w : Kept A) (after : Resident) → v.client ≡ old.client → Owns v after → w.client ≡ record v.client { stores = w.client.stores } → w.owned ≡ v.owned → IsPeer w.client after.peer → IsLeft old w after after.peer
+let-go-so old v w after still owns only same peer =
     let objects = ap (λ (c : ClientView). c.objects) only in
-    record { peer = peer; owns = λ alive. rw (objects, same) owns }
+    record {
+      peer = peer;
+      owns = λ alive. rw (objects, same) owns;
+      numbers = λ alive. keeps-same old.client.objects w.client.objects (objects ∙ ap (λ (c : ClientView). c.objects) still);
+    }
 
 -- what a surface had, by its id
 pub had-by : (numbers : ById ℕ) (slots : Slots) (all : Surfaces) (id number : ℕ) (had : List (Option Attached)) → AreKept numbers slots all → numbers id ≡ Some number

@@ -151,7 +151,7 @@ others_stay unserved c other piece r old new there h differ = feeds-left unserve
 
 -- ---- the output stays
 
-abbrev Keeps : Desktop → Desktop → Type 0
+abbrev pub Keeps : Desktop → Desktop → Type 0
 Keeps old new = new.output ≡ old.output
 
 same-keeps : (old new : Desktop) → new ≡ old → Keeps old new
@@ -174,7 +174,7 @@ effect-keeps c id Configures r d = refl
 effect-keeps c id Maps r d = refl
 effect-keeps c id Unmaps r d = refl
 
-stacked-keeps : (c : ℕ) (ask : Ask) (r : Resident) (d : Desktop) → Keeps d (stacked c ask r d)
+pub stacked-keeps : (c : ℕ) (ask : Ask) (r : Resident) (d : Desktop) → Keeps d (stacked c ask r d)
 stacked-keeps c (Own action) r d = refl
 stacked-keeps c (CreateSurface id version) r d = refl
 stacked-keeps c (DestroySurface id) r d = refl

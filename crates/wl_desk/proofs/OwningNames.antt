@@ -66,7 +66,7 @@ targets-there interface held id = at (entry_of held id)
 abbrev three : ById ℕ → ById ℕ → ById ℕ → Names
 three surfaces shell toplevels = record { surfaces = surfaces; shell = shell; toplevels = toplevels }
 
-names-with : (old new : Held) (surfaces shell toplevels : ById ℕ) → targets_in WlSurface new ≡ surfaces → targets_in XdgSurface new ≡ shell → targets_in XdgToplevel new ≡ toplevels → names_in new ≡ three surfaces shell toplevels
+pub names-with : (old new : Held) (surfaces shell toplevels : ById ℕ) → targets_in WlSurface new ≡ surfaces → targets_in XdgSurface new ≡ shell → targets_in XdgToplevel new ≡ toplevels → names_in new ≡ three surfaces shell toplevels
 names-with old new surfaces shell toplevels a b c =
     ap (λ (x : ById ℕ). three x (targets_in XdgSurface new) (targets_in XdgToplevel new)) a
     ∙ ap (λ (x : ById ℕ). three surfaces x (targets_in XdgToplevel new)) b

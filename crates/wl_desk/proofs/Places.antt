@@ -34,7 +34,7 @@ place-twice [] k x y = refl
 place-twice (r ∷ rs) zero x y = refl
 place-twice (r ∷ rs) (suc k) x y = ap (λ (qs : List (Option Resident)). r ∷ qs) (place-twice rs k x y)
 
-number-twice : (clients : List (Option Resident)) (c : ℕ) (x y : Option Resident) → with_number c x (with_number c y clients) ≡ with_number c x clients
+pub number-twice : (clients : List (Option Resident)) (c : ℕ) (x y : Option Resident) → with_number c x (with_number c y clients) ≡ with_number c x clients
 number-twice clients zero x y = refl
 number-twice clients (suc k) x y = place-twice clients k x y
 
@@ -47,7 +47,7 @@ place-kept [] k = refl
 place-kept (r ∷ rs) zero = refl
 place-kept (r ∷ rs) (suc k) = ap (λ (qs : List (Option Resident)). r ∷ qs) (place-kept rs k)
 
-number-kept : (clients : List (Option Resident)) (c : ℕ) → with_number c (client_in clients c) clients ≡ clients
+pub number-kept : (clients : List (Option Resident)) (c : ℕ) → with_number c (client_in clients c) clients ≡ clients
 number-kept clients zero = refl
 number-kept clients (suc k) = place-kept clients k
 

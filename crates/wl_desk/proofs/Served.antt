@@ -19,19 +19,21 @@ use Rattle.wl_desk.specs.Ask.{Ask, owns}
 use Rattle.wl_desk.specs.Desktop.{Desktop, Resident, become, become_by, client_at, resident_of, with_client, with_number}
 use Rattle.wl_desk.specs.Laws.{IsAllThatChanges, IsAlone, OwnsNothing, ServedAlone}
 use Rattle.wl_desk.specs.Served.{beyond_clients}
-use Rattle.wl_desk.specs.Step.{Answers, Becomes, FeedsAt, Reaches, Serves, ServesAt, StopsAt, Takes, WantsOr, has_buffer, keeps_store, own_changed, with_peer}
+use Rattle.wl_desk.specs.Step.{Answers, Becomes, FeedsAt, Reaches, Serves, ServesAt, StopsAt, Takes, WantsOr, own_changed, with_peer}
+use Rattle.wl_client.specs.Serving.{has_used, keeps_store}
+use Rattle.wl_surface.specs.Surfaces.{is_used}
 use Rattle.wl_desk.proofs.Alone.{judge-owns}
 use Rattle.wl_desk.proofs.Places.{client-become, client-kept, client-twice}
 
 -- ---- what changes
 
-unused : (made : Option Made) → has_buffer made no_surfaces ≡ false
+unused : (made : Option Made) → has_used (λ number. is_used number no_surfaces) made ≡ false
 unused None = refl
 unused (Some n) = refl
 
 unkept : (r : Resident) (id store : ℕ) → OwnsNothing r → (own_changed (DestroyBuffer id store) r).peer ≡ changed (DestroyBuffer id store) r.peer
 unkept r id store alone =
-    ap (λ (b : Bool). keeps_store b r.peer.stores (changed (DestroyBuffer id store) r.peer)) (ap (λ (x : Resident). has_buffer (r.peer.buffers id) x.owned.surfaces) alone ∙ unused (r.peer.buffers id))
+    ap (λ (b : Bool). keeps_store b r.peer.stores (changed (DestroyBuffer id store) r.peer)) (ap (λ (x : Resident). has_used (λ number. is_used number x.owned.surfaces) (r.peer.buffers id)) alone ∙ unused (r.peer.buffers id))
 
 changed-alone : (action : Action) (r : Resident) → OwnsNothing r → (own_changed action r).peer ≡ changed action r.peer
 changed-alone (Sync callback) r alone = refl

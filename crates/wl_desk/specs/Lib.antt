@@ -3,13 +3,16 @@ pub mod Ask
 pub mod Desktop
 pub mod Laws
 pub mod Marks
+pub mod Messages
 pub mod Moments
 pub mod Owning
 pub mod Plain
 pub mod Releases
 pub mod Residents
 pub mod Scratch
+pub mod Seats
 pub mod Served
+pub mod Standing
 pub mod Step
 pub mod Steps
 pub mod View

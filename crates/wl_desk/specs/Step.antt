@@ -7,17 +7,15 @@ use Rattle.wl_wire.specs.declared.header.Split.TheVariants.{Message as Whole, Mo
 use Rattle.wl_proto.specs.declared.interface.Interface.{Interface}
 use Rattle.wl_proto.specs.declared.interface.Interface.TheVariants.{WlCompositor, WlSurface, XdgWmBase, XdgSurface, XdgToplevel}
 use Rattle.wl_proto.specs.Messages.{Message, says}
-use Rattle.wl_store.specs.Stores.{Stock}
 use Rattle.wl_client.specs.declared.actions.Action.{Action}
-use Rattle.wl_client.specs.declared.actions.Action.TheVariants.{DestroyBuffer}
 use Rattle.wl_client.specs.declared.clients.Cause.{Cause}
 use Rattle.wl_client.specs.declared.clients.Cause.TheVariants as cause
 use Rattle.wl_client.specs.declared.refusals.ErrorCode.TheVariants.{InvalidMethod}
 use Rattle.wl_client.specs.declared.refusals.Refusal.{Refusal}
-use Rattle.wl_client.specs.Buffers.{Buffer as Made}
 use Rattle.wl_client.specs.Judgement.{action_of, judged_at, word_in}
-use Rattle.wl_client.specs.Peer.{Peer, Errs, IsIdle, LacksMemory, Queues, changed, counted, ended, known_of, made, object_at_version, released, removed, with_rest}
+use Rattle.wl_client.specs.Peer.{Peer, Errs, IsIdle, LacksMemory, Queues, counted, ended, known_of, made, object_at_version, released, removed, with_rest}
 use Rattle.wl_client.specs.Peer.{answers_to as own_answers, takes_memory as own_takes_memory}
+use Rattle.wl_client.specs.Serving.{changed_with}
 use Rattle.wl_client.specs.Told.{Said, display_error, id_deleted, said}
 use Rattle.wl_surface.specs.Request.{Buffer, Request, Commit}
 use Rattle.wl_surface.specs.State.{History}
@@ -67,19 +65,9 @@ with_surfaces surfaces r = record r { owned = record r.owned { surfaces = surfac
 abbrev pub with_shell : Shell → Resident → Resident
 with_shell shell r = record r { owned = record r.owned { shell = shell } }
 
--- The wl_buffer goes. Its buffer lives on while a surface has it, and with it the use of its store.
-abbrev pub keeps_store : Bool → Stock → Peer → Peer
-keeps_store true stores p = record p { stores = stores }
-keeps_store false stores p = p
-
-abbrev pub has_buffer : Option Made → Surfaces → Bool
-has_buffer None surfaces = false
-has_buffer (Some made) surfaces = is_used made.number surfaces
-
+-- A wl_buffer that goes leaves its store the use of a buffer that a surface has.
 abbrev pub own_changed : Action → Resident → Resident
-own_changed (DestroyBuffer id store) r =
-    with_peer (keeps_store (has_buffer (r.peer.buffers id) r.owned.surfaces) r.peer.stores (changed (DestroyBuffer id store) r.peer)) r
-own_changed action r = with_peer (changed action r.peer) r
+own_changed action r = with_peer (changed_with (λ number. is_used number r.owned.surfaces) action r.peer) r
 
 -- a buffer that no surface has any more, and whose wl_buffer was destroyed, lets its store go
 abbrev pub is_number : ℕ → Option ℕ → Bool

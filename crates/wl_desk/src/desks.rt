@@ -1,38 +1,45 @@
-//! The desk: all clients, by number.
+//! The desk: all clients, by number, and their toplevels.
 
-ghost use Rattle.std.specs.Prelude.{◌≡◌, ℕ, ◌+◌, ◌<◌, ◌≤◌, List, Option, length, IfOk, IfSome, IfNone, ◌⊎◌, false, Result, Ok, Err};
+ghost use Rattle.std.specs.Prelude.{◌≡◌, ℕ, ◌+◌, ◌<◌, ◌≤◌, List, Option, length, IfOk, IfSome, IfNone, ◌⊎◌, false, Result, Ok, Err, None, Some};
 ghost use Rattle.std.specs.Option.{option_copied};
-ghost use Rattle.wl_store.specs.Stores.{write_refusal};
-ghost use Rattle.wl_client.specs.Peer.{Peer, stored_at};
-ghost use Rattle.wl_desk.specs.Desktop.{Desktop, empty};
-ghost use Rattle.wl_desk.specs.Steps.{IsStored, IsLeft, IsSent, IsClosed, Connect, Feed, Store, Leave, Send, Close, lowest, peer_at, unsent_of, status_of, stored_of, store_size_of};
 ghost use Rattle.wl_client.specs.Agreement.{IsPeer, output_of};
-ghost use Rattle.wl_desk.specs.Agreement.{IsFed, IsSlot, Agrees, SlotChanges, TakesStep};
+ghost use Rattle.wl_client.specs.Peer.{Peer};
+ghost use Rattle.wl_desk.specs.Desktop.{Desktop, empty};
+ghost use Rattle.wl_desk.specs.Steps.{Connect, Feed, Store, Leave, Send, Close, lowest, peer_at, unsent_of, status_of, store_size_of};
+ghost use Rattle.wl_desk.specs.Agreement.{Agrees, IsSlot, TakesStep};
+ghost use Rattle.wl_desk.specs.Seats.{has_ended_in};
 
 use crate::answers::{ClientNo, ConnectError, Done, Fed, Stored};
+use crate::feeding::bare;
+use crate::residents::Resident;
 use std::alloc::{AllocError, Allocator};
 use std::marker::Model;
 use wl_client::{Client, Output, StoreNo};
+use wl_scene::{Owned, Scene};
 
 /// How many clients there may be at once.
 const CLIENT_LIMIT: usize = 32;
 
-/// All clients. It is seen as the output, and what is kept of each client, by number from 1.
+/// All clients, what each owns, and the mapped toplevels. It is seen as the output, what is kept of each client and of what it owns, by number
+/// from 1, and the stack of toplevels.
 #[derive(Drop)]
 pub struct Desk<A: Allocator> {
     output: Output,
     clients: Vec<Option<Client<A>>, A>,
+    owned: Vec<Option<Owned<A>>, A>,
+    scene: Scene<A>,
 }
 
 impl<A: Allocator> Model for Desk<A> {
-    ghost use Rattle.std.specs.Prelude.{◌≡◌, length};
-    ghost use Rattle.wl_desk.specs.View.{DeskView};
+    ghost use Rattle.std.specs.Option.{option_map};
+    ghost use Rattle.std.specs.Prelude.{◌≡◌, length, map};
+    ghost use Rattle.wl_desk.specs.View.{DeskView, owned_view};
 
     ghost Value = { DeskView };
 
-    ghost view = { λ d. record { output = d.output; clients = d.clients.items } };
+    ghost view = { λ d. record { output = d.output; clients = d.clients.items; owned = map (option_map owned_view) d.owned.items; scene = d.scene } };
 
-    ghost invariant = { λ d. length d.clients.items ≡ 32 };
+    ghost invariant = { λ d. (length d.clients.items ≡ 32) × (length d.owned.items ≡ 32) };
 }
 
 impl<A: Allocator + Copy> Desk<A> {
@@ -41,10 +48,17 @@ impl<A: Allocator + Copy> Desk<A> {
         ensures { IfOk result (λ desk. Agrees desk (empty (output_of output))) }
     {
         let mut clients = Vec::with_capacity(alloc, CLIENT_LIMIT)?;
+        let mut owned = Vec::with_capacity(alloc, CLIENT_LIMIT)?;
         for _ in 0..CLIENT_LIMIT {
             clients.push(None)?;
+            owned.push(None)?;
         }
-        Ok(Desk { output, clients })
+        Ok(Desk {
+            output,
+            clients,
+            owned,
+            scene: Scene::new(alloc),
+        })
     }
 
     /// A client connects. It gets the lowest free number.
@@ -54,10 +68,12 @@ impl<A: Allocator + Copy> Desk<A> {
         let Some(k) = free_place(&self.clients) else {
             return Err(ConnectError::Full);
         };
-        let Ok(client) = Client::new(*self.clients.allocator(), self.output) else {
+        let alloc = *self.clients.allocator();
+        let Ok(client) = Client::new(alloc, self.output) else {
             return Err(ConnectError::Memory);
         };
         self.clients[k] = Some(client);
+        self.owned[k] = Some(bare(alloc));
         Ok(k as u32 + 1)
     }
 
@@ -68,8 +84,15 @@ impl<A: Allocator + Copy> Desk<A> {
         let Some(k) = place_of(&self.clients, client) else {
             return Fed::NoClient;
         };
-        let slot = &mut self.clients[k];
-        feed_slot(slot, piece)
+        let alloc = *self.clients.allocator();
+        let Some(mut resident) = take_out(&mut self.clients[k], &mut self.owned[k]) else {
+            return Fed::NoClient;
+        };
+        resident.feed(&mut self.scene, client, piece, alloc);
+        let fed = Fed::of(resident.client.ended());
+        self.clients[k] = Some(resident.client);
+        self.owned[k] = Some(resident.owned);
+        fed
     }
 
     /// Puts bytes into a client's store.
@@ -79,8 +102,14 @@ impl<A: Allocator + Copy> Desk<A> {
         let Some(k) = place_of(&self.clients, client) else {
             return Stored::NoClient;
         };
-        let slot = &mut self.clients[k];
-        store_in_slot(slot, store, at, bytes)
+        let alloc = *self.clients.allocator();
+        let Some(mut resident) = take_out(&mut self.clients[k], &mut self.owned[k]) else {
+            return Stored::NoClient;
+        };
+        let stored = resident.store(&mut self.scene, client, store, at, bytes, alloc);
+        self.clients[k] = Some(resident.client);
+        self.owned[k] = Some(resident.owned);
+        stored
     }
 
     /// How many bytes a client's store has.
@@ -101,8 +130,14 @@ impl<A: Allocator + Copy> Desk<A> {
         let Some(k) = place_of(&self.clients, client) else {
             return false;
         };
-        let slot = &mut self.clients[k];
-        gone_slot(slot)
+        let alloc = *self.clients.allocator();
+        let Some(mut resident) = take_out(&mut self.clients[k], &mut self.owned[k]) else {
+            return false;
+        };
+        let lived = resident.gone(&mut self.scene, client, alloc);
+        self.clients[k] = Some(resident.client);
+        self.owned[k] = Some(resident.owned);
+        lived
     }
 
     /// So many of a client's unsent bytes were sent. False and unchanged where there are fewer.
@@ -112,8 +147,14 @@ impl<A: Allocator + Copy> Desk<A> {
         let Some(k) = place_of(&self.clients, client) else {
             return false;
         };
-        let slot = &mut self.clients[k];
-        sent_slot(slot, count)
+        let alloc = *self.clients.allocator();
+        let Some(mut resident) = take_out(&mut self.clients[k], &mut self.owned[k]) else {
+            return false;
+        };
+        let sent = resident.sent(&mut self.scene, client, count, alloc);
+        self.clients[k] = Some(resident.client);
+        self.owned[k] = Some(resident.owned);
+        sent
     }
 
     /// Frees the number of a client that ended. True where it had.
@@ -123,8 +164,13 @@ impl<A: Allocator + Copy> Desk<A> {
         let Some(k) = place_of(&self.clients, client) else {
             return false;
         };
-        let slot = &mut self.clients[k];
-        close_slot(slot)
+        if !has_ended(&self.clients[k]) {
+            return false;
+        }
+        self.clients[k] = None;
+        self.owned[k] = None;
+        self.scene.unmap_all(client);
+        true
     }
 
     /// The unsent bytes of a client.
@@ -173,76 +219,29 @@ fn free_place<A: Allocator>(clients: &[Option<Client<A>>]) -> Option<usize>
     None
 }
 
-fn feed_slot<A: Allocator + Copy>(slot: &mut Option<Client<A>>, piece: &[u8]) -> Fed
-    ensures { SlotChanges (IsFed piece.now) (Done.Feed Fed.NoClient) (Done.Feed result) slot.old slot.new }
+/// A client is taken out, if it is there, with what it owns.
+fn take_out<A: Allocator>(
+    client: &mut Option<Client<A>>,
+    owned: &mut Option<Owned<A>>,
+) -> Option<Resident<A>>
+    ensures some { IfSome result (λ r. (client.old ≡ Some r.client) × (owned.old ≡ Some r.owned)) }
+    ensures none { IfNone result ((client.old ≡ None) ⊎ (owned.old ≡ None)) }
+    ensures left { (client.new ≡ None) × (owned.new ≡ None) }
+{
+    match (client.take(), owned.take()) {
+        (Some(client), Some(owned)) => Some(Resident { client, owned }),
+        _ => None,
+    }
+}
+
+/// Whether a client is there that ended.
+fn has_ended<A: Allocator + Copy>(slot: &Option<Client<A>>) -> bool
+    ensures { result ≡ has_ended_in slot.now }
 {
     match slot {
-        None => Fed::NoClient,
-        Some(client) => {
-            client.feed(piece);
-            Fed::of(client.ended())
-        }
-    }
-}
-
-fn store_in_slot<A: Allocator + Copy>(
-    slot: &mut Option<Client<A>>,
-    store: StoreNo,
-    at: u32,
-    bytes: &[u8],
-) -> Stored
-    ensures { SlotChanges (IsStored store at bytes.now) (Done.Store Stored.NoClient) (Done.Store result) slot.old slot.new }
-{
-    match slot {
-        None => Stored::NoClient,
-        Some(client) => store_of(client, store, at, bytes),
-    }
-}
-
-/// Puts bytes into a store of a client that lives.
-fn store_of<A: Allocator + Copy>(
-    client: &mut Client<A>,
-    store: StoreNo,
-    at: u32,
-    bytes: &[u8],
-) -> Stored
-    ensures { (p : Peer) → IsPeer client.old p → IsPeer client.new (stored_at p.status store at bytes.now p) × (result ≡ stored_of p.status (write_refusal store at (length bytes.now) p.stores)) }
-{
-    if client.has_ended() {
-        return Stored::NoClient;
-    }
-    Stored::of(client.store(store, at, bytes))
-}
-
-fn gone_slot<A: Allocator + Copy>(slot: &mut Option<Client<A>>) -> bool
-    ensures { SlotChanges IsLeft (Done.Gone false) (Done.Gone result) slot.old slot.new }
-{
-    match slot {
-        None => false,
-        Some(client) => client.gone(),
-    }
-}
-
-fn sent_slot<A: Allocator + Copy>(slot: &mut Option<Client<A>>, count: usize) -> bool
-    ensures { SlotChanges (IsSent count) (Done.Sent false) (Done.Sent result) slot.old slot.new }
-{
-    match slot {
-        None => false,
-        Some(client) => client.sent(count),
-    }
-}
-
-fn close_slot<A: Allocator + Copy>(slot: &mut Option<Client<A>>) -> bool
-    ensures { SlotChanges IsClosed (Done.Close false) (Done.Close result) slot.old slot.new }
-{
-    let ended = match slot {
         None => false,
         Some(client) => client.has_ended(),
-    };
-    if ended {
-        *slot = None;
     }
-    ended
 }
 
 fn out_of<A: Allocator + Copy>(slot: &Option<Client<A>>) -> Option<&[u8]>

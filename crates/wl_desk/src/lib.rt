@@ -4,9 +4,12 @@
 
 mod answers;
 mod desks;
+mod feeding;
+mod messages;
 mod residents;
 mod surface_requests;
 mod wl_compositor;
+mod wl_seat;
 mod xdg_surface;
 mod xdg_toplevel;
 mod xdg_wm_base;
@@ -15,7 +18,7 @@ ghost use Rattle.wl_desk.specs.Laws.{LeastIsMost, OneRun, OthersStay, ScratchSta
 
 pub use answers::{ClientNo, ConnectError, Done, Fed, Stored};
 pub use desks::Desk;
-pub use residents::Resident;
+pub use residents::{Resident, Stacking};
 
 /// What a step marks at least is among what it marks at most.
 pub fn least_is_most()

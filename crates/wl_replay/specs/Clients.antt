@@ -1,7 +1,7 @@
 -- What each client is sent after a line, and how it is closed.
 use Rattle.std.specs.Prelude.{◌≡◌, ℕ, zero, suc, Option, Some, None, List, [], ◌∷◌, ◌++◌, length}
 use Rattle.wl_desk.specs.Desktop.{Desktop}
-use Rattle.wl_desk.specs.Served.{beyond_clients}
+use Rattle.wl_desk.specs.Served.{beyond_toplevels}
 use Rattle.wl_desk.specs.Steps as act
 use Rattle.wl_desk.specs.Steps.{Steps, peer_at, status_of, unsent_of}
 use Rattle.wl_desk.specs.declared.answers.Done.{Done}
@@ -14,11 +14,11 @@ abbrev pub Sends : ℕ → Option (List ℕ) → Desktop → List ℕ → Deskto
 Sends client None old text new = (text ≡ []) × (new ≡ old)
 Sends client (Some []) old text new = (text ≡ []) × (new ≡ old)
 Sends client (Some (b ∷ bytes)) old text new =
-    (done : Done) × Steps beyond_clients old (act.Send client (length (b ∷ bytes))) done new × (text ≡ to_line client (b ∷ bytes))
+    (done : Done) × Steps beyond_toplevels old (act.Send client (length (b ∷ bytes))) done new × (text ≡ to_line client (b ∷ bytes))
 
 -- A client that ended is closed.
 abbrev pub Closes : ℕ → Fed → Desktop → List ℕ → Desktop → Type 0
-Closes client (Ended cause) old text new = (done : Done) × Steps beyond_clients old (act.Close client) done new × (text ≡ end_line client cause)
+Closes client (Ended cause) old text new = (done : Done) × Steps beyond_toplevels old (act.Close client) done new × (text ≡ end_line client cause)
 Closes client Alive old text new = (text ≡ []) × (new ≡ old)
 Closes client NoClient old text new = (text ≡ []) × (new ≡ old)
 

@@ -3,7 +3,7 @@ use Rattle.std.specs.Prelude.{◌≡◌, ◌≢◌, ◌<◌, ◌≤◌, ◌+◌,
 use Rattle.wl_desk.specs.Agreement.{TakesStep}
 use Rattle.wl_desk.specs.View.{DeskView}
 use Rattle.wl_desk.specs.Desktop.{Desktop}
-use Rattle.wl_desk.specs.Served.{beyond_clients}
+use Rattle.wl_desk.specs.Served.{beyond_toplevels}
 use Rattle.wl_desk.specs.Steps as act
 use Rattle.wl_desk.specs.Steps.{Steps, peer_at, status_of, store_size_of}
 use Rattle.wl_desk.specs.declared.answers.Done.{Done}
@@ -27,7 +27,7 @@ stored_text place stored.OutOfRange = outside_line place.client place.store
 -- one store write
 abbrev pub TellsStore : Place → List ℕ → Stage → Told → Stage → Type 0
 TellsStore place bytes old told new =
-    (answer : Stored) × Steps beyond_clients old.desktop (act.Store place.client place.store place.at bytes) (gave.Store answer) new.desktop
+    (answer : Stored) × Steps beyond_toplevels old.desktop (act.Store place.client place.store place.at bytes) (gave.Store answer) new.desktop
     × (new.frame ≡ old.frame) × (told ≡ words (stored_text place answer))
 
 -- A store's size, where a file may be put into it from this byte on; it may be from its end. Else why not.
@@ -47,7 +47,7 @@ pub data Fills {S : Type 0} (files : Files S) (place : Place) (size : ℕ) (firs
   none : Fills files place size first opened place.at first opened
   more : (at : ℕ) (mid last : Desktop) (from to : S) (bytes : List ℕ) (done : Done) → Fills files place size first opened at mid from
       → bytes ≢ [] → length bytes ≤ 4096 → at + length bytes ≤ size → files.gives from bytes to
-      → Steps beyond_clients mid (act.Store place.client place.store at bytes) done last
+      → Steps beyond_toplevels mid (act.Store place.client place.store at bytes) done last
       → Fills files place size first opened (at + length bytes) last to
 
 -- bytes are written to a place, if there are any

@@ -1,8 +1,8 @@
 //! Which toplevels are mapped, and where they stand.
 
-ghost use Rattle.std.specs.Prelude.{ℕ, ◌≡◌, ◌<◌, ◌++◌, ◌∷◌, [], OnOk, OnErr, Some, length, map, position, remove, slice_get, slice_index_or};
+ghost use Rattle.std.specs.Prelude.{ℕ, ◌≡◌, ◌==◌, ◌<◌, ◌++◌, ◌∷◌, [], OnOk, OnErr, Some, length, map, position, remove, slice_get, slice_index_or};
 ghost use Rattle.wl_scene.specs.Lent.{AllShow, Stands, shown_by, told};
-ghost use Rattle.wl_scene.specs.Stacking.{Owned as Asked, is_of, mapped_on, moved_to, raised, standing_of, windows_on, without_surface_of};
+ghost use Rattle.wl_scene.specs.Stacking.{Owned as Asked, is_of, mapped_on, moved_to, raised, standing_of, windows_on, without_client, without_surface_of};
 
 use crate::owned::Owned;
 use crate::window::{Window, window_of};
@@ -53,6 +53,12 @@ fn is_surface(toplevel: &Toplevel, surface: Surface) -> bool
     ensures { result ≡ is_of surface.client surface.surface (standing_of toplevel.now) }
 {
     toplevel.surface == surface
+}
+
+fn is_client(toplevel: &Toplevel, client: u32) -> bool
+    ensures { result ≡ ((standing_of toplevel.now).client == client) }
+{
+    toplevel.surface.client == client
 }
 
 /// The place of the toplevel of this surface.
@@ -134,6 +140,15 @@ impl<A: Allocator> Scene<A> {
     {
         self.standing
             .retain(|toplevel| !is_surface(toplevel, surface));
+    }
+
+    /// None of a client's toplevels is mapped any more.
+    pub fn unmap_all(&mut self, client: u32)
+        ensures standing { self.new.standing ≡ without_client client self.old.standing }
+        ensures next { self.new.next ≡ self.old.next }
+    {
+        self.standing
+            .retain(|toplevel| !is_client(toplevel, client));
     }
 
     /// A toplevel moves up to the top. Nothing changes where it isn't mapped.

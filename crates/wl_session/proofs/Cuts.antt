@@ -2,23 +2,23 @@
 use Rattle.std.proofs.Common.{◌≡◌, ℕ, List, ◌++◌, Option, Some, None, refl, ap, subst, ◌∙◌}
 use Rattle.wl_desk.specs.declared.answers.Done.{Done}
 use Rattle.wl_desk.specs.Desktop.{Desktop, Resident, client_at}
-use Rattle.wl_desk.specs.Served.{beyond_clients}
+use Rattle.wl_desk.specs.Served.{Unserved}
 use Rattle.wl_desk.proofs.Pieces.{feeds-append, stays-there}
 use Rattle.wl_desk.specs.Steps.{IsFedAt}
 use Rattle.wl_session.specs.Laws.{AnyPieces}
 
 -- the client stays there, so the second piece comes to it
-two_pieces : (a b : List ℕ) (c : ℕ) (r : Resident) (o : Option Resident) (old mid new : Desktop) (first second : Done) → client_at c old ≡ Some r → client_at c mid ≡ o → IsFedAt beyond_clients c a (Some r) old first mid → IsFedAt beyond_clients c b o mid second new → IsFedAt beyond_clients c (a ++ b) (Some r) old second new
-two_pieces a b c r None old mid new first second there at h k =
-    let stays = stays-there c a r old mid there h.0 in absurd (cc)
-two_pieces a b c r (Some m) old mid new first second there at h k = (feeds-append c a b r m old mid new there at h.0 k.0, k.1)
+two_pieces : (unserved : Unserved) (a b : List ℕ) (c : ℕ) (r : Resident) (o : Option Resident) (old mid new : Desktop) (first second : Done) → client_at c old ≡ Some r → client_at c mid ≡ o → IsFedAt unserved c a (Some r) old first mid → IsFedAt unserved c b o mid second new → IsFedAt unserved c (a ++ b) (Some r) old second new
+two_pieces unserved a b c r None old mid new first second there at h k =
+    let stays = stays-there unserved c a r old mid there h.0 in absurd (cc)
+two_pieces unserved a b c r (Some m) old mid new first second there at h k = (feeds-append unserved c a b r m old mid new there at h.0 k.0, k.1)
 
-pieces : (a b : List ℕ) (c : ℕ) (o : Option Resident) (old mid new : Desktop) (first second : Done) → client_at c old ≡ o → IsFedAt beyond_clients c a o old first mid → IsFedAt beyond_clients c b (client_at c mid) mid second new → IsFedAt beyond_clients c (a ++ b) o old second new
-pieces a b c None old mid new first second at h k =
+pieces : (unserved : Unserved) (a b : List ℕ) (c : ℕ) (o : Option Resident) (old mid new : Desktop) (first second : Done) → client_at c old ≡ o → IsFedAt unserved c a o old first mid → IsFedAt unserved c b (client_at c mid) mid second new → IsFedAt unserved c (a ++ b) o old second new
+pieces unserved a b c None old mid new first second at h k =
     let none : client_at c mid ≡ None = ap (λ (d : Desktop). client_at c d) h.1 ∙ at in
-    let gone = subst (λ (o : Option Resident). IsFedAt beyond_clients c b o mid second new) none k in
+    let gone = subst (λ (o : Option Resident). IsFedAt unserved c b o mid second new) none k in
     (gone.0, gone.1 ∙ h.1)
-pieces a b c (Some r) old mid new first second at h k = two_pieces a b c r (client_at c mid) old mid new first second at refl h k
+pieces unserved a b c (Some r) old mid new first second at h k = two_pieces unserved a b c r (client_at c mid) old mid new first second at refl h k
 
 pub any_pieces : AnyPieces
-any_pieces old mid new c a b first second h k = pieces a b c (client_at c old) old mid new first second refl h k
+any_pieces unserved old mid new c a b first second h k = pieces unserved a b c (client_at c old) old mid new first second refl h k

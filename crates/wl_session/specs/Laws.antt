@@ -5,18 +5,18 @@ use Rattle.wl_client.specs.declared.clients.Cause.TheVariants as cause
 use Rattle.wl_paint.specs.Frame.{Image}
 use Rattle.wl_desk.specs.Desktop.{Desktop, client_at}
 use Rattle.wl_desk.specs.Laws.{status_in, toplevels_of}
-use Rattle.wl_desk.specs.Served.{Unserved, beyond_clients}
+use Rattle.wl_desk.specs.Served.{Unserved}
 use Rattle.wl_desk.specs.declared.answers.ConnectError.TheVariants.{Memory}
 use Rattle.wl_desk.specs.declared.answers.Done.{Done}
 use Rattle.wl_desk.specs.declared.answers.Done.TheVariants as gave
 use Rattle.wl_desk.specs.Steps.{Act, Connect, Feed, Store, Leave, Tick, Send, Close, Steps}
 use Rattle.wl_session.specs.Run.{Film, Shows}
 
--- Two pieces of a stream, one after the other, lead where they lead as one.
+-- Two pieces of a stream, one after the other, lead where they lead as one, whichever requests are served.
 abbrev pub AnyPieces : Type 0
 AnyPieces =
-    (old mid new : Desktop) (c : ℕ) (a b : List ℕ) (first second : Done) → Steps beyond_clients old (Feed c a) first mid
-    → Steps beyond_clients mid (Feed c b) second new → Steps beyond_clients old (Feed c (a ++ b)) second new
+    (unserved : Unserved) (old mid new : Desktop) (c : ℕ) (a b : List ℕ) (first second : Done) → Steps unserved old (Feed c a) first mid
+    → Steps unserved mid (Feed c b) second new → Steps unserved old (Feed c (a ++ b)) second new
 
 -- a step met no want of memory: no connect was refused for it, and no client ended by it
 abbrev pub HadMemory : Desktop → Done → Desktop → Type 0

@@ -3,7 +3,7 @@ use Rattle.std.specs.List.{list_any}
 use Rattle.std.specs.Prelude.{ℕ, ◌≡◌, ◌+◌, List, [], ◌∷◌, ◌++◌, slice_get, Bool, true, false, ◌&&◌, ◌==◌, nat_le, nat_lt, IsTrue, IsSomeAnd}
 use Rattle.wl_paint.specs.Frame.{Image, color_at}
 use Rattle.wl_desk.specs.Desktop.{Desktop}
-use Rattle.wl_desk.specs.Served.{Unserved, beyond_clients}
+use Rattle.wl_desk.specs.Served.{Unserved, beyond_toplevels}
 use Rattle.wl_desk.specs.Steps.{Act, Connect, Feed, Store, Leave, Tick, Send, Close, Steps}
 use Rattle.wl_session.specs.Step.{act_of}
 use Rattle.wl_desk.specs.Agreement.{Agrees}
@@ -55,7 +55,7 @@ Shows (Close c) before films after = (films ≡ []) × (after ≡ before)
 -- one step leads a session from old to new, and shows these frames
 abbrev pub Leads : Act → List Film → SessionView → SessionView → Type 0
 Leads act films old new =
-    ((d : Desktop) → Agrees old.desk d → (e : Desktop) × (done : Done) × Steps beyond_clients d act done e × Agrees new.desk e)
+    ((d : Desktop) → Agrees old.desk d → (e : Desktop) × (done : Done) × Steps beyond_toplevels d act done e × Agrees new.desk e)
     × Shows act old.frame films new.frame
 
 -- a session stands for every desktop that it stood for, and shows the same frame
@@ -73,7 +73,7 @@ Runs unserved before old (act ∷ acts) films after new =
 -- to one that agrees after.
 abbrev pub TakesSteps : List Act → List Film → SessionView → SessionView → Type 0
 TakesSteps acts films old new =
-    (d : Desktop) → Agrees old.desk d → (e : Desktop) × Runs beyond_clients old.frame d acts films new.frame e × Agrees new.desk e
+    (d : Desktop) → Agrees old.desk d → (e : Desktop) × Runs beyond_toplevels old.frame d acts films new.frame e × Agrees new.desk e
 
 -- how many steps were taken before a run stopped
 abbrev pub taken_by : RunError → ℕ

@@ -13,3 +13,5 @@ mod regions;
 mod registry;
 #[cfg(test)]
 mod support;
+#[cfg(test)]
+mod toplevels;

@@ -12,7 +12,7 @@ pub(crate) const SHM: &[Row] = &[
 ];
 
 /// The buffer 10 of the pool 9 at its start, and the buffer 11 behind it: 40 by 40 pixels with a stride of 160, of the format 1.
-const BUFFER_10: Message = Message(
+pub(crate) const BUFFER_10: Message = Message(
     9,
     0,
     &[
@@ -46,7 +46,7 @@ const POOL_12799: Message = Message(4, 0, &[Arg::NewId(9), Arg::Int(12799)]);
 const POOL_6399: Message = Message(4, 0, &[Arg::NewId(9), Arg::Int(6399)]);
 
 /// The pool 9 of 12,800 bytes and its buffers 10 and 11.
-const BUFFERS: &[Row] = &[
+pub(crate) const BUFFERS: &[Row] = &[
     Row::Sends(POOL_12800),
     Row::Sends(BUFFER_10),
     Row::Sends(BUFFER_11),

@@ -151,9 +151,9 @@ const KEYBOARD: &[Row] = &[
 ];
 
 const NOT_SERVED: &[Row] = &[
-    Row::Errs(Message(3, 0, &[Arg::NewId(9)]), 1, 3),
+    Row::Errs(Message(4, 0, &[]), 1, 3),
     Row::Errs(Message(7, 0, &[Arg::NewId(9)]), 1, 3),
-    Row::Errs(Message(8, 0, &[]), 1, 3),
+    Row::Errs(Message(8, 1, &[Arg::NewId(9)]), 1, 3),
 ];
 
 const TOO_SLOW: Done = Done::Feed(Fed::Ended(Cause::Slow));

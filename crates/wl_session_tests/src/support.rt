@@ -39,6 +39,8 @@ pub(crate) enum Row<'a> {
     BindsCompositors(u32, u32),
     /// The client 1 makes pools of one byte with these ids by its wl_shm 4, and lives on.
     MakesPools(u32, u32),
+    /// The client 1 makes surfaces with these ids by its wl_compositor 3, and lives on.
+    MakesSurfaces(u32, u32),
     /// The client 1 sends two messages by turns, each so many times, and lives on.
     Changes(u32, Message<'a>, Message<'a>),
     /// All that waits for the client 1 is taken.
@@ -232,6 +234,15 @@ fn make_pools(alloc: Global, session: &mut Session<Global>, first: u32, past: u3
     true
 }
 
+fn make_surfaces(alloc: Global, session: &mut Session<Global>, first: u32, past: u32) -> bool {
+    for id in first..past {
+        if sent(alloc, session, Message(3, 0, &[Arg::NewId(id)])) != Some(Fed::Alive) {
+            return false;
+        }
+    }
+    true
+}
+
 fn change(alloc: Global, session: &mut Session<Global>, count: u32, messages: &[Message]) -> bool {
     for _ in 0..count {
         for &message in messages {
@@ -261,6 +272,7 @@ fn is_met(alloc: Global, session: &mut Session<Global>, row: &Row) -> bool {
         Row::GetsRegistries(first, past) => get_registries(alloc, session, first, past),
         Row::BindsCompositors(first, past) => bind_compositors(alloc, session, first, past),
         Row::MakesPools(first, past) => make_pools(alloc, session, first, past),
+        Row::MakesSurfaces(first, past) => make_surfaces(alloc, session, first, past),
         Row::Changes(count, one, other) => change(alloc, session, count, &[one, other]),
         Row::Takes => take_all(session),
         Row::Is(client, wanted) => session.status(client) == wanted,

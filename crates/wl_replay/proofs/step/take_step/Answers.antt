@@ -1,5 +1,5 @@
 use Rattle.std.proofs.Common.{refl}
-use Rattle.wl_replay.specs.Report.{TellsBytes, TellsGone, TellsNothing}
+use Rattle.wl_replay.specs.Report.{TellsBytes, TellsConnect, TellsGone, TellsNothing, TellsTick}
 use Rattle.wl_replay.specs.Side.{files_of}
 use Rattle.wl_replay.specs.Storing.{TellsStore}
 use Rattle.wl_replay.specs.declared.line.Line.TheVariants as line
@@ -25,3 +25,13 @@ pub returns-in-Nothing-clause-told : goal.returns-in-Nothing-clause-told
 returns-in-Nothing-clause-told g c =
     Leads-at (files_of g.S.SideFiles.opens g.S.SideFiles.gives g.S.SideFiles.fault_count) c.args.side.now c.args.side.now c.args.line line.Nothing c.args.piece.now TellsNothing _ _ _ _ _ _ c.in-Nothing.is (λ old new told tells. (tells, refl)) (λ told counts. counts)
     (Leads-nothing c.args.session.now (g.W.Write.contents c.args.writer.now) _)
+
+pub returns-in_ok-clients-in-Connect-clause-told : goal.returns-in_ok-clients-in-Connect-clause-told
+returns-in_ok-clients-in-Connect-clause-told g c =
+    Leads-at (files_of g.S.SideFiles.opens g.S.SideFiles.gives g.S.SideFiles.fault_count) c.args.side.now c.args.side.now c.args.line line.Connect c.args.piece.now TellsConnect _ _ _ _ _ _ c.in-Connect.is
+    (λ old new told tells. (tells, refl)) (Counts-silent _ c.in_ok-clients-in-Connect.clients) c.in_ok-clients-in-Connect.ensures.told
+
+pub returns-in_ok-tick-in-Tick-clause-told : goal.returns-in_ok-tick-in-Tick-clause-told
+returns-in_ok-tick-in-Tick-clause-told g c =
+    Leads-at (files_of g.S.SideFiles.opens g.S.SideFiles.gives g.S.SideFiles.fault_count) c.args.side.now c.args.side.now c.args.line (line.Tick c.in-Tick.time) c.args.piece.now (TellsTick c.in-Tick.time) _ _ _ _ _ _ c.in-Tick.is
+    (λ old new told tells. (tells, refl)) (λ told counts. counts) c.in_ok-tick-in-Tick.ensures.told

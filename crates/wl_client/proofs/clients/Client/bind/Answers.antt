@@ -33,5 +33,6 @@ returns-in_default g c = record {
       let next = c.make-in_default.ensures.makes p seen in
       let nothing = bind_told-nothing (output_of c.args.self.now.output) c.args.id c.args.interface c.in_default.not-WlShm c.in_default.not-WlSeat c.in_default.not-WlOutput in
       (next.0, WantsOr-told _ _ p _ next.0 ((sym nothing) ∙ ap (λ o. bind_told o c.args.id c.args.interface) seen.output) next.1, next.2);
+  table = c.make-in_default.ensures.table;
   rest = c.make-in_default.ensures.rest;
 }

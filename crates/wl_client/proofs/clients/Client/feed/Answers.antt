@@ -9,19 +9,19 @@ returns-then-is_err g c = λ p is.
     let seen = rw (← c.self.view_is) at is in (
       ended Memory p,
       Feeds-memory _ p c.args.piece.now seen (absent _ c.if-is_some.ensures),
-      rw c.end.ensures (IsPeer-ended _ p Memory seen),
+      rw c.end.ensures.cleared (IsPeer-ended _ p Memory seen),
     )
 
 pub loop-preserved : goal.loop-preserved
 loop-preserved g c = λ p is.
     let m = c.loop.invariant p is in
-    let next = c.serve.ensures.serves c.loop-test.true m.1 m.3 in
+    let next = c.take_next.ensures.serves c.loop-test.true m.1 m.3 in
     (suc m.0, next.0, (m.1, m.2, next.1), next.2)
 
 pub returns : goal.returns
 returns g c = λ p is.
     let m = c.loop.invariant p is in
-    let stays = c.serve.ensures.idle c.loop-test.false in
+    let stays = c.take_next.ensures.idle c.loop-test.false in
     let seen = rw (← c.self.view_is) at is in (
       m.1,
       Feeds-idle _ c.loop.self p m.1 m.0 c.args.piece.now seen (absent _ c.if-is_some.ensures) m.2 m.3 stays.1,

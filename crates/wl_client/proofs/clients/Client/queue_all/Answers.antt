@@ -18,7 +18,7 @@ returns-in-Err-clause-queues g c = λ p is.
     let cause = c.in-Err.cause in (
       ended cause m.0,
       m.2 _ (Queues-refused said_of c.args.events.now c.loop-event.event-index _ _ m.0 cause c.loop-event-test.true m.1 c.in-Err.ensures.cause),
-      rw (c.end.ensures, c.in-Err.ensures.err) (IsPeer-ended _ m.0 cause m.1),
+      rw (c.end.ensures.cleared, c.in-Err.ensures.err) (IsPeer-ended _ m.0 cause m.1),
     )
 
 pub loop-event-preserved : goal.loop-event-preserved

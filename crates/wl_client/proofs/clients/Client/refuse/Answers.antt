@@ -6,8 +6,8 @@ pub returns-clause-errs : goal.returns-clause-errs
 returns-clause-errs g c = λ p is. elim c.match-queue.branch [
   | in-Ok w ↦ (
       let next = Errs-told _ _ p c.args.refusal _ c.error_event.ensures is w.in-Ok.ensures.ok in
-      (next.0, next.1, rw (c.end.ensures, w.cause-is, w.number.ensures) next.2))
+      (next.0, next.1, rw (c.end.ensures.cleared, w.cause-is, w.number.ensures) next.2))
   | in-Err w ↦ (
       let next = Errs-untold _ _ p c.args.refusal _ w.in-Err.cause c.error_event.ensures is w.in-Err.ensures.cause w.in-Err.ensures.err in
-      (next.0, next.1, rw (c.end.ensures, w.cause-is) next.2))
+      (next.0, next.1, rw (c.end.ensures.cleared, w.cause-is) next.2))
 ]

@@ -1,11 +1,19 @@
-use Rattle.std.proofs.Common.{ap, ◌∙◌}
-use Rattle.wl_desk.proofs.Desktops.{Changes-slot, Changes-none}
+use Rattle.std.proofs.Common.{false, ap, sym, ◌∙◌}
+use Rattle.wl_desk.specs.Steps.{IsClosed}
+use Rattle.wl_desk.specs.declared.answers.Done.TheVariants as gave
+use Rattle.wl_desk.proofs.Calls.{Changes-none, closed, found, unclosed}
 use Rattle.wl_desk.proofs.desks.Desk.close.Goals as goal
 
 pub returns-in_default : goal.returns-in_default
-returns-in_default g c = λ d a. Changes-none _ _ _ _ d _ (c.deref.ensures.value ∙ ap (λ w. w.clients) c.self.view_is) c.in_default.ensures.none a
+returns-in_default g c = λ d a. Changes-none IsClosed (gave.Close false) _ _ d _ (c.deref.ensures.value ∙ ap (λ w. w.clients) c.self.view_is) c.in_default.ensures.none a
+
+pub returns-then-not-has_ended : goal.returns-then-not-has_ended
+returns-then-not-has_ended g c = λ d a.
+    let as_kept = unclosed c.self.inside.output c.self.inside.clients.items c.self.inside.owned.items c.self.inside.scene c.args.client c.in-Some.k (found _ _ _ _ _ c.deref.ensures.value c.in-Some.ensures.some c.self.invariant) d (rw (← c.self.view_is) at a)
+    _ c.index.ensures (sym c.has_ended.ensures ∙ c.if-not-has_ended.true) in
+    rw (← c.self.view_is) as_kept
 
 pub returns : goal.returns
 returns g c = λ d a.
-    Changes-slot _ _ _ _ (record { output = c.self.inside.output; clients = c.self.inside.clients.items }) c.index_mut-slot.result.now _ d _ c.in-Some.k c.deref.ensures.value
-    c.in-Some.ensures.some c.index_mut-slot.ensures.value (rw (← c.self.view_is) at a) c.close_slot.ensures
+    closed c.self.inside.output c.self.inside.clients.items c.self.inside.owned.items c.self.inside.scene c.args.client c.in-Some.k (found _ _ _ _ _ c.deref.ensures.value c.in-Some.ensures.some c.self.invariant) d (rw (← c.self.view_is) at a)
+    _ c.unmap_all.new.self c.index.ensures (sym c.has_ended.ensures ∙ c.if-not-has_ended.false) c.unmap_all.ensures.standing c.unmap_all.ensures.next

@@ -1,5 +1,5 @@
-use Rattle.std.proofs.Common.{ap, ◌∙◌}
-use Rattle.wl_desk.proofs.Desktops.{Connects-full, Connects-refused, Connects-new}
+use Rattle.std.proofs.Common.{ap, refl, ◌∙◌, ◌+◌}
+use Rattle.wl_desk.proofs.Calls.{Connects-full, Connects-new, Connects-refused, found}
 use Rattle.wl_desk.proofs.desks.Desk.connect.Goals as goal
 
 pub returns-in_default : goal.returns-in_default
@@ -9,4 +9,7 @@ pub returns-in_default-new : goal.returns-in_default-new
 returns-in_default-new g c = λ d a. Connects-refused _ _ d _ (c.deref.ensures.value ∙ ap (λ w. w.clients) c.self.view_is) c.in-Some.ensures.lowest a
 
 pub returns : goal.returns
-returns g c = λ d a. Connects-new _ (record { output = c.self.inside.output; clients = c.self.inside.clients.items }) _ d _ c.deref.ensures.value c.in-Some.ensures.lowest c.in-Ok.ensures (rw (← c.self.view_is) at a)
+returns g c = λ d a.
+    let place = found c.self.inside.clients.items _ c.self.inside.owned.items (c.in-Some.k + 1) c.in-Some.k c.deref.ensures.value (refl, c.in-Some.ensures.within) c.self.invariant in
+    Connects-new c.self.inside.output c.self.inside.clients.items _ c.self.inside.owned.items c.self.inside.scene c.in-Some.k c.in-Ok.client c.bare.result d c.deref.ensures.value c.in-Some.ensures.lowest place.client place.owned
+    c.in-Ok.ensures c.bare.ensures (rw (← c.self.view_is) at a)

@@ -1,6 +1,6 @@
 use Rattle.std.proofs.Common.{ap, sym, ◌∙◌}
 use Rattle.wl_desk.specs.Steps.{peer_at, status_of}
-use Rattle.wl_desk.proofs.Desktops.{peer_at-none, IsSlot-peer_at}
+use Rattle.wl_desk.proofs.Calls.{found, peer_at-none, slot-here}
 use Rattle.wl_desk.proofs.desks.Desk.status.Goals as goal
 
 pub returns-in_default : goal.returns-in_default
@@ -9,4 +9,5 @@ returns-in_default g c = λ d a. sym (ap (λ o. status_of o) (peer_at-none _ _ d
 pub returns : goal.returns
 returns g c = λ d a.
     c.status_in.ensures (peer_at c.args.client d)
-    (IsSlot-peer_at _ (record { output = c.self.inside.output; clients = c.self.inside.clients.items }) d c.args.client c.in-Some.k _ c.deref.ensures.value c.in-Some.ensures.some c.index-slot.ensures (rw (← c.self.view_is) at a))
+    (slot-here c.self.inside.output c.self.inside.clients.items c.self.inside.owned.items c.self.inside.scene c.args.client c.in-Some.k (found _ _ _ _ _ c.deref.ensures.value c.in-Some.ensures.some c.self.invariant) d (rw (← c.self.view_is) at a)
+    _ c.index-slot.ensures)

@@ -9,10 +9,11 @@ use Rattle.wl_desk.specs.XdgShell.{acknowledged_by}
 use Rattle.wl_desk.proofs.OwningAsks.{owned-acknowledged}
 use Rattle.wl_desk.proofs.OwningReads.{acknowledged-by}
 use Rattle.wl_desk.proofs.Shelling.{accepted, names-counted, told-err, told-ok, xdg-answered, xdg-refused}
+use Rattle.wl_desk.proofs.Numbers.{keeps-names}
 use Rattle.wl_desk.proofs.residents.Resident.ack_configure.Goals as goal
 
-pub returns-in-Ok : goal.returns-in-Ok
-returns-in-Ok g c = λ named r is.
+pub returns-in-Ok-clause-answers : goal.returns-in-Ok-clause-answers
+returns-in-Ok-clause-answers g c = λ named r is.
     let v = c.args.self.now in
     let names = names_in v.client.objects in
     let kept = kept_of v.owned.shell in
@@ -26,13 +27,14 @@ returns-in-Ok g c = λ named r is.
       inr refl,
       record {
         peer = c.count.ensures.counts r.peer is.peer;
+        numbers = λ alive. keeps-names v.client.objects c.count.new.self.objects (names-counted v.client c.count.new.self c.count.ensures.only);
         owns = λ alive. subst (λ (n : Names). IsOwned n v.owned.surfaces (kept_of c.ack.new.self) (changed_by (Acknowledge x.id serial) r).owned) (sym (names-counted v.client c.count.new.self c.count.ensures.only))
             (owned-acknowledged names v.owned.surfaces kept r is.owns c.args.surface k x h one serial (kept_of c.ack.new.self) c.in-Ok.ensures.ok);
       },
     ))
 
-pub returns-in-Err : goal.returns-in-Err
-returns-in-Err g c = λ named r is.
+pub returns-in-Err-clause-answers : goal.returns-in-Err-clause-answers
+returns-in-Err-clause-answers g c = λ named r is.
     let v = c.args.self.now in
     let kept = kept_of v.owned.shell in
     let serial = c.args.serial in

@@ -10,8 +10,8 @@ use Rattle.wl_desk.proofs.Doing.{had-by, let-go-so}
 use Rattle.wl_desk.proofs.OwningAsks.{owned-asked}
 use Rattle.wl_desk.proofs.residents.Resident.attach.Goals as goal
 
-pub returns : goal.returns
-returns g c = λ named r is.
+pub returns-clause-does : goal.returns-clause-does
+returns-clause-does g c = λ named r is.
     let v = c.args.self.now in
     let names = names_in v.client.objects in
     let request = Attach (buffer_named r c.args.buffer) c.args.x c.args.y in
@@ -21,4 +21,4 @@ returns g c = λ named r is.
     let then = asked_of c.args.object request r in
     let peer = c.let_go_of.ensures.stores then names.surfaces is.peer owned.surfaces (surface_at c.args.object r.owned.surfaces) had in
     let after = after_surface c.args.object r then in
-    (after.peer, inr refl, let-go-so (record { client = v.client; owned = record { surfaces = c.attach.new.self; shell = v.owned.shell } }) c.let_go_of.new.self after owned c.let_go_of.ensures.only c.let_go_of.ensures.owned peer)
+    (after.peer, inr refl, let-go-so v (record { client = v.client; owned = record { surfaces = c.attach.new.self; shell = v.owned.shell } }) c.let_go_of.new.self after refl owned c.let_go_of.ensures.only c.let_go_of.ensures.owned peer)

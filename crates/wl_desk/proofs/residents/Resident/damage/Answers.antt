@@ -3,12 +3,12 @@ use Rattle.wl_surface.specs.Request.{Damage}
 use Rattle.wl_desk.proofs.Doing.{asked-so, lacked}
 use Rattle.wl_desk.proofs.residents.Resident.damage.Goals as goal
 
-pub returns-in-Ok : goal.returns-in-Ok
-returns-in-Ok g c = λ named r is.
+pub returns-in-Ok-clause-does : goal.returns-in-Ok-clause-does
+returns-in-Ok-clause-does g c = λ named r is.
     let done = asked-so _ _ r c.args.object c.args.surface (Damage c.args.rect) is named refl (λ v. refl) (λ g. refl) c.in-Ok.ensures.ok refl refl in
     (r.peer, inr (sym done.0), done.1)
 
-pub returns-in-Err : goal.returns-in-Err
-returns-in-Err g c = λ named r is.
-    let lacks = lacked _ _ r (c.lack_memory.ensures.lacks r.peer is.peer) c.lack_memory.ensures.ended in
+pub returns-in-Err-clause-does : goal.returns-in-Err-clause-does
+returns-in-Err-clause-does g c = λ named r is.
+    let lacks = lacked c.args.self.now _ _ r (c.lack_memory.ensures.lacks r.peer is.peer) c.lack_memory.ensures.ended in
     (lacks.0, inl lacks.1, lacks.2)

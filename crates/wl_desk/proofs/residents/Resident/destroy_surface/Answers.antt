@@ -4,24 +4,24 @@ use Rattle.wl_shell.specs.Kept.{kept_of}
 use Rattle.wl_surface.specs.Surfaces.{surface_at, without_surface}
 use Rattle.wl_desk.specs.Owning.{Names, names_in, with_surface}
 use Rattle.wl_desk.specs.Step.{after_surface, with_surfaces}
-use Rattle.wl_desk.proofs.Doing.{had-by, lacked, named-by}
+use Rattle.wl_desk.proofs.Doing.{had-by, lacked}
 use Rattle.wl_desk.proofs.OwningAsks.{owned-destroyed}
-use Rattle.wl_desk.proofs.OwningNames.{names-surface-gone}
+use Rattle.wl_desk.proofs.Shelling.{surface-gone}
 use Rattle.wl_desk.proofs.OwningXdg.{xdg-of-none}
+use Rattle.wl_desk.proofs.Numbers.{keeps-gone}
 use Rattle.wl_desk.proofs.residents.Resident.destroy_surface.Goals as goal
 
-pub returns-in-Err : goal.returns-in-Err
-returns-in-Err g c = λ entry found wl_surface target bare r is.
-    let lacks = lacked _ _ r (c.lack_memory.ensures.lacks r.peer is.peer) c.lack_memory.ensures.ended in
+pub returns-in-Err-clause-does : goal.returns-in-Err-clause-does
+returns-in-Err-clause-does g c = λ named bare r is.
+    let lacks = lacked c.args.self.now _ _ r (c.lack_memory.ensures.lacks r.peer is.peer) c.lack_memory.ensures.ended in
     (lacks.0, inl lacks.1, lacks.2)
 
-pub returns : goal.returns
-returns g c = λ entry found wl_surface target bare r is.
+pub returns-clause-does : goal.returns-clause-does
+returns-clause-does g c = λ named bare r is.
     let v = c.args.self.now in
     let id = c.args.object in
     let names = names_in v.client.objects in
     let shell = kept_of v.owned.shell in
-    let named = named-by v.client.objects id c.args.surface entry found wl_surface target in
     let none = xdg-of-none names v.owned.surfaces shell r.owned is.owns id c.args.surface named bare in
     let had = had-by names.surfaces v.owned.surfaces r.owned.surfaces id c.args.surface c.buffers-had.result is.owns.surfaces named c.buffers-had.ensures in
     let destroyed = λ (now : Names) (same : now ≡ with_surface id None names). owned-destroyed names v.owned.surfaces shell r is.owns id c.args.surface c.destroy.new.self now named none c.in-Ok.ensures.ok c.in-Ok.ensures.count same in
@@ -34,9 +34,10 @@ returns g c = λ entry found wl_surface target bare r is.
       inr told.1,
       record {
         peer = told.2;
+        numbers = λ alive. keeps-gone v.client.objects c.remove.new.self.objects id (surface-gone v.client.objects c.remove.new.self.objects id c.args.surface named (rw (ap (λ (w : ClientView). w.objects) c.let_go_of.ensures.only) at c.remove.ensures.table alive));
         owns = λ alive.
             let table = ap (λ (w : ClientView). w.objects) c.let_go_of.ensures.only in
             let holds = rw table at c.remove.ensures.table alive in
-            rw c.let_go_of.ensures.owned (destroyed (names_in c.remove.new.self.objects) (names-surface-gone v.client.objects c.remove.new.self.objects id entry found wl_surface holds));
+            rw c.let_go_of.ensures.owned (destroyed (names_in c.remove.new.self.objects) (surface-gone v.client.objects c.remove.new.self.objects id c.args.surface named holds));
       },
     )

@@ -1,13 +1,14 @@
-use Rattle.std.proofs.Common.{inr}
+use Rattle.std.proofs.Common.{None, inr}
 use Rattle.wl_shell.specs.Kept.{kept_of}
 use Rattle.wl_client.specs.Peer.{counted}
 use Rattle.wl_desk.specs.Owning.{names_in}
 use Rattle.wl_desk.proofs.OwningAsks.{owned-toplevel-gone}
 use Rattle.wl_desk.proofs.Shelling.{toplevel-answered, toplevel-gone}
+use Rattle.wl_desk.proofs.Numbers.{keeps-toplevel}
 use Rattle.wl_desk.proofs.residents.Resident.destroy_toplevel.Goals as goal
 
-pub returns : goal.returns
-returns g c = λ named r is.
+pub returns-clause-answers : goal.returns-clause-answers
+returns-clause-answers g c = λ named r is.
     let v = c.args.self.now in
     let gone = c.remove.ensures.removes (counted r.peer) (c.count.ensures.counts r.peer is.peer) in
     toplevel-answered v _ c.args.object c.args.surface 0 r is named
@@ -16,6 +17,7 @@ returns g c = λ named r is.
       inr gone.1,
       record {
         peer = gone.2;
+        numbers = λ alive. keeps-toplevel v.client.objects c.remove.new.self.objects c.args.object None (toplevel-gone v.client c.count.new.self c.remove.new.self c.args.object c.args.surface c.count.ensures.only named (c.remove.ensures.table alive));
         owns = λ alive. owned-toplevel-gone (names_in v.client.objects) v.owned.surfaces (kept_of v.owned.shell) r is.owns c.args.surface k x h one c.args.object (kept_of c.destroy_toplevel.new.self) (names_in c.remove.new.self.objects) its
             c.destroy_toplevel.ensures
             (toplevel-gone v.client c.count.new.self c.remove.new.self c.args.object c.args.surface c.count.ensures.only named (c.remove.ensures.table alive));

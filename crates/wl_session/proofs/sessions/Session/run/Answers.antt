@@ -1,5 +1,8 @@
-use Rattle.std.proofs.Common.{map}
-use Rattle.wl_session.specs.Run.{film_of}
+use Rattle.std.proofs.Common.{List, map, subst}
+use Rattle.std.proofs.lemmas.List.{take_all}
+use Rattle.wl_session.specs.declared.steps.Step.{Step}
+use Rattle.wl_session.specs.Step.{act_of}
+use Rattle.wl_session.specs.Run.{TakesSteps, film_of}
 use Rattle.wl_session.proofs.Runs.{Runs-more, MayStopAt-here}
 use Rattle.wl_session.proofs.sessions.Session.run.Goals as goal
 
@@ -20,3 +23,8 @@ returns-then-not-take_step-clause-err g c =
 pub returns-then-not-take_step-clause-stopped : goal.returns-then-not-take_step-clause-stopped
 returns-then-not-take_step-clause-stopped g c =
     MayStopAt-here c.args.steps.now c.loop-n.n _ c.loop-n-test.true (c.take_step.ensures.refused c.if-not-take_step.true).1
+
+pub returns-clause-ok : goal.returns-clause-ok
+returns-clause-ok g c =
+    subst (λ (steps : List Step). TakesSteps (map act_of steps) (map film_of c.loop-n.shots.items) c.args.self.now c.loop-n.self)
+    (take_all c.loop-n.n c.args.steps.now c.loop-n-test.false) c.loop-n.invariant

@@ -1,0 +1,13 @@
+use Rattle.std.proofs.Common.{ap, ◌∙◌}
+use Rattle.wl_client.specs.Serving.{has_used}
+use Rattle.wl_client.specs.View.{ClientView}
+use Rattle.wl_client.specs.Objects.{held_at}
+use Rattle.wl_client.proofs.Taking.{used-same}
+use Rattle.wl_client.proofs.clients.Client.is_buffer_used.Goals as goal
+
+pub returns-in-Some : goal.returns-in-Some
+returns-in-Some g c = λ used are.
+    used-same _ used _ _ are c.is_used.ensures
+    ∙ ap used c.number.ensures
+    ∙ ap (λ b. has_used used b) c.in-Some.ensures.value
+    ∙ ap (λ (v : ClientView). has_used used (held_at v.buffers c.args.id)) c.self.view_is

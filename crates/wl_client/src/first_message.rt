@@ -1,0 +1,25 @@
+//! The first message of what came from a client.
+
+use crate::refusals::Refusal;
+use wl_proto::Request;
+
+/// What the first message of what came is, before its own errors are looked at.
+#[derive(Drop)]
+pub enum First<'a> {
+    /// No whole message is there.
+    More,
+    /// It is refused, whatever its own errors are.
+    Refused(Refusal),
+    /// It passed so far.
+    Request {
+        /// The object that it is to.
+        object: u32,
+        /// The object's version.
+        version: u32,
+        /// How many bytes the message has, with its header.
+        size: usize,
+        /// The place of what the object stands for.
+        target: usize,
+        request: Request<'a>,
+    },
+}

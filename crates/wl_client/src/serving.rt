@@ -1,0 +1,150 @@
+//! One message at a time, of a client whose surfaces use some of its buffers.
+
+ghost use Rattle.std.specs.Prelude.{ℕ, Bool, ◌≡◌, ◌≤◌, ◌<◌, drop, is_some, length, true, false, None};
+ghost use Rattle.wl_proto.specs.Messages.{request_message};
+ghost use Rattle.wl_client.specs.Objects.{KeepsSurfaces};
+ghost use Rattle.wl_client.specs.Peer.{Errs, IsIdleAt, Peer, counted, with_rest};
+ghost use Rattle.wl_client.specs.Serving.{ActsWith, AnswersWith, AreUsed, ChangesTable, EndsSo, IsNext, IsOwnMessage, PassesTo, ServesWith, is_own, was_taken};
+
+use crate::actions::Action;
+use crate::clients::{Cause, Client};
+use crate::first_message::First;
+use crate::refusals::{ErrorCode, Refusal};
+use crate::served::{Next, Served};
+use std::alloc::Allocator;
+use wl_proto::Request;
+use wl_surface::Surfaces;
+
+/// Whether it is a request of one of the interfaces that are served here.
+fn is_own_request(request: &Request) -> bool
+    ensures { result ≡ is_own (request_message request.now).interface }
+{
+    match request {
+        Request::WlDisplay(_)
+        | Request::WlRegistry(_)
+        | Request::WlRegion(_)
+        | Request::WlShm(_)
+        | Request::WlShmPool(_)
+        | Request::WlBuffer(_) => true,
+        _ => false,
+    }
+}
+
+impl<A: Allocator + Copy> Client<A> {
+    ghost use Rattle.wl_client.specs.Agreement.{IsPeer};
+
+    /// What is to be done of the first message.
+    fn next(&self) -> Next
+        ensures { IsNext self.now result }
+    {
+        match self.first() {
+            First::More => Next::More,
+            First::Refused(refusal) => Next::Refused(refusal),
+            First::Request {
+                object,
+                version,
+                size,
+                request,
+                ..
+            } => {
+                if !is_own_request(&request) {
+                    return Next::Other;
+                }
+                Next::Own(size, self.own_action(object, version, &request))
+            }
+        }
+    }
+
+    /// Does what an accepted message asks.
+    fn act_with(&mut self, action: Action, surfaces: &Surfaces<A>)
+        ensures acts { (used : ℕ → Bool) → AreUsed surfaces.now used → (p : Peer) → IsPeer self.old p
+            → (q : Peer) × ActsWith used action (counted p) q × IsPeer self.new q }
+        ensures table { self.new.ended ≡ None → ChangesTable action self.old.objects self.new.objects }
+        ensures rest { length self.new.rest ≤ length self.old.rest }
+    {
+        match action {
+            Action::DestroyBuffer(id, store) => {
+                self.count();
+                self.destroy_buffer_with(id, store, surfaces);
+            }
+            action => self.act(action),
+        }
+    }
+
+    /// The first message is refused.
+    fn refused(&mut self, refusal: Refusal) -> Served
+        ensures taken { was_taken result ≡ true }
+        ensures ended { is_some self.new.ended ≡ true }
+        ensures errs { (p : Peer) → IsPeer self.old p → (q : Peer) × Errs refusal p q × IsPeer self.new q }
+        ensures cause { EndsSo result self.new.ended }
+        ensures rest { length self.new.rest ≡ 0 }
+    {
+        self.refuse(refusal);
+        Served::Refused {
+            object: refusal.object,
+            code: refusal.code.number(),
+        }
+    }
+
+    /// What became of an accepted message.
+    fn outcome(&self) -> Served
+        ensures taken { was_taken result ≡ true }
+        ensures cause { EndsSo result self.now.ended }
+    {
+        match self.ended {
+            Some(Cause::Memory) => Served::Refused {
+                object: 1,
+                code: ErrorCode::NoMemory.number(),
+            },
+            _ => Served::Done,
+        }
+    }
+
+    /// The first message is taken, which is judged so.
+    fn take_own(
+        &mut self,
+        size: usize,
+        judged: Result<Action, Refusal>,
+        surfaces: &Surfaces<A>,
+    ) -> Served
+        requires { IsOwnMessage self.old size judged }
+        ensures taken { was_taken result ≡ true }
+        ensures answers { (used : ℕ → Bool) → AreUsed surfaces.now used → (p : Peer) → IsPeer self.old p
+            → (q : Peer) × AnswersWith used judged (with_rest (drop size self.old.rest) p) q × IsPeer self.new q }
+        ensures table { self.new.ended ≡ None → KeepsSurfaces self.old.objects self.new.objects }
+        ensures cause { EndsSo result self.new.ended }
+        ensures rest { length self.new.rest ≤ length (drop size self.old.rest) }
+    {
+        self.take_first(size);
+        match judged {
+            Ok(action) => {
+                self.act_with(action, surfaces);
+                self.outcome()
+            }
+            Err(refusal) => self.refused(refusal),
+        }
+    }
+
+    /// Takes the first message of a client that lives, where it is of one of the client's own interfaces, or is refused before its own errors are
+    /// looked at. A wl_buffer that goes leaves its store the use of a buffer that one of the surfaces uses.
+    pub fn serve(&mut self, surfaces: &Surfaces<A>) -> Served
+        ensures serves { was_taken result ≡ true → (used : ℕ → Bool) → AreUsed surfaces.now used → (p : Peer) → IsPeer self.old p
+            → (q : Peer) × ServesWith used p q × IsPeer self.new q }
+        ensures less { was_taken result ≡ true → length self.new.rest < length self.old.rest }
+        ensures idle { was_taken result ≡ false → self.new ≡ self.old }
+        ensures more { result ≡ Served.More → IsIdleAt self.old.ended self.old.rest }
+        ensures other { result ≡ Served.Other → (self.old.ended ≡ None) × PassesTo false self.old }
+        ensures table { self.new.ended ≡ None → KeepsSurfaces self.old.objects self.new.objects }
+        ensures cause { EndsSo result self.new.ended }
+    {
+        if self.has_ended() {
+            return Served::More;
+        }
+        match self.next() {
+            Next::More => Served::More,
+            Next::Other => Served::Other,
+            Next::Refused(refusal) => self.refused(refusal),
+            Next::Own(size, judged) => self.take_own(size, judged, surfaces),
+        }
+    }
+}

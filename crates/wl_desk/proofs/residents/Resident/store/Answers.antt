@@ -1,0 +1,11 @@
+use Rattle.std.proofs.Common.{ap, refl}
+use Rattle.wl_client.specs.Peer.{stored_at}
+use Rattle.wl_desk.specs.declared.answers.Done.TheVariants as gave
+use Rattle.wl_desk.proofs.Telling.{told-stored, told-seated}
+use Rattle.wl_desk.proofs.residents.Resident.store.Goals as goal
+
+pub returns : goal.returns
+returns g c = λ others base d r is.
+    let next = c.store_of-stored.ensures.told r.peer is.seat.peer in
+    let told = told-stored c.args.store c.args.at c.args.bytes.now c.args.self.now (record { client = c.store_of-stored.new.client; owned = c.args.self.now.owned }) r next.0 refl c.store_of-stored.ensures.table in
+    (stored_at r.peer.status c.args.store c.args.at c.args.bytes.now r.peer, _, (refl, ap (λ s. gave.Store s) next.1), told-seated _ others base d r _ _ _ _ _ is _ told c.clear.ensures)

@@ -1,0 +1,12 @@
+use Rattle.std.proofs.Common.{rules, ap, ◌∙◌, map}
+use Rattle.std.proofs.lemmas.Fn.{filter_same}
+use Rattle.std.specs.Prelude.{◌==◌, not}
+use Rattle.wl_scene.proofs.Stacks.{map-filter}
+use Rattle.wl_scene.proofs.scene.Scene.unmap_all.Goals as goal
+use Rattle.wl_scene.specs.Stacking.{standing_of}
+
+pub returns-clause-standing : goal.returns-clause-standing
+returns-clause-standing g c =
+    ap (λ ts. map standing_of ts) (filter_same _ (λ t. not ((standing_of t).client == c.args.client)) _ (λ x b f' k. search rules) _ _ c.retain.ensures.filtered)
+    ∙ map-filter standing_of (λ s. not (s.client == c.args.client)) c.self.inside.standing.items
+    ∙ search rules
