@@ -18,7 +18,7 @@ use std::collections::BTreeMap;
 use std::marker::Model;
 use wl_geom::Region;
 use wl_proto::{Event, Interface, encoded_size};
-use wl_store::{StoreError, StoreNo, Stores};
+use wl_store::{Layout, Picture, StoreError, StoreNo, Stores, Transform};
 use wl_table::{Entry, Objects};
 use wl_wire::{PutError, Split, split};
 
@@ -69,7 +69,7 @@ impl<A: Allocator + Copy> Client<A> {
     ghost use Rattle.wl_client.specs.Serving.{ChangesTable, EndsBy};
     ghost use Rattle.wl_client.specs.View.{cleared, stored};
     ghost use Rattle.wl_table.specs.Objects.{HoldsAt, entry_of};
-    ghost use Rattle.wl_store.specs.Stores.{store_at, write_refusal};
+    ghost use Rattle.wl_store.specs.Stores.{picture_turned, store_at, write_refusal};
     ghost use Rattle.wl_client.specs.Agreement.{IsPeer};
 
     /// A client that has just connected and is shown on this output. Its one object is wl_display.
@@ -396,5 +396,18 @@ impl<A: Allocator + Copy> Client<A> {
         ensures { result ≡ option_map (λ s. length s.bytes) (store_at store self.now.stores) }
     {
         self.stores.size(store)
+    }
+
+    /// Lends the bytes of a store as the content of a surface that is turned so; None where the store isn't live or the layout passes its
+    /// end.
+    pub fn picture(
+        &self,
+        store: StoreNo,
+        layout: &Layout,
+        transform: Transform,
+    ) -> Option<Picture<'_>>
+        ensures { result ≡ picture_turned store layout.now transform self.now.stores }
+    {
+        self.stores.picture_turned(store, layout, transform)
     }
 }

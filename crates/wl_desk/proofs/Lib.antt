@@ -42,3 +42,12 @@ pub mod StandingFound
 pub mod StandingAsks
 pub mod StandingDesks
 pub mod StandingSteps
+pub mod TouchingMarks
+pub mod TouchingWindows
+pub mod Touching
+pub mod TouchingAsks
+pub mod TouchingSteps
+pub mod TouchingMessages
+pub mod Lending
+pub mod Painting
+pub mod Lending

@@ -2,10 +2,12 @@ pub mod Agreement
 pub mod Ask
 pub mod Desktop
 pub mod Laws
+pub mod Lent
 pub mod Marks
 pub mod Messages
 pub mod Moments
 pub mod Owning
+pub mod Painting
 pub mod Plain
 pub mod Releases
 pub mod Residents
@@ -15,6 +17,7 @@ pub mod Served
 pub mod Standing
 pub mod Step
 pub mod Steps
+pub mod Touching
 pub mod View
 pub mod WlSurface
 pub mod XdgShell

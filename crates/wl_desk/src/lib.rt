@@ -8,6 +8,7 @@ mod feeding;
 mod messages;
 mod residents;
 mod surface_requests;
+mod windows;
 mod wl_compositor;
 mod wl_seat;
 mod xdg_surface;
@@ -15,6 +16,7 @@ mod xdg_toplevel;
 mod xdg_wm_base;
 
 ghost use Rattle.wl_desk.specs.Laws.{LeastIsMost, OneRun, OthersStay, ScratchStays, ServedAlone, WindowsAreDistinct};
+ghost use Rattle.wl_desk.specs.Painting.{LendsOpaqueAsSaid, PaintsTheDesktop};
 
 pub use answers::{ClientNo, ConnectError, Done, Fed, Stored};
 pub use desks::Desk;
@@ -49,4 +51,14 @@ pub fn others_stay()
 /// Where no more is served than a client's own interfaces, a piece makes of the desktop's client what it makes of the client by itself.
 pub fn served_alone()
     ensures { ServedAlone }
+{}
+
+/// Painted from nothing, what is lent of the clients gives each point the colour that the desktop does.
+pub fn paints_the_desktop()
+    ensures { PaintsTheDesktop }
+{}
+
+/// What is said opaque of the desktop's windows and is, is so of those that are lent.
+pub fn lends_opaque_as_said()
+    ensures { LendsOpaqueAsSaid }
 {}

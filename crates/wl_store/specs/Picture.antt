@@ -1,8 +1,11 @@
 -- What is seen of a picture: bytes, where a buffer lies in them, and how a surface shows it.
-use Rattle.std.specs.Prelude.{ℕ, ◌+◌, ◌*◌, nat_le, List, length, cond, Option, Some, None}
+use Rattle.std.proofs.lemmas.Bool.{leb-true, ltb-true}
+use Rattle.std.specs.Prelude.{refl, ◌^◌, ℕ, ◌+◌, ◌*◌, nat_le, List, [], ◌∷◌, length, cond, Option, Some, None}
 use Rattle.wl_store.specs.declared.color.Argb.{Argb}
+use Rattle.wl_store.specs.declared.color.Format.TheVariants.{Argb8888}
 use Rattle.wl_store.specs.declared.place.Layout.{Layout}
 use Rattle.wl_store.specs.declared.transform.Transform.{Transform}
+use Rattle.wl_store.specs.declared.transform.Transform.TheVariants.{Normal}
 use Rattle.wl_store.specs.Layout.{buffer_color}
 use Rattle.wl_store.specs.Transform.{is_turned, buffer_point}
 
@@ -25,3 +28,24 @@ surface_height t l = cond (is_turned t) l.w l.h
 -- the colour at the point (i, j) of the surface
 abbrev pub color_at : Shown → ℕ → ℕ → Argb
 color_at p i j = buffer_color p.bytes p.layout (buffer_point p.transform (surface_width p.transform p.layout) (surface_height p.transform p.layout) i j)
+
+-- where a buffer of one pixel lies that is all there is
+abbrev pub one_pixel : Layout
+one_pixel =
+    record {
+      offset = 0;
+      w = 1;
+      h = 1;
+      stride = 4;
+      format = Argb8888;
+      wide_rows = leb-true 4 4 refl;
+      some_columns = ltb-true 0 1 refl;
+      some_rows = ltb-true 0 1 refl;
+      offset_fits = ltb-true 0 (2 ^ 31) refl;
+      height_fits = ltb-true 1 (2 ^ 31) refl;
+      stride_fits = ltb-true 4 (2 ^ 31) refl;
+    }
+
+-- a picture of one pixel, which leaves what is below it as it is
+abbrev pub transparent : Shown
+transparent = record { bytes = 0 ∷ 0 ∷ 0 ∷ 0 ∷ []; layout = one_pixel; transform = Normal }

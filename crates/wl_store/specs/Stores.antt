@@ -4,6 +4,7 @@ use Rattle.std.specs.Option.{option_map, option_and_then, option_map_or}
 use Rattle.wl_store.specs.declared.place.Layout.{Layout}
 use Rattle.wl_store.specs.declared.stores.StoreError.{StoreError}
 use Rattle.wl_store.specs.declared.stores.StoreError.TheVariants.{BadSize, Shrinks, NoStore, OutOfRange, TooMany, TooLarge}
+use Rattle.wl_store.specs.declared.transform.Transform.{Transform}
 use Rattle.wl_store.specs.Picture.{Shown, lent}
 use Rattle.wl_store.specs.Transform.{transform_of}
 
@@ -101,8 +102,12 @@ let_go number stock =
     cond (nat_le (uses_of number stock) 1) (without_store number stock) (with_change number (λ s. record s { uses = s.uses - 1 }) stock)
 
 -- the picture that a store lends, where it is live and the layout ends within it
+abbrev pub picture_turned : ℕ → Layout → Transform → Stock → Option Shown
+picture_turned number l transform stock = option_and_then (λ bytes. lent bytes l transform) (bytes_of number stock)
+
+-- the same by the transform's number
 abbrev pub picture_of : ℕ → Layout → ℕ → Stock → Option Shown
-picture_of number l transform stock = option_and_then (λ bytes. lent bytes l (transform_of transform)) (bytes_of number stock)
+picture_of number l transform stock = picture_turned number l (transform_of transform) stock
 
 -- the numbers rise from above `low` to at most `made`
 abbrev pub IsNumbered : ℕ → ℕ → List Held → Type 0

@@ -1,6 +1,6 @@
 ghost use Rattle.std.specs.Prelude.{◌≡◌, ◌+◌, ◌*◌, ◌≤◌, ◌<◌, slice_range, length, IfSome};
 ghost use Rattle.wl_store.specs.Layout.{FitsIn, buffer_color};
-ghost use Rattle.wl_store.specs.Picture.{color_at, lent, surface_height, surface_width};
+ghost use Rattle.wl_store.specs.Picture.{color_at, lent, surface_height, surface_width, transparent};
 
 use crate::color::{Argb, Format};
 use crate::place::Layout;
@@ -62,6 +62,23 @@ impl<'a> Picture<'a> {
             layout: *layout,
             transform,
         })
+    }
+
+    /// A picture of one pixel, which leaves what is below it as it is.
+    pub fn transparent() -> Self
+        ensures { result ≡ transparent }
+    {
+        Picture {
+            bytes: &[0, 0, 0, 0],
+            layout: Layout {
+                offset: 0,
+                w: 1,
+                h: 1,
+                stride: 4,
+                format: Format::Argb8888,
+            },
+            transform: Transform::Normal,
+        }
     }
 
     /// The width and the height of the surface.

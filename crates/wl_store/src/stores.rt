@@ -113,7 +113,7 @@ fn size_refusal(total: u32, present: u32, size: i32) -> Option<StoreError>
 }
 
 impl<A: Allocator> Stores<A> {
-    ghost use Rattle.wl_store.specs.Stores.{bytes_of, can_hold, create_refusal, is_full, let_go, picture_of, resize_refusal, store_at, total_size, used, write_refusal, written};
+    ghost use Rattle.wl_store.specs.Stores.{bytes_of, can_hold, create_refusal, is_full, let_go, picture_of, picture_turned, resize_refusal, store_at, total_size, used, write_refusal, written};
 
     fn is_full(&self) -> bool
         ensures { result ≡ is_full self.now }
@@ -239,8 +239,23 @@ impl<A: Allocator> Stores<A> {
         ensures layout { IfSome result (λ p. p.layout ≡ layout.now) }
         ensures transform { IfSome result (λ p. p.transform ≡ transform_of transform) }
     {
+        self.picture_turned(store, layout, Transform::from_number(transform))
+    }
+
+    /// The same, turned so.
+    pub fn picture_turned(
+        &self,
+        store: StoreNo,
+        layout: &Layout,
+        transform: Transform,
+    ) -> Option<Picture<'_>>
+        ensures there { result ≡ picture_turned store layout.now transform self.now }
+        ensures bytes { IfSome result (λ p. bytes_of store self.now ≡ Some p.bytes) }
+        ensures layout { IfSome result (λ p. p.layout ≡ layout.now) }
+        ensures transform { IfSome result (λ p. p.transform ≡ transform) }
+    {
         let bytes = self.bytes(store)?;
-        Picture::new(bytes, layout, Transform::from_number(transform))
+        Picture::new(bytes, layout, transform)
     }
 }
 

@@ -219,7 +219,23 @@ pub record IsCurrent {A : Type 0} (c : Current A) (h : History) : Type 0 where
   pub opaque : Covers c.opaque.now (applied h).opaque
   pub input : IsInput (option_copied c.input) (applied h).input
 
--- the same, where there is such a surface
+-- what is kept that counts: the buffer, the transform, how far the surface has moved, and its regions
+pub record Counting : Type 0 where
+  pub buffer : Option Attached
+  pub transform : Transform
+  pub offset : Offset
+  pub opaque : Area
+  pub input : Option Area
+
+abbrev pub counting_of : Kept → Counting
+counting_of k =
+    record { buffer = k.current_buffer; transform = k.current_transform; offset = k.current_offset; opaque = k.current_opaque; input = k.current_input }
+
+-- the same of what is told
+abbrev pub counting_in : {A : Type 0} → Current A → Counting
+counting_in c = record { buffer = c.buffer; transform = c.transform; offset = c.offset; opaque = c.opaque.now; input = option_copied c.input }
+
+-- what is told is what counts, where there is such a surface
 abbrev pub IsCurrentAt : {A : Type 0} → Option (Current A) → Option Surface → Type 0
 IsCurrentAt None None = Unit {0}
 IsCurrentAt (Some c) (Some s) = IsCurrent c s.history

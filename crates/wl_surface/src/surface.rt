@@ -4,7 +4,7 @@ ghost use Rattle.std.specs.Prelude.{ℕ, ◌≡◌, ◌↔◌, ◌≢◌, ◌||�
 ghost use Rattle.std.specs.Option.{option_map, option_or};
 ghost use Rattle.wl_store.specs.Transform.{transform_of};
 ghost use Rattle.wl_surface.specs.Applied.{HasShape, IsChange, newly_damaged};
-ghost use Rattle.wl_surface.specs.Kept.{IsCurrent, IsFarther, StandsFor, buffer_of, kept_has, kept_shows, turned_height, turned_width};
+ghost use Rattle.wl_surface.specs.Kept.{IsCurrent, IsFarther, StandsFor, buffer_of, counting_in, counting_of, kept_has, kept_shows, turned_height, turned_width};
 ghost use Rattle.wl_geom.specs.Region.{Change as RegionChange, Stands as Covers};
 ghost use Rattle.wl_surface.specs.Request.{Attach, Commit, Damage, SetBufferTransform, SetInputRegion, SetOpaqueRegion};
 ghost use Rattle.wl_surface.specs.Surfaces.{Surface as Asked, applying, asking, names, new_surface};
@@ -334,7 +334,8 @@ impl<A: Allocator> Surface<A> {
 
     /// What counts.
     pub(crate) fn current(&self) -> Current<'_, A>
-        ensures { (s : Asked) → StandsFor self.now s → IsCurrent result s.history }
+        ensures stands { (s : Asked) → StandsFor self.now s → IsCurrent result s.history }
+        ensures kept { counting_in result ≡ counting_of self.now }
     {
         let (w, h) = size_of(&self.current_buffer, self.current_transform);
         Current {

@@ -6,7 +6,7 @@ ghost use Rattle.std.specs.Option.{option_map};
 ghost use Rattle.slab.specs.Slab.{entries};
 ghost use Rattle.wl_geom.specs.Region.{Change as RegionChange, Stands as Covers};
 ghost use Rattle.wl_surface.specs.Applied.{AreChanges, AreFreed, AreGone, with_freed, is_shown_at};
-ghost use Rattle.wl_surface.specs.Kept.{Changes, IsAny, changed_at, shown_of, IsCopied, IsCurrentAt, kept_at, one_if_kept, Numbered, StandForAll, buffer_of, content_at, count, had_at, has_at, is_transform, kept_has, kept_shows, nobody, pending_at, role_at, shows_at, with_at};
+ghost use Rattle.wl_surface.specs.Kept.{Changes, IsAny, changed_at, shown_of, IsCopied, IsCurrentAt, kept_at, one_if_kept, Numbered, StandForAll, buffer_of, content_at, count, counting_in, counting_of, had_at, has_at, is_transform, kept_has, kept_shows, nobody, pending_at, role_at, shows_at, with_at};
 ghost use Rattle.wl_surface.specs.Request.{Attach, Commit, Damage, SetBufferTransform, SetInputRegion, SetOpaqueRegion};
 ghost use Rattle.wl_surface.specs.Surfaces.{applying, asking, new_surface, with_role};
 
@@ -412,7 +412,8 @@ impl<A: Allocator> Surfaces<A> {
 
     /// What counts of a surface, if there is such a one.
     pub fn current(&self, surface: SurfaceNo) -> Option<Current<'_, A>>
-        ensures { (all : Numbered) → StandForAll self.now all → IsCurrentAt result (all surface) }
+        ensures stands { (all : Numbered) → StandForAll self.now all → IsCurrentAt result (all surface) }
+        ensures kept { option_map counting_in result ≡ option_map counting_of (kept_at self.now surface) }
     {
         match self.slots.get(surface) {
             Some(kept) => Some(kept.current()),

@@ -1,0 +1,79 @@
+-- What a desk keeps, lent to be painted, stands for each desktop that agrees.
+use Rattle.std.proofs.Common.{◌≡◌, ℕ, zero, suc, List, [], map, Option, Some, None, refl, ap, subst, sym, ◌∙◌}
+use Rattle.std.specs.Prelude.{slice_index_or}
+use Rattle.std.specs.Option.{option_map}
+use Rattle.wl_client.specs.Objects.{nothing}
+use Rattle.wl_client.specs.View.{ClientView}
+use Rattle.wl_store.specs.Stores.{Stock}
+use Rattle.wl_surface.specs.Kept.{Slots}
+use Rattle.wl_surface.specs.Surfaces.{no_surfaces}
+use Rattle.wl_scene.specs.Lent.{slots_lent, slots_of}
+use Rattle.wl_scene.specs.declared.owned.Owned.{Owned}
+use Rattle.wl_desk.specs.Agreement.{Agrees, IsPlace, numbers_in, numbers_of}
+use Rattle.wl_desk.specs.Desktop.{Desktop, Resident, client_at, owned_in, owned_of, place}
+use Rattle.wl_desk.specs.Lent.{client_lent}
+use Rattle.wl_desk.specs.Owning.{AreKept}
+use Rattle.wl_desk.specs.Painting.{AreLent}
+use Rattle.wl_desk.specs.View.{DeskView, OwnedView, owned_view}
+use Rattle.wl_desk.proofs.Desktops.{at-map}
+use Rattle.wl_desk.proofs.StandingDesks.{all-show}
+
+-- nothing is kept of a client that isn't there
+nothing-kept : AreKept nothing [] no_surfaces
+nothing-kept = record {
+  links = refl;
+  numbered = λ id. refl;
+  once = λ a b number named other. absurd (cc);
+  apart = tt;
+  counts = λ id h found. absurd (cc);
+  stand = λ number. tt;
+  count = refl;
+}
+
+abbrev slots_seen : Option OwnedView → Slots
+slots_seen None = []
+slots_seen (Some o) = o.surfaces
+
+slots-seen : {A : Type 0} (o : Option (Owned A)) → slots_of o ≡ slots_seen (option_map owned_view o)
+slots-seen None = refl
+slots-seen (Some o) = refl
+
+abbrev stores_in : Option ClientView → Option Stock
+stores_in x = option_map (λ v. v.stores) x
+
+abbrev stores_of : Option Resident → Option Stock
+stores_of r = option_map (λ r. r.peer.stores) r
+
+place-lent : (x : Option ClientView) (o : Option OwnedView) (r : Option Resident) → IsPlace x o r → (stores_in x ≡ stores_of r) × AreKept (numbers_of x) (slots_seen o) (owned_of r).surfaces
+place-lent None None None here = (refl, nothing-kept)
+place-lent (Some v) (Some o) (Some r) here = (ap Some here.peer.stores, here.owns.surfaces)
+place-lent None None (Some r) here = absurd here
+place-lent None (Some o) None here = absurd here
+place-lent None (Some o) (Some r) here = absurd here
+place-lent (Some v) None None here = absurd here
+place-lent (Some v) None (Some r) here = absurd here
+place-lent (Some v) (Some o) None here = absurd here
+
+module _ {A : Type 0} (owned : List (Option (Owned A))) (v : DeskView) (d : Desktop) (same : v.owned ≡ map (option_map owned_view) owned) (a : Agrees v d) where
+  slots-here : (k : ℕ) → slots_of (slice_index_or owned k None) ≡ slots_seen (slice_index_or v.owned k None)
+  slots-here k =
+      slots-seen (slice_index_or owned k None) ∙ ap slots_seen (sym (at-map owned k) ∙ ap (λ (os : List (Option OwnedView)). slice_index_or os k None) (sym same))
+
+  here : (k : ℕ) → (stores_in (slice_index_or v.clients k None) ≡ stores_of (place d.clients k)) × AreKept (numbers_of (slice_index_or v.clients k None)) (slots_seen (slice_index_or v.owned k None)) (owned_of (place d.clients k)).surfaces
+  here k = place-lent (slice_index_or v.clients k None) (slice_index_or v.owned k None) (place d.clients k) (a.clients k)
+
+  stores-lent : (c : ℕ) → stores_in (client_lent v.clients c) ≡ stores_of (client_at c d)
+  stores-lent zero = refl
+  stores-lent (suc k) = (here k).0
+
+  surfaces-lent : (c : ℕ) → AreKept (numbers_in v.clients c) (slots_lent owned c) (owned_in d c).surfaces
+  surfaces-lent zero = nothing-kept
+  surfaces-lent (suc k) = subst (λ (slots : Slots). AreKept (numbers_of (slice_index_or v.clients k None)) slots (owned_of (place d.clients k)).surfaces) (sym (slots-here k)) (here k).1
+
+  pub agrees-lent : AreLent (client_lent v.clients) (slots_lent owned) (numbers_in v.clients) v.scene.standing d
+  agrees-lent = record {
+    stores = stores-lent;
+    surfaces = surfaces-lent;
+    toplevels = a.scene.standing;
+    shown = all-show d a.mapped;
+  }
