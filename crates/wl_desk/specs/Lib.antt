@@ -1,8 +1,10 @@
 pub mod Agreement
 pub mod Ask
 pub mod Desktop
+pub mod Feeding
 pub mod Laws
 pub mod Lent
+pub mod Marking
 pub mod Marks
 pub mod Messages
 pub mod Moments

@@ -3,7 +3,7 @@ use Rattle.std.specs.Prelude.{ℕ, ◌≡◌, [], Bool, false, is_some, Option, 
 use Rattle.wl_proto.specs.declared.interface.Interface.TheVariants.{WlSurface}
 use Rattle.wl_client.specs.Agreement.{IsPeer}
 use Rattle.wl_client.specs.Objects.{ById}
-use Rattle.wl_client.specs.Peer.{LacksMemory, Peer}
+use Rattle.wl_client.specs.Peer.{LacksMemory, Peer, ended}
 use Rattle.wl_client.specs.View.{ClientView}
 use Rattle.wl_client.specs.declared.clients.Cause.{Cause}
 use Rattle.wl_surface.specs.Kept.{StandForAll, nobody}
@@ -38,6 +38,11 @@ abbrev pub IsChangedSo : {A : Type 0} → ℕ → (Peer → Done → Option Peer
 IsChangedSo c R done old new was is =
     (others : ℕ → ById ℕ) (base d : Desktop) (r : Resident) → IsSeated c others base old was d r
     → (q : Peer) × (s : Resident) × R r.peer done (Some q) × IsSeated c others base new is (become c r q d) s
+
+-- a client that is ended by this, where it lives
+abbrev pub ended_by : Option Cause → Cause → Peer → Peer
+ended_by None cause p = ended cause p
+ended_by (Some was) cause p = p
 
 -- there is a client, and it ended
 abbrev pub has_ended_in : Option ClientView → Bool

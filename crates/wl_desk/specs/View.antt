@@ -2,6 +2,7 @@
 use Rattle.std.specs.Prelude.{List, Option}
 use Rattle.wl_client.specs.View.{ClientView}
 use Rattle.wl_client.specs.declared.outputs.Output.{Output}
+use Rattle.wl_paint.specs.Damage.{Damaged}
 use Rattle.wl_surface.specs.Kept.{Slots}
 use Rattle.wl_shell.specs.Kept.{Book}
 use Rattle.wl_scene.specs.Stacking.{Stack}
@@ -21,3 +22,8 @@ pub record DeskView : Type 0 where
   pub clients : List (Option ClientView)
   pub owned : List (Option OwnedView)
   pub scene : Stack
+
+-- what a desk keeps, and what is to be painted again of the output
+pub record MarkedDesk : Type 0 where
+  pub desk : DeskView
+  pub damage : Damaged

@@ -1,52 +1,90 @@
 //! The desk: all clients, by number, and their toplevels.
 
-ghost use Rattle.std.specs.Prelude.{◌≡◌, ℕ, ◌+◌, ◌<◌, ◌≤◌, List, Option, length, IfOk, IfSome, IfNone, ◌⊎◌, false, Result, Ok, Err, None, Some};
+ghost use Rattle.std.specs.Prelude.{◌≡◌, ◌≢◌, ◌↔◌, ◌&&◌, ℕ, ◌+◌, ◌<◌, ◌≤◌, List, Option, length, pos, IfOk, IfSome, IfNone, IsErrOf, OnOk, OnErr, ◌⊎◌, false, true, Result, Ok, Err, None, Some};
 ghost use Rattle.std.specs.Option.{option_copied};
 ghost use Rattle.wl_client.specs.Agreement.{IsPeer, output_of};
 ghost use Rattle.wl_client.specs.Peer.{Peer};
+ghost use Rattle.wl_paint.specs.Damage.{has};
+ghost use Rattle.wl_paint.specs.Frame.{color_at, is_side};
 ghost use Rattle.wl_desk.specs.Desktop.{Desktop, empty};
 ghost use Rattle.wl_desk.specs.Steps.{Connect, Feed, Store, Leave, Send, Close, lowest, peer_at, unsent_of, status_of, store_size_of};
 ghost use Rattle.wl_desk.specs.Agreement.{Agrees, IsSlot, TakesStep};
+ghost use Rattle.wl_desk.specs.Feeding.{IsIdleIn, MarksStep, ended_at, kept_at, kept_in, rest_in, served_as, served_of};
+ghost use Rattle.wl_desk.specs.Marking.{Marks};
+ghost use Rattle.wl_desk.specs.Painting.{IsOpaqueAsSaid};
+ghost use Rattle.wl_desk.specs.Scratch.{scratch};
 ghost use Rattle.wl_desk.specs.Seats.{has_ended_in};
+ghost use Rattle.wl_desk.specs.Served.{beyond_toplevels};
+ghost use Rattle.wl_desk.specs.Step.{Serves};
 
 use crate::answers::{ClientNo, ConnectError, Done, Fed, Stored};
-use crate::feeding::bare;
+use crate::feeding::{bare, stands_any};
+use crate::marking::mark_everywhere;
 use crate::residents::Resident;
+use crate::windows::Lent;
 use std::alloc::{AllocError, Allocator};
 use std::marker::Model;
-use wl_client::{Client, Output, StoreNo};
+use wl_client::{Cause, Client, Output, Served, StoreNo};
+use wl_geom::Region;
+use wl_paint::{Damage, FrameError, Framebuffer, MAX_SIDE};
 use wl_scene::{Owned, Scene};
 
 /// How many clients there may be at once.
 const CLIENT_LIMIT: usize = 32;
 
-/// All clients, what each owns, and the mapped toplevels. It is seen as the output, what is kept of each client and of what it owns, by number
-/// from 1, and the stack of toplevels.
+/// All clients, what each owns, the mapped toplevels, and which points of the output are to be painted again. It is seen as the output, what is
+/// kept of each client and of what it owns, by number from 1, and the stack of toplevels; and that damage.
 #[derive(Drop)]
 pub struct Desk<A: Allocator> {
     output: Output,
     clients: Vec<Option<Client<A>>, A>,
     owned: Vec<Option<Owned<A>>, A>,
     scene: Scene<A>,
+    damage: Damage<A>,
+    nowhere: Region<A>,
 }
 
 impl<A: Allocator> Model for Desk<A> {
     ghost use Rattle.std.specs.Option.{option_map};
     ghost use Rattle.std.specs.Prelude.{◌≡◌, length, map};
-    ghost use Rattle.wl_desk.specs.View.{DeskView, owned_view};
+    ghost use Rattle.wl_desk.specs.View.{MarkedDesk, owned_view};
 
-    ghost Value = { DeskView };
+    ghost Value = { MarkedDesk };
 
-    ghost view = { λ d. record { output = d.output; clients = d.clients.items; owned = map (option_map owned_view) d.owned.items; scene = d.scene } };
+    ghost view = { λ d. record {
+        desk = record { output = d.output; clients = d.clients.items; owned = map (option_map owned_view) d.owned.items; scene = d.scene };
+        damage = d.damage;
+    } };
 
-    ghost invariant = { λ d. (length d.clients.items ≡ 32) × (length d.owned.items ≡ 32) };
+    ghost invariant = { λ d. ((length d.clients.items ≡ 32) × (length d.owned.items ≡ 32)) × ((d.damage.width ≡ d.output.width) × (d.damage.height ≡ d.output.height)) };
 }
 
 impl<A: Allocator + Copy> Desk<A> {
-    /// A desk without clients, with this output.
-    pub fn new(alloc: A, output: Output) -> Result<Self, AllocError>
-        ensures { IfOk result (λ desk. Agrees desk (empty (output_of output))) }
+    /// A desk without clients, with this output: its sides are 1 to 4,096 pixels. Nothing is to be painted.
+    pub fn new(alloc: A, output: Output) -> Result<Self, FrameError>
+        ensures desk { IfOk result (λ v. Agrees v.desk (empty (output_of output))) }
+        ensures output { IfOk result (λ v. v.desk.output ≡ output) }
+        ensures damage { IfOk result (λ v. (x y : ℕ) → has v.damage x y ≡ false) }
+        ensures bad { IsErrOf result FrameError.BadSize ↔ ((is_side output.width && is_side output.height) ≡ false) }
     {
+        if !is_side(output.width) || !is_side(output.height) {
+            return Err(FrameError::BadSize);
+        }
+        match Self::of_side(alloc, output) {
+            Ok(desk) => Ok(desk),
+            Err(AllocError) => Err(FrameError::Memory),
+        }
+    }
+
+    /// The same, where the sides are such.
+    fn of_side(alloc: A, output: Output) -> Result<Self, AllocError>
+        requires wide { output.width ≤ 4096 }
+        requires high { output.height ≤ 4096 }
+        ensures desk { IfOk result (λ v. Agrees v.desk (empty (output_of output))) }
+        ensures output { IfOk result (λ v. v.desk.output ≡ output) }
+        ensures damage { IfOk result (λ v. (x y : ℕ) → has v.damage x y ≡ false) }
+    {
+        let damage = Damage::new(alloc, output.width, output.height)?;
         let mut clients = Vec::with_capacity(alloc, CLIENT_LIMIT)?;
         let mut owned = Vec::with_capacity(alloc, CLIENT_LIMIT)?;
         for _ in 0..CLIENT_LIMIT {
@@ -58,12 +96,16 @@ impl<A: Allocator + Copy> Desk<A> {
             clients,
             owned,
             scene: Scene::new(alloc),
+            damage,
+            nowhere: Region::new(alloc),
         })
     }
 
     /// A client connects. It gets the lowest free number.
     pub fn connect(&mut self) -> Result<ClientNo, ConnectError>
-        ensures { TakesStep Connect (Done.Connect result) self.old self.new }
+        ensures step { TakesStep Connect (Done.Connect result) self.old.desk self.new.desk }
+        ensures marks { MarksStep Connect (Done.Connect result) self.old self.new }
+        ensures output { self.new.desk.output ≡ self.old.desk.output }
     {
         let Some(k) = free_place(&self.clients) else {
             return Err(ConnectError::Full);
@@ -77,27 +119,68 @@ impl<A: Allocator + Copy> Desk<A> {
         Ok(k as u32 + 1)
     }
 
-    /// A piece of a client's stream comes.
-    pub fn feed(&mut self, client: ClientNo, piece: &[u8]) -> Fed
-        ensures { TakesStep (Feed client piece.now) (Done.Feed result) self.old self.new }
+    /// A piece of a client's stream comes. It is kept behind what came before, and no message is taken. Nothing is kept for a client that
+    /// ended. An `Err` changes nothing.
+    pub fn keep(&mut self, client: ClientNo, piece: &[u8]) -> Result<(), AllocError>
+        ensures ok { OnOk result ((d : Desktop) → Agrees self.old.desk d → Agrees self.new.desk (kept_at client piece.now d)) }
+        ensures err { OnErr result ((d : Desktop) → Agrees self.old.desk d → Agrees self.new.desk d) }
+        ensures damage { self.new.damage ≡ self.old.damage }
+        ensures output { self.new.desk.output ≡ self.old.desk.output }
     {
         let Some(k) = place_of(&self.clients, client) else {
-            return Fed::NoClient;
+            return Ok(());
+        };
+        keep_in(&mut self.clients[k], piece)
+    }
+
+    /// Takes the first whole message of what came from a client that lives. `More` where there is none; then nothing is changed.
+    pub fn serve(&mut self, client: ClientNo) -> Served
+        ensures serves { result ≢ Served.More → (d : Desktop) → Agrees self.old.desk d → (e : Desktop) × Serves beyond_toplevels client d e × Agrees self.new.desk e }
+        ensures told { result ≢ Served.More → (d : Desktop) → Agrees self.new.desk d → result ≡ served_of (status_of (peer_at client d)) }
+        ensures marks { result ≢ Served.More → (d e : Desktop) → Agrees self.old.desk d → Serves beyond_toplevels client d e → Agrees self.new.desk e
+            → Marks d e self.old.damage self.new.damage }
+        ensures more { result ≡ Served.More → (d : Desktop) → Agrees self.old.desk d → Agrees self.new.desk d × IsIdleIn client d }
+        ensures rests { result ≡ Served.More → self.new.damage ≡ self.old.damage }
+        ensures less { result ≢ Served.More → length (rest_in client self.new.desk) < length (rest_in client self.old.desk) }
+        ensures output { self.new.desk.output ≡ self.old.desk.output }
+    {
+        let Some(k) = place_of(&self.clients, client) else {
+            return Served::More;
         };
         let alloc = *self.clients.allocator();
         let Some(mut resident) = take_out(&mut self.clients[k], &mut self.owned[k]) else {
-            return Fed::NoClient;
+            return Served::More;
         };
-        resident.feed(&mut self.scene, client, piece, alloc);
-        let fed = Fed::of(resident.client.ended());
+        let taken = resident.serve_on(&mut self.scene, &mut self.damage, client, alloc);
+        let served = served_of(taken, resident.client.ended());
         self.clients[k] = Some(resident.client);
         self.owned[k] = Some(resident.owned);
-        fed
+        served
+    }
+
+    /// A client ends by this, where it lives. It is told nothing.
+    pub fn end(&mut self, client: ClientNo, cause: Cause)
+        ensures ends { (d : Desktop) → Agrees self.old.desk d → Agrees self.new.desk (ended_at client cause d) }
+        ensures marks { (d : Desktop) → Agrees self.old.desk d → Marks d (ended_at client cause d) self.old.damage self.new.damage }
+        ensures output { self.new.desk.output ≡ self.old.desk.output }
+    {
+        let Some(k) = place_of(&self.clients, client) else {
+            return;
+        };
+        let alloc = *self.clients.allocator();
+        let Some(mut resident) = take_out(&mut self.clients[k], &mut self.owned[k]) else {
+            return;
+        };
+        resident.end(&mut self.scene, &mut self.damage, client, cause, alloc);
+        self.clients[k] = Some(resident.client);
+        self.owned[k] = Some(resident.owned);
     }
 
     /// Puts bytes into a client's store.
     pub fn store(&mut self, client: ClientNo, store: StoreNo, at: u32, bytes: &[u8]) -> Stored
-        ensures { TakesStep (Store client store at bytes.now) (Done.Store result) self.old self.new }
+        ensures step { TakesStep (Store client store at bytes.now) (Done.Store result) self.old.desk self.new.desk }
+        ensures marks { MarksStep (Store client store at bytes.now) (Done.Store result) self.old self.new }
+        ensures output { self.new.desk.output ≡ self.old.desk.output }
     {
         let Some(k) = place_of(&self.clients, client) else {
             return Stored::NoClient;
@@ -106,7 +189,7 @@ impl<A: Allocator + Copy> Desk<A> {
         let Some(mut resident) = take_out(&mut self.clients[k], &mut self.owned[k]) else {
             return Stored::NoClient;
         };
-        let stored = resident.store(&mut self.scene, client, store, at, bytes, alloc);
+        let stored = resident.store(&mut self.scene, &mut self.damage, client, store, at, bytes, alloc);
         self.clients[k] = Some(resident.client);
         self.owned[k] = Some(resident.owned);
         stored
@@ -114,7 +197,7 @@ impl<A: Allocator + Copy> Desk<A> {
 
     /// How many bytes a client's store has.
     pub fn store_size(&self, client: ClientNo, store: StoreNo) -> Option<u32>
-        ensures { (d : Desktop) → Agrees self.now d → result ≡ store_size_of store (peer_at client d) }
+        ensures { (d : Desktop) → Agrees self.now.desk d → result ≡ store_size_of store (peer_at client d) }
     {
         let Some(k) = place_of(&self.clients, client) else {
             return None;
@@ -125,7 +208,9 @@ impl<A: Allocator + Copy> Desk<A> {
 
     /// A client goes. True where it was alive.
     pub fn gone(&mut self, client: ClientNo) -> bool
-        ensures { TakesStep (Leave client) (Done.Gone result) self.old self.new }
+        ensures step { TakesStep (Leave client) (Done.Gone result) self.old.desk self.new.desk }
+        ensures marks { MarksStep (Leave client) (Done.Gone result) self.old self.new }
+        ensures output { self.new.desk.output ≡ self.old.desk.output }
     {
         let Some(k) = place_of(&self.clients, client) else {
             return false;
@@ -134,7 +219,7 @@ impl<A: Allocator + Copy> Desk<A> {
         let Some(mut resident) = take_out(&mut self.clients[k], &mut self.owned[k]) else {
             return false;
         };
-        let lived = resident.gone(&mut self.scene, client, alloc);
+        let lived = resident.gone(&mut self.scene, &mut self.damage, client, alloc);
         self.clients[k] = Some(resident.client);
         self.owned[k] = Some(resident.owned);
         lived
@@ -142,7 +227,9 @@ impl<A: Allocator + Copy> Desk<A> {
 
     /// So many of a client's unsent bytes were sent. False and unchanged where there are fewer.
     pub fn sent(&mut self, client: ClientNo, count: usize) -> bool
-        ensures { TakesStep (Send client count) (Done.Sent result) self.old self.new }
+        ensures step { TakesStep (Send client count) (Done.Sent result) self.old.desk self.new.desk }
+        ensures marks { MarksStep (Send client count) (Done.Sent result) self.old self.new }
+        ensures output { self.new.desk.output ≡ self.old.desk.output }
     {
         let Some(k) = place_of(&self.clients, client) else {
             return false;
@@ -151,7 +238,7 @@ impl<A: Allocator + Copy> Desk<A> {
         let Some(mut resident) = take_out(&mut self.clients[k], &mut self.owned[k]) else {
             return false;
         };
-        let sent = resident.sent(&mut self.scene, client, count, alloc);
+        let sent = resident.sent(&mut self.scene, &mut self.damage, client, count, alloc);
         self.clients[k] = Some(resident.client);
         self.owned[k] = Some(resident.owned);
         sent
@@ -159,13 +246,18 @@ impl<A: Allocator + Copy> Desk<A> {
 
     /// Frees the number of a client that ended. True where it had.
     pub fn close(&mut self, client: ClientNo) -> bool
-        ensures { TakesStep (Close client) (Done.Close result) self.old self.new }
+        ensures step { TakesStep (Close client) (Done.Close result) self.old.desk self.new.desk }
+        ensures marks { MarksStep (Close client) (Done.Close result) self.old self.new }
+        ensures output { self.new.desk.output ≡ self.old.desk.output }
     {
         let Some(k) = place_of(&self.clients, client) else {
             return false;
         };
         if !has_ended(&self.clients[k]) {
             return false;
+        }
+        if stands_any(&self.scene, client) {
+            mark_everywhere(&mut self.damage);
         }
         self.clients[k] = None;
         self.owned[k] = None;
@@ -175,7 +267,7 @@ impl<A: Allocator + Copy> Desk<A> {
 
     /// The unsent bytes of a client.
     pub fn out(&self, client: ClientNo) -> Option<&[u8]>
-        ensures { (d : Desktop) → Agrees self.now d → option_copied result ≡ unsent_of (peer_at client d) }
+        ensures { (d : Desktop) → Agrees self.now.desk d → option_copied result ≡ unsent_of (peer_at client d) }
     {
         let Some(k) = place_of(&self.clients, client) else {
             return None;
@@ -186,13 +278,98 @@ impl<A: Allocator + Copy> Desk<A> {
 
     /// How a client is.
     pub fn status(&self, client: ClientNo) -> Fed
-        ensures { (d : Desktop) → Agrees self.now d → result ≡ status_of (peer_at client d) }
+        ensures { (d : Desktop) → Agrees self.now.desk d → result ≡ status_of (peer_at client d) }
     {
         let Some(k) = place_of(&self.clients, client) else {
             return Fed::NoClient;
         };
         let slot = &self.clients[k];
         status_in(slot)
+    }
+
+    /// Which points of the output are to be painted again.
+    pub fn damage(&self) -> &Damage<A>
+        ensures { result.now ≡ self.now.damage }
+    {
+        &self.damage
+    }
+
+    /// Hands over which points of the output are to be painted again, and begins with none. What is handed in has the output's sides.
+    pub fn take_damage(&mut self, painted: &mut Damage<A>)
+        requires wide { painted.old.width ≡ self.old.desk.output.width }
+        requires high { painted.old.height ≡ self.old.desk.output.height }
+        ensures taken { painted.new ≡ self.old.damage }
+        ensures none { (x y : ℕ) → has self.new.damage x y ≡ false }
+        ensures desk { self.new.desk ≡ self.old.desk }
+    {
+        painted.clear();
+        std::mem::swap(painted, &mut self.damage);
+    }
+
+    /// Paints what is to be painted again: each of those points from nothing, the background and over it the windows from bottom to top. The
+    /// other points stay. It takes no memory.
+    ///
+    /// The image has the output's sides. Where a window isn't opaque at a point that its opaque region holds, it is free what such a point gets
+    /// (wayland.xml, wl_surface.set_opaque_region).
+    pub fn paint(&self, framebuffer: &mut Framebuffer<A>)
+        requires wide { framebuffer.old.width ≡ self.now.desk.output.width }
+        requires high { framebuffer.old.height ≡ self.now.desk.output.height }
+        ensures painted { (d : Desktop) → Agrees self.now.desk d → (x y : ℕ) → x < framebuffer.old.width → y < framebuffer.old.height → has self.now.damage x y ≡ true
+            → IsOpaqueAsSaid d (pos x) (pos y) → color_at framebuffer.new x y ≡ scratch framebuffer.old.background d (pos x) (pos y) }
+        ensures kept { (x y : ℕ) → x < framebuffer.old.width → y < framebuffer.old.height → has self.now.damage x y ≡ false
+            → color_at framebuffer.new x y ≡ color_at framebuffer.old x y }
+        ensures width { framebuffer.new.width ≡ framebuffer.old.width }
+        ensures height { framebuffer.new.height ≡ framebuffer.old.height }
+        ensures background { framebuffer.new.background ≡ framebuffer.old.background }
+    {
+        let lent = Lent {
+            scene: &self.scene,
+            clients: &self.clients,
+            owned: &self.owned,
+            nowhere: &self.nowhere,
+        };
+        framebuffer.paint(&self.damage, &lent);
+    }
+}
+
+/// Whether an output may have this side.
+fn is_side(side: u32) -> bool
+    ensures { result ≡ is_side side }
+{
+    1 <= side && side <= MAX_SIDE
+}
+
+/// A piece is kept of a client that is there and lives.
+fn keep_in<A: Allocator + Copy>(
+    slot: &mut Option<Client<A>>,
+    piece: &[u8],
+) -> Result<(), AllocError>
+    ensures ok { OnOk result (slot.new ≡ kept_in piece.now slot.old) }
+    ensures err { OnErr result (slot.new ≡ slot.old) }
+{
+    match slot {
+        None => Ok(()),
+        Some(client) => {
+            if client.has_ended() {
+                return Ok(());
+            }
+            client.keep(piece)
+        }
+    }
+}
+
+/// What became of a client's first message, if there was one, by how the client ended, if it did. That it lacked memory it is told as an error
+/// of wl_display; one that was too slow is told nothing.
+fn served_of(taken: bool, ended: Option<Cause>) -> Served
+    ensures { result ≡ served_as taken ended }
+{
+    if !taken {
+        return Served::More;
+    }
+    match ended {
+        Some(Cause::Protocol { object, code }) => Served::Refused { object, code },
+        Some(Cause::Memory) => Served::Refused { object: 1, code: 2 },
+        Some(Cause::Slow) | Some(Cause::Gone) | None => Served::Done,
     }
 }
 

@@ -1,23 +1,30 @@
 //! One client is served, and its toplevels come to the stack and go.
 
-ghost use Rattle.std.specs.Prelude.{ℕ, ◌≡◌, ◌<◌, ◌≤◌, length, true, false};
+ghost use Rattle.std.specs.Prelude.{ℕ, ◌≡◌, ◌<◌, ◌≤◌, ◌||◌, None, Some, length, pos, true, false};
+ghost use Rattle.wl_proto.specs.declared.interface.Interface.TheVariants.{WlSurface};
+ghost use Rattle.wl_paint.specs.Damage.{has};
+ghost use Rattle.wl_desk.specs.Marking.{IsAsLarge, Marks, MarksEnd, stands_any};
+ghost use Rattle.wl_desk.specs.Owning.{targets_in};
+ghost use Rattle.wl_desk.specs.Touching.{is_window_at};
 ghost use Rattle.wl_client.specs.Objects.{ById};
 ghost use Rattle.wl_store.specs.Stores.{write_refusal};
 ghost use Rattle.wl_client.specs.Agreement.{IsPeer};
 ghost use Rattle.wl_client.specs.Peer.{IsIdleAt, Peer, stored_at};
-ghost use Rattle.wl_desk.specs.Desktop.{Desktop, Resident as Plain};
-ghost use Rattle.wl_desk.specs.Seats.{IsBare, IsChangedSo, IsClearedBy, IsRestacked, IsSeated, IsSettledBy};
+ghost use Rattle.wl_desk.specs.Desktop.{Desktop, Resident as Plain, become};
+ghost use Rattle.wl_desk.specs.Seats.{IsBare, IsChangedSo, IsClearedBy, IsRestacked, IsSeated, IsSettledBy, ended_by};
 ghost use Rattle.wl_desk.specs.Served.{beyond_toplevels};
-ghost use Rattle.wl_desk.specs.Step.{Feeds, Serves};
+ghost use Rattle.wl_desk.specs.Step.{Serves};
 ghost use Rattle.wl_desk.specs.Steps.{IsLeft, IsSent, IsStored, stored_of};
 
 use crate::answers::{ClientNo, Done, Stored};
+use crate::marking::{mark_everywhere, touched_by};
 use crate::residents::{Resident, Stacking};
 use std::alloc::Allocator;
 use wl_client::{Cause, Client, StoreNo};
+use wl_paint::Damage;
 use wl_scene::{Owned, Scene, Surface};
 use wl_shell::Shell;
-use wl_surface::Surfaces;
+use wl_surface::{SurfaceNo, Surfaces};
 
 /// Nothing is owned.
 pub(crate) fn bare<A: Allocator + Copy>(alloc: A) -> Owned<A>
@@ -45,83 +52,150 @@ impl<A: Allocator + Copy> Resident<A> {
         }
     }
 
-    /// Where the client ended, nothing is left of what it owned.
-    pub(crate) fn clear(&mut self, scene: &mut Scene<A>, client: ClientNo, alloc: A)
-        ensures { IsClearedBy self.old.client.ended client self.old self.new scene.old scene.new }
+    /// Where the client ended, nothing is left of what it owned. If a toplevel of its stood, everything is marked.
+    pub(crate) fn clear(
+        &mut self,
+        scene: &mut Scene<A>,
+        damage: &mut Damage<A>,
+        client: ClientNo,
+        alloc: A,
+    )
+        ensures clears { IsClearedBy self.old.client.ended client self.old self.new scene.old scene.new }
+        ensures marks { MarksEnd self.old.client.ended client scene.old damage.old damage.new }
     {
         if self.client.has_ended() {
+            if stands_any(scene, client) {
+                mark_everywhere(damage);
+            }
             self.owned = bare(alloc);
             scene.unmap_all(client);
         }
     }
 
     /// What a message that was taken does to the stack of toplevels.
-    fn settle(&mut self, scene: &mut Scene<A>, client: ClientNo, stacking: Stacking, alloc: A)
+    fn settle(
+        &mut self,
+        scene: &mut Scene<A>,
+        damage: &mut Damage<A>,
+        client: ClientNo,
+        stacking: Stacking,
+        alloc: A,
+    )
         ensures settles { IsSettledBy self.old.client.ended client stacking self.old self.new scene.old scene.new }
+        ensures marks { MarksEnd self.new.client.ended client scene.old damage.old damage.new }
         ensures less { length self.new.client.rest ≤ length self.old.client.rest }
     {
         if !self.client.has_ended() {
             self.restack(scene, client, stacking);
         }
-        self.clear(scene, client, alloc);
+        self.clear(scene, damage, client, alloc);
     }
 
-    /// Takes the first whole message of a client that lives, and answers whether there was one.
-    fn serve_on(&mut self, scene: &mut Scene<A>, client: ClientNo, alloc: A) -> bool
+    /// The window of a surface that a message touches is marked, if it has one.
+    fn mark_touched(
+        &self,
+        scene: &Scene<A>,
+        damage: &mut Damage<A>,
+        client: ClientNo,
+        touched: Option<SurfaceNo>,
+    )
+        ensures marks { (others : ℕ → ById ℕ) (base d : Desktop) (r : Plain) → IsSeated client others base self.now scene.now d r
+            → (id number : ℕ) → touched ≡ Some number → targets_in WlSurface self.now.client.objects id ≡ Some number
+            → (x y : ℕ) → x < damage.old.width → y < damage.old.height
+            → has damage.new x y ≡ (has damage.old x y || is_window_at client id (pos x) (pos y) d) }
+        ensures more { (x y : ℕ) → x < damage.old.width → y < damage.old.height → has damage.old x y ≡ true → has damage.new x y ≡ true }
+        ensures nothing { touched ≡ None → damage.new ≡ damage.old }
+        ensures sides { IsAsLarge damage.old damage.new }
+    {
+        match touched {
+            Some(surface) => self.mark(scene, damage, client, surface),
+            None => {}
+        }
+    }
+
+    /// Takes the first whole message of a client that lives, and answers whether there was one. What it changes of the windows is marked, as
+    /// they were before and as they are after.
+    pub(crate) fn serve_on(
+        &mut self,
+        scene: &mut Scene<A>,
+        damage: &mut Damage<A>,
+        client: ClientNo,
+        alloc: A,
+    ) -> bool
         ensures serves { result ≡ true → (others : ℕ → ById ℕ) (base d : Desktop) (r : Plain) → IsSeated client others base self.old scene.old d r
             → (e : Desktop) × (q : Plain) × Serves beyond_toplevels client d e × IsSeated client others base self.new scene.new e q }
-        ensures idle { result ≡ false → (self.new ≡ self.old) × (scene.new ≡ scene.old) × IsIdleAt self.old.client.ended self.old.client.rest }
+        ensures marks { result ≡ true → (others : ℕ → ById ℕ) (base d : Desktop) (r : Plain) → IsSeated client others base self.old scene.old d r
+            → (e : Desktop) (q : Plain) → Serves beyond_toplevels client d e → IsSeated client others base self.new scene.new e q
+            → Marks d e damage.old damage.new }
+        ensures idle { result ≡ false → (self.new ≡ self.old) × (scene.new ≡ scene.old) × (damage.new ≡ damage.old) × IsIdleAt self.old.client.ended self.old.client.rest }
+        ensures sides { IsAsLarge damage.old damage.new }
         ensures less { result ≡ true → length self.new.client.rest < length self.old.client.rest }
     {
-        let Some(stacking) = self.serve() else {
+        if self.client.has_ended() {
+            return false;
+        }
+        let asked = self.asked();
+        let touched = touched_by(&asked);
+        self.mark_touched(scene, damage, client, touched);
+        let Some(stacking) = self.serve(asked) else {
             return false;
         };
-        self.settle(scene, client, stacking, alloc);
+        self.settle(scene, damage, client, stacking, alloc);
+        self.mark_touched(scene, damage, client, touched);
         true
     }
 
-    /// A piece comes. Each whole message in it is taken, until one ends the client.
-    pub(crate) fn feed(&mut self, scene: &mut Scene<A>, client: ClientNo, piece: &[u8], alloc: A)
-        ensures { (others : ℕ → ById ℕ) (base d : Desktop) (r : Plain) → IsSeated client others base self.old scene.old d r
-            → (e : Desktop) × (q : Plain) × Feeds beyond_toplevels client piece.now r d e × IsSeated client others base self.new scene.new e q }
+    /// The client ends by this, where it lives.
+    pub(crate) fn end(
+        &mut self,
+        scene: &mut Scene<A>,
+        damage: &mut Damage<A>,
+        client: ClientNo,
+        cause: Cause,
+        alloc: A,
+    )
+        ensures ends { (others : ℕ → ById ℕ) (base d : Desktop) (r : Plain) → IsSeated client others base self.old scene.old d r
+            → (q : Plain) × IsSeated client others base self.new scene.new (become client r (ended_by r.peer.status cause r.peer) d) q }
+        ensures marks { MarksEnd self.new.client.ended client scene.old damage.old damage.new }
     {
-        if self.client.has_ended() {
-            return;
+        if !self.client.has_ended() {
+            self.client.end(cause);
         }
-        match self.client.keep(piece) {
-            Ok(()) => {}
-            Err(_) => {
-                self.client.end(Cause::Memory);
-                self.clear(scene, client, alloc);
-                return;
-            }
-        }
-        while self.serve_on(scene, client, alloc) {}
+        self.clear(scene, damage, client, alloc);
     }
 
     /// Bytes are put into a store of a client that lives.
     pub(crate) fn store(
         &mut self,
         scene: &mut Scene<A>,
+        damage: &mut Damage<A>,
         client: ClientNo,
         store: StoreNo,
         at: u32,
         bytes: &[u8],
         alloc: A,
     ) -> Stored
-        ensures { IsChangedSo client (IsStored store at bytes.now) (Done.Store result) self.old self.new scene.old scene.new }
+        ensures changes { IsChangedSo client (IsStored store at bytes.now) (Done.Store result) self.old self.new scene.old scene.new }
+        ensures marks { MarksEnd self.new.client.ended client scene.old damage.old damage.new }
     {
         let stored = store_of(&mut self.client, store, at, bytes);
-        self.clear(scene, client, alloc);
+        self.clear(scene, damage, client, alloc);
         stored
     }
 
     /// The client goes. True where it was alive.
-    pub(crate) fn gone(&mut self, scene: &mut Scene<A>, client: ClientNo, alloc: A) -> bool
-        ensures { IsChangedSo client IsLeft (Done.Gone result) self.old self.new scene.old scene.new }
+    pub(crate) fn gone(
+        &mut self,
+        scene: &mut Scene<A>,
+        damage: &mut Damage<A>,
+        client: ClientNo,
+        alloc: A,
+    ) -> bool
+        ensures changes { IsChangedSo client IsLeft (Done.Gone result) self.old self.new scene.old scene.new }
+        ensures marks { MarksEnd self.new.client.ended client scene.old damage.old damage.new }
     {
         let lived = self.client.gone();
-        self.clear(scene, client, alloc);
+        self.clear(scene, damage, client, alloc);
         lived
     }
 
@@ -129,16 +203,28 @@ impl<A: Allocator + Copy> Resident<A> {
     pub(crate) fn sent(
         &mut self,
         scene: &mut Scene<A>,
+        damage: &mut Damage<A>,
         client: ClientNo,
         count: usize,
         alloc: A,
     ) -> bool
-        ensures { IsChangedSo client (IsSent count) (Done.Sent result) self.old self.new scene.old scene.new }
+        ensures changes { IsChangedSo client (IsSent count) (Done.Sent result) self.old self.new scene.old scene.new }
+        ensures marks { MarksEnd self.new.client.ended client scene.old damage.old damage.new }
     {
         let sent = self.client.sent(count);
-        self.clear(scene, client, alloc);
+        self.clear(scene, damage, client, alloc);
         sent
     }
+}
+
+/// Whether a toplevel of the client stands.
+pub(crate) fn stands_any<A: Allocator>(scene: &Scene<A>, client: ClientNo) -> bool
+    ensures { result ≡ stands_any client scene.now }
+{
+    scene
+        .toplevels()
+        .iter()
+        .any(|toplevel| toplevel.surface.client == client)
 }
 
 /// Puts bytes into a store of a client that lives.

@@ -5,6 +5,7 @@
 mod answers;
 mod desks;
 mod feeding;
+mod marking;
 mod messages;
 mod residents;
 mod surface_requests;

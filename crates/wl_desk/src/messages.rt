@@ -81,7 +81,7 @@ fn kind_of(request: &Request) -> Option<Kind>
 
 impl<A: Allocator + Copy> Resident<A> {
     /// What the first message of what came asks. It isn't taken.
-    fn asked(&self) -> Asked
+    pub(crate) fn asked(&self) -> Asked
         ensures { IsAsked self.now.client result }
     {
         match self.client.first() {
@@ -140,9 +140,10 @@ impl<A: Allocator + Copy> Resident<A> {
         }
     }
 
-    /// Takes the first whole message of a client that lives, and answers what that does to the stack of toplevels. None where there is no
-    /// whole message; then nothing is changed.
-    pub(crate) fn serve(&mut self) -> Option<Stacking>
+    /// Takes the first whole message of a client that lives, which asks this, and answers what that does to the stack of toplevels. None where
+    /// there is no whole message; then nothing is changed.
+    pub(crate) fn serve(&mut self, asked: Asked) -> Option<Stacking>
+        requires { IsAsked self.old.client asked }
         ensures lives { IfSome result (λ s. self.old.client.ended ≡ None) }
         ensures takes { IfSome result (λ s. (r : Plain) → IsResident self.old r → TakesSo (split_of r.peer.rest) r self.old self.new s) }
         ensures idle { IfNone result ((self.new ≡ self.old) × IsIdleAt self.old.client.ended self.old.client.rest) }
@@ -151,7 +152,7 @@ impl<A: Allocator + Copy> Resident<A> {
         if self.client.has_ended() {
             return None;
         }
-        match self.asked() {
+        match asked {
             Asked::More => None,
             Asked::Refused(refusal) => {
                 self.client.refuse(refusal);

@@ -90,7 +90,7 @@ fn or_transparent(picture: Option<Picture<'_>>) -> Picture<'_>
 }
 
 /// Where the corner of a toplevel's surface is that has moved so far.
-fn corner_of(toplevel: &Toplevel, by: Offset) -> (i32, i32)
+pub(crate) fn corner_of(toplevel: &Toplevel, by: Offset) -> (i32, i32)
     ensures x { result.0 ≡ within_bounds (toplevel.now.x +ℤ by.x) }
     ensures y { result.1 ≡ within_bounds (toplevel.now.y +ℤ by.y) }
 {

@@ -28,7 +28,7 @@ abbrev pub RunsAmply : Unserved → Image → Desktop → List Act → List Done
 RunsAmply unserved before old [] answers films after new = (answers ≡ []) × (films ≡ []) × (after ≡ before) × (new ≡ old)
 RunsAmply unserved before old (act ∷ acts) answers films after new =
     (mid : Desktop) × (done : Done) × (image : Image) × (first : List Film) × (later : List Film) × (dones : List Done)
-    × Steps unserved old act done mid × HadMemory old done mid × Shows act before first image × (films ≡ first ++ later)
+    × Steps unserved old act done mid × HadMemory old done mid × Shows act old before first image × (films ≡ first ++ later)
     × (answers ≡ done ∷ dones) × RunsAmply unserved image mid acts dones later after new
 
 -- Such a run is the only one: its answers, its frames and the desktop at its end are determined.

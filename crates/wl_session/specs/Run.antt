@@ -1,8 +1,10 @@
 -- Runs of a session: the frames of its ticks, and whole lists of steps.
 use Rattle.std.specs.List.{list_any}
-use Rattle.std.specs.Prelude.{ℕ, ◌≡◌, ◌+◌, List, [], ◌∷◌, ◌++◌, slice_get, Bool, true, false, ◌&&◌, ◌==◌, nat_le, nat_lt, IsTrue, IsSomeAnd}
+use Rattle.std.specs.Prelude.{ℕ, ◌≡◌, ◌+◌, ◌<◌, pos, List, [], ◌∷◌, ◌++◌, slice_get, Bool, true, false, ◌&&◌, ◌==◌, nat_le, nat_lt, IsTrue, IsSomeAnd}
 use Rattle.wl_paint.specs.Frame.{Image, color_at}
 use Rattle.wl_desk.specs.Desktop.{Desktop}
+use Rattle.wl_desk.specs.Painting.{IsOpaqueAsSaid}
+use Rattle.wl_desk.specs.Scratch.{scratch}
 use Rattle.wl_desk.specs.Served.{Unserved, beyond_toplevels}
 use Rattle.wl_desk.specs.Steps.{Act, Connect, Feed, Store, Leave, Tick, Send, Close, Steps}
 use Rattle.wl_session.specs.Step.{act_of}
@@ -15,12 +17,18 @@ use Rattle.wl_session.specs.declared.steps.RunError.TheVariants.{Memory}
 use Rattle.wl_session.specs.declared.shots.Run.{Run}
 use Rattle.wl_session.specs.declared.shots.Shot.{Shot}
 
--- A frame follows another: its pixels outside the damage are those of the frame before. No request that is served
--- yet changes what is seen, so nothing is damaged and the frame stays as it was.
-pub record IsNextFrame (before after : Image) (damaged : ℕ → ℕ → Bool) : Type 0 where
-  pub kept : (x y : ℕ) → damaged x y ≡ false → color_at after x y ≡ color_at before x y
-  pub nothing : (x y : ℕ) → damaged x y ≡ false
-  pub same : after ≡ before
+-- a frame is as large as another, with the same background
+pub record IsAsLarge (before after : Image) : Type 0 where
+  pub width : after.width ≡ before.width
+  pub height : after.height ≡ before.height
+  pub background : after.background ≡ before.background
+
+-- A frame of a desktop follows another: what is damaged is painted from nothing, where each window is opaque that is said to be, and the pixels
+-- outside the damage are those of the frame before.
+pub record IsNextFrame (d : Desktop) (before after : Image) (damaged : ℕ → ℕ → Bool) : Type 0 where
+  pub large : IsAsLarge before after
+  pub painted : (x y : ℕ) → x < before.width → y < before.height → damaged x y ≡ true → IsOpaqueAsSaid d (pos x) (pos y) → color_at after x y ≡ scratch before.background d (pos x) (pos y)
+  pub kept : (x y : ℕ) → x < before.width → y < before.height → damaged x y ≡ false → color_at after x y ≡ color_at before x y
 
 -- a frame as it is reported: when, which runs of pixels were painted, and the bytes of the whole image
 pub record Film : Type 0 where
@@ -36,27 +44,29 @@ abbrev pub in_runs : List Run → ℕ → ℕ → Bool
 in_runs runs x y = list_any (λ run. (run.y == y) && (nat_le run.x x && nat_lt x (run.x + run.w))) runs
 
 -- the frame of a tick at this time, and its report
-pub record IsFilm (time : ℕ) (before : Image) (film : Film) (after : Image) : Type 0 where
+pub record IsFilm (time : ℕ) (d : Desktop) (before : Image) (film : Film) (after : Image) : Type 0 where
   pub shown : film.time ≡ time
-  pub none : film.runs ≡ []
   pub pixels : film.pixels ≡ after.pixels
-  pub next : IsNextFrame before after (in_runs film.runs)
+  pub next : IsNextFrame d before after (in_runs film.runs)
 
--- a tick shows one frame, and another step none
-abbrev pub Shows : Act → Image → List Film → Image → Type 0
-Shows (Tick time) before films after = (film : Film) × (films ≡ film ∷ []) × IsFilm time before film after
-Shows Connect before films after = (films ≡ []) × (after ≡ before)
-Shows (Feed c piece) before films after = (films ≡ []) × (after ≡ before)
-Shows (Store c store at bytes) before films after = (films ≡ []) × (after ≡ before)
-Shows (Leave c) before films after = (films ≡ []) × (after ≡ before)
-Shows (Send c n) before films after = (films ≡ []) × (after ≡ before)
-Shows (Close c) before films after = (films ≡ []) × (after ≡ before)
+-- a tick of a desktop shows one frame, and another step none
+abbrev pub Shows : Act → Desktop → Image → List Film → Image → Type 0
+Shows (Tick time) d before films after = (film : Film) × (films ≡ film ∷ []) × IsFilm time d before film after
+Shows Connect d before films after = (films ≡ []) × (after ≡ before)
+Shows (Feed c piece) d before films after = (films ≡ []) × (after ≡ before)
+Shows (Store c store at bytes) d before films after = (films ≡ []) × (after ≡ before)
+Shows (Leave c) d before films after = (films ≡ []) × (after ≡ before)
+Shows (Send c n) d before films after = (films ≡ []) × (after ≡ before)
+Shows (Close c) d before films after = (films ≡ []) × (after ≡ before)
+
+-- what one step leaves of the last frame: a tick shows another
+abbrev pub IsShownBy : Act → Desktop → Image → Image → Type 0
+IsShownBy act d before after = (films : List Film) × Shows act d before films after
 
 -- one step leads a session from old to new, and shows these frames
 abbrev pub Leads : Act → List Film → SessionView → SessionView → Type 0
 Leads act films old new =
-    ((d : Desktop) → Agrees old.desk d → (e : Desktop) × (done : Done) × Steps beyond_toplevels d act done e × Agrees new.desk e)
-    × Shows act old.frame films new.frame
+    (d : Desktop) → Agrees old.desk d → (e : Desktop) × (done : Done) × Steps beyond_toplevels d act done e × Shows act d old.frame films new.frame × Agrees new.desk e
 
 -- a session stands for every desktop that it stood for, and shows the same frame
 abbrev pub Stays : SessionView → SessionView → Type 0
@@ -67,7 +77,7 @@ abbrev pub Runs : Unserved → Image → Desktop → List Act → List Film → 
 Runs unserved before old [] films after new = (films ≡ []) × (after ≡ before) × (new ≡ old)
 Runs unserved before old (act ∷ acts) films after new =
     (mid : Desktop) × (done : Done) × (image : Image) × (first : List Film) × (later : List Film)
-    × Steps unserved old act done mid × Shows act before first image × (films ≡ first ++ later) × Runs unserved image mid acts later after new
+    × Steps unserved old act done mid × Shows act old before first image × (films ≡ first ++ later) × Runs unserved image mid acts later after new
 
 -- These steps lead a session from old to new: whatever desktop agrees before, there is a run with these frames from it
 -- to one that agrees after.

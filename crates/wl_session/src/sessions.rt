@@ -1,6 +1,6 @@
 //! The session: all clients and the frames that are shown of them.
 
-ghost use Rattle.std.specs.Prelude.{◌≡◌, ℕ, ◌*◌, ◌<◌, ◌≤◌, ◌+◌, ◌&&◌, ◌++◌, ◌↔◌, length, vec_len, map, take, true, false, IfOk, IfErr, OnOk, OnErr, IsErrOf};
+ghost use Rattle.std.specs.Prelude.{◌≡◌, ℕ, ◌*◌, ◌<◌, ◌≤◌, ◌+◌, ◌&&◌, ◌||◌, ◌==◌, ◌++◌, ◌↔◌, length, vec_len, map, take, true, false, IfOk, IfErr, OnOk, OnErr, IsErrOf};
 ghost use Rattle.std.specs.Borrow.{sem};
 ghost use Rattle.std.specs.Io.BufRead.{Rests};
 ghost use Rattle.std.specs.Option.{option_copied};
@@ -9,15 +9,19 @@ ghost use Rattle.wl_paint.specs.Damage.{has};
 ghost use Rattle.wl_desk.specs.Desktop.{Desktop, empty};
 ghost use Rattle.wl_paint.specs.Frame.{color_at, filled, is_side};
 ghost use Rattle.wl_desk.specs.Steps.{Connect, Feed, Store, Leave, Tick, Send, Close, peer_at, unsent_of, status_of, store_size_of};
+ghost use Rattle.wl_desk.specs.Feeding.{IsIdleIn};
+ghost use Rattle.wl_desk.specs.Served.{beyond_toplevels};
+ghost use Rattle.wl_desk.specs.Step.{Reaches};
+ghost use Rattle.wl_session.specs.Run.{in_runs};
 ghost use Rattle.wl_session.specs.Step.{act_of};
 ghost use Rattle.wl_desk.specs.Agreement.{Agrees, TakesStep};
 
-use crate::shots::{Frame, Shot};
+use crate::shots::{Frame, Run, Shot};
 use crate::steps::{RunError, Step};
 use std::alloc::{AllocError, Allocator};
 use std::marker::Model;
 use wl_blend::Rgb;
-use wl_client::{Output, StoreNo};
+use wl_client::{Cause, Output, Served, StoreNo};
 use wl_desk::{ClientNo, ConnectError, Desk, Done, Fed, Stored};
 use wl_paint::{Damage, FrameError, Framebuffer};
 
@@ -33,7 +37,7 @@ pub struct Config {
 }
 
 /// All clients and the last frame. It is seen as the output with what is kept of each client, by number
-/// from 1, and that frame.
+/// from 1, what is to be painted again since the last frame, and that frame.
 #[derive(Drop)]
 pub struct Session<A: Allocator> {
     desk: Desk<A>,
@@ -43,20 +47,20 @@ pub struct Session<A: Allocator> {
 }
 
 impl<A: Allocator> Model for Session<A> {
-    ghost use Rattle.std.specs.Prelude.{◌≡◌, ℕ, false};
-    ghost use Rattle.wl_paint.specs.Damage.{has};
+    ghost use Rattle.std.specs.Prelude.{◌≡◌};
     ghost use Rattle.wl_session.specs.View.{SessionView};
 
     ghost Value = { SessionView };
 
-    ghost view = { λ s. record { desk = s.desk; frame = s.framebuffer } };
+    ghost view = { λ s. record { desk = s.desk.desk; damage = s.desk.damage; frame = s.framebuffer } };
 
-    ghost invariant = { λ s. (x y : ℕ) → has s.painted x y ≡ false };
+    ghost invariant = { λ s. (s.framebuffer.width ≡ s.desk.desk.output.width) × (s.framebuffer.height ≡ s.desk.desk.output.height)
+        × (s.painted.width ≡ s.desk.desk.output.width) × (s.painted.height ≡ s.desk.desk.output.height) };
 }
 
 impl<A: Allocator + Copy> Session<A> {
     ghost use Rattle.wl_session.specs.contracts.sessions.Session.{the_row};
-    ghost use Rattle.wl_session.specs.Run.{Film, IsFilm, IsNextFrame, Leads, MayStopAt, Stays, TakesSteps, film_of, taken_by, takes_memory};
+    ghost use Rattle.wl_session.specs.Run.{Film, IsFilm, IsNextFrame, IsShownBy, Leads, MayStopAt, Stays, TakesSteps, film_of, taken_by, takes_memory};
     ghost use Rattle.std.specs.Prelude.{List, [], ◌∷◌, IsTrue};
 
     /// A session without clients, whose frame is the background.
@@ -77,9 +81,7 @@ impl<A: Allocator + Copy> Session<A> {
             width: config.width,
             height: config.height,
         };
-        let Ok(desk) = Desk::new(alloc, output) else {
-            return Err(FrameError::Memory);
-        };
+        let desk = Desk::new(alloc, output)?;
         Ok(Session {
             desk,
             framebuffer,
@@ -102,7 +104,20 @@ impl<A: Allocator + Copy> Session<A> {
         ensures step { TakesStep (Feed client piece.now) (Done.Feed result) self.old.desk self.new.desk }
         ensures frame { self.new.frame ≡ self.old.frame }
     {
-        self.desk.feed(client, piece)
+        match self.desk.keep(client, piece) {
+            Ok(()) => self.serve_all(client),
+            Err(AllocError) => self.desk.end(client, Cause::Memory),
+        }
+        self.desk.status(client)
+    }
+
+    /// Takes each whole message of what came from a client, until one ends it.
+    fn serve_all(&mut self, client: ClientNo)
+        ensures serves { (d : Desktop) → Agrees self.old.desk d
+            → (n : ℕ) × (mid : Desktop) × Reaches beyond_toplevels client n d mid × IsIdleIn client mid × Agrees self.new.desk mid }
+        ensures frame { self.new.frame ≡ self.old.frame }
+    {
+        while self.desk.serve(client) != Served::More {}
     }
 
     /// Puts bytes into a client's store, from `at` on: its k-th pool has the store k. `NoClient` for an ended client too, then
@@ -159,21 +174,23 @@ impl<A: Allocator + Copy> Session<A> {
         self.desk.status(client)
     }
 
-    /// A frame is shown. Its damage is what was painted for it.
-    ///
-    /// No request that is served yet changes what is seen: nothing is damaged, and the frame stays the background.
+    /// A frame is shown. What was damaged since the last one is painted from nothing, and is the frame's damage; every other pixel is as in the
+    /// frame before. Where a window isn't opaque at a point that its opaque region holds, it is free what a damaged pixel gets.
     pub fn tick(&mut self, time: u32) -> Frame<'_, A>
         ensures* after { sem 𝓛 (Rests (the_row A.row A.Allocator) self.entry (λ v. TakesStep (Tick time) Done.Tick self.old.desk v.desk × (v.frame ≡ result.pixels.now))) }
-        ensures frame { IsNextFrame self.old.frame result.pixels.now (has result.damage.now) }
+        ensures frame { (d : Desktop) → Agrees self.old.desk d → IsNextFrame d self.old.frame result.pixels.now (has result.damage.now) }
+        ensures damage { result.damage.now ≡ self.old.damage }
         ensures time { result.time ≡ time }
     {
+        self.desk.paint(&mut self.framebuffer);
+        self.desk.take_damage(&mut self.painted);
         self.frame(time)
     }
 
     /// The last frame.
     fn frame(&self, time: u32) -> Frame<'_, A>
-        ensures pixels { result.pixels.now ≡ self.now.frame }
-        ensures nothing { (x y : ℕ) → has result.damage.now x y ≡ false }
+        ensures pixels { result.pixels.now ≡ self.now.framebuffer }
+        ensures damage { result.damage.now ≡ self.now.painted }
         ensures time { result.time ≡ time }
     {
         Frame {
@@ -186,7 +203,7 @@ impl<A: Allocator + Copy> Session<A> {
     /// Any one step. A tick's frame isn't given back.
     pub fn step(&mut self, step: &Step) -> Done
         ensures step { TakesStep (act_of step.now) result self.old.desk self.new.desk }
-        ensures frame { self.new.frame ≡ self.old.frame }
+        ensures frame { (d : Desktop) → Agrees self.old.desk d → IsShownBy (act_of step.now) d self.old.frame self.new.frame }
     {
         match *step {
             Step::Connect => Done::Connect(self.connect()),
@@ -261,22 +278,53 @@ impl<A: Allocator + Copy> Session<A> {
 
     /// A tick with a copy of its frame. An `Err` changes nothing.
     fn shoot(&mut self, time: u32, shots: &mut Vec<Shot<A>, A>) -> Result<(), AllocError>
-        ensures ok { OnOk result ((film : Film) × (map film_of shots.new.items ≡ map film_of shots.old.items ++ film ∷ []) × IsFilm time self.old.frame film self.new.frame) }
+        ensures ok { OnOk result ((film : Film) × (map film_of shots.new.items ≡ map film_of shots.old.items ++ film ∷ [])
+            × ((d : Desktop) → Agrees self.old.desk d → IsFilm time d self.old.frame film self.new.frame)) }
         ensures step { OnOk result (TakesStep (Tick time) Done.Tick self.old.desk self.new.desk) }
         ensures err { OnErr result ((self.new ≡ self.old) × (shots.new.items ≡ shots.old.items)) }
     {
         let alloc = self.alloc;
         shots.reserve(1)?;
+        let runs = runs_of(alloc, self.desk.damage(), self.framebuffer.height())?;
         let mut pixels = Vec::with_capacity(alloc, self.framebuffer.pixels().len())?;
         let frame = self.tick(time);
         append_reserved(&mut pixels, frame.pixels.pixels());
-        shots.push_reserved(Shot {
-            time,
-            runs: Vec::new(alloc),
-            pixels,
-        });
+        shots.push_reserved(Shot { time, runs, pixels });
         Ok(())
     }
+}
+
+/// The runs of what is damaged in the rows of so high an output, row by row from the top.
+fn runs_of<A: Allocator>(
+    alloc: A,
+    damage: &Damage<A>,
+    height: u32,
+) -> Result<Vec<Run, A>, AllocError>
+    requires { damage.now.height ≡ height }
+    ensures { IfOk result (λ runs. (x y : ℕ) → x < damage.now.width → y < height → in_runs runs.items x y ≡ has damage.now x y) }
+{
+    let mut runs = Vec::new(alloc);
+    for y in 0..height {
+        append_runs(&mut runs, damage, y)?;
+    }
+    Ok(runs)
+}
+
+/// Appends the runs of one row.
+fn append_runs<A: Allocator>(
+    runs: &mut Vec<Run, A>,
+    damage: &Damage<A>,
+    y: u32,
+) -> Result<(), AllocError>
+    requires { y < damage.now.height }
+    ensures { OnOk result ((x z : ℕ) → x < damage.now.width → in_runs runs.new.items x z ≡ (in_runs runs.old.items x z || ((y == z) && has damage.now x y))) }
+{
+    let mut from = 0;
+    while let Some((x, w)) = damage.next_run(y, from) {
+        runs.push(Run { x, y, w })?;
+        from = x + w;
+    }
+    Ok(())
 }
 
 /// Appends bytes for which there is room.

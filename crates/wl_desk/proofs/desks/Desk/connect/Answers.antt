@@ -3,13 +3,13 @@ use Rattle.wl_desk.proofs.Calls.{Connects-full, Connects-new, Connects-refused, 
 use Rattle.wl_desk.proofs.desks.Desk.connect.Goals as goal
 
 pub returns-in_default : goal.returns-in_default
-returns-in_default g c = λ d a. Connects-full _ _ d (c.deref.ensures.value ∙ ap (λ w. w.clients) c.self.view_is) c.in_default.ensures.lowest a
+returns-in_default g c = λ d a. Connects-full _ _ d (c.deref.ensures.value ∙ ap (λ w. w.desk.clients) c.self.view_is) c.in_default.ensures.lowest a
 
 pub returns-in_default-new : goal.returns-in_default-new
-returns-in_default-new g c = λ d a. Connects-refused _ _ d _ (c.deref.ensures.value ∙ ap (λ w. w.clients) c.self.view_is) c.in-Some.ensures.lowest a
+returns-in_default-new g c = λ d a. Connects-refused _ _ d _ (c.deref.ensures.value ∙ ap (λ w. w.desk.clients) c.self.view_is) c.in-Some.ensures.lowest a
 
 pub returns : goal.returns
 returns g c = λ d a.
-    let place = found c.self.inside.clients.items _ c.self.inside.owned.items (c.in-Some.k + 1) c.in-Some.k c.deref.ensures.value (refl, c.in-Some.ensures.within) c.self.invariant in
+    let place = found c.self.inside.clients.items _ c.self.inside.owned.items (c.in-Some.k + 1) c.in-Some.k c.deref.ensures.value (refl, c.in-Some.ensures.within) c.self.invariant.0 in
     Connects-new c.self.inside.output c.self.inside.clients.items _ c.self.inside.owned.items c.self.inside.scene c.in-Some.k c.in-Ok.client c.bare.result d c.deref.ensures.value c.in-Some.ensures.lowest place.client place.owned
     c.in-Ok.ensures c.bare.ensures (rw (← c.self.view_is) at a)
