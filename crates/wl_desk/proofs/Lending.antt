@@ -57,7 +57,7 @@ place-lent (Some v) (Some o) None here = absurd here
 module _ {A : Type 0} (owned : List (Option (Owned A))) (v : DeskView) (d : Desktop) (same : v.owned ≡ map (option_map owned_view) owned) (a : Agrees v d) where
   slots-here : (k : ℕ) → slots_of (slice_index_or owned k None) ≡ slots_seen (slice_index_or v.owned k None)
   slots-here k =
-      slots-seen (slice_index_or owned k None) ∙ ap slots_seen (sym (at-map owned k) ∙ ap (λ (os : List (Option OwnedView)). slice_index_or os k None) (sym same))
+      slots-seen (slice_index_or owned k None) ∙ ap slots_seen (sym (at-map owned_view owned k) ∙ ap (λ (os : List (Option OwnedView)). slice_index_or os k None) (sym same))
 
   here : (k : ℕ) → (stores_in (slice_index_or v.clients k None) ≡ stores_of (place d.clients k)) × AreKept (numbers_of (slice_index_or v.clients k None)) (slots_seen (slice_index_or v.owned k None)) (owned_of (place d.clients k)).surfaces
   here k = place-lent (slice_index_or v.clients k None) (slice_index_or v.owned k None) (place d.clients k) (a.clients k)

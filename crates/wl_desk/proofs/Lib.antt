@@ -48,6 +48,6 @@ pub mod Touching
 pub mod TouchingAsks
 pub mod TouchingSteps
 pub mod TouchingMessages
+pub mod Lends
 pub mod Lending
 pub mod Painting
-pub mod Lending

@@ -1,5 +1,5 @@
 use Rattle.std.proofs.Common.{◌∙◌}
-use Rattle.wl_desk.proofs.Lending.{client-at, client-none, client-past}
+use Rattle.wl_desk.proofs.Lends.{client-at, client-none, client-past}
 use Rattle.wl_desk.proofs.windows.client_of.Goals as goal
 
 pub returns-in_default : goal.returns-in_default

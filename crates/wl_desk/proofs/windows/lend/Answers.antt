@@ -1,6 +1,6 @@
 use Rattle.std.proofs.Common.{rules, ◌≡◌, ◌∙◌, ap, to_z, of_z, w32}
 use Rattle.std.specs.Option.{option_map}
-use Rattle.wl_desk.proofs.Lending.{window-absent, window-there}
+use Rattle.wl_desk.proofs.Lends.{window-absent, window-there}
 use Rattle.wl_desk.proofs.windows.lend.Goals as goal
 use Rattle.wl_desk.specs.Lent.{client_lent, or_transparent, picture_shown}
 use Rattle.wl_scene.specs.Lent.{slots_lent}

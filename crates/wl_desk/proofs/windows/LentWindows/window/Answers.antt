@@ -1,4 +1,4 @@
-use Rattle.wl_desk.proofs.Lending.{lent-at}
+use Rattle.wl_desk.proofs.Lends.{lent-at}
 use Rattle.wl_desk.proofs.windows.LentWindows.window.Goals as goal
 use Rattle.wl_desk.specs.Lent.{client_lent, window_lent}
 use Rattle.wl_scene.specs.Lent.{slots_lent}
