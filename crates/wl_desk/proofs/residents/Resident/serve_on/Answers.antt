@@ -1,3 +1,6 @@
+use Rattle.std.proofs.Common.{refl, sym, ◌∙◌, ap}
+use Rattle.wl_desk.proofs.Asking.{idle-more, idle-unmarked}
+use Rattle.wl_desk.proofs.Seats.{large-then}
 use Rattle.wl_desk.proofs.Taking.{served}
 use Rattle.wl_desk.proofs.residents.Resident.serve_on.Goals as goal
 
