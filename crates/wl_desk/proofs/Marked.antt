@@ -1,11 +1,11 @@
 -- The window of a surface in a desktop lies where what is kept of it says.
-use Rattle.std.proofs.Common.{◌≡◌, ℕ, zero, suc, ◌+◌, ◌*◌, ◌-◌, ◌^◌, ◌<◌, ◌≤◌, List, [], ◌∷◌, ◌++◌, Bool, true, false, cond, Option, Some, None, map, refl, ap, sym, subst, ◌∙◌, arith, ℤ, pos}
+use Rattle.std.proofs.Common.{◌≡◌, ℕ, zero, suc, ◌+◌, ◌*◌, ◌-◌, ◌^◌, ◌<◌, ◌≤◌, List, [], ◌∷◌, ◌++◌, Bool, true, false, cond, Option, Some, None, map, length, take, get_or, refl, ap, sym, subst, ◌∙◌, arith, ℤ, pos}
 use Rattle.std.specs.Prelude.{◌+ℤ◌, ◌==◌, ◌&&◌, ◌||◌, flat_map, min, not}
 use Rattle.std.specs.List.{list_any}
 use Rattle.std.specs.Option.{option_map}
 use Rattle.std.proofs.lemmas.Bool.{eqb-true}
 use Rattle.std.proofs.lemmas.List.{append-nil}
-use Rattle.std.proofs.lemmas.List.Folds.{list_any-append}
+use Rattle.std.proofs.lemmas.List.Folds.{list_any-append, list_any_more}
 use Rattle.wl_proto.specs.declared.interface.Interface.TheVariants.{WlSurface}
 use Rattle.wl_geom.specs.Rect.{in_span}
 use Rattle.wl_store.specs.Transform.{is_turned, transform_of}
@@ -255,3 +255,19 @@ pub scene-marked : (p : ℕ → ℕ → Standing → Bool) (toplevels : List Top
     → (x y : ℕ) → x < old.width → y < old.height → has new x y ≡ (has old x y || list_any (p x y) standing)
 scene-marked p toplevels standing old new same is x y wide high =
     is.points x y wide high ∙ ap (λ (b : Bool). has old x y || b) (any-standing (p x y) toplevels ∙ ap (λ (ss : List Standing). list_any (p x y) ss) same)
+
+or-more : (a b c : Bool) → ((a || b) || c) ≡ (a || (b || c))
+or-more true b c = refl
+or-more false b c = refl
+
+-- one more of them
+pub marked-more : (p : ℕ → ℕ → Standing → Bool) (toplevels : List Toplevel) (k : ℕ) (t : Toplevel) (old was new : Damaged) → k < length toplevels → IsMarkedBy p (take k toplevels) old was
+    → ((x y : ℕ) → x < was.width → y < was.height → has new x y ≡ (has was x y || p x y (standing_of (get_or toplevels k t)))) → IsAsLarge was new → IsMarkedBy p (take (k + 1) toplevels) old new
+marked-more p toplevels k t old was new less is more sides = record {
+  points = λ x y wide high.
+    more x y (rw is.sides.width wide) (rw is.sides.height high)
+    ∙ (ap (λ (b : Bool). b || p x y (standing_of (get_or toplevels k t))) (is.points x y wide high)
+    ∙ (or-more (has old x y) (list_any (λ t. p x y (standing_of t)) (take k toplevels)) (p x y (standing_of (get_or toplevels k t)))
+    ∙ ap (λ (b : Bool). has old x y || b) (sym (list_any_more (λ t. p x y (standing_of t)) toplevels k t less))));
+  sides = record { width = sides.width ∙ is.sides.width; height = sides.height ∙ is.sides.height };
+}
