@@ -1,9 +1,10 @@
 -- The window of a surface in a desktop lies where what is kept of it says.
-use Rattle.std.proofs.Common.{◌≡◌, ℕ, zero, suc, ◌+◌, ◌*◌, ◌-◌, ◌^◌, ◌<◌, ◌≤◌, List, [], ◌∷◌, ◌++◌, Bool, true, false, cond, Option, Some, None, map, length, take, get_or, refl, ap, sym, subst, ◌∙◌, arith, ℤ, pos}
+use Rattle.std.proofs.Common.{◌≡◌, ℕ, zero, suc, ◌+◌, ◌-◌, ◌^◌, ◌<◌, List, [], ◌∷◌, ◌++◌, Bool, true, false, cond, Option, Some, None, map, length, take, get_or, refl, ap, sym, subst, ◌∙◌, arith, ℤ, pos}
 use Rattle.std.specs.Prelude.{◌+ℤ◌, ◌==◌, ◌&&◌, ◌||◌, flat_map, min, not}
 use Rattle.std.specs.List.{list_any}
 use Rattle.std.specs.Option.{option_map}
-use Rattle.std.proofs.lemmas.Bool.{eqb-true}
+use Rattle.std.proofs.Math.Bool.{or-false, or_assoc}
+use Rattle.std.proofs.lemmas.Bool.{and_left, and_right, cond_both, eqb-true}
 use Rattle.std.proofs.lemmas.List.{append-nil}
 use Rattle.std.proofs.lemmas.List.Folds.{list_any-append, list_any_more}
 use Rattle.wl_proto.specs.declared.interface.Interface.TheVariants.{WlSurface}
@@ -75,7 +76,7 @@ module _ (p : Window → Bool) (owner : Owner) (fails : (w : Window) → w.owner
 
 -- ---- the window of the surface
 
--- One that is kept is left out of the toplevels by its number just where it is by its id.
+-- it is kept under a number just where it stands under the id
 number-is : (numbers : ℕ → ById ℕ) (c id number : ℕ) (k s : Standing) → AreOnce (numbers c) → numbers c id ≡ Some number → IsStanding numbers k s → is_of c number k ≡ is_of c id s
 number-is numbers c id number k s once named one = by (is_of c number k) (is_of c id s) (stack-out numbers c id number (k ∷ []) (s ∷ []) once named (one, tt))
   where
@@ -97,30 +98,18 @@ is_shown_at c number by w h x y k = is_of c number k && lies_in by w h x y k.pla
 abbrev pub is_at : ℕ → ℕ → ℤ → ℤ → Window → Bool
 is_at c id x y w = ((w.owner.client == c) && (w.surface == id)) && contains w x y
 
-or-none : (b : Bool) → (b || false) ≡ b
-or-none true = refl
-or-none false = refl
-
-and-none : (a b : Bool) → a ≡ false → (a && b) ≡ false
-and-none true b e = absurd (cc)
-and-none false b e = refl
-
-and-second : (a b : Bool) → b ≡ false → (a && b) ≡ false
-and-second true b e = e
-and-second false b e = refl
-
 module _ {A : Type 0} (c id number : ℕ) (current : Current A) (h : History) (is : IsCurrent current h) (x y : ℤ) (owned : ℕ → Owned) (links : (owned c).surfaces.links ≡ []) (found : history_in id (owned c).surfaces ≡ Some h)
     (numbers : ℕ → ById ℕ) (once : AreOnce (numbers c)) (named : numbers c id ≡ Some number) where
   -- what its surface shows
-  window-here : (k s : Standing) → IsStanding numbers k s → s.client ≡ c → s.surface ≡ id → shows_buffer (Some h) ≡ true
+  window-here : (k s : Standing) → IsStanding numbers k s → shows_buffer (Some h) ≡ true
       → list_any (is_at c id x y) (window_of (owner_of (root_of owned s)) s.surface (corner_at s.place h) h) ≡ is_shown_at c number current.offset current.w current.h x y k
-  window-here k s one client surface shows = by (applied h).buffer refl shows
+  window-here k s one shows = by (applied h).buffer refl shows
     where
       by : (buffer : Option Buffer) → (applied h).buffer ≡ buffer → is_there buffer ≡ true
           → list_any (is_at c id x y) (window_with (owner_of (root_of owned s)) s.surface (corner_at s.place h) (applied h) buffer) ≡ is_shown_at c number current.offset current.w current.h x y k
       by None e there = absurd (cc)
       by (Some b) e there =
-          or-none (is_at c id x y (window_showing (owner_of (root_of owned s)) s.surface (corner_at s.place h) (applied h) b)) ∙ rw (number-is numbers c id number k s once named one, one.place, is.width, is.height, e, is.offset.0, is.offset.1) refl
+          or-false (is_at c id x y (window_showing (owner_of (root_of owned s)) s.surface (corner_at s.place h) (applied h) b)) ∙ rw (number-is numbers c id number k s once named one, one.place, is.width, is.height, e, is.offset.0, is.offset.1) refl
 
   -- that of a toplevel, whichever it is
   window-first : (k s : Standing) → IsStanding numbers k s → Shows owned s
@@ -139,8 +128,8 @@ module _ {A : Type 0} (c id number : ℕ) (current : Current A) (h : History) (i
         where
           other-window : (buffer : Option Buffer) → list_any (is_at c id x y) (window_with (owner_of (root_of owned s)) s.surface (corner_at s.place g) (applied g) buffer) ≡ false
           other-window None = refl
-          other-window (Some b) = or-none (is_at c id x y (window_showing (owner_of (root_of owned s)) s.surface (corner_at s.place g) (applied g) b))
-              ∙ and-none ((s.client == c) && (s.surface == id)) (contains (window_showing (owner_of (root_of owned s)) s.surface (corner_at s.place g) (applied g) b) x y) (and-second (s.client == c) (s.surface == id) f)
+          other-window (Some b) = or-false (is_at c id x y (window_showing (owner_of (root_of owned s)) s.surface (corner_at s.place g) (applied g) b))
+              ∙ and_left ((s.client == c) && (s.surface == id)) (contains (window_showing (owner_of (root_of owned s)) s.surface (corner_at s.place g) (applied g) b) x y) (and_right (s.client == c) (s.surface == id) f)
 
       here : s.client ≡ c → s.surface ≡ id → history_in s.surface (owned s.client).surfaces ≡ Some h
       here e f = ap (λ (n : ℕ). history_in s.surface (owned n).surfaces) e ∙ (ap (λ (n : ℕ). history_in n (owned c).surfaces) f ∙ found)
@@ -150,17 +139,17 @@ module _ {A : Type 0} (c id number : ℕ) (current : Current A) (h : History) (i
       by e true f =
           let there = here e (eqb-true s.surface id f) in
           ap (λ (ws : List Window). list_any (is_at c id x y) ws) (own e ∙ ap (λ (o : Option History). window_list (owner_of (root_of owned s)) s.surface s.place o) there)
-          ∙ window-here k s one e (eqb-true s.surface id f) (sym (ap shows_buffer there) ∙ shows)
+          ∙ window-here k s one (sym (ap shows_buffer there) ∙ shows)
       by e false f =
           ap (λ (ws : List Window). list_any (is_at c id x y) ws) (own e) ∙ other-surface (history_in s.surface (owned s.client).surfaces) f
-          ∙ sym (and-none (is_of c number k) (lies_in current.offset current.w current.h x y k.place) (same ∙ and-second (s.client == c) (s.surface == id) f))
+          ∙ sym (and_left (is_of c number k) (lies_in current.offset current.w current.h x y k.place) (same ∙ and_right (s.client == c) (s.surface == id) f))
 
       at : (b : Bool) → (s.client == c) ≡ b
           → list_any (is_at c id x y) (tree 17 (owner_of (root_of owned s)) (owned s.client).surfaces s.surface s.place) ≡ is_shown_at c number current.offset current.w current.h x y k
       at true e = by (eqb-true s.client c e) (s.surface == id) refl
       at false e =
-          none-tree (is_at c id x y) (owner_of (root_of owned s)) (λ w f. and-none ((w.owner.client == c) && (w.surface == id)) (contains w x y) (and-none (w.owner.client == c) (w.surface == id) (ap (λ (o : Owner). o.client == c) f ∙ e))) 17 (owned s.client).surfaces s.surface s.place
-          ∙ sym (and-none (is_of c number k) (lies_in current.offset current.w current.h x y k.place) (same ∙ and-none (s.client == c) (s.surface == id) e))
+          none-tree (is_at c id x y) (owner_of (root_of owned s)) (λ w f. and_left ((w.owner.client == c) && (w.surface == id)) (contains w x y) (and_left (w.owner.client == c) (w.surface == id) (ap (λ (o : Owner). o.client == c) f ∙ e))) 17 (owned s.client).surfaces s.surface s.place
+          ∙ sym (and_left (is_of c number k) (lies_in current.offset current.w current.h x y k.place) (same ∙ and_left (s.client == c) (s.surface == id) e))
 
   -- those of all toplevels
   pub windows-shown : (ks ss : List Standing) → IsStack numbers ks ss → AllShow owned ss → list_any (is_at c id x y) (windows_on owned ss) ≡ list_any (is_shown_at c number current.offset current.w current.h x y) ks
@@ -182,21 +171,16 @@ side n = min n (2 ^ 31 - 1)
 small-side : (n : ℕ) → n < 2 ^ 31 → side n ≡ n
 small-side n small = omega (arith, small)
 
-narrow : (turned : Bool) (a : Attached) → cond turned a.layout.h a.layout.w < 2 ^ 31
-narrow true a = a.layout.height_fits
-narrow false a = omega (arith, a.layout.wide_rows, a.layout.stride_fits)
-
-low : (turned : Bool) (a : Attached) → cond turned a.layout.w a.layout.h < 2 ^ 31
-low true a = omega (arith, a.layout.wide_rows, a.layout.stride_fits)
-low false a = a.layout.height_fits
+narrow : (a : Attached) → a.layout.w < 2 ^ 31
+narrow a = omega (arith, a.layout.wide_rows, a.layout.stride_fits)
 
 small-width : (o : Option Attached) (transform : ℕ) → width_of (option_map buffer_of o) transform < 2 ^ 31
 small-width None transform = omega (arith)
-small-width (Some a) transform = narrow (is_turned (transform_of transform)) a
+small-width (Some a) transform = cond_both (is_turned (transform_of transform)) a.layout.h a.layout.w (λ n. n < 2 ^ 31) (λ e. a.layout.height_fits) (λ e. narrow a)
 
 small-height : (o : Option Attached) (transform : ℕ) → height_of (option_map buffer_of o) transform < 2 ^ 31
 small-height None transform = omega (arith)
-small-height (Some a) transform = low (is_turned (transform_of transform)) a
+small-height (Some a) transform = cond_both (is_turned (transform_of transform)) a.layout.w a.layout.h (λ n. n < 2 ^ 31) (λ e. narrow a) (λ e. a.layout.height_fits)
 
 width-kept : {A : Type 0} (current : Current A) (h : History) → IsCurrent current h → side current.w ≡ current.w
 width-kept current h is =
@@ -256,18 +240,14 @@ pub scene-marked : (p : ℕ → ℕ → Standing → Bool) (toplevels : List Top
 scene-marked p toplevels standing old new same is x y wide high =
     is.points x y wide high ∙ ap (λ (b : Bool). has old x y || b) (any-standing (p x y) toplevels ∙ ap (λ (ss : List Standing). list_any (p x y) ss) same)
 
-or-more : (a b c : Bool) → ((a || b) || c) ≡ (a || (b || c))
-or-more true b c = refl
-or-more false b c = refl
-
 -- one more of them
 pub marked-more : (p : ℕ → ℕ → Standing → Bool) (toplevels : List Toplevel) (k : ℕ) (t : Toplevel) (old was new : Damaged) → k < length toplevels → IsMarkedBy p (take k toplevels) old was
     → ((x y : ℕ) → x < was.width → y < was.height → has new x y ≡ (has was x y || p x y (standing_of (get_or toplevels k t)))) → IsAsLarge was new → IsMarkedBy p (take (k + 1) toplevels) old new
 marked-more p toplevels k t old was new less is more sides = record {
   points = λ x y wide high.
-    more x y (rw is.sides.width wide) (rw is.sides.height high)
-    ∙ (ap (λ (b : Bool). b || p x y (standing_of (get_or toplevels k t))) (is.points x y wide high)
-    ∙ (or-more (has old x y) (list_any (λ t. p x y (standing_of t)) (take k toplevels)) (p x y (standing_of (get_or toplevels k t)))
-    ∙ ap (λ (b : Bool). has old x y || b) (sym (list_any_more (λ t. p x y (standing_of t)) toplevels k t less))));
+      more x y (rw is.sides.width wide) (rw is.sides.height high)
+      ∙ (ap (λ (b : Bool). b || p x y (standing_of (get_or toplevels k t))) (is.points x y wide high)
+      ∙ (or_assoc (has old x y) (list_any (λ t. p x y (standing_of t)) (take k toplevels)) (p x y (standing_of (get_or toplevels k t)))
+      ∙ ap (λ (b : Bool). has old x y || b) (sym (list_any_more (λ t. p x y (standing_of t)) toplevels k t less))));
   sides = record { width = sides.width ∙ is.sides.width; height = sides.height ∙ is.sides.height };
 }

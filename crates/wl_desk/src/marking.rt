@@ -80,8 +80,8 @@ fn mark_window<A: Allocator>(
 )
     ensures points { (x y : ℕ) → x < damage.old.width → y < damage.old.height → has damage.new x y
         ≡ (has damage.old x y || (is_of surface.client surface.surface (standing_of toplevel.now)
-            && (in_span (within_bounds (toplevel.now.x +ℤ current.now.offset.x)) (pos (min current.now.w (2 ^ 31 - 1))) (pos x)
-                && in_span (within_bounds (toplevel.now.y +ℤ current.now.offset.y)) (pos (min current.now.h (2 ^ 31 - 1))) (pos y)))) }
+        && (in_span (within_bounds (toplevel.now.x +ℤ current.now.offset.x)) (pos (min current.now.w (2 ^ 31 - 1))) (pos x)
+        && in_span (within_bounds (toplevel.now.y +ℤ current.now.offset.y)) (pos (min current.now.h (2 ^ 31 - 1))) (pos y)))) }
     ensures sides { IsAsLarge damage.old damage.new }
 {
     if toplevel.surface == surface {

@@ -1,7 +1,6 @@
-use Rattle.std.proofs.Common.{ℕ, ◌≡◌, ◌∙◌, Some, None, ap, subst, sym, arith, pos, Bool, List, take}
+use Rattle.std.proofs.Common.{ℕ, ◌∙◌, ap, subst, arith, pos, Bool, List}
 use Rattle.std.specs.Prelude.{◌||◌}
 use Rattle.std.proofs.lemmas.List.{take_all}
-use Rattle.wl_surface.specs.declared.surface.Current.{Current}
 use Rattle.wl_scene.specs.declared.scene.Toplevel.{Toplevel}
 use Rattle.wl_scene.specs.Stacking.{Standing}
 use Rattle.wl_paint.specs.Damage.{has}
@@ -24,7 +23,7 @@ returns-clause-marks g c = λ others base d r seated id named x y wide high.
     let shown = λ (x y : ℕ) (k : Standing). is_shown_at c.args.client c.args.surface c.in-Some.current.offset (side c.in-Some.current.w) (side c.in-Some.current.h) (pos x) (pos y) k in
     let toplevels = c.toplevels-toplevel-items.result.now in
     let all : IsMarkedBy shown toplevels c.args.damage.now c.loop-toplevel.damage =
-            subst (λ (ts : List Toplevel). IsMarkedBy shown ts c.args.damage.now c.loop-toplevel.damage) (take_all c.loop-toplevel.toplevel-index toplevels (omega arith)) c.loop-toplevel.invariant
+    subst (λ (ts : List Toplevel). IsMarkedBy shown ts c.args.damage.now c.loop-toplevel.damage) (take_all c.loop-toplevel.toplevel-index toplevels (omega arith)) c.loop-toplevel.invariant
     in
     scene-marked shown toplevels c.args.scene.now.standing c.args.damage.now c.loop-toplevel.damage c.toplevels-toplevel-items.ensures all x y wide high
     ∙ ap (λ (b : Bool). has c.args.damage.now x y || b)

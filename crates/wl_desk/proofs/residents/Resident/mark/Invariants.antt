@@ -1,4 +1,4 @@
-use Rattle.std.proofs.Common.{ℕ, List, pos, take}
+use Rattle.std.proofs.Common.{pos, take}
 use Rattle.wl_desk.proofs.Marked.{IsMarkedBy, is_shown_at, side}
 use Rattle.wl_desk.proofs.residents.Resident.mark.Given as goal
 
