@@ -51,3 +51,4 @@ pub mod TouchingMessages
 pub mod Lends
 pub mod Lending
 pub mod Painting
+pub mod Marked
