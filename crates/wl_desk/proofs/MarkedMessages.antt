@@ -1,7 +1,7 @@
 -- A message of a client marks to be painted again what the desk marks: the window of the surface that it touches, before it and after it, and
 -- everything where its client ends and a toplevel of its stood.
-use Rattle.std.proofs.Common.{◌≡◌, ◌≢◌, ℕ, ◌<◌, ◌-◌, List, [], ◌∷◌, ◌++◌, Bool, true, false, Option, Some, None, Result, refl, ap, sym, subst, ◌∙◌, inl, inr, ◌⊎◌}
-use Rattle.std.specs.Prelude.{ℤ, pos, ◌==◌, ◌&&◌, ◌||◌, Ok, Err, drop, if◌then◌else◌, int_le, int_lt, is_some, take}
+use Rattle.std.proofs.Common.{◌≡◌, ℕ, zero, suc, ◌<◌, ◌-◌, List, [], ◌∷◌, ◌++◌, Bool, true, false, Option, Some, None, Result, refl, ap, sym, subst, ◌∙◌, inl, inr, ◌⊎◌}
+use Rattle.std.specs.Prelude.{ℤ, pos, ◌==◌, ◌&&◌, ◌||◌, Ok, Err, drop, if◌then◌else◌, int_le, is_some, slice_index_or, take}
 use Rattle.std.specs.List.{list_any}
 use Rattle.std.specs.Option.{option_and_then, option_map_or}
 use Rattle.std.proofs.lemmas.Bool.{eqb-false, eqb-true, or_left, or_right}
@@ -22,13 +22,13 @@ use Rattle.wl_proto.specs.declared.xdg_surface.XdgSurfaceRequest.{XdgSurfaceRequ
 use Rattle.wl_proto.specs.declared.xdg_surface.XdgSurfaceRequest.TheVariants as xdg
 use Rattle.wl_proto.specs.declared.xdg_wm_base.XdgWmBaseRequest.{XdgWmBaseRequest}
 use Rattle.wl_proto.specs.declared.xdg_wm_base.XdgWmBaseRequest.TheVariants as base
-use Rattle.wl_table.specs.Objects.{entry_of}
 use Rattle.wl_client.specs.Agreement.{IsPeer}
 use Rattle.wl_client.specs.First.{IsRefused, Passes}
 use Rattle.wl_client.specs.Judgement.{number_in, word_in}
 use Rattle.wl_client.specs.Objects.{ById}
 use Rattle.wl_client.specs.Peer.{Peer, counted, with_rest}
 use Rattle.wl_client.specs.Serving.{is_own}
+use Rattle.wl_client.specs.View.{ClientView}
 use Rattle.wl_client.specs.declared.actions.Action.{Action}
 use Rattle.wl_client.specs.declared.clients.Cause.{Cause}
 use Rattle.wl_client.specs.Told.{display_error}
@@ -44,22 +44,22 @@ use Rattle.wl_shell.specs.Shell.{Effect, Stays, Unconfigured, Configures, Maps, 
 use Rattle.wl_shell.specs.Shell.{XdgSurface as Xdg}
 use Rattle.wl_scene.specs.Stacking.{Owned, Stack, Standing, root_of, windows_on}
 use Rattle.wl_scene.specs.Windows.{Owner, Place, Window, contains, moved, owner_of, window_with}
-use Rattle.wl_desk.specs.Agreement.{IsStack}
+use Rattle.wl_desk.specs.Agreement.{Agrees, IsPlace, IsStack}
 use Rattle.wl_desk.specs.Ask.{Ask, Own, CreateSurface, DestroySurface, AskSurface, CommitSurface, DestroyBase, GetXdgSurface, DestroyXdgSurface, GetToplevel, Acknowledge, ConfigureAgain, DestroyToplevel, Ignore, owns}
-use Rattle.wl_desk.specs.Desktop.{Desktop, Resident, client_at, client_in, owned_in, owned_of, windows_in}
+use Rattle.wl_desk.specs.Desktop.{Desktop, Resident, client_in, owned_in, owned_of, place}
 use Rattle.wl_desk.specs.Laws.{status_in, status_of}
-use Rattle.wl_desk.specs.Marking.{IsAsLarge, Marks, MarksEnd, marked_by, marked_in, stands_any}
+use Rattle.wl_desk.specs.Marking.{AreUnlinked, IsAsLarge, Marks, MarksEnd, marked_by, marked_in, stands_any}
 use Rattle.wl_desk.specs.Messages.{IsAsked, IsKind}
 use Rattle.wl_desk.specs.Moments.{marks_at_least}
 use Rattle.wl_desk.specs.Owning.{names_in, target_as, targets_in}
 use Rattle.wl_desk.specs.Residents.{AnswersSo, IsLeft, IsResident, KeepsNumbers, TakesSo, asked_by}
-use Rattle.wl_desk.specs.Seats.{IsClearedBy, IsRestacked, IsSeated, IsSettledBy, Lacks}
+use Rattle.wl_desk.specs.Seats.{IsClearedBy, IsRestacked, IsSeated, IsSettledBy}
 use Rattle.wl_desk.specs.Served.{beyond_toplevels}
-use Rattle.wl_desk.specs.Standing.{MappedStand}
 use Rattle.wl_desk.specs.Step.{Serves, ask_by, ask_of, changed_by, judge, surface_of, with_peer}
 use Rattle.wl_desk.specs.Touching.{any_window_at, has_window_at, is_window_at, touched}
-use Rattle.wl_desk.specs.WlSurface.{committed_for, effect_of, surface_ask, surface_destroyed, transform_set, waits_for_all}
-use Rattle.wl_desk.specs.XdgShell.{base_ask, configured_again, has_any, is_foreign, is_state, role_of, toplevel_ask, toplevel_ask_of, xdg_ask, xdg_ask_of, xdg_surface_made}
+use Rattle.wl_desk.specs.View.{DeskView, OwnedView}
+use Rattle.wl_desk.specs.WlSurface.{committed_for, effect_of, surface_ask, waits_for_all}
+use Rattle.wl_desk.specs.XdgShell.{base_ask, configured_again, has_any, is_foreign, is_state, role_of, toplevel_ask, toplevel_ask_of, xdg_ask_of}
 use Rattle.wl_desk.specs.declared.messages.Asked.{Asked}
 use Rattle.wl_desk.specs.declared.messages.Asked.TheVariants as asked
 use Rattle.wl_desk.specs.declared.messages.Kind.{Kind}
@@ -73,7 +73,7 @@ use Rattle.wl_desk.proofs.Ends.{lacks-over, over-ended}
 use Rattle.wl_desk.proofs.OwningXdg.{toplevel-named}
 use Rattle.wl_desk.proofs.Places.{number-other}
 use Rattle.wl_desk.proofs.Stacks.{and-both, and-left, differ, or-left, or-right, unless}
-use Rattle.wl_desk.proofs.Taking.{Known, known-mapped, none-is, numbers}
+use Rattle.wl_desk.proofs.Taking.{known-mapped, none-is, numbers}
 use Rattle.wl_desk.proofs.TouchingMarks.{either-of}
 use Rattle.wl_desk.proofs.TouchingMessages.{AsksBy, MarkedBy, serves-point, touched-peer}
 use Rattle.wl_desk.proofs.TouchingWindows.{counted as counted_of, lone, window_by, windows-first}
@@ -110,7 +110,7 @@ stack-any numbers c (k ∷ ks) [] is = absurd is
 
 -- where no client's surfaces are linked but for this one's, none are
 pub seated-unlinked : {A : Type 0} (c : ℕ) (others : ℕ → ById ℕ) (base d : Desktop) (v : Kept A) (stack : Stack) (r : Resident) → IsSeated c others base v stack d r
-    → ((other : ℕ) → (owned_in base other).surfaces.links ≡ []) → (other : ℕ) → (owned_in d other).surfaces.links ≡ []
+    → AreUnlinked base → AreUnlinked d
 seated-unlinked c others base d v stack r is unlinked other = by (c == other) refl
   where
     here : (owned_in d c).surfaces.links ≡ []
@@ -122,6 +122,18 @@ seated-unlinked c others base d v stack r is unlinked other = by (c == other) re
         ap (λ rs. (owned_of (client_in rs other)).surfaces.links) is.based.clients
         ∙ ap (λ (o : Option Resident). (owned_of o).surfaces.links) (number-other base.clients c other (Some r) (eqb-false c other e))
         ∙ unlinked other
+
+-- a desk's clients link no surfaces
+pub agrees-unlinked : (v : DeskView) (d : Desktop) → Agrees v d → AreUnlinked d
+agrees-unlinked v d is zero = refl
+agrees-unlinked v d is (suc k) = at (slice_index_or v.clients k None) (slice_index_or v.owned k None) (place d.clients k) (is.clients k)
+  where
+    at : (w : Option ClientView) (o : Option OwnedView) (r : Option Resident) → IsPlace w o r → (owned_of r).surfaces.links ≡ []
+    at w o None h = refl
+    at (Some w) (Some o) (Some r) h = h.owns.surfaces.links
+    at (Some w) None (Some r) h = absurd h
+    at None (Some o) (Some r) h = absurd h
+    at None None (Some r) h = absurd h
 
 -- ---- what touches a surface is a commit, or the destruction of a toplevel
 
@@ -256,26 +268,15 @@ surface-interface (surface.SetInputRegion region) = refl
 surface-interface surface.Commit = refl
 surface-interface (surface.SetBufferTransform transform) = refl
 
--- numbers that a test tells apart
-apart : (a b : ℕ) → (a == b) ≡ false → a ≡ b → ⊥
-apart a b other e = differ (sym other ∙ (ap (λ n. n == b) e ∙ self))
-  where
-    self : (b == b) ≡ true
-    self = by (b == b) refl
-      where
-        by : (t : Bool) → (b == b) ≡ t → t ≡ true
-        by true f = refl
-        by false f = absurd (eqb-false b b f refl)
-
 surface-marks : (request : WlSurfaceRequest) (target : ℕ) → (wl_surface_request request).opcode ≡ 6 → marked_in (kind.Surface request) target ≡ Some target
 surface-marks surface.Commit target e = refl
-surface-marks surface.Destroy target e = absurd (apart 0 6 refl e)
-surface-marks (surface.Attach buffer x y) target e = absurd (apart 1 6 refl e)
-surface-marks (surface.Damage x y width height) target e = absurd (apart 2 6 refl e)
-surface-marks (surface.Frame callback) target e = absurd (apart 3 6 refl e)
-surface-marks (surface.SetOpaqueRegion region) target e = absurd (apart 4 6 refl e)
-surface-marks (surface.SetInputRegion region) target e = absurd (apart 5 6 refl e)
-surface-marks (surface.SetBufferTransform transform) target e = absurd (apart 7 6 refl e)
+surface-marks surface.Destroy target e = absurd (eqb-false 0 6 refl e)
+surface-marks (surface.Attach buffer x y) target e = absurd (eqb-false 1 6 refl e)
+surface-marks (surface.Damage x y width height) target e = absurd (eqb-false 2 6 refl e)
+surface-marks (surface.Frame callback) target e = absurd (eqb-false 3 6 refl e)
+surface-marks (surface.SetOpaqueRegion region) target e = absurd (eqb-false 4 6 refl e)
+surface-marks (surface.SetInputRegion region) target e = absurd (eqb-false 5 6 refl e)
+surface-marks (surface.SetBufferTransform transform) target e = absurd (eqb-false 7 6 refl e)
 
 -- a message of an interface that touches nothing is no such message
 idle : (m told : Message) → m ≡ told → may_touch told.interface ≡ false → may_touch m.interface ≡ true → ⊥
@@ -412,7 +413,7 @@ some-number (Some number) e = (number, refl)
 some-number None e = absurd (differ e)
 
 module _ {A : Type 0} (c : ℕ) (others : ℕ → ById ℕ) (base d e : Desktop) (r q : Resident) (old new : Kept A) (was now : Stack) (before : IsSeated c others base old was d r) (after : IsSeated c others base new now e q)
-    (unlinked : (other : ℕ) → (owned_in base other).surfaces.links ≡ []) (serves : Serves beyond_toplevels c d e) (a : Asked) (asks : IsAsked old.client a)
+    (unlinked : AreUnlinked base) (serves : Serves beyond_toplevels c d e) (a : Asked) (asks : IsAsked old.client a)
     (keeps : new.client.ended ≡ None → KeepsNumbers old.client.objects new.client.objects) (surface : Option ℕ) (by_asked : surface ≡ marked_by a)
     (d0 d1 d2 d3 : Damaged) (first : MarksTouched c old was surface d0 d1) (settled : MarksEnd new.client.ended c was d1 d2) (second : MarksTouched c new now surface d2 d3) where
   status : status_in c e ≡ new.client.ended

@@ -46,12 +46,14 @@ pub(crate) fn touched_by(asked: &Asked) -> Option<SurfaceNo>
 }
 
 /// A side as one of a rectangle, which is never so long.
-fn side_of(side: u32) -> i32 {
+fn side_of(side: u32) -> i32
+{
     i32::try_from(side).unwrap_or(i32::MAX)
 }
 
 /// The window of a toplevel whose surface shows this.
-fn window_rect<A: Allocator>(toplevel: &Toplevel, current: &Current<'_, A>) -> Rect {
+fn window_rect<A: Allocator>(toplevel: &Toplevel, current: &Current<'_, A>) -> Rect
+{
     let (x, y) = corner_of(toplevel, current.offset);
     Rect {
         x,
