@@ -2,6 +2,8 @@
 use Rattle.std.proofs.Common.{◌≡◌, ◌<◌, ◌||◌, ◌&&◌, ℕ, Bool, true, false, List, [], ◌∷◌, Option, Some, None, ap, inl, inr, refl, subst, sym, ◌∙◌}
 use Rattle.std.specs.List.{list_any}
 use Rattle.std.specs.Prelude.{is_some, map}
+use Rattle.std.proofs.Math.Bool.{or-false, or-true}
+use Rattle.std.proofs.lemmas.Bool.{and_left, and_right}
 use Rattle.wl_client.specs.declared.clients.Cause.{Cause}
 use Rattle.wl_paint.specs.Damage.{Damaged, has}
 use Rattle.wl_scene.specs.Stacking.{Stack, without_client}
@@ -11,6 +13,7 @@ use Rattle.wl_desk.specs.declared.residents.Resident.{Resident as Kept}
 use Rattle.wl_desk.specs.declared.residents.Stacking.{Stacking}
 use Rattle.wl_desk.specs.declared.residents.Stacking.TheVariants.{Stays, ToTop, Out}
 use Rattle.wl_desk.proofs.OwningKeys.{differ}
+use Rattle.wl_desk.proofs.Stacks.{and-both}
 
 -- ---- the steps of the code
 
@@ -44,42 +47,22 @@ same-large old new same = record { width = ap (λ (d : Damaged). d.width) same; 
 pub large-then : (old mid new : Damaged) → IsAsLarge old mid → IsAsLarge mid new → IsAsLarge old new
 large-then old mid new before after = record { width = after.width ∙ before.width; height = after.height ∙ before.height }
 
-or-false : (a b : Bool) → b ≡ false → a ≡ (a || b)
-or-false true b e = refl
-or-false false b e = sym e
-
-or-true : (a b : Bool) → b ≡ true → true ≡ (a || b)
-or-true true b e = refl
-or-true false b e = sym e
-
-and-true : (a b : Bool) → a ≡ true → b ≡ true → (a && b) ≡ true
-and-true true b e f = f
-and-true false b e f = absurd (differ (sym e))
-
-and-second : (a b : Bool) → b ≡ false → (a && b) ≡ false
-and-second true b e = e
-and-second false b e = refl
-
-and-first : (a b : Bool) → a ≡ false → (a && b) ≡ false
-and-first false b e = refl
-and-first true b e = absurd (differ e)
-
 pub marks-all : (o : Option Cause) (c : ℕ) (stack : Stack) (old new : Damaged) → is_some o ≡ true → stands_any c stack ≡ true → ((x y : ℕ) → x < old.width → y < old.height → has new x y ≡ true) → IsAsLarge old new → MarksEnd o c stack old new
 marks-all o c stack old new ended stands everywhere large =
-    (large, λ x y in_width in_height. everywhere x y in_width in_height ∙ or-true (has old x y) _ (and-true (is_some o) (stands_any c stack) ended stands))
+    (large, λ x y in_width in_height. everywhere x y in_width in_height ∙ sym (ap (λ b. has old x y || b) (and-both (is_some o) (stands_any c stack) ended stands) ∙ or-true (has old x y)))
 
 marks-no : (o : Option Cause) (c : ℕ) (stack : Stack) (old new : Damaged) → (is_some o && stands_any c stack) ≡ false → new ≡ old → MarksEnd o c stack old new
 marks-no o c stack old new none same =
-    (same-large old new same, λ x y in_width in_height. ap (λ (d : Damaged). has d x y) same ∙ or-false (has old x y) _ none)
+    (same-large old new same, λ x y in_width in_height. ap (λ (d : Damaged). has d x y) same ∙ sym (ap (λ b. has old x y || b) none ∙ or-false (has old x y)))
 
 -- none of its toplevels stood
 pub marks-none : (o : Option Cause) (c : ℕ) (stack : Stack) (old new : Damaged) → stands_any c stack ≡ false → new ≡ old → MarksEnd o c stack old new
-marks-none o c stack old new none same = marks-no o c stack old new (and-second (is_some o) (stands_any c stack) none) same
+marks-none o c stack old new none same = marks-no o c stack old new (and_right (is_some o) (stands_any c stack) none) same
 
 -- where it lives, the stack doesn't matter
 marks-lives : (o : Option Cause) (c : ℕ) (was is : Stack) (old new : Damaged) → is_some o ≡ false → MarksEnd o c is old new → MarksEnd o c was old new
 marks-lives o c was is old new lives marks =
-    (marks.0, λ x y in_width in_height. marks.1 x y in_width in_height ∙ ap (λ b. has old x y || b) (and-first (is_some o) (stands_any c is) lives ∙ sym (and-first (is_some o) (stands_any c was) lives)))
+    (marks.0, λ x y in_width in_height. marks.1 x y in_width in_height ∙ ap (λ b. has old x y || b) (and_left (is_some o) (stands_any c is) lives ∙ sym (and_left (is_some o) (stands_any c was) lives)))
 
 -- What was done to the stack before changes nothing of that: where it ended by that, the stack is as it was.
 pub marks-settled : {A : Type 0} (c : ℕ) (stacking : Stacking) (v mid : Kept A) (was between : Stack) (old new : Damaged) → is_some v.client.ended ≡ false → IsRestacked c stacking v mid was between

@@ -1,8 +1,7 @@
-use Rattle.std.proofs.Common.{rules, tests, ◌≡◌}
+use Rattle.std.proofs.Common.{rules, tests}
 use Rattle.std.proofs.lemmas.Iterator.{YieldsList-from_slice}
 use Rattle.std.proofs.lemmas.Iterator.Search.{any_from_yields_List}
 use Rattle.std.specs.Prelude.{◌==◌}
-use Rattle.std.specs.List.{list_any}
 use Rattle.wl_scene.specs.Stacking.{standing_of}
 use Rattle.wl_desk.proofs.Seats.{any-mapped}
 use Rattle.wl_desk.proofs.feeding.stands_any.Goals as goal

@@ -1,4 +1,4 @@
-use Rattle.std.proofs.Common.{refl, subst, sym, ◌∙◌, ◌≡◌}
+use Rattle.std.proofs.Common.{refl, sym, ◌∙◌, ◌≡◌}
 use Rattle.wl_client.specs.Agreement.{IsPeer}
 use Rattle.wl_desk.specs.Seats.{ended_by}
 use Rattle.wl_desk.proofs.Seats.{marks-left}
