@@ -51,3 +51,5 @@ pub mod TouchingMessages
 pub mod Lends
 pub mod Lending
 pub mod Painting
+pub mod Kept
+pub mod MarkedCalls
