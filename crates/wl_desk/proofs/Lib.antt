@@ -53,3 +53,4 @@ pub mod Lending
 pub mod Painting
 pub mod Kept
 pub mod MarkedCalls
+pub mod PaintedDesks

@@ -45,9 +45,13 @@ neither : (a b : Bool) → (a || b) ≡ false → (a ≡ false) × (b ≡ false)
 neither true b e = absurd (cc)
 neither false b e = (refl, e)
 
-or-none : (a : Bool) → (a || false) ≡ a
+pub or-none : (a : Bool) → a ≡ (a || false)
 or-none true = refl
 or-none false = refl
+
+pub or-all : (a : Bool) → true ≡ (a || true)
+or-all true = refl
+or-all false = refl
 
 unless : (b : Bool) → (b ≡ true → ⊥) → b ≡ false
 unless true h = absurd (h refl)

@@ -1,4 +1,5 @@
-use Rattle.std.proofs.Common.{false, ap, sym, ◌∙◌}
+use Rattle.std.proofs.Common.{false, true, ap, sym, ◌∙◌}
+use Rattle.std.proofs.lemmas.List.{length-set}
 use Rattle.wl_desk.specs.Steps.{IsClosed}
 use Rattle.wl_desk.specs.declared.answers.Done.TheVariants as gave
 use Rattle.wl_desk.proofs.Calls.{Changes-none, closed, found, unclosed}
@@ -31,3 +32,9 @@ pub returns-clause-marks : goal.returns-clause-marks
 returns-clause-marks g c = λ d e a steps.
     rw (← c.self.view_is) (closed-marks c.self.inside.output c.self.inside.clients.items c.self.inside.owned.items c.self.inside.scene c.args.client c.in-Some.k (found _ _ _ _ _ c.deref.ensures.value c.in-Some.ensures.some c.self.invariant.0) d (rw (← c.self.view_is) at a)
     _ (gave.Close true) e c.stands_any.result c.self.inside.damage c.mark_if.new.damage c.index.ensures (sym c.has_ended.ensures ∙ c.if-not-has_ended.false) c.mark_if.ensures.marks steps)
+
+pub invariant_of-self : goal.invariant_of-self
+invariant_of-self g c = (
+  (length-set _ _ _ ∙ c.self.invariant.0.0, length-set _ _ _ ∙ c.self.invariant.0.1),
+  (c.mark_if.ensures.sides.width ∙ c.self.invariant.1.0, c.mark_if.ensures.sides.height ∙ c.self.invariant.1.1),
+)
