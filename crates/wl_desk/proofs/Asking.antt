@@ -47,7 +47,7 @@ seat-refused r object version request (inr is) = rw is.1 refl
 
 -- ---- a message that is refused before its own errors are looked at
 
-passing-peer : (v : ClientView) (p : Peer) (object opcode size : ℕ) (answer : Result Message Refusal) → IsPeer v p → passing_in v object opcode size ≡ answer
+pub passing-peer : (v : ClientView) (p : Peer) (object opcode size : ℕ) (answer : Result Message Refusal) → IsPeer v p → passing_in v object opcode size ≡ answer
     → passing p.objects p.held opcode (take (size - 8) (drop 8 p.rest)) (p.objects object) ≡ answer
 passing-peer v p object opcode size answer is e =
     let objects = objects_in v.objects in

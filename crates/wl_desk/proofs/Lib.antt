@@ -48,6 +48,7 @@ pub mod Touching
 pub mod TouchingAsks
 pub mod TouchingSteps
 pub mod TouchingMessages
+pub mod MarkedMessages
 pub mod Lends
 pub mod Lending
 pub mod Painting

@@ -1,11 +1,11 @@
 -- What the desk marks to be painted again.
-use Rattle.std.specs.Prelude.{ℕ, ◌≡◌, ◌==◌, ◌<◌, ◌&&◌, ◌||◌, pos, Bool, false, Option, Some, None, is_some}
+use Rattle.std.specs.Prelude.{ℕ, [], ◌≡◌, ◌==◌, ◌<◌, ◌&&◌, ◌||◌, pos, Bool, false, Option, Some, None, is_some}
 use Rattle.std.specs.List.{list_any}
 use Rattle.wl_proto.specs.declared.wl_surface.WlSurfaceRequest.TheVariants.{Commit}
 use Rattle.wl_client.specs.declared.clients.Cause.{Cause}
 use Rattle.wl_paint.specs.Damage.{Damaged, has}
 use Rattle.wl_scene.specs.Stacking.{Stack}
-use Rattle.wl_desk.specs.Desktop.{Desktop}
+use Rattle.wl_desk.specs.Desktop.{Desktop, owned_in}
 use Rattle.wl_desk.specs.Moments.{marks_at_least}
 use Rattle.wl_desk.specs.declared.messages.Asked.{Asked}
 use Rattle.wl_desk.specs.declared.messages.Asked.TheVariants as asked
@@ -17,6 +17,10 @@ use Rattle.wl_desk.specs.declared.xdg_toplevel.ToplevelAsked.TheVariants.{Destru
 pub record IsAsLarge (old new : Damaged) : Type 0 where
   pub width : new.width ≡ old.width
   pub height : new.height ≡ old.height
+
+-- no surface of a client is linked to another
+abbrev pub AreUnlinked : Desktop → Type 0
+AreUnlinked d = (c : ℕ) → (owned_in d c).surfaces.links ≡ []
 
 -- what is to be painted stays so, and what a step from one desktop to the other marks at least is to be painted too
 abbrev pub Marks : Desktop → Desktop → Damaged → Damaged → Type 0

@@ -3,7 +3,7 @@
 ghost use Rattle.std.specs.Prelude.{ℕ, ◌≡◌, ◌<◌, ◌≤◌, ◌||◌, None, Some, length, pos, true, false};
 ghost use Rattle.wl_proto.specs.declared.interface.Interface.TheVariants.{WlSurface};
 ghost use Rattle.wl_paint.specs.Damage.{has};
-ghost use Rattle.wl_desk.specs.Marking.{IsAsLarge, Marks, MarksEnd, stands_any};
+ghost use Rattle.wl_desk.specs.Marking.{AreUnlinked, IsAsLarge, Marks, MarksEnd, stands_any};
 ghost use Rattle.wl_desk.specs.Owning.{targets_in};
 ghost use Rattle.wl_desk.specs.Touching.{is_window_at};
 ghost use Rattle.wl_client.specs.Objects.{ById};
@@ -124,7 +124,7 @@ impl<A: Allocator + Copy> Resident<A> {
     ) -> bool
         ensures serves { result ≡ true → (others : ℕ → ById ℕ) (base d : Desktop) (r : Plain) → IsSeated client others base self.old scene.old d r
             → (e : Desktop) × (q : Plain) × Serves beyond_toplevels client d e × IsSeated client others base self.new scene.new e q }
-        ensures marks { result ≡ true → (others : ℕ → ById ℕ) (base d : Desktop) (r : Plain) → IsSeated client others base self.old scene.old d r
+        ensures marks { result ≡ true → (others : ℕ → ById ℕ) (base d : Desktop) (r : Plain) → AreUnlinked base → IsSeated client others base self.old scene.old d r
             → (e : Desktop) (q : Plain) → Serves beyond_toplevels client d e → IsSeated client others base self.new scene.new e q
             → Marks d e damage.old damage.new }
         ensures idle { result ≡ false → (self.new ≡ self.old) × (scene.new ≡ scene.old) × (damage.new ≡ damage.old) × IsIdleAt self.old.client.ended self.old.client.rest }

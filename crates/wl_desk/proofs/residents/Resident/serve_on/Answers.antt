@@ -1,6 +1,24 @@
+use Rattle.wl_wire.specs.Wire.{split_of}
+use Rattle.wl_desk.proofs.MarkedMessages.{keeps-numbers, message-marks}
 use Rattle.wl_desk.proofs.Taking.{served}
 use Rattle.wl_desk.proofs.residents.Resident.serve_on.Goals as goal
 
 pub returns-clause-serves : goal.returns-clause-serves
 returns-clause-serves g c = λ some others base d r is.
     served _ others base d r c.in-Some.stacking _ _ _ _ _ is c.in-Some.ensures.lives (c.in-Some.ensures.takes r (record { peer = is.seat.peer; owns = is.seat.owns })) c.settle.ensures.settles
+
+pub returns-clause-marks : goal.returns-clause-marks
+returns-clause-marks g c = λ some others base d r unlinked before e q serves after.
+    let old = c.args.self.now in
+    let new = c.settle.new.self in
+    let was = c.args.scene.now in
+    let now = c.settle.new.scene in
+    let takes = c.in-Some.ensures.takes r (record { peer = before.seat.peer; owns = before.seat.owns }) in
+    let first = c.mark_touched.ensures in
+    let second = c.mark_touched-2.ensures in
+    message-marks c.args.client others base d e r q old new was now before after unlinked serves c.asked-asked.result c.asked-asked.ensures
+    (keeps-numbers (split_of r.peer.rest) r c.args.client c.in-Some.stacking old c.serve.new.self new was now takes c.settle.ensures.settles)
+    c.touched_by-touched.result c.touched_by-touched.ensures c.args.damage.now c.mark_touched.new.damage c.settle.new.damage c.mark_touched-2.new.damage
+    (record { marks = first.marks; more = first.more; sides = first.sides })
+    c.settle.ensures.marks
+    (record { marks = second.marks; more = second.more; sides = second.sides })
