@@ -11,13 +11,14 @@ use Rattle.wl_proto.specs.declared.wl_seat.WlSeatRequest.TheVariants.{GetKeyboar
 use Rattle.wl_client.specs.Agreement.{IsPeer}
 use Rattle.wl_client.specs.First.{IsRefused, Passes, passing, passing_in}
 use Rattle.wl_client.specs.Objects.{Object, Objects, fits, object_of, objects_in}
-use Rattle.wl_client.specs.Peer.{Errs, Peer, QueuesOr, counted, ended, has_room, queued, with_rest}
+use Rattle.wl_client.specs.Peer.{Errs, IsIdleAt, Peer, QueuesOr, counted, ended, has_room, queued, with_rest}
 use Rattle.std.specs.List.{list_all}
 use Rattle.wl_proto.specs.Objects.{new_id_in}
 use Rattle.wl_proto.specs.Objects.{objects_in as objects_named}
 use Rattle.wl_proto.specs.declared.argument.NewId.{NewId}
 use Rattle.wl_client.specs.Judgement.{is_free, judged_at}
 use Rattle.wl_client.specs.Told.{code_number, display_error, error_told}
+use Rattle.wl_client.specs.declared.clients.Cause.{Cause}
 use Rattle.wl_client.specs.declared.clients.Cause.TheVariants.{Protocol}
 use Rattle.wl_shell.specs.Shell.{Maps, Unmaps, xdg_at}
 use Rattle.wl_table.specs.Objects.{Held}
@@ -33,6 +34,10 @@ use Rattle.wl_desk.specs.declared.residents.Stacking.{Stacking}
 use Rattle.wl_desk.specs.declared.residents.Stacking.TheVariants.{Stays}
 use Rattle.wl_desk.specs.Ask.{Ask, CommitSurface, DestroyToplevel}
 use Rattle.wl_desk.specs.Desktop.{Resident}
+use Rattle.wl_desk.specs.Marking.{marked_by}
+use Rattle.wl_desk.specs.Messages.{IsAsked}
+use Rattle.wl_desk.specs.declared.messages.Asked.{Asked}
+use Rattle.wl_desk.specs.declared.messages.Asked.TheVariants as asks
 use Rattle.wl_desk.specs.Residents.{Answers, AnswersSo, IsResident, NewIsFree, ObjectsFit, StacksBy, StacksSo, TakesSo}
 use Rattle.wl_desk.specs.Served.{beyond_toplevels}
 use Rattle.wl_desk.specs.Step.{ask_of, changed_by, judge, surface_of, with_peer}
@@ -154,3 +159,19 @@ module _ {A : Type 0} (old : Kept A) (r : Resident) (object version size target 
         subst (λ (j : Result Ask Refusal). AnswersSo j left old new) (sym judged-first) (answers-from old mid new left (ask_of beyond_toplevels left object version m) objects (answers left there)),
         subst (λ (j : Result Ask Refusal). StacksSo old r j stacking) (sym judged-first) (stacks-from old mid r (drop size r.peer.rest) (ask_of beyond_toplevels left object version m) stacking objects (stacks left there)),
       )
+
+-- ---- where there is no whole message
+
+pub idle-more : (o : Option Cause) (rest : List ℕ) → is_some o ≡ false → IsIdleAt o rest → split_of rest ≡ More
+idle-more None rest e idle = idle
+idle-more (Some cause) rest e idle = absurd (cc)
+
+-- no window is touched by it
+pub idle-unmarked : (v : ClientView) (asked : Asked) → IsAsked v asked → split_of v.rest ≡ More → marked_by asked ≡ None
+idle-unmarked v asks.More is more = refl
+idle-unmarked v (asks.Refused refusal) is more = refl
+idle-unmarked v asks.Own is more = refl
+idle-unmarked v (asks.Request object version size target kind) is more = absurd (apart object is.0.opcode size (sym more ∙ is.1.first))
+  where
+    apart : (object opcode size : ℕ) → More ≡ Whole object opcode size → ⊥
+    apart object opcode size e = absurd (cc)

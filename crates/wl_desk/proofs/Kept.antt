@@ -20,7 +20,7 @@ use Rattle.wl_desk.specs.Agreement.{Agrees, IsPlace, IsScene, IsSeat, numbers_in
 use Rattle.wl_desk.specs.Ask.{Ask}
 use Rattle.wl_desk.specs.Desktop.{Desktop, Resident, become, become_by, client_at, client_in, resident_of, with_number}
 use Rattle.wl_desk.specs.Feeding.{IsIdleIn, IsIdleOf, ended_at, ended_of, kept_at, kept_by, kept_in, kept_of, kept_while, rest_in, rest_of, served_as, served_by, served_of}
-use Rattle.wl_desk.specs.Marking.{Marks}
+use Rattle.wl_desk.specs.Marking.{AreUnlinked, Marks}
 use Rattle.wl_desk.specs.Seats.{IsSeated, ended_by}
 use Rattle.wl_desk.specs.Served.{Unserved, beyond_toplevels}
 use Rattle.wl_desk.specs.Step.{Answers, Becomes, Serves, ServesAt, Takes, WantsOr, changed_by, stacked, takes_memory}
@@ -29,6 +29,7 @@ use Rattle.wl_desk.specs.View.{DeskView, OwnedView, owned_view}
 use Rattle.wl_desk.specs.declared.residents.Resident.{Resident as Kept}
 use Rattle.wl_desk.proofs.Calls.{IsFound, back, client-here, client-there, out, place-here, place-none, untaken, view_of}
 use Rattle.wl_desk.proofs.Desktops.{IsPut, at, at-map, at-within, client-past, numbers-put, place-at, put-map, put-set, put-twice, seated-back}
+use Rattle.wl_desk.proofs.MarkedCalls.{unlinked}
 use Rattle.wl_desk.proofs.Places.{number-same, stacked-clients}
 use Rattle.wl_desk.proofs.Scenes.{stack-by}
 use Rattle.wl_desk.proofs.Telling.{come-seated, come_on, come_to}
@@ -147,12 +148,12 @@ module _ {A : Type 0} (output : Output) (us : List (Option ClientView)) (os : Li
       )
 
   pub serves-marks : (v new : Kept A) (x x2 : Option ClientView) (y y2 : Option (Owned A)) (now : Stack) (e : Desktop) (before after : Damaged) → x ≡ get_or us k x → y ≡ get_or os k y → (x ≡ Some v.client) × (y ≡ Some v.owned)
-      → ((r : Resident) → IsSeated c (numbers_in us) d v stack d r → (e : Desktop) (q : Resident) → Serves beyond_toplevels c d e → IsSeated c (numbers_in us) d new now e q → Marks d e before after)
+      → ((r : Resident) → AreUnlinked d → IsSeated c (numbers_in us) d v stack d r → (e : Desktop) (q : Resident) → Serves beyond_toplevels c d e → IsSeated c (numbers_in us) d new now e q → Marks d e before after)
       → Serves beyond_toplevels c d e → Agrees (put-back new x2 y2 now) e → Marks d e before after
   serves-marks v new x x2 y y2 now e before after f g taken marks serves b =
       let s = out output us os stack c k is d a v x y f g taken in
       let n = seated-new new x2 y2 now e s.0 s.1 serves b in
-      marks s.0 s.2 e n.0 serves n.1
+      marks s.0 (unlinked (view_of output us os stack) d a) s.2 e n.0 serves n.1
 
   -- there was no message
   pub idles : (v new : Kept A) (x x2 : Option ClientView) (y y2 : Option (Owned A)) (now : Stack) → x ≡ get_or us k x → y ≡ get_or os k y → (x ≡ Some v.client) × (y ≡ Some v.owned)

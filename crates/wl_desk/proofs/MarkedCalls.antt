@@ -17,7 +17,7 @@ use Rattle.wl_desk.specs.Agreement.{Agrees, IsPlace, IsStack, numbers_in}
 use Rattle.wl_desk.specs.Desktop.{Desktop, Resident, arrival, become, become_by, client_at, client_in, owned_in, owned_of, place, windows_in, with_client, with_number, with_place}
 use Rattle.wl_desk.specs.Feeding.{ended_at, ended_of}
 use Rattle.wl_desk.specs.Laws.{OwnsNothing, status_of}
-use Rattle.wl_desk.specs.Marking.{Marks, MarksEnd, stands_any}
+use Rattle.wl_desk.specs.Marking.{AreUnlinked, Marks, MarksEnd, stands_any}
 use Rattle.wl_desk.specs.Moments.{marks_at_least}
 use Rattle.wl_desk.specs.Seats.{IsChangedSo, IsSeated, ended_by, has_ended_in}
 use Rattle.wl_desk.specs.Standing.{AreMapped}
@@ -70,7 +70,7 @@ unlinked-here (Some v) None (Some r) here = absurd here
 unlinked-here (Some v) (Some o) None here = absurd here
 
 -- no surface is linked to another
-pub unlinked : (w : DeskView) (d : Desktop) → Agrees w d → (c : ℕ) → (owned_in d c).surfaces.links ≡ []
+pub unlinked : (w : DeskView) (d : Desktop) → Agrees w d → AreUnlinked d
 unlinked w d a zero = refl
 unlinked w d a (suc k) = unlinked-here (at w.clients k) (at w.owned k) (client_at (suc k) d) (place-at w d k a)
 

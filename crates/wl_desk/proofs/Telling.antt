@@ -6,6 +6,7 @@ use Rattle.wl_store.specs.declared.stores.StoreError.{StoreError}
 use Rattle.wl_client.specs.Agreement.{IsPeer}
 use Rattle.wl_client.specs.Objects.{ById}
 use Rattle.wl_client.specs.Peer.{IsIdleAt, Peer, ended, left_by as gone_by, sent_by, stored_at, stored_by, with_rest}
+use Rattle.wl_client.specs.View.{ClientView}
 use Rattle.wl_client.specs.declared.clients.Cause.{Cause}
 use Rattle.wl_client.specs.declared.clients.Cause.TheVariants.{Gone, Memory}
 use Rattle.wl_table.specs.Objects.{Held}
@@ -15,7 +16,7 @@ use Rattle.wl_scene.specs.declared.owned.Owned.{Owned as Keeps}
 use Rattle.wl_desk.specs.Agreement.{IsScene, with_numbers}
 use Rattle.wl_desk.specs.Desktop.{Desktop, Resident, become, become_by}
 use Rattle.wl_desk.specs.Owning.{IsOwned, names_in, targets_in}
-use Rattle.wl_desk.specs.Seats.{IsClearedBy, IsSeated}
+use Rattle.wl_desk.specs.Seats.{IsClearedBy, IsSeated, ended_by}
 use Rattle.wl_desk.specs.Served.{beyond_toplevels}
 use Rattle.wl_desk.specs.Step.{Feeds, FeedsAt, Reaches, StopsAt}
 use Rattle.wl_proto.specs.declared.interface.Interface.TheVariants.{WlSurface}
@@ -102,22 +103,46 @@ told-stored store at bytes old mid r peer owned table =
     let so = stored-so r.peer.status store at bytes r.peer in
     told-same old mid r (stored_at r.peer.status store at bytes r.peer) so.0 so.1 peer owned table
 
-left-so : (s : Option Cause) (p : Peer) → p.status ≡ s → is_some (gone_by s p).status ≡ true
-left-so None p e = refl
-left-so (Some cause) p e = ap (λ (o : Option Cause). is_some o) e
+ended-so : (s : Option Cause) (cause : Cause) (p : Peer) → p.status ≡ s → is_some (ended_by s cause p).status ≡ true
+ended-so None cause p e = refl
+ended-so (Some was) cause p e = ap (λ (o : Option Cause). is_some o) e
 
-left-over : (s : Option Cause) (p : Peer) → p.status ≡ s → IsOver (gone_by s p) ⊎ ((is_some p.status ≡ true) × ((gone_by s p).objects ≡ p.objects))
-left-over None p e = inl (Gone, p, refl)
-left-over (Some cause) p e = inr (ap (λ (o : Option Cause). is_some o) e, refl)
+ended-over : (s : Option Cause) (cause : Cause) (p : Peer) → p.status ≡ s → IsOver (ended_by s cause p) ⊎ ((is_some p.status ≡ true) × ((ended_by s cause p).objects ≡ p.objects))
+ended-over None cause p e = inl (cause, p, refl)
+ended-over (Some was) cause p e = inr (ap (λ (o : Option Cause). is_some o) e, refl)
 
-pub told-gone : {A : Type 0} (old mid : Kept A) (r : Resident) → IsPeer mid.client (gone_by r.peer.status r.peer) → mid.owned ≡ old.owned → Told old mid r (gone_by r.peer.status r.peer)
-told-gone old mid r peer owned =
+pub told-ended : {A : Type 0} (cause : Cause) (old mid : Kept A) (r : Resident) → IsPeer mid.client (ended_by r.peer.status cause r.peer) → mid.owned ≡ old.owned → Told old mid r (ended_by r.peer.status cause r.peer)
+told-ended cause old mid r peer owned =
     record {
       peer = peer;
       owned = owned;
-      lives = λ none. absurd (differ (none-is (gone_by r.peer.status r.peer).status none (left-so r.peer.status r.peer refl)));
-      gone = λ some. left-over r.peer.status r.peer refl;
+      lives = λ none. absurd (differ (none-is (ended_by r.peer.status cause r.peer).status none (ended-so r.peer.status cause r.peer refl)));
+      gone = λ some. ended-over r.peer.status cause r.peer refl;
     }
+
+goes-so : (s : Option Cause) (p : Peer) → ended_by s Gone p ≡ gone_by s p
+goes-so None p = refl
+goes-so (Some was) p = refl
+
+pub told-gone : {A : Type 0} (old mid : Kept A) (r : Resident) → IsPeer mid.client (gone_by r.peer.status r.peer) → mid.owned ≡ old.owned → Told old mid r (gone_by r.peer.status r.peer)
+told-gone old mid r peer owned =
+    let so = goes-so r.peer.status r.peer in
+    subst (λ (q : Peer). Told old mid r q) so (told-ended Gone old mid r (subst (λ (q : Peer). IsPeer mid.client q) (sym so) peer) owned)
+
+-- one that lives ends by this, and one that ended stays so
+pub ends-lives : (v : ClientView) (cause : Cause) (p : Peer) → v.ended ≡ p.status → is_some v.ended ≡ false → (w : ClientView) → IsPeer w (ended cause p) → IsPeer w (ended_by p.status cause p)
+ends-lives v cause p status lives w is = at p.status (ap (λ (o : Option Cause). is_some o) (sym status) ∙ lives)
+  where
+    at : (s : Option Cause) → is_some s ≡ false → IsPeer w (ended_by s cause p)
+    at None e = is
+    at (Some was) e = absurd (differ e)
+
+pub ends-ended : (v : ClientView) (cause : Cause) (p : Peer) → is_some v.ended ≡ true → IsPeer v p → IsPeer v (ended_by p.status cause p)
+ends-ended v cause p ended is = at p.status (ap (λ (o : Option Cause). is_some o) (sym is.status) ∙ ended)
+  where
+    at : (s : Option Cause) → is_some s ≡ true → IsPeer v (ended_by s cause p)
+    at None e = absurd (differ (sym e))
+    at (Some was) e = is
 
 -- ---- a piece
 
