@@ -1,9 +1,12 @@
 //! What of the output a message marks to be painted again.
 
-ghost use Rattle.std.specs.Prelude.{ℕ, ◌≡◌, ◌<◌, ◌||◌, Some, pos, true};
+ghost use Rattle.std.specs.Prelude.{ℕ, ◌≡◌, ◌<◌, ◌+ℤ◌, ◌-◌, ◌^◌, ◌&&◌, ◌||◌, Some, min, pos, true};
 ghost use Rattle.wl_proto.specs.declared.interface.Interface.TheVariants.{WlSurface};
 ghost use Rattle.wl_client.specs.Objects.{ById};
+ghost use Rattle.wl_geom.specs.Rect.{in_span};
+ghost use Rattle.wl_surface.specs.State.{within_bounds};
 ghost use Rattle.wl_paint.specs.Damage.{has};
+ghost use Rattle.wl_scene.specs.Stacking.{is_of, standing_of};
 ghost use Rattle.wl_desk.specs.Desktop.{Desktop, Resident as Plain};
 ghost use Rattle.wl_desk.specs.Marking.{IsAsLarge, marked_by};
 ghost use Rattle.wl_desk.specs.Owning.{targets_in};
@@ -47,12 +50,17 @@ pub(crate) fn touched_by(asked: &Asked) -> Option<SurfaceNo>
 
 /// A side as one of a rectangle, which is never so long.
 fn side_of(side: u32) -> i32
+    ensures { result ≡ pos (min side (2 ^ 31 - 1)) }
 {
     i32::try_from(side).unwrap_or(i32::MAX)
 }
 
 /// The window of a toplevel whose surface shows this.
 fn window_rect<A: Allocator>(toplevel: &Toplevel, current: &Current<'_, A>) -> Rect
+    ensures x { result.x ≡ within_bounds (toplevel.now.x +ℤ current.now.offset.x) }
+    ensures y { result.y ≡ within_bounds (toplevel.now.y +ℤ current.now.offset.y) }
+    ensures w { result.w ≡ pos (min current.now.w (2 ^ 31 - 1)) }
+    ensures h { result.h ≡ pos (min current.now.h (2 ^ 31 - 1)) }
 {
     let (x, y) = corner_of(toplevel, current.offset);
     Rect {
@@ -60,6 +68,24 @@ fn window_rect<A: Allocator>(toplevel: &Toplevel, current: &Current<'_, A>) -> R
         y,
         w: side_of(current.w),
         h: side_of(current.h),
+    }
+}
+
+/// The window of a toplevel is marked, if this is its surface, which shows that.
+fn mark_window<A: Allocator>(
+    damage: &mut Damage<A>,
+    toplevel: &Toplevel,
+    surface: Surface,
+    current: &Current<'_, A>,
+)
+    ensures points { (x y : ℕ) → x < damage.old.width → y < damage.old.height → has damage.new x y
+        ≡ (has damage.old x y || (is_of surface.client surface.surface (standing_of toplevel.now)
+        && (in_span (within_bounds (toplevel.now.x +ℤ current.now.offset.x)) (pos (min current.now.w (2 ^ 31 - 1))) (pos x)
+        && in_span (within_bounds (toplevel.now.y +ℤ current.now.offset.y)) (pos (min current.now.h (2 ^ 31 - 1))) (pos y)))) }
+    ensures sides { IsAsLarge damage.old damage.new }
+{
+    if toplevel.surface == surface {
+        damage.add(window_rect(toplevel, current));
     }
 }
 
@@ -92,9 +118,7 @@ impl<A: Allocator + Copy> Resident<A> {
         };
         let place = Surface { client, surface };
         for toplevel in scene.toplevels() {
-            if toplevel.surface == place {
-                damage.add(window_rect(toplevel, &current));
-            }
+            mark_window(damage, toplevel, place, &current);
         }
     }
 }
