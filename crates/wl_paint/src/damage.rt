@@ -56,12 +56,14 @@ impl<A: Allocator> Damage<A> {
         self.rows[y as usize].has(x)
     }
 
-    /// Adds the points of the rectangle that lie in the output.
+    /// Adds the points of the rectangle that lie in the output, whose sides are 4,096 pixels at most.
     pub fn add(&mut self, rect: Rect)
         ensures points { (x y : ℕ) → x < self.old.width → y < self.old.height
             → has self.new x y ≡ (has self.old x y || in_rect (pos x) (pos y) rect) }
         ensures width { self.new.width ≡ self.old.width }
         ensures height { self.new.height ≡ self.old.height }
+        ensures wide { self.new.width ≤ 4096 }
+        ensures high { self.new.height ≤ 4096 }
     {
         let (left, right) = clipped(rect.x, rect.w, self.width);
         let (top, bottom) = clipped(rect.y, rect.h, self.height);

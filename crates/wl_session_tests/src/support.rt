@@ -1,7 +1,7 @@
 //! Sessions as tables: rows of what is done in a session, or of how it is, each with what is wanted of it.
 
 use std::alloc::Global;
-use wl_session::{Cause, Config, Done, Fed, Rgb, Session, Step};
+use wl_session::{Cause, Config, Done, Fed, Rgb, Session, Step, Stored};
 use wl_wire::{Arg, put};
 
 pub(crate) const CONFIG: Config = Config {
@@ -14,6 +14,10 @@ pub(crate) const CONFIG: Config = Config {
 #[derive(Clone, Copy)]
 pub(crate) struct Message<'a>(pub u32, pub u16, pub &'a [Arg<'a>]);
 
+/// A pixel of a frame: its column, its row, and its colour as red, green and blue.
+#[derive(Clone, Copy)]
+pub(crate) struct Pixel(pub usize, pub usize, pub u8, pub u8, pub u8);
+
 /// Something that is done in a session, or how the session is, with what is wanted of it.
 #[derive(Clone, Copy)]
 pub(crate) enum Row<'a> {
@@ -23,6 +27,8 @@ pub(crate) enum Row<'a> {
     Steps(Step<'a>, Done),
     /// The client 1 sends a message and lives on.
     Sends(Message<'a>),
+    /// A client sends a message and lives on.
+    From(u32, Message<'a>),
     /// The client 1 binds by its registry 2: a global's name, interface and version, and the new id. How the client is afterwards.
     Binds(u32, &'a [u8], u32, u32, Fed),
     /// The client 1 sends a message, and ends by an error of this object and code.
@@ -45,6 +51,12 @@ pub(crate) enum Row<'a> {
     Changes(u32, Message<'a>, Message<'a>),
     /// All that waits for the client 1 is taken.
     Takes,
+    /// All that waits for a client is taken.
+    TakesOf(u32),
+    /// So many pixels of a client's store from a byte on get this value: blue, green, red and alpha.
+    Fills(u32, u32, u32, u32, [u8; 4]),
+    /// A tick: how many points of its frame are damaged at least and at most, and some of its pixels.
+    Shows(u32, u32, &'a [Pixel]),
     /// How a client is.
     Is(u32, Fed),
     /// The bytes that wait for a client. None where no client has the number.
@@ -98,10 +110,20 @@ pub(crate) fn bytes_of(alloc: Global, messages: &[Message]) -> Option<Vec<u8, Gl
     Some(bytes)
 }
 
-/// How the client 1 is after a message. None where there is no memory for its bytes.
-fn sent(alloc: Global, session: &mut Session<Global>, message: Message) -> Option<Fed> {
+/// How a client is after a message. None where there is no memory for its bytes.
+fn sent_by(
+    alloc: Global,
+    session: &mut Session<Global>,
+    client: u32,
+    message: Message,
+) -> Option<Fed> {
     let bytes = bytes_of(alloc, &[message])?;
-    Some(session.feed(1, &bytes))
+    Some(session.feed(client, &bytes))
+}
+
+/// How the client 1 is after a message.
+fn sent(alloc: Global, session: &mut Session<Global>, message: Message) -> Option<Fed> {
+    sent_by(alloc, session, 1, message)
 }
 
 /// How the client 1 is after wl_registry.bind by its registry 2.
@@ -129,6 +151,45 @@ fn waiting(session: &Session<Global>) -> usize {
 fn take_all(session: &mut Session<Global>) -> bool {
     let count = waiting(session);
     session.sent(1, count)
+}
+
+fn take_all_of(session: &mut Session<Global>, client: u32) -> bool {
+    let count = session.out(client).map_or(0, |out| out.len());
+    session.sent(client, count)
+}
+
+fn fill(
+    session: &mut Session<Global>,
+    client: u32,
+    store: u32,
+    at: u32,
+    count: u32,
+    pixel: &[u8],
+) -> bool {
+    for k in 0..count {
+        let place = at.saturating_add(4u32.saturating_mul(k));
+        if session.store(client, store, place, pixel) != Stored::Done {
+            return false;
+        }
+    }
+    true
+}
+
+/// Whether a pixel of an image that is so wide is as wanted.
+pub(crate) fn is_pixel(bytes: &[u8], width: usize, pixel: &Pixel) -> bool {
+    let &Pixel(x, y, red, green, blue) = pixel;
+    let at = y.saturating_mul(width).saturating_add(x).saturating_mul(4);
+    match bytes.get(at..) {
+        Some(from) => from.starts_with(&[blue, green, red, 255]),
+        None => false,
+    }
+}
+
+fn shows(session: &mut Session<Global>, least: u32, most: u32, pixels: &[Pixel]) -> bool {
+    let frame = session.tick(0);
+    let count = frame.damage.count();
+    let bytes = frame.pixels.pixels();
+    least <= count && count <= most && pixels.iter().all(|pixel| is_pixel(bytes, 64, pixel))
 }
 
 pub(crate) fn has_out(session: &Session<Global>, client: u32, bytes: &[u8]) -> bool {
@@ -260,6 +321,9 @@ fn is_met(alloc: Global, session: &mut Session<Global>, row: &Row) -> bool {
         Row::Calls(step, wanted) => called(session, &step) == wanted,
         Row::Steps(step, wanted) => session.step(&step) == wanted,
         Row::Sends(message) => sent(alloc, session, message) == Some(Fed::Alive),
+        Row::From(client, message) => {
+            sent_by(alloc, session, client, message) == Some(Fed::Alive)
+        }
         Row::Binds(name, interface, version, id, fed) => {
             bind(alloc, session, name, interface, version, id) == Some(fed)
         }
@@ -275,6 +339,11 @@ fn is_met(alloc: Global, session: &mut Session<Global>, row: &Row) -> bool {
         Row::MakesSurfaces(first, past) => make_surfaces(alloc, session, first, past),
         Row::Changes(count, one, other) => change(alloc, session, count, &[one, other]),
         Row::Takes => take_all(session),
+        Row::TakesOf(client) => take_all_of(session, client),
+        Row::Fills(client, store, at, count, pixel) => {
+            fill(session, client, store, at, count, &pixel)
+        }
+        Row::Shows(least, most, pixels) => shows(session, least, most, pixels),
         Row::Is(client, wanted) => session.status(client) == wanted,
         Row::Waits(client, Some(bytes)) => has_out(session, client, bytes),
         Row::Waits(client, None) => session.out(client).is_none(),

@@ -1,15 +1,27 @@
-use Rattle.wl_wire.specs.Wire.{split_of}
-use Rattle.wl_desk.proofs.MarkedMessages.{keeps-numbers, message-marks}
 use Rattle.std.proofs.Common.{refl, sym, ◌∙◌, ◌≡◌}
+use Rattle.wl_wire.specs.Wire.{split_of}
 use Rattle.wl_wire.specs.declared.header.Split.TheVariants.{More}
 use Rattle.wl_desk.proofs.Asking.{idle-more, idle-unmarked}
 use Rattle.wl_desk.proofs.Seats.{large-then}
+use Rattle.wl_desk.proofs.MarkedMessages.{keeps-numbers, message-marks}
 use Rattle.wl_desk.proofs.Taking.{served}
 use Rattle.wl_desk.proofs.residents.Resident.serve_on.Goals as goal
 
 pub returns-clause-serves : goal.returns-clause-serves
 returns-clause-serves g c = λ some others base d r is.
     served _ others base d r c.in-Some.stacking _ _ _ _ _ is c.in-Some.ensures.lives (c.in-Some.ensures.takes r (record { peer = is.seat.peer; owns = is.seat.owns })) c.settle.ensures.settles
+
+pub returns-clause-sides : goal.returns-clause-sides
+returns-clause-sides g c =
+    large-then c.args.damage.now c.settle.new.damage c.mark_touched-2.new.damage
+    (large-then c.args.damage.now c.mark_touched.new.damage c.settle.new.damage c.mark_touched.ensures.sides c.settle.ensures.marks.0) c.mark_touched-2.ensures.sides
+
+pub returns-in_default-clause-idle : goal.returns-in_default-clause-idle
+returns-in_default-clause-idle g c = λ none.
+    let v = c.args.self.now.client in
+    let idle = c.in_default.ensures.idle in
+    let more : split_of v.rest ≡ More = idle-more v.ended v.rest (sym c.has_ended.ensures ∙ c.if-has_ended.false) idle.1 in
+    (idle.0, refl, c.mark_touched.ensures.nothing (c.touched_by-touched.ensures ∙ idle-unmarked v c.asked-asked.result c.asked-asked.ensures more), idle.1)
 
 pub returns-clause-marks : goal.returns-clause-marks
 returns-clause-marks g c = λ some others base d r unlinked before e q serves after.
@@ -26,15 +38,3 @@ returns-clause-marks g c = λ some others base d r unlinked before e q serves af
     (record { marks = first.marks; more = first.more; sides = first.sides })
     c.settle.ensures.marks
     (record { marks = second.marks; more = second.more; sides = second.sides })
-
-pub returns-clause-sides : goal.returns-clause-sides
-returns-clause-sides g c =
-    large-then c.args.damage.now c.settle.new.damage c.mark_touched-2.new.damage
-    (large-then c.args.damage.now c.mark_touched.new.damage c.settle.new.damage c.mark_touched.ensures.sides c.settle.ensures.marks.0) c.mark_touched-2.ensures.sides
-
-pub returns-in_default-clause-idle : goal.returns-in_default-clause-idle
-returns-in_default-clause-idle g c = λ none.
-    let v = c.args.self.now.client in
-    let idle = c.in_default.ensures.idle in
-    let more : split_of v.rest ≡ More = idle-more v.ended v.rest (sym c.has_ended.ensures ∙ c.if-has_ended.false) idle.1 in
-    (idle.0, refl, c.mark_touched.ensures.nothing (c.touched_by-touched.ensures ∙ idle-unmarked v c.asked-asked.result c.asked-asked.ensures more), idle.1)

@@ -1,0 +1,115 @@
+#!/usr/bin/env python3
+"""Measures what a tick of `wlframe replay` costs at 1920 by 1080.
+
+    bench/frames.py [--ticks N] [--rounds N]
+
+It writes recordings of clients with a window each, whose every tick is preceded by a commit of all of them, and plays them by the built
+program: one client with a window of the whole output; one with 8 by 8 points; 8 and 32 clients with 8 by 8 points; and ticks for
+which nobody committed. Each is played with few and with many ticks, one right after the other, and the difference is divided by the ticks
+between them, so that starting the program, making the image and mapping the windows aren't counted.
+
+Times are processor time, the program's own and the system's for it: the median of the rounds, with the least and the greatest. Pictures
+aren't written, and the report goes to /dev/null.
+"""
+import argparse
+import os
+import pathlib
+import statistics
+import struct
+import subprocess
+import sys
+import tempfile
+
+ROOT = pathlib.Path(__file__).resolve().parent.parent
+PROGRAM = ROOT / "crates" / "wlframe" / "out" / "wlframe"
+WIDTH, HEIGHT = 1920, 1080
+XRGB8888 = 1
+
+
+def message(sender, opcode, *arguments):
+    """A message whose arguments are words or strings."""
+    body = b""
+    for argument in arguments:
+        if isinstance(argument, str):
+            text = argument.encode() + b"\0"
+            body += struct.pack("<I", len(text)) + text + b"\0" * (-len(text) % 4)
+        else:
+            body += struct.pack("<I", argument & 0xFFFFFFFF)
+    return struct.pack("<IHH", sender, opcode, 8 + len(body)) + body
+
+
+def mapped(width, height):
+    """What a client sends until its window of this size is there."""
+    stride = 4 * width
+    return b"".join([
+        message(1, 1, 2),
+        message(2, 0, 1, "wl_compositor", 2, 3),
+        message(2, 0, 3, "wl_shm", 1, 4),
+        message(2, 0, 6, "xdg_wm_base", 1, 5),
+        message(3, 0, 6),
+        message(5, 2, 7, 6),
+        message(7, 1, 8),
+        message(6, 6),
+        message(7, 4, 1),
+        message(4, 0, 9, stride * height),
+        message(9, 0, 10, 0, width, height, stride, XRGB8888),
+    ]) + committed(width, height)
+
+
+def committed(width, height):
+    """A commit of the whole window."""
+    return message(6, 1, 10, 0, 0) + message(6, 2, 0, 0, width, height) + message(6, 6)
+
+
+def recording(clients, width, height, ticks, idle):
+    """So many ticks, each after a commit of every client unless they are idle."""
+    lines = []
+    for client in range(1, clients + 1):
+        lines += ["connect", f"bytes {client} {mapped(width, height).hex()}"]
+    lines.append("tick 0")
+    commits = [] if idle else [f"bytes {client} {committed(width, height).hex()}" for client in range(1, clients + 1)]
+    for tick in range(ticks):
+        lines += commits
+        lines.append(f"tick {tick + 1}")
+    return "\n".join(lines).encode() + b"\n"
+
+
+def seconds(text):
+    """The processor time of a run."""
+    with tempfile.TemporaryFile() as stream:
+        stream.write(text)
+        stream.seek(0)
+        child = subprocess.Popen([PROGRAM, "replay", "--size", f"{WIDTH}x{HEIGHT}"], stdin=stream, stdout=subprocess.DEVNULL)
+        _, status, used = os.wait4(child.pid, 0)
+    child.returncode = os.waitstatus_to_exitcode(status)
+    if child.returncode != 0:
+        sys.exit(f"the program ended with status {child.returncode}")
+    return used.ru_utime + used.ru_stime
+
+
+def measure(name, ticks, rounds, clients, width, height, idle=False):
+    """Prints milliseconds a tick."""
+    few = recording(clients, width, height, 1, idle)
+    many = recording(clients, width, height, 1 + ticks, idle)
+    samples = [(seconds(many) - seconds(few)) / ticks * 1e3 for _ in range(rounds)]
+    print(f"{name}: {statistics.median(samples):.3f} ms a tick ({min(samples):.3f} to {max(samples):.3f}, {rounds} rounds of {ticks} ticks)")
+
+
+def main():
+    parser = argparse.ArgumentParser(description=__doc__.splitlines()[0])
+    parser.add_argument("--ticks", type=int, default=20, help="full frames a run; small ones are 50 times as many")
+    parser.add_argument("--rounds", type=int, default=5)
+    words = parser.parse_args()
+    if not PROGRAM.exists():
+        sys.exit("build the program first: ./wlframe --help")
+    small = 50 * words.ticks
+    print(f"load {os.getloadavg()[0]:.1f}")
+    measure("1 client, the whole output", words.ticks, words.rounds, 1, WIDTH, HEIGHT)
+    measure("1 client, 8 by 8", small, words.rounds, 1, 8, 8)
+    measure("8 clients, 8 by 8", small, words.rounds, 8, 8, 8)
+    measure("32 clients, 8 by 8", small, words.rounds, 32, 8, 8)
+    measure("1 client, nothing committed", small, words.rounds, 1, 8, 8, idle=True)
+
+
+if __name__ == "__main__":
+    main()

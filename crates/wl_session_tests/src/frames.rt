@@ -1,0 +1,639 @@
+//! Frames of windows: what they show, and which points are painted again.
+
+use crate::pools::BUFFERS;
+use crate::support::{Case, Message, Pixel, REGISTRY, Row, bytes_of, is_pixel, play};
+use crate::toplevels::{
+    ACKNOWLEDGES, ATTACH_NONE, COMMIT, CONFIGURED, CONFIGURES, GLOBALS, MADE, MAPS,
+};
+use std::alloc::Global;
+use wl_session::{Config, Done, Fed, Rgb, Run, Session, Shot, Step};
+use wl_wire::Arg;
+
+/// Pixels as a store has them: blue, green, red and alpha.
+const RED: [u8; 4] = [0, 0, 255, 0];
+
+const GREEN: [u8; 4] = [0, 255, 0, 0];
+
+const WHITE: [u8; 4] = [255, 255, 255, 0];
+
+const HALF_RED: [u8; 4] = [0, 0, 128, 128];
+
+/// wl_surface.attach of the buffer 11.
+const ATTACH_11: Message = Message(6, 1, &[Arg::Object(11), Arg::Int(0), Arg::Int(0)]);
+
+/// The buffer 10 is all red before it is shown.
+const RED_10: &[Row] = &[Row::Fills(1, 1, 0, 1600, RED)];
+
+/// The window is there: 40 by 40 points at (0, 0), and black around it.
+const SHOWS_RED: &[Row] = &[
+    Row::Shows(
+        1600,
+        1600,
+        &[
+            Pixel(0, 0, 255, 0, 0),
+            Pixel(39, 39, 255, 0, 0),
+            Pixel(40, 0, 0, 0, 0),
+            Pixel(0, 40, 0, 0, 0),
+        ],
+    ),
+    Row::Shows(0, 0, &[Pixel(0, 0, 255, 0, 0)]),
+];
+
+/// The pool goes, and its store can be written to still: the buffers keep it.
+const WITHOUT_POOL: &[Row] = &[
+    Row::Sends(Message(9, 1, &[])),
+    Row::Told(&[Message(1, 1, &[Arg::Uint(9)])]),
+    Row::Takes,
+    Row::Fills(1, 1, 0, 1, RED),
+];
+
+const SHOWS_ONE_RED: &[Row] = &[Row::Shows(
+    1600,
+    1600,
+    &[
+        Pixel(0, 0, 255, 0, 0),
+        Pixel(1, 0, 0, 0, 0),
+        Pixel(0, 1, 0, 0, 0),
+    ],
+)];
+
+/// What is written after the commit is seen in the next frame: a buffer isn't copied (wayland.xml, wl_surface.attach).
+const WRITTEN_AFTERWARDS: &[Row] = &[
+    Row::Fills(1, 1, 0, 1600, GREEN),
+    Row::Shows(
+        1600,
+        1600,
+        &[Pixel(0, 0, 0, 255, 0), Pixel(39, 39, 0, 255, 0)],
+    ),
+];
+
+/// A later write is seen where a commit tells of it.
+const WRITTEN_LATER: &[Row] = &[
+    Row::Fills(1, 1, 0, 1, GREEN),
+    Row::Shows(0, 0, &[Pixel(0, 0, 255, 0, 0)]),
+    Row::Sends(Message(6, 2, &[Arg::Int(0), Arg::Int(0), Arg::Int(1), Arg::Int(1)])),
+    Row::Sends(COMMIT),
+    Row::Shows(1, 1600, &[Pixel(0, 0, 0, 255, 0), Pixel(1, 0, 255, 0, 0)]),
+];
+
+/// The window moves 3 to the right: what it left is painted again, and where it is now.
+const MOVES: &[Row] = &[
+    Row::Fills(1, 1, 6400, 1600, GREEN),
+    Row::Sends(Message(6, 1, &[Arg::Object(11), Arg::Int(3), Arg::Int(0)])),
+    Row::Sends(COMMIT),
+    Row::Shows(
+        1720,
+        1720,
+        &[
+            Pixel(0, 0, 0, 0, 0),
+            Pixel(2, 39, 0, 0, 0),
+            Pixel(3, 0, 0, 255, 0),
+            Pixel(42, 39, 0, 255, 0),
+            Pixel(43, 0, 0, 0, 0),
+        ],
+    ),
+];
+
+/// Without a buffer the window isn't mapped. Mapped again it stands in the next place, at (32, 32).
+const MAPPED_AGAIN: &[Row] = &[
+    Row::Sends(ATTACH_NONE),
+    Row::Sends(COMMIT),
+    Row::Shows(1600, 1600, &[Pixel(0, 0, 0, 0, 0), Pixel(39, 39, 0, 0, 0)]),
+    Row::Sends(COMMIT),
+    Row::Told(&[CONFIGURED, Message(7, 0, &[Arg::Uint(2)])]),
+    Row::Takes,
+    Row::Sends(Message(7, 4, &[Arg::Uint(2)])),
+    Row::Sends(Message(6, 1, &[Arg::Object(10), Arg::Int(0), Arg::Int(0)])),
+    Row::Sends(COMMIT),
+    Row::Shows(
+        512,
+        512,
+        &[
+            Pixel(0, 0, 0, 0, 0),
+            Pixel(31, 31, 0, 0, 0),
+            Pixel(32, 32, 255, 0, 0),
+            Pixel(63, 47, 255, 0, 0),
+        ],
+    ),
+];
+
+/// The toplevel goes, and its window with it.
+const DESTROYED: &[Row] = &[
+    Row::Sends(Message(8, 0, &[])),
+    Row::Shows(1600, 1600, &[Pixel(0, 0, 0, 0, 0), Pixel(39, 39, 0, 0, 0)]),
+];
+
+/// The client ends by an error, and its window goes.
+const ENDS: &[Row] = &[
+    Row::Errs(Message(7, 4, &[Arg::Uint(9)]), 7, 4),
+    Row::Shows(1600, 3072, &[Pixel(0, 0, 0, 0, 0), Pixel(39, 39, 0, 0, 0)]),
+];
+
+/// So it does where it goes by itself.
+const GOES: &[Row] = &[
+    Row::Calls(Step::Gone { client: 1 }, Done::Gone(true)),
+    Row::Shows(1600, 3072, &[Pixel(0, 0, 0, 0, 0), Pixel(39, 39, 0, 0, 0)]),
+];
+
+/// The buffer 10 stays shown, though its wl_buffer went and another has its id.
+const ID_USED_AGAIN: &[Row] = &[
+    Row::Sends(Message(10, 0, &[])),
+    Row::Sends(Message(
+        9,
+        0,
+        &[
+            Arg::NewId(10),
+            Arg::Int(6400),
+            Arg::Int(40),
+            Arg::Int(40),
+            Arg::Int(160),
+            Arg::Uint(1),
+        ],
+    )),
+    Row::Fills(1, 1, 6400, 1600, GREEN),
+    Row::Sends(COMMIT),
+    Row::Shows(0, 1600, &[Pixel(0, 0, 255, 0, 0), Pixel(39, 39, 255, 0, 0)]),
+];
+
+/// The client 2 has the registry 2, the wl_compositor 3, the wl_shm 4 and the xdg_wm_base 5, and a toplevel that was configured.
+const SECOND: &[Row] = &[
+    Row::Calls(Step::Connect, Done::Connect(Ok(2))),
+    Row::From(2, Message(1, 1, &[Arg::NewId(2)])),
+    Row::From(
+        2,
+        Message(
+            2,
+            0,
+            &[
+                Arg::Uint(1),
+                Arg::Str(b"wl_compositor"),
+                Arg::Uint(2),
+                Arg::NewId(3),
+            ],
+        ),
+    ),
+    Row::From(
+        2,
+        Message(
+            2,
+            0,
+            &[
+                Arg::Uint(3),
+                Arg::Str(b"wl_shm"),
+                Arg::Uint(1),
+                Arg::NewId(4),
+            ],
+        ),
+    ),
+    Row::From(
+        2,
+        Message(
+            2,
+            0,
+            &[
+                Arg::Uint(6),
+                Arg::Str(b"xdg_wm_base"),
+                Arg::Uint(1),
+                Arg::NewId(5),
+            ],
+        ),
+    ),
+    Row::From(2, Message(3, 0, &[Arg::NewId(6)])),
+    Row::From(2, Message(5, 2, &[Arg::NewId(7), Arg::Object(6)])),
+    Row::From(2, Message(7, 1, &[Arg::NewId(8)])),
+    Row::From(2, COMMIT),
+    Row::From(2, Message(7, 4, &[Arg::Uint(1)])),
+    Row::From(2, Message(4, 0, &[Arg::NewId(9), Arg::Int(6400)])),
+    Row::TakesOf(2),
+];
+
+/// A buffer 10 of 40 by 40 pixels with alpha, half red, is mapped.
+const SECOND_BUFFER: &[Row] = &[
+    Row::From(
+        2,
+        Message(
+            9,
+            0,
+            &[
+                Arg::NewId(10),
+                Arg::Int(0),
+                Arg::Int(40),
+                Arg::Int(40),
+                Arg::Int(160),
+                Arg::Uint(0),
+            ],
+        ),
+    ),
+    Row::Fills(2, 1, 0, 1600, HALF_RED),
+    Row::From(
+        2,
+        Message(6, 1, &[Arg::Object(10), Arg::Int(0), Arg::Int(0)]),
+    ),
+    Row::From(2, COMMIT),
+    Row::Waits(2, Some(&[])),
+];
+
+/// Half red over white, and over the background; the other window is as it was.
+const SHOWS_BOTH: &[Row] = &[Row::Shows(
+    512,
+    512,
+    &[
+        Pixel(31, 31, 255, 255, 255),
+        Pixel(32, 32, 255, 127, 127),
+        Pixel(39, 39, 255, 127, 127),
+        Pixel(40, 32, 128, 0, 0),
+        Pixel(63, 47, 128, 0, 0),
+    ],
+)];
+
+const WHITE_10: &[Row] = &[Row::Fills(1, 1, 0, 1600, WHITE)];
+
+const SHOWS_WHITE: &[Row] = &[Row::Shows(1600, 1600, &[Pixel(39, 39, 255, 255, 255)])];
+
+/// The client below commits again: its window is painted below the other.
+const BELOW: &[Row] = &[
+    Row::Sends(ATTACH_11),
+    Row::Sends(COMMIT),
+    Row::Shows(
+        1600,
+        1600,
+        &[
+            Pixel(31, 31, 0, 0, 0),
+            Pixel(32, 32, 128, 0, 0),
+            Pixel(40, 40, 128, 0, 0),
+        ],
+    ),
+];
+
+/// The client 1 ends: its window goes, and that of the client 2 stays, which is told nothing.
+const OTHER_STAYS: &[Row] = &[
+    Row::Errs(Message(7, 4, &[Arg::Uint(9)]), 7, 4),
+    Row::Is(2, Fed::Alive),
+    Row::Waits(2, Some(&[])),
+    Row::Shows(
+        1600,
+        3072,
+        &[
+            Pixel(31, 31, 0, 0, 0),
+            Pixel(32, 32, 128, 0, 0),
+            Pixel(63, 47, 128, 0, 0),
+        ],
+    ),
+];
+
+/// A client whose buffer comes before its configure was acknowledged ends; the window of the other stays.
+const UNCONFIGURED: &[Row] = &[
+    Row::Sends(Message(6, 1, &[Arg::Object(10), Arg::Int(0), Arg::Int(0)])),
+    Row::Errs(COMMIT, 7, 3),
+    Row::Is(2, Fed::Alive),
+    Row::Waits(2, Some(&[])),
+    Row::Shows(0, 1600, &[Pixel(0, 0, 128, 0, 0), Pixel(39, 39, 128, 0, 0)]),
+];
+
+const SHOWS_SECOND_ALONE: &[Row] = &[Row::Shows(
+    1600,
+    1600,
+    &[Pixel(0, 0, 128, 0, 0), Pixel(40, 40, 0, 0, 0)],
+)];
+
+const CASES: &[Case] = &[
+    (
+        "a window shows what its store has",
+        &[
+            REGISTRY,
+            GLOBALS,
+            MADE,
+            CONFIGURES,
+            ACKNOWLEDGES,
+            BUFFERS,
+            WITHOUT_POOL,
+            MAPS,
+            SHOWS_ONE_RED,
+        ],
+    ),
+    (
+        "a clean tick paints nothing",
+        &[
+            REGISTRY,
+            GLOBALS,
+            MADE,
+            CONFIGURES,
+            ACKNOWLEDGES,
+            BUFFERS,
+            RED_10,
+            MAPS,
+            SHOWS_RED,
+        ],
+    ),
+    (
+        "a buffer is not copied at its commit",
+        &[
+            REGISTRY,
+            GLOBALS,
+            MADE,
+            CONFIGURES,
+            ACKNOWLEDGES,
+            BUFFERS,
+            RED_10,
+            MAPS,
+            WRITTEN_AFTERWARDS,
+        ],
+    ),
+    (
+        "a later write is seen where a commit tells of it",
+        &[
+            REGISTRY,
+            GLOBALS,
+            MADE,
+            CONFIGURES,
+            ACKNOWLEDGES,
+            BUFFERS,
+            RED_10,
+            MAPS,
+            SHOWS_RED,
+            WRITTEN_LATER,
+        ],
+    ),
+    (
+        "a window that moves leaves its old place",
+        &[
+            REGISTRY,
+            GLOBALS,
+            MADE,
+            CONFIGURES,
+            ACKNOWLEDGES,
+            BUFFERS,
+            RED_10,
+            MAPS,
+            SHOWS_RED,
+            MOVES,
+        ],
+    ),
+    (
+        "a window that is mapped again takes the next place",
+        &[
+            REGISTRY,
+            GLOBALS,
+            MADE,
+            CONFIGURES,
+            ACKNOWLEDGES,
+            BUFFERS,
+            RED_10,
+            MAPS,
+            SHOWS_RED,
+            MAPPED_AGAIN,
+        ],
+    ),
+    (
+        "a toplevel takes its window with it",
+        &[
+            REGISTRY,
+            GLOBALS,
+            MADE,
+            CONFIGURES,
+            ACKNOWLEDGES,
+            BUFFERS,
+            RED_10,
+            MAPS,
+            SHOWS_RED,
+            DESTROYED,
+        ],
+    ),
+    (
+        "an error takes the window",
+        &[
+            REGISTRY,
+            GLOBALS,
+            MADE,
+            CONFIGURES,
+            ACKNOWLEDGES,
+            BUFFERS,
+            RED_10,
+            MAPS,
+            SHOWS_RED,
+            ENDS,
+        ],
+    ),
+    (
+        "a client that goes takes its window",
+        &[
+            REGISTRY,
+            GLOBALS,
+            MADE,
+            CONFIGURES,
+            ACKNOWLEDGES,
+            BUFFERS,
+            RED_10,
+            MAPS,
+            SHOWS_RED,
+            GOES,
+        ],
+    ),
+    (
+        "a buffer stays shown though its id is used again",
+        &[
+            REGISTRY,
+            GLOBALS,
+            MADE,
+            CONFIGURES,
+            ACKNOWLEDGES,
+            BUFFERS,
+            RED_10,
+            MAPS,
+            SHOWS_RED,
+            ID_USED_AGAIN,
+        ],
+    ),
+    (
+        "a window with alpha is laid over the one below",
+        &[
+            REGISTRY,
+            GLOBALS,
+            MADE,
+            CONFIGURES,
+            ACKNOWLEDGES,
+            BUFFERS,
+            WHITE_10,
+            MAPS,
+            SHOWS_WHITE,
+            SECOND,
+            SECOND_BUFFER,
+            SHOWS_BOTH,
+        ],
+    ),
+    (
+        "a commit below stays below",
+        &[
+            REGISTRY,
+            GLOBALS,
+            MADE,
+            CONFIGURES,
+            ACKNOWLEDGES,
+            BUFFERS,
+            WHITE_10,
+            MAPS,
+            SHOWS_WHITE,
+            SECOND,
+            SECOND_BUFFER,
+            SHOWS_BOTH,
+            BELOW,
+        ],
+    ),
+    (
+        "an error leaves the window of another",
+        &[
+            REGISTRY,
+            GLOBALS,
+            MADE,
+            CONFIGURES,
+            ACKNOWLEDGES,
+            BUFFERS,
+            WHITE_10,
+            MAPS,
+            SHOWS_WHITE,
+            SECOND,
+            SECOND_BUFFER,
+            SHOWS_BOTH,
+            OTHER_STAYS,
+        ],
+    ),
+    (
+        "a buffer before its configure leaves the window of another",
+        &[
+            REGISTRY,
+            GLOBALS,
+            MADE,
+            CONFIGURES,
+            BUFFERS,
+            SECOND,
+            SECOND_BUFFER,
+            SHOWS_SECOND_ALONE,
+            UNCONFIGURED,
+        ],
+    ),
+];
+
+#[test]
+fn frames_are_as_worked(rt: HostRuntime) {
+    for &(name, parts) in CASES {
+        assert_eq!(rt; play(rt.alloc(), parts), Ok(()), "{name}");
+    }
+}
+
+/// Four pixels by three.
+const SMALL: Config = Config {
+    width: 4,
+    height: 3,
+    background: Rgb { r: 0, g: 0, b: 9 },
+};
+
+/// A client with a window of 2 by 2 points at (0, 0), up to its configure.
+const UP_TO_CONFIGURE: &[Message] = &[
+    Message(1, 1, &[Arg::NewId(2)]),
+    Message(
+        2,
+        0,
+        &[
+            Arg::Uint(1),
+            Arg::Str(b"wl_compositor"),
+            Arg::Uint(2),
+            Arg::NewId(3),
+        ],
+    ),
+    Message(
+        2,
+        0,
+        &[
+            Arg::Uint(3),
+            Arg::Str(b"wl_shm"),
+            Arg::Uint(1),
+            Arg::NewId(4),
+        ],
+    ),
+    Message(
+        2,
+        0,
+        &[
+            Arg::Uint(6),
+            Arg::Str(b"xdg_wm_base"),
+            Arg::Uint(1),
+            Arg::NewId(5),
+        ],
+    ),
+    Message(3, 0, &[Arg::NewId(6)]),
+    Message(5, 2, &[Arg::NewId(7), Arg::Object(6)]),
+    Message(7, 1, &[Arg::NewId(8)]),
+    COMMIT,
+    Message(7, 4, &[Arg::Uint(1)]),
+    Message(4, 0, &[Arg::NewId(9), Arg::Int(16)]),
+    Message(
+        9,
+        0,
+        &[
+            Arg::NewId(10),
+            Arg::Int(0),
+            Arg::Int(2),
+            Arg::Int(2),
+            Arg::Int(8),
+            Arg::Uint(1),
+        ],
+    ),
+    Message(6, 1, &[Arg::Object(10), Arg::Int(0), Arg::Int(0)]),
+    COMMIT,
+];
+
+/// The runs of the window, and of nothing.
+fn are_runs(shots: &[Shot<Global>]) -> bool {
+    shots.len() == 2
+        && shots[0].runs.as_slice()
+            == [Run { x: 0, y: 0, w: 2 }, Run { x: 0, y: 1, w: 2 }].as_slice()
+        && shots[1].runs.len() == 0
+}
+
+/// The first pixel of the window is red, its others black, and the background is around it; the second frame is the same.
+fn are_images(shots: &[Shot<Global>]) -> bool {
+    let wanted = &[
+        Pixel(0, 0, 255, 0, 0),
+        Pixel(1, 0, 0, 0, 0),
+        Pixel(0, 1, 0, 0, 0),
+        Pixel(2, 0, 0, 0, 9),
+        Pixel(0, 2, 0, 0, 9),
+        Pixel(3, 2, 0, 0, 9),
+    ];
+    shots.len() == 2
+        && wanted
+            .iter()
+            .all(|pixel| is_pixel(&shots[0].pixels, 4, pixel))
+        && shots[1].pixels.as_slice() == shots[0].pixels.as_slice()
+}
+
+fn runs_in(session: &mut Session<Global>, piece: &[u8]) -> bool {
+    let steps = [
+        Step::Connect,
+        Step::Feed { client: 1, piece },
+        Step::Store {
+            client: 1,
+            store: 1,
+            at: 0,
+            bytes: &RED,
+        },
+        Step::Tick { time: 5 },
+        Step::Tick { time: 6 },
+    ];
+    match session.run(&steps) {
+        Ok(shots) => are_runs(&shots) && are_images(&shots),
+        Err(_) => false,
+    }
+}
+
+fn runs(alloc: Global) -> bool {
+    match (Session::new(alloc, SMALL), bytes_of(alloc, UP_TO_CONFIGURE)) {
+        (Ok(mut session), Some(piece)) => runs_in(&mut session, &piece),
+        _ => false,
+    }
+}
+
+#[test]
+fn a_run_copies_the_frames_of_windows(rt: HostRuntime) {
+    assert!(rt; runs(rt.alloc()));
+}
