@@ -14,17 +14,14 @@ use Rattle.wl_scene.specs.Stacking.{Stack, without_client}
 use Rattle.wl_scene.specs.declared.owned.Owned.{Owned}
 use Rattle.wl_desk.specs.Agreement.{Agrees, IsPlace, IsScene, IsSlot, numbers_in, numbers_of, with_numbers}
 use Rattle.wl_desk.specs.Desktop.{Desktop, Resident, arrival, become_by, client_at, empty, place, with_client, with_number}
-use Rattle.wl_desk.specs.Laws.{status_of}
 use Rattle.wl_desk.specs.Seats.{IsBare, IsChangedSo, IsSeated, has_ended_in}
 use Rattle.wl_desk.specs.Served.{beyond_toplevels}
-use Rattle.wl_desk.specs.Step.{Feeds}
-use Rattle.wl_desk.specs.Steps.{Changes, ChangesAt, ConnectsAt, IsClosed, IsFedAt, closed_by, fed_of, left_so, lowest, next_of, peer_at, peer_of}
+use Rattle.wl_desk.specs.Step.{Serves}
+use Rattle.wl_desk.specs.Steps.{Changes, ChangesAt, ConnectsAt, IsClosed, closed_by, left_so, lowest, next_of, peer_at, peer_of}
 use Rattle.wl_desk.specs.View.{DeskView, OwnedView, owned_view}
 use Rattle.wl_desk.specs.declared.answers.ConnectError.TheVariants.{Full, Memory}
 use Rattle.wl_desk.specs.declared.answers.Done.{Done}
 use Rattle.wl_desk.specs.declared.answers.Done.TheVariants as gave
-use Rattle.wl_desk.specs.declared.answers.Fed.{Fed}
-use Rattle.wl_desk.specs.declared.answers.Fed.TheVariants.{NoClient}
 use Rattle.wl_desk.specs.declared.residents.Resident.{Resident as Kept}
 use Rattle.wl_desk.proofs.Desktops.{agrees-put, at, at-map, at-within, client-past, place-at, put-map, put-set, put-twice, scene-out, seated-back, seated-out}
 use Rattle.wl_desk.proofs.Ends.{nameless-newcomer, owns-nothing}
@@ -50,7 +47,7 @@ found us vs os c k same at lengths =
     let within : k < length us = rw (← same) at.1 in
     record { number = omega (arith, at.0); client = within; owned = omega (arith, within, lengths.0, lengths.1) }
 
-place-none : (x : Option ClientView) (o : Option OwnedView) (r : Option Resident) → IsPlace x o r → (x ≡ None) ⊎ (o ≡ None) → (x ≡ None) × (r ≡ None)
+pub place-none : (x : Option ClientView) (o : Option OwnedView) (r : Option Resident) → IsPlace x o r → (x ≡ None) ⊎ (o ≡ None) → (x ≡ None) × (r ≡ None)
 place-none None None None here none = (refl, refl)
 place-none (Some v) (Some o) (Some s) here (inl h) = absurd (cc)
 place-none (Some v) (Some o) (Some s) here (inr h) = absurd (cc)
@@ -61,7 +58,7 @@ place-none (Some v) None None here none = absurd here
 place-none (Some v) None (Some s) here none = absurd here
 place-none (Some v) (Some o) None here none = absurd here
 
-slot-peer : (x : Option ClientView) (o : Option OwnedView) (r : Option Resident) → IsPlace x o r → IsSlot x (peer_of r)
+pub slot-peer : (x : Option ClientView) (o : Option OwnedView) (r : Option Resident) → IsPlace x o r → IsSlot x (peer_of r)
 slot-peer None None None here = tt
 slot-peer (Some v) (Some o) (Some s) here = here.peer
 slot-peer None None (Some s) here = absurd here
@@ -81,12 +78,12 @@ place-some (Some v) None None here = absurd here
 place-some (Some v) None (Some s) here = absurd here
 place-some (Some v) (Some o) None here = absurd here
 
-closed-none : (s : Option Cause) (p : Peer) → is_some s ≡ true → closed_by s p ≡ None
+pub closed-none : (s : Option Cause) (p : Peer) → is_some s ≡ true → closed_by s p ≡ None
 closed-none None p e = absurd (differ (sym e))
 closed-none (Some cause) p e = refl
 
 module _ {A : Type 0} (output : Output) (us : List (Option ClientView)) (os : List (Option (Owned A))) (stack : Stack) (c k : ℕ) (is : IsFound us os c k) (d : Desktop) (a : Agrees (view_of output us os stack) d) where
-  client-here : (x : Option ClientView) → x ≡ get_or us k x → at us k ≡ x
+  pub client-here : (x : Option ClientView) → x ≡ get_or us k x → at us k ≡ x
   client-here x e = sym (e ∙ at-within us k x is.client)
 
   owned-here : (y : Option (Owned A)) → y ≡ get_or os k y → at (map (option_map owned_view) os) k ≡ option_map owned_view y
@@ -96,28 +93,24 @@ module _ {A : Type 0} (output : Output) (us : List (Option ClientView)) (os : Li
   pub place-here : (x : Option ClientView) (y : Option (Owned A)) → x ≡ get_or us k x → y ≡ get_or os k y → IsPlace x (option_map owned_view y) (client_at c d)
   place-here x y e f = rw is.number (rw (client-here x e, owned-here y f) at (place-at (view_of output us os stack) d k a))
 
-  out : (v : Kept A) (x : Option ClientView) (y : Option (Owned A)) → x ≡ get_or us k x → y ≡ get_or os k y → (x ≡ Some v.client) × (y ≡ Some v.owned) → (s : Resident) × (client_at c d ≡ Some s) × IsSeated c (numbers_in us) d v stack d s
+  pub out : (v : Kept A) (x : Option ClientView) (y : Option (Owned A)) → x ≡ get_or us k x → y ≡ get_or os k y → (x ≡ Some v.client) × (y ≡ Some v.owned) → (s : Resident) × (client_at c d ≡ Some s) × IsSeated c (numbers_in us) d v stack d s
   out v x y e f taken =
       rw is.number (seated-out (view_of output us os stack) d k v (client-here x e ∙ taken.0) (owned-here y f ∙ ap (λ (o : Option (Owned A)). option_map owned_view o) taken.1) a)
 
-  back : (v : Kept A) (x : Option ClientView) (y : Option (Owned A)) (now : Stack) (e : Desktop) (s : Resident) → IsSeated c (numbers_in us) d v now e s
+  pub back : (v : Kept A) (x : Option ClientView) (y : Option (Owned A)) (now : Stack) (e : Desktop) (s : Resident) → IsSeated c (numbers_in us) d v now e s
       → Agrees (view_of output (set (set us k x) k (Some v.client)) (set (set os k y) k (Some v.owned)) now) e
   back v x y now e s seated =
       seated-back (view_of output us os stack) k v s _ _ now d e a is.client (put-twice k (Some v.client) x us is.client)
       (put-map owned_view k (Some v.owned) os _ (put-twice k (Some v.owned) y os is.owned)) (rw is.number at seated)
 
-  -- a client that is fed
-  pub feeds : (v new : Kept A) (x x2 : Option ClientView) (y y2 : Option (Owned A)) (now : Stack) (piece : List ℕ) (answer : Fed) → x ≡ get_or us k x → y ≡ get_or os k y → (x ≡ Some v.client) × (y ≡ Some v.owned)
-      → ((r : Resident) → IsSeated c (numbers_in us) d v stack d r → (e : Desktop) × (q : Resident) × Feeds beyond_toplevels c piece r d e × IsSeated c (numbers_in us) d new now e q) → answer ≡ fed_of new.client.ended
-      → (e : Desktop) × IsFedAt beyond_toplevels c piece (client_at c d) d (gave.Feed answer) e × Agrees (view_of output (set (set us k x2) k (Some new.client)) (set (set os k y2) k (Some new.owned)) now) e
-  feeds v new x x2 y y2 now piece answer e f taken feed same =
+  -- one message of a client is taken
+  pub serves : (v new : Kept A) (x x2 : Option ClientView) (y y2 : Option (Owned A)) (now : Stack) → x ≡ get_or us k x → y ≡ get_or os k y → (x ≡ Some v.client) × (y ≡ Some v.owned)
+      → ((r : Resident) → IsSeated c (numbers_in us) d v stack d r → (e : Desktop) × (q : Resident) × Serves beyond_toplevels c d e × IsSeated c (numbers_in us) d new now e q)
+      → (e : Desktop) × Serves beyond_toplevels c d e × Agrees (view_of output (set (set us k x2) k (Some new.client)) (set (set os k y2) k (Some new.owned)) now) e
+  serves v new x x2 y y2 now e f taken serve =
       let s = out v x y e f taken in
-      let n = feed s.0 s.2 in
-      let status : new.client.ended ≡ status_of (client_at c n.0) = n.3.seat.peer.status ∙ ap (λ (o : Option Resident). status_of o) (sym n.3.based.there) in (
-        n.0,
-        subst (λ (o : Option Resident). IsFedAt beyond_toplevels c piece o d (gave.Feed answer) n.0) (sym s.1) (n.2, ap (λ (f : Fed). gave.Feed f) (same ∙ ap (λ (o : Option Cause). fed_of o) status)),
-        back new x2 y2 now n.0 n.1 n.3,
-      )
+      let n = serve s.0 s.2 in
+      (n.0, n.2, back new x2 y2 now n.0 n.1 n.3)
 
   -- a client that is told something
   pub changes : (R : Peer → Done → Option Peer → Type 0) (absent done : Done) (v new : Kept A) (x x2 : Option ClientView) (y y2 : Option (Owned A)) (now : Stack) → x ≡ get_or us k x → y ≡ get_or os k y → (x ≡ Some v.client) × (y ≡ Some v.owned)
@@ -132,7 +125,7 @@ module _ {A : Type 0} (output : Output) (us : List (Option ClientView)) (os : Li
       )
 
   -- nobody was taken out
-  untaken : (x x2 : Option ClientView) (y y2 : Option (Owned A)) → x ≡ get_or us k x → y ≡ get_or os k y → (x ≡ None) ⊎ (y ≡ None) → (x2 ≡ None) × (y2 ≡ None)
+  pub untaken : (x x2 : Option ClientView) (y y2 : Option (Owned A)) → x ≡ get_or us k x → y ≡ get_or os k y → (x ≡ None) ⊎ (y ≡ None) → (x2 ≡ None) × (y2 ≡ None)
       → (client_at c d ≡ None) × Agrees (view_of output (set us k x2) (set os k y2) stack) d
   untaken x x2 y y2 e f none left =
       let nobody = place-none x (option_map owned_view y) (client_at c d) (place-here x y e f) (owned-none none) in
@@ -146,12 +139,6 @@ module _ {A : Type 0} (output : Output) (us : List (Option ClientView)) (os : Li
       owned-none : (x ≡ None) ⊎ (y ≡ None) → (x ≡ None) ⊎ (option_map owned_view y ≡ None)
       owned-none (inl h) = inl h
       owned-none (inr h) = inr (ap (λ (o : Option (Owned A)). option_map owned_view o) h)
-
-  pub feeds-untaken : (x x2 : Option ClientView) (y y2 : Option (Owned A)) (piece : List ℕ) → x ≡ get_or us k x → y ≡ get_or os k y → (x ≡ None) ⊎ (y ≡ None) → (x2 ≡ None) × (y2 ≡ None)
-      → (e : Desktop) × IsFedAt beyond_toplevels c piece (client_at c d) d (gave.Feed NoClient) e × Agrees (view_of output (set us k x2) (set os k y2) stack) e
-  feeds-untaken x x2 y y2 piece e f none left =
-      let free = untaken x x2 y y2 e f none left in
-      (d, subst (λ (o : Option Resident). IsFedAt beyond_toplevels c piece o d (gave.Feed NoClient) d) (sym free.0) (refl, refl), free.1)
 
   pub changes-untaken : (R : Peer → Done → Option Peer → Type 0) (absent : Done) (x x2 : Option ClientView) (y y2 : Option (Owned A)) → x ≡ get_or us k x → y ≡ get_or os k y → (x ≡ None) ⊎ (y ≡ None) → (x2 ≡ None) × (y2 ≡ None)
       → (e : Desktop) × Changes c R absent d absent e × Agrees (view_of output (set us k x2) (set os k y2) stack) e
@@ -209,15 +196,22 @@ module _ {A : Type 0} (output : Output) (us : List (Option ClientView)) (os : Li
       by (Some v) None (Some s) here over = absurd here
       by (Some v) (Some o) None here over = absurd here
 
+-- who was put back is there
+slot-there : (x : Option ClientView) (o : Option Peer) (v : ClientView) → x ≡ Some v → IsSlot x o → (p : Peer) × (o ≡ Some p) × IsPeer v p
+slot-there x None v e here = absurd (rw e at here)
+slot-there x (Some p) v e here = (p, refl, rw e at here)
+
+pub client-there : {A : Type 0} (output : Output) (us : List (Option ClientView)) (os : List (Option (Owned A))) (c k : ℕ) → IsFound us os c k → (new : Kept A) (x2 : Option ClientView) (y2 : Option (Owned A)) (now : Stack) (e : Desktop)
+    → Agrees (view_of output (set (set us k x2) k (Some new.client)) (set (set os k y2) k (Some new.owned)) now) e → (p : Peer) × (peer_at c e ≡ Some p) × IsPeer new.client p
+client-there output us os c k is new x2 y2 now e b =
+    let view = view_of output (set (set us k x2) k (Some new.client)) (set (set os k y2) k (Some new.owned)) now in
+    rw is.number (slot-there (at view.clients k) (peer_at (suc k) e) new.client (put-twice k (Some new.client) x2 us is.client).here (slot-peer (at view.clients k) (at view.owned k) (client_at (suc k) e) (place-at view e k b)))
+
 -- ---- nobody is there
 
 pub Changes-none : (R : Peer → Done → Option Peer → Type 0) (absent : Done) (us : List (Option ClientView)) (w : DeskView) (d : Desktop) (c : ℕ) → us ≡ w.clients → (c ≡ 0) ⊎ (length us < c) → Agrees w d → (e : Desktop) × Changes c R absent d absent e × Agrees w e
 Changes-none R absent us w d c same h a =
     (d, subst (λ (o : Option Resident). ChangesAt R absent c o d absent d) (sym (client-past us w d c same h a)) (refl, refl), a)
-
-pub Feeds-none : (piece : List ℕ) (us : List (Option ClientView)) (w : DeskView) (d : Desktop) (c : ℕ) → us ≡ w.clients → (c ≡ 0) ⊎ (length us < c) → Agrees w d → (e : Desktop) × IsFedAt beyond_toplevels c piece (client_at c d) d (gave.Feed NoClient) e × Agrees w e
-Feeds-none piece us w d c same h a =
-    (d, subst (λ (o : Option Resident). IsFedAt beyond_toplevels c piece o d (gave.Feed NoClient) d) (sym (client-past us w d c same h a)) (refl, refl), a)
 
 pub peer_at-none : (us : List (Option ClientView)) (w : DeskView) (d : Desktop) (c : ℕ) → us ≡ w.clients → (c ≡ 0) ⊎ (length us < c) → Agrees w d → peer_at c d ≡ None
 peer_at-none us w d c same h a = ap (λ (o : Option Resident). peer_of o) (client-past us w d c same h a)
@@ -244,7 +238,7 @@ Connects-full us w d same none a = let free = lowest-agrees us w d None same non
 pub Connects-refused : (us : List (Option ClientView)) (w : DeskView) (d : Desktop) (k : ℕ) → us ≡ w.clients → Some k ≡ lowest us → Agrees w d → (e : Desktop) × ConnectsAt (lowest d.clients) d (gave.Connect (Err Memory)) e × Agrees w e
 Connects-refused us w d k same found a = let free = lowest-agrees us w d (Some k) same found a in (d, rw free (inl (refl, refl)), a)
 
-lowest-at : {X : Type 0} (xs : List (Option X)) (k : ℕ) → lowest xs ≡ Some k → at xs k ≡ None
+pub lowest-at : {X : Type 0} (xs : List (Option X)) (k : ℕ) → lowest xs ≡ Some k → at xs k ≡ None
 lowest-at [] k e = absurd (cc)
 lowest-at (None ∷ xs) zero e = refl
 lowest-at (None ∷ xs) (suc k) e = absurd (cc)

@@ -52,4 +52,7 @@ pub mod MarkedMessages
 pub mod Lends
 pub mod Lending
 pub mod Painting
+pub mod Kept
+pub mod MarkedCalls
+pub mod PaintedDesks
 pub mod Marked

@@ -1,5 +1,5 @@
 -- What the calls of a desk make of the desktop, message by message.
-use Rattle.std.specs.Prelude.{ℕ, zero, suc, ◌≡◌, ◌-◌, ◌++◌, Bool, true, false, List, [], slice_index_or, Option, Some, None}
+use Rattle.std.specs.Prelude.{ℕ, zero, suc, ◌++◌, Bool, true, false, List, [], slice_index_or, Option, Some, None}
 use Rattle.wl_client.specs.Peer.{IsIdle, with_rest}
 use Rattle.wl_client.specs.View.{ClientView}
 use Rattle.wl_client.specs.declared.clients.Cause.{Cause}

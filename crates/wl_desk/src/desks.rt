@@ -1,6 +1,6 @@
 //! The desk: all clients, by number, and their toplevels.
 
-ghost use Rattle.std.specs.Prelude.{◌≡◌, ◌≢◌, ◌↔◌, ◌&&◌, ℕ, ◌+◌, ◌<◌, ◌≤◌, List, Option, length, pos, IfOk, IfSome, IfNone, IsErrOf, OnOk, OnErr, ◌⊎◌, false, true, Result, Ok, Err, None, Some};
+ghost use Rattle.std.specs.Prelude.{◌≡◌, ◌≢◌, ◌↔◌, ◌&&◌, ◌||◌, ℕ, ◌+◌, ◌<◌, ◌≤◌, List, Option, length, pos, IfOk, IfSome, IfNone, IsErrOf, OnOk, OnErr, ◌⊎◌, false, true, Result, Ok, Err, None, Some};
 ghost use Rattle.std.specs.Option.{option_copied};
 ghost use Rattle.wl_client.specs.Agreement.{IsPeer, output_of};
 ghost use Rattle.wl_client.specs.Peer.{Peer};
@@ -10,7 +10,7 @@ ghost use Rattle.wl_desk.specs.Desktop.{Desktop, empty};
 ghost use Rattle.wl_desk.specs.Steps.{Connect, Feed, Store, Leave, Send, Close, lowest, peer_at, unsent_of, status_of, store_size_of};
 ghost use Rattle.wl_desk.specs.Agreement.{Agrees, IsSlot, TakesStep};
 ghost use Rattle.wl_desk.specs.Feeding.{IsIdleIn, MarksStep, ended_at, kept_at, kept_in, rest_in, served_as, served_of};
-ghost use Rattle.wl_desk.specs.Marking.{Marks};
+ghost use Rattle.wl_desk.specs.Marking.{IsAsLarge, Marks};
 ghost use Rattle.wl_desk.specs.Painting.{IsOpaqueAsSaid};
 ghost use Rattle.wl_desk.specs.Scratch.{scratch};
 ghost use Rattle.wl_desk.specs.Seats.{has_ended_in};
@@ -256,9 +256,7 @@ impl<A: Allocator + Copy> Desk<A> {
         if !has_ended(&self.clients[k]) {
             return false;
         }
-        if stands_any(&self.scene, client) {
-            mark_everywhere(&mut self.damage);
-        }
+        mark_if(&mut self.damage, stands_any(&self.scene, client));
         self.clients[k] = None;
         self.owned[k] = None;
         self.scene.unmap_all(client);
@@ -337,6 +335,16 @@ fn is_side(side: u32) -> bool
     ensures { result ≡ is_side side }
 {
     1 <= side && side <= MAX_SIDE
+}
+
+/// Everything is marked, if this is so.
+fn mark_if<A: Allocator>(damage: &mut Damage<A>, stands: bool)
+    ensures marks { (x y : ℕ) → x < damage.old.width → y < damage.old.height → has damage.new x y ≡ (has damage.old x y || stands) }
+    ensures sides { IsAsLarge damage.old damage.new }
+{
+    if stands {
+        mark_everywhere(damage);
+    }
 }
 
 /// A piece is kept of a client that is there and lives.

@@ -127,6 +127,7 @@ impl<A: Allocator> Framebuffer<A> {
         ensures width { self.new.width ≡ self.old.width }
         ensures height { self.new.height ≡ self.old.height }
         ensures background { self.new.background ≡ self.old.background }
+        ensures channels { (self.old.background.r ≤ 255) × (self.old.background.g ≤ 255) × (self.old.background.b ≤ 255) }
     {
         paint_rows(
             &mut self.bytes,

@@ -1,0 +1,274 @@
+-- What the calls of the desk mark.
+use Rattle.std.proofs.Common.{◌≡◌, ℕ, ◌+◌, suc, zero, ◌<◌, List, [], ◌∷◌, Bool, true, false, length, map, Option, Some, None, get_or, set, refl, subst, sym, ◌∙◌, ap, arith, ◌⊎◌, inl, inr}
+use Rattle.std.specs.List.{list_any}
+use Rattle.std.specs.Option.{option_map}
+use Rattle.std.specs.Prelude.{ℤ, pos, ◌==◌, ◌&&◌, ◌||◌, cond, filter, is_some, not, slice_index_or}
+use Rattle.wl_client.specs.Agreement.{IsPeer}
+use Rattle.wl_client.specs.Peer.{Peer}
+use Rattle.wl_client.specs.View.{ClientView}
+use Rattle.wl_client.specs.declared.clients.Cause.{Cause}
+use Rattle.wl_client.specs.declared.outputs.Output.{Output}
+use Rattle.wl_paint.specs.Damage.{Damaged, has}
+use Rattle.wl_surface.specs.Surfaces.{history_in}
+use Rattle.wl_scene.specs.Stacking.{Owned as Owns, Stack, Standing, is_of, nothing_owned, windows_on, without_client}
+use Rattle.wl_scene.specs.Windows.{Window, contains}
+use Rattle.wl_scene.specs.declared.owned.Owned.{Owned}
+use Rattle.wl_desk.specs.Agreement.{Agrees, IsPlace, IsStack, numbers_in}
+use Rattle.wl_desk.specs.Desktop.{Desktop, Resident, arrival, become, become_by, client_at, client_in, owned_in, owned_of, place, windows_in, with_client, with_number, with_place}
+use Rattle.wl_desk.specs.Feeding.{ended_at, ended_of}
+use Rattle.wl_desk.specs.Laws.{OwnsNothing, status_of}
+use Rattle.wl_desk.specs.Marking.{AreUnlinked, Marks, MarksEnd, stands_any}
+use Rattle.wl_desk.specs.Moments.{marks_at_least}
+use Rattle.wl_desk.specs.Seats.{IsChangedSo, IsSeated, ended_by, has_ended_in}
+use Rattle.wl_desk.specs.Standing.{AreMapped}
+use Rattle.wl_desk.specs.Steps.{Changes, ChangesAt, ConnectsAt, IsClosed, closed_by, left_so, lowest}
+use Rattle.wl_desk.specs.Touching.{any_window_at, has_window_at}
+use Rattle.wl_desk.specs.View.{DeskView, OwnedView, owned_view}
+use Rattle.wl_desk.specs.declared.answers.Done.{Done}
+use Rattle.wl_desk.specs.declared.answers.Done.TheVariants as gave
+use Rattle.wl_desk.specs.declared.residents.Resident.{Resident as Kept}
+use Rattle.wl_desk.proofs.Calls.{IsFound, client-here, closed-none, lowest-at, out, untaken, view_of}
+use Rattle.wl_desk.proofs.Desktops.{at, client-past, place-at}
+use Rattle.std.proofs.lemmas.Bool.{eqb-true}
+use Rattle.wl_desk.proofs.Stacks.{and-left, differ}
+use Rattle.wl_desk.proofs.Places.{status-become}
+use Rattle.wl_desk.proofs.StandingLists.{any-gone, of-it}
+use Rattle.wl_desk.proofs.Telling.{lives-of}
+use Rattle.wl_desk.proofs.Touching.{desktops-touch, same-stays}
+use Rattle.wl_desk.proofs.TouchingMarks.{is_else}
+use Rattle.wl_desk.proofs.TouchingSteps.{end-touches, none_of, told-marks-nothing}
+use Rattle.wl_desk.proofs.TouchingWindows.{stands_else, windows-else}
+
+-- ---- Booleans
+
+neither : (a b : Bool) → (a || b) ≡ false → (a ≡ false) × (b ≡ false)
+neither true b e = absurd (cc)
+neither false b e = (refl, e)
+
+pub or-none : (a : Bool) → a ≡ (a || false)
+or-none true = refl
+or-none false = refl
+
+pub or-all : (a : Bool) → true ≡ (a || true)
+or-all true = refl
+or-all false = refl
+
+unless : (b : Bool) → (b ≡ true → ⊥) → b ≡ false
+unless true h = absurd (h refl)
+unless false h = refl
+
+-- ---- desktops that agree
+
+unlinked-here : (x : Option ClientView) (o : Option OwnedView) (r : Option Resident) → IsPlace x o r → (owned_of r).surfaces.links ≡ []
+unlinked-here None None None here = refl
+unlinked-here (Some v) (Some o) (Some r) here = here.owns.surfaces.links
+unlinked-here None None (Some r) here = absurd here
+unlinked-here None (Some o) None here = absurd here
+unlinked-here None (Some o) (Some r) here = absurd here
+unlinked-here (Some v) None None here = absurd here
+unlinked-here (Some v) None (Some r) here = absurd here
+unlinked-here (Some v) (Some o) None here = absurd here
+
+-- no surface is linked to another
+pub unlinked : (w : DeskView) (d : Desktop) → Agrees w d → AreUnlinked d
+unlinked w d a zero = refl
+unlinked w d a (suc k) = unlinked-here (at w.clients k) (at w.owned k) (client_at (suc k) d) (place-at w d k a)
+
+any-standing : (c : ℕ) (numbers : ℕ → ℕ → Option ℕ) (ks ss : List Standing) → IsStack numbers ks ss → list_any (λ s. s.client == c) ks ≡ list_any (λ s. s.client == c) ss
+any-standing c numbers [] [] is = refl
+any-standing c numbers (k ∷ ks) (s ∷ ss) is = rw (is.0.client, any-standing c numbers ks ss is.1) refl
+any-standing c numbers [] (s ∷ ss) is = absurd is
+any-standing c numbers (k ∷ ks) [] is = absurd is
+
+-- those that aren't the client's are all, where it has none
+others-all : (c : ℕ) (ss : List Standing) → list_any (λ s. s.client == c) ss ≡ false → without_client c ss ≡ ss
+others-all c [] none = refl
+others-all c (s ∷ ss) none =
+    let both = neither (s.client == c) (list_any (λ s. s.client == c) ss) none in
+    rw both.0 (ap (λ ss. s ∷ ss) (others-all c ss both.1))
+
+-- one of whose surfaces none stands has no toplevel
+none-standing : (c : ℕ) (ss : List Standing) → ((surface : ℕ) → list_any (is_of c surface) ss ≡ false) → list_any (λ s. s.client == c) ss ≡ false
+none-standing c [] none = refl
+none-standing c (s ∷ ss) none =
+    by (s.client == c) refl (none-standing c ss (λ surface. (neither (is_of c surface s) (list_any (is_of c surface) ss) (none surface)).1))
+  where
+    by : (b : Bool) → (s.client == c) ≡ b → list_any (λ s. s.client == c) ss ≡ false → (b || list_any (λ s. s.client == c) ss) ≡ false
+    by true e rest = absurd (differ (sym (neither (is_of c s.surface s) (list_any (is_of c s.surface) ss) (none s.surface)).0 ∙ of-it c s.surface s (eqb-true s.client c e) refl))
+    by false e rest = rest
+
+abbrev of_client : ℕ → ℕ → ℕ → Bool
+of_client c client surface = client == c
+
+-- a client with a window has a toplevel that stands
+window-stands : (c : ℕ) (d : Desktop) → ((c : ℕ) → (owned_in d c).surfaces.links ≡ []) → (x y : ℤ) → list_any (λ s. s.client == c) d.standing ≡ false → has_window_at c x y d ≡ false
+window-stands c d links x y none =
+    ap (λ ws. any_window_at (of_client c) x y ws) (sym (windows-else (of_client c) (owned_in d) d.standing links ∙ ap (λ ss. windows_on (owned_in d) ss) (others-all c d.standing none)))
+    ∙ any-gone (λ (w : Window). (w.owner.client == c) && contains w x y) (is_else (of_client c)) (λ w f. ap (λ b. not b) (and-left (w.owner.client == c) _ f)) (windows_in d)
+
+-- ---- what leaves the windows as they are
+
+none-there : (x y : ℤ) (ws : List Window) → any_window_at none_of x y ws ≡ false
+none-there x y [] = refl
+none-there x y (w ∷ ws) = none-there x y ws
+
+-- where the same stand and the same is owned, nothing is marked
+same-marks-nothing : (w : DeskView) (d e : Desktop) → Agrees w d → e.standing ≡ d.standing → ((c : ℕ) → owned_in e c ≡ owned_in d c) → (x y : ℤ) → marks_at_least d e x y ≡ false
+same-marks-nothing w d e a standing owned x y =
+    unless (marks_at_least d e x y)
+    (λ marked. differ (sym (rw (none-there x y (windows_in d), none-there x y (windows_in e)) refl)
+    ∙ desktops-touch none_of d e (unlinked w d a) (λ c. ap (λ (o : Owns). o.surfaces.links) (owned c) ∙ unlinked w d a c) a.mapped.apart
+    (ap (λ ss. filter (stands_else none_of) ss) (sym standing)) (λ c surface other. same-stays _ _ _ (ap (λ (o : Owns). history_in surface o.surfaces) (sym (owned c)))) x y marked))
+
+-- nothing changes
+pub still-marks : (w : DeskView) (d e : Desktop) (damage : Damaged) → Agrees w d → e ≡ d → Marks d e damage damage
+still-marks w d e damage a same = λ x y wide high clean. (clean, same-marks-nothing w d e a (ap (λ (d : Desktop). d.standing) same) (λ c. ap (λ (d : Desktop). owned_in d c) same) (pos x) (pos y))
+
+owned-places : (rs : List (Option Resident)) (k j : ℕ) (x : Option Resident) → owned_of x ≡ owned_of (place rs k) → owned_of (place (with_place k x rs) j) ≡ owned_of (place rs j)
+owned-places [] k j x same = refl
+owned-places (r ∷ rs) zero zero x same = same
+owned-places (r ∷ rs) zero (suc j) x same = refl
+owned-places (r ∷ rs) (suc k) zero x same = refl
+owned-places (r ∷ rs) (suc k) (suc j) x same = owned-places rs k j x same
+
+owned-numbers : (rs : List (Option Resident)) (c other : ℕ) (x : Option Resident) → owned_of x ≡ owned_of (client_in rs c) → owned_of (client_in (with_number c x rs) other) ≡ owned_of (client_in rs other)
+owned-numbers rs zero other x same = refl
+owned-numbers rs (suc k) zero x same = refl
+owned-numbers rs (suc k) (suc j) x same = owned-places rs k j x same
+
+-- ---- a client comes
+
+place-is : (rs : List (Option Resident)) (k : ℕ) → place rs k ≡ at rs k
+place-is [] k = refl
+place-is (r ∷ rs) zero = refl
+place-is (r ∷ rs) (suc k) = place-is rs k
+
+pub connects-marks : (w : DeskView) (d e : Desktop) (done : Done) (damage : Damaged) → Agrees w d → ConnectsAt (lowest d.clients) d done e → Marks d e damage damage
+connects-marks w d e done damage a connects = by (lowest d.clients) refl connects
+  where
+    by : (o : Option ℕ) → lowest d.clients ≡ o → ConnectsAt o d done e → Marks d e damage damage
+    by None found is = still-marks w d e damage a is.1
+    by (Some k) found (inl is) = still-marks w d e damage a is.1
+    by (Some k) found (inr is) = λ x y wide high clean. (
+      clean,
+      same-marks-nothing w d e a (ap (λ (d : Desktop). d.standing) is.1)
+          (λ c. ap (λ (d : Desktop). owned_in d c) is.1 ∙ owned-numbers d.clients (k + 1) c (Some (arrival d.output)) (sym (ap owned_of nobody))) (pos x) (pos y),
+    )
+      where
+        nobody : client_at (k + 1) d ≡ None
+        nobody =
+            let next : suc k ≡ k + 1 = omega arith in
+            subst (λ n. client_at n d ≡ None) next (place-is d.clients k ∙ lowest-at d.clients k found)
+
+-- ---- a client is told something
+
+-- so it is also where it ends by that
+pub told-marks : (c : ℕ) (there : Resident) (w : DeskView) (d : Desktop) (q : Peer) (ended : Option Cause) (old new : Damaged) → client_at c d ≡ Some there → Agrees w d → q.status ≡ ended → MarksEnd ended c w.scene old new → Marks d (become c there q d) old new
+told-marks c there w d q None old new at_c a status marks = λ x y wide high clean. (
+  (neither (has old x y) false (sym (marks.1 x y wide high) ∙ clean)).0,
+  told-marks-nothing c there d at_c (unlinked w d a) a.mapped.apart there q refl status (pos x) (pos y),
+)
+told-marks c there w d q (Some cause) old new at_c a status marks = λ x y wide high clean.
+    let both = neither (has old x y) (stands_any c w.scene) (sym (marks.1 x y wide high) ∙ clean) in (
+      both.0,
+      unless (marks_at_least d (become c there q d) (pos x) (pos y))
+          (λ marked. differ (sym (window-stands c d (unlinked w d a) (pos x) (pos y) (sym (any-standing c _ w.scene.standing d.standing a.scene.standing) ∙ both.1))
+          ∙ end-touches c there d at_c (unlinked w d a) a.mapped.apart there q cause status (pos x) (pos y) marked)),
+    )
+
+-- nobody is there
+pub none-marks : (R : Peer → Done → Option Peer → Type 0) (absent done : Done) (c : ℕ) (w : DeskView) (d e : Desktop) (damage : Damaged) → client_at c d ≡ None → Agrees w d → Changes c R absent d done e → Marks d e damage damage
+none-marks R absent done c w d e damage nobody a changes = still-marks w d e damage a (subst (λ (o : Option Resident). ChangesAt R absent c o d done e) nobody changes).1
+
+pub past-marks : (R : Peer → Done → Option Peer → Type 0) (absent done : Done) (us : List (Option ClientView)) (w : DeskView) (d e : Desktop) (c : ℕ) (damage : Damaged) → us ≡ w.clients → (c ≡ 0) ⊎ (length us < c) → Agrees w d
+    → Changes c R absent d done e → Marks d e damage damage
+past-marks R absent done us w d e c damage same h a changes = none-marks R absent done c w d e damage (client-past us w d c same h a) a changes
+
+pub ends-none-marks : (cause : Cause) (us : List (Option ClientView)) (w : DeskView) (d : Desktop) (c : ℕ) (damage : Damaged) → us ≡ w.clients → (c ≡ 0) ⊎ (length us < c) → Agrees w d → Marks d (ended_at c cause d) damage damage
+ends-none-marks cause us w d c damage same h a = still-marks w d (ended_at c cause d) damage a (ap (λ o. ended_of c cause o d) (client-past us w d c same h a))
+
+module _ {A : Type 0} (output : Output) (us : List (Option ClientView)) (os : List (Option (Owned A))) (stack : Stack) (c k : ℕ) (is : IsFound us os c k) (d : Desktop) (a : Agrees (view_of output us os stack) d) where
+  abbrev old-view : DeskView
+  old-view = view_of output us os stack
+
+  pub untaken-marks : (R : Peer → Done → Option Peer → Type 0) (absent done : Done) (x x2 : Option ClientView) (y y2 : Option (Owned A)) (e : Desktop) (damage : Damaged) → x ≡ get_or us k x → y ≡ get_or os k y → (x ≡ None) ⊎ (y ≡ None)
+      → (x2 ≡ None) × (y2 ≡ None) → Changes c R absent d done e → Marks d e damage damage
+  untaken-marks R absent done x x2 y y2 e damage f g none left changes =
+      none-marks R absent done c old-view d e damage (untaken output us os stack c k is d a x x2 y y2 f g none left).0 a changes
+
+  -- how a client is that becomes so, and is seated
+  seated-status : (there : Resident) (q : Peer) (new : Kept A) (now : Stack) (s : Resident) → client_at c d ≡ Some there → IsSeated c (numbers_in us) d new now (become c there q d) s → q.status ≡ new.client.ended
+  seated-status there q new now s at_c seated =
+      sym (status-become c there q d there at_c) ∙ (ap (λ (o : Option Resident). status_of o) seated.based.there ∙ sym seated.seat.peer.status)
+
+  -- a client that is told something, which leads to one client only
+  pub changes-marks : (R : Peer → Done → Option Peer → Type 0) (absent done : Done) (v new : Kept A) (x : Option ClientView) (y : Option (Owned A)) (now : Stack) (e : Desktop) (before after : Damaged) → x ≡ get_or us k x → y ≡ get_or os k y
+      → (x ≡ Some v.client) × (y ≡ Some v.owned) → IsChangedSo c R done v new stack now → ((p : Peer) (q r : Option Peer) → R p done q → R p done r → q ≡ r) → MarksEnd new.client.ended c stack before after
+      → Changes c R absent d done e → Marks d e before after
+  changes-marks R absent done v new x y now e before after f g taken changed once marks changes =
+      let s = out output us os stack c k is d a v x y f g taken in
+      let n = changed (numbers_in us) d d s.0 s.2 in
+      let step : ChangesAt R absent c (Some s.0) d done e = subst (λ (o : Option Resident). ChangesAt R absent c o d done e) s.1 changes in
+      subst (λ (e : Desktop). Marks d e before after) (sym (step.2 ∙ ap (λ q. left_so c s.0 q d) (once s.0.peer step.0 (Some n.0) step.1 n.2)))
+      (told-marks c s.0 old-view d n.0 new.client.ended before after s.1 a (seated-status s.0 n.0 new now n.1 s.1 n.3) marks)
+
+  -- a client ends
+  pub ends-untaken-marks : (cause : Cause) (x x2 : Option ClientView) (y y2 : Option (Owned A)) (damage : Damaged) → x ≡ get_or us k x → y ≡ get_or os k y → (x ≡ None) ⊎ (y ≡ None) → (x2 ≡ None) × (y2 ≡ None) → Marks d (ended_at c cause d) damage damage
+  ends-untaken-marks cause x x2 y y2 damage f g none left =
+      still-marks old-view d (ended_at c cause d) damage a (ap (λ o. ended_of c cause o d) (untaken output us os stack c k is d a x x2 y y2 f g none left).0)
+
+  pub ends-marks : (cause : Cause) (v new : Kept A) (x : Option ClientView) (y : Option (Owned A)) (now : Stack) (before after : Damaged) → x ≡ get_or us k x → y ≡ get_or os k y → (x ≡ Some v.client) × (y ≡ Some v.owned)
+      → ((r : Resident) → IsSeated c (numbers_in us) d v stack d r → (q : Resident) × IsSeated c (numbers_in us) d new now (become c r (ended_by r.peer.status cause r.peer) d) q)
+      → MarksEnd new.client.ended c stack before after → Marks d (ended_at c cause d) before after
+  ends-marks cause v new x y now before after f g taken end marks =
+      let s = out output us os stack c k is d a v x y f g taken in
+      let n = end s.0 s.2 in
+      let over = ended_by s.0.peer.status cause s.0.peer in
+      subst (λ o. Marks d (ended_of c cause o d) before after) (sym s.1) (told-marks c s.0 old-view d over new.client.ended before after s.1 a (seated-status s.0 over new now n.0 s.1 n.1) marks)
+
+  -- ---- a number is given back
+
+  unclosed-by : (x : Option ClientView) (o : Option OwnedView) (r : Option Resident) (done : Done) (e : Desktop) (damage : Damaged) → client_at c d ≡ r → IsPlace x o r → has_ended_in x ≡ false → ChangesAt IsClosed (gave.Close false) c r d done e → Marks d e damage damage
+  unclosed-by None None None done e damage there here alive changes = still-marks old-view d e damage a changes.1
+  unclosed-by (Some v) (Some o) (Some s) done e damage there here alive changes =
+      let status : s.peer.status ≡ None = sym here.peer.status ∙ lives-of v.ended alive in
+      let same : changes.0 ≡ Some s.peer = changes.1.0 ∙ ap (λ z. closed_by z s.peer) status in
+      subst (λ (e : Desktop). Marks d e damage damage) (sym (changes.2 ∙ ap (λ q. left_so c s q d) same))
+      (λ x y wide high clean. (clean, told-marks-nothing c s d there (unlinked old-view d a) a.mapped.apart s s.peer refl status (pos x) (pos y)))
+  unclosed-by None None (Some s) done e damage there here alive changes = absurd here
+  unclosed-by None (Some o) None done e damage there here alive changes = absurd here
+  unclosed-by None (Some o) (Some s) done e damage there here alive changes = absurd here
+  unclosed-by (Some v) None None done e damage there here alive changes = absurd here
+  unclosed-by (Some v) None (Some s) done e damage there here alive changes = absurd here
+  unclosed-by (Some v) (Some o) None done e damage there here alive changes = absurd here
+
+  place-of : (x : Option ClientView) → x ≡ get_or us k x → IsPlace x (at (map (option_map owned_view) os) k) (client_at c d)
+  place-of x f = rw is.number (rw (client-here output us os stack c k is d a x f) at (place-at old-view d k a))
+
+  -- there is nobody, or the client lives
+  pub unclosed-marks : (x : Option ClientView) (done : Done) (e : Desktop) (damage : Damaged) → x ≡ get_or us k x → has_ended_in x ≡ false → Changes c IsClosed (gave.Close false) d done e → Marks d e damage damage
+  unclosed-marks x done e damage f alive changes = unclosed-by x (at (map (option_map owned_view) os) k) (client_at c d) done e damage refl (place-of x f) alive changes
+
+  -- an ended client owns nothing, and none of its toplevels stands
+  gone-marks : (s : Resident) (e : Desktop) → client_at c d ≡ Some s → OwnsNothing s → e ≡ record d { clients = with_number c None d.clients; standing = without_client c d.standing } → (x y : ℤ) → marks_at_least d e x y ≡ false
+  gone-marks s e there nothing same x y =
+      let bare : owned_in d c ≡ nothing_owned = ap owned_of there ∙ ap (λ (r : Resident). r.owned) nothing in
+      let none : list_any (λ s. s.client == c) d.standing ≡ false = none-standing c d.standing (λ surface. (subst (λ o. AreMapped c o d.standing) bare (a.mapped.each c)).stands surface) in
+      same-marks-nothing old-view d e a (ap (λ (d : Desktop). d.standing) same ∙ others-all c d.standing none)
+      (λ other. ap (λ (d : Desktop). owned_in d other) same ∙ owned-numbers d.clients c other None (sym bare)) x y
+
+  closed-by : (x : Option ClientView) (o : Option OwnedView) (r : Option Resident) (done : Done) (e : Desktop) (stood : Bool) (before after : Damaged) → client_at c d ≡ r → IsPlace x o r → has_ended_in x ≡ true
+      → ((i j : ℕ) → i < before.width → j < before.height → has after i j ≡ (has before i j || stood)) → ChangesAt IsClosed (gave.Close false) c r d done e → Marks d e before after
+  closed-by None o r done e stood before after there here over marks changes = absurd (differ over)
+  closed-by (Some v) (Some o) (Some s) done e stood before after there here over marks changes =
+      let status : is_some s.peer.status ≡ true = ap (λ (z : Option Cause). is_some z) (sym here.peer.status) ∙ over in
+      let same : changes.0 ≡ None = changes.1.0 ∙ closed-none s.peer.status s.peer status in
+      λ x y wide high clean. ((neither (has before x y) stood (sym (marks x y wide high) ∙ clean)).0, gone-marks s e there (here.ended status) (changes.2 ∙ ap (λ q. left_so c s q d) same) (pos x) (pos y))
+  closed-by (Some v) None None done e stood before after there here over marks changes = absurd here
+  closed-by (Some v) None (Some s) done e stood before after there here over marks changes = absurd here
+  closed-by (Some v) (Some o) None done e stood before after there here over marks changes = absurd here
+
+  -- the client ended
+  pub closed-marks : (x : Option ClientView) (done : Done) (e : Desktop) (stood : Bool) (before after : Damaged) → x ≡ get_or us k x → has_ended_in x ≡ true
+      → ((i j : ℕ) → i < before.width → j < before.height → has after i j ≡ (has before i j || stood)) → Changes c IsClosed (gave.Close false) d done e → Marks d e before after
+  closed-marks x done e stood before after f over marks changes = closed-by x (at (map (option_map owned_view) os) k) (client_at c d) done e stood before after refl (place-of x f) over marks changes
