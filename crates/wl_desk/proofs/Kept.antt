@@ -1,7 +1,7 @@
 -- A piece is kept of a client of the desk, one of its messages is taken, and it ends.
-use Rattle.std.proofs.Common.{◌≡◌, ℕ, ◌+◌, suc, zero, ◌<◌, List, [], ◌++◌, Bool, true, false, length, map, Option, Some, None, Result, get_or, set, refl, subst, sym, ◌∙◌, ap, arith, ◌⊎◌, inl, inr}
+use Rattle.std.proofs.Common.{◌≡◌, ℕ, ◌<◌, List, ◌++◌, Bool, true, false, length, map, Option, Some, None, Result, get_or, set, refl, subst, sym, ◌∙◌, ap, ◌⊎◌, inl, inr}
 use Rattle.std.specs.Option.{option_map}
-use Rattle.std.specs.Prelude.{Ok, Err, OnErr, OnOk, ◌≢◌, drop}
+use Rattle.std.specs.Prelude.{Ok, Err, OnErr, OnOk, ◌≢◌}
 use Rattle.std.proofs.lemmas.List.{set-get_or}
 use Rattle.wl_wire.specs.Wire.{split_of}
 use Rattle.wl_wire.specs.declared.header.Split.{Split}
@@ -16,10 +16,10 @@ use Rattle.wl_client.specs.declared.served.Served.TheVariants as served
 use Rattle.wl_paint.specs.Damage.{Damaged}
 use Rattle.wl_scene.specs.Stacking.{Stack}
 use Rattle.wl_scene.specs.declared.owned.Owned.{Owned}
-use Rattle.wl_desk.specs.Agreement.{Agrees, IsPlace, IsScene, IsSeat, numbers_in, numbers_of, with_numbers}
+use Rattle.wl_desk.specs.Agreement.{Agrees, IsPlace, IsSeat, numbers_in}
 use Rattle.wl_desk.specs.Ask.{Ask}
 use Rattle.wl_desk.specs.Desktop.{Desktop, Resident, become, become_by, client_at, client_in, resident_of, with_number}
-use Rattle.wl_desk.specs.Feeding.{IsIdleIn, IsIdleOf, ended_at, ended_of, kept_at, kept_by, kept_in, kept_of, kept_while, rest_in, rest_of, served_as, served_by, served_of}
+use Rattle.wl_desk.specs.Feeding.{IsIdleIn, IsIdleOf, ended_at, ended_of, kept_at, kept_by, kept_in, kept_of, kept_while, rest_in, served_as, served_by, served_of}
 use Rattle.wl_desk.specs.Marking.{AreUnlinked, Marks}
 use Rattle.wl_desk.specs.Seats.{IsSeated, ended_by}
 use Rattle.wl_desk.specs.Served.{Unserved, beyond_toplevels}
@@ -27,7 +27,7 @@ use Rattle.wl_desk.specs.Step.{Answers, Becomes, Serves, ServesAt, Takes, WantsO
 use Rattle.wl_desk.specs.Steps.{fed_of, peer_at, status_of}
 use Rattle.wl_desk.specs.View.{DeskView, OwnedView, owned_view}
 use Rattle.wl_desk.specs.declared.residents.Resident.{Resident as Kept}
-use Rattle.wl_desk.proofs.Calls.{IsFound, back, client-here, client-there, out, place-here, place-none, untaken, view_of}
+use Rattle.wl_desk.proofs.Calls.{IsFound, back, client-there, out, place-here, place-none, untaken, view_of}
 use Rattle.wl_desk.proofs.Desktops.{IsPut, at, at-map, at-within, client-past, numbers-put, place-at, put-map, put-set, put-twice, seated-back}
 use Rattle.wl_desk.proofs.MarkedCalls.{unlinked}
 use Rattle.wl_desk.proofs.Places.{number-same, stacked-clients}

@@ -1,9 +1,8 @@
 -- What the calls of the desk mark.
-use Rattle.std.proofs.Common.{◌≡◌, ℕ, ◌+◌, suc, zero, ◌<◌, List, [], ◌∷◌, Bool, true, false, length, map, Option, Some, None, get_or, set, refl, subst, sym, ◌∙◌, ap, arith, ◌⊎◌, inl, inr}
+use Rattle.std.proofs.Common.{◌≡◌, ℕ, ◌+◌, suc, zero, ◌<◌, List, [], ◌∷◌, Bool, true, false, length, map, Option, Some, None, get_or, refl, subst, sym, ◌∙◌, ap, arith, ◌⊎◌, inl, inr}
 use Rattle.std.specs.List.{list_any}
 use Rattle.std.specs.Option.{option_map}
-use Rattle.std.specs.Prelude.{ℤ, pos, ◌==◌, ◌&&◌, ◌||◌, cond, filter, is_some, not, slice_index_or}
-use Rattle.wl_client.specs.Agreement.{IsPeer}
+use Rattle.std.specs.Prelude.{ℤ, pos, ◌==◌, ◌&&◌, ◌||◌, filter, is_some, not}
 use Rattle.wl_client.specs.Peer.{Peer}
 use Rattle.wl_client.specs.View.{ClientView}
 use Rattle.wl_client.specs.declared.clients.Cause.{Cause}
@@ -14,7 +13,7 @@ use Rattle.wl_scene.specs.Stacking.{Owned as Owns, Stack, Standing, is_of, nothi
 use Rattle.wl_scene.specs.Windows.{Window, contains}
 use Rattle.wl_scene.specs.declared.owned.Owned.{Owned}
 use Rattle.wl_desk.specs.Agreement.{Agrees, IsPlace, IsStack, numbers_in}
-use Rattle.wl_desk.specs.Desktop.{Desktop, Resident, arrival, become, become_by, client_at, client_in, owned_in, owned_of, place, windows_in, with_client, with_number, with_place}
+use Rattle.wl_desk.specs.Desktop.{Desktop, Resident, arrival, become, client_at, client_in, owned_in, owned_of, place, windows_in, with_number, with_place}
 use Rattle.wl_desk.specs.Feeding.{ended_at, ended_of}
 use Rattle.wl_desk.specs.Laws.{OwnsNothing, status_of}
 use Rattle.wl_desk.specs.Marking.{AreUnlinked, Marks, MarksEnd, stands_any}

@@ -52,8 +52,8 @@ impl<A: Allocator> Model for Desk<A> {
     ghost Value = { MarkedDesk };
 
     ghost view = { λ d. record {
-        desk = record { output = d.output; clients = d.clients.items; owned = map (option_map owned_view) d.owned.items; scene = d.scene };
-        damage = d.damage;
+      desk = record { output = d.output; clients = d.clients.items; owned = map (option_map owned_view) d.owned.items; scene = d.scene };
+      damage = d.damage;
     } };
 
     ghost invariant = { λ d. ((length d.clients.items ≡ 32) × (length d.owned.items ≡ 32)) × ((d.damage.width ≡ d.output.width) × (d.damage.height ≡ d.output.height)) };
@@ -189,7 +189,15 @@ impl<A: Allocator + Copy> Desk<A> {
         let Some(mut resident) = take_out(&mut self.clients[k], &mut self.owned[k]) else {
             return Stored::NoClient;
         };
-        let stored = resident.store(&mut self.scene, &mut self.damage, client, store, at, bytes, alloc);
+        let stored = resident.store(
+            &mut self.scene,
+            &mut self.damage,
+            client,
+            store,
+            at,
+            bytes,
+            alloc,
+        );
         self.clients[k] = Some(resident.client);
         self.owned[k] = Some(resident.owned);
         stored
