@@ -1,8 +1,7 @@
 -- A piece of a client's stream, message by message.
 use Rattle.std.proofs.Common.{◌≡◌, ℕ, zero, suc, List, [], ◌∷◌, ◌++◌, Bool, true, false, Option, Some, None, Result, Ok, Err, refl, ap, sym, subst, ◌∙◌, inl, inr}
 use Rattle.std.specs.Prelude.{◌==◌, not, cond, is_some, slice_index_or}
-use Rattle.wl_shell.specs.Shell.{xdg_of}
-use Rattle.wl_desk.specs.Standing.{is_mapped}
+use Rattle.wl_desk.specs.Standing.{AreMapped}
 use Rattle.std.specs.List.{list_any}
 use Rattle.wl_wire.specs.Wire.{split_of}
 use Rattle.wl_wire.specs.declared.header.Split.{Split}
@@ -11,10 +10,10 @@ use Rattle.wl_client.specs.declared.clients.Cause.{Cause}
 use Rattle.wl_client.specs.declared.clients.Cause.TheVariants.{Memory}
 use Rattle.wl_client.specs.Peer.{Peer, LacksMemory, ended, with_rest}
 use Rattle.wl_client.specs.View.{ClientView}
-use Rattle.wl_scene.specs.Stacking.{Standing, is_of, without_client}
+use Rattle.wl_scene.specs.Stacking.{Owned, Standing, is_of, nothing_owned, without_client}
 use Rattle.wl_desk.specs.Agreement.{Agrees, IsPlace}
 use Rattle.wl_desk.specs.Ask.{Ask}
-use Rattle.wl_desk.specs.Desktop.{Desktop, Resident, become, become_by, client_at, client_in, owned_in, owned_of, place, resident_of, with_client, with_number}
+use Rattle.wl_desk.specs.Desktop.{Desktop, Resident, become, become_by, client_at, client_in, owned_in, owned_of, resident_of, with_client, with_number}
 use Rattle.wl_desk.specs.Feeding.{IsIdleIn, IsIdleOf, ended_at, ended_of, kept_at, kept_by, kept_of}
 use Rattle.wl_desk.specs.Laws.{status_in}
 use Rattle.wl_desk.specs.Laws.{status_of as ended_in}
@@ -23,7 +22,6 @@ use Rattle.wl_desk.specs.Served.{Unserved, beyond_toplevels}
 use Rattle.wl_desk.specs.Step.{Answers, Becomes, FeedsAt, Reaches, ServesAt, StopsAt, Takes, WantsOr, changed_by, stacked, takes_memory}
 use Rattle.wl_desk.specs.Steps.{IsFedAt, fed_of, peer_at, peer_of, status_of}
 use Rattle.wl_desk.specs.View.{DeskView, OwnedView}
-use Rattle.wl_desk.specs.declared.answers.Done.{Done}
 use Rattle.wl_desk.specs.declared.answers.Done.TheVariants as gave
 use Rattle.wl_desk.specs.declared.answers.Fed.{Fed}
 use Rattle.wl_desk.proofs.Places.{client-become, number-kept, number-same, number-twice, stacked-clients}
@@ -106,8 +104,8 @@ bare v (suc k) s r d a is over =
 ended-stays : (v : DeskView) (c : ℕ) (s : Cause) (r : Resident) (d : Desktop) → Agrees v d → client_at c d ≡ Some r → r.peer.status ≡ Some s → become c r r.peer d ≡ d
 ended-stays v c s r d a is over =
     let owns = bare v c s r d a is over in
-    let none : (surface : ℕ) → list_any (is_of c surface) d.standing ≡ false =
-    λ surface. (a.mapped.each c).stands surface ∙ ap (λ (o : Option Resident). is_mapped (xdg_of surface (owned_of o).shell)) (is ∙ ap (λ (x : Resident). Some x) owns) in
+    let nothing : owned_in d c ≡ nothing_owned = ap (λ (o : Option Resident). owned_of o) (is ∙ ap (λ (x : Resident). Some x) owns) in
+    let none : (surface : ℕ) → list_any (is_of c surface) d.standing ≡ false = (subst (λ (o : Owned). AreMapped c o d.standing) nothing (a.mapped.each c)).stands in
     ap (λ (z : Option Cause). become_by z c r r.peer d) over
     ∙ (ap (λ (clients : List (Option Resident)). record d { clients = clients; standing = without_client c d.standing })
     (ap (λ (o : Option Resident). with_number c o d.clients) (sym (is ∙ ap (λ (x : Resident). Some x) owns)) ∙ number-kept d.clients c)
@@ -171,5 +169,8 @@ fed-lacking v c piece d answer a told =
             stops None f =
                 let held : Desktop = with_client c (Some (record r { peer = come })) d in
                 subst (λ (o : Option Resident). StopsAt c o held (become c r (ended Memory r.peer) d)) (sym (number-same d.clients c (Some (record r { peer = come })) r is))
-                (inr (e, ap (λ (clients : List (Option Resident)). record d { clients = clients; standing = without_client c d.standing })
-                (sym (number-twice d.clients c (Some (resident_of (ended Memory r.peer))) (Some (record r { peer = come }))))))
+                (inr (
+                  e,
+                  ap (λ (clients : List (Option Resident)). record d { clients = clients; standing = without_client c d.standing })
+                      (sym (number-twice d.clients c (Some (resident_of (ended Memory r.peer))) (Some (record r { peer = come })))),
+                ))

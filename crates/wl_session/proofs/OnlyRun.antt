@@ -1,5 +1,5 @@
 -- Where no want of memory is met, a list of steps has one run.
-use Rattle.std.proofs.Common.{◌≡◌, List, [], ◌∷◌, ap, subst, sym, ◌∙◌}
+use Rattle.std.proofs.Common.{List, [], ◌∷◌, ap, subst, sym, ◌∙◌}
 use Rattle.wl_desk.specs.Desktop.{Desktop}
 use Rattle.wl_desk.specs.declared.answers.Done.{Done}
 use Rattle.wl_session.specs.Laws.{OneRun, RunsAmply}

@@ -108,7 +108,7 @@ impl<A: Allocator + Copy> Session<A> {
             Ok(()) => self.serve_all(client),
             Err(AllocError) => self.desk.end(client, Cause::Memory),
         }
-        self.desk.status(client)
+        self.status(client)
     }
 
     /// Takes each whole message of what came from a client, until one ends it.

@@ -12,9 +12,9 @@ returns-clause-step g c = λ d a.
       | in-Ok w ↦
           let m = w.serve_all.ensures.serves (kept_at c.args.client c.args.piece.now d) (w.in-Ok.ensures.ok d was) in
           let new : Agrees c.match-keep.self.desk m.1 = rw w.self-is m.4 in
-          (m.1, fed-served c.args.client m.0 c.args.piece.now d m.1 c.status.result m.2 m.3 (c.status.ensures m.1 (rw (← c.self-2.view_is) at new)), new)
+          (m.1, fed-served c.args.client m.0 c.args.piece.now d m.1 c.status.result m.2 m.3 (c.status.ensures m.1 new), new)
       | in-Err w ↦
           let e = ended_at c.args.client Memory d in
           let new : Agrees c.match-keep.self.desk e = rw w.self-is (w.end.ensures.ends d (w.in-Err.ensures.err d was)) in
-          (e, fed-lacking c.args.self.now.desk c.args.client c.args.piece.now d c.status.result a (c.status.ensures e (rw (← c.self-2.view_is) at new)), new)
+          (e, fed-lacking c.args.self.now.desk c.args.client c.args.piece.now d c.status.result a (c.status.ensures e new), new)
     ]

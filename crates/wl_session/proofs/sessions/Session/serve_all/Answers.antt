@@ -1,4 +1,4 @@
-use Rattle.std.proofs.Common.{suc, ◌∙◌, ◌≢◌, sym, subst, ap, ◌≡◌, rules, inl, inr}
+use Rattle.std.proofs.Common.{suc, ◌∙◌, ◌≢◌, sym, ap, rules}
 use Rattle.wl_client.specs.declared.served.Served.TheVariants as served
 use Rattle.wl_client.specs.declared.outputs.Output.{Output}
 use Rattle.wl_paint.specs.Damage.{Damaged}
