@@ -57,7 +57,7 @@ TellsGone client old told new =
 
 abbrev pub TellsTick : ℕ → Stage → Told → Stage → Type 0
 TellsTick time old told new =
-    (damage : Damaged) × Steps beyond_toplevels old.desktop (act.Tick time) gave.Tick new.desktop × IsNextFrame old.frame new.frame (has damage)
+    (damage : Damaged) × Steps beyond_toplevels old.desktop (act.Tick time) gave.Tick new.desktop × IsNextFrame old.desktop old.frame new.frame (has damage)
     × (told ≡ record {
       text = frame_line time (count_points damage.width damage.height (has damage));
       images = image_of new.frame.width new.frame.height new.frame.pixels;

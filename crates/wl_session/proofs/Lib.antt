@@ -1,8 +1,10 @@
 pub mod Cuts
+pub mod Feeding
 pub mod OneStep
 pub mod OnlyRun
 pub mod Kept
 pub mod Others
+pub mod Reported
 pub mod Runs
 pub mod Unmarked
 pub mod StoreWrites

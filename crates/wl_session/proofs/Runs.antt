@@ -3,7 +3,7 @@ use Rattle.std.proofs.Common.{◌≡◌, ℕ, ◌+◌, ◌<◌, List, [], ◌∷
 use Rattle.std.specs.Prelude.{Err, Bool, IsTrue, false}
 use Rattle.std.proofs.lemmas.List.{map-append, take_more, append-nil}
 use Rattle.std.proofs.lemmas.Option.{slice_get-get_or}
-use Rattle.wl_paint.specs.Frame.{Image, color_at}
+use Rattle.wl_paint.specs.Frame.{Image}
 use Rattle.wl_session.specs.View.{SessionView}
 use Rattle.wl_desk.specs.declared.answers.Done.{Done}
 use Rattle.wl_desk.specs.declared.answers.Done.TheVariants as gave
@@ -13,10 +13,11 @@ use Rattle.wl_desk.specs.Desktop.{Desktop}
 use Rattle.wl_desk.specs.Served.{Unserved}
 use Rattle.wl_desk.specs.Steps.{Act, Connect, Feed, Store, Leave, Tick, Send, Close, ConnectsAt, Steps}
 use Rattle.wl_session.specs.Step.{act_of}
-use Rattle.wl_session.specs.Run.{Film, IsNextFrame, Leads, Runs, MayStopAt, Shows, takes_memory}
-use Rattle.wl_desk.specs.Agreement.{TakesStep}
+use Rattle.wl_session.specs.Run.{Film, IsNextFrame, IsShownBy, Leads, MayStopAt, Runs, Shows, in_runs, takes_memory}
+use Rattle.wl_desk.specs.Agreement.{Agrees, TakesStep}
+use Rattle.wl_session.proofs.Reported.{each_point, in-points}
 
-Runs-snoc : (unserved : Unserved) (acts : List Act) (act : Act) (before image after : Image) (old mid new : Desktop) (films first : List Film) (done : Done) → Runs unserved before old acts films image mid → Steps unserved mid act done new → Shows act image first after → Runs unserved before old (acts ++ act ∷ []) (films ++ first) after new
+Runs-snoc : (unserved : Unserved) (acts : List Act) (act : Act) (before image after : Image) (old mid new : Desktop) (films first : List Film) (done : Done) → Runs unserved before old acts films image mid → Steps unserved mid act done new → Shows act mid image first after → Runs unserved before old (acts ++ act ∷ []) (films ++ first) after new
 Runs-snoc unserved [] act before image after old mid new films first done run step shows = (
   new,
   done,
@@ -24,7 +25,7 @@ Runs-snoc unserved [] act before image after old mid new films first done run st
   first,
   [],
   subst (λ (x : Desktop). Steps unserved x act done new) run.2 step,
-  subst (λ (x : Image). Shows act x first after) run.1 shows,
+  subst (λ (x : Image). Shows act old x first after) run.1 (subst (λ (x : Desktop). Shows act x image first after) run.2 shows),
   rw run.0 (sym (append-nil first)),
   (refl, refl, refl),
 )
@@ -41,7 +42,7 @@ Runs-snoc unserved (a ∷ acts) act before image after old mid new films first d
 )
 
 -- a run goes on by one more step
-pub Runs-more : (unserved : Unserved) (steps : List Step) (i : ℕ) (x : Step) (before image after : Image) (old mid new : Desktop) (films first : List Film) (done : Done) → i < length steps → Runs unserved before old (map act_of (take i steps)) films image mid → Steps unserved mid (act_of (get_or steps i x)) done new → Shows (act_of (get_or steps i x)) image first after → Runs unserved before old (map act_of (take (i + 1) steps)) (films ++ first) after new
+pub Runs-more : (unserved : Unserved) (steps : List Step) (i : ℕ) (x : Step) (before image after : Image) (old mid new : Desktop) (films first : List Film) (done : Done) → i < length steps → Runs unserved before old (map act_of (take i steps)) films image mid → Steps unserved mid (act_of (get_or steps i x)) done new → Shows (act_of (get_or steps i x)) mid image first after → Runs unserved before old (map act_of (take (i + 1) steps)) (films ++ first) after new
 Runs-more unserved steps i x before image after old mid new films first done h run step shows =
     let e : map act_of (take (i + 1) steps) ≡ map act_of (take i steps) ++ act_of (get_or steps i x) ∷ [] =
     ap (λ (ss : List Step). map act_of ss) (take_more steps i x h) ∙ map-append act_of (take i steps) (get_or steps i x ∷ []) in
@@ -53,27 +54,42 @@ Connects-stays old new None h = h.1
 Connects-stays old new (Some k) (inl h) = h.1
 Connects-stays old new (Some k) (inr h) = absurd (cc (h.0))
 
--- a frame that stays is the next one where nothing is damaged
-pub IsNextFrame-same : (before after : Image) (damaged : ℕ → ℕ → Bool) → ((x y : ℕ) → damaged x y ≡ false) → after ≡ before → IsNextFrame before after damaged
-IsNextFrame-same before after damaged none same = record {
-  kept = λ x y h. ap (λ (image : Image). color_at image x y) same;
-  nothing = none;
-  same = same;
+-- a frame that was painted where these points are was painted where those are that are the same on it
+pub IsNextFrame-by : (d : Desktop) (before after : Image) (damaged reported : ℕ → ℕ → Bool) → ((x y : ℕ) → x < before.width → y < before.height → reported x y ≡ damaged x y) → IsNextFrame d before after damaged → IsNextFrame d before after reported
+IsNextFrame-by d before after damaged reported same next = record {
+  large = next.large;
+  painted = λ x y w h here opaque. next.painted x y w h (sym (same x y w h) ∙ here) opaque;
+  kept = λ x y w h none. next.kept x y w h (sym (same x y w h) ∙ none);
 }
 
+-- the frame of a tick, where no report of it is made
+pub Shows-tick : (time : ℕ) (d : Desktop) (before after : Image) (damaged : ℕ → ℕ → Bool) → IsNextFrame d before after damaged → IsShownBy (Tick time) d before after
+Shows-tick time d before after damaged next =
+    let runs = each_point damaged before.width before.height in
+    let film : Film = record { time = time; runs = runs; pixels = after.pixels } in (
+      film ∷ [],
+      (film, refl, record { shown = refl; pixels = refl; next = IsNextFrame-by d before after damaged (in_runs runs) (in-points damaged before.width before.height) next }),
+    )
+
 -- what takes no memory shows no frame
-pub Shows-none : (act : Act) (before after : Image) → takes_memory act ≡ false → after ≡ before → Shows act before [] after
-Shows-none Connect before after quiet same = (refl, same)
-Shows-none (Feed c piece) before after quiet same = (refl, same)
-Shows-none (Store c store at bytes) before after quiet same = (refl, same)
-Shows-none (Leave c) before after quiet same = (refl, same)
-Shows-none (Tick time) before after quiet same = absurd (cc)
-Shows-none (Send c n) before after quiet same = (refl, same)
-Shows-none (Close c) before after quiet same = (refl, same)
+Shows-quiet : (act : Act) (d : Desktop) (before after : Image) (films : List Film) → takes_memory act ≡ false → Shows act d before films after → Shows act d before [] after
+Shows-quiet Connect d before after films quiet shows = absurd (cc)
+Shows-quiet (Feed c piece) d before after films quiet shows = (refl, shows.1)
+Shows-quiet (Store c store at bytes) d before after films quiet shows = (refl, shows.1)
+Shows-quiet (Leave c) d before after films quiet shows = (refl, shows.1)
+Shows-quiet (Tick time) d before after films quiet shows = absurd (cc)
+Shows-quiet (Send c n) d before after films quiet shows = (refl, shows.1)
+Shows-quiet (Close c) d before after films quiet shows = (refl, shows.1)
+
+pub Leads-quiet : (act : Act) (done : Done) (old new : SessionView) → takes_memory act ≡ false → TakesStep act done old.desk new.desk → ((d : Desktop) → Agrees old.desk d → IsShownBy act d old.frame new.frame) → Leads act [] old new
+Leads-quiet act done old new quiet step shows = λ d a.
+    let e = step d a in
+    let s = shows d a in
+    (e.0, done, e.1, Shows-quiet act d old.frame new.frame s.0 quiet s.1, e.2)
 
 -- a step that shows no frame leads on
-pub Leads-none : (act : Act) (done : Done) (old new : SessionView) → TakesStep act done old.desk new.desk → Shows act old.frame [] new.frame → Leads act [] old new
-Leads-none act done old new step shows = (λ d a. let e = step d a in (e.0, done, e.1, e.2), shows)
+pub Leads-none : (act : Act) (done : Done) (old new : SessionView) → TakesStep act done old.desk new.desk → ((d : Desktop) → Shows act d old.frame [] new.frame) → Leads act [] old new
+Leads-none act done old new step shows = λ d a. let e = step d a in (e.0, done, e.1, shows d, e.2)
 
 -- the step at a place may want memory
 pub MayStopAt-here : (steps : List Step) (n : ℕ) (x : Step) → n < length steps → IsTrue (takes_memory (act_of (get_or steps n x))) → MayStopAt steps n

@@ -2,7 +2,6 @@
 -- as it was, and the output stays.
 use Rattle.std.specs.Prelude.{ℕ, ◌≡◌, ◌≢◌, List, [], ◌∷◌, ◌++◌, Some, Ok, Err}
 use Rattle.wl_client.specs.declared.clients.Cause.TheVariants as cause
-use Rattle.wl_paint.specs.Frame.{Image}
 use Rattle.wl_desk.specs.Desktop.{Desktop, client_at}
 use Rattle.wl_desk.specs.Laws.{status_in, toplevels_of}
 use Rattle.wl_desk.specs.Served.{Unserved}
@@ -10,7 +9,6 @@ use Rattle.wl_desk.specs.declared.answers.ConnectError.TheVariants.{Memory}
 use Rattle.wl_desk.specs.declared.answers.Done.{Done}
 use Rattle.wl_desk.specs.declared.answers.Done.TheVariants as gave
 use Rattle.wl_desk.specs.Steps.{Act, Connect, Feed, Store, Leave, Tick, Send, Close, Steps}
-use Rattle.wl_session.specs.Run.{Film, Shows}
 
 -- Two pieces of a stream, one after the other, lead where they lead as one, whichever requests are served.
 abbrev pub AnyPieces : Type 0
@@ -24,20 +22,18 @@ HadMemory old done new =
     (done ≢ gave.Connect (Err Memory)) × ((c : ℕ) → status_in c new ≡ Some cause.Memory → status_in c old ≡ Some cause.Memory)
 
 -- a whole run that met no want of memory, with what its steps answered
-abbrev pub RunsAmply : Unserved → Image → Desktop → List Act → List Done → List Film → Image → Desktop → Type 0
-RunsAmply unserved before old [] answers films after new = (answers ≡ []) × (films ≡ []) × (after ≡ before) × (new ≡ old)
-RunsAmply unserved before old (act ∷ acts) answers films after new =
-    (mid : Desktop) × (done : Done) × (image : Image) × (first : List Film) × (later : List Film) × (dones : List Done)
-    × Steps unserved old act done mid × HadMemory old done mid × Shows act old before first image × (films ≡ first ++ later)
-    × (answers ≡ done ∷ dones) × RunsAmply unserved image mid acts dones later after new
+abbrev pub RunsAmply : Unserved → Desktop → List Act → List Done → Desktop → Type 0
+RunsAmply unserved old [] answers new = (answers ≡ []) × (new ≡ old)
+RunsAmply unserved old (act ∷ acts) answers new =
+    (mid : Desktop) × (done : Done) × (dones : List Done) × Steps unserved old act done mid × HadMemory old done mid × (answers ≡ done ∷ dones)
+    × RunsAmply unserved mid acts dones new
 
--- Such a run is the only one: its answers, its frames and the desktop at its end are determined.
+-- Such a run is the only one: its answers and the desktop at its end are determined. Its frames are not, since more may be painted again than
+-- has to be.
 abbrev pub OneRun : Type 0
 OneRun =
-    (unserved : Unserved) (acts : List Act) (before : Image) (old : Desktop) (answers others : List Done) (films shots : List Film)
-    (after next : Image) (new end : Desktop)
-    → RunsAmply unserved before old acts answers films after new → RunsAmply unserved before old acts others shots next end
-    → (answers ≡ others) × (films ≡ shots) × (after ≡ next) × (new ≡ end)
+    (unserved : Unserved) (acts : List Act) (old : Desktop) (answers others : List Done) (new end : Desktop)
+    → RunsAmply unserved old acts answers new → RunsAmply unserved old acts others end → (answers ≡ others) × (new ≡ end)
 
 -- the number that a connect gave, or 0
 abbrev pub given_by : Done → ℕ

@@ -9,7 +9,7 @@ pub fn any_pieces()
     ensures { AnyPieces }
 {}
 
-/// Where no want of memory is met, a list of steps has one run: one desktop at its end, and one list of frames.
+/// Where no want of memory is met, a list of steps has one run: one list of answers, and one desktop at its end.
 pub fn one_run()
     ensures { OneRun }
 {}

@@ -37,7 +37,7 @@ pub struct Config {
 }
 
 /// All clients and the last frame. It is seen as the output with what is kept of each client, by number
-/// from 1, what is to be painted again since the last frame, and that frame.
+/// from 1, what is to be painted again since the last frame, that frame, and what was painted for it.
 #[derive(Drop)]
 pub struct Session<A: Allocator> {
     desk: Desk<A>,
@@ -52,7 +52,7 @@ impl<A: Allocator> Model for Session<A> {
 
     ghost Value = { SessionView };
 
-    ghost view = { λ s. record { desk = s.desk.desk; damage = s.desk.damage; frame = s.framebuffer } };
+    ghost view = { λ s. record { desk = s.desk.desk; damage = s.desk.damage; frame = s.framebuffer; painted = s.painted } };
 
     ghost invariant = { λ s. (s.framebuffer.width ≡ s.desk.desk.output.width) × (s.framebuffer.height ≡ s.desk.desk.output.height)
         × (s.painted.width ≡ s.desk.desk.output.width) × (s.painted.height ≡ s.desk.desk.output.height) };
@@ -60,7 +60,7 @@ impl<A: Allocator> Model for Session<A> {
 
 impl<A: Allocator + Copy> Session<A> {
     ghost use Rattle.wl_session.specs.contracts.sessions.Session.{the_row};
-    ghost use Rattle.wl_session.specs.Run.{Film, IsFilm, IsNextFrame, IsShownBy, Leads, MayStopAt, Stays, TakesSteps, film_of, taken_by, takes_memory};
+    ghost use Rattle.wl_session.specs.Run.{Film, IsAsLarge, IsFilm, IsNextFrame, IsShownBy, Leads, MayStopAt, Stays, TakesSteps, film_of, taken_by, takes_memory};
     ghost use Rattle.std.specs.Prelude.{List, [], ◌∷◌, IsTrue};
 
     /// A session without clients, whose frame is the background.
@@ -108,7 +108,7 @@ impl<A: Allocator + Copy> Session<A> {
             Ok(()) => self.serve_all(client),
             Err(AllocError) => self.desk.end(client, Cause::Memory),
         }
-        self.desk.status(client)
+        self.status(client)
     }
 
     /// Takes each whole message of what came from a client, until one ends it.
@@ -179,6 +179,7 @@ impl<A: Allocator + Copy> Session<A> {
     pub fn tick(&mut self, time: u32) -> Frame<'_, A>
         ensures* after { sem 𝓛 (Rests (the_row A.row A.Allocator) self.entry (λ v. TakesStep (Tick time) Done.Tick self.old.desk v.desk × (v.frame ≡ result.pixels.now))) }
         ensures frame { (d : Desktop) → Agrees self.old.desk d → IsNextFrame d self.old.frame result.pixels.now (has result.damage.now) }
+        ensures large { IsAsLarge self.old.frame result.pixels.now }
         ensures damage { result.damage.now ≡ self.old.damage }
         ensures time { result.time ≡ time }
     {
@@ -189,7 +190,7 @@ impl<A: Allocator + Copy> Session<A> {
 
     /// The last frame.
     fn frame(&self, time: u32) -> Frame<'_, A>
-        ensures pixels { result.pixels.now ≡ self.now.framebuffer }
+        ensures pixels { result.pixels.now ≡ self.now.frame }
         ensures damage { result.damage.now ≡ self.now.painted }
         ensures time { result.time ≡ time }
     {
@@ -285,8 +286,8 @@ impl<A: Allocator + Copy> Session<A> {
     {
         let alloc = self.alloc;
         shots.reserve(1)?;
-        let runs = runs_of(alloc, self.desk.damage(), self.framebuffer.height())?;
         let mut pixels = Vec::with_capacity(alloc, self.framebuffer.pixels().len())?;
+        let runs = runs_of(alloc, self.desk.damage(), self.framebuffer.height())?;
         let frame = self.tick(time);
         append_reserved(&mut pixels, frame.pixels.pixels());
         shots.push_reserved(Shot { time, runs, pixels });
@@ -300,7 +301,8 @@ fn runs_of<A: Allocator>(
     damage: &Damage<A>,
     height: u32,
 ) -> Result<Vec<Run, A>, AllocError>
-    requires { damage.now.height ≡ height }
+    requires high { damage.now.height ≡ height }
+    requires narrow { damage.now.width ≤ 4096 }
     ensures { IfOk result (λ runs. (x y : ℕ) → x < damage.now.width → y < height → in_runs runs.items x y ≡ has damage.now x y) }
 {
     let mut runs = Vec::new(alloc);
@@ -316,7 +318,8 @@ fn append_runs<A: Allocator>(
     damage: &Damage<A>,
     y: u32,
 ) -> Result<(), AllocError>
-    requires { y < damage.now.height }
+    requires row { y < damage.now.height }
+    requires narrow { damage.now.width ≤ 4096 }
     ensures { OnOk result ((x z : ℕ) → x < damage.now.width → in_runs runs.new.items x z ≡ (in_runs runs.old.items x z || ((y == z) && has damage.now x y))) }
 {
     let mut from = 0;

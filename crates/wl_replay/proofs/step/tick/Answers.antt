@@ -25,7 +25,7 @@ returns-clause-told g c =
         frames = 1;
         clients = 0;
       },
-      (damage, step.1, subst (λ (before : Image). IsNextFrame before frame (has damage)) stands.frame c.tick-frame.ensures.frame, refl),
+      (damage, step.1, subst (λ (before : Image). IsNextFrame old.desktop before frame (has damage)) stands.frame (c.tick-frame.ensures.frame old.desktop stands.desk), refl),
       record { desk = step.2; frame = after.1 },
       subst (λ (n : ℕ). Appends (g.W.Write.contents c.args.writer.now) (g.W.Write.contents c.write_frame.new.writer) (frame_line c.args.time n)) c.count-count.ensures wrote,
       (shown, refl, refl),

@@ -10,8 +10,8 @@ pub loop-n-preserved : goal.loop-n-preserved
 loop-n-preserved g c = λ d a.
     let m = c.loop-n.invariant d a in
     let taken = c.take_step.ensures.taken c.if-not-take_step.false in
-    let next = taken.2.0 m.0 m.2 in
-    (next.0, rw taken.1 (Runs-more _ c.args.steps.now c.loop-n.n _ _ _ _ d m.0 next.0 _ taken.0 next.1 c.loop-n-test.true m.1 next.2 taken.2.1), next.3)
+    let next = taken.2 m.0 m.2 in
+    (next.0, rw taken.1 (Runs-more _ c.args.steps.now c.loop-n.n _ _ _ _ d m.0 next.0 _ taken.0 next.1 c.loop-n-test.true m.1 next.2 next.3), next.4)
 
 pub returns-then-not-take_step-clause-err : goal.returns-then-not-take_step-clause-err
 returns-then-not-take_step-clause-err g c =

@@ -4,7 +4,7 @@ use Rattle.wl_desk.specs.declared.answers.Done.TheVariants as gave
 use Rattle.wl_desk.specs.Steps.{Connect}
 use Rattle.wl_session.specs.Step.{act_of}
 use Rattle.wl_session.specs.Run.{takes_memory}
-use Rattle.wl_session.proofs.Runs.{Leads-none, Shows-none}
+use Rattle.wl_session.proofs.Runs.{Leads-none, Leads-quiet}
 use Rattle.wl_session.proofs.sessions.Session.take_step.Goals as goal
 
 pub returns-in-Feed : goal.returns-in-Feed
@@ -16,16 +16,16 @@ returns-in-Feed g c =
       | inr (inr (inr (inl h))) ↦ ap (λ s. takes_memory (act_of s)) h.2
       | inr (inr (inr (inr h))) ↦ ap (λ s. takes_memory (act_of s)) h.1
     ] in record {
-      taken = λ _. ([], sym (append-nil _), Leads-none _ c.step.result _ _ c.step.ensures.step (Shows-none _ _ _ quiet c.step.ensures.frame));
+      taken = λ _. ([], sym (append-nil _), Leads-quiet _ c.step.result c.args.self.now c.step.new.self quiet c.step.ensures.step c.step.ensures.frame);
       refused = λ h. absurd (cc);
       shots = λ h. absurd (cc);
     }
 
 pub returns-in-Ok-clause-taken : goal.returns-in-Ok-clause-taken
-returns-in-Ok-clause-taken g c = rw c.in-Connect.is (λ _. ([], sym (append-nil _), Leads-none Connect (gave.Connect c.connect.result) _ _ c.connect.ensures.step (refl, c.connect.ensures.frame)))
+returns-in-Ok-clause-taken g c = rw c.in-Connect.is (λ _. ([], sym (append-nil _), Leads-none Connect (gave.Connect c.connect.result) c.args.self.now c.connect.new.self c.connect.ensures.step (λ d. (refl, c.connect.ensures.frame))))
 
 pub returns-in-Ok-2-clause-taken : goal.returns-in-Ok-2-clause-taken
-returns-in-Ok-2-clause-taken g c = rw c.in-Connect.is (λ _. ([], sym (append-nil _), Leads-none Connect (gave.Connect c.connect.result) _ _ c.connect.ensures.step (refl, c.connect.ensures.frame)))
+returns-in-Ok-2-clause-taken g c = rw c.in-Connect.is (λ _. ([], sym (append-nil _), Leads-none Connect (gave.Connect c.connect.result) c.args.self.now c.connect.new.self c.connect.ensures.step (λ d. (refl, c.connect.ensures.frame))))
 
 pub returns-in-Tick-clause-taken : goal.returns-in-Tick-clause-taken
 returns-in-Tick-clause-taken g c = rw c.in-Tick.is c.take_tick.ensures.taken

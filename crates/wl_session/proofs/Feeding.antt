@@ -1,0 +1,176 @@
+-- A piece of a client's stream, message by message.
+use Rattle.std.proofs.Common.{◌≡◌, ℕ, zero, suc, List, [], ◌∷◌, ◌++◌, Bool, true, false, Option, Some, None, Result, Ok, Err, refl, ap, sym, subst, ◌∙◌, inl, inr}
+use Rattle.std.specs.Prelude.{◌==◌, not, cond, is_some, slice_index_or}
+use Rattle.wl_desk.specs.Standing.{AreMapped}
+use Rattle.std.specs.List.{list_any}
+use Rattle.wl_wire.specs.Wire.{split_of}
+use Rattle.wl_wire.specs.declared.header.Split.{Split}
+use Rattle.wl_wire.specs.declared.header.Split.TheVariants.{Message, More, Bad}
+use Rattle.wl_client.specs.declared.clients.Cause.{Cause}
+use Rattle.wl_client.specs.declared.clients.Cause.TheVariants.{Memory}
+use Rattle.wl_client.specs.Peer.{Peer, LacksMemory, ended, with_rest}
+use Rattle.wl_client.specs.View.{ClientView}
+use Rattle.wl_scene.specs.Stacking.{Owned, Standing, is_of, nothing_owned, without_client}
+use Rattle.wl_desk.specs.Agreement.{Agrees, IsPlace}
+use Rattle.wl_desk.specs.Ask.{Ask}
+use Rattle.wl_desk.specs.Desktop.{Desktop, Resident, become, become_by, client_at, client_in, owned_in, owned_of, resident_of, with_client, with_number}
+use Rattle.wl_desk.specs.Feeding.{IsIdleIn, IsIdleOf, ended_at, ended_of, kept_at, kept_by, kept_of}
+use Rattle.wl_desk.specs.Laws.{status_in}
+use Rattle.wl_desk.specs.Laws.{status_of as ended_in}
+use Rattle.wl_desk.specs.Seats.{ended_by}
+use Rattle.wl_desk.specs.Served.{Unserved, beyond_toplevels}
+use Rattle.wl_desk.specs.Step.{Answers, Becomes, FeedsAt, Reaches, ServesAt, StopsAt, Takes, WantsOr, changed_by, stacked, takes_memory}
+use Rattle.wl_desk.specs.Steps.{IsFedAt, fed_of, peer_at, peer_of, status_of}
+use Rattle.wl_desk.specs.View.{DeskView, OwnedView}
+use Rattle.wl_desk.specs.declared.answers.Done.TheVariants as gave
+use Rattle.wl_desk.specs.declared.answers.Fed.{Fed}
+use Rattle.wl_desk.proofs.Places.{client-become, number-kept, number-same, number-twice, stacked-clients}
+use Rattle.wl_desk.proofs.Stacks.{and-both, differ, or-left, or-right, same-number}
+
+-- ---- a client stays there
+
+-- some client has this number
+abbrev pub IsThere : ℕ → Desktop → Type 0
+IsThere c d = (r : Resident) × (client_at c d ≡ Some r)
+
+becomes-there : (Q : Peer → Type 0) (c : ℕ) (r : Resident) (d new : Desktop) → IsThere c d → Becomes Q c r d new → IsThere c new
+becomes-there Q c r d new there h = (_, ap (λ (x : Desktop). client_at c x) h.2 ∙ client-become h.0.status c r h.0 d there.0 there.1)
+
+stacked-there : (c : ℕ) (ask : Ask) (r : Resident) (d : Desktop) → IsThere c d → IsThere c (stacked c ask r d)
+stacked-there c ask r d there = (there.0, ap (λ (clients : List (Option Resident)). client_in clients c) (stacked-clients c ask r d) ∙ there.1)
+
+wants-there : (b : Bool) (Q : Peer → Type 0) (ask : Ask) (c : ℕ) (r : Resident) (d new : Desktop) → IsThere c d → WantsOr b (Becomes Q c (changed_by ask r) (stacked c ask r d) new) c r d new → IsThere c new
+wants-there false Q ask c r d new there h = becomes-there Q c (changed_by ask r) (stacked c ask r d) new (stacked-there c ask r d there) h
+wants-there true Q ask c r d new there (inl h) = becomes-there (LacksMemory r.peer) c r d new there h
+wants-there true Q ask c r d new there (inr h) = becomes-there Q c (changed_by ask r) (stacked c ask r d) new (stacked-there c ask r d there) h
+
+answers-there : (judged : Result Ask _) (c : ℕ) (r : Resident) (d new : Desktop) → IsThere c d → Answers judged c r d new → IsThere c new
+answers-there (Ok ask) c r d new there h = wants-there (takes_memory ask) _ ask c _ d new there h
+answers-there (Err refusal) c r d new there h = becomes-there _ c r d new there h
+
+takes-there : (unserved : Unserved) (s : Split) (c : ℕ) (r : Resident) (d new : Desktop) → IsThere c d → Takes unserved s c r d new → IsThere c new
+takes-there unserved (Message object opcode size) c r d new there h = answers-there _ c _ d new there h
+takes-there unserved Bad c r d new there h = becomes-there _ c r d new there h
+takes-there unserved More c r d new there h = absurd h
+
+serves-there : (unserved : Unserved) (c : ℕ) (o : Option Resident) (d new : Desktop) → client_at c d ≡ o → ServesAt unserved c o d new → IsThere c new
+serves-there unserved c None d new is h = absurd h
+serves-there unserved c (Some r) d new is h = takes-there unserved (split_of r.peer.rest) c r d new (r, is) h.1
+
+pub reaches-there : (unserved : Unserved) (c n : ℕ) (d new : Desktop) → IsThere c d → Reaches unserved c n d new → IsThere c new
+reaches-there unserved c zero d new there h = (there.0, ap (λ (x : Desktop). client_at c x) h ∙ there.1)
+reaches-there unserved c (suc n) d new there h = serves-there unserved c (client_at c h.0) h.0 new refl h.2
+
+-- ---- nothing is taken
+
+-- nobody is there
+reaches-none : (unserved : Unserved) (c n : ℕ) (d new : Desktop) → client_at c d ≡ None → Reaches unserved c n d new → new ≡ d
+reaches-none unserved c zero d new none h = h
+reaches-none unserved c (suc n) d new none h =
+    absurd (subst (λ (o : Option Resident). ServesAt unserved c o h.0 new) (ap (λ (x : Desktop). client_at c x) (reaches-none unserved c n d h.0 none h.1) ∙ none) h.2)
+
+-- the client ended
+reaches-ended : (unserved : Unserved) (c n : ℕ) (s : Cause) (r : Resident) (d new : Desktop) → client_at c d ≡ Some r → r.peer.status ≡ Some s → Reaches unserved c n d new → new ≡ d
+reaches-ended unserved c zero s r d new is over h = h
+reaches-ended unserved c (suc n) s r d new is over h =
+    let served : ServesAt unserved c (Some r) h.0 new = subst (λ (o : Option Resident). ServesAt unserved c o h.0 new) (ap (λ (x : Desktop). client_at c x) (reaches-ended unserved c n s r d h.0 is over h.1) ∙ is) h.2 in
+    let clash : Some s ≡ None = sym over ∙ served.0 in
+    absurd (cc)
+
+-- ---- one that ended stays as it is
+
+stay : (c : ℕ) (ss : List Standing) → ((surface : ℕ) → list_any (is_of c surface) ss ≡ false) → without_client c ss ≡ ss
+stay c [] none = refl
+stay c (s ∷ ss) none = at (s.client == c) refl (stay c ss (λ surface. or-right (is_of c surface s) (list_any (is_of c surface) ss) (none surface)))
+  where
+    at : (b : Bool) → (s.client == c) ≡ b → without_client c ss ≡ ss → cond (not b) (s ∷ without_client c ss) (without_client c ss) ≡ s ∷ ss
+    at false e rest = ap (λ (xs : List Standing). s ∷ xs) rest
+    at true e rest =
+        absurd (differ (sym (or-left (is_of c s.surface s) (list_any (is_of c s.surface) ss) (none s.surface)) ∙ and-both (s.client == c) (s.surface == s.surface) e (same-number s.surface)))
+
+owns-nothing : (x : Option ClientView) (o : Option OwnedView) (r : Resident) (s : Cause) → IsPlace x o (Some r) → r.peer.status ≡ Some s → r ≡ resident_of r.peer
+owns-nothing (Some v) (Some o) r s is over = is.ended (ap (λ (z : Option Cause). is_some z) over)
+owns-nothing None None r s is over = absurd is
+owns-nothing None (Some o) r s is over = absurd is
+owns-nothing (Some v) None r s is over = absurd is
+
+bare : (v : DeskView) (c : ℕ) (s : Cause) (r : Resident) (d : Desktop) → Agrees v d → client_at c d ≡ Some r → r.peer.status ≡ Some s → r ≡ resident_of r.peer
+bare v zero s r d a is over = absurd (cc)
+bare v (suc k) s r d a is over =
+    owns-nothing (slice_index_or v.clients k None) (slice_index_or v.owned k None) r s
+    (subst (λ (o : Option Resident). IsPlace (slice_index_or v.clients k None) (slice_index_or v.owned k None) o) is (a.clients k)) over
+
+-- that it ends changes nothing
+ended-stays : (v : DeskView) (c : ℕ) (s : Cause) (r : Resident) (d : Desktop) → Agrees v d → client_at c d ≡ Some r → r.peer.status ≡ Some s → become c r r.peer d ≡ d
+ended-stays v c s r d a is over =
+    let owns = bare v c s r d a is over in
+    let nothing : owned_in d c ≡ nothing_owned = ap (λ (o : Option Resident). owned_of o) (is ∙ ap (λ (x : Resident). Some x) owns) in
+    let none : (surface : ℕ) → list_any (is_of c surface) d.standing ≡ false = (subst (λ (o : Owned). AreMapped c o d.standing) nothing (a.mapped.each c)).stands in
+    ap (λ (z : Option Cause). become_by z c r r.peer d) over
+    ∙ (ap (λ (clients : List (Option Resident)). record d { clients = clients; standing = without_client c d.standing })
+    (ap (λ (o : Option Resident). with_number c o d.clients) (sym (is ∙ ap (λ (x : Resident). Some x) owns)) ∙ number-kept d.clients c)
+    ∙ ap (λ (standing : List Standing). record d { standing = standing }) (stay c d.standing none))
+
+-- ---- what a piece makes
+
+-- how a client is that is there
+fed-as : (c : ℕ) (d : Desktop) → IsThere c d → gave.Feed (status_of (peer_at c d)) ≡ gave.Feed (fed_of (status_in c d))
+fed-as c d there = ap (λ (o : Option Resident). gave.Feed (status_of (peer_of o))) there.1 ∙ sym (ap (λ (o : Option Resident). gave.Feed (fed_of (ended_in o))) there.1)
+
+-- it was kept, and each message was taken
+pub fed-served : (c n : ℕ) (piece : List ℕ) (d mid : Desktop) (answer : Fed) → Reaches beyond_toplevels c n (kept_at c piece d) mid → IsIdleIn c mid → answer ≡ status_of (peer_at c mid)
+    → IsFedAt beyond_toplevels c piece (client_at c d) d (gave.Feed answer) mid
+fed-served c n piece d mid answer reaches idle told =
+    subst (λ (f : Fed). IsFedAt beyond_toplevels c piece (client_at c d) d (gave.Feed f) mid) (sym told) (at (client_at c d) refl reaches)
+  where
+    at : (o : Option Resident) → client_at c d ≡ o → Reaches beyond_toplevels c n (kept_of c piece o d) mid → IsFedAt beyond_toplevels c piece o d (gave.Feed (status_of (peer_at c mid))) mid
+    at None is reaches =
+        let same = reaches-none beyond_toplevels c n d mid is reaches in
+        (ap (λ (x : Desktop). gave.Feed (status_of (peer_at c x))) same ∙ ap (λ (o : Option Resident). gave.Feed (status_of (peer_of o))) is, same)
+    at (Some r) is reaches = by r.peer.status refl reaches
+      where
+        by : (s : Option Cause) → r.peer.status ≡ s → Reaches beyond_toplevels c n (kept_by c piece s r d) mid
+            → FeedsAt beyond_toplevels c piece s r d mid × (gave.Feed (status_of (peer_at c mid)) ≡ gave.Feed (fed_of (status_in c mid)))
+        by (Some s) e reaches =
+            let same = reaches-ended beyond_toplevels c n s r d mid is e reaches in
+            (same, fed-as c mid (r, ap (λ (x : Desktop). client_at c x) same ∙ is))
+        by None e reaches =
+            let come : Peer = with_rest (r.peer.rest ++ piece) r.peer in
+            let there = reaches-there beyond_toplevels c n (become c r come d) mid (_, client-become come.status c r come d r is) reaches in (
+              (n, mid, reaches, subst (λ (o : Option Resident). StopsAt c o mid mid) (sym there.1) (inl (refl, subst (λ (o : Option Resident). IsIdleOf o) there.1 idle))),
+              fed-as c mid there,
+            )
+
+-- there was no memory to keep it
+pub fed-lacking : (v : DeskView) (c : ℕ) (piece : List ℕ) (d : Desktop) (answer : Fed) → Agrees v d → answer ≡ status_of (peer_at c (ended_at c Memory d))
+    → IsFedAt beyond_toplevels c piece (client_at c d) d (gave.Feed answer) (ended_at c Memory d)
+fed-lacking v c piece d answer a told =
+    subst (λ (f : Fed). IsFedAt beyond_toplevels c piece (client_at c d) d (gave.Feed f) (ended_at c Memory d)) (sym told) (at (client_at c d) refl)
+  where
+    at : (o : Option Resident) → client_at c d ≡ o → IsFedAt beyond_toplevels c piece o d (gave.Feed (status_of (peer_at c (ended_of c Memory o d)))) (ended_of c Memory o d)
+    at None is = (ap (λ (o : Option Resident). gave.Feed (status_of (peer_of o))) is, refl)
+    at (Some r) is = by r.peer.status refl
+      where
+        by : (s : Option Cause) → r.peer.status ≡ s
+            → FeedsAt beyond_toplevels c piece s r d (become c r (ended_by s Memory r.peer) d)
+            × (gave.Feed (status_of (peer_at c (become c r (ended_by s Memory r.peer) d))) ≡ gave.Feed (fed_of (status_in c (become c r (ended_by s Memory r.peer) d))))
+        by (Some s) e =
+            let same = ended-stays v c s r d a is e in
+            (same, fed-as c (become c r r.peer d) (r, ap (λ (x : Desktop). client_at c x) same ∙ is))
+        by None e =
+            let over : Peer = ended Memory r.peer in
+            ((zero, become c r come d, refl, stops r.peer.status e), fed-as c (become c r over d) (_, client-become over.status c r over d r is))
+          where
+            come : Peer
+            come = with_rest (r.peer.rest ++ piece) r.peer
+
+            stops : (s : Option Cause) → s ≡ None → StopsAt c (client_at c (become_by s c r come d)) (become_by s c r come d) (become c r (ended Memory r.peer) d)
+            stops (Some s) f = absurd (cc)
+            stops None f =
+                let held : Desktop = with_client c (Some (record r { peer = come })) d in
+                subst (λ (o : Option Resident). StopsAt c o held (become c r (ended Memory r.peer) d)) (sym (number-same d.clients c (Some (record r { peer = come })) r is))
+                (inr (
+                  e,
+                  ap (λ (clients : List (Option Resident)). record d { clients = clients; standing = without_client c d.standing })
+                      (sym (number-twice d.clients c (Some (resident_of (ended Memory r.peer))) (Some (record r { peer = come })))),
+                ))

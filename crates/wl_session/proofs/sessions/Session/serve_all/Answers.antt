@@ -1,0 +1,30 @@
+use Rattle.std.proofs.Common.{suc, ◌∙◌, ◌≢◌, sym, ap, rules}
+use Rattle.wl_client.specs.declared.served.Served.TheVariants as served
+use Rattle.wl_client.specs.declared.outputs.Output.{Output}
+use Rattle.wl_paint.specs.Damage.{Damaged}
+use Rattle.wl_paint.specs.Frame.{Image}
+use Rattle.wl_session.proofs.sessions.Session.serve_all.Goals as goal
+
+pub loop-self-preserved : goal.loop-self-preserved
+loop-self-preserved g c =
+    let other : c.serve.result ≢ served.More = search rules in
+    record {
+      taken = λ d a.
+          let m = c.loop-self.invariant.taken d a in
+          let next = c.serve.ensures.serves other m.1 m.3 in
+          (suc m.0, next.0, (m.1, m.2, next.1), next.2);
+      frame = c.loop-self.invariant.frame;
+      output = c.serve.ensures.output ∙ c.loop-self.invariant.output;
+      painted = c.loop-self.invariant.painted;
+    }
+
+pub invariant_of-self : goal.invariant_of-self
+invariant_of-self g c =
+    let out = sym (c.serve.ensures.output ∙ c.loop-self.invariant.output) in
+    let frame = c.loop-self.invariant.frame in
+    let painted = c.loop-self.invariant.painted in (
+      ap (λ (i : Image). i.width) frame ∙ (c.self.invariant.0 ∙ ap (λ (o : Output). o.width) out),
+      ap (λ (i : Image). i.height) frame ∙ (c.self.invariant.1 ∙ ap (λ (o : Output). o.height) out),
+      ap (λ (i : Damaged). i.width) painted ∙ (c.self.invariant.2 ∙ ap (λ (o : Output). o.width) out),
+      ap (λ (i : Damaged). i.height) painted ∙ (c.self.invariant.3 ∙ ap (λ (o : Output). o.height) out),
+    )
