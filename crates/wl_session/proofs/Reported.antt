@@ -2,26 +2,11 @@
 use Rattle.std.proofs.Common.{◌≡◌, ℕ, zero, suc, subst, ◌+◌, ◌<◌, ◌≤◌, List, [], ◌∷◌, ◌++◌, Bool, true, false, refl, ap, sym, ◌∙◌, arith, inl, inr}
 use Rattle.std.specs.Prelude.{◌==◌, ◌&&◌, ◌||◌, nat_le, nat_lt}
 use Rattle.std.proofs.Math.Bool.{and-false, and-true, or-false}
-use Rattle.std.proofs.lemmas.Bool.{cases_lt}
+use Rattle.std.proofs.lemmas.Bool.{cases_lt, eq-eqb, le-leb, le-ltb, lt-leb, lt-ltb}
 use Rattle.wl_paint.specs.Damage.{IsFirstRun}
 use Rattle.wl_desk.proofs.StandingLists.{any-last}
 use Rattle.wl_session.specs.Run.{in_runs}
 use Rattle.wl_session.specs.declared.shots.Run.{Run}
-
-less : (a b : ℕ) → a < b → nat_lt a b ≡ true
-less a b h = grind (arith)
-
-not-less : (a b : ℕ) → b ≤ a → nat_lt a b ≡ false
-not-less a b h = grind (arith)
-
-least : (a b : ℕ) → a ≤ b → nat_le a b ≡ true
-least a b h = grind (arith)
-
-not-least : (a b : ℕ) → b < a → nat_le a b ≡ false
-not-least a b h = grind (arith)
-
-same : (a b : ℕ) → a ≡ b → (a == b) ≡ true
-same a b h = grind (arith, h)
 
 before : (a b : ℕ) → a < b → (a == b) ≡ false
 before a b h = grind (arith)
@@ -32,12 +17,12 @@ after a b h = grind (arith)
 -- the first run at or after a place goes on with what is damaged
 goes-on : (p : ℕ → Bool) (width from start count x : ℕ) → IsFirstRun p width from (start, count) → ((nat_lt x from && p x) || (nat_le start x && nat_lt x (start + count))) ≡ (nat_lt x (start + count) && p x)
 goes-on p width from start count x run = elim (cases_lt x from) [
-  | inl l ↦ rw (less x from l, not-least start x (omega (arith, run.starts)), less x (start + count) (omega (arith, run.starts))) (or-false (p x))
+  | inl l ↦ rw (lt-ltb x from l, lt-leb start x (omega (arith, run.starts)), lt-ltb x (start + count) (omega (arith, run.starts))) (or-false (p x))
   | inr g ↦ elim (cases_lt x start) [
-    | inl l ↦ rw (not-less x from g, not-least start x l, run.before x g l, and-false (nat_lt x (start + count))) refl
+    | inl l ↦ rw (le-ltb x from g, lt-leb start x l, run.before x g l, and-false (nat_lt x (start + count))) refl
     | inr s ↦ elim (cases_lt x (start + count)) [
-      | inl l ↦ rw (not-less x from g, least start x s, less x (start + count) l, run.inside x s l) refl
-      | inr e ↦ rw (not-less x from g, least start x s, not-less x (start + count) e) refl
+      | inl l ↦ rw (le-ltb x from g, le-leb start x s, lt-ltb x (start + count) l, run.inside x s l) refl
+      | inr e ↦ rw (le-ltb x from g, le-leb start x s, le-ltb x (start + count) e) refl
     ]
   ]
 ]
@@ -54,7 +39,7 @@ AreRunsTo was now p width y from = (x z : ℕ) → x < width → in_runs now x z
 
 -- none yet
 pub runs-none : (was : List Run) (p : ℕ → Bool) (width y : ℕ) → AreRunsTo was was p width y 0
-runs-none was p width y = λ x z h. sym (rw (not-less x 0 (omega arith), and-false (y == z)) (or-false (in_runs was x z)))
+runs-none was p width y = λ x z h. sym (rw (le-ltb x 0 (omega arith), and-false (y == z)) (or-false (in_runs was x z)))
 
 -- one run more
 pub runs-more : (was now : List Run) (p : ℕ → Bool) (width y from start count : ℕ) → IsFirstRun p width from (start, count) → AreRunsTo was now p width y from
@@ -71,29 +56,29 @@ runs-all was now p width y from none so = λ x z h. so x z h ∙ ap (λ (b : Boo
   where
     whole : (x : ℕ) → x < width → (nat_lt x from && p x) ≡ p x
     whole x h = elim (cases_lt x from) [
-      | inl l ↦ rw (less x from l) refl
+      | inl l ↦ rw (lt-ltb x from l) refl
       | inr g ↦ rw (none x g h, and-false (nat_lt x from)) refl
     ]
 
 -- one row more
 pub rows-more : (h : ℕ → Bool) (y z : ℕ) → ((nat_lt z y && h z) || ((y == z) && h y)) ≡ (nat_lt z (y + 1) && h z)
 rows-more h y z = elim (cases_lt z y) [
-  | inl l ↦ rw (less z y l, after y z l, less z (y + 1) (omega arith)) (or-false (h z))
+  | inl l ↦ rw (lt-ltb z y l, after y z l, lt-ltb z (y + 1) (omega arith)) (or-false (h z))
   | inr g ↦ elim (cases_lt y z) [
-    | inl l ↦ rw (not-less z y g, before y z l, not-less z (y + 1) (omega arith)) refl
+    | inl l ↦ rw (le-ltb z y g, before y z l, le-ltb z (y + 1) (omega arith)) refl
     | inr e ↦
         let is : y ≡ z = omega arith in
-        rw (not-less z y g, same y z is, less z (y + 1) (omega arith), is) refl
+        rw (le-ltb z y g, eq-eqb y z is, lt-ltb z (y + 1) (omega arith), is) refl
   ]
 ]
 
 -- all rows
 pub rows-all : (b : Bool) (y height : ℕ) → y < height → (nat_lt y height && b) ≡ b
-rows-all b y height h = rw (less y height h) refl
+rows-all b y height h = rw (lt-ltb y height h) refl
 
 -- no row
 pub rows-none : (b : Bool) (z : ℕ) → false ≡ (nat_lt z 0 && b)
-rows-none b z = rw (not-less z 0 (omega arith)) refl
+rows-none b z = rw (le-ltb z 0 (omega arith)) refl
 
 -- ---- runs of single points
 
@@ -113,10 +98,10 @@ each_point damaged width (suc k) = row_points (λ x. damaged x k) k width (each_
 
 at-point : (n x : ℕ) → ((nat_le n x && nat_lt x (n + 1)) ≡ (n == x))
 at-point n x = elim (cases_lt x n) [
-  | inl l ↦ rw (not-least n x l, after n x l) refl
+  | inl l ↦ rw (lt-leb n x l, after n x l) refl
   | inr g ↦ elim (cases_lt n x) [
-    | inl l ↦ rw (least n x g, not-less x (n + 1) (omega arith), before n x l) refl
-    | inr e ↦ rw (least n x g, less x (n + 1) (omega arith), same n x (omega arith)) refl
+    | inl l ↦ rw (le-leb n x g, le-ltb x (n + 1) (omega arith), before n x l) refl
+    | inr e ↦ rw (le-leb n x g, lt-ltb x (n + 1) (omega arith), eq-eqb n x (omega arith)) refl
   ]
 ]
 
