@@ -295,7 +295,9 @@ impl<A: Allocator + Copy> Desk<A> {
 
     /// Which points of the output are to be painted again.
     pub fn damage(&self) -> &Damage<A>
-        ensures { result.now ≡ self.now.damage }
+        ensures same { result.now ≡ self.now.damage }
+        ensures wide { result.now.width ≡ self.now.desk.output.width }
+        ensures high { result.now.height ≡ self.now.desk.output.height }
     {
         &self.damage
     }
@@ -307,6 +309,8 @@ impl<A: Allocator + Copy> Desk<A> {
         ensures taken { painted.new ≡ self.old.damage }
         ensures none { (x y : ℕ) → has self.new.damage x y ≡ false }
         ensures desk { self.new.desk ≡ self.old.desk }
+        ensures width { painted.new.width ≡ self.old.desk.output.width }
+        ensures height { painted.new.height ≡ self.old.desk.output.height }
     {
         painted.clear();
         std::mem::swap(painted, &mut self.damage);
