@@ -1,29 +1,21 @@
 -- A message that passes is judged by its own errors, whatever those are; one that doesn't is refused, whatever those are.
-use Rattle.std.proofs.Common.{arith, nat_lt, ◌<◌, ◌/◌, ◌%◌, ◌≡◌, ℕ, ◌-◌, List, length, take, drop, Bool, true, false, Option, Some, None, Result, refl, ap, subst, sym, ◌∙◌}
+use Rattle.std.proofs.Common.{◌≡◌, ℕ, ◌-◌, List, length, take, drop, Bool, true, false, Option, Some, None, Result, refl, ap, sym, ◌∙◌}
 use Rattle.std.specs.Option.{option_map}
-use Rattle.std.proofs.lemmas.Bool.Decides.{nat_tests}
-use Rattle.std.proofs.lemmas.List.{length-drop}
 use Rattle.std.specs.List.{list_all}
-use Rattle.std.specs.Prelude.{◌&&◌, Ok, Err, nat_le, if◌then◌else◌}
+use Rattle.std.specs.Prelude.{Ok, Err, nat_le, if◌then◌else◌}
 use Rattle.wl_proto.specs.declared.error.ProtoError.{ProtoError}
 use Rattle.wl_proto.specs.declared.argument.NewId.{NewId}
 use Rattle.wl_proto.specs.declared.argument.ObjectArg.{ObjectArg}
-use Rattle.wl_proto.specs.Messages.{Message, request_message}
+use Rattle.wl_proto.specs.Messages.{Message}
 use Rattle.wl_proto.specs.Objects.{objects_in as objects_named, new_id_in}
 use Rattle.wl_proto.specs.Spelling.{decoded}
 use Rattle.wl_client.specs.declared.refusals.ErrorCode.TheVariants.{InvalidObject, InvalidMethod, Implementation}
 use Rattle.wl_client.specs.declared.refusals.Refusal.{Refusal}
-use Rattle.wl_wire.specs.Wire.{is_size, split_of, word_of}
+use Rattle.wl_wire.specs.Wire.{split_of}
 use Rattle.wl_wire.specs.declared.header.Split.TheVariants.{Message as Whole}
 use Rattle.wl_table.specs.Objects.{entry_of}
 use Rattle.wl_table.specs.declared.entry.Entry.{Entry}
-use Rattle.wl_proto.specs.declared.interface.Interface.{Interface}
-use Rattle.wl_proto.specs.declared.request.Request.{Request}
-use Rattle.wl_wire.specs.declared.header.Split.{Split}
-use Rattle.wl_wire.specs.declared.header.Split.TheVariants as splits
-use Rattle.wl_client.specs.declared.first_message.First.{First}
-use Rattle.wl_client.specs.declared.first_message.First.TheVariants as firsts
-use Rattle.wl_client.specs.First.{IsFirst, IsRefused, Passes, passing, passing_in}
+use Rattle.wl_client.specs.First.{IsRefused, passing}
 use Rattle.wl_client.specs.View.{ClientView}
 use Rattle.wl_client.specs.Judgement.{after_new_id, is_free, judged, judged_at}
 use Rattle.wl_client.specs.Objects.{Object, Objects, fits, objects_in, object_of}
@@ -100,53 +92,3 @@ first-refused v object opcode size entry m named new bytes refusal whole found a
     let late : after_new_id objects (length v.objects) (new_id_in m) (Ok (tt {0})) ≡ Err refusal = sym (ap (λ n. after_new_id objects (length v.objects) n (Ok (tt {0}))) makes) ∙ sym h in
     let refused = passing-refused objects (length v.objects) opcode (take (size - 8) (drop 8 v.rest)) (object_of entry) m (tt {0}) refusal here fits_all late in
     rw whole (rw o refused)
-
-abbrev passed : Message → Result Message Refusal
-passed m = Ok m
-
-abbrev held : Interface → ℕ → ℕ → Entry
-held interface version target = record { interface = interface; version = version; target = target }
-
-same-entry : (a b : Entry) → Some a ≡ Some b → a ≡ b
-same-entry a b h = cc
-
--- where the first message passes, nothing else is answered of it
-pub first-passes : (v : ClientView) (object version size target : ℕ) (m : Message) (f : First) → Passes v object version size target m → IsFirst v f → (request : Request) × (f ≡ firsts.Request object version size target request) × (request_message request ≡ m)
-first-passes v object version size target m firsts.More passes first =
-    let e : Whole object m.opcode size ≡ splits.More = sym passes.first ∙ first in absurd (cc)
-first-passes v object version size target m (firsts.Refused refusal) passes first =
-    let refused : IsRefused (Whole object m.opcode size) v refusal = subst (λ (s : Split). IsRefused s v refusal) passes.first first in
-    let e : Ok m ≡ Err refusal = sym passes.passes ∙ refused in absurd (cc)
-first-passes v object version size target m (firsts.Request object' version' size' target' request) passes first =
-    let m' = request_message request in
-    let s : Whole object' m'.opcode size' ≡ Whole object m.opcode size = sym first.first ∙ passes.first in
-    let o : object' ≡ object = cc in
-    let n : size' ≡ size = cc in
-    let k : m'.opcode ≡ m.opcode = cc in
-    let there : passing_in v object m.opcode size ≡ Ok m' = subst (λ (x : ℕ). passing_in v x m.opcode size ≡ Ok m') o (subst (λ (x : ℕ). passing_in v object' x size ≡ Ok m') k (subst (λ (x : ℕ). passing_in v object' m'.opcode x ≡ Ok m') n first.passes)) in
-    let same : passed m' ≡ passed m = sym there ∙ passes.passes in
-    let entry : Some (held m'.interface version' target') ≡ Some (held m.interface version target) = sym first.entry ∙ ap (λ x. entry_of v.objects x) o ∙ passes.entry in
-    let there_too = same-entry (held m'.interface version' target') (held m.interface version target) entry in
-    let e : version' ≡ version = ap (λ (x : Entry). x.version) there_too in
-    let t : target' ≡ target = ap (λ (x : Entry). x.target) there_too in
-    (request, ap (λ x. firsts.Request x version' size' target' request) o ∙ ap (λ x. firsts.Request object x size' target' request) e ∙ ap (λ x. firsts.Request object version x target' request) n ∙ ap (λ x. firsts.Request object version size x request) t, cc)
-
-parted : (short allowed missing : Bool) (a b size object opcode is : ℕ) → (if short then splits.More else (if allowed then (if missing then splits.More else Whole a b size) else splits.Bad)) ≡ Whole object opcode is → (allowed ≡ true) × (missing ≡ false) × (size ≡ is)
-parted true allowed missing a b size object opcode is h = absurd (cc)
-parted false false missing a b size object opcode is h = absurd (cc)
-parted false true true a b size object opcode is h = absurd (cc)
-parted false true false a b size object opcode is h = (refl, refl, cc)
-
-some-size : (least rest : Bool) → (least && rest) ≡ true → least ≡ true
-some-size true rest h = refl
-some-size false rest h = h
-
--- what is left after the first message is shorter
-pub first-shortens : (bytes : List ℕ) (object opcode size : ℕ) → split_of bytes ≡ Whole object opcode size → length (drop size bytes) < length bytes
-first-shortens bytes object opcode size h =
-    let told = word_of 4 bytes / 65536 in
-    let parts = parted (nat_lt (length bytes) 8) (is_size told) (nat_lt (length bytes) told) (word_of 0 bytes) (word_of 4 bytes % 65536) told object opcode size h in
-    let least : nat_le 8 told ≡ true = some-size (nat_le 8 told) _ parts.0 in
-    let long : nat_lt (length bytes) told ≡ false = parts.1 in
-    let left = length-drop size bytes in
-    grind (arith, nat_tests)

@@ -1,5 +1,5 @@
 -- What each change of a client does to what is kept of it.
-use Rattle.std.proofs.Common.{◌≡◌, ◌≢◌, ℕ, suc, ◌+◌, ◌-◌, ◌<◌, List, [], ◌∷◌, ◌++◌, Bool, true, false, Some, None, Option, Result, refl, ap, subst, sym, ◌∙◌, inl, inr, length, map, take, drop, ◌≤◌, get_or, drop-cons, arith}
+use Rattle.std.proofs.Common.{◌≡◌, ◌≢◌, ℕ, suc, ◌+◌, ◌-◌, ◌<◌, List, [], ◌∷◌, ◌++◌, Bool, true, false, Some, None, Option, Result, refl, ap, subst, sym, ◌∙◌, inl, inr, length, map, drop, ◌≤◌, get_or, drop-cons, arith}
 use Rattle.std.specs.Prelude.{is_some, IfNone, IfSome, IsOk, IsTrue, MatchBool, OnOk, OnErr, Ok, Err, ◌==◌, if◌then◌else◌}
 use Rattle.std.specs.Option.{option_map, option_map_or, unwrap_or}
 use Rattle.std.proofs.lemmas.List.{drop_all}
@@ -21,18 +21,14 @@ use Rattle.wl_store.specs.declared.place.LayoutError.{LayoutError}
 use Rattle.wl_client.specs.View.{ClientView, cleared}
 use Rattle.wl_client.specs.declared.clients.Cause.{Cause}
 use Rattle.wl_client.specs.declared.clients.Cause.TheVariants.{Protocol, Memory, Slow}
-use Rattle.wl_client.specs.declared.refusals.ErrorCode.TheVariants.{InvalidMethod, NoMemory}
+use Rattle.wl_client.specs.declared.refusals.ErrorCode.TheVariants.{NoMemory}
 use Rattle.wl_client.specs.declared.refusals.Refusal.{Refusal}
 use Rattle.wl_client.specs.Buffers.{Buffer}
 use Rattle.wl_client.specs.Objects.{ById, Object, Objects, held_at, nothing, objects_in, object_of, with_id}
 use Rattle.wl_client.specs.Told.{Output, Said, bind_told, code_number, display_error, error_told, said_bytes}
-use Rattle.wl_client.specs.Judgement.{Known, buffer_created, judge, layout_refused}
-use Rattle.wl_client.specs.Peer.{Peer, changed_region, ended, has_room, known_of, made, newcomer, no_stores, queued, removed, with_rest, QueuesOr, Queues, Answers, Errs, LacksMemory, WantsOr, Takes, Reaches, IsIdleAt, Serves, Feeds, FeedsAt}
+use Rattle.wl_client.specs.Judgement.{Known, buffer_created, layout_refused}
+use Rattle.wl_client.specs.Peer.{Peer, changed_region, ended, has_room, known_of, made, newcomer, no_stores, queued, removed, with_rest, QueuesOr, Queues, Errs, LacksMemory, WantsOr}
 use Rattle.wl_client.specs.Agreement.{IsPeer, IsRegion, known_in, output_of}
-use Rattle.wl_client.specs.declared.actions.Action.{Action}
-use Rattle.wl_wire.specs.declared.header.Split.{Split}
-use Rattle.wl_wire.specs.Wire.{split_of}
-use Rattle.wl_wire.specs.declared.header.Split.TheVariants.{Message, Bad}
 
 pub IsPeer-queued : (v : ClientView) (p : Peer) (e : Said) → IsPeer v p → IsPeer (record v { unsent = v.unsent ++ said_bytes e }) (queued e p)
 IsPeer-queued v p e is = record {
@@ -327,39 +323,10 @@ bind_told-nothing output id XdgSurface a b c = refl
 bind_told-nothing output id XdgToplevel a b c = refl
 bind_told-nothing output id XdgPopup a b c = refl
 
--- a whole message is taken
-pub Serves-message : (v : ClientView) (p q : Peer) (object opcode size : ℕ) (bytes : List ℕ) (judged : Result Action Refusal) → IsPeer v p → v.ended ≡ None → Message object opcode size ≡ split_of v.rest → bytes ≡ v.rest → judged ≡ judge (known_in v) object opcode (take (size - 8) (drop 8 bytes)) → Answers judged (with_rest (drop size v.rest) p) q → Serves p q
-Serves-message v p q object opcode size bytes judged is alive first all asked answers =
-    let at : split_of p.rest ≡ Message object opcode size = sym (first ∙ ap split_of is.rest) in
-    let left : Answers judged (with_rest (drop size p.rest) p) q = subst (λ (r : List ℕ). Answers judged (with_rest (drop size r) p) q) is.rest answers in
-    let same : judged ≡ judge (known_of p) object opcode (take (size - 8) (drop 8 p.rest)) = asked
-    ∙ ap (λ (r : List ℕ). judge (known_in v) object opcode (take (size - 8) (drop 8 r))) (all ∙ is.rest)
-    ∙ ap (λ (known : Known). judge known object opcode (take (size - 8) (drop 8 p.rest))) (known-is v p is) in
-    let taken : Takes (Message object opcode size) p q = subst (λ (j : Result Action Refusal). Answers j (with_rest (drop size p.rest) p) q) same left in
-    (sym is.status ∙ alive, subst (λ (s : Split). Takes s p q) (sym at) taken)
-
-pub Feeds-memory : (v : ClientView) (p : Peer) (piece : List ℕ) → IsPeer v p → v.ended ≡ None → Feeds piece p (ended Memory p)
-Feeds-memory v p piece is alive =
-    let none : p.status ≡ None = sym is.status ∙ alive in
-    subst (λ (s : Option Cause). FeedsAt s piece p (ended Memory p)) (sym none) (0, with_rest (p.rest ++ piece) p, refl, inr (none, refl))
-
 -- what tests as absent is
 pub absent : (o : Option Cause) → false ≡ is_some o → o ≡ None
 absent None h = refl
 absent (Some cause) h = absurd (cc)
-
--- a header whose size isn't allowed is taken
-pub Serves-bad : (v : ClientView) (p q : Peer) → IsPeer v p → v.ended ≡ None → Bad ≡ split_of v.rest → Errs (display_error InvalidMethod) p q → Serves p q
-Serves-bad v p q is alive first errs =
-    let at : split_of p.rest ≡ Bad = sym (first ∙ ap split_of is.rest) in
-    (sym is.status ∙ alive, rw at errs)
-
--- all whole messages of a piece were taken
-pub Feeds-idle : (v w : ClientView) (p mid : Peer) (n : ℕ) (piece : List ℕ) → IsPeer v p → v.ended ≡ None → Reaches n (with_rest (p.rest ++ piece) p) mid → IsPeer w mid → IsIdleAt w.ended w.rest → Feeds piece p mid
-Feeds-idle v w p mid n piece is alive reached now idle =
-    let none : p.status ≡ None = sym is.status ∙ alive in
-    let at : IsIdleAt mid.status mid.rest = rw (now.status, now.rest) at idle in
-    subst (λ (s : Option Cause). FeedsAt s piece p mid) (sym none) (n, mid, reached, inl (refl, at))
 
 -- a client that has just connected
 pub IsPeer-new : (v : ClientView) (output : Output) (entry : Entry) → object_of entry ≡ record { interface = WlDisplay; version = 1 } → v.ended ≡ None → v.requests ≡ 0 → v.serial ≡ 1 → v.rest ≡ [] → v.unsent ≡ [] → HoldsAt [] v.objects 1 (Some entry) → length v.objects ≡ 1 → v.regions ≡ [] → v.pools ≡ [] → v.buffers ≡ [] → v.stores ≡ no_stores → output_of v.output ≡ output → IsPeer v (newcomer output)

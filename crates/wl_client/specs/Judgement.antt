@@ -80,7 +80,7 @@ binds id version (Some interface) = Ok (Bind id interface version)
 abbrev pub registry_action : List Field → Result Action Refusal
 registry_action fields = binds (word_in 3 fields) (word_in 2 fields) (bound_interface (word_in 0 fields) (text_in 1 fields) (word_in 2 fields))
 
--- wl_compositor: surfaces aren't served yet
+-- wl_compositor: by itself a client's definition leaves create_surface out; the desk serves it
 abbrev pub compositor_action : ℕ → ℕ → List Field → Result Action Refusal
 compositor_action version opcode fields =
     if opcode == 1 then Ok (CreateRegion (word_in 0 fields) version) else Err (display_error Implementation)
@@ -147,7 +147,7 @@ buffer_destroyed object (Some buffer) = Ok (DestroyBuffer object buffer.laid.sto
 abbrev pub seat_refusal : ℕ → ℕ → Refusal
 seat_refusal object opcode = if opcode == 0 then display_error Implementation else record { object = object; code = MissingCapability }
 
--- The request's own errors, and what it asks. What isn't served yet is refused as a limit would be.
+-- The request's own errors, and what it asks. What the definition of a client by itself leaves out is refused as a limit would be.
 abbrev pub action_of : Known → ℕ → ℕ → Interface → ℕ → List Field → Result Action Refusal
 action_of known object version WlDisplay opcode fields = Ok (display_action opcode fields)
 action_of known object version WlRegistry opcode fields = registry_action fields

@@ -1,7 +1,7 @@
 //! One client: what came from it, what is to be sent to it, and what its messages ask.
 
 ghost use Rattle.std.specs.Option.{option_copied, option_map};
-ghost use Rattle.std.specs.Prelude.{◌≡◌, ◌++◌, [], length, ◌<◌, ◌≤◌, ◌∷◌, ◌==◌, ◌+◌, if◌then◌else◌, OnOk, OnErr, IfOk, IfErr, IsTrue, MatchBool, Some, None, true, false, is_some, is_none, map, nat_le};
+ghost use Rattle.std.specs.Prelude.{◌≡◌, ◌++◌, [], length, ◌≤◌, ◌∷◌, ◌==◌, ◌+◌, if◌then◌else◌, OnOk, OnErr, IfOk, IfErr, IsTrue, MatchBool, Some, None, true, false, is_some, is_none, map, nat_le};
 ghost use Rattle.wl_client.specs.Agreement.{output_of};
 ghost use Rattle.wl_client.specs.Told.{id_deleted, said_bytes};
 ghost use Rattle.wl_client.specs.Peer.{has_room, object_at_version};
@@ -20,7 +20,7 @@ use wl_geom::Region;
 use wl_proto::{Event, Interface, encoded_size};
 use wl_store::{Layout, Picture, StoreError, StoreNo, Stores, Transform};
 use wl_table::{Entry, Objects};
-use wl_wire::{PutError, Split, split};
+use wl_wire::PutError;
 
 /// Why a client ended.
 #[derive(Clone, Copy, Debug, PartialEq, Eq)]
@@ -64,7 +64,7 @@ impl<A: Allocator> Model for Client<A> {
 }
 
 impl<A: Allocator + Copy> Client<A> {
-    ghost use Rattle.wl_client.specs.Peer.{Peer, IsIdleAt, ended, newcomer, Queues, Errs, LacksMemory, WantsOr, Acts, Answers, Serves, Feeds, counted, made, removed, left_by, released, sent_by, stored_by};
+    ghost use Rattle.wl_client.specs.Peer.{Peer, ended, newcomer, Queues, Errs, LacksMemory, WantsOr, Acts, counted, made, removed, left_by, released, sent_by, stored_by};
     ghost use Rattle.wl_client.specs.Objects.{entry_at_version, held_at, object_of};
     ghost use Rattle.wl_client.specs.Serving.{ChangesTable, EndsBy};
     ghost use Rattle.wl_client.specs.View.{cleared, stored};
@@ -211,17 +211,6 @@ impl<A: Allocator + Copy> Client<A> {
         self.queue_all(&[deletion_event(id)]);
     }
 
-    /// Answers an accepted message, or refuses it.
-    fn answer(&mut self, judged: Result<Action, Refusal>)
-        ensures answers { (p : Peer) → IsPeer self.old p → (q : Peer) × Answers judged p q × IsPeer self.new q }
-        ensures rest { length self.new.rest ≤ length self.old.rest }
-    {
-        match judged {
-            Ok(action) => self.act(action),
-            Err(refusal) => self.refuse(refusal),
-        }
-    }
-
     /// A request more is counted, as long as its number has 64 bits.
     pub fn count(&mut self)
         ensures only { self.new ≡ record self.old { requests = self.new.requests } }
@@ -252,49 +241,6 @@ impl<A: Allocator + Copy> Client<A> {
             Action::DestroyPool(id, store) => self.destroy_pool(id, store),
             Action::DestroyBuffer(id, store) => self.destroy_buffer(id, store),
         }
-    }
-
-    /// Takes the first whole message of a client that lives, and answers whether there was one.
-    fn take_next(&mut self) -> bool
-        ensures serves { result ≡ true → (p : Peer) → IsPeer self.old p → (q : Peer) × Serves p q × IsPeer self.new q }
-        ensures idle { result ≡ false → (self.new ≡ self.old) × IsIdleAt self.old.ended self.old.rest }
-        ensures less { result ≡ true → length self.new.rest < length self.old.rest }
-    {
-        if self.has_ended() {
-            return false;
-        }
-        match split(self.rest.as_slice()) {
-            Split::More => false,
-            Split::Bad => {
-                self.refuse(Refusal::of_display(ErrorCode::InvalidMethod));
-                true
-            }
-            Split::Message {
-                object,
-                opcode,
-                size,
-            } => {
-                let size = size as usize;
-                let judged = self.judged(object, opcode, &self.rest.as_slice()[8..size]);
-                self.rest.take_front(size);
-                self.answer(judged);
-                true
-            }
-        }
-    }
-
-    /// A piece comes. Each whole message in it is taken, until one ends the client.
-    pub fn feed(&mut self, piece: &[u8])
-        ensures { (p : Peer) → IsPeer self.old p → (q : Peer) × Feeds piece.now p q × IsPeer self.new q }
-    {
-        if self.ended.is_some() {
-            return;
-        }
-        if self.rest.append(piece).is_err() {
-            self.end(Cause::Memory);
-            return;
-        }
-        while self.take_next() {}
     }
 
     /// The object with this id, if there is one.

@@ -15,11 +15,9 @@ mod refusals;
 mod served;
 mod serving;
 mod wl_buffer;
-mod wl_compositor;
 mod wl_display;
 mod wl_region;
 mod wl_registry;
-mod wl_seat;
 mod wl_shm;
 mod wl_shm_pool;
 

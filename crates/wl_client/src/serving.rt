@@ -1,10 +1,9 @@
 //! One message at a time, of a client whose surfaces use some of its buffers.
 
 ghost use Rattle.std.specs.Prelude.{ℕ, Bool, ◌≡◌, ◌≤◌, ◌<◌, drop, is_some, length, true, false, None};
-ghost use Rattle.wl_proto.specs.Messages.{request_message};
 ghost use Rattle.wl_client.specs.Objects.{KeepsSurfaces};
 ghost use Rattle.wl_client.specs.Peer.{Errs, IsIdleAt, Peer, counted, with_rest};
-ghost use Rattle.wl_client.specs.Serving.{ActsWith, AnswersWith, AreUsed, ChangesTable, EndsSo, IsNext, IsOwnMessage, PassesTo, ServesWith, is_own, was_taken};
+ghost use Rattle.wl_client.specs.Serving.{ActsWith, AnswersWith, AreUsed, ChangesTable, EndsSo, IsNext, IsOwnMessage, PassesTo, ServesWith, was_taken};
 
 use crate::actions::Action;
 use crate::clients::{Cause, Client};
@@ -12,23 +11,7 @@ use crate::first_message::First;
 use crate::refusals::{ErrorCode, Refusal};
 use crate::served::{Next, Served};
 use std::alloc::Allocator;
-use wl_proto::Request;
 use wl_surface::Surfaces;
-
-/// Whether it is a request of one of the interfaces that are served here.
-fn is_own_request(request: &Request) -> bool
-    ensures { result ≡ is_own (request_message request.now).interface }
-{
-    match request {
-        Request::WlDisplay(_)
-        | Request::WlRegistry(_)
-        | Request::WlRegion(_)
-        | Request::WlShm(_)
-        | Request::WlShmPool(_)
-        | Request::WlBuffer(_) => true,
-        _ => false,
-    }
-}
 
 impl<A: Allocator + Copy> Client<A> {
     ghost use Rattle.wl_client.specs.Agreement.{IsPeer};
@@ -46,12 +29,10 @@ impl<A: Allocator + Copy> Client<A> {
                 size,
                 request,
                 ..
-            } => {
-                if !is_own_request(&request) {
-                    return Next::Other;
-                }
-                Next::Own(size, self.own_action(object, version, &request))
-            }
+            } => match self.own_action(object, version, &request) {
+                None => Next::Other,
+                Some(judged) => Next::Own(size, judged),
+            },
         }
     }
 
