@@ -1,7 +1,9 @@
 //! Frames of windows: what they show, and which points are painted again.
 
 use crate::pools::BUFFERS;
-use crate::support::{Case, Message, Pixel, REGISTRY, Row, bytes_of, is_pixel, play};
+use crate::support::{
+    CONFIG, Case, Fault, Message, Pixel, REGISTRY, Row, bytes_of, is_pixel, play_after, play_in,
+};
 use crate::toplevels::{
     ACKNOWLEDGES, ATTACH_NONE, COMMIT, CONFIGURED, CONFIGURES, GLOBALS, MADE, MAPS,
 };
@@ -10,13 +12,13 @@ use wl_session::{Config, Done, Fed, Rgb, Run, Session, Shot, Step};
 use wl_wire::Arg;
 
 /// Pixels as a store has them: blue, green, red and alpha.
-const RED: [u8; 4] = [0, 0, 255, 0];
+const RED: &[u8] = &[0, 0, 255, 0];
 
-const GREEN: [u8; 4] = [0, 255, 0, 0];
+const GREEN: &[u8] = &[0, 255, 0, 0];
 
-const WHITE: [u8; 4] = [255, 255, 255, 0];
+const WHITE: &[u8] = &[255, 255, 255, 0];
 
-const HALF_RED: [u8; 4] = [0, 0, 128, 128];
+const HALF_RED: &[u8] = &[0, 0, 128, 128];
 
 /// wl_surface.attach of the buffer 11.
 const ATTACH_11: Message = Message(6, 1, &[Arg::Object(11), Arg::Int(0), Arg::Int(0)]);
@@ -296,228 +298,91 @@ const SHOWS_SECOND_ALONE: &[Row] = &[Row::Shows(
     &[Pixel(0, 0, 128, 0, 0), Pixel(40, 40, 0, 0, 0)],
 )];
 
+/// A toplevel that was configured, and its buffers.
+const START: &[&[Row]] = &[REGISTRY, GLOBALS, MADE, CONFIGURES, ACKNOWLEDGES, BUFFERS];
+
 const CASES: &[Case] = &[
     (
         "a window shows what its store has",
-        &[
-            REGISTRY,
-            GLOBALS,
-            MADE,
-            CONFIGURES,
-            ACKNOWLEDGES,
-            BUFFERS,
-            WITHOUT_POOL,
-            MAPS,
-            SHOWS_ONE_RED,
-        ],
+        &[WITHOUT_POOL, MAPS, SHOWS_ONE_RED],
     ),
-    (
-        "a clean tick paints nothing",
-        &[
-            REGISTRY,
-            GLOBALS,
-            MADE,
-            CONFIGURES,
-            ACKNOWLEDGES,
-            BUFFERS,
-            RED_10,
-            MAPS,
-            SHOWS_RED,
-        ],
-    ),
+    ("a clean tick paints nothing", &[RED_10, MAPS, SHOWS_RED]),
     (
         "a buffer is not copied at its commit",
-        &[
-            REGISTRY,
-            GLOBALS,
-            MADE,
-            CONFIGURES,
-            ACKNOWLEDGES,
-            BUFFERS,
-            RED_10,
-            MAPS,
-            WRITTEN_AFTERWARDS,
-        ],
+        &[RED_10, MAPS, WRITTEN_AFTERWARDS],
     ),
     (
         "a later write is seen where a commit tells of it",
-        &[
-            REGISTRY,
-            GLOBALS,
-            MADE,
-            CONFIGURES,
-            ACKNOWLEDGES,
-            BUFFERS,
-            RED_10,
-            MAPS,
-            SHOWS_RED,
-            WRITTEN_LATER,
-        ],
+        &[RED_10, MAPS, SHOWS_RED, WRITTEN_LATER],
     ),
     (
         "a window that moves leaves its old place",
-        &[
-            REGISTRY,
-            GLOBALS,
-            MADE,
-            CONFIGURES,
-            ACKNOWLEDGES,
-            BUFFERS,
-            RED_10,
-            MAPS,
-            SHOWS_RED,
-            MOVES,
-        ],
+        &[RED_10, MAPS, SHOWS_RED, MOVES],
     ),
     (
         "a window that is mapped again takes the next place",
-        &[
-            REGISTRY,
-            GLOBALS,
-            MADE,
-            CONFIGURES,
-            ACKNOWLEDGES,
-            BUFFERS,
-            RED_10,
-            MAPS,
-            SHOWS_RED,
-            MAPPED_AGAIN,
-        ],
+        &[RED_10, MAPS, SHOWS_RED, MAPPED_AGAIN],
     ),
     (
         "a toplevel takes its window with it",
-        &[
-            REGISTRY,
-            GLOBALS,
-            MADE,
-            CONFIGURES,
-            ACKNOWLEDGES,
-            BUFFERS,
-            RED_10,
-            MAPS,
-            SHOWS_RED,
-            DESTROYED,
-        ],
+        &[RED_10, MAPS, SHOWS_RED, DESTROYED],
     ),
     (
         "an error takes the window",
-        &[
-            REGISTRY,
-            GLOBALS,
-            MADE,
-            CONFIGURES,
-            ACKNOWLEDGES,
-            BUFFERS,
-            RED_10,
-            MAPS,
-            SHOWS_RED,
-            ENDS,
-        ],
+        &[RED_10, MAPS, SHOWS_RED, ENDS],
     ),
     (
         "a client that goes takes its window",
-        &[
-            REGISTRY,
-            GLOBALS,
-            MADE,
-            CONFIGURES,
-            ACKNOWLEDGES,
-            BUFFERS,
-            RED_10,
-            MAPS,
-            SHOWS_RED,
-            GOES,
-        ],
+        &[RED_10, MAPS, SHOWS_RED, GOES],
     ),
     (
         "a buffer stays shown though its id is used again",
-        &[
-            REGISTRY,
-            GLOBALS,
-            MADE,
-            CONFIGURES,
-            ACKNOWLEDGES,
-            BUFFERS,
-            RED_10,
-            MAPS,
-            SHOWS_RED,
-            ID_USED_AGAIN,
-        ],
-    ),
-    (
-        "a window with alpha is laid over the one below",
-        &[
-            REGISTRY,
-            GLOBALS,
-            MADE,
-            CONFIGURES,
-            ACKNOWLEDGES,
-            BUFFERS,
-            WHITE_10,
-            MAPS,
-            SHOWS_WHITE,
-            SECOND,
-            SECOND_BUFFER,
-            SHOWS_BOTH,
-        ],
-    ),
-    (
-        "a commit below stays below",
-        &[
-            REGISTRY,
-            GLOBALS,
-            MADE,
-            CONFIGURES,
-            ACKNOWLEDGES,
-            BUFFERS,
-            WHITE_10,
-            MAPS,
-            SHOWS_WHITE,
-            SECOND,
-            SECOND_BUFFER,
-            SHOWS_BOTH,
-            BELOW,
-        ],
-    ),
-    (
-        "an error leaves the window of another",
-        &[
-            REGISTRY,
-            GLOBALS,
-            MADE,
-            CONFIGURES,
-            ACKNOWLEDGES,
-            BUFFERS,
-            WHITE_10,
-            MAPS,
-            SHOWS_WHITE,
-            SECOND,
-            SECOND_BUFFER,
-            SHOWS_BOTH,
-            OTHER_STAYS,
-        ],
-    ),
-    (
-        "a buffer before its configure leaves the window of another",
-        &[
-            REGISTRY,
-            GLOBALS,
-            MADE,
-            CONFIGURES,
-            BUFFERS,
-            SECOND,
-            SECOND_BUFFER,
-            SHOWS_SECOND_ALONE,
-            UNCONFIGURED,
-        ],
+        &[RED_10, MAPS, SHOWS_RED, ID_USED_AGAIN],
     ),
 ];
 
 #[test]
 fn frames_are_as_worked(rt: HostRuntime) {
     for &(name, parts) in CASES {
-        assert_eq!(rt; play(rt.alloc(), parts), Ok(()), "{name}");
+        assert_eq!(rt; play_after(rt.alloc(), START, parts), Ok(()), "{name}");
     }
+}
+
+/// The white window of the client 1, and above it one of the client 2 that is half red.
+const TWO: &[&[Row]] = &[
+    WHITE_10,
+    MAPS,
+    SHOWS_WHITE,
+    SECOND,
+    SECOND_BUFFER,
+    SHOWS_BOTH,
+];
+
+const COMMITTED_BELOW: &[&[Row]] = &[BELOW];
+
+const FIRST_ENDED: &[&[Row]] = &[OTHER_STAYS];
+
+/// Plays parts after both windows are there.
+fn play_two(alloc: Global, parts: &[&[Row]]) -> Result<(), Fault> {
+    match Session::new(alloc, CONFIG) {
+        Ok(mut session) => {
+            play_in(alloc, &mut session, START)?;
+            play_in(alloc, &mut session, TWO)?;
+            play_in(alloc, &mut session, parts)
+        }
+        Err(_) => Err(Fault::NoSession),
+    }
+}
+
+/// The parts of a session before the client 2 has the only window.
+const SECOND_ALONE: &[&[Row]] = &[REGISTRY, GLOBALS, MADE, CONFIGURES, BUFFERS];
+
+#[test]
+fn windows_of_two_clients(rt: HostRuntime) {
+    assert_eq!(rt; play_two(rt.alloc(), COMMITTED_BELOW), Ok(()));
+    assert_eq!(rt; play_two(rt.alloc(), FIRST_ENDED), Ok(()));
+    let parts: &[&[Row]] = &[SECOND, SECOND_BUFFER, SHOWS_SECOND_ALONE, UNCONFIGURED];
+    assert_eq!(rt; play_after(rt.alloc(), SECOND_ALONE, parts), Ok(()));
 }
 
 /// Four pixels by three.
@@ -615,7 +480,7 @@ fn runs_in(session: &mut Session<Global>, piece: &[u8]) -> bool {
             client: 1,
             store: 1,
             at: 0,
-            bytes: &RED,
+            bytes: RED,
         },
         Step::Tick { time: 5 },
         Step::Tick { time: 6 },

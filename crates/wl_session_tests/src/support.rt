@@ -54,7 +54,7 @@ pub(crate) enum Row<'a> {
     /// All that waits for a client is taken.
     TakesOf(u32),
     /// So many pixels of a client's store from a byte on get this value: blue, green, red and alpha.
-    Fills(u32, u32, u32, u32, [u8; 4]),
+    Fills(u32, u32, u32, u32, &'a [u8]),
     /// A tick: how many points of its frame are damaged at least and at most, and some of its pixels.
     Shows(u32, u32, &'a [Pixel]),
     /// How a client is.
@@ -341,7 +341,7 @@ fn is_met(alloc: Global, session: &mut Session<Global>, row: &Row) -> bool {
         Row::Takes => take_all(session),
         Row::TakesOf(client) => take_all_of(session, client),
         Row::Fills(client, store, at, count, pixel) => {
-            fill(session, client, store, at, count, &pixel)
+            fill(session, client, store, at, count, pixel)
         }
         Row::Shows(least, most, pixels) => shows(session, least, most, pixels),
         Row::Is(client, wanted) => session.status(client) == wanted,
@@ -365,7 +365,12 @@ fn first_missed(alloc: Global, session: &mut Session<Global>, rows: &[Row]) -> O
     None
 }
 
-fn play_in(alloc: Global, session: &mut Session<Global>, parts: &[&[Row]]) -> Result<(), Fault> {
+/// Plays the parts of a case in a session.
+pub(crate) fn play_in(
+    alloc: Global,
+    session: &mut Session<Global>,
+    parts: &[&[Row]],
+) -> Result<(), Fault> {
     for (part, rows) in parts.iter().enumerate() {
         if let Some(place) = first_missed(alloc, session, rows) {
             return Err(Fault::Row(part, place));
@@ -376,6 +381,17 @@ fn play_in(alloc: Global, session: &mut Session<Global>, parts: &[&[Row]]) -> Re
 
 /// A case: its name, and the parts of rows that are played in turn in a session of its own.
 pub(crate) type Case<'a> = (&'a str, &'a [&'a [Row<'a>]]);
+
+/// Plays the parts of a case after those that it shares with others.
+pub(crate) fn play_after(alloc: Global, first: &[&[Row]], parts: &[&[Row]]) -> Result<(), Fault> {
+    match Session::new(alloc, CONFIG) {
+        Ok(mut session) => {
+            play_in(alloc, &mut session, first)?;
+            play_in(alloc, &mut session, parts)
+        }
+        Err(_) => Err(Fault::NoSession),
+    }
+}
 
 /// Plays the parts of a case.
 pub(crate) fn play(alloc: Global, parts: &[&[Row]]) -> Result<(), Fault> {
