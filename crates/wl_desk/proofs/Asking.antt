@@ -23,7 +23,7 @@ use Rattle.wl_client.specs.declared.clients.Cause.TheVariants.{Protocol}
 use Rattle.wl_shell.specs.Shell.{Maps, Unmaps, xdg_at}
 use Rattle.wl_table.specs.Objects.{Held}
 use Rattle.wl_proto.specs.declared.interface.Interface.TheVariants.{WlSurface}
-use Rattle.wl_desk.specs.Owning.{targets_in}
+use Rattle.wl_plain.specs.Owning.{targets_in}
 use Rattle.wl_client.specs.View.{ClientView}
 use Rattle.wl_client.specs.declared.refusals.ErrorCode.TheVariants.{InvalidMethod, MissingCapability}
 use Rattle.wl_client.specs.declared.refusals.Refusal.{Refusal}
@@ -32,16 +32,16 @@ use Rattle.wl_client.proofs.Peers.{IsPeer-with_rest}
 use Rattle.wl_desk.specs.declared.residents.Resident.{Resident as Kept}
 use Rattle.wl_desk.specs.declared.residents.Stacking.{Stacking}
 use Rattle.wl_desk.specs.declared.residents.Stacking.TheVariants.{Stays}
-use Rattle.wl_desk.specs.Ask.{Ask, CommitSurface, DestroyToplevel}
-use Rattle.wl_desk.specs.Desktop.{Resident}
+use Rattle.wl_plain.specs.Ask.{Ask, CommitSurface, DestroyToplevel}
+use Rattle.wl_plain.specs.Desktop.{Resident}
 use Rattle.wl_desk.specs.Marking.{marked_by}
 use Rattle.wl_desk.specs.Messages.{IsAsked}
 use Rattle.wl_desk.specs.declared.messages.Asked.{Asked}
 use Rattle.wl_desk.specs.declared.messages.Asked.TheVariants as asks
 use Rattle.wl_desk.specs.Residents.{Answers, AnswersSo, IsResident, NewIsFree, ObjectsFit, StacksBy, StacksSo, TakesSo}
-use Rattle.wl_desk.specs.Served.{beyond_toplevels}
-use Rattle.wl_desk.specs.Step.{ask_of, changed_by, judge, surface_of, with_peer}
-use Rattle.wl_desk.proofs.Behind.{judge-behind}
+use Rattle.wl_plain.specs.Served.{beyond_toplevels}
+use Rattle.wl_plain.specs.Step.{ask_of, changed_by, judge, surface_of, with_peer}
+use Rattle.wl_plain.proofs.Behind.{judge-behind}
 use Rattle.wl_desk.proofs.Numbers.{left-from}
 use Rattle.wl_desk.proofs.Shelling.{new-free, refused}
 

@@ -8,13 +8,13 @@ use Rattle.wl_shell.specs.Shell.{Stays, Configures, Maps, Unmaps, RoleObject, Xd
 use Rattle.wl_shell.specs.declared.acts.Placed.{Placed}
 use Rattle.wl_shell.specs.declared.acts.ShellAct.{ShellAct}
 use Rattle.wl_shell.specs.declared.acts.ShellAct.TheVariants.{Configure, Map, Unmap, Nothing}
-use Rattle.wl_desk.specs.Ask.{CommitSurface}
-use Rattle.wl_desk.specs.Desktop.{Resident}
-use Rattle.wl_desk.specs.Owning.{IsOwned, Names, effect_by, kept_id}
+use Rattle.wl_plain.specs.Ask.{CommitSurface}
+use Rattle.wl_plain.specs.Desktop.{Resident}
+use Rattle.wl_plain.specs.Owning.{IsOwned, Names, effect_by, kept_id}
 use Rattle.wl_desk.specs.Residents.{drawn_by, told_by, told_of}
-use Rattle.wl_desk.specs.Step.{after_surface, answers_to, changed_by, committed_on, configures_told, effect_on, role_configured, toplevel_configured, xdg_configured}
-use Rattle.wl_desk.proofs.OwningReads.{configures-read}
-use Rattle.wl_desk.proofs.OwningXdg.{xdg-of}
+use Rattle.wl_plain.specs.Step.{after_surface, answers_to, changed_by, committed_on, configures_told, effect_on, role_configured, toplevel_configured, xdg_configured}
+use Rattle.wl_plain.proofs.OwningReads.{configures-read}
+use Rattle.wl_plain.proofs.OwningXdg.{xdg-of}
 
 -- only a configure changes more of a client than its xdg_surface
 mapped-peer : (id : ℕ) (o : Option XdgSurface) (r : Resident) → (effect_on id Maps o r).peer ≡ r.peer

@@ -19,19 +19,19 @@ use Rattle.wl_surface.specs.Surfaces.{Surface, Surfaces, asking, surface_at}
 use Rattle.wl_shell.specs.Kept.{kept_of}
 use Rattle.wl_scene.specs.declared.owned.Owned.{Owned as Lent}
 use Rattle.wl_desk.specs.declared.residents.Resident.{Resident as Kept}
-use Rattle.wl_desk.specs.Ask.{AskSurface}
-use Rattle.wl_desk.specs.Desktop.{Resident}
+use Rattle.wl_plain.specs.Ask.{AskSurface}
+use Rattle.wl_plain.specs.Desktop.{Resident}
 use Rattle.wl_proto.specs.declared.interface.Interface.TheVariants.{WlSurface}
 use Rattle.wl_table.specs.Objects.{Held, entry_of}
 use Rattle.wl_table.specs.declared.entry.Entry.{Entry}
-use Rattle.wl_desk.specs.Owning.{AreKept, by_number, names_in, targets_in}
-use Rattle.wl_desk.proofs.OwningNames.{targets-at}
+use Rattle.wl_plain.specs.Owning.{AreKept, by_number, names_in, targets_in}
+use Rattle.wl_plain.proofs.OwningNames.{targets-at}
 use Rattle.wl_desk.specs.Residents.{IsLeft, IsResident, IsSurface, Owns}
-use Rattle.wl_desk.specs.Step.{changed_by}
-use Rattle.wl_desk.proofs.Letting.{asked-keeps}
+use Rattle.wl_plain.specs.Step.{changed_by}
+use Rattle.wl_plain.proofs.Letting.{asked-keeps}
 use Rattle.wl_desk.proofs.Numbers.{keeps-same}
-use Rattle.wl_desk.proofs.OwningAsks.{owned-asked}
-use Rattle.wl_desk.proofs.OwningSurfaces.{surface-named, surface-read}
+use Rattle.wl_plain.proofs.OwningAsks.{owned-asked}
+use Rattle.wl_plain.proofs.OwningSurfaces.{surface-named, surface-read}
 
 -- what ended isn't there
 gone : {X : Type 0} (o : Option X) → is_some o ≡ true → o ≡ None → ⊥

@@ -19,11 +19,11 @@ use Rattle.wl_shell.specs.Kept.{Book, kept_of}
 use Rattle.wl_scene.specs.Stacking.{nothing_owned}
 use Rattle.wl_scene.specs.declared.owned.Owned.{Owned}
 use Rattle.wl_desk.specs.Agreement.{IsSeat}
-use Rattle.wl_desk.specs.Desktop.{Resident, resident_of}
-use Rattle.wl_desk.specs.Owning.{IsOwned, names_in, target_as, targets_in}
+use Rattle.wl_plain.specs.Desktop.{Resident, resident_of}
+use Rattle.wl_plain.specs.Owning.{IsOwned, names_in, target_as, targets_in}
 use Rattle.wl_desk.specs.Seats.{IsBare}
 use Rattle.wl_desk.specs.View.{OwnedView, owned_view}
-use Rattle.wl_desk.proofs.OwningKeys.{differ}
+use Rattle.wl_plain.proofs.OwningKeys.{differ}
 
 -- ---- what is told, and ends a client
 

@@ -24,16 +24,16 @@ use Rattle.wl_scene.specs.declared.scene.Toplevel.{Toplevel}
 use Rattle.wl_paint.specs.Damage.{Damaged, has}
 use Rattle.wl_scene.specs.Windows.{Owner, Place, Window, child_windows, contains, corner_at, counting, member_windows, owner_of, shown_windows, surface_windows, tree, window_of, window_showing, window_with}
 use Rattle.wl_desk.specs.Agreement.{IsStack, IsStanding, with_numbers}
-use Rattle.wl_desk.specs.Desktop.{Desktop, Resident, owned_in, owned_of}
+use Rattle.wl_plain.specs.Desktop.{Desktop, Resident, owned_in, owned_of}
 use Rattle.wl_desk.specs.Marking.{IsAsLarge}
-use Rattle.wl_desk.specs.Owning.{AreKept, by_number, targets_in}
+use Rattle.wl_plain.specs.Owning.{AreKept, by_number, targets_in}
 use Rattle.wl_desk.specs.Seats.{IsSeated}
-use Rattle.wl_desk.specs.Touching.{is_window_at}
+use Rattle.wl_plain.specs.Touching.{is_window_at}
 use Rattle.wl_desk.specs.declared.residents.Resident.{Resident as Kept}
-use Rattle.wl_desk.proofs.OwningSurfaces.{surface-named, surface-read}
+use Rattle.wl_plain.proofs.OwningSurfaces.{surface-named, surface-read}
 use Rattle.wl_desk.proofs.Painting.{one-window, window_list}
 use Rattle.wl_desk.proofs.Scenes.{AreOnce, numbers-same, stack-out}
-use Rattle.wl_desk.proofs.StandingDesks.{all-show}
+use Rattle.wl_plain.proofs.StandingDesks.{all-show}
 
 -- ---- windows of others
 

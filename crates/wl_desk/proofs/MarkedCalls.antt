@@ -13,30 +13,30 @@ use Rattle.wl_scene.specs.Stacking.{Owned as Owns, Stack, Standing, is_of, nothi
 use Rattle.wl_scene.specs.Windows.{Window, contains}
 use Rattle.wl_scene.specs.declared.owned.Owned.{Owned}
 use Rattle.wl_desk.specs.Agreement.{Agrees, IsPlace, IsStack, numbers_in}
-use Rattle.wl_desk.specs.Desktop.{Desktop, Resident, arrival, become, client_at, client_in, owned_in, owned_of, place, windows_in, with_number, with_place}
+use Rattle.wl_plain.specs.Desktop.{Desktop, Resident, arrival, become, client_at, client_in, owned_in, owned_of, place, windows_in, with_number, with_place}
 use Rattle.wl_desk.specs.Feeding.{ended_at, ended_of}
-use Rattle.wl_desk.specs.Laws.{OwnsNothing, status_of}
+use Rattle.wl_plain.specs.Laws.{OwnsNothing, status_of}
 use Rattle.wl_desk.specs.Marking.{AreUnlinked, Marks, MarksEnd, stands_any}
-use Rattle.wl_desk.specs.Moments.{marks_at_least}
+use Rattle.wl_plain.specs.Moments.{marks_at_least}
 use Rattle.wl_desk.specs.Seats.{IsChangedSo, IsSeated, ended_by, has_ended_in}
-use Rattle.wl_desk.specs.Standing.{AreMapped}
-use Rattle.wl_desk.specs.Steps.{Changes, ChangesAt, ConnectsAt, IsClosed, closed_by, left_so, lowest}
-use Rattle.wl_desk.specs.Touching.{any_window_at, has_window_at}
+use Rattle.wl_plain.specs.Standing.{AreMapped}
+use Rattle.wl_plain.specs.Steps.{Changes, ChangesAt, ConnectsAt, IsClosed, closed_by, left_so, lowest}
+use Rattle.wl_plain.specs.Touching.{any_window_at, has_window_at}
 use Rattle.wl_desk.specs.View.{DeskView, OwnedView, owned_view}
-use Rattle.wl_desk.specs.declared.answers.Done.{Done}
-use Rattle.wl_desk.specs.declared.answers.Done.TheVariants as gave
+use Rattle.wl_plain.specs.declared.answers.Done.{Done}
+use Rattle.wl_plain.specs.declared.answers.Done.TheVariants as gave
 use Rattle.wl_desk.specs.declared.residents.Resident.{Resident as Kept}
 use Rattle.wl_desk.proofs.Calls.{IsFound, client-here, closed-none, lowest-at, out, untaken, view_of}
 use Rattle.wl_desk.proofs.Desktops.{at, client-past, place-at}
 use Rattle.std.proofs.lemmas.Bool.{eqb-true}
-use Rattle.wl_desk.proofs.Stacks.{and-left, differ}
-use Rattle.wl_desk.proofs.Places.{status-become}
-use Rattle.wl_desk.proofs.StandingLists.{any-gone, of-it}
+use Rattle.wl_plain.proofs.Stacks.{and-left, differ}
+use Rattle.wl_plain.proofs.Places.{status-become}
+use Rattle.wl_plain.proofs.StandingLists.{any-gone, of-it}
 use Rattle.wl_desk.proofs.Telling.{lives-of}
-use Rattle.wl_desk.proofs.Touching.{desktops-touch, same-stays}
-use Rattle.wl_desk.proofs.TouchingMarks.{is_else}
-use Rattle.wl_desk.proofs.TouchingSteps.{end-touches, none_of, told-marks-nothing}
-use Rattle.wl_desk.proofs.TouchingWindows.{stands_else, windows-else}
+use Rattle.wl_plain.proofs.Touching.{desktops-touch, same-stays}
+use Rattle.wl_plain.proofs.TouchingMarks.{is_else}
+use Rattle.wl_plain.proofs.TouchingSteps.{end-touches, none-there, none_of, told-marks-nothing}
+use Rattle.wl_plain.proofs.TouchingWindows.{stands_else, windows-else}
 
 -- ---- Booleans
 
@@ -106,10 +106,6 @@ window-stands c d links x y none =
     ∙ any-gone (λ (w : Window). (w.owner.client == c) && contains w x y) (is_else (of_client c)) (λ w f. ap (λ b. not b) (and-left (w.owner.client == c) _ f)) (windows_in d)
 
 -- ---- what leaves the windows as they are
-
-none-there : (x y : ℤ) (ws : List Window) → any_window_at none_of x y ws ≡ false
-none-there x y [] = refl
-none-there x y (w ∷ ws) = none-there x y ws
 
 -- where the same stand and the same is owned, nothing is marked
 same-marks-nothing : (w : DeskView) (d e : Desktop) → Agrees w d → e.standing ≡ d.standing → ((c : ℕ) → owned_in e c ≡ owned_in d c) → (x y : ℤ) → marks_at_least d e x y ≡ false

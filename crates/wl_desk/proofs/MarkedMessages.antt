@@ -45,21 +45,21 @@ use Rattle.wl_shell.specs.Shell.{XdgSurface as Xdg}
 use Rattle.wl_scene.specs.Stacking.{Owned, Stack, Standing, root_of, windows_on}
 use Rattle.wl_scene.specs.Windows.{Owner, Place, Window, contains, moved, owner_of, window_with}
 use Rattle.wl_desk.specs.Agreement.{Agrees, IsPlace, IsStack}
-use Rattle.wl_desk.specs.Ask.{Ask, Own, CreateSurface, DestroySurface, AskSurface, CommitSurface, DestroyBase, GetXdgSurface, DestroyXdgSurface, GetToplevel, Acknowledge, ConfigureAgain, DestroyToplevel, Ignore, owns}
-use Rattle.wl_desk.specs.Desktop.{Desktop, Resident, client_in, owned_in, owned_of, place}
-use Rattle.wl_desk.specs.Laws.{status_in, status_of}
+use Rattle.wl_plain.specs.Ask.{Ask, Own, CreateSurface, DestroySurface, AskSurface, CommitSurface, DestroyBase, GetXdgSurface, DestroyXdgSurface, GetToplevel, Acknowledge, ConfigureAgain, DestroyToplevel, Ignore, owns}
+use Rattle.wl_plain.specs.Desktop.{Desktop, Resident, client_in, owned_in, owned_of, place}
+use Rattle.wl_plain.specs.Laws.{status_in, status_of}
 use Rattle.wl_desk.specs.Marking.{AreUnlinked, IsAsLarge, Marks, MarksEnd, marked_by, marked_in, stands_any}
 use Rattle.wl_desk.specs.Messages.{IsAsked, IsKind}
-use Rattle.wl_desk.specs.Moments.{marks_at_least}
-use Rattle.wl_desk.specs.Owning.{names_in, target_as, targets_in}
+use Rattle.wl_plain.specs.Moments.{marks_at_least}
+use Rattle.wl_plain.specs.Owning.{names_in, target_as, targets_in}
 use Rattle.wl_desk.specs.Residents.{AnswersSo, IsLeft, IsResident, KeepsNumbers, TakesSo, asked_by}
 use Rattle.wl_desk.specs.Seats.{IsClearedBy, IsRestacked, IsSeated, IsSettledBy}
-use Rattle.wl_desk.specs.Served.{beyond_toplevels}
-use Rattle.wl_desk.specs.Step.{Serves, ask_by, ask_of, changed_by, judge, surface_of, with_peer}
-use Rattle.wl_desk.specs.Touching.{any_window_at, has_window_at, is_window_at, touched}
+use Rattle.wl_plain.specs.Served.{beyond_toplevels}
+use Rattle.wl_plain.specs.Step.{Serves, ask_by, ask_of, changed_by, judge, surface_of, with_peer}
+use Rattle.wl_plain.specs.Touching.{any_window_at, has_window_at, is_window_at, touched}
 use Rattle.wl_desk.specs.View.{DeskView, OwnedView}
-use Rattle.wl_desk.specs.WlSurface.{committed_for, effect_of, surface_ask, waits_for_all}
-use Rattle.wl_desk.specs.XdgShell.{base_ask, configured_again, has_any, is_foreign, is_state, role_of, toplevel_ask, toplevel_ask_of, xdg_ask_of}
+use Rattle.wl_plain.specs.WlSurface.{committed_for, effect_of, surface_ask, waits_for_all}
+use Rattle.wl_plain.specs.XdgShell.{base_ask, configured_again, has_any, is_foreign, is_state, role_of, toplevel_ask, toplevel_ask_of, xdg_ask_of}
 use Rattle.wl_desk.specs.declared.messages.Asked.{Asked}
 use Rattle.wl_desk.specs.declared.messages.Asked.TheVariants as asked
 use Rattle.wl_desk.specs.declared.messages.Kind.{Kind}
@@ -70,13 +70,13 @@ use Rattle.wl_desk.specs.declared.residents.Stacking.TheVariants as on
 use Rattle.wl_desk.proofs.Asking.{judged-first, passing-peer, whole-first}
 use Rattle.wl_desk.proofs.Doing.{named-by}
 use Rattle.wl_desk.proofs.Ends.{lacks-over, over-ended}
-use Rattle.wl_desk.proofs.OwningXdg.{toplevel-named}
-use Rattle.wl_desk.proofs.Places.{number-other}
-use Rattle.wl_desk.proofs.Stacks.{and-both, and-left, differ, or-left, or-right, unless}
+use Rattle.wl_plain.proofs.OwningXdg.{toplevel-named}
+use Rattle.wl_plain.proofs.Places.{number-other}
+use Rattle.wl_plain.proofs.Stacks.{and-both, and-left, differ, or-left, or-right, unless}
 use Rattle.wl_desk.proofs.Taking.{known-mapped, none-is, numbers}
-use Rattle.wl_desk.proofs.TouchingMarks.{either-of}
-use Rattle.wl_desk.proofs.TouchingMessages.{AsksBy, MarkedBy, serves-point, touched-peer}
-use Rattle.wl_desk.proofs.TouchingWindows.{counted as counted_of, lone, window_by, windows-first}
+use Rattle.wl_plain.proofs.TouchingMarks.{either-of}
+use Rattle.wl_plain.proofs.TouchingMessages.{AsksBy, MarkedBy, serves-point, touched-peer}
+use Rattle.wl_plain.proofs.TouchingWindows.{counted as counted_of, lone, window_by, windows-first}
 
 -- ---- windows are those of toplevels that stand
 

@@ -6,9 +6,9 @@ use Rattle.wl_client.specs.Objects.{ById, with_id}
 use Rattle.wl_table.specs.Objects.{Held}
 use Rattle.wl_proto.specs.declared.interface.Interface.TheVariants.{WlSurface}
 use Rattle.wl_desk.specs.declared.residents.Resident.{Resident as Kept}
-use Rattle.wl_desk.specs.Desktop.{Resident}
+use Rattle.wl_plain.specs.Desktop.{Resident}
 use Rattle.wl_client.specs.Peer.{Peer}
-use Rattle.wl_desk.specs.Owning.{Names, names_in, targets_in, with_surface, with_toplevel, with_xdg}
+use Rattle.wl_plain.specs.Owning.{Names, names_in, targets_in, with_surface, with_toplevel, with_xdg}
 use Rattle.wl_desk.specs.Residents.{IsLeft, KeepsNumbers}
 
 same-number : (o : Option ℕ) (a b : ℕ) → o ≡ Some a → o ≡ Some b → a ≡ b

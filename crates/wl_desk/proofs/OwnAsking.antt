@@ -27,16 +27,16 @@ use Rattle.wl_table.specs.Objects.{Held, entry_of}
 use Rattle.wl_table.specs.declared.entry.Entry.{Entry}
 use Rattle.wl_desk.specs.declared.residents.Resident.{Resident as Kept}
 use Rattle.wl_desk.specs.declared.residents.Stacking.TheVariants.{Stays}
-use Rattle.wl_desk.specs.Ask.{Ask, owns}
-use Rattle.wl_desk.specs.Desktop.{Resident}
-use Rattle.wl_desk.specs.Owning.{by_number, names_in, target_as, targets_in}
+use Rattle.wl_plain.specs.Ask.{Ask, owns}
+use Rattle.wl_plain.specs.Desktop.{Resident}
+use Rattle.wl_plain.specs.Owning.{by_number, names_in, target_as, targets_in}
 use Rattle.wl_desk.specs.Residents.{AnswersSo, IsLeft, IsResident, StacksSo, TakesSo}
-use Rattle.wl_desk.specs.Served.{beyond_toplevels}
-use Rattle.wl_desk.specs.Step.{ask_by, ask_of, judge, with_peer}
+use Rattle.wl_plain.specs.Served.{beyond_toplevels}
+use Rattle.wl_plain.specs.Step.{ask_by, ask_of, judge, with_peer}
 use Rattle.wl_desk.proofs.Asking.{judged-by, judged-first, whole-first}
 use Rattle.wl_desk.proofs.Numbers.{keeps-names}
-use Rattle.wl_desk.proofs.OwningNames.{names-with}
-use Rattle.wl_desk.proofs.OwningSurfaces.{any-is}
+use Rattle.wl_plain.proofs.OwningNames.{names-with}
+use Rattle.wl_plain.proofs.OwningSurfaces.{any-is}
 use Rattle.wl_desk.proofs.Stackings.{own-stays}
 
 -- ---- it is taken

@@ -11,10 +11,10 @@ use Rattle.wl_scene.specs.Lent.{slots_lent}
 use Rattle.wl_scene.specs.Stacking.{Stack}
 use Rattle.wl_scene.specs.declared.owned.Owned.{Owned}
 use Rattle.wl_desk.specs.Agreement.{Agrees, numbers_in}
-use Rattle.wl_desk.specs.Desktop.{Desktop}
+use Rattle.wl_plain.specs.Desktop.{Desktop}
 use Rattle.wl_desk.specs.Lent.{client_lent, windows_lent}
 use Rattle.wl_desk.specs.Painting.{AreLent, IsColor, IsOpaqueAsSaid}
-use Rattle.wl_desk.specs.Scratch.{scratch}
+use Rattle.wl_plain.specs.Scratch.{scratch}
 use Rattle.wl_desk.proofs.Calls.{view_of}
 use Rattle.wl_desk.proofs.Lending.{agrees-lent}
 use Rattle.wl_desk.proofs.Painting.{lends_opaque_as_said, paints_the_desktop}

@@ -23,12 +23,12 @@ use Rattle.wl_store.specs.declared.transform.Transform.{Transform}
 use Rattle.wl_client.specs.Objects.{ById}
 use Rattle.wl_client.specs.View.{ClientView}
 use Rattle.wl_scene.specs.Stacking.{Owned, Standing, root_of, windows_on}
-use Rattle.wl_desk.specs.Desktop.{Desktop, Resident, client_at, owned_in}
+use Rattle.wl_plain.specs.Desktop.{Desktop, Resident, client_at, owned_in}
 use Rattle.wl_desk.specs.Lent.{or_transparent, picture_shown, window_kept, window_lent, windows_lent}
-use Rattle.wl_desk.specs.Owning.{AreKept}
-use Rattle.wl_desk.specs.Scratch.{bytes_now, color_in, over, pixel_at}
-use Rattle.wl_desk.proofs.OwningSurfaces.{surface-read}
-use Rattle.wl_desk.proofs.Stacks.{and-both, and-left, and-right, differ}
+use Rattle.wl_plain.specs.Owning.{AreKept}
+use Rattle.wl_plain.specs.Scratch.{bytes_now, color_in, over, pixel_at}
+use Rattle.wl_plain.proofs.OwningSurfaces.{surface-read}
+use Rattle.wl_plain.proofs.Stacks.{and-both, and-left, and-right, differ}
 use Rattle.wl_blend.specs.Blend.{blended, div255}
 use Rattle.wl_blend.specs.declared.color.Rgb.{Rgb}
 use Rattle.wl_surface.specs.State.{History, Values, applied, height_of, width_of}

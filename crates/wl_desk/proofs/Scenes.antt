@@ -7,8 +7,8 @@ use Rattle.wl_client.specs.Objects.{ById}
 use Rattle.wl_scene.specs.Stacking.{Standing, is_of, with_mapped, without_client, without_surface_of}
 use Rattle.wl_scene.specs.Windows.{mapping_place}
 use Rattle.wl_desk.specs.Agreement.{IsStack, IsStanding, with_numbers}
-use Rattle.wl_desk.proofs.OwningKeys.{differ}
-use Rattle.wl_desk.proofs.Stacks.{and-both, equal-numbers, same-number}
+use Rattle.wl_plain.proofs.OwningKeys.{differ}
+use Rattle.wl_plain.proofs.Stacks.{and-both, equal-numbers, same-number}
 
 -- ---- other numbers
 

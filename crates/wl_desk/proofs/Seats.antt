@@ -12,8 +12,8 @@ use Rattle.wl_desk.specs.Seats.{IsBare, IsClearedBy, IsRestacked, IsSettledBy}
 use Rattle.wl_desk.specs.declared.residents.Resident.{Resident as Kept}
 use Rattle.wl_desk.specs.declared.residents.Stacking.{Stacking}
 use Rattle.wl_desk.specs.declared.residents.Stacking.TheVariants.{Stays, ToTop, Out}
-use Rattle.wl_desk.proofs.OwningKeys.{differ}
-use Rattle.wl_desk.proofs.Stacks.{and-both}
+use Rattle.wl_plain.proofs.OwningKeys.{differ}
+use Rattle.wl_plain.proofs.Stacks.{and-both}
 
 -- ---- the steps of the code
 

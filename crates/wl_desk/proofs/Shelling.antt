@@ -33,19 +33,19 @@ use Rattle.wl_shell.specs.declared.error.ShellError.TheVariants as failed
 use Rattle.wl_scene.specs.Stacking.{Owned}
 use Rattle.wl_scene.specs.declared.owned.Owned.{Owned as Lent}
 use Rattle.wl_desk.specs.declared.residents.Resident.{Resident as Kept}
-use Rattle.wl_desk.specs.Ask.{Ask, AskSurface, DestroyToplevel, GetToplevel, Ignore}
-use Rattle.wl_desk.specs.Desktop.{Resident}
-use Rattle.wl_desk.specs.Owning.{AreKept, IsOwned, IsXdg, Names, asks_by, by_number, configuring_if, kept_base, names_in, names_surface, shell_refusal, target_as, targets_in, with_surface, with_toplevel, with_xdg}
+use Rattle.wl_plain.specs.Ask.{Ask, AskSurface, DestroyToplevel, GetToplevel, Ignore}
+use Rattle.wl_plain.specs.Desktop.{Resident}
+use Rattle.wl_plain.specs.Owning.{AreKept, IsOwned, IsXdg, Names, asks_by, by_number, configuring_if, kept_base, names_in, names_surface, shell_refusal, target_as, targets_in, with_surface, with_toplevel, with_xdg}
 use Rattle.wl_desk.specs.Residents.{ActsFor, AnswersSo, Does, IsBase, IsFree, NewIsFree, IsResident, IsToplevel, IsXdgSurface}
-use Rattle.wl_desk.specs.Step.{changed_by, configures_told, role_configured, toplevel_configured, toplevel_given, with_peer, xdg_configured}
-use Rattle.wl_desk.specs.XdgShell.{configured_again, is_no_toplevel, is_state, role_of, toplevel_ask, toplevel_ask_of, xdg_ask, xdg_ask_of}
+use Rattle.wl_plain.specs.Step.{changed_by, configures_told, role_configured, toplevel_configured, toplevel_given, with_peer, xdg_configured}
+use Rattle.wl_plain.specs.XdgShell.{configured_again, is_no_toplevel, is_state, role_of, toplevel_ask, toplevel_ask_of, xdg_ask, xdg_ask_of}
 use Rattle.wl_desk.proofs.Doing.{cut-bounds}
-use Rattle.wl_desk.proofs.Letting.{asked-keeps}
+use Rattle.wl_plain.proofs.Letting.{asked-keeps}
 use Rattle.wl_desk.proofs.Numbers.{left-from}
-use Rattle.wl_desk.proofs.OwningSurfaces.{surface-named, surface-read}
-use Rattle.wl_desk.proofs.OwningNames.{names-other-gone, names-surface-gone, names-toplevel-gone, names-xdg-gone}
-use Rattle.wl_desk.proofs.OwningReads.{role-fits, role-read}
-use Rattle.wl_desk.proofs.OwningXdg.{toplevel-named, xdg-named}
+use Rattle.wl_plain.proofs.OwningSurfaces.{surface-named, surface-read}
+use Rattle.wl_plain.proofs.OwningNames.{names-other-gone, names-surface-gone, names-toplevel-gone, names-xdg-gone}
+use Rattle.wl_plain.proofs.OwningReads.{role-fits, role-read}
+use Rattle.wl_plain.proofs.OwningXdg.{toplevel-named, xdg-named}
 
 -- ---- objects that go
 

@@ -21,15 +21,15 @@ use Rattle.wl_desk.specs.declared.xdg_toplevel.ToplevelAsked.TheVariants.{Destru
 use Rattle.wl_desk.specs.declared.residents.Resident.{Resident as Kept}
 use Rattle.wl_desk.specs.declared.residents.Stacking.{Stacking}
 use Rattle.wl_desk.specs.declared.residents.Stacking.TheVariants.{Stays, Out}
-use Rattle.wl_desk.specs.Ask.{Ask, AskSurface, CommitSurface, DestroyXdgSurface, GetToplevel, Acknowledge, ConfigureAgain, DestroyToplevel, Ignore, owns}
-use Rattle.wl_desk.specs.WlSurface.{refuse, refuse_limit}
-use Rattle.wl_desk.specs.Served.{beyond_toplevels}
-use Rattle.wl_desk.specs.Desktop.{Resident}
-use Rattle.wl_desk.specs.Owning.{effect_by, names_in, targets_in}
+use Rattle.wl_plain.specs.Ask.{Ask, AskSurface, CommitSurface, DestroyXdgSurface, GetToplevel, Acknowledge, ConfigureAgain, DestroyToplevel, Ignore, owns}
+use Rattle.wl_plain.specs.WlSurface.{refuse, refuse_limit}
+use Rattle.wl_plain.specs.Served.{beyond_toplevels}
+use Rattle.wl_plain.specs.Desktop.{Resident}
+use Rattle.wl_plain.specs.Owning.{effect_by, names_in, targets_in}
 use Rattle.wl_desk.specs.Residents.{IsResident, IsSurface, IsToplevel, StacksBy, StacksSo, asked_by, stacking_by}
-use Rattle.wl_desk.specs.Step.{ask_of, surface_of}
-use Rattle.wl_desk.specs.XdgShell.{configured_again, is_no_toplevel, is_state, role_of, toplevel_ask, toplevel_ask_of, xdg_ask_of}
-use Rattle.wl_desk.proofs.OwningXdg.{toplevel-named}
+use Rattle.wl_plain.specs.Step.{ask_of, surface_of}
+use Rattle.wl_plain.specs.XdgShell.{configured_again, is_no_toplevel, is_state, role_of, toplevel_ask, toplevel_ask_of, xdg_ask_of}
+use Rattle.wl_plain.proofs.OwningXdg.{toplevel-named}
 
 -- it asks nothing of the stack
 pub still : {A : Type 0} (old : Kept A) (r : Resident) (judged : Result Ask Refusal) (ask : Ask) → judged ≡ Ok ask → StacksBy old r ask Stays → StacksSo old r judged Stays

@@ -23,24 +23,24 @@ use Rattle.wl_shell.specs.Shell.{Effect, Stays, Unconfigured, Configures, Maps, 
 use Rattle.wl_shell.specs.Shell.{XdgSurface as Xdg}
 use Rattle.wl_scene.specs.Stacking.{Owned, Stack, Standing, mapped_on, without_client, without_surface_of}
 use Rattle.wl_desk.specs.Agreement.{IsScene, IsSeat, IsStack, with_numbers}
-use Rattle.wl_desk.specs.Ask.{Ask, Own, CreateSurface, DestroySurface, AskSurface, CommitSurface, DestroyBase, GetXdgSurface, DestroyXdgSurface, GetToplevel, Acknowledge, ConfigureAgain, DestroyToplevel, Ignore}
-use Rattle.wl_desk.specs.Desktop.{Desktop, Resident, become, become_by, client_at, client_in, owned_of, resident_of, with_number}
-use Rattle.wl_desk.specs.Owning.{targets_in}
+use Rattle.wl_plain.specs.Ask.{Ask, Own, CreateSurface, DestroySurface, AskSurface, CommitSurface, DestroyBase, GetXdgSurface, DestroyXdgSurface, GetToplevel, Acknowledge, ConfigureAgain, DestroyToplevel, Ignore}
+use Rattle.wl_plain.specs.Desktop.{Desktop, Resident, become, become_by, client_at, client_in, owned_of, resident_of, with_number}
+use Rattle.wl_plain.specs.Owning.{targets_in}
 use Rattle.wl_desk.specs.Residents.{ActsFor, AnswersSo, IsLeft, StacksBy, StacksSo, TakesSo}
 use Rattle.wl_desk.specs.Seats.{IsBased, IsClearedBy, IsRestacked, IsSeated, IsSettledBy, Lacks}
-use Rattle.wl_desk.specs.Served.{beyond_toplevels}
-use Rattle.wl_desk.specs.Step.{Acts, Answers, Becomes, ServesAt, Serves, Takes, WantsOr, after_surface, answers_to, changed_by, committed_on, effect_on, judge, stacked, surface_of, takes_memory, with_peer}
-use Rattle.wl_desk.specs.Standing.{MappedStand, is_mapped}
+use Rattle.wl_plain.specs.Served.{beyond_toplevels}
+use Rattle.wl_plain.specs.Step.{Acts, Answers, Becomes, ServesAt, Serves, Takes, WantsOr, after_surface, answers_to, changed_by, committed_on, effect_on, judge, stacked, surface_of, takes_memory, with_peer}
+use Rattle.wl_plain.specs.Standing.{MappedStand, is_mapped}
 use Rattle.wl_desk.specs.View.{owned_view}
 use Rattle.wl_desk.specs.declared.residents.Resident.{Resident as Kept}
 use Rattle.wl_desk.specs.declared.residents.Stacking.{Stacking}
 use Rattle.wl_desk.specs.declared.residents.Stacking.TheVariants as on
 use Rattle.wl_desk.proofs.Ends.{AreNameless, errs-over, lacks-over, nameless-over, over-ended, queues-over, seat-bare}
-use Rattle.wl_desk.proofs.OwningKeys.{differ}
-use Rattle.wl_desk.proofs.Others.{stacked-keeps}
-use Rattle.wl_desk.proofs.Behind.{changed-status}
-use Rattle.wl_desk.proofs.Places.{left_by, number-same, number-twice, stacked-clients}
-use Rattle.wl_desk.proofs.StandingSteps.{serves-stand}
+use Rattle.wl_plain.proofs.OwningKeys.{differ}
+use Rattle.wl_plain.proofs.Others.{stacked-keeps}
+use Rattle.wl_plain.proofs.Behind.{changed-status}
+use Rattle.wl_plain.proofs.Places.{left_by, number-same, number-twice, stacked-clients}
+use Rattle.wl_plain.proofs.StandingSteps.{serves-stand}
 use Rattle.wl_desk.proofs.Scenes.{AreOnce, Has, next-of, none-stands, numbers-by, numbers-same, stack-by, stack-mapped, stack-out, stack-without}
 
 -- ---- the client's place in the desktop

@@ -14,18 +14,18 @@ use Rattle.wl_shell.specs.Kept.{kept_of}
 use Rattle.wl_scene.specs.Stacking.{Stack}
 use Rattle.wl_scene.specs.declared.owned.Owned.{Owned as Keeps}
 use Rattle.wl_desk.specs.Agreement.{IsScene, with_numbers}
-use Rattle.wl_desk.specs.Desktop.{Desktop, Resident, become, become_by}
-use Rattle.wl_desk.specs.Owning.{IsOwned, names_in, targets_in}
+use Rattle.wl_plain.specs.Desktop.{Desktop, Resident, become, become_by}
+use Rattle.wl_plain.specs.Owning.{IsOwned, names_in, targets_in}
 use Rattle.wl_desk.specs.Seats.{IsClearedBy, IsSeated, ended_by}
-use Rattle.wl_desk.specs.Served.{beyond_toplevels}
-use Rattle.wl_desk.specs.Step.{Feeds, FeedsAt, Reaches, StopsAt}
+use Rattle.wl_plain.specs.Served.{beyond_toplevels}
+use Rattle.wl_plain.specs.Step.{Feeds, FeedsAt, Reaches, StopsAt}
 use Rattle.wl_proto.specs.declared.interface.Interface.TheVariants.{WlSurface}
 use Rattle.wl_desk.specs.View.{owned_view}
 use Rattle.wl_desk.specs.declared.residents.Resident.{Resident as Kept}
 use Rattle.wl_desk.proofs.Ends.{AreNameless, IsOver, nameless-over, nameless-same, nameless-seat}
-use Rattle.wl_desk.proofs.OwningKeys.{differ}
-use Rattle.wl_desk.proofs.Places.{left_by}
-use Rattle.wl_desk.proofs.StandingDesks.{become-stand}
+use Rattle.wl_plain.proofs.OwningKeys.{differ}
+use Rattle.wl_plain.proofs.Places.{left_by}
+use Rattle.wl_plain.proofs.StandingDesks.{become-stand}
 use Rattle.wl_desk.proofs.Taking.{Sits, based-at, become-gone, become-lives, itself, none-is, numbers, sits-gone, sits-same, sits-seated}
 
 -- What is told makes of a client's peer another: its table and what it owns stay where it lives on, and where it doesn't, it ends so or had ended.

@@ -7,14 +7,14 @@ use Rattle.wl_client.specs.Peer.{Peer}
 use Rattle.wl_client.specs.View.{ClientView}
 use Rattle.wl_shell.specs.Kept.{kept_of}
 use Rattle.wl_scene.specs.Stacking.{Stack, Standing}
-use Rattle.wl_desk.specs.Desktop.{Desktop, Resident, place}
-use Rattle.wl_desk.specs.Laws.{OwnsNothing}
-use Rattle.wl_desk.specs.Owning.{IsOwned, names_in, targets_in}
-use Rattle.wl_desk.specs.Served.{beyond_toplevels}
-use Rattle.wl_desk.specs.Standing.{MappedStand}
+use Rattle.wl_plain.specs.Desktop.{Desktop, Resident, place}
+use Rattle.wl_plain.specs.Laws.{OwnsNothing}
+use Rattle.wl_plain.specs.Owning.{IsOwned, names_in, targets_in}
+use Rattle.wl_plain.specs.Served.{beyond_toplevels}
+use Rattle.wl_plain.specs.Standing.{MappedStand}
 use Rattle.wl_desk.specs.View.{DeskView, OwnedView}
-use Rattle.wl_desk.specs.declared.answers.Done.{Done}
-use Rattle.wl_desk.specs.Steps.{Act, Steps}
+use Rattle.wl_plain.specs.declared.answers.Done.{Done}
+use Rattle.wl_plain.specs.Steps.{Act, Steps}
 
 -- ---- the clients
 

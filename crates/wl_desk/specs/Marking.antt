@@ -5,8 +5,8 @@ use Rattle.wl_proto.specs.declared.wl_surface.WlSurfaceRequest.TheVariants.{Comm
 use Rattle.wl_client.specs.declared.clients.Cause.{Cause}
 use Rattle.wl_paint.specs.Damage.{Damaged, has}
 use Rattle.wl_scene.specs.Stacking.{Stack}
-use Rattle.wl_desk.specs.Desktop.{Desktop, owned_in}
-use Rattle.wl_desk.specs.Moments.{marks_at_least}
+use Rattle.wl_plain.specs.Desktop.{Desktop, owned_in}
+use Rattle.wl_plain.specs.Moments.{marks_at_least}
 use Rattle.wl_desk.specs.declared.messages.Asked.{Asked}
 use Rattle.wl_desk.specs.declared.messages.Asked.TheVariants as asked
 use Rattle.wl_desk.specs.declared.messages.Kind.{Kind}

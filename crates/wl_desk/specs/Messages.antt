@@ -12,7 +12,7 @@ use Rattle.wl_desk.specs.declared.messages.Asked.TheVariants as asked
 use Rattle.wl_desk.specs.declared.messages.Kind.{Kind}
 use Rattle.wl_desk.specs.declared.messages.Kind.TheVariants as kind
 use Rattle.wl_desk.specs.Residents.{asked_by}
-use Rattle.wl_desk.specs.Served.{beyond_toplevels}
+use Rattle.wl_plain.specs.Served.{beyond_toplevels}
 
 -- the message is this request
 abbrev pub IsKind : Kind → Message → Type 0

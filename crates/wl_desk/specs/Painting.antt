@@ -13,10 +13,10 @@ use Rattle.wl_scene.specs.Lent.{AllShow}
 use Rattle.wl_scene.specs.Stacking.{Standing}
 use Rattle.wl_scene.specs.Windows.{contains}
 use Rattle.wl_desk.specs.Agreement.{IsStack}
-use Rattle.wl_desk.specs.Desktop.{Desktop, client_at, owned_in, windows_in}
+use Rattle.wl_plain.specs.Desktop.{Desktop, client_at, owned_in, windows_in}
 use Rattle.wl_desk.specs.Lent.{windows_lent}
-use Rattle.wl_desk.specs.Owning.{AreKept}
-use Rattle.wl_desk.specs.Scratch.{color_in, scratch}
+use Rattle.wl_plain.specs.Owning.{AreKept}
+use Rattle.wl_plain.specs.Scratch.{color_in, scratch}
 
 -- What is lent stands for the desktop: the stores and the surfaces of each client, and the toplevels in their order. Each shows a buffer.
 pub record AreLent (clients : ℕ → Option ClientView) (slots : ℕ → Slots) (numbers : ℕ → ById ℕ) (standing : List Standing) (d : Desktop) : Type 0 where

@@ -23,12 +23,12 @@ use Rattle.wl_desk.specs.declared.xdg_toplevel.ToplevelAsked.{ToplevelAsked}
 use Rattle.wl_desk.specs.declared.xdg_toplevel.ToplevelAsked.TheVariants.{Destruction, Configure as AskedConfigure, Nothing as AskedNothing}
 use Rattle.wl_desk.specs.declared.residents.Stacking.{Stacking}
 use Rattle.wl_desk.specs.declared.residents.Stacking.TheVariants.{Stays, ToTop, Out}
-use Rattle.wl_desk.specs.Ask.{Ask, CommitSurface, DestroyToplevel}
-use Rattle.wl_desk.specs.Desktop.{Resident}
-use Rattle.wl_desk.specs.Owning.{IsOwned, names_in, targets_in}
-use Rattle.wl_desk.specs.Served.{beyond_toplevels}
-use Rattle.wl_desk.specs.XdgShell.{is_state}
-use Rattle.wl_desk.specs.Step.{answers_to, changed_by, judge, role_configured, surface_of, takes_memory, with_peer}
+use Rattle.wl_plain.specs.Ask.{Ask, CommitSurface, DestroyToplevel}
+use Rattle.wl_plain.specs.Desktop.{Resident}
+use Rattle.wl_plain.specs.Owning.{IsOwned, names_in, targets_in}
+use Rattle.wl_plain.specs.Served.{beyond_toplevels}
+use Rattle.wl_plain.specs.XdgShell.{is_state}
+use Rattle.wl_plain.specs.Step.{answers_to, changed_by, judge, role_configured, surface_of, takes_memory, with_peer}
 
 -- what is kept of the surfaces and of the shell stands for what the client owns
 abbrev pub Owns : {A : Type 0} → Kept A → Resident → Type 0

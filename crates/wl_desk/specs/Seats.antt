@@ -11,11 +11,11 @@ use Rattle.wl_surface.specs.Kept.{count as count_kept}
 use Rattle.wl_scene.specs.Stacking.{Stack, mapped_on, without_client, without_surface_of}
 use Rattle.wl_scene.specs.declared.owned.Owned.{Owned}
 use Rattle.wl_desk.specs.Agreement.{IsScene, IsSeat, with_numbers}
-use Rattle.wl_desk.specs.Desktop.{Desktop, Resident, become, client_at, with_number}
-use Rattle.wl_desk.specs.Owning.{targets_in}
-use Rattle.wl_desk.specs.Standing.{MappedStand}
+use Rattle.wl_plain.specs.Desktop.{Desktop, Resident, become, client_at, with_number}
+use Rattle.wl_plain.specs.Owning.{targets_in}
+use Rattle.wl_plain.specs.Standing.{MappedStand}
 use Rattle.wl_desk.specs.View.{owned_view}
-use Rattle.wl_desk.specs.declared.answers.Done.{Done}
+use Rattle.wl_plain.specs.declared.answers.Done.{Done}
 use Rattle.wl_desk.specs.declared.residents.Resident.{Resident as Kept}
 use Rattle.wl_desk.specs.declared.residents.Stacking.{Stacking}
 use Rattle.wl_desk.specs.declared.residents.Stacking.TheVariants.{Stays, ToTop, Out}

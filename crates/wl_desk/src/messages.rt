@@ -6,11 +6,11 @@ ghost use Rattle.wl_table.specs.Objects.{entry_of};
 ghost use Rattle.wl_proto.specs.Messages.{Message, request_message};
 ghost use Rattle.wl_client.specs.Peer.{IsIdleAt};
 ghost use Rattle.wl_client.specs.Serving.{is_own};
-ghost use Rattle.wl_desk.specs.Desktop.{Resident as Plain};
+ghost use Rattle.wl_plain.specs.Desktop.{Resident as Plain};
 ghost use Rattle.wl_desk.specs.Messages.{IsAsked, IsKind};
 ghost use Rattle.wl_desk.specs.Residents.{Answers, IsResident, NewIsFree, ObjectsFit, StacksSo, TakesSo};
-ghost use Rattle.wl_desk.specs.Served.{beyond_toplevels};
-ghost use Rattle.wl_desk.specs.Step.{ask_of};
+ghost use Rattle.wl_plain.specs.Served.{beyond_toplevels};
+ghost use Rattle.wl_plain.specs.Step.{ask_of};
 
 use crate::residents::{Resident, Stacking};
 use crate::xdg_toplevel::{ToplevelAsked, asked_of};

@@ -11,15 +11,15 @@ ghost use Rattle.wl_surface.specs.Request.{Attach, Damage as DamageAsked, SetBuf
 ghost use Rattle.wl_proto.specs.Messages.{wl_surface_request};
 ghost use Rattle.wl_proto.specs.declared.wl_surface.WlSurfaceRequest.TheVariants.{Commit, Destroy, SetBufferTransform as TransformAsked};
 ghost use Rattle.wl_shell.specs.Kept.{Kept as KeptXdg, changing, commit_answer, kept_after, kept_of};
-ghost use Rattle.wl_desk.specs.Ask.{AskSurface, CommitSurface, DestroySurface};
-ghost use Rattle.wl_desk.specs.Desktop.{Resident as Plain};
-ghost use Rattle.wl_desk.specs.Owning.{AreKept, IsOwned, Names, effect_by, names_in};
-ghost use Rattle.wl_desk.specs.Served.{beyond_toplevels};
-ghost use Rattle.wl_desk.specs.Releases.{let_if, same_number};
+ghost use Rattle.wl_plain.specs.Ask.{AskSurface, CommitSurface, DestroySurface};
+ghost use Rattle.wl_plain.specs.Desktop.{Resident as Plain};
+ghost use Rattle.wl_plain.specs.Owning.{AreKept, IsOwned, Names, effect_by, names_in};
+ghost use Rattle.wl_plain.specs.Served.{beyond_toplevels};
+ghost use Rattle.wl_plain.specs.Releases.{let_if, same_number};
 ghost use Rattle.wl_desk.specs.Residents.{ActsFor, Answers, Does, IsLeft, IsResident, IsSurface, StacksSo, stacking_by};
-ghost use Rattle.wl_desk.specs.Step.{ask_of, buffers_had, changed_by, is_number, is_over, letting_go};
+ghost use Rattle.wl_plain.specs.Step.{ask_of, buffers_had, changed_by, is_number, is_over, letting_go};
 ghost use Rattle.wl_surface.specs.Surfaces.{Surface, listed};
-ghost use Rattle.wl_desk.specs.WlSurface.{buffer_named, region_named};
+ghost use Rattle.wl_plain.specs.WlSurface.{buffer_named, region_named};
 
 use crate::residents::{Resident, Stacking};
 use std::alloc::Allocator;

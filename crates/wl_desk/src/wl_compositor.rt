@@ -3,11 +3,11 @@
 ghost use Rattle.std.specs.Prelude.{◌≡◌, ◌≤◌, ◌↔◌, IsTrue, Ok, length};
 ghost use Rattle.wl_proto.specs.Messages.{wl_compositor_request};
 ghost use Rattle.wl_client.specs.declared.actions.Action.TheVariants.{CreateRegion};
-ghost use Rattle.wl_desk.specs.Ask.{Own};
-ghost use Rattle.wl_desk.specs.Served.{beyond_toplevels};
-ghost use Rattle.wl_desk.specs.Step.{ask_of};
+ghost use Rattle.wl_plain.specs.Ask.{Own};
+ghost use Rattle.wl_plain.specs.Served.{beyond_toplevels};
+ghost use Rattle.wl_plain.specs.Step.{ask_of};
 ghost use Rattle.wl_desk.specs.Residents.{Answers, IsFree, NewIsFree};
-ghost use Rattle.wl_desk.specs.WlSurface.{surface_created};
+ghost use Rattle.wl_plain.specs.WlSurface.{surface_created};
 
 use crate::residents::Resident;
 use std::alloc::Allocator;

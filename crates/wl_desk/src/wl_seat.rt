@@ -3,8 +3,8 @@
 ghost use Rattle.std.specs.Prelude.{◌≡◌, ◌≤◌, length};
 ghost use Rattle.wl_proto.specs.Messages.{wl_seat_request};
 ghost use Rattle.wl_desk.specs.Residents.{Answers};
-ghost use Rattle.wl_desk.specs.Served.{beyond_toplevels};
-ghost use Rattle.wl_desk.specs.Step.{ask_of};
+ghost use Rattle.wl_plain.specs.Served.{beyond_toplevels};
+ghost use Rattle.wl_plain.specs.Step.{ask_of};
 
 use crate::residents::Resident;
 use std::alloc::Allocator;

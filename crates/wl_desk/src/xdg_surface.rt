@@ -6,11 +6,11 @@ ghost use Rattle.wl_client.specs.Peer.{Errs, Peer};
 ghost use Rattle.wl_proto.specs.Messages.{xdg_surface_request};
 ghost use Rattle.wl_proto.specs.declared.xdg_surface.XdgSurfaceRequest.TheVariants.{AckConfigure, Destroy, GetToplevel, SetWindowGeometry};
 ghost use Rattle.wl_shell.specs.Kept.{kept_of};
-ghost use Rattle.wl_desk.specs.Owning.{kept_base, kept_id, shell_refusal};
+ghost use Rattle.wl_plain.specs.Owning.{kept_base, kept_id, shell_refusal};
 ghost use Rattle.wl_desk.specs.Residents.{Answers, IsFree, IsXdgSurface, NewIsFree};
-ghost use Rattle.wl_desk.specs.Served.{beyond_toplevels};
-ghost use Rattle.wl_desk.specs.Step.{ask_of};
-ghost use Rattle.wl_desk.specs.XdgShell.{is_no_toplevel};
+ghost use Rattle.wl_plain.specs.Served.{beyond_toplevels};
+ghost use Rattle.wl_plain.specs.Step.{ask_of};
+ghost use Rattle.wl_plain.specs.XdgShell.{is_no_toplevel};
 
 use crate::residents::Resident;
 use std::alloc::Allocator;

@@ -6,10 +6,10 @@ ghost use Rattle.wl_client.specs.Agreement.{IsPeer};
 ghost use Rattle.wl_client.specs.Peer.{Peer, Queues};
 ghost use Rattle.wl_proto.specs.Messages.{xdg_toplevel_request};
 ghost use Rattle.wl_shell.specs.Kept.{kept_of};
-ghost use Rattle.wl_desk.specs.Desktop.{Resident as Plain};
+ghost use Rattle.wl_plain.specs.Desktop.{Resident as Plain};
 ghost use Rattle.wl_desk.specs.Residents.{Answers, IsResident, IsToplevel, StacksSo, asked_by, drawn_by, told_by};
-ghost use Rattle.wl_desk.specs.Step.{toplevel_configured, xdg_configured};
-ghost use Rattle.wl_desk.specs.XdgShell.{is_state, toplevel_ask};
+ghost use Rattle.wl_plain.specs.Step.{toplevel_configured, xdg_configured};
+ghost use Rattle.wl_plain.specs.XdgShell.{is_state, toplevel_ask};
 
 use crate::residents::{Resident, Stacking};
 use std::alloc::Allocator;

@@ -4,13 +4,13 @@ ghost use Rattle.std.specs.Prelude.{◌≡◌, ◌↔◌, IsTrue, Ok, ◌≤◌,
 ghost use Rattle.wl_proto.specs.Messages.{xdg_wm_base_request};
 ghost use Rattle.wl_proto.specs.declared.interface.Interface.TheVariants.{WlSurface};
 ghost use Rattle.wl_proto.specs.declared.xdg_wm_base.XdgWmBaseRequest.TheVariants.{Destroy, GetXdgSurface};
-ghost use Rattle.wl_desk.specs.Ask.{DestroyBase, Ignore};
-ghost use Rattle.wl_desk.specs.Owning.{targets_in};
+ghost use Rattle.wl_plain.specs.Ask.{DestroyBase, Ignore};
+ghost use Rattle.wl_plain.specs.Owning.{targets_in};
 ghost use Rattle.wl_desk.specs.Residents.{Answers, Does, IsBase, IsFree, IsSurface, NewIsFree, ObjectsFit};
-ghost use Rattle.wl_desk.specs.Served.{beyond_toplevels};
-ghost use Rattle.wl_desk.specs.Step.{ask_of};
-ghost use Rattle.wl_desk.specs.WlSurface.{refuse_limit};
-ghost use Rattle.wl_desk.specs.XdgShell.{is_foreign};
+ghost use Rattle.wl_plain.specs.Served.{beyond_toplevels};
+ghost use Rattle.wl_plain.specs.Step.{ask_of};
+ghost use Rattle.wl_plain.specs.WlSurface.{refuse_limit};
+ghost use Rattle.wl_plain.specs.XdgShell.{is_foreign};
 
 use crate::residents::Resident;
 use crate::xdg_surface::refusal_of;

@@ -1,9 +1,9 @@
 -- The clients up to a number, one after another.
 use Rattle.std.proofs.Common.{◌≡◌, ℕ, suc, ◌+◌, List, [], ◌∷◌, ◌++◌, Option, Some, length, refl, sym, subst, add-one}
-use Rattle.wl_desk.specs.declared.answers.Done.{Done}
-use Rattle.wl_desk.specs.Served.{beyond_toplevels}
-use Rattle.wl_desk.specs.Steps.{Send, Steps}
-use Rattle.wl_desk.specs.Desktop.{Desktop}
+use Rattle.wl_plain.specs.declared.answers.Done.{Done}
+use Rattle.wl_plain.specs.Served.{beyond_toplevels}
+use Rattle.wl_plain.specs.Steps.{Send, Steps}
+use Rattle.wl_plain.specs.Desktop.{Desktop}
 use Rattle.wl_replay.specs.Clients.{Sends, TellsClient, TellsFirst}
 use Rattle.wl_replay.specs.Text.{to_line}
 

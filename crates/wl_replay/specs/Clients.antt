@@ -1,12 +1,12 @@
 -- What each client is sent after a line, and how it is closed.
 use Rattle.std.specs.Prelude.{◌≡◌, ℕ, zero, suc, Option, Some, None, List, [], ◌∷◌, ◌++◌, length}
-use Rattle.wl_desk.specs.Desktop.{Desktop}
-use Rattle.wl_desk.specs.Served.{beyond_toplevels}
-use Rattle.wl_desk.specs.Steps as act
-use Rattle.wl_desk.specs.Steps.{Steps, peer_at, status_of, unsent_of}
-use Rattle.wl_desk.specs.declared.answers.Done.{Done}
-use Rattle.wl_desk.specs.declared.answers.Fed.{Fed}
-use Rattle.wl_desk.specs.declared.answers.Fed.TheVariants.{Alive, Ended, NoClient}
+use Rattle.wl_plain.specs.Desktop.{Desktop}
+use Rattle.wl_plain.specs.Served.{beyond_toplevels}
+use Rattle.wl_plain.specs.Steps as act
+use Rattle.wl_plain.specs.Steps.{Steps, peer_at, status_of, unsent_of}
+use Rattle.wl_plain.specs.declared.answers.Done.{Done}
+use Rattle.wl_plain.specs.declared.answers.Fed.{Fed}
+use Rattle.wl_plain.specs.declared.answers.Fed.TheVariants.{Alive, Ended, NoClient}
 use Rattle.wl_replay.specs.Text.{end_line, to_line}
 
 -- All of a client's unsent bytes are sent, where there are any.

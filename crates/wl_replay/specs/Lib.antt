@@ -6,8 +6,8 @@ pub mod Clients
 pub mod Side
 pub mod Storing
 pub mod Report
-pub use Rattle.wl_desk.specs.Desktop
-pub use Rattle.wl_desk.specs.Steps
+pub use Rattle.wl_plain.specs.Desktop
+pub use Rattle.wl_plain.specs.Steps
 pub use Rattle.wl_session.specs.Damage
 pub use Rattle.wl_session.specs.Frame
 pub use Rattle.wl_session.specs.Image

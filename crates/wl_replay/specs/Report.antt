@@ -4,18 +4,18 @@ use Rattle.std.specs.Io.KnownBytes.{Appends, IsAtEnd}
 use Rattle.std.specs.Option.{option_and_then}
 use Rattle.wl_session.specs.View.{SessionView}
 use Rattle.wl_session.specs.Damage.{Damaged, count_points, has}
-use Rattle.wl_desk.specs.Desktop.{Desktop}
+use Rattle.wl_plain.specs.Desktop.{Desktop}
 use Rattle.wl_session.specs.Image.{image_of}
 use Rattle.wl_session.specs.Run.{IsNextFrame}
-use Rattle.wl_desk.specs.Served.{beyond_toplevels}
-use Rattle.wl_desk.specs.Steps as act
-use Rattle.wl_desk.specs.Steps.{Steps, peer_at, status_of}
-use Rattle.wl_desk.specs.declared.answers.ConnectError.{ConnectError}
-use Rattle.wl_desk.specs.declared.answers.ConnectError.TheVariants.{Full, Memory}
-use Rattle.wl_desk.specs.declared.answers.Done.{Done}
-use Rattle.wl_desk.specs.declared.answers.Done.TheVariants as gave
-use Rattle.wl_desk.specs.declared.answers.Fed.{Fed}
-use Rattle.wl_desk.specs.declared.answers.Fed.TheVariants.{Alive, Ended, NoClient}
+use Rattle.wl_plain.specs.Served.{beyond_toplevels}
+use Rattle.wl_plain.specs.Steps as act
+use Rattle.wl_plain.specs.Steps.{Steps, peer_at, status_of}
+use Rattle.wl_plain.specs.declared.answers.ConnectError.{ConnectError}
+use Rattle.wl_plain.specs.declared.answers.ConnectError.TheVariants.{Full, Memory}
+use Rattle.wl_plain.specs.declared.answers.Done.{Done}
+use Rattle.wl_plain.specs.declared.answers.Done.TheVariants as gave
+use Rattle.wl_plain.specs.declared.answers.Fed.{Fed}
+use Rattle.wl_plain.specs.declared.answers.Fed.TheVariants.{Alive, Ended, NoClient}
 use Rattle.wl_replay.specs.declared.error.ReplayError.{ReplayError}
 use Rattle.wl_replay.specs.declared.error.ReplayError.TheVariants as error
 use Rattle.wl_replay.specs.declared.error.Summary.{Summary}

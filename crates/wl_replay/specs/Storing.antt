@@ -2,16 +2,16 @@
 use Rattle.std.specs.Prelude.{◌≡◌, ◌≢◌, ◌<◌, ◌≤◌, ◌+◌, ◌⊎◌, ℕ, true, nat_lt, if◌then◌else◌, List, [], ◌∷◌, length, Option, Some, None, Result, Ok, Err}
 use Rattle.wl_desk.specs.Agreement.{TakesStep}
 use Rattle.wl_desk.specs.View.{DeskView}
-use Rattle.wl_desk.specs.Desktop.{Desktop}
-use Rattle.wl_desk.specs.Served.{beyond_toplevels}
-use Rattle.wl_desk.specs.Steps as act
-use Rattle.wl_desk.specs.Steps.{Steps, peer_at, status_of, store_size_of}
-use Rattle.wl_desk.specs.declared.answers.Done.{Done}
-use Rattle.wl_desk.specs.declared.answers.Done.TheVariants as gave
-use Rattle.wl_desk.specs.declared.answers.Fed.{Fed}
-use Rattle.wl_desk.specs.declared.answers.Fed.TheVariants.{Alive, Ended, NoClient}
-use Rattle.wl_desk.specs.declared.answers.Stored.{Stored}
-use Rattle.wl_desk.specs.declared.answers.Stored.TheVariants as stored
+use Rattle.wl_plain.specs.Desktop.{Desktop}
+use Rattle.wl_plain.specs.Served.{beyond_toplevels}
+use Rattle.wl_plain.specs.Steps as act
+use Rattle.wl_plain.specs.Steps.{Steps, peer_at, status_of, store_size_of}
+use Rattle.wl_plain.specs.declared.answers.Done.{Done}
+use Rattle.wl_plain.specs.declared.answers.Done.TheVariants as gave
+use Rattle.wl_plain.specs.declared.answers.Fed.{Fed}
+use Rattle.wl_plain.specs.declared.answers.Fed.TheVariants.{Alive, Ended, NoClient}
+use Rattle.wl_plain.specs.declared.answers.Stored.{Stored}
+use Rattle.wl_plain.specs.declared.answers.Stored.TheVariants as stored
 use Rattle.wl_replay.specs.declared.place.Place.{Place}
 use Rattle.wl_replay.specs.Side.{Files, Lacks}
 use Rattle.wl_replay.specs.Text.{none_line, nostore_line, outside_line}

@@ -3,7 +3,7 @@ use Rattle.std.specs.Prelude.{◌≡◌, ◌+◌, ◌*◌, ℕ, List, [], ◌++�
 use Rattle.std.specs.Io.KnownBytes.{Appends}
 use Rattle.wl_desk.specs.Agreement.{Agrees}
 use Rattle.wl_session.specs.View.{SessionView}
-use Rattle.wl_desk.specs.Desktop.{Desktop, empty}
+use Rattle.wl_plain.specs.Desktop.{Desktop, empty}
 use Rattle.wl_session.specs.Frame.{Image, filled}
 use Rattle.wl_session.specs.declared.sessions.Config.{Config}
 

@@ -1,10 +1,10 @@
 -- Two pieces of a client's stream lead a desktop where they lead it as one.
 use Rattle.std.proofs.Common.{◌≡◌, ℕ, List, ◌++◌, Option, Some, None, refl, ap, subst, ◌∙◌}
-use Rattle.wl_desk.specs.declared.answers.Done.{Done}
-use Rattle.wl_desk.specs.Desktop.{Desktop, Resident, client_at}
-use Rattle.wl_desk.specs.Served.{Unserved}
-use Rattle.wl_desk.proofs.Pieces.{feeds-append, stays-there}
-use Rattle.wl_desk.specs.Steps.{IsFedAt}
+use Rattle.wl_plain.specs.declared.answers.Done.{Done}
+use Rattle.wl_plain.specs.Desktop.{Desktop, Resident, client_at}
+use Rattle.wl_plain.specs.Served.{Unserved}
+use Rattle.wl_plain.proofs.Pieces.{feeds-append, stays-there}
+use Rattle.wl_plain.specs.Steps.{IsFedAt}
 use Rattle.wl_session.specs.Laws.{AnyPieces}
 
 -- the client stays there, so the second piece comes to it

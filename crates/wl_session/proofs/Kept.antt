@@ -2,8 +2,8 @@
 use Rattle.std.proofs.Common.{◌≡◌, [], ◌∷◌, true, false, refl}
 use Rattle.std.specs.Prelude.{pos}
 use Rattle.wl_wire.specs.Wire.{Word, Number}
-use Rattle.wl_desk.specs.Desktop.{Desktop}
-use Rattle.wl_desk.proofs.Toplevels.{asks, attach, black, commit, green, one, red, rewritten, stores, three, three_ready, two}
+use Rattle.wl_plain.specs.Desktop.{Desktop}
+use Rattle.wl_plain.proofs.Toplevels.{asks, attach, black, commit, green, one, red, rewritten, stores, three, three_ready, two}
 use Rattle.wl_scene.specs.Windows.{tree}
 use Rattle.wl_session.specs.Promises.{feigns_at, hides_at, spoils_at}
 use Rattle.wl_session.specs.Run.{Film}

@@ -3,14 +3,14 @@ use Rattle.std.proofs.Common.{◌≡◌, ◌≢◌, ℕ, List, Option, Some, Non
 use Rattle.wl_client.specs.declared.clients.Cause.{Cause}
 use Rattle.wl_client.specs.declared.clients.Cause.TheVariants as cause
 use Rattle.wl_client.specs.Peer.{Peer}
-use Rattle.wl_desk.specs.Desktop.{Desktop, Resident, client_at}
-use Rattle.wl_desk.specs.Laws.{status_in, status_of}
-use Rattle.wl_desk.specs.Served.{Unserved}
-use Rattle.wl_desk.specs.Step.{FeedsAt}
-use Rattle.wl_desk.proofs.OneRun.{one_run-by}
-use Rattle.wl_desk.specs.declared.answers.Done.{Done}
-use Rattle.wl_desk.specs.declared.answers.Done.TheVariants as gave
-use Rattle.wl_desk.specs.Steps.{Act, Connect, Feed, Store, Leave, Tick, Send, Close, ChangesAt, ConnectsAt, IsClosed, IsFedAt, IsLeft, IsSent, IsStored, Steps, fed_of, left_so, lowest}
+use Rattle.wl_plain.specs.Desktop.{Desktop, Resident, client_at}
+use Rattle.wl_plain.specs.Laws.{status_in, status_of}
+use Rattle.wl_plain.specs.Served.{Unserved}
+use Rattle.wl_plain.specs.Step.{FeedsAt}
+use Rattle.wl_plain.proofs.OneRun.{one_run-by}
+use Rattle.wl_plain.specs.declared.answers.Done.{Done}
+use Rattle.wl_plain.specs.declared.answers.Done.TheVariants as gave
+use Rattle.wl_plain.specs.Steps.{Act, Connect, Feed, Store, Leave, Tick, Send, Close, ChangesAt, ConnectsAt, IsClosed, IsFedAt, IsLeft, IsSent, IsStored, Steps, fed_of, left_so, lowest}
 use Rattle.wl_session.specs.Laws.{HadMemory}
 
 -- what both are, they are alike

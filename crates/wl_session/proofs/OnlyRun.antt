@@ -1,7 +1,7 @@
 -- Where no want of memory is met, a list of steps has one run.
 use Rattle.std.proofs.Common.{List, [], ◌∷◌, ap, subst, sym, ◌∙◌}
-use Rattle.wl_desk.specs.Desktop.{Desktop}
-use Rattle.wl_desk.specs.declared.answers.Done.{Done}
+use Rattle.wl_plain.specs.Desktop.{Desktop}
+use Rattle.wl_plain.specs.declared.answers.Done.{Done}
 use Rattle.wl_session.specs.Laws.{OneRun, RunsAmply}
 use Rattle.wl_session.proofs.OneStep.{one_step}
 

@@ -2,14 +2,14 @@
 use Rattle.std.proofs.Common.{◌≡◌, ◌≢◌, ℕ, ◌+◌, List, Option, Some, None, refl, ap, ◌∙◌, inl, inr}
 use Rattle.std.specs.Prelude.{◌==◌, not}
 use Rattle.wl_client.specs.Peer.{Peer}
-use Rattle.wl_desk.specs.Desktop.{Desktop, Resident, arrival, client_at, with_client}
-use Rattle.wl_desk.specs.Laws.{toplevels_of}
-use Rattle.wl_desk.specs.Served.{Unserved}
-use Rattle.wl_desk.proofs.Others.{IsLeft, become-left, feeds-left, left_out, one_client, same-left, become-keeps, feeds-keeps}
-use Rattle.wl_desk.proofs.Places.{number-other}
-use Rattle.wl_desk.specs.declared.answers.Done.{Done}
+use Rattle.wl_plain.specs.Desktop.{Desktop, Resident, arrival, client_at, with_client}
+use Rattle.wl_plain.specs.Laws.{toplevels_of}
+use Rattle.wl_plain.specs.Served.{Unserved}
+use Rattle.wl_plain.proofs.Others.{IsLeft, become-left, feeds-left, left_out, one_client, same-left, become-keeps, feeds-keeps}
+use Rattle.wl_plain.proofs.Places.{number-other}
+use Rattle.wl_plain.specs.declared.answers.Done.{Done}
 use Rattle.wl_session.specs.Laws.{OthersStay, OutputStays, given_by}
-use Rattle.wl_desk.specs.Steps.{Connect, Feed, Store, Leave, Tick, Send, Close, ChangesAt, ConnectsAt, IsFedAt, left_so, lowest}
+use Rattle.wl_plain.specs.Steps.{Connect, Feed, Store, Leave, Tick, Send, Close, ChangesAt, ConnectsAt, IsFedAt, left_so, lowest}
 
 -- one desktop is the other
 moved : (other : ℕ) (old mid new : Desktop) → new ≡ mid → IsLeft other old mid → IsLeft other old new

@@ -20,18 +20,18 @@ use Rattle.std.proofs.lemmas.Bool.{eqb-false, eqb-true}
 use Rattle.wl_client.specs.declared.clients.Cause.{Cause}
 use Rattle.wl_client.specs.Peer.{Peer, stored_at}
 use Rattle.wl_scene.specs.Stacking.{nothing_owned}
-use Rattle.wl_desk.specs.Desktop.{Desktop, Resident, become, client_at, owned_in, owned_of, windows_in}
-use Rattle.wl_desk.specs.Scratch.{bytes_now, color_in, pixel_at}
-use Rattle.wl_desk.proofs.Places.{client-become, left_by, other-become}
-use Rattle.wl_desk.proofs.Stacks.{Each, Fields, and-left, and-right, differ, each-map, fields, or-left, or-right, unless}
-use Rattle.wl_desk.proofs.Painted.{each-kept}
-use Rattle.wl_desk.specs.Marks.{has_same_record}
-use Rattle.wl_desk.specs.declared.answers.Done.{Done}
-use Rattle.wl_desk.specs.declared.answers.Done.TheVariants as gave
-use Rattle.wl_desk.specs.declared.answers.Stored.TheVariants as stored
+use Rattle.wl_plain.specs.Desktop.{Desktop, Resident, become, client_at, owned_in, owned_of, windows_in}
+use Rattle.wl_plain.specs.Scratch.{bytes_now, color_in, pixel_at}
+use Rattle.wl_plain.proofs.Places.{client-become, left_by, other-become}
+use Rattle.wl_plain.proofs.Stacks.{Each, Fields, and-left, and-right, differ, each-map, fields, or-left, or-right, unless}
+use Rattle.wl_plain.proofs.Painted.{each-kept}
+use Rattle.wl_plain.specs.Marks.{has_same_record}
+use Rattle.wl_plain.specs.declared.answers.Done.{Done}
+use Rattle.wl_plain.specs.declared.answers.Done.TheVariants as gave
+use Rattle.wl_plain.specs.declared.answers.Stored.TheVariants as stored
 use Rattle.wl_session.specs.Promises.{KeepsBuffers, busy_of, bytes_by, bytes_in, is_hidden_in, is_rewritten_at, is_same_color, windows_by}
 use Rattle.wl_session.specs.StoreWrites.{PromisesAreEnough, WriteHidesNothing}
-use Rattle.wl_desk.specs.Steps.{ChangesAt, Connect, Feed, IsStored, Leave, Send, Close, Store, Tick, left_so}
+use Rattle.wl_plain.specs.Steps.{ChangesAt, Connect, Feed, IsStored, Leave, Send, Close, Store, Tick, left_so}
 
 -- ---- each window shows the buffer that its surface has applied
 

@@ -6,14 +6,14 @@ use Rattle.std.proofs.lemmas.Bool.{eqb-true}
 use Rattle.wl_store.specs.declared.color.Argb.{Argb}
 use Rattle.wl_blend.specs.declared.color.Rgb.{Rgb}
 use Rattle.wl_scene.specs.Windows.{contains}
-use Rattle.wl_desk.specs.Desktop.{Desktop, windows_in}
-use Rattle.wl_desk.specs.Laws.{ColorsStay}
+use Rattle.wl_plain.specs.Desktop.{Desktop, windows_in}
+use Rattle.wl_plain.specs.Laws.{ColorsStay}
 use Rattle.wl_client.specs.Told.{Output}
-use Rattle.wl_desk.specs.Marks.{in_output, has_same_record, is_changed_at, is_kept_in}
-use Rattle.wl_desk.specs.Moments.{applied_between, marks_at_least}
-use Rattle.wl_desk.specs.Scratch.{color_in, scratch}
-use Rattle.wl_desk.proofs.Painted.{contains-same, marked-none, scratch_stays}
-use Rattle.wl_desk.proofs.Stacks.{and-both, and-left, and-right, any-each, any-more, differ, each-false, equal-numbers, fields, or-left, or-right, same-number, unless}
+use Rattle.wl_plain.specs.Marks.{in_output, has_same_record, is_changed_at, is_kept_in}
+use Rattle.wl_plain.specs.Moments.{applied_between, marks_at_least}
+use Rattle.wl_plain.specs.Scratch.{color_in, scratch}
+use Rattle.wl_plain.proofs.Painted.{contains-same, marked-none, scratch_stays}
+use Rattle.wl_plain.proofs.Stacks.{and-both, and-left, and-right, any-each, any-more, differ, each-false, equal-numbers, fields, or-left, or-right, same-number, unless}
 use Rattle.wl_session.specs.Promises.{is_hidden_in, is_same_color, windows_by}
 use Rattle.wl_session.specs.Unmarked.{AllDamageBut, Event, Holds, IncrementalIsFromScratch, IsHonest, Moment, Shown, Stepped, ViewerSeesScratch, after, RepaintedIsRight, StaysRight, UnmarkedStays, ViewerHolds, covers_at, in_output_of, is_covered}
 

@@ -2,13 +2,13 @@
 -- as it was, and the output stays.
 use Rattle.std.specs.Prelude.{ℕ, ◌≡◌, ◌≢◌, List, [], ◌∷◌, ◌++◌, Some, Ok, Err}
 use Rattle.wl_client.specs.declared.clients.Cause.TheVariants as cause
-use Rattle.wl_desk.specs.Desktop.{Desktop, client_at}
-use Rattle.wl_desk.specs.Laws.{status_in, toplevels_of}
-use Rattle.wl_desk.specs.Served.{Unserved}
-use Rattle.wl_desk.specs.declared.answers.ConnectError.TheVariants.{Memory}
-use Rattle.wl_desk.specs.declared.answers.Done.{Done}
-use Rattle.wl_desk.specs.declared.answers.Done.TheVariants as gave
-use Rattle.wl_desk.specs.Steps.{Act, Connect, Feed, Store, Leave, Tick, Send, Close, Steps}
+use Rattle.wl_plain.specs.Desktop.{Desktop, client_at}
+use Rattle.wl_plain.specs.Laws.{status_in, toplevels_of}
+use Rattle.wl_plain.specs.Served.{Unserved}
+use Rattle.wl_plain.specs.declared.answers.ConnectError.TheVariants.{Memory}
+use Rattle.wl_plain.specs.declared.answers.Done.{Done}
+use Rattle.wl_plain.specs.declared.answers.Done.TheVariants as gave
+use Rattle.wl_plain.specs.Steps.{Act, Connect, Feed, Store, Leave, Tick, Send, Close, Steps}
 
 -- Two pieces of a stream, one after the other, lead where they lead as one, whichever requests are served.
 abbrev pub AnyPieces : Type 0

@@ -8,9 +8,9 @@ pub mod Viewer
 pub mod StoreWrites
 pub use Rattle.wl_client.specs.Peer
 pub use Rattle.wl_desk.specs.Agreement
-pub use Rattle.wl_desk.specs.Desktop
-pub use Rattle.wl_desk.specs.Served
-pub use Rattle.wl_desk.specs.Steps
+pub use Rattle.wl_plain.specs.Desktop
+pub use Rattle.wl_plain.specs.Served
+pub use Rattle.wl_plain.specs.Steps
 pub use Rattle.wl_paint.specs.Damage
 pub use Rattle.wl_paint.specs.Frame
 pub use Rattle.wl_paint.specs.Image

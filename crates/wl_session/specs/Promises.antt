@@ -10,11 +10,11 @@ use Rattle.wl_surface.specs.Request.{Buffer}
 use Rattle.wl_surface.specs.State.{applied, held}
 use Rattle.wl_surface.specs.Surfaces.{Surface, listed}
 use Rattle.wl_scene.specs.Windows.{Window, contains}
-use Rattle.wl_desk.specs.Desktop.{Desktop, Resident, client_at, owned_in, windows_in}
-use Rattle.wl_desk.specs.Marks.{has_same_record}
-use Rattle.wl_desk.specs.Moments.{applied_between}
-use Rattle.wl_desk.specs.Scratch.{color_in, pixel_at}
-use Rattle.wl_desk.specs.Steps.{Act, Store, Tick}
+use Rattle.wl_plain.specs.Desktop.{Desktop, Resident, client_at, owned_in, windows_in}
+use Rattle.wl_plain.specs.Marks.{has_same_record}
+use Rattle.wl_plain.specs.Moments.{applied_between}
+use Rattle.wl_plain.specs.Scratch.{color_in, pixel_at}
+use Rattle.wl_plain.specs.Steps.{Act, Store, Tick}
 
 abbrev pub is_same_color : Argb → Argb → Bool
 is_same_color c d = ((c.a == d.a) && (c.r == d.r)) && ((c.g == d.g) && (c.b == d.b))

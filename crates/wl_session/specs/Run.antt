@@ -2,15 +2,15 @@
 use Rattle.std.specs.List.{list_any}
 use Rattle.std.specs.Prelude.{ℕ, ◌≡◌, ◌+◌, ◌<◌, pos, List, [], ◌∷◌, ◌++◌, slice_get, Bool, true, false, ◌&&◌, ◌==◌, nat_le, nat_lt, IsTrue, IsSomeAnd}
 use Rattle.wl_paint.specs.Frame.{Image, color_at}
-use Rattle.wl_desk.specs.Desktop.{Desktop}
+use Rattle.wl_plain.specs.Desktop.{Desktop}
 use Rattle.wl_desk.specs.Painting.{IsOpaqueAsSaid}
-use Rattle.wl_desk.specs.Scratch.{scratch}
-use Rattle.wl_desk.specs.Served.{Unserved, beyond_toplevels}
-use Rattle.wl_desk.specs.Steps.{Act, Connect, Feed, Store, Leave, Tick, Send, Close, Steps}
+use Rattle.wl_plain.specs.Scratch.{scratch}
+use Rattle.wl_plain.specs.Served.{Unserved, beyond_toplevels}
+use Rattle.wl_plain.specs.Steps.{Act, Connect, Feed, Store, Leave, Tick, Send, Close, Steps}
 use Rattle.wl_session.specs.Step.{act_of}
 use Rattle.wl_desk.specs.Agreement.{Agrees}
 use Rattle.wl_session.specs.View.{SessionView}
-use Rattle.wl_desk.specs.declared.answers.Done.{Done}
+use Rattle.wl_plain.specs.declared.answers.Done.{Done}
 use Rattle.wl_session.specs.declared.steps.Step.{Step}
 use Rattle.wl_session.specs.declared.steps.RunError.{RunError}
 use Rattle.wl_session.specs.declared.steps.RunError.TheVariants.{Memory}

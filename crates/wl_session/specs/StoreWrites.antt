@@ -1,10 +1,10 @@
 -- What the promises of a step are worth.
 use Rattle.std.specs.Prelude.{ℕ, Bool, List}
-use Rattle.wl_desk.specs.Desktop.{Desktop}
-use Rattle.wl_desk.specs.Served.{Unserved}
-use Rattle.wl_desk.specs.declared.answers.Done.{Done}
+use Rattle.wl_plain.specs.Desktop.{Desktop}
+use Rattle.wl_plain.specs.Served.{Unserved}
+use Rattle.wl_plain.specs.declared.answers.Done.{Done}
 use Rattle.wl_session.specs.Promises.{KeepBut, KeepsBuffers, KeepsDamage}
-use Rattle.wl_desk.specs.Steps.{Act, Steps, Store}
+use Rattle.wl_plain.specs.Steps.{Act, Steps, Store}
 use Rattle.wl_session.specs.Unmarked.{AllDamageBut}
 
 -- A client whose busy buffers keep their colours in a store write hides no change in it (wayland.xml, wl_buffer.release).

@@ -3,10 +3,10 @@ use Rattle.std.specs.Prelude.{ℕ, ℤ, ◌≡◌, ◌&&◌, Bool, true, false, 
 use Rattle.std.specs.List.{list_any}
 use Rattle.wl_blend.specs.declared.color.Rgb.{Rgb}
 use Rattle.wl_scene.specs.Windows.{Window, contains}
-use Rattle.wl_desk.specs.Desktop.{Desktop, windows_in}
-use Rattle.wl_desk.specs.Marks.{AreDistinct, in_output}
-use Rattle.wl_desk.specs.Moments.{marks_at_least}
-use Rattle.wl_desk.specs.Scratch.{scratch}
+use Rattle.wl_plain.specs.Desktop.{Desktop, windows_in}
+use Rattle.wl_plain.specs.Marks.{AreDistinct, in_output}
+use Rattle.wl_plain.specs.Moments.{marks_at_least}
+use Rattle.wl_plain.specs.Scratch.{scratch}
 use Rattle.wl_session.specs.Promises.{KeepsDamage}
 
 -- a window of one of these clients covers the point

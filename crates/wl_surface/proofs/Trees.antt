@@ -109,6 +109,11 @@ pub row_above-free : applied_buffer 15 (desynchronised_in 1 (shows 15 21 third))
 unfolding applied_tree behaves_synchronised
 row_above-free = refl
 
+-- set_desync of one that behaves desynchronised already applies nothing, not what its child holds either
+pub row_free-again : applied_buffer 15 (desynchronised_in 1 (shows 15 21 (linked 2 15 14 (with_new 15 free)))) ≡ Some None
+unfolding applied_tree behaves_synchronised
+row_free-again = refl
+
 -- depth, height and descent
 pub row_depth : depth levels third 15 ≡ 2
 unfolding depth applied_tree behaves_synchronised

@@ -1,7 +1,7 @@
 use Rattle.std.proofs.Common.{false, ap, sym, ◌∙◌}
 use Rattle.std.proofs.lemmas.List.{length-set}
-use Rattle.wl_desk.specs.Steps.{IsLeft}
-use Rattle.wl_desk.specs.declared.answers.Done.TheVariants as gave
+use Rattle.wl_plain.specs.Steps.{IsLeft}
+use Rattle.wl_plain.specs.declared.answers.Done.TheVariants as gave
 use Rattle.wl_desk.proofs.Calls.{Changes-none, changes, changes-untaken, found}
 use Rattle.wl_desk.proofs.MarkedCalls.{changes-marks, past-marks, untaken-marks}
 use Rattle.wl_desk.proofs.desks.Desk.gone.Goals as goal

@@ -1,8 +1,8 @@
 use Rattle.std.proofs.Common.{ap, sym, ◌∙◌}
 use Rattle.std.proofs.lemmas.List.{length-set}
-use Rattle.wl_desk.specs.Steps.{IsStored}
-use Rattle.wl_desk.specs.declared.answers.Done.TheVariants as gave
-use Rattle.wl_desk.specs.declared.answers.Stored.TheVariants as stored
+use Rattle.wl_plain.specs.Steps.{IsStored}
+use Rattle.wl_plain.specs.declared.answers.Done.TheVariants as gave
+use Rattle.wl_plain.specs.declared.answers.Stored.TheVariants as stored
 use Rattle.wl_desk.proofs.Calls.{Changes-none, changes, changes-untaken, found}
 use Rattle.wl_desk.proofs.MarkedCalls.{changes-marks, past-marks, untaken-marks}
 use Rattle.wl_desk.proofs.desks.Desk.store.Goals as goal

@@ -2,12 +2,12 @@ use Rattle.std.proofs.Common.{[], ◌∷◌, ap, inr, refl, subst, sym}
 use Rattle.wl_wire.specs.Wire.{Word}
 use Rattle.wl_client.specs.Peer.{counted}
 use Rattle.wl_shell.specs.Kept.{acknowledgement_answer, kept_of}
-use Rattle.wl_desk.specs.Ask.{Acknowledge}
-use Rattle.wl_desk.specs.Owning.{IsOwned, Names, names_in, shell_refusal}
-use Rattle.wl_desk.specs.Step.{changed_by}
-use Rattle.wl_desk.specs.XdgShell.{acknowledged_by}
-use Rattle.wl_desk.proofs.OwningAsks.{owned-acknowledged}
-use Rattle.wl_desk.proofs.OwningReads.{acknowledged-by}
+use Rattle.wl_plain.specs.Ask.{Acknowledge}
+use Rattle.wl_plain.specs.Owning.{IsOwned, Names, names_in, shell_refusal}
+use Rattle.wl_plain.specs.Step.{changed_by}
+use Rattle.wl_plain.specs.XdgShell.{acknowledged_by}
+use Rattle.wl_plain.proofs.OwningAsks.{owned-acknowledged}
+use Rattle.wl_plain.proofs.OwningReads.{acknowledged-by}
 use Rattle.wl_desk.proofs.Shelling.{accepted, names-counted, told-err, told-ok, xdg-answered, xdg-refused}
 use Rattle.wl_desk.proofs.Numbers.{keeps-names}
 use Rattle.wl_desk.proofs.residents.Resident.ack_configure.Goals as goal

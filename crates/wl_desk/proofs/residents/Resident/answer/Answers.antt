@@ -2,8 +2,8 @@ use Rattle.std.proofs.Common.{subst, sym}
 use Rattle.wl_proto.specs.Messages.{Message}
 use Rattle.wl_desk.specs.declared.residents.Stacking.TheVariants.{Stays}
 use Rattle.wl_desk.specs.Residents.{StacksSo}
-use Rattle.wl_desk.specs.Served.{beyond_toplevels}
-use Rattle.wl_desk.specs.Step.{ask_of}
+use Rattle.wl_plain.specs.Served.{beyond_toplevels}
+use Rattle.wl_plain.specs.Step.{ask_of}
 use Rattle.wl_desk.proofs.Stackings.{xdg-stays}
 use Rattle.wl_desk.proofs.residents.Resident.answer.Goals as goal
 

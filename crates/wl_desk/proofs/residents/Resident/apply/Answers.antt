@@ -5,14 +5,14 @@ use Rattle.wl_client.specs.View.{ClientView}
 use Rattle.wl_shell.specs.Kept.{Kept, changing, kept_after, kept_of}
 use Rattle.wl_surface.specs.Request.{Commit}
 use Rattle.wl_surface.specs.Surfaces.{applying, asking, surface_at}
-use Rattle.wl_desk.specs.Ask.{CommitSurface}
-use Rattle.wl_desk.specs.Owning.{effect_by, names_in}
+use Rattle.wl_plain.specs.Ask.{CommitSurface}
+use Rattle.wl_plain.specs.Owning.{effect_by, names_in}
 use Rattle.wl_desk.specs.Residents.{told_by}
-use Rattle.wl_desk.specs.Step.{after_surface, changed_by, committed_on}
+use Rattle.wl_plain.specs.Step.{after_surface, changed_by, committed_on}
 use Rattle.wl_desk.proofs.Committing.{commit-peer, commit-told}
 use Rattle.wl_desk.proofs.Doing.{had-by, lacked}
-use Rattle.wl_desk.proofs.OwningAsks.{owned-committed-by}
-use Rattle.wl_desk.proofs.OwningSurfaces.{AreKept-changed}
+use Rattle.wl_plain.proofs.OwningAsks.{owned-committed-by}
+use Rattle.wl_plain.proofs.OwningSurfaces.{AreKept-changed}
 use Rattle.wl_desk.proofs.Shelling.{owns-told}
 use Rattle.wl_desk.proofs.Numbers.{keeps-same}
 use Rattle.wl_desk.proofs.residents.Resident.apply.Goals as goal

@@ -3,11 +3,11 @@ use Rattle.std.proofs.lemmas.Int.{to_z-of_z}
 use Rattle.wl_shell.specs.Kept.{kept_of}
 use Rattle.wl_surface.specs.Request.{Attach}
 use Rattle.wl_surface.specs.Surfaces.{surface_at}
-use Rattle.wl_desk.specs.Owning.{names_in}
-use Rattle.wl_desk.specs.Step.{after_surface, asked_of}
-use Rattle.wl_desk.specs.WlSurface.{buffer_named}
+use Rattle.wl_plain.specs.Owning.{names_in}
+use Rattle.wl_plain.specs.Step.{after_surface, asked_of}
+use Rattle.wl_plain.specs.WlSurface.{buffer_named}
 use Rattle.wl_desk.proofs.Doing.{had-by, let-go-so}
-use Rattle.wl_desk.proofs.OwningAsks.{owned-asked}
+use Rattle.wl_plain.proofs.OwningAsks.{owned-asked}
 use Rattle.wl_desk.proofs.residents.Resident.attach.Goals as goal
 
 pub returns-clause-does : goal.returns-clause-does

@@ -3,11 +3,11 @@ use Rattle.std.specs.Prelude.{Err}
 use Rattle.wl_client.specs.Peer.{counted}
 use Rattle.wl_shell.specs.Kept.{changing, commit_answer, kept_after, kept_of}
 use Rattle.wl_shell.specs.declared.acts.ShellAct.{ShellAct}
-use Rattle.wl_desk.specs.Ask.{CommitSurface}
-use Rattle.wl_desk.specs.Owning.{asks_by, effect_by, kept_base, kept_id, names_in, shell_refusal}
-use Rattle.wl_desk.specs.Step.{with_peer}
-use Rattle.wl_desk.specs.WlSurface.{surface_committed, will_show}
-use Rattle.wl_desk.proofs.OwningReads.{committed-by, pending-read}
+use Rattle.wl_plain.specs.Ask.{CommitSurface}
+use Rattle.wl_plain.specs.Owning.{asks_by, effect_by, kept_base, kept_id, names_in, shell_refusal}
+use Rattle.wl_plain.specs.Step.{with_peer}
+use Rattle.wl_plain.specs.WlSurface.{surface_committed, will_show}
+use Rattle.wl_plain.proofs.OwningReads.{committed-by, pending-read}
 use Rattle.wl_desk.proofs.Stackings.{commit-stacks}
 use Rattle.wl_desk.proofs.Numbers.{left-from}
 use Rattle.wl_desk.proofs.Shelling.{accepted, names-counted, objects-counted, refused, told-err}

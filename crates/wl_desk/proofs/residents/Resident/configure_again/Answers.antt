@@ -5,11 +5,11 @@ use Rattle.wl_client.specs.Told.{Said}
 use Rattle.wl_client.specs.View.{ClientView}
 use Rattle.wl_shell.specs.Kept.{Kept as KeptXdg, changing, configure_answer, kept_configured, kept_configuring, kept_of}
 use Rattle.wl_shell.specs.Shell.{next_serial}
-use Rattle.wl_desk.specs.Owning.{IsOwned, Names, kept_id, names_in, shell_refusal}
-use Rattle.wl_desk.specs.Ask.{ConfigureAgain, Ignore}
-use Rattle.wl_desk.specs.XdgShell.{toplevel_ask_of}
-use Rattle.wl_desk.proofs.OwningAsks.{owned-configured}
-use Rattle.wl_desk.proofs.OwningReads.{configured-by}
+use Rattle.wl_plain.specs.Owning.{IsOwned, Names, kept_id, names_in, shell_refusal}
+use Rattle.wl_plain.specs.Ask.{ConfigureAgain, Ignore}
+use Rattle.wl_plain.specs.XdgShell.{toplevel_ask_of}
+use Rattle.wl_plain.proofs.OwningAsks.{owned-configured}
+use Rattle.wl_plain.proofs.OwningReads.{configured-by}
 use Rattle.wl_desk.proofs.Shelling.{accepted, changing-same, drawn, events-told, names-counted, owns-told, refused-again, told-again, toplevel-answered, xdg-refused}
 use Rattle.wl_desk.proofs.Numbers.{keeps-names}
 use Rattle.wl_desk.proofs.residents.Resident.configure_again.Goals as goal

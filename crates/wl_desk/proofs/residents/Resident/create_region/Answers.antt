@@ -1,10 +1,10 @@
 use Rattle.std.proofs.Common.{◌≡◌, Some, None, refl, subst, sym}
 use Rattle.wl_client.specs.Objects.{entry_at_version}
-use Rattle.wl_desk.proofs.OwningNames.{names-other-made}
+use Rattle.wl_plain.proofs.OwningNames.{names-other-made}
 use Rattle.wl_proto.specs.declared.interface.Interface.TheVariants.{WlRegion}
 use Rattle.wl_client.specs.Peer.{counted}
 use Rattle.wl_shell.specs.Kept.{kept_of}
-use Rattle.wl_desk.specs.Owning.{IsOwned, Names}
+use Rattle.wl_plain.specs.Owning.{IsOwned, Names}
 use Rattle.wl_desk.proofs.Numbers.{keeps-names}
 use Rattle.wl_desk.proofs.Shelling.{holds-counted}
 use Rattle.wl_desk.proofs.residents.Resident.create_region.Goals as goal

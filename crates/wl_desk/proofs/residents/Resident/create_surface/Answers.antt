@@ -4,16 +4,16 @@ use Rattle.wl_client.specs.Peer.{counted}
 use Rattle.wl_shell.specs.Kept.{kept_of}
 use Rattle.std.specs.Prelude.{Result}
 use Rattle.wl_client.specs.declared.refusals.Refusal.{Refusal}
-use Rattle.wl_desk.specs.Ask.{Ask, CreateSurface}
+use Rattle.wl_plain.specs.Ask.{Ask, CreateSurface}
 use Rattle.wl_desk.specs.Residents.{AnswersSo}
-use Rattle.wl_desk.specs.Owning.{names_in}
-use Rattle.wl_desk.specs.Step.{changed_by, with_peer}
-use Rattle.wl_desk.specs.WlSurface.{surface_created}
+use Rattle.wl_plain.specs.Owning.{names_in}
+use Rattle.wl_plain.specs.Step.{changed_by, with_peer}
+use Rattle.wl_plain.specs.WlSurface.{surface_created}
 use Rattle.wl_desk.proofs.Doing.{lacked}
 use Rattle.wl_desk.proofs.Numbers.{keeps-made}
-use Rattle.wl_desk.proofs.OwningAsks.{owned-created}
-use Rattle.wl_desk.proofs.OwningNames.{names-surface-made, targets-free}
-use Rattle.wl_desk.proofs.Creating.{created-past, created-short, created-within}
+use Rattle.wl_plain.proofs.OwningAsks.{owned-created}
+use Rattle.wl_plain.proofs.OwningNames.{names-surface-made, targets-free}
+use Rattle.wl_plain.proofs.Creating.{created-past, created-short, created-within}
 use Rattle.wl_desk.proofs.Shelling.{accepted, holds-counted}
 use Rattle.wl_desk.proofs.residents.Resident.create_surface.Goals as goal
 

@@ -2,11 +2,11 @@ use Rattle.std.proofs.Common.{Bool, ap, sym, refl, ◌∙◌}
 use Rattle.std.specs.Prelude.{Ok, if◌then◌else◌}
 use Rattle.wl_shell.specs.Kept.{kept_of}
 use Rattle.wl_client.specs.declared.refusals.ErrorCode.TheVariants.{SurfaceHasRoleObject}
-use Rattle.wl_desk.specs.Ask.{DestroySurface}
-use Rattle.wl_desk.specs.Desktop.{Resident}
-use Rattle.wl_desk.specs.Owning.{names_in}
-use Rattle.wl_desk.specs.WlSurface.{refuse, surface_destroyed}
-use Rattle.wl_desk.proofs.OwningReads.{destroyed-by}
+use Rattle.wl_plain.specs.Ask.{DestroySurface}
+use Rattle.wl_plain.specs.Desktop.{Resident}
+use Rattle.wl_plain.specs.Owning.{names_in}
+use Rattle.wl_plain.specs.WlSurface.{refuse, surface_destroyed}
+use Rattle.wl_plain.proofs.OwningReads.{destroyed-by}
 use Rattle.wl_desk.proofs.Shelling.{absent-kept, accepted, counted-does, refused-so, surface-counted}
 use Rattle.wl_desk.proofs.residents.Resident.destroy.Goals as goal
 

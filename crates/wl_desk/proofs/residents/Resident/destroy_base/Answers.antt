@@ -1,11 +1,11 @@
 use Rattle.std.proofs.Common.{refl}
 use Rattle.wl_client.specs.declared.refusals.ErrorCode.TheVariants.{DefunctSurfaces}
 use Rattle.wl_shell.specs.Kept.{kept_of}
-use Rattle.wl_desk.specs.Ask.{DestroyBase}
-use Rattle.wl_desk.specs.Desktop.{Resident}
-use Rattle.wl_desk.specs.Owning.{names_in}
-use Rattle.wl_desk.specs.XdgShell.{base_destroyed}
-use Rattle.wl_desk.proofs.OwningReads.{base-unused, base-used}
+use Rattle.wl_plain.specs.Ask.{DestroyBase}
+use Rattle.wl_plain.specs.Desktop.{Resident}
+use Rattle.wl_plain.specs.Owning.{names_in}
+use Rattle.wl_plain.specs.XdgShell.{base_destroyed}
+use Rattle.wl_plain.proofs.OwningReads.{base-unused, base-used}
 use Rattle.wl_desk.proofs.Shelling.{accepted, base-held, counted-does, refused-so}
 use Rattle.wl_desk.proofs.residents.Resident.destroy_base.Goals as goal
 

@@ -2,12 +2,12 @@ use Rattle.std.proofs.Common.{◌≡◌, None, ap, refl, inl, inr}
 use Rattle.wl_client.specs.View.{ClientView}
 use Rattle.wl_shell.specs.Kept.{kept_of}
 use Rattle.wl_surface.specs.Surfaces.{surface_at, without_surface}
-use Rattle.wl_desk.specs.Owning.{Names, names_in, with_surface}
-use Rattle.wl_desk.specs.Step.{after_surface, with_surfaces}
+use Rattle.wl_plain.specs.Owning.{Names, names_in, with_surface}
+use Rattle.wl_plain.specs.Step.{after_surface, with_surfaces}
 use Rattle.wl_desk.proofs.Doing.{had-by, lacked}
-use Rattle.wl_desk.proofs.OwningAsks.{owned-destroyed}
+use Rattle.wl_plain.proofs.OwningAsks.{owned-destroyed}
 use Rattle.wl_desk.proofs.Shelling.{surface-gone}
-use Rattle.wl_desk.proofs.OwningXdg.{xdg-of-none}
+use Rattle.wl_plain.proofs.OwningXdg.{xdg-of-none}
 use Rattle.wl_desk.proofs.Numbers.{keeps-gone}
 use Rattle.wl_desk.proofs.residents.Resident.destroy_surface.Goals as goal
 

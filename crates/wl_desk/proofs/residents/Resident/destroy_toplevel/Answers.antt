@@ -1,8 +1,8 @@
 use Rattle.std.proofs.Common.{None, inr}
 use Rattle.wl_shell.specs.Kept.{kept_of}
 use Rattle.wl_client.specs.Peer.{counted}
-use Rattle.wl_desk.specs.Owning.{names_in}
-use Rattle.wl_desk.proofs.OwningAsks.{owned-toplevel-gone}
+use Rattle.wl_plain.specs.Owning.{names_in}
+use Rattle.wl_plain.proofs.OwningAsks.{owned-toplevel-gone}
 use Rattle.wl_desk.proofs.Shelling.{toplevel-answered, toplevel-gone}
 use Rattle.wl_desk.proofs.Numbers.{keeps-toplevel}
 use Rattle.wl_desk.proofs.residents.Resident.destroy_toplevel.Goals as goal

@@ -2,12 +2,12 @@ use Rattle.std.proofs.Common.{[], ◌≡◌, ap, inr, subst, sym, ◌∙◌}
 use Rattle.std.specs.Prelude.{Ok, None}
 use Rattle.wl_client.specs.Peer.{counted}
 use Rattle.wl_shell.specs.Kept.{destruction_answer, kept_of}
-use Rattle.wl_desk.specs.Ask.{DestroyXdgSurface}
-use Rattle.wl_desk.specs.Owning.{IsOwned, names_in, shell_refusal, with_xdg}
-use Rattle.wl_desk.specs.Step.{changed_by, with_peer}
-use Rattle.wl_desk.specs.XdgShell.{xdg_surface_destroyed}
-use Rattle.wl_desk.proofs.OwningAsks.{owned-xdg-gone}
-use Rattle.wl_desk.proofs.OwningReads.{bare-destroyed, xdg-destroyed-by}
+use Rattle.wl_plain.specs.Ask.{DestroyXdgSurface}
+use Rattle.wl_plain.specs.Owning.{IsOwned, names_in, shell_refusal, with_xdg}
+use Rattle.wl_plain.specs.Step.{changed_by, with_peer}
+use Rattle.wl_plain.specs.XdgShell.{xdg_surface_destroyed}
+use Rattle.wl_plain.proofs.OwningAsks.{owned-xdg-gone}
+use Rattle.wl_plain.proofs.OwningReads.{bare-destroyed, xdg-destroyed-by}
 use Rattle.wl_desk.proofs.Shelling.{accepted, told-err, told-ok, xdg-answered, xdg-gone, xdg-refused}
 use Rattle.wl_desk.proofs.Numbers.{keeps-xdg}
 use Rattle.wl_desk.proofs.residents.Resident.destroy_xdg_surface.Goals as goal

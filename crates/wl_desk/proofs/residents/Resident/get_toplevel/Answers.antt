@@ -4,13 +4,13 @@ use Rattle.wl_proto.specs.declared.interface.Interface.TheVariants.{XdgToplevel}
 use Rattle.wl_wire.specs.Wire.{Word}
 use Rattle.wl_client.specs.Peer.{counted}
 use Rattle.wl_shell.specs.Kept.{kept_of, toplevel_answer}
-use Rattle.wl_desk.specs.Ask.{GetToplevel}
-use Rattle.wl_desk.specs.Owning.{names_in, shell_refusal}
-use Rattle.wl_desk.specs.Step.{with_peer}
-use Rattle.wl_desk.specs.XdgShell.{is_no_toplevel, role_of, toplevel_made}
-use Rattle.wl_desk.proofs.OwningAsks.{owned-toplevel-made}
-use Rattle.wl_desk.proofs.OwningNames.{names-toplevel-made, targets-free}
-use Rattle.wl_desk.proofs.OwningReads.{bare-toplevel, role-read, toplevel-made-by}
+use Rattle.wl_plain.specs.Ask.{GetToplevel}
+use Rattle.wl_plain.specs.Owning.{names_in, shell_refusal}
+use Rattle.wl_plain.specs.Step.{with_peer}
+use Rattle.wl_plain.specs.XdgShell.{is_no_toplevel, role_of, toplevel_made}
+use Rattle.wl_plain.proofs.OwningAsks.{owned-toplevel-made}
+use Rattle.wl_plain.proofs.OwningNames.{names-toplevel-made, targets-free}
+use Rattle.wl_plain.proofs.OwningReads.{bare-toplevel, role-read, toplevel-made-by}
 use Rattle.wl_desk.proofs.Shelling.{accepted, acts-given, holds-counted, role-given, told-err, told-ok, xdg-answered, xdg-refused}
 use Rattle.wl_desk.proofs.Numbers.{keeps-toplevel}
 use Rattle.wl_desk.proofs.residents.Resident.get_toplevel.Goals as goal

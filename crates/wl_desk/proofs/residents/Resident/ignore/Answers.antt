@@ -1,7 +1,7 @@
 use Rattle.std.proofs.Common.{refl, subst, sym}
 use Rattle.wl_client.specs.Peer.{counted}
 use Rattle.wl_shell.specs.Kept.{kept_of}
-use Rattle.wl_desk.specs.Owning.{IsOwned, Names}
+use Rattle.wl_plain.specs.Owning.{IsOwned, Names}
 use Rattle.wl_desk.proofs.Shelling.{names-counted}
 use Rattle.wl_desk.proofs.Numbers.{keeps-names}
 use Rattle.wl_desk.proofs.residents.Resident.ignore.Goals as goal

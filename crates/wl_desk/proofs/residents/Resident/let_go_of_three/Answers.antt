@@ -4,10 +4,10 @@ use Rattle.wl_store.specs.Stores.{Stock}
 use Rattle.wl_client.specs.Agreement.{IsPeer}
 use Rattle.wl_surface.specs.Kept.{buffer_of}
 use Rattle.std.specs.Prelude.{◌||◌}
-use Rattle.wl_desk.specs.Releases.{let_if, same_number}
-use Rattle.wl_desk.specs.Step.{is_over, with_peer}
+use Rattle.wl_plain.specs.Releases.{let_if, same_number}
+use Rattle.wl_plain.specs.Step.{is_over, with_peer}
 use Rattle.wl_desk.proofs.Doing.{kept-there, one-let}
-use Rattle.wl_desk.proofs.Releases.{three-go}
+use Rattle.wl_plain.proofs.Releases.{three-go}
 use Rattle.wl_desk.proofs.residents.Resident.let_go_of_three.Goals as goal
 
 pub returns-clause-stores : goal.returns-clause-stores

@@ -1,7 +1,7 @@
 use Rattle.std.proofs.Common.{refl}
 use Rattle.wl_client.specs.Told.{display_error}
 use Rattle.wl_client.specs.declared.refusals.ErrorCode.TheVariants.{Implementation}
-use Rattle.wl_desk.specs.WlSurface.{refuse_limit}
+use Rattle.wl_plain.specs.WlSurface.{refuse_limit}
 use Rattle.wl_desk.proofs.Shelling.{refused-so}
 use Rattle.wl_desk.proofs.residents.Resident.refuse_unserved.Goals as goal
 

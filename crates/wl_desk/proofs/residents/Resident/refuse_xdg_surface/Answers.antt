@@ -2,7 +2,7 @@ use Rattle.std.proofs.Common.{◌∙◌, ap, subst}
 use Rattle.wl_client.specs.Agreement.{IsPeer}
 use Rattle.wl_client.specs.Peer.{Errs, Peer}
 use Rattle.wl_client.specs.declared.refusals.Refusal.{Refusal}
-use Rattle.wl_desk.specs.Owning.{shell_refusal}
+use Rattle.wl_plain.specs.Owning.{shell_refusal}
 use Rattle.wl_desk.proofs.residents.Resident.refuse_xdg_surface.Goals as goal
 
 pub returns-clause-errs : goal.returns-clause-errs

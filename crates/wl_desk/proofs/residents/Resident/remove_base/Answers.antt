@@ -1,6 +1,6 @@
 use Rattle.std.proofs.Common.{inr, sym, subst}
 use Rattle.wl_shell.specs.Kept.{kept_of}
-use Rattle.wl_desk.specs.Owning.{IsOwned, Names}
+use Rattle.wl_plain.specs.Owning.{IsOwned, Names}
 use Rattle.wl_desk.proofs.Shelling.{base-gone}
 use Rattle.wl_desk.proofs.Numbers.{keeps-names}
 use Rattle.wl_desk.proofs.residents.Resident.remove_base.Goals as goal

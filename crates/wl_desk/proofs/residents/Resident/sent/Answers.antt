@@ -1,6 +1,6 @@
 use Rattle.std.proofs.Common.{ap, refl}
 use Rattle.wl_client.specs.Peer.{sent_by}
-use Rattle.wl_desk.specs.declared.answers.Done.TheVariants as gave
+use Rattle.wl_plain.specs.declared.answers.Done.TheVariants as gave
 use Rattle.wl_desk.proofs.Seats.{marks-left}
 use Rattle.wl_desk.proofs.Telling.{told-seated, told-sent}
 use Rattle.wl_desk.proofs.residents.Resident.sent.Goals as goal

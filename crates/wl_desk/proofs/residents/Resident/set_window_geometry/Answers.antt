@@ -3,12 +3,12 @@ use Rattle.wl_wire.specs.Wire.{Number}
 use Rattle.wl_client.specs.Peer.{counted}
 use Rattle.wl_surface.specs.Request.{SetWindowGeometry}
 use Rattle.wl_shell.specs.Kept.{geometry_answer, kept_of}
-use Rattle.wl_desk.specs.Ask.{AskSurface}
-use Rattle.wl_desk.specs.Owning.{IsOwned, Names, names_in, shell_refusal}
-use Rattle.wl_desk.specs.Step.{changed_by, with_peer}
-use Rattle.wl_desk.specs.XdgShell.{geometry_set}
-use Rattle.wl_desk.proofs.OwningAsks.{owned-geometry}
-use Rattle.wl_desk.proofs.OwningReads.{geometry-set-by}
+use Rattle.wl_plain.specs.Ask.{AskSurface}
+use Rattle.wl_plain.specs.Owning.{IsOwned, Names, names_in, shell_refusal}
+use Rattle.wl_plain.specs.Step.{changed_by, with_peer}
+use Rattle.wl_plain.specs.XdgShell.{geometry_set}
+use Rattle.wl_plain.proofs.OwningAsks.{owned-geometry}
+use Rattle.wl_plain.proofs.OwningReads.{geometry-set-by}
 use Rattle.wl_desk.proofs.Shelling.{accepted, geometry-keeps, names-counted, told-err, told-ok, xdg-answered, xdg-refused}
 use Rattle.wl_desk.proofs.Numbers.{keeps-names}
 use Rattle.wl_desk.proofs.residents.Resident.set_window_geometry.Goals as goal

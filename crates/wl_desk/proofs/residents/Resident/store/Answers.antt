@@ -1,6 +1,6 @@
 use Rattle.std.proofs.Common.{ap, refl}
 use Rattle.wl_client.specs.Peer.{stored_at}
-use Rattle.wl_desk.specs.declared.answers.Done.TheVariants as gave
+use Rattle.wl_plain.specs.declared.answers.Done.TheVariants as gave
 use Rattle.wl_desk.proofs.Seats.{marks-left}
 use Rattle.wl_desk.proofs.Telling.{told-stored, told-seated}
 use Rattle.wl_desk.proofs.residents.Resident.store.Goals as goal

@@ -3,9 +3,9 @@ use Rattle.std.specs.Prelude.{Ok, if◌then◌else◌, unsigned_abs}
 use Rattle.std.proofs.lemmas.Int.{to_z-of_z}
 use Rattle.wl_client.specs.declared.refusals.ErrorCode.TheVariants.{InvalidTransform}
 use Rattle.wl_surface.specs.Request.{SetBufferTransform}
-use Rattle.wl_desk.specs.Ask.{AskSurface}
-use Rattle.wl_desk.specs.Desktop.{Resident}
-use Rattle.wl_desk.specs.WlSurface.{refuse, transform_set}
+use Rattle.wl_plain.specs.Ask.{AskSurface}
+use Rattle.wl_plain.specs.Desktop.{Resident}
+use Rattle.wl_plain.specs.WlSurface.{refuse, transform_set}
 use Rattle.wl_desk.proofs.Shelling.{accepted, counted-does, refused-so, surface-counted}
 use Rattle.wl_desk.proofs.residents.Resident.transform.Goals as goal
 

@@ -1,8 +1,8 @@
 use Rattle.std.proofs.Common.{arith}
 use Rattle.wl_client.specs.declared.refusals.ErrorCode.TheVariants.{MissingCapability}
 use Rattle.wl_proto.specs.Messages.{wl_seat_request}
-use Rattle.wl_desk.specs.Served.{beyond_toplevels}
-use Rattle.wl_desk.specs.Step.{ask_of}
+use Rattle.wl_plain.specs.Served.{beyond_toplevels}
+use Rattle.wl_plain.specs.Step.{ask_of}
 use Rattle.wl_desk.proofs.Asking.{seat-refused}
 use Rattle.wl_desk.proofs.Shelling.{refused-so}
 use Rattle.wl_desk.proofs.residents.Resident.wl_seat.Goals as goal

@@ -3,9 +3,9 @@ use Rattle.std.specs.Prelude.{FitsSigned}
 use Rattle.std.proofs.lemmas.Int.{to_z-of_z}
 use Rattle.wl_geom.specs.declared.rect.Rect.{Rect}
 use Rattle.wl_surface.specs.Request.{Attach, Damage, SetInputRegion, SetOpaqueRegion}
-use Rattle.wl_desk.specs.Ask.{AskSurface}
-use Rattle.wl_desk.specs.Desktop.{Resident}
-use Rattle.wl_desk.specs.WlSurface.{buffer_named, region_named}
+use Rattle.wl_plain.specs.Ask.{AskSurface}
+use Rattle.wl_plain.specs.Desktop.{Resident}
+use Rattle.wl_plain.specs.WlSurface.{buffer_named, region_named}
 use Rattle.wl_desk.proofs.Shelling.{counted-does, surface-counted}
 use Rattle.wl_desk.proofs.residents.Resident.wl_surface.Goals as goal
 

@@ -1,7 +1,7 @@
 use Rattle.std.proofs.Common.{ℕ, subst, sym}
 use Rattle.wl_desk.specs.declared.residents.Stacking.TheVariants.{Out}
 use Rattle.wl_desk.specs.Residents.{StacksSo}
-use Rattle.wl_desk.specs.XdgShell.{toplevel_ask}
+use Rattle.wl_plain.specs.XdgShell.{toplevel_ask}
 use Rattle.wl_desk.proofs.Stackings.{destruction-opcode, toplevel-out}
 use Rattle.wl_desk.proofs.residents.Resident.xdg_toplevel.Goals as goal
 

@@ -1,9 +1,9 @@
 use Rattle.std.proofs.Common.{◌≡◌, ℕ, length}
 use Rattle.wl_desk.specs.Agreement.{Agrees}
-use Rattle.wl_desk.specs.Desktop.{Desktop}
+use Rattle.wl_plain.specs.Desktop.{Desktop}
 use Rattle.wl_desk.specs.Feeding.{rest_in}
-use Rattle.wl_desk.specs.Served.{beyond_toplevels}
-use Rattle.wl_desk.specs.Step.{Reaches}
+use Rattle.wl_plain.specs.Served.{beyond_toplevels}
+use Rattle.wl_plain.specs.Step.{Reaches}
 use Rattle.wl_session.proofs.sessions.Session.serve_all.Given as goal
 
 -- so many messages were taken

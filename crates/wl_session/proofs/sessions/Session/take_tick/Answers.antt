@@ -1,5 +1,5 @@
 use Rattle.std.proofs.Common.{[], ◌∷◌, refl}
-use Rattle.wl_desk.specs.declared.answers.Done.TheVariants as gave
+use Rattle.wl_plain.specs.declared.answers.Done.TheVariants as gave
 use Rattle.wl_session.proofs.sessions.Session.take_tick.Goals as goal
 
 pub returns-in-Ok-clause-taken : goal.returns-in-Ok-clause-taken

@@ -1,0 +1,223 @@
+-- What a piece of a client's leaves to the others.
+use Rattle.std.proofs.Common.{◌≡◌, ◌≢◌, ℕ, zero, suc, List, [], ◌∷◌, ◌++◌, Bool, true, false, Option, Some, None, Result, refl, ap, sym, ◌∙◌, inl, inr}
+use Rattle.std.specs.Prelude.{Ok, Err, ◌==◌, ◌&&◌, not, cond, filter}
+use Rattle.std.proofs.lemmas.Bool.{eqb-true}
+use Rattle.wl_wire.specs.Wire.{split_of}
+use Rattle.wl_wire.specs.declared.header.Split.{Split}
+use Rattle.wl_wire.specs.declared.header.Split.TheVariants.{Message, More, Bad}
+use Rattle.wl_client.specs.declared.clients.Cause.{Cause}
+use Rattle.wl_client.specs.declared.clients.Cause.TheVariants.{Memory}
+use Rattle.wl_client.specs.Peer.{Peer, LacksMemory, ended, with_rest}
+use Rattle.wl_shell.specs.Shell.{Effect, Stays, Unconfigured, Configures, Maps, Unmaps}
+use Rattle.wl_scene.specs.Stacking.{Standing, is_of, with_mapped}
+use Rattle.wl_plain.specs.Ask.{Ask, Own, CreateSurface, DestroySurface, AskSurface, CommitSurface, DestroyBase, GetXdgSurface, DestroyXdgSurface, GetToplevel, Acknowledge, ConfigureAgain, DestroyToplevel, Ignore}
+use Rattle.wl_plain.specs.Desktop.{Desktop, Resident, become, become_by, client_at, client_in}
+use Rattle.wl_plain.specs.Laws.{OthersStay, toplevels_of}
+use Rattle.wl_plain.specs.Served.{Unserved}
+use Rattle.wl_plain.specs.Step.{Answers, Becomes, FeedsAt, Reaches, ServesAt, StopsAt, Takes, WantsOr, changed_by, stacked, takes_memory}
+use Rattle.wl_plain.proofs.Places.{other-become, stacked-clients}
+
+abbrev of : ℕ → List Standing → List Standing
+of c standing = filter (λ s. s.client == c) standing
+
+-- what is another client's isn't this one's
+apart : (a c other : ℕ) → c ≢ other → (a == other) ≡ true → (a == c) ≡ false
+apart a c other differ h = at (a == c) refl
+  where
+    at : (b : Bool) → (a == c) ≡ b → (a == c) ≡ false
+    at false e = e
+    at true e = absurd (differ (sym (eqb-true a c e) ∙ eqb-true a other h))
+
+left_out-at : (b o : Bool) (s : Standing) (xs ys : List Standing) (other : ℕ) → (s.client == other) ≡ o → (o ≡ true → b ≡ true) → of other xs ≡ of other ys → of other (cond b (s ∷ xs) xs) ≡ cond o (s ∷ of other ys) (of other ys)
+left_out-at true true s xs ys other f keeps e = rw f (ap (λ (zs : List Standing). s ∷ zs) e)
+left_out-at true false s xs ys other f keeps e = rw f e
+left_out-at false false s xs ys other f keeps e = e
+left_out-at false true s xs ys other f keeps e = let k = keeps refl in absurd (cc)
+
+-- to leave out what isn't another client's leaves that client's as it is
+pub left_out : (test : Standing → Bool) (other : ℕ) → ((s : Standing) → (s.client == other) ≡ true → test s ≡ true) → (standing : List Standing) → of other (filter test standing) ≡ of other standing
+left_out test other keeps [] = refl
+left_out test other keeps (s ∷ ss) = left_out-at (test s) (s.client == other) s (filter test ss) ss other refl (keeps s) (left_out test other keeps ss)
+
+pub one_client : (c other : ℕ) → c ≢ other → (s : Standing) → (s.client == other) ≡ true → not (s.client == c) ≡ true
+one_client c other differ s h = ap (λ (b : Bool). not b) (apart s.client c other differ h)
+
+one_surface : (c other surface : ℕ) → c ≢ other → (s : Standing) → (s.client == other) ≡ true → not (is_of c surface s) ≡ true
+one_surface c other surface differ s h = ap (λ (b : Bool). not (b && (s.surface == surface))) (apart s.client c other differ h)
+
+on_top : (mappings c surface other : ℕ) → c ≢ other → (standing : List Standing) → of other (with_mapped mappings c surface standing) ≡ of other standing
+on_top mappings c surface other differ [] =
+    let e : (c == other) ≡ false = nowhere in rw e refl
+  where
+    nowhere : (c == other) ≡ false
+    nowhere = at (c == other) refl
+      where
+        at : (b : Bool) → (c == other) ≡ b → (c == other) ≡ false
+        at false e = e
+        at true e = absurd (differ (eqb-true c other e))
+on_top mappings c surface other differ (s ∷ ss) =
+    ap (λ (xs : List Standing). cond (s.client == other) (s ∷ xs) xs) (on_top mappings c surface other differ ss)
+
+effect-others : (c other id : ℕ) (effect : Effect) (r : Resident) (d : Desktop) → c ≢ other → toplevels_of other (stacked c (CommitSurface id effect) r d) ≡ toplevels_of other d
+effect-others c other id Stays r d differ = refl
+effect-others c other id Unconfigured r d differ = refl
+effect-others c other id Configures r d differ = refl
+effect-others c other id Maps r d differ = on_top d.mappings c id other differ d.standing
+effect-others c other id Unmaps r d differ = left_out (λ s. not (is_of c id s)) other (one_surface c other id differ) d.standing
+
+stacked-others : (c other : ℕ) (ask : Ask) (r : Resident) (d : Desktop) → c ≢ other → toplevels_of other (stacked c ask r d) ≡ toplevels_of other d
+stacked-others c other (Own action) r d differ = refl
+stacked-others c other (CreateSurface id version) r d differ = refl
+stacked-others c other (DestroySurface id) r d differ = refl
+stacked-others c other (AskSurface id request) r d differ = refl
+stacked-others c other (CommitSurface id effect) r d differ = effect-others c other id effect r d differ
+stacked-others c other (DestroyBase id) r d differ = refl
+stacked-others c other (GetXdgSurface id version base surface) r d differ = refl
+stacked-others c other (DestroyXdgSurface id) r d differ = refl
+stacked-others c other (GetToplevel id version xdg) r d differ = refl
+stacked-others c other (Acknowledge xdg serial) r d differ = refl
+stacked-others c other (ConfigureAgain xdg) r d differ = refl
+stacked-others c other (DestroyToplevel id xdg) r d differ = left_out (λ s. not (is_of c _ s)) other (one_surface c other _ differ) d.standing
+stacked-others c other Ignore r d differ = refl
+
+become-others-by : (s : Option Cause) (c other : ℕ) (r : Resident) (q : Peer) (d : Desktop) → c ≢ other → toplevels_of other (become_by s c r q d) ≡ toplevels_of other d
+become-others-by None c other r q d differ = refl
+become-others-by (Some cause) c other r q d differ = left_out (λ s. not (s.client == c)) other (one_client c other differ) d.standing
+
+-- a client is as it was, and so are its toplevels
+abbrev pub IsLeft : ℕ → Desktop → Desktop → Type 0
+IsLeft other old new = (client_at other new ≡ client_at other old) × (toplevels_of other new ≡ toplevels_of other old)
+
+left-then : (other : ℕ) (old mid new : Desktop) → IsLeft other old mid → IsLeft other mid new → IsLeft other old new
+left-then other old mid new h k = (k.0 ∙ h.0, k.1 ∙ h.1)
+
+pub become-left : (c other : ℕ) (r : Resident) (q : Peer) (d : Desktop) → c ≢ other → IsLeft other d (become c r q d)
+become-left c other r q d differ = (other-become c other r q d differ, become-others-by q.status c other r q d differ)
+
+becomes-left : (Q : Peer → Type 0) (c other : ℕ) (r : Resident) (d new : Desktop) → c ≢ other → Becomes Q c r d new → IsLeft other d new
+becomes-left Q c other r d new differ h =
+    let left = become-left c other r h.0 d differ in
+    (ap (λ (x : Desktop). client_at other x) h.2 ∙ left.0, ap (λ (x : Desktop). toplevels_of other x) h.2 ∙ left.1)
+
+stacked-left : (c other : ℕ) (ask : Ask) (r : Resident) (d : Desktop) → c ≢ other → IsLeft other d (stacked c ask r d)
+stacked-left c other ask r d differ =
+    (ap (λ (clients : List (Option Resident)). client_in clients other) (stacked-clients c ask r d), stacked-others c other ask r d differ)
+
+wants-left : (b : Bool) (Q : Peer → Type 0) (ask : Ask) (c other : ℕ) (r : Resident) (d new : Desktop) → c ≢ other → WantsOr b (Becomes Q c (changed_by ask r) (stacked c ask r d) new) c r d new → IsLeft other d new
+wants-left false Q ask c other r d new differ h =
+    left-then other d (stacked c ask r d) new (stacked-left c other ask r d differ) (becomes-left Q c other (changed_by ask r) (stacked c ask r d) new differ h)
+wants-left true Q ask c other r d new differ (inl h) = becomes-left (LacksMemory r.peer) c other r d new differ h
+wants-left true Q ask c other r d new differ (inr h) =
+    left-then other d (stacked c ask r d) new (stacked-left c other ask r d differ) (becomes-left Q c other (changed_by ask r) (stacked c ask r d) new differ h)
+
+answers-left : (judged : Result Ask _) (c other : ℕ) (r : Resident) (d new : Desktop) → c ≢ other → Answers judged c r d new → IsLeft other d new
+answers-left (Ok ask) c other r d new differ h = wants-left (takes_memory ask) _ ask c other _ d new differ h
+answers-left (Err refusal) c other r d new differ h = becomes-left _ c other r d new differ h
+
+takes-left : (unserved : Unserved) (s : Split) (c other : ℕ) (r : Resident) (d new : Desktop) → c ≢ other → Takes unserved s c r d new → IsLeft other d new
+takes-left unserved (Message object opcode size) c other r d new differ h = answers-left _ c other _ d new differ h
+takes-left unserved Bad c other r d new differ h = becomes-left _ c other r d new differ h
+takes-left unserved More c other r d new differ h = absurd h
+
+serves-left : (unserved : Unserved) (c other : ℕ) (o : Option Resident) (d new : Desktop) → c ≢ other → ServesAt unserved c o d new → IsLeft other d new
+serves-left unserved c other None d new differ h = absurd h
+serves-left unserved c other (Some r) d new differ h = takes-left unserved (split_of r.peer.rest) c other r d new differ h.1
+
+reaches-left : (unserved : Unserved) (c other n : ℕ) (d new : Desktop) → c ≢ other → Reaches unserved c n d new → IsLeft other d new
+reaches-left unserved c other zero d new differ h = (ap (λ (x : Desktop). client_at other x) h, ap (λ (x : Desktop). toplevels_of other x) h)
+reaches-left unserved c other (suc n) d new differ h =
+    left-then other d h.0 new (reaches-left unserved c other n d h.0 differ h.1) (serves-left unserved c other (client_at c h.0) h.0 new differ h.2)
+
+pub same-left : (other : ℕ) (d new : Desktop) → new ≡ d → IsLeft other d new
+same-left other d new e = (ap (λ (x : Desktop). client_at other x) e, ap (λ (x : Desktop). toplevels_of other x) e)
+
+stops-left : (c other : ℕ) (o : Option Resident) (mid new : Desktop) → c ≢ other → StopsAt c o mid new → IsLeft other mid new
+stops-left c other None mid new differ h = absurd h
+stops-left c other (Some r) mid new differ (inl h) = same-left other mid new h.0
+stops-left c other (Some r) mid new differ (inr h) =
+    let gone : Peer = ended Memory r.peer in
+    left-then other mid (become c r gone mid) new (become-left c other r gone mid differ) (same-left other (become c r gone mid) new h.1)
+
+pub feeds-left : (unserved : Unserved) (c other : ℕ) (piece : List ℕ) (s : Option Cause) (r : Resident) (old new : Desktop) → c ≢ other → FeedsAt unserved c piece s r old new → IsLeft other old new
+feeds-left unserved c other piece (Some cause) r old new differ h = same-left other old new h
+feeds-left unserved c other piece None r old new differ h =
+    let come : Peer = with_rest (r.peer.rest ++ piece) r.peer in
+    let start = become c r come old in
+    left-then other old start new (become-left c other r come old differ)
+    (left-then other start h.1 new (reaches-left unserved c other h.0 start h.1 differ h.2) (stops-left c other (client_at c h.1) h.1 new differ h.3))
+
+pub others_stay : OthersStay
+others_stay unserved c other piece r old new there h differ = feeds-left unserved c other piece r.peer.status r old new differ h
+
+-- ---- the output stays
+
+abbrev pub Keeps : Desktop → Desktop → Type 0
+Keeps old new = new.output ≡ old.output
+
+same-keeps : (old new : Desktop) → new ≡ old → Keeps old new
+same-keeps old new e = ap (λ (x : Desktop). x.output) e
+
+become-keeps-by : (s : Option Cause) (c : ℕ) (r : Resident) (q : Peer) (d : Desktop) → Keeps d (become_by s c r q d)
+become-keeps-by None c r q d = refl
+become-keeps-by (Some cause) c r q d = refl
+
+pub become-keeps : (c : ℕ) (r : Resident) (q : Peer) (d : Desktop) → Keeps d (become c r q d)
+become-keeps c r q d = become-keeps-by q.status c r q d
+
+becomes-keeps : (Q : Peer → Type 0) (c : ℕ) (r : Resident) (d new : Desktop) → Becomes Q c r d new → Keeps d new
+becomes-keeps Q c r d new h = same-keeps (become c r h.0 d) new h.2 ∙ become-keeps c r h.0 d
+
+effect-keeps : (c id : ℕ) (effect : Effect) (r : Resident) (d : Desktop) → Keeps d (stacked c (CommitSurface id effect) r d)
+effect-keeps c id Stays r d = refl
+effect-keeps c id Unconfigured r d = refl
+effect-keeps c id Configures r d = refl
+effect-keeps c id Maps r d = refl
+effect-keeps c id Unmaps r d = refl
+
+pub stacked-keeps : (c : ℕ) (ask : Ask) (r : Resident) (d : Desktop) → Keeps d (stacked c ask r d)
+stacked-keeps c (Own action) r d = refl
+stacked-keeps c (CreateSurface id version) r d = refl
+stacked-keeps c (DestroySurface id) r d = refl
+stacked-keeps c (AskSurface id request) r d = refl
+stacked-keeps c (CommitSurface id effect) r d = effect-keeps c id effect r d
+stacked-keeps c (DestroyBase id) r d = refl
+stacked-keeps c (GetXdgSurface id version base surface) r d = refl
+stacked-keeps c (DestroyXdgSurface id) r d = refl
+stacked-keeps c (GetToplevel id version xdg) r d = refl
+stacked-keeps c (Acknowledge xdg serial) r d = refl
+stacked-keeps c (ConfigureAgain xdg) r d = refl
+stacked-keeps c (DestroyToplevel id xdg) r d = refl
+stacked-keeps c Ignore r d = refl
+
+wants-keeps : (b : Bool) (Q : Peer → Type 0) (ask : Ask) (c : ℕ) (r : Resident) (d new : Desktop) → WantsOr b (Becomes Q c (changed_by ask r) (stacked c ask r d) new) c r d new → Keeps d new
+wants-keeps false Q ask c r d new h = becomes-keeps Q c (changed_by ask r) (stacked c ask r d) new h ∙ stacked-keeps c ask r d
+wants-keeps true Q ask c r d new (inl h) = becomes-keeps (LacksMemory r.peer) c r d new h
+wants-keeps true Q ask c r d new (inr h) = becomes-keeps Q c (changed_by ask r) (stacked c ask r d) new h ∙ stacked-keeps c ask r d
+
+answers-keeps : (judged : Result Ask _) (c : ℕ) (r : Resident) (d new : Desktop) → Answers judged c r d new → Keeps d new
+answers-keeps (Ok ask) c r d new h = wants-keeps (takes_memory ask) _ ask c _ d new h
+answers-keeps (Err refusal) c r d new h = becomes-keeps _ c r d new h
+
+takes-keeps : (unserved : Unserved) (s : Split) (c : ℕ) (r : Resident) (d new : Desktop) → Takes unserved s c r d new → Keeps d new
+takes-keeps unserved (Message object opcode size) c r d new h = answers-keeps _ c _ d new h
+takes-keeps unserved Bad c r d new h = becomes-keeps _ c r d new h
+takes-keeps unserved More c r d new h = absurd h
+
+serves-keeps : (unserved : Unserved) (c : ℕ) (o : Option Resident) (d new : Desktop) → ServesAt unserved c o d new → Keeps d new
+serves-keeps unserved c None d new h = absurd h
+serves-keeps unserved c (Some r) d new h = takes-keeps unserved (split_of r.peer.rest) c r d new h.1
+
+reaches-keeps : (unserved : Unserved) (c n : ℕ) (d new : Desktop) → Reaches unserved c n d new → Keeps d new
+reaches-keeps unserved c zero d new h = same-keeps d new h
+reaches-keeps unserved c (suc n) d new h = serves-keeps unserved c (client_at c h.0) h.0 new h.2 ∙ reaches-keeps unserved c n d h.0 h.1
+
+stops-keeps : (c : ℕ) (o : Option Resident) (mid new : Desktop) → StopsAt c o mid new → Keeps mid new
+stops-keeps c None mid new h = absurd h
+stops-keeps c (Some r) mid new (inl h) = same-keeps mid new h.0
+stops-keeps c (Some r) mid new (inr h) = same-keeps (become c r (ended Memory r.peer) mid) new h.1 ∙ become-keeps c r (ended Memory r.peer) mid
+
+pub feeds-keeps : (unserved : Unserved) (c : ℕ) (piece : List ℕ) (s : Option Cause) (r : Resident) (old new : Desktop) → FeedsAt unserved c piece s r old new → Keeps old new
+feeds-keeps unserved c piece (Some cause) r old new h = same-keeps old new h
+feeds-keeps unserved c piece None r old new h =
+    let come : Peer = with_rest (r.peer.rest ++ piece) r.peer in
+    stops-keeps c (client_at c h.1) h.1 new h.3 ∙ reaches-keeps unserved c h.0 (become c r come old) h.1 h.2 ∙ become-keeps c r come old

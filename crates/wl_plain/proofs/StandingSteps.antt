@@ -1,0 +1,150 @@
+-- The mapped toplevels stand through the messages of a client, and as clients come and go.
+use Rattle.std.proofs.Common.{◌≡◌, ℕ, zero, suc, ◌+◌, List, [], ◌∷◌, Bool, true, false, Option, Some, None, Result, refl, ap, sym, subst, ◌∙◌, arith, inl, inr}
+use Rattle.std.specs.Prelude.{Ok, Err, drop, replicate}
+use Rattle.wl_wire.specs.Wire.{split_of}
+use Rattle.wl_wire.specs.declared.header.Split.{Split}
+use Rattle.wl_wire.specs.declared.header.Split.TheVariants.{Message as Whole, More, Bad}
+use Rattle.wl_client.specs.declared.clients.Cause.TheVariants.{Memory}
+use Rattle.wl_client.specs.declared.refusals.Refusal.{Refusal}
+use Rattle.wl_client.specs.Peer.{LacksMemory, Peer, counted, ended, with_rest}
+use Rattle.wl_client.specs.Told.{Output}
+use Rattle.wl_surface.specs.Kept.{Slots}
+use Rattle.wl_shell.specs.Kept.{Kept}
+use Rattle.wl_scene.specs.Stacking.{nothing_owned, without_client}
+use Rattle.wl_plain.specs.declared.answers.Done.{Done}
+use Rattle.wl_plain.specs.Ask.{Ask}
+use Rattle.wl_plain.specs.Desktop.{Desktop, Resident, arrival, client_at, client_in, empty, owned_in, owned_of, place, with_client, with_number}
+use Rattle.wl_plain.specs.Owning.{IsOwned, Names}
+use Rattle.wl_plain.specs.Served.{Unserved}
+use Rattle.wl_plain.specs.Standing.{AreMapped, MappedStand}
+use Rattle.wl_plain.specs.Step.{Answers, Becomes, Serves, ServesAt, StopsAt, Takes, WantsOr, changed_by, stacked, takes_memory, with_peer}
+use Rattle.wl_plain.specs.Steps.{ChangesAt, ConnectsAt, left_so, lowest, next_of}
+use Rattle.wl_plain.proofs.OwningKeys.{some-same}
+use Rattle.wl_plain.proofs.Places.{number-other}
+use Rattle.wl_plain.proofs.StandingAsks.{StandAfter, stand-after}
+use Rattle.wl_plain.proofs.StandingDesks.{become-stand, done-stand, each-mapped, ended-apart, ended-mapped, ended-stay, nothing-mapped}
+use Rattle.wl_plain.proofs.StandingFound.{Accepts, finds-peer, judge-finds}
+
+module _ (unserved : Unserved) (c : ℕ) (there : Resident) (d : Desktop) (is : client_at c d ≡ Some there) (names : Names) (slots : Slots) (kept : ℕ → Option Kept) (owned : IsOwned names slots kept there.owned) (stand : MappedStand d) where
+  -- ---- a message
+
+  becomes-stand : (Q : Peer → Type 0) (p : Peer) (new : Desktop) → Becomes Q c (with_peer p there) d new → MappedStand new
+  becomes-stand Q p new h = subst MappedStand (sym h.2) (become-stand c (with_peer p there) there h.0 d is refl stand)
+
+  -- an accepted request is done
+  asked-stand : (ask : Ask) (p : Peer) → Accepts (Ok ask) there → StandAfter c ask (with_peer p there) d
+  asked-stand ask p accepts =
+      stand-after c ask (with_peer p there) d owned.shell.apart owned.surfaces.counts (subst (λ o. AreMapped c o d.standing) (ap owned_of is) (stand.each c)) stand.apart
+      (finds-peer ask p there (accepts ask refl))
+
+  acts-stand : (b : Bool) (Q : Peer → Type 0) (ask : Ask) (p : Peer) (new : Desktop) → Accepts (Ok ask) there
+      → WantsOr b (Becomes Q c (changed_by ask (with_peer p there)) (stacked c ask (with_peer p there) d) new) c (with_peer p there) d new → MappedStand new
+  acts-stand false Q ask p new accepts h = subst MappedStand (sym h.2) (done-stand c ask (with_peer p there) there h.0 d is (asked-stand ask p accepts) stand)
+  acts-stand true Q ask p new accepts (inl h) = becomes-stand (LacksMemory p) p new h
+  acts-stand true Q ask p new accepts (inr h) = subst MappedStand (sym h.2) (done-stand c ask (with_peer p there) there h.0 d is (asked-stand ask p accepts) stand)
+
+  -- what is judged of the client is answered
+  pub answers-stand : (judged : Result Ask Refusal) (p : Peer) (new : Desktop) → Accepts judged there → Answers judged c (with_peer p there) d new → MappedStand new
+  answers-stand (Ok ask) p new accepts h = acts-stand (takes_memory ask) _ ask (counted p) new accepts h
+  answers-stand (Err refusal) p new accepts h = becomes-stand _ p new h
+
+  takes-stand : (split : Split) (new : Desktop) → Takes unserved split c there d new → MappedStand new
+  takes-stand (Whole object opcode size) new h = answers-stand _ (with_rest (drop size there.peer.rest) there.peer) new (judge-finds unserved there object opcode _ owned.shell.apart) h
+  takes-stand Bad new h = becomes-stand _ there.peer new h
+  takes-stand More new h = absurd h
+
+  -- a message of the client is taken
+  pub serves-stand : (new : Desktop) → Serves unserved c d new → MappedStand new
+  serves-stand new h = takes-stand (split_of there.peer.rest) new (served.1)
+    where
+      served : ServesAt unserved c (Some there) d new
+      served = subst (λ o. ServesAt unserved c o d new) is h
+
+-- the taking of messages stops
+pub stops-stand : (c : ℕ) (d new : Desktop) → MappedStand d → StopsAt c (client_at c d) d new → MappedStand new
+stops-stand c d new stand h = at (client_at c d) refl h
+  where
+    at : (o : Option Resident) → client_at c d ≡ o → StopsAt c o d new → MappedStand new
+    at None is h = absurd h
+    at (Some r) is (inl h) = subst MappedStand (sym h.0) stand
+    at (Some r) is (inr h) = subst MappedStand (sym h.1) (become-stand c r r (ended Memory r.peer) d is refl stand)
+
+-- ---- clients come and go
+
+none-owned : (n k : ℕ) → place (replicate n None) k ≡ None
+none-owned zero k = refl
+none-owned (suc n) zero = refl
+none-owned (suc n) (suc k) = none-owned n k
+
+-- nothing is there
+pub empty-stand : (output : Output) → MappedStand (empty output)
+empty-stand output = record { apart = tt; each = λ c. subst (λ o. AreMapped c (owned_of o) []) (sym (nobody c)) (nothing-mapped c [] (λ surface. refl)) }
+  where
+    nobody : (c : ℕ) → client_at c (empty output) ≡ None
+    nobody zero = refl
+    nobody (suc k) = none-owned 32 k
+
+-- where a place may be without a client, none is found
+put : (clients : List (Option Resident)) (c : ℕ) (x : Option Resident) → owned_of (client_in clients c) ≡ nothing_owned → owned_of x ≡ nothing_owned → owned_of (client_in (with_number c x clients) c) ≡ nothing_owned
+put clients zero x none same = none
+put [] (suc k) x none same = none
+put (r ∷ rs) (suc zero) x none same = same
+put (r ∷ rs) (suc (suc k)) x none same = put rs (suc k) x none same
+
+-- where no client was, one comes that owns nothing
+pub comes-stand : (c : ℕ) (r : Resident) (d : Desktop) → client_at c d ≡ None → r.owned ≡ nothing_owned → MappedStand d → MappedStand (with_client c (Some r) d)
+comes-stand c r d none same stand =
+    each-mapped c (with_client c (Some r) d) stand.apart
+    (subst (λ o. AreMapped c o d.standing) (ap owned_of none ∙ sym (put d.clients c (Some r) (ap owned_of none) same)) (stand.each c))
+    (λ other differ. subst (λ o. AreMapped other o d.standing) (sym (ap owned_of (number-other d.clients c other (Some r) differ))) (stand.each other))
+
+-- its number is given back
+pub closed-stand : (c : ℕ) (d : Desktop) → MappedStand d → MappedStand (record d { clients = with_number c None d.clients; standing = without_client c d.standing })
+closed-stand c d stand =
+    each-mapped c (record d { clients = with_number c None d.clients; standing = without_client c d.standing }) (ended-apart c d.standing stand.apart)
+    (subst (λ o. AreMapped c o (without_client c d.standing)) (sym (gone d.clients c)) (ended-mapped c d.standing))
+    (λ other differ. subst (λ o. AreMapped other o (without_client c d.standing)) (sym (ap owned_of (number-other d.clients c other None differ))) (ended-stay c other (owned_in d other) d.standing differ (stand.each other)))
+  where
+    gone : (clients : List (Option Resident)) (c : ℕ) → owned_of (client_in (with_number c None clients) c) ≡ nothing_owned
+    gone clients zero = refl
+    gone [] (suc k) = refl
+    gone (r ∷ rs) (suc zero) = refl
+    gone (r ∷ rs) (suc (suc k)) = gone rs (suc k)
+
+-- ---- steps
+
+pub left-stand : (c : ℕ) (r : Resident) (q : Option Peer) (d : Desktop) → client_at c d ≡ Some r → MappedStand d → MappedStand (left_so c r q d)
+left-stand c r None d is stand = closed-stand c d stand
+left-stand c r (Some q) d is stand = become-stand c r r q d is refl stand
+
+-- a client changes by R, or there is none
+pub changes-stand : (R : Peer → Done → Option Peer → Type 0) (absent done : Done) (c : ℕ) (d new : Desktop) → MappedStand d → ChangesAt R absent c (client_at c d) d done new → MappedStand new
+changes-stand R absent done c d new stand h = at (client_at c d) refl h
+  where
+    at : (o : Option Resident) → client_at c d ≡ o → ChangesAt R absent c o d done new → MappedStand new
+    at None is h = subst MappedStand (sym h.1) stand
+    at (Some r) is h = subst MappedStand (sym h.2) (left-stand c r h.0 d is stand)
+
+-- the lowest free number is that of no client
+lowest-free : (rs : List (Option Resident)) (k : ℕ) → lowest rs ≡ Some k → place rs k ≡ None
+lowest-free [] k e = absurd (cc)
+lowest-free (None ∷ rs) zero e = refl
+lowest-free (None ∷ rs) (suc k) e = absurd (cc)
+lowest-free (Some r ∷ rs) k e = at (lowest rs) e (lowest-free rs)
+  where
+    at : (o : Option ℕ) → next_of o ≡ Some k → ((j : ℕ) → o ≡ Some j → place rs j ≡ None) → place (Some r ∷ rs) k ≡ None
+    at None e later = absurd (cc)
+    at (Some j) e later =
+        let same = some-same (j + 1) k e in
+        let next : suc j ≡ k = omega (arith, same) in
+        subst (λ n. place (Some r ∷ rs) n ≡ None) next (later j refl)
+
+pub connects-stand : (d new : Desktop) (done : Done) → MappedStand d → ConnectsAt (lowest d.clients) d done new → MappedStand new
+connects-stand d new done stand h = at (lowest d.clients) refl h
+  where
+    at : (o : Option ℕ) → lowest d.clients ≡ o → ConnectsAt o d done new → MappedStand new
+    at None is h = subst MappedStand (sym h.1) stand
+    at (Some k) is (inl h) = subst MappedStand (sym h.1) stand
+    at (Some k) is (inr h) =
+        let next : suc k ≡ k + 1 = omega arith in
+        subst MappedStand (sym h.1) (comes-stand (k + 1) (arrival d.output) d (subst (λ n. client_at n d ≡ None) next (lowest-free d.clients k is)) refl stand)

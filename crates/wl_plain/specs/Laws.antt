@@ -1,0 +1,98 @@
+-- Laws of the plain desktop.
+use Rattle.std.specs.Prelude.{ℕ, ◌≡◌, ◌≢◌, ◌==◌, ℤ, [], ◌∷◌, ◌-ℤ◌, slice_get, List, Option, Some, None, IsTrue, true, false, filter}
+use Rattle.std.specs.List.{list_any}
+use Rattle.wl_client.specs.declared.clients.Cause.{Cause}
+use Rattle.wl_client.specs.declared.clients.Cause.TheVariants.{Memory}
+use Rattle.wl_client.specs.Peer.{Peer}
+use Rattle.wl_client.specs.Peer.{Feeds as FeedsAlone}
+use Rattle.wl_scene.specs.Stacking.{Standing, is_of, without_client}
+use Rattle.wl_scene.specs.Windows.{Window, contains}
+use Rattle.wl_blend.specs.declared.color.Rgb.{Rgb}
+use Rattle.wl_plain.specs.Desktop.{Desktop, Resident, client_at, owned_in, resident_of, windows_in, with_client}
+use Rattle.wl_plain.specs.Marks.{Applied, AreDistinct, at_least, at_most, has_same_record, in_output}
+use Rattle.wl_plain.specs.Moments.{applied_between, marks_at_least}
+use Rattle.wl_plain.specs.Scratch.{color_in, scratch}
+use Rattle.wl_plain.specs.Served.{Unserved, beyond_clients}
+use Rattle.wl_plain.specs.Step.{Feeds}
+
+-- What is marked at least is among what is marked at most.
+abbrev pub LeastIsMost : Type 0
+LeastIsMost =
+    (width height : ℕ) (applied : Applied) (raised : Option (ℕ × ℕ)) (old new : List Window) (x y : ℤ)
+    → IsTrue (at_least width height applied old new x y) → IsTrue (at_most width height applied raised old new x y)
+
+-- no toplevel stands twice
+abbrev pub AreApart : List Standing → Type 0
+AreApart [] = Unit {0}
+AreApart (s ∷ ss) = (list_any (is_of s.client s.surface) ss ≡ false) × AreApart ss
+
+-- Where no toplevel stands twice and no surface is linked to another, no surface has two windows.
+abbrev pub WindowsAreDistinct : Type 0
+WindowsAreDistinct = (d : Desktop) → ((c : ℕ) → (owned_in d c).surfaces.links ≡ []) → AreApart d.standing → AreDistinct (windows_in d)
+
+-- Windows that keep their records show at this point the colours that they did, where no damage was applied.
+abbrev pub ColorsStay : Desktop → Desktop → ℤ → ℤ → Type 0
+ColorsStay old new x y =
+    (i j : ℕ) (w v : Window)
+    → slice_get (windows_in old) i ≡ Some w
+    → slice_get (windows_in new) j ≡ Some v
+    → has_same_record w v ≡ true
+    → contains v x y ≡ true
+    → applied_between old new v.owner.client v.surface (x -ℤ v.corner.x) (y -ℤ v.corner.y) ≡ false
+    → color_in old w x y ≡ color_in new v x y
+
+-- A point of the output that a step doesn't mark is painted from nothing as before.
+abbrev pub ScratchStays : Type 0
+ScratchStays =
+    (background : Rgb) (old new : Desktop) (x y : ℤ)
+    → AreDistinct (windows_in old)
+    → AreDistinct (windows_in new)
+    → in_output old.output.width old.output.height x y ≡ true
+    → marks_at_least old new x y ≡ false
+    → ColorsStay old new x y
+    → scratch background old x y ≡ scratch background new x y
+
+-- why a client ended, if it is there and did
+abbrev pub status_of : Option Resident → Option Cause
+status_of None = None
+status_of (Some r) = r.peer.status
+
+abbrev pub status_in : ℕ → Desktop → Option Cause
+status_in c d = status_of (client_at c d)
+
+-- A piece of a client's leads to one desktop, but for want of memory.
+abbrev pub OneRun : Type 0
+OneRun =
+    (unserved : Unserved) (c : ℕ) (piece : List ℕ) (r : Resident) (old new end : Desktop) → client_at c old ≡ Some r
+    → Feeds unserved c piece r old new → Feeds unserved c piece r old end → status_in c new ≢ Some Memory → status_in c end ≢ Some Memory
+    → new ≡ end
+
+-- the toplevels of a client, from the bottom
+abbrev pub toplevels_of : ℕ → Desktop → List Standing
+toplevels_of c d = filter (λ s. s.client == c) d.standing
+
+-- A piece of a client's leaves every other client as it was: what it holds and owns, and the places and the order of its toplevels.
+abbrev pub OthersStay : Type 0
+OthersStay =
+    (unserved : Unserved) (c other : ℕ) (piece : List ℕ) (r : Resident) (old new : Desktop) → client_at c old ≡ Some r
+    → Feeds unserved c piece r old new → c ≢ other
+    → (client_at other new ≡ client_at other old) × (toplevels_of other new ≡ toplevels_of other old)
+
+-- a client has nothing but its own objects: no surfaces and xdg_surfaces, links, positioners, callbacks and pointers
+abbrev pub OwnsNothing : Resident → Type 0
+OwnsNothing r = r ≡ resident_of r.peer
+
+-- the client there is this one, and owns nothing
+abbrev pub IsAlone : Peer → Option Resident → Type 0
+IsAlone p None = ⊥
+IsAlone p (Some r) = (r.peer ≡ p) × OwnsNothing r
+
+-- Where no toplevel of a client's stands, nothing of the desktop changes but the client.
+abbrev pub IsAllThatChanges : ℕ → Desktop → Desktop → Type 0
+IsAllThatChanges c old new = without_client c old.standing ≡ old.standing → new ≡ with_client c (client_at c new) old
+
+-- What a piece makes of a client by itself, it makes of the desktop's client where no more than that is served.
+abbrev pub ServedAlone : Type 0
+ServedAlone =
+    (c : ℕ) (piece : List ℕ) (r : Resident) (p q : Peer) (old : Desktop) → client_at c old ≡ Some r → IsAlone p (Some r) → FeedsAlone piece p q
+    → (new : Desktop) × Feeds beyond_clients c piece r old new × IsAlone q (client_at c new) × IsAllThatChanges c old new

@@ -1,0 +1,16 @@
+pub mod Ask
+pub mod Desktop
+pub mod Laws
+pub mod Marks
+pub mod Moments
+pub mod Owning
+pub mod Plain
+pub mod Releases
+pub mod Scratch
+pub mod Served
+pub mod Standing
+pub mod Step
+pub mod Steps
+pub mod Touching
+pub mod WlSurface
+pub mod XdgShell

@@ -1,0 +1,34 @@
+-- What a step applies and marks, by the desktops before it and after it.
+use Rattle.std.specs.Prelude.{ℕ, ℤ, int_le, pos, unsigned_abs, ◌&&◌, Bool, false, Option, Some, None}
+use Rattle.wl_surface.specs.State.{History, applied, between, damaged_rects, height_of, is_damaged, width_of}
+use Rattle.wl_surface.specs.Surfaces.{history_in}
+use Rattle.wl_plain.specs.Desktop.{Desktop, owned_in, windows_in}
+use Rattle.wl_plain.specs.Marks.{Applied, at_least, at_most}
+
+-- the damage that was applied to a surface between its old and its new cut, by the size that it has now
+abbrev pub is_applied_at : History → History → ℕ → ℕ → Bool
+is_applied_at old new x y =
+    is_damaged (width_of (applied new).buffer (applied new).transform) (height_of (applied new).buffer (applied new).transform)
+    (damaged_rects (between old.cut new.cut new.requests)) x y
+
+abbrev pub is_applied_by : Option History → Option History → ℕ → ℕ → Bool
+is_applied_by (Some old) (Some new) x y = is_applied_at old new x y
+is_applied_by (Some old) None x y = false
+is_applied_by None new x y = false
+
+abbrev pub history_of : Desktop → ℕ → ℕ → Option History
+history_of d client surface = history_in surface (owned_in d client).surfaces
+
+abbrev pub applied_between : Desktop → Desktop → Applied
+applied_between old new client surface x y =
+    (int_le (pos 0) x && int_le (pos 0) y)
+    && is_applied_by (history_of old client surface) (history_of new client surface) (unsigned_abs x) (unsigned_abs y)
+
+-- what a step from one desktop to the other marks at least, and at most
+abbrev pub marks_at_least : Desktop → Desktop → ℤ → ℤ → Bool
+marks_at_least old new x y =
+    at_least old.output.width old.output.height (applied_between old new) (windows_in old) (windows_in new) x y
+
+abbrev pub marks_at_most : Desktop → Desktop → Option (ℕ × ℕ) → ℤ → ℤ → Bool
+marks_at_most old new raised x y =
+    at_most old.output.width old.output.height (applied_between old new) raised (windows_in old) (windows_in new) x y

@@ -1,0 +1,34 @@
+-- Which toplevels stand: those that are mapped (xdg-shell.xml, xdg_surface: the initial commit, and mapping).
+use Rattle.std.specs.Prelude.{ℕ, ◌≡◌, Bool, true, false, Option, Some, None, List}
+use Rattle.std.specs.List.{list_any}
+use Rattle.wl_surface.specs.Surfaces.{history_in}
+use Rattle.wl_shell.specs.declared.stage.Stage.{Stage}
+use Rattle.wl_shell.specs.declared.stage.Stage.TheVariants as stage
+use Rattle.wl_shell.specs.Shell.{XdgSurface, stage_of, xdg_of}
+use Rattle.wl_scene.specs.Lent.{shows_buffer}
+use Rattle.wl_scene.specs.Stacking.{Owned, Standing, is_of}
+use Rattle.wl_plain.specs.Desktop.{Desktop, owned_in}
+use Rattle.wl_plain.specs.Laws.{AreApart}
+
+-- this is the stage of a role object whose surface is mapped
+abbrev pub is_mapped_at : Option Stage → Bool
+is_mapped_at None = false
+is_mapped_at (Some stage.Fresh) = false
+is_mapped_at (Some stage.Waiting) = false
+is_mapped_at (Some stage.Ready) = false
+is_mapped_at (Some stage.Mapped) = true
+
+-- the xdg_surface is there, and its surface is mapped
+abbrev pub is_mapped : Option XdgSurface → Bool
+is_mapped None = false
+is_mapped (Some x) = is_mapped_at (stage_of x)
+
+-- Of a client's surfaces just those stand that are mapped, and each of them shows a buffer.
+pub record AreMapped (c : ℕ) (o : Owned) (standing : List Standing) : Type 0 where
+  pub stands : (surface : ℕ) → list_any (is_of c surface) standing ≡ is_mapped (xdg_of surface o.shell)
+  pub shows : (surface : ℕ) → is_mapped (xdg_of surface o.shell) ≡ true → shows_buffer (history_in surface o.surfaces) ≡ true
+
+-- No toplevel stands twice, and of each client those stand that are mapped. A number without a client has none.
+pub record MappedStand (d : Desktop) : Type 0 where
+  pub apart : AreApart d.standing
+  pub each : (c : ℕ) → AreMapped c (owned_in d c) d.standing

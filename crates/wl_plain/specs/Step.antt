@@ -1,0 +1,255 @@
+-- One message of one client: what it asks of the desktop, or why it is refused, and what becomes of the desktop.
+use Rattle.std.specs.Prelude.{ℕ, zero, suc, ◌≡◌, ◌+◌, ◌-◌, ◌==◌, ◌&&◌, Bool, true, false, not, if◌then◌else◌, Option, Some, None, Result, Ok, Err, List, [], ◌∷◌, ◌++◌, length, take, drop, filter, fold, ◌⊎◌, pos}
+use Rattle.std.specs.Option.{option_map, option_map_or}
+use Rattle.wl_wire.specs.Wire.{Word, Number, Block, split_of}
+use Rattle.wl_wire.specs.declared.header.Split.{Split}
+use Rattle.wl_wire.specs.declared.header.Split.TheVariants.{Message as Whole, More, Bad}
+use Rattle.wl_proto.specs.declared.interface.Interface.{Interface}
+use Rattle.wl_proto.specs.declared.interface.Interface.TheVariants.{WlCompositor, WlSurface, XdgWmBase, XdgSurface, XdgToplevel}
+use Rattle.wl_proto.specs.Messages.{Message, says}
+use Rattle.wl_client.specs.declared.actions.Action.{Action}
+use Rattle.wl_client.specs.declared.clients.Cause.{Cause}
+use Rattle.wl_client.specs.declared.clients.Cause.TheVariants as cause
+use Rattle.wl_client.specs.declared.refusals.ErrorCode.TheVariants.{InvalidMethod}
+use Rattle.wl_client.specs.declared.refusals.Refusal.{Refusal}
+use Rattle.wl_client.specs.Judgement.{action_of, judged_at, word_in}
+use Rattle.wl_client.specs.Peer.{Peer, Errs, IsIdle, LacksMemory, Queues, counted, ended, known_of, made, object_at_version, released, removed, with_rest}
+use Rattle.wl_client.specs.Peer.{answers_to as own_answers, takes_memory as own_takes_memory}
+use Rattle.wl_client.specs.Serving.{changed_with}
+use Rattle.wl_client.specs.Told.{Said, display_error, id_deleted, said}
+use Rattle.wl_surface.specs.Request.{Buffer, Request, Commit}
+use Rattle.wl_surface.specs.State.{History}
+use Rattle.wl_surface.specs.Surfaces.{Surfaces, applying, asking, buffers_of, history_in, is_used, with_change, with_new, with_role, without_surface}
+use Rattle.wl_surface.specs.declared.role.Role.TheVariants.{Toplevel as AsToplevel}
+use Rattle.wl_shell.specs.declared.stage.Stage.TheVariants.{Waiting, Mapped}
+use Rattle.wl_shell.specs.Shell.{Effect, Stays, Unconfigured, Configures, Maps, Unmaps, RoleObject, Shell, XdgSurface as Xdg, acknowledging, configuring, in_stage, new_toplevel, next_serial, unmapping, without_role, xdg_at, xdg_of, without_xdg}
+use Rattle.wl_shell.specs.Shell.{with_change as with_xdg_change, with_new as with_new_xdg}
+use Rattle.wl_scene.specs.Stacking.{with_mapped, without_surface_of}
+use Rattle.wl_plain.specs.Ask.{Ask, Own, CreateSurface, DestroySurface, AskSurface, CommitSurface, DestroyBase, GetXdgSurface, DestroyXdgSurface, GetToplevel, Acknowledge, ConfigureAgain, DestroyToplevel, Ignore, owns}
+use Rattle.wl_plain.specs.Desktop.{Desktop, Resident, become, client_at}
+use Rattle.wl_plain.specs.Served.{Unserved}
+use Rattle.wl_plain.specs.WlSurface.{refuse_limit, surface_ask, surface_created}
+use Rattle.wl_plain.specs.XdgShell.{base_ask, toplevel_ask, xdg_ask}
+
+-- the request's own errors, and what it asks
+abbrev pub own_ask : Resident → ℕ → ℕ → Message → Result Ask Refusal
+own_ask r object version m = owns (action_of (known_of r.peer) object version m.interface m.opcode m.fields)
+
+abbrev pub compositor_ask : Resident → ℕ → ℕ → Message → Result Ask Refusal
+compositor_ask r object version m = if m.opcode == 0 then surface_created r (word_in 0 m.fields) version else own_ask r object version m
+
+abbrev pub ask_by : Interface → Resident → ℕ → ℕ → Message → Result Ask Refusal
+ask_by WlCompositor r object version m = compositor_ask r object version m
+ask_by WlSurface r object version m = surface_ask r object m.opcode m.fields
+ask_by XdgWmBase r object version m = base_ask r object version m.opcode m.fields
+ask_by XdgSurface r object version m = xdg_ask r object version m.opcode m.fields
+ask_by XdgToplevel r object version m = toplevel_ask r object m.opcode
+ask_by interface r object version m = own_ask r object version m
+
+abbrev pub ask_of : Unserved → Resident → ℕ → ℕ → Message → Result Ask Refusal
+ask_of unserved r object version m = if unserved m.interface m.opcode then refuse_limit else ask_by m.interface r object version m
+
+-- what a message to an object asks, or the first error that it has
+abbrev pub judge : Unserved → Resident → ℕ → ℕ → List ℕ → Result Ask Refusal
+judge unserved r object opcode body =
+    judged_at r.peer.objects r.peer.held (λ version m. ask_of unserved r object version m) opcode body (r.peer.objects object)
+
+-- ---- what an accepted message changes
+
+abbrev pub with_peer : Peer → Resident → Resident
+with_peer peer r = record r { peer = peer }
+
+abbrev pub with_surfaces : Surfaces → Resident → Resident
+with_surfaces surfaces r = record r { owned = record r.owned { surfaces = surfaces } }
+
+abbrev pub with_shell : Shell → Resident → Resident
+with_shell shell r = record r { owned = record r.owned { shell = shell } }
+
+-- A wl_buffer that goes leaves its store the use of a buffer that a surface has.
+abbrev pub own_changed : Action → Resident → Resident
+own_changed action r = with_peer (changed_with (λ number. is_used number r.owned.surfaces) action r.peer) r
+
+-- a buffer that no surface has any more, and whose wl_buffer was destroyed, lets its store go
+abbrev pub is_number : ℕ → Option ℕ → Bool
+is_number number None = false
+is_number number (Some other) = other == number
+
+abbrev pub is_over : Resident → Buffer → Bool
+is_over r buffer = not (is_number buffer.number (option_map (λ made. made.number) (r.peer.buffers buffer.object))) && not (is_used buffer.number r.owned.surfaces)
+
+abbrev pub without_buffer : ℕ → List Buffer → List Buffer
+without_buffer number buffers = filter (λ b. not (b.number == number)) buffers
+
+abbrev pub buffers_had : Option History → List Buffer
+buffers_had None = []
+buffers_had (Some h) = buffers_of h
+
+-- each of them once
+abbrev pub each_once : List Buffer → List Buffer
+each_once [] = []
+each_once (b ∷ bs) = b ∷ without_buffer b.number (each_once bs)
+
+abbrev pub letting_go : List Buffer → Resident → Resident
+letting_go buffers r =
+    with_peer (record r.peer { stores = fold (λ stores b. released b.store stores) r.peer.stores (filter (is_over r) (each_once buffers)) }) r
+
+-- of the buffers that a surface had, those that are over let their stores go
+abbrev pub after_surface : ℕ → Resident → Resident → Resident
+after_surface surface old new = letting_go (buffers_had (history_in surface old.owned.surfaces)) new
+
+-- what is asked of a surface stands at the end of its list
+abbrev pub asked_of : ℕ → Request → Resident → Resident
+asked_of surface request r = with_surfaces (with_change surface (asking request) r.owned.surfaces) r
+
+-- A commit is applied at once (no subsurfaces are served yet).
+abbrev pub committed_on : ℕ → Resident → Resident
+committed_on surface r = with_surfaces (with_change surface (λ s. applying (asking Commit s)) r.owned.surfaces) r
+
+abbrev pub xdg_changed : ℕ → (Xdg → Xdg) → Resident → Resident
+xdg_changed id change r = with_shell (with_xdg_change id change r.owned.shell) r
+
+-- A configure draws the next serial, which waits to be acknowledged.
+abbrev pub configured : ℕ → Resident → Resident
+configured id r =
+    with_peer (record r.peer { serial = next_serial r.peer.serial }) (xdg_changed id (configuring r.peer.serial) r)
+
+-- how many requests were made of a surface
+abbrev pub asked_so_far : ℕ → Resident → ℕ
+asked_so_far surface r = option_map_or (λ h. length h.requests) (history_in surface r.owned.surfaces) 0
+
+abbrev pub effect_on : ℕ → Effect → Option Xdg → Resident → Resident
+effect_on surface effect None r = r
+effect_on surface Stays (Some x) r = r
+effect_on surface Unconfigured (Some x) r = r
+effect_on surface Configures (Some x) r = configured x.id (xdg_changed x.id (in_stage Waiting) r)
+effect_on surface Maps (Some x) r = xdg_changed x.id (in_stage Mapped) r
+effect_on surface Unmaps (Some x) r = xdg_changed x.id (unmapping (asked_so_far surface r)) r
+
+abbrev pub toplevel_given : ℕ → ℕ → Option Xdg → Resident → Resident
+toplevel_given id xdg None r = r
+toplevel_given id xdg (Some x) r =
+    xdg_changed xdg (new_toplevel id (asked_so_far x.surface r))
+    (with_surfaces (with_change x.surface (with_role AsToplevel) r.owned.surfaces) r)
+
+abbrev pub making : Interface → ℕ → ℕ → Resident → Resident
+making interface id version r = with_peer (made id (object_at_version interface version) r.peer) r
+
+abbrev pub removing : ℕ → Resident → Resident
+removing id r = with_peer (removed id r.peer) r
+
+abbrev pub changed_by : Ask → Resident → Resident
+changed_by (Own action) r = own_changed action r
+changed_by (CreateSurface id version) r = making WlSurface id version (with_surfaces (with_new id r.owned.surfaces) r)
+changed_by (DestroySurface id) r = removing id (after_surface id r (with_surfaces (without_surface id r.owned.surfaces) r))
+changed_by (AskSurface id request) r = after_surface id r (asked_of id request r)
+changed_by (CommitSurface id effect) r = effect_on id effect (xdg_of id r.owned.shell) (after_surface id r (committed_on id r))
+changed_by (DestroyBase id) r = removing id r
+changed_by (GetXdgSurface id version base surface) r = making XdgSurface id version (with_shell (with_new_xdg id base surface r.owned.shell) r)
+changed_by (DestroyXdgSurface id) r = removing id (with_shell (without_xdg id r.owned.shell) r)
+changed_by (GetToplevel id version xdg) r = making XdgToplevel id version (toplevel_given id xdg (xdg_at xdg r.owned.shell) r)
+changed_by (Acknowledge xdg serial) r = xdg_changed xdg (acknowledging serial) r
+changed_by (ConfigureAgain xdg) r = configured xdg r
+changed_by (DestroyToplevel id xdg) r = removing id (xdg_changed xdg without_role r)
+changed_by Ignore r = r
+
+-- ---- what it does to the stack of toplevels
+
+abbrev pub surface_of : Option Xdg → ℕ
+surface_of x = option_map_or (λ x. x.surface) x 0
+
+-- a toplevel that is mapped stands on top; one that is unmapped or goes is taken out
+abbrev pub stacked : ℕ → Ask → Resident → Desktop → Desktop
+stacked c (CommitSurface id Maps) r d = record d { standing = with_mapped d.mappings c id d.standing; mappings = d.mappings + 1 }
+stacked c (CommitSurface id Unmaps) r d = record d { standing = without_surface_of c id d.standing }
+stacked c (DestroyToplevel id xdg) r d = record d { standing = without_surface_of c (surface_of (xdg_at xdg r.owned.shell)) d.standing }
+stacked c ask r d = d
+
+-- ---- what it is answered with
+
+-- xdg_toplevel.configure: of no size of the compositor's, and activated
+abbrev pub toplevel_configured : ℕ → Said
+toplevel_configured id =
+    said id (says XdgToplevel 0 (Number (pos 0) ∷ Number (pos 0) ∷ Block (4 ∷ 0 ∷ 0 ∷ 0 ∷ []) ∷ []))
+
+-- xdg_surface.configure
+abbrev pub xdg_configured : ℕ → ℕ → Said
+xdg_configured id serial = said id (says XdgSurface 0 (Word serial ∷ []))
+
+-- the configure of a role object, and then that of its xdg_surface
+abbrev pub role_configured : ℕ → ℕ → Option RoleObject → List Said
+role_configured serial xdg None = []
+role_configured serial xdg (Some object) = toplevel_configured object.id ∷ xdg_configured xdg serial ∷ []
+
+abbrev pub configures_told : ℕ → Option Xdg → List Said
+configures_told serial None = []
+configures_told serial (Some x) = role_configured serial x.id x.role
+
+abbrev pub answers_to : Ask → Resident → List Said
+answers_to (Own action) r = own_answers r.peer.output action
+answers_to (DestroySurface id) r = id_deleted id ∷ []
+answers_to (CommitSurface id Configures) r = configures_told r.peer.serial (xdg_of id r.owned.shell)
+answers_to (DestroyBase id) r = id_deleted id ∷ []
+answers_to (DestroyXdgSurface id) r = id_deleted id ∷ []
+answers_to (ConfigureAgain xdg) r = configures_told r.peer.serial (xdg_at xdg r.owned.shell)
+answers_to (DestroyToplevel id xdg) r = id_deleted id ∷ []
+answers_to ask r = []
+
+-- what has an effect may want memory, but for what takes away
+abbrev pub takes_memory : Ask → Bool
+takes_memory (Own action) = own_takes_memory action
+takes_memory Ignore = false
+takes_memory ask = true
+
+-- ---- the step of one message
+
+-- this is told to the client, and it becomes what that leaves of it
+abbrev pub Becomes : (Peer → Type 0) → ℕ → Resident → Desktop → Desktop → Type 0
+Becomes Q c r d new = (q : Peer) × Q q × (new ≡ become c r q d)
+
+abbrev pub WantsOr : Bool → Type 0 → ℕ → Resident → Desktop → Desktop → Type 0
+WantsOr false Later c r d new = Later
+WantsOr true Later c r d new = Becomes (LacksMemory r.peer) c r d new ⊎ Later
+
+-- What an accepted message asks is done, and then answered.
+abbrev pub Acts : Ask → ℕ → Resident → Desktop → Desktop → Type 0
+Acts ask c r d new =
+    WantsOr (takes_memory ask) (Becomes (Queues (answers_to ask r) (changed_by ask r).peer) c (changed_by ask r) (stacked c ask r d) new) c r d new
+
+-- A message is answered, or refused. Of the desktop a refusal changes only its client.
+abbrev pub Answers : Result Ask Refusal → ℕ → Resident → Desktop → Desktop → Type 0
+Answers (Ok ask) c r d new = Acts ask c (with_peer (counted r.peer) r) d new
+Answers (Err refusal) c r d new = Becomes (Errs refusal r.peer) c r d new
+
+-- The first message of what has come is taken. A header whose size isn't allowed is refused as one.
+abbrev pub Takes : Unserved → Split → ℕ → Resident → Desktop → Desktop → Type 0
+Takes unserved (Whole object opcode size) c r d new =
+    Answers (judge unserved r object opcode (take (size - 8) (drop 8 r.peer.rest))) c (with_peer (with_rest (drop size r.peer.rest) r.peer) r) d new
+Takes unserved Bad c r d new = Becomes (Errs (display_error InvalidMethod) r.peer) c r d new
+Takes unserved More c r d new = ⊥
+
+-- a client that is there and lives takes one message
+abbrev pub ServesAt : Unserved → ℕ → Option Resident → Desktop → Desktop → Type 0
+ServesAt unserved c None d new = ⊥
+ServesAt unserved c (Some r) d new = (r.peer.status ≡ None) × Takes unserved (split_of r.peer.rest) c r d new
+
+abbrev pub Serves : Unserved → ℕ → Desktop → Desktop → Type 0
+Serves unserved c d new = ServesAt unserved c (client_at c d) d new
+
+-- n messages, one after another
+abbrev pub Reaches : Unserved → ℕ → ℕ → Desktop → Desktop → Type 0
+Reaches unserved c zero d new = new ≡ d
+Reaches unserved c (suc n) d new = (mid : Desktop) × Reaches unserved c n d mid × Serves unserved c mid new
+
+-- The taking of messages stops where none is left, or at any moment for want of memory.
+abbrev pub StopsAt : ℕ → Option Resident → Desktop → Desktop → Type 0
+StopsAt c None d new = ⊥
+StopsAt c (Some r) d new = ((new ≡ d) × IsIdle r.peer) ⊎ ((r.peer.status ≡ None) × (new ≡ become c r (ended cause.Memory r.peer) d))
+
+-- A piece comes to a client that lives: it is kept, and each whole message is taken. An end is the end.
+abbrev pub FeedsAt : Unserved → ℕ → List ℕ → Option Cause → Resident → Desktop → Desktop → Type 0
+FeedsAt unserved c piece (Some cause) r d new = new ≡ d
+FeedsAt unserved c piece None r d new =
+    (n : ℕ) × (mid : Desktop) × Reaches unserved c n (become c r (with_rest (r.peer.rest ++ piece) r.peer) d) mid × StopsAt c (client_at c mid) mid new
+
+abbrev pub Feeds : Unserved → ℕ → List ℕ → Resident → Desktop → Desktop → Type 0
+Feeds unserved c piece r d new = FeedsAt unserved c piece r.peer.status r d new

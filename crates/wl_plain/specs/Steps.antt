@@ -1,0 +1,136 @@
+-- What may happen to the plain desktop: steps, and their answers.
+use Rattle.std.specs.Option.{option_map}
+use Rattle.std.specs.Prelude.{ℕ, ◌≡◌, ◌+◌, List, [], ◌∷◌, length, false, nat_le, Option, Some, None, Ok, Err, ◌⊎◌, is_none, is_some}
+use Rattle.wl_store.specs.Stores.{store_at, write_refusal}
+use Rattle.wl_store.specs.declared.stores.StoreError.{StoreError}
+use Rattle.wl_store.specs.declared.stores.StoreError.TheVariants as refused
+use Rattle.wl_client.specs.declared.clients.Cause.{Cause}
+use Rattle.wl_plain.specs.declared.answers.Fed.{Fed}
+use Rattle.wl_plain.specs.declared.answers.Fed.TheVariants.{Alive, Ended, NoClient}
+use Rattle.wl_plain.specs.declared.answers.Stored.{Stored}
+use Rattle.wl_plain.specs.declared.answers.Stored.TheVariants as stored
+use Rattle.wl_plain.specs.declared.answers.Done.{Done}
+use Rattle.wl_plain.specs.declared.answers.Done.TheVariants as gave
+use Rattle.wl_plain.specs.declared.answers.ConnectError.TheVariants.{Full, Memory}
+use Rattle.wl_client.specs.Peer.{Peer, left_by, sent_by, stored_at}
+use Rattle.wl_scene.specs.Stacking.{without_client}
+use Rattle.wl_plain.specs.Desktop.{Desktop, Resident, arrival, become, client_at, with_client, with_number}
+use Rattle.wl_plain.specs.Laws.{status_in}
+use Rattle.wl_plain.specs.Served.{Unserved}
+use Rattle.wl_plain.specs.Step.{Feeds}
+
+-- a step, of the client with a number
+pub data Act : Type 0 where
+  -- a client connects
+  Connect : Act
+  -- a piece of a client's stream comes
+  Feed : ℕ → List ℕ → Act
+  -- bytes are put into a client's store, from one byte of it on
+  Store : ℕ → ℕ → ℕ → List ℕ → Act
+  -- a client goes
+  Leave : ℕ → Act
+  -- a frame is shown, at this time
+  Tick : ℕ → Act
+  -- so many of a client's unsent bytes were sent
+  Send : ℕ → ℕ → Act
+  -- the number of a client that ended is given back
+  Close : ℕ → Act
+
+abbrev pub fed_of : Option Cause → Fed
+fed_of None = Alive
+fed_of (Some cause) = Ended cause
+
+-- what becomes of a client: it is left so, or its number is free
+abbrev pub left_so : ℕ → Resident → Option Peer → Desktop → Desktop
+left_so c r None d = record d { clients = with_number c None d.clients; standing = without_client c d.standing }
+left_so c r (Some q) d = become c r q d
+
+-- the client that is there changes by R, or there is none
+abbrev pub ChangesAt : (Peer → Done → Option Peer → Type 0) → Done → ℕ → Option Resident → Desktop → Done → Desktop → Type 0
+ChangesAt R absent c None d done new = (done ≡ absent) × (new ≡ d)
+ChangesAt R absent c (Some r) d done new = (q : Option Peer) × R r.peer done q × (new ≡ left_so c r q d)
+
+-- The client with this number changes by R, and no other.
+abbrev pub Changes : ℕ → (Peer → Done → Option Peer → Type 0) → Done → Desktop → Done → Desktop → Type 0
+Changes c R absent d done new = ChangesAt R absent c (client_at c d) d done new
+
+abbrev pub IsFedAt : Unserved → ℕ → List ℕ → Option Resident → Desktop → Done → Desktop → Type 0
+IsFedAt unserved c piece None d done new = (done ≡ gave.Feed NoClient) × (new ≡ d)
+IsFedAt unserved c piece (Some r) d done new = Feeds unserved c piece r d new × (done ≡ gave.Feed (fed_of (status_in c new)))
+
+-- what a write of a store answers: an ended client has none
+abbrev pub answer_of : Option StoreError → Stored
+answer_of None = stored.Done
+answer_of (Some refused.OutOfRange) = stored.OutOfRange
+answer_of (Some error) = stored.NoStore
+
+abbrev pub stored_of : Option Cause → Option StoreError → Stored
+stored_of None refusal = answer_of refusal
+stored_of (Some cause) refusal = stored.NoClient
+
+-- bytes are put into the store of this number, from `at` on
+abbrev pub IsStored : ℕ → ℕ → List ℕ → Peer → Done → Option Peer → Type 0
+IsStored store at bytes p done q =
+    (q ≡ Some (stored_at p.status store at bytes p)) × (done ≡ gave.Store (stored_of p.status (write_refusal store at (length bytes) p.stores)))
+
+abbrev pub IsLeft : Peer → Done → Option Peer → Type 0
+IsLeft p done q = (q ≡ Some (left_by p.status p)) × (done ≡ gave.Gone (is_none p.status))
+
+abbrev pub IsSent : ℕ → Peer → Done → Option Peer → Type 0
+IsSent n p done q = (q ≡ Some (sent_by n p)) × (done ≡ gave.Sent (nat_le n (length p.unsent)))
+
+abbrev pub closed_by : Option Cause → Peer → Option Peer
+closed_by None p = Some p
+closed_by (Some cause) p = None
+
+abbrev pub IsClosed : Peer → Done → Option Peer → Type 0
+IsClosed p done q = (q ≡ closed_by p.status p) × (done ≡ gave.Close (is_some p.status))
+
+abbrev pub next_of : Option ℕ → Option ℕ
+next_of None = None
+next_of (Some k) = Some (k + 1)
+
+-- the first place where there is none
+abbrev pub lowest : {X : Type 0} → List (Option X) → Option ℕ
+lowest [] = None
+lowest (None ∷ xs) = Some 0
+lowest (Some x ∷ xs) = next_of (lowest xs)
+
+-- The lowest free number is taken. Only want of memory may stop that.
+abbrev pub ConnectsAt : Option ℕ → Desktop → Done → Desktop → Type 0
+ConnectsAt None d done new = (done ≡ gave.Connect (Err Full)) × (new ≡ d)
+ConnectsAt (Some k) d done new =
+    ((done ≡ gave.Connect (Err Memory)) × (new ≡ d)) ⊎ ((done ≡ gave.Connect (Ok (k + 1))) × (new ≡ with_client (k + 1) (Some (arrival d.output)) d))
+
+-- What a step may do where so much isn't served: from `d` it may answer `done` and lead to `new`. A tick changes nothing yet, since no frame
+-- callback is served. Want of memory is the only choice.
+abbrev pub Steps : Unserved → Desktop → Act → Done → Desktop → Type 0
+Steps unserved d Connect done new = ConnectsAt (lowest d.clients) d done new
+Steps unserved d (Feed c piece) done new = IsFedAt unserved c piece (client_at c d) d done new
+Steps unserved d (Store c store at bytes) done new = Changes c (IsStored store at bytes) (gave.Store stored.NoClient) d done new
+Steps unserved d (Leave c) done new = Changes c IsLeft (gave.Gone false) d done new
+Steps unserved d (Tick time) done new = (done ≡ gave.Tick) × (new ≡ d)
+Steps unserved d (Send c n) done new = Changes c (IsSent n) (gave.Sent false) d done new
+Steps unserved d (Close c) done new = Changes c IsClosed (gave.Close false) d done new
+
+-- the client with this number, without what it owns
+abbrev pub peer_of : Option Resident → Option Peer
+peer_of None = None
+peer_of (Some r) = Some r.peer
+
+abbrev pub peer_at : ℕ → Desktop → Option Peer
+peer_at c d = peer_of (client_at c d)
+
+-- the bytes that wait for a client
+abbrev pub unsent_of : Option Peer → Option (List ℕ)
+unsent_of None = None
+unsent_of (Some p) = Some p.unsent
+
+abbrev pub status_of : Option Peer → Fed
+status_of None = NoClient
+status_of (Some p) = fed_of p.status
+
+-- how many bytes a client's store has
+abbrev pub store_size_of : ℕ → Option Peer → Option ℕ
+store_size_of store None = None
+store_size_of store (Some p) = option_map (λ s. length s.bytes) (store_at store p.stores)

@@ -1,0 +1,96 @@
+-- What is asked of a surface (wayland.xml, wl_compositor.create_surface and wl_surface).
+use Rattle.std.specs.Prelude.{ℕ, ℤ, pos, ◌+◌, ◌==◌, ◌&&◌, nat_le, int_le, unsigned_abs, Bool, if◌then◌else◌, Option, Some, None, Result, Ok, Err, List, [], length, is_some}
+use Rattle.std.specs.Option.{option_and_then, option_map, option_map_or}
+use Rattle.wl_wire.specs.Wire.{Field}
+use Rattle.wl_geom.specs.Region.{Change}
+use Rattle.wl_client.specs.declared.refusals.ErrorCode.{ErrorCode}
+use Rattle.wl_client.specs.declared.refusals.ErrorCode.TheVariants.{Implementation, InvalidTransform, SurfaceHasRoleObject, UnconfiguredBuffer as unconfigured}
+use Rattle.wl_client.specs.declared.refusals.Refusal.{Refusal}
+use Rattle.wl_client.specs.Buffers.{Buffer as Made}
+use Rattle.wl_client.specs.Judgement.{number_in, rect_in, word_in}
+use Rattle.wl_client.specs.Told.{display_error}
+use Rattle.wl_surface.specs.Request.{Buffer, Attach, Damage, Frame, SetOpaqueRegion, SetInputRegion, SetBufferTransform}
+use Rattle.wl_surface.specs.State.{pending}
+use Rattle.wl_surface.specs.Surfaces.{history_in, is_there}
+use Rattle.wl_shell.specs.Shell.{Effect, Stays, Unconfigured, Configures, XdgSurface, is_full, on_commit, stage_of, xdg_of}
+use Rattle.wl_plain.specs.Ask.{Ask, CreateSurface, DestroySurface, AskSurface, CommitSurface}
+use Rattle.wl_plain.specs.Desktop.{Resident}
+
+abbrev pub refuse : ℕ → ErrorCode → Result Ask Refusal
+refuse object code = Err (record { object = object; code = code })
+
+abbrev pub refuse_limit : Result Ask Refusal
+refuse_limit = Err (display_error Implementation)
+
+-- wl_compositor.create_surface: a client has at most 256 surfaces
+abbrev pub surface_created : Resident → ℕ → ℕ → Result Ask Refusal
+surface_created r id version = if nat_le 256 (length r.owned.surfaces.surfaces) then refuse_limit else Ok (CreateSurface id version)
+
+-- the buffer of a wl_buffer
+abbrev pub buffer_of : ℕ → Made → Buffer
+buffer_of id made =
+    record {
+      number = made.number;
+      object = id;
+      store = made.laid.store;
+      offset = made.laid.offset;
+      width = made.laid.width;
+      height = made.laid.height;
+      stride = made.laid.stride;
+      format = made.laid.format;
+    }
+
+-- the buffer that is named, or none for null
+abbrev pub buffer_named : Resident → ℕ → Option Buffer
+buffer_named r id = option_map (buffer_of id) (r.peer.buffers id)
+
+-- the changes of the region that is named, or none for null: a region is copied when it is set
+abbrev pub region_named : Resident → ℕ → Option (List Change)
+region_named r id = r.peer.regions id
+
+-- wl_surface.destroy: its xdg_surface must be gone
+abbrev pub surface_destroyed : Resident → ℕ → Result Ask Refusal
+surface_destroyed r object = if is_some (xdg_of object r.owned.shell) then refuse object SurfaceHasRoleObject else Ok (DestroySurface object)
+
+-- wl_surface.set_buffer_transform: one of 0 to 7
+abbrev pub transform_set : ℕ → ℤ → Result Ask Refusal
+transform_set object z =
+    if int_le (pos 0) z && int_le z (pos 7) then Ok (AskSurface object (SetBufferTransform (unsigned_abs z))) else refuse object InvalidTransform
+
+-- the state that a commit would give has a buffer
+abbrev pub will_show : Resident → ℕ → Bool
+will_show r surface = is_there (option_and_then (λ h. (pending h).buffer) (history_in surface r.owned.surfaces))
+
+-- what a commit comes to: nothing of a surface without xdg_surface
+abbrev pub effect_for : Bool → Option XdgSurface → Effect
+effect_for shows None = Stays
+effect_for shows (Some x) = on_commit (stage_of x) shows
+
+abbrev pub effect_of : Resident → ℕ → Effect
+effect_of r surface = effect_for (will_show r surface) (xdg_of surface r.owned.shell)
+
+-- the xdg_surface of a surface, and how many of its configures weren't acknowledged
+abbrev pub xdg_id : Option XdgSurface → ℕ
+xdg_id x = option_map_or (λ x. x.id) x 0
+
+abbrev pub waits_for_all : Option XdgSurface → Bool
+waits_for_all x = is_full (option_map_or (λ x. x.serials) x [])
+
+-- wl_surface.commit: a buffer before a configure was acknowledged is an error of the xdg_surface
+abbrev pub committed_for : Option XdgSurface → ℕ → Effect → Result Ask Refusal
+committed_for x object Unconfigured = refuse (xdg_id x) unconfigured
+committed_for x object Configures = if waits_for_all x then refuse_limit else Ok (CommitSurface object Configures)
+committed_for x object effect = Ok (CommitSurface object effect)
+
+abbrev pub surface_committed : Resident → ℕ → Result Ask Refusal
+surface_committed r object = committed_for (xdg_of object r.owned.shell) object (effect_of r object)
+
+abbrev pub surface_ask : Resident → ℕ → ℕ → List Field → Result Ask Refusal
+surface_ask r object opcode fields =
+    if opcode == 0 then surface_destroyed r object else (
+    if opcode == 1 then Ok (AskSurface object (Attach (buffer_named r (word_in 0 fields)) (number_in 1 fields) (number_in 2 fields))) else (
+    if opcode == 2 then Ok (AskSurface object (Damage (rect_in fields))) else (
+    if opcode == 3 then Ok (AskSurface object (Frame (r.peer.requests + 1))) else (
+    if opcode == 4 then Ok (AskSurface object (SetOpaqueRegion (region_named r (word_in 0 fields)))) else (
+    if opcode == 5 then Ok (AskSurface object (SetInputRegion (region_named r (word_in 0 fields)))) else (
+    if opcode == 6 then surface_committed r object else transform_set object (number_in 0 fields)))))))

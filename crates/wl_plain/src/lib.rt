@@ -1,0 +1,41 @@
+//! The plain desktop: in definitions, all clients with what they own, their windows, what a message and every other step does to them, and
+//! which points a step marks to be painted again; the laws of these; and how what is kept of a client stands for what it owns. There is no
+//! code here but the answers of a step.
+#![tactic(auto)]
+
+mod answers;
+
+ghost use Rattle.wl_plain.specs.Laws.{LeastIsMost, OneRun, OthersStay, ScratchStays, ServedAlone, WindowsAreDistinct};
+
+pub use answers::{ClientNo, ConnectError, Done, Fed, Stored};
+
+/// What a step marks at least is among what it marks at most.
+pub fn least_is_most()
+    ensures { LeastIsMost }
+{}
+
+/// Where no toplevel stands twice and no surface is linked to another, no surface has two windows.
+pub fn windows_are_distinct()
+    ensures { WindowsAreDistinct }
+{}
+
+/// A point that a step doesn't mark is painted from nothing as before, where the windows that keep their records show the colours that they
+/// did outside the damage that was applied.
+pub fn scratch_stays()
+    ensures { ScratchStays }
+{}
+
+/// A piece of a client's leads to one desktop, but for want of memory.
+pub fn one_run()
+    ensures { OneRun }
+{}
+
+/// A piece of a client's leaves every other client as it was.
+pub fn others_stay()
+    ensures { OthersStay }
+{}
+
+/// Where no more is served than a client's own interfaces, a piece makes of the desktop's client what it makes of the client by itself.
+pub fn served_alone()
+    ensures { ServedAlone }
+{}
