@@ -14,12 +14,18 @@ pub record Callback : Type 0 where
   pub number : ℕ
   pub id : ℕ
 
--- One client: its streams and tables; its surfaces and xdg_surfaces; by their ids the number of each wl_subsurface's link, and the values of each positioner; its frame callbacks in the order of their requests, and its wl_pointers in rising
--- id; and the serials of the latest press and of the latest release that it was told of.
+-- a wl_subsurface by its id: the number of its link, and its surface, while that is there
+pub record Subsurface : Type 0 where
+  pub id : ℕ
+  pub link : ℕ
+  pub surface : Option ℕ
+
+-- One client: its streams and tables; its surfaces and xdg_surfaces; its wl_subsurfaces; by their ids the values of each positioner; its frame
+-- callbacks in the order of their requests, and its wl_pointers in rising id; and the serials of the latest press and of the latest release that it was told of.
 pub record Resident : Type 0 where
   pub peer : Peer
   pub owned : Owned
-  pub links : ById ℕ
+  pub subsurfaces : List Subsurface
   pub positioners : ById Positioner
   pub callbacks : List Callback
   pub pointers : List ℕ
@@ -40,7 +46,7 @@ resident_of peer =
     record {
       peer = peer;
       owned = nothing_owned;
-      links = nothing;
+      subsurfaces = [];
       positioners = nothing;
       callbacks = [];
       pointers = [];

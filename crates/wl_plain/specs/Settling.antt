@@ -1,0 +1,158 @@
+-- How events are queued, how clients end, and how the focus is settled, where every request is served.
+use Rattle.std.specs.Prelude.{ℕ, zero, suc, ◌≡◌, ◌+◌, ◌==◌, ◌&&◌, ◌||◌, nat_lt, not, Bool, true, false, if◌then◌else◌, is_some, Option, Some, None, List, [], ◌∷◌, fold, ◌⊎◌}
+use Rattle.std.specs.List.{list_any}
+use Rattle.wl_client.specs.declared.clients.Cause.{Cause}
+use Rattle.wl_client.specs.declared.clients.Cause.TheVariants.{Memory, Slow}
+use Rattle.wl_client.specs.Peer.{Peer, ended, has_room, queued}
+use Rattle.wl_client.specs.Told.{Said}
+use Rattle.wl_surface.specs.Surfaces.{history_in}
+use Rattle.wl_scene.specs.Pointer.{Pointer, Target, settled}
+use Rattle.wl_scene.specs.Windows.{Window}
+use Rattle.wl_plain.specs.Changing.{drawing}
+use Rattle.wl_plain.specs.Desktop.{Desktop, Resident, become, client_at, with_client}
+use Rattle.wl_plain.specs.Pointing.{entered_surface, has_pointers, is_same, left_surface}
+use Rattle.wl_plain.specs.Replies.{focus_window}
+use Rattle.wl_plain.specs.Stacked.{all_windows}
+
+-- a client that is to end since an event for it wasn't queued, and why
+pub record Strike : Type 0 where
+  pub client : ℕ
+  pub cause : Cause
+
+-- a desktop in the middle of a step, with the clients that are to end, in rising number
+pub record Moving : Type 0 where
+  pub desktop : Desktop
+  pub struck : List Strike
+
+abbrev pub unstruck : Desktop → Moving
+unstruck d = record { desktop = d; struck = [] }
+
+-- ---- events
+
+-- One event is queued, or it isn't: past the limit, or for want of memory. `Later` is what comes where it was.
+abbrev pub QueuesFirst : Bool → Type 0 → Peer → Peer → Option Cause → Type 0
+QueuesFirst false Later p q why = (q ≡ p) × (why ≡ Some Slow)
+QueuesFirst true Later p q why = ((q ≡ p) × (why ≡ Some Memory)) ⊎ Later
+
+-- these are queued in turn, until one isn't, and why
+abbrev pub QueuesTo : List Said → Peer → Peer → Option Cause → Type 0
+QueuesTo [] p q why = (q ≡ p) × (why ≡ None)
+QueuesTo (event ∷ events) p q why = QueuesFirst (has_room p.unsent event) (QueuesTo events (queued event p) q why) p q why
+
+abbrev pub in_order : Strike → List Strike → List Strike
+in_order s [] = s ∷ []
+in_order s (t ∷ ts) = if nat_lt s.client t.client then s ∷ t ∷ ts else t ∷ in_order s ts
+
+abbrev pub struck_by : ℕ → Option Cause → List Strike → List Strike
+struck_by c None strikes = strikes
+struck_by c (Some cause) strikes = in_order (record { client = c; cause = cause }) strikes
+
+abbrev pub is_struck : ℕ → List Strike → Bool
+is_struck c strikes = list_any (λ s. s.client == c) strikes
+
+-- a client changes, and is told this of the change
+abbrev pub TellsResident : (Resident → Resident) → (Resident → List Said) → ℕ → Resident → Moving → Moving → Type 0
+TellsResident change events c r old new =
+    (q : Peer) × (why : Option Cause) × QueuesTo (events r) (change r).peer q why
+    × (new ≡ record { desktop = with_client c (Some (record (change r) { peer = q })) old.desktop; struck = struck_by c why old.struck })
+
+-- nothing is told to a client that ended or is to end
+abbrev pub TellsUnless : Bool → (Resident → Resident) → (Resident → List Said) → ℕ → Resident → Moving → Moving → Type 0
+TellsUnless true change events c r old new = new ≡ old
+TellsUnless false change events c r old new = TellsResident change events c r old new
+
+abbrev pub TellsAt : (Resident → Resident) → (Resident → List Said) → ℕ → Option Resident → Moving → Moving → Type 0
+TellsAt change events c None old new = new ≡ old
+TellsAt change events c (Some r) old new = TellsUnless (is_some r.peer.status || is_struck c old.struck) change events c r old new
+
+-- The client with this number, if it is there, changes so and is told so.
+abbrev pub Tells : (Resident → Resident) → (Resident → List Said) → ℕ → Moving → Moving → Type 0
+Tells change events c old new = TellsAt change events c (client_at c old.desktop) old new
+
+-- ---- ends
+
+-- the pointer leaves a client that ended, without telling it
+abbrev pub unless_of : ℕ → Option Target → Option Target
+unless_of c None = None
+unless_of c (Some t) = if t.client == c then None else Some t
+
+abbrev pub pointer_without : ℕ → Pointer → Pointer
+pointer_without c p = record p { focus = unless_of c p.focus; move = unless_of c p.move }
+
+abbrev pub after_status : Option Cause → ℕ → Desktop → Desktop
+after_status None c d = d
+after_status (Some cause) c d = record d { pointer = pointer_without c d.pointer }
+
+-- what becomes of a client, and of the pointer with it
+abbrev pub becomes : ℕ → Resident → Peer → Desktop → Desktop
+becomes c r q d = after_status q.status c (become c r q d)
+
+abbrev pub ended_at : ℕ → Cause → Option Resident → Desktop → Desktop
+ended_at c cause None d = d
+ended_at c cause (Some r) d = becomes c r (ended cause r.peer) d
+
+abbrev pub ended_by : Strike → Desktop → Desktop
+ended_by s d = ended_at s.client s.cause (client_at s.client d) d
+
+-- ---- the focus
+
+-- wl_pointer.leave and enter draw a serial of the client where it is told
+abbrev pub leave_drawn : ℕ → Resident → Resident
+leave_drawn surface r = drawing (is_some (history_in surface r.owned.surfaces) && has_pointers r) r
+
+abbrev pub told_drawn : Resident → Resident
+told_drawn r = drawing (has_pointers r) r
+
+abbrev pub Leaves : Option Target → Moving → Moving → Type 0
+Leaves None old new = new ≡ old
+Leaves (Some t) old new = Tells (leave_drawn t.surface) (left_surface t.surface) t.client old new
+
+abbrev pub Enters : Option Target → List Window → Moving → Moving → Type 0
+Enters None windows old new = new ≡ old
+Enters (Some t) windows old new =
+    Tells told_drawn (entered_surface old.desktop.pointer.place (focus_window (Some t) windows)) t.client old new
+
+abbrev pub with_focus : Option Target → Moving → Moving
+with_focus t m = record m { desktop = record m.desktop { pointer = record m.desktop.pointer { focus = t } } }
+
+-- the old surface is left, and the new one is entered
+abbrev pub MovesFocus : Option Target → Moving → Moving → Type 0
+MovesFocus t old new =
+    (left : Moving) × Leaves old.desktop.pointer.focus old left
+    × (entered : Moving) × Enters t (all_windows old.desktop) left entered × (new ≡ with_focus t entered)
+
+abbrev pub MovesUnless : Bool → Option Target → Moving → Moving → Type 0
+MovesUnless true t old new = new ≡ old
+MovesUnless false t old new = MovesFocus t old new
+
+-- what the pointer is on now
+abbrev pub target_now : Desktop → Option Target
+target_now d = settled d.pointer (all_windows d)
+
+abbrev pub is_settled : Desktop → Bool
+is_settled d = is_same d.pointer.focus (target_now d)
+
+-- The focus is settled once.
+abbrev pub Settles : Moving → Moving → Type 0
+Settles old new = MovesUnless (is_settled old.desktop) (target_now old.desktop) old new
+
+-- One client that is to end does, the least number first, and what comes then; where none is, the step is over.
+abbrev pub EndsFirst : (Moving → Desktop → Type 0) → List Strike → Desktop → Desktop → Type 0
+EndsFirst Next [] d new = new ≡ d
+EndsFirst Next (s ∷ ss) d new = Next (record { desktop = ended_by s d; struck = ss }) new
+
+-- After each end the focus is settled again, at most n times.
+abbrev pub SettlesAll : ℕ → Moving → Desktop → Type 0
+SettlesAll zero old new = new ≡ old.desktop
+SettlesAll (suc n) old new = (mid : Moving) × Settles old mid × EndsFirst (SettlesAll n) mid.struck mid.desktop new
+
+-- each end takes a client away, and there are 32 at most
+abbrev pub SettlesEnds : Moving → Desktop → Type 0
+SettlesEnds mid new = EndsFirst (SettlesAll 32) mid.struck mid.desktop new
+
+-- the clients that a step's own change struck end first, and then the focus is settled
+abbrev pub ended_all : List Strike → Desktop → Desktop
+ended_all strikes d = fold (λ d s. ended_by s d) d strikes
+
+abbrev pub EndsAndSettles : Moving → Desktop → Type 0
+EndsAndSettles mid new = SettlesAll 33 (unstruck (ended_all mid.struck mid.desktop)) new

@@ -1,0 +1,301 @@
+-- What may happen to the plain desktop where every request is served.
+use Rattle.std.specs.Option.{option_map}
+use Rattle.std.specs.Prelude.{ℕ, ℤ, pos, zero, suc, ◌≡◌, ◌+◌, ◌-◌, ◌-ℤ◌, ◌==◌, ◌&&◌, ◌||◌, int_lt, not, Bool, true, false, if◌then◌else◌, is_none, is_some, Option, Some, None, Result, Ok, Err, List, [], ◌∷◌, ◌++◌, length, take, drop, filter, flat_map, ◌⊎◌}
+use Rattle.std.specs.List.{list_any}
+use Rattle.wl_wire.specs.Wire.{Word, split_of}
+use Rattle.wl_proto.specs.declared.interface.Interface.TheVariants.{WlCallback}
+use Rattle.wl_proto.specs.Messages.{says}
+use Rattle.wl_wire.specs.declared.header.Split.{Split}
+use Rattle.wl_wire.specs.declared.header.Split.TheVariants.{Message as Whole, More, Bad}
+use Rattle.wl_client.specs.declared.clients.Cause.{Cause}
+use Rattle.wl_client.specs.declared.clients.Cause.TheVariants as cause
+use Rattle.wl_client.specs.declared.refusals.ErrorCode.TheVariants.{InvalidMethod}
+use Rattle.wl_client.specs.declared.refusals.Refusal.{Refusal}
+use Rattle.wl_client.specs.Peer.{Errs, IsIdle, LacksMemory, Peer, counted, ended, with_rest}
+use Rattle.wl_client.specs.Told.{Output, Said, display_error, id_deleted, said}
+use Rattle.wl_surface.specs.State.{History}
+use Rattle.wl_surface.specs.Surfaces.{Surfaces}
+use Rattle.wl_scene.specs.Pointer.{Pointer, Target, hit_by, is_down, is_press, without_button}
+use Rattle.wl_scene.specs.Stacking.{raised, without_client}
+use Rattle.wl_scene.specs.Windows.{Place, Window, counting, hit}
+use Rattle.wl_plain.specs.declared.answers.Done.{Done}
+use Rattle.wl_plain.specs.declared.answers.Done.TheVariants as gave
+use Rattle.wl_plain.specs.declared.answers.Fed.TheVariants.{NoClient}
+use Rattle.wl_plain.specs.declared.answers.Stored.TheVariants as stored
+use Rattle.wl_plain.specs.Changing.{changed_for, frames_of, grab_holder, stacked_for, with_kept_move, without_callbacks}
+use Rattle.wl_plain.specs.Demand.{Demand, Asks}
+use Rattle.wl_plain.specs.Demanding.{judge_all}
+use Rattle.wl_plain.specs.Desktop.{Callback, Desktop, Resident, client_at, with_client}
+use Rattle.wl_plain.specs.Laws.{status_in}
+use Rattle.wl_plain.specs.Pointing.{button_told, has_pointers, is_same, motion_told, moved_with}
+use Rattle.wl_plain.specs.Popups.{dismissing, popups_of}
+use Rattle.wl_plain.specs.Replies.{focus_window, popups_done, replies}
+use Rattle.wl_plain.specs.Settling.{EndsAndSettles, Moving, QueuesTo, Settles, SettlesEnds, Tells, becomes, ended_at, is_settled, target_now, told_drawn, unstruck}
+use Rattle.wl_plain.specs.Stacked.{all_windows}
+use Rattle.wl_plain.specs.Step.{takes_memory, with_peer, with_shell}
+use Rattle.wl_plain.specs.Steps.{Act, Connect, Feed, Store, Leave, Tick, Send, Close, ConnectsAt, IsClosed, IsSent, IsStored, fed_of, left_so, lowest}
+
+-- ---- one message
+
+-- what has an effect may want memory
+abbrev pub wants_memory : Demand → Bool
+wants_memory (Asks ask) = takes_memory ask
+wants_memory demand = true
+
+-- what a client becomes is settled
+abbrev pub Becomes : (Peer → Type 0) → ℕ → Resident → Desktop → Desktop → Type 0
+Becomes Q c r d new = (q : Peer) × Q q × EndsAndSettles (unstruck (becomes c r q d)) new
+
+abbrev pub after_why : Option Cause → ℕ → Desktop → Desktop
+after_why None c d = d
+after_why (Some cause) c d = ended_at c cause (client_at c d) d
+
+-- the desktop after the change of a message, before its client is told
+abbrev pub done_for : ℕ → Demand → Resident → Desktop → Desktop
+done_for c demand r d = with_kept_move (stacked_for c demand r (all_windows d) d)
+
+-- what is asked is done, its client is told, and the focus is settled
+abbrev pub Does : ℕ → Demand → Resident → Desktop → Desktop → Type 0
+Does c demand r d new =
+    (q : Peer) × (why : Option Cause)
+    × QueuesTo (replies c demand r (changed_for c demand r d) (all_windows d) d) (changed_for c demand r d).peer q why
+    × EndsAndSettles (unstruck (after_why why c (with_client c (Some (with_peer q (changed_for c demand r d))) (done_for c demand r d)))) new
+
+abbrev pub WantsOr : Bool → Type 0 → ℕ → Resident → Desktop → Desktop → Type 0
+WantsOr false Later c r d new = Later
+WantsOr true Later c r d new = Becomes (LacksMemory r.peer) c r d new ⊎ Later
+
+-- A message is done, or refused.
+abbrev pub Answers : Result Demand Refusal → ℕ → Resident → Desktop → Desktop → Type 0
+Answers (Ok demand) c r d new = WantsOr (wants_memory demand) (Does c demand (with_peer (counted r.peer) r) d new) c (with_peer (counted r.peer) r) d new
+Answers (Err refusal) c r d new = Becomes (Errs refusal r.peer) c r d new
+
+-- The first message of what has come is taken. A header whose size isn't allowed is refused as one.
+abbrev pub Takes : Split → ℕ → Resident → Desktop → Desktop → Type 0
+Takes (Whole object opcode size) c r d new =
+    Answers (judge_all r object opcode (take (size - 8) (drop 8 r.peer.rest))) c (with_peer (with_rest (drop size r.peer.rest) r.peer) r) d new
+Takes Bad c r d new = Becomes (Errs (display_error InvalidMethod) r.peer) c r d new
+Takes More c r d new = ⊥
+
+abbrev pub ServesAt : ℕ → Option Resident → Desktop → Desktop → Type 0
+ServesAt c None d new = ⊥
+ServesAt c (Some r) d new = (r.peer.status ≡ None) × Takes (split_of r.peer.rest) c r d new
+
+abbrev pub Serves : ℕ → Desktop → Desktop → Type 0
+Serves c d new = ServesAt c (client_at c d) d new
+
+-- ---- a piece
+
+-- n messages, one after another
+abbrev pub Reaches : ℕ → ℕ → Desktop → Desktop → Type 0
+Reaches c zero d new = new ≡ d
+Reaches c (suc n) d new = (mid : Desktop) × Reaches c n d mid × Serves c mid new
+
+-- The taking of messages stops where none is left, or at any moment for want of memory.
+abbrev pub StopsAt : ℕ → Option Resident → Desktop → Desktop → Type 0
+StopsAt c None d new = ⊥
+StopsAt c (Some r) d new =
+    ((new ≡ d) × IsIdle r.peer) ⊎ ((r.peer.status ≡ None) × EndsAndSettles (unstruck (becomes c r (ended cause.Memory r.peer) d)) new)
+
+abbrev pub FeedsAt : ℕ → List ℕ → Option Cause → Resident → Desktop → Desktop → Type 0
+FeedsAt c piece (Some cause) r d new = new ≡ d
+FeedsAt c piece None r d new =
+    (n : ℕ) × (mid : Desktop) × Reaches c n (with_client c (Some (with_peer (with_rest (r.peer.rest ++ piece) r.peer) r)) d) mid × StopsAt c (client_at c mid) mid new
+
+abbrev pub IsFedAt : ℕ → List ℕ → Option Resident → Desktop → Done → Desktop → Type 0
+IsFedAt c piece None d done new = (done ≡ gave.Feed NoClient) × (new ≡ d)
+IsFedAt c piece (Some r) d done new = FeedsAt c piece r.peer.status r d new × (done ≡ gave.Feed (fed_of (status_in c new)))
+
+-- ---- a client goes, is written to, or closed
+
+abbrev pub LeavesAt : ℕ → Option Resident → Desktop → Done → Desktop → Type 0
+LeavesAt c None d done new = (done ≡ gave.Gone false) × (new ≡ d)
+LeavesAt c (Some r) d done new = (done ≡ gave.Gone (is_none r.peer.status)) × LeavesBy r.peer.status r
+  where
+    LeavesBy : Option Cause → Resident → Type 0
+    LeavesBy (Some cause) r = new ≡ d
+    LeavesBy None r = EndsAndSettles (unstruck (becomes c r (ended cause.Gone r.peer) d)) new
+
+-- the client that is there changes by R, or there is none
+abbrev pub ChangesAt : (Peer → Done → Option Peer → Type 0) → Done → ℕ → Option Resident → Desktop → Done → Desktop → Type 0
+ChangesAt R absent c None d done new = (done ≡ absent) × (new ≡ d)
+ChangesAt R absent c (Some r) d done new = (q : Option Peer) × R r.peer done q × (new ≡ held_so q r)
+  where
+    held_so : Option Peer → Resident → Desktop
+    held_so None r = with_client c None d
+    held_so (Some q) r = with_client c (Some (with_peer q r)) d
+
+-- ---- a frame is shown
+
+-- the frame requests of a client's surfaces that count
+abbrev pub frames_counting : Surfaces → List ℕ
+frames_counting all = flat_map (λ s. frames_of (counting s.history)) all.surfaces
+
+abbrev pub is_counting : List ℕ → Callback → Bool
+is_counting numbers callback = list_any (λ number. number == callback.number) numbers
+
+abbrev pub callbacks_due : Resident → List Callback
+callbacks_due r = filter (is_counting (frames_counting r.owned.surfaces)) r.callbacks
+
+-- wl_callback.done with the frame's time, and its id is given back
+abbrev pub frame_told : ℕ → ℕ → List Said
+frame_told time id = said id (says WlCallback 0 (Word time ∷ [])) ∷ id_deleted id ∷ []
+
+abbrev pub frames_told : ℕ → Resident → List Said
+frames_told time r = flat_map (λ callback. frame_told time callback.id) (callbacks_due r)
+
+abbrev pub TellsFrames : ℕ → ℕ → ℕ → Moving → Moving → Type 0
+TellsFrames time zero c old new = new ≡ old
+TellsFrames time (suc n) c old new =
+    (mid : Moving) × Tells (λ r. without_callbacks (callbacks_due r) r) (frames_told time) c old mid × TellsFrames time n (suc c) mid new
+
+-- the clients in rising number
+abbrev pub Shows : ℕ → Desktop → Desktop → Type 0
+Shows time d new = (told : Moving) × TellsFrames time 32 1 (unstruck d) told × EndsAndSettles told new
+
+-- ---- the pointer moves
+
+-- a point is held within the output
+abbrev pub within : ℕ → ℤ → ℤ
+within side z = if int_lt z (pos 0) then pos 0 else (if int_lt z (pos side) then z else pos (side - 1))
+
+abbrev pub point_in : Output → ℤ → ℤ → Place
+point_in output x y = record { x = within output.width x; y = within output.height y }
+
+-- the pointer is there, and a toplevel that it moves is moved with it
+abbrev pub pointed : Place → Desktop → Desktop
+pointed at d = record d { pointer = record d.pointer { place = Some at }; standing = moved_with d.pointer.place at d.pointer.move d.standing }
+
+-- A surface that keeps the focus is told of the motion, unless a toplevel is moved.
+abbrev pub TellsMotion : ℕ → Option Target → Option Target → Moving → Moving → Type 0
+TellsMotion time moves None old new = new ≡ old
+TellsMotion time None (Some t) old new =
+    Tells (λ r. r) (motion_told time old.desktop.pointer.place (focus_window (Some t) (all_windows old.desktop))) t.client old new
+TellsMotion time (Some moved) (Some t) old new = new ≡ old
+
+abbrev pub MotionSettles : Bool → ℕ → Moving → Moving → Type 0
+MotionSettles true time old new = TellsMotion time old.desktop.pointer.move old.desktop.pointer.focus old new
+MotionSettles false time old new = Settles old new
+
+abbrev pub MovesTo : ℕ → Desktop → Desktop → Type 0
+MovesTo time d new = (told : Moving) × MotionSettles (is_settled d) time (unstruck d) told × SettlesEnds told new
+
+-- ---- a button
+
+-- the toplevel whose tree or popups hold the hit stands on top
+abbrev pub raised_by : Option Window → Desktop → Desktop
+raised_by None d = d
+raised_by (Some w) d = record d { standing = raised w.owner.client w.owner.toplevel d.standing }
+
+abbrev pub hit_now : Option Place → List Window → Option Window
+hit_now None windows = None
+hit_now (Some at) windows = hit at.x at.y windows
+
+-- A press that hits no surface of the client that holds a grab dismisses its popups with a grab.
+abbrev pub is_hit_of : ℕ → Option Window → Bool
+is_hit_of c None = false
+is_hit_of c (Some w) = w.owner.client == c
+
+abbrev pub without_grabs : Resident → Resident
+without_grabs r = with_shell (dismissing (λ p. p.popup.has_grab) r.owned.shell) r
+
+abbrev pub DismissesUnless : Bool → ℕ → Moving → Moving → Type 0
+DismissesUnless true c old new = new ≡ old
+DismissesUnless false c old new = Tells without_grabs (λ r. popups_done r (without_grabs r)) c old new
+
+abbrev pub Dismisses : Option ℕ → Option Window → Moving → Moving → Type 0
+Dismisses None w old new = new ≡ old
+Dismisses (Some holder) w old new = DismissesUnless (is_hit_of holder w) holder old new
+
+-- the focus is told of the button, and its client keeps the serial as that of its latest press or release
+abbrev pub noted : Bool → Resident → Resident
+noted true r = record r { press = Some r.peer.serial }
+noted false r = record r { release = Some r.peer.serial }
+
+abbrev pub noted_if : Bool → Bool → Resident → Resident
+noted_if true pressed r = told_drawn (noted pressed r)
+noted_if false pressed r = r
+
+abbrev pub number_of : Bool → ℕ
+number_of true = 1
+number_of false = 0
+
+abbrev pub TellsButton : ℕ → ℕ → Bool → Option Target → Moving → Moving → Type 0
+TellsButton time button pressed None old new = new ≡ old
+TellsButton time button pressed (Some t) old new =
+    Tells (λ r. noted_if (has_pointers r) pressed r) (button_told time button (number_of pressed)) t.client old new
+
+-- the serial of the press that begins a hold, where it is sent
+abbrev pub serial_for : Option Resident → Option ℕ
+serial_for None = None
+serial_for (Some r) = if has_pointers r then Some r.peer.serial else None
+
+abbrev pub press_serial : Option Target → Desktop → Option ℕ
+press_serial None d = None
+press_serial (Some t) d = serial_for (client_at t.client d)
+
+abbrev pub hold_from : List ℕ → Pointer → Desktop → Option ℕ
+hold_from [] p d = press_serial p.focus d
+hold_from (button ∷ buttons) p d = p.hold
+
+abbrev pub with_press : ℕ → Desktop → Desktop
+with_press button d =
+    record d { pointer = record d.pointer { buttons = d.pointer.buttons ++ button ∷ []; hold = hold_from d.pointer.buttons d.pointer d } }
+
+-- after the last release nothing is held and nothing moved
+abbrev pub released_to : List ℕ → Pointer → Pointer
+released_to [] p = record p { buttons = []; hold = None; move = None }
+released_to (button ∷ buttons) p = record p { buttons = button ∷ buttons }
+
+abbrev pub with_release : ℕ → Desktop → Desktop
+with_release button d = record d { pointer = released_to (without_button button d.pointer.buttons) d.pointer }
+
+-- popups are dismissed, the focus is told, and then it is settled
+abbrev pub PressedSo : ℕ → ℕ → Desktop → Desktop → Type 0
+PressedSo time button d new =
+    (dismissed : Moving)
+    × Dismisses (grab_holder d) (hit_now d.pointer.place (all_windows d)) (unstruck (with_press button (raised_by (hit_now d.pointer.place (all_windows d)) d))) dismissed
+    × (told : Moving) × TellsButton time button true d.pointer.focus dismissed told
+    × (settled : Moving) × Settles told settled × SettlesEnds settled new
+
+abbrev pub ReleasedSo : ℕ → ℕ → Desktop → Desktop → Type 0
+ReleasedSo time button d new =
+    (told : Moving) × TellsButton time button false d.pointer.focus (unstruck (with_release button d)) told
+    × (settled : Moving) × Settles told settled × SettlesEnds settled new
+
+-- a press of a button that is down, one past 16, and a release of one that isn't, do nothing
+abbrev pub PressesIf : Bool → ℕ → ℕ → Desktop → Desktop → Type 0
+PressesIf true time button d new = PressedSo time button d new
+PressesIf false time button d new = new ≡ d
+
+abbrev pub ReleasesIf : Bool → ℕ → ℕ → Desktop → Desktop → Type 0
+ReleasesIf true time button d new = ReleasedSo time button d new
+ReleasesIf false time button d new = new ≡ d
+
+abbrev pub Buttons : Bool → ℕ → ℕ → Desktop → Desktop → Type 0
+Buttons true time button d new = PressesIf (is_press button d.pointer.buttons) time button d new
+Buttons false time button d new = ReleasesIf (is_down button d.pointer.buttons) time button d new
+
+-- ---- all of them
+
+-- what happens: a step with its answer, or the pointer moves, or a button is pressed or released
+pub data Deed : Type 0 where
+  Steps : Act → Done → Deed
+  Motion : ℕ → ℤ → ℤ → Deed
+  Button : ℕ → ℕ → Bool → Deed
+
+-- A step as it is where every request is served.
+abbrev pub Acts : Act → Done → Desktop → Desktop → Type 0
+Acts Connect done d new = ConnectsAt (lowest d.clients) d done new
+Acts (Feed c piece) done d new = IsFedAt c piece (client_at c d) d done new
+Acts (Store c store at bytes) done d new = ChangesAt (IsStored store at bytes) (gave.Store stored.NoClient) c (client_at c d) d done new
+Acts (Leave c) done d new = LeavesAt c (client_at c d) d done new
+Acts (Tick time) done d new = (done ≡ gave.Tick) × Shows time d new
+Acts (Send c n) done d new = ChangesAt (IsSent n) (gave.Sent false) c (client_at c d) d done new
+Acts (Close c) done d new = ChangesAt IsClosed (gave.Close false) c (client_at c d) d done new
+
+-- What may happen to the plain desktop. Want of memory is the only choice.
+abbrev pub Happens : Deed → Desktop → Desktop → Type 0
+Happens (Steps act done) d new = Acts act done d new
+Happens (Motion time x y) d new = MovesTo time (pointed (point_in d.output x y) d) new
+Happens (Button time button pressed) d new = Buttons pressed time button d new
