@@ -35,3 +35,5 @@ pub mod TouchingAsks
 pub mod TouchingSteps
 pub mod TouchingMessages
 pub mod WholeOneRunFates
+pub mod WholeOneRunLeads
+pub mod WholeOneRunEnds

@@ -142,3 +142,134 @@ module _ (rs : List (Option Resident)) (c : ℕ) (lives : Lives c rs) (x : Optio
           at : (c ≡ a) ⊎ (c ≢ a) → fate a [] (with_number c x rs) ≡ Some cause
           at (inl same) = absurd (none-some cause (sym (ap (λ n. status_of (client_in rs n)) (sym same) ∙ status-lives) ∙ e))
           at (inr away) = status-there a away ∙ e
+
+-- ---- strikes
+
+fate-struck : (c : ℕ) (cause : Cause) (ss : List Strike) (status : Option Cause) → is_struck c ss ≡ false → fate_in c (in_order (record { client = c; cause = cause }) ss) status ≡ Some cause
+fate-struck c cause [] status fresh = ap (λ b. if b then Some cause else status) (eq-eqb c c refl)
+fate-struck c cause (t ∷ ts) status fresh = at (nat_lt c t.client) (fate-struck c cause ts status (or-right (t.client == c) (is_struck c ts) fresh))
+  where
+    at : (b : Bool) → fate_in c (in_order (record { client = c; cause = cause }) ts) status ≡ Some cause
+        → fate_in c (if b then record { client = c; cause = cause } ∷ t ∷ ts else t ∷ in_order (record { client = c; cause = cause }) ts) status ≡ Some cause
+    at true later = ap (λ b. if b then Some cause else fate_in c (t ∷ ts) status) (eq-eqb c c refl)
+    at false later =
+        ap (λ b. if b then Some t.cause else fate_in c (in_order (record { client = c; cause = cause }) ts) status) (or-left (t.client == c) (is_struck c ts) fresh)
+        ∙ later
+
+fate-else : (s : Strike) (a : ℕ) (ss : List Strike) (status : Option Cause) → (s.client == a) ≡ false → fate_in a (in_order s ss) status ≡ fate_in a ss status
+fate-else s a [] status away = ap (λ b. if b then Some s.cause else status) away
+fate-else s a (t ∷ ts) status away = at (nat_lt s.client t.client) (fate-else s a ts status away)
+  where
+    at : (b : Bool) → fate_in a (in_order s ts) status ≡ fate_in a ts status → fate_in a (if b then s ∷ t ∷ ts else t ∷ in_order s ts) status ≡ fate_in a (t ∷ ts) status
+    at true later = ap (λ b. if b then Some s.cause else fate_in a (t ∷ ts) status) away
+    at false later = ap (λ x. if t.client == a then Some t.cause else x) later
+
+pub fate-unstruck : (c : ℕ) (ss : List Strike) (status : Option Cause) → is_struck c ss ≡ false → fate_in c ss status ≡ status
+fate-unstruck c [] status fresh = refl
+fate-unstruck c (t ∷ ts) status fresh =
+    ap (λ b. if b then Some t.cause else fate_in c ts status) (or-left (t.client == c) (is_struck c ts) fresh)
+    ∙ fate-unstruck c ts status (or-right (t.client == c) (is_struck c ts) fresh)
+
+struck-others : (s : Strike) (a : ℕ) (ss : List Strike) → (s.client == a) ≡ false → is_struck a ss ≡ false → is_struck a (in_order s ss) ≡ false
+struck-others s a [] away fresh = ap (λ b. b || false) away
+struck-others s a (t ∷ ts) away fresh = at (nat_lt s.client t.client) (struck-others s a ts away (or-right (t.client == a) (is_struck a ts) fresh))
+  where
+    at : (b : Bool) → is_struck a (in_order s ts) ≡ false → is_struck a (if b then s ∷ t ∷ ts else t ∷ in_order s ts) ≡ false
+    at true later = ap (λ b. b || is_struck a (t ∷ ts)) away ∙ fresh
+    at false later = ap (λ b. b || is_struck a (in_order s ts)) (or-left (t.client == a) (is_struck a ts) fresh) ∙ later
+
+sound-order : (s : Strike) (ss : List Strike) (rs : List (Option Resident)) → Lives s.client rs → is_struck s.client ss ≡ false → AreStruck ss rs → AreStruck (in_order s ss) rs
+sound-order s [] rs lives fresh sound = (lives, fresh, tt)
+sound-order s (t ∷ ts) rs lives fresh sound =
+    at (nat_lt s.client t.client) (sound-order s ts rs lives (or-right (t.client == s.client) (is_struck s.client ts) fresh) sound.2)
+  where
+    at : (b : Bool) → AreStruck (in_order s ts) rs → AreStruck (if b then s ∷ t ∷ ts else t ∷ in_order s ts) rs
+    at true later = (lives, fresh, sound)
+    at false later = (
+        sound.0,
+        struck-others s t.client ts
+        (ne_eqb s.client t.client (λ e. eqb-false t.client s.client (or-left (t.client == s.client) (is_struck s.client ts) fresh) (sym e))) sound.1,
+        later,
+      )
+
+-- a client that lives becomes one that lives
+module _ (rs : List (Option Resident)) (c : ℕ) (lives : Lives c rs) (now : Resident) (alive : now.peer.status ≡ None) where
+  lives-put : (a : ℕ) → Lives a rs → Lives a (with_number c (Some now) rs)
+  lives-put a other = at (same-or c a)
+    where
+      at : (c ≡ a) ⊎ (c ≢ a) → Lives a (with_number c (Some now) rs)
+      at (inl same) =
+          subst (λ n. Lives n (with_number c (Some now) rs)) same
+          (record { there = now; is = number-same rs c (Some now) lives.there lives.is; alive = alive })
+      at (inr away) = record { there = other.there; is = number-other rs c a (Some now) away ∙ other.is; alive = other.alive }
+
+  sound-put : (ss : List Strike) → AreStruck ss rs → AreStruck ss (with_number c (Some now) rs)
+  sound-put [] sound = tt
+  sound-put (s ∷ ss) sound = (lives-put s.client sound.0, sound.1, sound-put ss sound.2)
+
+  status-put : (a : ℕ) → status_of (client_in (with_number c (Some now) rs) a) ≡ status_of (client_in rs a)
+  status-put a = at (same-or c a)
+    where
+      at : (c ≡ a) ⊎ (c ≢ a) → status_of (client_in (with_number c (Some now) rs) a) ≡ status_of (client_in rs a)
+      at (inl same) =
+          subst (λ n. status_of (client_in (with_number c (Some now) rs) n) ≡ status_of (client_in rs n)) same
+          (status-here rs c lives (Some now) ∙ alive ∙ sym (status-lives rs c lives (Some now)))
+      at (inr away) = status-there rs c lives (Some now) a away
+
+  -- it is told something, and may be struck by that
+  pub told-follows : (ss : List Strike) (why : Option Cause) → AreStruck ss rs → is_struck c ss ≡ false → Follows ss rs (struck_by c why ss) (with_number c (Some now) rs)
+  told-follows ss None sound fresh =
+      record {
+        sound = sound-put ss sound;
+        keeps = λ a cause e. ap (fate_in a ss) (status-put a) ∙ e;
+        fewer = number-fewer rs c lives (Some now);
+        long = number-long rs c (Some now);
+      }
+  told-follows ss (Some why) sound fresh =
+      record {
+        sound = sound-order (record { client = c; cause = why }) ss (with_number c (Some now) rs) (lives-put c lives) fresh (sound-put ss sound);
+        keeps = keeps;
+        fewer = number-fewer rs c lives (Some now);
+        long = number-long rs c (Some now);
+      }
+    where
+      keeps : (a : ℕ) (cause : Cause) → fate a ss rs ≡ Some cause → fate a (struck_by c (Some why) ss) (with_number c (Some now) rs) ≡ Some cause
+      keeps a cause e = at (c == a) refl
+        where
+          at : (b : Bool) → (c == a) ≡ b → fate a (struck_by c (Some why) ss) (with_number c (Some now) rs) ≡ Some cause
+          at false away = fate-else (record { client = c; cause = why }) a ss (status_of (client_in (with_number c (Some now) rs) a)) away ∙ ap (fate_in a ss) (status-put a) ∙ e
+          at true here =
+              absurd (none-some cause (sym (ap (λ n. fate n ss rs) (sym (eqb-true c a here)) ∙ fate-unstruck c ss (status_of (client_in rs c)) fresh ∙ status-lives rs c lives (Some now)) ∙ e))
+
+  -- and why is its fate
+  pub told-fate : (ss : List Strike) (cause : Cause) → is_struck c ss ≡ false → fate c (struck_by c (Some cause) ss) (with_number c (Some now) rs) ≡ Some cause
+  told-fate ss cause fresh = fate-struck c cause ss (status_of (client_in (with_number c (Some now) rs) c)) fresh
+
+-- ---- an end
+
+sound-end : (ss : List Strike) (rs : List (Option Resident)) (c : ℕ) (x : Option Resident) → is_struck c ss ≡ false → AreStruck ss rs → AreStruck ss (with_number c x rs)
+sound-end [] rs c x fresh sound = tt
+sound-end (t ∷ ts) rs c x fresh sound = (
+    record {
+      there = sound.0.there;
+      is = number-other rs c t.client x (λ e. eqb-false t.client c (or-left (t.client == c) (is_struck c ts) fresh) (sym e)) ∙ sound.0.is;
+      alive = sound.0.alive;
+    },
+    sound.1,
+    sound-end ts rs c x (or-right (t.client == c) (is_struck c ts) fresh) sound.2,
+  )
+
+pub ended-follows : (s : Strike) (ss : List Strike) (rs : List (Option Resident)) (x : Option Resident) → AreStruck (s ∷ ss) rs → status_of x ≡ Some s.cause → Follows (s ∷ ss) rs ss (with_number s.client x rs)
+ended-follows s ss rs x sound end =
+    record {
+      sound = sound-end ss rs s.client x sound.1 sound.2;
+      keeps = λ a cause. at a cause (s.client == a) refl;
+      fewer = number-fewer rs s.client sound.0 x;
+      long = number-long rs s.client x;
+    }
+  where
+    at : (a : ℕ) (cause : Cause) (b : Bool) → (s.client == a) ≡ b → (if b then Some s.cause else fate a ss rs) ≡ Some cause → fate a ss (with_number s.client x rs) ≡ Some cause
+    at a cause true here e =
+        fate-unstruck a ss (status_of (client_in (with_number s.client x rs) a)) (ap (λ n. is_struck n ss) (sym (eqb-true s.client a here)) ∙ sound.1)
+        ∙ ap (λ n. status_of (client_in (with_number s.client x rs) n)) (sym (eqb-true s.client a here)) ∙ status-here rs s.client sound.0 x ∙ end ∙ e
+    at a cause false away e = ap (fate_in a ss) (status-there rs s.client sound.0 x a (λ same. eqb-false s.client a away same)) ∙ e

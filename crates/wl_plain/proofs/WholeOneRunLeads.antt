@@ -1,0 +1,67 @@
+-- From the middle of a step, to what does it lead? To one thing, where no want of memory is met.
+use Rattle.std.proofs.Common.{◌≡◌, ℕ, Some, refl, ap, subst, sym, ◌∙◌}
+use Rattle.wl_client.specs.declared.clients.Cause.TheVariants.{Memory}
+use Rattle.wl_plain.specs.Settling.{Moving}
+use Rattle.wl_plain.proofs.WholeOneRunFates.{Follows, fate, follows-on, still, AreStruck}
+
+abbrev pub Sound : Moving → Type 0
+Sound m = AreStruck m.struck m.desktop.clients
+
+abbrev pub After : Moving → Moving → Type 0
+After old new = Follows old.struck old.desktop.clients new.struck new.desktop.clients
+
+-- for want of memory no client ends or is to end that wasn't before
+abbrev pub Spares : Moving → Moving → Type 0
+Spares old new = (c : ℕ) → fate c new.struck new.desktop.clients ≡ Some Memory → fate c old.struck old.desktop.clients ≡ Some Memory
+
+-- what comes of a moment, which is another moment or makes one
+pub record Leads (X : Type 0) (to : X → Moving) (old : Moving) (P : X → Type 0) : Type 0 where
+  pub follows : (new : X) → P new → After old (to new)
+  pub once : (new end : X) → P new → P end → Spares old (to new) → Spares old (to end) → new ≡ end
+
+abbrev pub moving : Moving → Moving
+moving m = m
+
+-- the first part of a way spares whom the whole spares, and so does the rest
+pub spares-first : (old mid new : Moving) → After mid new → Spares old new → Spares old mid
+spares-first old mid new later fine c e = fine c (later.keeps c Memory e)
+
+pub spares-rest : (old mid new : Moving) → After old mid → Spares old new → Spares mid new
+spares-rest old mid new before fine c e = before.keeps c Memory (fine c e)
+
+-- to one thing alone
+pub only : (X : Type 0) (to : X → Moving) (old : Moving) (x : X) → After old (to x) → Leads X to old (λ new. new ≡ x)
+only X to old x after =
+    record {
+      follows = λ new e. subst (λ y. After old (to y)) (sym e) after;
+      once = λ new end e f fine well. e ∙ sym f;
+    }
+
+-- a choice, and what comes then
+pub chained : (Y X : Type 0) (by : Y → Moving) (to : X → Moving) (old : Moving) (P : Y → Type 0) (Q : Y → X → Type 0) → Leads Y by old P → ((y : Y) → P y → Leads X to (by y) (Q y)) → Leads X to old (λ new. (y : Y) × P y × Q y new)
+chained Y X by to old P Q first next =
+    record {
+      follows = λ new h. follows-on (first.follows h.0 h.1) ((next h.0 h.1).follows new h.2);
+      once = λ new end h k fine well.
+        let same : h.0 ≡ k.0 =
+          first.once h.0 k.0 h.1 k.1 (spares-first old (by h.0) (to new) ((next h.0 h.1).follows new h.2) fine)
+          (spares-first old (by k.0) (to end) ((next k.0 k.1).follows end k.2) well) in
+        let before = first.follows k.0 k.1 in
+        (next k.0 k.1).once new end (subst (λ y. Q y new) same h.2) k.2 (spares-rest old (by k.0) (to new) before fine) (spares-rest old (by k.0) (to end) before well);
+    }
+
+-- what comes of a later moment
+pub from : (X : Type 0) (to : X → Moving) (old mid : Moving) (P : X → Type 0) → After old mid → Leads X to mid P → Leads X to old P
+from X to old mid P before leads =
+    record {
+      follows = λ new h. follows-on before (leads.follows new h);
+      once = λ new end h k fine well. leads.once new end h k (spares-rest old mid (to new) before fine) (spares-rest old mid (to end) before well);
+    }
+
+-- the same in other words
+pub worded : (X : Type 0) (to : X → Moving) (old : Moving) (P Q : X → Type 0) → ((new : X) → Q new → P new) → Leads X to old P → Leads X to old Q
+worded X to old P Q turn leads =
+    record {
+      follows = λ new h. leads.follows new (turn new h);
+      once = λ new end h k fine well. leads.once new end (turn new h) (turn end k) fine well;
+    }
