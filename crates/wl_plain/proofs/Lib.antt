@@ -37,3 +37,4 @@ pub mod TouchingMessages
 pub mod WholeOneRunFates
 pub mod WholeOneRunLeads
 pub mod WholeOneRunEnds
+pub mod WholeOneRunServes

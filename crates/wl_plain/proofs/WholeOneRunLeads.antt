@@ -1,5 +1,6 @@
 -- From the middle of a step, to what does it lead? To one thing, where no want of memory is met.
-use Rattle.std.proofs.Common.{◌≡◌, ℕ, Some, refl, ap, subst, sym, ◌∙◌}
+use Rattle.std.proofs.Common.{◌≡◌, ℕ, Some, refl, ap, subst, sym, ◌∙◌, inl, inr}
+use Rattle.std.specs.Prelude.{◌⊎◌}
 use Rattle.wl_client.specs.declared.clients.Cause.TheVariants.{Memory}
 use Rattle.wl_plain.specs.Settling.{Moving}
 use Rattle.wl_plain.proofs.WholeOneRunFates.{Follows, fate, follows-on, still, AreStruck}
@@ -65,3 +66,27 @@ worded X to old P Q turn leads =
       follows = λ new h. leads.follows new (turn new h);
       once = λ new end h k fine well. leads.once new end (turn new h) (turn end k) fine well;
     }
+
+-- to nothing at all
+pub nowhere : (X : Type 0) (to : X → Moving) (old : Moving) → Leads X to old (λ new. ⊥)
+nowhere X to old = record { follows = λ new h. absurd h; once = λ new end h k fine well. absurd h }
+
+-- where something holds
+pub given : (X : Type 0) (to : X → Moving) (old : Moving) (A : Type 0) (P : X → Type 0) → (A → Leads X to old P) → Leads X to old (λ new. A × P new)
+given X to old A P leads =
+    record {
+      follows = λ new h. (leads h.0).follows new h.1;
+      once = λ new end h k fine well. (leads h.0).once new end h.1 k.1 fine well;
+    }
+
+-- what isn't spared, or else
+pub unless : (X : Type 0) (to : X → Moving) (old : Moving) (P Q : X → Type 0) → Leads X to old P → ((new : X) → P new → Spares old (to new) → ⊥) → Leads X to old Q → Leads X to old (λ new. P new ⊎ Q new)
+unless X to old P Q first never second = record { follows = after; once = alike }
+  where
+    after : (new : X) → P new ⊎ Q new → After old (to new)
+    after new (inl h) = first.follows new h
+    after new (inr h) = second.follows new h
+    alike : (new end : X) → P new ⊎ Q new → P end ⊎ Q end → Spares old (to new) → Spares old (to end) → new ≡ end
+    alike new end (inl h) k fine well = absurd (never new h fine)
+    alike new end (inr h) (inl k) fine well = absurd (never end k well)
+    alike new end (inr h) (inr k) fine well = second.once new end h k fine well
