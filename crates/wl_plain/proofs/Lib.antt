@@ -38,3 +38,5 @@ pub mod WholeOneRunFates
 pub mod WholeOneRunLeads
 pub mod WholeOneRunEnds
 pub mod WholeOneRunServes
+pub mod WholeOneRunMoves
+pub mod WholeOneRun

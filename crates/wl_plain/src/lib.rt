@@ -6,6 +6,7 @@
 mod answers;
 
 ghost use Rattle.wl_plain.specs.Laws.{LeastIsMost, OneRun, OthersStay, ScratchStays, ServedAlone, WindowsAreDistinct};
+ghost use Rattle.wl_plain.specs.WholeLaws.{WholeOneRun};
 
 pub use answers::{ClientNo, ConnectError, Done, Fed, Stored};
 
@@ -38,4 +39,9 @@ pub fn others_stay()
 /// Where no more is served than a client's own interfaces, a piece makes of the desktop's client what it makes of the client by itself.
 pub fn served_alone()
     ensures { ServedAlone }
+{}
+
+/// Where every request is served, what happens is determined with its answer, but for want of memory.
+pub fn whole_one_run()
+    ensures { WholeOneRun }
 {}

@@ -1,0 +1,185 @@
+-- Where no want of memory is met, what happens is determined.
+use Rattle.std.proofs.Common.{◌≡◌, ◌≢◌, ℕ, ◌≤◌, List, length, Option, Some, None, refl, ap, subst, sym, ◌∙◌, arith, inl, inr}
+use Rattle.std.specs.Prelude.{ℤ, ◌+◌, false, true}
+use Rattle.wl_client.specs.declared.clients.Cause.{Cause}
+use Rattle.wl_client.specs.declared.clients.Cause.TheVariants as cause
+use Rattle.wl_client.specs.Peer.{Peer, ended}
+use Rattle.wl_plain.specs.declared.answers.Done.{Done}
+use Rattle.wl_plain.specs.declared.answers.Done.TheVariants as gave
+use Rattle.wl_plain.specs.declared.answers.Fed.TheVariants.{NoClient}
+use Rattle.wl_plain.specs.declared.answers.Stored.TheVariants as stored
+use Rattle.wl_plain.specs.Desktop.{Desktop, Resident, arrival, client_at, with_client}
+use Rattle.wl_plain.specs.Laws.{status_in}
+use Rattle.wl_plain.specs.Settling.{EndsAndSettles, becomes, unstruck}
+use Rattle.wl_plain.specs.Step.{with_peer}
+use Rattle.wl_plain.specs.Steps.{Act, Connect, Feed, Store, Leave, Tick, Send, Close, ConnectsAt, IsClosed, IsSent, IsStored, fed_of, lowest}
+use Rattle.wl_plain.specs.Whole.{Acts, Buttons, ChangesAt, Deed, FeedsAt, Happens, IsFedAt, LeavesAt, Motion, Button, MovesTo, Shows, Steps, point_in, pointed}
+use Rattle.wl_plain.specs.WholeLaws.{AreAlike, HadMemory, WholeOneRun, with_answer}
+use Rattle.wl_plain.proofs.WholeOneRunFates.{Lives, lasting, lasting-within, number-long, still}
+use Rattle.wl_plain.proofs.WholeOneRunLeads.{Leads, Spares, from, only}
+use Rattle.wl_plain.proofs.WholeOneRunMoves.{buttons-leads, moves-leads, shows-leads}
+use Rattle.wl_plain.proofs.WholeOneRunServes.{becomes-after, feeds-leads, settled-leads}
+
+-- two answers and what they come with are the same
+Same : Done → Done → Desktop → Desktop → Type 0
+Same done other new end = (done ≡ other) × (new ≡ end)
+
+-- the answer goes by what happened
+answered-once : (P : Desktop → Type 0) (answer : Desktop → Done) (d new end : Desktop) (done other : Done) → Leads Desktop unstruck (unstruck d) P → P new → P end → done ≡ answer new → other ≡ answer end → Spares (unstruck d) (unstruck new) → Spares (unstruck d) (unstruck end) → Same done other new end
+unfolding Same
+answered-once P answer d new end done other leads h k e f fine well =
+    let same = leads.once new end h k fine well in (e ∙ ap answer same ∙ sym f, same)
+
+stays-leads : (d : Desktop) → Leads Desktop unstruck (unstruck d) (λ new. new ≡ d)
+stays-leads d = only Desktop unstruck (unstruck d) d (still _ d.clients tt)
+
+-- ---- a client connects
+
+connects-once : (k : Option ℕ) (d new end : Desktop) (done other : Done) → ConnectsAt k d done new → ConnectsAt k d other end → HadMemory (Steps Connect done) d new → HadMemory (Steps Connect other) d end → Same done other new end
+unfolding Same
+connects-once None d new end done other h k fine well = (h.0 ∙ sym k.0, h.1 ∙ sym k.1)
+connects-once (Some n) d new end done other (inl h) k fine well = absurd (fine.0 (ap (λ x. Steps Connect x) h.0))
+connects-once (Some n) d new end done other (inr h) (inl k) fine well = absurd (well.0 (ap (λ x. Steps Connect x) k.0))
+connects-once (Some n) d new end done other (inr h) (inr k) fine well = (h.0 ∙ sym k.0, h.1 ∙ sym k.1)
+
+connects-long : (k : Option ℕ) (d new : Desktop) (done : Done) → ConnectsAt k d done new → length new.clients ≡ length d.clients
+connects-long None d new done h = ap (λ x. length x.clients) h.1
+connects-long (Some n) d new done (inl h) = ap (λ x. length x.clients) h.1
+connects-long (Some n) d new done (inr h) = ap (λ x. length x.clients) h.1 ∙ number-long d.clients (n + 1) (Some (arrival d.output))
+
+-- ---- a client is fed
+
+fed-once : (c : ℕ) (piece : List ℕ) (o : Option Resident) (d new end : Desktop) (done other : Done) → client_at c d ≡ o → lasting d.clients ≤ 32 → IsFedAt c piece o d done new → IsFedAt c piece o d other end → Spares (unstruck d) (unstruck new) → Spares (unstruck d) (unstruck end) → Same done other new end
+fed-once c piece None d new end done other is few h k fine well =
+    answered-once (λ new. new ≡ d) (λ new. gave.Feed NoClient) d new end done other (stays-leads d) h.1 k.1 h.0 k.0 fine well
+fed-once c piece (Some r) d new end done other is few h k fine well =
+    answered-once (FeedsAt c piece r.peer.status r d) (λ new. gave.Feed (fed_of (status_in c new))) d new end done other (feeds-leads c piece r d is few) h.0 k.0 h.1 k.1 fine well
+
+fed-long : (c : ℕ) (piece : List ℕ) (o : Option Resident) (d new : Desktop) (done : Done) → client_at c d ≡ o → lasting d.clients ≤ 32 → IsFedAt c piece o d done new → length new.clients ≡ length d.clients
+fed-long c piece None d new done is few h = ap (λ x. length x.clients) h.1
+fed-long c piece (Some r) d new done is few h = ((feeds-leads c piece r d is few).follows new h.0).long
+
+-- ---- a client goes
+
+-- a client with this status
+so : Option Cause → Resident → Resident
+so s r = record r { peer = record r.peer { status = s } }
+
+gone-leads : (c : ℕ) (r : Resident) (d : Desktop) → Lives c d.clients → lasting d.clients ≤ 32 → Leads Desktop unstruck (unstruck d) (EndsAndSettles (unstruck (becomes c r (ended cause.Gone r.peer) d)))
+gone-leads c r d lives few =
+    from Desktop unstruck (unstruck d) (unstruck (becomes c r (ended cause.Gone r.peer) d)) (EndsAndSettles (unstruck (becomes c r (ended cause.Gone r.peer) d)))
+    (becomes-after c d lives r (ended cause.Gone r.peer)) (settled-leads c d lives few r (ended cause.Gone r.peer))
+
+left-once : (c : ℕ) (s : Option Cause) (r : Resident) (d new end : Desktop) (done other : Done) → (s ≡ None → Lives c d.clients) → lasting d.clients ≤ 32 → LeavesAt c (Some (so s r)) d done new → LeavesAt c (Some (so s r)) d other end → Spares (unstruck d) (unstruck new) → Spares (unstruck d) (unstruck end) → Same done other new end
+unfolding so
+left-once c (Some cause) r d new end done other lives few h k fine well =
+    answered-once (λ new. new ≡ d) (λ new. gave.Gone false) d new end done other (stays-leads d) h.1 k.1 h.0 k.0 fine well
+left-once c None r d new end done other lives few h k fine well =
+    answered-once _ (λ new. gave.Gone true) d new end done other (gone-leads c (so None r) d (lives refl) few) h.1 k.1 h.0 k.0 fine well
+
+left-long : (c : ℕ) (s : Option Cause) (r : Resident) (d new : Desktop) (done : Done) → (s ≡ None → Lives c d.clients) → lasting d.clients ≤ 32 → LeavesAt c (Some (so s r)) d done new → length new.clients ≡ length d.clients
+unfolding so
+left-long c (Some cause) r d new done lives few h = ap (λ x. length x.clients) h.1
+left-long c None r d new done lives few h = ((gone-leads c (so None r) d (lives refl) few).follows new h.1).long
+
+leaves-once : (c : ℕ) (o : Option Resident) (d new end : Desktop) (done other : Done) → client_at c d ≡ o → lasting d.clients ≤ 32 → LeavesAt c o d done new → LeavesAt c o d other end → Spares (unstruck d) (unstruck new) → Spares (unstruck d) (unstruck end) → Same done other new end
+unfolding so
+leaves-once c None d new end done other is few h k fine well =
+    answered-once (λ new. new ≡ d) (λ new. gave.Gone false) d new end done other (stays-leads d) h.1 k.1 h.0 k.0 fine well
+leaves-once c (Some r) d new end done other is few h k fine well =
+    left-once c r.peer.status r d new end done other (λ alive. record { there = r; is = is; alive = alive }) few h k fine well
+
+leaves-long : (c : ℕ) (o : Option Resident) (d new : Desktop) (done : Done) → client_at c d ≡ o → lasting d.clients ≤ 32 → LeavesAt c o d done new → length new.clients ≡ length d.clients
+unfolding so
+leaves-long c None d new done is few h = ap (λ x. length x.clients) h.1
+leaves-long c (Some r) d new done is few h = left-long c r.peer.status r d new done (λ alive. record { there = r; is = is; alive = alive }) few h
+
+-- ---- a client is written to, sent to or closed
+
+held : Option Peer → ℕ → Resident → Desktop → Desktop
+held None c r d = with_client c None d
+held (Some q) c r d = with_client c (Some (with_peer q r)) d
+
+changed-held : (R : Peer → Done → Option Peer → Type 0) (absent done : Done) (c : ℕ) (r : Resident) (d new : Desktop) → ChangesAt R absent c (Some r) d done new → (q : Option Peer) × R r.peer done q × (new ≡ held q c r d)
+unfolding held
+changed-held R absent done c r d new (None, h, e) = (None, h, e)
+changed-held R absent done c r d new (Some q, h, e) = (Some q, h, e)
+
+changes-once : (R : Peer → Done → Option Peer → Type 0) → ((p : Peer) (a b : Done) (q r : Option Peer) → R p a q → R p b r → (a ≡ b) × (q ≡ r)) → (absent done other : Done) (c : ℕ) (o : Option Resident) (d new end : Desktop) → ChangesAt R absent c o d done new → ChangesAt R absent c o d other end → Same done other new end
+unfolding Same
+changes-once R once absent done other c None d new end h k = (h.0 ∙ sym k.0, h.1 ∙ sym k.1)
+changes-once R once absent done other c (Some r) d new end h k =
+    let first = changed-held R absent done c r d new h in
+    let second = changed-held R absent other c r d end k in
+    let same = once r.peer done other first.0 second.0 first.1 second.1 in
+    (same.0, first.2 ∙ ap (λ q. held q c r d) same.1 ∙ sym second.2)
+
+held-long : (q : Option Peer) (c : ℕ) (r : Resident) (d : Desktop) → length (held q c r d).clients ≡ length d.clients
+unfolding held
+held-long None c r d = number-long d.clients c None
+held-long (Some q) c r d = number-long d.clients c (Some (with_peer q r))
+
+changes-long : (R : Peer → Done → Option Peer → Type 0) (absent done : Done) (c : ℕ) (o : Option Resident) (d new : Desktop) → ChangesAt R absent c o d done new → length new.clients ≡ length d.clients
+changes-long R absent done c None d new h = ap (λ x. length x.clients) h.1
+changes-long R absent done c (Some r) d new h =
+    let is = changed-held R absent done c r d new h in ap (λ x. length x.clients) is.2 ∙ held-long is.0 c r d
+
+stored_once : (store at : ℕ) (bytes : List ℕ) (p : Peer) (a b : Done) (q r : Option Peer) → IsStored store at bytes p a q → IsStored store at bytes p b r → (a ≡ b) × (q ≡ r)
+stored_once store at bytes p a b q r h k = (h.1 ∙ sym k.1, h.0 ∙ sym k.0)
+
+sent_once : (n : ℕ) (p : Peer) (a b : Done) (q r : Option Peer) → IsSent n p a q → IsSent n p b r → (a ≡ b) × (q ≡ r)
+sent_once n p a b q r h k = (h.1 ∙ sym k.1, h.0 ∙ sym k.0)
+
+closed_once : (p : Peer) (a b : Done) (q r : Option Peer) → IsClosed p a q → IsClosed p b r → (a ≡ b) × (q ≡ r)
+closed_once p a b q r h k = (h.1 ∙ sym k.1, h.0 ∙ sym k.0)
+
+-- ---- all of them
+
+few-of : (d : Desktop) → length d.clients ≤ 32 → lasting d.clients ≤ 32
+few-of d short = omega (arith, lasting-within d.clients, short)
+
+acts-once : (act : Act) (d new end : Desktop) (done other : Done) → length d.clients ≤ 32 → Acts act done d new → Acts act other d end → HadMemory (Steps act done) d new → HadMemory (Steps act other) d end → Same done other new end
+acts-once Connect d new end done other short h k fine well = connects-once (lowest d.clients) d new end done other h k fine well
+acts-once (Feed c piece) d new end done other short h k fine well = fed-once c piece (client_at c d) d new end done other refl (few-of d short) h k fine.1 well.1
+acts-once (Store c store at bytes) d new end done other short h k fine well =
+    changes-once (IsStored store at bytes) (stored_once store at bytes) _ done other c (client_at c d) d new end h k
+acts-once (Leave c) d new end done other short h k fine well = leaves-once c (client_at c d) d new end done other refl (few-of d short) h k fine.1 well.1
+acts-once (Tick time) d new end done other short h k fine well =
+    answered-once (Shows time d) (λ new. gave.Tick) d new end done other (shows-leads time d (few-of d short)) h.1 k.1 h.0 k.0 fine.1 well.1
+acts-once (Send c n) d new end done other short h k fine well = changes-once (IsSent n) (sent_once n) _ done other c (client_at c d) d new end h k
+acts-once (Close c) d new end done other short h k fine well = changes-once IsClosed closed_once _ done other c (client_at c d) d new end h k
+
+motion-leads : (time : ℕ) (x y : ℤ) (d : Desktop) → length d.clients ≤ 32 → Leads Desktop unstruck (unstruck d) (Happens (Motion time x y) d)
+motion-leads time x y d short =
+    let to = pointed (point_in d.output x y) d in
+    from Desktop unstruck (unstruck d) (unstruck to) (MovesTo time to) (still _ d.clients tt) (moves-leads time to (few-of d short))
+
+deeds-once : (deed : Deed) (done : Done) (d new end : Desktop) → length d.clients ≤ 32 → Happens deed d new → Happens (with_answer done deed) d end → HadMemory deed d new → HadMemory (with_answer done deed) d end → (deed ≡ with_answer done deed) × (new ≡ end)
+unfolding Same
+deeds-once (Steps act done) other d new end short h k fine well =
+    let same = acts-once act d new end done other short h k fine well in (ap (λ x. Steps act x) same.0, same.1)
+deeds-once (Motion time x y) done d new end short h k fine well = (refl, (motion-leads time x y d short).once new end h k fine.1 well.1)
+deeds-once (Button time button pressed) done d new end short h k fine well =
+    (refl, (buttons-leads pressed time button d (few-of d short)).once new end h k fine.1 well.1)
+
+pub whole_one_run : WholeOneRun
+whole_one_run deed other old new end short alike h k fine well =
+    let again : Happens (with_answer alike.0 deed) old end = subst (λ x. Happens x old end) alike.1 k in
+    let amply : HadMemory (with_answer alike.0 deed) old end = subst (λ x. HadMemory x old end) alike.1 well in
+    let same = deeds-once deed alike.0 old new end short h again fine amply in
+    (same.0 ∙ sym alike.1, same.1)
+
+acts-long : (act : Act) (d new : Desktop) (done : Done) → length d.clients ≤ 32 → Acts act done d new → length new.clients ≡ length d.clients
+acts-long Connect d new done short h = connects-long (lowest d.clients) d new done h
+acts-long (Feed c piece) d new done short h = fed-long c piece (client_at c d) d new done refl (few-of d short) h
+acts-long (Store c store at bytes) d new done short h = changes-long (IsStored store at bytes) _ done c (client_at c d) d new h
+acts-long (Leave c) d new done short h = leaves-long c (client_at c d) d new done refl (few-of d short) h
+acts-long (Tick time) d new done short h = ((shows-leads time d (few-of d short)).follows new h.1).long
+acts-long (Send c n) d new done short h = changes-long (IsSent n) _ done c (client_at c d) d new h
+acts-long (Close c) d new done short h = changes-long IsClosed _ done c (client_at c d) d new h
+
+-- there are as many numbers as before
+pub happens-long : (deed : Deed) (d new : Desktop) → length d.clients ≤ 32 → Happens deed d new → length new.clients ≡ length d.clients
+happens-long (Steps act done) d new short h = acts-long act d new done short h
+happens-long (Motion time x y) d new short h = ((motion-leads time x y d short).follows new h).long
+happens-long (Button time button pressed) d new short h = ((buttons-leads pressed time button d (few-of d short)).follows new h).long
