@@ -40,3 +40,4 @@ pub mod WholeOneRunEnds
 pub mod WholeOneRunServes
 pub mod WholeOneRunMoves
 pub mod WholeOneRun
+pub mod WholeOneRunAll

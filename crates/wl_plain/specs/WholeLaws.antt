@@ -1,12 +1,13 @@
--- A law of the plain desktop where every request is served: only want of memory leaves a choice.
-use Rattle.std.specs.Prelude.{ℕ, ◌≡◌, ◌≢◌, ◌≤◌, length, Some, Err}
+-- Laws of the plain desktop where every request is served: only want of memory leaves a choice, and an end is for good.
+use Rattle.std.specs.Prelude.{ℕ, ◌≡◌, ◌≢◌, ◌≤◌, List, [], ◌∷◌, length, Some, Err}
+use Rattle.wl_client.specs.declared.clients.Cause.{Cause}
 use Rattle.wl_client.specs.declared.clients.Cause.TheVariants as cause
 use Rattle.wl_plain.specs.declared.answers.ConnectError.TheVariants.{Memory}
 use Rattle.wl_plain.specs.declared.answers.Done.{Done}
 use Rattle.wl_plain.specs.declared.answers.Done.TheVariants as gave
 use Rattle.wl_plain.specs.Desktop.{Desktop}
 use Rattle.wl_plain.specs.Laws.{status_in}
-use Rattle.wl_plain.specs.Steps.{Connect}
+use Rattle.wl_plain.specs.Steps.{Close, Connect}
 use Rattle.wl_plain.specs.Whole.{Deed, Steps, Happens}
 
 -- the deed with another answer, where it has one
@@ -29,3 +30,31 @@ abbrev pub WholeOneRun : Type 0
 WholeOneRun =
     (deed other : Deed) (old new end : Desktop) → length old.clients ≤ 32 → AreAlike deed other → Happens deed old new → Happens other old end
     → HadMemory deed old new → HadMemory other old end → (deed ≡ other) × (new ≡ end)
+
+-- deeds one after another
+abbrev pub Lasts : List Deed → Desktop → Desktop → Type 0
+Lasts [] old new = new ≡ old
+Lasts (deed ∷ deeds) old new = (mid : Desktop) × Happens deed old mid × Lasts deeds mid new
+
+-- each of them met no want of memory
+abbrev pub HadMemoryAll : (deeds : List Deed) → (old new : Desktop) → Lasts deeds old new → Type 0
+HadMemoryAll [] old new run = Unit {0}
+HadMemoryAll (deed ∷ deeds) old new run = HadMemory deed old run.0 × HadMemoryAll deeds run.0 new run.2
+
+abbrev pub AreAllAlike : List Deed → List Deed → Type 0
+AreAllAlike [] [] = Unit {0}
+AreAllAlike [] (other ∷ others) = ⊥
+AreAllAlike (deed ∷ deeds) [] = ⊥
+AreAllAlike (deed ∷ deeds) (other ∷ others) = AreAlike deed other × AreAllAlike deeds others
+
+-- The same of a list of deeds: it has one run that meets no want of memory, with its answers.
+abbrev pub WholeOnlyRun : Type 0
+WholeOnlyRun =
+    (deeds others : List Deed) (old new end : Desktop) → length old.clients ≤ 32 → AreAllAlike deeds others → (run : Lasts deeds old new)
+    → (other : Lasts others old end) → HadMemoryAll deeds old new run → HadMemoryAll others old end other → (deeds ≡ others) × (new ≡ end)
+
+-- A client that ended stays so, for the same cause, until its number is given back.
+abbrev pub EndsStay : Type 0
+EndsStay =
+    (deed : Deed) (old new : Desktop) (c : ℕ) (why : Cause) → length old.clients ≤ 32 → Happens deed old new → ((done : Done) → deed ≢ Steps (Close c) done)
+    → status_in c old ≡ Some why → status_in c new ≡ Some why
