@@ -41,3 +41,4 @@ pub mod WholeOneRunServes
 pub mod WholeOneRunMoves
 pub mod WholeOneRun
 pub mod WholeOneRunAll
+pub mod WholeOneRunStays

@@ -16,7 +16,7 @@ use Rattle.wl_plain.specs.Steps.{Act, Connect, Feed, Store, Leave, Tick, Send, C
 use Rattle.wl_plain.specs.Whole.{Acts, Buttons, ChangesAt, Deed, FeedsAt, Happens, IsFedAt, LeavesAt, Motion, Button, MovesTo, Shows, Steps, point_in, pointed}
 use Rattle.wl_plain.specs.WholeLaws.{AreAlike, HadMemory, WholeOneRun, with_answer}
 use Rattle.wl_plain.proofs.WholeOneRunFates.{Lives, lasting, lasting-within, number-long, still}
-use Rattle.wl_plain.proofs.WholeOneRunLeads.{Leads, Spares, from, only}
+use Rattle.wl_plain.proofs.WholeOneRunLeads.{After, Leads, Spares, from, only}
 use Rattle.wl_plain.proofs.WholeOneRunMoves.{buttons-leads, moves-leads, shows-leads}
 use Rattle.wl_plain.proofs.WholeOneRunServes.{becomes-after, feeds-leads, settled-leads}
 
@@ -55,13 +55,13 @@ fed-once c piece None d new end done other is few h k fine well =
 fed-once c piece (Some r) d new end done other is few h k fine well =
     answered-once (FeedsAt c piece r.peer.status r d) (λ new. gave.Feed (fed_of (status_in c new))) d new end done other (feeds-leads c piece r d is few) h.0 k.0 h.1 k.1 fine well
 
-fed-long : (c : ℕ) (piece : List ℕ) (o : Option Resident) (d new : Desktop) (done : Done) → client_at c d ≡ o → lasting d.clients ≤ 32 → IsFedAt c piece o d done new → length new.clients ≡ length d.clients
-fed-long c piece None d new done is few h = ap (λ x. length x.clients) h.1
-fed-long c piece (Some r) d new done is few h = ((feeds-leads c piece r d is few).follows new h.0).long
+pub fed-after : (c : ℕ) (piece : List ℕ) (o : Option Resident) (d new : Desktop) (done : Done) → client_at c d ≡ o → lasting d.clients ≤ 32 → IsFedAt c piece o d done new → After (unstruck d) (unstruck new)
+fed-after c piece None d new done is few h = (stays-leads d).follows new h.1
+fed-after c piece (Some r) d new done is few h = (feeds-leads c piece r d is few).follows new h.0
 
 -- ---- a client goes
 
--- a client with this status
+-- the client with this status
 so : Option Cause → Resident → Resident
 so s r = record r { peer = record r.peer { status = s } }
 
@@ -77,10 +77,10 @@ left-once c (Some cause) r d new end done other lives few h k fine well =
 left-once c None r d new end done other lives few h k fine well =
     answered-once _ (λ new. gave.Gone true) d new end done other (gone-leads c (so None r) d (lives refl) few) h.1 k.1 h.0 k.0 fine well
 
-left-long : (c : ℕ) (s : Option Cause) (r : Resident) (d new : Desktop) (done : Done) → (s ≡ None → Lives c d.clients) → lasting d.clients ≤ 32 → LeavesAt c (Some (so s r)) d done new → length new.clients ≡ length d.clients
+left-after : (c : ℕ) (s : Option Cause) (r : Resident) (d new : Desktop) (done : Done) → (s ≡ None → Lives c d.clients) → lasting d.clients ≤ 32 → LeavesAt c (Some (so s r)) d done new → After (unstruck d) (unstruck new)
 unfolding so
-left-long c (Some cause) r d new done lives few h = ap (λ x. length x.clients) h.1
-left-long c None r d new done lives few h = ((gone-leads c (so None r) d (lives refl) few).follows new h.1).long
+left-after c (Some cause) r d new done lives few h = (stays-leads d).follows new h.1
+left-after c None r d new done lives few h = (gone-leads c (so None r) d (lives refl) few).follows new h.1
 
 leaves-once : (c : ℕ) (o : Option Resident) (d new end : Desktop) (done other : Done) → client_at c d ≡ o → lasting d.clients ≤ 32 → LeavesAt c o d done new → LeavesAt c o d other end → Spares (unstruck d) (unstruck new) → Spares (unstruck d) (unstruck end) → Same done other new end
 unfolding so
@@ -89,19 +89,19 @@ leaves-once c None d new end done other is few h k fine well =
 leaves-once c (Some r) d new end done other is few h k fine well =
     left-once c r.peer.status r d new end done other (λ alive. record { there = r; is = is; alive = alive }) few h k fine well
 
-leaves-long : (c : ℕ) (o : Option Resident) (d new : Desktop) (done : Done) → client_at c d ≡ o → lasting d.clients ≤ 32 → LeavesAt c o d done new → length new.clients ≡ length d.clients
+pub leaves-after : (c : ℕ) (o : Option Resident) (d new : Desktop) (done : Done) → client_at c d ≡ o → lasting d.clients ≤ 32 → LeavesAt c o d done new → After (unstruck d) (unstruck new)
 unfolding so
-leaves-long c None d new done is few h = ap (λ x. length x.clients) h.1
-leaves-long c (Some r) d new done is few h = left-long c r.peer.status r d new done (λ alive. record { there = r; is = is; alive = alive }) few h
+leaves-after c None d new done is few h = (stays-leads d).follows new h.1
+leaves-after c (Some r) d new done is few h = left-after c r.peer.status r d new done (λ alive. record { there = r; is = is; alive = alive }) few h
 
 -- ---- a client is written to, sent to or closed
 
-held : Option Peer → ℕ → Resident → Desktop → Desktop
+-- what a change of it leaves there
+abbrev pub held : Option Peer → ℕ → Resident → Desktop → Desktop
 held None c r d = with_client c None d
 held (Some q) c r d = with_client c (Some (with_peer q r)) d
 
-changed-held : (R : Peer → Done → Option Peer → Type 0) (absent done : Done) (c : ℕ) (r : Resident) (d new : Desktop) → ChangesAt R absent c (Some r) d done new → (q : Option Peer) × R r.peer done q × (new ≡ held q c r d)
-unfolding held
+pub changed-held : (R : Peer → Done → Option Peer → Type 0) (absent done : Done) (c : ℕ) (r : Resident) (d new : Desktop) → ChangesAt R absent c (Some r) d done new → (q : Option Peer) × R r.peer done q × (new ≡ held q c r d)
 changed-held R absent done c r d new (None, h, e) = (None, h, e)
 changed-held R absent done c r d new (Some q, h, e) = (Some q, h, e)
 
@@ -115,7 +115,6 @@ changes-once R once absent done other c (Some r) d new end h k =
     (same.0, first.2 ∙ ap (λ q. held q c r d) same.1 ∙ sym second.2)
 
 held-long : (q : Option Peer) (c : ℕ) (r : Resident) (d : Desktop) → length (held q c r d).clients ≡ length d.clients
-unfolding held
 held-long None c r d = number-long d.clients c None
 held-long (Some q) c r d = number-long d.clients c (Some (with_peer q r))
 
@@ -135,7 +134,7 @@ closed_once p a b q r h k = (h.1 ∙ sym k.1, h.0 ∙ sym k.0)
 
 -- ---- all of them
 
-few-of : (d : Desktop) → length d.clients ≤ 32 → lasting d.clients ≤ 32
+pub few-of : (d : Desktop) → length d.clients ≤ 32 → lasting d.clients ≤ 32
 few-of d short = omega (arith, lasting-within d.clients, short)
 
 acts-once : (act : Act) (d new end : Desktop) (done other : Done) → length d.clients ≤ 32 → Acts act done d new → Acts act other d end → HadMemory (Steps act done) d new → HadMemory (Steps act other) d end → Same done other new end
@@ -149,7 +148,7 @@ acts-once (Tick time) d new end done other short h k fine well =
 acts-once (Send c n) d new end done other short h k fine well = changes-once (IsSent n) (sent_once n) _ done other c (client_at c d) d new end h k
 acts-once (Close c) d new end done other short h k fine well = changes-once IsClosed closed_once _ done other c (client_at c d) d new end h k
 
-motion-leads : (time : ℕ) (x y : ℤ) (d : Desktop) → length d.clients ≤ 32 → Leads Desktop unstruck (unstruck d) (Happens (Motion time x y) d)
+pub motion-leads : (time : ℕ) (x y : ℤ) (d : Desktop) → length d.clients ≤ 32 → Leads Desktop unstruck (unstruck d) (Happens (Motion time x y) d)
 motion-leads time x y d short =
     let to = pointed (point_in d.output x y) d in
     from Desktop unstruck (unstruck d) (unstruck to) (MovesTo time to) (still _ d.clients tt) (moves-leads time to (few-of d short))
@@ -171,9 +170,9 @@ whole_one_run deed other old new end short alike h k fine well =
 
 acts-long : (act : Act) (d new : Desktop) (done : Done) → length d.clients ≤ 32 → Acts act done d new → length new.clients ≡ length d.clients
 acts-long Connect d new done short h = connects-long (lowest d.clients) d new done h
-acts-long (Feed c piece) d new done short h = fed-long c piece (client_at c d) d new done refl (few-of d short) h
+acts-long (Feed c piece) d new done short h = (fed-after c piece (client_at c d) d new done refl (few-of d short) h).long
 acts-long (Store c store at bytes) d new done short h = changes-long (IsStored store at bytes) _ done c (client_at c d) d new h
-acts-long (Leave c) d new done short h = leaves-long c (client_at c d) d new done refl (few-of d short) h
+acts-long (Leave c) d new done short h = (leaves-after c (client_at c d) d new done refl (few-of d short) h).long
 acts-long (Tick time) d new done short h = ((shows-leads time d (few-of d short)).follows new h.1).long
 acts-long (Send c n) d new done short h = changes-long (IsSent n) _ done c (client_at c d) d new h
 acts-long (Close c) d new done short h = changes-long IsClosed _ done c (client_at c d) d new h

@@ -6,7 +6,7 @@
 mod answers;
 
 ghost use Rattle.wl_plain.specs.Laws.{LeastIsMost, OneRun, OthersStay, ScratchStays, ServedAlone, WindowsAreDistinct};
-ghost use Rattle.wl_plain.specs.WholeLaws.{WholeOneRun};
+ghost use Rattle.wl_plain.specs.WholeLaws.{EndsStay, WholeOneRun, WholeOnlyRun};
 
 pub use answers::{ClientNo, ConnectError, Done, Fed, Stored};
 
@@ -44,4 +44,14 @@ pub fn served_alone()
 /// Where every request is served, what happens is determined with its answer, but for want of memory.
 pub fn whole_one_run()
     ensures { WholeOneRun }
+{}
+
+/// A list of deeds has one run that meets no want of memory, with its answers.
+pub fn whole_only_run()
+    ensures { WholeOnlyRun }
+{}
+
+/// A client that ended stays so, for the same cause, until its number is given back.
+pub fn ends_stay()
+    ensures { EndsStay }
 {}

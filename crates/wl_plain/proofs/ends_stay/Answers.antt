@@ -1,0 +1,5 @@
+use Rattle.wl_plain.proofs.WholeOneRunStays.{ends_stay}
+use Rattle.wl_plain.proofs.ends_stay.Goals as goal
+
+pub returns : goal.returns
+returns c = ends_stay
