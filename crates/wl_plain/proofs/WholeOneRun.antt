@@ -1,5 +1,5 @@
 -- Where no want of memory is met, what happens is determined.
-use Rattle.std.proofs.Common.{◌≡◌, ◌≢◌, ℕ, ◌≤◌, List, length, Option, Some, None, refl, ap, subst, sym, ◌∙◌, arith, inl, inr}
+use Rattle.std.proofs.Common.{◌≡◌, ℕ, ◌≤◌, List, length, Option, Some, None, refl, ap, subst, sym, ◌∙◌, arith, inl, inr}
 use Rattle.std.specs.Prelude.{ℤ, ◌+◌, false, true}
 use Rattle.wl_client.specs.declared.clients.Cause.{Cause}
 use Rattle.wl_client.specs.declared.clients.Cause.TheVariants as cause
@@ -7,14 +7,13 @@ use Rattle.wl_client.specs.Peer.{Peer, ended}
 use Rattle.wl_plain.specs.declared.answers.Done.{Done}
 use Rattle.wl_plain.specs.declared.answers.Done.TheVariants as gave
 use Rattle.wl_plain.specs.declared.answers.Fed.TheVariants.{NoClient}
-use Rattle.wl_plain.specs.declared.answers.Stored.TheVariants as stored
 use Rattle.wl_plain.specs.Desktop.{Desktop, Resident, arrival, client_at, with_client}
 use Rattle.wl_plain.specs.Laws.{status_in}
 use Rattle.wl_plain.specs.Settling.{EndsAndSettles, becomes, unstruck}
 use Rattle.wl_plain.specs.Step.{with_peer}
 use Rattle.wl_plain.specs.Steps.{Act, Connect, Feed, Store, Leave, Tick, Send, Close, ConnectsAt, IsClosed, IsSent, IsStored, fed_of, lowest}
-use Rattle.wl_plain.specs.Whole.{Acts, Buttons, ChangesAt, Deed, FeedsAt, Happens, IsFedAt, LeavesAt, Motion, Button, MovesTo, Shows, Steps, point_in, pointed}
-use Rattle.wl_plain.specs.WholeLaws.{AreAlike, HadMemory, WholeOneRun, with_answer}
+use Rattle.wl_plain.specs.Whole.{Acts, ChangesAt, Deed, FeedsAt, Happens, IsFedAt, LeavesAt, Motion, Button, MovesTo, Shows, Steps, point_in, pointed}
+use Rattle.wl_plain.specs.WholeLaws.{HadMemory, WholeOneRun, with_answer}
 use Rattle.wl_plain.proofs.WholeOneRunFates.{Lives, lasting, lasting-within, number-long, still}
 use Rattle.wl_plain.proofs.WholeOneRunLeads.{After, Leads, Spares, from, only}
 use Rattle.wl_plain.proofs.WholeOneRunMoves.{buttons-leads, moves-leads, shows-leads}

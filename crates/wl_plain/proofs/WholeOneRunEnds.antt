@@ -37,6 +37,7 @@ queues-once (event ∷ events) p q r why other h k fine well = at (has_room p.un
   where
     Later : Peer → Option Cause → Type 0
     Later q why = QueuesTo events (queued event p) q why
+
     at : (b : Bool) → (Later q why → Later r other → (q ≡ r) × (why ≡ other)) → QueuesFirst b (Later q why) p q why → QueuesFirst b (Later r other) p r other → (q ≡ r) × (why ≡ other)
     at false later h k = (h.0 ∙ sym k.0, h.1 ∙ sym k.1)
     at true later (inl h) k = absurd (fine h.1)
@@ -66,10 +67,10 @@ module _ (c : ℕ) (now : Resident) (events : List Said) (old : Moving) (sound :
   unfolding Told
   told-spared y h fine e =
       let fate-was : fate c old.struck old.desktop.clients ≡ None =
-        fate-unstruck c old.struck _ fresh ∙ status-lives old.desktop.clients c lives None in
+      fate-unstruck c old.struck _ fresh ∙ status-lives old.desktop.clients c lives None in
       let fate-is : fate c (struck_by c y.1 old.struck) (told_to now c old y).desktop.clients ≡ Some Memory =
-        ap (λ why. fate c (struck_by c why old.struck) (told_to now c old y).desktop.clients) e
-        ∙ told-fate old.desktop.clients c lives (record now { peer = y.0 }) (queues-status events now.peer y.0 y.1 h ∙ alive) old.struck Memory fresh in
+      ap (λ why. fate c (struck_by c why old.struck) (told_to now c old y).desktop.clients) e
+      ∙ told-fate old.desktop.clients c lives (record now { peer = y.0 }) (queues-status events now.peer y.0 y.1 h ∙ alive) old.struck Memory fresh in
       none-some Memory (sym fate-was ∙ fine c fate-is)
 
   told-leads : Leads (Peer × Option Cause) (told_to now c old) old Told
@@ -78,8 +79,8 @@ module _ (c : ℕ) (now : Resident) (events : List Said) (old : Moving) (sound :
       record {
         follows = told-after;
         once = λ y z h k fine well.
-          let same = queues-once events now.peer y.0 z.0 y.1 z.1 h k (told-spared y h fine) (told-spared z k well) in
-          same-pair y z same.0 same.1;
+            let same = queues-once events now.peer y.0 z.0 y.1 z.1 h k (told-spared y h fine) (told-spared z k well) in
+            same-pair y z same.0 same.1;
       }
 
   resident-leads : Leads Moving moving old (λ new. (q : Peer) × (why : Option Cause) × QueuesTo events now.peer q why × (new ≡ told_to now c old (q, why)))
@@ -102,6 +103,7 @@ tells-leads change events keeps c old sound = at (client_at c old.desktop) refl
     unless r false is e =
         let alive = none-of r.peer.status (is_struck c old.struck) e in
         resident-leads c (change r) (events r) old sound (record { there = r; is = is; alive = alive }) (keeps r ∙ alive) (or-right (is_some r.peer.status) (is_struck c old.struck) e)
+
     at : (o : Option Resident) → client_at c old.desktop ≡ o → Leads Moving moving old (TellsAt change events c o old)
     at None is = only Moving moving old old (still _ _ sound)
     at (Some r) is = unless r (is_some r.peer.status || is_struck c old.struck) is refl

@@ -186,11 +186,11 @@ sound-order s (t ∷ ts) rs lives fresh sound =
     at : (b : Bool) → AreStruck (in_order s ts) rs → AreStruck (if b then s ∷ t ∷ ts else t ∷ in_order s ts) rs
     at true later = (lives, fresh, sound)
     at false later = (
-        sound.0,
-        struck-others s t.client ts
-        (ne_eqb s.client t.client (λ e. eqb-false t.client s.client (or-left (t.client == s.client) (is_struck s.client ts) fresh) (sym e))) sound.1,
-        later,
-      )
+      sound.0,
+      struck-others s t.client ts
+          (ne_eqb s.client t.client (λ e. eqb-false t.client s.client (or-left (t.client == s.client) (is_struck s.client ts) fresh) (sym e))) sound.1,
+      later,
+    )
 
 -- a client that lives becomes one that lives
 module _ (rs : List (Option Resident)) (c : ℕ) (lives : Lives c rs) (now : Resident) (alive : now.peer.status ≡ None) where
@@ -250,14 +250,14 @@ module _ (rs : List (Option Resident)) (c : ℕ) (lives : Lives c rs) (now : Res
 sound-end : (ss : List Strike) (rs : List (Option Resident)) (c : ℕ) (x : Option Resident) → is_struck c ss ≡ false → AreStruck ss rs → AreStruck ss (with_number c x rs)
 sound-end [] rs c x fresh sound = tt
 sound-end (t ∷ ts) rs c x fresh sound = (
-    record {
-      there = sound.0.there;
-      is = number-other rs c t.client x (λ e. eqb-false t.client c (or-left (t.client == c) (is_struck c ts) fresh) (sym e)) ∙ sound.0.is;
-      alive = sound.0.alive;
-    },
-    sound.1,
-    sound-end ts rs c x (or-right (t.client == c) (is_struck c ts) fresh) sound.2,
-  )
+  record {
+    there = sound.0.there;
+    is = number-other rs c t.client x (λ e. eqb-false t.client c (or-left (t.client == c) (is_struck c ts) fresh) (sym e)) ∙ sound.0.is;
+    alive = sound.0.alive;
+  },
+  sound.1,
+  sound-end ts rs c x (or-right (t.client == c) (is_struck c ts) fresh) sound.2,
+)
 
 pub ended-follows : (s : Strike) (ss : List Strike) (rs : List (Option Resident)) (x : Option Resident) → AreStruck (s ∷ ss) rs → status_of x ≡ Some s.cause → Follows (s ∷ ss) rs ss (with_number s.client x rs)
 ended-follows s ss rs x sound end =

@@ -1,9 +1,9 @@
 -- From the middle of a step, to what does it lead? To one thing, where no want of memory is met.
-use Rattle.std.proofs.Common.{◌≡◌, ℕ, Some, refl, ap, subst, sym, ◌∙◌, inl, inr}
+use Rattle.std.proofs.Common.{◌≡◌, ℕ, Some, subst, sym, ◌∙◌, inl, inr}
 use Rattle.std.specs.Prelude.{◌⊎◌}
 use Rattle.wl_client.specs.declared.clients.Cause.TheVariants.{Memory}
 use Rattle.wl_plain.specs.Settling.{Moving}
-use Rattle.wl_plain.proofs.WholeOneRunFates.{Follows, fate, follows-on, still, AreStruck}
+use Rattle.wl_plain.proofs.WholeOneRunFates.{Follows, fate, follows-on, AreStruck}
 
 abbrev pub Sound : Moving → Type 0
 Sound m = AreStruck m.struck m.desktop.clients
@@ -44,11 +44,11 @@ chained Y X by to old P Q first next =
     record {
       follows = λ new h. follows-on (first.follows h.0 h.1) ((next h.0 h.1).follows new h.2);
       once = λ new end h k fine well.
-        let same : h.0 ≡ k.0 =
+          let same : h.0 ≡ k.0 =
           first.once h.0 k.0 h.1 k.1 (spares-first old (by h.0) (to new) ((next h.0 h.1).follows new h.2) fine)
           (spares-first old (by k.0) (to end) ((next k.0 k.1).follows end k.2) well) in
-        let before = first.follows k.0 k.1 in
-        (next k.0 k.1).once new end (subst (λ y. Q y new) same h.2) k.2 (spares-rest old (by k.0) (to new) before fine) (spares-rest old (by k.0) (to end) before well);
+          let before = first.follows k.0 k.1 in
+          (next k.0 k.1).once new end (subst (λ y. Q y new) same h.2) k.2 (spares-rest old (by k.0) (to new) before fine) (spares-rest old (by k.0) (to end) before well);
     }
 
 -- what comes of a later moment
@@ -86,6 +86,7 @@ unless X to old P Q first never second = record { follows = after; once = alike 
     after : (new : X) → P new ⊎ Q new → After old (to new)
     after new (inl h) = first.follows new h
     after new (inr h) = second.follows new h
+
     alike : (new end : X) → P new ⊎ Q new → P end ⊎ Q end → Spares old (to new) → Spares old (to end) → new ≡ end
     alike new end (inl h) k fine well = absurd (never new h fine)
     alike new end (inr h) (inl k) fine well = absurd (never end k well)

@@ -3,7 +3,7 @@ use Rattle.std.proofs.Common.{◌≡◌, ℕ, zero, suc, ◌≤◌, List, [], �
 use Rattle.std.specs.Prelude.{fold}
 use Rattle.wl_client.specs.Peer.{Peer, removed}
 use Rattle.wl_scene.specs.Pointer.{Target, is_down, is_press}
-use Rattle.wl_scene.specs.Windows.{Place, Window}
+use Rattle.wl_scene.specs.Windows.{Window}
 use Rattle.wl_plain.specs.Changing.{grab_holder, without_callbacks}
 use Rattle.wl_plain.specs.Desktop.{Callback, Desktop, Resident}
 use Rattle.wl_plain.specs.Pointing.{button_told, has_pointers, motion_told}
@@ -104,13 +104,13 @@ pressed-leads time button d few =
     (chained Moving Desktop moving unstruck start (Dismisses holder w start)
     (λ dismissed new. (told : Moving) × TellsButton time button true focus dismissed told × ((settled : Moving) × Settles told settled × SettlesEnds settled new)) dismisses
     (λ dismissed h.
-      let first = dismisses.follows dismissed h in
-      let tells = button-leads time button true focus dismissed first.sound in
-      chained Moving Desktop moving unstruck dismissed (TellsButton time button true focus dismissed)
-      (λ told new. (settled : Moving) × Settles told settled × SettlesEnds settled new) tells
-      (λ told k.
-        let second = tells.follows told k in
-        settle_ends-leads told second.sound (omega (arith, few, begins.fewer, first.fewer, second.fewer))))))
+    let first = dismisses.follows dismissed h in
+    let tells = button-leads time button true focus dismissed first.sound in
+    chained Moving Desktop moving unstruck dismissed (TellsButton time button true focus dismissed)
+    (λ told new. (settled : Moving) × Settles told settled × SettlesEnds settled new) tells
+    (λ told k.
+    let second = tells.follows told k in
+    settle_ends-leads told second.sound (omega (arith, few, begins.fewer, first.fewer, second.fewer))))))
 
 released-leads : (time button : ℕ) (d : Desktop) → lasting d.clients ≤ 32 → Leads Desktop unstruck (unstruck d) (ReleasedSo time button d)
 released-leads time button d few =

@@ -1,6 +1,6 @@
 -- Where memory is there, a client's messages lead to one desktop where every request is served.
-use Rattle.std.proofs.Common.{◌≡◌, ◌≢◌, ℕ, ◌-◌, zero, suc, ◌≤◌, List, [], ◌++◌, take, drop, Bool, true, false, Option, Some, None, Result, refl, ap, subst, sym, ◌∙◌, arith, inl, inr}
-use Rattle.std.specs.Prelude.{Ok, Err, ◌⊎◌}
+use Rattle.std.proofs.Common.{◌≡◌, ◌≢◌, ℕ, zero, suc, ◌≤◌, List, [], ◌++◌, drop, Bool, true, false, Option, Some, None, Result, refl, ap, subst, sym, ◌∙◌, arith, inl, inr}
+use Rattle.std.specs.Prelude.{Ok, Err}
 use Rattle.wl_wire.specs.Wire.{split_of}
 use Rattle.wl_wire.specs.declared.header.Split.{Split}
 use Rattle.wl_wire.specs.declared.header.Split.TheVariants.{Message, More, Bad}
@@ -8,7 +8,7 @@ use Rattle.wl_client.specs.declared.clients.Cause.{Cause}
 use Rattle.wl_client.specs.declared.clients.Cause.TheVariants.{Memory}
 use Rattle.wl_client.specs.declared.refusals.ErrorCode.TheVariants.{InvalidMethod}
 use Rattle.wl_client.specs.declared.refusals.Refusal.{Refusal}
-use Rattle.wl_client.specs.Peer.{Errs, IsIdle, IsIdleAt, LacksMemory, Peer, counted, ended, with_rest}
+use Rattle.wl_client.specs.Peer.{Errs, IsIdleAt, LacksMemory, Peer, counted, ended, with_rest}
 use Rattle.wl_client.specs.Told.{Said, display_error}
 use Rattle.wl_client.proofs.Unique.{refused_is}
 use Rattle.wl_shell.specs.Shell.{Effect, Stays, Unconfigured, Configures, Maps, Unmaps}
@@ -123,7 +123,7 @@ module _ (c : ℕ) (events : List Said) (made : Resident) (d on : Desktop) (same
       (record {
         follows = λ y h. done-after y;
         once = λ y z h k fine well.
-          let one = queues-once events made.peer y.0 z.0 y.1 z.1 h k (done-spared y fine) (done-spared z well) in same-pair y z one.0 one.1;
+            let one = queues-once events made.peer y.0 z.0 y.1 z.1 h k (done-spared y fine) (done-spared z well) in same-pair y z one.0 one.1;
       })
       (λ y h. end_all-leads (unstruck (done_so y)) tt (omega (arith, few, (done-after y).fewer))))
 
@@ -242,9 +242,9 @@ stops-spared c d new few h fine = at (client_at c d) refl h
     at : (o : Option Resident) → client_at c d ≡ o → StopsAt c o d new → (new ≡ d) × ((mid : Desktop) → Serves c d mid → ⊥)
     at None is h = absurd h
     at (Some r) is (inl h) = (
-        h.0,
-        λ mid serves. let here : ServesAt c (Some r) d mid = subst (λ o. ServesAt c o d mid) is serves in idle-by c r.peer.status r d mid here.0 h.1 here.1,
-      )
+      h.0,
+      λ mid serves. let here : ServesAt c (Some r) d mid = subst (λ o. ServesAt c o d mid) is serves in idle-by c r.peer.status r d mid here.0 h.1 here.1,
+    )
     at (Some r) is (inr h) =
         let lives : Lives c d.clients = record { there = r; is = is; alive = h.0 } in
         absurd (becomes-lacking c d lives few (λ q. q ≡ ended Memory r.peer) (λ q e. ap (λ x. x.status) e) r new (ended Memory r.peer, refl, h.1) fine)
@@ -267,8 +267,8 @@ runs-once (suc n) (suc m) c d new end few h k fine well =
     let second = serves.follows k.0 k.1 in
     let less : lasting (k.0).clients ≤ 32 = omega (arith, few, second.fewer) in
     let one : h.0 ≡ k.0 =
-      serves.once h.0 k.0 h.1 k.1 (spares-first (unstruck d) (unstruck h.0) (unstruck new) (runs-after n c h.0 new (omega (arith, few, first.fewer)) h.2) fine)
-      (spares-first (unstruck d) (unstruck k.0) (unstruck end) (runs-after m c k.0 end less k.2) well) in
+    serves.once h.0 k.0 h.1 k.1 (spares-first (unstruck d) (unstruck h.0) (unstruck new) (runs-after n c h.0 new (omega (arith, few, first.fewer)) h.2) fine)
+    (spares-first (unstruck d) (unstruck k.0) (unstruck end) (runs-after m c k.0 end less k.2) well) in
     runs-once n m c k.0 new end less (subst (λ x. RunsOn n c x new) one h.2) k.2 (spares-rest (unstruck d) (unstruck k.0) (unstruck new) second fine)
     (spares-rest (unstruck d) (unstruck k.0) (unstruck end) second well)
 

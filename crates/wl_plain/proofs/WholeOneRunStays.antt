@@ -9,7 +9,7 @@ use Rattle.wl_plain.specs.declared.answers.Done.{Done}
 use Rattle.wl_plain.specs.Desktop.{Desktop, Resident, arrival, client_at, client_in, place, with_client, with_number, with_place}
 use Rattle.wl_plain.specs.Laws.{status_in, status_of}
 use Rattle.wl_plain.specs.Step.{with_peer}
-use Rattle.wl_plain.specs.Steps.{Act, Connect, Feed, Store, Leave, Tick, Send, Close, ConnectsAt, IsClosed, IsSent, IsStored, closed_by, lowest, next_of}
+use Rattle.wl_plain.specs.Steps.{Act, Connect, Feed, Store, Leave, Tick, Send, Close, ConnectsAt, IsClosed, IsSent, IsStored, lowest, next_of}
 use Rattle.wl_plain.specs.Whole.{Acts, Button, ChangesAt, Motion, Steps}
 use Rattle.wl_plain.specs.WholeLaws.{EndsStay}
 use Rattle.wl_plain.proofs.OwningKeys.{none-some, some-same}
@@ -32,6 +32,7 @@ comes-apart (Some r ∷ rs) k x e j why is = at (lowest rs) e (λ m free. comes-
         → (j : ℕ) → status_of (place (Some r ∷ rs) j) ≡ Some why → status_of (place (with_place (suc m) x (Some r ∷ rs)) j) ≡ Some why
     further m later zero is = is
     further m later (suc j) is = later j why is
+
     at : (o : Option ℕ) → next_of o ≡ Some k
         → ((m : ℕ) → o ≡ Some m → (j : ℕ) (why : Cause) → status_of (place rs j) ≡ Some why → status_of (place (with_place m x rs) j) ≡ Some why)
         → status_of (place (with_place k x (Some r ∷ rs)) j) ≡ Some why
@@ -46,9 +47,11 @@ connects-stay d new done c why h is = at (lowest d.clients) refl h
   where
     stays : new ≡ d → status_in c new ≡ Some why
     stays e = ap (λ x. status_in c x) e ∙ is
+
     apart : (k c : ℕ) → lowest d.clients ≡ Some k → status_of (client_in d.clients c) ≡ Some why → status_of (client_in (with_number (suc k) (Some (arrival d.output)) d.clients) c) ≡ Some why
     apart k zero free is = absurd (none-some why is)
     apart k (suc j) free is = comes-apart d.clients k (Some (arrival d.output)) free j why is
+
     at : (o : Option ℕ) → lowest d.clients ≡ o → ConnectsAt o d done new → status_in c new ≡ Some why
     at None free h = stays h.1
     at (Some k) free (inl h) = stays h.1
@@ -69,9 +72,11 @@ held-stay c other q r d is kept = at (same-or c other) kept
   where
     put : (x : Option Resident) → c ≢ other → status_in other (with_client c x d) ≡ status_in other d
     put x away = ap status_of (number-other d.clients c other x away)
+
     elsewhere : (q : Option Peer) → c ≢ other → status_in other (held q c r d) ≡ status_in other d
     elsewhere None away = put None away
     elsewhere (Some x) away = put (Some (with_peer x r)) away
+
     at : (c ≡ other) ⊎ (c ≢ other) → Leaves c other r.peer q → status_in other (held q c r d) ≡ status_in other d
     at (inr away) kept = elsewhere q away
     at (inl same) (inr away) = absurd (away same)
