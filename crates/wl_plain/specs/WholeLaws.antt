@@ -25,7 +25,7 @@ HadMemory deed old new =
     (deed ≢ Steps Connect (gave.Connect (Err Memory))) × ((c : ℕ) → status_in c new ≡ Some cause.Memory → status_in c old ≡ Some cause.Memory)
 
 -- Where no want of memory is met, what happens is determined, and so is what is answered. There are 32 clients at most, so no client that is to
--- end is left when the focus was settled for the last time.
+-- end is left when the focus was settled for the last time (past 32 one could be left, and whether its event was queued would be a choice).
 abbrev pub WholeOneRun : Type 0
 WholeOneRun =
     (deed other : Deed) (old new end : Desktop) → length old.clients ≤ 32 → AreAlike deed other → Happens deed old new → Happens other old end
@@ -47,7 +47,7 @@ AreAllAlike [] (other ∷ others) = ⊥
 AreAllAlike (deed ∷ deeds) [] = ⊥
 AreAllAlike (deed ∷ deeds) (other ∷ others) = AreAlike deed other × AreAllAlike deeds others
 
--- The same of a list of deeds: it has one run that meets no want of memory, with its answers.
+-- The same of a list of deeds: it has at most one run that meets no want of memory, with its answers.
 abbrev pub WholeOnlyRun : Type 0
 WholeOnlyRun =
     (deeds others : List Deed) (old new end : Desktop) → length old.clients ≤ 32 → AreAllAlike deeds others → (run : Lasts deeds old new)

@@ -46,7 +46,7 @@ pub fn whole_one_run()
     ensures { WholeOneRun }
 {}
 
-/// A list of deeds has one run that meets no want of memory, with its answers.
+/// A list of deeds has at most one run that meets no want of memory, with its answers.
 pub fn whole_only_run()
     ensures { WholeOnlyRun }
 {}
