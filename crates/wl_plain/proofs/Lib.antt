@@ -34,3 +34,4 @@ pub mod Touching
 pub mod TouchingAsks
 pub mod TouchingSteps
 pub mod TouchingMessages
+pub mod OneWindow
