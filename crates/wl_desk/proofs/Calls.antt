@@ -12,24 +12,24 @@ use Rattle.wl_client.specs.declared.clients.Cause.TheVariants.{Gone}
 use Rattle.wl_client.specs.declared.outputs.Output.{Output}
 use Rattle.wl_scene.specs.Stacking.{Stack, without_client}
 use Rattle.wl_scene.specs.declared.owned.Owned.{Owned}
-use Rattle.wl_desk.specs.Agreement.{Agrees, IsPlace, IsScene, IsSlot, numbers_in, numbers_of, with_numbers}
+use Rattle.wl_resident.specs.Agreement.{Agrees, IsPlace, IsScene, IsSlot, numbers_in, numbers_of, with_numbers}
 use Rattle.wl_plain.specs.Desktop.{Desktop, Resident, arrival, become_by, client_at, empty, place, with_client, with_number}
-use Rattle.wl_desk.specs.Seats.{IsBare, IsChangedSo, IsSeated, has_ended_in}
+use Rattle.wl_resident.specs.Seats.{IsBare, IsChangedSo, IsSeated, has_ended_in}
 use Rattle.wl_plain.specs.Served.{beyond_toplevels}
 use Rattle.wl_plain.specs.Step.{Serves}
 use Rattle.wl_plain.specs.Steps.{Changes, ChangesAt, ConnectsAt, IsClosed, closed_by, left_so, lowest, next_of, peer_at, peer_of}
-use Rattle.wl_desk.specs.View.{DeskView, OwnedView, owned_view}
+use Rattle.wl_resident.specs.View.{DeskView, OwnedView, owned_view}
 use Rattle.wl_plain.specs.declared.answers.ConnectError.TheVariants.{Full, Memory}
 use Rattle.wl_plain.specs.declared.answers.Done.{Done}
 use Rattle.wl_plain.specs.declared.answers.Done.TheVariants as gave
-use Rattle.wl_desk.specs.declared.residents.Resident.{Resident as Kept}
+use Rattle.wl_resident.specs.declared.residents.Resident.{Resident as Kept}
 use Rattle.wl_desk.proofs.Desktops.{agrees-put, at, at-map, at-within, client-past, place-at, put-map, put-set, put-twice, scene-out, seated-back, seated-out}
-use Rattle.wl_desk.proofs.Ends.{nameless-newcomer, owns-nothing}
+use Rattle.wl_resident.proofs.Ends.{nameless-newcomer, owns-nothing}
 use Rattle.wl_plain.proofs.OwningKeys.{differ, some-same}
-use Rattle.wl_desk.proofs.Scenes.{numbers-by, stack-by}
+use Rattle.wl_resident.proofs.Scenes.{numbers-by, stack-by}
 use Rattle.wl_plain.proofs.StandingSteps.{closed-stand, connects-stand, empty-stand}
-use Rattle.wl_desk.proofs.Taking.{gone-scene}
-use Rattle.wl_desk.proofs.Telling.{lives-of}
+use Rattle.wl_resident.proofs.Taking.{gone-scene}
+use Rattle.wl_resident.proofs.Telling.{lives-of}
 use Rattle.wl_plain.proofs.Places.{client-kept, number-kept}
 
 -- what the desk is seen as

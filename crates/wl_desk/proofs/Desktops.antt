@@ -6,15 +6,15 @@ use Rattle.std.proofs.lemmas.Bool.{eqb-false, eqb-true}
 use Rattle.std.proofs.lemmas.List.{get_or-set_other, get_or-set_same, length-set}
 use Rattle.wl_client.specs.View.{ClientView}
 use Rattle.wl_scene.specs.Stacking.{Stack}
-use Rattle.wl_desk.specs.Agreement.{Agrees, IsPlace, IsScene, IsSeat, numbers_in, numbers_of, with_numbers}
+use Rattle.wl_resident.specs.Agreement.{Agrees, IsPlace, IsScene, IsSeat, numbers_in, numbers_of, with_numbers}
 use Rattle.wl_plain.specs.Desktop.{Desktop, Resident, client_at, place, with_number, with_place}
-use Rattle.wl_desk.specs.Seats.{IsSeated}
+use Rattle.wl_resident.specs.Seats.{IsSeated}
 use Rattle.wl_plain.specs.Standing.{MappedStand}
 use Rattle.wl_plain.specs.Steps.{lowest, next_of}
-use Rattle.wl_desk.specs.View.{DeskView, OwnedView, owned_view}
-use Rattle.wl_desk.specs.declared.residents.Resident.{Resident as Kept}
+use Rattle.wl_resident.specs.View.{DeskView, OwnedView, owned_view}
+use Rattle.wl_resident.specs.declared.residents.Resident.{Resident as Kept}
 use Rattle.wl_plain.proofs.Places.{number-kept}
-use Rattle.wl_desk.proofs.Scenes.{stack-by}
+use Rattle.wl_resident.proofs.Scenes.{stack-by}
 
 -- ---- lists of places
 

@@ -16,23 +16,23 @@ use Rattle.wl_client.specs.declared.served.Served.TheVariants as served
 use Rattle.wl_paint.specs.Damage.{Damaged}
 use Rattle.wl_scene.specs.Stacking.{Stack}
 use Rattle.wl_scene.specs.declared.owned.Owned.{Owned}
-use Rattle.wl_desk.specs.Agreement.{Agrees, IsPlace, IsSeat, numbers_in}
+use Rattle.wl_resident.specs.Agreement.{Agrees, IsPlace, IsSeat, numbers_in}
 use Rattle.wl_plain.specs.Ask.{Ask}
 use Rattle.wl_plain.specs.Desktop.{Desktop, Resident, become, become_by, client_at, client_in, resident_of, with_number}
 use Rattle.wl_desk.specs.Feeding.{IsIdleIn, IsIdleOf, ended_at, ended_of, kept_at, kept_by, kept_in, kept_of, kept_while, rest_in, served_as, served_by, served_of}
-use Rattle.wl_desk.specs.Marking.{AreUnlinked, Marks}
-use Rattle.wl_desk.specs.Seats.{IsSeated, ended_by}
+use Rattle.wl_resident.specs.Marking.{AreUnlinked, Marks}
+use Rattle.wl_resident.specs.Seats.{IsSeated, ended_by}
 use Rattle.wl_plain.specs.Served.{Unserved, beyond_toplevels}
 use Rattle.wl_plain.specs.Step.{Answers, Becomes, Serves, ServesAt, Takes, WantsOr, changed_by, stacked, takes_memory}
 use Rattle.wl_plain.specs.Steps.{fed_of, peer_at, status_of}
-use Rattle.wl_desk.specs.View.{DeskView, OwnedView, owned_view}
-use Rattle.wl_desk.specs.declared.residents.Resident.{Resident as Kept}
+use Rattle.wl_resident.specs.View.{DeskView, OwnedView, owned_view}
+use Rattle.wl_resident.specs.declared.residents.Resident.{Resident as Kept}
 use Rattle.wl_desk.proofs.Calls.{IsFound, back, client-there, out, place-here, place-none, untaken, view_of}
 use Rattle.wl_desk.proofs.Desktops.{IsPut, at, at-map, at-within, client-past, numbers-put, place-at, put-map, put-set, put-twice, seated-back}
 use Rattle.wl_desk.proofs.MarkedCalls.{unlinked}
 use Rattle.wl_plain.proofs.Places.{number-same, stacked-clients}
-use Rattle.wl_desk.proofs.Scenes.{stack-by}
-use Rattle.wl_desk.proofs.Telling.{come-seated, come_on, come_to}
+use Rattle.wl_resident.proofs.Scenes.{stack-by}
+use Rattle.wl_resident.proofs.Telling.{come-seated, come_on, come_to}
 
 pub ok-then : {A E P Q : Type 0} (r : Result A E) → (P → Q) → OnOk r P → OnOk r Q
 ok-then (Ok v) f p = f p

@@ -9,12 +9,12 @@ use Rattle.wl_surface.specs.Kept.{Slots}
 use Rattle.wl_surface.specs.Surfaces.{no_surfaces}
 use Rattle.wl_scene.specs.Lent.{slots_lent, slots_of}
 use Rattle.wl_scene.specs.declared.owned.Owned.{Owned}
-use Rattle.wl_desk.specs.Agreement.{Agrees, IsPlace, numbers_in, numbers_of}
+use Rattle.wl_resident.specs.Agreement.{Agrees, IsPlace, numbers_in, numbers_of}
 use Rattle.wl_plain.specs.Desktop.{Desktop, Resident, client_at, owned_in, owned_of, place}
 use Rattle.wl_desk.specs.Lent.{client_lent}
 use Rattle.wl_plain.specs.Owning.{AreKept}
 use Rattle.wl_desk.specs.Painting.{AreLent}
-use Rattle.wl_desk.specs.View.{DeskView, OwnedView, owned_view}
+use Rattle.wl_resident.specs.View.{DeskView, OwnedView, owned_view}
 use Rattle.wl_desk.proofs.Desktops.{at-map}
 use Rattle.wl_plain.proofs.StandingDesks.{all-show}
 

@@ -12,27 +12,27 @@ use Rattle.wl_surface.specs.Surfaces.{history_in}
 use Rattle.wl_scene.specs.Stacking.{Owned as Owns, Stack, Standing, is_of, nothing_owned, windows_on, without_client}
 use Rattle.wl_scene.specs.Windows.{Window, contains}
 use Rattle.wl_scene.specs.declared.owned.Owned.{Owned}
-use Rattle.wl_desk.specs.Agreement.{Agrees, IsPlace, IsStack, numbers_in}
+use Rattle.wl_resident.specs.Agreement.{Agrees, IsPlace, IsStack, numbers_in}
 use Rattle.wl_plain.specs.Desktop.{Desktop, Resident, arrival, become, client_at, client_in, owned_in, owned_of, place, windows_in, with_number, with_place}
 use Rattle.wl_desk.specs.Feeding.{ended_at, ended_of}
 use Rattle.wl_plain.specs.Laws.{OwnsNothing, status_of}
-use Rattle.wl_desk.specs.Marking.{AreUnlinked, Marks, MarksEnd, stands_any}
+use Rattle.wl_resident.specs.Marking.{AreUnlinked, Marks, MarksEnd, stands_any}
 use Rattle.wl_plain.specs.Moments.{marks_at_least}
-use Rattle.wl_desk.specs.Seats.{IsChangedSo, IsSeated, ended_by, has_ended_in}
+use Rattle.wl_resident.specs.Seats.{IsChangedSo, IsSeated, ended_by, has_ended_in}
 use Rattle.wl_plain.specs.Standing.{AreMapped}
 use Rattle.wl_plain.specs.Steps.{Changes, ChangesAt, ConnectsAt, IsClosed, closed_by, left_so, lowest}
 use Rattle.wl_plain.specs.Touching.{any_window_at, has_window_at}
-use Rattle.wl_desk.specs.View.{DeskView, OwnedView, owned_view}
+use Rattle.wl_resident.specs.View.{DeskView, OwnedView, owned_view}
 use Rattle.wl_plain.specs.declared.answers.Done.{Done}
 use Rattle.wl_plain.specs.declared.answers.Done.TheVariants as gave
-use Rattle.wl_desk.specs.declared.residents.Resident.{Resident as Kept}
+use Rattle.wl_resident.specs.declared.residents.Resident.{Resident as Kept}
 use Rattle.wl_desk.proofs.Calls.{IsFound, client-here, closed-none, lowest-at, out, untaken, view_of}
 use Rattle.wl_desk.proofs.Desktops.{at, client-past, place-at}
 use Rattle.std.proofs.lemmas.Bool.{eqb-true}
 use Rattle.wl_plain.proofs.Stacks.{and-left, differ}
 use Rattle.wl_plain.proofs.Places.{status-become}
 use Rattle.wl_plain.proofs.StandingLists.{any-gone, of-it}
-use Rattle.wl_desk.proofs.Telling.{lives-of}
+use Rattle.wl_resident.proofs.Telling.{lives-of}
 use Rattle.wl_plain.proofs.Touching.{desktops-touch, same-stays}
 use Rattle.wl_plain.proofs.TouchingMarks.{is_else}
 use Rattle.wl_plain.proofs.TouchingSteps.{end-touches, none-there, none_of, told-marks-nothing}

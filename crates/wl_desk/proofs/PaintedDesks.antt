@@ -10,7 +10,7 @@ use Rattle.wl_paint.specs.Window.{scratch as painted}
 use Rattle.wl_scene.specs.Lent.{slots_lent}
 use Rattle.wl_scene.specs.Stacking.{Stack}
 use Rattle.wl_scene.specs.declared.owned.Owned.{Owned}
-use Rattle.wl_desk.specs.Agreement.{Agrees, numbers_in}
+use Rattle.wl_resident.specs.Agreement.{Agrees, numbers_in}
 use Rattle.wl_plain.specs.Desktop.{Desktop}
 use Rattle.wl_desk.specs.Lent.{client_lent, windows_lent}
 use Rattle.wl_desk.specs.Painting.{AreLent, IsColor, IsOpaqueAsSaid}

@@ -36,28 +36,9 @@ use Rattle.wl_surface.specs.Surfaces.{Surface, Surfaces, history_in, is_there, s
 use Rattle.wl_scene.proofs.Lone.{no-child, order-once}
 use Rattle.wl_scene.specs.Lent.{AllShow, Shows, shows_buffer}
 use Rattle.wl_scene.specs.Windows.{Owner, Place, Window, corner_at, contains, counting, member_windows, owner_of, shown_windows, surface_windows, tree, window_of, window_showing, window_with}
-use Rattle.wl_desk.specs.Agreement.{IsStack}
+use Rattle.wl_plain.proofs.OneWindow.{one-window, window_list}
+use Rattle.wl_resident.specs.Agreement.{IsStack}
 use Rattle.wl_desk.specs.Painting.{IsColor, LendsOpaqueAsSaid, PaintsTheDesktop}
-
--- ---- without links a toplevel has one window
-
--- what a surface shows by itself
-abbrev pub window_list : Owner → ℕ → Place → Option History → List Window
-window_list owner surface place None = []
-window_list owner surface place (Some h) = window_of owner surface (corner_at place h) h
-
-one-shown : (next : ℕ → Place → List Window) (owner : Owner) (surfaces : Surfaces) (surface : ℕ) (place : Place) (o : Option History) → surfaces.links ≡ [] → shows_buffer o ≡ true → surface_windows next owner surfaces surface place o ≡ window_list owner surface place o
-one-shown next owner surfaces surface place None unlinked shows = refl
-one-shown next owner surfaces surface place (Some h) unlinked shows = by (applied h).buffer shows
-  where
-    by : (buffer : Option Buffer) → is_there buffer ≡ true → shown_windows next owner surfaces surface h (corner_at place h) buffer ≡ window_of owner surface (corner_at place h) h
-    by None there = absurd (cc)
-    by (Some buffer) there = order-once (member_windows next owner surfaces surface h (corner_at place h)) (no-child next owner surfaces surface h (corner_at place h) unlinked) (counting h)
-
-pub one-window : (levels : ℕ) (owner : Owner) (surfaces : Surfaces) (surface : ℕ) (place : Place) → surfaces.links ≡ [] → shows_buffer (history_in surface surfaces) ≡ true → tree (suc levels) owner surfaces surface place ≡ window_list owner surface place (history_in surface surfaces)
-unfolding tree
-one-window levels owner surfaces surface place unlinked shows =
-    one-shown (λ child at. tree levels owner surfaces child at) owner surfaces surface place (history_in surface surfaces) unlinked shows
 
 -- ---- colours
 

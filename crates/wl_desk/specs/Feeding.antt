@@ -6,13 +6,13 @@ use Rattle.wl_client.specs.declared.clients.Cause.{Cause}
 use Rattle.wl_client.specs.declared.clients.Cause.TheVariants as cause
 use Rattle.wl_client.specs.declared.served.Served.{Served}
 use Rattle.wl_client.specs.declared.served.Served.TheVariants as served
-use Rattle.wl_desk.specs.Agreement.{Agrees}
+use Rattle.wl_resident.specs.Agreement.{Agrees}
 use Rattle.wl_plain.specs.Desktop.{Desktop, Resident, become, client_at}
-use Rattle.wl_desk.specs.Marking.{Marks}
-use Rattle.wl_desk.specs.Seats.{ended_by}
+use Rattle.wl_resident.specs.Marking.{Marks}
+use Rattle.wl_resident.specs.Seats.{ended_by}
 use Rattle.wl_plain.specs.Served.{beyond_toplevels}
 use Rattle.wl_plain.specs.Steps.{Act, Steps}
-use Rattle.wl_desk.specs.View.{DeskView, MarkedDesk}
+use Rattle.wl_resident.specs.View.{DeskView, MarkedDesk}
 use Rattle.wl_plain.specs.declared.answers.Done.{Done}
 use Rattle.wl_plain.specs.declared.answers.Fed.{Fed}
 use Rattle.wl_plain.specs.declared.answers.Fed.TheVariants as fed

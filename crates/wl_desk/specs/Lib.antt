@@ -1,9 +1,3 @@
-pub mod Agreement
 pub mod Feeding
 pub mod Lent
-pub mod Marking
-pub mod Messages
 pub mod Painting
-pub mod Residents
-pub mod Seats
-pub mod View

@@ -12,7 +12,7 @@ use Rattle.wl_paint.specs.Window.{scratch as painted}
 use Rattle.wl_scene.specs.Lent.{AllShow}
 use Rattle.wl_scene.specs.Stacking.{Standing}
 use Rattle.wl_scene.specs.Windows.{contains}
-use Rattle.wl_desk.specs.Agreement.{IsStack}
+use Rattle.wl_resident.specs.Agreement.{IsStack}
 use Rattle.wl_plain.specs.Desktop.{Desktop, client_at, owned_in, windows_in}
 use Rattle.wl_desk.specs.Lent.{windows_lent}
 use Rattle.wl_plain.specs.Owning.{AreKept}

@@ -8,18 +8,15 @@ ghost use Rattle.wl_paint.specs.Damage.{has};
 ghost use Rattle.wl_paint.specs.Frame.{color_at, is_side};
 ghost use Rattle.wl_plain.specs.Desktop.{Desktop, empty};
 ghost use Rattle.wl_plain.specs.Steps.{Connect, Feed, Store, Leave, Send, Close, lowest, peer_at, unsent_of, status_of, store_size_of};
-ghost use Rattle.wl_desk.specs.Agreement.{Agrees, IsSlot, TakesStep};
+ghost use Rattle.wl_resident.specs.Agreement.{Agrees, IsSlot, TakesStep};
 ghost use Rattle.wl_desk.specs.Feeding.{IsIdleIn, MarksStep, ended_at, kept_at, kept_in, rest_in, served_as, served_of};
-ghost use Rattle.wl_desk.specs.Marking.{IsAsLarge, Marks};
+ghost use Rattle.wl_resident.specs.Marking.{IsAsLarge, Marks};
 ghost use Rattle.wl_desk.specs.Painting.{IsOpaqueAsSaid};
 ghost use Rattle.wl_plain.specs.Scratch.{scratch};
-ghost use Rattle.wl_desk.specs.Seats.{has_ended_in};
+ghost use Rattle.wl_resident.specs.Seats.{has_ended_in};
 ghost use Rattle.wl_plain.specs.Served.{beyond_toplevels};
 ghost use Rattle.wl_plain.specs.Step.{Serves};
 
-use crate::feeding::{bare, stands_any};
-use crate::marking::mark_everywhere;
-use crate::residents::Resident;
 use crate::windows::Lent;
 use std::alloc::{AllocError, Allocator};
 use std::marker::Model;
@@ -27,6 +24,7 @@ use wl_client::{Cause, Client, Output, Served, StoreNo};
 use wl_geom::Region;
 use wl_paint::{Damage, FrameError, Framebuffer, MAX_SIDE};
 use wl_plain::{ClientNo, ConnectError, Done, Fed, Stored};
+use wl_resident::{Resident, bare, mark_everywhere, stands_any};
 use wl_scene::{Owned, Scene};
 
 /// How many clients there may be at once.
@@ -47,7 +45,7 @@ pub struct Desk<A: Allocator> {
 impl<A: Allocator> Model for Desk<A> {
     ghost use Rattle.std.specs.Option.{option_map};
     ghost use Rattle.std.specs.Prelude.{◌≡◌, length, map};
-    ghost use Rattle.wl_desk.specs.View.{MarkedDesk, owned_view};
+    ghost use Rattle.wl_resident.specs.View.{MarkedDesk, owned_view};
 
     ghost Value = { MarkedDesk };
 

@@ -13,9 +13,10 @@ use std::alloc::Allocator;
 use wl_client::Client;
 use wl_geom::Region;
 use wl_paint::{Painted, Windows};
+use wl_resident::corner_of;
 use wl_scene::{Owned, Scene, Surface, Toplevel};
 use wl_store::{Picture, Transform};
-use wl_surface::{Attached, Current, Offset, bounded_sum};
+use wl_surface::{Attached, Current};
 
 /// The mapped toplevels with what is kept of the clients and of their surfaces, that of client c at index c - 1, and a region without a
 /// point.
@@ -87,14 +88,6 @@ fn or_transparent(picture: Option<Picture<'_>>) -> Picture<'_>
         Some(picture) => picture,
         None => Picture::transparent(),
     }
-}
-
-/// Where the corner of a toplevel's surface is that has moved so far.
-pub(crate) fn corner_of(toplevel: &Toplevel, by: Offset) -> (i32, i32)
-    ensures x { result.0 ≡ within_bounds (toplevel.now.x +ℤ by.x) }
-    ensures y { result.1 ≡ within_bounds (toplevel.now.y +ℤ by.y) }
-{
-    (bounded_sum(toplevel.x, by.x), bounded_sum(toplevel.y, by.y))
 }
 
 /// The window of a toplevel.

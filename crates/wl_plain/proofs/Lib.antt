@@ -42,3 +42,4 @@ pub mod WholeOneRunMoves
 pub mod WholeOneRun
 pub mod WholeOneRunAll
 pub mod WholeOneRunStays
+pub mod OneWindow

@@ -1,10 +1,10 @@
 -- A store that is filled from a file, read by read.
 use Rattle.std.proofs.Common.{◌≡◌, ◌<◌, ◌≤◌, ◌+◌, ℕ, List, [], ◌∷◌, length, sym, subst, inr, arith}
-use Rattle.wl_desk.specs.Agreement.{Agrees, TakesStep}
+use Rattle.wl_resident.specs.Agreement.{Agrees, TakesStep}
 use Rattle.wl_plain.specs.Steps as act
 use Rattle.wl_plain.specs.declared.answers.Done.{Done}
 use Rattle.wl_plain.specs.Desktop.{Desktop}
-use Rattle.wl_desk.specs.View.{DeskView}
+use Rattle.wl_resident.specs.View.{DeskView}
 use Rattle.wl_replay.specs.declared.place.Place.{Place}
 use Rattle.wl_replay.specs.Side.{Files}
 use Rattle.wl_replay.specs.Storing.{Fills, FillsAll, Puts, more}

@@ -1,7 +1,7 @@
 -- What lines put into stores.
 use Rattle.std.specs.Prelude.{◌≡◌, ◌≢◌, ◌<◌, ◌≤◌, ◌+◌, ◌⊎◌, ℕ, true, nat_lt, if◌then◌else◌, List, [], ◌∷◌, length, Option, Some, None, Result, Ok, Err}
-use Rattle.wl_desk.specs.Agreement.{TakesStep}
-use Rattle.wl_desk.specs.View.{DeskView}
+use Rattle.wl_resident.specs.Agreement.{TakesStep}
+use Rattle.wl_resident.specs.View.{DeskView}
 use Rattle.wl_plain.specs.Desktop.{Desktop}
 use Rattle.wl_plain.specs.Served.{beyond_toplevels}
 use Rattle.wl_plain.specs.Steps as act

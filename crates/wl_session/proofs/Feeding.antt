@@ -11,17 +11,17 @@ use Rattle.wl_client.specs.declared.clients.Cause.TheVariants.{Memory}
 use Rattle.wl_client.specs.Peer.{Peer, LacksMemory, ended, with_rest}
 use Rattle.wl_client.specs.View.{ClientView}
 use Rattle.wl_scene.specs.Stacking.{Owned, Standing, is_of, nothing_owned, without_client}
-use Rattle.wl_desk.specs.Agreement.{Agrees, IsPlace}
+use Rattle.wl_resident.specs.Agreement.{Agrees, IsPlace}
 use Rattle.wl_plain.specs.Ask.{Ask}
 use Rattle.wl_plain.specs.Desktop.{Desktop, Resident, become, become_by, client_at, client_in, owned_in, owned_of, resident_of, with_client, with_number}
 use Rattle.wl_desk.specs.Feeding.{IsIdleIn, IsIdleOf, ended_at, ended_of, kept_at, kept_by, kept_of}
 use Rattle.wl_plain.specs.Laws.{status_in}
 use Rattle.wl_plain.specs.Laws.{status_of as ended_in}
-use Rattle.wl_desk.specs.Seats.{ended_by}
+use Rattle.wl_resident.specs.Seats.{ended_by}
 use Rattle.wl_plain.specs.Served.{Unserved, beyond_toplevels}
 use Rattle.wl_plain.specs.Step.{Answers, Becomes, FeedsAt, Reaches, ServesAt, StopsAt, Takes, WantsOr, changed_by, stacked, takes_memory}
 use Rattle.wl_plain.specs.Steps.{IsFedAt, fed_of, peer_at, peer_of, status_of}
-use Rattle.wl_desk.specs.View.{DeskView, OwnedView}
+use Rattle.wl_resident.specs.View.{DeskView, OwnedView}
 use Rattle.wl_plain.specs.declared.answers.Done.TheVariants as gave
 use Rattle.wl_plain.specs.declared.answers.Fed.{Fed}
 use Rattle.wl_plain.proofs.Places.{client-become, number-kept, number-same, number-twice, stacked-clients}

@@ -14,7 +14,7 @@ use Rattle.wl_plain.specs.Served.{Unserved}
 use Rattle.wl_plain.specs.Steps.{Act, Connect, Feed, Store, Leave, Tick, Send, Close, ConnectsAt, Steps}
 use Rattle.wl_session.specs.Step.{act_of}
 use Rattle.wl_session.specs.Run.{Film, IsNextFrame, IsShownBy, Leads, MayStopAt, Runs, Shows, in_runs, takes_memory}
-use Rattle.wl_desk.specs.Agreement.{Agrees, TakesStep}
+use Rattle.wl_resident.specs.Agreement.{Agrees, TakesStep}
 use Rattle.wl_session.proofs.Reported.{each_point, in-points}
 
 Runs-snoc : (unserved : Unserved) (acts : List Act) (act : Act) (before image after : Image) (old mid new : Desktop) (films first : List Film) (done : Done) → Runs unserved before old acts films image mid → Steps unserved mid act done new → Shows act mid image first after → Runs unserved before old (acts ++ act ∷ []) (films ++ first) after new

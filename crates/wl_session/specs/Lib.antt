@@ -7,7 +7,7 @@ pub mod View
 pub mod Viewer
 pub mod StoreWrites
 pub use Rattle.wl_client.specs.Peer
-pub use Rattle.wl_desk.specs.Agreement
+pub use Rattle.wl_resident.specs.Agreement
 pub use Rattle.wl_plain.specs.Desktop
 pub use Rattle.wl_plain.specs.Served
 pub use Rattle.wl_plain.specs.Steps

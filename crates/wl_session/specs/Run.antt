@@ -8,7 +8,7 @@ use Rattle.wl_plain.specs.Scratch.{scratch}
 use Rattle.wl_plain.specs.Served.{Unserved, beyond_toplevels}
 use Rattle.wl_plain.specs.Steps.{Act, Connect, Feed, Store, Leave, Tick, Send, Close, Steps}
 use Rattle.wl_session.specs.Step.{act_of}
-use Rattle.wl_desk.specs.Agreement.{Agrees}
+use Rattle.wl_resident.specs.Agreement.{Agrees}
 use Rattle.wl_session.specs.View.{SessionView}
 use Rattle.wl_plain.specs.declared.answers.Done.{Done}
 use Rattle.wl_session.specs.declared.steps.Step.{Step}

@@ -14,7 +14,7 @@ ghost use Rattle.wl_plain.specs.Served.{beyond_toplevels};
 ghost use Rattle.wl_plain.specs.Step.{Reaches};
 ghost use Rattle.wl_session.specs.Run.{in_runs};
 ghost use Rattle.wl_session.specs.Step.{act_of};
-ghost use Rattle.wl_desk.specs.Agreement.{Agrees, TakesStep};
+ghost use Rattle.wl_resident.specs.Agreement.{Agrees, TakesStep};
 
 use crate::shots::{Frame, Run, Shot};
 use crate::steps::{RunError, Step};

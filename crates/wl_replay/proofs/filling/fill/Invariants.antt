@@ -1,5 +1,5 @@
 use Rattle.std.proofs.Common.{◌≡◌, ◌≤◌, ◌-◌}
-use Rattle.wl_desk.specs.Agreement.{Agrees}
+use Rattle.wl_resident.specs.Agreement.{Agrees}
 use Rattle.wl_plain.specs.Desktop.{Desktop}
 use Rattle.wl_replay.specs.Side.{files_of}
 use Rattle.wl_replay.specs.Storing.{Fills}

@@ -1,6 +1,6 @@
 use Rattle.std.proofs.Common.{ap, ◌∙◌}
 use Rattle.std.proofs.lemmas.List.{length-set}
-use Rattle.wl_desk.specs.Agreement.{numbers_in}
+use Rattle.wl_resident.specs.Agreement.{numbers_in}
 use Rattle.wl_desk.proofs.Calls.{found}
 use Rattle.wl_desk.proofs.Kept.{Ended-none, ends, ends-untaken}
 use Rattle.wl_desk.proofs.MarkedCalls.{ends-marks, ends-none-marks, ends-untaken-marks}

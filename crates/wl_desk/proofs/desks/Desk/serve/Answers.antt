@@ -1,6 +1,6 @@
 use Rattle.std.proofs.Common.{ap, ◌∙◌}
 use Rattle.std.proofs.lemmas.List.{length-set}
-use Rattle.wl_desk.specs.Agreement.{numbers_in}
+use Rattle.wl_resident.specs.Agreement.{numbers_in}
 use Rattle.wl_desk.specs.Feeding.{served_as}
 use Rattle.wl_desk.proofs.Calls.{found, serves}
 use Rattle.wl_desk.proofs.Kept.{Idle-none, idles, idles-untaken, rest-less, served-answer, served-idle, served-took, serves-marks, serves-told}

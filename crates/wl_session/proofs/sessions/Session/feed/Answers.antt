@@ -1,5 +1,5 @@
 use Rattle.wl_client.specs.declared.clients.Cause.TheVariants.{Memory}
-use Rattle.wl_desk.specs.Agreement.{Agrees}
+use Rattle.wl_resident.specs.Agreement.{Agrees}
 use Rattle.wl_desk.specs.Feeding.{ended_at, kept_at}
 use Rattle.wl_session.proofs.Feeding.{fed-lacking, fed-served}
 use Rattle.wl_session.proofs.sessions.Session.feed.Goals.{in-Ok, in-Err}

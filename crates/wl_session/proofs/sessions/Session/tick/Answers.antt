@@ -1,9 +1,9 @@
 use Rattle.std.proofs.Common.{◌∙◌, refl, sym, ap}
 use Rattle.wl_client.specs.declared.outputs.Output.{Output}
 use Rattle.wl_paint.specs.Damage.{Damaged, has}
-use Rattle.wl_desk.specs.Agreement.{Agrees}
+use Rattle.wl_resident.specs.Agreement.{Agrees}
 use Rattle.wl_plain.specs.Desktop.{Desktop}
-use Rattle.wl_desk.specs.View.{DeskView}
+use Rattle.wl_resident.specs.View.{DeskView}
 use Rattle.wl_session.specs.Run.{IsNextFrame}
 use Rattle.wl_session.specs.View.{SessionView}
 use Rattle.wl_session.proofs.sessions.Session.tick.Goals as goal

@@ -1,0 +1,113 @@
+-- What is asked of a client leads to a client that is stood for.
+use Rattle.std.proofs.Common.{◌≡◌, ℕ, List, map, ◌≤◌, true, false, Option, Some, None, length, refl, ap, sym, subst, ◌∙◌}
+use Rattle.std.specs.Prelude.{is_some}
+use Rattle.std.specs.Option.{option_map}
+use Rattle.wl_geom.specs.declared.rect.Rect.{Rect}
+use Rattle.wl_geom.specs.Region.{Area, Change}
+use Rattle.wl_client.specs.Agreement.{IsPeer, IsRegion}
+use Rattle.wl_client.specs.Objects.{ById, held_at}
+use Rattle.wl_store.specs.Stores.{Stock}
+use Rattle.wl_client.proofs.Peers.{IsPeer-stores}
+use Rattle.wl_client.specs.View.{ClientView}
+use Rattle.wl_client.specs.Peer.{LacksMemory, Peer}
+use Rattle.wl_surface.specs.declared.content.Attached.{Attached}
+use Rattle.wl_surface.specs.Kept.{Changes, IsCopied, Numbered, Slots, buffer_of, had_at, StandForAll, StandsAt, kept_at}
+use Rattle.wl_surface.specs.Kept.{Kept as KeptSurface}
+use Rattle.wl_surface.specs.Request.{Request}
+use Rattle.wl_surface.specs.State.{Values, asked, committed, geometry_asked, is_commit}
+use Rattle.wl_surface.specs.Surfaces.{Surface, Surfaces, asking, surface_at}
+use Rattle.wl_shell.specs.Kept.{kept_of}
+use Rattle.wl_scene.specs.declared.owned.Owned.{Owned as Lent}
+use Rattle.wl_resident.specs.declared.residents.Resident.{Resident as Kept}
+use Rattle.wl_plain.specs.Ask.{AskSurface}
+use Rattle.wl_plain.specs.Desktop.{Resident}
+use Rattle.wl_proto.specs.declared.interface.Interface.TheVariants.{WlSurface}
+use Rattle.wl_table.specs.Objects.{Held, entry_of}
+use Rattle.wl_table.specs.declared.entry.Entry.{Entry}
+use Rattle.wl_plain.specs.Owning.{AreKept, by_number, names_in, targets_in}
+use Rattle.wl_plain.proofs.OwningNames.{targets-at}
+use Rattle.wl_resident.specs.Residents.{IsLeft, IsResident, IsSurface, Owns}
+use Rattle.wl_plain.specs.Step.{changed_by}
+use Rattle.wl_plain.proofs.Letting.{asked-keeps}
+use Rattle.wl_resident.proofs.Numbers.{keeps-same}
+use Rattle.wl_plain.proofs.OwningAsks.{owned-asked}
+use Rattle.wl_plain.proofs.OwningSurfaces.{surface-named, surface-read}
+
+-- what ended isn't there
+gone : {X : Type 0} (o : Option X) → is_some o ≡ true → o ≡ None → ⊥
+gone None some none = cc
+gone (Some x) some none = cc
+
+-- There was no memory: of a client that ended nothing more is said.
+pub lacked : {A : Type 0} (old v : Kept A) (after r : Resident) → (q : Peer) × LacksMemory r.peer q × IsPeer v.client q → is_some v.client.ended ≡ true → (q : Peer) × LacksMemory r.peer q × IsLeft old v after q
+lacked old v after r lacks ended = (
+  lacks.0,
+  lacks.1,
+  record {
+    peer = lacks.2;
+    owns = λ none. absurd (gone v.client.ended ended none);
+    numbers = λ none. absurd (gone v.client.ended ended none);
+  },
+)
+
+-- the cut of what is kept is within the list
+pub cut-bounds : (k : Option KeptSurface) (s : Surface) → StandsAt k (Some s) → (s.history.cut ≤ committed s.history.requests) × (committed s.history.requests ≤ length s.history.requests)
+cut-bounds None s stands = absurd stands
+cut-bounds (Some k) s stands = (stands.history.cut_within, stands.history.commits_within)
+
+-- A request of a surface that is no commit, attaches nothing and asks for no window geometry.
+pub asked-so : {A : Type 0} (old new : Kept A) (r : Resident) (id number : ℕ) (request : Request) → IsResident old r → IsSurface old id number → is_commit request ≡ false → ((v : Values) → (asked v request).buffer ≡ v.buffer)
+    → ((g : Option Rect) → geometry_asked g request ≡ g) → Changes old.owned.surfaces new.owned.surfaces number (asking request) → new.client ≡ old.client → kept_of new.owned.shell ≡ kept_of old.owned.shell
+    → ((changed_by (AskSurface id request) r).peer ≡ r.peer) × IsLeft old new (changed_by (AskSurface id request) r) r.peer
+asked-so old new r id number request is named plain keeps other changes same shell =
+    let names = names_in old.client.objects in
+    let there = surface-named names.surfaces old.owned.surfaces r.owned.surfaces is.owns.surfaces id number named in
+    let read = surface-read names.surfaces old.owned.surfaces r.owned.surfaces is.owns.surfaces id number named ∙ there.1 in
+    let bounds = cut-bounds (kept_at old.owned.surfaces number) there.0 (subst (λ (o : Option Surface). StandsAt (kept_at old.owned.surfaces number) o) read (is.owns.surfaces.stand number)) in
+    let none = asked-keeps request plain keeps id r there.0 there.1 bounds.0 bounds.1 in (
+      ap (λ (q : Resident). q.peer) none,
+      record {
+        peer = rw same is.peer;
+        owns = λ alive. rw (same, shell) (owned-asked names old.owned.surfaces (kept_of old.owned.shell) r is.owns id number request new.owned.surfaces named plain other changes);
+        numbers = λ alive. keeps-same old.client.objects new.client.objects (ap (λ (w : ClientView). w.objects) same);
+      },
+    )
+
+-- a region that a client has can be copied
+pub copied-of : (area : Option Area) (changes : Option (List Change)) → IsRegion area changes → IsCopied area changes
+copied-of None None is = refl
+copied-of (Some area) (Some changes) is = is
+copied-of None (Some changes) is = absurd is
+copied-of (Some area) None is = absurd is
+
+pub copied-named : (v : ClientView) (p : Peer) (id : ℕ) (area : Option Area) → area ≡ held_at v.regions id → IsPeer v p → IsCopied area (p.regions id)
+copied-named v p id area same is = subst (λ (a : Option Area). IsCopied a (p.regions id)) (sym same) (copied-of (held_at v.regions id) (p.regions id) (is.regions id))
+
+-- its store went, or not
+pub one-let : (v w : ClientView) (r : Resident) (change : Stock → Stock) → IsPeer v r.peer → w ≡ record v { stores = w.stores } → w.stores ≡ change v.stores → IsPeer w (record r.peer { stores = change r.peer.stores })
+one-let v w r change is only stores = subst (λ (x : ClientView). IsPeer x (record r.peer { stores = change r.peer.stores })) (sym only) (IsPeer-stores v r.peer change w.stores stores is)
+
+pub kept-there : {A : Type 0} (v w : Lent A) (numbers : ById ℕ) (all : Surfaces) → w ≡ v → AreKept numbers v.surfaces all → AreKept numbers w.surfaces all
+kept-there v w numbers all same kept = rw same kept
+
+pub only-stores : (v w x : ClientView) → w ≡ record v { stores = w.stores } → x ≡ record w { stores = x.stores } → x ≡ record v { stores = x.stores }
+only-stores v w x first second = second ∙ ap (λ (y : ClientView). record y { stores = x.stores }) first
+
+-- The buffers that a surface had are let go of, once what was asked of it stands: so it was done.
+pub let-go-so : {A : Type 0} (old v w : Kept A) (after : Resident) → v.client ≡ old.client → Owns v after → w.client ≡ record v.client { stores = w.client.stores } → w.owned ≡ v.owned → IsPeer w.client after.peer → IsLeft old w after after.peer
+let-go-so old v w after still owns only same peer =
+    let objects = ap (λ (c : ClientView). c.objects) only in
+    record {
+      peer = peer;
+      owns = λ alive. rw (objects, same) owns;
+      numbers = λ alive. keeps-same old.client.objects w.client.objects (objects ∙ ap (λ (c : ClientView). c.objects) still);
+    }
+
+-- what a surface had, by its id
+pub had-by : (numbers : ById ℕ) (slots : Slots) (all : Surfaces) (id number : ℕ) (had : List (Option Attached)) → AreKept numbers slots all → numbers id ≡ Some number
+    → ((named : Numbered) → StandForAll slots named → map (option_map buffer_of) had ≡ had_at (named number)) → map (option_map buffer_of) had ≡ had_at (surface_at id all)
+had-by numbers slots all id number had kept named reads = reads (by_number numbers all) kept.stand ∙ ap had_at (surface-read numbers slots all kept id number named)
+
+-- the object that is in the table names its surface
+pub named-by : (held : Held) (id number : ℕ) (entry : Entry) → entry_of held id ≡ Some entry → entry.interface ≡ WlSurface → entry.target ≡ number → targets_in WlSurface held id ≡ Some number
+named-by held id number entry found is target = targets-at WlSurface held id entry found is ∙ ap Some target

@@ -1,0 +1,14 @@
+pub mod Numbers
+pub mod Doing
+pub mod Shelling
+pub mod Scenes
+pub mod Ends
+pub mod Seats
+pub mod Taking
+pub mod Telling
+pub mod Committing
+pub mod Stackings
+pub mod Asking
+pub mod OwnAsking
+pub mod MarkedMessages
+pub mod Marked

@@ -1,0 +1,483 @@
+-- A message of a client marks to be painted again what the desk marks: the window of the surface that it touches, before it and after it, and
+-- everything where its client ends and a toplevel of its stood.
+use Rattle.std.proofs.Common.{◌≡◌, ℕ, zero, suc, ◌<◌, ◌-◌, List, [], ◌∷◌, ◌++◌, Bool, true, false, Option, Some, None, Result, refl, ap, sym, subst, ◌∙◌, inl, inr, ◌⊎◌}
+use Rattle.std.specs.Prelude.{ℤ, pos, ◌==◌, ◌&&◌, ◌||◌, Ok, Err, drop, if◌then◌else◌, int_le, is_some, slice_index_or, take}
+use Rattle.std.specs.List.{list_any}
+use Rattle.std.specs.Option.{option_and_then, option_map_or}
+use Rattle.std.proofs.lemmas.Bool.{eqb-false, eqb-true, or_left, or_right}
+use Rattle.std.proofs.lemmas.List.Folds.{list_any-append}
+use Rattle.wl_wire.specs.Wire.{Field, split_of}
+use Rattle.wl_wire.specs.declared.header.Split.{Split}
+use Rattle.wl_wire.specs.declared.header.Split.TheVariants.{Message as Whole, More, Bad}
+use Rattle.wl_proto.specs.Messages.{Message, wl_compositor_request, wl_seat_request, wl_surface_request, xdg_surface_request, xdg_wm_base_request}
+use Rattle.wl_proto.specs.declared.interface.Interface.{Interface}
+use Rattle.wl_proto.specs.declared.interface.Interface.TheVariants.{WlCompositor, WlSurface, XdgWmBase, XdgSurface, XdgToplevel}
+use Rattle.wl_proto.specs.declared.wl_compositor.WlCompositorRequest.{WlCompositorRequest}
+use Rattle.wl_proto.specs.declared.wl_compositor.WlCompositorRequest.TheVariants as compositor
+use Rattle.wl_proto.specs.declared.wl_seat.WlSeatRequest.{WlSeatRequest}
+use Rattle.wl_proto.specs.declared.wl_seat.WlSeatRequest.TheVariants as seat
+use Rattle.wl_proto.specs.declared.wl_surface.WlSurfaceRequest.{WlSurfaceRequest}
+use Rattle.wl_proto.specs.declared.wl_surface.WlSurfaceRequest.TheVariants as surface
+use Rattle.wl_proto.specs.declared.xdg_surface.XdgSurfaceRequest.{XdgSurfaceRequest}
+use Rattle.wl_proto.specs.declared.xdg_surface.XdgSurfaceRequest.TheVariants as xdg
+use Rattle.wl_proto.specs.declared.xdg_wm_base.XdgWmBaseRequest.{XdgWmBaseRequest}
+use Rattle.wl_proto.specs.declared.xdg_wm_base.XdgWmBaseRequest.TheVariants as base
+use Rattle.wl_client.specs.Agreement.{IsPeer}
+use Rattle.wl_client.specs.First.{IsRefused, Passes}
+use Rattle.wl_client.specs.Judgement.{number_in, word_in}
+use Rattle.wl_client.specs.Objects.{ById}
+use Rattle.wl_client.specs.Peer.{Peer, counted, with_rest}
+use Rattle.wl_client.specs.Serving.{is_own}
+use Rattle.wl_client.specs.View.{ClientView}
+use Rattle.wl_client.specs.declared.actions.Action.{Action}
+use Rattle.wl_client.specs.declared.clients.Cause.{Cause}
+use Rattle.wl_client.specs.Told.{display_error}
+use Rattle.wl_client.specs.declared.refusals.ErrorCode.TheVariants.{InvalidMethod}
+use Rattle.wl_client.specs.declared.refusals.Refusal.{Refusal}
+use Rattle.wl_client.proofs.Passing.{judged-refused}
+use Rattle.wl_paint.specs.Damage.{Damaged, has}
+use Rattle.wl_surface.specs.Request.{Buffer, Request}
+use Rattle.wl_surface.specs.State.{offset, values}
+use Rattle.wl_surface.specs.Surfaces.{history_in}
+use Rattle.wl_shell.specs.Kept.{kept_of}
+use Rattle.wl_shell.specs.Shell.{Effect, Stays, Unconfigured, Configures, Maps, Unmaps, answers_states, is_full, stage_of, xdg_at, xdg_of, xdg_with}
+use Rattle.wl_shell.specs.Shell.{XdgSurface as Xdg}
+use Rattle.wl_scene.specs.Stacking.{Owned, Stack, Standing, root_of, windows_on}
+use Rattle.wl_scene.specs.Windows.{Owner, Place, Window, contains, moved, owner_of, window_with}
+use Rattle.wl_resident.specs.Agreement.{Agrees, IsPlace, IsStack}
+use Rattle.wl_plain.specs.Ask.{Ask, Own, CreateSurface, DestroySurface, AskSurface, CommitSurface, DestroyBase, GetXdgSurface, DestroyXdgSurface, GetToplevel, Acknowledge, ConfigureAgain, DestroyToplevel, Ignore, owns}
+use Rattle.wl_plain.specs.Desktop.{Desktop, Resident, client_in, owned_in, owned_of, place}
+use Rattle.wl_plain.specs.Laws.{status_in, status_of}
+use Rattle.wl_resident.specs.Marking.{AreUnlinked, IsAsLarge, Marks, MarksEnd, marked_by, marked_in, stands_any}
+use Rattle.wl_resident.specs.Messages.{IsAsked, IsKind}
+use Rattle.wl_plain.specs.Moments.{marks_at_least}
+use Rattle.wl_plain.specs.Owning.{names_in, target_as, targets_in}
+use Rattle.wl_resident.specs.Residents.{AnswersSo, IsLeft, IsResident, KeepsNumbers, TakesSo, asked_by}
+use Rattle.wl_resident.specs.Seats.{IsClearedBy, IsRestacked, IsSeated, IsSettledBy}
+use Rattle.wl_plain.specs.Served.{beyond_toplevels}
+use Rattle.wl_plain.specs.Step.{Serves, ask_by, ask_of, changed_by, judge, surface_of, with_peer}
+use Rattle.wl_plain.specs.Touching.{any_window_at, has_window_at, is_window_at, touched}
+use Rattle.wl_resident.specs.View.{DeskView, OwnedView}
+use Rattle.wl_plain.specs.WlSurface.{committed_for, effect_of, surface_ask, waits_for_all}
+use Rattle.wl_plain.specs.XdgShell.{base_ask, configured_again, has_any, is_foreign, is_state, role_of, toplevel_ask, toplevel_ask_of, xdg_ask_of}
+use Rattle.wl_resident.specs.declared.messages.Asked.{Asked}
+use Rattle.wl_resident.specs.declared.messages.Asked.TheVariants as asked
+use Rattle.wl_resident.specs.declared.messages.Kind.{Kind}
+use Rattle.wl_resident.specs.declared.messages.Kind.TheVariants as kind
+use Rattle.wl_resident.specs.declared.residents.Resident.{Resident as Kept}
+use Rattle.wl_resident.specs.declared.residents.Stacking.{Stacking}
+use Rattle.wl_resident.specs.declared.residents.Stacking.TheVariants as on
+use Rattle.wl_resident.proofs.Asking.{judged-first, passing-peer, whole-first}
+use Rattle.wl_resident.proofs.Doing.{named-by}
+use Rattle.wl_resident.proofs.Ends.{lacks-over, over-ended}
+use Rattle.wl_plain.proofs.OwningXdg.{toplevel-named}
+use Rattle.wl_plain.proofs.Places.{number-other}
+use Rattle.wl_plain.proofs.Stacks.{and-both, and-left, differ, or-left, or-right, unless}
+use Rattle.wl_resident.proofs.Taking.{known-mapped, none-is, numbers}
+use Rattle.wl_plain.proofs.TouchingMarks.{either-of}
+use Rattle.wl_plain.proofs.TouchingMessages.{AsksBy, MarkedBy, serves-point, touched-peer}
+use Rattle.wl_plain.proofs.TouchingWindows.{counted as counted_of, lone, window_by, windows-first}
+
+-- ---- windows are those of toplevels that stand
+
+module _ (is : ℕ → ℕ → Bool) (x y : ℤ) where
+  lone-stands : (owner : Owner) (surface : ℕ) (place : Place) (requests : Option (List Request)) → any_window_at is x y (lone owner surface place requests) ≡ true → is owner.client surface ≡ true
+  lone-stands owner surface place None e = absurd (differ e)
+  lone-stands owner surface place (Some requests) e = at (values requests).buffer e
+    where
+      at : (buffer : Option Buffer) → any_window_at is x y (window_with owner surface (moved place (offset requests).x (offset requests).y) (values requests) buffer) ≡ true → is owner.client surface ≡ true
+      at None e = absurd (differ e)
+      at (Some buffer) e = either-of _ false (is owner.client surface) e (λ f. and-left (is owner.client surface) _ f) (λ f. absurd (differ f))
+
+  -- a window of surfaces that pass is there for a toplevel of such a surface
+  pub windows-stand : (owned : ℕ → Owned) (ss : List Standing) → ((c : ℕ) → (owned c).surfaces.links ≡ []) → any_window_at is x y (windows_on owned ss) ≡ true → list_any (λ s. is s.client s.surface) ss ≡ true
+  windows-stand owned [] unlinked e = e
+  windows-stand owned (s ∷ ss) unlinked e =
+      let others : Bool = list_any (λ (t : Standing). is t.client t.surface) ss in
+      let here : any_window_at is x y (window_by owned s ++ windows_on owned ss) ≡ true = ap (λ ws. any_window_at is x y ws) (sym (windows-first owned s ss unlinked)) ∙ e in
+      either-of (any_window_at is x y (window_by owned s)) (any_window_at is x y (windows_on owned ss)) (is s.client s.surface || others)
+      (sym (list_any-append (λ (w : Window). is w.owner.client w.surface && contains w x y) (window_by owned s) (windows_on owned ss)) ∙ here)
+      (λ f. or_left (is s.client s.surface) others (lone-stands (owner_of (root_of owned s)) s.surface s.place (counted_of (history_in s.surface (owned s.client).surfaces)) f))
+      (λ f. or_right (is s.client s.surface) others (windows-stand owned ss unlinked f))
+
+-- the toplevels of a client are kept as its own
+pub stack-any : (numbers : ℕ → ById ℕ) (c : ℕ) (ks ss : List Standing) → IsStack numbers ks ss → list_any (λ k. k.client == c) ks ≡ list_any (λ s. s.client == c) ss
+stack-any numbers c [] [] is = refl
+stack-any numbers c (k ∷ ks) (s ∷ ss) is =
+    ap (λ n. (n == c) || list_any (λ (t : Standing). t.client == c) ks) is.0.client ∙ ap (λ b. (s.client == c) || b) (stack-any numbers c ks ss is.1)
+stack-any numbers c [] (s ∷ ss) is = absurd is
+stack-any numbers c (k ∷ ks) [] is = absurd is
+
+-- where no client's surfaces are linked but for this one's, none are
+pub seated-unlinked : {A : Type 0} (c : ℕ) (others : ℕ → ById ℕ) (base d : Desktop) (v : Kept A) (stack : Stack) (r : Resident) → IsSeated c others base v stack d r
+    → AreUnlinked base → AreUnlinked d
+seated-unlinked c others base d v stack r is unlinked other = by (c == other) refl
+  where
+    here : (owned_in d c).surfaces.links ≡ []
+    here = ap (λ (o : Option Resident). (owned_of o).surfaces.links) is.based.there ∙ is.seat.owns.surfaces.links
+
+    by : (b : Bool) → (c == other) ≡ b → (owned_in d other).surfaces.links ≡ []
+    by true e = subst (λ n. (owned_in d n).surfaces.links ≡ []) (eqb-true c other e) here
+    by false e =
+        ap (λ rs. (owned_of (client_in rs other)).surfaces.links) is.based.clients
+        ∙ ap (λ (o : Option Resident). (owned_of o).surfaces.links) (number-other base.clients c other (Some r) (eqb-false c other e))
+        ∙ unlinked other
+
+-- a desk's clients link no surfaces
+pub agrees-unlinked : (v : DeskView) (d : Desktop) → Agrees v d → AreUnlinked d
+agrees-unlinked v d is zero = refl
+agrees-unlinked v d is (suc k) = at (slice_index_or v.clients k None) (slice_index_or v.owned k None) (place d.clients k) (is.clients k)
+  where
+    at : (w : Option ClientView) (o : Option OwnedView) (r : Option Resident) → IsPlace w o r → (owned_of r).surfaces.links ≡ []
+    at w o None h = refl
+    at (Some w) (Some o) (Some r) h = h.owns.surfaces.links
+    at (Some w) None (Some r) h = absurd h
+    at None (Some o) (Some r) h = absurd h
+    at None None (Some r) h = absurd h
+
+-- ---- what touches a surface is a commit, or the destruction of a toplevel
+
+-- where what is judged touches a surface, this holds of it
+abbrev pub TouchesSo : Resident → (ℕ → Type 0) → Result Ask Refusal → Type 0
+TouchesSo r P judged = (ask : Ask) (id : ℕ) → judged ≡ Ok ask → touched ask r ≡ Some id → P id
+
+module _ (r : Resident) (P : ℕ → Type 0) where
+  by-ask : (a : Ask) → ((id : ℕ) → touched a r ≡ Some id → P id) → TouchesSo r P (Ok a)
+  by-ask a f ask id e t = let same : a ≡ ask = cc in f id (ap (λ b. touched b r) same ∙ t)
+
+  one : (a : Ask) (surface : ℕ) → touched a r ≡ Some surface → P surface → TouchesSo r P (Ok a)
+  one a surface is there = by-ask a (λ id t. let both = sym is ∙ t in let same : surface ≡ id = cc in subst P same there)
+
+  none : (a : Ask) → touched a r ≡ None → TouchesSo r P (Ok a)
+  none a is = by-ask a (λ id t. absurd (let both = sym is ∙ t in cc))
+
+  refused : (refusal : Refusal) → TouchesSo r P (Err refusal)
+  refused refusal ask id e t = absurd (cc)
+
+  either : (b : Bool) (a o : Result Ask Refusal) → (b ≡ true → TouchesSo r P a) → (b ≡ false → TouchesSo r P o) → TouchesSo r P (if b then a else o)
+  either true a o f g = f refl
+  either false a o f g = g refl
+
+  owned-touches : (judged : Result Action Refusal) → TouchesSo r P (owns judged)
+  owned-touches (Ok action) = none (Own action) refl
+  owned-touches (Err refusal) = refused refusal
+
+  commit-touches : (object : ℕ) → P object → (x : Option Xdg) (effect : Effect) → TouchesSo r P (committed_for x object effect)
+  commit-touches object there x Stays = one (CommitSurface object Stays) object refl there
+  commit-touches object there x Unconfigured = refused _
+  commit-touches object there x Configures = either (waits_for_all x) _ _ (λ full. refused _) (λ room. one (CommitSurface object Configures) object refl there)
+  commit-touches object there x Maps = one (CommitSurface object Maps) object refl there
+  commit-touches object there x Unmaps = one (CommitSurface object Unmaps) object refl there
+
+  surface-touches : (object opcode : ℕ) (fields : List Field) → (opcode ≡ 6 → P object) → TouchesSo r P (surface_ask r object opcode fields)
+  surface-touches object opcode fields commits =
+      either (opcode == 0) _ _ (λ e. either (is_some (xdg_of object r.owned.shell)) _ _ (λ there. refused _) (λ free. none (DestroySurface object) refl))
+      (λ e. either (opcode == 1) _ _ (λ e. none (AskSurface object _) refl)
+      (λ e. either (opcode == 2) _ _ (λ e. none (AskSurface object _) refl)
+      (λ e. either (opcode == 3) _ _ (λ e. none (AskSurface object _) refl)
+      (λ e. either (opcode == 4) _ _ (λ e. none (AskSurface object _) refl)
+      (λ e. either (opcode == 5) _ _ (λ e. none (AskSurface object _) refl)
+      (λ e. either (opcode == 6) _ _ (λ e. commit-touches object (commits (eqb-true opcode 6 e)) (xdg_of object r.owned.shell) (effect_of r object))
+      (λ e. either (int_le (pos 0) (number_in 0 fields) && int_le (number_in 0 fields) (pos 7)) _ _ (λ fits. none (AskSurface object _) refl) (λ no_transform. refused _))))))))
+
+  base-touches : (object version opcode : ℕ) (fields : List Field) → TouchesSo r P (base_ask r object version opcode fields)
+  base-touches object version opcode fields =
+      either (opcode == 0) _ _ (λ e. either _ _ _ (λ used. refused _) (λ unused. none (DestroyBase object) refl))
+      (λ e. either (opcode == 1) _ _ (λ e. refused _)
+      (λ e. either (opcode == 2) _ _
+      (λ e. either (is_foreign (role_of r (word_in 1 fields)) || is_some (xdg_of (word_in 1 fields) r.owned.shell)) _ _ (λ other. refused _)
+      (λ free. either (has_any r (word_in 1 fields)) _ _ (λ full. refused _) (λ room. none (GetXdgSurface (word_in 0 fields) version object (word_in 1 fields)) refl)))
+      (λ e. none Ignore refl)))
+
+  xdg-touches : (o : Option Xdg) (version opcode : ℕ) (fields : List Field) → TouchesSo r P (xdg_ask_of r o version opcode fields)
+  xdg-touches None version opcode fields = refused _
+  xdg-touches (Some x) version opcode fields =
+      either (opcode == 0) _ _ (λ e. either (is_some x.role) _ _ (λ there. refused _) (λ free. none (DestroyXdgSurface x.id) refl))
+      (λ e. either (opcode == 1) _ _
+      (λ e. either (is_some x.role) _ _ (λ there. refused _) (λ free. either _ _ _ (λ other. refused _) (λ fits. none (GetToplevel _ version x.id) refl)))
+      (λ e. either (opcode == 2) _ _ (λ e. refused _)
+      (λ e. either (opcode == 3) _ _
+      (λ e. either (is_some x.role) _ _ (λ there. either _ _ _ (λ fits. none (AskSurface x.surface _) refl) (λ no_size. refused _)) (λ free. refused _))
+      (λ e. either (is_some x.role) _ _ (λ there. either _ _ _ (λ waits. none (Acknowledge x.id _) refl) (λ unknown. refused _)) (λ free. refused _)))))
+
+  -- the surface of the toplevel with this id
+  abbrev Destroys : ℕ → Type 0
+  Destroys object = (x : Xdg) → xdg_with object r.owned.shell ≡ Some x → P (surface_of (xdg_at x.id r.owned.shell))
+
+  toplevel-touches : (object opcode : ℕ) → (opcode ≡ 0 → Destroys object) → TouchesSo r P (toplevel_ask r object opcode)
+  toplevel-touches object opcode destroys = at (xdg_with object r.owned.shell) refl
+    where
+      at : (o : Option Xdg) → xdg_with object r.owned.shell ≡ o → TouchesSo r P (toplevel_ask_of object o opcode)
+      at None found = refused _
+      at (Some x) found =
+          either (opcode == 0) (Ok (DestroyToplevel object x.id)) (if is_state opcode then configured_again x else Ok Ignore)
+          (λ e. one (DestroyToplevel object x.id) (surface_of (xdg_at x.id r.owned.shell)) refl (destroys (eqb-true opcode 0 e) x found))
+          (λ e. either (is_state opcode) (configured_again x) (Ok Ignore)
+          (λ state. either (option_map_or answers_states (stage_of x) false) _ _ (λ answers. either (is_full x.serials) _ _ (λ full. refused _) (λ room. none (ConfigureAgain x.id) refl)) (λ none_now. none Ignore refl))
+          (λ other. none Ignore refl))
+
+  interface-touches : (interface : Interface) (object version : ℕ) (m : Message) → (interface ≡ WlSurface → m.opcode ≡ 6 → P object) → (interface ≡ XdgToplevel → m.opcode ≡ 0 → Destroys object) → TouchesSo r P (ask_by interface r object version m)
+  interface-touches WlCompositor object version m commits destroys =
+      either (m.opcode == 0) _ _ (λ e. either _ _ _ (λ full. refused _) (λ room. none (CreateSurface _ version) refl)) (λ e. owned-touches _)
+  interface-touches WlSurface object version m commits destroys = surface-touches object m.opcode m.fields (commits refl)
+  interface-touches XdgWmBase object version m commits destroys = base-touches object version m.opcode m.fields
+  interface-touches XdgSurface object version m commits destroys = xdg-touches (xdg_at object r.owned.shell) version m.opcode m.fields
+  interface-touches XdgToplevel object version m commits destroys = toplevel-touches object m.opcode (destroys refl)
+  interface-touches interface object version m commits destroys = owned-touches _
+
+  pub asks-touch : (object version : ℕ) (m : Message) → (m.interface ≡ WlSurface → m.opcode ≡ 6 → P object) → (m.interface ≡ XdgToplevel → m.opcode ≡ 0 → Destroys object) → TouchesSo r P (ask_of beyond_toplevels r object version m)
+  asks-touch object version m commits destroys = either (beyond_toplevels m.interface m.opcode) _ _ (λ left_out. refused _) (λ served. interface-touches m.interface object version m commits destroys)
+
+-- ---- and then the desk marks
+
+-- a request of such an interface may touch a surface
+abbrev may_touch : Interface → Bool
+may_touch WlSurface = true
+may_touch XdgToplevel = true
+may_touch interface = false
+
+compositor-idle : (request : WlCompositorRequest) → may_touch (wl_compositor_request request).interface ≡ false
+compositor-idle (compositor.CreateSurface id) = refl
+compositor-idle (compositor.CreateRegion id) = refl
+
+seat-idle : (request : WlSeatRequest) → may_touch (wl_seat_request request).interface ≡ false
+seat-idle (seat.GetPointer id) = refl
+seat-idle (seat.GetKeyboard id) = refl
+seat-idle (seat.GetTouch id) = refl
+
+base-idle : (request : XdgWmBaseRequest) → may_touch (xdg_wm_base_request request).interface ≡ false
+base-idle base.Destroy = refl
+base-idle (base.CreatePositioner id) = refl
+base-idle (base.GetXdgSurface id surface) = refl
+base-idle (base.Pong serial) = refl
+
+xdg-idle : (request : XdgSurfaceRequest) → may_touch (xdg_surface_request request).interface ≡ false
+xdg-idle xdg.Destroy = refl
+xdg-idle (xdg.GetToplevel id) = refl
+xdg-idle (xdg.GetPopup id parent positioner) = refl
+xdg-idle (xdg.SetWindowGeometry x y width height) = refl
+xdg-idle (xdg.AckConfigure serial) = refl
+
+surface-interface : (request : WlSurfaceRequest) → (wl_surface_request request).interface ≡ WlSurface
+surface-interface surface.Destroy = refl
+surface-interface (surface.Attach buffer x y) = refl
+surface-interface (surface.Damage x y width height) = refl
+surface-interface (surface.Frame callback) = refl
+surface-interface (surface.SetOpaqueRegion region) = refl
+surface-interface (surface.SetInputRegion region) = refl
+surface-interface surface.Commit = refl
+surface-interface (surface.SetBufferTransform transform) = refl
+
+surface-marks : (request : WlSurfaceRequest) (target : ℕ) → (wl_surface_request request).opcode ≡ 6 → marked_in (kind.Surface request) target ≡ Some target
+surface-marks surface.Commit target e = refl
+surface-marks surface.Destroy target e = absurd (eqb-false 0 6 refl e)
+surface-marks (surface.Attach buffer x y) target e = absurd (eqb-false 1 6 refl e)
+surface-marks (surface.Damage x y width height) target e = absurd (eqb-false 2 6 refl e)
+surface-marks (surface.Frame callback) target e = absurd (eqb-false 3 6 refl e)
+surface-marks (surface.SetOpaqueRegion region) target e = absurd (eqb-false 4 6 refl e)
+surface-marks (surface.SetInputRegion region) target e = absurd (eqb-false 5 6 refl e)
+surface-marks (surface.SetBufferTransform transform) target e = absurd (eqb-false 7 6 refl e)
+
+-- a message of an interface that touches nothing is no such message
+idle : (m told : Message) → m ≡ told → may_touch told.interface ≡ false → may_touch m.interface ≡ true → ⊥
+idle m told is none some = differ (sym (ap (λ (n : Message). may_touch n.interface) is ∙ none) ∙ some)
+
+commit-marks : (k : Kind) (m : Message) (target : ℕ) → IsKind k m → m.interface ≡ WlSurface → m.opcode ≡ 6 → marked_in k target ≡ Some target
+commit-marks (kind.Compositor request) m target is i o = absurd (idle m _ is (compositor-idle request) (ap may_touch i))
+commit-marks (kind.Surface request) m target is i o = surface-marks request target (ap (λ (n : Message). n.opcode) (sym is) ∙ o)
+commit-marks (kind.Seat request) m target is i o = absurd (idle m _ is (seat-idle request) (ap may_touch i))
+commit-marks (kind.Base request) m target is i o = absurd (idle m _ is (base-idle request) (ap may_touch i))
+commit-marks (kind.XdgSurface request) m target is i o = absurd (idle m _ is (xdg-idle request) (ap may_touch i))
+commit-marks (kind.Toplevel toplevel) m target is i o = absurd (let both = sym is.0 ∙ i in cc)
+commit-marks kind.Unserved m target is i o =
+    absurd (differ (sym (ap (λ (n : Interface). beyond_toplevels n m.opcode) i ∙ ap (λ n. n == 3) o) ∙ is))
+
+destroy-marks : (k : Kind) (m : Message) (target : ℕ) → IsKind k m → m.interface ≡ XdgToplevel → m.opcode ≡ 0 → marked_in k target ≡ Some target
+destroy-marks (kind.Compositor request) m target is i o = absurd (idle m _ is (compositor-idle request) (ap may_touch i))
+destroy-marks (kind.Surface request) m target is i o = absurd (let both = sym (ap (λ (n : Message). n.interface) is ∙ surface-interface request) ∙ i in cc)
+destroy-marks (kind.Seat request) m target is i o = absurd (idle m _ is (seat-idle request) (ap may_touch i))
+destroy-marks (kind.Base request) m target is i o = absurd (idle m _ is (base-idle request) (ap may_touch i))
+destroy-marks (kind.XdgSurface request) m target is i o = absurd (idle m _ is (xdg-idle request) (ap may_touch i))
+destroy-marks (kind.Toplevel toplevel) m target is i o = ap (λ t. marked_in (kind.Toplevel t) target) (is.1 ∙ ap (λ n. asked_by n) o)
+destroy-marks kind.Unserved m target is i o =
+    absurd (differ (sym (ap (λ (n : Interface). beyond_toplevels n m.opcode) i) ∙ is))
+
+-- what the desk takes a message for has this number, and so has the surface that it touches
+abbrev pub IsMarkedBy : {A : Type 0} → Kept A → Asked → ℕ → Type 0
+IsMarkedBy v asked id = (number : ℕ) × (marked_by asked ≡ Some number) × (targets_in WlSurface v.client.objects id ≡ Some number)
+
+module _ {A : Type 0} (v : Kept A) (r : Resident) (is : IsResident v r) where
+  -- a message that passes
+  passed-touches : (P : ℕ → Type 0) (object version size target : ℕ) (m : Message) → Passes v.client object version size target m → (m.interface ≡ WlSurface → m.opcode ≡ 6 → P object)
+      → (m.interface ≡ XdgToplevel → m.opcode ≡ 0 → Destroys r P object) → (ask : Ask) (id : ℕ) → AsksBy beyond_toplevels r (split_of r.peer.rest) ask → touched ask r ≡ Some id → P id
+  passed-touches P object version size target m passes commits destroys ask id asks t =
+      let left = with_peer (with_rest (drop size r.peer.rest) r.peer) r in
+      let whole : AsksBy beyond_toplevels r (Whole object m.opcode size) ask = subst (λ (s : Split). AsksBy beyond_toplevels r s ask) (whole-first v r object version size target m passes is) asks in
+      asks-touch left P object version m commits destroys ask id (sym (judged-first v r object version size target m passes is) ∙ whole) (touched-peer ask (with_rest (drop size r.peer.rest) r.peer) r ∙ t)
+
+  request-marks : (object version size target : ℕ) (k : Kind) (m : Message) → Passes v.client object version size target m → IsKind k m
+      → (ask : Ask) (id : ℕ) → AsksBy beyond_toplevels r (split_of r.peer.rest) ask → touched ask r ≡ Some id → IsMarkedBy v (asked.Request object version size target k) id
+  request-marks object version size target k m passes told =
+      passed-touches (IsMarkedBy v (asked.Request object version size target k)) object version size target m passes
+      (λ i o. (target, commit-marks k m target told i o, named-by v.client.objects object target _ passes.entry i refl))
+      (λ i o x found. (target, destroy-marks k m target told i o, toplevel-number i x found))
+    where
+      named : m.interface ≡ XdgToplevel → targets_in XdgToplevel v.client.objects object ≡ Some target
+      named i =
+          ap (option_and_then (target_as XdgToplevel)) passes.entry
+          ∙ ap (λ (n : Interface). target_as XdgToplevel (record { interface = n; version = version; target = target })) i
+
+      toplevel-number : m.interface ≡ XdgToplevel → (x : Xdg) → xdg_with object r.owned.shell ≡ Some x → targets_in WlSurface v.client.objects (surface_of (xdg_at x.id r.owned.shell)) ≡ Some target
+      toplevel-number i x found =
+          let there = toplevel-named (names_in v.client.objects) v.owned.surfaces (kept_of v.owned.shell) r.owned is.owns object target (named i) in
+          let both = sym there.4 ∙ found in
+          let same : there.1 ≡ x = cc in
+          subst (λ (z : Xdg). targets_in WlSurface v.client.objects (surface_of (xdg_at z.id r.owned.shell)) ≡ Some target) same
+          (ap (λ (o : Option Xdg). targets_in WlSurface v.client.objects (surface_of o)) there.3.at_id ∙ there.3.surface)
+
+  refused-asks : (s : Split) (refusal : Refusal) (ask : Ask) → IsRefused s v.client refusal → AsksBy beyond_toplevels r s ask → ⊥
+  refused-asks (Whole object opcode size) refusal ask why asks =
+      let judged = judged-refused r.peer.objects r.peer.held (λ version m. ask_of beyond_toplevels r object version m) opcode (take (size - 8) (drop 8 r.peer.rest)) (r.peer.objects object) refusal
+      (passing-peer v.client r.peer object opcode size (Err refusal) is.peer why) in
+      let both : Result.Err refusal ≡ Ok ask = sym judged ∙ asks in
+      cc
+  refused-asks Bad refusal ask why asks = asks
+  refused-asks More refusal ask why asks = asks
+
+  -- Where a message touches a surface, the desk marks the window of that surface.
+  pub asked-marks : (a : Asked) → IsAsked v.client a → (ask : Ask) (id : ℕ) → AsksBy beyond_toplevels r (split_of r.peer.rest) ask → touched ask r ≡ Some id → IsMarkedBy v a id
+  asked-marks asked.More more ask id asks t =
+      absurd (subst (λ (s : Split). AsksBy beyond_toplevels r s ask) (ap split_of (sym is.peer.rest) ∙ more) asks)
+  asked-marks (asked.Refused refusal) why ask id asks t =
+      absurd (refused-asks (split_of v.client.rest) refusal ask why (subst (λ (rest : List ℕ). AsksBy beyond_toplevels r (split_of rest) ask) (sym is.peer.rest) asks))
+  asked-marks asked.Own (object, version, size, target, m, passes, own) ask id asks t =
+      passed-touches (IsMarkedBy v asked.Own) object version size target m passes (λ i o. absurd (differ (sym (ap is_own i) ∙ own))) (λ i o. absurd (differ (sym (ap is_own i) ∙ own))) ask id asks t
+  asked-marks (asked.Request object version size target k) (m, passes, told) ask id asks t = request-marks object version size target k m passes told ask id asks t
+
+-- ---- surfaces keep their numbers through a message
+
+-- what is taken leaves the client as it was told
+takes-left : {A : Type 0} (s : Split) (r : Resident) (old new : Kept A) (stacking : Stacking) → TakesSo s r old new stacking → (x : Resident) × (q : Peer) × IsLeft old new x q
+takes-left {A} s r old new stacking = at s
+  where
+    answers : (judged : Result Ask Refusal) (r : Resident) → AnswersSo judged r old new → (x : Resident) × (q : Peer) × IsLeft old new x q
+    answers (Ok ask) r h = (changed_by ask (with_peer (counted r.peer) r), h.0, h.2)
+    answers (Err refusal) r h = (r, h.0, h.2)
+
+    at : (s : Split) → TakesSo s r old new stacking → (x : Resident) × (q : Peer) × IsLeft old new x q
+    at (Whole object opcode size) h = answers (judge beyond_toplevels r object opcode (take (size - 8) (drop 8 r.peer.rest))) (with_peer (with_rest (drop size r.peer.rest) r.peer) r) h.0
+    at Bad h = answers (Err (display_error InvalidMethod)) r h
+    at More h = absurd h
+
+-- a client that lives after it is cleared is the same
+cleared-lives : {A : Type 0} (o : Option Cause) (c : ℕ) (old new : Kept A) (was now : Stack) → old.client.ended ≡ o → IsClearedBy o c old new was now → new.client.ended ≡ None → new ≡ old
+cleared-lives None c old new was now e h lives = h.0
+cleared-lives (Some cause) c old new was now e h lives = absurd (let both = sym e ∙ (ap (λ v. v.ended) (sym h.0) ∙ lives) in cc)
+
+-- one that lives after the stack was done is the same
+restacked-lives : {A : Type 0} (c : ℕ) (stacking : Stacking) (old new : Kept A) (was now : Stack) (q : Peer) → IsPeer old.client q → IsRestacked c stacking old new was now → new.client.ended ≡ None → new ≡ old
+restacked-lives c on.Stays old new was now q peer h lives = h.0
+restacked-lives c (on.Out number) old new was now q peer h lives = h.0
+restacked-lives c (on.ToTop number) old new was now q peer (inl h) lives = h.0
+restacked-lives c (on.ToTop number) old new was now q peer (inr h) lives =
+    let gone = h.0 q peer in
+    absurd (differ (sym (none-is gone.0.status (sym gone.2.status ∙ lives) (over-ended gone.0 (lacks-over q gone.0 gone.1)))))
+
+settled-lives-on : {A : Type 0} (o : Option Cause) (c : ℕ) (stacking : Stacking) (mid new : Kept A) (was now : Stack) (q : Peer) → mid.client.ended ≡ o → IsPeer mid.client q → IsSettledBy o c stacking mid new was now → new.client.ended ≡ None → new ≡ mid
+settled-lives-on (Some cause) c stacking mid new was now q e peer h lives = cleared-lives (Some cause) c mid new was now e h lives
+settled-lives-on None c stacking mid new was now q e peer h lives =
+    let same = cleared-lives h.0.client.ended c h.0 new h.1 now refl h.3 lives in
+    same ∙ restacked-lives c stacking mid h.0 was h.1 q peer h.2 (ap (λ k. k.client.ended) (sym same) ∙ lives)
+
+-- The surfaces of a client that still lives after a message keep their numbers.
+pub keeps-numbers : {A : Type 0} (s : Split) (r : Resident) (c : ℕ) (stacking : Stacking) (old mid new : Kept A) (was now : Stack) → TakesSo s r old mid stacking → IsSettledBy mid.client.ended c stacking mid new was now
+    → new.client.ended ≡ None → KeepsNumbers old.client.objects new.client.objects
+keeps-numbers {A} s r c stacking old mid new was now takes settled lives =
+    let left = takes-left s r old mid stacking takes in
+    let same : new ≡ mid = settled-lives-on mid.client.ended c stacking mid new was now left.1 refl left.2.peer settled lives in
+    subst (λ (k : Kept A). KeepsNumbers old.client.objects k.client.objects) (sym same) (left.2.numbers (ap (λ (k : Kept A). k.client.ended) (sym same) ∙ lives))
+
+-- ---- a message
+
+-- The window of the surface with this number is marked, if there is one: this is how damage changed.
+pub record MarksTouched {A : Type 0} (c : ℕ) (v : Kept A) (stack : Stack) (surface : Option ℕ) (old new : Damaged) : Type 0 where
+  pub marks : (others : ℕ → ById ℕ) (base d : Desktop) (r : Resident) → IsSeated c others base v stack d r
+      → (id number : ℕ) → surface ≡ Some number → targets_in WlSurface v.client.objects id ≡ Some number
+      → (x y : ℕ) → x < old.width → y < old.height → has new x y ≡ (has old x y || is_window_at c id (pos x) (pos y) d)
+  pub more : (x y : ℕ) → x < old.width → y < old.height → has old x y ≡ true → has new x y ≡ true
+  pub sides : IsAsLarge old new
+
+-- a number that is there
+some-number : (o : Option ℕ) → is_some o ≡ true → (number : ℕ) × (o ≡ Some number)
+some-number (Some number) e = (number, refl)
+some-number None e = absurd (differ e)
+
+module _ {A : Type 0} (c : ℕ) (others : ℕ → ById ℕ) (base d e : Desktop) (r q : Resident) (old new : Kept A) (was now : Stack) (before : IsSeated c others base old was d r) (after : IsSeated c others base new now e q)
+    (unlinked : AreUnlinked base) (serves : Serves beyond_toplevels c d e) (a : Asked) (asks : IsAsked old.client a)
+    (keeps : new.client.ended ≡ None → KeepsNumbers old.client.objects new.client.objects) (surface : Option ℕ) (by_asked : surface ≡ marked_by a)
+    (d0 d1 d2 d3 : Damaged) (first : MarksTouched c old was surface d0 d1) (settled : MarksEnd new.client.ended c was d1 d2) (second : MarksTouched c new now surface d2 d3) where
+  status : status_in c e ≡ new.client.ended
+  status = ap status_of after.based.there ∙ sym after.seat.peer.status
+
+  module _ (x y : ℕ) (wide : x < d0.width) (high : y < d0.height) (unmarked : has d3 x y ≡ false) where
+    wide1 : x < d1.width
+    wide1 = subst (λ n. x < n) (sym first.sides.width) wide
+
+    high1 : y < d1.height
+    high1 = subst (λ n. y < n) (sym first.sides.height) high
+
+    wide2 : x < d2.width
+    wide2 = subst (λ n. x < n) (sym settled.0.width) wide1
+
+    high2 : y < d2.height
+    high2 = subst (λ n. y < n) (sym settled.0.height) high1
+
+    none2 : has d2 x y ≡ false
+    none2 = unless (has d2 x y) (λ f. differ (sym unmarked ∙ second.more x y wide2 high2 f))
+
+    none1 : has d1 x y ≡ false
+    none1 = or-left (has d1 x y) _ (sym (settled.1 x y wide1 high1) ∙ none2)
+
+    none0 : has d0 x y ≡ false
+    none0 = unless (has d0 x y) (λ f. differ (sym none1 ∙ first.more x y wide high f))
+
+    -- the client ended, and had a window there
+    ended-there : is_some (status_in c e) ≡ true → has_window_at c (pos x) (pos y) d ≡ true → ⊥
+    ended-there over there =
+        let stood : stands_any c was ≡ true = stack-any _ c was.standing d.standing before.scene.standing
+        ∙ windows-stand (λ client surface. client == c) (pos x) (pos y) (owned_in d) d.standing (seated-unlinked c others base d old was r before unlinked) there in
+        differ (sym (or-right (has d1 x y) _ (sym (settled.1 x y wide1 high1) ∙ none2)) ∙ and-both (is_some new.client.ended) (stands_any c was) (ap (λ o. is_some o) (sym status) ∙ over) stood)
+
+    -- the surface that it touched had a window there
+    before-there : (id : ℕ) → IsMarkedBy old a id → is_window_at c id (pos x) (pos y) d ≡ true → ⊥
+    before-there id marked there =
+        differ (sym (or-right (has d0 x y) _ (sym (first.marks others base d r before id marked.0 (by_asked ∙ marked.1) marked.2 x y wide high) ∙ none1)) ∙ there)
+
+    -- it has one there
+    after-there : (id : ℕ) → IsMarkedBy old a id → new.client.ended ≡ None → is_window_at c id (pos x) (pos y) e ≡ true → ⊥
+    after-there id marked lives there =
+        let stands = windows-stand (λ client surface. (client == c) && (surface == id)) (pos x) (pos y) (owned_in e) e.standing (seated-unlinked c others base e new now q after unlinked) there in
+        let named = some-number (numbers new id) (known-mapped c new e q after.based.there after.seat after.mapped id stands) in
+        let same : marked.0 ≡ named.0 = keeps lives id marked.0 named.0 marked.2 named.1 in
+        let surface-named : surface ≡ Some named.0 = by_asked ∙ marked.1 ∙ ap (λ n. Some n) same in
+        differ (sym (or-right (has d2 x y) _ (sym (second.marks others base e q after id named.0 surface-named named.1 x y wide2 high2) ∙ unmarked)) ∙ there)
+
+    not-marked : MarkedBy beyond_toplevels c r (pos x) (pos y) d e → ⊥
+    not-marked (inl (over, there)) = ended-there over there
+    not-marked (inr (lives, ask, told, touches)) = at touches.2
+      where
+        marked : IsMarkedBy old a touches.0
+        marked = asked-marks old r (record { peer = before.seat.peer; owns = before.seat.owns }) a asks ask touches.0 told touches.1
+
+        at : (is_window_at c touches.0 (pos x) (pos y) d ≡ true) ⊎ (is_window_at c touches.0 (pos x) (pos y) e ≡ true) → ⊥
+        at (inl there) = before-there touches.0 marked there
+        at (inr there) = after-there touches.0 marked (sym status ∙ lives) there
+
+    least : marks_at_least d e (pos x) (pos y) ≡ false
+    least =
+        unless (marks_at_least d e (pos x) (pos y))
+        (λ f. not-marked (serves-point beyond_toplevels c r d before.based.there _ _ _ before.seat.owns before.mapped (seated-unlinked c others base d old was r before unlinked) (pos x) (pos y) e serves f))
+
+  -- What a message marks at least is to be painted, as is what was.
+  pub message-marks : Marks d e d0 d3
+  message-marks = λ x y wide high unmarked. (none0 x y wide high unmarked, least x y wide high unmarked)

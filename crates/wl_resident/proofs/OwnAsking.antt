@@ -1,0 +1,158 @@
+-- A message of a client's own interfaces, as the desk takes it.
+use Rattle.std.proofs.Common.{◌≡◌, ℕ, ◌-◌, take, drop, Bool, true, false, Option, Some, None, Result, refl, ap, subst, sym, ◌∙◌}
+use Rattle.std.specs.Prelude.{Ok, Err}
+use Rattle.std.specs.Option.{option_and_then}
+use Rattle.std.proofs.Math.Path.{fun_ext}
+use Rattle.wl_wire.specs.declared.header.Split.{Split}
+use Rattle.wl_wire.specs.declared.header.Split.TheVariants.{Message as Whole, More, Bad}
+use Rattle.wl_wire.specs.Wire.{split_of}
+use Rattle.wl_proto.specs.declared.interface.Interface.{Interface}
+use Rattle.wl_proto.specs.declared.interface.Interface.TheVariants.{WlDisplay, WlRegistry, WlRegion, WlSurface, WlShm, WlShmPool, WlBuffer, XdgSurface, XdgToplevel}
+use Rattle.wl_proto.specs.Messages.{Message}
+use Rattle.wl_client.specs.Agreement.{IsPeer}
+use Rattle.wl_client.specs.First.{passing_in}
+use Rattle.wl_client.specs.Judgement.{action_of}
+use Rattle.wl_client.specs.Judgement.{judge as judge_own}
+use Rattle.wl_client.specs.Objects.{KeepsSurfaces, of_surface}
+use Rattle.wl_client.specs.Peer.{IsIdleAt, Peer, known_of, with_rest}
+use Rattle.wl_client.specs.Serving.{AnswersWith, AreUsed, PassesTo, ServesWith, TakesWith, is_own, was_taken}
+use Rattle.wl_client.specs.View.{ClientView}
+use Rattle.wl_client.specs.declared.actions.Action.{Action}
+use Rattle.wl_client.specs.declared.refusals.Refusal.{Refusal}
+use Rattle.wl_client.specs.declared.served.Served.{Served}
+use Rattle.wl_client.specs.declared.served.Served.TheVariants as served
+use Rattle.wl_surface.specs.Kept.{has_at}
+use Rattle.wl_surface.specs.Surfaces.{has, is_used}
+use Rattle.wl_table.specs.Objects.{Held, entry_of}
+use Rattle.wl_table.specs.declared.entry.Entry.{Entry}
+use Rattle.wl_resident.specs.declared.residents.Resident.{Resident as Kept}
+use Rattle.wl_resident.specs.declared.residents.Stacking.TheVariants.{Stays}
+use Rattle.wl_plain.specs.Ask.{Ask, owns}
+use Rattle.wl_plain.specs.Desktop.{Resident}
+use Rattle.wl_plain.specs.Owning.{by_number, names_in, target_as, targets_in}
+use Rattle.wl_resident.specs.Residents.{AnswersSo, IsLeft, IsResident, StacksSo, TakesSo}
+use Rattle.wl_plain.specs.Served.{beyond_toplevels}
+use Rattle.wl_plain.specs.Step.{ask_by, ask_of, judge, with_peer}
+use Rattle.wl_resident.proofs.Asking.{judged-by, judged-first, whole-first}
+use Rattle.wl_resident.proofs.Numbers.{keeps-names}
+use Rattle.wl_plain.proofs.OwningNames.{names-with}
+use Rattle.wl_plain.proofs.OwningSurfaces.{any-is}
+use Rattle.wl_resident.proofs.Stackings.{own-stays}
+
+-- ---- it is taken
+
+-- the message that passes is the one
+abbrev message-of : ClientView → Split → Result Message Refusal → Result Message Refusal
+message-of v (Whole object opcode size) other = passing_in v object opcode size
+message-of v Bad other = other
+message-of v More other = other
+
+one-passes : (v : ClientView) → PassesTo true v → PassesTo false v → ⊥
+one-passes v (object, version, size, target, m, passes, own) (object2, version2, size2, target2, m2, passes2, other) =
+    let same : Result.Ok m ≡ Ok m2 = sym passes.passes ∙ ap (λ (s : Split). message-of v s (Ok m)) (sym passes.first ∙ passes2.first) ∙ passes2.passes in
+    let it : m ≡ m2 = cc in
+    let both = sym own ∙ ap (λ (n : Message). is_own n.interface) it ∙ other in
+    cc
+
+pub own-taken : (v : ClientView) (s : Served) → v.ended ≡ None → PassesTo true v → (s ≡ served.More → IsIdleAt v.ended v.rest) → (s ≡ served.Other → (v.ended ≡ None) × PassesTo false v) → was_taken s ≡ true
+own-taken v served.Done alive own more other = refl
+own-taken v (served.Refused object code) alive own more other = refl
+own-taken v served.More alive (object, version, size, target, m, passes, own) more other =
+    absurd (let idle = rw alive at more refl in let both = sym idle ∙ passes.first in cc)
+own-taken v served.Other alive own more other = absurd (one-passes v own (other refl).1)
+
+-- ---- what names surfaces stays
+
+seen-surface : (i : Interface) (version target : ℕ) → option_and_then (target_as WlSurface) (of_surface (Some (record { interface = i; version = version; target = target }))) ≡ target_as WlSurface (record { interface = i; version = version; target = target })
+seen-surface WlSurface version target = refl
+seen-surface XdgSurface version target = refl
+seen-surface XdgToplevel version target = refl
+seen-surface i version target = refl
+
+seen-xdg : (i : Interface) (version target : ℕ) → option_and_then (target_as XdgSurface) (of_surface (Some (record { interface = i; version = version; target = target }))) ≡ target_as XdgSurface (record { interface = i; version = version; target = target })
+seen-xdg WlSurface version target = refl
+seen-xdg XdgSurface version target = refl
+seen-xdg XdgToplevel version target = refl
+seen-xdg i version target = refl
+
+seen-toplevel : (i : Interface) (version target : ℕ) → option_and_then (target_as XdgToplevel) (of_surface (Some (record { interface = i; version = version; target = target }))) ≡ target_as XdgToplevel (record { interface = i; version = version; target = target })
+seen-toplevel WlSurface version target = refl
+seen-toplevel XdgSurface version target = refl
+seen-toplevel XdgToplevel version target = refl
+seen-toplevel i version target = refl
+
+-- an interface whose objects are seen so
+abbrev Seen : Interface → Type 0
+Seen interface = (o : Option Entry) → option_and_then (target_as interface) (of_surface o) ≡ option_and_then (target_as interface) o
+
+surface-seen : Seen WlSurface
+surface-seen None = refl
+surface-seen (Some entry) = seen-surface entry.interface entry.version entry.target
+
+xdg-seen : Seen XdgSurface
+xdg-seen None = refl
+xdg-seen (Some entry) = seen-xdg entry.interface entry.version entry.target
+
+toplevel-seen : Seen XdgToplevel
+toplevel-seen None = refl
+toplevel-seen (Some entry) = seen-toplevel entry.interface entry.version entry.target
+
+targets-kept : (interface : Interface) (old new : Held) → Seen interface → KeepsSurfaces old new → targets_in interface new ≡ targets_in interface old
+targets-kept interface old new seen keeps =
+    fun_ext (λ id. sym (seen (entry_of new id)) ∙ ap (option_and_then (target_as interface)) (keeps id) ∙ seen (entry_of old id))
+
+names-kept : (old new : Held) → KeepsSurfaces old new → names_in new ≡ names_in old
+names-kept old new keeps =
+    names-with old new (targets_in WlSurface old) (targets_in XdgSurface old) (targets_in XdgToplevel old) (targets-kept WlSurface old new surface-seen keeps) (targets-kept XdgSurface old new xdg-seen keeps) (targets-kept XdgToplevel old new toplevel-seen keeps)
+
+-- ---- it is answered
+
+-- one of the client's own interfaces
+own-asked : (interface : Interface) (r : Resident) (object version : ℕ) (m : Message) → is_own interface ≡ true → (beyond_toplevels interface m.opcode ≡ false) × (ask_by interface r object version m ≡ owns (action_of (known_of r.peer) object version m.interface m.opcode m.fields))
+own-asked WlDisplay r object version m own = (refl, refl)
+own-asked WlRegistry r object version m own = (refl, refl)
+own-asked WlRegion r object version m own = (refl, refl)
+own-asked WlShm r object version m own = (refl, refl)
+own-asked WlShmPool r object version m own = (refl, refl)
+own-asked WlBuffer r object version m own = (refl, refl)
+own-asked interface r object version m own = absurd (cc)
+
+own-ask-of : (r : Resident) (object version : ℕ) (m : Message) → is_own m.interface ≡ true → ask_of beyond_toplevels r object version m ≡ owns (action_of (known_of r.peer) object version m.interface m.opcode m.fields)
+own-ask-of r object version m own = let asked = own-asked m.interface r object version m own in rw asked.0 asked.1
+
+-- what it leaves
+own-left : {A : Type 0} (old new : Kept A) (r then : Resident) (q : Peer) → IsResident old r → then.owned ≡ r.owned → new.owned ≡ old.owned → (new.client.ended ≡ None → KeepsSurfaces old.client.objects new.client.objects) → IsPeer new.client q → IsLeft old new then q
+own-left old new r then q is owned same keeps peer = record {
+  peer = peer;
+  owns = λ alive. rw (names-kept old.client.objects new.client.objects (keeps alive), same, owned) is.owns;
+  numbers = λ alive. keeps-names old.client.objects new.client.objects (names-kept old.client.objects new.client.objects (keeps alive));
+}
+
+own-answered : {A : Type 0} (old new : Kept A) (r left : Resident) (judged : Result Action Refusal) (q : Peer) → IsResident old r → left.owned ≡ r.owned → new.owned ≡ old.owned → (new.client.ended ≡ None → KeepsSurfaces old.client.objects new.client.objects)
+    → AnswersWith (λ number. is_used number left.owned.surfaces) judged left.peer q → IsPeer new.client q → AnswersSo (owns judged) left old new
+own-answered old new r left (Ok action) q is owned same keeps acts peer = (q, acts, own-left old new r _ q is owned same keeps peer)
+own-answered old new r left (Err refusal) q is owned same keeps errs peer = (q, errs, own-left old new r left q is owned same keeps peer)
+
+-- the buffers that its surfaces use
+pub used-of : {A : Type 0} (old : Kept A) (r : Resident) → IsResident old r → AreUsed old.owned.surfaces (λ number. is_used number r.owned.surfaces)
+used-of old r is =
+    let numbers = (names_in old.client.objects).surfaces in
+    let slots = old.owned.surfaces in
+    (by_number numbers r.owned.surfaces, is.owns.surfaces.stand, λ number. any-is numbers slots r.owned.surfaces is.owns.surfaces (λ s. has number s.history) (has_at number) refl (λ s. refl))
+
+pub own-served : {A : Type 0} (old new : Kept A) (r : Resident) (q : Peer) → IsResident old r → PassesTo true old.client → new.owned ≡ old.owned → (new.client.ended ≡ None → KeepsSurfaces old.client.objects new.client.objects)
+    → ServesWith (λ number. is_used number r.owned.surfaces) r.peer q → IsPeer new.client q → TakesSo (split_of r.peer.rest) r old new Stays
+own-served old new r q is (object, version, size, target, m, passes, own) same keeps serves peer =
+    let whole = whole-first old r object version size target m passes is in
+    let body = take (size - 8) (drop 8 r.peer.rest) in
+    let left : Resident = with_peer (with_rest (drop size r.peer.rest) r.peer) r in
+    let action : Result Action Refusal = action_of (known_of r.peer) object version m.interface m.opcode m.fields in
+    let used : ℕ → Bool = λ number. is_used number r.owned.surfaces in
+    let judged : judge beyond_toplevels r object m.opcode body ≡ owns action = judged-first old r object version size target m passes is ∙ own-ask-of left object version m own in
+    let judged_own : judge_own (known_of r.peer) object m.opcode body ≡ action = judged-by old r object version size target m passes is (λ version m. action_of (known_of r.peer) object version m.interface m.opcode m.fields) in
+    let taken : TakesWith used (Whole object m.opcode size) r.peer q = subst (λ (s : Split). TakesWith used s r.peer q) whole serves.1 in
+    let answers : AnswersWith used action left.peer q = subst (λ (j : Result Action Refusal). AnswersWith used j left.peer q) judged_own taken in
+    subst (λ (s : Split). TakesSo s r old new Stays) (sym whole) (
+      subst (λ (j : Result Ask Refusal). AnswersSo j left old new) (sym judged) (own-answered old new r left action q is refl same keeps answers peer),
+      subst (λ (j : Result Ask Refusal). StacksSo old r j Stays) (sym judged) (own-stays old r action),
+    )

@@ -1,0 +1,349 @@
+-- What the requests of the shell lead to.
+use Rattle.std.proofs.Common.{◌≡◌, ℕ, List, Bool, true, false, Option, Some, None, Result, cond, refl, ap, sym, subst, ◌∙◌, inl, inr}
+use Rattle.std.specs.Prelude.{◌&&◌, not, nat_le, IfSome, ◌==◌, ◌≢◌, ◌↔◌, ◌||◌, [], ◌∷◌, if◌then◌else◌, is_some, IsOkUnless, MatchOption, IsErr, OnOk, Ok, Err}
+use Rattle.std.specs.Option.{option_map, option_and_then}
+use Rattle.std.proofs.Math.Path.{fun_ext}
+use Rattle.std.proofs.lemmas.Bool.{eqb-true}
+use Rattle.wl_proto.specs.declared.interface.Interface.{Interface}
+use Rattle.wl_proto.specs.declared.interface.Interface.TheVariants.{WlSurface, XdgSurface, XdgToplevel, XdgWmBase}
+use Rattle.wl_proto.specs.Messages.{Message}
+use Rattle.wl_proto.specs.Objects.{new_id_in}
+use Rattle.wl_proto.specs.declared.argument.NewId.{NewId}
+use Rattle.wl_client.specs.Judgement.{is_free}
+use Rattle.wl_wire.specs.Wire.{Field}
+use Rattle.wl_table.specs.Objects.{Held, HoldsAt, entry_of}
+use Rattle.wl_table.specs.declared.entry.Entry.{Entry}
+use Rattle.wl_client.specs.Agreement.{IsPeer}
+use Rattle.wl_client.specs.Objects.{ById, interface_number, is_of, object_of, objects_in}
+use Rattle.wl_client.specs.Peer.{Errs, Peer, Queues, WantsOr, counted, made, object_at_version}
+use Rattle.wl_client.specs.View.{ClientView}
+use Rattle.wl_client.specs.declared.refusals.Refusal.{Refusal}
+use Rattle.wl_geom.specs.declared.rect.Rect.{Rect}
+use Rattle.wl_surface.specs.Kept.{Changes, Numbered, Slots, StandForAll, StandsAt, kept_at, role_at}
+use Rattle.wl_surface.specs.Request.{SetWindowGeometry}
+use Rattle.wl_surface.specs.State.{History}
+use Rattle.wl_surface.specs.Surfaces.{Surface, with_role}
+use Rattle.wl_surface.specs.declared.role.Role.{Role}
+use Rattle.wl_surface.specs.declared.role.Role.TheVariants.{Toplevel as AsToplevel}
+use Rattle.wl_surface.specs.declared.role.SurfaceError.{SurfaceError}
+use Rattle.wl_shell.specs.Kept.{Kept as KeptXdg, changing, kept_of, making_refused}
+use Rattle.wl_shell.specs.Shell.{RoleObject, Shell, XdgSurface as Xdg, is_role, next_serial, xdg_at}
+use Rattle.wl_shell.specs.declared.error.ShellError.{ShellError}
+use Rattle.wl_shell.specs.declared.error.ShellError.TheVariants as failed
+use Rattle.wl_scene.specs.Stacking.{Owned}
+use Rattle.wl_scene.specs.declared.owned.Owned.{Owned as Lent}
+use Rattle.wl_resident.specs.declared.residents.Resident.{Resident as Kept}
+use Rattle.wl_plain.specs.Ask.{Ask, AskSurface, DestroyToplevel, GetToplevel, Ignore}
+use Rattle.wl_plain.specs.Desktop.{Resident}
+use Rattle.wl_plain.specs.Owning.{AreKept, IsOwned, IsXdg, Names, asks_by, by_number, configuring_if, kept_base, names_in, names_surface, shell_refusal, target_as, targets_in, with_surface, with_toplevel, with_xdg}
+use Rattle.wl_resident.specs.Residents.{ActsFor, AnswersSo, Does, IsBase, IsFree, NewIsFree, IsResident, IsToplevel, IsXdgSurface}
+use Rattle.wl_plain.specs.Step.{changed_by, configures_told, role_configured, toplevel_configured, toplevel_given, with_peer, xdg_configured}
+use Rattle.wl_plain.specs.XdgShell.{configured_again, is_no_toplevel, is_state, role_of, toplevel_ask, toplevel_ask_of, xdg_ask, xdg_ask_of}
+use Rattle.wl_resident.proofs.Doing.{cut-bounds}
+use Rattle.wl_plain.proofs.Letting.{asked-keeps}
+use Rattle.wl_resident.proofs.Numbers.{left-from}
+use Rattle.wl_plain.proofs.OwningSurfaces.{surface-named, surface-read}
+use Rattle.wl_plain.proofs.OwningNames.{names-other-gone, names-surface-gone, names-toplevel-gone, names-xdg-gone}
+use Rattle.wl_plain.proofs.OwningReads.{role-fits, role-read}
+use Rattle.wl_plain.proofs.OwningXdg.{toplevel-named, xdg-named}
+
+-- ---- objects that go
+
+base-names : (interface : Interface) → (interface_number interface == interface_number XdgWmBase) ≡ true → names_surface interface ≡ false
+base-names WlSurface e = absurd (cc)
+base-names XdgSurface e = absurd (cc)
+base-names XdgToplevel e = absurd (cc)
+base-names interface e = refl
+
+pub base-gone : (old new : Held) (id : ℕ) → is_of XdgWmBase (objects_in old id) ≡ true → HoldsAt old new id None → names_in new ≡ names_in old
+base-gone old new id is holds = at (entry_of old id) refl is
+  where
+    at : (o : Option Entry) → entry_of old id ≡ o → is_of XdgWmBase (option_map object_of o) ≡ true → names_in new ≡ names_in old
+    at None found is = absurd (cc)
+    at (Some entry) found is = names-other-gone old new id entry found (base-names entry.interface is) holds
+
+number-xdg : (interface : Interface) → (interface_number interface == interface_number XdgSurface) ≡ true → interface ≡ XdgSurface
+number-xdg XdgSurface e = refl
+number-xdg interface e = absurd (cc)
+
+number-toplevel : (interface : Interface) → (interface_number interface == interface_number XdgToplevel) ≡ true → interface ≡ XdgToplevel
+number-toplevel XdgToplevel e = refl
+number-toplevel interface e = absurd (cc)
+
+-- what names a number is an object of the interface
+entry-named : (interface : Interface) (held : Held) (id number : ℕ) → targets_in interface held id ≡ Some number → (entry : Entry) × (entry_of held id ≡ Some entry) × ((interface_number entry.interface == interface_number interface) ≡ true)
+entry-named interface held id number named = at (entry_of held id) refl named
+  where
+    is : (b : Bool) (target : ℕ) → cond b (Some target) None ≡ Some number → b ≡ true
+    is true target e = refl
+    is false target e = absurd (cc)
+
+    at : (o : Option Entry) → entry_of held id ≡ o → option_and_then (target_as interface) o ≡ Some number → (entry : Entry) × (entry_of held id ≡ Some entry) × ((interface_number entry.interface == interface_number interface) ≡ true)
+    at None found e = absurd (cc)
+    at (Some entry) found e = (entry, found, is (interface_number entry.interface == interface_number interface) entry.target e)
+
+-- a request more is counted
+pub objects-counted : (old mid : ClientView) → mid ≡ record old { requests = mid.requests } → mid.objects ≡ old.objects
+objects-counted old mid only = ap (λ (w : ClientView). w.objects) only
+
+pub names-counted : (old mid : ClientView) → mid ≡ record old { requests = mid.requests } → names_in mid.objects ≡ names_in old.objects
+names-counted old mid only = ap names_in (objects-counted old mid only)
+
+pub xdg-gone : (old mid new : ClientView) (id number : ℕ) → mid ≡ record old { requests = mid.requests } → targets_in XdgSurface old.objects id ≡ Some number → HoldsAt mid.objects new.objects id None
+    → names_in new.objects ≡ with_xdg id None (names_in old.objects)
+xdg-gone old mid new id number only named holds =
+    let entry = entry-named XdgSurface old.objects id number named in
+    names-xdg-gone old.objects new.objects id entry.0 entry.1 (number-xdg entry.0.interface entry.2) (subst (λ (o : Held). HoldsAt o new.objects id None) (objects-counted old mid only) holds)
+
+pub toplevel-gone : (old mid new : ClientView) (id number : ℕ) → mid ≡ record old { requests = mid.requests } → targets_in XdgToplevel old.objects id ≡ Some number → HoldsAt mid.objects new.objects id None
+    → names_in new.objects ≡ with_toplevel id None (names_in old.objects)
+toplevel-gone old mid new id number only named holds =
+    let entry = entry-named XdgToplevel old.objects id number named in
+    names-toplevel-gone old.objects new.objects id entry.0 entry.1 (number-toplevel entry.0.interface entry.2) (subst (λ (o : Held). HoldsAt o new.objects id None) (objects-counted old mid only) holds)
+
+-- ---- what is judged
+
+gone : {X : Type 0} (o : Option X) → is_some o ≡ true → o ≡ None → ⊥
+gone None some none = cc
+gone (Some x) some none = cc
+
+-- it is refused
+pub refused : {A : Type 0} (old new : Kept A) (r : Resident) (judged : Result Ask Refusal) (refusal : Refusal) → judged ≡ Err refusal → is_some new.client.ended ≡ true → (q : Peer) × Errs refusal r.peer q × IsPeer new.client q → AnswersSo judged r old new
+refused old new r judged refusal e ended errs =
+    subst (λ (j : Result Ask Refusal). AnswersSo j r old new) (sym e) (
+      errs.0,
+      errs.1,
+      record {
+        peer = errs.2;
+        owns = λ none. absurd (gone new.client.ended ended none);
+        numbers = λ none. absurd (gone new.client.ended ended none);
+      },
+    )
+
+-- it is accepted
+pub accepted : {A : Type 0} {old : Kept A} (new : Kept A) (r : Resident) (judged : Result Ask Refusal) (ask : Ask) → judged ≡ Ok ask → AnswersSo (Ok ask) r old new → AnswersSo judged r old new
+accepted {A} {old} new r judged ask e answers = subst (λ (j : Result Ask Refusal). AnswersSo j r old new) (sym e) answers
+
+-- the object is an xdg_surface
+pub xdg-answered : {A : Type 0} (old new : Kept A) (object number version opcode : ℕ) (fields : List Field) (r : Resident) → IsResident old r → IsXdgSurface old object number
+    → ((k : KeptXdg) (x : Xdg) (h : History) → IsXdg (names_in old.client.objects) (kept_of old.owned.shell) r.owned number k x h → x.id ≡ object → AnswersSo (xdg_ask_of r (Some x) version opcode fields) r old new)
+    → AnswersSo (xdg_ask r object version opcode fields) r old new
+xdg-answered old new object number version opcode fields r is named answers =
+    let one = xdg-named (names_in old.client.objects) old.owned.surfaces (kept_of old.owned.shell) r.owned is.owns object number named in
+    subst (λ (o : Option Xdg). AnswersSo (xdg_ask_of r o version opcode fields) r old new) (sym one.4) (answers one.0 one.1 one.2 one.3 one.5)
+
+-- the object is a toplevel
+pub toplevel-answered : {A : Type 0} (old new : Kept A) (object number opcode : ℕ) (r : Resident) → IsResident old r → IsToplevel old object number
+    → ((k : KeptXdg) (x : Xdg) (h : History) → IsXdg (names_in old.client.objects) (kept_of old.owned.shell) r.owned number k x h → is_role object x.role ≡ true → AnswersSo (toplevel_ask_of object (Some x) opcode) r old new)
+    → AnswersSo (toplevel_ask r object opcode) r old new
+toplevel-answered old new object number opcode r is named answers =
+    let one = toplevel-named (names_in old.client.objects) old.owned.surfaces (kept_of old.owned.shell) r.owned is.owns object number named in
+    subst (λ (o : Option Xdg). AnswersSo (toplevel_ask_of object o opcode) r old new) (sym one.4) (answers one.0 one.1 one.2 one.3 one.5)
+
+-- what the shell answered is told
+pub told-ok : (judged : Result Ask Refusal) (ask : Ask) (refusal : ShellError → Refusal) (answer told : Result (Unit {0}) ShellError) → judged ≡ asks_by {X = Unit {0}} (λ u. ask) refusal answer → told ≡ answer → told ≡ Ok tt → judged ≡ Ok ask
+told-ok judged ask refusal answer told e same ok = e ∙ ap (asks_by {X = Unit {0}} (λ u. ask) refusal) (sym same ∙ ok)
+
+pub told-err : {X : Type 0} (judged : Result Ask Refusal) (ask : X → Ask) (refusal : ShellError → Refusal) (answer told : Result X ShellError) (error : ShellError) → judged ≡ asks_by ask refusal answer → told ≡ answer → told ≡ Err error → judged ≡ Err (refusal error)
+told-err judged ask refusal answer told error e same err = e ∙ ap (asks_by ask refusal) (sym same ∙ err)
+
+-- an error is told with the xdg_wm_base that made the xdg_surface
+pub xdg-refused : {A : Type 0} (old new : Kept A) (mid : ℕ → Option KeptXdg) (r : Resident) (object number : ℕ) (k : KeptXdg) (x : Xdg) (h : History) (error : ShellError) (judged : Result Ask Refusal)
+    → IsXdg (names_in old.client.objects) (kept_of old.owned.shell) r.owned number k x h → x.id ≡ object → judged ≡ Err (shell_refusal x.base x.id object error) → mid ≡ kept_of old.owned.shell → is_some new.client.ended ≡ true
+    → (q : Peer) × Errs (shell_refusal (kept_base (mid number)) object object error) r.peer q × IsPeer new.client q → AnswersSo judged r old new
+xdg-refused old new mid r object number k x h error judged one same e still ended errs =
+    let base : kept_base (mid number) ≡ x.base = ap (λ (o : ℕ → Option KeptXdg). kept_base (o number)) still ∙ ap kept_base one.here ∙ one.stands.base in
+    let told : shell_refusal x.base x.id object error ≡ shell_refusal (kept_base (mid number)) object object error =
+    ap (λ i. shell_refusal x.base i object error) same ∙ sym (ap (λ b. shell_refusal b object object error) base) in
+    refused old new r judged (shell_refusal (kept_base (mid number)) object object error) (e ∙ ap (λ (f : Refusal). Err f) told) ended errs
+
+-- a window geometry lets no store go
+pub geometry-keeps : (numbers : ById ℕ) (slots : Slots) (r : Resident) (id number : ℕ) (rect : Rect) → AreKept numbers slots r.owned.surfaces → numbers id ≡ Some number → (changed_by (AskSurface id (SetWindowGeometry rect)) r).peer ≡ r.peer
+geometry-keeps numbers slots r id number rect kept named =
+    let there = surface-named numbers slots r.owned.surfaces kept id number named in
+    let read = surface-read numbers slots r.owned.surfaces kept id number named ∙ there.1 in
+    let bounds = cut-bounds (kept_at slots number) there.0 (subst (λ (o : Option Surface). StandsAt (kept_at slots number) o) read (kept.stand number)) in
+    ap (λ (q : Resident). q.peer) (asked-keeps (SetWindowGeometry rect) refl (λ v. refl) id r there.0 there.1 bounds.0 bounds.1)
+
+pub base-held : (old mid : ClientView) (id : ℕ) → mid ≡ record old { requests = mid.requests } → is_of XdgWmBase (objects_in old.objects id) ≡ true → is_of XdgWmBase (objects_in mid.objects id) ≡ true
+base-held old mid id only is = subst (λ (o : Held). is_of XdgWmBase (objects_in o id) ≡ true) (sym (objects-counted old mid only)) is
+
+-- a client of which a request more was counted
+pub counted-on : {A : Type 0} (old mid : Kept A) (r : Resident) → IsResident old r → mid.client ≡ record old.client { requests = mid.client.requests } → mid.owned ≡ old.owned → IsPeer mid.client (counted r.peer) → IsResident mid (with_peer (counted r.peer) r)
+counted-on old mid r is only same peer = record {
+  peer = peer;
+  owns = subst (λ (n : Names). IsOwned n mid.owned.surfaces (kept_of mid.owned.shell) r.owned) (sym (names-counted old.client mid.client only))
+      (rw same is.owns);
+}
+
+-- it is refused with what was made
+pub refused-so : {A : Type 0} (old new : Kept A) (r : Resident) (judged : Result Ask Refusal) (told refusal : Refusal) → judged ≡ Err refusal → told ≡ refusal → is_some new.client.ended ≡ true → (q : Peer) × Errs told r.peer q × IsPeer new.client q → AnswersSo judged r old new
+refused-so old new r judged told refusal e same ended errs = refused old new r judged told (e ∙ ap (λ (f : Refusal). Err f) (sym same)) ended errs
+
+-- ---- a toplevel that is made
+
+given-peer : (id xdg : ℕ) (o : Option Xdg) (r : Resident) → (toplevel_given id xdg o r).peer ≡ r.peer
+given-peer id xdg None r = refl
+given-peer id xdg (Some x) r = refl
+
+pub acts-given : (xdg id version : ℕ) (r : Resident) (q : Peer) → WantsOr true (Queues [] (made id (object_at_version XdgToplevel version) (counted r.peer)) q) (counted r.peer) q → ActsFor (GetToplevel id version xdg) (with_peer (counted r.peer) r) q
+acts-given xdg id version r q (inl lacks) = inl lacks
+acts-given xdg id version r q (inr done) =
+    let one_more = with_peer (counted r.peer) r in
+    inr (done ∙ ap (λ (p : Peer). made id (object_at_version XdgToplevel version) p) (sym (given-peer id xdg (xdg_at xdg r.owned.shell) one_more)))
+
+-- a role that fits is given
+pub role-given : (names : Names) (slots : Slots) (kept : ℕ → Option KeptXdg) (r : Resident) → IsOwned names slots kept r.owned → (id number : ℕ) (had : Option Role) (told : Result (Unit {0}) SurfaceError) (new : Slots) → names.surfaces id ≡ Some number → is_no_toplevel (role_of r id) ≡ false
+    → ((all : Numbered) → StandForAll slots all → had ≡ role_at (all number))
+    → ((all : Numbered) → StandForAll slots all → (IsErr told) ↔ ((other : Role) × (role_at (all number) ≡ Some other) × (other ≢ AsToplevel)))
+    → OnOk told (Changes slots new number (with_role AsToplevel)) → Changes slots new number (with_role AsToplevel)
+role-given names slots kept r is id number had told new named fits reads refuses ok = at told refl ok
+  where
+    all : Numbered
+    all = by_number names.surfaces r.owned.surfaces
+
+    at : (o : Result (Unit {0}) SurfaceError) → told ≡ o → OnOk o (Changes slots new number (with_role AsToplevel)) → Changes slots new number (with_role AsToplevel)
+    at (Ok u) e ok = ok
+    at (Err error) e ok =
+        let other = (refuses all is.surfaces.stand).0 (rw e refl) in
+        absurd (role-fits (role_of r id) fits (other.0, sym (role-read names slots kept r is id number had named reads) ∙ reads all is.surfaces.stand ∙ other.1, other.2))
+
+-- ---- an xdg_surface that is made
+
+pub making-ok : (m : Option ShellError) (told : Result (Unit {0}) ShellError) → MatchOption m (IsOkUnless told failed.Memory) (λ e. told ≡ Err e) → told ≡ Ok tt → m ≡ None
+making-ok None told refuses ok = refl
+making-ok (Some e) told refuses ok = absurd (cc)
+
+pub making-memory : (other content : Bool) (k : Option KeptXdg) (told : Result (Unit {0}) ShellError) → MatchOption (making_refused other content k) (IsOkUnless told failed.Memory) (λ e. told ≡ Err e) → told ≡ Err failed.Memory → making_refused other content k ≡ None
+making-memory other content k told refuses memory = at (other || is_some k) content refuses
+  where
+    at : (b c : Bool) → MatchOption (if b then Some failed.Role else (if c then Some failed.InvalidSurfaceState else None)) (IsOkUnless told failed.Memory) (λ e. told ≡ Err e) → (if b then Some failed.Role else (if c then Some failed.InvalidSurfaceState else None)) ≡ None
+    at true c refuses = absurd (cc)
+    at false true refuses = absurd (cc)
+    at false false refuses = refl
+
+pub making-err : (m : Option ShellError) (told : Result (Unit {0}) ShellError) (error : ShellError) → MatchOption m (IsOkUnless told failed.Memory) (λ e. told ≡ Err e) → told ≡ Err error → (error ≡ failed.Memory → ⊥) → m ≡ Some error
+making-err None told error refuses err other = absurd (other (subst (λ (t : Result (Unit {0}) ShellError). IsOkUnless t failed.Memory) err refuses))
+making-err (Some e) told error refuses err other = let same : e ≡ error = cc in ap Some same
+
+-- ---- a toplevel that is configured again
+
+asked-again : (object opcode : ℕ) (x : Xdg) → is_state opcode ≡ true → toplevel_ask_of object (Some x) opcode ≡ configured_again x
+asked-again object opcode x state = at (opcode == 0) refl
+  where
+    at : (b : Bool) → (opcode == 0) ≡ b → (if b then Ok (DestroyToplevel object x.id) else (if is_state opcode then configured_again x else Ok Ignore)) ≡ configured_again x
+    at true e = absurd (let zero = subst (λ o. is_state o ≡ true) (eqb-true opcode 0 e) state in cc)
+    at false e = ap (λ b. if b then configured_again x else Ok Ignore) state
+
+pub told-again : (object opcode : ℕ) (x : Xdg) (refusal : ShellError → Refusal) (answer told : Result Bool ShellError) (sent b : Bool) → is_state opcode ≡ true → configured_again x ≡ asks_by (λ sent. configuring_if sent x.id) refusal answer → told ≡ answer → told ≡ Ok sent → sent ≡ b
+    → toplevel_ask_of object (Some x) opcode ≡ Ok (configuring_if b x.id)
+told-again object opcode x refusal answer told sent b state e same ok is =
+    asked-again object opcode x state ∙ e ∙ ap (asks_by (λ sent. configuring_if sent x.id) refusal) (sym same ∙ ok) ∙ ap (λ c. Ok (configuring_if c x.id)) is
+
+pub refused-again : (object opcode : ℕ) (x : Xdg) (refusal : ShellError → Refusal) (answer told : Result Bool ShellError) (error : ShellError) → is_state opcode ≡ true → configured_again x ≡ asks_by (λ sent. configuring_if sent x.id) refusal answer → told ≡ answer → told ≡ Err error
+    → toplevel_ask_of object (Some x) opcode ≡ Err (refusal error)
+refused-again object opcode x refusal answer told error state e same err = asked-again object opcode x state ∙ told-err _ _ refusal answer told error e same err
+
+-- its serial is drawn
+pub drawn : (v w : ClientView) (p : Peer) → IsPeer v p → w ≡ record v { serial = next_serial v.serial } → IsPeer w (record p { serial = next_serial p.serial })
+drawn v w p is e = rw e (record {
+  status = is.status;
+  requests = is.requests;
+  objects = is.objects;
+  held = is.held;
+  regions = is.regions;
+  pools = is.pools;
+  buffers = is.buffers;
+  stores = is.stores;
+  serial = ap next_serial is.serial;
+  unsent = is.unsent;
+  rest = is.rest;
+  output = is.output;
+})
+
+-- the two events
+pub events-told : (object serial id now : ℕ) (x : Xdg) (shell : Shell) → xdg_at x.id shell ≡ Some x → is_role object x.role ≡ true → id ≡ x.id → now ≡ serial → (toplevel_configured object ∷ xdg_configured id now ∷ []) ≡ configures_told serial (xdg_at x.id shell)
+events-told object serial id now x shell there its same is =
+    ap (λ i. toplevel_configured object ∷ xdg_configured i now ∷ []) same
+    ∙ ap (λ n. toplevel_configured object ∷ xdg_configured x.id n ∷ []) is
+    ∙ at x.role its
+    ∙ ap (configures_told serial) (sym there)
+  where
+    at : (o : Option RoleObject) → is_role object o ≡ true → (toplevel_configured object ∷ xdg_configured x.id serial ∷ []) ≡ role_configured serial x.id o
+    at None its = absurd (cc)
+    at (Some role) its = ap (λ i. toplevel_configured i ∷ xdg_configured x.id serial ∷ []) (sym (eqb-true role.id object its))
+
+-- nothing is changed of what is kept
+pub changing-same : (number : ℕ) (kept : ℕ → Option KeptXdg) → changing number (λ k. k) kept ≡ kept
+changing-same number kept = fun_ext (λ other. at other (other == number) refl)
+  where
+    itself : (o : Option KeptXdg) → option_map (λ k. k) o ≡ o
+    itself None = refl
+    itself (Some k) = refl
+
+    at : (other : ℕ) (b : Bool) → (other == number) ≡ b → cond b (option_map (λ k. k) (kept number)) (kept other) ≡ kept other
+    at other true e = itself (kept number) ∙ ap kept (sym (eqb-true other number e))
+    at other false e = refl
+
+-- what is owned was left as it was
+pub owns-told : {A : Type 0} (new : Kept A) (owned : Lent A) (names : Names) (o : Owned) → names_in new.client.objects ≡ names → new.owned ≡ owned → IsOwned names owned.surfaces (kept_of owned.shell) o → IsOwned (names_in new.client.objects) new.owned.surfaces (kept_of new.owned.shell) o
+owns-told new owned names o named same is = rw (named, same) is
+
+-- what was read is what the definition reads
+pub making-read : (read_role is_role read_content is_content : Bool) (k : Option KeptXdg) (told : Result (Unit {0}) ShellError) → read_role ≡ is_role → read_content ≡ is_content
+    → MatchOption (making_refused read_role read_content k) (IsOkUnless told failed.Memory) (λ e. told ≡ Err e) → MatchOption (making_refused is_role is_content k) (IsOkUnless told failed.Memory) (λ e. told ≡ Err e)
+making-read read_role is_role read_content is_content k told role content refuses =
+    subst (λ b. MatchOption (making_refused is_role b k) (IsOkUnless told failed.Memory) (λ e. told ≡ Err e)) content
+    (subst (λ b. MatchOption (making_refused b read_content k) (IsOkUnless told failed.Memory) (λ e. told ≡ Err e)) role refuses)
+
+-- an object was made after a request more was counted
+pub holds-counted : (old mid : ClientView) (new : Held) (id : ℕ) (entry : Option Entry) → mid ≡ record old { requests = mid.requests } → HoldsAt mid.objects new id entry → HoldsAt old.objects new id entry
+holds-counted old mid new id entry only holds = subst (λ (o : Held). HoldsAt o new id entry) (objects-counted old mid only) holds
+
+-- ---- what a table's entry is
+
+-- an id that a new object may have
+pub free-entry : {A : Type 0} (v : Kept A) (id : ℕ) → is_free (objects_in v.client.objects) id ≡ true → IsFree v id
+free-entry v id free = at (entry_of v.client.objects id) (bounds (nat_le 1 id) (nat_le id 4278190079) free)
+  where
+    bounds : (a b : Bool) → (a && (b && not (is_some (objects_in v.client.objects id)))) ≡ true → not (is_some (objects_in v.client.objects id)) ≡ true
+    bounds true true e = e
+    bounds true false e = absurd (cc)
+    bounds false b e = absurd (cc)
+
+    at : (o : Option Entry) → not (is_some (option_map object_of o)) ≡ true → o ≡ None
+    at None e = refl
+    at (Some entry) e = absurd (cc)
+
+pub new-free : {A : Type 0} (v : Kept A) (m : Message) → ((new : NewId) → new_id_in m ≡ Some new → is_free (objects_in v.client.objects) new.id ≡ true) → NewIsFree v m
+new-free v m free = at (new_id_in m) refl
+  where
+    at : (o : Option NewId) → new_id_in m ≡ o → IfSome o (λ new. IsFree v new.id)
+    at None e = tt
+    at (Some new) e = free-entry v new.id (free new e)
+
+pub base-entry : {A : Type 0} (v : Kept A) (id : ℕ) (entry : Entry) → entry_of v.client.objects id ≡ Some entry → entry.interface ≡ XdgWmBase → IsBase v id
+base-entry v id entry found is = ap (λ (o : Option Entry). is_of XdgWmBase (option_map object_of o)) found ∙ ap (λ i. interface_number i == interface_number XdgWmBase) is
+
+number-surface : (interface : Interface) → (interface_number interface == interface_number WlSurface) ≡ true → interface ≡ WlSurface
+number-surface WlSurface e = refl
+number-surface interface e = absurd (cc)
+
+pub surface-gone : (old new : Held) (id number : ℕ) → targets_in WlSurface old id ≡ Some number → HoldsAt old new id None → names_in new ≡ with_surface id None (names_in old)
+surface-gone old new id number named holds =
+    let entry = entry-named WlSurface old id number named in
+    names-surface-gone old new id entry.0 entry.1 (number-surface entry.0.interface entry.2) holds
+
+-- the request is counted, and done
+pub counted-does : {A : Type 0} (old mid new : Kept A) (r : Resident) (ask : Resident → Ask) → IsResident old r → mid.client ≡ record old.client { requests = mid.client.requests } → mid.owned ≡ old.owned → IsPeer mid.client (counted r.peer)
+    → Does ask mid new → AnswersSo (Ok (ask (with_peer (counted r.peer) r))) r old new
+counted-does old mid new r ask is only same peer does =
+    let done = does (with_peer (counted r.peer) r) (counted-on old mid r is only same peer) in
+    (done.0, done.1, left-from old mid new _ done.0 (objects-counted old.client mid.client only) done.2)
+
+pub surface-counted : (old mid : ClientView) (id number : ℕ) → mid ≡ record old { requests = mid.requests } → targets_in WlSurface old.objects id ≡ Some number → targets_in WlSurface mid.objects id ≡ Some number
+surface-counted old mid id number only named = ap (λ (held : Held). targets_in WlSurface held id) (objects-counted old mid only) ∙ named
+
+pub absent-kept : {X : Type 0} (o : Option X) → is_some o ≡ false → o ≡ None
+absent-kept None e = refl
+absent-kept (Some x) e = absurd (cc)

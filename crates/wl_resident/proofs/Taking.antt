@@ -1,0 +1,432 @@
+-- A message is taken by the desk: what becomes of its client and of the toplevels.
+use Rattle.std.proofs.Common.{◌≡◌, ℕ, ◌-◌, List, [], ◌∷◌, take, drop, Bool, true, false, Option, Some, None, Result, refl, ap, sym, subst, ◌∙◌, inl, inr, ◌⊎◌}
+use Rattle.std.specs.Prelude.{is_some, Ok, Err, ◌%◌, ◌==◌, ◌&&◌, not, cond}
+use Rattle.wl_store.specs.Stores.{Stock}
+use Rattle.wl_wire.specs.Wire.{split_of}
+use Rattle.wl_wire.specs.declared.header.Split.{Split}
+use Rattle.wl_wire.specs.declared.header.Split.TheVariants.{Message as Whole, More, Bad}
+use Rattle.wl_proto.specs.declared.interface.Interface.TheVariants.{WlSurface}
+use Rattle.wl_client.specs.Agreement.{IsPeer}
+use Rattle.wl_client.specs.Objects.{ById}
+use Rattle.wl_client.specs.Peer.{LacksMemory, Peer, Queues, counted, with_rest}
+use Rattle.wl_client.specs.Peer.{WantsOr as WantsOrAlone}
+use Rattle.wl_client.specs.Told.{display_error}
+use Rattle.wl_client.specs.declared.refusals.ErrorCode.TheVariants.{InvalidMethod}
+use Rattle.std.specs.Option.{option_and_then}
+use Rattle.wl_surface.specs.Surfaces.{history_in}
+use Rattle.wl_shell.specs.Agreement.{IsKept}
+use Rattle.wl_shell.specs.Kept.{kept_of}
+use Rattle.wl_client.specs.View.{ClientView}
+use Rattle.wl_client.specs.declared.clients.Cause.{Cause}
+use Rattle.wl_client.specs.declared.refusals.Refusal.{Refusal}
+use Rattle.wl_shell.specs.Shell.{Effect, Stays, Unconfigured, Configures, Maps, Unmaps, xdg_at, xdg_of}
+use Rattle.wl_shell.specs.Shell.{XdgSurface as Xdg}
+use Rattle.wl_scene.specs.Stacking.{Owned, Stack, Standing, mapped_on, without_client, without_surface_of}
+use Rattle.wl_resident.specs.Agreement.{IsScene, IsSeat, IsStack, with_numbers}
+use Rattle.wl_plain.specs.Ask.{Ask, Own, CreateSurface, DestroySurface, AskSurface, CommitSurface, DestroyBase, GetXdgSurface, DestroyXdgSurface, GetToplevel, Acknowledge, ConfigureAgain, DestroyToplevel, Ignore}
+use Rattle.wl_plain.specs.Desktop.{Desktop, Resident, become, become_by, client_at, client_in, owned_of, resident_of, with_number}
+use Rattle.wl_plain.specs.Owning.{targets_in}
+use Rattle.wl_resident.specs.Residents.{ActsFor, AnswersSo, IsLeft, StacksBy, StacksSo, TakesSo}
+use Rattle.wl_resident.specs.Seats.{IsBased, IsClearedBy, IsRestacked, IsSeated, IsSettledBy, Lacks}
+use Rattle.wl_plain.specs.Served.{beyond_toplevels}
+use Rattle.wl_plain.specs.Step.{Acts, Answers, Becomes, ServesAt, Serves, Takes, WantsOr, after_surface, answers_to, changed_by, committed_on, effect_on, judge, stacked, surface_of, takes_memory, with_peer}
+use Rattle.wl_plain.specs.Standing.{MappedStand, is_mapped}
+use Rattle.wl_resident.specs.View.{owned_view}
+use Rattle.wl_resident.specs.declared.residents.Resident.{Resident as Kept}
+use Rattle.wl_resident.specs.declared.residents.Stacking.{Stacking}
+use Rattle.wl_resident.specs.declared.residents.Stacking.TheVariants as on
+use Rattle.wl_resident.proofs.Ends.{AreNameless, errs-over, lacks-over, nameless-over, over-ended, queues-over, seat-bare}
+use Rattle.wl_plain.proofs.OwningKeys.{differ}
+use Rattle.wl_plain.proofs.Others.{stacked-keeps}
+use Rattle.wl_plain.proofs.Behind.{changed-status}
+use Rattle.wl_plain.proofs.Places.{left_by, number-same, number-twice, stacked-clients}
+use Rattle.wl_plain.proofs.StandingSteps.{serves-stand}
+use Rattle.wl_resident.proofs.Scenes.{AreOnce, Has, next-of, none-stands, numbers-by, numbers-same, stack-by, stack-mapped, stack-out, stack-without}
+
+-- ---- the client's place in the desktop
+
+abbrev placed : Option Cause → Resident → Peer → Resident
+placed s x q = left_by s x q
+
+pub based-at : (s : Option Cause) (c : ℕ) (base d y : Desktop) (r x : Resident) (q : Peer) → IsBased c base d r → y.clients ≡ d.clients → y.output ≡ d.output → IsBased c base (become_by s c x q y) (left_by s x q)
+based-at None c base d y r x q b clients output =
+    record {
+      there = number-same y.clients c _ r (ap (λ (rs : List (Option Resident)). client_in rs c) clients ∙ b.there);
+      output = output ∙ b.output;
+      clients = ap (λ (rs : List (Option Resident)). with_number c (Some (record x { peer = q })) rs) (clients ∙ b.clients) ∙ number-twice base.clients c _ _;
+    }
+based-at (Some cause) c base d y r x q b clients output =
+    record {
+      there = number-same y.clients c _ r (ap (λ (rs : List (Option Resident)). client_in rs c) clients ∙ b.there);
+      output = output ∙ b.output;
+      clients = ap (λ (rs : List (Option Resident)). with_number c (Some (resident_of q)) rs) (clients ∙ b.clients) ∙ number-twice base.clients c _ _;
+    }
+
+-- ---- what is sought
+
+abbrev pub numbers : {A : Type 0} → Kept A → ById ℕ
+numbers v = targets_in WlSurface v.client.objects
+
+-- each of its toplevels that stand is that of a surface
+abbrev pub Known : {A : Type 0} → ℕ → Kept A → Desktop → Type 0
+Known c v e = (surface : ℕ) → Has e.standing c surface → is_some (numbers v surface) ≡ true
+
+-- the client agrees, and so do the toplevels where each of its toplevels is that of a surface
+pub record Sits {A : Type 0} (c : ℕ) (others : ℕ → ById ℕ) (base : Desktop) (v : Kept A) (stack : Stack) (e : Desktop) (s : Resident) : Type 0 where
+  pub based : IsBased c base e s
+  pub seat : IsSeat v.client (owned_view v.owned) s
+  pub scene : Known c v e → IsScene (with_numbers c (numbers v) others) stack e
+
+pub sits-same : {A : Type 0} (c : ℕ) (others : ℕ → ById ℕ) (base : Desktop) (u v : Kept A) (was is : Stack) (e : Desktop) (s : Resident) → v ≡ u → is ≡ was → Sits c others base u was e s → Sits c others base v is e s
+sits-same {A} c others base u v was is e s same stays sits =
+    subst (λ (k : Kept A). Sits c others base k is e s) (sym same) (subst (λ (k : Stack). Sits c others base u k e s) (sym stays) sits)
+
+-- ---- an end
+
+pub some-is : {X : Type 0} (o : Option X) (x : X) → o ≡ Some x → is_some o ≡ true
+some-is o x h = ap (λ (a : Option _). is_some a) h
+
+pub none-is : {X : Type 0} (o : Option X) → o ≡ None → is_some o ≡ true → true ≡ false
+none-is o h some = sym some ∙ ap (λ (a : Option _). is_some a) h
+
+-- none of an ended client's toplevels stands
+pub gone-scene : (s : Cause) (c : ℕ) (old : ById ℕ) (others : ℕ → ById ℕ) (new : ById ℕ) (x : Resident) (q : Peer) (d y : Desktop) (was is : Stack) → IsScene (with_numbers c old others) was d
+    → without_client c y.standing ≡ without_client c d.standing → y.mappings ≡ d.mappings → is.standing ≡ without_client c was.standing → is.next ≡ was.next
+    → IsScene (with_numbers c new others) is (become_by (Some s) c x q y)
+gone-scene s c old others new x q d y was is scene same count standing stays =
+    record {
+      standing = subst (λ (ks : List Standing). IsStack (with_numbers c new others) ks (without_client c y.standing)) (sym standing)
+          (subst (λ (ss : List Standing). IsStack (with_numbers c new others) (without_client c was.standing) ss) (sym same)
+          (stack-by (with_numbers c old others) (with_numbers c new others) (without_client c was.standing) (without_client c d.standing)
+          (numbers-by c old new others (without_client c d.standing) (λ surface n has is. absurd (differ (sym has ∙ none-stands c surface d.standing))))
+          (stack-without (with_numbers c old others) c was.standing d.standing scene.standing)));
+      next = stays ∙ (scene.next ∙ ap (λ (m : ℕ). m % 8) (sym count));
+    }
+
+-- from one desktop to another, as far as an ended client is concerned
+pub record IsSameBut (c : ℕ) (d y : Desktop) : Type 0 where
+  pub clients : y.clients ≡ d.clients
+  pub output : y.output ≡ d.output
+  pub standing : without_client c y.standing ≡ without_client c d.standing
+  pub mappings : y.mappings ≡ d.mappings
+
+pub itself : (c : ℕ) (d : Desktop) → IsSameBut c d d
+itself c d = record { clients = refl; output = refl; standing = refl; mappings = refl }
+
+-- what is left of a client that ended
+pub sits-gone : {A : Type 0} (s : Cause) (c : ℕ) (old : ById ℕ) (others : ℕ → ById ℕ) (base d y : Desktop) (r x : Resident) (q : Peer) (mid new : Kept A) (was is : Stack)
+    → IsBased c base d r → IsSameBut c d y → IsScene (with_numbers c old others) was d → IsPeer mid.client q → AreNameless mid.client.objects → IsClearedBy (Some s) c mid new was is
+    → Sits c others base new is (become_by (Some s) c x q y) (resident_of q)
+sits-gone s c old others base d y r x q mid new was is based same scene peer none left =
+    let told : IsPeer new.client q = subst (λ (v : ClientView). IsPeer v q) (sym left.0) peer in record {
+      based = based-at (Some s) c base d y r x q based same.clients same.output;
+      seat = seat-bare new.client new.owned q told (subst (λ (v : ClientView). AreNameless v.objects) (sym left.0) none) left.1;
+      scene = λ known. gone-scene s c old others (numbers new) x q d y was is scene same.standing same.mappings left.2 left.3;
+    }
+
+-- the same, by its status
+pub become-gone : {A : Type 0} (o : Option Cause) (s : Cause) (c : ℕ) (others : ℕ → ById ℕ) (base y : Desktop) (x : Resident) (q : Peer) (new : Kept A) (is : Stack) → o ≡ Some s
+    → Sits c others base new is (become_by (Some s) c x q y) (resident_of q) → Sits c others base new is (become_by o c x q y) (left_by o x q)
+become-gone {A} o s c others base y x q new is e sits =
+    subst (λ (a : Option Cause). Sits c others base new is (become_by a c x q y) (left_by a x q)) (sym e) sits
+
+pub become-lives : {A : Type 0} (o : Option Cause) (c : ℕ) (others : ℕ → ById ℕ) (base y : Desktop) (x : Resident) (q : Peer) (new : Kept A) (is : Stack) → o ≡ None
+    → Sits c others base new is (become_by None c x q y) (record x { peer = q }) → Sits c others base new is (become_by o c x q y) (left_by o x q)
+become-lives {A} o c others base y x q new is e sits =
+    subst (λ (a : Option Cause). Sits c others base new is (become_by a c x q y) (left_by a x q)) (sym e) sits
+
+-- ---- what a request does to the stack
+
+-- it stays, a toplevel goes, or one is mapped
+abbrev pub Stacks : ℕ → ById ℕ → Ask → Resident → Desktop → Stacking → Type 0
+Stacks c old ask r d stacking =
+    ((stacking ≡ on.Stays) × (stacked c ask r d ≡ d))
+    ⊎ (((id : ℕ) × (n : ℕ) × (old id ≡ Some n) × (stacking ≡ on.Out n) × (stacked c ask r d ≡ record d { standing = without_surface_of c id d.standing }))
+    ⊎ ((id : ℕ) × (n : ℕ) × (old id ≡ Some n) × (stacking ≡ on.ToTop n) × (ask ≡ CommitSurface id Maps)))
+
+commit-stacks : {A : Type 0} (c id : ℕ) (effect : Effect) (old : Kept A) (r : Resident) (p : Peer) (d : Desktop) (stacking : Stacking) → StacksBy old r (CommitSurface id effect) stacking
+    → Stacks c (numbers old) (CommitSurface id effect) (with_peer p r) d stacking
+commit-stacks c id Stays old r p d stacking h = inl (h, refl)
+commit-stacks c id Unconfigured old r p d stacking h = inl (h, refl)
+commit-stacks c id Configures old r p d stacking h = inl (h, refl)
+commit-stacks c id Maps old r p d stacking h = inr (inr (id, h.0, h.1, h.2, refl))
+commit-stacks c id Unmaps old r p d stacking h = inr (inl (id, h.0, h.1, h.2, refl))
+
+stacks-so : {A : Type 0} (c : ℕ) (ask : Ask) (old : Kept A) (r : Resident) (p : Peer) (d : Desktop) (stacking : Stacking) → StacksBy old r ask stacking → Stacks c (numbers old) ask (with_peer p r) d stacking
+stacks-so c (Own action) old r p d stacking h = inl (h, refl)
+stacks-so c (CreateSurface id version) old r p d stacking h = inl (h, refl)
+stacks-so c (DestroySurface id) old r p d stacking h = inl (h, refl)
+stacks-so c (AskSurface id request) old r p d stacking h = inl (h, refl)
+stacks-so c (CommitSurface id effect) old r p d stacking h = commit-stacks c id effect old r p d stacking h
+stacks-so c (DestroyBase id) old r p d stacking h = inl (h, refl)
+stacks-so c (GetXdgSurface id version base surface) old r p d stacking h = inl (h, refl)
+stacks-so c (DestroyXdgSurface id) old r p d stacking h = inl (h, refl)
+stacks-so c (GetToplevel id version xdg) old r p d stacking h = inl (h, refl)
+stacks-so c (Acknowledge xdg serial) old r p d stacking h = inl (h, refl)
+stacks-so c (ConfigureAgain xdg) old r p d stacking h = inl (h, refl)
+stacks-so c (DestroyToplevel id xdg) old r p d stacking h = inr (inl (surface_of (xdg_at xdg r.owned.shell), h.0, h.1, h.2, refl))
+stacks-so c Ignore old r p d stacking h = inl (h, refl)
+
+-- a mapping leaves of a peer all but its stores
+mapped-peer : (id : ℕ) (r : Resident) → (changed_by (CommitSurface id Maps) r).peer ≡ record r.peer { stores = (after_surface id r (committed_on id r)).peer.stores }
+mapped-peer id r = at (xdg_of id r.owned.shell)
+  where
+    at : (o : Option Xdg) → (effect_on id Maps o (after_surface id r (committed_on id r))).peer ≡ record r.peer { stores = (after_surface id r (committed_on id r)).peer.stores }
+    at None = refl
+    at (Some x) = refl
+
+-- who lacks memory after it might have lacked it before
+lacks-before : (p q new : Peer) (stores : Stock) → q ≡ record p { stores = stores } → LacksMemory q new → LacksMemory p new
+lacks-before p q new stores e lacks = at (subst (λ (x : Peer). LacksMemory x new) e lacks)
+  where
+    at : LacksMemory (record p { stores = stores }) new → LacksMemory p new
+    at (inl h) = inl h
+    at (inr h) = inr h
+
+-- ---- what it leaves as it was
+
+-- a client's toplevel goes with the others
+without-both : (c surface : ℕ) (ss : List Standing) → without_client c (without_surface_of c surface ss) ≡ without_client c ss
+without-both c surface [] = refl
+without-both c surface (s ∷ ss) = at (s.client == c) refl (s.surface == surface) (without-both c surface ss)
+  where
+    at : (a : Bool) → (s.client == c) ≡ a → (b : Bool) → without_client c (without_surface_of c surface ss) ≡ without_client c ss
+        → without_client c (cond (not (a && b)) (s ∷ without_surface_of c surface ss) (without_surface_of c surface ss)) ≡ cond (not a) (s ∷ without_client c ss) (without_client c ss)
+    at true e true rest = rest
+    at true e false rest = rw e rest
+    at false e b rest = rw e (ap (λ (xs : List Standing). s ∷ xs) rest)
+
+-- nothing is cleared of one that lives
+pub cleared-none : {A : Type 0} (o : Option Cause) (c : ℕ) (on new : Kept A) (between now : Stack) → o ≡ None → IsClearedBy o c on new between now → (new ≡ on) × (now ≡ between)
+cleared-none None c on new between now e h = h
+cleared-none (Some cause) c on new between now e h = absurd (cc)
+
+-- ---- an accepted request
+
+-- What a request asks was done, told and counted for a client of the desktop.
+pub record Asked {A : Type 0} (c : ℕ) (others : ℕ → ById ℕ) (base d : Desktop) (r : Resident) (p : Peer) (ask : Ask) (q : Peer) (stacking : Stacking) (old mid : Kept A) (was : Stack) : Type 0 where
+  pub based : IsBased c base d r
+  pub once : AreOnce (numbers old)
+  pub scene : IsScene (with_numbers c (numbers old) others) was d
+  pub lives : p.status ≡ None
+  pub acts : ActsFor ask (with_peer p r) q
+  pub left : IsLeft old mid (changed_by ask (with_peer p r)) q
+  pub stacks : Stacks c (numbers old) ask (with_peer p r) d stacking
+
+-- so the desktop has it done, and the desk agrees
+abbrev pub Acted : {A : Type 0} → ℕ → (ℕ → ById ℕ) → Desktop → Desktop → Resident → Peer → Ask → Kept A → Stack → Type 0
+Acted c others base d r p ask new is = (e : Desktop) × (s : Resident) × Acts ask c (with_peer p r) d e × Sits c others base new is e s
+
+lacks-status : (p q : Peer) → LacksMemory p q → q.status ≡ None → true ≡ false
+lacks-status p q lacks none = none-is q.status none (over-ended q (lacks-over p q lacks))
+
+queues-at : (b : Bool) (Later : Type 0) (p q : Peer) → WantsOrAlone b Later p q → q.status ≡ None → Later
+queues-at false Later p q h none = h
+queues-at true Later p q (inl h) none = absurd (differ (lacks-status p q h none))
+queues-at true Later p q (inr h) none = h
+
+acts-later : (b : Bool) (Later : Type 0) (c : ℕ) (r : Resident) (d e : Desktop) → Later → WantsOr b Later c r d e
+acts-later false Later c r d e h = h
+acts-later true Later c r d e h = inr h
+
+module _ {A : Type 0} (c : ℕ) (others : ℕ → ById ℕ) (base d : Desktop) (r : Resident) (p : Peer) (ask : Ask) (q : Peer) (stacking : Stacking) (old mid : Kept A) (was : Stack) (is : Asked c others base d r p ask q stacking old mid was) where
+  abbrev changed : Resident
+  changed = changed_by ask (with_peer p r)
+
+  abbrev after : Desktop
+  after = stacked c ask (with_peer p r) d
+
+  -- the numbers of the surfaces that are there after are those from before
+  numbers-on : mid.client.ended ≡ None → (e : Desktop) → Known c mid e → (surface n : ℕ) → Has e.standing c surface → numbers old surface ≡ Some n → numbers mid surface ≡ Some n
+  numbers-on none e known surface n has was_n = at (numbers mid surface) refl (known surface has)
+    where
+      at : (o : Option ℕ) → numbers mid surface ≡ o → is_some o ≡ true → o ≡ Some n
+      at None here some = absurd (differ (sym some))
+      at (Some m) here some = ap (λ (k : ℕ). Some k) (sym (is.left.numbers none surface n m was_n here))
+
+  scene-on : mid.client.ended ≡ None → (e : Desktop) (stack : Stack) → IsScene (with_numbers c (numbers old) others) stack e → Known c mid e → IsScene (with_numbers c (numbers mid) others) stack e
+  scene-on none e stack scene known =
+      record {
+        standing = stack-by (with_numbers c (numbers old) others) (with_numbers c (numbers mid) others) stack.standing e.standing
+            (numbers-by c (numbers old) (numbers mid) others e.standing (numbers-on none e known)) scene.standing;
+        next = scene.next;
+      }
+
+  -- it lives, and the stack is this one
+  lives-on : mid.client.ended ≡ None → q.status ≡ None → (stack : Stack) → IsScene (with_numbers c (numbers old) others) stack after → Acted c others base d r p ask mid stack
+  lives-on none told stack scene = (
+    become c changed q after,
+    left_by q.status changed q,
+    acts-later (takes_memory ask) _ c (with_peer p r) d (become c changed q after) (q, queues-at (takes_memory ask) _ p q is.acts told, refl),
+    become-lives q.status c others base after changed q mid stack told (record {
+      based = based-at None c base d after r changed q is.based (stacked-clients c ask (with_peer p r) d) (stacked-keeps c ask (with_peer p r) d);
+      seat = record { peer = is.left.peer; owns = is.left.owns none; ended = λ some. absurd (differ (none-is q.status told some)) };
+      scene = λ known. scene-on none (become_by None c changed q after) stack (record { standing = scene.standing; next = scene.next }) known;
+    }),
+  )
+
+  -- ---- one that ended
+
+  changed-lives : changed.peer.status ≡ None
+  changed-lives = changed-status ask (with_peer p r) ∙ is.lives
+
+  -- a mapping tells nothing that might end it
+  maps-lives : (id : ℕ) → ask ≡ CommitSurface id Maps → Queues (answers_to ask (with_peer p r)) changed.peer q → q.status ≡ None
+  maps-lives id e h = ap (λ (x : Peer). x.status) (subst (λ (a : Ask). Queues (answers_to a (with_peer p r)) changed.peer q) e h) ∙ changed-lives
+
+  same-after : (s : Cause) → q.status ≡ Some s → Queues (answers_to ask (with_peer p r)) changed.peer q → IsSameBut c d after
+  same-after s ended h = at is.stacks
+    where
+      at : Stacks c (numbers old) ask (with_peer p r) d stacking → IsSameBut c d after
+      at (inl k) = subst (λ (y : Desktop). IsSameBut c d y) (sym k.1) (itself c d)
+      at (inr (inl k)) = subst (λ (y : Desktop). IsSameBut c d y) (sym k.4) (record { clients = refl; output = refl; standing = without-both c k.0 d.standing; mappings = refl })
+      at (inr (inr k)) = absurd (differ (none-is q.status (maps-lives k.0 k.4 h) (some-is q.status s ended)))
+
+  acted-gone : (s : Cause) (new : Kept A) (now : Stack) → q.status ≡ Some s → IsClearedBy (Some s) c mid new was now → Acted c others base d r p ask new now
+  acted-gone s new now ended left = at (takes_memory ask) is.acts
+    where
+      told : Queues (answers_to ask (with_peer p r)) changed.peer q → (b : Bool)
+          → (e : Desktop) × (s : Resident) × WantsOr b (Becomes (Queues (answers_to ask (with_peer p r)) changed.peer) c changed after e) c (with_peer p r) d e × Sits c others base new now e s
+      told h b = (
+        become c changed q after,
+        left_by q.status changed q,
+        acts-later b _ c (with_peer p r) d (become c changed q after) (q, h, refl),
+        become-gone q.status s c others base after changed q new now ended
+            (sits-gone s c (numbers old) others base d after r changed q mid new was now is.based (same-after s ended h) is.scene is.left.peer
+            (nameless-over mid.client q is.left.peer (queues-over (answers_to ask (with_peer p r)) changed.peer q changed-lives h (some-is q.status s ended))) left),
+      )
+
+      at : (b : Bool) → WantsOrAlone b (Queues (answers_to ask (with_peer p r)) changed.peer q) p q
+          → (e : Desktop) × (s : Resident) × WantsOr b (Becomes (Queues (answers_to ask (with_peer p r)) changed.peer) c changed after e) c (with_peer p r) d e × Sits c others base new now e s
+      at false h = told h false
+      at true (inr h) = told h true
+      at true (inl h) = (
+        become c (with_peer p r) q d,
+        left_by q.status (with_peer p r) q,
+        inl (q, h, refl),
+        become-gone q.status s c others base d (with_peer p r) q new now ended
+            (sits-gone s c (numbers old) others base d d r (with_peer p r) q mid new was now is.based (itself c d) is.scene is.left.peer (nameless-over mid.client q is.left.peer (lacks-over p q h)) left),
+      )
+
+  -- ---- one that lives
+
+  acted-same : (new : Kept A) (stack now : Stack) → new ≡ mid → now ≡ stack → Acted c others base d r p ask mid stack → Acted c others base d r p ask new now
+  acted-same new stack now same stays acted = (acted.0, acted.1, acted.2, sits-same c others base mid new stack now acted.0 acted.1 same stays acted.3)
+
+  -- it still lives after the stack was done
+  lived-on : mid.client.ended ≡ None → q.status ≡ None → (on new : Kept A) (between now : Stack) → on ≡ mid → IsClearedBy on.client.ended c on new between now → IsScene (with_numbers c (numbers old) others) between after
+      → Acted c others base d r p ask new now
+  lived-on none told on new between now same left scene =
+      let stays = cleared-none on.client.ended c on new between now (ap (λ (k : Kept A). k.client.ended) same ∙ none) left in
+      acted-same new between now (stays.0 ∙ same) stays.1 (lives-on none told between scene)
+
+  -- there was no memory for the stack
+  lacked : (id : ℕ) (on new : Kept A) (now : Stack) → q.status ≡ None → ask ≡ CommitSurface id Maps → Lacks mid.client on.client → IsClearedBy on.client.ended c on new was now → Acted c others base d r p ask new now
+  lacked id on new now told e lacks left =
+      let gone = lacks q is.left.peer in
+      let over = lacks-over q gone.0 gone.1 in
+      let cause : gone.0.status ≡ Some over.0 = ap (λ (x : Peer). x.status) over.2 in
+      let queues = subst (λ (a : Ask). Queues (answers_to a (with_peer p r)) (changed_by a (with_peer p r)).peer q) e (queues-at (takes_memory ask) _ p q is.acts told) in
+      let before = lacks-before p q gone.0 _ (queues ∙ mapped-peer id (with_peer p r)) gone.1 in (
+        become c (with_peer p r) gone.0 d,
+        left_by gone.0.status (with_peer p r) gone.0,
+        wants (takes_memory ask) _ _ (ap (λ (a : Ask). takes_memory a) e) (gone.0, before, refl),
+        become-gone gone.0.status over.0 c others base d (with_peer p r) gone.0 new now cause
+            (sits-gone over.0 c (numbers old) others base d d r (with_peer p r) gone.0 on new was now is.based (itself c d) is.scene gone.2 (nameless-over on.client gone.0 gone.2 over)
+            (subst (λ (o : Option Cause). IsClearedBy o c on new was now) (gone.2.status ∙ cause) left)),
+      )
+    where
+      wants : (b : Bool) (Later : Type 0) (e : Desktop) → b ≡ true → Becomes (LacksMemory p) c (with_peer p r) d e → WantsOr b Later c (with_peer p r) d e
+      wants true Later e h becomes = inl becomes
+      wants false Later e h becomes = absurd (differ (sym h))
+
+  acted-lives : mid.client.ended ≡ None → q.status ≡ None → (on new : Kept A) (between now : Stack) → IsRestacked c stacking mid on was between → IsClearedBy on.client.ended c on new between now → Acted c others base d r p ask new now
+  acted-lives none told on new between now restacked left = at is.stacks
+    where
+      mapped : (id n : ℕ) → numbers old id ≡ Some n → ask ≡ CommitSurface id Maps → ((on ≡ mid) × (between ≡ mapped_on c n was)) ⊎ (Lacks mid.client on.client × (between ≡ was)) → Acted c others base d r p ask new now
+      mapped id n number e (inl h) =
+          lived-on none told on new between now h.0 left
+          (subst (λ (k : Stack). IsScene (with_numbers c (numbers old) others) k after) (sym h.1)
+          (subst (λ (a : Ask). IsScene (with_numbers c (numbers old) others) (mapped_on c n was) (stacked c a (with_peer p r) d)) (sym e)
+          (record {
+            standing = stack-mapped (with_numbers c (numbers old) others) c id n was.next d.mappings was.standing d.standing (ap (λ (f : ById ℕ). f id) (numbers-same c (numbers old) others) ∙ number) is.scene.next is.scene.standing;
+            next = next-of was.next d.mappings is.scene.next;
+          })))
+      mapped id n number e (inr h) = lacked id on new now told e h.0 (subst (λ (k : Stack). IsClearedBy on.client.ended c on new k now) h.1 left)
+
+      at : Stacks c (numbers old) ask (with_peer p r) d stacking → Acted c others base d r p ask new now
+      at (inl k) =
+          let h = subst (λ (s : Stacking). IsRestacked c s mid on was between) k.0 restacked in
+          lived-on none told on new between now h.0 left
+          (subst (λ (s : Stack). IsScene (with_numbers c (numbers old) others) s after) (sym h.1) (subst (λ (y : Desktop). IsScene (with_numbers c (numbers old) others) was y) (sym k.1) is.scene))
+      at (inr (inl k)) =
+          let h = subst (λ (s : Stacking). IsRestacked c s mid on was between) k.3 restacked in
+          lived-on none told on new between now h.0 left
+          (subst (λ (y : Desktop). IsScene (with_numbers c (numbers old) others) between y) (sym k.4)
+          (record {
+            standing = subst (λ (ks : List Standing). IsStack (with_numbers c (numbers old) others) ks (without_surface_of c k.0 d.standing)) (sym h.1)
+                (stack-out (with_numbers c (numbers old) others) c k.0 k.1 was.standing d.standing (subst (λ (f : ById ℕ). AreOnce f) (sym (numbers-same c (numbers old) others)) is.once)
+                (ap (λ (f : ById ℕ). f k.0) (numbers-same c (numbers old) others) ∙ k.2) is.scene.standing);
+            next = h.2 ∙ is.scene.next;
+          }))
+      at (inr (inr k)) = mapped k.0 k.1 k.2 k.4 (subst (λ (s : Stacking). IsRestacked c s mid on was between) k.3 restacked)
+
+  -- it was settled
+  pub acted : (new : Kept A) (now : Stack) → IsSettledBy mid.client.ended c stacking mid new was now → Acted c others base d r p ask new now
+  acted new now settled = at mid.client.ended refl settled
+    where
+      at : (o : Option Cause) → mid.client.ended ≡ o → IsSettledBy o c stacking mid new was now → Acted c others base d r p ask new now
+      at None e h = acted-lives e (sym is.left.peer.status ∙ e) h.0 new h.1 now h.2 h.3
+      at (Some s) e h = acted-gone s new now (sym is.left.peer.status ∙ e) h
+
+-- ---- a whole message
+
+module _ {A : Type 0} (c : ℕ) (others : ℕ → ById ℕ) (base d : Desktop) (r : Resident) (stacking : Stacking) (old mid new : Kept A) (was now : Stack) (based : IsBased c base d r) (once : AreOnce (numbers old)) (scene : IsScene (with_numbers c (numbers old) others) was d) (settled : IsSettledBy mid.client.ended c stacking mid new was now) where
+  -- what is judged of it is answered
+  answered : (judged : Result Ask Refusal) (p : Peer) → p.status ≡ None → AnswersSo judged (with_peer p r) old mid → StacksSo old r judged stacking
+      → (e : Desktop) × (s : Resident) × Answers judged c (with_peer p r) d e × Sits c others base new now e s
+  answered (Ok ask) p lives answers stacks =
+      acted c others base d r (counted p) ask answers.0 stacking old mid was
+      (record { based = based; once = once; scene = scene; lives = lives; acts = answers.1; left = answers.2; stacks = stacks-so c ask old r (counted p) d stacking stacks })
+      new now settled
+  answered (Err refusal) p lives answers stacks =
+      let q = answers.0 in
+      let over = errs-over refusal p q answers.1 in
+      let cause : q.status ≡ Some over.0 = ap (λ (x : Peer). x.status) over.2 in (
+        become c (with_peer p r) q d,
+        left_by q.status (with_peer p r) q,
+        (q, answers.1, refl),
+        become-gone q.status over.0 c others base d (with_peer p r) q new now cause
+            (sits-gone over.0 c (numbers old) others base d d r (with_peer p r) q mid new was now based (itself c d) scene answers.2.peer (nameless-over mid.client q answers.2.peer over)
+            (subst (λ (o : Option Cause). IsSettledBy o c stacking mid new was now) (answers.2.peer.status ∙ cause) settled)),
+      )
+
+  taken : (split : Split) → r.peer.status ≡ None → TakesSo split r old mid stacking → (e : Desktop) × (s : Resident) × Takes beyond_toplevels split c r d e × Sits c others base new now e s
+  taken (Whole object opcode size) lives takes =
+      answered (judge beyond_toplevels r object opcode (take (size - 8) (drop 8 r.peer.rest))) (with_rest (drop size r.peer.rest) r.peer) lives takes.0 takes.1
+  taken Bad lives takes = answered (Err (display_error InvalidMethod)) r.peer lives takes tt
+  taken More lives takes = absurd takes
+
+-- a surface that is mapped has a number
+known-by : {N : Type 0} (kept : ℕ → Option N) (n : Option ℕ) (x : Option Xdg) (is_kept : Option N → Option Xdg → Type 0) → is_kept (option_and_then kept n) x → ((y : Xdg) → is_kept None (Some y) → ⊥) → is_mapped x ≡ true → is_some n ≡ true
+known-by kept (Some n) x is_kept h none mapped = refl
+known-by kept None None is_kept h none mapped = absurd (differ (sym mapped))
+known-by kept None (Some y) is_kept h none mapped = absurd (none y h)
+
+pub known-mapped : {A : Type 0} (c : ℕ) (v : Kept A) (e : Desktop) (s : Resident) → client_at c e ≡ Some s → IsSeat v.client (owned_view v.owned) s → MappedStand e → Known c v e
+known-mapped c v e s there seat mapped surface has =
+    known-by (kept_of v.owned.shell) (numbers v surface) (xdg_of surface s.owned.shell) (λ k x. IsKept k x (history_in surface s.owned.surfaces)) (seat.owns.shell.each surface) (λ y h. h)
+    (ap (λ (o : Owned). is_mapped (xdg_of surface o.shell)) (sym (ap (λ (o : Option Resident). owned_of o) there)) ∙ (sym ((mapped.each c).stands surface) ∙ has))
+
+pub sits-seated : {A : Type 0} (c : ℕ) (others : ℕ → ById ℕ) (base : Desktop) (v : Kept A) (stack : Stack) (e : Desktop) (s : Resident) → Sits c others base v stack e s → MappedStand e → IsSeated c others base v stack e s
+sits-seated c others base v stack e s sits mapped =
+    record { based = sits.based; seat = sits.seat; scene = sits.scene (known-mapped c v e s sits.based.there sits.seat mapped); mapped = mapped }
+
+-- The first message of a client is taken, and the stack is settled.
+pub served : {A : Type 0} (c : ℕ) (others : ℕ → ById ℕ) (base d : Desktop) (r : Resident) (stacking : Stacking) (old mid new : Kept A) (was now : Stack) → IsSeated c others base old was d r → old.client.ended ≡ None
+    → TakesSo (split_of r.peer.rest) r old mid stacking → IsSettledBy mid.client.ended c stacking mid new was now → (e : Desktop) × (s : Resident) × Serves beyond_toplevels c d e × IsSeated c others base new now e s
+served c others base d r stacking old mid new was now is lives takes settled =
+    let alive : r.peer.status ≡ None = sym is.seat.peer.status ∙ lives in
+    let t = taken c others base d r stacking old mid new was now is.based is.seat.owns.surfaces.once is.scene settled (split_of r.peer.rest) alive takes in
+    let serves : Serves beyond_toplevels c d t.0 = subst (λ (o : Option Resident). ServesAt beyond_toplevels c o d t.0) (sym is.based.there) (alive, t.2) in
+    (t.0, t.1, serves, sits-seated c others base new now t.0 t.1 t.3 (serves-stand beyond_toplevels c r d is.based.there _ _ _ is.seat.owns is.mapped t.0 serves))

@@ -1,0 +1,220 @@
+-- What is told to one client of the desk, and a piece of its stream.
+use Rattle.std.proofs.Common.{◌≡◌, ℕ, zero, List, ◌++◌, length, Bool, true, false, Option, Some, None, refl, ap, sym, subst, ◌∙◌, inl, inr, ◌⊎◌}
+use Rattle.std.specs.Prelude.{is_some, nat_le, drop, if◌then◌else◌}
+use Rattle.wl_store.specs.Stores.{write_refusal}
+use Rattle.wl_store.specs.declared.stores.StoreError.{StoreError}
+use Rattle.wl_client.specs.Agreement.{IsPeer}
+use Rattle.wl_client.specs.Objects.{ById}
+use Rattle.wl_client.specs.Peer.{IsIdleAt, Peer, ended, left_by as gone_by, sent_by, stored_at, stored_by, with_rest}
+use Rattle.wl_client.specs.View.{ClientView}
+use Rattle.wl_client.specs.declared.clients.Cause.{Cause}
+use Rattle.wl_client.specs.declared.clients.Cause.TheVariants.{Gone, Memory}
+use Rattle.wl_table.specs.Objects.{Held}
+use Rattle.wl_shell.specs.Kept.{kept_of}
+use Rattle.wl_scene.specs.Stacking.{Stack}
+use Rattle.wl_scene.specs.declared.owned.Owned.{Owned as Keeps}
+use Rattle.wl_resident.specs.Agreement.{IsScene, with_numbers}
+use Rattle.wl_plain.specs.Desktop.{Desktop, Resident, become, become_by}
+use Rattle.wl_plain.specs.Owning.{IsOwned, names_in, targets_in}
+use Rattle.wl_resident.specs.Seats.{IsClearedBy, IsSeated, ended_by}
+use Rattle.wl_plain.specs.Served.{beyond_toplevels}
+use Rattle.wl_plain.specs.Step.{Feeds, FeedsAt, Reaches, StopsAt}
+use Rattle.wl_proto.specs.declared.interface.Interface.TheVariants.{WlSurface}
+use Rattle.wl_resident.specs.View.{owned_view}
+use Rattle.wl_resident.specs.declared.residents.Resident.{Resident as Kept}
+use Rattle.wl_resident.proofs.Ends.{AreNameless, IsOver, nameless-over, nameless-same, nameless-seat}
+use Rattle.wl_plain.proofs.OwningKeys.{differ}
+use Rattle.wl_plain.proofs.Places.{left_by}
+use Rattle.wl_plain.proofs.StandingDesks.{become-stand}
+use Rattle.wl_resident.proofs.Taking.{Sits, based-at, become-gone, become-lives, itself, none-is, numbers, sits-gone, sits-same, sits-seated}
+
+-- What is told makes of a client's peer another: its table and what it owns stay where it lives on, and where it doesn't, it ends so or had ended.
+pub record Told {A : Type 0} (old mid : Kept A) (r : Resident) (q : Peer) : Type 0 where
+  pub peer : IsPeer mid.client q
+  pub owned : mid.owned ≡ old.owned
+  pub lives : q.status ≡ None → mid.client.objects ≡ old.client.objects
+  pub gone : is_some q.status ≡ true → IsOver q ⊎ ((is_some r.peer.status ≡ true) × (q.objects ≡ r.peer.objects))
+
+module _ {A : Type 0} (c : ℕ) (others : ℕ → ById ℕ) (base d : Desktop) (r : Resident) (old mid new : Kept A) (was now : Stack) (is : IsSeated c others base old was d r) (q : Peer) (told : Told old mid r q) where
+  lives-on : q.status ≡ None → new ≡ mid → now ≡ was → Sits c others base new now (become c r q d) (left_by q.status r q)
+  lives-on none same stays =
+      sits-same c others base mid new was now _ _ same stays
+      (become-lives q.status c others base d r q mid was none (record {
+        based = based-at None c base d d r r q is.based refl refl;
+        seat = record { peer = told.peer; owns = owns; ended = λ some. absurd (differ (none-is q.status none some)) };
+        scene = λ known. subst (λ (held : Held). IsScene (with_numbers c (targets_in WlSurface held) others) was (become_by None c r q d)) (sym (told.lives none))
+            (record { standing = is.scene.standing; next = is.scene.next });
+      }))
+    where
+      owns : IsOwned (names_in mid.client.objects) mid.owned.surfaces (kept_of mid.owned.shell) r.owned
+      owns =
+          subst (λ (held : Held). IsOwned (names_in held) mid.owned.surfaces (kept_of mid.owned.shell) r.owned) (sym (told.lives none))
+          (subst (λ (o : Keeps A). IsOwned (names_in old.client.objects) o.surfaces (kept_of o.shell) r.owned) (sym told.owned) is.seat.owns)
+
+  nameless : is_some q.status ≡ true → AreNameless mid.client.objects
+  nameless some = at (told.gone some)
+    where
+      at : IsOver q ⊎ ((is_some r.peer.status ≡ true) × (q.objects ≡ r.peer.objects)) → AreNameless mid.client.objects
+      at (inl over) = nameless-over mid.client q told.peer over
+      at (inr had) =
+          nameless-same old.client.objects mid.client.objects (is.seat.peer.objects ∙ (sym had.1 ∙ sym told.peer.objects)) (nameless-seat old.client (owned_view old.owned) r is.seat had.0)
+
+  sits : IsClearedBy mid.client.ended c mid new was now → Sits c others base new now (become c r q d) (left_by q.status r q)
+  sits left = at mid.client.ended refl left
+    where
+      at : (o : Option Cause) → mid.client.ended ≡ o → IsClearedBy o c mid new was now → Sits c others base new now (become c r q d) (left_by q.status r q)
+      at None e left = lives-on (sym told.peer.status ∙ e) left.0 left.1
+      at (Some s) e left =
+          let status : q.status ≡ Some s = sym told.peer.status ∙ e in
+          become-gone q.status s c others base d r q new now status
+          (sits-gone s c (numbers old) others base d d r r q mid new was now is.based (itself c d) is.scene told.peer (nameless (ap (λ (o : Option Cause). is_some o) status)) left)
+
+  -- the desktop's client becomes so
+  pub told-seated : IsClearedBy mid.client.ended c mid new was now → IsSeated c others base new now (become c r q d) (left_by q.status r q)
+  told-seated left = sits-seated c others base new now (become c r q d) (left_by q.status r q) (sits left) (become-stand c r r q d is.based.there refl is.mapped)
+
+-- ---- what is told
+
+told-same : {A : Type 0} (old mid : Kept A) (r : Resident) (q : Peer) → q.status ≡ r.peer.status → q.objects ≡ r.peer.objects → IsPeer mid.client q → mid.owned ≡ old.owned → mid.client.objects ≡ old.client.objects → Told old mid r q
+told-same old mid r q status objects peer owned table =
+    record { peer = peer; owned = owned; lives = λ none. table; gone = λ some. inr (sym (ap (λ (o : Option Cause). is_some o) status) ∙ some, objects) }
+
+sent-so : (n : ℕ) (p : Peer) → ((sent_by n p).status ≡ p.status) × ((sent_by n p).objects ≡ p.objects)
+sent-so n p = at (nat_le n (length p.unsent))
+  where
+    at : (b : Bool) → ((if b then record p { unsent = drop n p.unsent } else p).status ≡ p.status) × ((if b then record p { unsent = drop n p.unsent } else p).objects ≡ p.objects)
+    at true = (refl, refl)
+    at false = (refl, refl)
+
+pub told-sent : {A : Type 0} (n : ℕ) (old mid : Kept A) (r : Resident) → IsPeer mid.client (sent_by n r.peer) → mid.owned ≡ old.owned → mid.client.objects ≡ old.client.objects → Told old mid r (sent_by n r.peer)
+told-sent n old mid r peer owned table = told-same old mid r (sent_by n r.peer) (sent-so n r.peer).0 (sent-so n r.peer).1 peer owned table
+
+stored-so : (s : Option Cause) (store at : ℕ) (bytes : List ℕ) (p : Peer) → ((stored_at s store at bytes p).status ≡ p.status) × ((stored_at s store at bytes p).objects ≡ p.objects)
+stored-so (Some cause) store at bytes p = (refl, refl)
+stored-so None store at bytes p = by (write_refusal store at (length bytes) p.stores)
+  where
+    by : (o : Option StoreError) → ((stored_by store at bytes o p).status ≡ p.status) × ((stored_by store at bytes o p).objects ≡ p.objects)
+    by None = (refl, refl)
+    by (Some error) = (refl, refl)
+
+pub told-stored : {A : Type 0} (store at : ℕ) (bytes : List ℕ) (old mid : Kept A) (r : Resident) → IsPeer mid.client (stored_at r.peer.status store at bytes r.peer) → mid.owned ≡ old.owned → mid.client.objects ≡ old.client.objects
+    → Told old mid r (stored_at r.peer.status store at bytes r.peer)
+told-stored store at bytes old mid r peer owned table =
+    let so = stored-so r.peer.status store at bytes r.peer in
+    told-same old mid r (stored_at r.peer.status store at bytes r.peer) so.0 so.1 peer owned table
+
+ended-so : (s : Option Cause) (cause : Cause) (p : Peer) → p.status ≡ s → is_some (ended_by s cause p).status ≡ true
+ended-so None cause p e = refl
+ended-so (Some was) cause p e = ap (λ (o : Option Cause). is_some o) e
+
+ended-over : (s : Option Cause) (cause : Cause) (p : Peer) → p.status ≡ s → IsOver (ended_by s cause p) ⊎ ((is_some p.status ≡ true) × ((ended_by s cause p).objects ≡ p.objects))
+ended-over None cause p e = inl (cause, p, refl)
+ended-over (Some was) cause p e = inr (ap (λ (o : Option Cause). is_some o) e, refl)
+
+pub told-ended : {A : Type 0} (cause : Cause) (old mid : Kept A) (r : Resident) → IsPeer mid.client (ended_by r.peer.status cause r.peer) → mid.owned ≡ old.owned → Told old mid r (ended_by r.peer.status cause r.peer)
+told-ended cause old mid r peer owned =
+    record {
+      peer = peer;
+      owned = owned;
+      lives = λ none. absurd (differ (none-is (ended_by r.peer.status cause r.peer).status none (ended-so r.peer.status cause r.peer refl)));
+      gone = λ some. ended-over r.peer.status cause r.peer refl;
+    }
+
+goes-so : (s : Option Cause) (p : Peer) → ended_by s Gone p ≡ gone_by s p
+goes-so None p = refl
+goes-so (Some was) p = refl
+
+pub told-gone : {A : Type 0} (old mid : Kept A) (r : Resident) → IsPeer mid.client (gone_by r.peer.status r.peer) → mid.owned ≡ old.owned → Told old mid r (gone_by r.peer.status r.peer)
+told-gone old mid r peer owned =
+    let so = goes-so r.peer.status r.peer in
+    subst (λ (q : Peer). Told old mid r q) so (told-ended Gone old mid r (subst (λ (q : Peer). IsPeer mid.client q) (sym so) peer) owned)
+
+-- one that lives ends by this, and one that ended stays so
+pub ends-lives : (v : ClientView) (cause : Cause) (p : Peer) → v.ended ≡ p.status → is_some v.ended ≡ false → (w : ClientView) → IsPeer w (ended cause p) → IsPeer w (ended_by p.status cause p)
+ends-lives v cause p status lives w is = at p.status (ap (λ (o : Option Cause). is_some o) (sym status) ∙ lives)
+  where
+    at : (s : Option Cause) → is_some s ≡ false → IsPeer w (ended_by s cause p)
+    at None e = is
+    at (Some was) e = absurd (differ e)
+
+pub ends-ended : (v : ClientView) (cause : Cause) (p : Peer) → is_some v.ended ≡ true → IsPeer v p → IsPeer v (ended_by p.status cause p)
+ends-ended v cause p ended is = at p.status (ap (λ (o : Option Cause). is_some o) (sym is.status) ∙ ended)
+  where
+    at : (s : Option Cause) → is_some s ≡ true → IsPeer v (ended_by s cause p)
+    at None e = absurd (differ (sym e))
+    at (Some was) e = is
+
+-- ---- a piece
+
+-- what is kept of one to whom a piece came
+abbrev pub come_on : {A : Type 0} → List ℕ → Kept A → Kept A
+come_on piece v = record v { client = record v.client { rest = v.client.rest ++ piece } }
+
+cleared-lives : {A : Type 0} (o : Option Cause) (c : ℕ) (v : Kept A) (stack : Stack) → o ≡ None → IsClearedBy o c v v stack stack
+cleared-lives None c v stack e = (refl, refl)
+cleared-lives (Some cause) c v stack e = absurd (cc)
+
+-- the client with the piece
+abbrev pub come_to : List ℕ → Resident → Peer
+come_to piece r = with_rest (r.peer.rest ++ piece) r.peer
+
+-- a piece is kept of a client that lives
+pub come-seated : {A : Type 0} (c : ℕ) (others : ℕ → ById ℕ) (base d : Desktop) (r : Resident) (piece : List ℕ) (old : Kept A) (was : Stack) → IsSeated c others base old was d r → old.client.ended ≡ None
+    → IsSeated c others base (come_on piece old) was (become c r (come_to piece r) d) (record r { peer = come_to piece r })
+come-seated c others base d r piece old was is lives =
+    let none : r.peer.status ≡ None = sym is.seat.peer.status ∙ lives in
+    subst (λ (s : Option Cause). IsSeated c others base (come_on piece old) was (become c r (come_to piece r) d) (left_by s r (come_to piece r))) none
+    (told-seated c others base d r old (come_on piece old) (come_on piece old) was was is (come_to piece r)
+    (told-same old (come_on piece old) r (come_to piece r) refl refl peer refl refl) (cleared-lives old.client.ended c (come_on piece old) was lives))
+  where
+    peer : IsPeer (come_on piece old).client (come_to piece r)
+    peer =
+        let p = is.seat.peer in
+        record {
+          status = p.status;
+          requests = p.requests;
+          objects = p.objects;
+          held = p.held;
+          regions = p.regions;
+          pools = p.pools;
+          buffers = p.buffers;
+          stores = p.stores;
+          serial = p.serial;
+          unsent = p.unsent;
+          rest = ap (λ (bytes : List ℕ). bytes ++ piece) p.rest;
+          output = p.output;
+        }
+
+-- where there is no memory for it, the client ends
+pub lacking-seated : {A : Type 0} (c : ℕ) (others : ℕ → ById ℕ) (base d : Desktop) (r : Resident) (piece : List ℕ) (old mid new : Kept A) (was now : Stack) → IsSeated c others base old was d r → old.client.ended ≡ None
+    → IsPeer mid.client (ended Memory r.peer) → mid.owned ≡ old.owned → IsClearedBy mid.client.ended c mid new was now
+    → (e : Desktop) × (s : Resident) × Feeds beyond_toplevels c piece r d e × IsSeated c others base new now e s
+lacking-seated c others base d r piece old mid new was now is lives peer owned left =
+    let none : r.peer.status ≡ None = sym is.seat.peer.status ∙ lives in
+    let come : Resident = record r { peer = come_to piece r } in
+    let held : Desktop = become c r (come_to piece r) d in
+    let start = come-seated c others base d r piece old was is lives in
+    let over : Peer = ended Memory r.peer in
+    let seated = told-seated c others base held come (come_on piece old) mid new was now start over
+    (record { peer = peer; owned = owned; lives = λ e. absurd (cc); gone = λ e. inl (Memory, r.peer, refl) }) left in (
+      become c come over held,
+      left_by (Some Memory) come over,
+      subst (λ (s : Option Cause). FeedsAt beyond_toplevels c piece s r d (become c come over held)) (sym none)
+          (zero, held, refl, subst (λ (o : Option Resident). StopsAt c o held (become c come over held)) (sym start.based.there) (inr (none, refl))),
+      seated,
+    )
+
+-- where no message is left, it stops
+pub idle-seated : {A : Type 0} (c : ℕ) (others : ℕ → ById ℕ) (base d mid : Desktop) (r s : Resident) (n : ℕ) (piece : List ℕ) (old v : Kept A) (was now : Stack) → IsSeated c others base old was d r → old.client.ended ≡ None
+    → Reaches beyond_toplevels c n (become c r (come_to piece r) d) mid → IsSeated c others base v now mid s → IsIdleAt v.client.ended v.client.rest → Feeds beyond_toplevels c piece r d mid
+idle-seated c others base d mid r s n piece old v was now is lives reaches seated idle =
+    let none : r.peer.status ≡ None = sym is.seat.peer.status ∙ lives in
+    let peer = seated.seat.peer in
+    let stays : IsIdleAt s.peer.status s.peer.rest =
+    subst (λ (o : Option Cause). IsIdleAt o s.peer.rest) peer.status (subst (λ (bytes : List ℕ). IsIdleAt v.client.ended bytes) peer.rest idle) in
+    subst (λ (o : Option Cause). FeedsAt beyond_toplevels c piece o r d mid) (sym none)
+    (n, mid, reaches, subst (λ (o : Option Resident). StopsAt c o mid mid) (sym seated.based.there) (inl (refl, stays)))
+
+pub lives-of : (o : Option Cause) → is_some o ≡ false → o ≡ None
+lives-of None e = refl
+lives-of (Some cause) e = absurd (differ e)

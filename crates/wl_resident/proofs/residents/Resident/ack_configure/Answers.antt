@@ -1,0 +1,48 @@
+use Rattle.std.proofs.Common.{[], ◌∷◌, ap, inr, refl, subst, sym}
+use Rattle.wl_wire.specs.Wire.{Word}
+use Rattle.wl_client.specs.Peer.{counted}
+use Rattle.wl_shell.specs.Kept.{acknowledgement_answer, kept_of}
+use Rattle.wl_plain.specs.Ask.{Acknowledge}
+use Rattle.wl_plain.specs.Owning.{IsOwned, Names, names_in, shell_refusal}
+use Rattle.wl_plain.specs.Step.{changed_by}
+use Rattle.wl_plain.specs.XdgShell.{acknowledged_by}
+use Rattle.wl_plain.proofs.OwningAsks.{owned-acknowledged}
+use Rattle.wl_plain.proofs.OwningReads.{acknowledged-by}
+use Rattle.wl_resident.proofs.Shelling.{accepted, names-counted, told-err, told-ok, xdg-answered, xdg-refused}
+use Rattle.wl_resident.proofs.Numbers.{keeps-names}
+use Rattle.wl_resident.proofs.residents.Resident.ack_configure.Goals as goal
+
+pub returns-in-Ok-clause-answers : goal.returns-in-Ok-clause-answers
+returns-in-Ok-clause-answers g c = λ named r is.
+    let v = c.args.self.now in
+    let names = names_in v.client.objects in
+    let kept = kept_of v.owned.shell in
+    let serial = c.args.serial in
+    xdg-answered v _ c.args.object c.args.surface c.args.version 4 (Word serial ∷ []) r is named
+    (λ k x h one same.
+    let judged = acknowledged-by names kept r c.args.surface k x h one c.args.object serial in
+    accepted _ r (acknowledged_by x serial) (Acknowledge x.id serial)
+    (told-ok _ _ (shell_refusal x.base x.id c.args.object) (acknowledgement_answer serial (kept c.args.surface)) c.ack.result judged c.ack.ensures.answer c.in-Ok.is) (
+      counted r.peer,
+      inr refl,
+      record {
+        peer = c.count.ensures.counts r.peer is.peer;
+        numbers = λ alive. keeps-names v.client.objects c.count.new.self.objects (names-counted v.client c.count.new.self c.count.ensures.only);
+        owns = λ alive. subst (λ (n : Names). IsOwned n v.owned.surfaces (kept_of c.ack.new.self) (changed_by (Acknowledge x.id serial) r).owned) (sym (names-counted v.client c.count.new.self c.count.ensures.only))
+            (owned-acknowledged names v.owned.surfaces kept r is.owns c.args.surface k x h one serial (kept_of c.ack.new.self) c.in-Ok.ensures.ok);
+      },
+    ))
+
+pub returns-in-Err-clause-answers : goal.returns-in-Err-clause-answers
+returns-in-Err-clause-answers g c = λ named r is.
+    let v = c.args.self.now in
+    let kept = kept_of v.owned.shell in
+    let serial = c.args.serial in
+    xdg-answered v _ c.args.object c.args.surface c.args.version 4 (Word serial ∷ []) r is named
+    (λ k x h one same.
+    let judged = acknowledged-by (names_in v.client.objects) kept r c.args.surface k x h one c.args.object serial in
+    xdg-refused v _ (kept_of c.ack.new.self) r c.args.object c.args.surface k x h c.in-Err.error (acknowledged_by x serial) one same
+    (told-err _ _ (shell_refusal x.base x.id c.args.object) (acknowledgement_answer serial (kept c.args.surface)) c.ack.result c.in-Err.error judged c.ack.ensures.answer c.in-Err.is)
+    (ap kept_of c.in-Err.ensures.err)
+    c.refuse_xdg_surface.ensures.ended
+    (c.refuse_xdg_surface.ensures.errs r.peer is.peer))

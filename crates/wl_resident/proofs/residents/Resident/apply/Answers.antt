@@ -1,0 +1,51 @@
+use Rattle.std.proofs.Common.{◌≡◌, ℕ, List, Option, ap, refl, inl, inr, subst, sym, ◌∙◌}
+use Rattle.wl_client.specs.Peer.{Peer, Queues}
+use Rattle.wl_client.specs.Told.{Said}
+use Rattle.wl_client.specs.View.{ClientView}
+use Rattle.wl_shell.specs.Kept.{Kept, changing, kept_after, kept_of}
+use Rattle.wl_surface.specs.Request.{Commit}
+use Rattle.wl_surface.specs.Surfaces.{applying, asking, surface_at}
+use Rattle.wl_plain.specs.Ask.{CommitSurface}
+use Rattle.wl_plain.specs.Owning.{effect_by, names_in}
+use Rattle.wl_resident.specs.Residents.{told_by}
+use Rattle.wl_plain.specs.Step.{after_surface, changed_by, committed_on}
+use Rattle.wl_resident.proofs.Committing.{commit-peer, commit-told}
+use Rattle.wl_resident.proofs.Doing.{had-by, lacked}
+use Rattle.wl_plain.proofs.OwningAsks.{owned-committed-by}
+use Rattle.wl_plain.proofs.OwningSurfaces.{AreKept-changed}
+use Rattle.wl_resident.proofs.Shelling.{owns-told}
+use Rattle.wl_resident.proofs.Numbers.{keeps-same}
+use Rattle.wl_resident.proofs.residents.Resident.apply.Goals as goal
+
+pub returns-clause-applies : goal.returns-clause-applies
+returns-clause-applies g c = λ r names object kept shows is owned names_are named answer serial shell.
+    let v = c.args.self.now in
+    let number = c.args.surface in
+    let act = c.args.act in
+    let ask = CommitSurface object (effect_by act) in
+    let then = committed_on object r in
+    let after = after_surface object r then in
+    let had = had-by names.surfaces v.owned.surfaces r.owned.surfaces object number c.buffers-had.result owned.surfaces named c.buffers-had.ensures in
+    let are = AreKept-changed names.surfaces v.owned.surfaces r.owned.surfaces owned.surfaces object number named (λ s. applying (asking Commit s)) (λ s. refl) c.commit.new.self (λ s counts. refl) c.in-Ok.ensures.ok in
+    let peer = c.let_go_of.ensures.stores then names.surfaces is are (surface_at object r.owned.surfaces) had in
+    let told = c.tell_act.ensures.told after.peer peer in
+    let same : kept_of c.let_go_of.new.self.owned.shell number ≡ changing number (kept_after c.args.serial act) kept number =
+    ap (λ o. kept_of o.shell number) c.let_go_of.ensures.owned ∙ ap (λ (k : ℕ → Option Kept). k number) (shell ∙ ap (λ n. changing number (kept_after n act) kept) (sym serial)) in
+    let events = ap (told_by act c.args.serial) same ∙ commit-told names v.owned.surfaces kept r owned object number named shows act c.args.serial answer serial in
+    let left = commit-peer names v.owned.surfaces kept r owned object number named shows act answer in (
+      told.0,
+      inr (subst (λ (es : List Said). Queues es (changed_by ask r).peer told.0) events (subst (λ (p : Peer). Queues (told_by act c.args.serial (kept_of c.let_go_of.new.self.owned.shell number)) p told.0) (sym left) told.1)),
+      record {
+        peer = told.2;
+        numbers = λ alive. keeps-same v.client.objects c.tell_act.new.self.client.objects (c.tell_act.ensures.table alive ∙ ap (λ (w : ClientView). w.objects) c.let_go_of.ensures.only);
+        owns = λ alive. owns-told c.tell_act.new.self _ names _
+            (ap names_in (c.tell_act.ensures.table alive ∙ ap (λ (w : ClientView). w.objects) c.let_go_of.ensures.only) ∙ names_are)
+            (c.tell_act.ensures.owned ∙ c.let_go_of.ensures.owned)
+            (owned-committed-by names v.owned.surfaces kept r owned object number shows act c.commit.new.self (kept_of v.owned.shell) named c.in-Ok.ensures.ok answer shell);
+      },
+    )
+
+pub returns-in-Err-clause-applies : goal.returns-in-Err-clause-applies
+returns-in-Err-clause-applies g c = λ r names object kept shows is owned names_are named answer serial shell.
+    let lacks = lacked c.args.self.now _ _ r (c.lack_memory.ensures.lacks r.peer is) c.lack_memory.ensures.ended in
+    (lacks.0, inl lacks.1, lacks.2)

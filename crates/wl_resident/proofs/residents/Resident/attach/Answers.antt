@@ -1,0 +1,24 @@
+use Rattle.std.proofs.Common.{refl, inr, w32}
+use Rattle.std.proofs.lemmas.Int.{to_z-of_z}
+use Rattle.wl_shell.specs.Kept.{kept_of}
+use Rattle.wl_surface.specs.Request.{Attach}
+use Rattle.wl_surface.specs.Surfaces.{surface_at}
+use Rattle.wl_plain.specs.Owning.{names_in}
+use Rattle.wl_plain.specs.Step.{after_surface, asked_of}
+use Rattle.wl_plain.specs.WlSurface.{buffer_named}
+use Rattle.wl_resident.proofs.Doing.{had-by, let-go-so}
+use Rattle.wl_plain.proofs.OwningAsks.{owned-asked}
+use Rattle.wl_resident.proofs.residents.Resident.attach.Goals as goal
+
+pub returns-clause-does : goal.returns-clause-does
+returns-clause-does g c = λ named r is.
+    let v = c.args.self.now in
+    let names = names_in v.client.objects in
+    let request = Attach (buffer_named r c.args.buffer) c.args.x c.args.y in
+    let changes = rw (c.attached-attached.ensures r is.peer) at (simp (to_z-of_z w32 c.args.x c.ranges.x, to_z-of_z w32 c.args.y c.ranges.y) at c.attach.ensures) in
+    let owned = owned-asked names v.owned.surfaces (kept_of v.owned.shell) r is.owns c.args.object c.args.surface request c.attach.new.self named refl (λ asked. refl) changes in
+    let had = had-by names.surfaces v.owned.surfaces r.owned.surfaces c.args.object c.args.surface c.buffers-had.result is.owns.surfaces named c.buffers-had.ensures in
+    let then = asked_of c.args.object request r in
+    let peer = c.let_go_of.ensures.stores then names.surfaces is.peer owned.surfaces (surface_at c.args.object r.owned.surfaces) had in
+    let after = after_surface c.args.object r then in
+    (after.peer, inr refl, let-go-so v (record { client = v.client; owned = record { surfaces = c.attach.new.self; shell = v.owned.shell } }) c.let_go_of.new.self after refl owned c.let_go_of.ensures.only c.let_go_of.ensures.owned peer)

@@ -1,0 +1,66 @@
+use Rattle.std.proofs.Common.{◌≡◌, ℕ, Bool, ap, sym, ◌∙◌}
+use Rattle.std.specs.Prelude.{Err}
+use Rattle.wl_client.specs.Peer.{counted}
+use Rattle.wl_shell.specs.Kept.{changing, commit_answer, kept_after, kept_of}
+use Rattle.wl_shell.specs.declared.acts.ShellAct.{ShellAct}
+use Rattle.wl_plain.specs.Ask.{CommitSurface}
+use Rattle.wl_plain.specs.Owning.{asks_by, effect_by, kept_base, kept_id, names_in, shell_refusal}
+use Rattle.wl_plain.specs.Step.{with_peer}
+use Rattle.wl_plain.specs.WlSurface.{surface_committed, will_show}
+use Rattle.wl_plain.proofs.OwningReads.{committed-by, pending-read}
+use Rattle.wl_resident.proofs.Stackings.{commit-stacks}
+use Rattle.wl_resident.proofs.Numbers.{left-from}
+use Rattle.wl_resident.proofs.Shelling.{accepted, names-counted, objects-counted, refused, told-err}
+use Rattle.wl_resident.proofs.residents.Resident.commit.Goals as goal
+
+pub returns-in-Ok-clause-answers : goal.returns-in-Ok-clause-answers
+returns-in-Ok-clause-answers g c = λ named r is.
+    let v = c.args.self.now in
+    let object = c.args.object in
+    let number = c.args.surface in
+    let act = c.in-Ok.act in
+    let names = names_in v.client.objects in
+    let kept = kept_of v.owned.shell in
+    let shows = c.is_some-has_buffer.result in
+    let will : shows ≡ will_show r object = c.is_some-has_buffer.ensures ∙ pending-read names v.owned.surfaces kept r is.owns object number c.pending_buffer.result named c.pending_buffer.ensures in
+    let answer = sym c.on_commit.ensures.answer ∙ c.in-Ok.is in
+    let judged = committed-by names v.owned.surfaces kept r is.owns object number 0 0 named
+    ∙ ap (λ (b : Bool). asks_by (λ (a : ShellAct). CommitSurface object (effect_by a)) (shell_refusal 0 (kept_id (kept number)) 0) (commit_answer b (kept number))) (sym will)
+    ∙ ap (asks_by (λ (a : ShellAct). CommitSurface object (effect_by a)) (shell_refusal 0 (kept_id (kept number)) 0)) answer in
+    let serial : c.serial-serial.result ≡ r.peer.serial = c.serial-serial.ensures ∙ is.peer.serial in
+    let shell = c.in-Ok.ensures.ok ∙ ap (λ (n : ℕ). changing number (kept_after n act) kept) serial in
+    let applied = c.apply.ensures.applies (with_peer (counted r.peer) r) names object kept shows (c.count.ensures.counts r.peer is.peer) is.owns (names-counted v.client c.count.new.self c.count.ensures.only) named answer serial shell in
+    accepted _ r (surface_committed r object) (CommitSurface object (effect_by act)) judged
+    (applied.0, applied.1, left-from v (record { client = c.count.new.self; owned = record v.owned { shell = c.on_commit.new.self } }) _ _ applied.0 (objects-counted v.client c.count.new.self c.count.ensures.only) applied.2)
+
+pub returns-in-Err-clause-answers : goal.returns-in-Err-clause-answers
+returns-in-Err-clause-answers g c = λ named r is.
+    let v = c.args.self.now in
+    let object = c.args.object in
+    let number = c.args.surface in
+    let error = c.in-Err.error in
+    let names = names_in v.client.objects in
+    let kept = kept_of v.owned.shell in
+    let xdg = c.xdg_surface_of-xdg_surface.result in
+    let base = kept_base (kept_of c.on_commit.new.self number) in
+    let will : c.is_some-has_buffer.result ≡ will_show r object = c.is_some-has_buffer.ensures ∙ pending-read names v.owned.surfaces kept r is.owns object number c.pending_buffer.result named c.pending_buffer.ensures in
+    let same : kept_id (kept number) ≡ xdg = sym (c.xdg_surface_of-xdg_surface.ensures ∙ ap (λ b. kept_id (kept_of b number)) c.in-Err.ensures.err) in
+    let judged = told-err (surface_committed r object) (λ (a : ShellAct). CommitSurface object (effect_by a)) (shell_refusal base (kept_id (kept number)) xdg) (commit_answer (will_show r object) (kept number)) c.on_commit.result error
+    (committed-by names v.owned.surfaces kept r is.owns object number base xdg named)
+    (c.on_commit.ensures.answer ∙ ap (λ (b : Bool). commit_answer b (kept number)) will) c.in-Err.is in
+    refused _ _ r (surface_committed r object) (shell_refusal base xdg xdg error) (judged ∙ ap (λ i. Err (shell_refusal base i xdg error)) same)
+    c.refuse_xdg_surface.ensures.ended
+    (c.refuse_xdg_surface.ensures.errs r.peer is.peer)
+
+pub returns-in-Ok-clause-stacks : goal.returns-in-Ok-clause-stacks
+returns-in-Ok-clause-stacks g c = λ named r is.
+    let v = c.args.self.now in
+    let object = c.args.object in
+    let number = c.args.surface in
+    let names = names_in v.client.objects in
+    let kept = kept_of v.owned.shell in
+    let will : c.is_some-has_buffer.result ≡ will_show r object = c.is_some-has_buffer.ensures ∙ pending-read names v.owned.surfaces kept r is.owns object number c.pending_buffer.result named c.pending_buffer.ensures in
+    let judged = committed-by names v.owned.surfaces kept r is.owns object number 0 0 named
+    ∙ ap (λ (b : Bool). asks_by (λ (a : ShellAct). CommitSurface object (effect_by a)) (shell_refusal 0 (kept_id (kept number)) 0) (commit_answer b (kept number))) (sym will)
+    ∙ ap (asks_by (λ (a : ShellAct). CommitSurface object (effect_by a)) (shell_refusal 0 (kept_id (kept number)) 0)) (sym c.on_commit.ensures.answer ∙ c.in-Ok.is) in
+    commit-stacks v r object number c.in-Ok.act (surface_committed r object) c.stacking_of.result named judged c.stacking_of.ensures

@@ -1,0 +1,43 @@
+use Rattle.std.proofs.Common.{◌≡◌, None, ap, refl, inl, inr}
+use Rattle.wl_client.specs.View.{ClientView}
+use Rattle.wl_shell.specs.Kept.{kept_of}
+use Rattle.wl_surface.specs.Surfaces.{surface_at, without_surface}
+use Rattle.wl_plain.specs.Owning.{Names, names_in, with_surface}
+use Rattle.wl_plain.specs.Step.{after_surface, with_surfaces}
+use Rattle.wl_resident.proofs.Doing.{had-by, lacked}
+use Rattle.wl_plain.proofs.OwningAsks.{owned-destroyed}
+use Rattle.wl_resident.proofs.Shelling.{surface-gone}
+use Rattle.wl_plain.proofs.OwningXdg.{xdg-of-none}
+use Rattle.wl_resident.proofs.Numbers.{keeps-gone}
+use Rattle.wl_resident.proofs.residents.Resident.destroy_surface.Goals as goal
+
+pub returns-in-Err-clause-does : goal.returns-in-Err-clause-does
+returns-in-Err-clause-does g c = λ named bare r is.
+    let lacks = lacked c.args.self.now _ _ r (c.lack_memory.ensures.lacks r.peer is.peer) c.lack_memory.ensures.ended in
+    (lacks.0, inl lacks.1, lacks.2)
+
+pub returns-clause-does : goal.returns-clause-does
+returns-clause-does g c = λ named bare r is.
+    let v = c.args.self.now in
+    let id = c.args.object in
+    let names = names_in v.client.objects in
+    let shell = kept_of v.owned.shell in
+    let none = xdg-of-none names v.owned.surfaces shell r.owned is.owns id c.args.surface named bare in
+    let had = had-by names.surfaces v.owned.surfaces r.owned.surfaces id c.args.surface c.buffers-had.result is.owns.surfaces named c.buffers-had.ensures in
+    let destroyed = λ (now : Names) (same : now ≡ with_surface id None names). owned-destroyed names v.owned.surfaces shell r is.owns id c.args.surface c.destroy.new.self now named none c.in-Ok.ensures.ok c.in-Ok.ensures.count same in
+    let bare_names = with_surface id None names in
+    let then = with_surfaces (without_surface id r.owned.surfaces) r in
+    let owned = destroyed bare_names refl in
+    let peer = c.let_go_of.ensures.stores then bare_names.surfaces is.peer owned.surfaces (surface_at id r.owned.surfaces) had in
+    let told = c.remove.ensures.removes (after_surface id r then).peer peer in (
+      told.0,
+      inr told.1,
+      record {
+        peer = told.2;
+        numbers = λ alive. keeps-gone v.client.objects c.remove.new.self.objects id (surface-gone v.client.objects c.remove.new.self.objects id c.args.surface named (rw (ap (λ (w : ClientView). w.objects) c.let_go_of.ensures.only) at c.remove.ensures.table alive));
+        owns = λ alive.
+            let table = ap (λ (w : ClientView). w.objects) c.let_go_of.ensures.only in
+            let holds = rw table at c.remove.ensures.table alive in
+            rw c.let_go_of.ensures.owned (destroyed (names_in c.remove.new.self.objects) (surface-gone v.client.objects c.remove.new.self.objects id c.args.surface named holds));
+      },
+    )

@@ -1,0 +1,25 @@
+use Rattle.std.proofs.Common.{None, inr}
+use Rattle.wl_shell.specs.Kept.{kept_of}
+use Rattle.wl_client.specs.Peer.{counted}
+use Rattle.wl_plain.specs.Owning.{names_in}
+use Rattle.wl_plain.proofs.OwningAsks.{owned-toplevel-gone}
+use Rattle.wl_resident.proofs.Shelling.{toplevel-answered, toplevel-gone}
+use Rattle.wl_resident.proofs.Numbers.{keeps-toplevel}
+use Rattle.wl_resident.proofs.residents.Resident.destroy_toplevel.Goals as goal
+
+pub returns-clause-answers : goal.returns-clause-answers
+returns-clause-answers g c = λ named r is.
+    let v = c.args.self.now in
+    let gone = c.remove.ensures.removes (counted r.peer) (c.count.ensures.counts r.peer is.peer) in
+    toplevel-answered v _ c.args.object c.args.surface 0 r is named
+    (λ k x h one its. (
+      gone.0,
+      inr gone.1,
+      record {
+        peer = gone.2;
+        numbers = λ alive. keeps-toplevel v.client.objects c.remove.new.self.objects c.args.object None (toplevel-gone v.client c.count.new.self c.remove.new.self c.args.object c.args.surface c.count.ensures.only named (c.remove.ensures.table alive));
+        owns = λ alive. owned-toplevel-gone (names_in v.client.objects) v.owned.surfaces (kept_of v.owned.shell) r is.owns c.args.surface k x h one c.args.object (kept_of c.destroy_toplevel.new.self) (names_in c.remove.new.self.objects) its
+            c.destroy_toplevel.ensures
+            (toplevel-gone v.client c.count.new.self c.remove.new.self c.args.object c.args.surface c.count.ensures.only named (c.remove.ensures.table alive));
+      },
+    ))

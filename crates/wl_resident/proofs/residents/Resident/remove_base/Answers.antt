@@ -1,0 +1,19 @@
+use Rattle.std.proofs.Common.{inr, sym, subst}
+use Rattle.wl_shell.specs.Kept.{kept_of}
+use Rattle.wl_plain.specs.Owning.{IsOwned, Names}
+use Rattle.wl_resident.proofs.Shelling.{base-gone}
+use Rattle.wl_resident.proofs.Numbers.{keeps-names}
+use Rattle.wl_resident.proofs.residents.Resident.remove_base.Goals as goal
+
+pub returns-clause-does : goal.returns-clause-does
+returns-clause-does g c = λ base r is.
+    let v = c.args.self.now in
+    let gone = c.remove.ensures.removes r.peer is.peer in (
+      gone.0,
+      inr gone.1,
+      record {
+        peer = gone.2;
+        numbers = λ alive. keeps-names v.client.objects c.remove.new.self.objects (base-gone _ _ c.args.object base (c.remove.ensures.table alive));
+        owns = λ alive. subst (λ (names : Names). IsOwned names v.owned.surfaces (kept_of v.owned.shell) r.owned) (sym (base-gone _ _ c.args.object base (c.remove.ensures.table alive))) is.owns;
+      },
+    )

@@ -1,0 +1,36 @@
+use Rattle.std.proofs.Common.{ap, refl, sym, ◌∙◌}
+use Rattle.wl_client.specs.View.{ClientView}
+use Rattle.wl_surface.specs.Surfaces.{is_used}
+use Rattle.wl_table.specs.Objects.{entry_of}
+use Rattle.wl_resident.specs.Messages.{IsAsked}
+use Rattle.wl_resident.specs.declared.messages.Asked.TheVariants.{Own, Request}
+use Rattle.wl_resident.proofs.Asking.{first-refused, first-taken, fit-passed, new-passed}
+use Rattle.wl_resident.proofs.OwnAsking.{own-served, own-taken, used-of}
+use Rattle.wl_resident.proofs.Shelling.{absent-kept}
+use Rattle.wl_resident.proofs.residents.Resident.serve.Goals as goal
+
+pub returns-in-Refused-clause-takes : goal.returns-in-Refused-clause-takes
+returns-in-Refused-clause-takes g c = λ r is. first-refused c.args.self.now _ r c.in-Refused.refusal (rw c.in-Refused.is at c.requires) is c.refuse.ensures.ended (c.refuse.ensures.errs r.peer is.peer)
+
+pub returns-in-Request-clause-takes : goal.returns-in-Request-clause-takes
+returns-in-Request-clause-takes g c = λ r is.
+    let v = c.args.self.now in
+    let asked : IsAsked v.client (Request c.in-Request.object c.in-Request.version c.in-Request.size c.in-Request.target c.in-Request.kind) = rw c.in-Request.is at c.requires in
+    let m = asked.0 in
+    let passes = asked.1 in
+    let mid = record v { client = c.take_first.new.self } in
+    let table = ap (λ (w : ClientView). entry_of w.objects c.in-Request.object) c.take_first.ensures ∙ passes.entry in
+    let free = new-passed mid v m (ap (λ (w : ClientView). w.objects) c.take_first.ensures) passes.free in
+    let fit = fit-passed mid v m (ap (λ (w : ClientView). w.objects) c.take_first.ensures) passes.fit in
+    first-taken v r c.in-Request.object c.in-Request.version c.in-Request.size c.in-Request.target m passes is mid c.answer.new.self c.answer.result
+    (ap (λ (w : ClientView). record v { client = w }) c.take_first.ensures)
+    (c.answer.ensures.answers m asked.2 table free fit)
+    (c.answer.ensures.stacks m asked.2 table)
+
+pub returns-in-Own-clause-takes : goal.returns-in-Own-clause-takes
+returns-in-Own-clause-takes g c = λ r is.
+    let v = c.args.self.now in
+    let asked : IsAsked v.client Own = rw c.in-Own.is at c.requires in
+    let taken = own-taken v.client c.serve-served.result (absent-kept v.client.ended (sym c.has_ended.ensures ∙ c.if-has_ended.false)) asked c.serve-served.ensures.more c.serve-served.ensures.other in
+    let served = c.serve-served.ensures.serves taken (λ number. is_used number r.owned.surfaces) (used-of v r is) r.peer is.peer in
+    own-served v _ r served.0 is asked refl c.serve-served.ensures.table served.1 served.2

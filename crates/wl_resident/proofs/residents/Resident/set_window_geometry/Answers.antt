@@ -1,0 +1,49 @@
+use Rattle.std.proofs.Common.{[], ◌∷◌, ap, inr, subst, sym}
+use Rattle.wl_wire.specs.Wire.{Number}
+use Rattle.wl_client.specs.Peer.{counted}
+use Rattle.wl_surface.specs.Request.{SetWindowGeometry}
+use Rattle.wl_shell.specs.Kept.{geometry_answer, kept_of}
+use Rattle.wl_plain.specs.Ask.{AskSurface}
+use Rattle.wl_plain.specs.Owning.{IsOwned, Names, names_in, shell_refusal}
+use Rattle.wl_plain.specs.Step.{changed_by, with_peer}
+use Rattle.wl_plain.specs.XdgShell.{geometry_set}
+use Rattle.wl_plain.proofs.OwningAsks.{owned-geometry}
+use Rattle.wl_plain.proofs.OwningReads.{geometry-set-by}
+use Rattle.wl_resident.proofs.Shelling.{accepted, geometry-keeps, names-counted, told-err, told-ok, xdg-answered, xdg-refused}
+use Rattle.wl_resident.proofs.Numbers.{keeps-names}
+use Rattle.wl_resident.proofs.residents.Resident.set_window_geometry.Goals as goal
+
+pub returns-in-Ok-clause-answers : goal.returns-in-Ok-clause-answers
+returns-in-Ok-clause-answers g c = λ named r is.
+    let v = c.args.self.now in
+    let names = names_in v.client.objects in
+    let kept = kept_of v.owned.shell in
+    let rect = c.args.rect in
+    xdg-answered v _ c.args.object c.args.surface c.args.version 3 (Number rect.x ∷ Number rect.y ∷ Number rect.w ∷ Number rect.h ∷ []) r is named
+    (λ k x h one same.
+    let judged = geometry-set-by names kept r c.args.surface k x h one c.args.object rect in
+    accepted _ r (geometry_set x rect) (AskSurface x.surface (SetWindowGeometry rect))
+    (told-ok _ _ (shell_refusal x.base x.id c.args.object) (geometry_answer rect (kept c.args.surface)) c.geometry.result judged c.geometry.ensures.answer c.in-Ok.is) (
+      counted r.peer,
+      inr (sym (geometry-keeps names.surfaces v.owned.surfaces (with_peer (counted r.peer) r) x.surface c.args.surface rect is.owns.surfaces one.surface)),
+      record {
+        peer = c.count.ensures.counts r.peer is.peer;
+        numbers = λ alive. keeps-names v.client.objects c.count.new.self.objects (names-counted v.client c.count.new.self c.count.ensures.only);
+        owns = λ alive. subst (λ (n : Names). IsOwned n v.owned.surfaces (kept_of c.geometry.new.self) (changed_by (AskSurface x.surface (SetWindowGeometry rect)) r).owned) (sym (names-counted v.client c.count.new.self c.count.ensures.only))
+            (owned-geometry names v.owned.surfaces kept r is.owns c.args.surface k x h one rect (kept_of c.geometry.new.self) c.in-Ok.ensures.ok);
+      },
+    ))
+
+pub returns-in-Err-clause-answers : goal.returns-in-Err-clause-answers
+returns-in-Err-clause-answers g c = λ named r is.
+    let v = c.args.self.now in
+    let kept = kept_of v.owned.shell in
+    let rect = c.args.rect in
+    xdg-answered v _ c.args.object c.args.surface c.args.version 3 (Number rect.x ∷ Number rect.y ∷ Number rect.w ∷ Number rect.h ∷ []) r is named
+    (λ k x h one same.
+    let judged = geometry-set-by (names_in v.client.objects) kept r c.args.surface k x h one c.args.object rect in
+    xdg-refused v _ (kept_of c.geometry.new.self) r c.args.object c.args.surface k x h c.in-Err.error (geometry_set x rect) one same
+    (told-err _ _ (shell_refusal x.base x.id c.args.object) (geometry_answer rect (kept c.args.surface)) c.geometry.result c.in-Err.error judged c.geometry.ensures.answer c.in-Err.is)
+    (ap kept_of c.in-Err.ensures.err)
+    c.refuse_xdg_surface.ensures.ended
+    (c.refuse_xdg_surface.ensures.errs r.peer is.peer))

@@ -1,0 +1,85 @@
+-- What a desk keeps agrees with a desktop.
+use Rattle.std.specs.Prelude.{ℕ, zero, suc, ◌≡◌, ◌==◌, ◌%◌, if◌then◌else◌, List, [], ◌∷◌, length, slice_index_or, Option, Some, None, is_some, true}
+use Rattle.wl_proto.specs.declared.interface.Interface.TheVariants.{WlSurface}
+use Rattle.wl_client.specs.Agreement.{IsPeer, output_of}
+use Rattle.wl_client.specs.Objects.{ById, nothing}
+use Rattle.wl_client.specs.Peer.{Peer}
+use Rattle.wl_client.specs.View.{ClientView}
+use Rattle.wl_shell.specs.Kept.{kept_of}
+use Rattle.wl_scene.specs.Stacking.{Stack, Standing}
+use Rattle.wl_plain.specs.Desktop.{Desktop, Resident, place}
+use Rattle.wl_plain.specs.Laws.{OwnsNothing}
+use Rattle.wl_plain.specs.Owning.{IsOwned, names_in, targets_in}
+use Rattle.wl_plain.specs.Served.{beyond_toplevels}
+use Rattle.wl_plain.specs.Standing.{MappedStand}
+use Rattle.wl_resident.specs.View.{DeskView, OwnedView}
+use Rattle.wl_plain.specs.declared.answers.Done.{Done}
+use Rattle.wl_plain.specs.Steps.{Act, Steps}
+
+-- ---- the clients
+
+-- what is kept of a client and of what it owns; one that ended owns nothing
+pub record IsSeat (v : ClientView) (o : OwnedView) (r : Resident) : Type 0 where
+  pub peer : IsPeer v r.peer
+  pub owns : IsOwned (names_in v.objects) o.surfaces (kept_of o.shell) r.owned
+  pub ended : is_some r.peer.status ≡ true → OwnsNothing r
+
+-- a number's client, or nobody
+abbrev pub IsPlace : Option ClientView → Option OwnedView → Option Resident → Type 0
+IsPlace None None None = Unit {0}
+IsPlace (Some v) (Some o) (Some r) = IsSeat v o r
+IsPlace v o r = ⊥
+
+-- what is kept of a client, without what it owns
+abbrev pub IsSlot : Option ClientView → Option Peer → Type 0
+IsSlot None None = Unit {0}
+IsSlot (Some v) (Some p) = IsPeer v p
+IsSlot v p = ⊥
+
+-- ---- the stack of toplevels
+
+-- the numbers of a client's surfaces, by the ids of its wl_surfaces
+abbrev pub numbers_of : Option ClientView → ById ℕ
+numbers_of None = nothing
+numbers_of (Some v) = targets_in WlSurface v.objects
+
+-- those of each client, by its number
+abbrev pub numbers_in : List (Option ClientView) → ℕ → ById ℕ
+numbers_in clients zero = nothing
+numbers_in clients (suc k) = numbers_of (slice_index_or clients k None)
+
+-- the same with those of one client
+abbrev pub with_numbers : ℕ → ById ℕ → (ℕ → ById ℕ) → ℕ → ById ℕ
+with_numbers c numbers others = λ other. if other == c then numbers else others other
+
+-- a toplevel is kept by the number of its surface
+pub record IsStanding (numbers : ℕ → ById ℕ) (k s : Standing) : Type 0 where
+  pub client : k.client ≡ s.client
+  pub place : k.place ≡ s.place
+  pub surface : numbers s.client s.surface ≡ Some k.surface
+
+-- so are all of them, from the bottom
+abbrev pub IsStack : (ℕ → ById ℕ) → List Standing → List Standing → Type 0
+IsStack numbers [] [] = Unit {0}
+IsStack numbers (k ∷ ks) (s ∷ ss) = IsStanding numbers k s × IsStack numbers ks ss
+IsStack numbers [] (s ∷ ss) = ⊥
+IsStack numbers (k ∷ ks) [] = ⊥
+
+-- the toplevels that stand, and the place of the next one
+pub record IsScene (numbers : ℕ → ById ℕ) (stack : Stack) (d : Desktop) : Type 0 where
+  pub standing : IsStack numbers stack.standing d.standing
+  pub next : stack.next ≡ d.mappings % 8
+
+-- ---- the desk
+
+-- The output, the clients and the toplevels are those of the desktop; and those stand there that are mapped.
+pub record Agrees (v : DeskView) (d : Desktop) : Type 0 where
+  pub output : output_of v.output ≡ d.output
+  pub count : length v.clients ≡ length d.clients
+  pub clients : (k : ℕ) → IsPlace (slice_index_or v.clients k None) (slice_index_or v.owned k None) (place d.clients k)
+  pub scene : IsScene (numbers_in v.clients) v.scene d
+  pub mapped : MappedStand d
+
+-- One step leads from old to new: whatever desktop agrees before, one that the step gives agrees after, where toplevels are served.
+abbrev pub TakesStep : Act → Done → DeskView → DeskView → Type 0
+TakesStep act done old new = (d : Desktop) → Agrees old d → (e : Desktop) × Steps beyond_toplevels d act done e × Agrees new e

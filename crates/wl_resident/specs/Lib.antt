@@ -1,0 +1,6 @@
+pub mod Agreement
+pub mod Marking
+pub mod Messages
+pub mod Residents
+pub mod Seats
+pub mod View

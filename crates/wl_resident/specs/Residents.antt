@@ -1,0 +1,139 @@
+-- What the desk keeps of a client agrees with a client of the plain desktop, and what a request makes of both.
+use Rattle.std.specs.List.{list_all}
+use Rattle.std.specs.Prelude.{ℕ, ◌≡◌, ◌-◌, ◌==◌, if◌then◌else◌, IfSome, None, Some, Result, Ok, Err, true, Option, List, [], take, drop}
+use Rattle.wl_wire.specs.declared.header.Split.{Split}
+use Rattle.wl_wire.specs.declared.header.Split.TheVariants.{Message as Whole, More, Bad}
+use Rattle.wl_proto.specs.declared.interface.Interface.TheVariants.{WlSurface, XdgSurface, XdgToplevel, XdgWmBase}
+use Rattle.wl_proto.specs.Messages.{Message}
+use Rattle.wl_proto.specs.Objects.{new_id_in}
+use Rattle.wl_proto.specs.Objects.{objects_in as objects_named}
+use Rattle.wl_table.specs.Objects.{Held, entry_of}
+use Rattle.wl_client.specs.Agreement.{IsPeer}
+use Rattle.wl_client.specs.Objects.{fits, is_of, objects_in}
+use Rattle.wl_client.specs.Peer.{Errs, Peer, Queues, WantsOr, counted, with_rest}
+use Rattle.wl_client.specs.declared.refusals.Refusal.{Refusal}
+use Rattle.wl_client.specs.declared.refusals.ErrorCode.TheVariants.{InvalidMethod}
+use Rattle.wl_client.specs.Told.{Said, display_error}
+use Rattle.wl_shell.specs.Kept.{Kept as KeptXdg, kept_of}
+use Rattle.wl_shell.specs.Shell.{Maps, Unmaps, next_serial, xdg_at}
+use Rattle.wl_shell.specs.declared.acts.ShellAct.{ShellAct}
+use Rattle.wl_shell.specs.declared.acts.ShellAct.TheVariants.{Configure, Map, Unmap}
+use Rattle.wl_resident.specs.declared.residents.Resident.{Resident as Kept}
+use Rattle.wl_resident.specs.declared.xdg_toplevel.ToplevelAsked.{ToplevelAsked}
+use Rattle.wl_resident.specs.declared.xdg_toplevel.ToplevelAsked.TheVariants.{Destruction, Configure as AskedConfigure, Nothing as AskedNothing}
+use Rattle.wl_resident.specs.declared.residents.Stacking.{Stacking}
+use Rattle.wl_resident.specs.declared.residents.Stacking.TheVariants.{Stays, ToTop, Out}
+use Rattle.wl_plain.specs.Ask.{Ask, CommitSurface, DestroyToplevel}
+use Rattle.wl_plain.specs.Desktop.{Resident}
+use Rattle.wl_plain.specs.Owning.{IsOwned, names_in, targets_in}
+use Rattle.wl_plain.specs.Served.{beyond_toplevels}
+use Rattle.wl_plain.specs.XdgShell.{is_state}
+use Rattle.wl_plain.specs.Step.{answers_to, changed_by, judge, role_configured, surface_of, takes_memory, with_peer}
+
+-- what is kept of the surfaces and of the shell stands for what the client owns
+abbrev pub Owns : {A : Type 0} → Kept A → Resident → Type 0
+Owns v r = IsOwned (names_in v.client.objects) v.owned.surfaces (kept_of v.owned.shell) r.owned
+
+-- a client that lives
+pub record IsResident {A : Type 0} (v : Kept A) (r : Resident) : Type 0 where
+  pub peer : IsPeer v.client r.peer
+  pub owns : Owns v r
+
+-- the surfaces that were there and are there still keep their numbers
+abbrev pub KeepsNumbers : Held → Held → Type 0
+KeepsNumbers old new = (id a b : ℕ) → targets_in WlSurface old id ≡ Some a → targets_in WlSurface new id ≡ Some b → a ≡ b
+
+-- a client after it was told what makes it this peer: if that ended it, nothing is said of what it owned
+pub record IsLeft {A : Type 0} (old new : Kept A) (r : Resident) (q : Peer) : Type 0 where
+  pub peer : IsPeer new.client q
+  pub owns : new.client.ended ≡ None → Owns new r
+  pub numbers : new.client.ended ≡ None → KeepsNumbers old.client.objects new.client.objects
+
+-- What is asked is done, and then answered; there may be no memory for it.
+abbrev pub ActsFor : Ask → Resident → Peer → Type 0
+ActsFor ask r q = WantsOr (takes_memory ask) (Queues (answers_to ask r) (changed_by ask r).peer q) r.peer q
+
+-- so it is done, whatever client is stood for
+abbrev pub Does : {A : Type 0} → (Resident → Ask) → Kept A → Kept A → Type 0
+Does ask old new = (r : Resident) → IsResident old r → (q : Peer) × ActsFor (ask r) r q × IsLeft old new (changed_by (ask r) r) q
+
+-- What is judged so is answered: what is asked is done, with its request counted; a refusal ends the client.
+abbrev pub AnswersSo : {A : Type 0} → Result Ask Refusal → Resident → Kept A → Kept A → Type 0
+AnswersSo (Ok ask) r old new = (q : Peer) × ActsFor ask (with_peer (counted r.peer) r) q × IsLeft old new (changed_by ask (with_peer (counted r.peer) r)) q
+AnswersSo (Err refusal) r old new = (q : Peer) × Errs refusal r.peer q × IsLeft old new r q
+
+abbrev pub Answers : {A : Type 0} → (Resident → Result Ask Refusal) → Kept A → Kept A → Type 0
+Answers judged old new = (r : Resident) → IsResident old r → AnswersSo (judged r) r old new
+
+-- the wl_surface with this id has the surface of this number
+abbrev pub IsSurface : {A : Type 0} → Kept A → ℕ → ℕ → Type 0
+IsSurface v id surface = targets_in WlSurface v.client.objects id ≡ Some surface
+
+-- no object has this id
+abbrev pub IsFree : {A : Type 0} → Kept A → ℕ → Type 0
+IsFree v id = entry_of v.client.objects id ≡ None
+
+-- the object with this id is an xdg_wm_base
+abbrev pub IsBase : {A : Type 0} → Kept A → ℕ → Type 0
+IsBase v id = is_of XdgWmBase (objects_in v.client.objects id) ≡ true
+
+-- the xdg_surface with this id is that of the surface of this number
+abbrev pub IsXdgSurface : {A : Type 0} → Kept A → ℕ → ℕ → Type 0
+IsXdgSurface v id surface = targets_in XdgSurface v.client.objects id ≡ Some surface
+
+-- the toplevel with this id is that of the surface of this number
+abbrev pub IsToplevel : {A : Type 0} → Kept A → ℕ → ℕ → Type 0
+IsToplevel v id surface = targets_in XdgToplevel v.client.objects id ≡ Some surface
+
+-- the new id of a message is free, if it has one
+abbrev pub NewIsFree : {A : Type 0} → Kept A → Message → Type 0
+NewIsFree v m = IfSome (new_id_in m) (λ new. IsFree v new.id)
+
+-- the objects that a message names are there, each of its interface
+abbrev pub ObjectsFit : {A : Type 0} → Kept A → Message → Type 0
+ObjectsFit v m = list_all (fits (objects_in v.client.objects)) (objects_named m) ≡ true
+
+-- Where a commit came to a configure, the next serial is drawn, and the role object is configured with it.
+abbrev pub drawn_by : ShellAct → Peer → Peer
+drawn_by (Configure placed) p = record p { serial = next_serial p.serial }
+drawn_by act p = p
+
+abbrev pub told_of : ℕ → Option KeptXdg → List Said
+told_of serial None = []
+told_of serial (Some k) = role_configured serial k.id k.role
+
+abbrev pub told_by : ShellAct → ℕ → Option KeptXdg → List Said
+told_by (Configure placed) serial k = told_of serial k
+told_by act serial k = []
+
+-- What a request does to the stack of toplevels, by the number of its toplevel's surface: one that is mapped comes to the top, and one that is
+-- unmapped or goes is taken out.
+abbrev pub StacksBy : {A : Type 0} → Kept A → Resident → Ask → Stacking → Type 0
+StacksBy old r (CommitSurface id Maps) stacking = (number : ℕ) × (targets_in WlSurface old.client.objects id ≡ Some number) × (stacking ≡ ToTop number)
+StacksBy old r (CommitSurface id Unmaps) stacking = (number : ℕ) × (targets_in WlSurface old.client.objects id ≡ Some number) × (stacking ≡ Out number)
+StacksBy old r (DestroyToplevel id xdg) stacking =
+    (number : ℕ) × (targets_in WlSurface old.client.objects (surface_of (xdg_at xdg r.owned.shell)) ≡ Some number) × (stacking ≡ Out number)
+StacksBy old r ask stacking = stacking ≡ Stays
+
+-- what a commit does to it, which came to this for the shell
+abbrev pub stacking_by : ShellAct → ℕ → Stacking
+stacking_by Map number = ToTop number
+stacking_by Unmap number = Out number
+stacking_by act number = Stays
+
+-- a refusal ends the client, and with it its toplevels
+abbrev pub StacksSo : {A : Type 0} → Kept A → Resident → Result Ask Refusal → Stacking → Type 0
+StacksSo old r (Ok ask) stacking = StacksBy old r ask stacking
+StacksSo old r (Err refusal) stacking = Unit {0}
+
+-- The first message of what has come is taken and answered.
+abbrev pub TakesSo : {A : Type 0} → Split → Resident → Kept A → Kept A → Stacking → Type 0
+TakesSo (Whole object opcode size) r old new stacking =
+    AnswersSo (judge beyond_toplevels r object opcode (take (size - 8) (drop 8 r.peer.rest))) (with_peer (with_rest (drop size r.peer.rest) r.peer) r) old new
+    × StacksSo old r (judge beyond_toplevels r object opcode (take (size - 8) (drop 8 r.peer.rest))) stacking
+TakesSo Bad r old new stacking = AnswersSo (Err (display_error InvalidMethod)) r old new
+TakesSo More r old new stacking = ⊥
+
+-- what a toplevel's request with this opcode comes to
+abbrev pub asked_by : ℕ → ToplevelAsked
+asked_by opcode = if opcode == 0 then Destruction else (if is_state opcode then AskedConfigure else AskedNothing)

@@ -1,0 +1,79 @@
+-- One client of the desk, apart from the others, with the stack of toplevels.
+use Rattle.std.specs.Prelude.{ℕ, ◌≡◌, [], Bool, false, is_some, Option, Some, None, ◌⊎◌}
+use Rattle.wl_proto.specs.declared.interface.Interface.TheVariants.{WlSurface}
+use Rattle.wl_client.specs.Agreement.{IsPeer}
+use Rattle.wl_client.specs.Objects.{ById}
+use Rattle.wl_client.specs.Peer.{LacksMemory, Peer, ended}
+use Rattle.wl_client.specs.View.{ClientView}
+use Rattle.wl_client.specs.declared.clients.Cause.{Cause}
+use Rattle.wl_surface.specs.Kept.{StandForAll, nobody}
+use Rattle.wl_surface.specs.Kept.{count as count_kept}
+use Rattle.wl_scene.specs.Stacking.{Stack, mapped_on, without_client, without_surface_of}
+use Rattle.wl_scene.specs.declared.owned.Owned.{Owned}
+use Rattle.wl_resident.specs.Agreement.{IsScene, IsSeat, with_numbers}
+use Rattle.wl_plain.specs.Desktop.{Desktop, Resident, become, client_at, with_number}
+use Rattle.wl_plain.specs.Owning.{targets_in}
+use Rattle.wl_plain.specs.Standing.{MappedStand}
+use Rattle.wl_resident.specs.View.{owned_view}
+use Rattle.wl_plain.specs.declared.answers.Done.{Done}
+use Rattle.wl_resident.specs.declared.residents.Resident.{Resident as Kept}
+use Rattle.wl_resident.specs.declared.residents.Stacking.{Stacking}
+use Rattle.wl_resident.specs.declared.residents.Stacking.TheVariants.{Stays, ToTop, Out}
+
+-- The desktop is the base but for the client c, which is this one, and the toplevels.
+pub record IsBased (c : ℕ) (base d : Desktop) (r : Resident) : Type 0 where
+  pub there : client_at c d ≡ Some r
+  pub output : d.output ≡ base.output
+  pub clients : d.clients ≡ with_number c (Some r) base.clients
+
+-- What is kept of client c and of the toplevels agrees with such a desktop. The others' numbers are those of the other clients' surfaces.
+pub record IsSeated {A : Type 0} (c : ℕ) (others : ℕ → ById ℕ) (base : Desktop) (v : Kept A) (stack : Stack) (d : Desktop) (r : Resident) : Type 0 where
+  pub based : IsBased c base d r
+  pub seat : IsSeat v.client (owned_view v.owned) r
+  pub scene : IsScene (with_numbers c (targets_in WlSurface v.client.objects) others) stack d
+  pub mapped : MappedStand d
+
+-- Told what makes it another peer, or ended by that, the client agrees with what becomes of the desktop's.
+abbrev pub IsChangedSo : {A : Type 0} → ℕ → (Peer → Done → Option Peer → Type 0) → Done → Kept A → Kept A → Stack → Stack → Type 0
+IsChangedSo c R done old new was is =
+    (others : ℕ → ById ℕ) (base d : Desktop) (r : Resident) → IsSeated c others base old was d r
+    → (q : Peer) × (s : Resident) × R r.peer done (Some q) × IsSeated c others base new is (become c r q d) s
+
+-- a client that is ended by this, where it lives
+abbrev pub ended_by : Option Cause → Cause → Peer → Peer
+ended_by None cause p = ended cause p
+ended_by (Some was) cause p = p
+
+-- there is a client, and it ended
+abbrev pub has_ended_in : Option ClientView → Bool
+has_ended_in None = false
+has_ended_in (Some v) = is_some v.ended
+
+-- a client lacks memory
+abbrev pub Lacks : ClientView → ClientView → Type 0
+Lacks old new = (p : Peer) → IsPeer old p → (q : Peer) × LacksMemory p q × IsPeer new q
+
+-- What a request asks of the stack is done: a toplevel comes to the top, for which there may be no memory, or is taken out.
+abbrev pub IsRestacked : {A : Type 0} → ℕ → Stacking → Kept A → Kept A → Stack → Stack → Type 0
+IsRestacked c Stays old new was is = (new ≡ old) × (is ≡ was)
+IsRestacked c (ToTop number) old new was is = ((new ≡ old) × (is ≡ mapped_on c number was)) ⊎ (Lacks old.client new.client × (is ≡ was))
+IsRestacked c (Out number) old new was is =
+    (new ≡ old) × (is.standing ≡ without_surface_of c number was.standing) × (is.next ≡ was.next)
+
+-- nothing is kept of surfaces and of the shell
+pub record IsBare {A : Type 0} (owned : Owned A) : Type 0 where
+  pub surfaces : StandForAll owned.surfaces nobody
+  pub count : count_kept owned.surfaces ≡ 0
+  pub shell : owned.shell ≡ []
+
+-- Where the client ended, nothing is left of what it owned, and none of its toplevels stands.
+abbrev pub IsClearedBy : {A : Type 0} → Option Cause → ℕ → Kept A → Kept A → Stack → Stack → Type 0
+IsClearedBy None c old new was is = (new ≡ old) × (is ≡ was)
+IsClearedBy (Some cause) c old new was is =
+    (new.client ≡ old.client) × IsBare new.owned × (is.standing ≡ without_client c was.standing) × (is.next ≡ was.next)
+
+-- So it is after a message: a client that lives still has it done, and nothing is left of one that ended.
+abbrev pub IsSettledBy : {A : Type 0} → Option Cause → ℕ → Stacking → Kept A → Kept A → Stack → Stack → Type 0
+IsSettledBy (Some cause) c stacking old new was is = IsClearedBy (Some cause) c old new was is
+IsSettledBy {A} None c stacking old new was is =
+    (mid : Kept A) × (between : Stack) × IsRestacked c stacking old mid was between × IsClearedBy mid.client.ended c mid new between is

@@ -1,0 +1,244 @@
+//! One client is served, and its toplevels come to the stack and go.
+
+ghost use Rattle.std.specs.Prelude.{ℕ, ◌≡◌, ◌<◌, ◌≤◌, ◌||◌, None, Some, length, pos, true, false};
+ghost use Rattle.wl_proto.specs.declared.interface.Interface.TheVariants.{WlSurface};
+ghost use Rattle.wl_paint.specs.Damage.{has};
+ghost use Rattle.wl_resident.specs.Marking.{AreUnlinked, IsAsLarge, Marks, MarksEnd, stands_any};
+ghost use Rattle.wl_plain.specs.Owning.{targets_in};
+ghost use Rattle.wl_plain.specs.Touching.{is_window_at};
+ghost use Rattle.wl_client.specs.Objects.{ById};
+ghost use Rattle.wl_store.specs.Stores.{write_refusal};
+ghost use Rattle.wl_client.specs.Agreement.{IsPeer};
+ghost use Rattle.wl_client.specs.Peer.{IsIdleAt, Peer, stored_at};
+ghost use Rattle.wl_plain.specs.Desktop.{Desktop, Resident as Plain, become};
+ghost use Rattle.wl_resident.specs.Seats.{IsBare, IsChangedSo, IsClearedBy, IsRestacked, IsSeated, IsSettledBy, ended_by};
+ghost use Rattle.wl_plain.specs.Served.{beyond_toplevels};
+ghost use Rattle.wl_plain.specs.Step.{Serves};
+ghost use Rattle.wl_plain.specs.Steps.{IsLeft, IsSent, IsStored, stored_of};
+
+use crate::marking::{mark_everywhere, touched_by};
+use crate::residents::{Resident, Stacking};
+use std::alloc::Allocator;
+use wl_client::{Cause, Client, StoreNo};
+use wl_paint::Damage;
+use wl_plain::{ClientNo, Done, Stored};
+use wl_scene::{Owned, Scene, Surface};
+use wl_shell::Shell;
+use wl_surface::{SurfaceNo, Surfaces};
+
+/// Nothing is owned.
+pub fn bare<A: Allocator + Copy>(alloc: A) -> Owned<A>
+    ensures { IsBare result }
+{
+    Owned {
+        surfaces: Surfaces::new(alloc),
+        shell: Shell::new(alloc),
+    }
+}
+
+impl<A: Allocator + Copy> Resident<A> {
+    /// What a request asks of the stack of toplevels is done. There may be no memory for it.
+    fn restack(&mut self, scene: &mut Scene<A>, client: ClientNo, stacking: Stacking)
+        ensures stack { IsRestacked client stacking self.old self.new scene.old scene.new }
+        ensures less { length self.new.client.rest ≤ length self.old.client.rest }
+    {
+        match stacking {
+            Stacking::Stays => {}
+            Stacking::ToTop(surface) => match scene.map(Surface { client, surface }) {
+                Ok(()) => {}
+                Err(_) => self.client.lack_memory(),
+            },
+            Stacking::Out(surface) => scene.unmap(Surface { client, surface }),
+        }
+    }
+
+    /// Where the client ended, nothing is left of what it owned. If a toplevel of its stood, everything is marked.
+    pub fn clear(
+        &mut self,
+        scene: &mut Scene<A>,
+        damage: &mut Damage<A>,
+        client: ClientNo,
+        alloc: A,
+    )
+        ensures clears { IsClearedBy self.old.client.ended client self.old self.new scene.old scene.new }
+        ensures marks { MarksEnd self.old.client.ended client scene.old damage.old damage.new }
+    {
+        if self.client.has_ended() {
+            if stands_any(scene, client) {
+                mark_everywhere(damage);
+            }
+            self.owned = bare(alloc);
+            scene.unmap_all(client);
+        }
+    }
+
+    /// What a message that was taken does to the stack of toplevels.
+    fn settle(
+        &mut self,
+        scene: &mut Scene<A>,
+        damage: &mut Damage<A>,
+        client: ClientNo,
+        stacking: Stacking,
+        alloc: A,
+    )
+        ensures settles { IsSettledBy self.old.client.ended client stacking self.old self.new scene.old scene.new }
+        ensures marks { MarksEnd self.new.client.ended client scene.old damage.old damage.new }
+        ensures less { length self.new.client.rest ≤ length self.old.client.rest }
+    {
+        if !self.client.has_ended() {
+            self.restack(scene, client, stacking);
+        }
+        self.clear(scene, damage, client, alloc);
+    }
+
+    /// The window of a surface that a message touches is marked, if it has one.
+    fn mark_touched(
+        &self,
+        scene: &Scene<A>,
+        damage: &mut Damage<A>,
+        client: ClientNo,
+        touched: Option<SurfaceNo>,
+    )
+        ensures marks { (others : ℕ → ById ℕ) (base d : Desktop) (r : Plain) → IsSeated client others base self.now scene.now d r
+            → (id number : ℕ) → touched ≡ Some number → targets_in WlSurface self.now.client.objects id ≡ Some number
+            → (x y : ℕ) → x < damage.old.width → y < damage.old.height
+            → has damage.new x y ≡ (has damage.old x y || is_window_at client id (pos x) (pos y) d) }
+        ensures more { (x y : ℕ) → x < damage.old.width → y < damage.old.height → has damage.old x y ≡ true → has damage.new x y ≡ true }
+        ensures nothing { touched ≡ None → damage.new ≡ damage.old }
+        ensures sides { IsAsLarge damage.old damage.new }
+    {
+        match touched {
+            Some(surface) => self.mark(scene, damage, client, surface),
+            None => {}
+        }
+    }
+
+    /// Takes the first whole message of a client that lives, and answers whether there was one. What it changes of the windows is marked, as
+    /// they were before and as they are after.
+    pub fn serve_on(
+        &mut self,
+        scene: &mut Scene<A>,
+        damage: &mut Damage<A>,
+        client: ClientNo,
+        alloc: A,
+    ) -> bool
+        ensures serves { result ≡ true → (others : ℕ → ById ℕ) (base d : Desktop) (r : Plain) → IsSeated client others base self.old scene.old d r
+            → (e : Desktop) × (q : Plain) × Serves beyond_toplevels client d e × IsSeated client others base self.new scene.new e q }
+        ensures marks { result ≡ true → (others : ℕ → ById ℕ) (base d : Desktop) (r : Plain) → AreUnlinked base → IsSeated client others base self.old scene.old d r
+            → (e : Desktop) (q : Plain) → Serves beyond_toplevels client d e → IsSeated client others base self.new scene.new e q
+            → Marks d e damage.old damage.new }
+        ensures idle { result ≡ false → (self.new ≡ self.old) × (scene.new ≡ scene.old) × (damage.new ≡ damage.old) × IsIdleAt self.old.client.ended self.old.client.rest }
+        ensures sides { IsAsLarge damage.old damage.new }
+        ensures less { result ≡ true → length self.new.client.rest < length self.old.client.rest }
+    {
+        if self.client.has_ended() {
+            return false;
+        }
+        let asked = self.asked();
+        let touched = touched_by(&asked);
+        self.mark_touched(scene, damage, client, touched); // as it was
+        let Some(stacking) = self.serve(asked) else {
+            return false;
+        };
+        self.settle(scene, damage, client, stacking, alloc);
+        self.mark_touched(scene, damage, client, touched); // as it is now
+        true
+    }
+
+    /// The client ends by this, where it lives.
+    pub fn end(
+        &mut self,
+        scene: &mut Scene<A>,
+        damage: &mut Damage<A>,
+        client: ClientNo,
+        cause: Cause,
+        alloc: A,
+    )
+        ensures ends { (others : ℕ → ById ℕ) (base d : Desktop) (r : Plain) → IsSeated client others base self.old scene.old d r
+            → (q : Plain) × IsSeated client others base self.new scene.new (become client r (ended_by r.peer.status cause r.peer) d) q }
+        ensures marks { MarksEnd self.new.client.ended client scene.old damage.old damage.new }
+    {
+        if !self.client.has_ended() {
+            self.client.end(cause);
+        }
+        self.clear(scene, damage, client, alloc);
+    }
+
+    /// Bytes are put into a store of a client that lives.
+    pub fn store(
+        &mut self,
+        scene: &mut Scene<A>,
+        damage: &mut Damage<A>,
+        client: ClientNo,
+        store: StoreNo,
+        at: u32,
+        bytes: &[u8],
+        alloc: A,
+    ) -> Stored
+        ensures changes { IsChangedSo client (IsStored store at bytes.now) (Done.Store result) self.old self.new scene.old scene.new }
+        ensures marks { MarksEnd self.new.client.ended client scene.old damage.old damage.new }
+    {
+        let stored = store_of(&mut self.client, store, at, bytes);
+        self.clear(scene, damage, client, alloc);
+        stored
+    }
+
+    /// The client goes. True where it was alive.
+    pub fn gone(
+        &mut self,
+        scene: &mut Scene<A>,
+        damage: &mut Damage<A>,
+        client: ClientNo,
+        alloc: A,
+    ) -> bool
+        ensures changes { IsChangedSo client IsLeft (Done.Gone result) self.old self.new scene.old scene.new }
+        ensures marks { MarksEnd self.new.client.ended client scene.old damage.old damage.new }
+    {
+        let lived = self.client.gone();
+        self.clear(scene, damage, client, alloc);
+        lived
+    }
+
+    /// So many unsent bytes were sent. False and unchanged where there are fewer.
+    pub fn sent(
+        &mut self,
+        scene: &mut Scene<A>,
+        damage: &mut Damage<A>,
+        client: ClientNo,
+        count: usize,
+        alloc: A,
+    ) -> bool
+        ensures changes { IsChangedSo client (IsSent count) (Done.Sent result) self.old self.new scene.old scene.new }
+        ensures marks { MarksEnd self.new.client.ended client scene.old damage.old damage.new }
+    {
+        let sent = self.client.sent(count);
+        self.clear(scene, damage, client, alloc);
+        sent
+    }
+}
+
+/// Whether a toplevel of the client stands.
+pub fn stands_any<A: Allocator>(scene: &Scene<A>, client: ClientNo) -> bool
+    ensures { result ≡ stands_any client scene.now }
+{
+    scene
+        .toplevels()
+        .iter()
+        .any(|toplevel| toplevel.surface.client == client)
+}
+
+/// Puts bytes into a store of a client that lives.
+fn store_of<A: Allocator + Copy>(
+    client: &mut Client<A>,
+    store: StoreNo,
+    at: u32,
+    bytes: &[u8],
+) -> Stored
+    ensures told { (p : Peer) → IsPeer client.old p → IsPeer client.new (stored_at p.status store at bytes.now p) × (result ≡ stored_of p.status (write_refusal store at (length bytes.now) p.stores)) }
+    ensures table { client.new.objects ≡ client.old.objects }
+{
+    if client.has_ended() {
+        return Stored::NoClient;
+    }
+    Stored::of(client.store(store, at, bytes))
+}

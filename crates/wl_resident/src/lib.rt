@@ -1,0 +1,18 @@
+//! One client at the desk, with its surfaces and xdg_surfaces: its messages served, its toplevels on the stack, and what of the output is marked
+//! to be painted again.
+#![tactic(auto)]
+
+mod feeding;
+mod marking;
+mod messages;
+mod residents;
+mod surface_requests;
+mod wl_compositor;
+mod wl_seat;
+mod xdg_surface;
+mod xdg_toplevel;
+mod xdg_wm_base;
+
+pub use feeding::{bare, stands_any};
+pub use marking::{corner_of, mark_everywhere};
+pub use residents::{Resident, Stacking};

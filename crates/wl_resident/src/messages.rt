@@ -1,0 +1,177 @@
+//! The messages of one client, one after another.
+
+ghost use Rattle.std.specs.Prelude.{◌≡◌, ◌<◌, ◌≤◌, IfNone, IfSome, None, Some, length, true};
+ghost use Rattle.wl_wire.specs.Wire.{split_of};
+ghost use Rattle.wl_table.specs.Objects.{entry_of};
+ghost use Rattle.wl_proto.specs.Messages.{Message, request_message};
+ghost use Rattle.wl_client.specs.Peer.{IsIdleAt};
+ghost use Rattle.wl_client.specs.Serving.{is_own};
+ghost use Rattle.wl_plain.specs.Desktop.{Resident as Plain};
+ghost use Rattle.wl_resident.specs.Messages.{IsAsked, IsKind};
+ghost use Rattle.wl_resident.specs.Residents.{Answers, IsResident, NewIsFree, ObjectsFit, StacksSo, TakesSo};
+ghost use Rattle.wl_plain.specs.Served.{beyond_toplevels};
+ghost use Rattle.wl_plain.specs.Step.{ask_of};
+
+use crate::residents::{Resident, Stacking};
+use crate::xdg_toplevel::{ToplevelAsked, asked_of};
+use std::alloc::Allocator;
+use wl_client::{First, Refusal};
+use wl_proto::{
+    Request, WlCompositorRequest, WlSeatRequest, WlSurfaceRequest, XdgSurfaceRequest,
+    XdgWmBaseRequest,
+};
+
+/// A request that a client alone can't answer, by its interface.
+#[derive(Clone, Copy)]
+pub(crate) enum Kind {
+    Compositor(WlCompositorRequest),
+    Surface(WlSurfaceRequest),
+    Seat(WlSeatRequest),
+    Base(XdgWmBaseRequest),
+    XdgSurface(XdgSurfaceRequest),
+    Toplevel(ToplevelAsked),
+    /// It isn't served.
+    Unserved,
+}
+
+/// What the first message of what came asks.
+#[derive(Clone, Copy)]
+pub(crate) enum Asked {
+    /// No whole message is there.
+    More,
+    /// It is refused before its own errors are looked at.
+    Refused(Refusal),
+    /// It is one of the client's own.
+    Own,
+    /// It is to this object, which has this version and target, and is so many bytes long.
+    Request {
+        object: u32,
+        version: u32,
+        size: usize,
+        target: usize,
+        kind: Kind,
+    },
+}
+
+/// What a request is that isn't one of the client's own; None of one that is.
+fn kind_of(request: &Request) -> Option<Kind>
+    ensures kind { IfSome result (λ kind. IsKind kind (request_message request.now)) }
+    ensures own { IfNone result (is_own (request_message request.now).interface ≡ true) }
+{
+    match request {
+        Request::WlCompositor(request) => Some(Kind::Compositor(*request)),
+        Request::WlSurface(request) => Some(Kind::Surface(*request)),
+        Request::WlSeat(request) => Some(Kind::Seat(*request)),
+        Request::XdgWmBase(request) => Some(Kind::Base(*request)),
+        Request::XdgSurface(request) => Some(Kind::XdgSurface(*request)),
+        Request::XdgToplevel(request) => Some(Kind::Toplevel(asked_of(request))),
+        Request::WlDisplay(_)
+        | Request::WlRegistry(_)
+        | Request::WlRegion(_)
+        | Request::WlShm(_)
+        | Request::WlShmPool(_)
+        | Request::WlBuffer(_) => None,
+        Request::WlSubcompositor(_)
+        | Request::WlSubsurface(_)
+        | Request::WlPointer(_)
+        | Request::XdgPositioner(_)
+        | Request::XdgPopup(_) => Some(Kind::Unserved),
+    }
+}
+
+impl<A: Allocator + Copy> Resident<A> {
+    /// What the first message of what came asks. It isn't taken.
+    pub(crate) fn asked(&self) -> Asked
+        ensures { IsAsked self.now.client result }
+    {
+        match self.client.first() {
+            First::More => Asked::More,
+            First::Refused(refusal) => Asked::Refused(refusal),
+            First::Request {
+                object,
+                version,
+                size,
+                target,
+                request,
+            } => match kind_of(&request) {
+                None => Asked::Own,
+                Some(kind) => Asked::Request {
+                    object,
+                    version,
+                    size,
+                    target,
+                    kind,
+                },
+            },
+        }
+    }
+
+    /// Answers a request to an object, which has this version and target.
+    fn answer(&mut self, object: u32, version: u32, target: usize, kind: Kind) -> Stacking
+        ensures answers { (m : Message) → IsKind kind m → entry_of self.old.client.objects object ≡ Some (record { interface = m.interface; version = version; target = target })
+            → NewIsFree self.old m → ObjectsFit self.old m → Answers (λ r. ask_of beyond_toplevels r object version m) self.old self.new }
+        ensures stacks { (m : Message) → IsKind kind m → entry_of self.old.client.objects object ≡ Some (record { interface = m.interface; version = version; target = target })
+            → (r : Plain) → IsResident self.old r → StacksSo self.old r (ask_of beyond_toplevels r object version m) result }
+        ensures rest { length self.new.client.rest ≤ length self.old.client.rest }
+    {
+        match kind {
+            Kind::Surface(request) => self.wl_surface(object, version, target, &request),
+            Kind::Toplevel(asked) => self.xdg_toplevel(object, target, asked),
+            Kind::Compositor(request) => {
+                self.wl_compositor(object, version, &request);
+                Stacking::Stays
+            }
+            Kind::Seat(request) => {
+                self.wl_seat(object, version, &request);
+                Stacking::Stays
+            }
+            Kind::Base(request) => {
+                self.xdg_wm_base(object, version, &request);
+                Stacking::Stays
+            }
+            Kind::XdgSurface(request) => {
+                self.xdg_surface(object, version, target, &request);
+                Stacking::Stays
+            }
+            Kind::Unserved => {
+                self.refuse_unserved();
+                Stacking::Stays
+            }
+        }
+    }
+
+    /// Takes the first whole message of a client that lives, which asks this, and answers what that does to the stack of toplevels. None where
+    /// there is no whole message; then nothing is changed.
+    pub(crate) fn serve(&mut self, asked: Asked) -> Option<Stacking>
+        requires { IsAsked self.old.client asked }
+        ensures lives { IfSome result (λ s. self.old.client.ended ≡ None) }
+        ensures takes { IfSome result (λ s. (r : Plain) → IsResident self.old r → TakesSo (split_of r.peer.rest) r self.old self.new s) }
+        ensures idle { IfNone result ((self.new ≡ self.old) × IsIdleAt self.old.client.ended self.old.client.rest) }
+        ensures less { IfSome result (λ s. length self.new.client.rest < length self.old.client.rest) }
+    {
+        if self.client.has_ended() {
+            return None;
+        }
+        match asked {
+            Asked::More => None,
+            Asked::Refused(refusal) => {
+                self.client.refuse(refusal);
+                Some(Stacking::Stays)
+            }
+            Asked::Own => {
+                let _served = self.client.serve(&self.owned.surfaces);
+                Some(Stacking::Stays)
+            }
+            Asked::Request {
+                object,
+                version,
+                size,
+                target,
+                kind,
+            } => {
+                self.client.take_first(size);
+                Some(self.answer(object, version, target, kind))
+            }
+        }
+    }
+}

@@ -1,0 +1,27 @@
+//! One client of the desk, with what it owns of the scene.
+
+use std::alloc::Allocator;
+use wl_client::Client;
+use wl_scene::Owned;
+use wl_surface::SurfaceNo;
+
+/// What a request does to the stack of mapped toplevels, by the number of its toplevel's surface.
+#[derive(Clone, Copy, Debug, PartialEq, Eq)]
+pub enum Stacking {
+    /// It leaves the stack as it was.
+    Stays,
+    /// The toplevel is mapped: it comes to the top.
+    ToTop(SurfaceNo),
+    /// The toplevel is unmapped, or goes.
+    Out(SurfaceNo),
+}
+
+/// A client, and its surfaces and xdg_surfaces. The table of its objects gives for each wl_surface, xdg_surface and xdg_toplevel the number of
+/// its surface.
+#[derive(Drop)]
+pub struct Resident<A: Allocator> {
+    /// Its stream, its objects and its stores.
+    pub client: Client<A>,
+    /// Its surfaces and xdg_surfaces.
+    pub owned: Owned<A>,
+}
