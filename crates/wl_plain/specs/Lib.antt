@@ -21,6 +21,7 @@ pub mod Step
 pub mod Steps
 pub mod Touching
 pub mod Whole
+pub mod WholeOthers
 pub mod WlPointer
 pub mod WlSubsurface
 pub mod WlSurface

@@ -1,0 +1,84 @@
+-- What a step of one client leaves of the others, where every request is served.
+use Rattle.std.specs.Prelude.{ℕ, zero, suc, ◌≡◌, ◌≢◌, Bool, true, if◌then◌else◌, Option, Some, None, Ok, List, [], ◌∷◌, ◌++◌, flat_map, ◌⊎◌}
+use Rattle.wl_proto.specs.declared.interface.Interface.TheVariants.{WlPointer}
+use Rattle.wl_client.specs.declared.clients.Cause.{Cause}
+use Rattle.wl_client.specs.declared.clients.Cause.TheVariants.{Memory, Slow}
+use Rattle.wl_client.specs.Peer.{ended, has_room}
+use Rattle.wl_client.specs.Told.{Said, said_bytes}
+use Rattle.wl_shell.specs.Shell.{next_serial}
+use Rattle.wl_scene.specs.Stacking.{Standing}
+use Rattle.wl_plain.specs.declared.answers.Done.{Done}
+use Rattle.wl_plain.specs.declared.answers.Done.TheVariants as gave
+use Rattle.wl_plain.specs.Desktop.{Desktop, Resident, client_at, resident_of}
+use Rattle.wl_plain.specs.Laws.{toplevels_of}
+use Rattle.wl_plain.specs.Popups.{is_among}
+use Rattle.wl_plain.specs.Step.{with_peer}
+use Rattle.wl_plain.specs.Steps.{Act, Connect, Feed, Store, Leave, Tick, Send, Close}
+use Rattle.wl_plain.specs.Whole.{Happens, Steps}
+
+-- wl_pointer.enter or leave (wayland.xml, wl_pointer), to one of these wl_pointers
+abbrev pub IsOfFocus : List ℕ → Said → Type 0
+IsOfFocus pointers event =
+    (is_among event.object pointers ≡ true) × (event.message.interface ≡ WlPointer) × ((event.message.opcode ≡ 0) ⊎ (event.message.opcode ≡ 1))
+
+abbrev pub AreOfFocus : List ℕ → List Said → Type 0
+AreOfFocus pointers [] = Unit {0}
+AreOfFocus pointers (event ∷ events) = IsOfFocus pointers event × AreOfFocus pointers events
+
+-- the serial after so many were drawn
+abbrev pub later_serial : ℕ → ℕ → ℕ
+later_serial zero serial = serial
+later_serial (suc n) serial = next_serial (later_serial n serial)
+
+-- a client that was told these events, for which so many serials were drawn
+abbrev pub told_so : List Said → ℕ → Resident → Resident
+told_so events drawn r =
+    with_peer (record r.peer { unsent = r.peer.unsent ++ flat_map said_bytes events; serial = later_serial drawn r.peer.serial }) r
+
+-- A client was told of the pointer's focus, and is else as it was: it lives, and what it holds and owns is the same.
+abbrev pub IsToldOfFocus : Resident → Resident → Type 0
+IsToldOfFocus r q = (events : List Said) × (drawn : ℕ) × AreOfFocus r.pointers events × (q ≡ told_so events drawn r)
+
+-- Of an event of the focus, why it wasn't queued to a client: it was past the limit, or else there was no memory.
+abbrev pub IsNotQueued : Cause → Resident → Type 0
+IsNotQueued cause r = (event : Said) × IsOfFocus r.pointers event × (cause ≡ (if has_room r.peer.unsent event then Memory else Slow))
+
+-- A client was told of the focus until such an event wasn't queued, and has ended for that.
+abbrev pub HasEndedUntold : Resident → Resident → Type 0
+HasEndedUntold r q = (told : Resident) × (cause : Cause) × IsToldOfFocus r told × IsNotQueued cause told × (q ≡ resident_of (ended cause told.peer))
+
+-- A client that lived, with its toplevels before and after: they stand where they did and in the order that they did, or it has ended.
+abbrev pub IsLeftLiving : Resident → List Standing → Option Resident → List Standing → Type 0
+IsLeftLiving r before None after = ⊥
+IsLeftLiving r before (Some q) after = (IsToldOfFocus r q × (after ≡ before)) ⊎ (HasEndedUntold r q × (after ≡ []))
+
+-- one that ended before is as it was
+abbrev pub IsLeftBy : Option Cause → Resident → List Standing → Option Resident → List Standing → Type 0
+IsLeftBy (Some cause) r before now after = (now ≡ Some r) × (after ≡ before)
+IsLeftBy None r before now after = IsLeftLiving r before now after
+
+-- where none has the number, none has it after
+abbrev pub IsLeftSo : Option Resident → List Standing → Option Resident → List Standing → Type 0
+IsLeftSo None before now after = (now ≡ None) × (after ≡ before)
+IsLeftSo (Some r) before now after = IsLeftBy r.peer.status r before now after
+
+-- The client with this number is left alone, but for what it is told of the focus.
+abbrev pub IsLeftAlone : ℕ → Desktop → Desktop → Type 0
+IsLeftAlone other old new = IsLeftSo (client_at other old) (toplevels_of other old) (client_at other new) (toplevels_of other new)
+
+-- the client that a step is of, if it is of one
+abbrev pub client_of : Act → Done → Option ℕ
+client_of Connect (gave.Connect (Ok c)) = Some c
+client_of Connect done = None
+client_of (Feed c piece) done = Some c
+client_of (Store c store at bytes) done = Some c
+client_of (Leave c) done = Some c
+client_of (Tick time) done = None
+client_of (Send c n) done = Some c
+client_of (Close c) done = Some c
+
+-- A step of a client leaves every other client alone, a message that is refused too.
+abbrev pub WholeOthersStay : Type 0
+WholeOthersStay =
+    (act : Act) (done : Done) (c other : ℕ) (old new : Desktop) → client_of act done ≡ Some c → Happens (Steps act done) old new → c ≢ other
+    → IsLeftAlone other old new
