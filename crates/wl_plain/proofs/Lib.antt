@@ -36,3 +36,5 @@ pub mod TouchingSteps
 pub mod TouchingMessages
 pub mod WholeOthersTold
 pub mod WholeOthersSettling
+pub mod WholeOthersMessages
+pub mod WholeOthers

@@ -6,6 +6,7 @@
 mod answers;
 
 ghost use Rattle.wl_plain.specs.Laws.{LeastIsMost, OneRun, OthersStay, ScratchStays, ServedAlone, WindowsAreDistinct};
+ghost use Rattle.wl_plain.specs.WholeOthers.{WholeOthersStay};
 
 pub use answers::{ClientNo, ConnectError, Done, Fed, Stored};
 
@@ -33,6 +34,11 @@ pub fn one_run()
 /// A piece of a client's leaves every other client as it was.
 pub fn others_stay()
     ensures { OthersStay }
+{}
+
+/// Where every request is served, a step of a client's leaves every other client as it was, but for what that is told of the pointer's focus.
+pub fn whole_others_stay()
+    ensures { WholeOthersStay }
 {}
 
 /// Where no more is served than a client's own interfaces, a piece makes of the desktop's client what it makes of the client by itself.
