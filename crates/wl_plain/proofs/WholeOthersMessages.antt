@@ -1,6 +1,6 @@
 -- What a message of a client's leaves of another, where every request is served.
-use Rattle.std.proofs.Common.{◌≡◌, ◌≢◌, ℕ, zero, suc, List, ◌++◌, Bool, true, false, Option, Some, None, Result, refl, ap, inl, inr}
-use Rattle.std.specs.Prelude.{Ok, Err, ◌==◌, not, filter}
+use Rattle.std.proofs.Common.{◌≡◌, ◌≢◌, ℕ, zero, suc, List, ◌++◌, Bool, true, false, Option, Some, None, Result, refl, inl, inr}
+use Rattle.std.specs.Prelude.{Ok, Err, not}
 use Rattle.wl_wire.specs.Wire.{split_of}
 use Rattle.wl_wire.specs.declared.header.Split.{Split}
 use Rattle.wl_wire.specs.declared.header.Split.TheVariants.{Message, More, Bad}
@@ -16,7 +16,6 @@ use Rattle.wl_plain.specs.Changing.{changed_for, is_toplevel, stacked_by, stacke
 use Rattle.wl_plain.specs.Demand.{Demand, Asks, EndSurface, AskFrame, CommitTree, EndObject, GetSubsurface, EndSubsurface, SetMode, GetPointer, MakeCursor, CreatePositioner, EndPositioner, SetPositioner, GetPopup, Grab, EndPopup, EndToplevel, Move}
 use Rattle.wl_plain.specs.Demanding.{effect_of_commit}
 use Rattle.wl_plain.specs.Desktop.{Desktop, Resident, become, client_at, with_client}
-use Rattle.wl_plain.specs.Laws.{toplevels_of}
 use Rattle.wl_plain.specs.Settling.{EndsAndSettles, after_status, becomes, ended_at, unstruck}
 use Rattle.wl_plain.specs.Stacked.{all_windows}
 use Rattle.wl_plain.specs.Step.{surface_of, with_peer}

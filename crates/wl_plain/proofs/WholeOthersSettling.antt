@@ -3,7 +3,7 @@ use Rattle.std.proofs.Common.{◌≡◌, ◌≢◌, ℕ, zero, suc, List, [], �
 use Rattle.std.specs.Prelude.{◌==◌, ◌||◌, ◌⊎◌, nat_lt, not, filter, is_some}
 use Rattle.std.proofs.lemmas.Bool.{eqb-true}
 use Rattle.wl_client.specs.declared.clients.Cause.{Cause}
-use Rattle.wl_client.specs.Peer.{Peer, ended}
+use Rattle.wl_client.specs.Peer.{ended}
 use Rattle.wl_client.specs.Told.{Said}
 use Rattle.wl_scene.specs.Pointer.{Target}
 use Rattle.wl_scene.specs.Stacking.{Standing, without_client}
@@ -11,7 +11,7 @@ use Rattle.wl_scene.specs.Windows.{Window}
 use Rattle.wl_plain.specs.Desktop.{Desktop, Resident, client_at, client_in, resident_of, with_number}
 use Rattle.wl_plain.specs.Laws.{toplevels_of}
 use Rattle.wl_plain.specs.Replies.{focus_window}
-use Rattle.wl_plain.specs.Settling.{Enters, EndsAndSettles, EndsFirst, Leaves, MovesFocus, MovesUnless, Moving, Settles, SettlesAll, Strike, Tells, TellsAt, TellsUnless, ended_at, in_order, is_settled, is_struck, struck_by, target_now, unstruck}
+use Rattle.wl_plain.specs.Settling.{Enters, EndsAndSettles, EndsFirst, Leaves, MovesUnless, Moving, Settles, SettlesAll, Strike, Tells, TellsAt, TellsUnless, ended_at, in_order, is_settled, is_struck, struck_by, target_now, unstruck}
 use Rattle.wl_plain.specs.Stacked.{all_windows}
 use Rattle.wl_plain.proofs.Others.{left_out, one_client}
 use Rattle.wl_plain.proofs.Places.{number-other, number-same}

@@ -1,25 +1,23 @@
 -- What a client is told of the pointer's focus, and what that leaves of it.
 use Rattle.std.proofs.Common.{◌≡◌, ℕ, zero, suc, ◌+◌, List, [], ◌∷◌, ◌++◌, Bool, true, false, Option, Some, None, refl, ap, sym, ◌∙◌, inl, inr, arith, append_assoc}
-use Rattle.std.specs.Prelude.{◌==◌, ◌||◌, ◌⊎◌, if◌then◌else◌, flat_map, is_some}
-use Rattle.std.specs.List.{list_any}
+use Rattle.std.specs.Prelude.{◌==◌, ◌||◌, if◌then◌else◌, flat_map, is_some}
 use Rattle.wl_wire.specs.Wire.{Word}
 use Rattle.wl_proto.specs.declared.interface.Interface.TheVariants.{WlPointer}
 use Rattle.wl_proto.specs.Messages.{says}
 use Rattle.wl_client.specs.declared.clients.Cause.{Cause}
 use Rattle.wl_client.specs.declared.clients.Cause.TheVariants.{Memory, Slow}
-use Rattle.wl_client.specs.Peer.{Peer, ended, has_room, queued}
+use Rattle.wl_client.specs.Peer.{Peer, has_room, queued}
 use Rattle.wl_client.specs.Told.{Said, said, said_bytes}
 use Rattle.wl_shell.specs.Shell.{next_serial}
 use Rattle.wl_surface.specs.Surfaces.{history_in}
-use Rattle.wl_scene.specs.Stacking.{Standing}
 use Rattle.wl_scene.specs.Windows.{Place, Window}
 use Rattle.wl_plain.specs.Changing.{drawing}
-use Rattle.wl_plain.specs.Desktop.{Resident, resident_of}
+use Rattle.wl_plain.specs.Desktop.{Resident}
 use Rattle.wl_plain.specs.Pointing.{entered_surface, has_pointers, left_surface}
 use Rattle.wl_plain.specs.Popups.{is_among}
 use Rattle.wl_plain.specs.Replies.{entered_at}
 use Rattle.wl_plain.specs.Settling.{QueuesFirst, QueuesTo, leave_drawn, told_drawn}
-use Rattle.wl_plain.specs.WholeOthers.{AreOfFocus, HasEndedUntold, IsLeftBy, IsLeftLiving, IsLeftSo, IsNotQueued, IsOfFocus, IsToldOfFocus, later_serial, told_so}
+use Rattle.wl_plain.specs.WholeOthers.{AreOfFocus, IsOfFocus, IsToldOfFocus, later_serial, told_so}
 use Rattle.wl_plain.proofs.Stacks.{equal-numbers}
 
 -- ---- lists

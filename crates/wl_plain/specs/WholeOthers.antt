@@ -1,5 +1,5 @@
 -- What a step of one client leaves of the others, where every request is served.
-use Rattle.std.specs.Prelude.{ℕ, zero, suc, ◌≡◌, ◌≢◌, Bool, true, if◌then◌else◌, Option, Some, None, Ok, List, [], ◌∷◌, ◌++◌, flat_map, ◌⊎◌}
+use Rattle.std.specs.Prelude.{ℕ, zero, suc, ◌≡◌, ◌≢◌, true, if◌then◌else◌, Option, Some, None, Ok, List, [], ◌∷◌, ◌++◌, flat_map, ◌⊎◌}
 use Rattle.wl_proto.specs.declared.interface.Interface.TheVariants.{WlPointer}
 use Rattle.wl_client.specs.declared.clients.Cause.{Cause}
 use Rattle.wl_client.specs.declared.clients.Cause.TheVariants.{Memory, Slow}
