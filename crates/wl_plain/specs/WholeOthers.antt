@@ -1,10 +1,12 @@
 -- What a step of one client leaves of the others, where every request is served.
-use Rattle.std.specs.Prelude.{ℕ, zero, suc, ◌≡◌, ◌≢◌, true, if◌then◌else◌, Option, Some, None, Ok, List, [], ◌∷◌, ◌++◌, flat_map, ◌⊎◌}
+use Rattle.std.specs.Prelude.{ℕ, ℤ, ◌≡◌, ◌≢◌, true, if◌then◌else◌, Option, Some, None, Ok, List, [], ◌∷◌, ◌++◌, flat_map, ◌⊎◌}
+use Rattle.wl_wire.specs.Wire.{Word, Number}
 use Rattle.wl_proto.specs.declared.interface.Interface.TheVariants.{WlPointer}
+use Rattle.wl_proto.specs.Messages.{says}
 use Rattle.wl_client.specs.declared.clients.Cause.{Cause}
 use Rattle.wl_client.specs.declared.clients.Cause.TheVariants.{Memory, Slow}
 use Rattle.wl_client.specs.Peer.{ended, has_room}
-use Rattle.wl_client.specs.Told.{Said, said_bytes}
+use Rattle.wl_client.specs.Told.{Said, said, said_bytes}
 use Rattle.wl_shell.specs.Shell.{next_serial}
 use Rattle.wl_scene.specs.Stacking.{Standing}
 use Rattle.wl_plain.specs.declared.answers.Done.{Done}
@@ -16,32 +18,39 @@ use Rattle.wl_plain.specs.Step.{with_peer}
 use Rattle.wl_plain.specs.Steps.{Act, Connect, Feed, Store, Leave, Tick, Send, Close}
 use Rattle.wl_plain.specs.Whole.{Happens, Steps}
 
--- wl_pointer.enter or leave (wayland.xml, wl_pointer), to one of these wl_pointers
-abbrev pub IsOfFocus : List ℕ → Said → Type 0
-IsOfFocus pointers event =
-    (is_among event.object pointers ≡ true) × (event.message.interface ≡ WlPointer) × ((event.message.opcode ≡ 0) ⊎ (event.message.opcode ≡ 1))
+-- wl_pointer.enter and leave, of a surface, with a serial (wayland.xml, wl_pointer)
+abbrev pub IsEnter : ℕ → ℕ → Said → Type 0
+IsEnter pointer serial event =
+    (surface : ℕ) × (x : ℤ) × (y : ℤ) × (event ≡ said pointer (says WlPointer 0 (Word serial ∷ Word surface ∷ Number x ∷ Number y ∷ [])))
 
-abbrev pub AreOfFocus : List ℕ → List Said → Type 0
-AreOfFocus pointers [] = Unit {0}
-AreOfFocus pointers (event ∷ events) = IsOfFocus pointers event × AreOfFocus pointers events
+abbrev pub IsLeave : ℕ → ℕ → Said → Type 0
+IsLeave pointer serial event = (surface : ℕ) × (event ≡ said pointer (says WlPointer 1 (Word serial ∷ Word surface ∷ [])))
 
--- the serial after so many were drawn
-abbrev pub later_serial : ℕ → ℕ → ℕ
-later_serial zero serial = serial
-later_serial (suc n) serial = next_serial (later_serial n serial)
+-- one of these to one of these wl_pointers
+abbrev pub IsOfFocus : List ℕ → ℕ → Said → Type 0
+IsOfFocus pointers serial event = (pointer : ℕ) × (is_among pointer pointers ≡ true) × (IsEnter pointer serial event ⊎ IsLeave pointer serial event)
 
--- a client that was told these events, for which so many serials were drawn
-abbrev pub told_so : List Said → ℕ → Resident → Resident
-told_so events drawn r =
-    with_peer (record r.peer { unsent = r.peer.unsent ++ flat_map said_bytes events; serial = later_serial drawn r.peer.serial }) r
+abbrev pub AreOfFocus : List ℕ → ℕ → List Said → Type 0
+AreOfFocus pointers serial [] = Unit {0}
+AreOfFocus pointers serial (event ∷ events) = IsOfFocus pointers serial event × AreOfFocus pointers serial events
 
--- A client was told of the pointer's focus, and is else as it was: it lives, and what it holds and owns is the same.
+-- a client that was told these events, with the serial that was drawn for them
+abbrev pub told_once : List Said → Resident → Resident
+told_once events r =
+    with_peer (record r.peer { unsent = r.peer.unsent ++ flat_map said_bytes events; serial = next_serial r.peer.serial }) r
+
+-- The focus came and went, and each time a client was told so with its next serial; it is else as it was.
+abbrev pub IsToldTimes : List (List Said) → Resident → Resident → Type 0
+IsToldTimes [] r q = q ≡ r
+IsToldTimes (events ∷ times) r q = AreOfFocus r.pointers r.peer.serial events × IsToldTimes times (told_once events r) q
+
 abbrev pub IsToldOfFocus : Resident → Resident → Type 0
-IsToldOfFocus r q = (events : List Said) × (drawn : ℕ) × AreOfFocus r.pointers events × (q ≡ told_so events drawn r)
+IsToldOfFocus r q = (times : List (List Said)) × IsToldTimes times r q
 
 -- Of an event of the focus, why it wasn't queued to a client: it was past the limit, or else there was no memory.
 abbrev pub IsNotQueued : Cause → Resident → Type 0
-IsNotQueued cause r = (event : Said) × IsOfFocus r.pointers event × (cause ≡ (if has_room r.peer.unsent event then Memory else Slow))
+IsNotQueued cause r =
+    (serial : ℕ) × (event : Said) × IsOfFocus r.pointers serial event × (cause ≡ (if has_room r.peer.unsent event then Memory else Slow))
 
 -- A client was told of the focus until such an event wasn't queued, and has ended for that.
 abbrev pub HasEndedUntold : Resident → Resident → Type 0
