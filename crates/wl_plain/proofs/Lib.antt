@@ -38,3 +38,4 @@ pub mod WholeOthersTold
 pub mod WholeOthersSettling
 pub mod WholeOthersMessages
 pub mod WholeOthers
+pub mod WholeOthersRefused

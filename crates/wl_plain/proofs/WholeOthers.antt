@@ -17,11 +17,11 @@ use Rattle.wl_plain.proofs.WholeOthersTold.{ToldSo, told-none, told-then}
 -- ---- what stays of a client
 
 -- nothing ends it
-abbrev Never : Resident → Cause → Type 0
+abbrev pub Never : Resident → Cause → Type 0
 Never r cause = ⊥
 
 -- where there is none, and where it ended before
-abbrev Is : Option Resident → List Standing → Option Resident → List Standing → Type 0
+abbrev pub Is : Option Resident → List Standing → Option Resident → List Standing → Type 0
 Is o before now after = (now ≡ o) × (after ≡ before)
 
 none-stays : (before : List Standing) → Stays (Is None before) Never
@@ -35,7 +35,7 @@ none-stays before = record {
     not_none : (r : Resident) → Some r ≡ None → ⊥
     not_none r e = absurd (cc)
 
-gone-stays : (r : Resident) (cause : Cause) (before : List Standing) → r.peer.status ≡ Some cause → Stays (Is (Some r) before) Never
+pub gone-stays : (r : Resident) (cause : Cause) (before : List Standing) → r.peer.status ≡ Some cause → Stays (Is (Some r) before) Never
 gone-stays r cause before is_over = record {
   told = λ p q tops why alive known so. absurd (alive_too p alive known.0);
   untold = λ p q tops cause alive known so. alive_too p alive known.0;

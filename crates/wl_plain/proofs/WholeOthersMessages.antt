@@ -120,7 +120,7 @@ module _ (c other : ℕ) (differ : c ≢ other) (A : Option Resident → List St
   takes-in Bad r d new known h = becomes-in _ r d new known h
   takes-in More r d new known h = absurd h
 
-  serves-in : (o : Option Resident) (d new : Desktop) → Known d → ServesAt c o d new → Known new
+  pub serves-in : (o : Option Resident) (d new : Desktop) → Known d → ServesAt c o d new → Known new
   serves-in None d new known h = absurd h
   serves-in (Some r) d new known h = takes-in (split_of r.peer.rest) r d new known h.1
 

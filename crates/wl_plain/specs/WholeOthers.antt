@@ -1,22 +1,28 @@
 -- What a step of one client leaves of the others, where every request is served.
-use Rattle.std.specs.Prelude.{ℕ, ℤ, ◌≡◌, ◌≢◌, true, if◌then◌else◌, Option, Some, None, Ok, List, [], ◌∷◌, ◌++◌, flat_map, ◌⊎◌}
-use Rattle.wl_wire.specs.Wire.{Word, Number}
+use Rattle.std.specs.Prelude.{ℕ, ℤ, ◌≡◌, ◌≢◌, ◌-◌, true, if◌then◌else◌, Option, Some, None, Result, Ok, Err, List, [], ◌∷◌, ◌++◌, drop, flat_map, take, ◌⊎◌}
+use Rattle.wl_wire.specs.Wire.{Word, Number, split_of}
+use Rattle.wl_wire.specs.declared.header.Split.{Split}
+use Rattle.wl_wire.specs.declared.header.Split.TheVariants.{Message as Whole, More, Bad}
 use Rattle.wl_proto.specs.declared.interface.Interface.TheVariants.{WlPointer}
 use Rattle.wl_proto.specs.Messages.{says}
 use Rattle.wl_client.specs.declared.clients.Cause.{Cause}
 use Rattle.wl_client.specs.declared.clients.Cause.TheVariants.{Memory, Slow}
-use Rattle.wl_client.specs.Peer.{ended, has_room}
-use Rattle.wl_client.specs.Told.{Said, said, said_bytes}
+use Rattle.wl_client.specs.declared.refusals.ErrorCode.TheVariants.{InvalidMethod}
+use Rattle.wl_client.specs.declared.refusals.Refusal.{Refusal}
+use Rattle.wl_client.specs.Peer.{Errs, Peer, ended, has_room}
+use Rattle.wl_client.specs.Told.{Said, display_error, said, said_bytes}
 use Rattle.wl_shell.specs.Shell.{next_serial}
 use Rattle.wl_scene.specs.Stacking.{Standing}
 use Rattle.wl_plain.specs.declared.answers.Done.{Done}
 use Rattle.wl_plain.specs.declared.answers.Done.TheVariants as gave
+use Rattle.wl_plain.specs.Demand.{Demand}
+use Rattle.wl_plain.specs.Demanding.{judge_all}
 use Rattle.wl_plain.specs.Desktop.{Desktop, Resident, client_at, resident_of}
 use Rattle.wl_plain.specs.Laws.{toplevels_of}
 use Rattle.wl_plain.specs.Popups.{is_among}
 use Rattle.wl_plain.specs.Step.{with_peer}
 use Rattle.wl_plain.specs.Steps.{Act, Connect, Feed, Store, Leave, Tick, Send, Close}
-use Rattle.wl_plain.specs.Whole.{Happens, Steps}
+use Rattle.wl_plain.specs.Whole.{Happens, Serves, Steps}
 
 -- wl_pointer.enter and leave, of a surface, with a serial (wayland.xml, wl_pointer)
 abbrev pub IsEnter : ℕ → ℕ → Said → Type 0
@@ -91,3 +97,29 @@ abbrev pub WholeOthersStay : Type 0
 WholeOthersStay =
     (act : Act) (done : Done) (c other : ℕ) (old new : Desktop) → client_of act done ≡ Some c → Happens (Steps act done) old new → c ≢ other
     → IsLeftAlone other old new
+
+-- ---- a message that is refused
+
+abbrev pub refusal_of : Result Demand Refusal → Option Refusal
+refusal_of (Ok demand) = None
+refusal_of (Err refusal) = Some refusal
+
+-- why the first message of what has come from a client is refused, if it is: for its header, or for what is judged of it
+abbrev pub refused_for : Split → Resident → Option Refusal
+refused_for (Whole object opcode size) r = refusal_of (judge_all r object opcode (take (size - 8) (drop 8 r.peer.rest)))
+refused_for Bad r = Some (display_error InvalidMethod)
+refused_for More r = None
+
+abbrev pub first_refusal : Resident → Option Refusal
+first_refusal r = refused_for (split_of r.peer.rest) r
+
+-- A client has ended with this error, of which it was told, or with Slow or Memory where that event wasn't queued. Nothing is left of what it
+-- owned, and none of its toplevels stands.
+abbrev pub HasErred : Refusal → ℕ → Resident → Desktop → Type 0
+HasErred refusal c r new = (q : Peer) × Errs refusal r.peer q × (client_at c new ≡ Some (resident_of q)) × (toplevels_of c new ≡ [])
+
+-- A message that is refused ends its client with that error, and leaves every other client alone.
+abbrev pub RefusedAlone : Type 0
+RefusedAlone =
+    (c : ℕ) (r : Resident) (refusal : Refusal) (old new : Desktop) → client_at c old ≡ Some r → first_refusal r ≡ Some refusal → Serves c old new
+    → HasErred refusal c r new × ((other : ℕ) → c ≢ other → IsLeftAlone other old new)

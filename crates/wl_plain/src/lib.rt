@@ -6,7 +6,7 @@
 mod answers;
 
 ghost use Rattle.wl_plain.specs.Laws.{LeastIsMost, OneRun, OthersStay, ScratchStays, ServedAlone, WindowsAreDistinct};
-ghost use Rattle.wl_plain.specs.WholeOthers.{WholeOthersStay};
+ghost use Rattle.wl_plain.specs.WholeOthers.{RefusedAlone, WholeOthersStay};
 
 pub use answers::{ClientNo, ConnectError, Done, Fed, Stored};
 
@@ -39,6 +39,11 @@ pub fn others_stay()
 /// Where every request is served, a step of a client's leaves every other client as it was, but for what that is told of the pointer's focus.
 pub fn whole_others_stay()
     ensures { WholeOthersStay }
+{}
+
+/// A message that is refused ends its client with that error, and leaves every other client alone.
+pub fn refused_alone()
+    ensures { RefusedAlone }
 {}
 
 /// Where no more is served than a client's own interfaces, a piece makes of the desktop's client what it makes of the client by itself.
