@@ -24,7 +24,7 @@ Never r cause = ⊥
 abbrev pub Is : Option Resident → List Standing → Option Resident → List Standing → Type 0
 Is o before now after = (now ≡ o) × (after ≡ before)
 
-none-stays : (before : List Standing) → Stays (Is None before) Never
+none-stays : (before : List Standing) → Stays ToldSo (Is None before) Never
 none-stays before = record {
   told = λ r q tops why alive known so. absurd (not_none r known.0);
   untold = λ r q tops cause alive known so. not_none r known.0;
@@ -35,7 +35,7 @@ none-stays before = record {
     not_none : (r : Resident) → Some r ≡ None → ⊥
     not_none r e = absurd (cc)
 
-pub gone-stays : (r : Resident) (cause : Cause) (before : List Standing) → r.peer.status ≡ Some cause → Stays (Is (Some r) before) Never
+pub gone-stays : (r : Resident) (cause : Cause) (before : List Standing) → r.peer.status ≡ Some cause → Stays ToldSo (Is (Some r) before) Never
 gone-stays r cause before is_over = record {
   told = λ p q tops why alive known so. absurd (alive_too p alive known.0);
   untold = λ p q tops cause alive known so. alive_too p alive known.0;
@@ -54,7 +54,7 @@ abbrev Untold : Resident → Resident → Cause → Type 0
 Untold r q cause =
     (told : Resident) × IsToldOfFocus r told × IsNotQueued cause told × ((other : Cause) → resident_of (ended other q.peer) ≡ resident_of (ended other told.peer))
 
-living-stays : (r : Resident) (before : List Standing) → Stays (IsLeftLiving r before) (Untold r)
+living-stays : (r : Resident) (before : List Standing) → Stays ToldSo (IsLeftLiving r before) (Untold r)
 living-stays r before = record {
   told = told;
   untold = untold;
@@ -76,7 +76,7 @@ living-stays r before = record {
     untold p q tops cause alive (inr known) so = absurd (over p alive known.0)
 
 -- what leaves to a client whatever stays of it leaves it alone
-pub left_alone : (other : ℕ) (old new : Desktop) → ((A : Option Resident → List Standing → Type 0) (P : Resident → Cause → Type 0) → Stays A P → A (client_at other old) (toplevels_of other old) → A (client_at other new) (toplevels_of other new)) → IsLeftAlone other old new
+pub left_alone : (other : ℕ) (old new : Desktop) → ((A : Option Resident → List Standing → Type 0) (P : Resident → Cause → Type 0) → Stays ToldSo A P → A (client_at other old) (toplevels_of other old) → A (client_at other new) (toplevels_of other new)) → IsLeftAlone other old new
 left_alone other old new carry = at (client_at other old) refl
   where
     by : (r : Resident) → client_at other old ≡ Some r → (s : Option Cause) → r.peer.status ≡ s → IsLeftBy s r (toplevels_of other old) (client_at other new) (toplevels_of other new)
@@ -102,7 +102,7 @@ connects c other (Some k) d done new of (inr h) differ =
 
 -- ---- all steps
 
-carried : (other : ℕ) (old new : Desktop) → IsLeft other old new → (A : Option Resident → List Standing → Type 0) (P : Resident → Cause → Type 0) → Stays A P → A (client_at other old) (toplevels_of other old) → A (client_at other new) (toplevels_of other new)
+carried : (other : ℕ) (old new : Desktop) → IsLeft other old new → (A : Option Resident → List Standing → Type 0) (P : Resident → Cause → Type 0) → Stays ToldSo A P → A (client_at other old) (toplevels_of other old) → A (client_at other new) (toplevels_of other new)
 carried other old new left A P stays known = rw (left.0, left.1) known
 
 -- another than the one is another than the other

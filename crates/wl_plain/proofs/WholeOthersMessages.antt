@@ -23,6 +23,7 @@ use Rattle.wl_plain.specs.Whole.{Answers, Becomes, ChangesAt, Does, FeedsAt, IsF
 use Rattle.wl_plain.proofs.Others.{IsLeft, become-left, left_out, on_top, one_surface, same-left, stacked-left, left-then}
 use Rattle.wl_plain.proofs.Places.{number-other}
 use Rattle.wl_plain.proofs.WholeOthersSettling.{IsIn, Stays as Keeps, settled-in}
+use Rattle.wl_plain.proofs.WholeOthersTold.{ToldSo, told-focus}
 
 -- ---- the changes of a desktop
 
@@ -79,10 +80,10 @@ stacked_for-left c other (Move surface serial) r windows d differ = (refl, refl)
 done-left : (c other : ℕ) (demand : Demand) (r : Resident) (d : Desktop) → c ≢ other → IsLeft other d (done_for c demand r d)
 done-left c other demand r d differ = stacked_for-left c other demand r (all_windows d) d differ
 
-module _ (c other : ℕ) (differ : c ≢ other) (A : Option Resident → List Standing → Type 0) (P : Resident → Cause → Type 0) (keeps : Keeps A P) where
+module _ (c other : ℕ) (differ : c ≢ other) (A : Option Resident → List Standing → Type 0) (P : Resident → Cause → Type 0) (keeps : Keeps ToldSo A P) where
   -- it is known of the other client
   abbrev Known : Desktop → Type 0
-  Known d = IsIn other A P keeps d
+  Known d = IsIn other ToldSo told-focus A P keeps d
 
   left-in : (d e : Desktop) → IsLeft other d e → Known d → Known e
   left-in d e left known = rw (left.0, left.1) known
@@ -91,7 +92,7 @@ module _ (c other : ℕ) (differ : c ≢ other) (A : Option Resident → List St
   same-in d e same known = left-in d e (same-left other d e same) known
 
   settled : (d new : Desktop) → Known d → EndsAndSettles (unstruck d) new → Known new
-  settled d new known h = settled-in other A P keeps d new known h
+  settled d new known h = settled-in other ToldSo told-focus A P keeps d new known h
 
   -- ---- a message
 

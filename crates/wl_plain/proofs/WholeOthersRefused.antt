@@ -23,6 +23,7 @@ use Rattle.wl_plain.proofs.Places.{number-same}
 use Rattle.wl_plain.proofs.WholeOthers.{Is, Never, gone-stays, left_alone}
 use Rattle.wl_plain.proofs.WholeOthersMessages.{serves-in}
 use Rattle.wl_plain.proofs.WholeOthersSettling.{none_of, settled-in}
+use Rattle.wl_plain.proofs.WholeOthersTold.{ToldSo, told-focus}
 
 -- it has ended
 over : (refusal : Refusal) (p q : Peer) → Errs refusal p q → (cause : Cause) × (q.status ≡ Some cause)
@@ -54,7 +55,7 @@ erred : (refusal : Refusal) (c : ℕ) (r there : Resident) (p : Peer) (d new : D
 erred refusal c r there p d new found h =
     let end = over refusal p h.0 h.1 in
     let mid = ended-there c r there h.0 end.0 d found end.1 in
-    let known = settled-in c (Is (Some (resident_of h.0)) []) Never (gone-stays (resident_of h.0) end.0 [] end.1) (becomes c r h.0 d) new (mid.0, mid.1) h.2 in
+    let known = settled-in c ToldSo told-focus (Is (Some (resident_of h.0)) []) Never (gone-stays (resident_of h.0) end.0 [] end.1) (becomes c r h.0 d) new (mid.0, mid.1) h.2 in
     (h.0, h.1, known.0, known.1)
 
 answered-so : (judged : Result Demand Refusal) (refusal : Refusal) (c : ℕ) (r there : Resident) (d new : Desktop) → refusal_of judged ≡ Some refusal → client_at c d ≡ Some there → Answers judged c r d new → (q : Peer) × Errs refusal r.peer q × (client_at c new ≡ Some (resident_of q)) × (toplevels_of c new ≡ [])

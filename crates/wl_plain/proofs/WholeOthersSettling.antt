@@ -16,12 +16,12 @@ use Rattle.wl_plain.specs.Stacked.{all_windows}
 use Rattle.wl_plain.proofs.Others.{left_out, one_client}
 use Rattle.wl_plain.proofs.Places.{number-other, number-same}
 use Rattle.wl_plain.proofs.Stacks.{equal-numbers, or-left, or-right}
-use Rattle.wl_plain.proofs.WholeOthersTold.{TellsOfFocus, ToldSo, enter-told, leave-told}
+use Rattle.wl_plain.proofs.WholeOthersTold.{TellsBy, TellsFocus}
 
--- What is known of a client and of its toplevels, and of why it is to end: it stays so as the client is told of the focus, and as it ends.
-pub record Stays (A : Option Resident → List Standing → Type 0) (P : Resident → Cause → Type 0) : Type 0 where
-  pub told : (r q : Resident) (tops : List Standing) (why : Option Cause) → r.peer.status ≡ None → A (Some r) tops → ToldSo r q why → A (Some q) tops
-  pub untold : (r q : Resident) (tops : List Standing) (cause : Cause) → r.peer.status ≡ None → A (Some r) tops → ToldSo r q (Some cause) → P q cause
+-- What is known of a client and of its toplevels, and of why it is to end: it stays so as the client is told, and as it ends.
+pub record Stays (T : Resident → Resident → Option Cause → Type 0) (A : Option Resident → List Standing → Type 0) (P : Resident → Cause → Type 0) : Type 0 where
+  pub told : (r q : Resident) (tops : List Standing) (why : Option Cause) → r.peer.status ≡ None → A (Some r) tops → T r q why → A (Some q) tops
+  pub untold : (r q : Resident) (tops : List Standing) (cause : Cause) → r.peer.status ≡ None → A (Some r) tops → T r q (Some cause) → P q cause
   pub ends : (r : Resident) (tops : List Standing) (cause : Cause) → A (Some r) tops → P r cause → A (Some (resident_of (ended cause r.peer))) []
   pub again : (r : Resident) (cause other : Cause) → P r cause → P r other → P (resident_of (ended cause r.peer)) other
 
@@ -53,17 +53,17 @@ is-or-not c other = at (c == other) refl
         unequal : false ≡ true → ⊥
         unequal f = absurd (cc)
 
-module _ (other : ℕ) (A : Option Resident → List Standing → Type 0) (P : Resident → Cause → Type 0) (stays : Stays A P) where
+module _ (other : ℕ) (T : Resident → Resident → Option Cause → Type 0) (focus : TellsFocus T) (A : Option Resident → List Standing → Type 0) (P : Resident → Cause → Type 0) (stays : Stays T A P) where
   -- it is known of the client with the number
   abbrev pub IsIn : Desktop → Type 0
   IsIn d = A (client_at other d) (toplevels_of other d)
 
-  abbrev PAt : Option Resident → Cause → Type 0
+  abbrev pub PAt : Option Resident → Cause → Type 0
   PAt None cause = Unit {0}
   PAt (Some r) cause = P r cause
 
   -- of each strike of its
-  abbrev AreIn : Option Resident → List Strike → Type 0
+  abbrev pub AreIn : Option Resident → List Strike → Type 0
   AreIn o [] = Unit {0}
   AreIn o (s ∷ ss) = (s.client ≡ other → PAt o s.cause) × AreIn o ss
 
@@ -78,7 +78,7 @@ module _ (other : ℕ) (A : Option Resident → List Standing → Type 0) (P : R
   are-moved : (o p : Option Resident) (ss : List Strike) → p ≡ o → AreIn o ss → AreIn p ss
   are-moved o p ss e known = rw e known
 
-  within-same : (m n : Moving) → n ≡ m → IsWithin m → IsWithin n
+  pub within-same : (m n : Moving) → n ≡ m → IsWithin m → IsWithin n
   within-same m n e known = rw e known
 
   pub in-same : (d e : Desktop) → e ≡ d → IsIn d → IsIn e
@@ -113,10 +113,10 @@ module _ (other : ℕ) (A : Option Resident → List Standing → Type 0) (P : R
   -- ---- a client is told
 
   -- the one that is known of is told
-  tells-it : (change : Resident → Resident) (events : Resident → List Said) → TellsOfFocus change events → (r : Resident) (old new : Moving) → client_at other old.desktop ≡ Some r → r.peer.status ≡ None → is_struck other old.struck ≡ false → IsWithin old → TellsUnless false change events other r old new → IsWithin new
-  tells-it change events focus r old new there alive unstruck known h =
+  tells-it : (change : Resident → Resident) (events : Resident → List Said) → TellsBy T change events → (r : Resident) (old new : Moving) → client_at other old.desktop ≡ Some r → r.peer.status ≡ None → is_struck other old.struck ≡ false → IsWithin old → TellsUnless false change events other r old new → IsWithin new
+  tells-it change events tells r old new there alive unstruck known h =
       let told : Resident = record (change r) { peer = h.0 } in
-      let so : ToldSo r told h.1 = focus r h.0 h.1 h.2 in
+      let so : T r told h.1 = tells r h.0 h.1 h.2 in
       let found : client_in (with_number other (Some told) old.desktop.clients) other ≡ Some told = number-same old.desktop.clients other (Some told) r there in
       let before : A (Some r) (toplevels_of other old.desktop) = rw there at known.0 in
       within-same _ new h.3 (
@@ -138,13 +138,13 @@ module _ (other : ℕ) (A : Option Resident → List Standing → Type 0) (P : R
             (struck-so (client_at other old.desktop) c h.1 old.struck (λ cause why same. absurd (differ same)) known.1),
       )
 
-  tells-in : (change : Resident → Resident) (events : Resident → List Said) → TellsOfFocus change events → (c : ℕ) (old new : Moving) → IsWithin old → Tells change events c old new → IsWithin new
-  tells-in change events focus c old new known h = at (client_at c old.desktop) refl h
+  pub tells-in : (change : Resident → Resident) (events : Resident → List Said) → TellsBy T change events → (c : ℕ) (old new : Moving) → IsWithin old → Tells change events c old new → IsWithin new
+  tells-in change events tells c old new known h = at (client_at c old.desktop) refl h
     where
       it : (r : Resident) → client_at c old.desktop ≡ Some r → (is_some r.peer.status || is_struck c old.struck) ≡ false → TellsUnless false change events c r old new → IsOrNot c other → IsWithin new
       it r there lively k (inr differ) = tells-another change events c r old new differ known k
       it r there lively k (inl same) =
-          tells-it change events focus r old new (ap (λ (n : ℕ). client_at n old.desktop) (sym same) ∙ there)
+          tells-it change events tells r old new (ap (λ (n : ℕ). client_at n old.desktop) (sym same) ∙ there)
           (lives r.peer.status (or-left (is_some r.peer.status) (is_struck c old.struck) lively))
           (ap (λ (n : ℕ). is_struck n old.struck) (sym same) ∙ or-right (is_some r.peer.status) (is_struck c old.struck) lively)
           known (subst (λ (n : ℕ). TellsUnless false change events n r old new) same k)
@@ -161,12 +161,12 @@ module _ (other : ℕ) (A : Option Resident → List Standing → Type 0) (P : R
 
   leaves-in : (t : Option Target) (old new : Moving) → IsWithin old → Leaves t old new → IsWithin new
   leaves-in None old new known h = within-same old new h known
-  leaves-in (Some t) old new known h = tells-in _ _ (leave-told t.surface) t.client old new known h
+  leaves-in (Some t) old new known h = tells-in _ _ (focus.leave t.surface) t.client old new known h
 
   enters-in : (t : Option Target) (windows : List Window) (old new : Moving) → IsWithin old → Enters t windows old new → IsWithin new
   enters-in None windows old new known h = within-same old new h known
   enters-in (Some t) windows old new known h =
-      tells-in _ _ (enter-told old.desktop.pointer.place (focus_window (Some t) windows)) t.client old new known h
+      tells-in _ _ (focus.enter old.desktop.pointer.place (focus_window (Some t) windows)) t.client old new known h
 
   moves-in : (b : Bool) (t : Option Target) (old new : Moving) → IsWithin old → MovesUnless b t old new → IsWithin new
   moves-in true t old new known h = within-same old new h known
@@ -175,7 +175,7 @@ module _ (other : ℕ) (A : Option Resident → List Standing → Type 0) (P : R
       let entered : IsWithin h.2 = enters-in t (all_windows old.desktop) h.0 h.2 left h.3 in
       within-same _ new h.4 entered
 
-  settles-in : (old new : Moving) → IsWithin old → Settles old new → IsWithin new
+  pub settles-in : (old new : Moving) → IsWithin old → Settles old new → IsWithin new
   settles-in old new known h = moves-in (is_settled old.desktop) (target_now old.desktop) old new known h
 
   -- ---- clients end
@@ -184,7 +184,7 @@ module _ (other : ℕ) (A : Option Resident → List Standing → Type 0) (P : R
   again-in r cause known [] rest = tt
   again-in r cause known (s ∷ ss) rest = (λ same. stays.again r cause s.cause known (rest.0 same), again-in r cause known ss rest.1)
 
-  ended-in : (c : ℕ) (cause : Cause) (ss : List Strike) (d : Desktop) → IsIn d → (c ≡ other → PAt (client_at other d) cause) → AreIn (client_at other d) ss → IsWithin (record { desktop = ended_at c cause (client_at c d) d; struck = ss })
+  pub ended-in : (c : ℕ) (cause : Cause) (ss : List Strike) (d : Desktop) → IsIn d → (c ≡ other → PAt (client_at other d) cause) → AreIn (client_at other d) ss → IsWithin (record { desktop = ended_at c cause (client_at c d) d; struck = ss })
   ended-in c cause ss d known why rest = at (client_at c d) refl
     where
       it : (r : Resident) → client_at c d ≡ Some r → IsOrNot c other → IsWithin (record { desktop = ended_at c cause (Some r) d; struck = ss })
@@ -211,11 +211,11 @@ module _ (other : ℕ) (A : Option Resident → List Standing → Type 0) (P : R
       at None there = (known, rest)
       at (Some r) there = it r there (is-or-not c other)
 
-  ends-in : (Next : Moving → Desktop → Type 0) → ((m : Moving) (new : Desktop) → IsWithin m → Next m new → IsIn new) → (ss : List Strike) (d new : Desktop) → IsIn d → AreIn (client_at other d) ss → EndsFirst Next ss d new → IsIn new
+  pub ends-in : (Next : Moving → Desktop → Type 0) → ((m : Moving) (new : Desktop) → IsWithin m → Next m new → IsIn new) → (ss : List Strike) (d new : Desktop) → IsIn d → AreIn (client_at other d) ss → EndsFirst Next ss d new → IsIn new
   ends-in Next then [] d new known rest h = in-same d new h known
   ends-in Next then (s ∷ ss) d new known rest h = then _ new (ended-in s.client s.cause ss d known rest.0 rest.1) h
 
-  settles-all : (n : ℕ) (old : Moving) (new : Desktop) → IsWithin old → SettlesAll n old new → IsIn new
+  pub settles-all : (n : ℕ) (old : Moving) (new : Desktop) → IsWithin old → SettlesAll n old new → IsIn new
   settles-all zero old new known h = in-same old.desktop new h known.0
   settles-all (suc n) old new known h =
       let settled : IsWithin h.0 = settles-in old h.0 known h.1 in

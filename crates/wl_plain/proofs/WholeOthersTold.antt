@@ -135,17 +135,22 @@ entered-focus at w r =
     of (Some at) None p is = tt
     of (Some at) (Some w) p is = ((p, is, inl (w.surface, _, _, refl)), tt)
 
--- a change of a client with what it is told of it
-abbrev pub TellsOfFocus : (Resident → Resident) → (Resident → List Said) → Type 0
-TellsOfFocus change events = (r : Resident) (q : Peer) (why : Option Cause) → QueuesTo (events r) (change r).peer q why → ToldSo r (record (change r) { peer = q }) why
+-- a change of a client, with what it is told of it, does so to it, for this reason if it isn't told all
+abbrev pub TellsBy : (Resident → Resident → Option Cause → Type 0) → (Resident → Resident) → (Resident → List Said) → Type 0
+TellsBy T change events = (r : Resident) (q : Peer) (why : Option Cause) → QueuesTo (events r) (change r).peer q why → T r (record (change r) { peer = q }) why
 
-pub leave-told : (surface : ℕ) → TellsOfFocus (leave_drawn surface) (left_surface surface)
-leave-told surface r q why h =
-    drawn-told (is_some (history_in surface r.owned.surfaces) && has_pointers r) (left_surface surface r) r q why (left-focus surface r) (left-none surface r) h
+-- so does what it is told of the focus
+pub record TellsFocus (T : Resident → Resident → Option Cause → Type 0) : Type 0 where
+  pub leave : (surface : ℕ) → TellsBy T (leave_drawn surface) (left_surface surface)
+  pub enter : (at : Option Place) (w : Option Window) → TellsBy T told_drawn (entered_surface at w)
 
-pub enter-told : (at : Option Place) (w : Option Window) → TellsOfFocus told_drawn (entered_surface at w)
-enter-told at w r q why h =
-    drawn-told (has_pointers r) (entered_surface at w r) r q why (entered-focus at w r) (λ none. unless_pointers (λ pointer. entered_at pointer r.peer.serial at w) r none) h
+pub told-focus : TellsFocus ToldSo
+told-focus = record {
+  leave = λ surface r q why h.
+    drawn-told (is_some (history_in surface r.owned.surfaces) && has_pointers r) (left_surface surface r) r q why (left-focus surface r) (left-none surface r) h;
+  enter = λ at w r q why h.
+    drawn-told (has_pointers r) (entered_surface at w r) r q why (entered-focus at w r) (λ none. unless_pointers (λ pointer. entered_at pointer r.peer.serial at w) r none) h;
+}
 
 -- ---- told again
 
