@@ -39,3 +39,4 @@ pub mod WholeOthersSettling
 pub mod WholeOthersMessages
 pub mod WholeOthers
 pub mod WholeOthersRefused
+pub mod WholeOthersKept

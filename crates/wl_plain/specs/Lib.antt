@@ -22,6 +22,7 @@ pub mod Steps
 pub mod Touching
 pub mod Whole
 pub mod WholeOthers
+pub mod WholeOwn
 pub mod WlPointer
 pub mod WlSubsurface
 pub mod WlSurface
