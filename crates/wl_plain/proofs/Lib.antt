@@ -40,3 +40,4 @@ pub mod WholeOthersMessages
 pub mod WholeOthers
 pub mod WholeOthersRefused
 pub mod WholeOthersKept
+pub mod WholeOthersOwn

@@ -1,6 +1,6 @@
 -- What a client is told leaves it what it has.
-use Rattle.std.proofs.Common.{◌≡◌, ℕ, List, [], ◌∷◌, ◌++◌, Bool, true, false, cond, Option, Some, None, refl, ap, sym, ◌∙◌, inl, inr, append_assoc}
-use Rattle.std.specs.Prelude.{◌==◌, ◌||◌, ◌⊎◌, filter, fold, if◌then◌else◌, map}
+use Rattle.std.proofs.Common.{◌≡◌, ℕ, List, [], ◌∷◌, ◌++◌, Bool, true, false, Option, Some, None, refl, ap, sym, ◌∙◌, inl, inr, append_assoc}
+use Rattle.std.specs.Prelude.{◌==◌, ◌⊎◌, fold, if◌then◌else◌, map}
 use Rattle.std.specs.List.{list_any}
 use Rattle.std.specs.Option.{option_map}
 use Rattle.std.proofs.lemmas.Bool.{eqb-true}
@@ -12,10 +12,10 @@ use Rattle.wl_shell.specs.Shell.{Kind, Toplevel, IsPopup, RoleObject, Shell, Xdg
 use Rattle.wl_plain.specs.Changing.{drawing, without_callbacks}
 use Rattle.wl_plain.specs.Desktop.{Callback, Resident}
 use Rattle.wl_plain.specs.Pointing.{entered_surface, has_pointers, left_surface}
-use Rattle.wl_plain.specs.Popups.{Popped, dismiss, dismissed_among, dismissed_with, is_among, popup_changed, with_popup, with_popup_role}
+use Rattle.wl_plain.specs.Popups.{dismiss, dismissed_among, dismissed_with, is_among, popup_changed, with_popup, with_popup_role}
 use Rattle.wl_plain.specs.Settling.{QueuesFirst, QueuesTo, leave_drawn, told_drawn}
 use Rattle.wl_plain.specs.Whole.{callbacks_due, is_counting, frames_counting, noted, noted_if, without_grabs}
-use Rattle.wl_plain.specs.WholeOwn.{AreSameOrDismissed, HasItsOwn, IsSameOrDismissed, LivesOn, is_of_callback}
+use Rattle.wl_plain.specs.WholeOwn.{AreSameOrDismissed, HasItsOwn, IsSameOrDismissed, LivesOn}
 use Rattle.wl_plain.proofs.StandingLists.{none-left}
 use Rattle.wl_plain.proofs.Stacks.{equal-numbers, or-left, or-right, unless}
 use Rattle.wl_plain.proofs.WholeOthersTold.{TellsBy, TellsFocus}
@@ -128,7 +128,7 @@ own-then p q r h k = record {
   pointers = k.pointers ∙ h.pointers;
 }
 
-own-more : (r : Resident) (more : List ℕ) → HasItsOwn r (record r { peer = record r.peer { unsent = r.peer.unsent ++ more } })
+pub own-more : (r : Resident) (more : List ℕ) → HasItsOwn r (record r { peer = record r.peer { unsent = r.peer.unsent ++ more } })
 own-more r more = record {
   peer = lives-more r.peer more;
   objects = λ id none. refl;
@@ -258,7 +258,7 @@ pub tells-own : (change : Resident → Resident) (events : Resident → List Sai
 tells-own change events own r q why h =
     let more = has-more (events r) (change r).peer q why h in
     let same : record (change r) { peer = q } ≡ record (change r) { peer = record (change r).peer { unsent = (change r).peer.unsent ++ more.0 } } =
-      ap (λ (p : Peer). record (change r) { peer = p }) more.1 in
+    ap (λ (p : Peer). record (change r) { peer = p }) more.1 in
     (own-then r (change r) (record (change r) { peer = q }) (own r) (rw same (own-more (change r) more.0)), more.2)
 
 pub own-focus : TellsFocus StaysOwn
