@@ -1,5 +1,5 @@
 -- A message that is refused ends its client alone, where every request is served.
-use Rattle.std.proofs.Common.{◌≡◌, ℕ, ◌-◌, take, drop, List, [], Bool, true, false, Option, Some, None, Result, ap, subst, inl, inr}
+use Rattle.std.proofs.Common.{◌≡◌, ℕ, zero, suc, ◌-◌, take, drop, List, [], Bool, true, false, Option, Some, None, Result, ap, subst, ◌∙◌, inl, inr}
 use Rattle.std.specs.Prelude.{Ok, Err}
 use Rattle.wl_wire.specs.Wire.{split_of}
 use Rattle.wl_wire.specs.declared.header.Split.{Split}
@@ -16,8 +16,8 @@ use Rattle.wl_plain.specs.Desktop.{Desktop, Resident, become_by, client_at, resi
 use Rattle.wl_plain.specs.Laws.{toplevels_of}
 use Rattle.wl_plain.specs.Settling.{after_status, becomes}
 use Rattle.wl_plain.specs.Step.{with_peer}
-use Rattle.wl_plain.specs.Whole.{Answers, Becomes, ServesAt, Takes}
-use Rattle.wl_plain.specs.WholeOthers.{HasErred, RefusedAlone, refusal_of, refused_for}
+use Rattle.wl_plain.specs.Whole.{Answers, Becomes, Reaches, ServesAt, StopsAt, Takes}
+use Rattle.wl_plain.specs.WholeOthers.{HasErred, IsTheLast, RefusedAlone, refusal_of, refused_for}
 use Rattle.wl_plain.proofs.OwningKeys.{some-same}
 use Rattle.wl_plain.proofs.Places.{number-same}
 use Rattle.wl_plain.proofs.WholeOthers.{Is, Never, gone-stays, left_alone}
@@ -75,9 +75,40 @@ taken-so Bad refusal c r d new is found h =
     (k.0, subst (λ (x : Refusal). Errs x r.peer k.0) same k.1, k.2, k.3)
 taken-so More refusal c r d new is found h = absurd h
 
+-- ---- no more is taken of a client that has ended
+
+not_served : (c : ℕ) (o : Option Resident) (r : Resident) (cause : Cause) (d new : Desktop) → o ≡ Some r → r.peer.status ≡ Some cause → ServesAt c o d new → ⊥
+not_served c None r cause d new there e h = h
+not_served c (Some p) r cause d new there e h =
+    let same : p.peer.status ≡ Some cause = ap (λ (x : Resident). x.peer.status) (some-same p r there) ∙ e in
+    let alive : p.peer.status ≡ None = h.0 in
+    absurd (cc)
+
+reaches-none : (c n : ℕ) (r : Resident) (cause : Cause) (d mid : Desktop) → client_at c d ≡ Some r → r.peer.status ≡ Some cause → Reaches c n d mid → mid ≡ d
+reaches-none c zero r cause d mid there e h = h
+reaches-none c (suc n) r cause d mid there e h =
+    let same : h.0 ≡ d = reaches-none c n r cause d h.0 there e h.1 in
+    absurd (not_served c (client_at c h.0) r cause h.0 mid (ap (λ (x : Desktop). client_at c x) same ∙ there) e h.2)
+
+stops-none : (c : ℕ) (o : Option Resident) (r : Resident) (cause : Cause) (mid end : Desktop) → o ≡ Some r → r.peer.status ≡ Some cause → StopsAt c o mid end → end ≡ mid
+stops-none c None r cause mid end there e h = absurd h
+stops-none c (Some p) r cause mid end there e (inl h) = h.0
+stops-none c (Some p) r cause mid end there e (inr h) =
+    let same : p.peer.status ≡ Some cause = ap (λ (x : Resident). x.peer.status) (some-same p r there) ∙ e in
+    let alive : p.peer.status ≡ None = h.0 in
+    absurd (cc)
+
+the-last : (refusal : Refusal) (c : ℕ) (r : Resident) (new : Desktop) → HasErred refusal c r new → IsTheLast c new
+the-last refusal c r new h n mid end reaches stops =
+    let ended = over refusal r.peer h.0 h.1 in
+    let same : mid ≡ new = reaches-none c n (resident_of h.0) ended.0 new mid h.2 ended.1 reaches in
+    stops-none c (client_at c mid) (resident_of h.0) ended.0 mid end (ap (λ (x : Desktop). client_at c x) same ∙ h.2) ended.1 stops ∙ same
+
 pub refused_alone : RefusedAlone
 refused_alone c r refusal old new found is h =
-    let k : ServesAt c (Some r) old new = rw found at h in (
-      taken-so (split_of r.peer.rest) refusal c r old new is found k.1,
+    let k : ServesAt c (Some r) old new = rw found at h in
+    let erred : HasErred refusal c r new = taken-so (split_of r.peer.rest) refusal c r old new is found k.1 in (
+      erred,
+      the-last refusal c r new erred,
       λ other differ. left_alone other old new (λ A P stays known. serves-in c other differ A P stays (client_at c old) old new known h),
     )

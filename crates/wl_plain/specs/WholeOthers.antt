@@ -22,7 +22,7 @@ use Rattle.wl_plain.specs.Laws.{toplevels_of}
 use Rattle.wl_plain.specs.Popups.{is_among}
 use Rattle.wl_plain.specs.Step.{with_peer}
 use Rattle.wl_plain.specs.Steps.{Act, Connect, Feed, Store, Leave, Tick, Send, Close}
-use Rattle.wl_plain.specs.Whole.{Happens, Serves, Steps}
+use Rattle.wl_plain.specs.Whole.{Happens, Reaches, Serves, Steps, StopsAt}
 
 -- wl_pointer.enter and leave, of a surface, with a serial (wayland.xml, wl_pointer)
 abbrev pub IsEnter : ℕ → ℕ → Said → Type 0
@@ -118,8 +118,12 @@ first_refusal r = refused_for (split_of r.peer.rest) r
 abbrev pub HasErred : Refusal → ℕ → Resident → Desktop → Type 0
 HasErred refusal c r new = (q : Peer) × Errs refusal r.peer q × (client_at c new ≡ Some (resident_of q)) × (toplevels_of c new ≡ [])
 
--- A message that is refused ends its client with that error, and leaves every other client alone.
+-- nothing more is taken of what came from a client: the piece that is being taken leads here
+abbrev pub IsTheLast : ℕ → Desktop → Type 0
+IsTheLast c new = (n : ℕ) (mid end : Desktop) → Reaches c n new mid → StopsAt c (client_at c mid) mid end → end ≡ new
+
+-- A message that is refused ends its client with that error, is the last that is taken of that client, and leaves every other client alone.
 abbrev pub RefusedAlone : Type 0
 RefusedAlone =
     (c : ℕ) (r : Resident) (refusal : Refusal) (old new : Desktop) → client_at c old ≡ Some r → first_refusal r ≡ Some refusal → Serves c old new
-    → HasErred refusal c r new × ((other : ℕ) → c ≢ other → IsLeftAlone other old new)
+    → HasErred refusal c r new × IsTheLast c new × ((other : ℕ) → c ≢ other → IsLeftAlone other old new)

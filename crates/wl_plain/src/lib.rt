@@ -42,7 +42,7 @@ pub fn whole_others_stay()
     ensures { WholeOthersStay }
 {}
 
-/// A message that is refused ends its client with that error, and leaves every other client alone.
+/// A message that is refused ends its client with that error, is the last that is taken of that client, and leaves every other client alone.
 pub fn refused_alone()
     ensures { RefusedAlone }
 {}
