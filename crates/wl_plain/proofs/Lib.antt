@@ -43,3 +43,10 @@ pub mod WholeOneRun
 pub mod WholeOneRunAll
 pub mod WholeOneRunStays
 pub mod OneWindow
+pub mod WholeOthersTold
+pub mod WholeOthersSettling
+pub mod WholeOthersMessages
+pub mod WholeOthers
+pub mod WholeOthersRefused
+pub mod WholeOthersKept
+pub mod WholeOthersOwn

@@ -42,10 +42,10 @@ left_out test other keeps (s ∷ ss) = left_out-at (test s) (s.client == other) 
 pub one_client : (c other : ℕ) → c ≢ other → (s : Standing) → (s.client == other) ≡ true → not (s.client == c) ≡ true
 one_client c other differ s h = ap (λ (b : Bool). not b) (apart s.client c other differ h)
 
-one_surface : (c other surface : ℕ) → c ≢ other → (s : Standing) → (s.client == other) ≡ true → not (is_of c surface s) ≡ true
+pub one_surface : (c other surface : ℕ) → c ≢ other → (s : Standing) → (s.client == other) ≡ true → not (is_of c surface s) ≡ true
 one_surface c other surface differ s h = ap (λ (b : Bool). not (b && (s.surface == surface))) (apart s.client c other differ h)
 
-on_top : (mappings c surface other : ℕ) → c ≢ other → (standing : List Standing) → of other (with_mapped mappings c surface standing) ≡ of other standing
+pub on_top : (mappings c surface other : ℕ) → c ≢ other → (standing : List Standing) → of other (with_mapped mappings c surface standing) ≡ of other standing
 on_top mappings c surface other differ [] =
     let e : (c == other) ≡ false = nowhere in rw e refl
   where
@@ -88,7 +88,7 @@ become-others-by (Some cause) c other r q d differ = left_out (λ s. not (s.clie
 abbrev pub IsLeft : ℕ → Desktop → Desktop → Type 0
 IsLeft other old new = (client_at other new ≡ client_at other old) × (toplevels_of other new ≡ toplevels_of other old)
 
-left-then : (other : ℕ) (old mid new : Desktop) → IsLeft other old mid → IsLeft other mid new → IsLeft other old new
+pub left-then : (other : ℕ) (old mid new : Desktop) → IsLeft other old mid → IsLeft other mid new → IsLeft other old new
 left-then other old mid new h k = (k.0 ∙ h.0, k.1 ∙ h.1)
 
 pub become-left : (c other : ℕ) (r : Resident) (q : Peer) (d : Desktop) → c ≢ other → IsLeft other d (become c r q d)
@@ -99,7 +99,7 @@ becomes-left Q c other r d new differ h =
     let left = become-left c other r h.0 d differ in
     (ap (λ (x : Desktop). client_at other x) h.2 ∙ left.0, ap (λ (x : Desktop). toplevels_of other x) h.2 ∙ left.1)
 
-stacked-left : (c other : ℕ) (ask : Ask) (r : Resident) (d : Desktop) → c ≢ other → IsLeft other d (stacked c ask r d)
+pub stacked-left : (c other : ℕ) (ask : Ask) (r : Resident) (d : Desktop) → c ≢ other → IsLeft other d (stacked c ask r d)
 stacked-left c other ask r d differ =
     (ap (λ (clients : List (Option Resident)). client_in clients other) (stacked-clients c ask r d), stacked-others c other ask r d differ)
 

@@ -22,6 +22,8 @@ pub mod Steps
 pub mod Touching
 pub mod Whole
 pub mod WholeLaws
+pub mod WholeOthers
+pub mod WholeOwn
 pub mod WlPointer
 pub mod WlSubsurface
 pub mod WlSurface

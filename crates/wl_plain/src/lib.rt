@@ -7,6 +7,8 @@ mod answers;
 
 ghost use Rattle.wl_plain.specs.Laws.{LeastIsMost, OneRun, OthersStay, ScratchStays, ServedAlone, WindowsAreDistinct};
 ghost use Rattle.wl_plain.specs.WholeLaws.{EndsStay, WholeOneRun, WholeOnlyRun};
+ghost use Rattle.wl_plain.specs.WholeOthers.{RefusedAlone, WholeOthersStay};
+ghost use Rattle.wl_plain.specs.WholeOwn.{WholeOwnStays};
 
 pub use answers::{ClientNo, ConnectError, Done, Fed, Stored};
 
@@ -34,6 +36,22 @@ pub fn one_run()
 /// A piece of a client's leaves every other client as it was.
 pub fn others_stay()
     ensures { OthersStay }
+{}
+
+/// Where every request is served, a step of a client's leaves every other client as it was, but for what that is told of the pointer's focus.
+pub fn whole_others_stay()
+    ensures { WholeOthersStay }
+{}
+
+/// A message that is refused ends its client with that error, is the last that is taken of that client, and leaves every other client alone.
+pub fn refused_alone()
+    ensures { RefusedAlone }
+{}
+
+/// Whatever happens that isn't a step of a client's, a tick and what the pointer does too, leaves it what it has, or ends it for an event that
+/// wasn't queued.
+pub fn whole_own_stays()
+    ensures { WholeOwnStays }
 {}
 
 /// Where no more is served than a client's own interfaces, a piece makes of the desktop's client what it makes of the client by itself.

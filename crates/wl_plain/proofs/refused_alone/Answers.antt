@@ -1,0 +1,5 @@
+use Rattle.wl_plain.proofs.WholeOthersRefused.{refused_alone}
+use Rattle.wl_plain.proofs.refused_alone.Goals as goal
+
+pub returns : goal.returns
+returns c = refused_alone
