@@ -3,6 +3,7 @@ use Rattle.std.proofs.Common.{◌≡◌, [], ◌∷◌, true, false, refl}
 use Rattle.std.specs.Prelude.{pos}
 use Rattle.wl_wire.specs.Wire.{Word, Number}
 use Rattle.wl_plain.specs.Desktop.{Desktop, windows_in}
+use Rattle.wl_plain.specs.Stacked.{all_windows}
 use Rattle.wl_plain.proofs.Toplevels.{asks, attach, black, commit, green, one, red, rewritten, stores, three, three_ready, two}
 use Rattle.wl_scene.specs.Windows.{tree}
 use Rattle.wl_session.specs.Promises.{feigns_at, hides_at, spoils_at}
@@ -50,6 +51,15 @@ row_undamaged-beside = refl
 pub row_undamaged-other : hides_at windows_in two undamaged 2 (pos 33) (pos 33) ≡ false
 unfolding tree
 row_undamaged-other = refl
+
+-- the same of all windows: these toplevels have no subsurfaces and popups
+pub row_damaged-all : hides_at all_windows three_ready three 1 (pos 31) (pos 33) ≡ false
+unfolding tree
+row_damaged-all = refl
+
+pub row_undamaged-all : hides_at all_windows two undamaged 1 (pos 31) (pos 33) ≡ true
+unfolding tree
+row_undamaged-all = refl
 
 -- a write to a buffer that is shown spoils it, where it changes a colour
 pub row_spoilt : spoils_at two rewritten 2 0 0 ≡ true
