@@ -6,7 +6,7 @@ use Rattle.wl_geom.specs.Rect.{in_rect}
 use Rattle.wl_blend.specs.Blend.{blended}
 use Rattle.wl_blend.specs.declared.color.Rgb.{Rgb}
 use Rattle.wl_scene.specs.Windows.{Window, contains}
-use Rattle.wl_plain.specs.Desktop.{Desktop, windows_in}
+use Rattle.wl_plain.specs.Desktop.{Desktop, Showing}
 use Rattle.wl_plain.specs.Laws.{ColorsStay, ScratchStays}
 use Rattle.wl_plain.specs.Marks.{AreDistinct, has_moved_past, has_same_record, in_output, is_before, is_changed_at, is_damaged_at, is_kept_in, is_restacked_at, is_same_surface, shared_by}
 use Rattle.wl_plain.specs.Moments.{applied_between}
@@ -173,7 +173,7 @@ pub marked-none : (a b : Bool) → (a && b) ≡ false → a ≡ true → b ≡ f
 marked-none true b e f = e
 marked-none false b e f = absurd (differ f)
 
-module _ (old new : Desktop) (x y : ℤ) where
+module _ (shown : Showing) (old new : Desktop) (x y : ℤ) where
   abbrev at-point : Window → Bool
   at-point w = contains w x y
 
@@ -186,36 +186,36 @@ module _ (old new : Desktop) (x y : ℤ) where
   abbrev Colored : Window → Window → Type 0
   Colored w v = has_same_record w v ≡ true → contains v x y ≡ true → is_applied v ≡ false → color_in old w x y ≡ color_in new v x y
 
-  undamaged : (v : Window) → list_any (has_same_record v) (filter at-point (windows_in old)) ≡ true → (at-point v ≡ true) × (is_damaged_at (applied_between old new) (windows_in old) x y v ≡ false) → is_applied v ≡ false
+  undamaged : (v : Window) → list_any (has_same_record v) (filter at-point (shown old)) ≡ true → (at-point v ≡ true) × (is_damaged_at (applied_between old new) (shown old) x y v ≡ false) → is_applied v ≡ false
   undamaged v kept h =
-      marked-none (contains v x y) (is_applied v) (marked-none (is_kept_in (windows_in old) v) (contains v x y && is_applied v) h.1 (any-whole at-point (has_same_record v) (windows_in old) kept)) h.0
+      marked-none (contains v x y) (is_applied v) (marked-none (is_kept_in (shown old) v) (contains v x y && is_applied v) h.1 (any-whole at-point (has_same_record v) (shown old) kept)) h.0
 
   alike : (w v : Window) → at-point w ≡ true → (at-point v ≡ true) × Colored w v → is_applied v ≡ false → Alike w v
   alike w v here h none same under = rw (here, h.0) (ap (blended under) (h.1 same h.0 none))
 
-  all-alike : list_any (is_changed_at (windows_in old) x y) (windows_in new) ≡ false → list_any (is_damaged_at (applied_between old new) (windows_in old) x y) (windows_in new) ≡ false → ColorsStay old new x y
-      → Each (λ w. Each (Alike w) (filter at-point (windows_in new))) (filter at-point (windows_in old))
+  all-alike : list_any (is_changed_at (shown old) x y) (shown new) ≡ false → list_any (is_damaged_at (applied_between old new) (shown old) x y) (shown new) ≡ false → ColorsStay shown old new x y
+      → Each (λ w. Each (Alike w) (filter at-point (shown new))) (filter at-point (shown old))
   all-alike came damaged colors =
-      let unapplied = each-both (λ v. list_any (has_same_record v) (filter at-point (windows_in old)) ≡ true) (λ v. (at-point v ≡ true) × (is_damaged_at (applied_between old new) (windows_in old) x y v ≡ false)) (λ v. is_applied v ≡ false) undamaged (filter at-point (windows_in new))
-      (kept-ones x y (windows_in old) (windows_in new) came)
-      (each-kept at-point (λ v. is_damaged_at (applied_between old new) (windows_in old) x y v ≡ false) (windows_in new) (each-false (is_damaged_at (applied_between old new) (windows_in old) x y) (windows_in new) damaged)) in
-      each-map (λ w. (at-point w ≡ true) × Each (Colored w) (windows_in new)) (λ w. Each (Alike w) (filter at-point (windows_in new)))
-      (λ w h. each-both (λ v. (at-point v ≡ true) × Colored w v) (λ v. is_applied v ≡ false) (Alike w) (λ v a b. alike w v h.0 a b) (filter at-point (windows_in new)) (each-kept at-point (Colored w) (windows_in new) h.1) unapplied)
-      (filter at-point (windows_in old))
-      (each-kept at-point (λ w. Each (Colored w) (windows_in new)) (windows_in old)
-      (each-at (λ w. Each (Colored w) (windows_in new)) (windows_in old) (λ i w is. each-at (Colored w) (windows_in new) (λ j v is'. colors i j w v is is'))))
+      let unapplied = each-both (λ v. list_any (has_same_record v) (filter at-point (shown old)) ≡ true) (λ v. (at-point v ≡ true) × (is_damaged_at (applied_between old new) (shown old) x y v ≡ false)) (λ v. is_applied v ≡ false) undamaged (filter at-point (shown new))
+      (kept-ones x y (shown old) (shown new) came)
+      (each-kept at-point (λ v. is_damaged_at (applied_between old new) (shown old) x y v ≡ false) (shown new) (each-false (is_damaged_at (applied_between old new) (shown old) x y) (shown new) damaged)) in
+      each-map (λ w. (at-point w ≡ true) × Each (Colored w) (shown new)) (λ w. Each (Alike w) (filter at-point (shown new)))
+      (λ w h. each-both (λ v. (at-point v ≡ true) × Colored w v) (λ v. is_applied v ≡ false) (Alike w) (λ v a b. alike w v h.0 a b) (filter at-point (shown new)) (each-kept at-point (Colored w) (shown new) h.1) unapplied)
+      (filter at-point (shown old))
+      (each-kept at-point (λ w. Each (Colored w) (shown new)) (shown old)
+      (each-at (λ w. Each (Colored w) (shown new)) (shown old) (λ i w is. each-at (Colored w) (shown new) (λ j v is'. colors i j w v is is'))))
 
 pub scratch_stays : ScratchStays
-scratch_stays background old new x y apart apart' inside unmarked colors =
+scratch_stays shown background old new x y apart apart' inside unmarked colors =
     let all = marked-none (in_output old.output.width old.output.height x y) _ unmarked inside in
-    let changed = or-left (list_any (is_changed_at (windows_in new) x y) (windows_in old) || list_any (is_changed_at (windows_in old) x y) (windows_in new)) _ all in
-    let others = or-right (list_any (is_changed_at (windows_in new) x y) (windows_in old) || list_any (is_changed_at (windows_in old) x y) (windows_in new)) _ all in
-    let gone = or-left (list_any (is_changed_at (windows_in new) x y) (windows_in old)) _ changed in
-    let came = or-right (list_any (is_changed_at (windows_in new) x y) (windows_in old)) _ changed in
-    let damaged = or-left (list_any (is_damaged_at (applied_between old new) (windows_in old) x y) (windows_in new)) _ others in
-    let moved = or-right (list_any (is_damaged_at (applied_between old new) (windows_in old) x y) (windows_in new)) _ others in
-    fold-kept old x y background (windows_in old)
-    ∙ fold-same old new x y (filter (at-point old new x y) (windows_in old)) (filter (at-point old new x y) (windows_in new))
-    (stack-stays x y (windows_in old) (windows_in new) apart apart' gone came moved)
-    (all-alike old new x y came damaged colors) background
-    ∙ sym (fold-kept new x y background (windows_in new))
+    let changed = or-left (list_any (is_changed_at (shown new) x y) (shown old) || list_any (is_changed_at (shown old) x y) (shown new)) _ all in
+    let others = or-right (list_any (is_changed_at (shown new) x y) (shown old) || list_any (is_changed_at (shown old) x y) (shown new)) _ all in
+    let gone = or-left (list_any (is_changed_at (shown new) x y) (shown old)) _ changed in
+    let came = or-right (list_any (is_changed_at (shown new) x y) (shown old)) _ changed in
+    let damaged = or-left (list_any (is_damaged_at (applied_between old new) (shown old) x y) (shown new)) _ others in
+    let moved = or-right (list_any (is_damaged_at (applied_between old new) (shown old) x y) (shown new)) _ others in
+    fold-kept old x y background (shown old)
+    ∙ fold-same old new x y (filter (at-point shown old new x y) (shown old)) (filter (at-point shown old new x y) (shown new))
+    (stack-stays x y (shown old) (shown new) apart apart' gone came moved)
+    (all-alike shown old new x y came damaged colors) background
+    ∙ sym (fold-kept new x y background (shown new))

@@ -103,6 +103,10 @@ owned_of (Some r) = r.owned
 abbrev pub owned_in : Desktop → ℕ → Owned
 owned_in d c = owned_of (client_at c d)
 
--- the windows, from bottom to top
-abbrev pub windows_in : Desktop → List Window
+-- a way of showing a desktop: which windows it has, from bottom to top
+abbrev pub Showing : Type 0
+Showing = Desktop → List Window
+
+-- the windows where no subsurface and no popup is served
+abbrev pub windows_in : Showing
 windows_in d = windows_on (owned_in d) d.standing

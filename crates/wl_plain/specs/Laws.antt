@@ -8,10 +8,10 @@ use Rattle.wl_client.specs.Peer.{Feeds as FeedsAlone}
 use Rattle.wl_scene.specs.Stacking.{Standing, is_of, without_client}
 use Rattle.wl_scene.specs.Windows.{Window, contains}
 use Rattle.wl_blend.specs.declared.color.Rgb.{Rgb}
-use Rattle.wl_plain.specs.Desktop.{Desktop, Resident, client_at, owned_in, resident_of, windows_in, with_client}
+use Rattle.wl_plain.specs.Desktop.{Desktop, Resident, Showing, client_at, owned_in, resident_of, windows_in, with_client}
 use Rattle.wl_plain.specs.Marks.{Applied, AreDistinct, at_least, at_most, has_same_record, in_output}
-use Rattle.wl_plain.specs.Moments.{applied_between, marks_at_least}
-use Rattle.wl_plain.specs.Scratch.{color_in, scratch}
+use Rattle.wl_plain.specs.Moments.{applied_between, marks_at_least_of}
+use Rattle.wl_plain.specs.Scratch.{color_in, scratch_of}
 use Rattle.wl_plain.specs.Served.{Unserved, beyond_clients}
 use Rattle.wl_plain.specs.Step.{Feeds}
 
@@ -31,26 +31,26 @@ abbrev pub WindowsAreDistinct : Type 0
 WindowsAreDistinct = (d : Desktop) → ((c : ℕ) → (owned_in d c).surfaces.links ≡ []) → AreApart d.standing → AreDistinct (windows_in d)
 
 -- Windows that keep their records show at this point the colours that they did, where no damage was applied.
-abbrev pub ColorsStay : Desktop → Desktop → ℤ → ℤ → Type 0
-ColorsStay old new x y =
+abbrev pub ColorsStay : Showing → Desktop → Desktop → ℤ → ℤ → Type 0
+ColorsStay shown old new x y =
     (i j : ℕ) (w v : Window)
-    → slice_get (windows_in old) i ≡ Some w
-    → slice_get (windows_in new) j ≡ Some v
+    → slice_get (shown old) i ≡ Some w
+    → slice_get (shown new) j ≡ Some v
     → has_same_record w v ≡ true
     → contains v x y ≡ true
     → applied_between old new v.owner.client v.surface (x -ℤ v.corner.x) (y -ℤ v.corner.y) ≡ false
     → color_in old w x y ≡ color_in new v x y
 
--- A point of the output that a step doesn't mark is painted from nothing as before.
+-- A point of the output that a step doesn't mark is painted from nothing as before, whichever windows are shown.
 abbrev pub ScratchStays : Type 0
 ScratchStays =
-    (background : Rgb) (old new : Desktop) (x y : ℤ)
-    → AreDistinct (windows_in old)
-    → AreDistinct (windows_in new)
+    (shown : Showing) (background : Rgb) (old new : Desktop) (x y : ℤ)
+    → AreDistinct (shown old)
+    → AreDistinct (shown new)
     → in_output old.output.width old.output.height x y ≡ true
-    → marks_at_least old new x y ≡ false
-    → ColorsStay old new x y
-    → scratch background old x y ≡ scratch background new x y
+    → marks_at_least_of shown old new x y ≡ false
+    → ColorsStay shown old new x y
+    → scratch_of shown background old x y ≡ scratch_of shown background new x y
 
 -- why a client ended, if it is there and did
 abbrev pub status_of : Option Resident → Option Cause

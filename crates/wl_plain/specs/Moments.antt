@@ -2,7 +2,7 @@
 use Rattle.std.specs.Prelude.{ℕ, ℤ, int_le, pos, unsigned_abs, ◌&&◌, Bool, false, Option, Some, None}
 use Rattle.wl_surface.specs.State.{History, applied, between, damaged_rects, height_of, is_damaged, width_of}
 use Rattle.wl_surface.specs.Surfaces.{history_in}
-use Rattle.wl_plain.specs.Desktop.{Desktop, owned_in, windows_in}
+use Rattle.wl_plain.specs.Desktop.{Desktop, Showing, owned_in, windows_in}
 use Rattle.wl_plain.specs.Marks.{Applied, at_least, at_most}
 
 -- the damage that was applied to a surface between its old and its new cut, by the size that it has now
@@ -25,10 +25,16 @@ applied_between old new client surface x y =
     && is_applied_by (history_of old client surface) (history_of new client surface) (unsigned_abs x) (unsigned_abs y)
 
 -- what a step from one desktop to the other marks at least, and at most
+abbrev pub marks_at_least_of : Showing → Desktop → Desktop → ℤ → ℤ → Bool
+marks_at_least_of shown old new x y = at_least old.output.width old.output.height (applied_between old new) (shown old) (shown new) x y
+
+abbrev pub marks_at_most_of : Showing → Desktop → Desktop → Option (ℕ × ℕ) → ℤ → ℤ → Bool
+marks_at_most_of shown old new raised x y =
+    at_most old.output.width old.output.height (applied_between old new) raised (shown old) (shown new) x y
+
+-- of the windows where no subsurface and no popup is served
 abbrev pub marks_at_least : Desktop → Desktop → ℤ → ℤ → Bool
-marks_at_least old new x y =
-    at_least old.output.width old.output.height (applied_between old new) (windows_in old) (windows_in new) x y
+marks_at_least old new x y = marks_at_least_of windows_in old new x y
 
 abbrev pub marks_at_most : Desktop → Desktop → Option (ℕ × ℕ) → ℤ → ℤ → Bool
-marks_at_most old new raised x y =
-    at_most old.output.width old.output.height (applied_between old new) raised (windows_in old) (windows_in new) x y
+marks_at_most old new raised x y = marks_at_most_of windows_in old new raised x y

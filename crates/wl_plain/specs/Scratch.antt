@@ -9,7 +9,7 @@ use Rattle.wl_blend.specs.Blend.{blended}
 use Rattle.wl_blend.specs.declared.color.Rgb.{Rgb}
 use Rattle.wl_surface.specs.Request.{Buffer}
 use Rattle.wl_scene.specs.Windows.{Window, contains}
-use Rattle.wl_plain.specs.Desktop.{Desktop, Resident, client_at, windows_in}
+use Rattle.wl_plain.specs.Desktop.{Desktop, Resident, Showing, client_at, windows_in}
 
 -- the bytes of a client's store as they are now
 abbrev pub bytes_now : Window → Option Resident → List ℕ
@@ -35,5 +35,9 @@ abbrev pub over : Desktop → ℤ → ℤ → Rgb → Window → Rgb
 over d x y under w = cond (contains w x y) (blended under (color_in d w x y)) under
 
 -- The colour of a point painted from nothing: the background, and over it each window that contains the point, from the bottom.
+abbrev pub scratch_of : Showing → Rgb → Desktop → ℤ → ℤ → Rgb
+scratch_of shown background d x y = fold (over d x y) background (shown d)
+
+-- of the windows where no subsurface and no popup is served
 abbrev pub scratch : Rgb → Desktop → ℤ → ℤ → Rgb
-scratch background d x y = fold (over d x y) background (windows_in d)
+scratch background d x y = scratch_of windows_in background d x y

@@ -23,7 +23,7 @@ pub fn windows_are_distinct()
 {}
 
 /// A point that a step doesn't mark is painted from nothing as before, where the windows that keep their records show the colours that they
-/// did outside the damage that was applied.
+/// did outside the damage that was applied; and so it is whichever windows are shown.
 pub fn scratch_stays()
     ensures { ScratchStays }
 {}

@@ -12,24 +12,29 @@ use Rattle.wl_store.specs.declared.transform.Transform.TheVariants.{Normal, Rota
 use Rattle.wl_surface.specs.Request.{Buffer, Member, Itself, Child}
 use Rattle.wl_surface.specs.State.{History, applied, height_of, order, position, width_of}
 use Rattle.wl_surface.specs.Surfaces.{Link, Surface, Surfaces, history_in, link_at, listed}
-use Rattle.wl_scene.specs.Stacking.{Owned, Standing, root_of, windows_on}
-use Rattle.wl_scene.specs.Windows.{Owner, Place, Window, child_windows, contains, corner_at, counting, member_windows, owner_of, shown_windows, surface_windows, tree, window_with, windows_of}
+use Rattle.wl_scene.specs.Stacking.{Owned, root_of}
+use Rattle.wl_scene.specs.Windows.{Owner, Place, Root, StackedPopup, Window, child_windows, contains, corner_at, counting, member_windows, owner_of, roots_of, shown_windows, surface_windows, tree, window_with, windows, windows_of}
 use Rattle.std.specs.Prelude.{◌⊎◌}
 use Rattle.std.proofs.Common.{inl, inr}
 use Rattle.std.proofs.lemmas.Bool.{eqb-false, eqb-true}
 use Rattle.wl_client.specs.declared.clients.Cause.{Cause}
 use Rattle.wl_client.specs.Peer.{Peer, stored_at}
 use Rattle.wl_scene.specs.Stacking.{nothing_owned}
-use Rattle.wl_plain.specs.Desktop.{Desktop, Resident, become, client_at, owned_in, owned_of, windows_in}
+use Rattle.wl_plain.specs.Desktop.{Desktop, Resident, Showing, become, client_at, owned_in, owned_of, windows_in, with_client}
+use Rattle.wl_plain.specs.Popups.{stacked_popups}
+use Rattle.wl_plain.specs.Stacked.{all_windows}
+use Rattle.wl_plain.specs.Step.{with_peer}
+use Rattle.wl_plain.specs.Whole.{ChangesAt as WholeChangesAt, Steps as Step, Motion, Button}
 use Rattle.wl_plain.specs.Scratch.{bytes_now, color_in, pixel_at}
-use Rattle.wl_plain.proofs.Places.{client-become, left_by, other-become}
+use Rattle.wl_plain.proofs.Places.{client-become, left_by, number-other, number-same, other-become}
 use Rattle.wl_plain.proofs.Stacks.{Each, Fields, and-left, and-right, differ, each-map, fields, or-left, or-right, unless}
 use Rattle.wl_plain.proofs.Painted.{each-kept}
 use Rattle.wl_plain.specs.Marks.{has_same_record}
 use Rattle.wl_plain.specs.declared.answers.Done.{Done}
 use Rattle.wl_plain.specs.declared.answers.Done.TheVariants as gave
 use Rattle.wl_plain.specs.declared.answers.Stored.TheVariants as stored
-use Rattle.wl_session.specs.Promises.{KeepsBuffers, busy_of, bytes_by, bytes_in, is_hidden_in, is_rewritten_at, is_same_color, windows_by}
+use Rattle.wl_session.specs.Promises.{KeepsBuffers, KeepsDamage, busy_of, bytes_by, bytes_in, is_hidden_in, is_rewritten_at, is_same_color, windows_by}
+use Rattle.wl_session.specs.Serving.{Everything, Toplevels}
 use Rattle.wl_session.specs.StoreWrites.{PromisesAreEnough, WriteHidesNothing}
 use Rattle.wl_plain.specs.Steps.{ChangesAt, Connect, Feed, IsStored, Leave, Send, Close, Store, Tick, left_so}
 
@@ -82,11 +87,19 @@ shown-tree zero owned owner surface place = tt
 shown-tree (suc n) owned owner surface place =
     shown-surface owned (λ child at. tree n owner (owned owner.client).surfaces child at) (λ child at. shown-tree n owned owner child at) owner surface place (history_in surface (owned owner.client).surfaces) refl
 
-pub all-shown : (owned : ℕ → Owned) (standing : List Standing) → Each (IsShown owned) (windows_on owned standing)
-all-shown owned standing =
-    each-flat (IsShown owned) (windows_of (λ client. (owned client).surfaces) (λ client. []))
-    (λ toplevel. each-append (IsShown owned) _ [] (shown-tree 17 owned (owner_of toplevel) toplevel.surface toplevel.place) tt)
-    (map (root_of owned) standing)
+shown-roots : (owned : ℕ → Owned) (popups : ℕ → List StackedPopup) (toplevels : List Root) → Each (IsShown owned) (windows (λ client. (owned client).surfaces) popups toplevels)
+shown-roots owned popups toplevels =
+    each-flat (IsShown owned) (windows_of (λ client. (owned client).surfaces) popups)
+    (λ toplevel. each-flat (IsShown owned) (λ (r : Root). tree 17 (owner_of r) (owned r.client).surfaces r.surface r.place)
+    (λ r. shown-tree 17 owned (owner_of r) r.surface r.place)
+    (roots_of (owned toplevel.client).surfaces toplevel (popups toplevel.client)))
+    toplevels
+
+toplevels-shown : (d : Desktop) → Each (IsShown (owned_in d)) (windows_in d)
+toplevels-shown d = shown-roots (owned_in d) (λ client. []) (map (root_of (owned_in d)) d.standing)
+
+all-shown : (d : Desktop) → Each (IsShown (owned_in d)) (all_windows d)
+all-shown d = shown-roots (owned_in d) (λ c. stacked_popups (owned_in d c)) (map (root_of (owned_in d)) d.standing)
 
 -- ---- a point of a window is one of its buffer
 
@@ -130,6 +143,23 @@ owned-after k store at c bytes None old new done e h = subst (λ (d : Desktop). 
 owned-after k store at c bytes (Some r) old new done e h =
     let becomes : new ≡ left_so k r (Some (stored_at r.peer.status store at bytes r.peer)) old = h.2 ∙ ap (λ (q : Option Peer). left_so k r q old) h.1.0 in
     subst (λ (d : Desktop). Owns c old d) (sym becomes) (became k c r (stored_at r.peer.status store at bytes r.peer) old (k == c) refl e)
+
+-- the same where every request is served
+put : (k c : ℕ) (r : Resident) (q : Peer) (old : Desktop) (same : Bool) → (k == c) ≡ same → client_at k old ≡ Some r → Owns c old (with_client k (Some (with_peer q r)) old)
+put k c r q old true e there =
+    let now : owned_in (with_client k (Some (with_peer q r)) old) k ≡ owned_in old k = ap owned_of (number-same old.clients k (Some (with_peer q r)) r there) ∙ sym (ap owned_of there) in
+    inl (subst (λ n. owned_in (with_client k (Some (with_peer q r)) old) n ≡ owned_in old n) (eqb-true k c e) now)
+put k c r q old false e there = inl (ap owned_of (number-other old.clients k c (Some (with_peer q r)) (λ same. eqb-false k c e same)))
+
+put-after : (k store at c : ℕ) (bytes : List ℕ) (r : Resident) (old new : Desktop) (done : Done) → client_at k old ≡ Some r → WholeChangesAt (IsStored store at bytes) (gave.Store stored.NoClient) k (Some r) old done new → Owns c old new
+put-after k store at c bytes r old new done e (Some q, h, becomes) = subst (λ (d : Desktop). Owns c old d) (sym becomes) (put k c r q old (k == c) refl e)
+put-after k store at c bytes r old new done e (None, h, becomes) = absurd (nothing-put (stored_at r.peer.status store at bytes r.peer) h.0) where
+  nothing-put : (q : Peer) → None ≡ Some q → ⊥
+  nothing-put q f = absurd (cc)
+
+whole-owned-after : (k store at c : ℕ) (bytes : List ℕ) (client : Option Resident) (old new : Desktop) (done : Done) → client_at k old ≡ client → WholeChangesAt (IsStored store at bytes) (gave.Store stored.NoClient) k client old done new → Owns c old new
+whole-owned-after k store at c bytes None old new done e h = subst (λ (d : Desktop). Owns c old d) (sym h.1) (inl refl)
+whole-owned-after k store at c bytes (Some r) old new done e h = put-after k store at c bytes r old new done e h
 
 -- ---- one buffer before and after
 
@@ -242,22 +272,30 @@ not-hidden old new c x y w v keeps owns of of' s t =
     let same = same-colors old new x y w v keeps' f (one-buffer old new w v f owns' s t) s t here in
     differ (sym (ap not same) ∙ and-left (not (is_same_color (color_in old w x y) (color_in new v x y))) _ (and-right (contains v x y) _ rest)))
 
+-- whichever windows are shown, if each shows the buffer that its surface has applied
+hides-nothing : (shown : Showing) (old new : Desktop) (c : ℕ) → Each (IsShown (owned_in old)) (shown old) → Each (IsShown (owned_in new)) (shown new) → Owns c old new → KeepsBuffers old new c → KeepsDamage shown old new c
+hides-nothing shown old new c here there owns keeps = λ x y.
+    let before = each-kept (λ (w : Window). w.owner.client == c) (IsShown (owned_in old)) (shown old) here in
+    let after = each-kept (λ (w : Window). w.owner.client == c) (IsShown (owned_in new)) (shown new) there in
+    any-none (λ v. list_any (λ w. is_hidden_in old new x y w v) (windows_by shown c old)) (windows_by shown c new)
+    (each-map (λ (v : Window). ((v.owner.client == c) ≡ true) × IsShown (owned_in new) v) (λ v. list_any (λ w. is_hidden_in old new x y w v) (windows_by shown c old) ≡ false)
+    (λ v t. any-none (λ w. is_hidden_in old new x y w v) (windows_by shown c old)
+    (each-map (λ (w : Window). ((w.owner.client == c) ≡ true) × IsShown (owned_in old) w) (λ w. is_hidden_in old new x y w v ≡ false) (λ w s. not-hidden old new c x y w v keeps owns s.0 t.0 s.1 t.1) (windows_by shown c old) before))
+    (windows_by shown c new) after)
+
 pub write_hides_nothing : WriteHidesNothing
-write_hides_nothing unserved old new client store at c bytes done step keeps = λ x y.
-    let owns = owned-after client store at c bytes (client_at client old) old new done refl step in
-    let before = each-kept (λ (w : Window). w.owner.client == c) (IsShown (owned_in old)) (windows_in old) (all-shown (owned_in old) old.standing) in
-    let after = each-kept (λ (w : Window). w.owner.client == c) (IsShown (owned_in new)) (windows_in new) (all-shown (owned_in new) new.standing) in
-    any-none (λ v. list_any (λ w. is_hidden_in old new x y w v) (windows_by c old)) (windows_by c new)
-    (each-map (λ (v : Window). ((v.owner.client == c) ≡ true) × IsShown (owned_in new) v) (λ v. list_any (λ w. is_hidden_in old new x y w v) (windows_by c old) ≡ false)
-    (λ v t. any-none (λ w. is_hidden_in old new x y w v) (windows_by c old)
-    (each-map (λ (w : Window). ((w.owner.client == c) ≡ true) × IsShown (owned_in old) w) (λ w. is_hidden_in old new x y w v ≡ false) (λ w s. not-hidden old new c x y w v keeps owns s.0 t.0 s.1 t.1) (windows_by c old) before))
-    (windows_by c new) after)
+write_hides_nothing (Toplevels unserved) old new client store at c bytes done step keeps =
+    hides-nothing windows_in old new c (toplevels-shown old) (toplevels-shown new) (owned-after client store at c bytes (client_at client old) old new done refl step) keeps
+write_hides_nothing Everything old new client store at c bytes done step keeps =
+    hides-nothing all_windows old new c (all-shown old) (all-shown new) (whole-owned-after client store at c bytes (client_at client old) old new done refl step) keeps
 
 pub promises_are_enough : PromisesAreEnough
-promises_are_enough unserved liars (Store client store at bytes) old new done step keep = λ c honest. write_hides_nothing unserved old new client store at c bytes done step (keep c honest)
-promises_are_enough unserved liars (Tick time) old new done step keep = λ c honest. (keep c honest).0
-promises_are_enough unserved liars Connect old new done step keep = keep
-promises_are_enough unserved liars (Feed c piece) old new done step keep = keep
-promises_are_enough unserved liars (Leave c) old new done step keep = keep
-promises_are_enough unserved liars (Send c n) old new done step keep = keep
-promises_are_enough unserved liars (Close c) old new done step keep = keep
+promises_are_enough serving liars (Step (Store client store at bytes) done) old new happens keep = λ c honest. write_hides_nothing serving old new client store at c bytes done happens (keep c honest)
+promises_are_enough serving liars (Step (Tick time) done) old new happens keep = λ c honest. (keep c honest).0
+promises_are_enough serving liars (Step Connect done) old new happens keep = keep
+promises_are_enough serving liars (Step (Feed c piece) done) old new happens keep = keep
+promises_are_enough serving liars (Step (Leave c) done) old new happens keep = keep
+promises_are_enough serving liars (Step (Send c n) done) old new happens keep = keep
+promises_are_enough serving liars (Step (Close c) done) old new happens keep = keep
+promises_are_enough serving liars (Motion time x y) old new happens keep = keep
+promises_are_enough serving liars (Button time button pressed) old new happens keep = keep

@@ -6,12 +6,12 @@ use Rattle.std.proofs.lemmas.Bool.{eqb-true}
 use Rattle.wl_store.specs.declared.color.Argb.{Argb}
 use Rattle.wl_blend.specs.declared.color.Rgb.{Rgb}
 use Rattle.wl_scene.specs.Windows.{contains}
-use Rattle.wl_plain.specs.Desktop.{Desktop, windows_in}
+use Rattle.wl_plain.specs.Desktop.{Desktop, Showing}
 use Rattle.wl_plain.specs.Laws.{ColorsStay}
 use Rattle.wl_client.specs.Told.{Output}
 use Rattle.wl_plain.specs.Marks.{in_output, has_same_record, is_changed_at, is_kept_in}
-use Rattle.wl_plain.specs.Moments.{applied_between, marks_at_least}
-use Rattle.wl_plain.specs.Scratch.{color_in, scratch}
+use Rattle.wl_plain.specs.Moments.{applied_between, marks_at_least_of}
+use Rattle.wl_plain.specs.Scratch.{color_in, scratch_of}
 use Rattle.wl_plain.proofs.Painted.{contains-same, marked-none, scratch_stays}
 use Rattle.wl_plain.proofs.Stacks.{and-both, and-left, and-right, any-each, any-more, differ, each-false, equal-numbers, fields, or-left, or-right, same-number, unless}
 use Rattle.wl_session.specs.Promises.{is_hidden_in, is_same_color, windows_by}
@@ -72,11 +72,11 @@ not-hidden false b s n e f g h = absurd (differ f)
 not-hidden true false s n e f g h = absurd (differ g)
 not-hidden true true s true e f g h = absurd (differ (sym h))
 
-colors-stay : (liars : ℕ → Bool) (old new : Desktop) (x y : ℤ) → AllDamageBut liars old new → is_covered liars new x y ≡ false → ColorsStay old new x y
-colors-stay liars old new x y keep clear i j w v before after same here none =
-    let honest = without (liars v.owner.client) (contains v x y) (none-at (covers_at liars x y) (windows_in new) j v after clear) here in
-    let shown = none-kept (λ z. z.owner.client == v.owner.client) (λ z. list_any (λ b. is_hidden_in old new x y b z) (windows_by v.owner.client old)) (windows_in new) j v after (same-number v.owner.client) (keep v.owner.client honest x y) in
-    let seen = none-kept (λ z. z.owner.client == v.owner.client) (λ b. is_hidden_in old new x y b v) (windows_in old) i w before (equal-numbers w.owner.client v.owner.client (fields w v same).client) shown in
+colors-stay : (shown : Showing) (liars : ℕ → Bool) (old new : Desktop) (x y : ℤ) → AllDamageBut shown liars old new → is_covered shown liars new x y ≡ false → ColorsStay shown old new x y
+colors-stay shown liars old new x y keep clear i j w v before after same here none =
+    let honest = without (liars v.owner.client) (contains v x y) (none-at (covers_at liars x y) (shown new) j v after clear) here in
+    let unhidden = none-kept (λ z. z.owner.client == v.owner.client) (λ z. list_any (λ b. is_hidden_in old new x y b z) (windows_by shown v.owner.client old)) (shown new) j v after (same-number v.owner.client) (keep v.owner.client honest x y) in
+    let seen = none-kept (λ z. z.owner.client == v.owner.client) (λ b. is_hidden_in old new x y b v) (shown old) i w before (equal-numbers w.owner.client v.owner.client (fields w v same).client) unhidden in
     same-color (color_in old w x y) (color_in new v x y)
     (not-hidden (has_same_record w v) (contains v x y) (is_same_color (color_in old w x y) (color_in new v x y)) (applied_between old new v.owner.client v.surface (x -ℤ v.corner.x) (y -ℤ v.corner.y)) seen same here none) where
       without : (a b : Bool) → (a && b) ≡ false → b ≡ true → a ≡ false
@@ -84,58 +84,58 @@ colors-stay liars old new x y keep clear i j w v before after same here none =
       without false b e f = refl
 
 pub unmarked_stays : UnmarkedStays
-unmarked_stays liars background old new x y apart keep inside unmarked clear clear' =
-    scratch_stays background old new x y apart.0 apart.1 inside unmarked (colors-stay liars old new x y keep clear')
+unmarked_stays shown liars background old new x y apart keep inside unmarked clear clear' =
+    scratch_stays shown background old new x y apart.0 apart.1 inside unmarked (colors-stay shown liars old new x y keep clear')
 
 -- ---- images
 
 -- what such a window covered is covered still, or marked
-covered-still : (liars : ℕ → Bool) (old new : Desktop) (x y : ℤ) → in_output_of old x y ≡ true → marks_at_least old new x y ≡ false → is_covered liars new x y ≡ false → is_covered liars old x y ≡ false
-covered-still liars old new x y inside unmarked clear =
+covered-still : (shown : Showing) (liars : ℕ → Bool) (old new : Desktop) (x y : ℤ) → in_output_of old x y ≡ true → marks_at_least_of shown old new x y ≡ false → is_covered shown liars new x y ≡ false → is_covered shown liars old x y ≡ false
+covered-still shown liars old new x y inside unmarked clear =
     let all = marked-none (in_output_of old x y) _ unmarked inside in
-    let changed = or-left (list_any (is_changed_at (windows_in new) x y) (windows_in old) || list_any (is_changed_at (windows_in old) x y) (windows_in new)) _ all in
-    let gone = or-left (list_any (is_changed_at (windows_in new) x y) (windows_in old)) _ changed in
-    unless (is_covered liars old x y)
-    (λ covered. any-each (covers_at liars x y) (is_changed_at (windows_in new) x y) (windows_in old) covered (each-false (is_changed_at (windows_in new) x y) (windows_in old) gone)
-    (λ w e. and-both (contains w x y) (not (is_kept_in (windows_in new) w)) (and-right (liars w.owner.client) (contains w x y) e)
-    (ap not (unless (is_kept_in (windows_in new) w) (λ kept. differ (sym clear ∙ any-more (has_same_record w) (covers_at liars x y)
+    let changed = or-left (list_any (is_changed_at (shown new) x y) (shown old) || list_any (is_changed_at (shown old) x y) (shown new)) _ all in
+    let gone = or-left (list_any (is_changed_at (shown new) x y) (shown old)) _ changed in
+    unless (is_covered shown liars old x y)
+    (λ covered. any-each (covers_at liars x y) (is_changed_at (shown new) x y) (shown old) covered (each-false (is_changed_at (shown new) x y) (shown old) gone)
+    (λ w e. and-both (contains w x y) (not (is_kept_in (shown new) w)) (and-right (liars w.owner.client) (contains w x y) e)
+    (ap not (unless (is_kept_in (shown new) w) (λ kept. differ (sym clear ∙ any-more (has_same_record w) (covers_at liars x y)
     (λ v same. and-both (liars v.owner.client) (contains v x y) (sym (ap liars (fields w v same).client) ∙ and-left (liars w.owner.client) (contains w x y) e) (sym (contains-same x y w v same) ∙ and-right (liars w.owner.client) (contains w x y) e))
-    (windows_in new) kept))))))
+    (shown new) kept))))))
 
 pub stays_right : StaysRight
-stays_right liars background image before after old new sized apart keep marks right = λ x y inside undamaged clear.
+stays_right shown liars background image before after old new sized apart keep marks right = λ x y inside undamaged clear.
     let within : in_output_of old x y ≡ true = subst (λ (o : Output). in_output o.width o.height x y ≡ true) sized inside in
     let unmarked = (marks x y undamaged).1 in
-    let was = covered-still liars old new x y within unmarked clear in
-    right x y within (marks x y undamaged).0 was ∙ unmarked_stays liars background old new x y apart keep within unmarked was clear
+    let was = covered-still shown liars old new x y within unmarked clear in
+    right x y within (marks x y undamaged).0 was ∙ unmarked_stays shown liars background old new x y apart keep within unmarked was clear
 
 pub repainted_is_right : RepaintedIsRight
-repainted_is_right liars background image damage d right = λ x y inside none clear. go x y inside clear (damage x y) refl where
-  go : (x y : ℤ) → in_output_of d x y ≡ true → is_covered liars d x y ≡ false → (b : Bool) → damage x y ≡ b → cond b (scratch background d x y) (image x y) ≡ scratch background d x y
+repainted_is_right shown liars background image damage d right = λ x y inside none clear. go x y inside clear (damage x y) refl where
+  go : (x y : ℤ) → in_output_of d x y ≡ true → is_covered shown liars d x y ≡ false → (b : Bool) → damage x y ≡ b → cond b (scratch_of shown background d x y) (image x y) ≡ scratch_of shown background d x y
   go x y inside clear true is = refl
   go x y inside clear false is = right x y inside is clear
 
 pub viewer_holds : ViewerHolds
-viewer_holds background image sight damage d same = λ x y. go x y (damage x y) where
-  go : (x y : ℤ) → (b : Bool) → cond b (cond b (scratch background d x y) (image x y)) (sight x y) ≡ cond b (scratch background d x y) (image x y)
+viewer_holds shown background image sight damage d same = λ x y. go x y (damage x y) where
+  go : (x y : ℤ) → (b : Bool) → cond b (cond b (scratch_of shown background d x y) (image x y)) (sight x y) ≡ cond b (scratch_of shown background d x y) (image x y)
   go x y true = refl
   go x y false = same x y
 
 -- ---- many steps and frames
 
-holds-after : (liars : ℕ → Bool) (background : Rgb) (m : Moment) (e : Event) → IsHonest liars m e → Holds liars background m → Holds liars background (after background m e)
-holds-after liars background m (Stepped new damage) honest holds =
-    (stays_right liars background m.image m.damage damage m.desktop new honest.0 honest.1 honest.2 honest.3 holds.0, holds.1)
-holds-after liars background m Shown honest holds =
-    (repainted_is_right liars background m.image m.damage m.desktop holds.0, viewer_holds background m.image m.sight m.damage m.desktop holds.1)
+holds-after : (shown : Showing) (liars : ℕ → Bool) (background : Rgb) (m : Moment) (e : Event) → IsHonest shown liars m e → Holds shown liars background m → Holds shown liars background (after shown background m e)
+holds-after shown liars background m (Stepped new damage) honest holds =
+    (stays_right shown liars background m.image m.damage damage m.desktop new honest.0 honest.1 honest.2 honest.3 holds.0, holds.1)
+holds-after shown liars background m Shown honest holds =
+    (repainted_is_right shown liars background m.image m.damage m.desktop holds.0, viewer_holds shown background m.image m.sight m.damage m.desktop holds.1)
 
 pub incremental_is_from_scratch : IncrementalIsFromScratch
-incremental_is_from_scratch liars background [] m honest holds = holds
-incremental_is_from_scratch liars background (e ∷ es) m honest holds =
-    incremental_is_from_scratch liars background es (after background m e) honest.1 (holds-after liars background m e honest.0 holds)
+incremental_is_from_scratch shown liars background [] m honest holds = holds
+incremental_is_from_scratch shown liars background (e ∷ es) m honest holds =
+    incremental_is_from_scratch shown liars background es (after shown background m e) honest.1 (holds-after shown liars background m e honest.0 holds)
 
 pub viewer_sees_scratch : ViewerSeesScratch
-viewer_sees_scratch liars background events m x y honest holds inside clear =
-    let end = fold (after background) m events in
-    let shown = holds-after liars background end Shown tt (incremental_is_from_scratch liars background events m honest holds) in
-    shown.1 x y ∙ shown.0 x y inside refl clear
+viewer_sees_scratch shown liars background events m x y honest holds inside clear =
+    let end = fold (after shown background) m events in
+    let frame = holds-after shown liars background end Shown tt (incremental_is_from_scratch shown liars background events m honest holds) in
+    frame.1 x y ∙ frame.0 x y inside refl clear

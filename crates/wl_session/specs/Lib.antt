@@ -1,6 +1,7 @@
 pub mod Laws
 pub mod Promises
 pub mod Run
+pub mod Serving
 pub mod Step
 pub mod Unmarked
 pub mod View

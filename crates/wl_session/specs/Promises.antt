@@ -1,5 +1,6 @@
 -- What a client promises: to damage each pixel that it changes, to leave buffers that are shown unchanged, and to call only opaque pixels
--- opaque (wayland.xml, wl_surface.damage, wl_buffer.release and wl_surface.set_opaque_region).
+-- opaque (wayland.xml, wl_surface.damage, wl_buffer.release and wl_surface.set_opaque_region). Which windows a client has is told by `shown`, as
+-- `windows_in` where no subsurface and no popup is served, and `all_windows` where every request is.
 use Rattle.std.specs.Prelude.{ℕ, ◌≡◌, ℤ, ◌-ℤ◌, ◌==◌, ◌&&◌, not, nat_lt, Bool, false, Option, Some, None, List, [], ◌++◌, flat_map, filter}
 use Rattle.std.specs.List.{list_any}
 use Rattle.std.specs.Option.{option_map_or}
@@ -10,11 +11,12 @@ use Rattle.wl_surface.specs.Request.{Buffer}
 use Rattle.wl_surface.specs.State.{applied, held}
 use Rattle.wl_surface.specs.Surfaces.{Surface, listed}
 use Rattle.wl_scene.specs.Windows.{Window, contains}
-use Rattle.wl_plain.specs.Desktop.{Desktop, Resident, client_at, owned_in, windows_in}
+use Rattle.wl_plain.specs.Desktop.{Desktop, Resident, Showing, client_at, owned_in}
 use Rattle.wl_plain.specs.Marks.{has_same_record}
 use Rattle.wl_plain.specs.Moments.{applied_between}
 use Rattle.wl_plain.specs.Scratch.{color_in, pixel_at}
 use Rattle.wl_plain.specs.Steps.{Act, Store, Tick}
+use Rattle.wl_plain.specs.Whole.{Deed, Steps, Motion, Button}
 
 abbrev pub is_same_color : Argb → Argb → Bool
 is_same_color c d = ((c.a == d.a) && (c.r == d.r)) && ((c.g == d.g) && (c.b == d.b))
@@ -50,8 +52,8 @@ KeepsBuffers old new c = (x y : ℕ) → spoils_at old new c x y ≡ false
 
 -- ---- what changes is damaged
 
-abbrev pub windows_by : ℕ → Desktop → List Window
-windows_by c d = filter (λ w. w.owner.client == c) (windows_in d)
+abbrev pub windows_by : Showing → ℕ → Desktop → List Window
+windows_by shown c d = filter (λ w. w.owner.client == c) (shown d)
 
 -- a window kept its record, and shows another colour at a point where no damage was applied
 abbrev pub is_hidden_in : Desktop → Desktop → ℤ → ℤ → Window → Window → Bool
@@ -61,33 +63,41 @@ is_hidden_in old new x y before w =
     && (not (is_same_color (color_in old before x y) (color_in new w x y))
     && not (applied_between old new w.owner.client w.surface (x -ℤ w.corner.x) (y -ℤ w.corner.y))))
 
-abbrev pub hides_at : Desktop → Desktop → ℕ → ℤ → ℤ → Bool
-hides_at old new c x y = list_any (λ w. list_any (λ before. is_hidden_in old new x y before w) (windows_by c old)) (windows_by c new)
+abbrev pub hides_at : Showing → Desktop → Desktop → ℕ → ℤ → ℤ → Bool
+hides_at shown old new c x y =
+    list_any (λ w. list_any (λ before. is_hidden_in old new x y before w) (windows_by shown c old)) (windows_by shown c new)
 
 -- For each window of the client that keeps its record, the applied damage holds every point whose colour differs.
-abbrev pub KeepsDamage : Desktop → Desktop → ℕ → Type 0
-KeepsDamage old new c = (x y : ℤ) → hides_at old new c x y ≡ false
+abbrev pub KeepsDamage : Showing → Desktop → Desktop → ℕ → Type 0
+KeepsDamage shown old new c = (x y : ℤ) → hides_at shown old new c x y ≡ false
 
 -- ---- what is called opaque is
 
 abbrev pub is_clear_in : Desktop → ℤ → ℤ → Window → Bool
 is_clear_in d x y w = contains w x y && (holds (x -ℤ w.corner.x) (y -ℤ w.corner.y) w.opaque && not ((color_in d w x y).a == 255))
 
-abbrev pub feigns_at : Desktop → ℕ → ℤ → ℤ → Bool
-feigns_at d c x y = list_any (is_clear_in d x y) (windows_by c d)
+abbrev pub feigns_at : Showing → Desktop → ℕ → ℤ → ℤ → Bool
+feigns_at shown d c x y = list_any (is_clear_in d x y) (windows_by shown c d)
 
 -- Every point of a window of the client that lies in its applied opaque region has the alpha 255.
-abbrev pub KeepsOpaque : Desktop → ℕ → Type 0
-KeepsOpaque d c = (x y : ℤ) → feigns_at d c x y ≡ false
+abbrev pub KeepsOpaque : Showing → Desktop → ℕ → Type 0
+KeepsOpaque shown d c = (x y : ℤ) → feigns_at shown d c x y ≡ false
 
 -- ---- in a step
 
 -- A client keeps its promises in a step: in a store write that on buffers, in any other that on damage, in a tick that on opaque regions too.
-abbrev pub Keeps : Act → Desktop → Desktop → ℕ → Type 0
-Keeps (Store client store at bytes) old new c = KeepsBuffers old new c
-Keeps (Tick time) old new c = KeepsDamage old new c × KeepsOpaque old c
-Keeps act old new c = KeepsDamage old new c
+abbrev pub Keeps : Showing → Act → Desktop → Desktop → ℕ → Type 0
+Keeps shown (Store client store at bytes) old new c = KeepsBuffers old new c
+Keeps shown (Tick time) old new c = KeepsDamage shown old new c × KeepsOpaque shown old c
+Keeps shown act old new c = KeepsDamage shown old new c
+
+-- The same of whatever may happen. A motion of the pointer and a button are the user's, and nothing of a client's is applied in them; as in
+-- every step but a store write, each client keeps its promise on damage.
+abbrev pub KeepsIn : Showing → Deed → Desktop → Desktop → ℕ → Type 0
+KeepsIn shown (Steps act done) old new c = Keeps shown act old new c
+KeepsIn shown (Motion time x y) old new c = KeepsDamage shown old new c
+KeepsIn shown (Button time button pressed) old new c = KeepsDamage shown old new c
 
 -- Each client keeps its promises but those of a set.
-abbrev pub KeepBut : (ℕ → Bool) → Act → Desktop → Desktop → Type 0
-KeepBut liars act old new = (c : ℕ) → liars c ≡ false → Keeps act old new c
+abbrev pub KeepBut : Showing → (ℕ → Bool) → Deed → Desktop → Desktop → Type 0
+KeepBut shown liars deed old new = (c : ℕ) → liars c ≡ false → KeepsIn shown deed old new c

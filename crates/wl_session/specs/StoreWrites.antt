@@ -1,24 +1,25 @@
--- What the promises of a step are worth.
+-- What the promises of a step are worth, whatever is served.
 use Rattle.std.specs.Prelude.{ℕ, Bool, List}
 use Rattle.wl_plain.specs.Desktop.{Desktop}
-use Rattle.wl_plain.specs.Served.{Unserved}
+use Rattle.wl_plain.specs.Steps.{Store}
+use Rattle.wl_plain.specs.Whole.{Deed, Steps}
 use Rattle.wl_plain.specs.declared.answers.Done.{Done}
 use Rattle.wl_session.specs.Promises.{KeepBut, KeepsBuffers, KeepsDamage}
-use Rattle.wl_plain.specs.Steps.{Act, Steps, Store}
+use Rattle.wl_session.specs.Serving.{HappensBy, Serving, shown_by}
 use Rattle.wl_session.specs.Unmarked.{AllDamageBut}
 
 -- A client whose busy buffers keep their colours in a store write hides no change in it (wayland.xml, wl_buffer.release).
 abbrev pub WriteHidesNothing : Type 0
 WriteHidesNothing =
-    (unserved : Unserved) (old new : Desktop) (client store at c : ℕ) (bytes : List ℕ) (done : Done)
-    → Steps unserved old (Store client store at bytes) done new
+    (serving : Serving) (old new : Desktop) (client store at c : ℕ) (bytes : List ℕ) (done : Done)
+    → HappensBy serving (Steps (Store client store at bytes) done) old new
     → KeepsBuffers old new c
-    → KeepsDamage old new c
+    → KeepsDamage (shown_by serving) old new c
 
--- In a step of any kind, whoever keeps its promises hides no change.
+-- In whatever may happen, whoever keeps its promises hides no change.
 abbrev pub PromisesAreEnough : Type 0
 PromisesAreEnough =
-    (unserved : Unserved) (liars : ℕ → Bool) (act : Act) (old new : Desktop) (done : Done)
-    → Steps unserved old act done new
-    → KeepBut liars act old new
-    → AllDamageBut liars old new
+    (serving : Serving) (liars : ℕ → Bool) (deed : Deed) (old new : Desktop)
+    → HappensBy serving deed old new
+    → KeepBut (shown_by serving) liars deed old new
+    → AllDamageBut (shown_by serving) liars old new

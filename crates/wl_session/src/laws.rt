@@ -25,28 +25,32 @@ pub fn output_stays()
 {}
 
 /// A point of the output that a step doesn't mark is painted from nothing as before, if no window of a client that hid a change covers it
-/// (wayland.xml, wl_surface.damage).
+/// (wayland.xml, wl_surface.damage). So it is whichever windows are shown: toplevels alone, or their subsurfaces and popups too.
 pub fn unmarked_stays()
     ensures { UnmarkedStays }
 {}
 
-/// In a step of any kind, whoever keeps its promises hides no change (wayland.xml, wl_surface.damage and wl_buffer.release).
+/// In whatever may happen, whoever keeps its promises hides no change (wayland.xml, wl_surface.damage and wl_buffer.release): where toplevels
+/// are served, and where every request is.
 pub fn promises_are_enough()
     ensures { PromisesAreEnough }
 {}
 
-/// A client whose busy buffers keep their colours in a store write hides no change in it (wayland.xml, wl_buffer.release).
+/// A client whose busy buffers keep their colours in a store write hides no change in it (wayland.xml, wl_buffer.release), where toplevels are
+/// served and where every request is.
 pub fn write_hides_nothing()
     ensures { WriteHidesNothing }
 {}
 
 /// Over any list of steps that mark what they have to, and of frames that paint what is marked, each point of the output is marked, or
-/// covered by a window of a client that hid a change, or right; and a viewer that copies only what each frame painted holds the image.
+/// covered by a window of a client that hid a change, or right; and a viewer that copies only what each frame painted holds the image;
+/// whichever windows are shown.
 pub fn incremental_is_from_scratch()
     ensures { IncrementalIsFromScratch }
 {}
 
-/// At each frame such a viewer holds the desktop painted from nothing, but where a window of a client that hid a change covers it.
+/// At each frame such a viewer holds the desktop painted from nothing, but where a window of a client that hid a change covers it, whichever
+/// windows are shown.
 pub fn viewer_sees_scratch()
     ensures { ViewerSeesScratch }
 {}
