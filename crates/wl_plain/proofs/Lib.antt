@@ -34,3 +34,5 @@ pub mod Touching
 pub mod TouchingAsks
 pub mod TouchingSteps
 pub mod TouchingMessages
+pub mod WholeRows
+pub mod WholeRowsPointer
