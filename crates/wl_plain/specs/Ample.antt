@@ -156,12 +156,13 @@ abbrev pub changes_at : (Peer → Option Peer) → ℕ → Option Resident → D
 changes_at change c None d = d
 changes_at change c (Some r) d = held_so c r (change r.peer) d
 
-abbrev pub frames_from : ℕ → ℕ → ℕ → Moving → Moving
-frames_from time zero c m = m
-frames_from time (suc n) c m = frames_from time n (suc c) (tells (λ r. without_callbacks (callbacks_due r) r) (frames_told time) c m)
+-- the clients up to the n-th, in rising number
+abbrev pub frames_to : ℕ → ℕ → Moving → Moving
+frames_to time zero m = m
+frames_to time (suc n) m = tells (λ r. without_callbacks (callbacks_due r) r) (frames_told time) (suc n) (frames_to time n m)
 
 abbrev pub shown : ℕ → Desktop → Desktop
-shown time d = ends_and_settles (frames_from time 32 1 (unstruck d))
+shown time d = ends_and_settles (frames_to time 32 (unstruck d))
 
 -- ---- the pointer
 
