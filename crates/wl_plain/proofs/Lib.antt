@@ -36,3 +36,6 @@ pub mod TouchingSteps
 pub mod TouchingMessages
 pub mod WholeRows
 pub mod WholeRowsPointer
+pub mod WholeRowsSubsurfaces
+pub mod WholeRowsFrames
+pub mod WholeRowsPopups
