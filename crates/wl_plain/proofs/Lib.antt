@@ -39,3 +39,5 @@ pub mod WholeRowsPointer
 pub mod WholeRowsSubsurfaces
 pub mod WholeRowsFrames
 pub mod WholeRowsPopups
+pub mod WholeRowsErrors
+pub mod WholeRowsLevels

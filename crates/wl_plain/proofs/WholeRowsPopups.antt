@@ -10,14 +10,14 @@ use Rattle.wl_plain.specs.Popups.{geometry_corner_at}
 use Rattle.wl_plain.proofs.WholeRows.{acknowledge, asks, at, attach, bind, commit, corners, create_buffer, create_surface, delete_id, event, get_xdg_surface, sent, shown, start, status, u32, unsent, xdg_configure}
 
 -- a positioner 16 of 8 by 8 pixels, at the lower right corner of (0, 0, 40, 40)
-abbrev with_positioner : Desktop → Desktop
+abbrev pub with_positioner : Desktop → Desktop
 with_positioner d =
     asks 1 16 4 (Word 8 ∷ []) (asks 1 16 3 (Word 8 ∷ [])
     (asks 1 16 2 (Number (pos 0) ∷ Number (pos 0) ∷ Number (pos 40) ∷ Number (pos 40) ∷ [])
     (asks 1 16 1 (Number (pos 8) ∷ Number (pos 8) ∷ []) (asks 1 5 1 (Word 16 ∷ []) d))))
 
 -- a popup 17 of the xdg_surface 15 and the surface 14
-abbrev with_popup : Desktop
+abbrev pub with_popup : Desktop
 with_popup = asks 1 15 2 (Word 17 ∷ Word 7 ∷ Word 16 ∷ []) (with_positioner (get_xdg_surface 1 15 14 (create_surface 1 14 (shown 1 start))))
 
 pub row_with_popup : unsent 1 with_popup ≡ []
@@ -25,14 +25,14 @@ unfolding tree applied_tree behaves_synchronised geometry_corner_at
 row_with_popup = refl
 
 -- its first commit places it
-abbrev configured : Desktop
+abbrev pub configured : Desktop
 configured = commit 1 14 with_popup
 
 pub row_configured : unsent 1 configured ≡ event 17 0 24 (u32 40 ++ u32 40 ++ u32 8 ++ u32 8) ++ xdg_configure 15 2
 unfolding tree applied_tree behaves_synchronised geometry_corner_at
 row_configured = refl
 
-abbrev popped : Desktop
+abbrev pub popped : Desktop
 popped = commit 1 14 (attach 1 14 18 (create_buffer 1 9 18 0 8 (acknowledge 1 15 2 (sent 1 configured))))
 
 pub row_popped : corners popped ≡ at (pos 0) (pos 0) ∷ at (pos 40) (pos 40) ∷ []
@@ -66,7 +66,7 @@ row_without_toplevel-windows = refl
 -- ---- xdg_popup.grab
 
 -- without a press it dismisses the popup, whose commits then do nothing
-abbrev with_seat : Desktop → Desktop
+abbrev pub with_seat : Desktop → Desktop
 with_seat d = sent 1 (bind 1 5 (codes "wl_seat") 1 12 d)
 
 abbrev refused : Desktop

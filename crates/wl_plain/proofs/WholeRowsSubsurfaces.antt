@@ -9,7 +9,7 @@ use Rattle.wl_plain.specs.Desktop.{Desktop}
 use Rattle.wl_plain.proofs.WholeRows.{asks, at, attach, bind, black, buffer_release, color, commit, corners, create_buffer, create_surface, damage, delete_id, done, event, green, red, sent, shown, start, status, stores, tick, u32, unsent}
 
 -- a window of 40 by 40 pixels with a subsurface 16 of 4 by 4, surface 14, at (4, 4), and its buffers 18, 19 and 20
-abbrev with_subsurface : Desktop
+abbrev pub with_subsurface : Desktop
 with_subsurface =
     asks 1 16 1 (Number (pos 4) ∷ Number (pos 4) ∷ []) (asks 1 15 1 (Word 16 ∷ Word 14 ∷ Word 6 ∷ [])
     (create_surface 1 14 (bind 1 2 (codes "wl_subcompositor") 1 15 (shown 1 start))))
