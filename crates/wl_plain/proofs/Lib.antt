@@ -41,3 +41,5 @@ pub mod WholeRowsFrames
 pub mod WholeRowsPopups
 pub mod WholeRowsErrors
 pub mod WholeRowsLevels
+pub mod WholeRowsGrabs
+pub mod WholeRowsInput

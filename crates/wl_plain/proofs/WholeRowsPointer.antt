@@ -10,11 +10,11 @@ use Rattle.wl_plain.specs.Popups.{geometry_corner_at}
 use Rattle.wl_plain.proofs.WholeRows.{acknowledge, asks, at, attach, black, button, buffer_release, color, commit, corners, create_buffer, create_surface, damage, enter, event, get_xdg_surface, leave, leaves, motion, moved, press, red, release, sent, showing, shown, start, status, stores, u32, unsent, with_pointer, xdg_configure}
 
 -- one window of 40 by 40 pixels in the corner, of a client with a wl_pointer
-abbrev pointed_at : Desktop
+abbrev pub pointed_at : Desktop
 pointed_at = sent 1 (with_pointer 1 (shown 1 start))
 
 -- a motion onto it enters it
-abbrev entered : Desktop
+abbrev pub entered : Desktop
 entered = motion 10 (pos 5) (pos 5) pointed_at
 
 pub row_entered : unsent 1 entered ≡ enter 13 2 6 5 5
@@ -22,7 +22,7 @@ unfolding tree applied_tree behaves_synchronised
 row_entered = refl
 
 -- a press is told to the focus, which stays on it until the release
-abbrev pressed : Desktop
+abbrev pub pressed : Desktop
 pressed = press 11 272 (sent 1 entered)
 
 pub row_pressed : unsent 1 pressed ≡ button 13 3 11 1
@@ -41,7 +41,7 @@ unfolding tree applied_tree behaves_synchronised
 row_released = refl
 
 -- xdg_toplevel.move by the serial of the press: the window moves with the pointer, and nothing is told
-abbrev moving : Desktop
+abbrev pub moving : Desktop
 moving = asks 1 8 5 (Word 12 ∷ Word 3 ∷ []) (sent 1 pressed)
 
 pub row_moving : unsent 1 (motion 12 (pos 6) (pos 5) moving) ≡ []
@@ -55,10 +55,10 @@ row_moving-corner = refl
 -- ---- a popup with a grab
 
 -- the second client's window stands in the next place, above that of the first
-abbrev both : Desktop
+abbrev pub both : Desktop
 both = sent 2 (with_pointer 2 (shown 2 pointed_at))
 
-abbrev both_entered : Desktop
+abbrev pub both_entered : Desktop
 both_entered = motion 1 (pos 45) (pos 45) both
 
 pub row_both_entered : unsent 2 both_entered ≡ enter 13 2 6 13 13
@@ -69,7 +69,7 @@ pub row_both_entered-other : unsent 1 both_entered ≡ []
 unfolding tree applied_tree behaves_synchronised
 row_both_entered-other = refl
 
-abbrev both_pressed : Desktop
+abbrev pub both_pressed : Desktop
 both_pressed = press 2 272 (sent 2 both_entered)
 
 pub row_both_pressed : unsent 2 both_pressed ≡ button 13 3 2 1
@@ -91,14 +91,14 @@ grabbing =
     (with_positioner (get_xdg_surface 2 15 14 (create_surface 2 14 (sent 2 both_pressed))))))
 
 -- xdg_popup.configure
-abbrev minus_24 : List ℕ
+abbrev pub minus_24 : List ℕ
 minus_24 = 232 ∷ 255 ∷ 255 ∷ 255 ∷ []
 
 pub row_grabbing : unsent 2 grabbing ≡ event 17 0 24 (minus_24 ++ minus_24 ++ u32 8 ++ u32 8) ++ xdg_configure 15 4
 unfolding tree applied_tree behaves_synchronised geometry_corner_at
 row_grabbing = refl
 
-abbrev popped : Desktop
+abbrev pub popped : Desktop
 popped = commit 2 14 (attach 2 14 18 (create_buffer 2 9 18 0 8 (acknowledge 2 15 4 (sent 2 grabbing))))
 
 pub row_popped : corners popped ≡ at (pos 0) (pos 0) ∷ at (pos 32) (pos 32) ∷ at (pos 8) (pos 8) ∷ []
@@ -109,14 +109,14 @@ pub row_popped-unanswered : unsent 2 popped ≡ []
 unfolding tree applied_tree behaves_synchronised geometry_corner_at
 row_popped-unanswered = refl
 
-abbrev popped_released : Desktop
+abbrev pub popped_released : Desktop
 popped_released = release 3 272 popped
 
 pub row_popped_released : unsent 2 popped_released ≡ button 13 5 3 0
 unfolding tree applied_tree behaves_synchronised geometry_corner_at
 row_popped_released = refl
 
-abbrev on_popup : Desktop
+abbrev pub on_popup : Desktop
 on_popup = motion 4 (pos 10) (pos 10) (sent 2 popped_released)
 
 pub row_on_popup : unsent 2 on_popup ≡ leave 13 6 6 ++ enter 13 7 14 2 2
@@ -140,7 +140,7 @@ unfolding tree applied_tree behaves_synchronised geometry_corner_at
 row_gone-windows = refl
 
 -- a press beside all windows of the client dismisses the popup
-abbrev beside : Desktop
+abbrev pub beside : Desktop
 beside = motion 4 (pos 50) (pos 5) (sent 2 popped_released)
 
 pub row_beside : unsent 2 beside ≡ leave 13 6 6
