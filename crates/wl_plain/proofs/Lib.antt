@@ -43,3 +43,4 @@ pub mod WholeRowsErrors
 pub mod WholeRowsLevels
 pub mod WholeRowsGrabs
 pub mod WholeRowsInput
+pub mod WholeRowsSlow
