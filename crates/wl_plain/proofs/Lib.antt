@@ -44,3 +44,4 @@ pub mod WholeRowsLevels
 pub mod WholeRowsGrabs
 pub mod WholeRowsInput
 pub mod WholeRowsSlow
+pub mod Happening
