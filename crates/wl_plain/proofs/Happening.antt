@@ -1,6 +1,6 @@
 -- What happens where memory is always there is among what may happen.
-use Rattle.std.proofs.Common.{◌≡◌, ℕ, zero, suc, ◌-◌, ◌++◌, take, drop, List, [], ◌∷◌, Bool, true, false, Option, Some, None, Result, refl, subst, sym, inl, inr}
-use Rattle.std.specs.Prelude.{Ok, Err, ◌||◌, is_none, is_some, length}
+use Rattle.std.proofs.Common.{◌≡◌, ℕ, zero, suc, ◌+◌, ◌-◌, ap, arith, ◌++◌, take, drop, List, [], ◌∷◌, Bool, true, false, Option, Some, None, Result, refl, subst, sym, inl, inr}
+use Rattle.std.specs.Prelude.{ℤ, Ok, Err, nat_le, ◌||◌, is_none, is_some, length}
 use Rattle.wl_wire.specs.Wire.{split_of}
 use Rattle.wl_wire.specs.declared.header.Split.{Split}
 use Rattle.wl_wire.specs.declared.header.Split.TheVariants.{Message, More, Bad}
@@ -8,21 +8,29 @@ use Rattle.wl_client.specs.declared.clients.Cause.{Cause}
 use Rattle.wl_client.specs.declared.clients.Cause.TheVariants as cause
 use Rattle.wl_client.specs.declared.refusals.ErrorCode.TheVariants.{InvalidMethod}
 use Rattle.wl_client.specs.declared.refusals.Refusal.{Refusal}
-use Rattle.wl_client.specs.Peer.{Errs, IsIdle, Peer, QueuesOr, counted, ended, has_room, queued, with_rest}
+use Rattle.wl_client.specs.Peer.{Errs, IsIdle, Peer, QueuesOr, counted, ended, has_room, queued, sent_by, stored_at, with_rest}
+use Rattle.wl_store.specs.Stores.{write_refusal}
 use Rattle.wl_client.specs.Plain.{or_slow as refused_or, refused}
 use Rattle.wl_client.specs.Told.{Said, code_number, display_error, error_told}
-use Rattle.wl_scene.specs.Pointer.{Target}
+use Rattle.wl_scene.specs.Pointer.{Target, is_down, is_press}
 use Rattle.wl_scene.specs.Windows.{Window}
-use Rattle.wl_plain.specs.Ample.{answered, became, done, ends_and_settles, ends_first, enters, leaves, moves_unless, or_slow, queued_to, served, served_all, served_at, served_by, settles, settles_all, settles_ends, taken, tells, tells_at, tells_unless, then_ends}
-use Rattle.wl_plain.specs.Changing.{changed_for}
+use Rattle.wl_plain.specs.Ample.{acted, answered, became, buttons, changes_at, connects_at, dismisses, dismisses_unless, done, ends_and_settles, ends_first, enters, fed_at, fed_by, frames_to, happened, held_so, leaves, left_at, left_by, motion_for, motion_settles, moved_to, moves_unless, or_slow, pressed_if, queued_to, released_if, served, served_all, served_at, served_by, settles, settles_all, settles_ends, shown, taken, tells, tells_at, tells_button, tells_unless, then_ends}
+use Rattle.wl_plain.specs.declared.answers.ConnectError.TheVariants.{Full}
+use Rattle.wl_plain.specs.declared.answers.Done.{Done}
+use Rattle.wl_plain.specs.declared.answers.Done.TheVariants as gave
+use Rattle.wl_plain.specs.declared.answers.Fed.TheVariants.{NoClient}
+use Rattle.wl_plain.specs.declared.answers.Stored.TheVariants as stored
+use Rattle.wl_plain.specs.Changing.{changed_for, grab_holder}
 use Rattle.wl_plain.specs.Demand.{Demand}
 use Rattle.wl_plain.specs.Demanding.{judge_all}
 use Rattle.wl_plain.specs.Desktop.{Desktop, Resident, client_at, with_client}
+use Rattle.wl_plain.specs.Laws.{status_in}
 use Rattle.wl_plain.specs.Replies.{replies}
 use Rattle.wl_plain.specs.Settling.{EndsAndSettles, EndsFirst, Enters, Leaves, MovesUnless, Moving, QueuesFirst, QueuesTo, Settles, SettlesAll, SettlesEnds, Strike, Tells, TellsAt, TellsUnless, becomes, ended_all, is_settled, is_struck, target_now, unstruck}
 use Rattle.wl_plain.specs.Stacked.{all_windows}
 use Rattle.wl_plain.specs.Step.{with_peer}
-use Rattle.wl_plain.specs.Whole.{Answers, Becomes, Does, Reaches, Serves, ServesAt, Takes, WantsOr, after_why, done_for, wants_memory}
+use Rattle.wl_plain.specs.Steps.{Act, Connect, Feed, Store, Leave, Tick, Send, Close, ConnectsAt, IsClosed, IsSent, IsStored, closed_by, fed_of, lowest, stored_of}
+use Rattle.wl_plain.specs.Whole.{Acts, Answers, Becomes, Button, Buttons, ChangesAt, Deed, Dismisses, DismissesUnless, Does, FeedsAt, Happens, IsFedAt, LeavesAt, Motion, MotionSettles, MovesTo, PressesIf, Reaches, ReleasesIf, ServesAt, Shows, Steps, StopsAt, Takes, TellsButton, TellsFrames, TellsMotion, WantsOr, after_why, done_for, hit_now, is_hit_of, point_in, pointed, raised_by, wants_memory, with_press, with_release}
 
 -- ---- events
 
@@ -131,3 +139,145 @@ reached-at c n k d mid (Some r) h e = reached-by c n k d mid r r.peer.status h e
 reached : (c n : ℕ) (d : Desktop) → (k : ℕ) × Reaches c k d (served_all c n d)
 reached c zero d = (zero, refl)
 reached c (suc n) d = let before = reached c n d in reached-at c n before.0 d (served_all c n d) (client_at c (served_all c n d)) before.1 refl
+
+-- ---- a piece
+
+-- the client is there, and nothing is left to take of it
+abbrev pub IsTaken : ℕ → Desktop → Type 0
+IsTaken c d = (r : Resident) × (client_at c d ≡ Some r) × IsIdle r.peer
+
+stops-so : (c : ℕ) (d : Desktop) → IsTaken c d → StopsAt c (client_at c d) d d
+stops-so c d taken = subst (λ (o : Option Resident). StopsAt c o d d) (sym taken.1) (inl (refl, taken.2))
+
+feeds-so : (c : ℕ) (piece : List ℕ) (s : Option Cause) (r : Resident) (d : Desktop) → IsTaken c (fed_by c piece s r d) → FeedsAt c piece s r d (fed_by c piece s r d)
+feeds-so c piece (Some cause) r d taken = refl
+feeds-so c piece None r d taken =
+    let come : Desktop = with_client c (Some (with_peer (with_rest (r.peer.rest ++ piece) r.peer) r)) d in
+    let runs = reached c (length piece) come in
+    (runs.0, served_all c (length piece) come, runs.1, stops-so c (served_all c (length piece) come) taken)
+
+-- a piece is taken as far as it goes
+abbrev pub TakesPiece : ℕ → List ℕ → Option Resident → Desktop → Type 0
+TakesPiece c piece None d = Unit {0}
+TakesPiece c piece (Some r) d = IsTaken c (fed_by c piece r.peer.status r d)
+
+fed-so : (c : ℕ) (piece : List ℕ) (o : Option Resident) (d : Desktop) → TakesPiece c piece o d → (done : Done) × IsFedAt c piece o d done (fed_at c piece o d)
+fed-so c piece None d takes = (gave.Feed NoClient, (refl, refl))
+fed-so c piece (Some r) d takes =
+    (gave.Feed (fed_of (status_in c (fed_by c piece r.peer.status r d))), (feeds-so c piece r.peer.status r d takes, refl))
+
+-- ---- the other steps
+
+connects-so : (o : Option ℕ) (d : Desktop) → (done : Done) × ConnectsAt o d done (connects_at o d)
+connects-so None d = (gave.Connect (Err Full), (refl, refl))
+connects-so (Some k) d = (gave.Connect (Ok (k + 1)), inr (refl, refl))
+
+changes-by : (R : Peer → Done → Option Peer → Type 0) (absent done : Done) (c : ℕ) (r : Resident) (q : Option Peer) (d : Desktop) → R r.peer done q → ChangesAt R absent c (Some r) d done (held_so c r q d)
+changes-by R absent done c r None d h = (None, h, refl)
+changes-by R absent done c r (Some q) d h = (Some q, h, refl)
+
+changes-so : (R : Peer → Done → Option Peer → Type 0) (absent : Done) (answer : Peer → Done) (change : Peer → Option Peer) → ((p : Peer) → R p (answer p) (change p)) → (c : ℕ) (o : Option Resident) (d : Desktop) → (done : Done) × ChangesAt R absent c o d done (changes_at change c o d)
+changes-so R absent answer change so c None d = (absent, (refl, refl))
+changes-so R absent answer change so c (Some r) d = (answer r.peer, changes-by R absent (answer r.peer) c r (change r.peer) d (so r.peer))
+
+left-by : (c : ℕ) (r : Resident) (s : Option Cause) (d : Desktop) → r.peer.status ≡ s → LeavesAt c (Some r) d (gave.Gone (is_none r.peer.status)) (left_by c r.peer.status r d)
+left-by c r None d e = (refl, rw e (ends-and-settles (unstruck (becomes c r (ended cause.Gone r.peer) d))))
+left-by c r (Some why) d e = (refl, rw e refl)
+
+left-so : (c : ℕ) (o : Option Resident) (d : Desktop) → (done : Done) × LeavesAt c o d done (left_at c o d)
+left-so c None d = (gave.Gone false, (refl, refl))
+left-so c (Some r) d = (gave.Gone (is_none r.peer.status), left-by c r r.peer.status d refl)
+
+frames-so : (time n k : ℕ) (d : Desktop) → TellsFrames time n (suc k) (frames_to time k (unstruck d)) (frames_to time (k + n) (unstruck d))
+frames-so time zero k d = let same : k + 0 ≡ k = omega arith in ap (λ (n : ℕ). frames_to time n (unstruck d)) same
+frames-so time (suc n) k d =
+    let same : suc k + n ≡ k + suc n = omega arith in
+    (frames_to time (suc k) (unstruck d), tells-so _ _ (suc k) (frames_to time k (unstruck d)),
+    subst (λ (all : ℕ). TellsFrames time n (suc (suc k)) (frames_to time (suc k) (unstruck d)) (frames_to time all (unstruck d))) same (frames-so time n (suc k) d))
+
+shows-so : (time : ℕ) (d : Desktop) → Shows time d (shown time d)
+shows-so time d = (frames_to time 32 (unstruck d), frames-so time 32 0 d, ends-and-settles (frames_to time 32 (unstruck d)))
+
+-- ---- the pointer
+
+motion-for : (time : ℕ) (moves t : Option Target) (m : Moving) → TellsMotion time moves t m (motion_for time moves t m)
+motion-for time None None m = refl
+motion-for time (Some moved) None m = refl
+motion-for time None (Some t) m = tells-so _ _ t.client m
+motion-for time (Some moved) (Some t) m = refl
+
+motion-settles : (b : Bool) (time : ℕ) (m : Moving) → MotionSettles b time m (motion_settles b time m)
+motion-settles true time m = motion-for time m.desktop.pointer.move m.desktop.pointer.focus m
+motion-settles false time m = settles-so m
+
+moves-so : (time : ℕ) (d : Desktop) → MovesTo time d (moved_to time d)
+moves-so time d =
+    let told : Moving = motion_settles (is_settled d) time (unstruck d) in
+    (told, motion-settles (is_settled d) time (unstruck d), settles-ends told)
+
+dismisses-unless : (b : Bool) (c : ℕ) (m : Moving) → DismissesUnless b c m (dismisses_unless b c m)
+dismisses-unless true c m = refl
+dismisses-unless false c m = tells-so _ _ c m
+
+dismisses-so : (o : Option ℕ) (w : Option Window) (m : Moving) → Dismisses o w m (dismisses o w m)
+dismisses-so None w m = refl
+dismisses-so (Some holder) w m = dismisses-unless (is_hit_of holder w) holder m
+
+button-so : (time button : ℕ) (pressed : Bool) (t : Option Target) (m : Moving) → TellsButton time button pressed t m (tells_button time button pressed t m)
+button-so time button pressed None m = refl
+button-so time button pressed (Some t) m = tells-so _ _ t.client m
+
+pressed-so : (b : Bool) (time button : ℕ) (d : Desktop) → PressesIf b time button d (pressed_if b time button d)
+pressed-so false time button d = refl
+pressed-so true time button d =
+    let w : Option Window = hit_now d.pointer.place (all_windows d) in
+    let first : Moving = unstruck (with_press button (raised_by w d)) in
+    let dismissed : Moving = dismisses (grab_holder d) w first in
+    let told : Moving = tells_button time button true d.pointer.focus dismissed in
+    (dismissed, dismisses-so (grab_holder d) w first, told, button-so time button true d.pointer.focus dismissed, settles told, settles-so told, settles-ends (settles told))
+
+released-so : (b : Bool) (time button : ℕ) (d : Desktop) → ReleasesIf b time button d (released_if b time button d)
+released-so false time button d = refl
+released-so true time button d =
+    let first : Moving = unstruck (with_release button d) in
+    let told : Moving = tells_button time button false d.pointer.focus first in
+    (told, button-so time button false d.pointer.focus first, settles told, settles-so told, settles-ends (settles told))
+
+buttons-so : (pressed : Bool) (time button : ℕ) (d : Desktop) → Buttons pressed time button d (buttons pressed time button d)
+buttons-so true time button d = pressed-so (is_press button d.pointer.buttons) time button d
+buttons-so false time button d = released-so (is_down button d.pointer.buttons) time button d
+
+-- ---- all of them
+
+-- a piece that comes is taken as far as it goes
+abbrev pub TakesAll : Act → Desktop → Type 0
+TakesAll (Feed c piece) d = TakesPiece c piece (client_at c d) d
+TakesAll act d = Unit {0}
+
+acts-so : (act : Act) (d : Desktop) → TakesAll act d → (done : Done) × Acts act done d (acted act d)
+acts-so Connect d takes = connects-so (lowest d.clients) d
+acts-so (Feed c piece) d takes = fed-so c piece (client_at c d) d takes
+acts-so (Store c store at bytes) d takes =
+    changes-so (IsStored store at bytes) (gave.Store stored.NoClient) (λ p. gave.Store (stored_of p.status (write_refusal store at (length bytes) p.stores)))
+    (λ p. Some (stored_at p.status store at bytes p)) (λ p. (refl, refl)) c (client_at c d) d
+acts-so (Leave c) d takes = left-so c (client_at c d) d
+acts-so (Tick time) d takes = (gave.Tick, (refl, shows-so time d))
+acts-so (Send c n) d takes =
+    changes-so (IsSent n) (gave.Sent false) (λ p. gave.Sent (nat_le n (length p.unsent))) (λ p. Some (sent_by n p)) (λ p. (refl, refl)) c (client_at c d) d
+acts-so (Close c) d takes =
+    changes-so IsClosed (gave.Close false) (λ p. gave.Close (is_some p.status)) (λ p. closed_by p.status p) (λ p. (refl, refl)) c (client_at c d) d
+
+-- a step with this answer; a motion or a button has none
+abbrev pub answering : Deed → Done → Deed
+answering (Steps act done) answer = Steps act answer
+answering deed answer = deed
+
+abbrev pub TakesDeed : Deed → Desktop → Type 0
+TakesDeed (Steps act done) d = TakesAll act d
+TakesDeed deed d = Unit {0}
+
+-- Whatever happens may happen.
+pub happens-ample : (deed : Deed) (d : Desktop) → TakesDeed deed d → (answer : Done) × Happens (answering deed answer) d (happened deed d)
+happens-ample (Steps act done) d takes = acts-so act d takes
+happens-ample (Motion time x y) d takes = (gave.Tick, moves-so time (pointed (point_in d.output x y) d))
+happens-ample (Button time button pressed) d takes = (gave.Tick, buttons-so pressed time button d)
