@@ -153,8 +153,8 @@ feeds-so : (c : ℕ) (piece : List ℕ) (s : Option Cause) (r : Resident) (d : D
 feeds-so c piece (Some cause) r d taken = refl
 feeds-so c piece None r d taken =
     let come : Desktop = with_client c (Some (with_peer (with_rest (r.peer.rest ++ piece) r.peer) r)) d in
-    let runs = reached c (length piece) come in
-    (runs.0, served_all c (length piece) come, runs.1, stops-so c (served_all c (length piece) come) taken)
+    let runs = reached c (length (r.peer.rest ++ piece)) come in
+    (runs.0, served_all c (length (r.peer.rest ++ piece)) come, runs.1, stops-so c (served_all c (length (r.peer.rest ++ piece)) come) taken)
 
 -- a piece is taken as far as it goes
 abbrev pub TakesPiece : ℕ → List ℕ → Option Resident → Desktop → Type 0

@@ -44,4 +44,5 @@ pub mod WholeRowsLevels
 pub mod WholeRowsGrabs
 pub mod WholeRowsInput
 pub mod WholeRowsSlow
+pub mod Idling
 pub mod Happening

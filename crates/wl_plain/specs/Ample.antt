@@ -124,7 +124,7 @@ served_all c (suc n) d = served c (served_all c n d)
 
 abbrev pub fed_by : ℕ → List ℕ → Option Cause → Resident → Desktop → Desktop
 fed_by c piece (Some cause) r d = d
-fed_by c piece None r d = served_all c (length piece) (with_client c (Some (with_peer (with_rest (r.peer.rest ++ piece) r.peer) r)) d)
+fed_by c piece None r d = served_all c (length (r.peer.rest ++ piece)) (with_client c (Some (with_peer (with_rest (r.peer.rest ++ piece) r.peer) r)) d)
 
 abbrev pub fed_at : ℕ → List ℕ → Option Resident → Desktop → Desktop
 fed_at c piece None d = d
