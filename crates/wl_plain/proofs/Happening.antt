@@ -29,6 +29,7 @@ use Rattle.wl_plain.specs.Replies.{replies}
 use Rattle.wl_plain.specs.Settling.{EndsAndSettles, EndsFirst, Enters, Leaves, MovesUnless, Moving, QueuesFirst, QueuesTo, Settles, SettlesAll, SettlesEnds, Strike, Tells, TellsAt, TellsUnless, becomes, ended_all, is_settled, is_struck, target_now, unstruck}
 use Rattle.wl_plain.specs.Stacked.{all_windows}
 use Rattle.wl_plain.specs.Step.{with_peer}
+use Rattle.wl_plain.proofs.Idling.{IsTaken, all-taken}
 use Rattle.wl_plain.specs.Steps.{Act, Connect, Feed, Store, Leave, Tick, Send, Close, ConnectsAt, IsClosed, IsSent, IsStored, closed_by, fed_of, lowest, stored_of}
 use Rattle.wl_plain.specs.Whole.{Acts, Answers, Becomes, Button, Buttons, ChangesAt, Deed, Dismisses, DismissesUnless, Does, FeedsAt, Happens, IsFedAt, LeavesAt, Motion, MotionSettles, MovesTo, PressesIf, Reaches, ReleasesIf, ServesAt, Shows, Steps, StopsAt, Takes, TellsButton, TellsFrames, TellsMotion, WantsOr, after_why, done_for, hit_now, is_hit_of, point_in, pointed, raised_by, wants_memory, with_press, with_release}
 
@@ -142,29 +143,21 @@ reached c (suc n) d = let before = reached c n d in reached-at c n before.0 d (s
 
 -- ---- a piece
 
--- the client is there, and nothing is left to take of it
-abbrev pub IsTaken : ℕ → Desktop → Type 0
-IsTaken c d = (r : Resident) × (client_at c d ≡ Some r) × IsIdle r.peer
-
 stops-so : (c : ℕ) (d : Desktop) → IsTaken c d → StopsAt c (client_at c d) d d
 stops-so c d taken = subst (λ (o : Option Resident). StopsAt c o d d) (sym taken.1) (inl (refl, taken.2))
 
-feeds-so : (c : ℕ) (piece : List ℕ) (s : Option Cause) (r : Resident) (d : Desktop) → IsTaken c (fed_by c piece s r d) → FeedsAt c piece s r d (fed_by c piece s r d)
-feeds-so c piece (Some cause) r d taken = refl
-feeds-so c piece None r d taken =
-    let come : Desktop = with_client c (Some (with_peer (with_rest (r.peer.rest ++ piece) r.peer) r)) d in
-    let runs = reached c (length (r.peer.rest ++ piece)) come in
-    (runs.0, served_all c (length (r.peer.rest ++ piece)) come, runs.1, stops-so c (served_all c (length (r.peer.rest ++ piece)) come) taken)
+feeds-so : (c : ℕ) (piece : List ℕ) (s : Option Cause) (r : Resident) (d : Desktop) → client_at c d ≡ Some r → r.peer.status ≡ s → FeedsAt c piece s r d (fed_by c piece s r d)
+feeds-so c piece (Some cause) r d e alive = refl
+feeds-so c piece None r d e alive =
+    let more : Resident = with_peer (with_rest (r.peer.rest ++ piece) r.peer) r in
+    let end : Desktop = served_all c (length more.peer.rest) (with_client c (Some more) d) in
+    let runs = reached c (length more.peer.rest) (with_client c (Some more) d) in
+    (runs.0, end, runs.1, stops-so c end (all-taken c more r d e alive))
 
--- a piece is taken as far as it goes
-abbrev pub TakesPiece : ℕ → List ℕ → Option Resident → Desktop → Type 0
-TakesPiece c piece None d = Unit {0}
-TakesPiece c piece (Some r) d = IsTaken c (fed_by c piece r.peer.status r d)
-
-fed-so : (c : ℕ) (piece : List ℕ) (o : Option Resident) (d : Desktop) → TakesPiece c piece o d → (done : Done) × IsFedAt c piece o d done (fed_at c piece o d)
-fed-so c piece None d takes = (gave.Feed NoClient, (refl, refl))
-fed-so c piece (Some r) d takes =
-    (gave.Feed (fed_of (status_in c (fed_by c piece r.peer.status r d))), (feeds-so c piece r.peer.status r d takes, refl))
+fed-so : (c : ℕ) (piece : List ℕ) (o : Option Resident) (d : Desktop) → client_at c d ≡ o → (done : Done) × IsFedAt c piece o d done (fed_at c piece o d)
+fed-so c piece None d e = (gave.Feed NoClient, (refl, refl))
+fed-so c piece (Some r) d e =
+    (gave.Feed (fed_of (status_in c (fed_by c piece r.peer.status r d))), (feeds-so c piece r.peer.status r d e refl, refl))
 
 -- ---- the other steps
 
@@ -249,22 +242,17 @@ buttons-so false time button d = released-so (is_down button d.pointer.buttons) 
 
 -- ---- all of them
 
--- a piece that comes is taken as far as it goes
-abbrev pub TakesAll : Act → Desktop → Type 0
-TakesAll (Feed c piece) d = TakesPiece c piece (client_at c d) d
-TakesAll act d = Unit {0}
-
-acts-so : (act : Act) (d : Desktop) → TakesAll act d → (done : Done) × Acts act done d (acted act d)
-acts-so Connect d takes = connects-so (lowest d.clients) d
-acts-so (Feed c piece) d takes = fed-so c piece (client_at c d) d takes
-acts-so (Store c store at bytes) d takes =
+acts-so : (act : Act) (d : Desktop) → (done : Done) × Acts act done d (acted act d)
+acts-so Connect d = connects-so (lowest d.clients) d
+acts-so (Feed c piece) d = fed-so c piece (client_at c d) d refl
+acts-so (Store c store at bytes) d =
     changes-so (IsStored store at bytes) (gave.Store stored.NoClient) (λ p. gave.Store (stored_of p.status (write_refusal store at (length bytes) p.stores)))
     (λ p. Some (stored_at p.status store at bytes p)) (λ p. (refl, refl)) c (client_at c d) d
-acts-so (Leave c) d takes = left-so c (client_at c d) d
-acts-so (Tick time) d takes = (gave.Tick, (refl, shows-so time d))
-acts-so (Send c n) d takes =
+acts-so (Leave c) d = left-so c (client_at c d) d
+acts-so (Tick time) d = (gave.Tick, (refl, shows-so time d))
+acts-so (Send c n) d =
     changes-so (IsSent n) (gave.Sent false) (λ p. gave.Sent (nat_le n (length p.unsent))) (λ p. Some (sent_by n p)) (λ p. (refl, refl)) c (client_at c d) d
-acts-so (Close c) d takes =
+acts-so (Close c) d =
     changes-so IsClosed (gave.Close false) (λ p. gave.Close (is_some p.status)) (λ p. closed_by p.status p) (λ p. (refl, refl)) c (client_at c d) d
 
 -- a step with this answer; a motion or a button has none
@@ -272,12 +260,8 @@ abbrev pub answering : Deed → Done → Deed
 answering (Steps act done) answer = Steps act answer
 answering deed answer = deed
 
-abbrev pub TakesDeed : Deed → Desktop → Type 0
-TakesDeed (Steps act done) d = TakesAll act d
-TakesDeed deed d = Unit {0}
-
--- Whatever happens may happen.
-pub happens-ample : (deed : Deed) (d : Desktop) → TakesDeed deed d → (answer : Done) × Happens (answering deed answer) d (happened deed d)
-happens-ample (Steps act done) d takes = acts-so act d takes
-happens-ample (Motion time x y) d takes = (gave.Tick, moves-so time (pointed (point_in d.output x y) d))
-happens-ample (Button time button pressed) d takes = (gave.Tick, buttons-so pressed time button d)
+-- Whatever happens where memory is always there may happen.
+pub happens-ample : (deed : Deed) (d : Desktop) → (answer : Done) × Happens (answering deed answer) d (happened deed d)
+happens-ample (Steps act done) d = acts-so act d
+happens-ample (Motion time x y) d = (gave.Tick, moves-so time (pointed (point_in d.output x y) d))
+happens-ample (Button time button pressed) d = (gave.Tick, buttons-so pressed time button d)
