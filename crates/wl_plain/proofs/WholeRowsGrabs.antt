@@ -227,3 +227,30 @@ row_bordered_again = refl
 pub row_bordered_again-back : corners (commit 1 14 (attach 1 14 18 (acknowledge 1 15 3 bordered_again))) ≡ at (pos 0) (pos 0) ∷ at (pos 40) (pos 40) ∷ []
 unfolding tree applied_tree behaves_synchronised geometry_corner_at
 row_bordered_again-back = refl
+
+-- ---- a popup on a dismissed one is configured, and isn't seen
+
+abbrev on_dismissed : Desktop
+on_dismissed = commit 2 31 (asks 2 32 2 (Word 33 ∷ Word 15 ∷ Word 16 ∷ []) (get_xdg_surface 2 32 31 (create_surface 2 31 (sent 2 (press 5 272 (sent 2 beside))))))
+
+pub row_on_dismissed : unsent 2 on_dismissed ≡ event 33 0 24 (minus_24 ++ minus_24 ++ u32 8 ++ u32 8) ++ xdg_configure 32 7
+unfolding tree applied_tree behaves_synchronised geometry_corner_at
+row_on_dismissed = refl
+
+pub row_on_dismissed-windows : corners (commit 2 31 (attach 2 31 18 (acknowledge 2 32 7 on_dismissed))) ≡ at (pos 0) (pos 0) ∷ at (pos 32) (pos 32) ∷ []
+unfolding tree applied_tree behaves_synchronised geometry_corner_at
+row_on_dismissed-windows = refl
+
+-- what is dismissed is told so once
+pub row_on_dismissed-toplevel : unsent 2 (asks 2 8 0 [] (sent 2 on_dismissed)) ≡ delete_id 8 ++ event 33 1 8 []
+unfolding tree applied_tree behaves_synchronised geometry_corner_at
+row_on_dismissed-toplevel = refl
+
+-- the dismissed popup's commits do nothing, and it may go
+pub row_on_dismissed-commit : unsent 2 (commit 2 14 (attach 2 14 0 (sent 2 (press 5 272 (sent 2 beside))))) ≡ buffer_release 18
+unfolding tree applied_tree behaves_synchronised geometry_corner_at
+row_on_dismissed-commit = refl
+
+pub row_on_dismissed-gone : unsent 2 (asks 2 17 0 [] (sent 2 (press 5 272 (sent 2 beside)))) ≡ delete_id 17
+unfolding tree applied_tree behaves_synchronised geometry_corner_at
+row_on_dismissed-gone = refl

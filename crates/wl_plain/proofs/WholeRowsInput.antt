@@ -3,11 +3,12 @@ use Rattle.std.proofs.Common.{◌≡◌, ℕ, zero, suc, ◌+◌, List, [], ◌�
 use Rattle.std.specs.Prelude.{ℤ, pos, negsuc, codes}
 use Rattle.wl_wire.specs.Wire.{Word, Number}
 use Rattle.wl_client.specs.declared.clients.Cause.TheVariants.{Protocol}
-use Rattle.wl_surface.specs.Trees.{applied_tree, behaves_synchronised}
+use Rattle.wl_surface.specs.Trees.{applied_tree, behaves_synchronised, depth, descends_from, height}
 use Rattle.wl_scene.specs.Windows.{tree}
 use Rattle.wl_plain.specs.Desktop.{Desktop}
 use Rattle.wl_plain.specs.Popups.{geometry_corner_at}
-use Rattle.wl_plain.proofs.WholeRows.{acknowledge, asks, at, attach, bind, button, commit, corners, create_surface, delete_id, done, enter, event, leave, motion, moved, press, release, sent, shown, start, status, tick, u32, unsent}
+use Rattle.wl_plain.proofs.WholeRows.{acknowledge, asks, at, attach, bind, button, commit, corners, create_surface, delete_id, done, enter, event, leave, motion, moved, press, release, sent, shown, start, status, tick, u32, unsent, with_pointer}
+use Rattle.wl_plain.proofs.WholeRowsSubsurfaces.{first}
 use Rattle.wl_plain.proofs.WholeRowsPointer.{both, entered, moving, on_popup, pointed_at, pressed}
 
 -- ---- regions are copied when they are set, and count when they are committed
@@ -216,3 +217,55 @@ row_two_frames-once = refl
 pub row_frames_gone : unsent 1 (asks 1 14 0 [] (asks 1 14 3 (Word 21 ∷ []) two_frames)) ≡ delete_id 14 ++ delete_id 23 ++ delete_id 21
 unfolding tree applied_tree behaves_synchronised
 row_frames_gone = refl
+
+-- ---- a button before the pointer is anywhere
+
+abbrev before : Desktop
+before = motion 2 (pos 5) (pos 5) (press 1 272 pointed_at)
+
+pub row_before : unsent 1 before ≡ []
+unfolding tree applied_tree behaves_synchronised
+row_before = refl
+
+pub row_before-released : unsent 1 (release 3 272 before) ≡ enter 13 2 6 5 5
+unfolding tree applied_tree behaves_synchronised
+row_before-released = refl
+
+-- ---- a subsurface has the focus
+
+abbrev on_child : Desktop
+on_child = motion 1 (pos 5) (pos 5) (sent 1 (with_pointer 1 first))
+
+pub row_on_child : unsent 1 on_child ≡ enter 13 2 14 1 1
+unfolding tree applied_tree behaves_synchronised depth descends_from height
+row_on_child = refl
+
+-- it isn't left once it is destroyed
+pub row_on_child-destroyed : unsent 1 (asks 1 14 0 [] (sent 1 on_child)) ≡ delete_id 14 ++ event 18 0 8 [] ++ enter 13 3 6 5 5
+unfolding tree applied_tree behaves_synchronised depth descends_from height
+row_on_child-destroyed = refl
+
+-- it is left where its link ends
+pub row_on_child-unlinked : unsent 1 (asks 1 16 0 [] (sent 1 on_child)) ≡ delete_id 16 ++ leave 13 3 14 ++ enter 13 4 6 5 5
+unfolding tree applied_tree behaves_synchronised depth descends_from height
+row_on_child-unlinked = refl
+
+-- a press raises its toplevel, which moves by it, also when nothing has the focus any more
+pub row_on_child-pressed : unsent 1 (press 2 272 (sent 1 on_child)) ≡ button 13 3 2 1
+unfolding tree applied_tree behaves_synchronised depth descends_from height
+row_on_child-pressed = refl
+
+abbrev child_moving : Desktop
+child_moving = asks 1 16 0 [] (asks 1 8 5 (Word 12 ∷ Word 3 ∷ []) (sent 1 (press 2 272 on_child)))
+
+pub row_child_moving : unsent 1 child_moving ≡ delete_id 16 ++ leave 13 4 14
+unfolding tree applied_tree behaves_synchronised depth descends_from height
+row_child_moving = refl
+
+pub row_child_moving-corner : corners (motion 3 (pos 6) (pos 5) child_moving) ≡ at (pos 1) (pos 0) ∷ []
+unfolding tree applied_tree behaves_synchronised depth descends_from height
+row_child_moving-corner = refl
+
+pub row_child_moving-silent : unsent 1 (motion 3 (pos 6) (pos 5) (sent 1 child_moving)) ≡ []
+unfolding tree applied_tree behaves_synchronised depth descends_from height
+row_child_moving-silent = refl

@@ -30,7 +30,7 @@ pub row_child : corners child ≡ at (pos 0) (pos 0) ∷ []
 unfolding tree applied_tree behaves_synchronised depth descends_from height
 row_child = refl
 
-abbrev first : Desktop
+abbrev pub first : Desktop
 first = commit 1 6 child
 
 pub row_first : corners first ≡ at (pos 0) (pos 0) ∷ at (pos 4) (pos 4) ∷ []
