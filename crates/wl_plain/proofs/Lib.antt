@@ -50,3 +50,15 @@ pub mod WholeOthers
 pub mod WholeOthersRefused
 pub mod WholeOthersKept
 pub mod WholeOthersOwn
+pub mod WholeRows
+pub mod WholeRowsPointer
+pub mod WholeRowsSubsurfaces
+pub mod WholeRowsFrames
+pub mod WholeRowsPopups
+pub mod WholeRowsErrors
+pub mod WholeRowsLevels
+pub mod WholeRowsGrabs
+pub mod WholeRowsInput
+pub mod WholeRowsSlow
+pub mod Idling
+pub mod Happening

@@ -1,3 +1,4 @@
+pub mod Ample
 pub mod Ask
 pub mod Changing
 pub mod Demand

@@ -1,0 +1,224 @@
+-- What happens where every request is served and memory is always there, as a function.
+use Rattle.std.specs.Prelude.{ℕ, zero, suc, ◌+◌, ◌-◌, ◌||◌, Bool, true, false, is_some, Option, Some, None, Result, Ok, Err, List, [], ◌∷◌, ◌++◌, length, take, drop}
+use Rattle.wl_wire.specs.Wire.{split_of}
+use Rattle.wl_wire.specs.declared.header.Split.{Split}
+use Rattle.wl_wire.specs.declared.header.Split.TheVariants.{Message, More, Bad}
+use Rattle.wl_client.specs.declared.clients.Cause.{Cause}
+use Rattle.wl_client.specs.declared.clients.Cause.TheVariants as cause
+use Rattle.wl_client.specs.declared.refusals.ErrorCode.TheVariants.{InvalidMethod}
+use Rattle.wl_client.specs.declared.refusals.Refusal.{Refusal}
+use Rattle.wl_client.specs.Peer.{Peer, counted, ended, has_room, queued, sent_by, stored_at, with_rest}
+use Rattle.wl_client.specs.Plain.{refused}
+use Rattle.wl_client.specs.Told.{Said, display_error}
+use Rattle.wl_scene.specs.Pointer.{Target, is_down, is_press}
+use Rattle.wl_scene.specs.Windows.{Window}
+use Rattle.wl_plain.specs.Changing.{changed_for, grab_holder, without_callbacks}
+use Rattle.wl_plain.specs.Demand.{Demand}
+use Rattle.wl_plain.specs.Demanding.{judge_all}
+use Rattle.wl_plain.specs.Desktop.{Desktop, Resident, arrival, client_at, with_client}
+use Rattle.wl_plain.specs.Pointing.{button_told, entered_surface, has_pointers, left_surface, motion_told}
+use Rattle.wl_plain.specs.Replies.{focus_window, popups_done, replies}
+use Rattle.wl_plain.specs.Settling.{Moving, Strike, becomes, ended_all, ended_by, is_settled, is_struck, leave_drawn, struck_by, target_now, told_drawn, unstruck, with_focus}
+use Rattle.wl_plain.specs.Stacked.{all_windows}
+use Rattle.wl_plain.specs.Step.{with_peer}
+use Rattle.wl_plain.specs.Steps.{Act, Connect, Feed, Store, Leave, Tick, Send, Close, closed_by, lowest}
+use Rattle.wl_plain.specs.Whole.{Deed, Steps, Motion, Button, after_why, callbacks_due, done_for, frames_told, hit_now, is_hit_of, noted_if, number_of, point_in, pointed, raised_by, with_press, with_release, without_grabs}
+
+-- ---- events
+
+-- what a client becomes that is told events, and why one of them wasn't queued
+abbrev pub or_slow : Bool → Peer × Option Cause → Peer → Peer × Option Cause
+or_slow true next p = next
+or_slow false next p = (p, Some cause.Slow)
+
+abbrev pub queued_to : List Said → Peer → Peer × Option Cause
+queued_to [] p = (p, None)
+queued_to (event ∷ events) p = or_slow (has_room p.unsent event) (queued_to events (queued event p)) p
+
+abbrev pub told_so : Resident → Peer × Option Cause → ℕ → Moving → Moving
+told_so r told c m = record { desktop = with_client c (Some (record r { peer = told.0 })) m.desktop; struck = struck_by c told.1 m.struck }
+
+abbrev pub tells_unless : Bool → (Resident → Resident) → (Resident → List Said) → ℕ → Resident → Moving → Moving
+tells_unless true change events c r m = m
+tells_unless false change events c r m = told_so (change r) (queued_to (events r) (change r).peer) c m
+
+abbrev pub tells_at : (Resident → Resident) → (Resident → List Said) → ℕ → Option Resident → Moving → Moving
+tells_at change events c None m = m
+tells_at change events c (Some r) m = tells_unless (is_some r.peer.status || is_struck c m.struck) change events c r m
+
+abbrev pub tells : (Resident → Resident) → (Resident → List Said) → ℕ → Moving → Moving
+tells change events c m = tells_at change events c (client_at c m.desktop) m
+
+-- ---- the focus, and ends
+
+abbrev pub leaves : Option Target → Moving → Moving
+leaves None m = m
+leaves (Some t) m = tells (leave_drawn t.surface) (left_surface t.surface) t.client m
+
+abbrev pub enters : Option Target → List Window → Moving → Moving
+enters None windows m = m
+enters (Some t) windows m = tells told_drawn (entered_surface m.desktop.pointer.place (focus_window (Some t) windows)) t.client m
+
+abbrev pub moves_unless : Bool → Option Target → Moving → Moving
+moves_unless true t m = m
+moves_unless false t m = with_focus t (enters t (all_windows m.desktop) (leaves m.desktop.pointer.focus m))
+
+abbrev pub settles : Moving → Moving
+settles m = moves_unless (is_settled m.desktop) (target_now m.desktop) m
+
+abbrev pub ends_first : (Moving → Desktop) → List Strike → Desktop → Desktop
+ends_first next [] d = d
+ends_first next (s ∷ ss) d = next (record { desktop = ended_by s d; struck = ss })
+
+abbrev pub then_ends : (Moving → Desktop) → Moving → Desktop
+then_ends next mid = ends_first next mid.struck mid.desktop
+
+abbrev pub settles_all : ℕ → Moving → Desktop
+settles_all zero m = m.desktop
+settles_all (suc n) m = then_ends (λ mid. settles_all n mid) (settles m)
+
+abbrev pub settles_ends : Moving → Desktop
+settles_ends mid = then_ends (λ m. settles_all 32 m) mid
+
+abbrev pub ends_and_settles : Moving → Desktop
+ends_and_settles mid = settles_all 33 (unstruck (ended_all mid.struck mid.desktop))
+
+-- ---- messages
+
+abbrev pub became : ℕ → Resident → Peer → Desktop → Desktop
+became c r q d = ends_and_settles (unstruck (becomes c r q d))
+
+abbrev pub done_so : Peer × Option Cause → ℕ → Demand → Resident → Desktop → Desktop
+done_so told c demand r d =
+    ends_and_settles (unstruck (after_why told.1 c (with_client c (Some (with_peer told.0 (changed_for c demand r d))) (done_for c demand r d))))
+
+abbrev pub done : ℕ → Demand → Resident → Desktop → Desktop
+done c demand r d =
+    done_so (queued_to (replies c demand r (changed_for c demand r d) (all_windows d) d) (changed_for c demand r d).peer) c demand r d
+
+abbrev pub answered : Result Demand Refusal → ℕ → Resident → Desktop → Desktop
+answered (Ok demand) c r d = done c demand (with_peer (counted r.peer) r) d
+answered (Err refusal) c r d = became c r (refused refusal r.peer) d
+
+abbrev pub taken : Split → ℕ → Resident → Desktop → Desktop
+taken (Message object opcode size) c r d =
+    answered (judge_all r object opcode (take (size - 8) (drop 8 r.peer.rest))) c (with_peer (with_rest (drop size r.peer.rest) r.peer) r) d
+taken Bad c r d = became c r (refused (display_error InvalidMethod) r.peer) d
+taken More c r d = d
+
+abbrev pub served_by : ℕ → Option Cause → Resident → Desktop → Desktop
+served_by c (Some cause) r d = d
+served_by c None r d = taken (split_of r.peer.rest) c r d
+
+abbrev pub served_at : ℕ → Option Resident → Desktop → Desktop
+served_at c None d = d
+served_at c (Some r) d = served_by c r.peer.status r d
+
+abbrev pub served : ℕ → Desktop → Desktop
+served c d = served_at c (client_at c d) d
+
+-- at most n messages
+abbrev pub served_all : ℕ → ℕ → Desktop → Desktop
+served_all c zero d = d
+served_all c (suc n) d = served c (served_all c n d)
+
+abbrev pub fed_by : ℕ → List ℕ → Option Cause → Resident → Desktop → Desktop
+fed_by c piece (Some cause) r d = d
+fed_by c piece None r d = served_all c (length (r.peer.rest ++ piece)) (with_client c (Some (with_peer (with_rest (r.peer.rest ++ piece) r.peer) r)) d)
+
+abbrev pub fed_at : ℕ → List ℕ → Option Resident → Desktop → Desktop
+fed_at c piece None d = d
+fed_at c piece (Some r) d = fed_by c piece r.peer.status r d
+
+-- a piece comes to a client
+abbrev pub fed : ℕ → List ℕ → Desktop → Desktop
+fed c piece d = fed_at c piece (client_at c d) d
+
+-- ---- the other steps
+
+abbrev pub connects_at : Option ℕ → Desktop → Desktop
+connects_at None d = d
+connects_at (Some k) d = with_client (k + 1) (Some (arrival d.output)) d
+
+abbrev pub left_by : ℕ → Option Cause → Resident → Desktop → Desktop
+left_by c (Some cause) r d = d
+left_by c None r d = became c r (ended cause.Gone r.peer) d
+
+abbrev pub left_at : ℕ → Option Resident → Desktop → Desktop
+left_at c None d = d
+left_at c (Some r) d = left_by c r.peer.status r d
+
+abbrev pub held_so : ℕ → Resident → Option Peer → Desktop → Desktop
+held_so c r None d = with_client c None d
+held_so c r (Some q) d = with_client c (Some (with_peer q r)) d
+
+abbrev pub changes_at : (Peer → Option Peer) → ℕ → Option Resident → Desktop → Desktop
+changes_at change c None d = d
+changes_at change c (Some r) d = held_so c r (change r.peer) d
+
+-- the clients up to the n-th, in rising number
+abbrev pub frames_to : ℕ → ℕ → Moving → Moving
+frames_to time zero m = m
+frames_to time (suc n) m = tells (λ r. without_callbacks (callbacks_due r) r) (frames_told time) (suc n) (frames_to time n m)
+
+abbrev pub shown : ℕ → Desktop → Desktop
+shown time d = ends_and_settles (frames_to time 32 (unstruck d))
+
+-- ---- the pointer
+
+abbrev pub motion_for : ℕ → Option Target → Option Target → Moving → Moving
+motion_for time moves None m = m
+motion_for time None (Some t) m = tells (λ r. r) (motion_told time m.desktop.pointer.place (focus_window (Some t) (all_windows m.desktop))) t.client m
+motion_for time (Some moved) (Some t) m = m
+
+abbrev pub motion_settles : Bool → ℕ → Moving → Moving
+motion_settles true time m = motion_for time m.desktop.pointer.move m.desktop.pointer.focus m
+motion_settles false time m = settles m
+
+abbrev pub moved_to : ℕ → Desktop → Desktop
+moved_to time d = settles_ends (motion_settles (is_settled d) time (unstruck d))
+
+abbrev pub dismisses_unless : Bool → ℕ → Moving → Moving
+dismisses_unless true c m = m
+dismisses_unless false c m = tells without_grabs (λ r. popups_done r (without_grabs r)) c m
+
+abbrev pub dismisses : Option ℕ → Option Window → Moving → Moving
+dismisses None w m = m
+dismisses (Some holder) w m = dismisses_unless (is_hit_of holder w) holder m
+
+abbrev pub tells_button : ℕ → ℕ → Bool → Option Target → Moving → Moving
+tells_button time button pressed None m = m
+tells_button time button pressed (Some t) m =
+    tells (λ r. noted_if (has_pointers r) pressed r) (button_told time button (number_of pressed)) t.client m
+
+abbrev pub pressed_on : Option Window → ℕ → ℕ → Desktop → Desktop
+pressed_on w time button d =
+    settles_ends (settles (tells_button time button true d.pointer.focus (dismisses (grab_holder d) w (unstruck (with_press button (raised_by w d))))))
+
+abbrev pub pressed_if : Bool → ℕ → ℕ → Desktop → Desktop
+pressed_if true time button d = pressed_on (hit_now d.pointer.place (all_windows d)) time button d
+pressed_if false time button d = d
+
+abbrev pub released_if : Bool → ℕ → ℕ → Desktop → Desktop
+released_if true time button d = settles_ends (settles (tells_button time button false d.pointer.focus (unstruck (with_release button d))))
+released_if false time button d = d
+
+abbrev pub buttons : Bool → ℕ → ℕ → Desktop → Desktop
+buttons true time button d = pressed_if (is_press button d.pointer.buttons) time button d
+buttons false time button d = released_if (is_down button d.pointer.buttons) time button d
+
+-- ---- all of them
+
+abbrev pub acted : Act → Desktop → Desktop
+acted Connect d = connects_at (lowest d.clients) d
+acted (Feed c piece) d = fed c piece d
+acted (Store c store at bytes) d = changes_at (λ p. Some (stored_at p.status store at bytes p)) c (client_at c d) d
+acted (Leave c) d = left_at c (client_at c d) d
+acted (Tick time) d = shown time d
+acted (Send c n) d = changes_at (λ p. Some (sent_by n p)) c (client_at c d) d
+acted (Close c) d = changes_at (λ p. closed_by p.status p) c (client_at c d) d
+
+abbrev pub happened : Deed → Desktop → Desktop
+happened (Steps act done) d = acted act d
+happened (Motion time x y) d = moved_to time (pointed (point_in d.output x y) d)
+happened (Button time button pressed) d = buttons pressed time button d
