@@ -1,13 +1,13 @@
 -- Worked recordings with grabs and dismissed popups, computed on the definitions.
-use Rattle.std.proofs.Common.{◌≡◌, ℕ, List, [], ◌∷◌, ◌++◌, Option, Some, None, refl}
-use Rattle.std.specs.Prelude.{ℤ, pos, negsuc}
+use Rattle.std.proofs.Common.{◌≡◌, ℕ, [], ◌∷◌, ◌++◌, refl}
+use Rattle.std.specs.Prelude.{pos, negsuc}
 use Rattle.wl_wire.specs.Wire.{Word, Number}
 use Rattle.wl_surface.specs.Trees.{applied_tree, behaves_synchronised}
 use Rattle.wl_scene.specs.Windows.{tree}
 use Rattle.wl_plain.specs.Desktop.{Desktop}
 use Rattle.wl_plain.specs.Popups.{geometry_corner_at}
-use Rattle.wl_plain.proofs.WholeRows.{acknowledge, asks, at, attach, buffer_release, button, commit, corners, create_surface, delete_id, enter, event, fixed, get_xdg_surface, leave, motion, press, release, sent, status, toplevel_configure, u32, unsent, xdg_configure}
-use Rattle.wl_plain.proofs.WholeRowsPointer.{beside, both, both_pressed, minus_24, on_popup, popped, popped_released}
+use Rattle.wl_plain.proofs.WholeRows.{acknowledge, asks, at, attach, buffer_release, button, commit, corners, create_surface, delete_id, enter, event, fixed, get_xdg_surface, leave, motion, press, release, sent, toplevel_configure, u32, unsent, xdg_configure}
+use Rattle.wl_plain.proofs.WholeRowsPointer.{beside, both, minus_24, on_popup, popped, popped_released}
 use Rattle.wl_plain.proofs.WholeRowsPopups.{popped as placed}
 
 -- ---- a press beside all windows, while the popup has the focus and a button is down

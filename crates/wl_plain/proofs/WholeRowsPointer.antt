@@ -1,6 +1,6 @@
 -- Worked recordings with the pointer, computed on the definitions.
-use Rattle.std.proofs.Common.{◌≡◌, ℕ, zero, suc, List, [], ◌∷◌, ◌++◌, Option, Some, None, refl}
-use Rattle.std.specs.Prelude.{ℤ, pos, negsuc}
+use Rattle.std.proofs.Common.{◌≡◌, ℕ, zero, suc, List, [], ◌∷◌, ◌++◌, Some, refl}
+use Rattle.std.specs.Prelude.{pos, negsuc}
 use Rattle.wl_wire.specs.Wire.{Word, Number}
 use Rattle.wl_client.specs.declared.clients.Cause.TheVariants.{Gone}
 use Rattle.wl_surface.specs.Trees.{applied_tree, behaves_synchronised}

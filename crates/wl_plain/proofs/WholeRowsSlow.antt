@@ -1,12 +1,11 @@
 -- Clients that end since an event for them wasn't queued, computed on the definitions.
-use Rattle.std.proofs.Common.{◌≡◌, ℕ, List, [], ◌∷◌, ◌++◌, Option, Some, None, refl}
-use Rattle.std.specs.Prelude.{ℤ, pos}
+use Rattle.std.proofs.Common.{◌≡◌, [], ◌∷◌, Some, refl}
+use Rattle.std.specs.Prelude.{pos}
 use Rattle.wl_client.specs.declared.clients.Cause.TheVariants.{Memory, Slow}
 use Rattle.wl_surface.specs.Trees.{applied_tree, behaves_synchronised}
 use Rattle.wl_scene.specs.Windows.{tree}
 use Rattle.wl_plain.specs.Ample.{ends_and_settles, settles, settles_ends}
 use Rattle.wl_plain.specs.Desktop.{Desktop}
-use Rattle.wl_plain.specs.Settling.{Strike}
 use Rattle.wl_plain.specs.Whole.{pointed}
 use Rattle.wl_plain.proofs.WholeRows.{at, corners, enter, status, unsent}
 use Rattle.wl_plain.proofs.WholeRowsPointer.{both}
