@@ -77,7 +77,7 @@ unfolding tree applied_tree behaves_synchronised
 row_both_pressed = refl
 
 -- a positioner 16 of 8 by 8 pixels: to the upper left of its parent's corner
-abbrev with_positioner : Desktop → Desktop
+abbrev pub with_positioner : Desktop → Desktop
 with_positioner d =
     asks 2 16 6 (Number (negsuc 23) ∷ Number (negsuc 23) ∷ [])
     (asks 2 16 4 (Word 8 ∷ []) (asks 2 16 3 (Word 5 ∷ [])
