@@ -98,7 +98,10 @@ row_late-end = refl
 abbrev sliding : Desktop
 sliding = asks 1 16 5 (Word 3 ∷ []) (asks 1 16 1 (Number (pos 30) ∷ Number (pos 30) ∷ []) (with_positioner (shown 1 start)))
 
-pub row_sliding : unsent 1 (commit 1 14 (asks 1 15 2 (Word 17 ∷ Word 7 ∷ Word 16 ∷ []) (get_xdg_surface 1 15 14 (create_surface 1 14 sliding)))) ≡ event 17 0 24 (u32 34 ++ u32 34 ++ u32 30 ++ u32 30) ++ xdg_configure 15 2
+abbrev slid : Desktop
+slid = commit 1 14 (asks 1 15 2 (Word 17 ∷ Word 7 ∷ Word 16 ∷ []) (get_xdg_surface 1 15 14 (create_surface 1 14 sliding)))
+
+pub row_sliding : unsent 1 slid ≡ event 17 0 24 (u32 34 ++ u32 34 ++ u32 30 ++ u32 30) ++ xdg_configure 15 2
 unfolding tree applied_tree behaves_synchronised geometry_corner_at
 row_sliding = refl
 
@@ -114,6 +117,9 @@ unfolding tree applied_tree behaves_synchronised geometry_corner_at
 row_sliding_child = refl
 
 -- the positioner was copied: a change of it after get_popup is none of the popup's
-pub row_copied : unsent 1 (commit 1 14 (asks 1 16 0 [] (asks 1 16 1 (Number (pos 9) ∷ Number (pos 9) ∷ []) with_popup))) ≡ delete_id 16 ++ event 17 0 24 (u32 40 ++ u32 40 ++ u32 8 ++ u32 8) ++ xdg_configure 15 2
+abbrev copied : Desktop
+copied = commit 1 14 (asks 1 16 0 [] (asks 1 16 1 (Number (pos 9) ∷ Number (pos 9) ∷ []) with_popup))
+
+pub row_copied : unsent 1 copied ≡ delete_id 16 ++ event 17 0 24 (u32 40 ++ u32 40 ++ u32 8 ++ u32 8) ++ xdg_configure 15 2
 unfolding tree applied_tree behaves_synchronised geometry_corner_at
 row_copied = refl

@@ -225,7 +225,8 @@ row_second-again = refl
 
 abbrev grandchild : Desktop
 grandchild =
-    commit 1 24 (attach 1 24 19 (asks 1 25 5 [] (asks 1 25 1 (Number (pos 1) ∷ Number (pos 2) ∷ []) (asks 1 15 1 (Word 25 ∷ Word 24 ∷ Word 14 ∷ []) (create_surface 1 24 first)))))
+    commit 1 24 (attach 1 24 19 (asks 1 25 5 [] (asks 1 25 1 (Number (pos 1) ∷ Number (pos 2) ∷ [])
+    (asks 1 15 1 (Word 25 ∷ Word 24 ∷ Word 14 ∷ []) (create_surface 1 24 first)))))
 
 -- it behaves synchronised, since the one above it is
 pub row_grandchild : corners grandchild ≡ at (pos 0) (pos 0) ∷ at (pos 4) (pos 4) ∷ []
