@@ -1,6 +1,6 @@
 -- What happens where memory is always there is among what may happen.
 use Rattle.std.proofs.Common.{◌≡◌, ℕ, zero, suc, ◌+◌, ◌-◌, ap, arith, ◌++◌, take, drop, List, [], ◌∷◌, Bool, true, false, Option, Some, None, Result, refl, subst, sym, inl, inr}
-use Rattle.std.specs.Prelude.{ℤ, Ok, Err, nat_le, ◌||◌, is_none, is_some, length}
+use Rattle.std.specs.Prelude.{Ok, Err, nat_le, ◌||◌, is_none, is_some, length}
 use Rattle.wl_wire.specs.Wire.{split_of}
 use Rattle.wl_wire.specs.declared.header.Split.{Split}
 use Rattle.wl_wire.specs.declared.header.Split.TheVariants.{Message, More, Bad}
@@ -8,13 +8,13 @@ use Rattle.wl_client.specs.declared.clients.Cause.{Cause}
 use Rattle.wl_client.specs.declared.clients.Cause.TheVariants as cause
 use Rattle.wl_client.specs.declared.refusals.ErrorCode.TheVariants.{InvalidMethod}
 use Rattle.wl_client.specs.declared.refusals.Refusal.{Refusal}
-use Rattle.wl_client.specs.Peer.{Errs, IsIdle, Peer, QueuesOr, counted, ended, has_room, queued, sent_by, stored_at, with_rest}
+use Rattle.wl_client.specs.Peer.{Errs, Peer, QueuesOr, counted, ended, has_room, queued, sent_by, stored_at, with_rest}
 use Rattle.wl_store.specs.Stores.{write_refusal}
 use Rattle.wl_client.specs.Plain.{or_slow as refused_or, refused}
 use Rattle.wl_client.specs.Told.{Said, code_number, display_error, error_told}
 use Rattle.wl_scene.specs.Pointer.{Target, is_down, is_press}
 use Rattle.wl_scene.specs.Windows.{Window}
-use Rattle.wl_plain.specs.Ample.{acted, answered, became, buttons, changes_at, connects_at, dismisses, dismisses_unless, done, ends_and_settles, ends_first, enters, fed_at, fed_by, frames_to, happened, held_so, leaves, left_at, left_by, motion_for, motion_settles, moved_to, moves_unless, or_slow, pressed_if, queued_to, released_if, served, served_all, served_at, served_by, settles, settles_all, settles_ends, shown, taken, tells, tells_at, tells_button, tells_unless, then_ends}
+use Rattle.wl_plain.specs.Ample.{acted, answered, became, buttons, changes_at, connects_at, dismisses, dismisses_unless, done, ends_and_settles, ends_first, enters, fed_at, fed_by, frames_to, happened, held_so, leaves, left_at, left_by, motion_for, motion_settles, moved_to, moves_unless, or_slow, pressed_if, queued_to, released_if, served_all, served_at, served_by, settles, settles_all, settles_ends, shown, taken, tells, tells_at, tells_button, tells_unless}
 use Rattle.wl_plain.specs.declared.answers.ConnectError.TheVariants.{Full}
 use Rattle.wl_plain.specs.declared.answers.Done.{Done}
 use Rattle.wl_plain.specs.declared.answers.Done.TheVariants as gave
@@ -104,9 +104,12 @@ becomes-so refusal c r d = (refused refusal r.peer, errs refusal r.peer, ends-an
 does-so : (c : ℕ) (demand : Demand) (r : Resident) (d : Desktop) → Does c demand r d (done c demand r d)
 does-so c demand r d =
     let old : Resident = changed_for c demand r d in
-    let told : Peer × Option Cause = queued_to (replies c demand r old (all_windows d) d) old.peer in
-    (told.0, told.1, queues (replies c demand r old (all_windows d) d) old.peer,
-    ends-and-settles (unstruck (after_why told.1 c (with_client c (Some (with_peer told.0 old)) (done_for c demand r d)))))
+    let told : Peer × Option Cause = queued_to (replies c demand r old (all_windows d) d) old.peer in (
+      told.0,
+      told.1,
+      queues (replies c demand r old (all_windows d) d) old.peer,
+      ends-and-settles (unstruck (after_why told.1 c (with_client c (Some (with_peer told.0 old)) (done_for c demand r d)))),
+    )
 
 wants-so : (b : Bool) (Later : Type 0) (c : ℕ) (r : Resident) (d new : Desktop) → Later → WantsOr b Later c r d new
 wants-so false Later c r d new h = h
@@ -120,13 +123,27 @@ answers-so (Err refusal) c r d = becomes-so refusal c r d
 
 -- a message that is there is taken, or the client is done
 extended : (c n k : ℕ) (d mid : Desktop) (r : Resident) (s : Split) → Reaches c k d mid → client_at c mid ≡ Some r → r.peer.status ≡ None → split_of r.peer.rest ≡ s → (j : ℕ) × Reaches c j d (taken s c r mid)
-extended c n k d mid r (Message object opcode size) h e alive split =
-    (suc k, (mid, h, subst (λ (o : Option Resident). ServesAt c o mid (taken (Message object opcode size) c r mid)) (sym e)
-    (alive, subst (λ (s : Split). Takes s c r mid (taken (Message object opcode size) c r mid)) (sym split)
-    (answers-so (judge_all r object opcode (take (size - 8) (drop 8 r.peer.rest))) c (with_peer (with_rest (drop size r.peer.rest) r.peer) r) mid))))
-extended c n k d mid r Bad h e alive split =
-    (suc k, (mid, h, subst (λ (o : Option Resident). ServesAt c o mid (taken Bad c r mid)) (sym e)
-    (alive, subst (λ (s : Split). Takes s c r mid (taken Bad c r mid)) (sym split) (becomes-so (display_error InvalidMethod) c r mid))))
+extended c n k d mid r (Message object opcode size) h e alive split = (
+  suc k,
+  (
+    mid,
+    h,
+    subst (λ (o : Option Resident). ServesAt c o mid (taken (Message object opcode size) c r mid)) (sym e) (
+      alive,
+      subst (λ (s : Split). Takes s c r mid (taken (Message object opcode size) c r mid)) (sym split)
+          (answers-so (judge_all r object opcode (take (size - 8) (drop 8 r.peer.rest))) c (with_peer (with_rest (drop size r.peer.rest) r.peer) r) mid),
+    ),
+  ),
+)
+extended c n k d mid r Bad h e alive split = (
+  suc k,
+  (
+    mid,
+    h,
+    subst (λ (o : Option Resident). ServesAt c o mid (taken Bad c r mid)) (sym e)
+        (alive, subst (λ (s : Split). Takes s c r mid (taken Bad c r mid)) (sym split) (becomes-so (display_error InvalidMethod) c r mid)),
+  ),
+)
 extended c n k d mid r More h e alive split = (k, h)
 
 reached-by : (c n k : ℕ) (d mid : Desktop) (r : Resident) (s : Option Cause) → Reaches c k d mid → client_at c mid ≡ Some r → r.peer.status ≡ s → (j : ℕ) × Reaches c j d (served_by c s r mid)
@@ -184,9 +201,11 @@ left-so c (Some r) d = (gave.Gone (is_none r.peer.status), left-by c r r.peer.st
 frames-so : (time n k : ℕ) (d : Desktop) → TellsFrames time n (suc k) (frames_to time k (unstruck d)) (frames_to time (k + n) (unstruck d))
 frames-so time zero k d = let same : k + 0 ≡ k = omega arith in ap (λ (n : ℕ). frames_to time n (unstruck d)) same
 frames-so time (suc n) k d =
-    let same : suc k + n ≡ k + suc n = omega arith in
-    (frames_to time (suc k) (unstruck d), tells-so _ _ (suc k) (frames_to time k (unstruck d)),
-    subst (λ (all : ℕ). TellsFrames time n (suc (suc k)) (frames_to time (suc k) (unstruck d)) (frames_to time all (unstruck d))) same (frames-so time n (suc k) d))
+    let same : suc k + n ≡ k + suc n = omega arith in (
+      frames_to time (suc k) (unstruck d),
+      tells-so _ _ (suc k) (frames_to time k (unstruck d)),
+      subst (λ (all : ℕ). TellsFrames time n (suc (suc k)) (frames_to time (suc k) (unstruck d)) (frames_to time all (unstruck d))) same (frames-so time n (suc k) d),
+    )
 
 shows-so : (time : ℕ) (d : Desktop) → Shows time d (shown time d)
 shows-so time d = (frames_to time 32 (unstruck d), frames-so time 32 0 d, ends-and-settles (frames_to time 32 (unstruck d)))

@@ -1,6 +1,6 @@
 -- Where memory is always there, all whole messages of what has come are taken.
-use Rattle.std.proofs.Common.{◌≡◌, ◌≢◌, ℕ, zero, suc, ◌+◌, ◌-◌, ◌/◌, ◌%◌, ◌≤◌, ◌++◌, ap, arith, take, drop, List, [], ◌∷◌, length, Bool, true, false, Option, Some, None, Result, refl, subst, sym, ◌∙◌, inl, inr, length-drop}
-use Rattle.std.specs.Prelude.{Ok, Err, ◌||◌, ◌&&◌, ◌⊎◌, nat_le, nat_lt, fold, if◌then◌else◌, is_some}
+use Rattle.std.proofs.Common.{◌≡◌, ℕ, zero, suc, ◌+◌, ◌-◌, ◌/◌, ◌%◌, ◌≤◌, ap, arith, take, drop, List, [], ◌∷◌, length, Bool, true, false, Option, Some, None, Result, refl, subst, sym, ◌∙◌, inl, inr, length-drop}
+use Rattle.std.specs.Prelude.{Ok, Err, ◌||◌, ◌⊎◌, nat_lt, fold, if◌then◌else◌, is_some}
 use Rattle.std.proofs.lemmas.Bool.Decides.{nat_tests}
 use Rattle.wl_wire.specs.Wire.{is_size, split_of, word_of}
 use Rattle.wl_wire.specs.declared.header.Split.{Split}
@@ -11,7 +11,6 @@ use Rattle.wl_client.specs.declared.refusals.Refusal.{Refusal}
 use Rattle.wl_client.specs.Peer.{IsIdle, IsIdleAt, Peer, counted, ended, has_room, queued, removed, with_rest}
 use Rattle.wl_client.specs.Plain.{or_slow as refused_or, refused}
 use Rattle.wl_client.specs.Told.{Said, display_error, error_told}
-use Rattle.wl_client.proofs.Pieces.{split-within}
 use Rattle.wl_scene.specs.Pointer.{Target}
 use Rattle.wl_scene.specs.Windows.{Window}
 use Rattle.wl_plain.specs.Ample.{answered, became, done, ends_and_settles, ends_first, enters, leaves, moves_unless, or_slow, queued_to, served, served_all, served_at, served_by, settles, settles_all, taken, tells, tells_at, tells_unless}
@@ -23,7 +22,7 @@ use Rattle.wl_plain.specs.Demanding.{effect_of_commit, judge_all}
 use Rattle.wl_plain.specs.Desktop.{Callback, Desktop, Resident, become_by, client_at, client_in, place, resident_of, with_client, with_number, with_place}
 use Rattle.wl_plain.specs.Replies.{replies}
 use Rattle.wl_plain.specs.Whole.{after_why, done_for}
-use Rattle.wl_plain.specs.Settling.{Moving, Strike, after_status, becomes, ended_all, ended_at, ended_by, is_settled, is_struck, leave_drawn, target_now, told_drawn, unstruck}
+use Rattle.wl_plain.specs.Settling.{Moving, Strike, after_status, becomes, ended_at, is_settled, is_struck, leave_drawn, target_now, told_drawn, unstruck}
 use Rattle.wl_plain.specs.Stacked.{all_windows}
 use Rattle.wl_plain.specs.Step.{with_peer}
 use Rattle.wl_plain.proofs.Behind.{changed-rest, changed-status}

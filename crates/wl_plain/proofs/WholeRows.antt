@@ -1,20 +1,18 @@
 -- Worked recordings where every request is served, computed on the definitions: what they have in common.
-use Rattle.std.proofs.Common.{◌≡◌, ℕ, zero, suc, List, [], ◌∷◌, ◌++◌, Option, Some, None, refl, map}
+use Rattle.std.proofs.Common.{ℕ, List, [], ◌∷◌, ◌++◌, Option, Some, None, map}
 use Rattle.std.specs.Prelude.{ℤ, pos, codes, ◌*◌, true, false}
 use Rattle.std.specs.Option.{option_map_or}
 use Rattle.wl_wire.specs.Wire.{Field, Word, Number, Text, message_bytes}
 use Rattle.wl_client.specs.declared.clients.Cause.{Cause}
 use Rattle.wl_client.specs.Told.{Output}
 use Rattle.wl_blend.specs.declared.color.Rgb.{Rgb}
-use Rattle.wl_surface.specs.Trees.{applied_tree, behaves_synchronised}
-use Rattle.wl_scene.specs.Windows.{Place, Window, tree}
-use Rattle.wl_plain.specs.declared.answers.Done.TheVariants as gave
+use Rattle.wl_scene.specs.Windows.{Place, Window}
 use Rattle.wl_plain.specs.Ample.{acted, fed, happened}
 use Rattle.wl_plain.specs.Desktop.{Desktop, Resident, arrival, client_at, empty, with_client}
 use Rattle.wl_plain.specs.Scratch.{scratch_of}
 use Rattle.wl_plain.specs.Stacked.{all_windows}
 use Rattle.wl_plain.specs.Steps.{Store, Leave, Tick}
-use Rattle.wl_plain.specs.Whole.{Deed, Motion, Button}
+use Rattle.wl_plain.specs.Whole.{Motion, Button}
 
 -- two clients on an output of 64 by 64
 abbrev pub start : Desktop

@@ -1,15 +1,13 @@
 -- Requests of subsurfaces, cursors and popups that are refused, computed on the definitions.
-use Rattle.std.proofs.Common.{◌≡◌, ℕ, List, [], ◌∷◌, ◌++◌, Option, Some, None, refl}
-use Rattle.std.specs.Prelude.{ℤ, pos, negsuc, codes}
+use Rattle.std.proofs.Common.{◌≡◌, ℕ, [], ◌∷◌, ◌++◌, Some, None, refl}
+use Rattle.std.specs.Prelude.{ℤ, pos, negsuc}
 use Rattle.wl_wire.specs.Wire.{Word, Number}
-use Rattle.wl_client.specs.declared.clients.Cause.{Cause}
 use Rattle.wl_client.specs.declared.clients.Cause.TheVariants.{Protocol}
 use Rattle.wl_surface.specs.Trees.{applied_tree, behaves_synchronised, depth, descends_from, height}
 use Rattle.wl_scene.specs.Windows.{tree}
 use Rattle.wl_plain.specs.Desktop.{Desktop}
-use Rattle.wl_plain.specs.Popups.{geometry_corner_at}
-use Rattle.wl_plain.proofs.WholeRows.{asks, bind, commit, create_surface, get_xdg_surface, sent, shown, start, status, unsent, with_pointer, delete_id}
-use Rattle.wl_plain.proofs.WholeRowsPopups.{popped, with_popup, with_positioner}
+use Rattle.wl_plain.proofs.WholeRows.{asks, create_surface, get_xdg_surface, shown, start, status, unsent, with_pointer, delete_id}
+use Rattle.wl_plain.proofs.WholeRowsPopups.{with_popup, with_positioner}
 use Rattle.wl_plain.proofs.WholeRowsSubsurfaces.{with_subsurface}
 
 -- ---- wl_subcompositor.get_subsurface, of the surface `child` below `parent`

@@ -1,12 +1,12 @@
 -- Worked recordings with releases of buffers and frame callbacks, computed on the definitions.
-use Rattle.std.proofs.Common.{◌≡◌, ℕ, zero, suc, List, [], ◌∷◌, ◌++◌, Option, Some, None, refl}
+use Rattle.std.proofs.Common.{◌≡◌, ℕ, [], ◌∷◌, ◌++◌, Some, refl}
 use Rattle.std.specs.Prelude.{ℤ, pos, negsuc, codes}
 use Rattle.wl_wire.specs.Wire.{Word, Number}
 use Rattle.wl_client.specs.declared.clients.Cause.TheVariants.{Protocol}
 use Rattle.wl_surface.specs.Trees.{applied_tree, behaves_synchronised}
 use Rattle.wl_scene.specs.Windows.{tree}
 use Rattle.wl_plain.specs.Desktop.{Desktop}
-use Rattle.wl_plain.proofs.WholeRows.{asks, at, attach, black, buffer_release, color, commit, corners, create_buffer, create_surface, damage, delete_id, done, event, sent, shown, start, status, tick, toplevel_configure, u32, unsent, with_globals, with_pool, with_toplevel, xdg_configure}
+use Rattle.wl_plain.proofs.WholeRows.{asks, at, attach, buffer_release, commit, corners, create_buffer, create_surface, delete_id, done, event, sent, shown, start, status, tick, toplevel_configure, u32, unsent, with_globals, with_pool, with_toplevel, xdg_configure}
 
 -- one window of 40 by 40 pixels, in the corner
 abbrev one : Desktop

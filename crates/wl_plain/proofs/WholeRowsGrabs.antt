@@ -1,13 +1,13 @@
 -- Worked recordings with grabs and dismissed popups, computed on the definitions.
-use Rattle.std.proofs.Common.{◌≡◌, ℕ, List, [], ◌∷◌, ◌++◌, Option, Some, None, refl}
-use Rattle.std.specs.Prelude.{ℤ, pos, negsuc}
+use Rattle.std.proofs.Common.{◌≡◌, ℕ, [], ◌∷◌, ◌++◌, refl}
+use Rattle.std.specs.Prelude.{pos, negsuc}
 use Rattle.wl_wire.specs.Wire.{Word, Number}
 use Rattle.wl_surface.specs.Trees.{applied_tree, behaves_synchronised}
 use Rattle.wl_scene.specs.Windows.{tree}
 use Rattle.wl_plain.specs.Desktop.{Desktop}
 use Rattle.wl_plain.specs.Popups.{geometry_corner_at}
-use Rattle.wl_plain.proofs.WholeRows.{acknowledge, asks, at, attach, buffer_release, button, commit, corners, create_surface, delete_id, enter, event, fixed, get_xdg_surface, leave, motion, press, release, sent, status, toplevel_configure, u32, unsent, xdg_configure}
-use Rattle.wl_plain.proofs.WholeRowsPointer.{beside, both, both_pressed, minus_24, on_popup, popped, popped_released}
+use Rattle.wl_plain.proofs.WholeRows.{acknowledge, asks, at, attach, buffer_release, button, commit, corners, create_buffer, create_surface, delete_id, enter, event, fixed, get_xdg_surface, leave, motion, press, release, sent, toplevel_configure, u32, unsent, xdg_configure}
+use Rattle.wl_plain.proofs.WholeRowsPointer.{beside, both, both_pressed, minus_24, on_popup, popped, popped_released, with_positioner}
 use Rattle.wl_plain.proofs.WholeRowsPopups.{popped as placed}
 
 -- ---- a press beside all windows, while the popup has the focus and a button is down
@@ -254,3 +254,52 @@ row_on_dismissed-commit = refl
 pub row_on_dismissed-gone : unsent 2 (asks 2 17 0 [] (sent 2 (press 5 272 (sent 2 beside)))) ≡ delete_id 17
 unfolding tree applied_tree behaves_synchronised geometry_corner_at
 row_on_dismissed-gone = refl
+
+-- ---- the popup that has the focus goes, and the window below is entered
+
+abbrev focus_gone : Desktop
+focus_gone = asks 2 17 0 [] (sent 2 on_popup)
+
+pub row_focus_gone : unsent 2 focus_gone ≡ delete_id 17 ++ leave 13 8 14
+unfolding tree applied_tree behaves_synchronised geometry_corner_at
+row_focus_gone = refl
+
+pub row_focus_gone-other : unsent 1 focus_gone ≡ enter 13 2 6 10 10
+unfolding tree applied_tree behaves_synchronised geometry_corner_at
+row_focus_gone-other = refl
+
+-- ---- a press on another client's window raises that, and dismisses the popup
+
+abbrev on_other : Desktop
+on_other = press 6 272 (sent 2 (sent 1 (motion 5 (pos 35) (pos 5) (sent 2 popped_released))))
+
+pub row_on_other : unsent 2 on_other ≡ event 17 1 8 []
+unfolding tree applied_tree behaves_synchronised geometry_corner_at
+row_on_other = refl
+
+pub row_on_other-told : unsent 1 on_other ≡ button 13 3 6 1
+unfolding tree applied_tree behaves_synchronised geometry_corner_at
+row_on_other-told = refl
+
+pub row_on_other-windows : corners on_other ≡ at (pos 32) (pos 32) ∷ at (pos 0) (pos 0) ∷ []
+unfolding tree applied_tree behaves_synchronised geometry_corner_at
+row_on_other-windows = refl
+
+-- one without a grab stays, and is raised with its toplevel
+abbrev ungrabbed_configured : Desktop
+ungrabbed_configured =
+    commit 2 14 (asks 2 15 2 (Word 17 ∷ Word 7 ∷ Word 16 ∷ []) (with_positioner (get_xdg_surface 2 15 14 (create_surface 2 14 (sent 2 both_pressed)))))
+
+abbrev ungrabbed : Desktop
+ungrabbed = release 3 272 (commit 2 14 (attach 2 14 18 (create_buffer 2 9 18 0 8 (acknowledge 2 15 4 ungrabbed_configured))))
+
+abbrev ungrabbed_below : Desktop
+ungrabbed_below = release 7 272 (press 6 272 (motion 5 (pos 35) (pos 5) ungrabbed))
+
+pub row_ungrabbed_below : corners ungrabbed_below ≡ at (pos 32) (pos 32) ∷ at (pos 8) (pos 8) ∷ at (pos 0) (pos 0) ∷ []
+unfolding tree applied_tree behaves_synchronised geometry_corner_at
+row_ungrabbed_below = refl
+
+pub row_ungrabbed_above : corners (press 9 272 (motion 8 (pos 45) (pos 45) ungrabbed_below)) ≡ at (pos 0) (pos 0) ∷ at (pos 32) (pos 32) ∷ at (pos 8) (pos 8) ∷ []
+unfolding tree applied_tree behaves_synchronised geometry_corner_at
+row_ungrabbed_above = refl

@@ -1,6 +1,6 @@
 -- Worked recordings of what the pointer meets, and of callbacks, computed on the definitions.
-use Rattle.std.proofs.Common.{◌≡◌, ℕ, zero, suc, ◌+◌, List, [], ◌∷◌, ◌++◌, Option, Some, None, refl}
-use Rattle.std.specs.Prelude.{ℤ, pos, negsuc, codes}
+use Rattle.std.proofs.Common.{◌≡◌, ℕ, zero, suc, ◌+◌, [], ◌∷◌, ◌++◌, Some, refl}
+use Rattle.std.specs.Prelude.{pos, negsuc, codes}
 use Rattle.wl_wire.specs.Wire.{Word, Number}
 use Rattle.wl_client.specs.declared.clients.Cause.TheVariants.{Protocol}
 use Rattle.wl_surface.specs.Trees.{applied_tree, behaves_synchronised, depth, descends_from, height}
@@ -88,7 +88,10 @@ unfolding tree applied_tree behaves_synchronised
 row_move-serial = refl
 
 -- nor where the focus is in a popup
-pub row_move-popup : corners (motion 6 (pos 20) (pos 20) (asks 2 8 5 (Word 12 ∷ Word 8 ∷ []) (press 5 272 on_popup))) ≡ at (pos 0) (pos 0) ∷ at (pos 32) (pos 32) ∷ at (pos 8) (pos 8) ∷ []
+abbrev popup_moving : Desktop
+popup_moving = asks 2 8 5 (Word 12 ∷ Word 8 ∷ []) (press 5 272 on_popup)
+
+pub row_move-popup : corners (motion 6 (pos 20) (pos 20) popup_moving) ≡ at (pos 0) (pos 0) ∷ at (pos 32) (pos 32) ∷ at (pos 8) (pos 8) ∷ []
 unfolding tree applied_tree behaves_synchronised geometry_corner_at
 row_move-popup = refl
 

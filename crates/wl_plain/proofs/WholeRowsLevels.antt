@@ -1,5 +1,5 @@
 -- How deep subsurfaces may stand, computed on the definitions.
-use Rattle.std.proofs.Common.{◌≡◌, ℕ, zero, suc, ◌+◌, List, [], ◌∷◌, ◌++◌, Option, Some, None, refl}
+use Rattle.std.proofs.Common.{◌≡◌, ℕ, zero, suc, ◌+◌, [], ◌∷◌, ◌++◌, Some, None, refl}
 use Rattle.std.specs.Prelude.{codes}
 use Rattle.wl_wire.specs.Wire.{Word}
 use Rattle.wl_client.specs.declared.clients.Cause.TheVariants.{Protocol}

@@ -1,6 +1,6 @@
 -- Worked recordings with the pointer, computed on the definitions.
-use Rattle.std.proofs.Common.{◌≡◌, ℕ, zero, suc, List, [], ◌∷◌, ◌++◌, Option, Some, None, refl}
-use Rattle.std.specs.Prelude.{ℤ, pos, negsuc}
+use Rattle.std.proofs.Common.{◌≡◌, ℕ, zero, suc, List, [], ◌∷◌, ◌++◌, Some, refl}
+use Rattle.std.specs.Prelude.{pos, negsuc}
 use Rattle.wl_wire.specs.Wire.{Word, Number}
 use Rattle.wl_client.specs.declared.clients.Cause.TheVariants.{Gone}
 use Rattle.wl_surface.specs.Trees.{applied_tree, behaves_synchronised}
@@ -77,7 +77,7 @@ unfolding tree applied_tree behaves_synchronised
 row_both_pressed = refl
 
 -- a positioner 16 of 8 by 8 pixels: to the upper left of its parent's corner
-abbrev with_positioner : Desktop → Desktop
+abbrev pub with_positioner : Desktop → Desktop
 with_positioner d =
     asks 2 16 6 (Number (negsuc 23) ∷ Number (negsuc 23) ∷ [])
     (asks 2 16 4 (Word 8 ∷ []) (asks 2 16 3 (Word 5 ∷ [])

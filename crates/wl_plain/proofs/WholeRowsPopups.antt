@@ -1,6 +1,6 @@
 -- Worked recordings with popups, computed on the definitions.
-use Rattle.std.proofs.Common.{◌≡◌, ℕ, zero, suc, List, [], ◌∷◌, ◌++◌, Option, Some, None, refl}
-use Rattle.std.specs.Prelude.{ℤ, pos, negsuc, codes}
+use Rattle.std.proofs.Common.{◌≡◌, [], ◌∷◌, ◌++◌, Some, refl}
+use Rattle.std.specs.Prelude.{pos, codes}
 use Rattle.wl_wire.specs.Wire.{Word, Number}
 use Rattle.wl_client.specs.declared.clients.Cause.TheVariants.{Protocol}
 use Rattle.wl_surface.specs.Trees.{applied_tree, behaves_synchronised}
@@ -91,3 +91,35 @@ row_late = refl
 pub row_late-end : status 1 late ≡ Some (Protocol 17 0)
 unfolding tree applied_tree behaves_synchronised geometry_corner_at
 row_late-end = refl
+
+-- ---- within the output
+
+-- a larger popup of the surface 14, which may slide: (40, 40) would pass the corner (64, 64) of the output
+abbrev sliding : Desktop
+sliding = asks 1 16 5 (Word 3 ∷ []) (asks 1 16 1 (Number (pos 30) ∷ Number (pos 30) ∷ []) (with_positioner (shown 1 start)))
+
+abbrev slid : Desktop
+slid = commit 1 14 (asks 1 15 2 (Word 17 ∷ Word 7 ∷ Word 16 ∷ []) (get_xdg_surface 1 15 14 (create_surface 1 14 sliding)))
+
+pub row_sliding : unsent 1 slid ≡ event 17 0 24 (u32 34 ++ u32 34 ++ u32 30 ++ u32 30) ++ xdg_configure 15 2
+unfolding tree applied_tree behaves_synchronised geometry_corner_at
+row_sliding = refl
+
+-- on the popup at (40, 40) one of 20 by 20 is placed relative to that
+abbrev sliding_child : Desktop
+sliding_child =
+    commit 1 31 (asks 1 32 2 (Word 33 ∷ Word 15 ∷ Word 16 ∷ []) (asks 1 16 5 (Word 3 ∷ [])
+    (asks 1 16 2 (Number (pos 0) ∷ Number (pos 0) ∷ Number (pos 8) ∷ Number (pos 8) ∷ [])
+    (asks 1 16 1 (Number (pos 20) ∷ Number (pos 20) ∷ []) (get_xdg_surface 1 32 31 (create_surface 1 31 popped))))))
+
+pub row_sliding_child : unsent 1 sliding_child ≡ event 33 0 24 (u32 4 ++ u32 4 ++ u32 20 ++ u32 20) ++ xdg_configure 32 3
+unfolding tree applied_tree behaves_synchronised geometry_corner_at
+row_sliding_child = refl
+
+-- the positioner was copied: a change of it after get_popup is none of the popup's
+abbrev copied : Desktop
+copied = commit 1 14 (asks 1 16 0 [] (asks 1 16 1 (Number (pos 9) ∷ Number (pos 9) ∷ []) with_popup))
+
+pub row_copied : unsent 1 copied ≡ delete_id 16 ++ event 17 0 24 (u32 40 ++ u32 40 ++ u32 8 ++ u32 8) ++ xdg_configure 15 2
+unfolding tree applied_tree behaves_synchronised geometry_corner_at
+row_copied = refl

@@ -1,14 +1,15 @@
 -- Clients that end since an event for them wasn't queued, computed on the definitions.
-use Rattle.std.proofs.Common.{◌≡◌, ℕ, List, [], ◌∷◌, ◌++◌, Option, Some, None, refl}
-use Rattle.std.specs.Prelude.{ℤ, pos}
+use Rattle.std.proofs.Common.{◌≡◌, ℕ, List, [], ◌∷◌, Option, Some, None, refl}
+use Rattle.std.specs.Prelude.{pos}
 use Rattle.wl_client.specs.declared.clients.Cause.TheVariants.{Memory, Slow}
 use Rattle.wl_surface.specs.Trees.{applied_tree, behaves_synchronised}
 use Rattle.wl_scene.specs.Windows.{tree}
-use Rattle.wl_plain.specs.Ample.{ends_and_settles, settles, settles_ends}
-use Rattle.wl_plain.specs.Desktop.{Desktop}
-use Rattle.wl_plain.specs.Settling.{Strike}
+use Rattle.wl_plain.specs.Ample.{done_so, ends_and_settles, settles, settles_ends}
+use Rattle.wl_plain.specs.Ask.{Ignore}
+use Rattle.wl_plain.specs.Demand.{Asks}
+use Rattle.wl_plain.specs.Desktop.{Desktop, Resident, client_at}
 use Rattle.wl_plain.specs.Whole.{pointed}
-use Rattle.wl_plain.proofs.WholeRows.{at, corners, enter, status, unsent}
+use Rattle.wl_plain.proofs.WholeRows.{at, corners, enter, motion, status, unsent}
 use Rattle.wl_plain.proofs.WholeRowsPointer.{both}
 
 -- the pointer comes where the second client's window stands above that of the first
@@ -51,3 +52,26 @@ row_both_end-second = refl
 pub row_both_end-told : unsent 1 both_end ≡ []
 unfolding tree applied_tree behaves_synchronised
 row_both_end-told = refl
+
+-- a client that has the focus and isn't told the whole answer of its own request
+abbrev half_told : Option Resident → Desktop → Desktop
+half_told None d = d
+half_told (Some r) d = done_so (r.peer, Some Slow) 2 (Asks Ignore) r d
+
+abbrev both_entered : Desktop
+both_entered = motion 1 (pos 35) (pos 35) both
+
+abbrev own_slow : Desktop
+own_slow = half_told (client_at 2 both_entered) both_entered
+
+pub row_own_slow : status 2 own_slow ≡ Some Slow
+unfolding tree applied_tree behaves_synchronised
+row_own_slow = refl
+
+pub row_own_slow-told : unsent 2 own_slow ≡ enter 13 2 6 3 3
+unfolding tree applied_tree behaves_synchronised
+row_own_slow-told = refl
+
+pub row_own_slow-other : unsent 1 own_slow ≡ enter 13 2 6 35 35
+unfolding tree applied_tree behaves_synchronised
+row_own_slow-other = refl
