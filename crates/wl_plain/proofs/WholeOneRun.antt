@@ -9,6 +9,7 @@ use Rattle.wl_plain.specs.declared.answers.Done.TheVariants as gave
 use Rattle.wl_plain.specs.declared.answers.Fed.TheVariants.{NoClient}
 use Rattle.wl_plain.specs.Desktop.{Desktop, Resident, arrival, client_at, with_client}
 use Rattle.wl_plain.specs.Laws.{status_in}
+use Rattle.wl_plain.specs.LeftOut.{LeftOut}
 use Rattle.wl_plain.specs.Settling.{EndsAndSettles, becomes, unstruck}
 use Rattle.wl_plain.specs.Step.{with_peer}
 use Rattle.wl_plain.specs.Steps.{Act, Connect, Feed, Store, Leave, Tick, Send, Close, ConnectsAt, IsClosed, IsSent, IsStored, fed_of, lowest}
@@ -48,15 +49,15 @@ connects-long (Some n) d new done (inr h) = ap (λ x. length x.clients) h.1 ∙ 
 
 -- ---- a client is fed
 
-fed-once : (c : ℕ) (piece : List ℕ) (o : Option Resident) (d new end : Desktop) (done other : Done) → client_at c d ≡ o → lasting d.clients ≤ 32 → IsFedAt c piece o d done new → IsFedAt c piece o d other end → Spares (unstruck d) (unstruck new) → Spares (unstruck d) (unstruck end) → Same done other new end
-fed-once c piece None d new end done other is few h k fine well =
+fed-once : (out : LeftOut) (c : ℕ) (piece : List ℕ) (o : Option Resident) (d new end : Desktop) (done other : Done) → client_at c d ≡ o → lasting d.clients ≤ 32 → IsFedAt out c piece o d done new → IsFedAt out c piece o d other end → Spares (unstruck d) (unstruck new) → Spares (unstruck d) (unstruck end) → Same done other new end
+fed-once out c piece None d new end done other is few h k fine well =
     answered-once (λ new. new ≡ d) (λ new. gave.Feed NoClient) d new end done other (stays-leads d) h.1 k.1 h.0 k.0 fine well
-fed-once c piece (Some r) d new end done other is few h k fine well =
-    answered-once (FeedsAt c piece r.peer.status r d) (λ new. gave.Feed (fed_of (status_in c new))) d new end done other (feeds-leads c piece r d is few) h.0 k.0 h.1 k.1 fine well
+fed-once out c piece (Some r) d new end done other is few h k fine well =
+    answered-once (FeedsAt out c piece r.peer.status r d) (λ new. gave.Feed (fed_of (status_in c new))) d new end done other (feeds-leads out c piece r d is few) h.0 k.0 h.1 k.1 fine well
 
-pub fed-after : (c : ℕ) (piece : List ℕ) (o : Option Resident) (d new : Desktop) (done : Done) → client_at c d ≡ o → lasting d.clients ≤ 32 → IsFedAt c piece o d done new → After (unstruck d) (unstruck new)
-fed-after c piece None d new done is few h = (stays-leads d).follows new h.1
-fed-after c piece (Some r) d new done is few h = (feeds-leads c piece r d is few).follows new h.0
+pub fed-after : (out : LeftOut) (c : ℕ) (piece : List ℕ) (o : Option Resident) (d new : Desktop) (done : Done) → client_at c d ≡ o → lasting d.clients ≤ 32 → IsFedAt out c piece o d done new → After (unstruck d) (unstruck new)
+fed-after out c piece None d new done is few h = (stays-leads d).follows new h.1
+fed-after out c piece (Some r) d new done is few h = (feeds-leads out c piece r d is few).follows new h.0
 
 -- ---- a client goes
 
@@ -136,48 +137,48 @@ closed_once p a b q r h k = (h.1 ∙ sym k.1, h.0 ∙ sym k.0)
 pub few-of : (d : Desktop) → length d.clients ≤ 32 → lasting d.clients ≤ 32
 few-of d short = omega (arith, lasting-within d.clients, short)
 
-acts-once : (act : Act) (d new end : Desktop) (done other : Done) → length d.clients ≤ 32 → Acts act done d new → Acts act other d end → HadMemory (Steps act done) d new → HadMemory (Steps act other) d end → Same done other new end
-acts-once Connect d new end done other short h k fine well = connects-once (lowest d.clients) d new end done other h k fine well
-acts-once (Feed c piece) d new end done other short h k fine well = fed-once c piece (client_at c d) d new end done other refl (few-of d short) h k fine.1 well.1
-acts-once (Store c store at bytes) d new end done other short h k fine well =
+acts-once : (out : LeftOut) (act : Act) (d new end : Desktop) (done other : Done) → length d.clients ≤ 32 → Acts out act done d new → Acts out act other d end → HadMemory (Steps act done) d new → HadMemory (Steps act other) d end → Same done other new end
+acts-once out Connect d new end done other short h k fine well = connects-once (lowest d.clients) d new end done other h k fine well
+acts-once out (Feed c piece) d new end done other short h k fine well = fed-once out c piece (client_at c d) d new end done other refl (few-of d short) h k fine.1 well.1
+acts-once out (Store c store at bytes) d new end done other short h k fine well =
     changes-once (IsStored store at bytes) (stored_once store at bytes) _ done other c (client_at c d) d new end h k
-acts-once (Leave c) d new end done other short h k fine well = leaves-once c (client_at c d) d new end done other refl (few-of d short) h k fine.1 well.1
-acts-once (Tick time) d new end done other short h k fine well =
+acts-once out (Leave c) d new end done other short h k fine well = leaves-once c (client_at c d) d new end done other refl (few-of d short) h k fine.1 well.1
+acts-once out (Tick time) d new end done other short h k fine well =
     answered-once (Shows time d) (λ new. gave.Tick) d new end done other (shows-leads time d (few-of d short)) h.1 k.1 h.0 k.0 fine.1 well.1
-acts-once (Send c n) d new end done other short h k fine well = changes-once (IsSent n) (sent_once n) _ done other c (client_at c d) d new end h k
-acts-once (Close c) d new end done other short h k fine well = changes-once IsClosed closed_once _ done other c (client_at c d) d new end h k
+acts-once out (Send c n) d new end done other short h k fine well = changes-once (IsSent n) (sent_once n) _ done other c (client_at c d) d new end h k
+acts-once out (Close c) d new end done other short h k fine well = changes-once IsClosed closed_once _ done other c (client_at c d) d new end h k
 
-pub motion-leads : (time : ℕ) (x y : ℤ) (d : Desktop) → length d.clients ≤ 32 → Leads Desktop unstruck (unstruck d) (Happens (Motion time x y) d)
-motion-leads time x y d short =
+pub motion-leads : (out : LeftOut) (time : ℕ) (x y : ℤ) (d : Desktop) → length d.clients ≤ 32 → Leads Desktop unstruck (unstruck d) (Happens out (Motion time x y) d)
+motion-leads out time x y d short =
     let to = pointed (point_in d.output x y) d in
     from Desktop unstruck (unstruck d) (unstruck to) (MovesTo time to) (still _ d.clients tt) (moves-leads time to (few-of d short))
 
-deeds-once : (deed : Deed) (done : Done) (d new end : Desktop) → length d.clients ≤ 32 → Happens deed d new → Happens (with_answer done deed) d end → HadMemory deed d new → HadMemory (with_answer done deed) d end → (deed ≡ with_answer done deed) × (new ≡ end)
+deeds-once : (out : LeftOut) (deed : Deed) (done : Done) (d new end : Desktop) → length d.clients ≤ 32 → Happens out deed d new → Happens out (with_answer done deed) d end → HadMemory deed d new → HadMemory (with_answer done deed) d end → (deed ≡ with_answer done deed) × (new ≡ end)
 unfolding Same
-deeds-once (Steps act done) other d new end short h k fine well =
-    let same = acts-once act d new end done other short h k fine well in (ap (λ x. Steps act x) same.0, same.1)
-deeds-once (Motion time x y) done d new end short h k fine well = (refl, (motion-leads time x y d short).once new end h k fine.1 well.1)
-deeds-once (Button time button pressed) done d new end short h k fine well =
+deeds-once out (Steps act done) other d new end short h k fine well =
+    let same = acts-once out act d new end done other short h k fine well in (ap (λ x. Steps act x) same.0, same.1)
+deeds-once out (Motion time x y) done d new end short h k fine well = (refl, (motion-leads out time x y d short).once new end h k fine.1 well.1)
+deeds-once out (Button time button pressed) done d new end short h k fine well =
     (refl, (buttons-leads pressed time button d (few-of d short)).once new end h k fine.1 well.1)
 
 pub whole_one_run : WholeOneRun
-whole_one_run deed other old new end short alike h k fine well =
-    let again : Happens (with_answer alike.0 deed) old end = subst (λ x. Happens x old end) alike.1 k in
+whole_one_run out deed other old new end short alike h k fine well =
+    let again : Happens out (with_answer alike.0 deed) old end = subst (λ x. Happens out x old end) alike.1 k in
     let amply : HadMemory (with_answer alike.0 deed) old end = subst (λ x. HadMemory x old end) alike.1 well in
-    let same = deeds-once deed alike.0 old new end short h again fine amply in
+    let same = deeds-once out deed alike.0 old new end short h again fine amply in
     (same.0 ∙ sym alike.1, same.1)
 
-acts-long : (act : Act) (d new : Desktop) (done : Done) → length d.clients ≤ 32 → Acts act done d new → length new.clients ≡ length d.clients
-acts-long Connect d new done short h = connects-long (lowest d.clients) d new done h
-acts-long (Feed c piece) d new done short h = (fed-after c piece (client_at c d) d new done refl (few-of d short) h).long
-acts-long (Store c store at bytes) d new done short h = changes-long (IsStored store at bytes) _ done c (client_at c d) d new h
-acts-long (Leave c) d new done short h = (leaves-after c (client_at c d) d new done refl (few-of d short) h).long
-acts-long (Tick time) d new done short h = ((shows-leads time d (few-of d short)).follows new h.1).long
-acts-long (Send c n) d new done short h = changes-long (IsSent n) _ done c (client_at c d) d new h
-acts-long (Close c) d new done short h = changes-long IsClosed _ done c (client_at c d) d new h
+acts-long : (out : LeftOut) (act : Act) (d new : Desktop) (done : Done) → length d.clients ≤ 32 → Acts out act done d new → length new.clients ≡ length d.clients
+acts-long out Connect d new done short h = connects-long (lowest d.clients) d new done h
+acts-long out (Feed c piece) d new done short h = (fed-after out c piece (client_at c d) d new done refl (few-of d short) h).long
+acts-long out (Store c store at bytes) d new done short h = changes-long (IsStored store at bytes) _ done c (client_at c d) d new h
+acts-long out (Leave c) d new done short h = (leaves-after c (client_at c d) d new done refl (few-of d short) h).long
+acts-long out (Tick time) d new done short h = ((shows-leads time d (few-of d short)).follows new h.1).long
+acts-long out (Send c n) d new done short h = changes-long (IsSent n) _ done c (client_at c d) d new h
+acts-long out (Close c) d new done short h = changes-long IsClosed _ done c (client_at c d) d new h
 
 -- there are as many numbers as before
-pub happens-long : (deed : Deed) (d new : Desktop) → length d.clients ≤ 32 → Happens deed d new → length new.clients ≡ length d.clients
-happens-long (Steps act done) d new short h = acts-long act d new done short h
-happens-long (Motion time x y) d new short h = ((motion-leads time x y d short).follows new h).long
-happens-long (Button time button pressed) d new short h = ((buttons-leads pressed time button d (few-of d short)).follows new h).long
+pub happens-long : (out : LeftOut) (deed : Deed) (d new : Desktop) → length d.clients ≤ 32 → Happens out deed d new → length new.clients ≡ length d.clients
+happens-long out (Steps act done) d new short h = acts-long out act d new done short h
+happens-long out (Motion time x y) d new short h = ((motion-leads out time x y d short).follows new h).long
+happens-long out (Button time button pressed) d new short h = ((buttons-leads pressed time button d (few-of d short)).follows new h).long

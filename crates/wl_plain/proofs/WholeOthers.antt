@@ -110,16 +110,16 @@ else-than : (a c other : ℕ) → Some a ≡ Some c → c ≢ other → a ≢ ot
 else-than a c other same differ e = differ (sym (some-same a c same) ∙ e)
 
 pub whole_others_stay : WholeOthersStay
-whole_others_stay Connect done c other old new of h differ =
+whole_others_stay out Connect done c other old new of h differ =
     left_alone other old new (carried other old new (connects c other (lowest old.clients) old done new of h differ))
-whole_others_stay (Feed a piece) done c other old new of h differ =
-    left_alone other old new (λ A P stays known. fed-in a other (else-than a c other of differ) A P stays piece (client_at a old) old done new known h)
-whole_others_stay (Store a store at bytes) done c other old new of h differ =
-    left_alone other old new (λ A P stays known. changes-in a other (else-than a c other of differ) A P stays _ _ (client_at a old) old done new known h)
-whole_others_stay (Leave a) done c other old new of h differ =
-    left_alone other old new (λ A P stays known. leaves-in a other (else-than a c other of differ) A P stays (client_at a old) old done new known h)
-whole_others_stay (Tick time) done c other old new of h differ = absurd (cc)
-whole_others_stay (Send a n) done c other old new of h differ =
-    left_alone other old new (λ A P stays known. changes-in a other (else-than a c other of differ) A P stays _ _ (client_at a old) old done new known h)
-whole_others_stay (Close a) done c other old new of h differ =
-    left_alone other old new (λ A P stays known. changes-in a other (else-than a c other of differ) A P stays _ _ (client_at a old) old done new known h)
+whole_others_stay out (Feed a piece) done c other old new of h differ =
+    left_alone other old new (λ A P stays known. fed-in out a other (else-than a c other of differ) A P stays piece (client_at a old) old done new known h)
+whole_others_stay out (Store a store at bytes) done c other old new of h differ =
+    left_alone other old new (λ A P stays known. changes-in out a other (else-than a c other of differ) A P stays _ _ (client_at a old) old done new known h)
+whole_others_stay out (Leave a) done c other old new of h differ =
+    left_alone other old new (λ A P stays known. leaves-in out a other (else-than a c other of differ) A P stays (client_at a old) old done new known h)
+whole_others_stay out (Tick time) done c other old new of h differ = absurd (cc)
+whole_others_stay out (Send a n) done c other old new of h differ =
+    left_alone other old new (λ A P stays known. changes-in out a other (else-than a c other of differ) A P stays _ _ (client_at a old) old done new known h)
+whole_others_stay out (Close a) done c other old new of h differ =
+    left_alone other old new (λ A P stays known. changes-in out a other (else-than a c other of differ) A P stays _ _ (client_at a old) old done new known h)

@@ -16,6 +16,7 @@ use Rattle.wl_plain.specs.Changing.{changed_for, is_toplevel, stacked_by, stacke
 use Rattle.wl_plain.specs.Demand.{Demand, Asks, EndSurface, AskFrame, CommitTree, EndObject, GetSubsurface, EndSubsurface, SetMode, GetPointer, MakeCursor, CreatePositioner, EndPositioner, SetPositioner, GetPopup, Grab, EndPopup, EndToplevel, Move}
 use Rattle.wl_plain.specs.Demanding.{effect_of_commit}
 use Rattle.wl_plain.specs.Desktop.{Desktop, Resident, become, client_at, with_client}
+use Rattle.wl_plain.specs.LeftOut.{LeftOut}
 use Rattle.wl_plain.specs.Settling.{EndsAndSettles, after_status, becomes, ended_at, unstruck}
 use Rattle.wl_plain.specs.Stacked.{all_windows}
 use Rattle.wl_plain.specs.Step.{surface_of, with_peer}
@@ -80,7 +81,7 @@ stacked_for-left c other (Move surface serial) r windows d differ = (refl, refl)
 done-left : (c other : ℕ) (demand : Demand) (r : Resident) (d : Desktop) → c ≢ other → IsLeft other d (done_for c demand r d)
 done-left c other demand r d differ = stacked_for-left c other demand r (all_windows d) d differ
 
-module _ (c other : ℕ) (differ : c ≢ other) (A : Option Resident → List Standing → Type 0) (P : Resident → Cause → Type 0) (keeps : Keeps ToldSo A P) where
+module _ (out : LeftOut) (c other : ℕ) (differ : c ≢ other) (A : Option Resident → List Standing → Type 0) (P : Resident → Cause → Type 0) (keeps : Keeps ToldSo A P) where
   -- it is known of the other client
   abbrev Known : Desktop → Type 0
   Known d = IsIn other ToldSo told-focus A P keeps d
@@ -99,7 +100,7 @@ module _ (c other : ℕ) (differ : c ≢ other) (A : Option Resident → List St
   becomes-in : (Q : Peer → Type 0) (r : Resident) (d new : Desktop) → Known d → Becomes Q c r d new → Known new
   becomes-in Q r d new known h = settled (becomes c r h.0 d) new (left-in d (becomes c r h.0 d) (becomes-left c other r h.0 d differ) known) h.2
 
-  does-in : (demand : Demand) (r : Resident) (d new : Desktop) → Known d → Does c demand r d new → Known new
+  does-in : (demand : Demand) (r : Resident) (d new : Desktop) → Known d → Does out c demand r d new → Known new
   does-in demand r d new known h =
       let done : Desktop = done_for c demand r d in
       let now : Desktop = with_client c (Some (with_peer h.0 (changed_for c demand r d))) done in
@@ -107,27 +108,27 @@ module _ (c other : ℕ) (differ : c ≢ other) (A : Option Resident → List St
       let second : Known now = left-in done now (with-left c other (Some (with_peer h.0 (changed_for c demand r d))) done differ) first in
       settled (after_why h.1 c now) new (left-in now (after_why h.1 c now) (why-left h.1 c other now differ) second) h.3
 
-  wants-in : (b : Bool) (demand : Demand) (r : Resident) (d new : Desktop) → Known d → WantsOr b (Does c demand r d new) c r d new → Known new
+  wants-in : (b : Bool) (demand : Demand) (r : Resident) (d new : Desktop) → Known d → WantsOr b (Does out c demand r d new) c r d new → Known new
   wants-in false demand r d new known h = does-in demand r d new known h
   wants-in true demand r d new known (inl h) = becomes-in (LacksMemory r.peer) r d new known h
   wants-in true demand r d new known (inr h) = does-in demand r d new known h
 
-  answers-in : (judged : Result Demand Refusal) (r : Resident) (d new : Desktop) → Known d → Answers judged c r d new → Known new
+  answers-in : (judged : Result Demand Refusal) (r : Resident) (d new : Desktop) → Known d → Answers out judged c r d new → Known new
   answers-in (Ok demand) r d new known h = wants-in (wants_memory demand) demand (with_peer (counted r.peer) r) d new known h
   answers-in (Err refusal) r d new known h = becomes-in _ r d new known h
 
-  takes-in : (s : Split) (r : Resident) (d new : Desktop) → Known d → Takes s c r d new → Known new
+  takes-in : (s : Split) (r : Resident) (d new : Desktop) → Known d → Takes out s c r d new → Known new
   takes-in (Message object opcode size) r d new known h = answers-in _ _ d new known h
   takes-in Bad r d new known h = becomes-in _ r d new known h
   takes-in More r d new known h = absurd h
 
-  pub serves-in : (o : Option Resident) (d new : Desktop) → Known d → ServesAt c o d new → Known new
+  pub serves-in : (o : Option Resident) (d new : Desktop) → Known d → ServesAt out c o d new → Known new
   serves-in None d new known h = absurd h
   serves-in (Some r) d new known h = takes-in (split_of r.peer.rest) r d new known h.1
 
   -- ---- a piece
 
-  reaches-in : (n : ℕ) (d new : Desktop) → Known d → Reaches c n d new → Known new
+  reaches-in : (n : ℕ) (d new : Desktop) → Known d → Reaches out c n d new → Known new
   reaches-in zero d new known h = same-in d new h known
   reaches-in (suc n) d new known h = serves-in (client_at c h.0) h.0 new (reaches-in n d h.0 known h.1) h.2
 
@@ -138,7 +139,7 @@ module _ (c other : ℕ) (differ : c ≢ other) (A : Option Resident → List St
       let gone : Desktop = becomes c r (ended Memory r.peer) mid in
       settled gone new (left-in mid gone (becomes-left c other r (ended Memory r.peer) mid differ) known) h.1
 
-  feeds-in : (piece : List ℕ) (s : Option Cause) (r : Resident) (d new : Desktop) → Known d → FeedsAt c piece s r d new → Known new
+  feeds-in : (piece : List ℕ) (s : Option Cause) (r : Resident) (d new : Desktop) → Known d → FeedsAt out c piece s r d new → Known new
   feeds-in piece (Some cause) r d new known h = same-in d new h known
   feeds-in piece None r d new known h =
       let come : Resident = with_peer (with_rest (r.peer.rest ++ piece) r.peer) r in
@@ -146,7 +147,7 @@ module _ (c other : ℕ) (differ : c ≢ other) (A : Option Resident → List St
       let begun : Known start = left-in d start (with-left c other (Some come) d differ) known in
       stops-in (client_at c h.1) h.1 new (reaches-in h.0 start h.1 begun h.2) h.3
 
-  pub fed-in : (piece : List ℕ) (o : Option Resident) (d : Desktop) (done : Done) (new : Desktop) → Known d → IsFedAt c piece o d done new → Known new
+  pub fed-in : (piece : List ℕ) (o : Option Resident) (d : Desktop) (done : Done) (new : Desktop) → Known d → IsFedAt out c piece o d done new → Known new
   fed-in piece None d done new known h = same-in d new h.1 known
   fed-in piece (Some r) d done new known h = feeds-in piece r.peer.status r d new known h.0
 

@@ -13,6 +13,7 @@ use Rattle.wl_plain.specs.declared.answers.Done.{Done}
 use Rattle.wl_plain.specs.Changing.{drawing, grab_holder, without_callbacks}
 use Rattle.wl_plain.specs.Desktop.{Desktop, Resident, client_at, resident_of}
 use Rattle.wl_plain.specs.Laws.{toplevels_of}
+use Rattle.wl_plain.specs.LeftOut.{LeftOut}
 use Rattle.wl_plain.specs.Pointing.{button_told, has_pointers, motion_told, moved_with}
 use Rattle.wl_plain.specs.Replies.{focus_window, popups_done}
 use Rattle.wl_plain.specs.Settling.{Moving, SettlesAll, SettlesEnds, Settles, Strike, ended_all, ended_by, is_settled, unstruck}
@@ -288,31 +289,31 @@ kept-alone c old new h = at (client_at c old) h
     at None h = h.0
     at (Some r) h = by r r.peer.status h
 
-connects : (c : ℕ) (k : Option ℕ) (done : Done) (old new : Desktop) → lowest old.clients ≡ k → client_of Connect done ≢ Some c → ConnectsAt k old done new → KeepsItsOwn c old new
-connects c None done old new is not_it h = kept-same c old new h.1
-connects c (Some k) done old new is not_it (inl h) = kept-same c old new h.1
-connects c (Some k) done old new is not_it (inr h) =
+connects : (out : LeftOut) (c : ℕ) (k : Option ℕ) (done : Done) (old new : Desktop) → lowest old.clients ≡ k → client_of Connect done ≢ Some c → ConnectsAt k old done new → KeepsItsOwn c old new
+connects out c None done old new is not_it h = kept-same c old new h.1
+connects out c (Some k) done old new is not_it (inl h) = kept-same c old new h.1
+connects out c (Some k) done old new is not_it (inr h) =
     let of : client_of Connect done ≡ Some (k + 1) = ap (λ (x : Done). client_of Connect x) h.0 in
     let all : ConnectsAt (lowest old.clients) old done new = rw is (inr h) in
-    kept-alone c old new (whole_others_stay Connect done (k + 1) c old new of all (λ e. not_it (of ∙ ap (λ (n : ℕ). Some n) e)))
+    kept-alone c old new (whole_others_stay out Connect done (k + 1) c old new of all (λ e. not_it (of ∙ ap (λ (n : ℕ). Some n) e)))
 
 -- a step of another's, whose number is known
-another : (act : Act) (done : Done) (a c : ℕ) (old new : Desktop) → client_of act done ≡ Some a → client_of act done ≢ Some c → Happens (Steps act done) old new → KeepsItsOwn c old new
-another act done a c old new of not_it h =
-    kept-alone c old new (whole_others_stay act done a c old new of h (λ e. not_it (of ∙ ap (λ (n : ℕ). Some n) e)))
+another : (out : LeftOut) (act : Act) (done : Done) (a c : ℕ) (old new : Desktop) → client_of act done ≡ Some a → client_of act done ≢ Some c → Happens out (Steps act done) old new → KeepsItsOwn c old new
+another out act done a c old new of not_it h =
+    kept-alone c old new (whole_others_stay out act done a c old new of h (λ e. not_it (of ∙ ap (λ (n : ℕ). Some n) e)))
 
 pub whole_own_stays : WholeOwnStays
-whole_own_stays (Steps Connect done) c old new not_it h = connects c (lowest old.clients) done old new refl not_it h
-whole_own_stays (Steps (Feed a piece) done) c old new not_it h = another (Feed a piece) done a c old new refl not_it h
-whole_own_stays (Steps (Store a store at bytes) done) c old new not_it h = another (Store a store at bytes) done a c old new refl not_it h
-whole_own_stays (Steps (Leave a) done) c old new not_it h = another (Leave a) done a c old new refl not_it h
-whole_own_stays (Steps (Tick time) done) c old new not_it h =
+whole_own_stays out (Steps Connect done) c old new not_it h = connects out c (lowest old.clients) done old new refl not_it h
+whole_own_stays out (Steps (Feed a piece) done) c old new not_it h = another out (Feed a piece) done a c old new refl not_it h
+whole_own_stays out (Steps (Store a store at bytes) done) c old new not_it h = another out (Store a store at bytes) done a c old new refl not_it h
+whole_own_stays out (Steps (Leave a) done) c old new not_it h = another out (Leave a) done a c old new refl not_it h
+whole_own_stays out (Steps (Tick time) done) c old new not_it h =
     kept c old old new refl (λ surface. refl) (λ A P stays known. shown c A P stays time old new known h.1)
-whole_own_stays (Steps (Send a n) done) c old new not_it h = another (Send a n) done a c old new refl not_it h
-whole_own_stays (Steps (Close a) done) c old new not_it h = another (Close a) done a c old new refl not_it h
-whole_own_stays (Motion time x y) c old new not_it h =
+whole_own_stays out (Steps (Send a n) done) c old new not_it h = another out (Send a n) done a c old new refl not_it h
+whole_own_stays out (Steps (Close a) done) c old new not_it h = another out (Close a) done a c old new refl not_it h
+whole_own_stays out (Motion time x y) c old new not_it h =
     let start : Desktop = pointed (point_in old.output x y) old in
     kept c old start new refl (stand-same c old start (stand-moved c old.pointer.place (point_in old.output x y) old.pointer.move old.standing))
     (λ A P stays known. moves c A P stays time start new known h)
-whole_own_stays (Button time button true) c old new not_it h = presses (is_press button old.pointer.buttons) time button c old new h
-whole_own_stays (Button time button false) c old new not_it h = releases (is_down button old.pointer.buttons) time button c old new h
+whole_own_stays out (Button time button true) c old new not_it h = presses (is_press button old.pointer.buttons) time button c old new h
+whole_own_stays out (Button time button false) c old new not_it h = releases (is_down button old.pointer.buttons) time button c old new h

@@ -1,8 +1,7 @@
 -- What a message asks where every request is served, or the first error that it has.
-use Rattle.std.specs.Prelude.{ℕ, ◌+◌, ◌==◌, Bool, true, false, if◌then◌else◌, Option, Some, None, Result, Ok, Err, List, [], ◌∷◌}
-use Rattle.wl_wire.specs.Wire.{Field}
+use Rattle.std.specs.Prelude.{ℕ, ◌==◌, Bool, false, if◌then◌else◌, Option, Some, None, Result, Ok, Err, List, [], ◌∷◌}
 use Rattle.wl_proto.specs.declared.interface.Interface.{Interface}
-use Rattle.wl_proto.specs.declared.interface.Interface.TheVariants.{WlCompositor, WlSurface, WlSubcompositor, WlSubsurface, WlSeat, WlPointer, XdgWmBase, XdgPositioner, XdgSurface, XdgToplevel, XdgPopup}
+use Rattle.wl_proto.specs.declared.interface.Interface.TheVariants.{WlSurface, WlSubcompositor, WlSubsurface, WlSeat, WlPointer, XdgWmBase, XdgPositioner, XdgSurface, XdgToplevel, XdgPopup}
 use Rattle.wl_proto.specs.Messages.{Message}
 use Rattle.wl_client.specs.declared.refusals.ErrorCode.TheVariants.{UnconfiguredBuffer as unconfigured}
 use Rattle.wl_client.specs.declared.refusals.Refusal.{Refusal}
@@ -11,6 +10,7 @@ use Rattle.wl_shell.specs.Shell.{Effect, Stays, Unconfigured, Configures, XdgSur
 use Rattle.wl_plain.specs.Ask.{Ask, DestroySurface, DestroyToplevel}
 use Rattle.wl_plain.specs.Demand.{Demand, Asks, EndSurface, AskFrame, CommitTree, CreatePositioner, EndToplevel, Move}
 use Rattle.wl_plain.specs.Desktop.{Resident}
+use Rattle.wl_plain.specs.LeftOut.{LeftOut}
 use Rattle.wl_plain.specs.Popups.{Popped, popped_of}
 use Rattle.wl_plain.specs.Step.{ask_by}
 use Rattle.wl_plain.specs.WlPointer.{pointer_demand, seat_demand}
@@ -96,7 +96,11 @@ demand_by XdgToplevel r object version m = toplevel_demand r object version m
 demand_by XdgPopup r object version m = popup_demand r object m.opcode m.fields
 demand_by interface r object version m = ask_demand r object version m
 
+-- a request that is left out is refused as a limit would be
+abbrev pub demand_of : LeftOut → Resident → ℕ → ℕ → Message → Result Demand Refusal
+demand_of left r object version m = if left.requests m.interface m.opcode then past_limit else demand_by m.interface r object version m
+
 -- what a message to an object asks, or the first error that it has
-abbrev pub judge_all : Resident → ℕ → ℕ → List ℕ → Result Demand Refusal
-judge_all r object opcode body =
-    judged_at r.peer.objects r.peer.held (λ version m. demand_by m.interface r object version m) opcode body (r.peer.objects object)
+abbrev pub judge_all : LeftOut → Resident → ℕ → ℕ → List ℕ → Result Demand Refusal
+judge_all left r object opcode body =
+    judged_at r.peer.objects r.peer.held (λ version m. demand_of left r object version m) opcode body (r.peer.objects object)

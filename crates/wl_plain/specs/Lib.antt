@@ -5,6 +5,7 @@ pub mod Demand
 pub mod Demanding
 pub mod Desktop
 pub mod Laws
+pub mod LeftOut
 pub mod Marks
 pub mod Moments
 pub mod Owning

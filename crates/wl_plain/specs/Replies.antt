@@ -1,7 +1,6 @@
 -- What a client is told of its own message where every request is served, in the order of its events.
-use Rattle.std.specs.Prelude.{ℕ, ℤ, pos, ◌==◌, ◌&&◌, nat_lt, not, Bool, true, false, if◌then◌else◌, Option, Some, None, List, [], ◌∷◌, ◌++◌, filter, find, flat_map, fold, map}
-use Rattle.std.specs.List.{list_any}
-use Rattle.std.specs.Option.{option_map, option_map_or}
+use Rattle.std.specs.Prelude.{ℕ, ◌==◌, ◌&&◌, nat_lt, not, Bool, true, false, if◌then◌else◌, Option, Some, None, List, [], ◌∷◌, ◌++◌, filter, find, flat_map, fold, map}
+use Rattle.std.specs.Option.{option_map}
 use Rattle.wl_wire.specs.Wire.{Word, Number}
 use Rattle.wl_proto.specs.declared.interface.Interface.TheVariants.{WlBuffer, WlPointer, XdgPopup}
 use Rattle.wl_proto.specs.Messages.{says}
@@ -17,7 +16,8 @@ use Rattle.wl_plain.specs.Changing.{callbacks_of, has_focus, placement_now, tree
 use Rattle.wl_plain.specs.Demand.{Demand, Asks, EndSurface, CommitTree, EndObject, EndSubsurface, GetPointer, EndPositioner, EndPopup, EndToplevel}
 use Rattle.wl_plain.specs.Demanding.{effect_of_commit}
 use Rattle.wl_plain.specs.Desktop.{Desktop, Resident}
-use Rattle.wl_plain.specs.Popups.{Popped, is_among, popups_of}
+use Rattle.wl_plain.specs.LeftOut.{LeftOut}
+use Rattle.wl_plain.specs.Popups.{is_among, popups_of}
 use Rattle.wl_plain.specs.Step.{answers_to, each_once, toplevel_configured, xdg_configured}
 
 -- ---- configures
@@ -104,6 +104,11 @@ releases old new =
     map (λ b. said b.object (says WlBuffer 0 []))
     (fold (λ bs b. by_object b bs) [] (filter (λ b. not (is_busy b.number new.owned.surfaces) && has_object new b) (buffers_busy old.owned.surfaces)))
 
+-- unless they are left out
+abbrev pub releases_unless : Bool → Resident → Resident → List Said
+releases_unless true old new = []
+releases_unless false old new = releases old new
+
 -- ---- dismissed popups
 
 abbrev pub dismissed_in : Shell → List ℕ
@@ -119,5 +124,5 @@ popups_done old new =
     (filter (λ id. not (is_among id (dismissed_in old.owned.shell))) (newest_first (dismissed_in new.owned.shell)))
 
 -- all that a client is told of its own message
-abbrev pub replies : ℕ → Demand → Resident → Resident → List Window → Desktop → List Said
-replies c demand old new windows d = own_answers c demand old windows d ++ releases old new ++ popups_done old new
+abbrev pub replies : LeftOut → ℕ → Demand → Resident → Resident → List Window → Desktop → List Said
+replies left c demand old new windows d = own_answers c demand old windows d ++ releases_unless left.releases old new ++ popups_done old new

@@ -1,6 +1,5 @@
--- What may happen to the plain desktop where every request is served.
-use Rattle.std.specs.Option.{option_map}
-use Rattle.std.specs.Prelude.{ℕ, ℤ, pos, zero, suc, ◌≡◌, ◌+◌, ◌-◌, ◌-ℤ◌, ◌==◌, ◌&&◌, ◌||◌, int_lt, not, Bool, true, false, if◌then◌else◌, is_none, is_some, Option, Some, None, Result, Ok, Err, List, [], ◌∷◌, ◌++◌, length, take, drop, filter, flat_map, ◌⊎◌}
+-- What may happen to the plain desktop where every request is served but those that are left out.
+use Rattle.std.specs.Prelude.{ℕ, ℤ, pos, zero, suc, ◌≡◌, ◌-◌, ◌==◌, int_lt, Bool, true, false, if◌then◌else◌, is_none, Option, Some, None, Result, Ok, Err, List, [], ◌∷◌, ◌++◌, take, drop, filter, flat_map, ◌⊎◌}
 use Rattle.std.specs.List.{list_any}
 use Rattle.wl_wire.specs.Wire.{Word, split_of}
 use Rattle.wl_proto.specs.declared.interface.Interface.TheVariants.{WlCallback}
@@ -13,10 +12,9 @@ use Rattle.wl_client.specs.declared.refusals.ErrorCode.TheVariants.{InvalidMetho
 use Rattle.wl_client.specs.declared.refusals.Refusal.{Refusal}
 use Rattle.wl_client.specs.Peer.{Errs, IsIdle, LacksMemory, Peer, counted, ended, with_rest}
 use Rattle.wl_client.specs.Told.{Output, Said, display_error, id_deleted, said}
-use Rattle.wl_surface.specs.State.{History}
 use Rattle.wl_surface.specs.Surfaces.{Surfaces}
-use Rattle.wl_scene.specs.Pointer.{Pointer, Target, hit_by, is_down, is_press, without_button}
-use Rattle.wl_scene.specs.Stacking.{raised, without_client}
+use Rattle.wl_scene.specs.Pointer.{Pointer, Target, is_down, is_press, without_button}
+use Rattle.wl_scene.specs.Stacking.{raised}
 use Rattle.wl_scene.specs.Windows.{Place, Window, counting, hit}
 use Rattle.wl_plain.specs.declared.answers.Done.{Done}
 use Rattle.wl_plain.specs.declared.answers.Done.TheVariants as gave
@@ -27,13 +25,14 @@ use Rattle.wl_plain.specs.Demand.{Demand, Asks}
 use Rattle.wl_plain.specs.Demanding.{judge_all}
 use Rattle.wl_plain.specs.Desktop.{Callback, Desktop, Resident, client_at, with_client}
 use Rattle.wl_plain.specs.Laws.{status_in}
-use Rattle.wl_plain.specs.Pointing.{button_told, has_pointers, is_same, motion_told, moved_with}
-use Rattle.wl_plain.specs.Popups.{dismissing, popups_of}
+use Rattle.wl_plain.specs.LeftOut.{LeftOut}
+use Rattle.wl_plain.specs.Pointing.{button_told, has_pointers, motion_told, moved_with}
+use Rattle.wl_plain.specs.Popups.{dismissing}
 use Rattle.wl_plain.specs.Replies.{focus_window, popups_done, replies}
-use Rattle.wl_plain.specs.Settling.{EndsAndSettles, Moving, QueuesTo, Settles, SettlesEnds, Tells, becomes, ended_at, is_settled, target_now, told_drawn, unstruck}
+use Rattle.wl_plain.specs.Settling.{EndsAndSettles, Moving, QueuesTo, Settles, SettlesEnds, Tells, becomes, ended_at, is_settled, told_drawn, unstruck}
 use Rattle.wl_plain.specs.Stacked.{all_windows}
 use Rattle.wl_plain.specs.Step.{takes_memory, with_peer, with_shell}
-use Rattle.wl_plain.specs.Steps.{Act, Connect, Feed, Store, Leave, Tick, Send, Close, ConnectsAt, IsClosed, IsSent, IsStored, fed_of, left_so, lowest}
+use Rattle.wl_plain.specs.Steps.{Act, Connect, Feed, Store, Leave, Tick, Send, Close, ConnectsAt, IsClosed, IsSent, IsStored, fed_of, lowest}
 
 -- ---- one message
 
@@ -55,10 +54,10 @@ abbrev pub done_for : ℕ → Demand → Resident → Desktop → Desktop
 done_for c demand r d = with_kept_move (stacked_for c demand r (all_windows d) d)
 
 -- what is asked is done, its client is told, and the focus is settled
-abbrev pub Does : ℕ → Demand → Resident → Desktop → Desktop → Type 0
-Does c demand r d new =
+abbrev pub Does : LeftOut → ℕ → Demand → Resident → Desktop → Desktop → Type 0
+Does left c demand r d new =
     (q : Peer) × (why : Option Cause)
-    × QueuesTo (replies c demand r (changed_for c demand r d) (all_windows d) d) (changed_for c demand r d).peer q why
+    × QueuesTo (replies left c demand r (changed_for c demand r d) (all_windows d) d) (changed_for c demand r d).peer q why
     × EndsAndSettles (unstruck (after_why why c (with_client c (Some (with_peer q (changed_for c demand r d))) (done_for c demand r d)))) new
 
 abbrev pub WantsOr : Bool → Type 0 → ℕ → Resident → Desktop → Desktop → Type 0
@@ -66,30 +65,30 @@ WantsOr false Later c r d new = Later
 WantsOr true Later c r d new = Becomes (LacksMemory r.peer) c r d new ⊎ Later
 
 -- A message is done, or refused.
-abbrev pub Answers : Result Demand Refusal → ℕ → Resident → Desktop → Desktop → Type 0
-Answers (Ok demand) c r d new = WantsOr (wants_memory demand) (Does c demand (with_peer (counted r.peer) r) d new) c (with_peer (counted r.peer) r) d new
-Answers (Err refusal) c r d new = Becomes (Errs refusal r.peer) c r d new
+abbrev pub Answers : LeftOut → Result Demand Refusal → ℕ → Resident → Desktop → Desktop → Type 0
+Answers left (Ok demand) c r d new = WantsOr (wants_memory demand) (Does left c demand (with_peer (counted r.peer) r) d new) c (with_peer (counted r.peer) r) d new
+Answers left (Err refusal) c r d new = Becomes (Errs refusal r.peer) c r d new
 
 -- The first message of what has come is taken. A header whose size isn't allowed is refused as one.
-abbrev pub Takes : Split → ℕ → Resident → Desktop → Desktop → Type 0
-Takes (Whole object opcode size) c r d new =
-    Answers (judge_all r object opcode (take (size - 8) (drop 8 r.peer.rest))) c (with_peer (with_rest (drop size r.peer.rest) r.peer) r) d new
-Takes Bad c r d new = Becomes (Errs (display_error InvalidMethod) r.peer) c r d new
-Takes More c r d new = ⊥
+abbrev pub Takes : LeftOut → Split → ℕ → Resident → Desktop → Desktop → Type 0
+Takes left (Whole object opcode size) c r d new =
+    Answers left (judge_all left r object opcode (take (size - 8) (drop 8 r.peer.rest))) c (with_peer (with_rest (drop size r.peer.rest) r.peer) r) d new
+Takes left Bad c r d new = Becomes (Errs (display_error InvalidMethod) r.peer) c r d new
+Takes left More c r d new = ⊥
 
-abbrev pub ServesAt : ℕ → Option Resident → Desktop → Desktop → Type 0
-ServesAt c None d new = ⊥
-ServesAt c (Some r) d new = (r.peer.status ≡ None) × Takes (split_of r.peer.rest) c r d new
+abbrev pub ServesAt : LeftOut → ℕ → Option Resident → Desktop → Desktop → Type 0
+ServesAt left c None d new = ⊥
+ServesAt left c (Some r) d new = (r.peer.status ≡ None) × Takes left (split_of r.peer.rest) c r d new
 
-abbrev pub Serves : ℕ → Desktop → Desktop → Type 0
-Serves c d new = ServesAt c (client_at c d) d new
+abbrev pub Serves : LeftOut → ℕ → Desktop → Desktop → Type 0
+Serves left c d new = ServesAt left c (client_at c d) d new
 
 -- ---- a piece
 
 -- n messages, one after another
-abbrev pub Reaches : ℕ → ℕ → Desktop → Desktop → Type 0
-Reaches c zero d new = new ≡ d
-Reaches c (suc n) d new = (mid : Desktop) × Reaches c n d mid × Serves c mid new
+abbrev pub Reaches : LeftOut → ℕ → ℕ → Desktop → Desktop → Type 0
+Reaches left c zero d new = new ≡ d
+Reaches left c (suc n) d new = (mid : Desktop) × Reaches left c n d mid × Serves left c mid new
 
 -- The taking of messages stops where none is left, or at any moment for want of memory.
 abbrev pub StopsAt : ℕ → Option Resident → Desktop → Desktop → Type 0
@@ -97,14 +96,14 @@ StopsAt c None d new = ⊥
 StopsAt c (Some r) d new =
     ((new ≡ d) × IsIdle r.peer) ⊎ ((r.peer.status ≡ None) × EndsAndSettles (unstruck (becomes c r (ended cause.Memory r.peer) d)) new)
 
-abbrev pub FeedsAt : ℕ → List ℕ → Option Cause → Resident → Desktop → Desktop → Type 0
-FeedsAt c piece (Some cause) r d new = new ≡ d
-FeedsAt c piece None r d new =
-    (n : ℕ) × (mid : Desktop) × Reaches c n (with_client c (Some (with_peer (with_rest (r.peer.rest ++ piece) r.peer) r)) d) mid × StopsAt c (client_at c mid) mid new
+abbrev pub FeedsAt : LeftOut → ℕ → List ℕ → Option Cause → Resident → Desktop → Desktop → Type 0
+FeedsAt left c piece (Some cause) r d new = new ≡ d
+FeedsAt left c piece None r d new =
+    (n : ℕ) × (mid : Desktop) × Reaches left c n (with_client c (Some (with_peer (with_rest (r.peer.rest ++ piece) r.peer) r)) d) mid × StopsAt c (client_at c mid) mid new
 
-abbrev pub IsFedAt : ℕ → List ℕ → Option Resident → Desktop → Done → Desktop → Type 0
-IsFedAt c piece None d done new = (done ≡ gave.Feed NoClient) × (new ≡ d)
-IsFedAt c piece (Some r) d done new = FeedsAt c piece r.peer.status r d new × (done ≡ gave.Feed (fed_of (status_in c new)))
+abbrev pub IsFedAt : LeftOut → ℕ → List ℕ → Option Resident → Desktop → Done → Desktop → Type 0
+IsFedAt left c piece None d done new = (done ≡ gave.Feed NoClient) × (new ≡ d)
+IsFedAt left c piece (Some r) d done new = FeedsAt left c piece r.peer.status r d new × (done ≡ gave.Feed (fed_of (status_in c new)))
 
 -- ---- a client goes, is written to, or closed
 
@@ -285,17 +284,17 @@ pub data Deed : Type 0 where
   Button : ℕ → ℕ → Bool → Deed
 
 -- A step as it is where every request is served.
-abbrev pub Acts : Act → Done → Desktop → Desktop → Type 0
-Acts Connect done d new = ConnectsAt (lowest d.clients) d done new
-Acts (Feed c piece) done d new = IsFedAt c piece (client_at c d) d done new
-Acts (Store c store at bytes) done d new = ChangesAt (IsStored store at bytes) (gave.Store stored.NoClient) c (client_at c d) d done new
-Acts (Leave c) done d new = LeavesAt c (client_at c d) d done new
-Acts (Tick time) done d new = (done ≡ gave.Tick) × Shows time d new
-Acts (Send c n) done d new = ChangesAt (IsSent n) (gave.Sent false) c (client_at c d) d done new
-Acts (Close c) done d new = ChangesAt IsClosed (gave.Close false) c (client_at c d) d done new
+abbrev pub Acts : LeftOut → Act → Done → Desktop → Desktop → Type 0
+Acts left Connect done d new = ConnectsAt (lowest d.clients) d done new
+Acts left (Feed c piece) done d new = IsFedAt left c piece (client_at c d) d done new
+Acts left (Store c store at bytes) done d new = ChangesAt (IsStored store at bytes) (gave.Store stored.NoClient) c (client_at c d) d done new
+Acts left (Leave c) done d new = LeavesAt c (client_at c d) d done new
+Acts left (Tick time) done d new = (done ≡ gave.Tick) × Shows time d new
+Acts left (Send c n) done d new = ChangesAt (IsSent n) (gave.Sent false) c (client_at c d) d done new
+Acts left (Close c) done d new = ChangesAt IsClosed (gave.Close false) c (client_at c d) d done new
 
 -- What may happen to the plain desktop. Want of memory is the only choice.
-abbrev pub Happens : Deed → Desktop → Desktop → Type 0
-Happens (Steps act done) d new = Acts act done d new
-Happens (Motion time x y) d new = MovesTo time (pointed (point_in d.output x y) d) new
-Happens (Button time button pressed) d new = Buttons pressed time button d new
+abbrev pub Happens : LeftOut → Deed → Desktop → Desktop → Type 0
+Happens left (Steps act done) d new = Acts left act done d new
+Happens left (Motion time x y) d new = MovesTo time (pointed (point_in d.output x y) d) new
+Happens left (Button time button pressed) d new = Buttons pressed time button d new

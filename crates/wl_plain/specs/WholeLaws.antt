@@ -1,4 +1,4 @@
--- Laws of the plain desktop where every request is served: only want of memory leaves a choice, and an end is for good.
+-- Laws of the plain desktop whatever is left out: only want of memory leaves a choice, and an end is for good.
 use Rattle.std.specs.Prelude.{ℕ, ◌≡◌, ◌≢◌, ◌≤◌, List, [], ◌∷◌, length, Some, Err}
 use Rattle.wl_client.specs.declared.clients.Cause.{Cause}
 use Rattle.wl_client.specs.declared.clients.Cause.TheVariants as cause
@@ -7,6 +7,7 @@ use Rattle.wl_plain.specs.declared.answers.Done.{Done}
 use Rattle.wl_plain.specs.declared.answers.Done.TheVariants as gave
 use Rattle.wl_plain.specs.Desktop.{Desktop}
 use Rattle.wl_plain.specs.Laws.{status_in}
+use Rattle.wl_plain.specs.LeftOut.{LeftOut}
 use Rattle.wl_plain.specs.Steps.{Close, Connect}
 use Rattle.wl_plain.specs.Whole.{Deed, Steps, Happens}
 
@@ -28,18 +29,18 @@ HadMemory deed old new =
 -- end is left when the focus was settled for the last time (past 32 one could be left, and whether its event was queued would be a choice).
 abbrev pub WholeOneRun : Type 0
 WholeOneRun =
-    (deed other : Deed) (old new end : Desktop) → length old.clients ≤ 32 → AreAlike deed other → Happens deed old new → Happens other old end
+    (left : LeftOut) (deed other : Deed) (old new end : Desktop) → length old.clients ≤ 32 → AreAlike deed other → Happens left deed old new → Happens left other old end
     → HadMemory deed old new → HadMemory other old end → (deed ≡ other) × (new ≡ end)
 
 -- deeds one after another
-abbrev pub Lasts : List Deed → Desktop → Desktop → Type 0
-Lasts [] old new = new ≡ old
-Lasts (deed ∷ deeds) old new = (mid : Desktop) × Happens deed old mid × Lasts deeds mid new
+abbrev pub Lasts : LeftOut → List Deed → Desktop → Desktop → Type 0
+Lasts left [] old new = new ≡ old
+Lasts left (deed ∷ deeds) old new = (mid : Desktop) × Happens left deed old mid × Lasts left deeds mid new
 
 -- each of them met no want of memory
-abbrev pub HadMemoryAll : (deeds : List Deed) → (old new : Desktop) → Lasts deeds old new → Type 0
-HadMemoryAll [] old new run = Unit {0}
-HadMemoryAll (deed ∷ deeds) old new run = HadMemory deed old run.0 × HadMemoryAll deeds run.0 new run.2
+abbrev pub HadMemoryAll : (left : LeftOut) → (deeds : List Deed) → (old new : Desktop) → Lasts left deeds old new → Type 0
+HadMemoryAll left [] old new run = Unit {0}
+HadMemoryAll left (deed ∷ deeds) old new run = HadMemory deed old run.0 × HadMemoryAll left deeds run.0 new run.2
 
 abbrev pub AreAllAlike : List Deed → List Deed → Type 0
 AreAllAlike [] [] = Unit {0}
@@ -50,11 +51,11 @@ AreAllAlike (deed ∷ deeds) (other ∷ others) = AreAlike deed other × AreAllA
 -- The same of a list of deeds: it has at most one run that meets no want of memory, with its answers.
 abbrev pub WholeOnlyRun : Type 0
 WholeOnlyRun =
-    (deeds others : List Deed) (old new end : Desktop) → length old.clients ≤ 32 → AreAllAlike deeds others → (run : Lasts deeds old new)
-    → (other : Lasts others old end) → HadMemoryAll deeds old new run → HadMemoryAll others old end other → (deeds ≡ others) × (new ≡ end)
+    (left : LeftOut) (deeds others : List Deed) (old new end : Desktop) → length old.clients ≤ 32 → AreAllAlike deeds others → (run : Lasts left deeds old new)
+    → (other : Lasts left others old end) → HadMemoryAll left deeds old new run → HadMemoryAll left others old end other → (deeds ≡ others) × (new ≡ end)
 
 -- A client that ended stays so, for the same cause, until its number is given back.
 abbrev pub EndsStay : Type 0
 EndsStay =
-    (deed : Deed) (old new : Desktop) (c : ℕ) (why : Cause) → length old.clients ≤ 32 → Happens deed old new → ((done : Done) → deed ≢ Steps (Close c) done)
+    (left : LeftOut) (deed : Deed) (old new : Desktop) (c : ℕ) (why : Cause) → length old.clients ≤ 32 → Happens left deed old new → ((done : Done) → deed ≢ Steps (Close c) done)
     → status_in c old ≡ Some why → status_in c new ≡ Some why

@@ -1,4 +1,4 @@
--- What a step of one client leaves of the others, where every request is served.
+-- What a step of one client leaves of the others, whatever is left out.
 use Rattle.std.specs.Prelude.{ℕ, ℤ, ◌≡◌, ◌≢◌, ◌-◌, true, if◌then◌else◌, Option, Some, None, Result, Ok, Err, List, [], ◌∷◌, ◌++◌, drop, flat_map, take, ◌⊎◌}
 use Rattle.wl_wire.specs.Wire.{Word, Number, split_of}
 use Rattle.wl_wire.specs.declared.header.Split.{Split}
@@ -19,6 +19,7 @@ use Rattle.wl_plain.specs.Demand.{Demand}
 use Rattle.wl_plain.specs.Demanding.{judge_all}
 use Rattle.wl_plain.specs.Desktop.{Desktop, Resident, client_at, resident_of}
 use Rattle.wl_plain.specs.Laws.{toplevels_of}
+use Rattle.wl_plain.specs.LeftOut.{LeftOut}
 use Rattle.wl_plain.specs.Popups.{is_among}
 use Rattle.wl_plain.specs.Step.{with_peer}
 use Rattle.wl_plain.specs.Steps.{Act, Connect, Feed, Store, Leave, Tick, Send, Close}
@@ -95,7 +96,7 @@ client_of (Close c) done = Some c
 -- A step of a client leaves every other client alone, a message that is refused too.
 abbrev pub WholeOthersStay : Type 0
 WholeOthersStay =
-    (act : Act) (done : Done) (c other : ℕ) (old new : Desktop) → client_of act done ≡ Some c → Happens (Steps act done) old new → c ≢ other
+    (left : LeftOut) (act : Act) (done : Done) (c other : ℕ) (old new : Desktop) → client_of act done ≡ Some c → Happens left (Steps act done) old new → c ≢ other
     → IsLeftAlone other old new
 
 -- ---- a message that is refused
@@ -105,13 +106,13 @@ refusal_of (Ok demand) = None
 refusal_of (Err refusal) = Some refusal
 
 -- why the first message of what has come from a client is refused, if it is: for its header, or for what is judged of it
-abbrev pub refused_for : Split → Resident → Option Refusal
-refused_for (Whole object opcode size) r = refusal_of (judge_all r object opcode (take (size - 8) (drop 8 r.peer.rest)))
-refused_for Bad r = Some (display_error InvalidMethod)
-refused_for More r = None
+abbrev pub refused_for : LeftOut → Split → Resident → Option Refusal
+refused_for left (Whole object opcode size) r = refusal_of (judge_all left r object opcode (take (size - 8) (drop 8 r.peer.rest)))
+refused_for left Bad r = Some (display_error InvalidMethod)
+refused_for left More r = None
 
-abbrev pub first_refusal : Resident → Option Refusal
-first_refusal r = refused_for (split_of r.peer.rest) r
+abbrev pub first_refusal : LeftOut → Resident → Option Refusal
+first_refusal left r = refused_for left (split_of r.peer.rest) r
 
 -- A client has ended with this error, of which it was told, or with Slow or Memory where that event wasn't queued. Nothing is left of what it
 -- owned, and none of its toplevels stands.
@@ -119,11 +120,11 @@ abbrev pub HasErred : Refusal → ℕ → Resident → Desktop → Type 0
 HasErred refusal c r new = (q : Peer) × Errs refusal r.peer q × (client_at c new ≡ Some (resident_of q)) × (toplevels_of c new ≡ [])
 
 -- nothing more is taken of what came from a client: the piece that is being taken leads here
-abbrev pub IsTheLast : ℕ → Desktop → Type 0
-IsTheLast c new = (n : ℕ) (mid end : Desktop) → Reaches c n new mid → StopsAt c (client_at c mid) mid end → end ≡ new
+abbrev pub IsTheLast : LeftOut → ℕ → Desktop → Type 0
+IsTheLast left c new = (n : ℕ) (mid end : Desktop) → Reaches left c n new mid → StopsAt c (client_at c mid) mid end → end ≡ new
 
 -- A message that is refused ends its client with that error, is the last that is taken of that client, and leaves every other client alone.
 abbrev pub RefusedAlone : Type 0
 RefusedAlone =
-    (c : ℕ) (r : Resident) (refusal : Refusal) (old new : Desktop) → client_at c old ≡ Some r → first_refusal r ≡ Some refusal → Serves c old new
-    → HasErred refusal c r new × IsTheLast c new × ((other : ℕ) → c ≢ other → IsLeftAlone other old new)
+    (left : LeftOut) (c : ℕ) (r : Resident) (refusal : Refusal) (old new : Desktop) → client_at c old ≡ Some r → first_refusal left r ≡ Some refusal
+    → Serves left c old new → HasErred refusal c r new × IsTheLast left c new × ((other : ℕ) → c ≢ other → IsLeftAlone other old new)

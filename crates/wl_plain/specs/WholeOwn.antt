@@ -1,4 +1,4 @@
--- What all that happens leaves of a client, but for its own steps, where every request is served.
+-- What all that happens leaves of a client, but for its own steps.
 use Rattle.std.specs.Prelude.{ℕ, ◌≡◌, ◌≢◌, ◌==◌, Bool, false, Option, Some, None, List, [], ◌∷◌, ◌++◌, ◌⊎◌}
 use Rattle.std.specs.List.{list_any}
 use Rattle.wl_client.specs.declared.clients.Cause.{Cause}
@@ -8,6 +8,7 @@ use Rattle.wl_shell.specs.Shell.{Shell, XdgSurface}
 use Rattle.wl_scene.specs.Stacking.{Standing}
 use Rattle.wl_plain.specs.Desktop.{Desktop, Resident, client_at, resident_of}
 use Rattle.wl_plain.specs.Laws.{toplevels_of}
+use Rattle.wl_plain.specs.LeftOut.{LeftOut}
 use Rattle.wl_plain.specs.Popups.{dismiss, popup_changed}
 use Rattle.wl_plain.specs.Whole.{Deed, Happens, Steps, Motion, Button}
 use Rattle.wl_plain.specs.WholeOthers.{client_of}
@@ -85,4 +86,4 @@ actor_of (Button time button pressed) = None
 -- Whatever happens that isn't a step of a client's leaves it what it has, with the same toplevels standing, or ends it for an event that wasn't
 -- queued.
 abbrev pub WholeOwnStays : Type 0
-WholeOwnStays = (deed : Deed) (c : ℕ) (old new : Desktop) → actor_of deed ≢ Some c → Happens deed old new → KeepsItsOwn c old new
+WholeOwnStays = (left : LeftOut) (deed : Deed) (c : ℕ) (old new : Desktop) → actor_of deed ≢ Some c → Happens left deed old new → KeepsItsOwn c old new

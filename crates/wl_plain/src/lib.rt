@@ -38,7 +38,7 @@ pub fn others_stay()
     ensures { OthersStay }
 {}
 
-/// Where every request is served, a step of a client's leaves every other client as it was, but for what that is told of the pointer's focus.
+/// Whatever is left out, a step of a client's leaves every other client as it was, but for what that is told of the pointer's focus.
 pub fn whole_others_stay()
     ensures { WholeOthersStay }
 {}
@@ -59,7 +59,7 @@ pub fn served_alone()
     ensures { ServedAlone }
 {}
 
-/// Where every request is served, what happens is determined with its answer, but for want of memory.
+/// Whatever is left out, what happens is determined with its answer, but for want of memory.
 pub fn whole_one_run()
     ensures { WholeOneRun }
 {}

@@ -1,0 +1,15 @@
+-- What is left out of all that may be served.
+use Rattle.std.specs.Prelude.{Bool, true, false}
+use Rattle.wl_plain.specs.Served.{Unserved, beyond_toplevels}
+
+-- which requests are refused as a limit would be, and whether wl_buffer.release is never told
+pub record LeftOut : Type 0 where
+  pub requests : Unserved
+  pub releases : Bool
+
+abbrev pub nothing_left_out : LeftOut
+nothing_left_out = record { requests = λ interface opcode. false; releases = false }
+
+-- what is left out where no more than toplevels is served
+abbrev pub beyond_toplevels_left_out : LeftOut
+beyond_toplevels_left_out = record { requests = beyond_toplevels; releases = true }
