@@ -20,6 +20,7 @@ use Rattle.wl_plain.specs.Changing.{callbacks_of, changed_for, drawing, effect_d
 use Rattle.wl_plain.specs.Demand.{Demand, Asks, EndSurface, AskFrame, CommitTree, EndObject, GetSubsurface, EndSubsurface, SetMode, GetPointer, MakeCursor, CreatePositioner, EndPositioner, SetPositioner, GetPopup, Grab, EndPopup, EndToplevel, Move}
 use Rattle.wl_plain.specs.Demanding.{effect_of_commit, judge_all}
 use Rattle.wl_plain.specs.Desktop.{Callback, Desktop, Resident, become_by, client_at, client_in, place, resident_of, with_client, with_number, with_place}
+use Rattle.wl_plain.specs.LeftOut.{LeftOut}
 use Rattle.wl_plain.specs.Replies.{replies}
 use Rattle.wl_plain.specs.Whole.{after_why, done_for}
 use Rattle.wl_plain.specs.Settling.{Moving, Strike, after_status, becomes, ended_at, is_settled, is_struck, leave_drawn, target_now, told_drawn, unstruck}
@@ -211,133 +212,134 @@ why-leaves : (rest : List ℕ) (c : ℕ) (why : Option Cause) (d : Desktop) → 
 why-leaves rest c None d h = h
 why-leaves rest c (Some why) d h = ended-leaves-at rest why c c (client_at c d) d h
 
-done-leaves : (rest : List ℕ) (c : ℕ) (demand : Demand) (r : Resident) (d : Desktop) (there : Resident) → client_at c d ≡ Some there → LeavesBy rest r.peer.status r.peer.rest → Leaves rest c (done c demand r d)
-done-leaves rest c demand r d there e h =
-    let new : Resident = changed_for c demand r d in
-    let told : Peer × Option Cause = queued_to (replies c demand r new (all_windows d) d) new.peer in
-    let quiet = change-quiet c demand d r in
-    let left : LeavesBy rest told.0.status told.0.rest =
-    queued-leaves rest (replies c demand r new (all_windows d) d) new.peer (moved-leaves rest r.peer.status new.peer.status r.peer.rest new.peer.rest quiet.0 quiet.1 h) in
-    let found : client_at c (done_for c demand r d) ≡ Some there = ap (λ (clients : List (Option Resident)). client_in clients c) (stacked-for c demand r (all_windows d) d) ∙ e in
-    all-leaves rest c (after_why told.1 c (with_client c (Some (with_peer told.0 new)) (done_for c demand r d)))
-    (why-leaves rest c told.1 (with_client c (Some (with_peer told.0 new)) (done_for c demand r d)) (put-leaves rest c (Some (with_peer told.0 new)) (done_for c demand r d) there found left))
+module _ (out : LeftOut) where
+  done-leaves : (rest : List ℕ) (c : ℕ) (demand : Demand) (r : Resident) (d : Desktop) (there : Resident) → client_at c d ≡ Some there → LeavesBy rest r.peer.status r.peer.rest → Leaves rest c (done out c demand r d)
+  done-leaves rest c demand r d there e h =
+      let new : Resident = changed_for c demand r d in
+      let told : Peer × Option Cause = queued_to (replies out c demand r new (all_windows d) d) new.peer in
+      let quiet = change-quiet c demand d r in
+      let left : LeavesBy rest told.0.status told.0.rest =
+      queued-leaves rest (replies out c demand r new (all_windows d) d) new.peer (moved-leaves rest r.peer.status new.peer.status r.peer.rest new.peer.rest quiet.0 quiet.1 h) in
+      let found : client_at c (done_for c demand r d) ≡ Some there = ap (λ (clients : List (Option Resident)). client_in clients c) (stacked-for c demand r (all_windows d) d) ∙ e in
+      all-leaves rest c (after_why told.1 c (with_client c (Some (with_peer told.0 new)) (done_for c demand r d)))
+      (why-leaves rest c told.1 (with_client c (Some (with_peer told.0 new)) (done_for c demand r d)) (put-leaves rest c (Some (with_peer told.0 new)) (done_for c demand r d) there found left))
 
-refused-by : (rest : List ℕ) (b : Bool) (cause : Cause) (p q : Peer) → LeavesBy rest (refused_or b (ended cause q) p).status (refused_or b (ended cause q) p).rest
-refused-by rest true cause p q = tt
-refused-by rest false cause p q = tt
+  refused-by : (rest : List ℕ) (b : Bool) (cause : Cause) (p q : Peer) → LeavesBy rest (refused_or b (ended cause q) p).status (refused_or b (ended cause q) p).rest
+  refused-by rest true cause p q = tt
+  refused-by rest false cause p q = tt
 
-become-put : (rest : List ℕ) (s : Option Cause) (c : ℕ) (r : Resident) (q : Peer) (d : Desktop) (there : Resident) → client_at c d ≡ Some there → LeavesBy rest q.status q.rest → Leaves rest c (after_status s c (become_by s c r q d))
-become-put rest None c r q d there e h = put-leaves rest c (Some (record r { peer = q })) d there e h
-become-put rest (Some why) c r q d there e h =
-    subst (λ (o : Option Resident). LeavesAt rest o) (sym (number-same d.clients c (Some (resident_of q)) there e)) h
+  become-put : (rest : List ℕ) (s : Option Cause) (c : ℕ) (r : Resident) (q : Peer) (d : Desktop) (there : Resident) → client_at c d ≡ Some there → LeavesBy rest q.status q.rest → Leaves rest c (after_status s c (become_by s c r q d))
+  become-put rest None c r q d there e h = put-leaves rest c (Some (record r { peer = q })) d there e h
+  become-put rest (Some why) c r q d there e h =
+      subst (λ (o : Option Resident). LeavesAt rest o) (sym (number-same d.clients c (Some (resident_of q)) there e)) h
 
-refused-leaves : (rest : List ℕ) (refusal : Refusal) (c : ℕ) (r : Resident) (d : Desktop) (there : Resident) → client_at c d ≡ Some there → Leaves rest c (became c r (refused refusal r.peer) d)
-refused-leaves rest refusal c r d there e =
-    let q : Peer = refused refusal r.peer in
-    all-leaves rest c (becomes c r q d)
-    (become-put rest q.status c r q d there e (refused-by rest (has_room r.peer.unsent (error_told refusal)) _ r.peer (queued (error_told refusal) r.peer)))
+  refused-leaves : (rest : List ℕ) (refusal : Refusal) (c : ℕ) (r : Resident) (d : Desktop) (there : Resident) → client_at c d ≡ Some there → Leaves rest c (became c r (refused refusal r.peer) d)
+  refused-leaves rest refusal c r d there e =
+      let q : Peer = refused refusal r.peer in
+      all-leaves rest c (becomes c r q d)
+      (become-put rest q.status c r q d there e (refused-by rest (has_room r.peer.unsent (error_told refusal)) _ r.peer (queued (error_told refusal) r.peer)))
 
-answered-leaves : (rest : List ℕ) (judged : Result Demand Refusal) (c : ℕ) (r : Resident) (d : Desktop) (there : Resident) → client_at c d ≡ Some there → LeavesBy rest r.peer.status r.peer.rest → Leaves rest c (answered judged c r d)
-answered-leaves rest (Ok demand) c r d there e h = done-leaves rest c demand (with_peer (counted r.peer) r) d there e h
-answered-leaves rest (Err refusal) c r d there e h = refused-leaves rest refusal c r d there e
+  answered-leaves : (rest : List ℕ) (judged : Result Demand Refusal) (c : ℕ) (r : Resident) (d : Desktop) (there : Resident) → client_at c d ≡ Some there → LeavesBy rest r.peer.status r.peer.rest → Leaves rest c (answered out judged c r d)
+  answered-leaves rest (Ok demand) c r d there e h = done-leaves rest c demand (with_peer (counted r.peer) r) d there e h
+  answered-leaves rest (Err refusal) c r d there e h = refused-leaves rest refusal c r d there e
 
--- ---- all messages
+  -- ---- all messages
 
--- the client ended, no whole message is left of it, or at most n bytes are
-abbrev IsWithinBy : ℕ → Option Cause → List ℕ → Type 0
-IsWithinBy n (Some cause) rest = Unit {0}
-IsWithinBy n None rest = (split_of rest ≡ More) ⊎ (length rest ≤ n)
+  -- the client ended, no whole message is left of it, or at most n bytes are
+  abbrev IsWithinBy : ℕ → Option Cause → List ℕ → Type 0
+  IsWithinBy n (Some cause) rest = Unit {0}
+  IsWithinBy n None rest = (split_of rest ≡ More) ⊎ (length rest ≤ n)
 
-abbrev IsWithinAt : ℕ → Option Resident → Type 0
-IsWithinAt n None = ⊥
-IsWithinAt n (Some r) = IsWithinBy n r.peer.status r.peer.rest
+  abbrev IsWithinAt : ℕ → Option Resident → Type 0
+  IsWithinAt n None = ⊥
+  IsWithinAt n (Some r) = IsWithinBy n r.peer.status r.peer.rest
 
-abbrev IsWithin : ℕ → ℕ → Desktop → Type 0
-IsWithin n c d = IsWithinAt n (client_at c d)
+  abbrev IsWithin : ℕ → ℕ → Desktop → Type 0
+  IsWithin n c d = IsWithinAt n (client_at c d)
 
-short-within-by : (n : ℕ) (rest now : List ℕ) (s : Option Cause) → length rest ≤ n → LeavesBy rest s now → IsWithinBy n s now
-short-within-by n rest now None short h = inr (subst (λ (bytes : List ℕ). length bytes ≤ n) (sym h) short)
-short-within-by n rest now (Some cause) short h = tt
+  short-within-by : (n : ℕ) (rest now : List ℕ) (s : Option Cause) → length rest ≤ n → LeavesBy rest s now → IsWithinBy n s now
+  short-within-by n rest now None short h = inr (subst (λ (bytes : List ℕ). length bytes ≤ n) (sym h) short)
+  short-within-by n rest now (Some cause) short h = tt
 
-short-within-at : (n : ℕ) (rest : List ℕ) (o : Option Resident) → length rest ≤ n → LeavesAt rest o → IsWithinAt n o
-short-within-at n rest None short h = h
-short-within-at n rest (Some r) short h = short-within-by n rest r.peer.rest r.peer.status short h
+  short-within-at : (n : ℕ) (rest : List ℕ) (o : Option Resident) → length rest ≤ n → LeavesAt rest o → IsWithinAt n o
+  short-within-at n rest None short h = h
+  short-within-at n rest (Some r) short h = short-within-by n rest r.peer.rest r.peer.status short h
 
-short-within : (n c : ℕ) (rest : List ℕ) (d : Desktop) → length rest ≤ n → Leaves rest c d → IsWithin n c d
-short-within n c rest d short h = short-within-at n rest (client_at c d) short h
+  short-within : (n c : ℕ) (rest : List ℕ) (d : Desktop) → length rest ≤ n → Leaves rest c d → IsWithin n c d
+  short-within n c rest d short h = short-within-at n rest (client_at c d) short h
 
--- a whole message has a size
-sized-by : (short ok cut : Bool) (o op n a b size : ℕ) → (if short then More else (if ok then (if cut then More else Message o op n) else Bad)) ≡ Message a b size → (ok ≡ true) × (n ≡ size)
-sized-by true ok cut o op n a b size e = absurd (cc)
-sized-by false false cut o op n a b size e = absurd (cc)
-sized-by false true true o op n a b size e = absurd (cc)
-sized-by false true false o op n a b size e = (refl, cc)
+  -- a whole message has a size
+  sized-by : (short ok cut : Bool) (o op n a b size : ℕ) → (if short then More else (if ok then (if cut then More else Message o op n) else Bad)) ≡ Message a b size → (ok ≡ true) × (n ≡ size)
+  sized-by true ok cut o op n a b size e = absurd (cc)
+  sized-by false false cut o op n a b size e = absurd (cc)
+  sized-by false true true o op n a b size e = absurd (cc)
+  sized-by false true false o op n a b size e = (refl, cc)
 
-is_size-some : (n : ℕ) → is_size n ≡ true → 1 ≤ n
-is_size-some n e = grind (arith, nat_tests)
+  is_size-some : (n : ℕ) → is_size n ≡ true → 1 ≤ n
+  is_size-some n e = grind (arith, nat_tests)
 
-split-some : (r : List ℕ) (a b size : ℕ) → split_of r ≡ Message a b size → 1 ≤ size
-split-some r a b size e =
-    let h = sized-by (nat_lt (length r) 8) (is_size (word_of 4 r / 65536)) (nat_lt (length r) (word_of 4 r / 65536)) (word_of 0 r) (word_of 4 r % 65536) (word_of 4 r / 65536) a b size e in
-    subst (λ (n : ℕ). 1 ≤ n) h.1 (is_size-some (word_of 4 r / 65536) h.0)
+  split-some : (r : List ℕ) (a b size : ℕ) → split_of r ≡ Message a b size → 1 ≤ size
+  split-some r a b size e =
+      let h = sized-by (nat_lt (length r) 8) (is_size (word_of 4 r / 65536)) (nat_lt (length r) (word_of 4 r / 65536)) (word_of 0 r) (word_of 4 r % 65536) (word_of 4 r / 65536) a b size e in
+      subst (λ (n : ℕ). 1 ≤ n) h.1 (is_size-some (word_of 4 r / 65536) h.0)
 
-taken-within : (n c : ℕ) (s : Split) (r : Resident) (d : Desktop) → client_at c d ≡ Some r → r.peer.status ≡ None → split_of r.peer.rest ≡ s → (split_of r.peer.rest ≡ More) ⊎ (length r.peer.rest ≤ suc n) → IsWithin n c (taken s c r d)
-taken-within n c More r d e alive split h =
-    subst (λ (o : Option Resident). IsWithinAt n o) (sym e) (subst (λ (s : Option Cause). IsWithinBy n s r.peer.rest) (sym alive) (inl split))
-taken-within n c Bad r d e alive split h = short-within n c [] (became c r (refused (display_error InvalidMethod) r.peer) d) (omega arith) (refused-leaves [] (display_error InvalidMethod) c r d r e)
-taken-within n c (Message object opcode size) r d e alive split (inl more) = absurd (cc)
-taken-within n c (Message object opcode size) r d e alive split (inr short) =
-    let some : 1 ≤ size = split-some r.peer.rest object opcode size split in
-    let less : length (drop size r.peer.rest) ≤ n = omega (arith, length-drop size r.peer.rest) in
-    let left : LeavesBy (drop size r.peer.rest) r.peer.status (drop size r.peer.rest) = subst (λ (s : Option Cause). LeavesBy (drop size r.peer.rest) s (drop size r.peer.rest)) (sym alive) refl in
-    let judged : Result Demand Refusal = judge_all r object opcode (take (size - 8) (drop 8 r.peer.rest)) in
-    let next : Resident = with_peer (with_rest (drop size r.peer.rest) r.peer) r in
-    short-within n c (drop size r.peer.rest) (answered judged c next d) less (answered-leaves (drop size r.peer.rest) judged c next d r e left)
+  taken-within : (n c : ℕ) (s : Split) (r : Resident) (d : Desktop) → client_at c d ≡ Some r → r.peer.status ≡ None → split_of r.peer.rest ≡ s → (split_of r.peer.rest ≡ More) ⊎ (length r.peer.rest ≤ suc n) → IsWithin n c (taken out s c r d)
+  taken-within n c More r d e alive split h =
+      subst (λ (o : Option Resident). IsWithinAt n o) (sym e) (subst (λ (s : Option Cause). IsWithinBy n s r.peer.rest) (sym alive) (inl split))
+  taken-within n c Bad r d e alive split h = short-within n c [] (became c r (refused (display_error InvalidMethod) r.peer) d) (omega arith) (refused-leaves [] (display_error InvalidMethod) c r d r e)
+  taken-within n c (Message object opcode size) r d e alive split (inl more) = absurd (cc)
+  taken-within n c (Message object opcode size) r d e alive split (inr short) =
+      let some : 1 ≤ size = split-some r.peer.rest object opcode size split in
+      let less : length (drop size r.peer.rest) ≤ n = omega (arith, length-drop size r.peer.rest) in
+      let left : LeavesBy (drop size r.peer.rest) r.peer.status (drop size r.peer.rest) = subst (λ (s : Option Cause). LeavesBy (drop size r.peer.rest) s (drop size r.peer.rest)) (sym alive) refl in
+      let judged : Result Demand Refusal = judge_all out r object opcode (take (size - 8) (drop 8 r.peer.rest)) in
+      let next : Resident = with_peer (with_rest (drop size r.peer.rest) r.peer) r in
+      short-within n c (drop size r.peer.rest) (answered out judged c next d) less (answered-leaves (drop size r.peer.rest) judged c next d r e left)
 
-served-within-by : (n c : ℕ) (s : Option Cause) (r : Resident) (d : Desktop) → client_at c d ≡ Some r → r.peer.status ≡ s → IsWithinBy (suc n) s r.peer.rest → IsWithin n c (served_by c s r d)
-served-within-by n c None r d e alive h = taken-within n c (split_of r.peer.rest) r d e alive refl h
-served-within-by n c (Some cause) r d e alive h =
-    subst (λ (o : Option Resident). IsWithinAt n o) (sym e) (subst (λ (s : Option Cause). IsWithinBy n s r.peer.rest) (sym alive) tt)
+  served-within-by : (n c : ℕ) (s : Option Cause) (r : Resident) (d : Desktop) → client_at c d ≡ Some r → r.peer.status ≡ s → IsWithinBy (suc n) s r.peer.rest → IsWithin n c (served_by out c s r d)
+  served-within-by n c None r d e alive h = taken-within n c (split_of r.peer.rest) r d e alive refl h
+  served-within-by n c (Some cause) r d e alive h =
+      subst (λ (o : Option Resident). IsWithinAt n o) (sym e) (subst (λ (s : Option Cause). IsWithinBy n s r.peer.rest) (sym alive) tt)
 
-served-within-at : (n c : ℕ) (o : Option Resident) (d : Desktop) → client_at c d ≡ o → IsWithinAt (suc n) o → IsWithin n c (served_at c o d)
-served-within-at n c None d e h = absurd h
-served-within-at n c (Some r) d e h = served-within-by n c r.peer.status r d e refl h
+  served-within-at : (n c : ℕ) (o : Option Resident) (d : Desktop) → client_at c d ≡ o → IsWithinAt (suc n) o → IsWithin n c (served_at out c o d)
+  served-within-at n c None d e h = absurd h
+  served-within-at n c (Some r) d e h = served-within-by n c r.peer.status r d e refl h
 
-served-within : (n c : ℕ) (d : Desktop) → IsWithin (suc n) c d → IsWithin n c (served c d)
-served-within n c d h = served-within-at n c (client_at c d) d refl h
+  served-within : (n c : ℕ) (d : Desktop) → IsWithin (suc n) c d → IsWithin n c (served out c d)
+  served-within n c d h = served-within-at n c (client_at c d) d refl h
 
-all-within : (n k c : ℕ) (d : Desktop) → IsWithin (k + n) c d → IsWithin k c (served_all c n d)
-all-within zero k c d h = let same : k + 0 ≡ k = omega arith in subst (λ (m : ℕ). IsWithin m c d) same h
-all-within (suc n) k c d h =
-    let same : k + suc n ≡ suc k + n = omega arith in
-    served-within k c (served_all c n d) (all-within n (suc k) c d (subst (λ (m : ℕ). IsWithin m c d) same h))
+  all-within : (n k c : ℕ) (d : Desktop) → IsWithin (k + n) c d → IsWithin k c (served_all out c n d)
+  all-within zero k c d h = let same : k + 0 ≡ k = omega arith in subst (λ (m : ℕ). IsWithin m c d) same h
+  all-within (suc n) k c d h =
+      let same : k + suc n ≡ suc k + n = omega arith in
+      served-within k c (served_all out c n d) (all-within n (suc k) c d (subst (λ (m : ℕ). IsWithin m c d) same h))
 
--- ---- the client is there, and nothing is left to take of it
+  -- ---- the client is there, and nothing is left to take of it
 
-abbrev pub IsTaken : ℕ → Desktop → Type 0
-IsTaken c d = (r : Resident) × (client_at c d ≡ Some r) × IsIdle r.peer
+  abbrev pub IsTaken : ℕ → Desktop → Type 0
+  IsTaken c d = (r : Resident) × (client_at c d ≡ Some r) × IsIdle r.peer
 
-nothing-left : (rest : List ℕ) → (split_of rest ≡ More) ⊎ (length rest ≤ 0) → split_of rest ≡ More
-nothing-left rest (inl more) = more
-nothing-left [] (inr short) = refl
-nothing-left (byte ∷ rest) (inr short) = absurd (omega arith)
+  nothing-left : (rest : List ℕ) → (split_of rest ≡ More) ⊎ (length rest ≤ 0) → split_of rest ≡ More
+  nothing-left rest (inl more) = more
+  nothing-left [] (inr short) = refl
+  nothing-left (byte ∷ rest) (inr short) = absurd (omega arith)
 
-idle-by : (s : Option Cause) (rest : List ℕ) → IsWithinBy 0 s rest → IsIdleAt s rest
-idle-by None rest h = nothing-left rest h
-idle-by (Some cause) rest h = tt
+  idle-by : (s : Option Cause) (rest : List ℕ) → IsWithinBy 0 s rest → IsIdleAt s rest
+  idle-by None rest h = nothing-left rest h
+  idle-by (Some cause) rest h = tt
 
-taken-at : (c : ℕ) (o : Option Resident) (d : Desktop) → client_at c d ≡ o → IsWithinAt 0 o → IsTaken c d
-taken-at c None d e h = absurd h
-taken-at c (Some r) d e h = (r, e, idle-by r.peer.status r.peer.rest h)
+  taken-at : (c : ℕ) (o : Option Resident) (d : Desktop) → client_at c d ≡ o → IsWithinAt 0 o → IsTaken c d
+  taken-at c None d e h = absurd h
+  taken-at c (Some r) d e h = (r, e, idle-by r.peer.status r.peer.rest h)
 
--- as many messages as there are bytes are all of them
-pub all-taken : (c : ℕ) (r there : Resident) (d : Desktop) → client_at c d ≡ Some there → r.peer.status ≡ None → IsTaken c (served_all c (length r.peer.rest) (with_client c (Some r) d))
-all-taken c r there d e alive =
-    let come : Desktop = with_client c (Some r) d in
-    let enough : length r.peer.rest ≤ length r.peer.rest = omega arith in
-    let within : IsWithin (length r.peer.rest) c come =
-    subst (λ (o : Option Resident). IsWithinAt (length r.peer.rest) o) (sym (number-same d.clients c (Some r) there e))
-    (subst (λ (s : Option Cause). IsWithinBy (length r.peer.rest) s r.peer.rest) (sym alive) (inr enough)) in
-    let same : length r.peer.rest ≡ 0 + length r.peer.rest = omega arith in
-    let end : IsWithin 0 c (served_all c (length r.peer.rest) come) = all-within (length r.peer.rest) 0 c come (subst (λ (n : ℕ). IsWithin n c come) same within) in
-    taken-at c (client_at c (served_all c (length r.peer.rest) come)) (served_all c (length r.peer.rest) come) refl end
+  -- as many messages as there are bytes are all of them
+  pub all-taken : (c : ℕ) (r there : Resident) (d : Desktop) → client_at c d ≡ Some there → r.peer.status ≡ None → IsTaken c (served_all out c (length r.peer.rest) (with_client c (Some r) d))
+  all-taken c r there d e alive =
+      let come : Desktop = with_client c (Some r) d in
+      let enough : length r.peer.rest ≤ length r.peer.rest = omega arith in
+      let within : IsWithin (length r.peer.rest) c come =
+      subst (λ (o : Option Resident). IsWithinAt (length r.peer.rest) o) (sym (number-same d.clients c (Some r) there e))
+      (subst (λ (s : Option Cause). IsWithinBy (length r.peer.rest) s r.peer.rest) (sym alive) (inr enough)) in
+      let same : length r.peer.rest ≡ 0 + length r.peer.rest = omega arith in
+      let end : IsWithin 0 c (served_all out c (length r.peer.rest) come) = all-within (length r.peer.rest) 0 c come (subst (λ (n : ℕ). IsWithin n c come) same within) in
+      taken-at c (client_at c (served_all out c (length r.peer.rest) come)) (served_all out c (length r.peer.rest) come) refl end

@@ -9,6 +9,7 @@ use Rattle.wl_blend.specs.declared.color.Rgb.{Rgb}
 use Rattle.wl_scene.specs.Windows.{Place, Window}
 use Rattle.wl_plain.specs.Ample.{acted, fed, happened}
 use Rattle.wl_plain.specs.Desktop.{Desktop, Resident, arrival, client_at, empty, with_client}
+use Rattle.wl_plain.specs.LeftOut.{nothing_left_out}
 use Rattle.wl_plain.specs.Scratch.{scratch_of}
 use Rattle.wl_plain.specs.Stacked.{all_windows}
 use Rattle.wl_plain.specs.Steps.{Store, Leave, Tick}
@@ -22,26 +23,26 @@ start =
 
 -- a request of a client to an object
 abbrev pub asks : ℕ → ℕ → ℕ → List Field → Desktop → Desktop
-asks c object opcode fields d = fed c (message_bytes object opcode fields) d
+asks c object opcode fields d = fed nothing_left_out c (message_bytes object opcode fields) d
 
 abbrev pub motion : ℕ → ℤ → ℤ → Desktop → Desktop
-motion time x y d = happened (Motion time x y) d
+motion time x y d = happened nothing_left_out (Motion time x y) d
 
 abbrev pub press : ℕ → ℕ → Desktop → Desktop
-press time button d = happened (Button time button true) d
+press time button d = happened nothing_left_out (Button time button true) d
 
 abbrev pub release : ℕ → ℕ → Desktop → Desktop
-release time button d = happened (Button time button false) d
+release time button d = happened nothing_left_out (Button time button false) d
 
 abbrev pub tick : ℕ → Desktop → Desktop
-tick time d = acted (Tick time) d
+tick time d = acted nothing_left_out (Tick time) d
 
 abbrev pub leaves : ℕ → Desktop → Desktop
-leaves c d = acted (Leave c) d
+leaves c d = acted nothing_left_out (Leave c) d
 
 -- bytes are put into a store of a client
 abbrev pub stores : ℕ → ℕ → List ℕ → ℕ → Desktop → Desktop
-stores store at bytes c d = acted (Store c store at bytes) d
+stores store at bytes c d = acted nothing_left_out (Store c store at bytes) d
 
 abbrev quiet : ℕ → Option Resident → Desktop → Desktop
 quiet c None d = d

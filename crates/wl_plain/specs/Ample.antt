@@ -17,6 +17,7 @@ use Rattle.wl_plain.specs.Demand.{Demand}
 use Rattle.wl_plain.specs.Demanding.{judge_all}
 use Rattle.wl_plain.specs.Desktop.{Desktop, Resident, arrival, client_at, with_client}
 use Rattle.wl_plain.specs.Pointing.{button_told, entered_surface, has_pointers, left_surface, motion_told}
+use Rattle.wl_plain.specs.LeftOut.{LeftOut}
 use Rattle.wl_plain.specs.Replies.{focus_window, popups_done, replies}
 use Rattle.wl_plain.specs.Settling.{Moving, Strike, becomes, ended_all, ended_by, is_settled, is_struck, leave_drawn, struck_by, target_now, told_drawn, unstruck, with_focus}
 use Rattle.wl_plain.specs.Stacked.{all_windows}
@@ -92,47 +93,47 @@ abbrev pub done_so : Peer × Option Cause → ℕ → Demand → Resident → De
 done_so told c demand r d =
     ends_and_settles (unstruck (after_why told.1 c (with_client c (Some (with_peer told.0 (changed_for c demand r d))) (done_for c demand r d))))
 
-abbrev pub done : ℕ → Demand → Resident → Desktop → Desktop
-done c demand r d =
-    done_so (queued_to (replies c demand r (changed_for c demand r d) (all_windows d) d) (changed_for c demand r d).peer) c demand r d
+abbrev pub done : LeftOut → ℕ → Demand → Resident → Desktop → Desktop
+done left c demand r d =
+    done_so (queued_to (replies left c demand r (changed_for c demand r d) (all_windows d) d) (changed_for c demand r d).peer) c demand r d
 
-abbrev pub answered : Result Demand Refusal → ℕ → Resident → Desktop → Desktop
-answered (Ok demand) c r d = done c demand (with_peer (counted r.peer) r) d
-answered (Err refusal) c r d = became c r (refused refusal r.peer) d
+abbrev pub answered : LeftOut → Result Demand Refusal → ℕ → Resident → Desktop → Desktop
+answered left (Ok demand) c r d = done left c demand (with_peer (counted r.peer) r) d
+answered left (Err refusal) c r d = became c r (refused refusal r.peer) d
 
-abbrev pub taken : Split → ℕ → Resident → Desktop → Desktop
-taken (Message object opcode size) c r d =
-    answered (judge_all r object opcode (take (size - 8) (drop 8 r.peer.rest))) c (with_peer (with_rest (drop size r.peer.rest) r.peer) r) d
-taken Bad c r d = became c r (refused (display_error InvalidMethod) r.peer) d
-taken More c r d = d
+abbrev pub taken : LeftOut → Split → ℕ → Resident → Desktop → Desktop
+taken left (Message object opcode size) c r d =
+    answered left (judge_all left r object opcode (take (size - 8) (drop 8 r.peer.rest))) c (with_peer (with_rest (drop size r.peer.rest) r.peer) r) d
+taken left Bad c r d = became c r (refused (display_error InvalidMethod) r.peer) d
+taken left More c r d = d
 
-abbrev pub served_by : ℕ → Option Cause → Resident → Desktop → Desktop
-served_by c (Some cause) r d = d
-served_by c None r d = taken (split_of r.peer.rest) c r d
+abbrev pub served_by : LeftOut → ℕ → Option Cause → Resident → Desktop → Desktop
+served_by left c (Some cause) r d = d
+served_by left c None r d = taken left (split_of r.peer.rest) c r d
 
-abbrev pub served_at : ℕ → Option Resident → Desktop → Desktop
-served_at c None d = d
-served_at c (Some r) d = served_by c r.peer.status r d
+abbrev pub served_at : LeftOut → ℕ → Option Resident → Desktop → Desktop
+served_at left c None d = d
+served_at left c (Some r) d = served_by left c r.peer.status r d
 
-abbrev pub served : ℕ → Desktop → Desktop
-served c d = served_at c (client_at c d) d
+abbrev pub served : LeftOut → ℕ → Desktop → Desktop
+served left c d = served_at left c (client_at c d) d
 
 -- at most n messages
-abbrev pub served_all : ℕ → ℕ → Desktop → Desktop
-served_all c zero d = d
-served_all c (suc n) d = served c (served_all c n d)
+abbrev pub served_all : LeftOut → ℕ → ℕ → Desktop → Desktop
+served_all left c zero d = d
+served_all left c (suc n) d = served left c (served_all left c n d)
 
-abbrev pub fed_by : ℕ → List ℕ → Option Cause → Resident → Desktop → Desktop
-fed_by c piece (Some cause) r d = d
-fed_by c piece None r d = served_all c (length (r.peer.rest ++ piece)) (with_client c (Some (with_peer (with_rest (r.peer.rest ++ piece) r.peer) r)) d)
+abbrev pub fed_by : LeftOut → ℕ → List ℕ → Option Cause → Resident → Desktop → Desktop
+fed_by left c piece (Some cause) r d = d
+fed_by left c piece None r d = served_all left c (length (r.peer.rest ++ piece)) (with_client c (Some (with_peer (with_rest (r.peer.rest ++ piece) r.peer) r)) d)
 
-abbrev pub fed_at : ℕ → List ℕ → Option Resident → Desktop → Desktop
-fed_at c piece None d = d
-fed_at c piece (Some r) d = fed_by c piece r.peer.status r d
+abbrev pub fed_at : LeftOut → ℕ → List ℕ → Option Resident → Desktop → Desktop
+fed_at left c piece None d = d
+fed_at left c piece (Some r) d = fed_by left c piece r.peer.status r d
 
 -- a piece comes to a client
-abbrev pub fed : ℕ → List ℕ → Desktop → Desktop
-fed c piece d = fed_at c piece (client_at c d) d
+abbrev pub fed : LeftOut → ℕ → List ℕ → Desktop → Desktop
+fed left c piece d = fed_at left c piece (client_at c d) d
 
 -- ---- the other steps
 
@@ -209,16 +210,16 @@ buttons false time button d = released_if (is_down button d.pointer.buttons) tim
 
 -- ---- all of them
 
-abbrev pub acted : Act → Desktop → Desktop
-acted Connect d = connects_at (lowest d.clients) d
-acted (Feed c piece) d = fed c piece d
-acted (Store c store at bytes) d = changes_at (λ p. Some (stored_at p.status store at bytes p)) c (client_at c d) d
-acted (Leave c) d = left_at c (client_at c d) d
-acted (Tick time) d = shown time d
-acted (Send c n) d = changes_at (λ p. Some (sent_by n p)) c (client_at c d) d
-acted (Close c) d = changes_at (λ p. closed_by p.status p) c (client_at c d) d
+abbrev pub acted : LeftOut → Act → Desktop → Desktop
+acted left Connect d = connects_at (lowest d.clients) d
+acted left (Feed c piece) d = fed left c piece d
+acted left (Store c store at bytes) d = changes_at (λ p. Some (stored_at p.status store at bytes p)) c (client_at c d) d
+acted left (Leave c) d = left_at c (client_at c d) d
+acted left (Tick time) d = shown time d
+acted left (Send c n) d = changes_at (λ p. Some (sent_by n p)) c (client_at c d) d
+acted left (Close c) d = changes_at (λ p. closed_by p.status p) c (client_at c d) d
 
-abbrev pub happened : Deed → Desktop → Desktop
-happened (Steps act done) d = acted act d
-happened (Motion time x y) d = moved_to time (pointed (point_in d.output x y) d)
-happened (Button time button pressed) d = buttons pressed time button d
+abbrev pub happened : LeftOut → Deed → Desktop → Desktop
+happened left (Steps act done) d = acted left act d
+happened left (Motion time x y) d = moved_to time (pointed (point_in d.output x y) d)
+happened left (Button time button pressed) d = buttons pressed time button d

@@ -5,6 +5,7 @@ use Rattle.wl_client.specs.declared.clients.Cause.TheVariants as cause
 use Rattle.wl_plain.specs.declared.answers.ConnectError.TheVariants.{Memory}
 use Rattle.wl_plain.specs.declared.answers.Done.{Done}
 use Rattle.wl_plain.specs.declared.answers.Done.TheVariants as gave
+use Rattle.wl_plain.specs.Ample.{happened}
 use Rattle.wl_plain.specs.Desktop.{Desktop}
 use Rattle.wl_plain.specs.Laws.{status_in}
 use Rattle.wl_plain.specs.LeftOut.{LeftOut}
@@ -59,3 +60,7 @@ abbrev pub EndsStay : Type 0
 EndsStay =
     (left : LeftOut) (deed : Deed) (old new : Desktop) (c : ℕ) (why : Cause) → length old.clients ≤ 32 → Happens left deed old new → ((done : Done) → deed ≢ Steps (Close c) done)
     → status_in c old ≡ Some why → status_in c new ≡ Some why
+
+-- Whatever is asked of a desktop may happen: with memory it leads where the function says, with an answer.
+abbrev pub WholeHappens : Type 0
+WholeHappens = (left : LeftOut) (deed : Deed) (d : Desktop) → (answer : Done) × Happens left (with_answer answer deed) d (happened left deed d)

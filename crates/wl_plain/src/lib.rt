@@ -6,7 +6,7 @@
 mod answers;
 
 ghost use Rattle.wl_plain.specs.Laws.{LeastIsMost, OneRun, OthersStay, ScratchStays, ServedAlone, WindowsAreDistinct};
-ghost use Rattle.wl_plain.specs.WholeLaws.{EndsStay, WholeOneRun, WholeOnlyRun};
+ghost use Rattle.wl_plain.specs.WholeLaws.{EndsStay, WholeHappens, WholeOneRun, WholeOnlyRun};
 ghost use Rattle.wl_plain.specs.WholeOthers.{RefusedAlone, WholeOthersStay};
 ghost use Rattle.wl_plain.specs.WholeOwn.{WholeOwnStays};
 
@@ -57,6 +57,11 @@ pub fn whole_own_stays()
 /// Where no more is served than a client's own interfaces, a piece makes of the desktop's client what it makes of the client by itself.
 pub fn served_alone()
     ensures { ServedAlone }
+{}
+
+/// Whatever is asked of a desktop may happen, with some answer; where memory is there, by a function.
+pub fn whole_happens()
+    ensures { WholeHappens }
 {}
 
 /// Whatever is left out, what happens is determined with its answer, but for want of memory.
