@@ -286,7 +286,7 @@ hides-nothing shown old new c here there owns keeps = λ x y.
 pub write_hides_nothing : WriteHidesNothing
 write_hides_nothing (Toplevels unserved) old new client store at c bytes done step keeps =
     hides-nothing windows_in old new c (toplevels-shown old) (toplevels-shown new) (owned-after client store at c bytes (client_at client old) old new done refl step) keeps
-write_hides_nothing Everything old new client store at c bytes done step keeps =
+write_hides_nothing (Everything left) old new client store at c bytes done step keeps =
     hides-nothing all_windows old new c (all-shown old) (all-shown new) (whole-owned-after client store at c bytes (client_at client old) old new done refl step) keeps
 
 pub promises_are_enough : PromisesAreEnough
