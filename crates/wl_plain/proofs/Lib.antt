@@ -62,3 +62,4 @@ pub mod WholeRowsInput
 pub mod WholeRowsSlow
 pub mod Idling
 pub mod Happening
+pub mod SoundTrees

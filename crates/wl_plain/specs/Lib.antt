@@ -18,6 +18,7 @@ pub mod Scratch
 pub mod Served
 pub mod Settling
 pub mod Stacked
+pub mod Soundness
 pub mod Standing
 pub mod Step
 pub mod Steps
