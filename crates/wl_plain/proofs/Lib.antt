@@ -63,3 +63,4 @@ pub mod WholeRowsSlow
 pub mod Idling
 pub mod Happening
 pub mod SoundTrees
+pub mod SoundWindows

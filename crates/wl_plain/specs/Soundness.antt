@@ -33,8 +33,8 @@ pub record AreTrees (all : Surfaces) : Type 0 where
   pub once : (k l : ℕ) (a b : Link) → IsLive k a all → IsLive l b all → a.child ≡ b.child → k ≡ l
   pub ordered : (surface counting : ℕ) (h : History) → history_in surface all ≡ Some h → AreOnce is_member (order (take counting h.requests))
   pub parents :
-    (surface counting number : ℕ) (h : History) (link : Link) → history_in surface all ≡ Some h
-    → list_any (is_member (Child number)) (order (take counting h.requests)) ≡ true → IsLive number link all → link.parent ≡ surface
+      (surface counting number : ℕ) (h : History) (link : Link) → history_in surface all ≡ Some h
+      → list_any (is_member (Child number)) (order (take counting h.requests)) ≡ true → IsLive number link all → link.parent ≡ surface
   pub depth : ℕ → ℕ
   pub below : (number : ℕ) (link : Link) → IsLive number link all → depth link.child ≡ suc (depth link.parent)
   pub top : (surface : ℕ) → IsNoChild surface all → depth surface ≡ 0
@@ -50,10 +50,10 @@ pub record IsSound (d : Desktop) : Type 0 where
   pub trees : (c : ℕ) → AreTrees (owned_in d c).surfaces
   pub popups : (c : ℕ) → AreOnce (λ p. has_surface p.surface) (stacked_popups (owned_in d c))
   pub levels :
-    (c surface : ℕ) → list_any (is_of c surface) d.standing ≡ true → list_any (has_surface surface) (stacked_popups (owned_in d c)) ≡ false
+      (c surface : ℕ) → list_any (is_of c surface) d.standing ≡ true → list_any (has_surface surface) (stacked_popups (owned_in d c)) ≡ false
   pub toplevel_roots : (c surface : ℕ) → list_any (is_of c surface) d.standing ≡ true → IsNoChild surface (owned_in d c).surfaces
   pub popup_roots :
-    (c surface : ℕ) → list_any (has_surface surface) (stacked_popups (owned_in d c)) ≡ true → IsNoChild surface (owned_in d c).surfaces
+      (c surface : ℕ) → list_any (has_surface surface) (stacked_popups (owned_in d c)) ≡ true → IsNoChild surface (owned_in d c).surfaces
 
 -- Where a desktop is sound, no surface has two windows.
 abbrev pub SoundIsDistinct : Type 0
