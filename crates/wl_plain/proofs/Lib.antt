@@ -64,3 +64,4 @@ pub mod Idling
 pub mod Happening
 pub mod SoundTrees
 pub mod SoundWindows
+pub mod SoundFirst

@@ -1,6 +1,6 @@
 -- No surface has two windows in the tree of a surface.
 use Rattle.std.proofs.Common.{◌≡◌, ℕ, zero, suc, Bool, true, false, List, [], ◌∷◌, ◌++◌, Option, Some, None, refl, ap, sym, subst, ◌∙◌, arith}
-use Rattle.std.specs.Prelude.{◌==◌, ◌&&◌, ◌||◌, ◌+◌, ◌+ℤ◌, cond, flat_map}
+use Rattle.std.specs.Prelude.{◌==◌, ◌||◌, ◌+◌, ◌+ℤ◌, cond, flat_map}
 use Rattle.std.specs.List.{list_any}
 use Rattle.std.proofs.lemmas.Bool.{eqb-true}
 use Rattle.wl_surface.specs.Request.{Buffer, Member, Itself, Child}

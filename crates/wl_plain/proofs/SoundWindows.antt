@@ -1,6 +1,6 @@
 -- No surface has two windows where a desktop is sound.
-use Rattle.std.proofs.Common.{◌≡◌, ℕ, Bool, true, false, List, [], ◌∷◌, ◌++◌, refl, ap, sym, subst, ◌∙◌}
-use Rattle.std.specs.Prelude.{◌==◌, ◌&&◌, ◌||◌, cond, flat_map, fold, map}
+use Rattle.std.proofs.Common.{◌≡◌, ℕ, Bool, true, false, List, [], ◌∷◌, ◌++◌, refl, sym, subst, ◌∙◌}
+use Rattle.std.specs.Prelude.{◌==◌, ◌&&◌, ◌||◌, cond, fold, map}
 use Rattle.std.specs.List.{list_any}
 use Rattle.std.proofs.lemmas.Bool.{eqb-true}
 use Rattle.wl_surface.specs.Surfaces.{Surfaces}
@@ -11,7 +11,7 @@ use Rattle.wl_plain.specs.Laws.{AreApart}
 use Rattle.wl_plain.specs.Marks.{AreDistinct, is_same_surface}
 use Rattle.wl_plain.specs.Popups.{stacked_popups}
 use Rattle.wl_plain.specs.Soundness.{AreOnce, AreTrees, IsNoChild, IsSound, SoundIsDistinct, has_surface}
-use Rattle.wl_plain.proofs.Stacks.{Each, and-both, and-left, and-right, differ, each-both, each-map, equal-numbers, or-left, or-right, same-number, unless}
+use Rattle.wl_plain.proofs.Stacks.{Each, and-both, and-right, differ, each-both, each-map, equal-numbers, or-left, or-right, same-number, unless}
 use Rattle.wl_plain.proofs.SoundTrees.{IsUnder, Under, all-there, each-append, each-flat, flat-distinct, none-append, or-none, same-client, same-surface, tree-distinct, tree-each, under-one}
 
 -- ---- the roots of a toplevel

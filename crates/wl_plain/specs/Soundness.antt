@@ -1,12 +1,13 @@
 -- What of a desktop makes its windows distinct.
 use Rattle.std.specs.Prelude.{ℕ, suc, ◌≡◌, ◌==◌, Bool, true, false, Some, List, [], ◌∷◌, take}
 use Rattle.std.specs.List.{list_any}
-use Rattle.wl_surface.specs.Request.{Member, Child}
+use Rattle.wl_client.specs.Told.{Output}
+use Rattle.wl_surface.specs.Request.{Child}
 use Rattle.wl_surface.specs.State.{History, is_member, order}
 use Rattle.wl_surface.specs.Surfaces.{Link, Surfaces, history_in, link_at}
 use Rattle.wl_scene.specs.Stacking.{is_of}
 use Rattle.wl_scene.specs.Windows.{StackedPopup}
-use Rattle.wl_plain.specs.Desktop.{Desktop, owned_in}
+use Rattle.wl_plain.specs.Desktop.{Desktop, empty, owned_in}
 use Rattle.wl_plain.specs.Laws.{AreApart}
 use Rattle.wl_plain.specs.Marks.{AreDistinct}
 use Rattle.wl_plain.specs.Popups.{stacked_popups}
@@ -58,3 +59,7 @@ pub record IsSound (d : Desktop) : Type 0 where
 -- Where a desktop is sound, no surface has two windows.
 abbrev pub SoundIsDistinct : Type 0
 SoundIsDistinct = (d : Desktop) → IsSound d → AreDistinct (all_windows d)
+
+-- A desktop without clients is sound.
+abbrev pub EmptyIsSound : Type 0
+EmptyIsSound = (output : Output) → IsSound (empty output)

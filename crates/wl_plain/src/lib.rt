@@ -6,7 +6,7 @@
 mod answers;
 
 ghost use Rattle.wl_plain.specs.Laws.{LeastIsMost, OneRun, OthersStay, ScratchStays, ServedAlone, WindowsAreDistinct};
-ghost use Rattle.wl_plain.specs.Soundness.{SoundIsDistinct};
+ghost use Rattle.wl_plain.specs.Soundness.{EmptyIsSound, SoundIsDistinct};
 ghost use Rattle.wl_plain.specs.WholeLaws.{EndsStay, WholeHappens, WholeOneRun, WholeOnlyRun};
 ghost use Rattle.wl_plain.specs.WholeOthers.{RefusedAlone, WholeOthersStay};
 ghost use Rattle.wl_plain.specs.WholeOwn.{WholeOwnStays};
@@ -26,6 +26,11 @@ pub fn windows_are_distinct()
 /// Where the toplevels, popups and subsurfaces of a desktop make trees, each surface in one place of one of them, no surface has two windows.
 pub fn sound_is_distinct()
     ensures { SoundIsDistinct }
+{}
+
+/// A desktop without clients is so.
+pub fn empty_is_sound()
+    ensures { EmptyIsSound }
 {}
 
 /// A point that a step doesn't mark is painted from nothing as before, where the windows that keep their records show the colours that they
