@@ -65,3 +65,8 @@ pub mod Happening
 pub mod SoundTrees
 pub mod SoundWindows
 pub mod SoundFirst
+pub mod BridgeBuffers
+pub mod BridgeChanged
+pub mod BridgeDesks
+pub mod BridgeJudged
+pub mod BridgeServes

@@ -32,3 +32,5 @@ pub mod WlSubsurface
 pub mod WlSurface
 pub mod XdgPopup
 pub mod XdgShell
+pub mod ServedToplevels
+pub mod ToplevelsOnly

@@ -7,6 +7,7 @@ mod answers;
 
 ghost use Rattle.wl_plain.specs.Laws.{LeastIsMost, OneRun, OthersStay, ScratchStays, ServedAlone, WindowsAreDistinct};
 ghost use Rattle.wl_plain.specs.Soundness.{EmptyIsSound, SoundIsDistinct};
+ghost use Rattle.wl_plain.specs.ServedToplevels.{EmptyHasToplevelsOnly, MessagesAreWhole};
 ghost use Rattle.wl_plain.specs.WholeLaws.{EndsStay, WholeHappens, WholeOneRun, WholeOnlyRun};
 ghost use Rattle.wl_plain.specs.WholeOthers.{RefusedAlone, WholeOthersStay};
 ghost use Rattle.wl_plain.specs.WholeOwn.{WholeOwnStays};
@@ -88,4 +89,14 @@ pub fn whole_only_run()
 /// A client that ended stays so, for the same cause, until its number is given back.
 pub fn ends_stay()
     ensures { EndsStay }
+{}
+
+/// Where no more than toplevels is served, a message leads where it leads the whole desktop with all else left out.
+pub fn messages_are_whole()
+    ensures { MessagesAreWhole }
+{}
+
+/// A desktop without clients has no more than toplevels.
+pub fn empty_has_toplevels_only()
+    ensures { EmptyHasToplevelsOnly }
 {}

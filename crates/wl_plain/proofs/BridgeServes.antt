@@ -1,0 +1,278 @@
+-- A message of a client, where no client has more than toplevels, does what it does where every request may be served.
+use Rattle.std.proofs.Common.{◌≡◌, ℕ, ◌-◌, List, [], ◌∷◌, ◌++◌, Bool, true, false, Option, Some, None, Result, cond, drop, take, refl, ap, subst, sym, ◌∙◌, map, inl, inr}
+use Rattle.std.specs.Prelude.{Ok, Err, ◌==◌, not, filter, flat_map}
+use Rattle.wl_wire.specs.Wire.{split_of}
+use Rattle.wl_wire.specs.declared.header.Split.{Split}
+use Rattle.wl_wire.specs.declared.header.Split.TheVariants.{Message, More, Bad}
+use Rattle.wl_proto.specs.declared.interface.Interface.TheVariants.{WlSurface, XdgPopup}
+use Rattle.wl_proto.specs.Messages.{says}
+use Rattle.wl_client.specs.declared.clients.Cause.{Cause}
+use Rattle.wl_client.specs.declared.clients.Cause.TheVariants.{Memory, Slow}
+use Rattle.wl_client.specs.declared.refusals.Refusal.{Refusal}
+use Rattle.wl_client.specs.Objects.{is_of}
+use Rattle.wl_client.specs.Peer.{LacksMemory, Peer, Queues, QueuesOr, counted, ended, has_room, queued, with_rest}
+use Rattle.wl_client.specs.Told.{Said, said}
+use Rattle.wl_shell.specs.Shell.{Effect, Stays, Unconfigured, Configures, Maps, Unmaps, Fresh, Waiting, Mapped, RoleObject, Shell, XdgSurface as Xdg, acknowledging, configuring, in_stage, new_toplevel, unmapping, with_change, with_new, without_role, without_xdg, xdg_at, xdg_of}
+use Rattle.wl_scene.specs.Pointer.{first_pointer}
+use Rattle.wl_scene.specs.Stacking.{Standing, without_client}
+use Rattle.wl_plain.specs.Ask.{Ask, Own, CreateSurface, DestroySurface, AskSurface, CommitSurface, DestroyBase, GetXdgSurface, DestroyXdgSurface, GetToplevel, Acknowledge, ConfigureAgain, DestroyToplevel, Ignore}
+use Rattle.wl_plain.specs.Changing.{with_kept_move}
+use Rattle.wl_plain.specs.Demand.{Demand}
+use Rattle.wl_plain.specs.Demanding.{judge_all}
+use Rattle.wl_plain.specs.Desktop.{Desktop, Resident, become, become_by, client_at, client_in, resident_of, with_client}
+use Rattle.wl_plain.specs.Laws.{toplevels_of}
+use Rattle.wl_plain.specs.LeftOut.{beyond_toplevels_left_out}
+use Rattle.wl_plain.specs.Popups.{is_among}
+use Rattle.wl_plain.specs.Replies.{dismissed_in, newest_first, own_answers, popups_done, replies}
+use Rattle.wl_plain.specs.Served.{beyond_toplevels}
+use Rattle.wl_plain.specs.Settling.{EndsAndSettles, QueuesTo, after_status, becomes, ended_at, pointer_without, unstruck}
+use Rattle.wl_plain.specs.Stacked.{all_windows}
+use Rattle.wl_plain.specs.Step.{Answers, Becomes, Serves, ServesAt, Takes, WantsOr, answers_to, changed_by, effect_on, judge, stacked, takes_memory, toplevel_given, with_peer}
+use Rattle.wl_plain.specs.ToplevelsOnly.{AreToplevels, HasToplevelsOnly, IsToplevel, OwnsToplevelsAt, OwnsToplevelsBy, OwnsToplevelsOnly}
+use Rattle.wl_plain.specs.Whole.{after_why, done_for, wants_memory, Answers as WholeAnswers, Becomes as WholeBecomes, Does, Serves as WholeServes, ServesAt as WholeServesAt, Takes as WholeTakes, WantsOr as WholeWantsOr}
+use Rattle.wl_plain.proofs.Behind.{changed-status}
+use Rattle.wl_plain.proofs.BridgeBuffers.{nothing-after}
+use Rattle.wl_plain.proofs.BridgeChanged.{answers-same, changed-same, no-popups, stacked-same, stage-top, wants-same}
+use Rattle.wl_plain.proofs.BridgeJudged.{Pairs, Same, asks, commit, ends, goes, judge-pair, move}
+use Rattle.wl_plain.proofs.Places.{number-same, number-twice, stacked-clients}
+use Rattle.wl_plain.proofs.WholeOneRunEnds.{queues-status}
+
+-- ---- the role objects stay toplevels
+
+top-change : (id : ℕ) (f : Xdg → Xdg) → ((x : Xdg) → IsToplevel x.role → IsToplevel (f x).role) → (xs : Shell) → AreToplevels xs → AreToplevels (with_change id f xs)
+top-change id f keeps [] top = tt
+top-change id f keeps (x ∷ xs) top = (at (x.id == id), top-change id f keeps xs top.1)
+  where
+    at : (b : Bool) → IsToplevel (cond b (f x) x).role
+    at true = keeps x top.0
+    at false = top.0
+
+top-new : (id base surface : ℕ) (xs : Shell) → AreToplevels xs → AreToplevels (with_new id base surface xs)
+top-new id base surface [] top = (tt, tt)
+top-new id base surface (x ∷ xs) top = (top.0, top-new id base surface xs top.1)
+
+top-without : (id : ℕ) (xs : Shell) → AreToplevels xs → AreToplevels (without_xdg id xs)
+top-without id [] top = tt
+top-without id (x ∷ xs) top = at (x.id == id) (top-without id xs top.1)
+  where
+    at : (b : Bool) → AreToplevels (without_xdg id xs) → AreToplevels (cond (not b) (x ∷ without_xdg id xs) (without_xdg id xs))
+    at true later = later
+    at false later = (top.0, later)
+
+top-acknowledged : (serial : ℕ) (x : Xdg) (o : Option RoleObject) → x.role ≡ o → IsToplevel o → IsToplevel (acknowledging serial x).role
+top-acknowledged serial x o is top = subst (λ p. IsToplevel (acknowledging serial (record x { role = p })).role) (sym is) (at o top)
+  where
+    at : (o : Option RoleObject) → IsToplevel o → IsToplevel (acknowledging serial (record x { role = o })).role
+    at None top = tt
+    at (Some object) top = top
+
+pub top-effect : (id : ℕ) (effect : Effect) (o : Option Xdg) (r : Resident) → AreToplevels r.owned.shell → AreToplevels (effect_on id effect o r).owned.shell
+top-effect id effect None r top = top
+top-effect id Stays (Some x) r top = top
+top-effect id Unconfigured (Some x) r top = top
+top-effect id Configures (Some x) r top =
+    top-change x.id (configuring r.peer.serial) (λ y is. is) _ (top-change x.id (in_stage Waiting) (λ y is. stage-top Waiting y.role is) r.owned.shell top)
+top-effect id Maps (Some x) r top = top-change x.id (in_stage Mapped) (λ y is. stage-top Mapped y.role is) r.owned.shell top
+top-effect id Unmaps (Some x) r top = top-change x.id (unmapping _) (λ y is. stage-top Fresh y.role is) r.owned.shell top
+
+pub top-given : (id xdg : ℕ) (o : Option Xdg) (r : Resident) → AreToplevels r.owned.shell → AreToplevels (toplevel_given id xdg o r).owned.shell
+top-given id xdg None r top = top
+top-given id xdg (Some x) r top = top-change xdg (new_toplevel id _) (λ y is. refl) r.owned.shell top
+
+pub tops-kept : (ask : Ask) (r : Resident) → AreToplevels r.owned.shell → AreToplevels (changed_by ask r).owned.shell
+tops-kept (Own action) r top = top
+tops-kept (CreateSurface id version) r top = top
+tops-kept (DestroySurface id) r top = top
+tops-kept (AskSurface id request) r top = top
+tops-kept (CommitSurface id effect) r top = top-effect id effect (xdg_of id r.owned.shell) _ top
+tops-kept (DestroyBase id) r top = top
+tops-kept (GetXdgSurface id version base surface) r top = top-new id base surface r.owned.shell top
+tops-kept (DestroyXdgSurface id) r top = top-without id r.owned.shell top
+tops-kept (GetToplevel id version xdg) r top = top-given id xdg (xdg_at xdg r.owned.shell) r top
+tops-kept (Acknowledge xdg serial) r top = top-change xdg (acknowledging serial) (λ y is. top-acknowledged serial y y.role refl is) r.owned.shell top
+tops-kept (ConfigureAgain xdg) r top = top-change xdg (configuring r.peer.serial) (λ y is. is) r.owned.shell top
+tops-kept (DestroyToplevel id xdg) r top = top-change xdg without_role (λ y is. tt) r.owned.shell top
+tops-kept Ignore r top = top
+
+-- ---- the pointer isn't anywhere
+
+settled-plain : (d : Desktop) → EndsAndSettles (unstruck (record d { pointer = first_pointer })) (record d { pointer = first_pointer })
+settled-plain d = (unstruck (record d { pointer = first_pointer }), refl, refl)
+
+-- then the focus is settled at once
+pub settles-to : (x y new : Desktop) → x ≡ y → new ≡ y → y.pointer ≡ first_pointer → EndsAndSettles (unstruck x) new
+settles-to x y new first last still =
+    let there : EndsAndSettles (unstruck y) y =
+    subst (λ p. EndsAndSettles (unstruck (record y { pointer = p })) (record y { pointer = p })) (sym still) (settled-plain y) in
+    let here : EndsAndSettles (unstruck x) y = subst (λ d. EndsAndSettles (unstruck d) y) (sym first) there in
+    subst (λ d. EndsAndSettles (unstruck x) d) (sym last) here
+
+pub by-pointer : (s : Option Cause) (c : ℕ) (r : Resident) (q : Peer) (d : Desktop) → (become_by s c r q d).pointer ≡ d.pointer
+by-pointer None c r q d = refl
+by-pointer (Some cause) c r q d = refl
+
+after-still : (s : Option Cause) (c : ℕ) (d : Desktop) → d.pointer ≡ first_pointer → after_status s c d ≡ d
+after-still None c d still = refl
+after-still (Some cause) c d still = ap (λ p. record d { pointer = pointer_without c p }) still ∙ sym (ap (λ p. record d { pointer = p }) still)
+
+pub becomes-same : (c : ℕ) (r : Resident) (q : Peer) (d : Desktop) → d.pointer ≡ first_pointer → becomes c r q d ≡ become c r q d
+becomes-same c r q d still = after-still q.status c (become c r q d) (by-pointer q.status c r q d ∙ still)
+
+-- what a client becomes is settled
+pub becomes-whole : (Q : Peer → Type 0) (c : ℕ) (r : Resident) (d new : Desktop) → d.pointer ≡ first_pointer → Becomes Q c r d new → WholeBecomes Q c r d new
+becomes-whole Q c r d new still h =
+    (h.0, h.1, settles-to (becomes c r h.0 d) (become c r h.0 d) new (becomes-same c r h.0 d still) h.2 (by-pointer h.0.status c r h.0 d ∙ still))
+
+-- ---- what a client is told
+
+abbrev ended_why : Option Cause → Peer → Peer
+ended_why None q = q
+ended_why (Some cause) q = ended cause q
+
+abbrev IsToldTo : List Said → Peer → Peer → Type 0
+IsToldTo events p q = (told : Peer) × (why : Option Cause) × QueuesTo events p told why × (q ≡ ended_why why told)
+
+told-to : (events : List Said) (p q : Peer) → Queues events p q → IsToldTo events p q
+told-to [] p q h = (p, None, (refl, refl), h)
+told-to (event ∷ events) p q h = at (has_room p.unsent event) refl (told-to events (queued event p) q) h
+  where
+    at : (b : Bool) → has_room p.unsent event ≡ b → (Queues events (queued event p) q → IsToldTo events (queued event p) q) → QueuesOr b (Queues events (queued event p) q) p q → IsToldTo (event ∷ events) p q
+    at false e later h = (p, Some Slow, rw e (refl, refl), h)
+    at true e later (inl h) = (p, Some Memory, rw e (inl (refl, refl)), h)
+    at true e later (inr h) = let k = later h in (k.0, k.1, rw e (inr k.2), k.3)
+
+-- a client that lives is told, and ends where that isn't queued
+abbrev IsDone : List Said → ℕ → Resident → Desktop → Desktop → Type 0
+IsDone events c made d new =
+    (q : Peer) × (why : Option Cause) × QueuesTo events made.peer q why × EndsAndSettles (unstruck (after_why why c (with_client c (Some (with_peer q made)) d))) new
+
+is-done : (events : List Said) (c : ℕ) (made there : Resident) (d new : Desktop) → client_at c d ≡ Some there → d.pointer ≡ first_pointer → made.peer.status ≡ None → Becomes (Queues events made.peer) c made d new → IsDone events c made d new
+is-done events c made there d new is still alive h =
+    let k = told-to events made.peer h.0 h.1 in (k.0, k.1, k.2, by k.0 k.1 k.2 (h.2 ∙ ap (λ q. become c made q d) k.3))
+  where
+    by : (q : Peer) (why : Option Cause) → QueuesTo events made.peer q why → new ≡ become c made (ended_why why q) d → EndsAndSettles (unstruck (after_why why c (with_client c (Some (with_peer q made)) d))) new
+    by q None told e =
+        let now : Desktop = with_client c (Some (with_peer q made)) d in
+        settles-to now now new refl (e ∙ ap (λ s. become_by s c made q d) (queues-status events made.peer q None told ∙ alive)) still
+    by q (Some cause) told e =
+        let now : Desktop = with_client c (Some (with_peer q made)) d in
+        settles-to (ended_at c cause (client_at c now) now) (become c made (ended cause q) d) new
+        (ap (λ o. ended_at c cause o now) (number-same d.clients c (Some (with_peer q made)) there is) ∙ becomes-same c (with_peer q made) (ended cause q) now still
+        ∙ ap (λ clients. record d { clients = clients; standing = without_client c d.standing }) (number-twice d.clients c (Some (resident_of (ended cause q))) (Some (with_peer q made)))) e still
+
+-- ---- what is asked
+
+pub stacked-pointer : (c : ℕ) (ask : Ask) (r : Resident) (d : Desktop) → (stacked c ask r d).pointer ≡ d.pointer
+stacked-pointer c (CommitSurface id Stays) r d = refl
+stacked-pointer c (CommitSurface id Unconfigured) r d = refl
+stacked-pointer c (CommitSurface id Configures) r d = refl
+stacked-pointer c (CommitSurface id Maps) r d = refl
+stacked-pointer c (CommitSurface id Unmaps) r d = refl
+stacked-pointer c (DestroyToplevel id xdg) r d = refl
+stacked-pointer c ask r d = refl
+
+kept-still : (d : Desktop) → d.pointer ≡ first_pointer → with_kept_move d ≡ d
+kept-still d still = ap (λ p. with_kept_move (record d { pointer = p })) still ∙ sym (ap (λ p. record d { pointer = p }) still)
+
+done-same : (c : ℕ) (ask : Ask) (demand : Demand) (r : Resident) (d : Desktop) → d.pointer ≡ first_pointer → OwnsToplevelsOnly r → Same r ask demand → done_for c demand r d ≡ stacked c ask r d
+done-same c ask demand r d still only same =
+    ap with_kept_move (stacked-same c ask demand r (all_windows d) d still only same) ∙ kept-still (stacked c ask r d) (stacked-pointer c ask r d ∙ still)
+
+none-done : (r made : Resident) → AreToplevels made.owned.shell → popups_done r made ≡ []
+none-done r made top =
+    ap (λ ps. map (λ id. said id (says XdgPopup 1 [])) (filter (λ id. not (is_among id (dismissed_in r.owned.shell))) (newest_first (flat_map (λ p. cond p.popup.is_dismissed (p.object.id ∷ []) []) ps))))
+    (no-popups made.owned.shell top)
+
+nothing-between : (xs ys : List Said) → xs ++ [] ++ ys ≡ xs ++ ys
+nothing-between [] ys = refl
+nothing-between (x ∷ xs) ys = ap (λ zs. x ∷ zs) (nothing-between xs ys)
+
+replies-same : (c : ℕ) (ask : Ask) (demand : Demand) (r made : Resident) (d : Desktop) → OwnsToplevelsOnly r → AreToplevels made.owned.shell → Same r ask demand → replies beyond_toplevels_left_out c demand r made (all_windows d) d ≡ answers_to ask r
+replies-same c ask demand r made d only top same =
+    nothing-between (own_answers c demand r (all_windows d) d) (popups_done r made)
+    ∙ ap (λ more. own_answers c demand r (all_windows d) d ++ more) (none-done r made top) ∙ nothing-after (own_answers c demand r (all_windows d) d)
+    ∙ answers-same c ask demand r (all_windows d) d only same
+
+does-whole : (c : ℕ) (ask : Ask) (demand : Demand) (r there : Resident) (d new : Desktop) → client_at c d ≡ Some there → d.pointer ≡ first_pointer → r.peer.status ≡ None → OwnsToplevelsOnly r → Same r ask demand
+    → Becomes (Queues (answers_to ask r) (changed_by ask r).peer) c (changed_by ask r) (stacked c ask r d) new → Does beyond_toplevels_left_out c demand r d new
+does-whole c ask demand r there d new is still alive only same h =
+    let made : Resident = changed_by ask r in
+    let on : Desktop = stacked c ask r d in
+    let found : client_at c on ≡ Some there = ap (λ clients. client_in clients c) (stacked-clients c ask r d) ∙ is in
+    let first : IsDone (answers_to ask r) c made on new =
+    is-done (answers_to ask r) c made there on new found (stacked-pointer c ask r d ∙ still) (changed-status ask r ∙ alive) h in
+    let second : IsDone (replies beyond_toplevels_left_out c demand r made (all_windows d) d) c made on new =
+    subst (λ events. IsDone events c made on new) (sym (replies-same c ask demand r made d only (tops-kept ask r only.roles) same)) first in
+    let third : IsDone (replies beyond_toplevels_left_out c demand r made (all_windows d) d) c made (done_for c demand r d) new =
+    subst (λ e. IsDone (replies beyond_toplevels_left_out c demand r made (all_windows d) d) c made e new) (sym (done-same c ask demand r d still only same)) second in
+    subst (λ m. IsDone (replies beyond_toplevels_left_out c demand r m (all_windows d) d) c m (done_for c demand r d) new) (sym (changed-same c ask demand r d only same)) third
+
+-- ---- a message
+
+pub only-peer : (r : Resident) (p : Peer) → p.objects ≡ r.peer.objects → OwnsToplevelsOnly r → OwnsToplevelsOnly (with_peer p r)
+only-peer r p same only =
+    record {
+      links = only.links;
+      apart = only.apart;
+      known = λ id there. ap (λ objects. is_of WlSurface (objects id)) same ∙ only.known id there;
+      roles = only.roles;
+      subsurfaces = only.subsurfaces;
+      callbacks = only.callbacks;
+      pointers = only.pointers;
+    }
+
+same-peer : (r : Resident) (p : Peer) (ask : Ask) (demand : Demand) → Same r ask demand → Same (with_peer p r) ask demand
+same-peer r p ask demand (asks other) = asks ask
+same-peer r p ask demand (ends id) = ends id
+same-peer r p ask demand (commit id effect e) = commit id effect e
+same-peer r p ask demand (goes id xdg) = goes id xdg
+same-peer r p ask demand (move id serial) = move id serial
+
+pairs-peer : (r : Resident) (p : Peer) (judged : Result Ask Refusal) (demanded : Result Demand Refusal) → Pairs r judged demanded → Pairs (with_peer p r) judged demanded
+pairs-peer r p (Ok ask) (Ok demand) same = same-peer r p ask demand same
+pairs-peer r p (Err refusal) (Err other) same = same
+pairs-peer r p (Ok ask) (Err other) same = absurd same
+pairs-peer r p (Err refusal) (Ok demand) same = absurd same
+
+module _ (c : ℕ) (there : Resident) (d new : Desktop) (is : client_at c d ≡ Some there) (still : d.pointer ≡ first_pointer) where
+  wants-whole : (takes wants : Bool) (r : Resident) (Later Then : Type 0) → (takes ≡ true → wants ≡ true) → (Later → Then) → WantsOr takes Later c r d new → WholeWantsOr wants Then c r d new
+  wants-whole false false r Later Then more next h = next h
+  wants-whole false true r Later Then more next h = inr (next h)
+  wants-whole true false r Later Then more next h = let k = more refl in absurd (cc)
+  wants-whole true true r Later Then more next (inl h) = inl (becomes-whole (LacksMemory r.peer) c r d new still h)
+  wants-whole true true r Later Then more next (inr h) = inr (next h)
+
+  answers-whole : (judged : Result Ask Refusal) (demanded : Result Demand Refusal) (r : Resident) → r.peer.status ≡ None → OwnsToplevelsOnly r → Pairs r judged demanded → Answers judged c r d new → WholeAnswers beyond_toplevels_left_out demanded c r d new
+  answers-whole (Ok ask) (Ok demand) r alive only same h =
+      let now : Resident = with_peer (counted r.peer) r in
+      let same_now : Same now ask demand = same-peer r (counted r.peer) ask demand same in
+      wants-whole (takes_memory ask) (wants_memory demand) now _ _ (wants-same ask demand now same_now)
+      (λ k. does-whole c ask demand now there d new is still alive (only-peer r (counted r.peer) refl only) same_now k) h
+  answers-whole (Err refusal) (Err other) r alive only same h =
+      subst (λ e. WholeAnswers beyond_toplevels_left_out (Err e) c r d new) same (becomes-whole _ c r d new still h)
+  answers-whole (Ok ask) (Err other) r alive only same h = absurd same
+  answers-whole (Err refusal) (Ok demand) r alive only same h = absurd same
+
+  takes-whole : (split : Split) → there.peer.status ≡ None → OwnsToplevelsOnly there → Takes beyond_toplevels split c there d new → WholeTakes beyond_toplevels_left_out split c there d new
+  takes-whole (Message object opcode size) alive only h =
+      let body = take (size - 8) (drop 8 there.peer.rest) in
+      let left : Resident = with_peer (with_rest (drop size there.peer.rest) there.peer) there in
+      answers-whole (judge beyond_toplevels there object opcode body) (judge_all beyond_toplevels_left_out there object opcode body) left alive (only-peer there left.peer refl only)
+      (pairs-peer there left.peer (judge beyond_toplevels there object opcode body) (judge_all beyond_toplevels_left_out there object opcode body) (judge-pair there object opcode body only.roles)) h
+  takes-whole Bad alive only h = becomes-whole _ c there d new still h
+  takes-whole More alive only h = absurd h
+
+pub living : (s : Option Cause) (r : Resident) (standing : List Standing) → s ≡ None → OwnsToplevelsBy s r standing → OwnsToplevelsOnly r
+living None r standing alive owns = owns
+living (Some cause) r standing alive owns = absurd (cc)
+
+-- A message does where every request may be served what it does where no more than toplevels is.
+pub serves-whole : (c : ℕ) (d new : Desktop) → HasToplevelsOnly d → Serves beyond_toplevels c d new → WholeServes beyond_toplevels_left_out c d new
+serves-whole c d new only h = at (client_at c d) refl (only.each c) h
+  where
+    at : (o : Option Resident) → client_at c d ≡ o → OwnsToplevelsAt o (toplevels_of c d) → ServesAt beyond_toplevels c o d new → WholeServesAt beyond_toplevels_left_out c (client_at c d) d new
+    at None is owns h = absurd h
+    at (Some r) is owns h =
+        let whole : WholeServesAt beyond_toplevels_left_out c (Some r) d new =
+        (h.0, takes-whole c r d new is only.pointer (split_of r.peer.rest) h.0 (living r.peer.status r (toplevels_of c d) h.0 owns) h.1) in
+        subst (λ o. WholeServesAt beyond_toplevels_left_out c o d new) (sym is) whole
