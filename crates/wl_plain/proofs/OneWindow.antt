@@ -1,5 +1,5 @@
 -- Without links a surface has one window.
-use Rattle.std.proofs.Common.{◌≡◌, ℕ, suc, List, [], Bool, true, Option, Some, None, refl}
+use Rattle.std.proofs.Common.{◌≡◌, ℕ, suc, List, [], true, Option, Some, None, refl}
 use Rattle.wl_surface.specs.Request.{Buffer}
 use Rattle.wl_surface.specs.State.{History, applied}
 use Rattle.wl_surface.specs.Surfaces.{Surfaces, history_in, is_there}

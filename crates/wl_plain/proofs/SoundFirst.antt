@@ -1,5 +1,5 @@
 -- A desktop without clients is sound.
-use Rattle.std.proofs.Common.{◌≡◌, ℕ, zero, suc, true, false, List, [], ◌∷◌, Option, Some, None, refl, sym, subst}
+use Rattle.std.proofs.Common.{◌≡◌, ℕ, zero, suc, Option, Some, None, refl, sym, subst}
 use Rattle.std.specs.Prelude.{replicate}
 use Rattle.wl_client.specs.Told.{Output}
 use Rattle.wl_surface.specs.State.{History}

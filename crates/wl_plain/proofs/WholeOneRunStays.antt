@@ -96,11 +96,11 @@ stored-by : (store at : ℕ) (bytes : List ℕ) (refusal : Option StoreError) (p
 stored-by store at bytes None p = refl
 stored-by store at bytes (Some error) p = refl
 
-stored-status : (s : Option Cause) (store at : ℕ) (bytes : List ℕ) (p : Peer) → (stored_at s store at bytes p).status ≡ p.status
+pub stored-status : (s : Option Cause) (store at : ℕ) (bytes : List ℕ) (p : Peer) → (stored_at s store at bytes p).status ≡ p.status
 stored-status None store at bytes p = stored-by store at bytes (write_refusal store at (length bytes) p.stores) p
 stored-status (Some cause) store at bytes p = refl
 
-sent-status : (n : ℕ) (p : Peer) → (sent_by n p).status ≡ p.status
+pub sent-status : (n : ℕ) (p : Peer) → (sent_by n p).status ≡ p.status
 sent-status n p = at (nat_le n (length p.unsent))
   where
     at : (b : Bool) → (if b then record p { unsent = drop n p.unsent } else p).status ≡ p.status

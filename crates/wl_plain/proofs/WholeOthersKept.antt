@@ -9,12 +9,14 @@ use Rattle.wl_client.specs.declared.clients.Cause.TheVariants.{Memory, Slow}
 use Rattle.wl_client.specs.Peer.{Peer, has_room, queued, removed}
 use Rattle.wl_client.specs.Told.{Said, said_bytes}
 use Rattle.wl_shell.specs.Shell.{Kind, Toplevel, IsPopup, RoleObject, Shell, XdgSurface}
+use Rattle.wl_scene.specs.Windows.{Place, Window}
 use Rattle.wl_plain.specs.Changing.{drawing, without_callbacks}
 use Rattle.wl_plain.specs.Desktop.{Callback, Resident}
-use Rattle.wl_plain.specs.Pointing.{entered_surface, has_pointers, left_surface}
+use Rattle.wl_plain.specs.Pointing.{button_told, entered_surface, has_pointers, left_surface, motion_told}
 use Rattle.wl_plain.specs.Popups.{dismiss, dismissed_among, dismissed_with, is_among, popup_changed, with_popup, with_popup_role}
+use Rattle.wl_plain.specs.Replies.{popups_done}
 use Rattle.wl_plain.specs.Settling.{QueuesFirst, QueuesTo, leave_drawn, told_drawn}
-use Rattle.wl_plain.specs.Whole.{callbacks_due, is_counting, frames_counting, noted, noted_if, without_grabs}
+use Rattle.wl_plain.specs.Whole.{callbacks_due, frames_told, is_counting, frames_counting, noted, noted_if, number_of, without_grabs}
 use Rattle.wl_plain.specs.WholeOwn.{AreSameOrDismissed, HasItsOwn, IsSameOrDismissed, LivesOn}
 use Rattle.wl_plain.proofs.StandingLists.{none-left}
 use Rattle.wl_plain.proofs.Stacks.{equal-numbers, or-left, or-right, unless}
@@ -175,11 +177,11 @@ own-noted false r = record {
   pointers = refl;
 }
 
-pub own-noted_if : (b pressed : Bool) (r : Resident) → HasItsOwn r (noted_if b pressed r)
+own-noted_if : (b pressed : Bool) (r : Resident) → HasItsOwn r (noted_if b pressed r)
 own-noted_if true pressed r = own-then r (noted pressed r) (told_drawn (noted pressed r)) (own-noted pressed r) (own-drawn (has_pointers (noted pressed r)) (noted pressed r))
 own-noted_if false pressed r = own-same r
 
-pub own-dismissed : (r : Resident) → HasItsOwn r (without_grabs r)
+own-dismissed : (r : Resident) → HasItsOwn r (without_grabs r)
 own-dismissed r = record {
   peer = lives-on r.peer;
   objects = λ id none. refl;
@@ -213,7 +215,7 @@ gone-objects (k ∷ ks) p id none =
     at true e = absurd (cc)
     at false e = refl
 
-pub own-done : (r : Resident) → HasItsOwn r (without_callbacks (callbacks_due r) r)
+own-done : (r : Resident) → HasItsOwn r (without_callbacks (callbacks_due r) r)
 own-done r = record {
   peer = gone-peer (callbacks_due r) r.peer;
   objects = λ id none. gone-objects (callbacks_due r) r.peer id (none-left (λ callback. callback.id == id) (is_counting (frames_counting r.owned.surfaces)) r.callbacks none);
@@ -232,14 +234,14 @@ abbrev pub IsLimit : Option Cause → Type 0
 IsLimit None = Unit {0}
 IsLimit (Some cause) = (cause ≡ Slow) ⊎ (cause ≡ Memory)
 
-abbrev HasMore : Peer → Peer → Option Cause → Type 0
+abbrev pub HasMore : Peer → Peer → Option Cause → Type 0
 HasMore p q why = (more : List ℕ) × (q ≡ record p { unsent = p.unsent ++ more }) × IsLimit why
 
 has-same : (p q : Peer) (why other : Option Cause) → q ≡ p → why ≡ other → IsLimit other → HasMore p q why
 has-same p q why other e f limit =
     ((nothing_more p).0, e ∙ ap (λ (bytes : List ℕ). record p { unsent = bytes }) (nothing_more p).1, rw f limit)
 
-has-more : (events : List Said) (p q : Peer) (why : Option Cause) → QueuesTo events p q why → HasMore p q why
+pub has-more : (events : List Said) (p q : Peer) (why : Option Cause) → QueuesTo events p q why → HasMore p q why
 has-more [] p q why h = has-same p q why None h.0 h.1 tt
 has-more (event ∷ events) p q why h = at (has_room p.unsent event) (λ k. has-more events (queued event p) q why k) h
   where
@@ -261,8 +263,23 @@ tells-own change events own r q why h =
     ap (λ (p : Peer). record (change r) { peer = p }) more.1 in
     (own-then r (change r) (record (change r) { peer = q }) (own r) (rw same (own-more (change r) more.0)), more.2)
 
-pub own-focus : TellsFocus StaysOwn
-own-focus = record {
-  leave = λ surface. tells-own (leave_drawn surface) (left_surface surface) (λ r. own-drawn _ r);
-  enter = λ at w. tells-own told_drawn (entered_surface at w) (λ r. own-drawn _ r);
+-- So does all that clients are told: of the focus, of frames, of motions, of dismissed popups, and of presses and releases.
+pub record TellsAll (T : Resident → Resident → Option Cause → Type 0) : Type 0 where
+  pub focus : TellsFocus T
+  pub done : (time : ℕ) → TellsBy T (λ r. without_callbacks (callbacks_due r) r) (frames_told time)
+  pub motion : (time : ℕ) (at : Option Place) (w : Option Window) → TellsBy T (λ r. r) (motion_told time at w)
+  pub dismissed : TellsBy T without_grabs (λ r. popups_done r (without_grabs r))
+  pub pressed : (time button : ℕ) (pressed : Bool) → TellsBy T (λ r. noted_if (has_pointers r) pressed r) (button_told time button (number_of pressed))
+
+pub own-all : TellsAll StaysOwn
+own-all = record {
+  focus = record {
+    leave = λ surface. tells-own (leave_drawn surface) (left_surface surface) (λ r. own-drawn _ r);
+    enter = λ at w. tells-own told_drawn (entered_surface at w) (λ r. own-drawn _ r);
+  };
+  done = λ time. tells-own (λ r. without_callbacks (callbacks_due r) r) (frames_told time) own-done;
+  motion = λ time at w. tells-own (λ r. r) (motion_told time at w) own-same;
+  dismissed = tells-own without_grabs (λ r. popups_done r (without_grabs r)) own-dismissed;
+  pressed = λ time button pressed.
+      tells-own (λ r. noted_if (has_pointers r) pressed r) (button_told time button (number_of pressed)) (λ r. own-noted_if (has_pointers r) pressed r);
 }

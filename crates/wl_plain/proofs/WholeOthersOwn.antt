@@ -25,7 +25,7 @@ use Rattle.wl_plain.specs.WholeOwn.{HasEndedLate, HasItsOwn, KeepsItsOwn, KeepsI
 use Rattle.wl_plain.proofs.OwningKeys.{some-same}
 use Rattle.wl_plain.proofs.StandingLists.{any-last}
 use Rattle.wl_plain.proofs.WholeOthers.{whole_others_stay}
-use Rattle.wl_plain.proofs.WholeOthersKept.{StaysOwn, own-dismissed, own-done, own-drawn, own-focus, own-more, own-noted_if, own-same, own-then, tells-own}
+use Rattle.wl_plain.proofs.WholeOthersKept.{StaysOwn, TellsAll, own-all, own-drawn, own-more, own-same, own-then}
 use Rattle.wl_plain.proofs.WholeOthersSettling.{AreIn, IsIn, IsWithin, Stays, ended-in, ends-in, settles-all, settles-in, tells-in, within-same}
 
 -- ---- what stays of a client
@@ -114,7 +114,7 @@ kept-same c old new e =
 -- ---- which toplevels stand
 
 -- what passes of those that are left
-any-kept : {X : Type 0} (p q : X → Bool) (xs : List X) → list_any p (filter q xs) ≡ list_any (λ x. q x && p x) xs
+pub any-kept : {X : Type 0} (p q : X → Bool) (xs : List X) → list_any p (filter q xs) ≡ list_any (λ x. q x && p x) xs
 any-kept p q [] = refl
 any-kept p q (x ∷ xs) = at (q x) (any-kept p q xs)
   where
@@ -128,7 +128,7 @@ or-turned true false = refl
 or-turned false true = refl
 or-turned false false = refl
 
-any-raised : (p : Standing → Bool) (c surface : ℕ) (ss : List Standing) → list_any p (raised c surface ss) ≡ list_any p ss
+pub any-raised : (p : Standing → Bool) (c surface : ℕ) (ss : List Standing) → list_any p (raised c surface ss) ≡ list_any p ss
 any-raised p c surface [] = refl
 any-raised p c surface (s ∷ ss) = at (is_of c surface s) (any-raised p c surface ss)
   where
@@ -136,7 +136,7 @@ any-raised p c surface (s ∷ ss) = at (is_of c surface s) (any-raised p c surfa
     at true e = any-last p ss s ∙ or-turned (list_any p ss) (p s)
     at false e = ap (λ (b : Bool). p s || b) e
 
-any-moved : (p : Standing → Bool) → ((s : Standing) (place : Place) → p (record s { place = place }) ≡ p s) → (c surface : ℕ) (place : Place) (ss : List Standing) → list_any p (moved_to c surface place ss) ≡ list_any p ss
+pub any-moved : (p : Standing → Bool) → ((s : Standing) (place : Place) → p (record s { place = place }) ≡ p s) → (c surface : ℕ) (place : Place) (ss : List Standing) → list_any p (moved_to c surface place ss) ≡ list_any p ss
 any-moved p same c surface place [] = refl
 any-moved p same c surface place (s ∷ ss) = at (is_of c surface s) (any-moved p same c surface place ss)
   where
@@ -148,81 +148,81 @@ any-moved p same c surface place (s ∷ ss) = at (is_of c surface s) (any-moved 
 abbrev its : ℕ → ℕ → Standing → Bool
 its c surface s = (s.client == c) && (s.surface == surface)
 
-stand-same : (c : ℕ) (old new : Desktop) → ((surface : ℕ) → list_any (its c surface) new.standing ≡ list_any (its c surface) old.standing) → StandTheSame (toplevels_of c old) (toplevels_of c new)
+pub stand-same : (c : ℕ) (old new : Desktop) → ((surface : ℕ) → list_any (its c surface) new.standing ≡ list_any (its c surface) old.standing) → StandTheSame (toplevels_of c old) (toplevels_of c new)
 stand-same c old new same surface =
     any-kept (λ s. s.surface == surface) (λ s. s.client == c) new.standing ∙ same surface ∙ sym (any-kept (λ s. s.surface == surface) (λ s. s.client == c) old.standing)
 
-stand-raised : (c : ℕ) (w : Option Window) (d : Desktop) (surface : ℕ) → list_any (its c surface) (raised_by w d).standing ≡ list_any (its c surface) d.standing
+pub stand-raised : (c : ℕ) (w : Option Window) (d : Desktop) (surface : ℕ) → list_any (its c surface) (raised_by w d).standing ≡ list_any (its c surface) d.standing
 stand-raised c None d surface = refl
 stand-raised c (Some w) d surface = any-raised (its c surface) w.owner.client w.owner.toplevel d.standing
 
-stand-moved : (c : ℕ) (from : Option Place) (to : Place) (t : Option Target) (ss : List Standing) (surface : ℕ) → list_any (its c surface) (moved_with from to t ss) ≡ list_any (its c surface) ss
+pub stand-moved : (c : ℕ) (from : Option Place) (to : Place) (t : Option Target) (ss : List Standing) (surface : ℕ) → list_any (its c surface) (moved_with from to t ss) ≡ list_any (its c surface) ss
 stand-moved c None to t ss surface = refl
 stand-moved c (Some from) to None ss surface = refl
 stand-moved c (Some from) to (Some t) ss surface = any-moved (its c surface) (λ s place. refl) t.client t.surface _ ss
 
-raised-client : (c : ℕ) (w : Option Window) (d : Desktop) → client_at c (raised_by w d) ≡ client_at c d
+pub raised-client : (c : ℕ) (w : Option Window) (d : Desktop) → client_at c (raised_by w d) ≡ client_at c d
 raised-client c None d = refl
 raised-client c (Some w) d = refl
 
 -- ---- a frame is shown, the pointer moves, a button is pressed or released
 
-module _ (c : ℕ) (A : Option Resident → List Standing → Type 0) (P : Resident → Cause → Type 0) (stays : Stays StaysOwn A P) where
-  abbrev Known : Desktop → Type 0
-  Known d = IsIn c StaysOwn own-focus A P stays d
+module _ (c : ℕ) (T : Resident → Resident → Option Cause → Type 0) (all : TellsAll T) (A : Option Resident → List Standing → Type 0) (P : Resident → Cause → Type 0) (stays : Stays T A P) where
+  abbrev pub Known : Desktop → Type 0
+  Known d = IsIn c T all.focus A P stays d
 
   abbrev Within : Moving → Type 0
-  Within m = IsWithin c StaysOwn own-focus A P stays m
+  Within m = IsWithin c T all.focus A P stays m
 
   begun : (d : Desktop) → Known d → Within (unstruck d)
   begun d known = (known, tt)
 
   same : (m n : Moving) → n ≡ m → Within m → Within n
-  same m n e known = within-same c StaysOwn own-focus A P stays m n e known
+  same m n e known = within-same c T all.focus A P stays m n e known
 
   settles : (old new : Moving) → Within old → Settles old new → Within new
-  settles old new known h = settles-in c StaysOwn own-focus A P stays old new known h
+  settles old new known h = settles-in c T all.focus A P stays old new known h
 
   ends : (mid : Moving) (new : Desktop) → Within mid → SettlesEnds mid new → Known new
   ends mid new known h =
-      ends-in c StaysOwn own-focus A P stays (SettlesAll 32) (settles-all c StaysOwn own-focus A P stays 32) mid.struck mid.desktop new known.0 known.1 h
+      ends-in c T all.focus A P stays (SettlesAll 32) (settles-all c T all.focus A P stays 32) mid.struck mid.desktop new known.0 known.1 h
 
   -- those that a frame struck end first
-  all-end : (ss : List Strike) (d : Desktop) → Known d → AreIn c StaysOwn own-focus A P stays (client_at c d) ss → Known (ended_all ss d)
+  all-end : (ss : List Strike) (d : Desktop) → Known d → AreIn c T all.focus A P stays (client_at c d) ss → Known (ended_all ss d)
   all-end [] d known rest = known
   all-end (s ∷ ss) d known rest =
-      let more : Within (record { desktop = ended_by s d; struck = ss }) = ended-in c StaysOwn own-focus A P stays s.client s.cause ss d known rest.0 rest.1 in
+      let more : Within (record { desktop = ended_by s d; struck = ss }) = ended-in c T all.focus A P stays s.client s.cause ss d known rest.0 rest.1 in
       all-end ss (ended_by s d) more.0 more.1
 
   frames : (time n k : ℕ) (old new : Moving) → Within old → TellsFrames time n k old new → Within new
   frames time zero k old new known h = same old new h known
   frames time (suc n) k old new known h =
-      let mid : Within h.0 = tells-in c StaysOwn own-focus A P stays (λ r. without_callbacks (callbacks_due r) r) (frames_told time) (tells-own (λ r. without_callbacks (callbacks_due r) r) (frames_told time) own-done) k old h.0 known h.1 in
+      let mid : Within h.0 = tells-in c T all.focus A P stays (λ r. without_callbacks (callbacks_due r) r) (frames_told time) (all.done time) k old h.0 known h.1 in
       frames time n (suc k) h.0 new mid h.2
 
-  shown : (time : ℕ) (d new : Desktop) → Known d → Shows time d new → Known new
+  pub shown : (time : ℕ) (d new : Desktop) → Known d → Shows time d new → Known new
   shown time d new known h =
       let told : Within h.0 = frames time 32 1 (unstruck d) h.0 (begun d known) h.1 in
-      settles-all c StaysOwn own-focus A P stays 33 (unstruck (ended_all h.0.struck h.0.desktop)) new (all-end h.0.struck h.0.desktop told.0 told.1, tt) h.2
+      settles-all c T all.focus A P stays 33 (unstruck (ended_all h.0.struck h.0.desktop)) new (all-end h.0.struck h.0.desktop told.0 told.1, tt) h.2
 
   motion : (time : ℕ) (moves focus : Option Target) (old new : Moving) → Within old → TellsMotion time moves focus old new → Within new
   motion time moves None old new known h = same old new h known
   motion time None (Some t) old new known h =
       let told = motion_told time old.desktop.pointer.place (focus_window (Some t) (all_windows old.desktop)) in
-      tells-in c StaysOwn own-focus A P stays (λ r. r) told (tells-own (λ r. r) told own-same) t.client old new known h
+      tells-in c T all.focus A P stays (λ r. r) told (all.motion time old.desktop.pointer.place (focus_window (Some t) (all_windows old.desktop))) t.client old new known h
   motion time (Some moved) (Some t) old new known h = same old new h known
 
   motion-settles : (b : Bool) (time : ℕ) (old new : Moving) → Within old → MotionSettles b time old new → Within new
   motion-settles true time old new known h = motion time old.desktop.pointer.move old.desktop.pointer.focus old new known h
   motion-settles false time old new known h = settles old new known h
 
-  moves : (time : ℕ) (d new : Desktop) → Known d → MovesTo time d new → Known new
+  pub moves : (time : ℕ) (d new : Desktop) → Known d → MovesTo time d new → Known new
   moves time d new known h = ends h.0 new (motion-settles (is_settled d) time (unstruck d) h.0 (begun d known) h.1) h.2
 
   dismisses-unless : (b : Bool) (k : ℕ) (old new : Moving) → Within old → DismissesUnless b k old new → Within new
   dismisses-unless true k old new known h = same old new h known
   dismisses-unless false k old new known h =
-      tells-in c StaysOwn own-focus A P stays without_grabs (λ r. popups_done r (without_grabs r)) (tells-own without_grabs (λ r. popups_done r (without_grabs r)) own-dismissed) k old new known h
+      tells-in c T all.focus A P stays without_grabs (λ r. popups_done r (without_grabs r)) all.dismissed k old new known h
 
   dismisses : (holder : Option ℕ) (w : Option Window) (old new : Moving) → Within old → Dismisses holder w old new → Within new
   dismisses None w old new known h = same old new h known
@@ -232,16 +232,16 @@ module _ (c : ℕ) (A : Option Resident → List Standing → Type 0) (P : Resid
   button-told time button pressed None old new known h = same old new h known
   button-told time button pressed (Some t) old new known h =
       let change = λ (r : Resident). noted_if (has_pointers r) pressed r in
-      tells-in c StaysOwn own-focus A P stays change (button_told time button (number_of pressed)) (tells-own change (button_told time button (number_of pressed)) (λ r. own-noted_if (has_pointers r) pressed r)) t.client old new known h
+      tells-in c T all.focus A P stays change (button_told time button (number_of pressed)) (all.pressed time button pressed) t.client old new known h
 
-  pressed-so : (time button : ℕ) (d new : Desktop) → Known (with_press button (raised_by (hit_now d.pointer.place (all_windows d)) d)) → PressedSo time button d new → Known new
+  pub pressed-so : (time button : ℕ) (d new : Desktop) → Known (with_press button (raised_by (hit_now d.pointer.place (all_windows d)) d)) → PressedSo time button d new → Known new
   pressed-so time button d new known h =
       let start : Desktop = with_press button (raised_by (hit_now d.pointer.place (all_windows d)) d) in
       let dismissed : Within h.0 = dismisses (grab_holder d) (hit_now d.pointer.place (all_windows d)) (unstruck start) h.0 (begun start known) h.1 in
       let told : Within h.2 = button-told time button true d.pointer.focus h.0 h.2 dismissed h.3 in
       ends h.4 new (settles h.2 h.4 told h.5) h.6
 
-  released-so : (time button : ℕ) (d new : Desktop) → Known d → ReleasedSo time button d new → Known new
+  pub released-so : (time button : ℕ) (d new : Desktop) → Known d → ReleasedSo time button d new → Known new
   released-so time button d new known h =
       let told : Within h.0 = button-told time button false d.pointer.focus (unstruck (with_release button d)) h.0 (begun (with_release button d) known) h.1 in
       ends h.2 new (settles h.0 h.2 told h.3) h.4
@@ -251,11 +251,11 @@ presses false time button c d new h = kept-same c d new h
 presses true time button c d new h =
     let w = hit_now d.pointer.place (all_windows d) in
     kept c d (with_press button (raised_by w d)) new (raised-client c w d) (stand-same c d (raised_by w d) (stand-raised c w d))
-    (λ A P stays known. pressed-so c A P stays time button d new known h)
+    (λ A P stays known. pressed-so c StaysOwn own-all A P stays time button d new known h)
 
 releases : (b : Bool) (time button c : ℕ) (d new : Desktop) → ReleasesIf b time button d new → KeepsItsOwn c d new
 releases false time button c d new h = kept-same c d new h
-releases true time button c d new h = kept c d d new refl (λ surface. refl) (λ A P stays known. released-so c A P stays time button d new known h)
+releases true time button c d new h = kept c d d new refl (λ surface. refl) (λ A P stays known. released-so c StaysOwn own-all A P stays time button d new known h)
 
 -- ---- another client's step
 
@@ -308,12 +308,12 @@ whole_own_stays out (Steps (Feed a piece) done) c old new not_it h = another out
 whole_own_stays out (Steps (Store a store at bytes) done) c old new not_it h = another out (Store a store at bytes) done a c old new refl not_it h
 whole_own_stays out (Steps (Leave a) done) c old new not_it h = another out (Leave a) done a c old new refl not_it h
 whole_own_stays out (Steps (Tick time) done) c old new not_it h =
-    kept c old old new refl (λ surface. refl) (λ A P stays known. shown c A P stays time old new known h.1)
+    kept c old old new refl (λ surface. refl) (λ A P stays known. shown c StaysOwn own-all A P stays time old new known h.1)
 whole_own_stays out (Steps (Send a n) done) c old new not_it h = another out (Send a n) done a c old new refl not_it h
 whole_own_stays out (Steps (Close a) done) c old new not_it h = another out (Close a) done a c old new refl not_it h
 whole_own_stays out (Motion time x y) c old new not_it h =
     let start : Desktop = pointed (point_in old.output x y) old in
     kept c old start new refl (stand-same c old start (stand-moved c old.pointer.place (point_in old.output x y) old.pointer.move old.standing))
-    (λ A P stays known. moves c A P stays time start new known h)
+    (λ A P stays known. moves c StaysOwn own-all A P stays time start new known h)
 whole_own_stays out (Button time button true) c old new not_it h = presses (is_press button old.pointer.buttons) time button c old new h
 whole_own_stays out (Button time button false) c old new not_it h = releases (is_down button old.pointer.buttons) time button c old new h

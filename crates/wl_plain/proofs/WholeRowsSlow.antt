@@ -1,5 +1,5 @@
 -- Clients that end since an event for them wasn't queued, computed on the definitions.
-use Rattle.std.proofs.Common.{◌≡◌, ℕ, List, [], ◌∷◌, Option, Some, None, refl}
+use Rattle.std.proofs.Common.{◌≡◌, [], ◌∷◌, Option, Some, None, refl}
 use Rattle.std.specs.Prelude.{pos}
 use Rattle.wl_client.specs.declared.clients.Cause.TheVariants.{Memory, Slow}
 use Rattle.wl_surface.specs.Trees.{applied_tree, behaves_synchronised}

@@ -1,11 +1,11 @@
 -- What an accepted message changes of its client, of the stack of toplevels, and of the pointer, where every request is served.
-use Rattle.std.specs.Prelude.{ℕ, ℤ, pos, suc, ◌+◌, ◌==◌, ◌&&◌, ◌||◌, nat_lt, not, Bool, true, false, if◌then◌else◌, Option, Some, None, List, [], ◌∷◌, ◌++◌, filter, find, flat_map, fold, map, is_some}
+use Rattle.std.specs.Prelude.{ℕ, pos, suc, ◌+◌, ◌==◌, ◌&&◌, ◌||◌, nat_lt, not, Bool, true, false, if◌then◌else◌, Option, Some, None, List, [], ◌∷◌, ◌++◌, filter, find, flat_map, fold, map, is_some}
 use Rattle.std.specs.List.{list_any}
 use Rattle.std.specs.Option.{option_map_or}
 use Rattle.wl_geom.specs.declared.rect.Rect.{Rect}
 use Rattle.wl_proto.specs.declared.interface.Interface.TheVariants.{WlCallback, WlSubsurface, WlPointer, XdgPositioner, XdgPopup}
 use Rattle.wl_client.specs.Objects.{with_id}
-use Rattle.wl_client.specs.Peer.{Peer, removed}
+use Rattle.wl_client.specs.Peer.{removed}
 use Rattle.wl_client.specs.Told.{Output}
 use Rattle.wl_surface.specs.Request.{Request, Frame}
 use Rattle.wl_surface.specs.State.{History}

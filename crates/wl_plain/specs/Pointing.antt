@@ -1,18 +1,16 @@
 -- What clients are told of the pointer (wayland.xml, wl_pointer).
-use Rattle.std.specs.Prelude.{ℕ, ℤ, pos, ◌+ℤ◌, ◌-ℤ◌, ◌==◌, ◌&&◌, not, Bool, true, false, if◌then◌else◌, Option, Some, None, List, [], ◌∷◌, ◌++◌, flat_map, map, is_some}
-use Rattle.std.specs.List.{list_any}
+use Rattle.std.specs.Prelude.{ℕ, ℤ, ◌-ℤ◌, ◌==◌, ◌&&◌, Bool, true, false, if◌then◌else◌, Option, Some, None, List, [], ◌∷◌, flat_map, is_some}
 use Rattle.wl_wire.specs.Wire.{Word, Number}
 use Rattle.wl_proto.specs.declared.interface.Interface.TheVariants.{WlPointer}
 use Rattle.wl_proto.specs.Messages.{says}
 use Rattle.wl_client.specs.Told.{Said, said}
 use Rattle.wl_surface.specs.Surfaces.{history_in}
-use Rattle.wl_surface.specs.State.{within_bounds}
-use Rattle.wl_scene.specs.Pointer.{Pointer, Target, fixed_from, settled}
+use Rattle.wl_scene.specs.Pointer.{Target, fixed_from}
 use Rattle.wl_scene.specs.Stacking.{Standing, moved_to}
-use Rattle.wl_scene.specs.Windows.{Place, Window, hit, moved}
-use Rattle.wl_plain.specs.Desktop.{Desktop, Resident}
+use Rattle.wl_scene.specs.Windows.{Place, Window, moved}
+use Rattle.wl_plain.specs.Desktop.{Resident}
 use Rattle.wl_plain.specs.Popups.{standing_place}
-use Rattle.wl_plain.specs.Replies.{enter_told, entered_at, focus_window}
+use Rattle.wl_plain.specs.Replies.{entered_at}
 
 -- two surfaces are the same
 abbrev pub is_same : Option Target → Option Target → Bool

@@ -9,9 +9,12 @@ use Rattle.wl_scene.specs.Stacking.{is_of}
 use Rattle.wl_scene.specs.Windows.{StackedPopup}
 use Rattle.wl_plain.specs.Desktop.{Desktop, empty, owned_in}
 use Rattle.wl_plain.specs.Laws.{AreApart}
+use Rattle.wl_plain.specs.LeftOut.{LeftOut}
 use Rattle.wl_plain.specs.Marks.{AreDistinct}
 use Rattle.wl_plain.specs.Popups.{stacked_popups}
 use Rattle.wl_plain.specs.Stacked.{all_windows}
+use Rattle.wl_plain.specs.Whole.{Deed}
+use Rattle.wl_plain.specs.WholeLaws.{Lasts}
 
 -- none of these is there twice
 abbrev pub AreOnce : {X : Type 0} → (X → X → Bool) → List X → Type 0
@@ -63,3 +66,7 @@ SoundIsDistinct = (d : Desktop) → IsSound d → AreDistinct (all_windows d)
 -- A desktop without clients is sound.
 abbrev pub EmptyIsSound : Type 0
 EmptyIsSound = (output : Output) → IsSound (empty output)
+
+-- Whatever happens from a desktop without clients on, the desktop is sound.
+abbrev pub RunIsSound : Type 0
+RunIsSound = (left : LeftOut) (output : Output) (deeds : List Deed) (d : Desktop) → Lasts left deeds (empty output) d → IsSound d

@@ -1,13 +1,10 @@
 -- Which surface's window a message of a client changes: no subsurfaces and popups are served, so it is one at most.
-use Rattle.std.specs.Prelude.{ℕ, ℤ, ◌≡◌, ◌==◌, ◌&&◌, ◌||◌, ◌⊎◌, Bool, true, false, Option, Some, None, List}
+use Rattle.std.specs.Prelude.{ℕ, ℤ, ◌≡◌, ◌==◌, ◌&&◌, ◌⊎◌, Bool, true, false, Option, Some, None, List}
 use Rattle.std.specs.List.{list_any}
-use Rattle.wl_client.specs.declared.clients.Cause.{Cause}
 use Rattle.wl_shell.specs.Shell.{xdg_at}
 use Rattle.wl_scene.specs.Windows.{Window, contains}
 use Rattle.wl_plain.specs.Ask.{Ask, CommitSurface, DestroyToplevel}
 use Rattle.wl_plain.specs.Desktop.{Desktop, Resident, windows_in}
-use Rattle.wl_plain.specs.Laws.{status_in}
-use Rattle.wl_plain.specs.Moments.{marks_at_least}
 use Rattle.wl_plain.specs.Step.{surface_of}
 
 -- the surface whose window may change: that of a commit, or of a toplevel that goes (wayland.xml, wl_surface.commit; xdg-shell.xml,

@@ -1,6 +1,5 @@
 -- What is asked of positioners and popups (xdg-shell.xml, xdg_positioner, xdg_surface.get_popup and xdg_popup).
-use Rattle.std.specs.Prelude.{ℕ, ℤ, ◌==◌, ◌&&◌, nat_le, not, Bool, true, false, if◌then◌else◌, Option, Some, None, Result, Ok, List, is_some}
-use Rattle.std.specs.Option.{option_and_then, option_map_or}
+use Rattle.std.specs.Prelude.{ℕ, ◌==◌, nat_le, Bool, true, false, if◌then◌else◌, Option, Some, None, Result, Ok, List, is_some}
 use Rattle.wl_wire.specs.Wire.{Field}
 use Rattle.wl_client.specs.declared.refusals.ErrorCode.TheVariants as error
 use Rattle.wl_client.specs.declared.refusals.Refusal.{Refusal}

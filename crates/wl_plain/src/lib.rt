@@ -6,8 +6,8 @@
 mod answers;
 
 ghost use Rattle.wl_plain.specs.Laws.{LeastIsMost, OneRun, OthersStay, ScratchStays, ServedAlone, WindowsAreDistinct};
-ghost use Rattle.wl_plain.specs.Soundness.{EmptyIsSound, SoundIsDistinct};
-ghost use Rattle.wl_plain.specs.ServedToplevels.{EmptyHasToplevelsOnly, MessagesAreWhole};
+ghost use Rattle.wl_plain.specs.Soundness.{EmptyIsSound, RunIsSound, SoundIsDistinct};
+ghost use Rattle.wl_plain.specs.ServedToplevels.{EmptyHasToplevelsOnly, MessagesAreWhole, ServedToplevels};
 ghost use Rattle.wl_plain.specs.WholeLaws.{EndsStay, WholeHappens, WholeOneRun, WholeOnlyRun};
 ghost use Rattle.wl_plain.specs.WholeOthers.{RefusedAlone, WholeOthersStay};
 ghost use Rattle.wl_plain.specs.WholeOwn.{WholeOwnStays};
@@ -32,6 +32,11 @@ pub fn sound_is_distinct()
 /// A desktop without clients is so.
 pub fn empty_is_sound()
     ensures { EmptyIsSound }
+{}
+
+/// Whatever happens from there on leaves it so.
+pub fn run_is_sound()
+    ensures { RunIsSound }
 {}
 
 /// A point that a step doesn't mark is painted from nothing as before, where the windows that keep their records show the colours that they
@@ -94,6 +99,12 @@ pub fn ends_stay()
 /// Where no more than toplevels is served, a message leads where it leads the whole desktop with all else left out.
 pub fn messages_are_whole()
     ensures { MessagesAreWhole }
+{}
+
+/// Where no more than toplevels is served, every step leads where it leads the whole desktop with all else left out, and to no more than
+/// toplevels again.
+pub fn served_toplevels()
+    ensures { ServedToplevels }
 {}
 
 /// A desktop without clients has no more than toplevels.

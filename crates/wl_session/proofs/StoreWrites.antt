@@ -35,12 +35,12 @@ use Rattle.wl_plain.specs.declared.answers.Done.TheVariants as gave
 use Rattle.wl_plain.specs.declared.answers.Stored.TheVariants as stored
 use Rattle.wl_session.specs.Promises.{KeepsBuffers, KeepsDamage, busy_of, bytes_by, bytes_in, is_hidden_in, is_rewritten_at, is_same_color, windows_by}
 use Rattle.wl_session.specs.Serving.{Everything, Toplevels}
-use Rattle.wl_session.specs.StoreWrites.{PromisesAreEnough, WriteHidesNothing}
+use Rattle.wl_session.specs.StoreWrites.{WriteHidesNothing}
 use Rattle.wl_plain.specs.Steps.{ChangesAt, Connect, Feed, IsStored, Leave, Send, Close, Store, Tick, left_so}
 
 -- ---- each window shows the buffer that its surface has applied
 
-abbrev IsShown : (ℕ → Owned) → Window → Type 0
+abbrev pub IsShown : (ℕ → Owned) → Window → Type 0
 IsShown owned w =
     (h : History) × (history_in w.surface (owned w.owner.client).surfaces ≡ Some h) × ((applied h).buffer ≡ Some w.buffer)
     × (w.width ≡ width_of (Some w.buffer) w.transform) × (w.height ≡ height_of (Some w.buffer) w.transform)
@@ -98,7 +98,7 @@ shown-roots owned popups toplevels =
 toplevels-shown : (d : Desktop) → Each (IsShown (owned_in d)) (windows_in d)
 toplevels-shown d = shown-roots (owned_in d) (λ client. []) (map (root_of (owned_in d)) d.standing)
 
-all-shown : (d : Desktop) → Each (IsShown (owned_in d)) (all_windows d)
+pub all-shown : (d : Desktop) → Each (IsShown (owned_in d)) (all_windows d)
 all-shown d = shown-roots (owned_in d) (λ c. stacked_popups (owned_in d c)) (map (root_of (owned_in d)) d.standing)
 
 -- ---- a point of a window is one of its buffer
@@ -199,7 +199,7 @@ any-second : {X : Type 0} (p : X → Bool) (xs ys : List X) → list_any p (xs +
 any-second p [] ys e = e
 any-second p (x ∷ xs) ys e = any-second p xs ys (or-right (p x) (list_any p (xs ++ ys)) e)
 
-any-first : {X : Type 0} (p : X → Bool) (xs ys : List X) → list_any p (xs ++ ys) ≡ false → list_any p xs ≡ false
+pub any-first : {X : Type 0} (p : X → Bool) (xs ys : List X) → list_any p (xs ++ ys) ≡ false → list_any p xs ≡ false
 any-first p [] ys e = refl
 any-first p (x ∷ xs) ys e = go (p x) (or-left (p x) (list_any p (xs ++ ys)) e) (any-first p xs ys (or-right (p x) (list_any p (xs ++ ys)) e)) where
   go : (b : Bool) → b ≡ false → list_any p xs ≡ false → (b || list_any p xs) ≡ false
@@ -234,9 +234,13 @@ nothing-shown v o h e f = none (subst (λ (a : Owned). history_in v.surface a.su
   none : history_in v.surface nothing_owned.surfaces ≡ Some h → ⊥
   none g = absurd (cc)
 
-one-buffer : (old new : Desktop) (w v : Window) → Fields w v → Owns v.owner.client old new → IsShown (owned_in old) w → IsShown (owned_in new) v → w.buffer ≡ v.buffer
-one-buffer old new w v f (inl e) s t = same-buffer (owned_in old) (owned_in new) w v f (ap (λ (o : Owned). o.surfaces) e) s t
-one-buffer old new w v f (inr e) s t = absurd (nothing-shown v (owned_in new v.owner.client) t.0 e t.1)
+-- A client's surfaces stay, with the colours of their busy buffers; or it has none.
+abbrev pub IsKept : ℕ → Desktop → Desktop → Type 0
+IsKept c old new = (((owned_in new c).surfaces ≡ (owned_in old c).surfaces) × KeepsBuffers old new c) ⊎ (owned_in new c ≡ nothing_owned)
+
+kept-by : (c : ℕ) (old new : Desktop) → Owns c old new → KeepsBuffers old new c → IsKept c old new
+kept-by c old new (inl e) keeps = inl (ap (λ (o : Owned). o.surfaces) e, keeps)
+kept-by c old new (inr e) keeps = inr e
 
 -- a window that kept its record shows the colour that it did
 same-colors : (old new : Desktop) (x y : ℤ) (w v : Window) → KeepsBuffers old new v.owner.client → Fields w v → w.buffer ≡ v.buffer → IsShown (owned_in old) w → IsShown (owned_in new) v → contains v x y ≡ true → is_same_color (color_in old w x y) (color_in new v x y) ≡ true
@@ -253,49 +257,41 @@ same-colors old new x y w v keeps f b s t here =
     (subst (λ (q : Argb). is_same_color was q ≡ true) (sym (color-is new v v x y (self v) refl))
     (not-rewritten (nat_lt p.0 v.buffer.width) (nat_lt p.1 v.buffer.height) (is_same_color (pixel_at (bytes_in old c v.buffer.store) v.buffer p) (pixel_at (bytes_in new c v.buffer.store) v.buffer p)) unwritten (fits p.0 v.buffer.width within.0) (fits p.1 v.buffer.height within.1)))
 
-any-none : {X : Type 0} (p : X → Bool) (xs : List X) → Each (λ x. p x ≡ false) xs → list_any p xs ≡ false
+pub any-none : {X : Type 0} (p : X → Bool) (xs : List X) → Each (λ x. p x ≡ false) xs → list_any p xs ≡ false
 any-none p [] e = refl
 any-none p (x ∷ xs) e = go (p x) e.0 (any-none p xs e.1) where
   go : (b : Bool) → b ≡ false → list_any p xs ≡ false → (b || list_any p xs) ≡ false
   go true f g = absurd (differ (sym f))
   go false f g = g
 
-not-hidden : (old new : Desktop) (c : ℕ) (x y : ℤ) (w v : Window) → KeepsBuffers old new c → Owns c old new → (w.owner.client == c) ≡ true → (v.owner.client == c) ≡ true → IsShown (owned_in old) w → IsShown (owned_in new) v → is_hidden_in old new x y w v ≡ false
-not-hidden old new c x y w v keeps owns of of' s t =
+not-hidden : (old new : Desktop) (c : ℕ) (x y : ℤ) (w v : Window) → IsKept c old new → (w.owner.client == c) ≡ true → (v.owner.client == c) ≡ true → IsShown (owned_in old) w → IsShown (owned_in new) v → is_hidden_in old new x y w v ≡ false
+not-hidden old new c x y w v keeps of of' s t =
     unless (is_hidden_in old new x y w v)
     (λ e. let rest = and-right (has_same_record w v) _ e in
     let f = fields w v (and-left (has_same_record w v) _ e) in
     let here = and-left (contains v x y) _ rest in
-    let at = sym (eqb-true v.owner.client c of') in
-    let keeps' : KeepsBuffers old new v.owner.client = subst (λ n. KeepsBuffers old new n) at keeps in
-    let owns' : Owns v.owner.client old new = subst (λ n. Owns n old new) at owns in
-    let same = same-colors old new x y w v keeps' f (one-buffer old new w v f owns' s t) s t here in
+    let same = one f here (subst (λ n. IsKept n old new) (sym (eqb-true v.owner.client c of')) keeps) in
     differ (sym (ap not same) ∙ and-left (not (is_same_color (color_in old w x y) (color_in new v x y))) _ (and-right (contains v x y) _ rest)))
+  where
+    one : Fields w v → contains v x y ≡ true → IsKept v.owner.client old new → is_same_color (color_in old w x y) (color_in new v x y) ≡ true
+    one f here (inl k) = same-colors old new x y w v k.1 f (same-buffer (owned_in old) (owned_in new) w v f k.0 s t) s t here
+    one f here (inr k) = absurd (nothing-shown v (owned_in new v.owner.client) t.0 k t.1)
 
 -- whichever windows are shown, if each shows the buffer that its surface has applied
-hides-nothing : (shown : Showing) (old new : Desktop) (c : ℕ) → Each (IsShown (owned_in old)) (shown old) → Each (IsShown (owned_in new)) (shown new) → Owns c old new → KeepsBuffers old new c → KeepsDamage shown old new c
-hides-nothing shown old new c here there owns keeps = λ x y.
+pub hides-nothing : (shown : Showing) (old new : Desktop) (c : ℕ) → Each (IsShown (owned_in old)) (shown old) → Each (IsShown (owned_in new)) (shown new) → IsKept c old new → KeepsDamage shown old new c
+hides-nothing shown old new c here there keeps = λ x y.
     let before = each-kept (λ (w : Window). w.owner.client == c) (IsShown (owned_in old)) (shown old) here in
     let after = each-kept (λ (w : Window). w.owner.client == c) (IsShown (owned_in new)) (shown new) there in
     any-none (λ v. list_any (λ w. is_hidden_in old new x y w v) (windows_by shown c old)) (windows_by shown c new)
     (each-map (λ (v : Window). ((v.owner.client == c) ≡ true) × IsShown (owned_in new) v) (λ v. list_any (λ w. is_hidden_in old new x y w v) (windows_by shown c old) ≡ false)
     (λ v t. any-none (λ w. is_hidden_in old new x y w v) (windows_by shown c old)
-    (each-map (λ (w : Window). ((w.owner.client == c) ≡ true) × IsShown (owned_in old) w) (λ w. is_hidden_in old new x y w v ≡ false) (λ w s. not-hidden old new c x y w v keeps owns s.0 t.0 s.1 t.1) (windows_by shown c old) before))
+    (each-map (λ (w : Window). ((w.owner.client == c) ≡ true) × IsShown (owned_in old) w) (λ w. is_hidden_in old new x y w v ≡ false) (λ w s. not-hidden old new c x y w v keeps s.0 t.0 s.1 t.1) (windows_by shown c old) before))
     (windows_by shown c new) after)
 
 pub write_hides_nothing : WriteHidesNothing
 write_hides_nothing (Toplevels unserved) old new client store at c bytes done step keeps =
-    hides-nothing windows_in old new c (toplevels-shown old) (toplevels-shown new) (owned-after client store at c bytes (client_at client old) old new done refl step) keeps
+    hides-nothing windows_in old new c (toplevels-shown old) (toplevels-shown new)
+    (kept-by c old new (owned-after client store at c bytes (client_at client old) old new done refl step) keeps)
 write_hides_nothing (Everything left) old new client store at c bytes done step keeps =
-    hides-nothing all_windows old new c (all-shown old) (all-shown new) (whole-owned-after client store at c bytes (client_at client old) old new done refl step) keeps
-
-pub promises_are_enough : PromisesAreEnough
-promises_are_enough serving liars (Step (Store client store at bytes) done) old new happens keep = λ c honest. write_hides_nothing serving old new client store at c bytes done happens (keep c honest)
-promises_are_enough serving liars (Step (Tick time) done) old new happens keep = λ c honest. (keep c honest).0
-promises_are_enough serving liars (Step Connect done) old new happens keep = keep
-promises_are_enough serving liars (Step (Feed c piece) done) old new happens keep = keep
-promises_are_enough serving liars (Step (Leave c) done) old new happens keep = keep
-promises_are_enough serving liars (Step (Send c n) done) old new happens keep = keep
-promises_are_enough serving liars (Step (Close c) done) old new happens keep = keep
-promises_are_enough serving liars (Motion time x y) old new happens keep = keep
-promises_are_enough serving liars (Button time button pressed) old new happens keep = keep
+    hides-nothing all_windows old new c (all-shown old) (all-shown new)
+    (kept-by c old new (whole-owned-after client store at c bytes (client_at client old) old new done refl step) keeps)

@@ -91,12 +91,12 @@ Keeps shown (Store client store at bytes) old new c = KeepsBuffers old new c
 Keeps shown (Tick time) old new c = KeepsDamage shown old new c × KeepsOpaque shown old c
 Keeps shown act old new c = KeepsDamage shown old new c
 
--- The same of whatever may happen. A motion of the pointer and a button are the user's, and nothing of a client's is applied in them; as in
--- every step but a store write, each client keeps its promise on damage.
+-- The same of whatever may happen. A motion of the pointer and a button are the user's: nothing of a client's changes in them, and nothing is
+-- asked of it.
 abbrev pub KeepsIn : Showing → Deed → Desktop → Desktop → ℕ → Type 0
 KeepsIn shown (Steps act done) old new c = Keeps shown act old new c
-KeepsIn shown (Motion time x y) old new c = KeepsDamage shown old new c
-KeepsIn shown (Button time button pressed) old new c = KeepsDamage shown old new c
+KeepsIn shown (Motion time x y) old new c = Unit {0}
+KeepsIn shown (Button time button pressed) old new c = Unit {0}
 
 -- Each client keeps its promises but those of a set.
 abbrev pub KeepBut : Showing → (ℕ → Bool) → Deed → Desktop → Desktop → Type 0

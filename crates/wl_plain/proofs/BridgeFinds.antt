@@ -1,0 +1,84 @@
+-- The object that a message makes, or takes away, isn't a wl_surface, but where it is one that goes.
+use Rattle.std.proofs.Common.{◌≡◌, ℕ, List, [], ◌∷◌, Bool, true, false, Option, Some, None, Result, refl, ap, sym, ◌∙◌, map, length}
+use Rattle.std.specs.Prelude.{Ok, Err, ◌==◌, ◌&&◌, if◌then◌else◌, is_some, nat_le, nat_lt, not, ◌+◌, ◌-◌, drop, slice_index, take}
+use Rattle.wl_wire.specs.declared.error.ArgError.{ArgError}
+use Rattle.wl_wire.specs.declared.error.ArgError.TheVariants.{Null, Short, NoNul}
+use Rattle.wl_wire.specs.Wire.{Field, Word, Number, Text, Block, Kind, AWord, ANumber, AText, ABlock, block_at, field_at, fields_at, fields_behind, kind_of, none_left, text_at, whole, with_front, word_of}
+use Rattle.wl_proto.specs.declared.interface.Interface.{Interface}
+use Rattle.wl_proto.specs.Table.{ANewId, Argument}
+use Rattle.wl_proto.specs.Objects.{new_id_of}
+use Rattle.wl_client.specs.Judgement.{is_free, word_in}
+use Rattle.wl_client.specs.Objects.{Object, Objects, is_of}
+use Rattle.wl_proto.specs.declared.interface.Interface.TheVariants.{WlSurface}
+
+-- ---- what is read is of the kinds that are asked for
+
+if-kind : (b : Bool) (fault : ArgError) (read : Result (Field × List ℕ) ArgError) (kind : Kind) (x : Field × List ℕ) → ((y : Field × List ℕ) → read ≡ Ok y → kind_of y.0 ≡ kind) → (if b then Err fault else read) ≡ Ok x → kind_of x.0 ≡ kind
+if-kind true fault read kind x rest e = absurd (cc)
+if-kind false fault read kind x rest e = rest x e
+
+same-read : (x y : Field × List ℕ) → (let r : Result (Field × List ℕ) ArgError = Ok x in r) ≡ Ok y → x ≡ y
+same-read x y e = cc
+
+read-kind : (x : Field × List ℕ) (kind : Kind) → kind_of x.0 ≡ kind → (y : Field × List ℕ) → (let r : Result (Field × List ℕ) ArgError = Ok x in r) ≡ Ok y → kind_of y.0 ≡ kind
+read-kind x kind is y e = ap (λ (z : Field × List ℕ). kind_of z.0) (sym (same-read x y e)) ∙ is
+
+text-kind : (count : ℕ) (bytes : List ℕ) (x : Field × List ℕ) → text_at count bytes ≡ Ok x → kind_of x.0 ≡ AText
+text-kind count bytes x e = at (count == 0) (nat_lt (length bytes) (whole count)) (slice_index bytes (3 + count) == 0) e
+  where
+    at : (a b c : Bool) → (if a then Err Null else (if b then Err Short else (if c then Ok (Text (take (count - 1) (drop 4 bytes)), drop (whole count) bytes) else Err NoNul))) ≡ Ok x → kind_of x.0 ≡ AText
+    at true b c e = absurd (cc)
+    at false true c e = absurd (cc)
+    at false false false e = absurd (cc)
+    at false false true e = read-kind (Text (take (count - 1) (drop 4 bytes)), drop (whole count) bytes) AText refl x e
+
+block-kind : (count : ℕ) (bytes : List ℕ) (x : Field × List ℕ) → block_at count bytes ≡ Ok x → kind_of x.0 ≡ ABlock
+block-kind count bytes x e = at (nat_lt (length bytes) (whole count)) e
+  where
+    at : (b : Bool) → (if b then Err Short else Ok (Block (take count (drop 4 bytes)), drop (whole count) bytes)) ≡ Ok x → kind_of x.0 ≡ ABlock
+    at true e = absurd (cc)
+    at false e = read-kind (Block (take count (drop 4 bytes)), drop (whole count) bytes) ABlock refl x e
+
+field-kind : (kind : Kind) (bytes : List ℕ) (x : Field × List ℕ) → field_at kind bytes ≡ Ok x → kind_of x.0 ≡ kind
+field-kind AWord bytes x e = if-kind _ _ _ AWord x (read-kind _ AWord refl) e
+field-kind ANumber bytes x e = if-kind _ _ _ ANumber x (read-kind _ ANumber refl) e
+field-kind AText bytes x e = if-kind (nat_lt (length bytes) 4) Short (text_at (word_of 0 bytes) bytes) AText x (λ y f. text-kind (word_of 0 bytes) bytes y f) e
+field-kind ABlock bytes x e = if-kind (nat_lt (length bytes) 4) Short (block_at (word_of 0 bytes) bytes) ABlock x (λ y f. block-kind (word_of 0 bytes) bytes y f) e
+
+pub fields-kinds : (kinds : List Kind) (bytes : List ℕ) (fields : List Field) → fields_at kinds bytes ≡ Ok fields → map kind_of fields ≡ kinds
+fields-kinds [] bytes fields e = at bytes e
+  where
+    at : (bytes : List ℕ) → none_left bytes ≡ Ok fields → map kind_of fields ≡ []
+    at [] e = let same : [] ≡ fields = cc in ap (map kind_of) (sym same)
+    at (b ∷ bytes) e = absurd (cc)
+fields-kinds (kind ∷ kinds) bytes fields e = at (field_at kind bytes) refl e (λ more rest r. fields-kinds kinds more rest r)
+  where
+    front : (x : Field × List ℕ) (more : Result (List Field) ArgError) → fields_at kinds x.1 ≡ more → kind_of x.0 ≡ kind → with_front x.0 more ≡ Ok fields → ((rest : List Field) → fields_at kinds x.1 ≡ Ok rest → map kind_of rest ≡ kinds) → map kind_of fields ≡ kind ∷ kinds
+    front x (Ok rest) is first e later =
+        let same : x.0 ∷ rest ≡ fields = cc in
+        ap (map kind_of) (sym same) ∙ ap (λ k. k ∷ map kind_of rest) first ∙ ap (λ ks. kind ∷ ks) (later rest is)
+    front x (Err fault) is first e later = absurd (cc)
+
+    at : (o : Result (Field × List ℕ) ArgError) → field_at kind bytes ≡ o → fields_behind o (λ more. fields_at kinds more) ≡ Ok fields → ((more : List ℕ) (rest : List Field) → fields_at kinds more ≡ Ok rest → map kind_of rest ≡ kinds) → map kind_of fields ≡ kind ∷ kinds
+    at (Ok x) is e later = front x (fields_at kinds x.1) refl (field-kind kind bytes x is) e (λ rest r. later x.1 rest r)
+    at (Err fault) is e later = absurd (cc)
+
+-- ---- a new id
+
+-- a new id in front is the first word
+pub first-new : (interface : Option Interface) (arguments : List Argument) (kinds : List Kind) (fields : List Field) → map kind_of fields ≡ AWord ∷ kinds → new_id_of (ANewId interface ∷ arguments) fields ≡ Some (record { id = word_in 0 fields; interface = interface })
+first-new interface arguments kinds [] e = absurd (cc)
+first-new interface arguments kinds (Word n ∷ fields) e = refl
+first-new interface arguments kinds (Number z ∷ fields) e = absurd (cc)
+first-new interface arguments kinds (Text t ∷ fields) e = absurd (cc)
+first-new interface arguments kinds (Block b ∷ fields) e = absurd (cc)
+
+-- a free id is no wl_surface's
+pub free-apart : (objects : Objects) (id : ℕ) → is_free objects id ≡ true → is_of WlSurface (objects id) ≡ false
+free-apart objects id free = at (nat_le 1 id) (nat_le id 4278190079) (objects id) free
+  where
+    at : (a b : Bool) (o : Option Object) → (a && (b && not (is_some o))) ≡ true → is_of WlSurface o ≡ false
+    at a b None e = refl
+    at true true (Some o) e = absurd (cc)
+    at true false (Some o) e = absurd (cc)
+    at false b (Some o) e = absurd (cc)

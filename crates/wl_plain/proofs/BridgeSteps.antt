@@ -1,0 +1,214 @@
+-- A step of clients that have no more than toplevels is what it is where every request may be served.
+use Rattle.std.proofs.Common.{◌≡◌, ℕ, zero, suc, List, [], ◌∷◌, ◌++◌, Bool, true, false, Option, Some, None, cond, refl, ap, subst, sym, ◌∙◌, inl, inr}
+use Rattle.std.specs.Prelude.{◌==◌, filter, is_none, not}
+use Rattle.std.proofs.lemmas.Bool.{eqb-false, eqb-true}
+use Rattle.wl_client.specs.declared.clients.Cause.{Cause}
+use Rattle.wl_client.specs.declared.clients.Cause.TheVariants.{Gone, Memory}
+use Rattle.wl_client.specs.Peer.{Peer, ended, left_by, with_rest}
+use Rattle.wl_scene.specs.Pointer.{first_pointer}
+use Rattle.wl_scene.specs.Stacking.{Standing, without_client}
+use Rattle.wl_plain.specs.declared.answers.Done.{Done}
+use Rattle.wl_plain.specs.declared.answers.Done.TheVariants as gave
+use Rattle.wl_plain.specs.Changing.{without_callbacks}
+use Rattle.wl_plain.specs.Desktop.{Callback, Desktop, Resident, become, become_by, client_at, resident_of, with_client, with_number}
+use Rattle.wl_plain.specs.Laws.{toplevels_of}
+use Rattle.wl_plain.specs.LeftOut.{beyond_toplevels_left_out}
+use Rattle.wl_plain.specs.Served.{beyond_toplevels}
+use Rattle.wl_plain.specs.Settling.{TellsAt, becomes, unstruck}
+use Rattle.wl_plain.specs.Step.{FeedsAt, Reaches, Serves, StopsAt, with_peer}
+use Rattle.wl_plain.specs.Steps.{ChangesAt, IsClosed, IsFedAt, IsLeft, IsSent, IsStored, Act, Connect, Feed, Store, Leave, Tick, Send, Close, Steps, closed_by, left_so}
+use Rattle.wl_plain.specs.ToplevelsOnly.{HasToplevelsOnly, OwnsToplevelsAt, OwnsToplevelsBy, OwnsToplevelsOnly}
+use Rattle.wl_plain.specs.Whole.{ChangesAt as WholeChangesAt, FeedsAt as WholeFeedsAt, IsFedAt as WholeIsFedAt, LeavesAt, Reaches as WholeReaches, Shows, StopsAt as WholeStopsAt, TellsFrames, callbacks_due, frames_told, Acts}
+use Rattle.wl_plain.proofs.BridgeServes.{becomes-same, living, only-peer, serves-whole, settles-to}
+use Rattle.wl_plain.proofs.OwningKeys.{none-some}
+use Rattle.wl_plain.proofs.Places.{client-kept, number-other, number-same}
+use Rattle.wl_plain.proofs.WholeOneRun.{held}
+use Rattle.wl_plain.proofs.WholeOneRunStays.{sent-status, stored-status}
+
+-- ---- a client that ended
+
+-- where none of its toplevels stands, none is taken away
+none-taken : (c : ℕ) (ss : List Standing) → filter (λ s. s.client == c) ss ≡ [] → without_client c ss ≡ ss
+none-taken c [] none = refl
+none-taken c (s ∷ ss) none = at (s.client == c) none (none-taken c ss)
+  where
+    at : (b : Bool) → cond b (s ∷ filter (λ s. s.client == c) ss) (filter (λ s. s.client == c) ss) ≡ [] → (filter (λ s. s.client == c) ss ≡ [] → without_client c ss ≡ ss) → cond (not b) (s ∷ without_client c ss) (without_client c ss) ≡ s ∷ ss
+    at true none later = absurd (cc)
+    at false none later = ap (λ ts. s ∷ ts) (later none)
+
+ended-owns : (s : Option Cause) (cause : Cause) (r : Resident) (standing : List Standing) → s ≡ Some cause → OwnsToplevelsBy s r standing → (r ≡ resident_of r.peer) × (standing ≡ [])
+ended-owns None cause r standing e owns = absurd (cc)
+ended-owns (Some other) cause r standing e owns = owns
+
+-- what becomes of a client that has the status that it had
+module _ (c : ℕ) (r : Resident) (d : Desktop) (owns : OwnsToplevelsBy r.peer.status r (toplevels_of c d)) where
+  stays-by : (s : Option Cause) (x : Peer) → r.peer.status ≡ s → become_by s c r x d ≡ with_client c (Some (with_peer x r)) d
+  stays-by None x e = refl
+  stays-by (Some cause) x e =
+      let over = ended-owns r.peer.status cause r (toplevels_of c d) e owns in
+      ap (λ ss. record d { clients = with_number c (Some (resident_of x)) d.clients; standing = ss }) (none-taken c d.standing over.1)
+      ∙ sym (ap (λ q. with_client c (Some (with_peer x q)) d) over.0)
+
+  left-held : (q : Option Peer) → ((x : Peer) → q ≡ Some x → x.status ≡ r.peer.status) → (q ≡ None → (cause : Cause) × (r.peer.status ≡ Some cause)) → left_so c r q d ≡ held q c r d
+  left-held None keeps gone =
+      let why = gone refl in
+      ap (λ ss. record d { clients = with_number c None d.clients; standing = ss })
+      (none-taken c d.standing (ended-owns r.peer.status why.0 r (toplevels_of c d) why.1 owns).1)
+  left-held (Some x) keeps gone = ap (λ s. become_by s c r x d) (keeps x refl) ∙ stays-by r.peer.status x refl
+
+held-changed : (R : Peer → Done → Option Peer → Type 0) (absent done : Done) (c : ℕ) (r : Resident) (d new : Desktop) (q : Option Peer) → R r.peer done q → new ≡ held q c r d → WholeChangesAt R absent c (Some r) d done new
+held-changed R absent done c r d new None h e = (None, h, e)
+held-changed R absent done c r d new (Some q) h e = (Some q, h, e)
+
+-- a change that leaves a client its status, or takes one that ended
+Leaves : (Peer → Done → Option Peer → Type 0) → Type 0
+Leaves R =
+    (p : Peer) (done : Done) (q : Option Peer) → R p done q
+    → ((x : Peer) → q ≡ Some x → x.status ≡ p.status) × (q ≡ None → (cause : Cause) × (p.status ≡ Some cause))
+
+changes-whole : (R : Peer → Done → Option Peer → Type 0) → Leaves R → (absent done : Done) (c : ℕ) (o : Option Resident) (d new : Desktop) → OwnsToplevelsAt o (toplevels_of c d) → ChangesAt R absent c o d done new → WholeChangesAt R absent c o d done new
+unfolding Leaves
+changes-whole R leaves absent done c None d new owns h = h
+changes-whole R leaves absent done c (Some r) d new owns h =
+    let k = leaves r.peer done h.0 h.1 in
+    held-changed R absent done c r d new h.0 h.1 (h.2 ∙ left-held c r d owns h.0 k.0 k.1)
+
+same-peer : (x y : Peer) → Some x ≡ Some y → x ≡ y
+same-peer x y e = cc
+
+stored-leaves : (store at : ℕ) (bytes : List ℕ) → Leaves (IsStored store at bytes)
+unfolding Leaves
+stored-leaves store at bytes p done q h = (
+  λ x e. ap (λ (y : Peer). y.status) (same-peer x _ (sym e ∙ h.0)) ∙ stored-status p.status store at bytes p,
+  λ e. absurd (none-some _ (sym e ∙ h.0)),
+)
+
+sent-leaves : (n : ℕ) → Leaves (IsSent n)
+unfolding Leaves
+sent-leaves n p done q h = (
+  λ x e. ap (λ (y : Peer). y.status) (same-peer x _ (sym e ∙ h.0)) ∙ sent-status n p,
+  λ e. absurd (none-some _ (sym e ∙ h.0)),
+)
+
+-- ---- a client goes
+
+so : Option Cause → Resident → Resident
+so s r = record r { peer = record r.peer { status = s } }
+
+left-so : (s : Option Cause) (c : ℕ) (r : Resident) (d new : Desktop) (done : Done) (q : Option Peer) → d.pointer ≡ first_pointer → OwnsToplevelsBy s (so s r) (toplevels_of c d) → client_at c d ≡ Some (so s r)
+    → q ≡ Some (left_by s (so s r).peer) → done ≡ gave.Gone (is_none s) → new ≡ left_so c (so s r) q d → LeavesAt c (Some (so s r)) d done new
+unfolding so
+left-so (Some cause) c r d new done q still owns is e answer last = (
+  answer,
+  last ∙ ap (λ p. left_so c (so (Some cause) r) p d) e ∙ stays-by c (so (Some cause) r) d owns (Some cause) (so (Some cause) r).peer refl
+      ∙ ap (λ o. with_client c o d) (sym is) ∙ client-kept c d,
+)
+left-so None c r d new done q still owns is e answer last =
+    let gone : Peer = ended Gone (so None r).peer in
+    (answer, settles-to (becomes c (so None r) gone d) (become c (so None r) gone d) new (becomes-same c (so None r) gone d still) (last ∙ ap (λ p. left_so c (so None r) p d) e) still)
+
+leaves-whole : (c : ℕ) (o : Option Resident) (d new : Desktop) (done : Done) → d.pointer ≡ first_pointer → client_at c d ≡ o → OwnsToplevelsAt o (toplevels_of c d) → ChangesAt IsLeft (gave.Gone false) c o d done new → LeavesAt c o d done new
+unfolding so
+leaves-whole c None d new done still is owns h = h
+leaves-whole c (Some r) d new done still is owns h = left-so r.peer.status c r d new done h.0 still owns is h.1.0 h.1.1 h.2
+
+closed-leaves : Leaves IsClosed
+unfolding Leaves
+closed-leaves p done q h = at p.status refl h.0
+  where
+    at : (s : Option Cause) → p.status ≡ s → q ≡ closed_by s p → ((x : Peer) → q ≡ Some x → x.status ≡ p.status) × (q ≡ None → (cause : Cause) × (p.status ≡ Some cause))
+    at None e is = (λ x there. ap (λ (y : Peer). y.status) (same-peer x p (sym there ∙ is)), λ none. absurd (none-some p (sym none ∙ is)))
+    at (Some cause) e is = (λ x there. absurd (none-some x (sym is ∙ there)), λ none. (cause, e))
+
+-- ---- a frame
+
+-- a client without callbacks is told nothing
+tells-none : (time c : ℕ) (o : Option Resident) (d : Desktop) → client_at c d ≡ o → OwnsToplevelsAt o (toplevels_of c d)
+    → TellsAt (λ r. without_callbacks (callbacks_due r) r) (frames_told time) c o (unstruck d) (unstruck d)
+tells-none time c None d is owns = refl
+tells-none time c (Some r) d is owns = by r.peer.status refl
+  where
+    told : (callbacks : List Callback) → callbacks ≡ [] → r.callbacks ≡ callbacks → (s : Option Cause) → s ≡ None → r.peer.status ≡ s
+        → TellsAt (λ r. without_callbacks (callbacks_due r) r) (frames_told time) c (Some (record r { peer = record r.peer { status = None }; callbacks = [] })) (unstruck d) (unstruck d)
+    told callbacks none same s alive e =
+        let whole : record r { peer = record r.peer { status = None }; callbacks = [] } ≡ r =
+        sym (ap (λ cs. record r { callbacks = cs }) (same ∙ none) ∙ ap (λ t. record r { peer = record r.peer { status = t }; callbacks = [] }) (e ∙ alive)) in (
+          record r.peer { status = None },
+          None,
+          (refl, refl),
+          ap unstruck (sym (ap (λ q. with_client c (Some q) d) whole ∙ ap (λ o. with_client c o d) (sym is) ∙ client-kept c d)),
+        )
+
+    by : (s : Option Cause) → r.peer.status ≡ s → TellsAt (λ r. without_callbacks (callbacks_due r) r) (frames_told time) c (Some r) (unstruck d) (unstruck d)
+    by (Some cause) e = rw e refl
+    by None e =
+        let only = living r.peer.status r (toplevels_of c d) e owns in
+        let whole : record r { peer = record r.peer { status = None }; callbacks = [] } ≡ r =
+        sym (ap (λ cs. record r { callbacks = cs }) only.callbacks ∙ ap (λ t. record r { peer = record r.peer { status = t }; callbacks = [] }) e) in
+        subst (λ q. TellsAt (λ r. without_callbacks (callbacks_due r) r) (frames_told time) c (Some q) (unstruck d) (unstruck d)) whole
+        (told r.callbacks only.callbacks refl r.peer.status e refl)
+
+frames-none : (time n c : ℕ) (d : Desktop) → HasToplevelsOnly d → TellsFrames time n c (unstruck d) (unstruck d)
+frames-none time zero c d only = refl
+frames-none time (suc n) c d only = (unstruck d, tells-none time c (client_at c d) d refl (only.each c), frames-none time n (suc c) d only)
+
+shows-whole : (time : ℕ) (d new : Desktop) → HasToplevelsOnly d → new ≡ d → Shows time d new
+shows-whole time d new only e = (unstruck d, frames-none time 32 1 d only, settles-to d d new refl e only.pointer)
+
+-- ---- a piece
+
+-- another client is there, which has no more than toplevels
+has-put : (c : ℕ) (r there : Resident) (d : Desktop) → client_at c d ≡ Some there → OwnsToplevelsAt (Some r) (toplevels_of c d) → HasToplevelsOnly d → HasToplevelsOnly (with_client c (Some r) d)
+has-put c r there d is owns only = record { pointer = only.pointer; each = λ other. at other (c == other) refl }
+  where
+    at : (other : ℕ) (b : Bool) → (c == other) ≡ b → OwnsToplevelsAt (client_at other (with_client c (Some r) d)) (toplevels_of other d)
+    at other true e =
+        subst (λ n. OwnsToplevelsAt (client_at n (with_client c (Some r) d)) (toplevels_of n d)) (eqb-true c other e)
+        (subst (λ o. OwnsToplevelsAt o (toplevels_of c d)) (sym (number-same d.clients c (Some r) there is)) owns)
+    at other false e = subst (λ o. OwnsToplevelsAt o (toplevels_of other d)) (sym (number-other d.clients c other (Some r) (eqb-false c other e))) (only.each other)
+
+stops-whole : (c : ℕ) (o : Option Resident) (d new : Desktop) → HasToplevelsOnly d → StopsAt c o d new → WholeStopsAt c o d new
+stops-whole c None d new only h = h
+stops-whole c (Some r) d new only (inl h) = inl h
+stops-whole c (Some r) d new only (inr h) =
+    let gone : Peer = ended Memory r.peer in
+    inr (h.0, settles-to (becomes c r gone d) (become c r gone d) new (becomes-same c r gone d only.pointer) h.1 only.pointer)
+
+-- Where a message leaves clients no more than toplevels, a piece does the same.
+module _ (keeps : (c : ℕ) (d e : Desktop) → HasToplevelsOnly d → Serves beyond_toplevels c d e → HasToplevelsOnly e) where
+  reaches-keep : (n c : ℕ) (d e : Desktop) → HasToplevelsOnly d → Reaches beyond_toplevels c n d e → HasToplevelsOnly e
+  reaches-keep zero c d e only h = subst HasToplevelsOnly (sym h) only
+  reaches-keep (suc n) c d e only h = keeps c h.0 e (reaches-keep n c d h.0 only h.1) h.2
+
+  reaches-whole : (n c : ℕ) (d e : Desktop) → HasToplevelsOnly d → Reaches beyond_toplevels c n d e → WholeReaches beyond_toplevels_left_out c n d e
+  reaches-whole zero c d e only h = h
+  reaches-whole (suc n) c d e only h =
+      (h.0, reaches-whole n c d h.0 only h.1, serves-whole c h.0 e (reaches-keep n c d h.0 only h.1) h.2)
+
+  feeds-by : (s : Option Cause) (c : ℕ) (piece : List ℕ) (r : Resident) (d e : Desktop) → r.peer.status ≡ s → client_at c d ≡ Some r → HasToplevelsOnly d → FeedsAt beyond_toplevels c piece s r d e → WholeFeedsAt beyond_toplevels_left_out c piece s r d e
+  feeds-by (Some cause) c piece r d e status is only h = h
+  feeds-by None c piece r d e alive is only h =
+      let come : Peer = with_rest (r.peer.rest ++ piece) r.peer in
+      let start : Desktop = with_client c (Some (with_peer come r)) d in
+      let begins : become c r come d ≡ start = ap (λ s. become_by s c r come d) alive in
+      let owns : OwnsToplevelsOnly r = living r.peer.status r (toplevels_of c d) alive (subst (λ o. OwnsToplevelsAt o (toplevels_of c d)) is (only.each c)) in
+      let come_owns : OwnsToplevelsBy r.peer.status (with_peer come r) (toplevels_of c d) =
+      subst (λ s. OwnsToplevelsBy s (with_peer come r) (toplevels_of c d)) (sym alive) (only-peer r come refl owns) in
+      let has : HasToplevelsOnly start = has-put c (with_peer come r) r d is come_owns only in
+      let reached : Reaches beyond_toplevels c h.0 start h.1 = subst (λ x. Reaches beyond_toplevels c h.0 x h.1) begins h.2 in
+      (h.0, h.1, reaches-whole h.0 c start h.1 has reached, stops-whole c (client_at c h.1) h.1 e (reaches-keep h.0 c start h.1 has reached) h.3)
+
+  pub fed-whole : (c : ℕ) (piece : List ℕ) (o : Option Resident) (d : Desktop) (done : Done) (e : Desktop) → client_at c d ≡ o → HasToplevelsOnly d → IsFedAt beyond_toplevels c piece o d done e → WholeIsFedAt beyond_toplevels_left_out c piece o d done e
+  fed-whole c piece None d done e is only h = h
+  fed-whole c piece (Some r) d done e is only h = (feeds-by r.peer.status c piece r d e refl is only h.0, h.1)
+
+  -- every step does the same
+  pub acts-whole : (act : Act) (d e : Desktop) (done : Done) → HasToplevelsOnly d → Steps beyond_toplevels d act done e → Acts beyond_toplevels_left_out act done d e
+  acts-whole Connect d e done only h = h
+  acts-whole (Feed c piece) d e done only h = fed-whole c piece (client_at c d) d done e refl only h
+  acts-whole (Store c store at bytes) d e done only h =
+      changes-whole (IsStored store at bytes) (stored-leaves store at bytes) _ done c (client_at c d) d e (only.each c) h
+  acts-whole (Leave c) d e done only h = leaves-whole c (client_at c d) d e done only.pointer refl (only.each c) h
+  acts-whole (Tick time) d e done only h = (h.0, shows-whole time d e only h.1)
+  acts-whole (Send c n) d e done only h = changes-whole (IsSent n) (sent-leaves n) _ done c (client_at c d) d e (only.each c) h
+  acts-whole (Close c) d e done only h = changes-whole IsClosed closed-leaves _ done c (client_at c d) d e (only.each c) h

@@ -1,0 +1,70 @@
+-- What an accepted message makes or takes away is no wl_surface, where no more than toplevels is served, but where it is one that goes.
+use Rattle.std.proofs.Common.{◌≡◌, true, false, Option, Some, None, Result, refl, ap, subst, ◌∙◌}
+use Rattle.std.specs.Prelude.{Ok, Err, ◌==◌}
+use Rattle.std.proofs.lemmas.Bool.{eqb-true}
+use Rattle.wl_proto.specs.declared.interface.Interface.{Interface}
+use Rattle.wl_proto.specs.declared.interface.Interface.TheVariants.{WlRegion, WlSurface, WlShmPool, WlBuffer, XdgWmBase, XdgSurface, XdgToplevel}
+use Rattle.wl_client.specs.declared.actions.Action.{Action}
+use Rattle.wl_client.specs.declared.actions.Action.TheVariants.{GetRegistry, Bind, CreateRegion, DestroyRegion, CreatePool, CreateBuffer, DestroyPool, DestroyBuffer}
+use Rattle.wl_client.specs.declared.refusals.Refusal.{Refusal}
+use Rattle.wl_client.specs.Objects.{Object, interface_number, is_of}
+use Rattle.wl_plain.specs.Ask.{Ask, Own, CreateSurface, DestroyBase, GetXdgSurface, DestroyXdgSurface, GetToplevel, DestroyToplevel}
+use Rattle.wl_plain.specs.Demand.{Demand}
+use Rattle.wl_plain.specs.Demanding.{judge_all}
+use Rattle.wl_plain.specs.Desktop.{Resident}
+use Rattle.wl_plain.specs.LeftOut.{beyond_toplevels_left_out}
+use Rattle.wl_plain.specs.Served.{beyond_toplevels}
+use Rattle.wl_plain.specs.Step.{judge}
+use Rattle.wl_plain.proofs.BridgeFinds.{free-apart}
+use Rattle.wl_plain.proofs.BridgeJudged.{Pairs, Same, asks, commit, ends, goes, judge-pair, move}
+use Rattle.wl_plain.proofs.BridgeKeeps.{IsApart, action_touches, touches}
+use Rattle.wl_plain.proofs.BridgeMessages.{TouchesApart}
+use Rattle.wl_plain.proofs.Orderly.{IsAllowed, IsAsked, IsOwn}
+use Rattle.wl_plain.proofs.OrderlyAllowed.{allowed}
+
+-- an object of another interface
+other-object : (interface : Interface) → (interface_number interface == interface_number WlSurface) ≡ false → (o : Option Object) → is_of interface o ≡ true → is_of WlSurface o ≡ false
+other-object interface other None e = refl
+other-object interface other (Some o) e =
+    ap (λ n. n == interface_number WlSurface) (eqb-true (interface_number o.interface) (interface_number interface) e) ∙ other
+
+own-apart : (r : Resident) (action : Action) → IsOwn r action → IsApart r.peer.objects (action_touches action)
+own-apart r (GetRegistry id) own = free-apart r.peer.objects id own
+own-apart r (Bind id interface version) own = free-apart r.peer.objects id own.0
+own-apart r (CreateRegion id version) own = free-apart r.peer.objects id own
+own-apart r (CreatePool id version size) own = free-apart r.peer.objects id own
+own-apart r (CreateBuffer id version laid) own = free-apart r.peer.objects id own
+own-apart r (DestroyRegion id) own = other-object WlRegion refl (r.peer.objects id) own
+own-apart r (DestroyPool id store) own = other-object WlShmPool refl (r.peer.objects id) own
+own-apart r (DestroyBuffer id store) own = other-object WlBuffer refl (r.peer.objects id) own
+own-apart r action own = tt
+
+ask-apart : (r : Resident) (ask : Ask) → IsAsked r ask → IsApart r.peer.objects (touches ask)
+ask-apart r (Own action) asked = own-apart r action asked
+ask-apart r (CreateSurface id version) asked = free-apart r.peer.objects id asked
+ask-apart r (DestroyBase id) asked = other-object XdgWmBase refl (r.peer.objects id) asked
+ask-apart r (GetXdgSurface id version base surface) asked = free-apart r.peer.objects id asked.0
+ask-apart r (DestroyXdgSurface id) asked = other-object XdgSurface refl (r.peer.objects id) asked.0
+ask-apart r (GetToplevel id version xdg) asked = free-apart r.peer.objects id asked.0
+ask-apart r (DestroyToplevel id xdg) asked = absurd asked
+ask-apart r ask asked = tt
+
+same-apart : (r : Resident) (ask : Ask) (demand : Demand) → Same r ask demand → IsAllowed r demand → IsApart r.peer.objects (touches ask)
+same-apart r ask demand (asks other) allows = ask-apart r ask allows
+same-apart r ask demand (ends id) allows = tt
+same-apart r ask demand (commit id effect e) allows = tt
+same-apart r ask demand (goes id xdg) allows = other-object XdgToplevel refl (r.peer.objects id) allows.0
+same-apart r ask demand (move id serial) allows = tt
+
+pub touches_apart : TouchesApart
+touches_apart r object opcode body ask only e =
+    at (judge beyond_toplevels r object opcode body) (judge_all beyond_toplevels_left_out r object opcode body) e refl (judge-pair r object opcode body only.roles)
+  where
+    same-ask : (other : Ask) → (let j : Result Ask Refusal = Ok other in j) ≡ Ok ask → other ≡ ask
+    same-ask other e = cc
+
+    at : (judged : Result Ask Refusal) (demanded : Result Demand Refusal) → judged ≡ Ok ask → judge_all beyond_toplevels_left_out r object opcode body ≡ demanded → Pairs r judged demanded → IsApart r.peer.objects (touches ask)
+    at (Err refusal) demanded e is pair = absurd (cc)
+    at (Ok other) (Err refusal) e is pair = absurd pair
+    at (Ok other) (Ok demand) e is pair =
+        subst (λ a. IsApart r.peer.objects (touches a)) (same-ask other e) (same-apart r other demand pair (allowed beyond_toplevels_left_out r object opcode body demand is))

@@ -1,0 +1,40 @@
+-- Whatever happens leaves orderly desktops, which are sound.
+use Rattle.std.proofs.Common.{List, [], ◌∷◌}
+use Rattle.wl_plain.specs.Desktop.{Desktop, empty}
+use Rattle.wl_plain.specs.LeftOut.{LeftOut}
+use Rattle.wl_plain.specs.Soundness.{IsSound, RunIsSound}
+use Rattle.wl_plain.specs.Whole.{Deed, Happens}
+use Rattle.wl_plain.specs.WholeLaws.{Lasts}
+use Rattle.wl_plain.proofs.Orderly.{AreOrderly}
+use Rattle.wl_plain.proofs.OrderlyLinked.{forest-trees}
+use Rattle.wl_plain.proofs.OrderlyMessage.{message-keeps}
+use Rattle.wl_plain.proofs.OrderlyObjects.{objects-callbacks, objects-dismissed, objects-same}
+use Rattle.wl_plain.proofs.OrderlyRoles.{roles-dismissed, roles-same}
+use Rattle.wl_plain.proofs.OrderlyRun.{empty-orderly, happens-orderly}
+use Rattle.wl_plain.proofs.OrderlyRunTold.{Frames}
+use Rattle.wl_plain.proofs.OrderlySound.{orderly-sound}
+use Rattle.wl_plain.proofs.OrderlyStanding.{standing-dismissed}
+
+frames : Frames
+frames =
+    record {
+      objects_same = objects-same;
+      objects_callbacks = objects-callbacks;
+      objects_dismissed = objects-dismissed;
+      roles_same = roles-same;
+      roles_dismissed = roles-dismissed;
+      standing_dismissed = standing-dismissed;
+    }
+
+pub orderly-is-sound : (d : Desktop) → AreOrderly d → IsSound d
+orderly-is-sound d orderly = orderly-sound forest-trees d orderly
+
+pub happens-keeps : (left : LeftOut) (deed : Deed) (d e : Desktop) → AreOrderly d → Happens left deed d e → AreOrderly e
+happens-keeps left deed d e orderly h = happens-orderly frames message-keeps left deed d e orderly h
+
+lasts-keeps : (left : LeftOut) (deeds : List Deed) (d e : Desktop) → AreOrderly d → Lasts left deeds d e → AreOrderly e
+lasts-keeps left [] d e orderly h = rw h orderly
+lasts-keeps left (deed ∷ deeds) d e orderly h = lasts-keeps left deeds h.0 e (happens-keeps left deed d h.0 orderly h.1) h.2
+
+pub run_is_sound : RunIsSound
+run_is_sound left output deeds d h = orderly-is-sound d (lasts-keeps left deeds (empty output) d (empty-orderly output) h)

@@ -1,0 +1,100 @@
+-- Whoever keeps its promises hides no change: in a store write, and in what the user does, where nothing is asked of anyone.
+use Rattle.std.proofs.Common.{◌≡◌, ℕ, Bool, true, false, List, [], ◌∷◌, Option, Some, None, refl, ap, sym, subst, ◌∙◌, inl, inr}
+use Rattle.std.specs.Prelude.{ℤ, ◌==◌, ◌&&◌, ◌⊎◌, flat_map, nat_lt, not}
+use Rattle.std.specs.List.{list_any}
+use Rattle.wl_store.specs.declared.color.Argb.{Argb}
+use Rattle.wl_client.specs.declared.clients.Cause.{Cause}
+use Rattle.wl_surface.specs.Request.{Buffer}
+use Rattle.wl_surface.specs.Surfaces.{Surface, Surfaces}
+use Rattle.wl_scene.specs.Stacking.{Standing, nothing_owned}
+use Rattle.wl_plain.specs.Desktop.{Desktop, Resident, client_at, owned_in, owned_of}
+use Rattle.wl_plain.specs.Laws.{toplevels_of}
+use Rattle.wl_plain.specs.LeftOut.{LeftOut}
+use Rattle.wl_plain.specs.Scratch.{pixel_at}
+use Rattle.wl_plain.specs.Stacked.{all_windows}
+use Rattle.wl_plain.specs.Steps.{Connect, Feed, Leave, Send, Close, Store, Tick}
+use Rattle.wl_plain.specs.Whole.{Deed, Happens, Steps as Step, Motion, Button}
+use Rattle.wl_plain.specs.WholeOwn.{KeepsItsOwn, KeepsItsOwnBy, KeepsItsOwnSo, LivesOrEnds, actor_of}
+use Rattle.wl_plain.proofs.OwningKeys.{none-some}
+use Rattle.wl_plain.proofs.Stacks.{Each, and-both, and-right, same-number, unless}
+use Rattle.wl_plain.proofs.WholeOthersOwn.{whole_own_stays}
+use Rattle.wl_session.specs.Promises.{KeepsBuffers, KeepsDamage, busy_in, bytes_by, bytes_in, is_rewritten_at, is_same_color}
+use Rattle.wl_session.specs.Serving.{Everything, Toplevels}
+use Rattle.wl_session.specs.StoreWrites.{PromisesAreEnough}
+use Rattle.wl_session.proofs.StoreWrites.{IsKept, all-shown, any-none, hides-nothing, write_hides_nothing}
+
+-- ---- stores that stay
+
+color-self : (c : Argb) → is_same_color c c ≡ true
+color-self c =
+    and-both ((c.a == c.a) && (c.r == c.r)) ((c.g == c.g) && (c.b == c.b))
+    (and-both (c.a == c.a) (c.r == c.r) (same-number c.a) (same-number c.r)) (and-both (c.g == c.g) (c.b == c.b) (same-number c.g) (same-number c.b))
+
+not-and : (a b : Bool) → b ≡ true → (a && not b) ≡ false
+not-and true true e = refl
+not-and false true e = refl
+not-and a false e = absurd (none e)
+  where
+    none : false ≡ true → ⊥
+    none e = absurd (cc)
+
+unrewritten : (old new : Desktop) (c x y : ℕ) (b : Buffer) → bytes_in new c b.store ≡ bytes_in old c b.store → is_rewritten_at old new c x y b ≡ false
+unrewritten old new c x y b same =
+    not-and (nat_lt x b.width && nat_lt y b.height) _
+    (subst (λ (bytes : List ℕ). is_same_color (pixel_at (bytes_in old c b.store) b (x, y)) (pixel_at bytes b (x, y)) ≡ true) (sym same)
+    (color-self (pixel_at (bytes_in old c b.store) b (x, y))))
+
+each-of : {X : Type 0} (P : X → Type 0) → ((x : X) → P x) → (xs : List X) → Each P xs
+each-of P all [] = tt
+each-of P all (x ∷ xs) = (all x, each-of P all xs)
+
+keeps-buffers : (old new : Desktop) (c : ℕ) → ((store : ℕ) → bytes_in new c store ≡ bytes_in old c store) → KeepsBuffers old new c
+keeps-buffers old new c same = λ x y.
+    any-none (is_rewritten_at old new c x y) (busy_in old c)
+    (each-of (λ b. is_rewritten_at old new c x y b ≡ false) (λ b. unrewritten old new c x y b (same b.store)) (busy_in old c))
+
+-- ---- what the user does
+
+own-kept : (c : ℕ) (old new : Desktop) → KeepsItsOwn c old new → IsKept c old new
+own-kept c old new h = at (client_at c old) refl h
+  where
+    both : (r q : Resident) → client_at c old ≡ Some r → client_at c new ≡ Some q → q.owned.surfaces ≡ r.owned.surfaces → q.peer.stores ≡ r.peer.stores → IsKept c old new
+    both r q was now surfaces stores = inl (
+      ap (λ (o : Option Resident). (owned_of o).surfaces) now ∙ surfaces ∙ sym (ap (λ (o : Option Resident). (owned_of o).surfaces) was),
+      keeps-buffers old new c (λ store. ap (bytes_by store) now ∙ stored store ∙ sym (ap (bytes_by store) was)),
+    )
+      where
+        stored : (store : ℕ) → bytes_by store (Some q) ≡ bytes_by store (Some r)
+        stored store = rw stores refl
+
+    living : (r : Resident) → client_at c old ≡ Some r → (o : Option Resident) → client_at c new ≡ o → LivesOrEnds r (toplevels_of c old) o (toplevels_of c new) → IsKept c old new
+    living r was None now k = absurd k
+    living r was (Some q) now (inl k) = both r q was now k.0.surfaces k.0.peer.stores
+    living r was (Some q) now (inr k) = inr (ap owned_of now ∙ ap (λ (x : Resident). x.owned) k.0.4)
+
+    by : (r : Resident) → client_at c old ≡ Some r → (s : Option Cause) → KeepsItsOwnBy s r (toplevels_of c old) (client_at c new) (toplevels_of c new) → IsKept c old new
+    by r was (Some cause) k = both r r was k refl refl
+    by r was None k = living r was (client_at c new) refl k
+
+    at : (o : Option Resident) → client_at c old ≡ o → KeepsItsOwnSo o (toplevels_of c old) (client_at c new) (toplevels_of c new) → IsKept c old new
+    at None was k = inr (ap owned_of k)
+    at (Some r) was k = by r was r.peer.status k
+
+-- Neither a motion of the pointer nor a button shows a change that isn't damaged.
+user-hides-nothing : (left : LeftOut) (deed : Deed) (old new : Desktop) (c : ℕ) → actor_of deed ≡ None → Happens left deed old new → KeepsDamage all_windows old new c
+user-hides-nothing left deed old new c user h =
+    hides-nothing all_windows old new c (all-shown old) (all-shown new)
+    (own-kept c old new (whole_own_stays left deed c old new (λ e. none-some c (sym user ∙ e)) h))
+
+pub promises_are_enough : PromisesAreEnough
+promises_are_enough serving liars (Step (Store client store at bytes) done) old new happens keep = λ c honest. write_hides_nothing serving old new client store at c bytes done happens (keep c honest)
+promises_are_enough serving liars (Step (Tick time) done) old new happens keep = λ c honest. (keep c honest).0
+promises_are_enough serving liars (Step Connect done) old new happens keep = keep
+promises_are_enough serving liars (Step (Feed c piece) done) old new happens keep = keep
+promises_are_enough serving liars (Step (Leave c) done) old new happens keep = keep
+promises_are_enough serving liars (Step (Send c n) done) old new happens keep = keep
+promises_are_enough serving liars (Step (Close c) done) old new happens keep = keep
+promises_are_enough (Toplevels unserved) liars (Motion time x y) old new happens keep = absurd happens
+promises_are_enough (Everything left) liars (Motion time x y) old new happens keep = λ c honest. user-hides-nothing left (Motion time x y) old new c refl happens
+promises_are_enough (Toplevels unserved) liars (Button time button pressed) old new happens keep = absurd happens
+promises_are_enough (Everything left) liars (Button time button pressed) old new happens keep = λ c honest. user-hides-nothing left (Button time button pressed) old new c refl happens
