@@ -105,3 +105,5 @@ pub mod OrderlyRunMessages
 pub mod OrderlyRun
 pub mod OrderlyMessage
 pub mod RunSound
+pub mod WholeRowsConnect
+pub mod WholeRowsDamage

@@ -45,14 +45,14 @@ unfolding tree applied_tree behaves_synchronised depth descends_from height
 row_first-black = refl
 
 -- its commits are held: of two the first one's buffer is free at once
-abbrev second : Desktop
+abbrev pub second : Desktop
 second = commit 1 14 (damage 1 14 (pos 0) (pos 0) (pos 1) (pos 1) (attach 1 14 19 first))
 
 pub row_second : unsent 1 second ≡ []
 unfolding tree applied_tree behaves_synchronised depth descends_from height
 row_second = refl
 
-abbrev third : Desktop
+abbrev pub third : Desktop
 third = commit 1 14 (damage 1 14 (pos 3) (pos 3) (pos 1) (pos 1) (attach 1 14 20 second))
 
 pub row_third : unsent 1 third ≡ buffer_release 19
@@ -63,7 +63,7 @@ pub row_third-black : color third (pos 4) (pos 4) ≡ black
 unfolding tree applied_tree behaves_synchronised depth descends_from height
 row_third-black = refl
 
-abbrev applied : Desktop
+abbrev pub applied : Desktop
 applied = commit 1 6 (sent 1 third)
 
 pub row_applied : unsent 1 applied ≡ buffer_release 18

@@ -8,6 +8,7 @@ pub mod Reported
 pub mod Runs
 pub mod Unmarked
 pub mod StoreWrites
+pub mod Seen
 pub mod Promised
 pub use Rattle.wl_client.proofs.Pieces
 pub use Rattle.wl_client.proofs.Unique

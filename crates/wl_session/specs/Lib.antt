@@ -6,6 +6,7 @@ pub mod Step
 pub mod Unmarked
 pub mod View
 pub mod Viewer
+pub mod Seen
 pub mod StoreWrites
 pub use Rattle.wl_client.specs.Peer
 pub use Rattle.wl_resident.specs.Agreement

@@ -2,6 +2,7 @@
 
 ghost use Rattle.wl_session.specs.Laws.{AnyPieces, OneRun, OthersStay, OutputStays};
 ghost use Rattle.wl_session.specs.StoreWrites.{PromisesAreEnough, WriteHidesNothing};
+ghost use Rattle.wl_session.specs.Seen.{SeenIsScratch};
 ghost use Rattle.wl_session.specs.Unmarked.{IncrementalIsFromScratch, UnmarkedStays, ViewerSeesScratch};
 
 /// A client's stream may be cut into any pieces: two pieces lead where they lead as one.
@@ -53,4 +54,11 @@ pub fn incremental_is_from_scratch()
 /// windows are shown.
 pub fn viewer_sees_scratch()
     ensures { ViewerSeesScratch }
+{}
+
+/// Whatever happens from a desktop without clients on, where every request is served, with frames between: at each frame such a viewer holds
+/// every window, subsurfaces and popups too, painted from nothing in stacking order, but where a window of a client that broke its promises
+/// covers it.
+pub fn seen_is_scratch()
+    ensures { SeenIsScratch }
 {}
