@@ -19,8 +19,6 @@ mod error;
 mod event;
 mod interface;
 mod request;
-#[cfg(test)]
-mod tests;
 mod wl_buffer;
 mod wl_callback;
 mod wl_compositor;

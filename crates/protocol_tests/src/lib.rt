@@ -1,0 +1,9 @@
+//! Tests of the crates between bytes and objects: messages, requests and events, and the objects of a client.
+#![tactic(auto)]
+
+#[cfg(test)]
+mod messages;
+#[cfg(test)]
+mod objects;
+#[cfg(test)]
+mod words;
