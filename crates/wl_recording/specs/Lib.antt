@@ -1,0 +1,4 @@
+pub mod Line
+pub mod Lines
+pub mod Side
+pub mod Text

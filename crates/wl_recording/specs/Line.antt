@@ -1,0 +1,151 @@
+-- What a line of a recording asks. Here a line stands without its line feed.
+use Rattle.std.specs.Prelude.{ℕ, ◌+◌, ◌-◌, ◌*◌, ◌^◌, Bool, false, ◌==◌, ◌&&◌, ◌||◌, not, nat_le, nat_lt, if◌then◌else◌, List, [], ◌∷◌, length, drop, fold, slice_index, codes, Option, Some, None}
+use Rattle.std.specs.List.{prefix_len, take_while, list_all}
+use Rattle.std.specs.Option.{option_and_then, option_map}
+use Rattle.std.specs.Str.{bytes_eq}
+use Rattle.wl_recording.specs.declared.line.Line.{Line}
+use Rattle.wl_recording.specs.declared.line.Line.TheVariants as line
+use Rattle.wl_recording.specs.declared.place.Place.{Place}
+
+-- Words are parted by spaces, which may stand at either end too.
+abbrev pub after_spaces : List ℕ → List ℕ
+after_spaces text = drop (prefix_len (λ b. b == 32) text) text
+
+-- empty where there is no word
+abbrev pub first_word : List ℕ → List ℕ
+first_word text = take_while (λ b. not (b == 32)) (after_spaces text)
+
+-- what stands behind the first word
+abbrev pub after_word : List ℕ → List ℕ
+after_word text = drop (prefix_len (λ b. not (b == 32)) (after_spaces text)) (after_spaces text)
+
+-- there is no word
+abbrev pub is_blank : List ℕ → Bool
+is_blank text = prefix_len (λ b. b == 32) text == length text
+
+abbrev pub is_digit : ℕ → Bool
+is_digit b = nat_le 48 b && nat_le b 57
+
+-- the number that decimal digits spell
+abbrev pub value_of : List ℕ → ℕ
+value_of digits = fold (λ value b. 10 * value + (b - 48)) 0 digits
+
+-- A number is a word of decimal digits below 2^32. Leading zeros are free.
+abbrev pub number_of : List ℕ → Option ℕ
+number_of word =
+    if nat_lt 0 (length word) && (list_all is_digit word && nat_lt (value_of word) (2 ^ 32)) then Some (value_of word) else None
+
+-- the only word of a text, where it is a number
+abbrev pub only_number : List ℕ → Option ℕ
+only_number text = if is_blank (after_word text) then number_of (first_word text) else None
+
+-- the value of a hex digit in either case
+abbrev pub hex_value : ℕ → Option ℕ
+hex_value b =
+    if nat_le 48 b && nat_le b 57 then Some (b - 48)
+    else if nat_le 97 b && nat_le b 102 then Some (b - 97 + 10)
+    else if nat_le 65 b && nat_le b 70 then Some (b - 65 + 10)
+    else None
+
+-- the byte that two hex digits spell, the high one first
+abbrev pub byte_of : ℕ → ℕ → Option ℕ
+byte_of high low = option_and_then (λ h. option_map (λ l. 16 * h + l) (hex_value low)) (hex_value high)
+
+-- a byte before others, where both are spelt
+abbrev pub before : Option ℕ → Option (List ℕ) → Option (List ℕ)
+before byte bytes = option_and_then (λ b. option_map (λ bs. b ∷ bs) bytes) byte
+
+-- the bytes that a text spells: two hex digits for each, with spaces between bytes and at either end
+abbrev pub bytes_in : List ℕ → Option (List ℕ)
+bytes_in [] = Some []
+bytes_in (high ∷ []) = if high == 32 then Some [] else None
+bytes_in (high ∷ low ∷ text) = if high == 32 then bytes_in (low ∷ text) else before (byte_of high low) (bytes_in text)
+
+-- hex has at least one byte
+abbrev pub some_bytes : List ℕ → Option (List ℕ)
+some_bytes [] = None
+some_bytes (b ∷ bytes) = Some (b ∷ bytes)
+
+abbrev pub hex_in : List ℕ → Option (List ℕ)
+hex_in text = option_and_then some_bytes (bytes_in text)
+
+-- a place in a store, by three numbers: the client, the store, and the byte
+abbrev pub place_at : Option ℕ → Option ℕ → Option ℕ → Option Place
+place_at client store at =
+    option_and_then (λ c. option_and_then (λ k. option_map (λ n. record { client = c; store = k; at = n }) at) store) client
+
+-- the place that the first three words of a text name, and what stands behind them
+abbrev pub place_in : List ℕ → Option Place
+place_in text =
+    place_at (number_of (first_word text)) (number_of (first_word (after_word text))) (number_of (first_word (after_word (after_word text))))
+
+abbrev pub after_place : List ℕ → List ℕ
+after_place text = after_word (after_word (after_word text))
+
+-- an ASCII letter
+abbrev pub is_letter : ℕ → Bool
+is_letter b = (nat_le 65 b && nat_le b 90) || (nat_le 97 b && nat_le b 122)
+
+-- a letter, a digit, `.`, `_` or `-`
+abbrev pub is_name_byte : ℕ → Bool
+is_name_byte b = (is_letter b || is_digit b) || ((b == 46) || ((b == 95) || (b == 45)))
+
+-- A name has 1 to 64 of these, and doesn't begin with `.`.
+abbrev pub is_name : List ℕ → Bool
+is_name word =
+    nat_lt 0 (length word) && (nat_le (length word) 64 && (not (slice_index word 0 == 46) && list_all is_name_byte word))
+
+-- the only word of a text, where it is a name
+abbrev pub name_in : List ℕ → Option (List ℕ)
+name_in text = if is_blank (after_word text) && is_name (first_word text) then Some (first_word text) else None
+
+-- what may be asked of a compositor, with the bytes of a piece as a list
+pub data Asked : Type 0 where
+  Connect : Asked
+  Bytes : ℕ → List ℕ → Asked
+  Store : Place → List ℕ → Asked
+  File : Place → List ℕ → Asked
+  Gone : ℕ → Asked
+  Tick : ℕ → Asked
+  Nothing : Asked
+
+abbrev pub asked_piece : List ℕ → Option Asked
+asked_piece text =
+    option_and_then (λ client. option_map (λ piece. Bytes client piece) (hex_in (after_word text))) (number_of (first_word text))
+
+abbrev pub asked_store : List ℕ → Option Asked
+asked_store text = option_and_then (λ place. option_map (λ bytes. Store place bytes) (hex_in (after_place text))) (place_in text)
+
+abbrev pub asked_file : List ℕ → Option Asked
+asked_file text = option_and_then (λ place. option_map (λ name. File place name) (name_in (after_place text))) (place_in text)
+
+-- a line by its first word and what follows it
+abbrev pub asked_with : List ℕ → List ℕ → Option Asked
+asked_with word rest =
+    if length word == 0 then Some Nothing
+    else if bytes_eq word (codes "connect") then (if is_blank rest then Some Connect else None)
+    else if bytes_eq word (codes "bytes") then asked_piece rest
+    else if bytes_eq word (codes "store") then asked_store rest
+    else if bytes_eq word (codes "file") then asked_file rest
+    else if bytes_eq word (codes "gone") then option_map (λ client. Gone client) (only_number rest)
+    else if bytes_eq word (codes "tick") then option_map (λ time. Tick time) (only_number rest)
+    else None
+
+-- A comment begins with `#`.
+abbrev pub is_comment : List ℕ → Bool
+is_comment [] = false
+is_comment (b ∷ text) = b == 35
+
+-- What a line asks, if it is one. Nothing is asked by a comment or a line without words.
+abbrev pub asked_by : List ℕ → Option Asked
+asked_by text = if is_comment text then Some Nothing else asked_with (first_word text) (after_word text)
+
+-- what a parsed line means, with the bytes that it spells
+abbrev pub meaning : List ℕ → Line → Asked
+meaning piece line.Connect = Connect
+meaning piece (line.Bytes client) = Bytes client piece
+meaning piece (line.Store place) = Store place piece
+meaning piece (line.File place name) = File place name.now
+meaning piece (line.Gone client) = Gone client
+meaning piece (line.Tick time) = Tick time
+meaning piece line.Nothing = Nothing

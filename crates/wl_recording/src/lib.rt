@@ -1,0 +1,24 @@
+//! The lines of a recording, the side files that they name, and the texts of a report.
+#![tactic(auto)]
+
+mod error;
+mod hex;
+mod line;
+mod lines;
+mod name;
+mod numbers;
+mod place;
+mod report;
+mod side;
+mod word;
+
+pub use error::{ReplayError, Summary};
+pub use line::{Line, parse};
+pub use lines::{LINE_LIMIT, LineError, read_line};
+pub use numbers::number;
+pub use place::Place;
+pub use report::{
+    write_client, write_end, write_frame, write_full, write_none, write_nostore, write_outside,
+    write_to,
+};
+pub use side::{SideFault, SideFiles};

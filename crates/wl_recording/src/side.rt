@@ -1,0 +1,38 @@
+//! Files beside a recording, whose bytes its lines may put into stores.
+
+ghost use Rattle.std.specs.Prelude.{◌≡◌, ◌≤◌, ℕ, Bool, List, length, take as first, IfOk};
+ghost use Rattle.wl_recording.specs.Side.{CountsFault};
+
+use thiserror::Error;
+
+/// A call on the side files failed.
+#[derive(Clone, Copy, Debug, PartialEq, Eq, Error)]
+#[error("a side file failed")]
+pub struct SideFault;
+
+/// Files by name, of which one is open at a time.
+pub trait SideFiles {
+    /// How many faults there were; it stays at its greatest value.
+    ghost fault_count: { Self → ℕ };
+
+    /// Which bytes a read may give, from one state to the next.
+    ghost gives: { Self → List ℕ → Self → Type 0 };
+
+    /// Which answers an `open` of a name may give, from one state to the next.
+    ghost opens: { Self → List ℕ → Bool → Self → Type 0 };
+
+    /// Opens a file, which is then read from its start. False where there is none.
+    fn open(&mut self, name: &str) -> Result<bool, SideFault>
+        ensures answers { IfOk result (λ there. opens self.old name.now there self.new) }
+        ensures faults { CountsFault (fault_count self.old) (fault_count self.new) result };
+
+    /// Reads the next bytes of the open file, and answers how many; none only at its end.
+    fn read(&mut self, buf: &mut [u8]) -> Result<usize, SideFault>
+        ensures within { IfOk result (λ n. n ≤ length buf.new) }
+        ensures bytes { IfOk result (λ n. gives self.old (first n buf.new) self.new) }
+        ensures faults { CountsFault (fault_count self.old) (fault_count self.new) result };
+
+    /// How many calls failed.
+    fn faults(&self) -> u64
+        ensures { result ≡ fault_count self.now };
+}

@@ -1,6 +1,0 @@
-use Rattle.std.proofs.Common.{All, take}
-use Rattle.wl_replay.specs.Lines.{InLine}
-use Rattle.wl_replay.proofs.lines.end_of.Given as goal
-
-abbrev pub invariant-loop-i : goal.invariant-loop-i
-invariant-loop-i l = All InLine (take l.i l.bytes)
