@@ -5,11 +5,11 @@ use Rattle.std.specs.Io.KnownBytes.{Appends, Keeps}
 use Rattle.clap.specs.Words.{IsAmong, Text}
 use Rattle.clap.specs.declared.error.kind.ErrorKind.{ErrorKind}
 use Rattle.wl_replay.specs.Report.{IsPlayed, Reported, StopsAs}
-use Rattle.wl_replay.specs.Side.{Files}
+use Rattle.wl_recording.specs.Side.{Files}
 use Rattle.wl_replay.specs.Told.{Stage}
-use Rattle.wl_replay.specs.declared.error.ReplayError.{ReplayError}
-use Rattle.wl_replay.specs.declared.error.ReplayError.TheVariants as stopped
-use Rattle.wl_replay.specs.declared.error.Summary.{Summary}
+use Rattle.wl_recording.specs.declared.error.ReplayError.{ReplayError}
+use Rattle.wl_recording.specs.declared.error.ReplayError.TheVariants as stopped
+use Rattle.wl_recording.specs.declared.error.Summary.{Summary}
 use Rattle.wl_program.specs.Command.{Asks, refusals}
 use Rattle.wl_program.specs.Folder.{FolderView, folder_files}
 use Rattle.wl_program.specs.Run.{Ends, Fails, IsReported, IsToldBy, folder_of, stage_of}

@@ -1,6 +1,6 @@
 -- What is known of the side files of a folder.
 use Rattle.std.specs.Prelude.{◌≡◌, ℕ, Bool, false, List, []}
-use Rattle.wl_replay.specs.Side.{Files}
+use Rattle.wl_recording.specs.Side.{Files}
 
 -- the folder's path, whether a file of it is open, and how many faults there were
 pub record FolderView : Type 0 where

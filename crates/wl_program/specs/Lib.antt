@@ -3,9 +3,9 @@ pub mod Folder
 pub mod Run
 pub mod Size
 pub mod Status
-pub use Rattle.wl_replay.specs.Line
-pub use Rattle.wl_replay.specs.Lines
+pub use Rattle.wl_recording.specs.Line
+pub use Rattle.wl_recording.specs.Lines
 pub use Rattle.wl_replay.specs.Report
-pub use Rattle.wl_replay.specs.Side
+pub use Rattle.wl_recording.specs.Side
 pub use Rattle.wl_replay.specs.Storing
 pub use Rattle.wl_replay.specs.Told

@@ -5,9 +5,9 @@ use Rattle.clap.specs.declared.error.kind.ErrorKind.{ErrorKind}
 use Rattle.clap.specs.declared.error.kind.ErrorKind.TheVariants.{DisplayHelp, DisplayVersion}
 use Rattle.wl_replay.specs.Report.{IsPlayed, StopsAs}
 use Rattle.wl_replay.specs.Told.{Stage, first_stage}
-use Rattle.wl_replay.specs.declared.error.ReplayError.{ReplayError}
-use Rattle.wl_replay.specs.declared.error.ReplayError.TheVariants as stopped
-use Rattle.wl_replay.specs.declared.error.Summary.{Summary}
+use Rattle.wl_recording.specs.declared.error.ReplayError.{ReplayError}
+use Rattle.wl_recording.specs.declared.error.ReplayError.TheVariants as stopped
+use Rattle.wl_recording.specs.declared.error.Summary.{Summary}
 use Rattle.wl_program.specs.Command.{Asks, HasNoSize, refusals}
 use Rattle.wl_program.specs.Folder.{FolderView, folder_files, new_folder}
 use Rattle.wl_program.specs.declared.command.Replay.{Replay}

@@ -1,8 +1,8 @@
 -- The exit status of a fault, and which fault a replay's error is.
 use Rattle.wl_program.specs.declared.fault.Fault.{Fault}
 use Rattle.wl_program.specs.declared.fault.Fault.TheVariants.{Read, Write, Side, Size, BadLine, Memory}
-use Rattle.wl_replay.specs.declared.error.ReplayError.{ReplayError}
-use Rattle.wl_replay.specs.declared.error.ReplayError.TheVariants as stopped
+use Rattle.wl_recording.specs.declared.error.ReplayError.{ReplayError}
+use Rattle.wl_recording.specs.declared.error.ReplayError.TheVariants as stopped
 use Rattle.wl_program.specs.declared.fault.Status.{Status}
 use Rattle.wl_program.specs.declared.fault.Status.TheVariants as status
 

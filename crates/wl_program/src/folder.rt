@@ -1,7 +1,7 @@
 //! The side files of a folder.
 
 ghost use Rattle.std.specs.Prelude.{◌≡◌, false};
-ghost use Rattle.wl_replay.specs.Side.{Rose};
+ghost use Rattle.wl_recording.specs.Side.{Rose};
 ghost use Rattle.wl_program.specs.Folder.{MayGive, MayOpen};
 
 use std::alloc::AllocError;

@@ -5,8 +5,8 @@ use Rattle.wl_plain.specs.Steps as act
 use Rattle.wl_plain.specs.declared.answers.Done.{Done}
 use Rattle.wl_plain.specs.Desktop.{Desktop}
 use Rattle.wl_resident.specs.View.{DeskView}
-use Rattle.wl_replay.specs.declared.place.Place.{Place}
-use Rattle.wl_replay.specs.Side.{Files}
+use Rattle.wl_recording.specs.declared.place.Place.{Place}
+use Rattle.wl_recording.specs.Side.{Files}
 use Rattle.wl_replay.specs.Storing.{Fills, FillsAll, Puts, more}
 
 abbrev pub at_byte : Place → ℕ → Place

@@ -5,12 +5,12 @@ use Rattle.std.proofs.KnownBytes.{Appends-nil, Appends-trans}
 use Rattle.wl_resident.specs.Agreement.{Agrees}
 use Rattle.wl_plain.specs.Desktop.{Desktop}
 use Rattle.wl_session.specs.View.{SessionView}
-use Rattle.wl_replay.specs.declared.line.Line.{Line}
-use Rattle.wl_replay.specs.declared.line.Line.TheVariants as line
-use Rattle.wl_replay.specs.Line.{Asked, meaning}
+use Rattle.wl_recording.specs.declared.line.Line.{Line}
+use Rattle.wl_recording.specs.declared.line.Line.TheVariants as line
+use Rattle.wl_recording.specs.Line.{Asked, meaning}
 use Rattle.wl_replay.specs.Clients.{TellsFirst}
 use Rattle.wl_replay.specs.Report.{TellsAll, TellsLine, TellsNothing, TellsStep}
-use Rattle.wl_replay.specs.Side.{Files}
+use Rattle.wl_recording.specs.Side.{Files}
 use Rattle.wl_replay.specs.Told.{Counts, IsSilent, Leads, Stage, Told, and_then, words}
 
 pub Leads-weaker : (R S : Stage → Told → Stage → Type 0) (before after : SessionView) (report reported : Option (List ℕ)) (P Q : Told → Type 0)

@@ -1,10 +1,5 @@
-pub mod Words
-pub mod Spelling
-pub mod LineEnds
-pub mod Digits
 pub mod Telling
 pub mod Outcomes
 pub mod Leading
 pub mod Playing
 pub mod Filled
-pub mod Names

@@ -8,12 +8,12 @@ use Rattle.wl_plain.specs.Desktop.{Desktop, empty}
 use Rattle.wl_session.specs.Frame.{Image, filled}
 use Rattle.wl_session.specs.View.{SessionView}
 use Rattle.wl_session.specs.declared.sessions.Config.{Config}
-use Rattle.wl_replay.specs.declared.error.Summary.{Summary}
-use Rattle.wl_replay.specs.declared.error.ReplayError.{ReplayError}
-use Rattle.wl_replay.specs.declared.error.ReplayError.TheVariants as error
+use Rattle.wl_recording.specs.declared.error.Summary.{Summary}
+use Rattle.wl_recording.specs.declared.error.ReplayError.{ReplayError}
+use Rattle.wl_recording.specs.declared.error.ReplayError.TheVariants as error
 use Rattle.wl_resident.specs.Agreement.{Agrees}
 use Rattle.wl_replay.specs.Report.{FailsAt, IsLackingLine, IsPlayed, Reported, StopsAs, TakesOne, more, none}
-use Rattle.wl_replay.specs.Side.{Files}
+use Rattle.wl_recording.specs.Side.{Files}
 use Rattle.wl_replay.specs.Told.{Counts, Stage, Stands, and_then, first_stage, words}
 
 -- so many lines were played, with so many frames and clients, and the session stands for the last stage

@@ -5,7 +5,7 @@ use Rattle.wl_plain.specs.Served.{beyond_toplevels}
 use Rattle.wl_plain.specs.Steps.{Send, Steps}
 use Rattle.wl_plain.specs.Desktop.{Desktop}
 use Rattle.wl_replay.specs.Clients.{Sends, TellsClient, TellsFirst}
-use Rattle.wl_replay.specs.Text.{to_line}
+use Rattle.wl_recording.specs.Text.{to_line}
 
 pub TellsFirst-none : (d : Desktop) → TellsFirst 0 d [] d
 unfolding TellsFirst

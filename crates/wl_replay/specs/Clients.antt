@@ -7,7 +7,7 @@ use Rattle.wl_plain.specs.Steps.{Steps, peer_at, status_of, unsent_of}
 use Rattle.wl_plain.specs.declared.answers.Done.{Done}
 use Rattle.wl_plain.specs.declared.answers.Fed.{Fed}
 use Rattle.wl_plain.specs.declared.answers.Fed.TheVariants.{Alive, Ended, NoClient}
-use Rattle.wl_replay.specs.Text.{end_line, to_line}
+use Rattle.wl_recording.specs.Text.{end_line, to_line}
 
 -- All of a client's unsent bytes are sent, where there are any.
 abbrev pub Sends : ℕ → Option (List ℕ) → Desktop → List ℕ → Desktop → Type 0

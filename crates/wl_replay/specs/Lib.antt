@@ -1,13 +1,13 @@
-pub mod Line
-pub mod Lines
-pub mod Text
 pub mod Told
 pub mod Clients
-pub mod Side
 pub mod Storing
 pub mod Report
 pub use Rattle.wl_plain.specs.Desktop
 pub use Rattle.wl_plain.specs.Steps
+pub use Rattle.wl_recording.specs.Line
+pub use Rattle.wl_recording.specs.Lines
+pub use Rattle.wl_recording.specs.Side
+pub use Rattle.wl_recording.specs.Text
 pub use Rattle.wl_session.specs.Damage
 pub use Rattle.wl_session.specs.Frame
 pub use Rattle.wl_session.specs.Image

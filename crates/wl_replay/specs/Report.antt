@@ -16,15 +16,15 @@ use Rattle.wl_plain.specs.declared.answers.Done.{Done}
 use Rattle.wl_plain.specs.declared.answers.Done.TheVariants as gave
 use Rattle.wl_plain.specs.declared.answers.Fed.{Fed}
 use Rattle.wl_plain.specs.declared.answers.Fed.TheVariants.{Alive, Ended, NoClient}
-use Rattle.wl_replay.specs.declared.error.ReplayError.{ReplayError}
-use Rattle.wl_replay.specs.declared.error.ReplayError.TheVariants as error
-use Rattle.wl_replay.specs.declared.error.Summary.{Summary}
+use Rattle.wl_recording.specs.declared.error.ReplayError.{ReplayError}
+use Rattle.wl_recording.specs.declared.error.ReplayError.TheVariants as error
+use Rattle.wl_recording.specs.declared.error.Summary.{Summary}
 use Rattle.wl_replay.specs.Clients.{TellsFirst}
-use Rattle.wl_replay.specs.Line.{Asked, Connect, Bytes, Store, File, Gone, Tick, Nothing, asked_by}
-use Rattle.wl_replay.specs.Lines.{IsTooLong, TakesLine}
-use Rattle.wl_replay.specs.Side.{Files}
+use Rattle.wl_recording.specs.Line.{Asked, Connect, Bytes, Store, File, Gone, Tick, Nothing, asked_by}
+use Rattle.wl_recording.specs.Lines.{IsTooLong, TakesLine}
+use Rattle.wl_recording.specs.Side.{Files}
 use Rattle.wl_replay.specs.Storing.{LacksFile, TellsFile, TellsStore}
-use Rattle.wl_replay.specs.Text.{client_line, frame_line, full_line, none_line}
+use Rattle.wl_recording.specs.Text.{client_line, frame_line, full_line, none_line}
 use Rattle.wl_replay.specs.Told.{Leads, Stage, Told, and_then, words}
 
 -- what a connect tells, unless it wanted memory

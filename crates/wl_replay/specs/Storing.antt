@@ -12,9 +12,9 @@ use Rattle.wl_plain.specs.declared.answers.Fed.{Fed}
 use Rattle.wl_plain.specs.declared.answers.Fed.TheVariants.{Alive, Ended, NoClient}
 use Rattle.wl_plain.specs.declared.answers.Stored.{Stored}
 use Rattle.wl_plain.specs.declared.answers.Stored.TheVariants as stored
-use Rattle.wl_replay.specs.declared.place.Place.{Place}
-use Rattle.wl_replay.specs.Side.{Files, Lacks}
-use Rattle.wl_replay.specs.Text.{none_line, nostore_line, outside_line}
+use Rattle.wl_recording.specs.declared.place.Place.{Place}
+use Rattle.wl_recording.specs.Side.{Files, Lacks}
+use Rattle.wl_recording.specs.Text.{none_line, nostore_line, outside_line}
 use Rattle.wl_replay.specs.Told.{Stage, Told, words}
 
 -- what is told of a store write

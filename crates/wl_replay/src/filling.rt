@@ -3,16 +3,15 @@
 ghost use Rattle.std.specs.Prelude.{◌≡◌, ◌≤◌, ℕ, List, length, true, false, Ok, Err, IfOk, OnOk};
 ghost use Rattle.wl_resident.specs.Agreement.{Agrees};
 ghost use Rattle.wl_plain.specs.Desktop.{Desktop};
-ghost use Rattle.wl_replay.specs.Side.{CountsFault, files_of};
+ghost use Rattle.wl_recording.specs.Side.{CountsFault, files_of};
 ghost use Rattle.wl_replay.specs.Storing.{FillsAll, LacksFile, Puts, TellsFile, room_in};
 ghost use Rattle.wl_replay.specs.Told.{IsSilent, Leads};
 
 use crate::error::StepError;
-use crate::place::Place;
-use crate::side::{SideFault, SideFiles};
 use crate::storing::write_stored;
 use std::alloc::Allocator;
 use std::io::Write;
+use wl_recording::{Place, SideFault, SideFiles};
 use wl_session::{Fed, Session, Stored};
 
 /// The greatest number of bytes that are asked of a file at once.

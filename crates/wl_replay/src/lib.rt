@@ -1,24 +1,12 @@
-//! Recordings of what happens to a compositor, and the reports of what it answers.
+//! Replays of recordings: what a compositor answers to what happens to it, in reports and images.
 #![tactic(auto)]
 
 mod error;
 mod filling;
-mod hex;
-mod line;
-mod lines;
-mod name;
-mod numbers;
-mod place;
 mod player;
-mod report;
-mod side;
 mod step;
 mod storing;
 mod tell;
-mod word;
 
-pub use error::{ReplayError, Summary};
-pub use lines::LINE_LIMIT;
-pub use numbers::number;
 pub use player::{MAX_LINES, replay};
-pub use side::{SideFault, SideFiles};
+pub use wl_recording::{LINE_LIMIT, ReplayError, SideFault, SideFiles, Summary, number};

@@ -5,18 +5,16 @@ ghost use Rattle.std.specs.Io.KnownBytes.{IsAtEnd};
 ghost use Rattle.wl_session.specs.Frame.{is_side};
 ghost use Rattle.wl_resident.specs.Agreement.{Agrees};
 ghost use Rattle.wl_plain.specs.Desktop.{Desktop};
-ghost use Rattle.wl_replay.specs.Lines.{TakesLine};
+ghost use Rattle.wl_recording.specs.Lines.{TakesLine};
 ghost use Rattle.wl_replay.specs.Report.{FailsAt, IsLackingLine, IsPlayed, StopsAs, TakesOne, images_in};
-ghost use Rattle.wl_replay.specs.Side.{files_of};
+ghost use Rattle.wl_recording.specs.Side.{files_of};
 ghost use Rattle.wl_replay.specs.Told.{Counts, Stage, Stands, first_stage};
 
-use crate::error::{ReplayError, StepError, Summary};
-use crate::line::parse;
-use crate::lines::{LineError, read_line};
-use crate::side::SideFiles;
+use crate::error::StepError;
 use crate::step::{Shown, take_line};
 use std::alloc::Allocator;
 use std::io::{BufRead, Write};
+use wl_recording::{LineError, ReplayError, SideFiles, Summary, parse, read_line};
 use wl_session::{Config, Session};
 
 /// The greatest number of lines of a recording.

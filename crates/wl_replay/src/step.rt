@@ -5,20 +5,18 @@ ghost use Rattle.std.specs.Io.KnownBytes.{Appends};
 ghost use Rattle.wl_session.specs.Image.{image_of};
 ghost use Rattle.wl_resident.specs.Agreement.{Agrees};
 ghost use Rattle.wl_plain.specs.Desktop.{Desktop};
-ghost use Rattle.wl_replay.specs.Line.{meaning};
+ghost use Rattle.wl_recording.specs.Line.{meaning};
 ghost use Rattle.wl_replay.specs.Report.{LacksAsked, TellsBytes, TellsConnect, TellsGone, TellsLine, TellsStep, TellsTick, absent_text, images_in};
-ghost use Rattle.wl_replay.specs.Side.{files_of};
+ghost use Rattle.wl_recording.specs.Side.{files_of};
 ghost use Rattle.wl_replay.specs.Told.{Counts, IsSilent, Leads};
 
 use crate::error::{StepError, write_failed};
 use crate::filling::put_file;
-use crate::line::Line;
-use crate::report::{write_client, write_frame, write_full, write_none};
-use crate::side::SideFiles;
 use crate::storing::store;
 use crate::tell::tell_clients;
 use std::alloc::Allocator;
 use std::io::Write;
+use wl_recording::{Line, SideFiles, write_client, write_frame, write_full, write_none};
 use wl_session::{ConnectError, Fed, Framebuffer, Session, write_ppm};
 
 /// How many frames a line showed, and how many clients it connected.

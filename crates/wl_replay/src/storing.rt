@@ -6,10 +6,9 @@ ghost use Rattle.wl_replay.specs.Storing.{TellsStore, stored_text};
 ghost use Rattle.wl_replay.specs.Told.{IsSilent, Leads};
 
 use crate::error::{StepError, write_failed};
-use crate::place::Place;
-use crate::report::{write_none, write_nostore, write_outside};
 use std::alloc::Allocator;
 use std::io::Write;
+use wl_recording::{Place, write_none, write_nostore, write_outside};
 use wl_session::{Session, Stored};
 
 /// Bytes come into a store.

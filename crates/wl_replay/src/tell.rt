@@ -7,10 +7,10 @@ ghost use Rattle.wl_plain.specs.Desktop.{Desktop};
 ghost use Rattle.wl_plain.specs.Steps.{peer_at, status_of, unsent_of};
 ghost use Rattle.wl_replay.specs.Clients.{Closes, Sends, TellsClient, TellsFirst};
 
-use crate::report::{write_end, write_to};
 use std::alloc::Allocator;
 use std::io;
 use std::io::Write;
+use wl_recording::{write_end, write_to};
 use wl_session::{Fed, Session};
 
 /// The greatest number of a client.

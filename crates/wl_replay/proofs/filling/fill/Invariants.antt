@@ -1,7 +1,7 @@
 use Rattle.std.proofs.Common.{◌≡◌, ◌≤◌, ◌-◌}
 use Rattle.wl_resident.specs.Agreement.{Agrees}
 use Rattle.wl_plain.specs.Desktop.{Desktop}
-use Rattle.wl_replay.specs.Side.{files_of}
+use Rattle.wl_recording.specs.Side.{files_of}
 use Rattle.wl_replay.specs.Storing.{Fills}
 use Rattle.wl_replay.proofs.filling.fill.Given as goal
 

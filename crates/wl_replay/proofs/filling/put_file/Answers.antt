@@ -2,7 +2,7 @@ use Rattle.std.proofs.Common.{◌≡◌, [], Result, Ok, Err, ℕ, refl, ap, sym
 use Rattle.std.proofs.KnownBytes.{Appends-nil}
 use Rattle.std.proofs.lemmas.Result.{on_ok_weaker}
 use Rattle.wl_plain.specs.declared.answers.Stored.{Stored}
-use Rattle.wl_replay.specs.Side.{files_of}
+use Rattle.wl_recording.specs.Side.{files_of}
 use Rattle.wl_replay.specs.Storing.{TellsFileAs, room_in, stored_text}
 use Rattle.wl_replay.specs.Told.{Stage, words}
 use Rattle.wl_replay.proofs.filling.put_file.Goals as goal

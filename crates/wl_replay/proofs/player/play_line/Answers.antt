@@ -1,5 +1,5 @@
 use Rattle.std.proofs.Common.{ℕ, List, Ok, Some, sym, ap, ◌∙◌}
-use Rattle.wl_replay.specs.Line.{asked_by, meaning}
+use Rattle.wl_recording.specs.Line.{asked_by, meaning}
 use Rattle.wl_replay.proofs.player.play_line.Goals as goal
 
 pub returns-in-Ok-clause-played : goal.returns-in-Ok-clause-played

@@ -2,7 +2,7 @@ use Rattle.std.proofs.Common.{[], Ok, Err, refl, ap, ◌∙◌}
 use Rattle.wl_plain.specs.declared.answers.ConnectError.{ConnectError}
 use Rattle.wl_replay.specs.Report.{connect_told}
 use Rattle.wl_replay.specs.Told.{words}
-use Rattle.wl_replay.specs.Text.{client_line, full_line}
+use Rattle.wl_recording.specs.Text.{client_line, full_line}
 use Rattle.wl_replay.proofs.Outcomes.{ok_kept}
 use Rattle.wl_replay.proofs.step.connect.Goals as goal
 

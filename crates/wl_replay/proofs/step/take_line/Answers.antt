@@ -1,6 +1,6 @@
-use Rattle.wl_replay.specs.Line.{meaning}
+use Rattle.wl_recording.specs.Line.{meaning}
 use Rattle.wl_replay.specs.Report.{TellsAll, TellsLine, images_in}
-use Rattle.wl_replay.specs.Side.{files_of}
+use Rattle.wl_recording.specs.Side.{files_of}
 use Rattle.wl_replay.specs.Told.{Counts}
 use Rattle.wl_replay.proofs.Outcomes.{ok_kept}
 use Rattle.wl_replay.proofs.Leading.{Leads-all, Leads-passed, Leads-weaker, TellsLine-all}

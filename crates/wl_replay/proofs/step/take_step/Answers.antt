@@ -1,8 +1,8 @@
 use Rattle.std.proofs.Common.{refl}
 use Rattle.wl_replay.specs.Report.{TellsBytes, TellsConnect, TellsGone, TellsNothing, TellsTick}
-use Rattle.wl_replay.specs.Side.{files_of}
+use Rattle.wl_recording.specs.Side.{files_of}
 use Rattle.wl_replay.specs.Storing.{TellsStore}
-use Rattle.wl_replay.specs.declared.line.Line.TheVariants as line
+use Rattle.wl_recording.specs.declared.line.Line.TheVariants as line
 use Rattle.wl_replay.proofs.Leading.{Counts-silent, Leads-at, Leads-nothing}
 use Rattle.wl_replay.proofs.step.take_step.Goals as goal
 

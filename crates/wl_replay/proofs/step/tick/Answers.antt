@@ -5,7 +5,7 @@ use Rattle.wl_session.specs.Damage.{count_points, has}
 use Rattle.wl_session.specs.Frame.{Image}
 use Rattle.wl_session.specs.Image.{image_of}
 use Rattle.wl_session.specs.Run.{IsNextFrame}
-use Rattle.wl_replay.specs.Text.{frame_line}
+use Rattle.wl_recording.specs.Text.{frame_line}
 use Rattle.wl_replay.proofs.Outcomes.{ok_kept}
 use Rattle.wl_replay.proofs.step.tick.Goals as goal
 
