@@ -1,3 +1,1 @@
-mod Accepted
 mod Ending
-mod Rows

@@ -1,11 +1,11 @@
-pub mod Command
-pub mod Folder
 pub mod Run
-pub mod Size
-pub mod Status
+pub use Rattle.wl_options.specs.Command
+pub use Rattle.wl_options.specs.Folder
+pub use Rattle.wl_options.specs.Size
+pub use Rattle.wl_options.specs.Status
 pub use Rattle.wl_recording.specs.Line
 pub use Rattle.wl_recording.specs.Lines
-pub use Rattle.wl_replay.specs.Report
 pub use Rattle.wl_recording.specs.Side
+pub use Rattle.wl_replay.specs.Report
 pub use Rattle.wl_replay.specs.Storing
 pub use Rattle.wl_replay.specs.Told

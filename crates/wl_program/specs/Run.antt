@@ -8,13 +8,13 @@ use Rattle.wl_replay.specs.Told.{Stage, first_stage}
 use Rattle.wl_recording.specs.declared.error.ReplayError.{ReplayError}
 use Rattle.wl_recording.specs.declared.error.ReplayError.TheVariants as stopped
 use Rattle.wl_recording.specs.declared.error.Summary.{Summary}
-use Rattle.wl_program.specs.Command.{Asks, HasNoSize, refusals}
-use Rattle.wl_program.specs.Folder.{FolderView, folder_files, new_folder}
-use Rattle.wl_program.specs.declared.command.Replay.{Replay}
-use Rattle.wl_program.specs.declared.fault.Fault.{Fault}
-use Rattle.wl_program.specs.declared.fault.Fault.TheVariants.{Read, Write, Side, Size, BadLine, Memory}
-use Rattle.wl_program.specs.declared.fault.Status.{Status}
-use Rattle.wl_program.specs.declared.fault.Status.TheVariants as status
+use Rattle.wl_options.specs.Command.{Asks, HasNoSize, refusals}
+use Rattle.wl_options.specs.Folder.{FolderView, folder_files, new_folder}
+use Rattle.wl_options.specs.declared.command.Replay.{Replay}
+use Rattle.wl_options.specs.declared.fault.Fault.{Fault}
+use Rattle.wl_options.specs.declared.fault.Fault.TheVariants.{Read, Write, Side, Size, BadLine, Memory}
+use Rattle.wl_options.specs.declared.fault.Status.{Status}
+use Rattle.wl_options.specs.declared.fault.Status.TheVariants as status
 
 -- a desktop without clients on an output of the replay's size, which shows black
 abbrev pub stage_of : Replay → Stage

@@ -1,14 +1,7 @@
-//! All of the program but its `main`: the command line, the side files of a folder, and how it ends.
+//! All of the program but its `main`: a recording is played as the command line asks.
 #![tactic(auto)]
 
-mod command;
-mod fault;
-mod folder;
 mod run;
-mod size;
 
-pub use command::{CommandError, Replay, parse};
-pub use fault::{Fault, Status};
-pub use folder::Folder;
 pub use run::run_program;
-pub use size::Size;
+pub use wl_options::{CommandError, Fault, Folder, Replay, Size, Status, parse};

@@ -5,13 +5,11 @@ ghost use Rattle.std.specs.Io.KnownBytes.{Keeps};
 ghost use Rattle.clap.specs.Words.{kind_of};
 ghost use Rattle.wl_program.specs.Run.{Ends, Fails, IsReported, IsToldBy};
 
-use crate::command::{CommandError, Replay, parse};
-use crate::fault::{Fault, Status};
-use crate::folder::Folder;
 use std::alloc::Allocator;
 use std::io::{BufRead, BufWriter, ErrorKind, Write};
 use std::rt::Files;
 use std::{fs, io};
+use wl_options::{CommandError, Fault, Folder, Replay, Status, parse};
 use wl_session::{Config, Rgb};
 
 const BLACK: Rgb = Rgb { r: 0, g: 0, b: 0 };

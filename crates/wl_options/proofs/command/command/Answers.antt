@@ -2,8 +2,8 @@
 use Rattle.std.proofs.Common.{◌≡◌, ◌∙◌, ap, ap₂, rules, codes}
 use Rattle.std.proofs.lemmas.Result.{IfOk-weaker}
 use Rattle.clap.specs.Words.{App, app_of, new_app, with_rule, with_subcommand}
-use Rattle.wl_program.specs.Command.{program, replay_command, with_required_subcommand}
-use Rattle.wl_program.proofs.command.command.Goals as goal
+use Rattle.wl_options.specs.Command.{program, replay_command, with_required_subcommand}
+use Rattle.wl_options.proofs.command.command.Goals as goal
 
 pub returns : goal.returns
 unfolding program

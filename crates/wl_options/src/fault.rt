@@ -1,10 +1,10 @@
 //! How the program ends.
 
 ghost use Rattle.std.specs.Prelude.{◌≡◌};
-ghost use Rattle.wl_program.specs.Status.{fault_by, status_of};
+ghost use Rattle.wl_options.specs.Status.{fault_by, status_of};
 
 use thiserror::Error;
-use wl_replay::ReplayError;
+use wl_recording::ReplayError;
 
 /// The exit status of the program.
 #[derive(Clone, Copy, Debug, PartialEq, Eq)]

@@ -3,7 +3,7 @@ use Rattle.std.proofs.Common.{◌≡◌, refl, codes, List, [], ◌∷◌, Some,
 use Rattle.clap.specs.Words.{Text}
 use Rattle.clap.specs.declared.error.kind.ErrorKind.TheVariants.{DisplayHelp, DisplayHelpOnMissingArgumentOrSubcommand, UnknownArgument}
 use Rattle.clap.proofs.OnLiterals.{clap_on_literals}
-use Rattle.wl_program.specs.Command.{asked_size, entered, given, program, refusals}
+use Rattle.wl_options.specs.Command.{asked_size, entered, given, program, refusals}
 
 abbrev replay : List Text → List Text
 replay words = codes "wlframe" ∷ codes "replay" ∷ words

@@ -7,13 +7,13 @@ use Rattle.clap.specs.declared.error.Error.{Error}
 use Rattle.clap.specs.declared.parser.matches.ArgMatches.{ArgMatches}
 use Rattle.clap.specs.declared.parser.matches.Found.{Found}
 use Rattle.clap.proofs.WalkLemmas.{first_value-rows}
-use Rattle.wl_program.specs.Command.{Asks, IsGiven, IsRefused, IsToldAs, asked_size, entered, given, program, refusals}
-use Rattle.wl_program.specs.Size.{size_of}
-use Rattle.wl_program.specs.declared.command.Replay.{Replay}
-use Rattle.wl_program.specs.declared.command.CommandError.{CommandError}
-use Rattle.wl_program.specs.declared.command.CommandError.TheVariants as refused
-use Rattle.wl_program.specs.declared.fault.Fault.{Fault}
-use Rattle.wl_program.specs.declared.fault.Fault.TheVariants as fault
+use Rattle.wl_options.specs.Command.{Asks, IsGiven, IsRefused, IsToldAs, asked_size, entered, given, program, refusals}
+use Rattle.wl_options.specs.Size.{size_of}
+use Rattle.wl_options.specs.declared.command.Replay.{Replay}
+use Rattle.wl_options.specs.declared.command.CommandError.{CommandError}
+use Rattle.wl_options.specs.declared.command.CommandError.TheVariants as refused
+use Rattle.wl_options.specs.declared.fault.Fault.{Fault}
+use Rattle.wl_options.specs.declared.fault.Fault.TheVariants as fault
 
 -- its options use nothing of which clap's clauses are silent
 pub program-is_simple : is_simple program ≡ true

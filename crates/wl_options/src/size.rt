@@ -1,11 +1,11 @@
 //! The size of an output, as a word of the command line.
 
 ghost use Rattle.std.specs.Prelude.{◌≡◌, IfSome, option_map, true};
-ghost use Rattle.wl_session.specs.Frame.{is_side};
-ghost use Rattle.wl_program.specs.Size.{side_of, size_of};
+ghost use Rattle.wl_paint.specs.Frame.{is_side};
+ghost use Rattle.wl_options.specs.Size.{side_of, size_of};
 
-use wl_replay::number;
-use wl_session::MAX_SIDE;
+use wl_paint::MAX_SIDE;
+use wl_recording::number;
 
 /// The sides of an output, in pixels: each is 1 to 4,096.
 #[derive(Clone, Copy, Debug, PartialEq, Eq)]

@@ -2,7 +2,7 @@
 
 ghost use Rattle.std.specs.Prelude.{◌≡◌, IfErr, IfOk, MatchResult, None, false, map, string_bytes};
 ghost use Rattle.clap.specs.Words.{app_of, first_value, found_of, rule_of};
-ghost use Rattle.wl_program.specs.Command.{Asks, IsGiven, IsRefused, IsToldAs, asked_size, dir_option, ppm_option, program, size_option};
+ghost use Rattle.wl_options.specs.Command.{Asks, IsGiven, IsRefused, IsToldAs, asked_size, dir_option, ppm_option, program, size_option};
 
 use crate::fault::Fault;
 use crate::size::Size;
@@ -29,8 +29,8 @@ pub enum CommandError {
 }
 
 impl From<AllocError> for CommandError {
-    ghost use Rattle.wl_program.specs.declared.command.CommandError.TheVariants.{Fault};
-    ghost use Rattle.wl_program.specs.declared.fault.Fault.TheVariants.{Memory};
+    ghost use Rattle.wl_options.specs.declared.command.CommandError.TheVariants.{Fault};
+    ghost use Rattle.wl_options.specs.declared.fault.Fault.TheVariants.{Memory};
 
     ghost from_gives = { λ _ e. e ≡ Fault Memory };
 

@@ -2,14 +2,14 @@
 
 ghost use Rattle.std.specs.Prelude.{◌≡◌, false};
 ghost use Rattle.wl_recording.specs.Side.{Rose};
-ghost use Rattle.wl_program.specs.Folder.{MayGive, MayOpen};
+ghost use Rattle.wl_options.specs.Folder.{MayGive, MayOpen};
 
 use std::alloc::AllocError;
 use std::fs::File;
 use std::io::{ErrorKind, Read};
 use std::marker::Model;
 use std::rt::Files;
-use wl_replay::{SideFault, SideFiles};
+use wl_recording::{SideFault, SideFiles};
 
 /// The files of a folder, of which one is open at a time. It is seen as the folder's path, whether a file is open, and how many
 /// faults there were.
@@ -24,7 +24,7 @@ pub struct Folder<'a, R: Files + Alloc> {
 
 impl<'a, R: Files + Alloc> Model for Folder<'a, R> {
     ghost use Rattle.std.specs.Prelude.{is_some};
-    ghost use Rattle.wl_program.specs.Folder.{FolderView};
+    ghost use Rattle.wl_options.specs.Folder.{FolderView};
 
     ghost Value = { FolderView };
 

@@ -2,8 +2,8 @@
 use Rattle.std.proofs.Common.{◌∙◌, sym, ap, option_map}
 use Rattle.clap.specs.Words.{found_of}
 use Rattle.std.proofs.lemmas.Result.{err_from_is_err_and}
-use Rattle.wl_program.proofs.Accepted.{accepted-of, asked-by, entered-of, not-entered, refused-of, told-refused}
-use Rattle.wl_program.proofs.command.parse.Goals as goal
+use Rattle.wl_options.proofs.Accepted.{accepted-of, asked-by, entered-of, not-entered, refused-of, told-refused}
+use Rattle.wl_options.proofs.command.parse.Goals as goal
 
 pub returns-in_err-matches : goal.returns-in_err-matches
 returns-in_err-matches c =

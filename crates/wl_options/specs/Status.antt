@@ -1,10 +1,10 @@
 -- The exit status of a fault, and which fault a replay's error is.
-use Rattle.wl_program.specs.declared.fault.Fault.{Fault}
-use Rattle.wl_program.specs.declared.fault.Fault.TheVariants.{Read, Write, Side, Size, BadLine, Memory}
+use Rattle.wl_options.specs.declared.fault.Fault.{Fault}
+use Rattle.wl_options.specs.declared.fault.Fault.TheVariants.{Read, Write, Side, Size, BadLine, Memory}
 use Rattle.wl_recording.specs.declared.error.ReplayError.{ReplayError}
 use Rattle.wl_recording.specs.declared.error.ReplayError.TheVariants as stopped
-use Rattle.wl_program.specs.declared.fault.Status.{Status}
-use Rattle.wl_program.specs.declared.fault.Status.TheVariants as status
+use Rattle.wl_options.specs.declared.fault.Status.{Status}
+use Rattle.wl_options.specs.declared.fault.Status.TheVariants as status
 
 abbrev pub status_of : Fault → Status
 status_of Read = status.Failed

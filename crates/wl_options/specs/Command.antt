@@ -6,11 +6,11 @@ use Rattle.clap.specs.Words.{App, IsAmong, Row, Rule, Text, fault_of, first_of, 
 use Rattle.clap.specs.Kinds.{Kinds}
 use Rattle.clap.specs.declared.error.Error.{Error}
 use Rattle.clap.specs.declared.error.kind.ErrorKind.TheVariants.{OutOfMemory}
-use Rattle.wl_program.specs.Size.{size_of}
-use Rattle.wl_program.specs.declared.command.Replay.{Replay}
-use Rattle.wl_program.specs.declared.command.CommandError.{CommandError}
-use Rattle.wl_program.specs.declared.command.CommandError.TheVariants as refused
-use Rattle.wl_program.specs.declared.fault.Fault.TheVariants as fault
+use Rattle.wl_options.specs.Size.{size_of}
+use Rattle.wl_options.specs.declared.command.Replay.{Replay}
+use Rattle.wl_options.specs.declared.command.CommandError.{CommandError}
+use Rattle.wl_options.specs.declared.command.CommandError.TheVariants as refused
+use Rattle.wl_options.specs.declared.fault.Fault.TheVariants as fault
 
 -- `--name VALUE`
 abbrev pub option_named : Text → Rule

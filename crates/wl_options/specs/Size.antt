@@ -2,7 +2,7 @@
 use Rattle.std.specs.Prelude.{ℕ, Bool, ◌==◌, if◌then◌else◌, List, Option, Some, None}
 use Rattle.std.specs.List.{before_first, after_first}
 use Rattle.std.specs.Option.{option_and_then, option_map}
-use Rattle.wl_session.specs.Frame.{is_side}
+use Rattle.wl_paint.specs.Frame.{is_side}
 use Rattle.wl_recording.specs.Line.{number_of}
 
 -- A side is a number from 1 to 4,096.

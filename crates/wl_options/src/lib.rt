@@ -1,0 +1,12 @@
+//! The command line of the program, the side files of a folder, and the statuses by which it ends.
+#![tactic(auto)]
+
+mod command;
+mod fault;
+mod folder;
+mod size;
+
+pub use command::{CommandError, Replay, parse};
+pub use fault::{Fault, Status};
+pub use folder::Folder;
+pub use size::Size;
