@@ -112,8 +112,11 @@ impl<A: Allocator + Copy> Desk<A> {
         let Ok(client) = Client::new(alloc, self.output) else {
             return Err(ConnectError::Memory);
         };
-        self.clients[k] = Some(client);
-        self.owned[k] = Some(bare(alloc));
+        let resident = Resident {
+            client,
+            owned: bare(alloc),
+        };
+        put_back(&mut self.clients[k], &mut self.owned[k], resident);
         Ok(k as u32 + 1)
     }
 
@@ -151,8 +154,7 @@ impl<A: Allocator + Copy> Desk<A> {
         };
         let taken = resident.serve_on(&mut self.scene, &mut self.damage, client, alloc);
         let served = served_of(taken, resident.client.ended());
-        self.clients[k] = Some(resident.client);
-        self.owned[k] = Some(resident.owned);
+        put_back(&mut self.clients[k], &mut self.owned[k], resident);
         served
     }
 
@@ -170,8 +172,7 @@ impl<A: Allocator + Copy> Desk<A> {
             return;
         };
         resident.end(&mut self.scene, &mut self.damage, client, cause, alloc);
-        self.clients[k] = Some(resident.client);
-        self.owned[k] = Some(resident.owned);
+        put_back(&mut self.clients[k], &mut self.owned[k], resident);
     }
 
     /// Puts bytes into a client's store.
@@ -196,8 +197,7 @@ impl<A: Allocator + Copy> Desk<A> {
             bytes,
             alloc,
         );
-        self.clients[k] = Some(resident.client);
-        self.owned[k] = Some(resident.owned);
+        put_back(&mut self.clients[k], &mut self.owned[k], resident);
         stored
     }
 
@@ -226,8 +226,7 @@ impl<A: Allocator + Copy> Desk<A> {
             return false;
         };
         let lived = resident.gone(&mut self.scene, &mut self.damage, client, alloc);
-        self.clients[k] = Some(resident.client);
-        self.owned[k] = Some(resident.owned);
+        put_back(&mut self.clients[k], &mut self.owned[k], resident);
         lived
     }
 
@@ -245,8 +244,7 @@ impl<A: Allocator + Copy> Desk<A> {
             return false;
         };
         let sent = resident.sent(&mut self.scene, &mut self.damage, client, count, alloc);
-        self.clients[k] = Some(resident.client);
-        self.owned[k] = Some(resident.owned);
+        put_back(&mut self.clients[k], &mut self.owned[k], resident);
         sent
     }
 
@@ -423,10 +421,27 @@ fn take_out<A: Allocator>(
     ensures none { IfNone result ((client.old ≡ None) ⊎ (owned.old ≡ None)) }
     ensures left { (client.new ≡ None) × (owned.new ≡ None) }
 {
-    match (client.take(), owned.take()) {
-        (Some(client), Some(owned)) => Some(Resident { client, owned }),
-        _ => None,
-    }
+    let owned = owned.take();
+    let Some(client) = client.take() else {
+        return None;
+    };
+    let Some(owned) = owned else {
+        return None;
+    };
+    Some(Resident { client, owned })
+}
+
+/// A client is put where it was taken out, with what it owns.
+fn put_back<A: Allocator>(
+    client: &mut Option<Client<A>>,
+    owned: &mut Option<Owned<A>>,
+    resident: Resident<A>,
+)
+    ensures client { client.new ≡ Some resident.client }
+    ensures owned { owned.new ≡ Some resident.owned }
+{
+    *client = Some(resident.client);
+    *owned = Some(resident.owned);
 }
 
 /// Whether a client is there that ended.

@@ -1,4 +1,5 @@
 use Rattle.std.proofs.Common.{ap, refl, ◌∙◌, ◌+◌}
+use Rattle.std.proofs.lemmas.List.{length-set}
 use Rattle.wl_desk.proofs.Calls.{Connects-full, Connects-new, Connects-refused, found}
 use Rattle.wl_desk.proofs.MarkedCalls.{connects-marks}
 use Rattle.wl_desk.proofs.desks.Desk.connect.Goals as goal
@@ -12,8 +13,8 @@ returns-in_default-new-clause-step g c = λ d a. Connects-refused _ _ d _ (c.der
 pub returns-clause-step : goal.returns-clause-step
 returns-clause-step g c = λ d a.
     let place = found c.self.inside.clients.items _ c.self.inside.owned.items (c.in-Some.k + 1) c.in-Some.k c.deref.ensures.value (refl, c.in-Some.ensures.within) c.self.invariant.0 in
-    Connects-new c.self.inside.output c.self.inside.clients.items _ c.self.inside.owned.items c.self.inside.scene c.in-Some.k c.in-Ok.client c.bare.result d c.deref.ensures.value c.in-Some.ensures.lowest place.client place.owned
-    c.in-Ok.ensures c.bare.ensures (rw (← c.self.view_is) at a)
+    rw (c.put_back.ensures.client, c.put_back.ensures.owned) (Connects-new c.self.inside.output c.self.inside.clients.items _ c.self.inside.owned.items c.self.inside.scene c.in-Some.k c.in-Ok.client c.bare.result d c.deref.ensures.value c.in-Some.ensures.lowest place.client place.owned
+    c.in-Ok.ensures c.bare.ensures (rw (← c.self.view_is) at a))
 
 pub returns-in_default-clause-marks : goal.returns-in_default-clause-marks
 returns-in_default-clause-marks g c = λ d e a steps. connects-marks _ d e _ c.args.self.now.damage a steps
@@ -23,3 +24,21 @@ returns-in_default-new-clause-marks g c = λ d e a steps. connects-marks _ d e _
 
 pub returns-clause-marks : goal.returns-clause-marks
 returns-clause-marks g c = λ d e a steps. rw (← c.self.view_is) (connects-marks _ d e _ c.self.inside.damage (rw (← c.self.view_is) at a) steps)
+
+pub index_mut-requires : goal.index_mut-requires
+index_mut-requires g c = rw c.self.inside.clients.ok.0 (found c.self.inside.clients.items _ c.self.inside.owned.items (c.in-Some.k + 1) c.in-Some.k c.deref.ensures.value (refl, c.in-Some.ensures.within) c.self.invariant.0).client
+
+pub index_mut-requires-2 : goal.index_mut-requires-2
+index_mut-requires-2 g c = rw c.self.inside.owned.ok.0 (found c.self.inside.clients.items _ c.self.inside.owned.items (c.in-Some.k + 1) c.in-Some.k c.deref.ensures.value (refl, c.in-Some.ensures.within) c.self.invariant.0).owned
+
+pub invariant_of-self : goal.invariant_of-self
+invariant_of-self g c = ((length-set _ _ _ ∙ c.self.invariant.0.0, length-set _ _ _ ∙ c.self.invariant.0.1), c.self.invariant.1)
+
+pub returns-in_default-clause-output : goal.returns-in_default-clause-output
+returns-in_default-clause-output g c = refl
+
+pub returns-in_default-new-clause-output : goal.returns-in_default-new-clause-output
+returns-in_default-new-clause-output g c = refl
+
+pub returns-clause-output : goal.returns-clause-output
+returns-clause-output g c = ap (λ w. w.desk.output) c.self.view_is

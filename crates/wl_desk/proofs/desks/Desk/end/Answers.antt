@@ -1,4 +1,4 @@
-use Rattle.std.proofs.Common.{ap, ◌∙◌}
+use Rattle.std.proofs.Common.{ap, refl, ◌∙◌}
 use Rattle.std.proofs.lemmas.List.{length-set}
 use Rattle.wl_resident.specs.Agreement.{numbers_in}
 use Rattle.wl_desk.proofs.Calls.{found}
@@ -27,8 +27,8 @@ index_mut-requires-4 g c = rw c.self.inside.owned.ok.0 (found _ _ _ _ _ c.deref.
 
 pub returns-clause-ends : goal.returns-clause-ends
 returns-clause-ends g c = λ d a.
-    ends c.self.inside.output c.self.inside.clients.items c.self.inside.owned.items c.self.inside.scene c.args.client c.in-Some.k (found _ _ _ _ _ c.deref.ensures.value c.in-Some.ensures.some c.self.invariant.0) d (rw (← c.self.view_is) at a)
-    c.args.cause c.in-Some-take_out.resident c.end.new.self _ _ _ _ c.end.new.scene c.index_mut.ensures.value c.index_mut-2.ensures.value c.in-Some-take_out.ensures.some (c.end.ensures.ends (numbers_in c.self.inside.clients.items) d d)
+    rw (c.put_back.ensures.client, c.put_back.ensures.owned) (ends c.self.inside.output c.self.inside.clients.items c.self.inside.owned.items c.self.inside.scene c.args.client c.in-Some.k (found _ _ _ _ _ c.deref.ensures.value c.in-Some.ensures.some c.self.invariant.0) d (rw (← c.self.view_is) at a)
+    c.args.cause c.in-Some-take_out.resident c.end.new.self _ _ _ _ c.end.new.scene c.index_mut.ensures.value c.index_mut-2.ensures.value c.in-Some-take_out.ensures.some (c.end.ensures.ends (numbers_in c.self.inside.clients.items) d d))
 
 pub returns-clause-marks : goal.returns-clause-marks
 returns-clause-marks g c = λ d a.
@@ -40,3 +40,24 @@ invariant_of-self-2 g c = (
   (length-set _ _ _ ∙ (length-set _ _ _ ∙ c.self.invariant.0.0), length-set _ _ _ ∙ (length-set _ _ _ ∙ c.self.invariant.0.1)),
   (c.end.ensures.marks.0.width ∙ c.self.invariant.1.0, c.end.ensures.marks.0.height ∙ c.self.invariant.1.1),
 )
+
+pub index_mut-requires : goal.index_mut-requires
+index_mut-requires g c = rw c.self.inside.clients.ok.0 (found _ _ _ _ _ c.deref.ensures.value c.in-Some.ensures.some c.self.invariant.0).client
+
+pub index_mut-requires-2 : goal.index_mut-requires-2
+index_mut-requires-2 g c = rw c.self.inside.owned.ok.0 (found _ _ _ _ _ c.deref.ensures.value c.in-Some.ensures.some c.self.invariant.0).owned
+
+pub index_mut-requires-3 : goal.index_mut-requires-3
+index_mut-requires-3 g c = rw c.self.inside.clients.ok.0 (found _ _ _ _ _ c.deref.ensures.value c.in-Some.ensures.some c.self.invariant.0).client
+
+pub invariant_of-self : goal.invariant_of-self
+invariant_of-self g c = ((length-set _ _ _ ∙ c.self.invariant.0.0, length-set _ _ _ ∙ c.self.invariant.0.1), c.self.invariant.1)
+
+pub returns-in_default-clause-output : goal.returns-in_default-clause-output
+returns-in_default-clause-output g c = refl
+
+pub returns-in_default-take_out-clause-output : goal.returns-in_default-take_out-clause-output
+returns-in_default-take_out-clause-output g c = ap (λ w. w.desk.output) c.self.view_is
+
+pub returns-clause-output : goal.returns-clause-output
+returns-clause-output g c = ap (λ w. w.desk.output) c.self.view_is

@@ -1,4 +1,4 @@
-use Rattle.std.proofs.Common.{false, ap, sym, ◌∙◌}
+use Rattle.std.proofs.Common.{false, ap, refl, sym, ◌∙◌}
 use Rattle.std.proofs.lemmas.List.{length-set}
 use Rattle.wl_plain.specs.Steps.{IsSent}
 use Rattle.wl_plain.specs.declared.answers.Done.TheVariants as gave
@@ -19,8 +19,8 @@ index_mut-requires-4 g c = rw c.self.inside.owned.ok.0 (found _ _ _ _ _ c.deref.
 
 pub returns-clause-step : goal.returns-clause-step
 returns-clause-step g c = λ d a.
-    changes c.self.inside.output c.self.inside.clients.items c.self.inside.owned.items c.self.inside.scene c.args.client c.in-Some.k (found _ _ _ _ _ c.deref.ensures.value c.in-Some.ensures.some c.self.invariant.0) d (rw (← c.self.view_is) at a)
-    (IsSent c.args.count) (gave.Sent false) (gave.Sent c.sent-sent.result) c.in-Some-take_out.resident c.sent-sent.new.self _ _ _ _ c.sent-sent.new.scene c.index_mut.ensures.value c.index_mut-2.ensures.value c.in-Some-take_out.ensures.some c.sent-sent.ensures.changes
+    rw (c.put_back.ensures.client, c.put_back.ensures.owned) (changes c.self.inside.output c.self.inside.clients.items c.self.inside.owned.items c.self.inside.scene c.args.client c.in-Some.k (found _ _ _ _ _ c.deref.ensures.value c.in-Some.ensures.some c.self.invariant.0) d (rw (← c.self.view_is) at a)
+    (IsSent c.args.count) (gave.Sent false) (gave.Sent c.sent-sent.result) c.in-Some-take_out.resident c.sent-sent.new.self _ _ _ _ c.sent-sent.new.scene c.index_mut.ensures.value c.index_mut-2.ensures.value c.in-Some-take_out.ensures.some c.sent-sent.ensures.changes)
 
 pub returns-in_default-clause-marks : goal.returns-in_default-clause-marks
 returns-in_default-clause-marks g c = λ d e a steps. past-marks (IsSent c.args.count) (gave.Sent false) (gave.Sent false) _ _ d e _ c.args.self.now.damage (c.deref.ensures.value ∙ ap (λ w. w.desk.clients) c.self.view_is) c.in_default.ensures.none a steps
@@ -40,3 +40,24 @@ invariant_of-self-2 g c = (
   (length-set _ _ _ ∙ (length-set _ _ _ ∙ c.self.invariant.0.0), length-set _ _ _ ∙ (length-set _ _ _ ∙ c.self.invariant.0.1)),
   (c.sent-sent.ensures.marks.0.width ∙ c.self.invariant.1.0, c.sent-sent.ensures.marks.0.height ∙ c.self.invariant.1.1),
 )
+
+pub index_mut-requires : goal.index_mut-requires
+index_mut-requires g c = rw c.self.inside.clients.ok.0 (found _ _ _ _ _ c.deref.ensures.value c.in-Some.ensures.some c.self.invariant.0).client
+
+pub index_mut-requires-2 : goal.index_mut-requires-2
+index_mut-requires-2 g c = rw c.self.inside.owned.ok.0 (found _ _ _ _ _ c.deref.ensures.value c.in-Some.ensures.some c.self.invariant.0).owned
+
+pub index_mut-requires-3 : goal.index_mut-requires-3
+index_mut-requires-3 g c = rw c.self.inside.clients.ok.0 (found _ _ _ _ _ c.deref.ensures.value c.in-Some.ensures.some c.self.invariant.0).client
+
+pub invariant_of-self : goal.invariant_of-self
+invariant_of-self g c = ((length-set _ _ _ ∙ c.self.invariant.0.0, length-set _ _ _ ∙ c.self.invariant.0.1), c.self.invariant.1)
+
+pub returns-in_default-clause-output : goal.returns-in_default-clause-output
+returns-in_default-clause-output g c = refl
+
+pub returns-in_default-take_out-clause-output : goal.returns-in_default-take_out-clause-output
+returns-in_default-take_out-clause-output g c = ap (λ w. w.desk.output) c.self.view_is
+
+pub returns-clause-output : goal.returns-clause-output
+returns-clause-output g c = ap (λ w. w.desk.output) c.self.view_is
