@@ -2,3 +2,4 @@ pub mod Places
 pub mod Sound
 pub mod Refusals
 pub mod Layouts
+pub mod Writes

@@ -3,7 +3,7 @@ use Rattle.std.proofs.Common.{◌≡◌, ℕ, zero, suc, ◌+◌, ◌<◌, ◌�
 use Rattle.std.specs.Prelude.{◌||◌}
 use Rattle.std.proofs.lemmas.Bool.Decides.{nat_tests}
 use Rattle.std.specs.List.{filter, remove}
-use Rattle.std.proofs.lemmas.List.{length-replicate, length-set}
+use Rattle.std.proofs.lemmas.List.{length-replicate, length-set, set-get_or}
 use Rattle.std.proofs.Common.{length-append, length-drop, length-take, replicate, take, drop}
 use Rattle.std.proofs.lemmas.List.Edits.{length-remove}
 use Rattle.std.proofs.lemmas.List.Sums.{sum_by-set, sum_by-remove, sum_by_push}
@@ -78,6 +78,10 @@ sound-same held made total number place old new s p o e l = sound-changed held m
 pub changed-is : (held : List Held) (made total number place : ℕ) (f : Held → Held) (old new : Held) → IsSound held made total → IsPlace held number place → old ≡ get_or held place old
     → new ≡ f old → set held place new ≡ map (λ s. cond (eqb s.number number) (f s) s) held
 changed-is held made total number place f old new s p o e = set-map number 0 made f held place new old s.numbered p.within (p.numbered old) (e ∙ ap f o)
+
+-- what was read is written back
+pub unchanged : (held : List Held) (place : ℕ) (old new : Held) → old ≡ get_or held place old → new ≡ old → set held place new ≡ held
+unchanged held place old new o e = ap (set held place) (e ∙ o) ∙ set-get_or held place old
 
 -- the same where a store is taken out
 pub sound-removed : (held : List Held) (made total size number place : ℕ) (s : Held) → IsSound held made total → IsPlace held number place → s ≡ get_or held place s

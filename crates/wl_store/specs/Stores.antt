@@ -54,6 +54,12 @@ create_refusal size stock =
     cond (int_lt (pos 268435456) (pos (total_size stock) +ℤ size)) (Some TooLarge) (
     cond (int_le size (pos 0)) (Some BadSize) None))
 
+-- why no store of this size is made beside `total` bytes, if it isn't: the first reason
+abbrev pub new_refusal : ℕ → ℤ → Option StoreError
+new_refusal total size =
+    cond (int_lt (pos 268435456) (pos total +ℤ size)) (Some TooLarge) (
+    cond (int_le size (pos 0)) (Some BadSize) None)
+
 -- a store of zeros more, with one use
 abbrev pub created : ℕ → Stock → Stock
 created size stock = record {

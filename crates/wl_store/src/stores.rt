@@ -1,6 +1,6 @@
 ghost use Rattle.std.specs.Prelude.{◌≡◌, ◌+◌, ◌-◌, ◌≤◌, ◌<◌, ◌↔◌, ◌==◌, ◌<ℤ◌, if◌then◌else◌, [], false, is_some, None, IsTrue, IsSome, IfSome, IfNone, IsOk, IfOk, OnOk, OnErr, IfErr, MatchBool, length, position, find, pos, unsigned_abs};
 ghost use Rattle.std.specs.Option.{option_copied, option_map};
-ghost use Rattle.wl_store.specs.Stores.{IsPlace, size_refusal};
+ghost use Rattle.wl_store.specs.Stores.{IsPlace, new_refusal, size_refusal};
 ghost use Rattle.wl_store.specs.Transform.{transform_of};
 
 use crate::picture::Picture;
@@ -95,6 +95,20 @@ fn place_of<A: Allocator>(held: &[Store<A>], number: StoreNo) -> Option<usize>
     position_of(held, number)
 }
 
+/// Why no store of this size is made beside `total` bytes, if it isn't.
+fn new_refusal(total: u32, size: i32) -> Option<StoreError>
+    ensures first { result ≡ new_refusal total size }
+    ensures room { IfNone result (total + unsigned_abs size ≤ MAX_TOTAL) }
+{
+    if i64::from(total) + i64::from(size) > i64::from(MAX_TOTAL) {
+        return Some(StoreError::TooLarge);
+    }
+    if size <= 0 {
+        return Some(StoreError::BadSize);
+    }
+    None
+}
+
 /// Why a store of `present` bytes, of `total` in all, doesn't get this size, if it doesn't.
 fn size_refusal(total: u32, present: u32, size: i32) -> Option<StoreError>
     ensures first { result ≡ size_refusal total present size }
@@ -166,13 +180,7 @@ impl<A: Allocator> Stores<A> {
         if self.is_full() {
             return Some(StoreError::TooMany);
         }
-        if i64::from(self.total) + i64::from(size) > i64::from(MAX_TOTAL) {
-            return Some(StoreError::TooLarge);
-        }
-        if size <= 0 {
-            return Some(StoreError::BadSize);
-        }
-        None
+        new_refusal(self.total, size)
     }
 
     /// Why the store doesn't get this size, but for want of memory: `NoStore`, `TooLarge` or `Shrinks`, as `resize` answers them.

@@ -4,7 +4,7 @@ use Rattle.std.proofs.lemmas.Int.{to_z-of_z}
 use Rattle.wl_store.specs.Stores.{Held, IsPlace, Stock, resized}
 use Rattle.wl_store.proofs.Places.{reads-same}
 use Rattle.wl_store.proofs.Refusals.{resize-refused}
-use Rattle.wl_store.proofs.Sound.{changed-is, sound-grown}
+use Rattle.wl_store.proofs.Sound.{changed-is, sound-grown, sound-same, size-in_total, unchanged}
 use Rattle.wl_store.proofs.stores.Stores.resize.Goals as goal
 
 pub returns-in-Some-size_refusal-clause-refused : goal.returns-in-Some-size_refusal-clause-refused
@@ -69,3 +69,39 @@ returns-in-Err-clause-refused g c =
     let refused = resize-refused held c.self.inside.made c.self.inside.total c.args.self.now c.args.store c.in-Some.place c.args.size read c.self.view_is c.self.invariant at c.index.ensures in
     let first = simp (to_z-of_z w32 c.args.size c.ranges.size, c.size-present.ensures.value) at c.in_default-size_refusal.ensures.first in
     rw (refused, ← first) tt
+
+pub grow-requires : goal.grow-requires
+grow-requires g c =
+    let held = c.self.inside.held.items in
+    let place = c.in-Some.place in
+    let at = subst (λ h. IsPlace h c.args.store place) c.deref.ensures.value c.in-Some.ensures.found in
+    let same = ap (λ s. length s.bytes) (reads-same held place c.index.result.now c.index_mut.result.now at.within c.index.ensures c.index_mut.ensures.value) in
+    let fits = to_z-of_z w32 c.args.size c.ranges.size in
+    let sized = simp fits at c.unsigned_abs-size.ensures.value in
+    let grows = simp fits at c.in_default-size_refusal.ensures.grows in
+    omega (arith, same, sized, grows)
+
+pub overflow_sub-self : goal.overflow_sub-self
+overflow_sub-self g c =
+    let held = c.self.inside.held.items in
+    let place = c.in-Some.place in
+    let at = subst (λ h. IsPlace h c.args.store place) c.deref.ensures.value c.in-Some.ensures.found in
+    omega (arith, size-in_total held c.self.inside.made c.self.inside.total place c.index.result.now c.self.invariant at.within, ap (λ (s : Held). length s.bytes) c.index.ensures)
+
+pub invariant_of-self-in-Err : goal.invariant_of-self-in-Err
+invariant_of-self-in-Err g c =
+    let held = c.self.inside.held.items in
+    let place = c.in-Some.place in
+    let at = subst (λ h. IsPlace h c.args.store place) c.deref.ensures.value c.in-Some.ensures.found in
+    let old = c.index_mut.result.now in
+    let number = ap (λ (s : Held). s.number) c.in-Err.ensures.err in
+    let size = ap (λ (s : Held). length s.bytes) c.in-Err.ensures.err in
+    sound-same held c.self.inside.made c.self.inside.total c.args.store place old c.grow.new.self c.self.invariant at c.index_mut.ensures.value number size
+
+pub returns-in-Err-clause-err : goal.returns-in-Err-clause-err
+returns-in-Err-clause-err g c =
+    let held = c.self.inside.held.items in
+    let place = c.in-Some.place in
+    let at = subst (λ h. IsPlace h c.args.store place) c.deref.ensures.value c.in-Some.ensures.found in
+    let stock : List Held → Stock = λ held. record { held = held; made = c.self.inside.made } in
+    ap stock (unchanged held place c.index_mut.result.now c.grow.new.self c.index_mut.ensures.value c.in-Err.ensures.err) ∙ c.self.view_is

@@ -1,7 +1,8 @@
-use Rattle.std.proofs.Common.{◌≡◌, ◌≤◌, ◌+◌, ◌++◌, List, length, take, drop, ap, subst, ◌∙◌, arith}
+use Rattle.wl_store.proofs.stores.Stores.write.Goals.{then-at-size-via-then-at-size, then-at-size-via-else-at-size+then-size-at}
+use Rattle.std.proofs.Common.{◌≡◌, ◌≤◌, ◌+◌, ◌++◌, List, length, take, drop, ap, subst, ◌∙◌, arith, ◌<◌, refl}
 use Rattle.wl_store.specs.Stores.{Held, IsPlace, Stock, written}
 use Rattle.wl_store.proofs.Places.{reads-same}
-use Rattle.wl_store.proofs.Refusals.{store-read, write-accepted}
+use Rattle.wl_store.proofs.Refusals.{store-read, write-accepted, write-refused}
 use Rattle.wl_store.proofs.Sound.{changed-is, length-written, sound-same}
 use Rattle.wl_store.proofs.stores.Stores.write.Goals as goal
 
@@ -35,3 +36,29 @@ returns-clause-ok g c =
     let change : Held → Held = λ s. record s { bytes = take c.args.at s.bytes ++ c.args.bytes.now ++ drop (c.args.at + length c.args.bytes.now) s.bytes } in
     ap stock (changed-is held c.self.inside.made c.self.inside.total c.args.store place change c.index_mut.result.now c.write.new.self c.self.invariant at c.index_mut.ensures.value c.write.ensures)
     ∙ ap (written c.args.store c.args.at c.args.bytes.now) c.self.view_is
+
+pub returns-then-at-size-clause-refused : goal.returns-then-at-size-clause-refused
+returns-then-at-size-clause-refused g c =
+    let held = c.self.inside.held.items in
+    let place = c.in-Some.place in
+    let at = subst (λ h. IsPlace h c.args.store place) c.deref.ensures.value c.in-Some.ensures.found in
+    let found = store-read held c.self.inside.made c.args.self.now c.args.store place c.index.result.now c.self.view_is at c.index.ensures in
+    let past : length c.index.result.now.bytes < c.args.at + length c.args.bytes.now = elim c.then-at-size.branch [ then-at-size-via-then-at-size w ↦ omega arith | then-at-size-via-else-at-size+then-size-at w ↦ omega arith ] in
+    rw (write-refused c.args.self.now c.args.store c.args.at (length c.args.bytes.now) c.index.result.now found past) refl
+
+pub returns-then-at-size-clause-accepted : goal.returns-then-at-size-clause-accepted
+returns-then-at-size-clause-accepted g c =
+    let held = c.self.inside.held.items in
+    let place = c.in-Some.place in
+    let at = subst (λ h. IsPlace h c.args.store place) c.deref.ensures.value c.in-Some.ensures.found in
+    let found = store-read held c.self.inside.made c.args.self.now c.args.store place c.index.result.now c.self.view_is at c.index.ensures in
+    let past : length c.index.result.now.bytes < c.args.at + length c.args.bytes.now = elim c.then-at-size.branch [ then-at-size-via-then-at-size w ↦ omega arith | then-at-size-via-else-at-size+then-size-at w ↦ omega arith ] in
+    rw (write-refused c.args.self.now c.args.store c.args.at (length c.args.bytes.now) c.index.result.now found past) tt
+
+pub write-requires : goal.write-requires
+write-requires g c =
+    let held = c.self.inside.held.items in
+    let place = c.in-Some.place in
+    let at = subst (λ h. IsPlace h c.args.store place) c.deref.ensures.value c.in-Some.ensures.found in
+    let same = ap (λ s. length s.bytes) (reads-same held place c.index.result.now c.index_mut.result.now at.within c.index.ensures c.index_mut.ensures.value) in
+    omega (arith, same)
