@@ -1,0 +1,29 @@
+use Rattle.std.proofs.Common.{rules}
+use Rattle.wl_client.proofs.clients.Client.queue.Goals as goal
+
+pub returns-in_default-clause-ok : goal.returns-in_default-clause-ok
+returns-in_default-clause-ok g c = search rules
+
+pub returns-in_default-clause-err : goal.returns-in_default-clause-err
+returns-in_default-clause-err g c = search rules
+
+pub returns-in_default-clause-cause : goal.returns-in_default-clause-cause
+returns-in_default-clause-cause g c = search rules
+
+pub returns-then-as_slice-size-gt-UNSENT_LIMIT-clause-ok : goal.returns-then-as_slice-size-gt-UNSENT_LIMIT-clause-ok
+returns-then-as_slice-size-gt-UNSENT_LIMIT-clause-ok g c = search rules
+
+pub returns-then-as_slice-size-gt-UNSENT_LIMIT-clause-err : goal.returns-then-as_slice-size-gt-UNSENT_LIMIT-clause-err
+returns-then-as_slice-size-gt-UNSENT_LIMIT-clause-err g c = search rules
+
+pub returns-then-as_slice-size-gt-UNSENT_LIMIT-clause-cause : goal.returns-then-as_slice-size-gt-UNSENT_LIMIT-clause-cause
+returns-then-as_slice-size-gt-UNSENT_LIMIT-clause-cause g c = search rules
+
+pub returns-clause-ok : goal.returns-clause-ok
+returns-clause-ok g c = search rules
+
+pub returns-clause-err : goal.returns-clause-err
+returns-clause-err g c = search rules
+
+pub returns-clause-cause : goal.returns-clause-cause
+returns-clause-cause g c = search rules
