@@ -1,0 +1,7 @@
+use Rattle.std.proofs.Common.{arith}
+use Rattle.wl_proto.specs.declared.interface.Interface.TheVariants.{XdgPositioner}
+use Rattle.wl_proto.proofs.Past.{past}
+use Rattle.wl_proto.proofs.xdg_positioner.decode.Goals as goal
+
+pub returns-in_default : goal.returns-in_default
+returns-in_default c = past XdgPositioner c.args._version c.args.opcode c.args.body.now (omega arith)

@@ -1,0 +1,7 @@
+use Rattle.std.proofs.Common.{arith}
+use Rattle.wl_proto.specs.declared.interface.Interface.TheVariants.{XdgSurface}
+use Rattle.wl_proto.proofs.Past.{past}
+use Rattle.wl_proto.proofs.xdg_surface.decode.Goals as goal
+
+pub returns-in_default : goal.returns-in_default
+returns-in_default c = past XdgSurface c.args._version c.args.opcode c.args.body.now (omega arith)
