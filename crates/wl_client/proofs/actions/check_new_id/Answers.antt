@@ -7,8 +7,5 @@ returns-in_default g c = search rules
 pub returns-then-not-is_free_id : goal.returns-then-not-is_free_id
 returns-then-not-is_free_id g c = search rules
 
-pub returns-then-len-ge-OBJECT_LIMIT : goal.returns-then-len-ge-OBJECT_LIMIT
-returns-then-len-ge-OBJECT_LIMIT g c = search rules
-
 pub returns : goal.returns
 returns g c = search rules

@@ -10,15 +10,6 @@ returns-in_default-clause-err g c = search rules
 pub returns-in_default-clause-cause : goal.returns-in_default-clause-cause
 returns-in_default-clause-cause g c = search rules
 
-pub returns-then-as_slice-size-gt-UNSENT_LIMIT-clause-ok : goal.returns-then-as_slice-size-gt-UNSENT_LIMIT-clause-ok
-returns-then-as_slice-size-gt-UNSENT_LIMIT-clause-ok g c = search rules
-
-pub returns-then-as_slice-size-gt-UNSENT_LIMIT-clause-err : goal.returns-then-as_slice-size-gt-UNSENT_LIMIT-clause-err
-returns-then-as_slice-size-gt-UNSENT_LIMIT-clause-err g c = search rules
-
-pub returns-then-as_slice-size-gt-UNSENT_LIMIT-clause-cause : goal.returns-then-as_slice-size-gt-UNSENT_LIMIT-clause-cause
-returns-then-as_slice-size-gt-UNSENT_LIMIT-clause-cause g c = search rules
-
 pub returns-clause-ok : goal.returns-clause-ok
 returns-clause-ok g c = search rules
 
