@@ -1,5 +1,5 @@
 -- What a request makes of a list, and of the records that stand for it.
-use Rattle.std.proofs.Common.{◌≡◌, ℕ, zero, suc, ◌+◌, ◌≤◌, ◌<◌, drop, List, [], ◌∷◌, ◌++◌, Bool, true, false, Option, Some, None, length, take, refl, ap, sym, subst, ◌∙◌, arith}
+use Rattle.std.proofs.Common.{◌≡◌, ℕ, zero, suc, ◌≤◌, ◌<◌, drop, List, [], ◌∷◌, ◌++◌, Bool, true, false, Option, Some, None, length, take, refl, ap, sym, subst, ◌∙◌, arith}
 use Rattle.std.proofs.lemmas.List.{append-nil, drop-append-le, drop_all, length-append, length-take, take-append-drop, take-append-le, take_all}
 use Rattle.std.specs.Prelude.{ℤ, ◌+ℤ◌, if◌then◌else◌, fold}
 use Rattle.std.specs.Option.{option_map, option_or}
@@ -9,9 +9,9 @@ use Rattle.wl_surface.specs.declared.content.Attached.{Attached}
 use Rattle.wl_surface.specs.declared.content.Offset.{Offset}
 use Rattle.wl_geom.specs.declared.rect.Rect.{Rect}
 use Rattle.wl_surface.specs.declared.role.Role.{Role}
-use Rattle.wl_surface.specs.Request.{Buffer, Request, Attach, Damage, Frame, SetOpaqueRegion, SetInputRegion, SetBufferTransform, SetWindowGeometry, Commit, AddChild, SetPosition, PlaceAbove, PlaceBelow}
-use Rattle.wl_surface.specs.State.{History, Moving, Values, asked, between, committed, committed_from, damaged_rects, first_values, pending, is_commit, moved_by, moving, offset, values, within_bounds}
-use Rattle.wl_surface.specs.Surfaces.{Surface, asking, with_role}
+use Rattle.wl_surface.specs.Request.{Request, Attach, Damage, Frame, SetOpaqueRegion, SetInputRegion, SetBufferTransform, SetWindowGeometry, Commit, AddChild, SetPosition, PlaceAbove, PlaceBelow}
+use Rattle.wl_surface.specs.State.{History, Moving, Values, apply, asked, between, committed, committed_from, damaged_rects, first_values, pending, is_commit, moved_by, moving, offset, values, within_bounds}
+use Rattle.wl_surface.specs.Surfaces.{Surface, applying, asking, with_role}
 use Rattle.wl_surface.specs.Kept.{HasMoved, IsFarther, Kept, Shows, Stands, StandsFor, held_list, latest, pair_of}
 use Rattle.wl_surface.proofs.Commits.{committed-last}
 
@@ -216,6 +216,29 @@ Stands-committed k h new s moved =
 pub For-committed : (k : Kept) (s : Surface) (new : Offset) → StandsFor k s → IsFarther k.held_offset k.pending_offset new
     → StandsFor (record k { held_buffer = k.pending_buffer; held_transform = k.pending_transform; held_opaque = option_or k.pending_opaque k.held_opaque; pending_opaque = None; held_input = option_or k.pending_input k.held_input; pending_input = None; pending_offset = None; held_offset = new; pending_damage = []; held_damage = take 1025 (k.held_damage ++ k.pending_damage) }) (asking Commit s)
 For-committed k s new t moved = record { history = Stands-committed k s.history new t.history moved; role = t.role }
+
+-- what was held is applied
+Stands-applied : (k : Kept) (h : History) → Stands k h
+    → Stands (record k { current_buffer = k.held_buffer; current_transform = k.held_transform; current_offset = k.held_offset; current_opaque = latest k.held_opaque k.current_opaque; held_opaque = None; current_input = latest k.held_input k.current_input; held_input = None; held_damage = [] }) (apply h)
+Stands-applied k h s =
+    let at = committed h.requests in
+    let short = length-take at h.requests in record {
+      pending = s.pending;
+      held = s.held;
+      current = s.held;
+      pending_move = s.pending_move;
+      pending_place = s.pending_place;
+      held_place = s.held_place;
+      current_place = s.held_place;
+      pending_damaged = s.pending_damaged;
+      held_damaged = ap (λ (rs : List Request). take 1025 (damaged_rects rs)) (sym (drop_all at (take at h.requests) (omega (arith, short))));
+      cut_within = omega arith;
+      commits_within = s.commits_within;
+    }
+
+pub For-applied : (k : Kept) (s : Surface) → StandsFor k s
+    → StandsFor (record k { current_buffer = k.held_buffer; current_transform = k.held_transform; current_offset = k.held_offset; current_opaque = latest k.held_opaque k.current_opaque; held_opaque = None; current_input = latest k.held_input k.current_input; held_input = None; held_damage = [] }) (applying s)
+For-applied k s t = record { history = Stands-applied k s.history t.history; role = t.role }
 
 -- what is asked of a surface doesn't change with its role
 pub For-role : (k : Kept) (s : Surface) (role : Role) → StandsFor k s → StandsFor (record k { role = Some role }) (with_role role s)

@@ -4,7 +4,7 @@ ghost use Rattle.std.specs.Prelude.{ℕ, ◌≡◌, ◌↔◌, ◌≢◌, ◌||�
 ghost use Rattle.std.specs.Option.{option_map, option_or};
 ghost use Rattle.wl_store.specs.Transform.{transform_of};
 ghost use Rattle.wl_surface.specs.Applied.{HasShape, IsChange, newly_damaged};
-ghost use Rattle.wl_surface.specs.Kept.{IsCurrent, IsFarther, StandsFor, buffer_of, counting_in, counting_of, kept_has, kept_shows, turned_height, turned_width};
+ghost use Rattle.wl_surface.specs.Kept.{IsCurrent, IsFarther, StandsFor, buffer_of, counting_in, counting_of, kept_has, kept_shows, latest, turned_height, turned_width};
 ghost use Rattle.wl_geom.specs.Region.{Change as RegionChange, Stands as Covers};
 ghost use Rattle.wl_surface.specs.Request.{Attach, Commit, Damage, SetBufferTransform, SetInputRegion, SetOpaqueRegion};
 ghost use Rattle.wl_surface.specs.Surfaces.{Surface as Asked, applying, asking, names, new_surface};
@@ -236,6 +236,24 @@ impl<A: Allocator> Surface<A> {
         Ok(())
     }
 
+    /// The opaque region that is held is applied, if it was set.
+    fn apply_opaque(&mut self)
+        ensures { self.new ≡ record self.old { current_opaque = latest self.old.held_opaque self.old.current_opaque; held_opaque = None } }
+    {
+        if let Some(opaque) = self.held_opaque.take() {
+            self.current_opaque = opaque;
+        }
+    }
+
+    /// The input region that is held is applied, if it was set.
+    fn apply_input(&mut self)
+        ensures { self.new ≡ record self.old { current_input = latest self.old.held_input self.old.current_input; held_input = None } }
+    {
+        if let Some(input) = self.held_input.take() {
+            self.current_input = input;
+        }
+    }
+
     /// What is held is applied, and the damage that was held is given.
     pub(crate) fn apply(&mut self, alloc: A) -> Vec<Rect, A>
         ensures stands { (s : Asked) → StandsFor self.old s → StandsFor self.new (applying s) }
@@ -245,12 +263,8 @@ impl<A: Allocator> Surface<A> {
         self.current_buffer = self.held_buffer;
         self.current_transform = self.held_transform;
         self.current_offset = self.held_offset;
-        if let Some(opaque) = self.held_opaque.take() {
-            self.current_opaque = opaque;
-        }
-        if let Some(input) = self.held_input.take() {
-            self.current_input = input;
-        }
+        self.apply_opaque();
+        self.apply_input();
         damage
     }
 
