@@ -1,0 +1,7 @@
+use Rattle.std.proofs.Common.{arith, rules}
+use Rattle.wl_proto.specs.declared.interface.Interface.TheVariants.{WlSurface}
+use Rattle.wl_proto.proofs.Past.{past}
+use Rattle.wl_proto.proofs.wl_surface.decode.Goals as goal
+
+pub returns-in_default-2 : goal.returns-in_default-2
+returns-in_default-2 c = past WlSurface c.args.version c.args.opcode c.args.body.now (omega arith)
