@@ -1,4 +1,4 @@
-use Rattle.std.proofs.Common.{subst, sym}
+use Rattle.std.proofs.Common.{subst, sym, rules}
 use Rattle.wl_proto.specs.Messages.{Message}
 use Rattle.wl_resident.specs.declared.residents.Stacking.TheVariants.{Stays}
 use Rattle.wl_resident.specs.Residents.{StacksSo}
@@ -11,3 +11,63 @@ pub returns-in-XdgSurface-clause-stacks : goal.returns-in-XdgSurface-clause-stac
 returns-in-XdgSurface-clause-stacks g c = λ m kind entry r is.
     let v = c.args.self.now in
     subst (λ (m : Message). StacksSo v r (ask_of beyond_toplevels r c.args.object c.args.version m) Stays) (sym (rw c.in-XdgSurface.is at kind)) (xdg-stays v r c.args.object c.args.version c.in-XdgSurface.request)
+
+pub returns-in-Surface-clause-rest : goal.returns-in-Surface-clause-rest
+returns-in-Surface-clause-rest g c = c.wl_surface.ensures.rest
+
+pub returns-in-Toplevel-clause-rest : goal.returns-in-Toplevel-clause-rest
+returns-in-Toplevel-clause-rest g c = c.xdg_toplevel.ensures.rest
+
+pub returns-in-Compositor-clause-rest : goal.returns-in-Compositor-clause-rest
+returns-in-Compositor-clause-rest g c = c.wl_compositor.ensures.rest
+
+pub returns-in-Seat-clause-rest : goal.returns-in-Seat-clause-rest
+returns-in-Seat-clause-rest g c = c.wl_seat.ensures.rest
+
+pub returns-in-Base-clause-rest : goal.returns-in-Base-clause-rest
+returns-in-Base-clause-rest g c = c.xdg_wm_base.ensures.rest
+
+pub returns-in-XdgSurface-clause-rest : goal.returns-in-XdgSurface-clause-rest
+returns-in-XdgSurface-clause-rest g c = c.xdg_surface.ensures.rest
+
+pub returns-in-Unserved-clause-rest : goal.returns-in-Unserved-clause-rest
+returns-in-Unserved-clause-rest g c = c.refuse_unserved.ensures.rest
+
+pub returns-in-Surface-clause-answers : goal.returns-in-Surface-clause-answers
+returns-in-Surface-clause-answers g c = search rules
+
+pub returns-in-Surface-clause-stacks : goal.returns-in-Surface-clause-stacks
+returns-in-Surface-clause-stacks g c = search rules
+
+pub returns-in-Toplevel-clause-answers : goal.returns-in-Toplevel-clause-answers
+returns-in-Toplevel-clause-answers g c = search rules
+
+pub returns-in-Toplevel-clause-stacks : goal.returns-in-Toplevel-clause-stacks
+returns-in-Toplevel-clause-stacks g c = search rules
+
+pub returns-in-Compositor-clause-answers : goal.returns-in-Compositor-clause-answers
+returns-in-Compositor-clause-answers g c = search rules
+
+pub returns-in-Compositor-clause-stacks : goal.returns-in-Compositor-clause-stacks
+returns-in-Compositor-clause-stacks g c = search rules
+
+pub returns-in-Seat-clause-answers : goal.returns-in-Seat-clause-answers
+returns-in-Seat-clause-answers g c = search rules
+
+pub returns-in-Seat-clause-stacks : goal.returns-in-Seat-clause-stacks
+returns-in-Seat-clause-stacks g c = search rules
+
+pub returns-in-Base-clause-answers : goal.returns-in-Base-clause-answers
+returns-in-Base-clause-answers g c = search rules
+
+pub returns-in-Base-clause-stacks : goal.returns-in-Base-clause-stacks
+returns-in-Base-clause-stacks g c = search rules
+
+pub returns-in-XdgSurface-clause-answers : goal.returns-in-XdgSurface-clause-answers
+returns-in-XdgSurface-clause-answers g c = search rules
+
+pub returns-in-Unserved-clause-answers : goal.returns-in-Unserved-clause-answers
+returns-in-Unserved-clause-answers g c = search rules
+
+pub returns-in-Unserved-clause-stacks : goal.returns-in-Unserved-clause-stacks
+returns-in-Unserved-clause-stacks g c = search rules

@@ -1,13 +1,16 @@
-use Rattle.std.proofs.Common.{◌≡◌, ℕ, Bool, ap, sym, ◌∙◌}
+use Rattle.std.proofs.Common.{◌≡◌, ℕ, Bool, Result, ap, subst, sym, ◌∙◌}
 use Rattle.std.specs.Prelude.{Err}
 use Rattle.wl_client.specs.Peer.{counted}
 use Rattle.wl_shell.specs.Kept.{changing, commit_answer, kept_after, kept_of}
 use Rattle.wl_shell.specs.declared.acts.ShellAct.{ShellAct}
-use Rattle.wl_plain.specs.Ask.{CommitSurface}
+use Rattle.wl_client.specs.declared.refusals.Refusal.{Refusal}
+use Rattle.wl_plain.specs.Ask.{Ask, CommitSurface}
 use Rattle.wl_plain.specs.Owning.{asks_by, effect_by, kept_base, kept_id, names_in, shell_refusal}
 use Rattle.wl_plain.specs.Step.{with_peer}
 use Rattle.wl_plain.specs.WlSurface.{surface_committed, will_show}
 use Rattle.wl_plain.proofs.OwningReads.{committed-by, pending-read}
+use Rattle.wl_resident.specs.Residents.{StacksSo}
+use Rattle.wl_resident.specs.declared.residents.Stacking.TheVariants.{Stays}
 use Rattle.wl_resident.proofs.Stackings.{commit-stacks}
 use Rattle.wl_resident.proofs.Numbers.{left-from}
 use Rattle.wl_resident.proofs.Shelling.{accepted, names-counted, objects-counted, refused, told-err}
@@ -64,3 +67,26 @@ returns-in-Ok-clause-stacks g c = λ named r is.
     ∙ ap (λ (b : Bool). asks_by (λ (a : ShellAct). CommitSurface object (effect_by a)) (shell_refusal 0 (kept_id (kept number)) 0) (commit_answer b (kept number))) (sym will)
     ∙ ap (asks_by (λ (a : ShellAct). CommitSurface object (effect_by a)) (shell_refusal 0 (kept_id (kept number)) 0)) (sym c.on_commit.ensures.answer ∙ c.in-Ok.is) in
     commit-stacks v r object number c.in-Ok.act (surface_committed r object) c.stacking_of.result named judged c.stacking_of.ensures
+
+pub returns-in-Ok-clause-rest : goal.returns-in-Ok-clause-rest
+returns-in-Ok-clause-rest g c = rw (← c.count.ensures.rest) c.apply.ensures.rest
+
+pub returns-in-Err-clause-rest : goal.returns-in-Err-clause-rest
+returns-in-Err-clause-rest g c = c.refuse_xdg_surface.ensures.rest
+
+pub returns-in-Err-clause-stacks : goal.returns-in-Err-clause-stacks
+returns-in-Err-clause-stacks g c = λ named r is.
+    let v = c.args.self.now in
+    let object = c.args.object in
+    let number = c.args.surface in
+    let error = c.in-Err.error in
+    let names = names_in v.client.objects in
+    let kept = kept_of v.owned.shell in
+    let xdg = c.xdg_surface_of-xdg_surface.result in
+    let base = kept_base (kept_of c.on_commit.new.self number) in
+    let will : c.is_some-has_buffer.result ≡ will_show r object = c.is_some-has_buffer.ensures ∙ pending-read names v.owned.surfaces kept r is.owns object number c.pending_buffer.result named c.pending_buffer.ensures in
+    let same : kept_id (kept number) ≡ xdg = sym (c.xdg_surface_of-xdg_surface.ensures ∙ ap (λ b. kept_id (kept_of b number)) c.in-Err.ensures.err) in
+    let judged = told-err (surface_committed r object) (λ (a : ShellAct). CommitSurface object (effect_by a)) (shell_refusal base (kept_id (kept number)) xdg) (commit_answer (will_show r object) (kept number)) c.on_commit.result error
+    (committed-by names v.owned.surfaces kept r is.owns object number base xdg named)
+    (c.on_commit.ensures.answer ∙ ap (λ (b : Bool). commit_answer b (kept number)) will) c.in-Err.is in
+    subst (λ (j : Result Ask Refusal). StacksSo v r j Stays) (sym judged) tt

@@ -1,4 +1,5 @@
-use Rattle.std.proofs.Common.{ap, refl, sym, ◌∙◌}
+use Rattle.std.proofs.lemmas.Grind.{common_steps}
+use Rattle.std.proofs.Common.{arith, ap, refl, sym, ◌∙◌, rules}
 use Rattle.wl_client.specs.View.{ClientView}
 use Rattle.wl_surface.specs.Surfaces.{is_used}
 use Rattle.wl_table.specs.Objects.{entry_of}
@@ -34,3 +35,27 @@ returns-in-Own-clause-takes g c = λ r is.
     let taken = own-taken v.client c.serve-served.result (absent-kept v.client.ended (sym c.has_ended.ensures ∙ c.if-has_ended.false)) asked c.serve-served.ensures.more c.serve-served.ensures.other in
     let served = c.serve-served.ensures.serves taken (λ number. is_used number r.owned.surfaces) (used-of v r is) r.peer is.peer in
     own-served v _ r served.0 is asked refl c.serve-served.ensures.table served.1 served.2
+
+pub returns-in-Refused-clause-lives : goal.returns-in-Refused-clause-lives
+returns-in-Refused-clause-lives g c = search rules
+
+pub returns-in-Refused-clause-less : goal.returns-in-Refused-clause-less
+returns-in-Refused-clause-less g c = search rules
+
+pub returns-in-Own-clause-lives : goal.returns-in-Own-clause-lives
+returns-in-Own-clause-lives g c = search rules
+
+pub returns-in-Own-clause-less : goal.returns-in-Own-clause-less
+returns-in-Own-clause-less g c = search rules
+
+pub returns-in-Request-clause-lives : goal.returns-in-Request-clause-lives
+returns-in-Request-clause-lives g c = search rules
+
+pub returns-in-Request-clause-less : goal.returns-in-Request-clause-less
+returns-in-Request-clause-less g c = grind (arith, common_steps)
+
+pub returns-in-More-clause-idle : goal.returns-in-More-clause-idle
+returns-in-More-clause-idle g c = search rules
+
+pub returns-then-has_ended-clause-idle : goal.returns-then-has_ended-clause-idle
+returns-then-has_ended-clause-idle g c = search rules

@@ -1,4 +1,4 @@
-use Rattle.std.proofs.Common.{refl, sym, ◌∙◌, ◌≡◌}
+use Rattle.std.proofs.Common.{refl, sym, ◌∙◌, ◌≡◌, rules}
 use Rattle.wl_wire.specs.Wire.{split_of}
 use Rattle.wl_wire.specs.declared.header.Split.TheVariants.{More}
 use Rattle.wl_resident.proofs.Asking.{idle-more, idle-unmarked}
@@ -38,3 +38,9 @@ returns-clause-marks g c = λ some others base d r unlinked before e q serves af
     (record { marks = first.marks; more = first.more; sides = first.sides })
     c.settle.ensures.marks
     (record { marks = second.marks; more = second.more; sides = second.sides })
+
+pub returns-clause-less : goal.returns-clause-less
+returns-clause-less g c = search rules
+
+pub returns-then-has_ended-clause-idle : goal.returns-then-has_ended-clause-idle
+returns-then-has_ended-clause-idle g c = search rules

@@ -56,3 +56,63 @@ returns-in-SetInputRegion-clause-answers g c = λ named r is.
     rw c.in-SetInputRegion.is
     (counted-does v (record { client = count.new.self; owned = v.owned }) c.set_input_region.new.self r (λ (q : Resident). AskSurface id (SetInputRegion (region_named q region))) is count.ensures.only refl (count.ensures.counts r.peer is.peer)
     (c.set_input_region.ensures.does (surface-counted v.client count.new.self id c.args.surface count.ensures.only named)))
+
+pub returns-in-Attach-clause-rest : goal.returns-in-Attach-clause-rest
+returns-in-Attach-clause-rest g c = rw (← c.count.ensures.rest) c.attach.ensures.rest
+
+pub returns-in-Damage-clause-rest : goal.returns-in-Damage-clause-rest
+returns-in-Damage-clause-rest g c = rw (← c.count-in-Damage.ensures.rest) c.damage.ensures.rest
+
+pub returns-in-SetOpaqueRegion-clause-rest : goal.returns-in-SetOpaqueRegion-clause-rest
+returns-in-SetOpaqueRegion-clause-rest g c = rw (← c.count-in-SetOpaqueRegion.ensures.rest) c.set_opaque_region.ensures.rest
+
+pub returns-in-SetInputRegion-clause-rest : goal.returns-in-SetInputRegion-clause-rest
+returns-in-SetInputRegion-clause-rest g c = rw (← c.count-in-SetInputRegion.ensures.rest) c.set_input_region.ensures.rest
+
+pub returns-in-Commit-clause-rest : goal.returns-in-Commit-clause-rest
+returns-in-Commit-clause-rest g c = c.commit.ensures.rest
+
+pub returns-in-Destroy-clause-rest : goal.returns-in-Destroy-clause-rest
+returns-in-Destroy-clause-rest g c = c.destroy.ensures.rest
+
+pub returns-in-Frame-clause-rest : goal.returns-in-Frame-clause-rest
+returns-in-Frame-clause-rest g c = c.refuse_unserved.ensures.rest
+
+pub returns-in-SetBufferTransform-clause-rest : goal.returns-in-SetBufferTransform-clause-rest
+returns-in-SetBufferTransform-clause-rest g c = c.transform.ensures.rest
+
+pub returns-in-Commit-clause-stacks : goal.returns-in-Commit-clause-stacks
+returns-in-Commit-clause-stacks g c = search rules
+
+pub returns-in-Destroy-clause-stacks : goal.returns-in-Destroy-clause-stacks
+returns-in-Destroy-clause-stacks g c = search rules
+
+pub returns-in-Attach-clause-stacks : goal.returns-in-Attach-clause-stacks
+returns-in-Attach-clause-stacks g c = search rules
+
+pub returns-in-Damage-clause-stacks : goal.returns-in-Damage-clause-stacks
+returns-in-Damage-clause-stacks g c = search rules
+
+pub returns-in-Frame-clause-stacks : goal.returns-in-Frame-clause-stacks
+returns-in-Frame-clause-stacks g c = search rules
+
+pub returns-in-SetOpaqueRegion-clause-stacks : goal.returns-in-SetOpaqueRegion-clause-stacks
+returns-in-SetOpaqueRegion-clause-stacks g c = search rules
+
+pub returns-in-SetInputRegion-clause-stacks : goal.returns-in-SetInputRegion-clause-stacks
+returns-in-SetInputRegion-clause-stacks g c = search rules
+
+pub returns-in-SetBufferTransform-clause-stacks : goal.returns-in-SetBufferTransform-clause-stacks
+returns-in-SetBufferTransform-clause-stacks g c = search rules
+
+pub returns-in-Commit-clause-answers : goal.returns-in-Commit-clause-answers
+returns-in-Commit-clause-answers g c = search rules
+
+pub returns-in-Destroy-clause-answers : goal.returns-in-Destroy-clause-answers
+returns-in-Destroy-clause-answers g c = search rules
+
+pub returns-in-Frame-clause-answers : goal.returns-in-Frame-clause-answers
+returns-in-Frame-clause-answers g c = search rules
+
+pub returns-in-SetBufferTransform-clause-answers : goal.returns-in-SetBufferTransform-clause-answers
+returns-in-SetBufferTransform-clause-answers g c = search rules
