@@ -8,8 +8,5 @@ overflow_add-exact c = search rules
 pub returns-then-exact : goal.returns-then-exact
 returns-then-exact c = search rules
 
-pub returns-then-exact-gt-BOUND : goal.returns-then-exact-gt-BOUND
-returns-then-exact-gt-BOUND c = search rules
-
 pub returns : goal.returns
 returns c = grind (arith, common_steps)
