@@ -28,158 +28,154 @@ fn same<A: Allocator, B: Allocator>(a: &Region<A>, b: &Region<B>) -> bool {
     a.changes() == b.changes() && a.rects() == b.rects()
 }
 
+// Whether the region is four by four points with a hole of two by two.
+fn has_a_hole<A: Allocator>(region: &Region<A>) -> bool {
+    region.changes() == 2
+        && region.contains(0, 0)
+        && region.contains(3, 3)
+        && !region.contains(1, 1)
+        && !region.contains(2, 2)
+        && !region.contains(4, 0)
+        && !region.contains(-1, 0)
+}
+
 #[test]
 fn a_region_with_a_hole_and_its_copy(rt: HostRuntime) -> Result<(), Fail> {
     let mut region = Region::new(rt.alloc());
     assert!(rt; !region.contains(0, 0));
-    region.add(FOUR_BY_FOUR)?;
-    region.subtract(HOLE)?;
+    assert!(rt; region.add(FOUR_BY_FOUR) == Ok(()) && region.subtract(HOLE) == Ok(()));
     let copy = region.copy()?;
-    for each in [&region, &copy] {
-        assert!(rt; each.contains(0, 0) && each.contains(3, 3));
-        assert!(rt; !each.contains(1, 1) && !each.contains(2, 2));
-        assert!(rt; !each.contains(4, 0) && !each.contains(-1, 0));
-        assert_eq!(rt; each.changes(), 2);
-    }
-    assert!(rt; same(&region, &copy));
+    assert!(rt; has_a_hole(&region) && has_a_hole(&copy) && same(&region, &copy));
     assert!(rt; FOUR_BY_FOUR.contains(3, 0) && !FOUR_BY_FOUR.contains(4, 0));
     Ok(())
 }
 
 // What passes the last coordinate is dropped, and a point past it can't be asked for.
 #[test]
-fn the_last_column(rt: HostRuntime) -> Result<(), Fail> {
+fn the_last_column(rt: HostRuntime) {
     let mut region = Region::new(rt.alloc());
-    region.add(FAR)?;
+    assert!(rt; region.add(FAR) == Ok(()));
     assert!(rt; region.contains(2_147_483_647, -2_147_483_648));
     assert!(rt; !region.contains(-2_147_483_648, -2_147_483_648));
     let kept: &[Rect] = &[Rect { w: 2, ..FAR }];
-    assert_eq!(rt; region.rects(), kept);
-    Ok(())
+    assert!(rt; region.rects() == kept);
+}
+
+// Adds five rectangles that are 10 wide, with a row between each two.
+fn adds_five<A: Allocator + Copy>(region: &mut Region<A>) -> bool {
+    for row in 0..5_i32 {
+        let rect = Rect {
+            x: 0,
+            y: 2 * row,
+            w: 10,
+            h: 1,
+        };
+        if region.add(rect) != Ok(()) {
+            return false;
+        }
+    }
+    region.rects().len() == 5
+}
+
+// A column of points that is 50 high.
+fn column(x: i32, w: i32) -> Rect {
+    Rect { x, y: 0, w, h: 50 }
 }
 
 // Changes that don't meet a rectangle leave it whole.
+fn stays_five<A: Allocator + Copy>(region: &mut Region<A>) -> bool {
+    region.subtract(column(20, 5)) == Ok(())
+        && region.rects().len() == 5
+        && region.subtract(column(0, 3)) == Ok(())
+        && region.rects().len() == 5
+        && region.add(column(-1, 0)) == Ok(())
+        && region.rects().len() == 5
+        && region.changes() == 8
+}
+
 #[test]
-fn rectangles_that_are_not_met_stay_whole(rt: HostRuntime) -> Result<(), Fail> {
+fn rectangles_that_are_not_met_stay_whole(rt: HostRuntime) {
     let mut region = Region::new(rt.alloc());
-    for y in [0, 2, 4, 6, 8] {
-        region.add(Rect {
-            x: 0,
-            y,
-            w: 10,
-            h: 1,
-        })?;
+    assert!(rt; adds_five(&mut region) && stays_five(&mut region));
+}
+
+// Makes 512 changes, adds and subtracts by turns.
+fn makes_512<A: Allocator + Copy>(region: &mut Region<A>) -> bool {
+    for made in 0..512_u32 {
+        let done = if made % 2 == 0 {
+            region.add(FOUR_BY_FOUR)
+        } else {
+            region.subtract(HOLE)
+        };
+        if done != Ok(()) || region.changes() != made + 1 {
+            return false;
+        }
     }
-    region.subtract(Rect {
-        x: 20,
-        y: 0,
-        w: 5,
-        h: 50,
-    })?;
-    assert_eq!(rt; region.rects().len(), 5);
-    region.subtract(Rect {
-        x: 0,
-        y: 0,
-        w: 3,
-        h: 50,
-    })?;
-    assert_eq!(rt; region.rects().len(), 5);
-    region.add(Rect {
-        x: -1,
-        y: 0,
-        w: 0,
-        h: 9,
-    })?;
-    assert_eq!(rt; region.rects().len(), 5);
-    assert_eq!(rt; region.changes(), 8);
-    Ok(())
+    true
 }
 
 #[test]
 fn the_513th_change_is_one_too_many(rt: HostRuntime) -> Result<(), Fail> {
     let mut region = Region::new(rt.alloc());
-    for made in 0..512_u32 {
-        assert_eq!(rt; region.changes(), made);
-        if made % 2 == 0 {
-            region.add(FOUR_BY_FOUR)?;
-        } else {
-            region.subtract(HOLE)?;
-        }
-    }
+    assert!(rt; makes_512(&mut region));
     let before = region.copy()?;
-    assert_eq!(rt; region.add(HOLE), Err(RegionError::TooMany));
-    assert_eq!(rt; region.subtract(FOUR_BY_FOUR), Err(RegionError::TooMany));
+    assert!(rt; region.add(HOLE) == Err(RegionError::TooMany));
+    assert!(rt; region.subtract(FOUR_BY_FOUR) == Err(RegionError::TooMany));
     assert!(rt; same(&region, &before));
     Ok(())
 }
 
-/// Which calls were refused.
-#[derive(Clone, Copy, Debug, PartialEq, Eq)]
-struct Refused {
-    add: bool,
-    subtract: bool,
-    copy: bool,
-}
-
-const NONE: Refused = Refused {
-    add: false,
-    subtract: false,
-    copy: false,
-};
-
-// Two adds, a subtract and a copy on a region and on one that meets no refusal, up to the first that
-// is refused. None where the two differ, or where the answer isn't Memory.
-fn scene<A: Allocator + Copy, B: Allocator + Copy>(
-    region: &mut Region<A>,
-    known: &mut Region<B>,
-) -> Option<Refused> {
-    for rect in [FOUR_BY_FOUR, FAR] {
-        match region.add(rect) {
-            Ok(()) => known.add(rect).ok()?,
-            Err(RegionError::Memory) => return Some(Refused { add: true, ..NONE }),
-            Err(RegionError::TooMany) => return None,
-        }
+// How many of three changes and a copy are done where so many allocations are served. None where the one that is refused isn't
+// refused for want of memory, or doesn't leave the region as it was.
+fn done_before_a_refusal<B: Allocator + Copy>(alloc: B, served: u64) -> Option<u32> {
+    let heap = Refusing::new(alloc, served);
+    let mut region = Region::new(&heap);
+    let mut known = Region::new(alloc);
+    let done = change(&mut region, 3)?;
+    if change(&mut known, done)? != done || !same(&region, &known) {
+        return None;
     }
-    match region.subtract(HOLE) {
-        Ok(()) => known.subtract(HOLE).ok()?,
-        Err(RegionError::Memory) => {
-            return Some(Refused {
-                subtract: true,
-                ..NONE
-            });
-        }
-        Err(RegionError::TooMany) => return None,
+    if done < 3 {
+        return Some(done);
     }
     match region.copy() {
-        Ok(copy) if same(&copy, known) => Some(NONE),
-        Err(RegionError::Memory) => Some(Refused { copy: true, ..NONE }),
+        Ok(copy) if same(&copy, &known) && !heap.refused() => Some(4),
+        Err(RegionError::Memory) if same(&region, &known) => Some(3),
         _ => None,
     }
 }
 
+// Does the first so many of two adds and a subtract, up to the first that is refused: how many were done.
+fn change<A: Allocator + Copy>(region: &mut Region<A>, most: u32) -> Option<u32> {
+    for done in 0..most {
+        let changed = match done {
+            0 => region.add(FOUR_BY_FOUR),
+            1 => region.add(FAR),
+            _ => region.subtract(HOLE),
+        };
+        match changed {
+            Ok(()) => {}
+            Err(RegionError::Memory) => return Some(done),
+            Err(RegionError::TooMany) => return None,
+        }
+    }
+    Some(most)
+}
+
 // Each allocation is refused in turn, and the refused call leaves the region as it was.
 #[test]
-fn each_refusal_leaves_a_region_as_it_was(rt: HostRuntime) -> Result<(), Fail> {
-    let mut met = NONE;
+fn each_refusal_leaves_a_region_as_it_was(rt: HostRuntime) {
+    let mut adds = false;
+    let mut subtracts = false;
+    let mut copies = false;
     for served in 0..1000_u64 {
-        let heap = Refusing::new(rt.alloc(), served);
-        let mut region = Region::new(&heap);
-        let mut known = Region::new(rt.alloc());
-        let came = scene(&mut region, &mut known);
-        assert!(rt; same(&region, &known), "{served}");
-        let Some(refused) = came else {
-            return Err(Fail::from("a call answered what it can't"));
-        };
-        assert_eq!(rt; heap.refused(), refused != NONE, "{served}");
-        if refused == NONE {
-            break;
+        match done_before_a_refusal(rt.alloc(), served) {
+            Some(0 | 1) => adds = true,
+            Some(2) => subtracts = true,
+            Some(3) => copies = true,
+            Some(_) => break,
+            None => assert!(rt; false, "{served}"),
         }
-        met = Refused {
-            add: met.add || refused.add,
-            subtract: met.subtract || refused.subtract,
-            copy: met.copy || refused.copy,
-        };
     }
-    assert!(rt; met.add && met.subtract && met.copy, "{met:?}");
-    Ok(())
+    assert!(rt; adds && subtracts && copies);
 }

@@ -1,10 +1,10 @@
 use std::alloc::Allocator;
 use std::test::Fail;
 use test_support::Refusing;
-use wl_scene::{Owned, Scene, Surface, Toplevel, Window};
+use wl_scene::{Owned, Scene, Surface, Window};
 use wl_shell::Shell;
 use wl_store::{Format, Layout};
-use wl_surface::{Attached, SurfaceError, SurfaceNo, Surfaces};
+use wl_surface::{Attached, SurfaceError, Surfaces};
 
 const FIRST: Surface = Surface {
     client: 1,
@@ -22,74 +22,89 @@ const THIRD: Surface = Surface {
 };
 
 fn stands<A: Allocator>(scene: &Scene<A>, k: usize, surface: Surface, x: i32, y: i32) -> bool {
-    scene
-        .toplevels()
-        .get(k)
-        .is_some_and(|toplevel| is_there(toplevel, surface, x, y))
+    match scene.toplevels().get(k) {
+        Some(toplevel) => toplevel.surface == surface && toplevel.x == x && toplevel.y == y,
+        None => false,
+    }
 }
 
-fn is_there(toplevel: &Toplevel, surface: Surface, x: i32, y: i32) -> bool {
-    toplevel.surface == surface && toplevel.x == x && toplevel.y == y
-}
-
-#[test]
-fn each_mapping_takes_the_next_place(rt: HostRuntime) -> Result<(), Fail> {
-    let mut scene = Scene::new(rt.alloc());
+// Maps nine surfaces, each in the next place of the cascade.
+fn maps_nine<A: Allocator + Copy>(scene: &mut Scene<A>) -> bool {
     for k in 0..9_usize {
         let surface = Surface {
             client: 1,
             surface: k,
         };
-        scene.map(surface)?;
-    }
-    assert_eq!(rt; scene.toplevels().len(), 9);
-    for toplevel in scene.toplevels() {
-        let at = 32 * (toplevel.surface.surface % 8) as i32;
-        assert!(rt; toplevel.x == at && toplevel.y == at);
-    }
-    Ok(())
-}
-
-#[test]
-fn a_toplevel_is_raised_moved_and_unmapped(rt: HostRuntime) -> Result<(), Fail> {
-    let mut scene = Scene::new(rt.alloc());
-    scene.map(FIRST)?;
-    scene.map(SECOND)?;
-    scene.map(THIRD)?;
-    scene.raise(FIRST);
-    assert!(rt; stands(&scene, 0, SECOND, 32, 32));
-    assert!(rt; stands(&scene, 1, THIRD, 64, 64));
-    assert!(rt; stands(&scene, 2, FIRST, 0, 0));
-    scene.move_to(THIRD, -5, 7);
-    assert!(rt; stands(&scene, 1, THIRD, -5, 7));
-    assert!(rt; stands(&scene, 2, FIRST, 0, 0));
-    scene.unmap(SECOND);
-    scene.unmap(SECOND);
-    assert_eq!(rt; scene.toplevels().len(), 2);
-    assert!(rt; stands(&scene, 0, THIRD, -5, 7));
-    scene.map(SECOND)?;
-    assert!(rt; stands(&scene, 2, SECOND, 96, 96));
-    Ok(())
-}
-
-#[test]
-fn a_mapping_without_memory_changes_nothing(rt: HostRuntime) -> Result<(), Fail> {
-    let heap = Refusing::new(rt.alloc(), 1);
-    let mut scene = Scene::new(&heap);
-    for surface in 0..1000_usize {
-        if scene.map(Surface { client: 1, surface }).is_err() {
-            break;
+        let at = 32 * (k % 8) as i32;
+        if scene.map(surface).is_err() || !stands(scene, k, surface, at, at) {
+            return false;
         }
     }
-    let mapped = scene.toplevels().len();
-    assert!(rt; 0 < mapped && mapped < 1000);
-    assert!(rt; scene.map(SECOND).is_err());
-    assert_eq!(rt; scene.toplevels().len(), mapped);
+    scene.toplevels().len() == 9
+}
+
+#[test]
+fn each_mapping_takes_the_next_place(rt: HostRuntime) {
+    let mut scene = Scene::new(rt.alloc());
+    assert!(rt; maps_nine(&mut scene));
+}
+
+fn maps_three<A: Allocator + Copy>(scene: &mut Scene<A>) -> bool {
+    scene.map(FIRST).is_ok() && scene.map(SECOND).is_ok() && scene.map(THIRD).is_ok()
+}
+
+fn raises_the_first<A: Allocator + Copy>(scene: &mut Scene<A>) -> bool {
+    scene.raise(FIRST);
+    stands(scene, 0, SECOND, 32, 32)
+        && stands(scene, 1, THIRD, 64, 64)
+        && stands(scene, 2, FIRST, 0, 0)
+}
+
+fn moves_the_third<A: Allocator + Copy>(scene: &mut Scene<A>) -> bool {
+    scene.move_to(THIRD, -5, 7);
+    stands(scene, 1, THIRD, -5, 7) && stands(scene, 2, FIRST, 0, 0)
+}
+
+fn unmaps_the_second<A: Allocator + Copy>(scene: &mut Scene<A>) -> bool {
+    scene.unmap(SECOND);
+    scene.unmap(SECOND);
+    scene.toplevels().len() == 2
+        && stands(scene, 0, THIRD, -5, 7)
+        && scene.map(SECOND).is_ok()
+        && stands(scene, 2, SECOND, 96, 96)
+}
+
+#[test]
+fn a_toplevel_is_raised_moved_and_unmapped(rt: HostRuntime) {
+    let mut scene = Scene::new(rt.alloc());
+    assert!(rt; maps_three(&mut scene) && raises_the_first(&mut scene));
+    assert!(rt; moves_the_third(&mut scene) && unmaps_the_second(&mut scene));
+}
+
+// Maps surfaces up to the first that is refused: how many were mapped.
+fn mapped<A: Allocator + Copy>(scene: &mut Scene<A>) -> usize {
+    for surface in 0..1000_usize {
+        if scene.map(Surface { client: 1, surface }).is_err() {
+            return surface;
+        }
+    }
+    1000
+}
+
+// Whether nothing more is mapped, and as many as before stay.
+fn maps_no_more<A: Allocator + Copy>(scene: &mut Scene<A>, mapped: usize) -> bool {
+    scene.map(SECOND).is_err() && scene.toplevels().len() == mapped
+}
+
+#[test]
+fn a_mapping_without_memory_changes_nothing(rt: HostRuntime) {
+    let heap = Refusing::new(rt.alloc(), 1);
+    let mut scene = Scene::new(&heap);
+    let served = mapped(&mut scene);
+    assert!(rt; 0 < served && served < 1000 && maps_no_more(&mut scene, served));
     let nothing = Refusing::new(rt.alloc(), 0);
     let mut empty = Scene::new(&nothing);
-    assert!(rt; empty.map(FIRST).is_err());
-    assert_eq!(rt; empty.toplevels().len(), 0);
-    Ok(())
+    assert!(rt; maps_no_more(&mut empty, 0));
 }
 
 const LARGE: Layout = Layout {
@@ -108,80 +123,91 @@ const SMALL: Layout = Layout {
     format: Format::Argb8888,
 };
 
-// A client with a surface that shows a buffer, has moved by (x, y) and is turned so.
+// A client whose surface 0 shows a buffer, has moved by (x, y) and is turned so.
 fn owning<A: Allocator + Copy>(
     alloc: A,
     layout: Layout,
     by: (i32, i32),
     transform: i32,
-) -> Result<(Owned<A>, SurfaceNo), SurfaceError> {
+) -> Result<Owned<A>, SurfaceError> {
+    let mut surfaces = Surfaces::new(alloc);
+    show(&mut surfaces, layout, by, transform)?;
+    let shell = Shell::new(alloc);
+    Ok(Owned { surfaces, shell })
+}
+
+fn show<A: Allocator + Copy>(
+    surfaces: &mut Surfaces<A>,
+    layout: Layout,
+    by: (i32, i32),
+    transform: i32,
+) -> Result<(), SurfaceError> {
     let buffer = Attached {
         number: 1,
         object: 7,
         store: 1,
         layout,
     };
-    let mut surfaces = Surfaces::new(alloc);
-    let surface = surfaces.create()?;
-    surfaces.attach(surface, Some(buffer), by.0, by.1);
-    surfaces.set_transform(surface, transform)?;
-    surfaces.commit(surface)?;
-    let shell = Shell::new(alloc);
-    Ok((Owned { surfaces, shell }, surface))
+    surfaces.create()?;
+    surfaces.attach(0, Some(buffer), by.0, by.1);
+    surfaces.set_transform(0, transform)?;
+    surfaces.commit(0)?;
+    Ok(())
+}
+
+fn is_window<A: Allocator>(
+    scene: &Scene<A>,
+    lent: &[Option<Owned<A>>],
+    k: usize,
+    wanted: Window,
+) -> bool {
+    k < scene.len(lent) && scene.window(lent, k) == wanted
+}
+
+// Maps surfaces 0 of clients 1, 3 and 2, of which 2 lends nothing.
+fn maps_clients<A: Allocator + Copy>(scene: &mut Scene<A>) -> bool {
+    scene.map(of(1)).is_ok() && scene.map(of(3)).is_ok() && scene.map(of(2)).is_ok()
+}
+
+fn of(client: u32) -> Surface {
+    Surface { client, surface: 0 }
+}
+
+fn has_windows<A: Allocator>(scene: &Scene<A>, lent: &[Option<Owned<A>>]) -> bool {
+    let lower = Window {
+        surface: of(1),
+        x: 3,
+        y: -5,
+        w: 40,
+        h: 30,
+    };
+    let upper = Window {
+        surface: of(3),
+        x: 16_777_216,
+        y: 32,
+        w: 10,
+        h: 20,
+    };
+    let gone = Window {
+        surface: of(2),
+        x: 64,
+        y: 64,
+        w: 0,
+        h: 0,
+    };
+    scene.len(lent) == 3
+        && is_window(scene, lent, 0, lower)
+        && is_window(scene, lent, 1, upper)
+        && is_window(scene, lent, 2, gone)
 }
 
 #[test]
 fn the_windows_of_two_clients(rt: HostRuntime) -> Result<(), Fail> {
     let alloc = rt.alloc();
-    let (first, below) = owning(alloc, LARGE, (3, -5), 0)?;
-    let (third, above) = owning(alloc, SMALL, (16_777_216, 0), 1)?;
+    let first = owning(alloc, LARGE, (3, -5), 0)?;
+    let third = owning(alloc, SMALL, (16_777_216, 0), 1)?;
     let lent = [Some(first), None, Some(third)];
     let mut scene = Scene::new(alloc);
-    let lower = Surface {
-        client: 1,
-        surface: below,
-    };
-    let upper = Surface {
-        client: 3,
-        surface: above,
-    };
-    let gone = Surface {
-        client: 2,
-        surface: 0,
-    };
-    scene.map(lower)?;
-    scene.map(upper)?;
-    scene.map(gone)?;
-    assert_eq!(rt; scene.len(&lent), 3);
-    assert_eq!(rt;
-        scene.window(&lent, 0),
-        Window {
-            surface: lower,
-            x: 3,
-            y: -5,
-            w: 40,
-            h: 30
-        }
-    );
-    assert_eq!(rt;
-        scene.window(&lent, 1),
-        Window {
-            surface: upper,
-            x: 16_777_216,
-            y: 32,
-            w: 10,
-            h: 20
-        }
-    );
-    assert_eq!(rt;
-        scene.window(&lent, 2),
-        Window {
-            surface: gone,
-            x: 64,
-            y: 64,
-            w: 0,
-            h: 0
-        }
-    );
+    assert!(rt; maps_clients(&mut scene) && has_windows(&scene, &lent));
     Ok(())
 }

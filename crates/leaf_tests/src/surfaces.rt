@@ -1,5 +1,4 @@
 use std::alloc::Allocator;
-use std::test::Fail;
 use test_support::Refusing;
 use wl_geom::{Rect, Region};
 use wl_store::{Transform, layout};
@@ -14,70 +13,68 @@ const FOUR_BY_FOUR: Rect = Rect {
     h: 4,
 };
 
-// A buffer of 5 by 8 pixels.
-fn buffer(number: BufferNo) -> Option<Attached> {
-    let layout = layout(160, 0, 5, 8, 20, 1).ok()?;
-    Some(Attached {
-        number,
-        object: 90,
-        store: 1,
-        layout,
-    })
+// Attaches a buffer of 5 by 8 pixels at an offset.
+fn attach<A: Allocator + Copy>(
+    surfaces: &mut Surfaces<A>,
+    surface: SurfaceNo,
+    number: BufferNo,
+    x: i32,
+    y: i32,
+) {
+    if let Ok(layout) = layout(160, 0, 5, 8, 20, 1) {
+        let buffer = Attached {
+            number,
+            object: 90,
+            store: 1,
+            layout,
+        };
+        surfaces.attach(surface, Some(buffer), x, y);
+    }
 }
 
-// Whether buffer 7 is used, whether it is busy, and whether the surface has content.
-fn reads<A: Allocator>(surfaces: &Surfaces<A>, surface: SurfaceNo) -> (bool, bool, bool) {
-    (
-        surfaces.is_used(7),
-        surfaces.is_busy(7),
-        surfaces.has_content(surface),
-    )
+// Whether buffer 7 is used so, is busy so, and the surface has content so.
+fn reads<A: Allocator>(
+    surfaces: &Surfaces<A>,
+    surface: SurfaceNo,
+    is_used: bool,
+    is_busy: bool,
+    has_content: bool,
+) -> bool {
+    surfaces.is_used(7) == is_used
+        && surfaces.is_busy(7) == is_busy
+        && surfaces.has_content(surface) == has_content
+}
+
+fn number(buffer: Option<Attached>) -> Option<BufferNo> {
+    Some(buffer?.number)
 }
 
 fn pending<A: Allocator>(surfaces: &Surfaces<A>, surface: SurfaceNo) -> Option<BufferNo> {
-    Some(surfaces.pending_buffer(surface)?.number)
+    number(surfaces.pending_buffer(surface))
 }
 
-// The buffers that are pending, held and applied.
-fn had<A: Allocator>(
-    surfaces: &Surfaces<A>,
-    surface: SurfaceNo,
-) -> (Option<BufferNo>, Option<BufferNo>, Option<BufferNo>) {
-    let [pending, held, applied] = surfaces.buffers(surface);
-    (
-        pending.map(|buffer| buffer.number),
-        held.map(|buffer| buffer.number),
-        applied.map(|buffer| buffer.number),
-    )
-}
-
-fn shown<A: Allocator>(surfaces: &Surfaces<A>, surface: SurfaceNo) -> Option<BufferNo> {
-    Some(surfaces.current(surface)?.buffer?.number)
-}
-
-fn size<A: Allocator>(surfaces: &Surfaces<A>, surface: SurfaceNo) -> Option<(u32, u32)> {
+// The buffer that is shown, and the surface's size.
+fn shown<A: Allocator>(surfaces: &Surfaces<A>, surface: SurfaceNo) -> Option<(BufferNo, u32, u32)> {
     let current = surfaces.current(surface)?;
-    Some((current.w, current.h))
-}
-
-fn transform<A: Allocator>(surfaces: &Surfaces<A>, surface: SurfaceNo) -> Option<Transform> {
-    Some(surfaces.current(surface)?.transform)
+    Some((current.buffer?.number, current.w, current.h))
 }
 
 fn is_at<A: Allocator>(surfaces: &Surfaces<A>, surface: SurfaceNo, x: i32, y: i32) -> bool {
-    surfaces
-        .current(surface)
-        .is_some_and(|current| current.offset == Offset { x, y })
-}
-
-fn is_opaque<A: Allocator>(surfaces: &Surfaces<A>, surface: SurfaceNo, x: i32, y: i32) -> bool {
-    surfaces
-        .current(surface)
-        .is_some_and(|current| current.opaque.contains(x, y))
-}
-
-fn takes_input<A: Allocator>(surfaces: &Surfaces<A>, surface: SurfaceNo, x: i32, y: i32) -> bool {
     match surfaces.current(surface) {
+        Some(current) => current.offset == Offset { x, y },
+        None => false,
+    }
+}
+
+fn is_opaque<A: Allocator>(surfaces: &Surfaces<A>, x: i32, y: i32) -> bool {
+    match surfaces.current(0) {
+        Some(current) => current.opaque.contains(x, y),
+        None => false,
+    }
+}
+
+fn takes_input<A: Allocator>(surfaces: &Surfaces<A>, x: i32, y: i32) -> bool {
+    match surfaces.current(0) {
         Some(current) => match current.input {
             Some(region) => region.contains(x, y),
             None => true,
@@ -86,372 +83,470 @@ fn takes_input<A: Allocator>(surfaces: &Surfaces<A>, surface: SurfaceNo, x: i32,
     }
 }
 
+// Whether a commit was done. What it tells is looked at in `a_commit_tells_what_it_changes`.
+fn commits<A: Allocator + Copy>(surfaces: &mut Surfaces<A>, surface: SurfaceNo) -> bool {
+    surfaces.commit(surface).is_ok()
+}
+
+fn destroys<A: Allocator + Copy>(surfaces: &mut Surfaces<A>, surface: SurfaceNo) -> bool {
+    surfaces.destroy(surface).is_ok()
+}
+
+// Whether surface 0 shows buffer 7 only from the commit after its attach on.
+fn is_shown_by_a_commit<A: Allocator + Copy>(surfaces: &mut Surfaces<A>) -> bool {
+    if !reads(surfaces, 0, false, false, false) {
+        return false;
+    }
+    attach(surfaces, 0, 7, 0, 0);
+    reads(surfaces, 0, true, false, true)
+        && pending(surfaces, 0) == Some(7)
+        && shown(surfaces, 0).is_none()
+        && commits(surfaces, 0)
+        && reads(surfaces, 0, true, true, true)
+        && shown(surfaces, 0) == Some((7, 5, 8))
+}
+
+fn is_gone_by_a_commit<A: Allocator + Copy>(surfaces: &mut Surfaces<A>) -> bool {
+    surfaces.attach(0, None, 0, 0);
+    reads(surfaces, 0, true, true, true)
+        && pending(surfaces, 0).is_none()
+        && shown(surfaces, 0) == Some((7, 5, 8))
+        && commits(surfaces, 0)
+        && reads(surfaces, 0, false, false, false)
+        && has_no_size(surfaces)
+}
+
+fn has_no_size<A: Allocator>(surfaces: &Surfaces<A>) -> bool {
+    match surfaces.current(0) {
+        Some(current) => current.buffer.is_none() && current.w == 0 && current.h == 0,
+        None => false,
+    }
+}
+
 #[test]
-fn a_buffer_from_its_attach_on(rt: HostRuntime) -> Result<(), Fail> {
+fn a_buffer_from_its_attach_on(rt: HostRuntime) {
     let mut surfaces = Surfaces::new(rt.alloc());
-    let surface = surfaces.create()?;
-    assert_eq!(rt; reads(&surfaces, surface), (false, false, false));
-    surfaces.attach(surface, buffer(7), 0, 0);
-    assert_eq!(rt; reads(&surfaces, surface), (true, false, true));
-    assert_eq!(rt; pending(&surfaces, surface), Some(7));
-    assert_eq!(rt; size(&surfaces, surface), Some((0, 0)));
-    assert_eq!(rt; commit(&mut surfaces, surface), Ok(()));
-    assert_eq!(rt; reads(&surfaces, surface), (true, true, true));
-    assert_eq!(rt; shown(&surfaces, surface), Some(7));
-    assert_eq!(rt; size(&surfaces, surface), Some((5, 8)));
-    surfaces.attach(surface, None, 0, 0);
-    assert_eq!(rt; reads(&surfaces, surface), (true, true, true));
-    assert_eq!(rt; pending(&surfaces, surface), None);
-    assert_eq!(rt; shown(&surfaces, surface), Some(7));
-    assert_eq!(rt; commit(&mut surfaces, surface), Ok(()));
-    assert_eq!(rt; reads(&surfaces, surface), (false, false, false));
-    assert_eq!(rt; shown(&surfaces, surface), None);
-    assert_eq!(rt; size(&surfaces, surface), Some((0, 0)));
-    Ok(())
+    assert!(rt; surfaces.create() == Ok(0) && has_no_size(&surfaces));
+    assert!(rt; is_shown_by_a_commit(&mut surfaces));
+    assert!(rt; is_gone_by_a_commit(&mut surfaces));
+}
+
+// Whether the buffers that are pending, held and applied have these numbers.
+fn had<A: Allocator>(
+    surfaces: &Surfaces<A>,
+    surface: SurfaceNo,
+    wanted: [Option<BufferNo>; 3],
+) -> bool {
+    let [pending, held, applied] = surfaces.buffers(surface);
+    let [first, second, third] = wanted;
+    number(pending) == first && number(held) == second && number(applied) == third
 }
 
 // A commit without an attach shows the buffer still, and one that is attached frees the one before.
+fn is_freed_by_the_next<A: Allocator + Copy>(surfaces: &mut Surfaces<A>) -> bool {
+    attach(surfaces, 0, 7, 0, 0);
+    if !commits(surfaces, 0) || !commits(surfaces, 0) || shown(surfaces, 0) != Some((7, 5, 8)) {
+        return false;
+    }
+    attach(surfaces, 0, 8, 0, 0);
+    had(surfaces, 0, [Some(8), Some(7), Some(7)])
+        && had(surfaces, 1, [None, None, None])
+        && surfaces.is_used(8)
+        && !surfaces.is_busy(8)
+        && reads(surfaces, 0, true, true, true)
+        && commits(surfaces, 0)
+        && surfaces.is_busy(8)
+        && reads(surfaces, 0, false, false, true)
+}
+
+fn is_shown_by_another<A: Allocator + Copy>(surfaces: &mut Surfaces<A>) -> bool {
+    attach(surfaces, 1, 7, 0, 0);
+    reads(surfaces, 1, true, false, true)
+        && commits(surfaces, 1)
+        && reads(surfaces, 1, true, true, true)
+        && shown(surfaces, 0) == Some((8, 5, 8))
+        && !surfaces.is_used(90)
+        && !surfaces.is_busy(0)
+}
+
 #[test]
-fn one_buffer_after_another(rt: HostRuntime) -> Result<(), Fail> {
+fn one_buffer_after_another(rt: HostRuntime) {
     let mut surfaces = Surfaces::new(rt.alloc());
-    let surface = surfaces.create()?;
-    let other = surfaces.create()?;
-    surfaces.attach(surface, buffer(7), 0, 0);
-    assert_eq!(rt; commit(&mut surfaces, surface), Ok(()));
-    assert_eq!(rt; commit(&mut surfaces, surface), Ok(()));
-    assert_eq!(rt; shown(&surfaces, surface), Some(7));
-    surfaces.attach(surface, buffer(8), 0, 0);
-    assert!(rt; surfaces.is_used(8) && !surfaces.is_busy(8));
-    assert_eq!(rt; had(&surfaces, surface), (Some(8), Some(7), Some(7)));
-    assert_eq!(rt; had(&surfaces, other), (None, None, None));
-    assert_eq!(rt; reads(&surfaces, surface), (true, true, true));
-    assert_eq!(rt; commit(&mut surfaces, surface), Ok(()));
-    assert!(rt; surfaces.is_used(8) && surfaces.is_busy(8));
-    assert_eq!(rt; reads(&surfaces, surface), (false, false, true));
-    surfaces.attach(other, buffer(7), 0, 0);
-    assert_eq!(rt; reads(&surfaces, other), (true, false, true));
-    assert_eq!(rt; commit(&mut surfaces, other), Ok(()));
-    assert_eq!(rt; reads(&surfaces, other), (true, true, true));
-    assert_eq!(rt; shown(&surfaces, surface), Some(8));
-    assert!(rt; !surfaces.is_used(90) && !surfaces.is_busy(0));
-    Ok(())
+    assert!(rt; surfaces.create() == Ok(0) && surfaces.create() == Ok(1));
+    assert!(rt; is_freed_by_the_next(&mut surfaces));
+    assert!(rt; is_shown_by_another(&mut surfaces));
 }
 
-// Commits. What that tells is looked at in `a_commit_tells_what_it_changes`.
-fn commit<A: Allocator + Copy>(
-    surfaces: &mut Surfaces<A>,
-    surface: SurfaceNo,
-) -> Result<(), SurfaceError> {
-    surfaces.commit(surface)?;
-    Ok(())
-}
-
-fn destroy<A: Allocator + Copy>(
-    surfaces: &mut Surfaces<A>,
-    surface: SurfaceNo,
-) -> Result<(), SurfaceError> {
-    surfaces.destroy(surface)?;
-    Ok(())
-}
-
-// How many surfaces are told of, whether the first looks otherwise, how many rectangles of it are damaged, and how many buffers are free.
-fn told<A: Allocator>(applied: &Applied<A>) -> (usize, bool, usize, usize) {
-    let freed = applied.freed.len();
-    match applied.changes.first() {
-        Some(change) => (
-            applied.changes.len(),
-            change.whole,
-            change.rects.len(),
-            freed,
-        ),
-        None => (0, false, 0, freed),
+// Whether an answer tells of one surface, whether that looks otherwise, how many rectangles of it are damaged, and which buffer is freed.
+fn tells<A: Allocator>(
+    applied: Result<Applied<A>, SurfaceError>,
+    whole: bool,
+    rects: usize,
+    freed: Option<BufferNo>,
+) -> bool {
+    match applied {
+        Ok(applied) => match applied.changes.first() {
+            Some(change) => {
+                applied.changes.len() == 1
+                    && change.whole == whole
+                    && change.rects.len() == rects
+                    && applied.freed.first().copied() == freed
+            }
+            None => false,
+        },
+        Err(_) => false,
     }
 }
 
 #[test]
-fn a_commit_tells_what_it_changes(rt: HostRuntime) -> Result<(), Fail> {
+fn a_commit_tells_what_it_changes(rt: HostRuntime) {
     let mut surfaces = Surfaces::new(rt.alloc());
-    let surface = surfaces.create()?;
-    surfaces.attach(surface, buffer(7), 0, 0);
-    surfaces.damage(surface, FOUR_BY_FOUR)?;
-    assert_eq!(rt; told(&surfaces.commit(surface)?), (1, true, 1, 0));
-    surfaces.attach(surface, buffer(8), 0, 0);
-    let next = surfaces.commit(surface)?;
-    assert_eq!(rt; told(&next), (1, false, 0, 1));
-    assert_eq!(rt; next.freed.first().copied(), Some(7));
-    let gone = surfaces.destroy(surface)?;
-    assert_eq!(rt; told(&gone), (1, true, 0, 1));
-    assert_eq!(rt; gone.freed.first().copied(), Some(8));
-    Ok(())
+    assert!(rt; surfaces.create() == Ok(0));
+    attach(&mut surfaces, 0, 7, 0, 0);
+    assert!(rt; surfaces.damage(0, FOUR_BY_FOUR) == Ok(()));
+    assert!(rt; tells(surfaces.commit(0), true, 1, None));
+    attach(&mut surfaces, 0, 8, 0, 0);
+    assert!(rt; tells(surfaces.commit(0), false, 0, Some(7)));
+    assert!(rt; tells(surfaces.destroy(0), true, 0, Some(8)));
 }
 
 // Attaches at this offset, commits, and says whether the surface is at that place then.
-fn moves<A: Allocator + Copy>(surfaces: &mut Surfaces<A>, by: (i32, i32), to: (i32, i32)) -> bool {
-    surfaces.attach(0, buffer(7), by.0, by.1);
-    commit(surfaces, 0) == Ok(()) && is_at(surfaces, 0, to.0, to.1)
+fn moves<A: Allocator + Copy>(surfaces: &mut Surfaces<A>, by: (i32, i32), x: i32, y: i32) -> bool {
+    attach(surfaces, 0, 7, by.0, by.1);
+    commits(surfaces, 0) && is_at(surfaces, 0, x, y)
 }
 
-#[test]
-fn offsets_add_up(rt: HostRuntime) -> Result<(), Fail> {
-    let mut surfaces = Surfaces::new(rt.alloc());
-    assert_eq!(rt; surfaces.create(), Ok(0));
-    assert!(rt; moves(&mut surfaces, (3, -4), (3, -4)));
-    assert!(rt; moves(&mut surfaces, (5, 6), (8, 2)));
-    assert_eq!(rt; commit(&mut surfaces, 0), Ok(()));
-    assert!(rt; is_at(&surfaces, 0, 8, 2));
-    // Of two attaches the last one counts, and not before the commit.
+fn adds_up<A: Allocator + Copy>(surfaces: &mut Surfaces<A>) -> bool {
+    moves(surfaces, (3, -4), 3, -4)
+        && moves(surfaces, (5, 6), 8, 2)
+        && commits(surfaces, 0)
+        && is_at(surfaces, 0, 8, 2)
+}
+
+// Of two attaches the last one counts, and not before the commit.
+fn counts_the_last<A: Allocator + Copy>(surfaces: &mut Surfaces<A>) -> bool {
     surfaces.attach(0, None, 100, 100);
-    assert!(rt; is_at(&surfaces, 0, 8, 2));
-    assert!(rt; moves(&mut surfaces, (1, 1), (9, 3)));
-    Ok(())
+    is_at(surfaces, 0, 8, 2) && moves(surfaces, (1, 1), 9, 3)
 }
 
 #[test]
-fn offsets_are_held_within_their_bounds(rt: HostRuntime) -> Result<(), Fail> {
+fn offsets_add_up(rt: HostRuntime) {
     let mut surfaces = Surfaces::new(rt.alloc());
-    assert_eq!(rt; surfaces.create(), Ok(0));
-    for (by, to) in [
-        ((16_777_215, -16_777_215), (16_777_215, -16_777_215)),
-        ((1, -1), (16_777_216, -16_777_216)),
-        ((1, -1), (16_777_216, -16_777_216)),
-        ((-1, 1), (16_777_215, -16_777_215)),
-        ((2_147_483_647, -2_147_483_648), (16_777_216, -16_777_216)),
-        ((-2_147_483_648, 2_147_483_647), (-16_777_216, 16_777_216)),
-        ((16_777_216, -16_777_216), (0, 0)),
-    ] {
-        assert!(rt; moves(&mut surfaces, by, to), "{by:?} {to:?}");
-    }
-    Ok(())
+    assert!(rt; surfaces.create() == Ok(0));
+    assert!(rt; adds_up(&mut surfaces) && counts_the_last(&mut surfaces));
+}
+
+fn is_held_within<A: Allocator + Copy>(surfaces: &mut Surfaces<A>) -> bool {
+    moves(surfaces, (16_777_215, -16_777_215), 16_777_215, -16_777_215)
+        && moves(surfaces, (1, -1), 16_777_216, -16_777_216)
+        && moves(surfaces, (1, -1), 16_777_216, -16_777_216)
+        && moves(surfaces, (-1, 1), 16_777_215, -16_777_215)
+        && moves(surfaces, (i32::MAX, i32::MIN), 16_777_216, -16_777_216)
+        && moves(surfaces, (i32::MIN, i32::MAX), -16_777_216, 16_777_216)
+        && moves(surfaces, (16_777_216, -16_777_216), 0, 0)
 }
 
 #[test]
-fn transforms_turn_the_size(rt: HostRuntime) -> Result<(), Fail> {
+fn offsets_are_held_within_their_bounds(rt: HostRuntime) {
     let mut surfaces = Surfaces::new(rt.alloc());
-    let surface = surfaces.create()?;
-    surfaces.attach(surface, buffer(7), 0, 0);
-    assert_eq!(rt; commit(&mut surfaces, surface), Ok(()));
-    assert_eq!(rt; surfaces.set_transform(surface, 1), Ok(()));
-    assert_eq!(rt; size(&surfaces, surface), Some((5, 8)));
-    assert_eq!(rt; transform(&surfaces, surface), Some(Transform::Normal));
-    for (number, turned) in [
-        (1, Transform::Rotated90),
-        (2, Transform::Rotated180),
-        (3, Transform::Rotated270),
-        (4, Transform::Flipped),
-        (5, Transform::Flipped90),
-        (6, Transform::Flipped180),
-        (7, Transform::Flipped270),
-        (0, Transform::Normal),
-    ] {
-        assert_eq!(rt; surfaces.set_transform(surface, number), Ok(()));
-        assert_eq!(rt; commit(&mut surfaces, surface), Ok(()));
-        assert_eq!(rt; transform(&surfaces, surface), Some(turned));
-        let wanted = if number % 2 == 1 { (8, 5) } else { (5, 8) };
-        assert_eq!(rt; size(&surfaces, surface), Some(wanted));
+    assert!(rt; surfaces.create() == Ok(0) && is_held_within(&mut surfaces));
+}
+
+fn has_form<A: Allocator>(surfaces: &Surfaces<A>, transform: Transform, w: u32, h: u32) -> bool {
+    match surfaces.current(0) {
+        Some(current) => current.transform == transform && current.w == w && current.h == h,
+        None => false,
     }
-    for number in [8, -1, 2_147_483_647] {
-        let refused = surfaces.set_transform(surface, number);
-        assert_eq!(rt; refused, Err(SurfaceError::Transform));
-    }
-    assert_eq!(rt; commit(&mut surfaces, surface), Ok(()));
-    assert_eq!(rt; transform(&surfaces, surface), Some(Transform::Normal));
-    Ok(())
+}
+
+fn turns<A: Allocator + Copy>(
+    surfaces: &mut Surfaces<A>,
+    number: i32,
+    transform: Transform,
+    w: u32,
+    h: u32,
+) -> bool {
+    surfaces.set_transform(0, number) == Ok(())
+        && commits(surfaces, 0)
+        && has_form(surfaces, transform, w, h)
+}
+
+fn turns_in_eight_ways<A: Allocator + Copy>(surfaces: &mut Surfaces<A>) -> bool {
+    turns(surfaces, 1, Transform::Rotated90, 8, 5)
+        && turns(surfaces, 2, Transform::Rotated180, 5, 8)
+        && turns(surfaces, 3, Transform::Rotated270, 8, 5)
+        && turns(surfaces, 4, Transform::Flipped, 5, 8)
+        && turns(surfaces, 5, Transform::Flipped90, 8, 5)
+        && turns(surfaces, 6, Transform::Flipped180, 5, 8)
+        && turns(surfaces, 7, Transform::Flipped270, 8, 5)
+        && turns(surfaces, 0, Transform::Normal, 5, 8)
+}
+
+// What is asked isn't seen before the commit, and another number is refused.
+fn waits_for_the_commit<A: Allocator + Copy>(surfaces: &mut Surfaces<A>) -> bool {
+    surfaces.set_transform(0, 1) == Ok(())
+        && has_form(surfaces, Transform::Normal, 5, 8)
+        && surfaces.set_transform(0, 8) == Err(SurfaceError::Transform)
+        && surfaces.set_transform(0, -1) == Err(SurfaceError::Transform)
+        && surfaces.set_transform(0, 2_147_483_647) == Err(SurfaceError::Transform)
+        && commits(surfaces, 0)
+        && has_form(surfaces, Transform::Rotated90, 8, 5)
+}
+
+#[test]
+fn transforms_turn_the_size(rt: HostRuntime) {
+    let mut surfaces = Surfaces::new(rt.alloc());
+    assert!(rt; surfaces.create() == Ok(0));
+    attach(&mut surfaces, 0, 7, 0, 0);
+    assert!(rt; commits(&mut surfaces, 0) && waits_for_the_commit(&mut surfaces));
+    assert!(rt; turns_in_eight_ways(&mut surfaces));
+}
+
+fn sets_both<A: Allocator + Copy>(surfaces: &mut Surfaces<A>, region: Option<&Region<A>>) -> bool {
+    surfaces.set_opaque(0, region) == Ok(()) && surfaces.set_input(0, region) == Ok(())
+}
+
+// Before a commit nothing is opaque, and input is taken everywhere.
+fn is_unset<A: Allocator>(surfaces: &Surfaces<A>) -> bool {
+    !is_opaque(surfaces, 0, 0) && !is_opaque(surfaces, 3, 3) && takes_input(surfaces, 9, 9)
+}
+
+fn is_four_by_four<A: Allocator>(surfaces: &Surfaces<A>) -> bool {
+    is_opaque(surfaces, 3, 3)
+        && !is_opaque(surfaces, 4, 3)
+        && takes_input(surfaces, 0, 0)
+        && !takes_input(surfaces, 9, 9)
+}
+
+// Whether opaque without a region is nothing, and input without one everything, each from the commit on.
+fn unsets<A: Allocator + Copy>(surfaces: &mut Surfaces<A>) -> bool {
+    sets_both(surfaces, None)
+        && is_four_by_four(surfaces)
+        && commits(surfaces, 0)
+        && is_unset(surfaces)
+        && takes_input(surfaces, -1, -1)
 }
 
 // What a region becomes once it was set isn't seen, and a region counts from the commit on.
 #[test]
-fn regions_count_from_the_commit_on(rt: HostRuntime) -> Result<(), Fail> {
+fn regions_count_from_the_commit_on(rt: HostRuntime) {
     let mut surfaces = Surfaces::new(rt.alloc());
-    assert_eq!(rt; surfaces.create(), Ok(0));
     let mut region = Region::new(rt.alloc());
-    region.add(FOUR_BY_FOUR)?;
-    assert!(rt; !is_opaque(&surfaces, 0, 0, 0) && takes_input(&surfaces, 0, 9, 9));
-    assert_eq!(rt; surfaces.set_opaque(0, Some(&region)), Ok(()));
-    assert_eq!(rt; surfaces.set_input(0, Some(&region)), Ok(()));
-    region.subtract(FOUR_BY_FOUR)?;
-    assert!(rt; !is_opaque(&surfaces, 0, 0, 0) && takes_input(&surfaces, 0, 9, 9));
-    for _ in 0..2_u32 {
-        assert_eq!(rt; commit(&mut surfaces, 0), Ok(()));
-        assert!(rt; is_opaque(&surfaces, 0, 3, 3) && !is_opaque(&surfaces, 0, 4, 3));
-        assert!(rt; takes_input(&surfaces, 0, 0, 0) && !takes_input(&surfaces, 0, 9, 9));
-    }
-    assert_eq!(rt; surfaces.set_opaque(0, None), Ok(()));
-    assert_eq!(rt; commit(&mut surfaces, 0), Ok(()));
-    assert!(rt; !is_opaque(&surfaces, 0, 3, 3) && !takes_input(&surfaces, 0, 9, 9));
-    assert_eq!(rt; surfaces.set_input(0, None), Ok(()));
-    assert!(rt; !takes_input(&surfaces, 0, 9, 9));
-    assert_eq!(rt; commit(&mut surfaces, 0), Ok(()));
-    assert!(rt; takes_input(&surfaces, 0, 9, 9) && takes_input(&surfaces, 0, -1, -1));
-    Ok(())
+    assert!(rt; surfaces.create() == Ok(0) && region.add(FOUR_BY_FOUR) == Ok(()));
+    assert!(rt; is_unset(&surfaces) && sets_both(&mut surfaces, Some(&region)));
+    assert!(rt; region.subtract(FOUR_BY_FOUR) == Ok(()) && is_unset(&surfaces));
+    assert!(rt; commits(&mut surfaces, 0) && is_four_by_four(&surfaces));
+    assert!(rt; commits(&mut surfaces, 0) && is_four_by_four(&surfaces));
+    assert!(rt; unsets(&mut surfaces));
+}
+
+// Whether a surface that had no role takes each of the four that is its first, and no other after.
+fn keeps_its_role<A: Allocator + Copy>(
+    surfaces: &mut Surfaces<A>,
+    surface: SurfaceNo,
+    role: Role,
+) -> bool {
+    surfaces.create() == Ok(surface)
+        && surfaces.role(surface).is_none()
+        && surfaces.give_role(surface, role) == Ok(())
+        && takes_only(surfaces, surface, role, Role::Toplevel)
+        && takes_only(surfaces, surface, role, Role::Popup)
+        && takes_only(surfaces, surface, role, Role::Subsurface)
+        && takes_only(surfaces, surface, role, Role::Cursor)
+}
+
+fn takes_only<A: Allocator + Copy>(
+    surfaces: &mut Surfaces<A>,
+    surface: SurfaceNo,
+    role: Role,
+    other: Role,
+) -> bool {
+    let wanted = if other == role {
+        Ok(())
+    } else {
+        Err(SurfaceError::Role)
+    };
+    surfaces.give_role(surface, other) == wanted && surfaces.role(surface) == Some(role)
 }
 
 #[test]
-fn a_role_is_for_life(rt: HostRuntime) -> Result<(), Fail> {
-    let roles = [Role::Toplevel, Role::Popup, Role::Subsurface, Role::Cursor];
-    for role in roles {
-        let mut surfaces = Surfaces::new(rt.alloc());
-        assert_eq!(rt; surfaces.create(), Ok(0));
-        assert_eq!(rt; surfaces.role(0), None);
-        assert_eq!(rt; surfaces.give_role(0, role), Ok(()));
-        for other in roles {
-            let wanted = if other == role {
-                Ok(())
-            } else {
-                Err(SurfaceError::Role)
-            };
-            assert_eq!(rt; surfaces.give_role(0, other), wanted);
-            assert_eq!(rt; surfaces.role(0), Some(role));
+fn a_role_is_for_life(rt: HostRuntime) {
+    let mut surfaces = Surfaces::new(rt.alloc());
+    assert!(rt; keeps_its_role(&mut surfaces, 0, Role::Toplevel));
+    assert!(rt; keeps_its_role(&mut surfaces, 1, Role::Popup));
+    assert!(rt; keeps_its_role(&mut surfaces, 2, Role::Subsurface));
+    assert!(rt; keeps_its_role(&mut surfaces, 3, Role::Cursor));
+}
+
+fn creates_256<A: Allocator + Copy>(surfaces: &mut Surfaces<A>) -> bool {
+    for number in 0..256_usize {
+        if surfaces.create() != Ok(number) {
+            return false;
         }
     }
-    Ok(())
+    surfaces.create() == Err(SurfaceError::TooMany)
+        && surfaces.current(255).is_some()
+        && surfaces.current(256).is_none()
+}
+
+// Whether surface 40 is destroyed with all that it had, and its number is the next.
+fn is_made_again<A: Allocator + Copy>(surfaces: &mut Surfaces<A>) -> bool {
+    attach(surfaces, 40, 7, 0, 0);
+    surfaces.give_role(40, Role::Cursor) == Ok(())
+        && reads(surfaces, 40, true, false, true)
+        && destroys(surfaces, 40)
+        && destroys(surfaces, 40)
+        && surfaces.current(40).is_none()
+        && surfaces.create() == Ok(40)
+        && reads(surfaces, 40, false, false, false)
+        && surfaces.role(40).is_none()
+        && surfaces.create() == Err(SurfaceError::TooMany)
 }
 
 #[test]
-fn the_257th_surface_is_one_too_many(rt: HostRuntime) -> Result<(), Fail> {
+fn the_257th_surface_is_one_too_many(rt: HostRuntime) {
     let mut surfaces = Surfaces::new(rt.alloc());
-    assert_eq!(rt; MAX_SURFACES, 256);
-    for number in 0..256_usize {
-        assert_eq!(rt; surfaces.create(), Ok(number));
-    }
-    assert_eq!(rt; surfaces.create(), Err(SurfaceError::TooMany));
-    assert!(rt; surfaces.current(255).is_some() && surfaces.current(256).is_none());
-    surfaces.attach(40, buffer(7), 0, 0);
-    assert_eq!(rt; surfaces.give_role(40, Role::Cursor), Ok(()));
-    assert_eq!(rt; reads(&surfaces, 40), (true, false, true));
-    assert_eq!(rt; destroy(&mut surfaces, 40), Ok(()));
-    assert_eq!(rt; destroy(&mut surfaces, 40), Ok(()));
-    assert!(rt; surfaces.current(40).is_none());
-    assert_eq!(rt; surfaces.create(), Ok(40));
-    assert_eq!(rt; reads(&surfaces, 40), (false, false, false));
-    assert_eq!(rt; surfaces.role(40), None);
-    assert_eq!(rt; surfaces.create(), Err(SurfaceError::TooMany));
-    Ok(())
+    assert!(rt; MAX_SURFACES == 256);
+    assert!(rt; creates_256(&mut surfaces) && is_made_again(&mut surfaces));
 }
 
 // What is asked of no surface is accepted, and there is none then either.
-#[test]
-fn no_surface(rt: HostRuntime) -> Result<(), Fail> {
-    let mut surfaces = Surfaces::new(rt.alloc());
-    surfaces.attach(0, buffer(7), 1, 1);
-    assert_eq!(rt; surfaces.damage(0, FOUR_BY_FOUR), Ok(()));
-    assert_eq!(rt; surfaces.set_opaque(0, None), Ok(()));
-    assert_eq!(rt; surfaces.set_input(0, None), Ok(()));
-    assert_eq!(rt; surfaces.set_transform(0, 1), Ok(()));
-    assert_eq!(rt; surfaces.set_transform(0, 8), Err(SurfaceError::Transform));
-    assert_eq!(rt; commit(&mut surfaces, 0), Ok(()));
-    assert_eq!(rt; surfaces.give_role(0, Role::Popup), Ok(()));
-    assert_eq!(rt; destroy(&mut surfaces, 0), Ok(()));
-    assert_eq!(rt; reads(&surfaces, 0), (false, false, false));
-    assert_eq!(rt; pending(&surfaces, 0), None);
-    assert_eq!(rt; surfaces.role(0), None);
-    assert!(rt; surfaces.current(0).is_none());
-    Ok(())
+fn accepts_without_a_surface<A: Allocator + Copy>(surfaces: &mut Surfaces<A>) -> bool {
+    attach(surfaces, 0, 7, 1, 1);
+    surfaces.damage(0, FOUR_BY_FOUR) == Ok(())
+        && sets_both(surfaces, None)
+        && surfaces.set_transform(0, 1) == Ok(())
+        && surfaces.set_transform(0, 8) == Err(SurfaceError::Transform)
+        && commits(surfaces, 0)
+        && surfaces.give_role(0, Role::Popup) == Ok(())
+        && destroys(surfaces, 0)
+}
+
+fn is_no_surface<A: Allocator>(surfaces: &Surfaces<A>) -> bool {
+    reads(surfaces, 0, false, false, false)
+        && pending(surfaces, 0).is_none()
+        && surfaces.role(0).is_none()
+        && surfaces.current(0).is_none()
 }
 
 #[test]
-fn a_surface_without_memory_is_not_made(rt: HostRuntime) -> Result<(), Fail> {
+fn no_surface(rt: HostRuntime) {
+    let mut surfaces = Surfaces::new(rt.alloc());
+    assert!(rt; accepts_without_a_surface(&mut surfaces) && is_no_surface(&surfaces));
+}
+
+// Makes surfaces up to the first that is refused for want of memory: how many were made. None where another error comes, or where one
+// that was made isn't there.
+fn made<A: Allocator + Copy>(surfaces: &mut Surfaces<A>) -> Option<SurfaceNo> {
+    for number in 0..256_usize {
+        match surfaces.create() {
+            Ok(made) if made == number && surfaces.current(made).is_some() => {}
+            Err(SurfaceError::Memory) if surfaces.current(number).is_none() => {
+                return Some(number);
+            }
+            _ => return None,
+        }
+    }
+    None
+}
+
+#[test]
+fn a_surface_without_memory_is_not_made(rt: HostRuntime) {
     for served in 0..4_u64 {
         let heap = Refusing::new(rt.alloc(), served);
         let mut surfaces = Surfaces::new(&heap);
-        let made = (0..256_u32)
-            .take_while(|_| surfaces.create().is_ok())
-            .count();
-        assert!(rt; made < 256 && heap.refused());
-        assert_eq!(rt; surfaces.create(), Err(SurfaceError::Memory));
-        assert!(rt; surfaces.current(made).is_none());
-        assert!(rt; (0..made).all(|surface| surfaces.current(surface).is_some()));
-        if made > 0 {
-            assert_eq!(rt; destroy(&mut surfaces, 0), Err(SurfaceError::Memory));
-            assert!(rt; surfaces.current(0).is_some());
+        match made(&mut surfaces) {
+            Some(0) => {}
+            Some(_) => {
+                assert!(rt; !destroys(&mut surfaces, 0) && surfaces.current(0).is_some());
+            }
+            None => assert!(rt; false, "{served}"),
         }
     }
-    Ok(())
 }
 
-/// How far the scene of damage came.
-#[derive(Clone, Copy, Debug, PartialEq, Eq)]
-enum Damaged {
-    NoSurface,
-    NoDamage,
-    NotCommitted,
-    All,
-}
-
-// A surface with buffer 7 that is damaged and committed, up to the first call that is refused. None where a call answers what it can't.
-fn scene<A: Allocator + Copy>(surfaces: &mut Surfaces<A>) -> Option<Damaged> {
+// Makes a surface, attaches buffer 7 at (1, 2), damages and commits, up to the first call that is refused for want of memory: how many of the three
+// that take memory were done. None where a call answers what it can't.
+fn done_before_a_refusal<A: Allocator + Copy>(surfaces: &mut Surfaces<A>) -> Option<u32> {
     match surfaces.create() {
         Ok(0) => {}
-        Err(SurfaceError::Memory) => return Some(Damaged::NoSurface),
+        Err(SurfaceError::Memory) => return Some(0),
         _ => return None,
     }
-    surfaces.attach(0, buffer(7), 1, 2);
+    attach(surfaces, 0, 7, 1, 2);
     match surfaces.damage(0, FOUR_BY_FOUR) {
         Ok(()) => {}
-        Err(SurfaceError::Memory) => return Some(Damaged::NoDamage),
+        Err(SurfaceError::Memory) => return Some(1),
         Err(_) => return None,
     }
-    match commit(surfaces, 0) {
-        Ok(()) => Some(Damaged::All),
-        Err(SurfaceError::Memory) => Some(Damaged::NotCommitted),
+    match surfaces.commit(0) {
+        Ok(_) => Some(3),
+        Err(SurfaceError::Memory) => Some(2),
         Err(_) => None,
     }
 }
 
+// Whether the buffer is attached and nothing is applied, after one more commit that is refused too.
+fn is_not_committed<A: Allocator + Copy>(surfaces: &mut Surfaces<A>) -> bool {
+    reads(surfaces, 0, true, false, true)
+        && pending(surfaces, 0) == Some(7)
+        && !commits(surfaces, 0)
+        && shown(surfaces, 0).is_none()
+        && is_at(surfaces, 0, 0, 0)
+}
+
+fn is_committed<A: Allocator>(surfaces: &Surfaces<A>) -> bool {
+    reads(surfaces, 0, true, true, true)
+        && shown(surfaces, 0) == Some((7, 5, 8))
+        && is_at(surfaces, 0, 1, 2)
+}
+
 // A commit that is refused applies nothing.
 #[test]
-fn damage_and_commit_without_memory(rt: HostRuntime) -> Result<(), Fail> {
+fn damage_and_commit_without_memory(rt: HostRuntime) {
     let mut damages = false;
     let mut commits = false;
     for served in 0..1000_u64 {
         let heap = Refusing::new(rt.alloc(), served);
         let mut surfaces = Surfaces::new(&heap);
-        let Some(came) = scene(&mut surfaces) else {
-            return Err(Fail::from("a call answered what it can't"));
-        };
-        assert_eq!(rt; heap.refused(), came != Damaged::All);
-        let is_attached = came != Damaged::NoSurface;
-        let is_shown = came == Damaged::All;
-        assert_eq!(rt; reads(&surfaces, 0), (is_attached, is_shown, is_attached));
-        assert_eq!(rt; pending(&surfaces, 0).is_some(), is_attached);
-        assert_eq!(rt; is_at(&surfaces, 0, 1, 2), is_shown);
-        match came {
-            Damaged::NoSurface => {}
-            Damaged::NoDamage => {
-                damages = true;
-                assert_eq!(rt; commit(&mut surfaces, 0), Err(SurfaceError::Memory));
-                assert_eq!(rt; shown(&surfaces, 0), None);
+        match done_before_a_refusal(&mut surfaces) {
+            Some(0) => assert!(rt; is_no_surface(&surfaces)),
+            Some(3) => {
+                assert!(rt; is_committed(&surfaces) && !heap.refused(), "{served}");
+                break;
             }
-            Damaged::NotCommitted => {
-                commits = true;
-                assert_eq!(rt; commit(&mut surfaces, 0), Err(SurfaceError::Memory));
-                assert_eq!(rt; shown(&surfaces, 0), None);
+            Some(done) => {
+                assert!(rt; is_not_committed(&mut surfaces), "{served}");
+                damages = damages || done == 1;
+                commits = commits || done == 2;
             }
-            Damaged::All => break,
+            None => assert!(rt; false, "{served}"),
         }
     }
     assert!(rt; damages && commits);
-    Ok(())
+}
+
+fn damages<A: Allocator + Copy>(surfaces: &mut Surfaces<A>, times: u32) -> bool {
+    for _ in 0..times {
+        if surfaces.damage(0, FOUR_BY_FOUR) != Ok(()) {
+            return false;
+        }
+    }
+    true
 }
 
 // More than 1,025 rectangles aren't kept: they take no memory, neither pending nor held.
 #[test]
-fn damage_without_end(rt: HostRuntime) -> Result<(), Fail> {
+fn damage_without_end(rt: HostRuntime) {
     let heap = Refusing::new(rt.alloc(), 1000);
     let mut surfaces = Surfaces::new(&heap);
-    assert_eq!(rt; surfaces.create(), Ok(0));
-    for _ in 0..1025_u32 {
-        assert_eq!(rt; surfaces.damage(0, FOUR_BY_FOUR), Ok(()));
-    }
+    assert!(rt; surfaces.create() == Ok(0) && damages(&mut surfaces, 1025));
     let served = heap.served();
-    for _ in 0..9000_u32 {
-        assert_eq!(rt; surfaces.damage(0, FOUR_BY_FOUR), Ok(()));
-    }
-    assert_eq!(rt; heap.served(), served);
-    assert_eq!(rt; commit(&mut surfaces, 0), Ok(()));
-    Ok(())
+    assert!(rt; damages(&mut surfaces, 9000) && heap.served() == served);
+    assert!(rt; commits(&mut surfaces, 0));
 }
 
-// Sets both regions, up to the first that is refused: how many were set. None where a call answers what it can't.
+// Sets both regions, up to the first that is refused for want of memory: how many were set. None where a call answers what it can't.
 fn set_both<A: Allocator + Copy>(surfaces: &mut Surfaces<A>, region: &Region<A>) -> Option<u32> {
     match surfaces.set_opaque(0, Some(region)) {
         Ok(()) => {}
@@ -467,8 +562,9 @@ fn set_both<A: Allocator + Copy>(surfaces: &mut Surfaces<A>, region: &Region<A>)
 
 // Each allocation is refused in turn, until both regions are set and committed.
 #[test]
-fn regions_without_memory(rt: HostRuntime) -> Result<(), Fail> {
-    let mut met = (false, false);
+fn regions_without_memory(rt: HostRuntime) {
+    let mut opaques = false;
+    let mut inputs = false;
     for served in 0..1000_u64 {
         let heap = Refusing::new(rt.alloc(), served);
         let mut surfaces = Surfaces::new(&heap);
@@ -476,24 +572,19 @@ fn regions_without_memory(rt: HostRuntime) -> Result<(), Fail> {
         if surfaces.create().is_err() || region.add(FOUR_BY_FOUR).is_err() {
             continue;
         }
-        let Some(set) = set_both(&mut surfaces, &region) else {
-            return Err(Fail::from("a call answered what it can't"));
-        };
-        assert_eq!(rt; heap.refused(), set < 2);
-        match set {
-            0 => met.0 = true,
-            1 => met.1 = true,
-            _ => {
-                if commit(&mut surfaces, 0).is_ok() {
-                    assert!(rt; is_opaque(&surfaces, 0, 3, 3) && !takes_input(&surfaces, 0, 9, 9));
+        match set_both(&mut surfaces, &region) {
+            Some(0) => opaques = true,
+            Some(1) => inputs = true,
+            Some(_) => {
+                if commits(&mut surfaces, 0) {
+                    assert!(rt; is_four_by_four(&surfaces) && !heap.refused(), "{served}");
                     break;
                 }
             }
+            None => assert!(rt; false, "{served}"),
         }
         // None takes no memory.
-        assert_eq!(rt; surfaces.set_opaque(0, None), Ok(()));
-        assert_eq!(rt; surfaces.set_input(0, None), Ok(()));
+        assert!(rt; sets_both(&mut surfaces, None), "{served}");
     }
-    assert!(rt; met.0 && met.1);
-    Ok(())
+    assert!(rt; opaques && inputs);
 }

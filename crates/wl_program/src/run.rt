@@ -10,7 +10,7 @@ use std::io::{BufRead, BufWriter, ErrorKind, Write};
 use std::rt::Files;
 use std::{fs, io};
 use wl_options::{CommandError, Fault, Folder, Replay, Status, parse};
-use wl_session::{Config, Rgb};
+use wl_replay::{Config, Rgb};
 
 const BLACK: Rgb = Rgb { r: 0, g: 0, b: 0 };
 

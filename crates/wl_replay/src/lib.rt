@@ -10,3 +10,4 @@ mod tell;
 
 pub use player::{MAX_LINES, replay};
 pub use wl_recording::{LINE_LIMIT, ReplayError, SideFault, SideFiles, Summary, number};
+pub use wl_session::{Config, Rgb};
