@@ -1,6 +1,6 @@
 //! The objects of a client, by their ids.
 
-use std::test::Fail;
+use std::alloc::Allocator;
 use wl_proto::Interface;
 use wl_table::*;
 
@@ -12,88 +12,115 @@ fn entry(interface: Interface, target: usize) -> Entry {
     }
 }
 
-#[test]
-fn holds_objects_by_their_ids(rt: HostRuntime) -> Result<(), Fail> {
-    let mut objects = Objects::new(rt.alloc());
-    objects.insert(1, entry(Interface::WlDisplay, 0))?;
-    objects.insert(2, entry(Interface::WlRegistry, 7))?;
-    assert_eq!(rt;
-        objects.insert(2, entry(Interface::WlShm, 0)),
-        Err(TableError::InUse)
-    );
-    assert_eq!(rt;
-        objects.insert(0, entry(Interface::WlShm, 0)),
-        Err(TableError::BadId)
-    );
-    assert_eq!(rt;
-        objects.insert(0xff000000, entry(Interface::WlShm, 0)),
-        Err(TableError::BadId)
-    );
-    objects.insert(0xfeffffff, entry(Interface::WlShm, 0))?;
-    assert_eq!(rt; objects.next_after(2), Some(0xfeffffff));
-    assert_eq!(rt; objects.next_after(0xfeffffff), None);
-    assert!(rt; objects.set(2, 9));
-    assert!(rt; !objects.set(3, 9));
-    assert_eq!(rt; objects.get(2), Some(entry(Interface::WlRegistry, 9)));
-    assert_eq!(rt; objects.remove(2), Some(entry(Interface::WlRegistry, 9)));
-    assert_eq!(rt; objects.get(2), None);
-    assert_eq!(rt; objects.len(), 2);
-    assert!(rt; !objects.is_empty());
-    Ok(())
+// Inserts a surface whose target is its id.
+fn inserts<A: Allocator + Copy>(objects: &mut Objects<A>, id: u32) -> bool {
+    objects.insert(id, entry(Interface::WlSurface, id as usize)) == Ok(())
+}
+
+fn refuses<A: Allocator + Copy>(objects: &mut Objects<A>, id: u32, error: TableError) -> bool {
+    objects.insert(id, entry(Interface::WlShm, 0)) == Err(error)
+}
+
+fn has<A: Allocator>(objects: &Objects<A>, id: u32, target: usize) -> bool {
+    objects.get(id) == Some(entry(Interface::WlSurface, target))
+}
+
+// Whether the object is there, and its id is refused to another.
+fn keeps<A: Allocator + Copy>(objects: &mut Objects<A>, id: u32) -> bool {
+    has(objects, id, id as usize) && refuses(objects, id, TableError::InUse)
+}
+
+// Whether the object goes, and only once.
+fn removes<A: Allocator>(objects: &mut Objects<A>, id: u32) -> bool {
+    objects.remove(id) == Some(entry(Interface::WlSurface, id as usize))
+        && objects.remove(id).is_none()
+}
+
+fn inserts_within_its_ids<A: Allocator + Copy>(objects: &mut Objects<A>) -> bool {
+    inserts(objects, 1)
+        && inserts(objects, 2)
+        && refuses(objects, 2, TableError::InUse)
+        && refuses(objects, 0, TableError::BadId)
+        && refuses(objects, 0xff000000, TableError::BadId)
+        && inserts(objects, 0xfeffffff)
+        && objects.next_after(2) == Some(0xfeffffff)
+        && objects.next_after(0xfeffffff).is_none()
+}
+
+fn sets_and_removes<A: Allocator>(objects: &mut Objects<A>) -> bool {
+    objects.set(2, 9)
+        && !objects.set(3, 9)
+        && has(objects, 2, 9)
+        && objects.remove(2) == Some(entry(Interface::WlSurface, 9))
+        && objects.get(2).is_none()
+        && objects.len() == 2
+        && !objects.is_empty()
 }
 
 #[test]
-fn holds_ids_that_come_in_any_order(rt: HostRuntime) -> Result<(), Fail> {
+fn holds_objects_by_their_ids(rt: HostRuntime) {
     let mut objects = Objects::new(rt.alloc());
-    for id in [9000_u32, 5, 1, 8193, 8192, 4] {
-        objects.insert(id, entry(Interface::WlSurface, id as usize))?;
+    assert!(rt; objects.is_empty());
+    assert!(rt; inserts_within_its_ids(&mut objects) && sets_and_removes(&mut objects));
+}
+
+const IN_ANY_ORDER: &[u32] = &[9000, 5, 1, 8193, 8192, 4];
+
+fn inserts_in_any_order<A: Allocator + Copy>(objects: &mut Objects<A>) -> bool {
+    for &id in IN_ANY_ORDER {
+        if !inserts(objects, id) {
+            return false;
+        }
     }
-    for id in [1_u32, 4, 5, 8192, 8193, 9000] {
-        assert_eq!(rt;
-            objects.get(id),
-            Some(entry(Interface::WlSurface, id as usize))
-        );
-        assert_eq!(rt;
-            objects.insert(id, entry(Interface::WlShm, 0)),
-            Err(TableError::InUse)
-        );
+    for &id in IN_ANY_ORDER {
+        if !keeps(objects, id) {
+            return false;
+        }
     }
-    assert_eq!(rt; objects.next_after(0), Some(1));
-    assert_eq!(rt; objects.next_after(1), Some(4));
-    assert_eq!(rt; objects.next_after(5), Some(8192));
-    assert_eq!(rt; objects.next_after(8192), Some(8193));
-    assert_eq!(rt; objects.next_after(8193), Some(9000));
-    assert_eq!(rt;
-        objects.remove(8193),
-        Some(entry(Interface::WlSurface, 8193))
-    );
-    assert_eq!(rt; objects.remove(8193), None);
-    assert_eq!(rt;
-        objects.remove(8192),
-        Some(entry(Interface::WlSurface, 8192))
-    );
-    assert_eq!(rt; objects.remove(8192), None);
-    assert_eq!(rt; objects.next_after(5), Some(9000));
-    assert!(rt; objects.set(9000, 7));
-    assert!(rt; objects.set(4, 8));
-    assert!(rt; !objects.set(8193, 9));
-    assert_eq!(rt; objects.get(9000), Some(entry(Interface::WlSurface, 7)));
-    assert_eq!(rt; objects.get(4), Some(entry(Interface::WlSurface, 8)));
-    assert_eq!(rt; objects.get(3), None);
-    assert_eq!(rt; objects.len(), 4);
-    Ok(())
+    objects.len() == 6
+}
+
+fn tells_them_in_rising_order<A: Allocator>(objects: &Objects<A>) -> bool {
+    objects.next_after(0) == Some(1)
+        && objects.next_after(1) == Some(4)
+        && objects.next_after(5) == Some(8192)
+        && objects.next_after(8192) == Some(8193)
+        && objects.next_after(8193) == Some(9000)
+}
+
+fn removes_and_sets<A: Allocator>(objects: &mut Objects<A>) -> bool {
+    removes(objects, 8193)
+        && removes(objects, 8192)
+        && objects.next_after(5) == Some(9000)
+        && objects.set(9000, 7)
+        && objects.set(4, 8)
+        && !objects.set(8193, 9)
+        && has(objects, 9000, 7)
+        && has(objects, 4, 8)
+        && objects.get(3).is_none()
+        && objects.len() == 4
 }
 
 #[test]
-fn holds_8192_objects(rt: HostRuntime) -> Result<(), Fail> {
+fn holds_ids_that_come_in_any_order(rt: HostRuntime) {
     let mut objects = Objects::new(rt.alloc());
+    assert!(rt; inserts_in_any_order(&mut objects));
+    assert!(rt; tells_them_in_rising_order(&objects));
+    assert!(rt; removes_and_sets(&mut objects));
+}
+
+fn inserts_8192<A: Allocator + Copy>(objects: &mut Objects<A>) -> bool {
     for id in 1..8193_u32 {
-        objects.insert(id, entry(Interface::WlCallback, 0))?;
+        if !inserts(objects, id) {
+            return false;
+        }
     }
-    assert_eq!(rt;
-        objects.insert(9000, entry(Interface::WlCallback, 0)),
-        Err(TableError::TooMany)
-    );
-    assert_eq!(rt; objects.len(), 8192);
-    Ok(())
+    objects.len() == 8192
+}
+
+#[test]
+fn holds_8192_objects(rt: HostRuntime) {
+    let mut objects = Objects::new(rt.alloc());
+    assert!(rt; inserts_8192(&mut objects));
+    assert!(rt; refuses(&mut objects, 9000, TableError::TooMany) && objects.len() == 8192);
 }

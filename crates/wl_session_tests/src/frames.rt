@@ -365,13 +365,19 @@ const FIRST_ENDED: &[&[Row]] = &[OTHER_STAYS];
 /// Plays parts after both windows are there.
 fn play_two(alloc: Global, parts: &[&[Row]]) -> Result<(), Fault> {
     match Session::new(alloc, CONFIG) {
-        Ok(mut session) => {
-            play_in(alloc, &mut session, START)?;
-            play_in(alloc, &mut session, TWO)?;
-            play_in(alloc, &mut session, parts)
-        }
+        Ok(mut session) => play_after_two(alloc, &mut session, parts),
         Err(_) => Err(Fault::NoSession),
     }
+}
+
+fn play_after_two(
+    alloc: Global,
+    session: &mut Session<Global>,
+    parts: &[&[Row]],
+) -> Result<(), Fault> {
+    play_in(alloc, session, START)?;
+    play_in(alloc, session, TWO)?;
+    play_in(alloc, session, parts)
 }
 
 /// The parts of a session before the client 2 has the only window.
@@ -447,12 +453,15 @@ const UP_TO_CONFIGURE: &[Message] = &[
     COMMIT,
 ];
 
+/// The runs of the window.
+const OF_THE_WINDOW: &[Run] = &[Run { x: 0, y: 0, w: 2 }, Run { x: 0, y: 1, w: 2 }];
+
 /// The runs of the window, and of nothing.
 fn are_runs(shots: &[Shot<Global>]) -> bool {
-    shots.len() == 2
-        && shots[0].runs.as_slice()
-            == [Run { x: 0, y: 0, w: 2 }, Run { x: 0, y: 1, w: 2 }].as_slice()
-        && shots[1].runs.len() == 0
+    match shots {
+        [first, second] => first.runs.as_slice() == OF_THE_WINDOW && second.runs.is_empty(),
+        _ => false,
+    }
 }
 
 /// The first pixel of the window is red, its others black, and the background is around it; the second frame is the same.

@@ -219,12 +219,17 @@ fn all_told(session: &mut Session<Global>, alloc: Global, piece: &[u8]) -> Optio
 }
 
 fn answers_of(alloc: Global, piece: &[u8]) -> Option<Answers> {
+    let all = all_of(alloc, piece)?;
     let error = bytes_of(alloc, ERROR)?;
-    let all = match Session::new(alloc, CONFIG) {
-        Ok(mut session) => all_told(&mut session, alloc, piece)?,
-        Err(_) => return None,
-    };
     Some(Answers { all, error })
+}
+
+/// What a client is told of a piece in a session of its own.
+fn all_of(alloc: Global, piece: &[u8]) -> Option<Vec<u8, Global>> {
+    match Session::new(alloc, CONFIG) {
+        Ok(mut session) => all_told(&mut session, alloc, piece),
+        Err(_) => None,
+    }
 }
 
 /// What became of a client that was fed a piece.

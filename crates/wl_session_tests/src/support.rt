@@ -385,12 +385,19 @@ pub(crate) type Case<'a> = (&'a str, &'a [&'a [Row<'a>]]);
 /// Plays the parts of a case after those that it shares with others.
 pub(crate) fn play_after(alloc: Global, first: &[&[Row]], parts: &[&[Row]]) -> Result<(), Fault> {
     match Session::new(alloc, CONFIG) {
-        Ok(mut session) => {
-            play_in(alloc, &mut session, first)?;
-            play_in(alloc, &mut session, parts)
-        }
+        Ok(mut session) => play_both(alloc, &mut session, first, parts),
         Err(_) => Err(Fault::NoSession),
     }
+}
+
+fn play_both(
+    alloc: Global,
+    session: &mut Session<Global>,
+    first: &[&[Row]],
+    parts: &[&[Row]],
+) -> Result<(), Fault> {
+    play_in(alloc, session, first)?;
+    play_in(alloc, session, parts)
 }
 
 /// Plays the parts of a case.
