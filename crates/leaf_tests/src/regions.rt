@@ -66,7 +66,7 @@ fn adds_five<A: Allocator + Copy>(region: &mut Region<A>) -> bool {
     for row in 0..5_i32 {
         let rect = Rect {
             x: 0,
-            y: 2 * row,
+            y: row.saturating_mul(2),
             w: 10,
             h: 1,
         };

@@ -1,4 +1,4 @@
-use std::alloc::Allocator;
+use std::alloc::{Allocator, Global};
 use test_support::Refusing;
 use wl_geom::{Rect, Region};
 use wl_store::{Transform, layout};
@@ -319,7 +319,7 @@ fn is_four_by_four<A: Allocator>(surfaces: &Surfaces<A>) -> bool {
 }
 
 // Whether opaque without a region is nothing, and input without one everything, each from the commit on.
-fn unsets<A: Allocator + Copy>(surfaces: &mut Surfaces<A>) -> bool {
+fn unsets(surfaces: &mut Surfaces<Global>) -> bool {
     sets_both(surfaces, None)
         && is_four_by_four(surfaces)
         && commits(surfaces, 0)
@@ -411,7 +411,7 @@ fn the_257th_surface_is_one_too_many(rt: HostRuntime) {
 }
 
 // What is asked of no surface is accepted, and there is none then either.
-fn accepts_without_a_surface<A: Allocator + Copy>(surfaces: &mut Surfaces<A>) -> bool {
+fn accepts_without_a_surface(surfaces: &mut Surfaces<Global>) -> bool {
     attach(surfaces, 0, 7, 1, 1);
     surfaces.damage(0, FOUR_BY_FOUR) == Ok(())
         && sets_both(surfaces, None)
