@@ -125,8 +125,8 @@ fn the_513th_change_is_one_too_many(rt: HostRuntime) -> Result<(), Fail> {
     Ok(())
 }
 
-// How many of three changes and a copy are done where so many allocations are served. None where the one that is refused isn't
-// refused for want of memory, or doesn't leave the region as it was.
+// How many of three changes and a copy are done where so many allocations are served. None where one is refused though no allocation was, or for
+// anything but want of memory, or where the region isn't left as it was.
 fn done_before_a_refusal<B: Allocator + Copy>(alloc: B, served: u64) -> Option<u32> {
     let heap = Refusing::new(alloc, served);
     let mut region = Region::new(&heap);
@@ -135,12 +135,12 @@ fn done_before_a_refusal<B: Allocator + Copy>(alloc: B, served: u64) -> Option<u
     if change(&mut known, done)? != done || !same(&region, &known) {
         return None;
     }
-    if done < 3 {
-        return Some(done);
+    if heap.refused() {
+        return if done < 3 { Some(done) } else { None };
     }
     match region.copy() {
-        Ok(copy) if same(&copy, &known) && !heap.refused() => Some(4),
-        Err(RegionError::Memory) if same(&region, &known) => Some(3),
+        Ok(copy) if done == 3 && same(&copy, &known) && !heap.refused() => Some(4),
+        Err(RegionError::Memory) if done == 3 && same(&region, &known) && heap.refused() => Some(3),
         _ => None,
     }
 }

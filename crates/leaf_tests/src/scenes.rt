@@ -28,25 +28,30 @@ fn stands<A: Allocator>(scene: &Scene<A>, k: usize, surface: Surface, x: i32, y:
     }
 }
 
-// Maps nine surfaces, each in the next place of the cascade.
 fn maps_nine<A: Allocator + Copy>(scene: &mut Scene<A>) -> bool {
-    for k in 0..9_usize {
-        let surface = Surface {
-            client: 1,
-            surface: k,
-        };
-        let at = 32 * (k % 8) as i32;
-        if scene.map(surface).is_err() || !stands(scene, k, surface, at, at) {
+    for surface in 0..9_usize {
+        if scene.map(Surface { client: 1, surface }).is_err() {
             return false;
         }
     }
     scene.toplevels().len() == 9
 }
 
+// Whether each of the nine stands in its place of the cascade.
+fn cascades<A: Allocator>(scene: &Scene<A>) -> bool {
+    for surface in 0..9_usize {
+        let at = 32 * (surface % 8) as i32;
+        if !stands(scene, surface, Surface { client: 1, surface }, at, at) {
+            return false;
+        }
+    }
+    true
+}
+
 #[test]
 fn each_mapping_takes_the_next_place(rt: HostRuntime) {
     let mut scene = Scene::new(rt.alloc());
-    assert!(rt; maps_nine(&mut scene));
+    assert!(rt; maps_nine(&mut scene) && cascades(&scene));
 }
 
 fn maps_three<A: Allocator + Copy>(scene: &mut Scene<A>) -> bool {

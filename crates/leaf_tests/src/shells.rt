@@ -184,17 +184,27 @@ fn sixty_four_configures_wait(rt: HostRuntime) {
     assert!(rt; takes_63_configures(&mut shell) && waits_for_64(&mut shell));
 }
 
-// Makes xdg_surfaces up to the first that is refused for want of memory: how many were made. None where another error comes or
-// one that was made isn't there.
+// Makes xdg_surfaces up to the first that is refused for want of memory: how many were made. None where another error comes.
 fn made<A: Allocator + Copy>(shell: &mut Shell<A>) -> Option<usize> {
     for surface in 0..1000_usize {
-        match shell.get_xdg_surface(surface, 9, 10, false, false) {
-            Ok(()) if shell.get(surface).is_some() => {}
-            Err(ShellError::Memory) if shell.get(surface).is_none() => return Some(surface),
-            _ => return None,
+        match shell.get_xdg_surface(surface, surface as u32, 10, false, false) {
+            Ok(()) => {}
+            Err(ShellError::Memory) => return Some(surface),
+            Err(_) => return None,
         }
     }
     None
+}
+
+// Whether the next is refused once more, and those that were made, and no other, are there.
+fn has_only<A: Allocator + Copy>(shell: &mut Shell<A>, made: usize) -> bool {
+    for surface in 0..made {
+        if shell.get(surface).is_none() {
+            return false;
+        }
+    }
+    shell.get_xdg_surface(made, 9, 10, false, false) == Err(ShellError::Memory)
+        && shell.get(made).is_none()
 }
 
 // Whether surface 0 is still served where no memory is left.
@@ -209,8 +219,10 @@ fn without_memory_nothing_changes(rt: HostRuntime) {
         let heap = Refusing::new(rt.alloc(), served);
         let mut shell = Shell::new(&heap);
         match made(&mut shell) {
-            Some(0) => {}
-            Some(_) => assert!(rt; is_served(&mut shell), "{served}"),
+            Some(made) => {
+                assert!(rt; has_only(&mut shell, made), "{served}");
+                assert!(rt; made == 0 || is_served(&mut shell), "{served}");
+            }
             None => assert!(rt; false, "{served}"),
         }
     }

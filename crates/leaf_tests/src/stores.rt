@@ -118,13 +118,6 @@ fn the_limit_on_all_stores(rt: HostRuntime) {
     assert!(rt; creates_64(&mut stores) && creates_no_more(&mut stores));
 }
 
-fn is_refused(size: u32, offset: i32, w: i32, h: i32, stride: i32, error: LayoutError) -> bool {
-    match layout(size, offset, w, h, stride, 1) {
-        Ok(_) => false,
-        Err(found) => found == error,
-    }
-}
-
 // Whether a store of 6400 bytes has room for 40 by 40 pixels.
 fn has_room_for_40_by_40() -> bool {
     match layout(6400, 0, 40, 40, 160, 1) {
@@ -142,21 +135,13 @@ fn has_room_for_40_by_40() -> bool {
 #[test]
 fn layouts(rt: HostRuntime) {
     assert!(rt; has_room_for_40_by_40());
-    assert!(rt; is_refused(6399, 0, 40, 40, 160, LayoutError::Stride));
-    assert!(rt; is_refused(6400, -1, 40, 40, 160, LayoutError::Stride));
-    assert!(rt; is_refused(6400, 0, 0, 40, 160, LayoutError::Stride));
-    assert!(rt; is_refused(6400, 0, 40, 0, 160, LayoutError::Stride));
-    assert!(rt; is_refused(6400, 0, 40, 40, 159, LayoutError::Stride));
-    assert!(rt;
-        is_refused(
-            4_294_967_295,
-            2_147_483_647,
-            1,
-            2_147_483_647,
-            4,
-            LayoutError::Stride
-        )
-    );
+    let stride = Some(LayoutError::Stride);
+    assert!(rt; layout(6399, 0, 40, 40, 160, 1).err() == stride);
+    assert!(rt; layout(6400, -1, 40, 40, 160, 1).err() == stride);
+    assert!(rt; layout(6400, 0, 0, 40, 160, 1).err() == stride);
+    assert!(rt; layout(6400, 0, 40, 0, 160, 1).err() == stride);
+    assert!(rt; layout(6400, 0, 40, 40, 159, 0).err() == stride);
+    assert!(rt; layout(4_294_967_295, 2_147_483_647, 1, 2_147_483_647, 4, 0).err() == stride);
     assert!(rt; layout(6399, 0, 40, 40, 160, 2).err() == Some(LayoutError::Format));
 }
 
@@ -290,9 +275,12 @@ fn each_refusal_leaves_the_stores_as_they_were(rt: HostRuntime) {
         let heap = Refusing::new(rt.alloc(), served);
         let mut stores = Stores::new(&heap);
         match done_before_a_refusal(&mut stores) {
-            Some(0 | 1) => creates = true,
+            Some(0 | 1) => {
+                assert!(rt; heap.refused(), "{served}");
+                creates = true;
+            }
             Some(2) => {
-                assert!(rt; has_both(&stores), "{served}");
+                assert!(rt; has_both(&stores) && heap.refused(), "{served}");
                 resizes = true;
             }
             Some(_) => {

@@ -83,6 +83,14 @@ fn takes_input<A: Allocator>(surfaces: &Surfaces<A>, x: i32, y: i32) -> bool {
     }
 }
 
+// Whether a commit is refused for want of memory.
+fn cannot_commit<A: Allocator + Copy>(surfaces: &mut Surfaces<A>) -> bool {
+    match surfaces.commit(0) {
+        Ok(_) => false,
+        Err(error) => error == SurfaceError::Memory,
+    }
+}
+
 // Whether a commit was done. What it tells is looked at in `a_commit_tells_what_it_changes`.
 fn commits<A: Allocator + Copy>(surfaces: &mut Surfaces<A>, surface: SurfaceNo) -> bool {
     surfaces.commit(surface).is_ok()
@@ -100,7 +108,7 @@ fn is_shown_by_a_commit<A: Allocator + Copy>(surfaces: &mut Surfaces<A>) -> bool
     attach(surfaces, 0, 7, 0, 0);
     reads(surfaces, 0, true, false, true)
         && pending(surfaces, 0) == Some(7)
-        && shown(surfaces, 0).is_none()
+        && has_no_size(surfaces)
         && commits(surfaces, 0)
         && reads(surfaces, 0, true, true, true)
         && shown(surfaces, 0) == Some((7, 5, 8))
@@ -126,7 +134,7 @@ fn has_no_size<A: Allocator>(surfaces: &Surfaces<A>) -> bool {
 #[test]
 fn a_buffer_from_its_attach_on(rt: HostRuntime) {
     let mut surfaces = Surfaces::new(rt.alloc());
-    assert!(rt; surfaces.create() == Ok(0) && has_no_size(&surfaces));
+    assert!(rt; surfaces.create() == Ok(0));
     assert!(rt; is_shown_by_a_commit(&mut surfaces));
     assert!(rt; is_gone_by_a_commit(&mut surfaces));
 }
@@ -155,6 +163,7 @@ fn is_freed_by_the_next<A: Allocator + Copy>(surfaces: &mut Surfaces<A>) -> bool
         && !surfaces.is_busy(8)
         && reads(surfaces, 0, true, true, true)
         && commits(surfaces, 0)
+        && surfaces.is_used(8)
         && surfaces.is_busy(8)
         && reads(surfaces, 0, false, false, true)
 }
@@ -177,12 +186,12 @@ fn one_buffer_after_another(rt: HostRuntime) {
     assert!(rt; is_shown_by_another(&mut surfaces));
 }
 
-// Whether an answer tells of one surface, whether that looks otherwise, how many rectangles of it are damaged, and which buffer is freed.
+// Whether an answer tells of one surface, whether that looks otherwise, how many rectangles of it are damaged, and which buffers are freed.
 fn tells<A: Allocator>(
     applied: Result<Applied<A>, SurfaceError>,
     whole: bool,
     rects: usize,
-    freed: Option<BufferNo>,
+    freed: &[BufferNo],
 ) -> bool {
     match applied {
         Ok(applied) => match applied.changes.first() {
@@ -190,7 +199,7 @@ fn tells<A: Allocator>(
                 applied.changes.len() == 1
                     && change.whole == whole
                     && change.rects.len() == rects
-                    && applied.freed.first().copied() == freed
+                    && applied.freed.as_slice() == freed
             }
             None => false,
         },
@@ -204,10 +213,10 @@ fn a_commit_tells_what_it_changes(rt: HostRuntime) {
     assert!(rt; surfaces.create() == Ok(0));
     attach(&mut surfaces, 0, 7, 0, 0);
     assert!(rt; surfaces.damage(0, FOUR_BY_FOUR) == Ok(()));
-    assert!(rt; tells(surfaces.commit(0), true, 1, None));
+    assert!(rt; tells(surfaces.commit(0), true, 1, &[]));
     attach(&mut surfaces, 0, 8, 0, 0);
-    assert!(rt; tells(surfaces.commit(0), false, 0, Some(7)));
-    assert!(rt; tells(surfaces.destroy(0), true, 0, Some(8)));
+    assert!(rt; tells(surfaces.commit(0), false, 0, &[7]));
+    assert!(rt; tells(surfaces.destroy(0), true, 0, &[8]));
 }
 
 // Attaches at this offset, commits, and says whether the surface is at that place then.
@@ -318,10 +327,19 @@ fn is_four_by_four<A: Allocator>(surfaces: &Surfaces<A>) -> bool {
         && !takes_input(surfaces, 9, 9)
 }
 
-// Whether opaque without a region is nothing, and input without one everything, each from the commit on.
-fn unsets(surfaces: &mut Surfaces<Global>) -> bool {
-    sets_both(surfaces, None)
+// Whether opaque without a region is nothing from the commit on, and input stays.
+fn unsets_opaque(surfaces: &mut Surfaces<Global>) -> bool {
+    surfaces.set_opaque(0, None) == Ok(())
         && is_four_by_four(surfaces)
+        && commits(surfaces, 0)
+        && !is_opaque(surfaces, 3, 3)
+        && !takes_input(surfaces, 9, 9)
+}
+
+// Whether input without a region is everything from the commit on.
+fn unsets_input(surfaces: &mut Surfaces<Global>) -> bool {
+    surfaces.set_input(0, None) == Ok(())
+        && !takes_input(surfaces, 9, 9)
         && commits(surfaces, 0)
         && is_unset(surfaces)
         && takes_input(surfaces, -1, -1)
@@ -337,7 +355,7 @@ fn regions_count_from_the_commit_on(rt: HostRuntime) {
     assert!(rt; region.subtract(FOUR_BY_FOUR) == Ok(()) && is_unset(&surfaces));
     assert!(rt; commits(&mut surfaces, 0) && is_four_by_four(&surfaces));
     assert!(rt; commits(&mut surfaces, 0) && is_four_by_four(&surfaces));
-    assert!(rt; unsets(&mut surfaces));
+    assert!(rt; unsets_opaque(&mut surfaces) && unsets_input(&mut surfaces));
 }
 
 // Whether a surface that had no role takes each of the four that is its first, and no other after.
@@ -435,19 +453,34 @@ fn no_surface(rt: HostRuntime) {
     assert!(rt; accepts_without_a_surface(&mut surfaces) && is_no_surface(&surfaces));
 }
 
-// Makes surfaces up to the first that is refused for want of memory: how many were made. None where another error comes, or where one
-// that was made isn't there.
+// Makes surfaces up to the first that is refused for want of memory: how many were made. None where another error comes.
 fn made<A: Allocator + Copy>(surfaces: &mut Surfaces<A>) -> Option<SurfaceNo> {
     for number in 0..256_usize {
         match surfaces.create() {
-            Ok(made) if made == number && surfaces.current(made).is_some() => {}
-            Err(SurfaceError::Memory) if surfaces.current(number).is_none() => {
-                return Some(number);
-            }
+            Ok(made) if made == number => {}
+            Err(SurfaceError::Memory) => return Some(number),
             _ => return None,
         }
     }
     None
+}
+
+// Whether the next is refused once more, and those that were made, and no other, are there.
+fn has_only<A: Allocator + Copy>(surfaces: &mut Surfaces<A>, made: SurfaceNo) -> bool {
+    for number in 0..made {
+        if surfaces.current(number).is_none() {
+            return false;
+        }
+    }
+    surfaces.create() == Err(SurfaceError::Memory) && surfaces.current(made).is_none()
+}
+
+// Whether surface 0 stays where there is no memory to destroy it.
+fn cannot_be_destroyed<A: Allocator + Copy>(surfaces: &mut Surfaces<A>) -> bool {
+    match surfaces.destroy(0) {
+        Ok(_) => false,
+        Err(error) => error == SurfaceError::Memory && surfaces.current(0).is_some(),
+    }
 }
 
 #[test]
@@ -456,9 +489,9 @@ fn a_surface_without_memory_is_not_made(rt: HostRuntime) {
         let heap = Refusing::new(rt.alloc(), served);
         let mut surfaces = Surfaces::new(&heap);
         match made(&mut surfaces) {
-            Some(0) => {}
-            Some(_) => {
-                assert!(rt; !destroys(&mut surfaces, 0) && surfaces.current(0).is_some());
+            Some(made) => {
+                assert!(rt; heap.refused() && has_only(&mut surfaces, made), "{served}");
+                assert!(rt; made == 0 || cannot_be_destroyed(&mut surfaces), "{served}");
             }
             None => assert!(rt; false, "{served}"),
         }
@@ -490,13 +523,14 @@ fn done_before_a_refusal<A: Allocator + Copy>(surfaces: &mut Surfaces<A>) -> Opt
 fn is_not_committed<A: Allocator + Copy>(surfaces: &mut Surfaces<A>) -> bool {
     reads(surfaces, 0, true, false, true)
         && pending(surfaces, 0) == Some(7)
-        && !commits(surfaces, 0)
+        && cannot_commit(surfaces)
         && shown(surfaces, 0).is_none()
         && is_at(surfaces, 0, 0, 0)
 }
 
 fn is_committed<A: Allocator>(surfaces: &Surfaces<A>) -> bool {
     reads(surfaces, 0, true, true, true)
+        && pending(surfaces, 0) == Some(7)
         && shown(surfaces, 0) == Some((7, 5, 8))
         && is_at(surfaces, 0, 1, 2)
 }
@@ -510,13 +544,16 @@ fn damage_and_commit_without_memory(rt: HostRuntime) {
         let heap = Refusing::new(rt.alloc(), served);
         let mut surfaces = Surfaces::new(&heap);
         match done_before_a_refusal(&mut surfaces) {
-            Some(0) => assert!(rt; is_no_surface(&surfaces)),
+            Some(0) => assert!(rt; is_no_surface(&surfaces) && heap.refused(), "{served}"),
             Some(3) => {
                 assert!(rt; is_committed(&surfaces) && !heap.refused(), "{served}");
                 break;
             }
             Some(done) => {
-                assert!(rt; is_not_committed(&mut surfaces), "{served}");
+                assert!(rt;
+                    heap.refused() && is_not_committed(&mut surfaces),
+                    "{served}"
+                );
                 damages = damages || done == 1;
                 commits = commits || done == 2;
             }
@@ -573,13 +610,17 @@ fn regions_without_memory(rt: HostRuntime) {
             continue;
         }
         match set_both(&mut surfaces, &region) {
-            Some(0) => opaques = true,
-            Some(1) => inputs = true,
-            Some(_) => {
+            Some(2) => {
+                assert!(rt; !heap.refused(), "{served}");
                 if commits(&mut surfaces, 0) {
-                    assert!(rt; is_four_by_four(&surfaces) && !heap.refused(), "{served}");
+                    assert!(rt; is_four_by_four(&surfaces), "{served}");
                     break;
                 }
+            }
+            Some(set) => {
+                assert!(rt; heap.refused(), "{served}");
+                opaques = opaques || set == 0;
+                inputs = inputs || set == 1;
             }
             None => assert!(rt; false, "{served}"),
         }

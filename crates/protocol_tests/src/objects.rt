@@ -37,12 +37,12 @@ fn removes<A: Allocator>(objects: &mut Objects<A>, id: u32) -> bool {
 }
 
 fn inserts_within_its_ids<A: Allocator + Copy>(objects: &mut Objects<A>) -> bool {
-    inserts(objects, 1)
-        && inserts(objects, 2)
+    objects.insert(1, entry(Interface::WlDisplay, 0)) == Ok(())
+        && objects.insert(2, entry(Interface::WlRegistry, 7)) == Ok(())
         && refuses(objects, 2, TableError::InUse)
         && refuses(objects, 0, TableError::BadId)
         && refuses(objects, 0xff000000, TableError::BadId)
-        && inserts(objects, 0xfeffffff)
+        && objects.insert(0xfeffffff, entry(Interface::WlShm, 0)) == Ok(())
         && objects.next_after(2) == Some(0xfeffffff)
         && objects.next_after(0xfeffffff).is_none()
 }
@@ -50,8 +50,8 @@ fn inserts_within_its_ids<A: Allocator + Copy>(objects: &mut Objects<A>) -> bool
 fn sets_and_removes<A: Allocator>(objects: &mut Objects<A>) -> bool {
     objects.set(2, 9)
         && !objects.set(3, 9)
-        && has(objects, 2, 9)
-        && objects.remove(2) == Some(entry(Interface::WlSurface, 9))
+        && objects.get(2) == Some(entry(Interface::WlRegistry, 9))
+        && objects.remove(2) == Some(entry(Interface::WlRegistry, 9))
         && objects.get(2).is_none()
         && objects.len() == 2
         && !objects.is_empty()

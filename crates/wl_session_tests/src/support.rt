@@ -366,11 +366,7 @@ fn first_missed(alloc: Global, session: &mut Session<Global>, rows: &[Row]) -> O
 }
 
 /// Plays the parts of a case in a session.
-pub(crate) fn play_in(
-    alloc: Global,
-    session: &mut Session<Global>,
-    parts: &[&[Row]],
-) -> Result<(), Fault> {
+fn play_in(alloc: Global, session: &mut Session<Global>, parts: &[&[Row]]) -> Result<(), Fault> {
     for (part, rows) in parts.iter().enumerate() {
         if let Some(place) = first_missed(alloc, session, rows) {
             return Err(Fault::Row(part, place));
@@ -382,30 +378,33 @@ pub(crate) fn play_in(
 /// A case: its name, and the parts of rows that are played in turn in a session of its own.
 pub(crate) type Case<'a> = (&'a str, &'a [&'a [Row<'a>]]);
 
-/// Plays the parts of a case after those that it shares with others.
-pub(crate) fn play_after(alloc: Global, first: &[&[Row]], parts: &[&[Row]]) -> Result<(), Fault> {
+/// Plays groups of parts, one after another, in a new session.
+pub(crate) fn play_all(alloc: Global, groups: &[&[&[Row]]]) -> Result<(), Fault> {
     match Session::new(alloc, CONFIG) {
-        Ok(mut session) => play_both(alloc, &mut session, first, parts),
+        Ok(mut session) => play_each(alloc, &mut session, groups),
         Err(_) => Err(Fault::NoSession),
     }
 }
 
-fn play_both(
+fn play_each(
     alloc: Global,
     session: &mut Session<Global>,
-    first: &[&[Row]],
-    parts: &[&[Row]],
+    groups: &[&[&[Row]]],
 ) -> Result<(), Fault> {
-    play_in(alloc, session, first)?;
-    play_in(alloc, session, parts)
+    for parts in groups {
+        play_in(alloc, session, parts)?;
+    }
+    Ok(())
+}
+
+/// Plays the parts of a case after those that it shares with others.
+pub(crate) fn play_after(alloc: Global, first: &[&[Row]], parts: &[&[Row]]) -> Result<(), Fault> {
+    play_all(alloc, &[first, parts])
 }
 
 /// Plays the parts of a case.
 pub(crate) fn play(alloc: Global, parts: &[&[Row]]) -> Result<(), Fault> {
-    match Session::new(alloc, CONFIG) {
-        Ok(mut session) => play_in(alloc, &mut session, parts),
-        Err(_) => Err(Fault::NoSession),
-    }
+    play_all(alloc, &[parts])
 }
 
 fn play_row_in(
