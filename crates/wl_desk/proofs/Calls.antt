@@ -12,9 +12,9 @@ use Rattle.wl_client.specs.declared.clients.Cause.TheVariants.{Gone}
 use Rattle.wl_client.specs.declared.outputs.Output.{Output}
 use Rattle.wl_scene.specs.Stacking.{Stack, without_client}
 use Rattle.wl_scene.specs.declared.owned.Owned.{Owned}
-use Rattle.wl_resident.specs.Agreement.{Agrees, IsPlace, IsScene, IsSlot, numbers_in, numbers_of, with_numbers}
-use Rattle.wl_plain.specs.Desktop.{Desktop, Resident, arrival, become_by, client_at, empty, place, with_client, with_number}
-use Rattle.wl_resident.specs.Seats.{IsBare, IsChangedSo, IsSeated, has_ended_in}
+use Rattle.wl_resident.specs.Agreement.{Matches, IsPlace, IsScene, IsSlot, numbers_in, numbers_of, with_numbers}
+use Rattle.wl_plain.specs.Desktop.{Desktop, Resident, arrival, become, become_by, client_at, empty, place, with_client, with_number}
+use Rattle.wl_resident.specs.Seats.{IsBare, IsChangedSo, IsSeated, ended_by, has_ended_in}
 use Rattle.wl_plain.specs.Served.{beyond_toplevels}
 use Rattle.wl_plain.specs.Step.{Serves}
 use Rattle.wl_plain.specs.Steps.{Changes, ChangesAt, ConnectsAt, IsClosed, closed_by, left_so, lowest, next_of, peer_at, peer_of}
@@ -31,6 +31,14 @@ use Rattle.wl_plain.proofs.StandingSteps.{closed-stand, connects-stand, empty-st
 use Rattle.wl_resident.proofs.Taking.{gone-scene}
 use Rattle.wl_resident.proofs.Telling.{lives-of}
 use Rattle.wl_plain.proofs.Places.{client-kept, number-kept}
+
+-- a client ends by this, where it lives
+abbrev pub ended_of : ℕ → Cause → Option Resident → Desktop → Desktop
+ended_of c cause None d = d
+ended_of c cause (Some r) d = become c r (ended_by r.peer.status cause r.peer) d
+
+abbrev pub ended_at : ℕ → Cause → Desktop → Desktop
+ended_at c cause d = ended_of c cause (client_at c d) d
 
 -- what the desk is seen as
 abbrev pub view_of : {A : Type 0} → Output → List (Option ClientView) → List (Option (Owned A)) → Stack → DeskView
@@ -82,7 +90,7 @@ pub closed-none : (s : Option Cause) (p : Peer) → is_some s ≡ true → close
 closed-none None p e = absurd (differ (sym e))
 closed-none (Some cause) p e = refl
 
-module _ {A : Type 0} (output : Output) (us : List (Option ClientView)) (os : List (Option (Owned A))) (stack : Stack) (c k : ℕ) (is : IsFound us os c k) (d : Desktop) (a : Agrees (view_of output us os stack) d) where
+module _ {A : Type 0} (output : Output) (us : List (Option ClientView)) (os : List (Option (Owned A))) (stack : Stack) (c k : ℕ) (is : IsFound us os c k) (d : Desktop) (a : Matches (view_of output us os stack) d) where
   pub client-here : (x : Option ClientView) → x ≡ get_or us k x → at us k ≡ x
   client-here x e = sym (e ∙ at-within us k x is.client)
 
@@ -98,7 +106,7 @@ module _ {A : Type 0} (output : Output) (us : List (Option ClientView)) (os : Li
       rw is.number (seated-out (view_of output us os stack) d k v (client-here x e ∙ taken.0) (owned-here y f ∙ ap (λ (o : Option (Owned A)). option_map owned_view o) taken.1) a)
 
   pub back : (v : Kept A) (x : Option ClientView) (y : Option (Owned A)) (now : Stack) (e : Desktop) (s : Resident) → IsSeated c (numbers_in us) d v now e s
-      → Agrees (view_of output (set (set us k x) k (Some v.client)) (set (set os k y) k (Some v.owned)) now) e
+      → Matches (view_of output (set (set us k x) k (Some v.client)) (set (set os k y) k (Some v.owned)) now) e
   back v x y now e s seated =
       seated-back (view_of output us os stack) k v s _ _ now d e a is.client (put-twice k (Some v.client) x us is.client)
       (put-map owned_view k (Some v.owned) os _ (put-twice k (Some v.owned) y os is.owned)) (rw is.number at seated)
@@ -106,7 +114,7 @@ module _ {A : Type 0} (output : Output) (us : List (Option ClientView)) (os : Li
   -- one message of a client is taken
   pub serves : (v new : Kept A) (x x2 : Option ClientView) (y y2 : Option (Owned A)) (now : Stack) → x ≡ get_or us k x → y ≡ get_or os k y → (x ≡ Some v.client) × (y ≡ Some v.owned)
       → ((r : Resident) → IsSeated c (numbers_in us) d v stack d r → (e : Desktop) × (q : Resident) × Serves beyond_toplevels c d e × IsSeated c (numbers_in us) d new now e q)
-      → (e : Desktop) × Serves beyond_toplevels c d e × Agrees (view_of output (set (set us k x2) k (Some new.client)) (set (set os k y2) k (Some new.owned)) now) e
+      → (e : Desktop) × Serves beyond_toplevels c d e × Matches (view_of output (set (set us k x2) k (Some new.client)) (set (set os k y2) k (Some new.owned)) now) e
   serves v new x x2 y y2 now e f taken serve =
       let s = out v x y e f taken in
       let n = serve s.0 s.2 in
@@ -115,7 +123,7 @@ module _ {A : Type 0} (output : Output) (us : List (Option ClientView)) (os : Li
   -- a client that is told something
   pub changes : (R : Peer → Done → Option Peer → Type 0) (absent done : Done) (v new : Kept A) (x x2 : Option ClientView) (y y2 : Option (Owned A)) (now : Stack) → x ≡ get_or us k x → y ≡ get_or os k y → (x ≡ Some v.client) × (y ≡ Some v.owned)
       → IsChangedSo c R done v new stack now
-      → (e : Desktop) × Changes c R absent d done e × Agrees (view_of output (set (set us k x2) k (Some new.client)) (set (set os k y2) k (Some new.owned)) now) e
+      → (e : Desktop) × Changes c R absent d done e × Matches (view_of output (set (set us k x2) k (Some new.client)) (set (set os k y2) k (Some new.owned)) now) e
   changes R absent done v new x x2 y y2 now e f taken changed =
       let s = out v x y e f taken in
       let n = changed (numbers_in us) d d s.0 s.2 in (
@@ -126,7 +134,7 @@ module _ {A : Type 0} (output : Output) (us : List (Option ClientView)) (os : Li
 
   -- nobody was taken out
   pub untaken : (x x2 : Option ClientView) (y y2 : Option (Owned A)) → x ≡ get_or us k x → y ≡ get_or os k y → (x ≡ None) ⊎ (y ≡ None) → (x2 ≡ None) × (y2 ≡ None)
-      → (client_at c d ≡ None) × Agrees (view_of output (set us k x2) (set os k y2) stack) d
+      → (client_at c d ≡ None) × Matches (view_of output (set us k x2) (set os k y2) stack) d
   untaken x x2 y y2 e f none left =
       let nobody = place-none x (option_map owned_view y) (client_at c d) (place-here x y e f) (owned-none none) in
       let free : client_at (suc k) d ≡ None = subst (λ (n : ℕ). client_at n d ≡ None) is.number nobody.1 in (
@@ -141,7 +149,7 @@ module _ {A : Type 0} (output : Output) (us : List (Option ClientView)) (os : Li
       owned-none (inr h) = inr (ap (λ (o : Option (Owned A)). option_map owned_view o) h)
 
   pub changes-untaken : (R : Peer → Done → Option Peer → Type 0) (absent : Done) (x x2 : Option ClientView) (y y2 : Option (Owned A)) → x ≡ get_or us k x → y ≡ get_or os k y → (x ≡ None) ⊎ (y ≡ None) → (x2 ≡ None) × (y2 ≡ None)
-      → (e : Desktop) × Changes c R absent d absent e × Agrees (view_of output (set us k x2) (set os k y2) stack) e
+      → (e : Desktop) × Changes c R absent d absent e × Matches (view_of output (set us k x2) (set os k y2) stack) e
   changes-untaken R absent x x2 y y2 e f none left =
       let free = untaken x x2 y y2 e f none left in
       (d, subst (λ (o : Option Resident). ChangesAt R absent c o d absent d) (sym free.0) (refl, refl), free.1)
@@ -154,7 +162,7 @@ module _ {A : Type 0} (output : Output) (us : List (Option ClientView)) (os : Li
   -- ---- a number is given back
 
   -- there is nobody, or the client lives
-  pub unclosed : (x : Option ClientView) → x ≡ get_or us k x → has_ended_in x ≡ false → (e : Desktop) × Changes c IsClosed (gave.Close false) d (gave.Close false) e × Agrees (view_of output us os stack) e
+  pub unclosed : (x : Option ClientView) → x ≡ get_or us k x → has_ended_in x ≡ false → (e : Desktop) × Changes c IsClosed (gave.Close false) d (gave.Close false) e × Matches (view_of output us os stack) e
   unclosed x e alive = (d, by x (at (map (option_map owned_view) os) k) (client_at c d) refl (rw is.number (rw (client-here x e) at (place-at (view_of output us os stack) d k a))) alive, a)
     where
       by : (x : Option ClientView) (o : Option OwnedView) (r : Option Resident) → client_at c d ≡ r → IsPlace x o r → has_ended_in x ≡ false → ChangesAt IsClosed (gave.Close false) c r d (gave.Close false) d
@@ -174,7 +182,7 @@ module _ {A : Type 0} (output : Output) (us : List (Option ClientView)) (os : Li
 
   -- the client ended: it goes, and its toplevels with it
   pub closed : (x : Option ClientView) (now : Stack) → x ≡ get_or us k x → has_ended_in x ≡ true → now.standing ≡ without_client c stack.standing → now.next ≡ stack.next
-      → (e : Desktop) × Changes c IsClosed (gave.Close false) d (gave.Close true) e × Agrees (view_of output (set us k None) (set os k None) now) e
+      → (e : Desktop) × Changes c IsClosed (gave.Close false) d (gave.Close true) e × Matches (view_of output (set us k None) (set os k None) now) e
   closed x now e over standing next =
       let after : Desktop = record d { clients = with_number c None d.clients; standing = without_client c d.standing } in
       let scene = gone-scene Gone c (numbers_of x) (numbers_in us) nothing (arrival d.output) (newcomer d.output) d d stack now
@@ -202,18 +210,18 @@ slot-there x None v e here = absurd (rw e at here)
 slot-there x (Some p) v e here = (p, refl, rw e at here)
 
 pub client-there : {A : Type 0} (output : Output) (us : List (Option ClientView)) (os : List (Option (Owned A))) (c k : ℕ) → IsFound us os c k → (new : Kept A) (x2 : Option ClientView) (y2 : Option (Owned A)) (now : Stack) (e : Desktop)
-    → Agrees (view_of output (set (set us k x2) k (Some new.client)) (set (set os k y2) k (Some new.owned)) now) e → (p : Peer) × (peer_at c e ≡ Some p) × IsPeer new.client p
+    → Matches (view_of output (set (set us k x2) k (Some new.client)) (set (set os k y2) k (Some new.owned)) now) e → (p : Peer) × (peer_at c e ≡ Some p) × IsPeer new.client p
 client-there output us os c k is new x2 y2 now e b =
     let view = view_of output (set (set us k x2) k (Some new.client)) (set (set os k y2) k (Some new.owned)) now in
     rw is.number (slot-there (at view.clients k) (peer_at (suc k) e) new.client (put-twice k (Some new.client) x2 us is.client).here (slot-peer (at view.clients k) (at view.owned k) (client_at (suc k) e) (place-at view e k b)))
 
 -- ---- nobody is there
 
-pub Changes-none : (R : Peer → Done → Option Peer → Type 0) (absent : Done) (us : List (Option ClientView)) (w : DeskView) (d : Desktop) (c : ℕ) → us ≡ w.clients → (c ≡ 0) ⊎ (length us < c) → Agrees w d → (e : Desktop) × Changes c R absent d absent e × Agrees w e
+pub Changes-none : (R : Peer → Done → Option Peer → Type 0) (absent : Done) (us : List (Option ClientView)) (w : DeskView) (d : Desktop) (c : ℕ) → us ≡ w.clients → (c ≡ 0) ⊎ (length us < c) → Matches w d → (e : Desktop) × Changes c R absent d absent e × Matches w e
 Changes-none R absent us w d c same h a =
     (d, subst (λ (o : Option Resident). ChangesAt R absent c o d absent d) (sym (client-past us w d c same h a)) (refl, refl), a)
 
-pub peer_at-none : (us : List (Option ClientView)) (w : DeskView) (d : Desktop) (c : ℕ) → us ≡ w.clients → (c ≡ 0) ⊎ (length us < c) → Agrees w d → peer_at c d ≡ None
+pub peer_at-none : (us : List (Option ClientView)) (w : DeskView) (d : Desktop) (c : ℕ) → us ≡ w.clients → (c ≡ 0) ⊎ (length us < c) → Matches w d → peer_at c d ≡ None
 peer_at-none us w d c same h a = ap (λ (o : Option Resident). peer_of o) (client-past us w d c same h a)
 
 -- ---- a client comes
@@ -228,14 +236,14 @@ lowest-same [] (r ∷ rs) count same = absurd (omega (arith, count))
 lowest-same (v ∷ us) [] count same = absurd (omega (arith, count))
 
 -- the lowest free number is free in both
-lowest-agrees : (us : List (Option ClientView)) (w : DeskView) (d : Desktop) (o : Option ℕ) → us ≡ w.clients → o ≡ lowest us → Agrees w d → lowest d.clients ≡ o
+lowest-agrees : (us : List (Option ClientView)) (w : DeskView) (d : Desktop) (o : Option ℕ) → us ≡ w.clients → o ≡ lowest us → Matches w d → lowest d.clients ≡ o
 lowest-agrees us w d o same found a =
     sym (lowest-same w.clients d.clients a.count (λ k. place-some (at w.clients k) (at w.owned k) (place d.clients k) (a.clients k))) ∙ sym (found ∙ ap (λ (xs : List (Option ClientView)). lowest xs) same)
 
-pub Connects-full : (us : List (Option ClientView)) (w : DeskView) (d : Desktop) → us ≡ w.clients → None ≡ lowest us → Agrees w d → (e : Desktop) × ConnectsAt (lowest d.clients) d (gave.Connect (Err Full)) e × Agrees w e
+pub Connects-full : (us : List (Option ClientView)) (w : DeskView) (d : Desktop) → us ≡ w.clients → None ≡ lowest us → Matches w d → (e : Desktop) × ConnectsAt (lowest d.clients) d (gave.Connect (Err Full)) e × Matches w e
 Connects-full us w d same none a = let free = lowest-agrees us w d None same none a in (d, rw free (refl, refl), a)
 
-pub Connects-refused : (us : List (Option ClientView)) (w : DeskView) (d : Desktop) (k : ℕ) → us ≡ w.clients → Some k ≡ lowest us → Agrees w d → (e : Desktop) × ConnectsAt (lowest d.clients) d (gave.Connect (Err Memory)) e × Agrees w e
+pub Connects-refused : (us : List (Option ClientView)) (w : DeskView) (d : Desktop) (k : ℕ) → us ≡ w.clients → Some k ≡ lowest us → Matches w d → (e : Desktop) × ConnectsAt (lowest d.clients) d (gave.Connect (Err Memory)) e × Matches w e
 Connects-refused us w d k same found a = let free = lowest-agrees us w d (Some k) same found a in (d, rw free (inl (refl, refl)), a)
 
 pub lowest-at : {X : Type 0} (xs : List (Option X)) (k : ℕ) → lowest xs ≡ Some k → at xs k ≡ None
@@ -252,8 +260,8 @@ lowest-at (Some x ∷ xs) k e = by (lowest xs) (lowest-at xs) e
 
 -- the client that came has the place
 pub Connects-new : {A : Type 0} (output : Output) (us vs : List (Option ClientView)) (os : List (Option (Owned A))) (stack : Stack) (k : ℕ) (v : ClientView) (owned : Owned A) (d : Desktop) → vs ≡ us → Some k ≡ lowest vs → k < length us → k < length os
-    → IsPeer v (newcomer (output_of output)) → IsBare owned → Agrees (view_of output us os stack) d
-    → (e : Desktop) × ConnectsAt (lowest d.clients) d (gave.Connect (Ok (k + 1))) e × Agrees (view_of output (set us k (Some v)) (set os k (Some owned)) stack) e
+    → IsPeer v (newcomer (output_of output)) → IsBare owned → Matches (view_of output us os stack) d
+    → (e : Desktop) × ConnectsAt (lowest d.clients) d (gave.Connect (Ok (k + 1))) e × Matches (view_of output (set us k (Some v)) (set os k (Some owned)) stack) e
 Connects-new output us vs os stack k v owned d same found within owned_within is bare a =
     let free = lowest-agrees vs (view_of output us os stack) d (Some k) same found a in
     let next : IsPeer v (newcomer d.output) = subst (λ (o : Shown). IsPeer v (newcomer o)) a.output is in
@@ -288,7 +296,7 @@ place-nobody zero k = refl
 place-nobody (suc n) zero = refl
 place-nobody (suc n) (suc k) = place-nobody n k
 
-pub Agrees-empty : {A : Type 0} (output : Output) (us : List (Option ClientView)) (os : List (Option (Owned A))) → us ≡ replicate 32 None → os ≡ replicate 32 None → Agrees (view_of output us os (record { standing = []; next = 0 })) (empty (output_of output))
+pub Agrees-empty : {A : Type 0} (output : Output) (us : List (Option ClientView)) (os : List (Option (Owned A))) → us ≡ replicate 32 None → os ≡ replicate 32 None → Matches (view_of output us os (record { standing = []; next = 0 })) (empty (output_of output))
 Agrees-empty {A} output us os nobody nothing =
     record {
       output = refl;

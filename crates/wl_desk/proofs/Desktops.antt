@@ -6,7 +6,7 @@ use Rattle.std.proofs.lemmas.Bool.{eqb-false, eqb-true}
 use Rattle.std.proofs.lemmas.List.{get_or-set_other, get_or-set_same, length-set}
 use Rattle.wl_client.specs.View.{ClientView}
 use Rattle.wl_scene.specs.Stacking.{Stack}
-use Rattle.wl_resident.specs.Agreement.{Agrees, IsPlace, IsScene, IsSeat, numbers_in, numbers_of, with_numbers}
+use Rattle.wl_resident.specs.Agreement.{Matches, IsPlace, IsScene, IsSeat, numbers_in, numbers_of, with_numbers}
 use Rattle.wl_plain.specs.Desktop.{Desktop, Resident, client_at, place, with_number, with_place}
 use Rattle.wl_resident.specs.Seats.{IsSeated}
 use Rattle.wl_plain.specs.Standing.{MappedStand}
@@ -119,9 +119,9 @@ scene-out k x us stack d here scene =
     }
 
 -- one place and the toplevels become others
-pub agrees-put : (w : DeskView) (k : ℕ) (x : Option ClientView) (o : Option OwnedView) (r : Option Resident) (us : List (Option ClientView)) (os : List (Option OwnedView)) (stack : Stack) (d e : Desktop) → Agrees w d → k < length w.clients
+pub agrees-put : (w : DeskView) (k : ℕ) (x : Option ClientView) (o : Option OwnedView) (r : Option Resident) (us : List (Option ClientView)) (os : List (Option OwnedView)) (stack : Stack) (d e : Desktop) → Matches w d → k < length w.clients
     → IsPut k x w.clients us → IsPut k o w.owned os → e.output ≡ d.output → e.clients ≡ with_number (suc k) r d.clients → IsPlace x o r → IsScene (with_numbers (suc k) (numbers_of x) (numbers_in w.clients)) stack e → MappedStand e
-    → Agrees (record { output = w.output; clients = us; owned = os; scene = stack }) e
+    → Matches (record { output = w.output; clients = us; owned = os; scene = stack }) e
 agrees-put w k x o r us os stack d e a within puts owns output clients is scene mapped =
     record {
       output = a.output ∙ sym output;
@@ -142,10 +142,10 @@ agrees-put w k x o r us os stack d e a within puts owns output clients is scene 
 -- ---- a client is taken out, and put back
 
 -- what is kept of a number's client
-pub place-at : (w : DeskView) (d : Desktop) (k : ℕ) → Agrees w d → IsPlace (at w.clients k) (at w.owned k) (client_at (suc k) d)
+pub place-at : (w : DeskView) (d : Desktop) (k : ℕ) → Matches w d → IsPlace (at w.clients k) (at w.owned k) (client_at (suc k) d)
 place-at w d k a = a.clients k
 
-pub client-past : (us : List (Option ClientView)) (w : DeskView) (d : Desktop) (c : ℕ) → us ≡ w.clients → (c ≡ 0) ⊎ (length us < c) → Agrees w d → client_at c d ≡ None
+pub client-past : (us : List (Option ClientView)) (w : DeskView) (d : Desktop) (c : ℕ) → us ≡ w.clients → (c ≡ 0) ⊎ (length us < c) → Matches w d → client_at c d ≡ None
 client-past us w d zero same h a = refl
 client-past us w d (suc k) same (inl h) a = absurd (omega arith)
 client-past us w d (suc k) same (inr h) a =
@@ -157,7 +157,7 @@ seat-of x o None v e f is = absurd (rw (e, f) at is)
 seat-of x o (Some s) v e f is = (s, refl, rw (e, f) at is)
 
 -- the one who is taken out, with the others' numbers
-pub seated-out : {A : Type 0} (w : DeskView) (d : Desktop) (k : ℕ) (v : Kept A) → at w.clients k ≡ Some v.client → at w.owned k ≡ Some (owned_view v.owned) → Agrees w d
+pub seated-out : {A : Type 0} (w : DeskView) (d : Desktop) (k : ℕ) (v : Kept A) → at w.clients k ≡ Some v.client → at w.owned k ≡ Some (owned_view v.owned) → Matches w d
     → (s : Resident) × (client_at (suc k) d ≡ Some s) × IsSeated (suc k) (numbers_in w.clients) d v w.scene d s
 seated-out w d k v x o a =
     let seat = seat-of (at w.clients k) (at w.owned k) (client_at (suc k) d) v x o (place-at w d k a) in (
@@ -172,8 +172,8 @@ seated-out w d k v x o a =
     )
 
 -- put back as it is now
-pub seated-back : {A : Type 0} (w : DeskView) (k : ℕ) (v : Kept A) (s : Resident) (us : List (Option ClientView)) (os : List (Option OwnedView)) (stack : Stack) (d e : Desktop) → Agrees w d → k < length w.clients
-    → IsPut k (Some v.client) w.clients us → IsPut k (Some (owned_view v.owned)) w.owned os → IsSeated (suc k) (numbers_in w.clients) d v stack e s → Agrees (record { output = w.output; clients = us; owned = os; scene = stack }) e
+pub seated-back : {A : Type 0} (w : DeskView) (k : ℕ) (v : Kept A) (s : Resident) (us : List (Option ClientView)) (os : List (Option OwnedView)) (stack : Stack) (d e : Desktop) → Matches w d → k < length w.clients
+    → IsPut k (Some v.client) w.clients us → IsPut k (Some (owned_view v.owned)) w.owned os → IsSeated (suc k) (numbers_in w.clients) d v stack e s → Matches (record { output = w.output; clients = us; owned = os; scene = stack }) e
 seated-back w k v s us os stack d e a within puts owns is =
     agrees-put w k (Some v.client) (Some (owned_view v.owned)) (Some s) us os stack d e a within puts owns is.based.output is.based.clients is.seat is.scene is.mapped
 

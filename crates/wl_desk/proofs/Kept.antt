@@ -16,10 +16,10 @@ use Rattle.wl_client.specs.declared.served.Served.TheVariants as served
 use Rattle.wl_paint.specs.Damage.{Damaged}
 use Rattle.wl_scene.specs.Stacking.{Stack}
 use Rattle.wl_scene.specs.declared.owned.Owned.{Owned}
-use Rattle.wl_resident.specs.Agreement.{Agrees, IsPlace, IsSeat, numbers_in}
+use Rattle.wl_resident.specs.Agreement.{Matches, IsPlace, IsSeat, numbers_in}
 use Rattle.wl_plain.specs.Ask.{Ask}
 use Rattle.wl_plain.specs.Desktop.{Desktop, Resident, become, become_by, client_at, client_in, resident_of, with_number}
-use Rattle.wl_desk.specs.Feeding.{IsIdleIn, IsIdleOf, ended_at, ended_of, kept_at, kept_by, kept_in, kept_of, kept_while, rest_in, served_as, served_by, served_of}
+use Rattle.wl_desk.specs.Feeding.{IsIdleIn, IsIdleOf, kept_at, kept_by, kept_in, kept_of, kept_while, rest_in, served_as, served_by, served_of}
 use Rattle.wl_resident.specs.Marking.{AreUnlinked, Marks}
 use Rattle.wl_resident.specs.Seats.{IsSeated, ended_by}
 use Rattle.wl_plain.specs.Served.{Unserved, beyond_toplevels}
@@ -27,7 +27,7 @@ use Rattle.wl_plain.specs.Step.{Answers, Becomes, Serves, ServesAt, Takes, Wants
 use Rattle.wl_plain.specs.Steps.{fed_of, peer_at, status_of}
 use Rattle.wl_resident.specs.View.{DeskView, OwnedView, owned_view}
 use Rattle.wl_resident.specs.declared.residents.Resident.{Resident as Kept}
-use Rattle.wl_desk.proofs.Calls.{IsFound, back, client-there, out, place-here, place-none, untaken, view_of}
+use Rattle.wl_desk.proofs.Calls.{IsFound, back, client-there, ended_at, ended_of, out, place-here, place-none, untaken, view_of}
 use Rattle.wl_desk.proofs.Desktops.{IsPut, at, at-map, at-within, client-past, numbers-put, place-at, put-map, put-set, put-twice, seated-back}
 use Rattle.wl_desk.proofs.MarkedCalls.{unlinked}
 use Rattle.wl_plain.proofs.Places.{number-same, stacked-clients}
@@ -114,19 +114,19 @@ seat-here x o (Some q) v w e f here = (q, refl, rw (e, f) at here)
 
 -- how the client is then
 pub serves-told : {A : Type 0} (output : Output) (us : List (Option ClientView)) (os : List (Option (Owned A))) (c k : ℕ) → IsFound us os c k → (new : Kept A) (x2 : Option ClientView) (y2 : Option (Owned A)) (now : Stack) (e : Desktop) (answer : Served)
-    → answer ≡ served_by new.client.ended → Agrees (view_of output (set (set us k x2) k (Some new.client)) (set (set os k y2) k (Some new.owned)) now) e → answer ≡ served_of (status_of (peer_at c e))
+    → answer ≡ served_by new.client.ended → Matches (view_of output (set (set us k x2) k (Some new.client)) (set (set os k y2) k (Some new.owned)) now) e → answer ≡ served_of (status_of (peer_at c e))
 serves-told output us os c k is new x2 y2 now e answer told b =
     let here = client-there output us os c k is new x2 y2 now e b in
     told ∙ (served-told new.client.ended ∙ ap served_of (ap fed_of here.2.status ∙ ap status_of (sym here.1)))
 
-module _ {A : Type 0} (output : Output) (us : List (Option ClientView)) (os : List (Option (Owned A))) (stack : Stack) (c k : ℕ) (is : IsFound us os c k) (d : Desktop) (a : Agrees (view_of output us os stack) d) where
+module _ {A : Type 0} (output : Output) (us : List (Option ClientView)) (os : List (Option (Owned A))) (stack : Stack) (c k : ℕ) (is : IsFound us os c k) (d : Desktop) (a : Matches (view_of output us os stack) d) where
   -- ---- a message
 
   abbrev put-back : Kept A → Option ClientView → Option (Owned A) → Stack → DeskView
   put-back new x2 y2 now = view_of output (set (set us k x2) k (Some new.client)) (set (set os k y2) k (Some new.owned)) now
 
   -- who was served and put back is seated in the desktop that agrees
-  seated-new : (new : Kept A) (x2 : Option ClientView) (y2 : Option (Owned A)) (now : Stack) (e : Desktop) (s : Resident) → client_at c d ≡ Some s → Serves beyond_toplevels c d e → Agrees (put-back new x2 y2 now) e
+  seated-new : (new : Kept A) (x2 : Option ClientView) (y2 : Option (Owned A)) (now : Stack) (e : Desktop) (s : Resident) → client_at c d ≡ Some s → Serves beyond_toplevels c d e → Matches (put-back new x2 y2 now) e
       → (q : Resident) × IsSeated c (numbers_in us) d new now e q
   seated-new new x2 y2 now e s there serves b =
       let view = put-back new x2 y2 now in
@@ -149,7 +149,7 @@ module _ {A : Type 0} (output : Output) (us : List (Option ClientView)) (os : Li
 
   pub serves-marks : (v new : Kept A) (x x2 : Option ClientView) (y y2 : Option (Owned A)) (now : Stack) (e : Desktop) (before after : Damaged) → x ≡ get_or us k x → y ≡ get_or os k y → (x ≡ Some v.client) × (y ≡ Some v.owned)
       → ((r : Resident) → AreUnlinked d → IsSeated c (numbers_in us) d v stack d r → (e : Desktop) (q : Resident) → Serves beyond_toplevels c d e → IsSeated c (numbers_in us) d new now e q → Marks d e before after)
-      → Serves beyond_toplevels c d e → Agrees (put-back new x2 y2 now) e → Marks d e before after
+      → Serves beyond_toplevels c d e → Matches (put-back new x2 y2 now) e → Marks d e before after
   serves-marks v new x x2 y y2 now e before after f g taken marks serves b =
       let s = out output us os stack c k is d a v x y f g taken in
       let n = seated-new new x2 y2 now e s.0 s.1 serves b in
@@ -157,7 +157,7 @@ module _ {A : Type 0} (output : Output) (us : List (Option ClientView)) (os : Li
 
   -- there was no message
   pub idles : (v new : Kept A) (x x2 : Option ClientView) (y y2 : Option (Owned A)) (now : Stack) → x ≡ get_or us k x → y ≡ get_or os k y → (x ≡ Some v.client) × (y ≡ Some v.owned)
-      → new ≡ v → now ≡ stack → IsIdleAt v.client.ended v.client.rest → Agrees (put-back new x2 y2 now) d × IsIdleIn c d
+      → new ≡ v → now ≡ stack → IsIdleAt v.client.ended v.client.rest → Matches (put-back new x2 y2 now) d × IsIdleIn c d
   idles v new x x2 y y2 now f g taken same still idle =
       let s = out output us os stack c k is d a v x y f g taken in
       let peer = s.2.seat.peer in (
@@ -167,7 +167,7 @@ module _ {A : Type 0} (output : Output) (us : List (Option ClientView)) (os : Li
       )
 
   pub idles-untaken : (x x2 : Option ClientView) (y y2 : Option (Owned A)) → x ≡ get_or us k x → y ≡ get_or os k y → (x ≡ None) ⊎ (y ≡ None) → (x2 ≡ None) × (y2 ≡ None)
-      → Agrees (view_of output (set us k x2) (set os k y2) stack) d × IsIdleIn c d
+      → Matches (view_of output (set us k x2) (set os k y2) stack) d × IsIdleIn c d
   idles-untaken x x2 y y2 f g none left =
       let free = untaken output us os stack c k is d a x x2 y y2 f g none left in
       (free.1, subst IsIdleOf (sym free.0) tt)
@@ -176,33 +176,33 @@ module _ {A : Type 0} (output : Output) (us : List (Option ClientView)) (os : Li
 
   pub ends : (cause : Cause) (v new : Kept A) (x x2 : Option ClientView) (y y2 : Option (Owned A)) (now : Stack) → x ≡ get_or us k x → y ≡ get_or os k y → (x ≡ Some v.client) × (y ≡ Some v.owned)
       → ((r : Resident) → IsSeated c (numbers_in us) d v stack d r → (q : Resident) × IsSeated c (numbers_in us) d new now (become c r (ended_by r.peer.status cause r.peer) d) q)
-      → Agrees (put-back new x2 y2 now) (ended_at c cause d)
+      → Matches (put-back new x2 y2 now) (ended_at c cause d)
   ends cause v new x x2 y y2 now f g taken end =
       let s = out output us os stack c k is d a v x y f g taken in
       let n = end s.0 s.2 in
       let after = become c s.0 (ended_by s.0.peer.status cause s.0.peer) d in
-      subst (λ o. Agrees (put-back new x2 y2 now) (ended_of c cause o d)) (sym s.1) (back output us os stack c k is d a new x2 y2 now after n.0 n.1)
+      subst (λ o. Matches (put-back new x2 y2 now) (ended_of c cause o d)) (sym s.1) (back output us os stack c k is d a new x2 y2 now after n.0 n.1)
 
   pub ends-untaken : (cause : Cause) (x x2 : Option ClientView) (y y2 : Option (Owned A)) → x ≡ get_or us k x → y ≡ get_or os k y → (x ≡ None) ⊎ (y ≡ None) → (x2 ≡ None) × (y2 ≡ None)
-      → Agrees (view_of output (set us k x2) (set os k y2) stack) (ended_at c cause d)
+      → Matches (view_of output (set us k x2) (set os k y2) stack) (ended_at c cause d)
   ends-untaken cause x x2 y y2 f g none left =
       let free = untaken output us os stack c k is d a x x2 y y2 f g none left in
-      subst (λ o. Agrees (view_of output (set us k x2) (set os k y2) stack) (ended_of c cause o d)) (sym free.0) free.1
+      subst (λ o. Matches (view_of output (set us k x2) (set os k y2) stack) (ended_of c cause o d)) (sym free.0) free.1
 
   -- ---- a piece
 
   -- what is there is left so
-  pub stays : (x z : Option ClientView) → x ≡ get_or us k x → z ≡ x → Agrees (view_of output (set us k z) os stack) d
-  stays x z f same = subst (λ vs. Agrees (view_of output vs os stack) d) (sym (ap (λ z. set us k z) (same ∙ f) ∙ set-get_or us k x)) a
+  pub stays : (x z : Option ClientView) → x ≡ get_or us k x → z ≡ x → Matches (view_of output (set us k z) os stack) d
+  stays x z f same = subst (λ vs. Matches (view_of output vs os stack) d) (sym (ap (λ z. set us k z) (same ∙ f) ∙ set-get_or us k x)) a
 
   -- the client alone is put back
-  back-alone : (new : Kept A) (s : Resident) (e : Desktop) → at os k ≡ Some new.owned → IsSeated c (numbers_in us) d new stack e s → Agrees (view_of output (set us k (Some new.client)) os stack) e
+  back-alone : (new : Kept A) (s : Resident) (e : Desktop) → at os k ≡ Some new.owned → IsSeated c (numbers_in us) d new stack e s → Matches (view_of output (set us k (Some new.client)) os stack) e
   back-alone new s e here seated =
       seated-back (view_of output us os stack) k new s (set us k (Some new.client)) (map (option_map owned_view) os) stack d e a is.client (put-set k (Some new.client) us is.client)
       (record { here = at-map owned_view os k ∙ ap (λ (o : Option (Owned A)). option_map owned_view o) here; others = λ j differ. refl; count = refl })
       (rw is.number at seated)
 
-  come : (piece : List ℕ) (v : ClientView) (o : Owned A) (z : Option ClientView) → Some v ≡ get_or us k (Some v) → Some o ≡ get_or os k (Some o) → v.ended ≡ None → z ≡ Some (record v { rest = v.rest ++ piece }) → Agrees (view_of output (set us k z) os stack) (kept_at c piece d)
+  come : (piece : List ℕ) (v : ClientView) (o : Owned A) (z : Option ClientView) → Some v ≡ get_or us k (Some v) → Some o ≡ get_or os k (Some o) → v.ended ≡ None → z ≡ Some (record v { rest = v.rest ++ piece }) → Matches (view_of output (set us k z) os stack) (kept_at c piece d)
   come piece v o z f g lives same =
       let old : Kept A = record { client = v; owned = o } in
       let s = out output us os stack c k is d a old (Some v) (Some o) f g (refl, refl) in
@@ -211,28 +211,28 @@ module _ {A : Type 0} (output : Output) (us : List (Option ClientView)) (os : Li
       let after = become c s.0 (come_to piece s.0) d in
       let agrees = back-alone new (record s.0 { peer = come_to piece s.0 }) after (sym (at-within os k (Some o) is.owned) ∙ sym g) (come-seated c (numbers_in us) d d s.0 piece old stack s.2 lives) in
       rw same
-      (subst (λ r. Agrees (view_of output (set us k (Some new.client)) os stack) (kept_of c piece r d)) (sym s.1)
-      (subst (λ t. Agrees (view_of output (set us k (Some new.client)) os stack) (kept_by c piece t s.0 d)) (sym none)
-      agrees))
+      (subst (λ r. Matches (view_of output (set us k (Some new.client)) os stack) (kept_of c piece r d)) (sym s.1)
+      (subst (λ t. Matches (view_of output (set us k (Some new.client)) os stack) (kept_by c piece t s.0 d)) (sym none)
+      (subst (λ e. Matches (view_of output (set us k (Some new.client)) os stack) e) (ap (λ t. become_by t c s.0 (come_to piece s.0) d) none) agrees)))
 
-  pub keeps : (piece : List ℕ) (x z : Option ClientView) → x ≡ get_or us k x → z ≡ kept_in piece x → Agrees (view_of output (set us k z) os stack) (kept_at c piece d)
+  pub keeps : (piece : List ℕ) (x z : Option ClientView) → x ≡ get_or us k x → z ≡ kept_in piece x → Matches (view_of output (set us k z) os stack) (kept_at c piece d)
   keeps piece x z f same = by x (at os k) f (sym (at-within os k (at os k) is.owned)) same
     where
-      ended : (v : ClientView) (o : Owned A) (cause : Cause) → Some v ≡ get_or us k (Some v) → Some o ≡ get_or os k (Some o) → v.ended ≡ Some cause → z ≡ Some v → Agrees (view_of output (set us k z) os stack) (kept_at c piece d)
+      ended : (v : ClientView) (o : Owned A) (cause : Cause) → Some v ≡ get_or us k (Some v) → Some o ≡ get_or os k (Some o) → v.ended ≡ Some cause → z ≡ Some v → Matches (view_of output (set us k z) os stack) (kept_at c piece d)
       ended v o cause f g over same =
           let s = out output us os stack c k is d a (record { client = v; owned = o }) (Some v) (Some o) f g (refl, refl) in
           let status : s.0.peer.status ≡ Some cause = sym s.2.seat.peer.status ∙ over in
-          subst (λ r. Agrees (view_of output (set us k z) os stack) (kept_of c piece r d)) (sym s.1)
-          (subst (λ t. Agrees (view_of output (set us k z) os stack) (kept_by c piece t s.0 d)) (sym status) (stays (Some v) z f same))
+          subst (λ r. Matches (view_of output (set us k z) os stack) (kept_of c piece r d)) (sym s.1)
+          (subst (λ t. Matches (view_of output (set us k z) os stack) (kept_by c piece t s.0 d)) (sym status) (stays (Some v) z f same))
 
-      there : (v : ClientView) (o : Owned A) (e : Option Cause) → v.ended ≡ e → Some v ≡ get_or us k (Some v) → Some o ≡ get_or os k (Some o) → z ≡ Some (kept_while piece e v) → Agrees (view_of output (set us k z) os stack) (kept_at c piece d)
+      there : (v : ClientView) (o : Owned A) (e : Option Cause) → v.ended ≡ e → Some v ≡ get_or us k (Some v) → Some o ≡ get_or os k (Some o) → z ≡ Some (kept_while piece e v) → Matches (view_of output (set us k z) os stack) (kept_at c piece d)
       there v o None lives f g same = come piece v o z f g lives same
       there v o (Some cause) over f g same = ended v o cause f g over same
 
-      by : (x : Option ClientView) (y : Option (Owned A)) → x ≡ get_or us k x → y ≡ get_or os k y → z ≡ kept_in piece x → Agrees (view_of output (set us k z) os stack) (kept_at c piece d)
+      by : (x : Option ClientView) (y : Option (Owned A)) → x ≡ get_or us k x → y ≡ get_or os k y → z ≡ kept_in piece x → Matches (view_of output (set us k z) os stack) (kept_at c piece d)
       by None y f g same =
           let nobody = place-none None (option_map owned_view y) (client_at c d) (place-here output us os stack c k is d a None y f g) (inl refl) in
-          subst (λ r. Agrees (view_of output (set us k z) os stack) (kept_of c piece r d)) (sym nobody.1) (stays None z f same)
+          subst (λ r. Matches (view_of output (set us k z) os stack) (kept_of c piece r d)) (sym nobody.1) (stays None z f same)
       by (Some v) None f g same = let nobody = place-none (Some v) None (client_at c d) (place-here output us os stack c k is d a (Some v) None f g) (inr refl) in absurd (cc (nobody.0))
       by (Some v) (Some o) f g same = there v o v.ended refl f g same
 
@@ -247,11 +247,11 @@ rest-less output us os stack now c k is v new x x2 y2 f taken less =
 
 -- ---- nobody is there
 
-pub Kept-none : (piece : List ℕ) (us : List (Option ClientView)) (w : DeskView) (d : Desktop) (c : ℕ) → us ≡ w.clients → (c ≡ 0) ⊎ (length us < c) → Agrees w d → Agrees w (kept_at c piece d)
-Kept-none piece us w d c same h a = subst (λ o. Agrees w (kept_of c piece o d)) (sym (client-past us w d c same h a)) a
+pub Kept-none : (piece : List ℕ) (us : List (Option ClientView)) (w : DeskView) (d : Desktop) (c : ℕ) → us ≡ w.clients → (c ≡ 0) ⊎ (length us < c) → Matches w d → Matches w (kept_at c piece d)
+Kept-none piece us w d c same h a = subst (λ o. Matches w (kept_of c piece o d)) (sym (client-past us w d c same h a)) a
 
-pub Idle-none : (us : List (Option ClientView)) (w : DeskView) (d : Desktop) (c : ℕ) → us ≡ w.clients → (c ≡ 0) ⊎ (length us < c) → Agrees w d → Agrees w d × IsIdleIn c d
+pub Idle-none : (us : List (Option ClientView)) (w : DeskView) (d : Desktop) (c : ℕ) → us ≡ w.clients → (c ≡ 0) ⊎ (length us < c) → Matches w d → Matches w d × IsIdleIn c d
 Idle-none us w d c same h a = (a, subst IsIdleOf (sym (client-past us w d c same h a)) tt)
 
-pub Ended-none : (cause : Cause) (us : List (Option ClientView)) (w : DeskView) (d : Desktop) (c : ℕ) → us ≡ w.clients → (c ≡ 0) ⊎ (length us < c) → Agrees w d → Agrees w (ended_at c cause d)
-Ended-none cause us w d c same h a = subst (λ o. Agrees w (ended_of c cause o d)) (sym (client-past us w d c same h a)) a
+pub Ended-none : (cause : Cause) (us : List (Option ClientView)) (w : DeskView) (d : Desktop) (c : ℕ) → us ≡ w.clients → (c ≡ 0) ⊎ (length us < c) → Matches w d → Matches w (ended_at c cause d)
+Ended-none cause us w d c same h a = subst (λ o. Matches w (ended_of c cause o d)) (sym (client-past us w d c same h a)) a

@@ -9,7 +9,7 @@ use Rattle.wl_surface.specs.Kept.{Slots}
 use Rattle.wl_surface.specs.Surfaces.{no_surfaces}
 use Rattle.wl_scene.specs.Lent.{slots_lent, slots_of}
 use Rattle.wl_scene.specs.declared.owned.Owned.{Owned}
-use Rattle.wl_resident.specs.Agreement.{Agrees, IsPlace, numbers_in, numbers_of}
+use Rattle.wl_resident.specs.Agreement.{Matches, IsPlace, numbers_in, numbers_of}
 use Rattle.wl_plain.specs.Desktop.{Desktop, Resident, client_at, owned_in, owned_of, place}
 use Rattle.wl_desk.specs.Lent.{client_lent}
 use Rattle.wl_plain.specs.Owning.{AreKept}
@@ -54,7 +54,7 @@ place-lent (Some v) None None here = absurd here
 place-lent (Some v) None (Some r) here = absurd here
 place-lent (Some v) (Some o) None here = absurd here
 
-module _ {A : Type 0} (owned : List (Option (Owned A))) (v : DeskView) (d : Desktop) (same : v.owned ≡ map (option_map owned_view) owned) (a : Agrees v d) where
+module _ {A : Type 0} (owned : List (Option (Owned A))) (v : DeskView) (d : Desktop) (same : v.owned ≡ map (option_map owned_view) owned) (a : Matches v d) where
   slots-here : (k : ℕ) → slots_of (slice_index_or owned k None) ≡ slots_seen (slice_index_or v.owned k None)
   slots-here k =
       slots-seen (slice_index_or owned k None) ∙ ap slots_seen (sym (at-map owned_view owned k) ∙ ap (λ (os : List (Option OwnedView)). slice_index_or os k None) (sym same))

@@ -6,3 +6,4 @@ pub mod Painting
 pub mod Kept
 pub mod MarkedCalls
 pub mod PaintedDesks
+pub mod NoMore

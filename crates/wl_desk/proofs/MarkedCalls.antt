@@ -12,12 +12,11 @@ use Rattle.wl_surface.specs.Surfaces.{history_in}
 use Rattle.wl_scene.specs.Stacking.{Owned as Owns, Stack, Standing, is_of, nothing_owned, windows_on, without_client}
 use Rattle.wl_scene.specs.Windows.{Window, contains}
 use Rattle.wl_scene.specs.declared.owned.Owned.{Owned}
-use Rattle.wl_resident.specs.Agreement.{Agrees, IsPlace, IsStack, numbers_in}
+use Rattle.wl_resident.specs.Agreement.{Matches, IsPlace, IsStack, numbers_in}
 use Rattle.wl_plain.specs.Desktop.{Desktop, Resident, arrival, become, client_at, client_in, owned_in, owned_of, place, windows_in, with_number, with_place}
-use Rattle.wl_desk.specs.Feeding.{ended_at, ended_of}
 use Rattle.wl_plain.specs.Laws.{OwnsNothing, status_of}
 use Rattle.wl_resident.specs.Marking.{AreUnlinked, Marks, MarksEnd, stands_any}
-use Rattle.wl_plain.specs.Moments.{marks_at_least}
+use Rattle.wl_plain.specs.Moments.{marks_of_toplevels}
 use Rattle.wl_resident.specs.Seats.{IsChangedSo, IsSeated, ended_by, has_ended_in}
 use Rattle.wl_plain.specs.Standing.{AreMapped}
 use Rattle.wl_plain.specs.Steps.{Changes, ChangesAt, ConnectsAt, IsClosed, closed_by, left_so, lowest}
@@ -26,7 +25,7 @@ use Rattle.wl_resident.specs.View.{DeskView, OwnedView, owned_view}
 use Rattle.wl_plain.specs.declared.answers.Done.{Done}
 use Rattle.wl_plain.specs.declared.answers.Done.TheVariants as gave
 use Rattle.wl_resident.specs.declared.residents.Resident.{Resident as Kept}
-use Rattle.wl_desk.proofs.Calls.{IsFound, client-here, closed-none, lowest-at, out, untaken, view_of}
+use Rattle.wl_desk.proofs.Calls.{IsFound, client-here, closed-none, ended_at, ended_of, lowest-at, out, untaken, view_of}
 use Rattle.wl_desk.proofs.Desktops.{at, client-past, place-at}
 use Rattle.std.proofs.lemmas.Bool.{eqb-true}
 use Rattle.wl_plain.proofs.Stacks.{and-left, differ}
@@ -69,7 +68,7 @@ unlinked-here (Some v) None (Some r) here = absurd here
 unlinked-here (Some v) (Some o) None here = absurd here
 
 -- no surface is linked to another
-pub unlinked : (w : DeskView) (d : Desktop) → Agrees w d → AreUnlinked d
+pub unlinked : (w : DeskView) (d : Desktop) → Matches w d → AreUnlinked d
 unlinked w d a zero = refl
 unlinked w d a (suc k) = unlinked-here (at w.clients k) (at w.owned k) (client_at (suc k) d) (place-at w d k a)
 
@@ -108,15 +107,15 @@ window-stands c d links x y none =
 -- ---- what leaves the windows as they are
 
 -- where the same stand and the same is owned, nothing is marked
-same-marks-nothing : (w : DeskView) (d e : Desktop) → Agrees w d → e.standing ≡ d.standing → ((c : ℕ) → owned_in e c ≡ owned_in d c) → (x y : ℤ) → marks_at_least d e x y ≡ false
+same-marks-nothing : (w : DeskView) (d e : Desktop) → Matches w d → e.standing ≡ d.standing → ((c : ℕ) → owned_in e c ≡ owned_in d c) → (x y : ℤ) → marks_of_toplevels d e x y ≡ false
 same-marks-nothing w d e a standing owned x y =
-    unless (marks_at_least d e x y)
+    unless (marks_of_toplevels d e x y)
     (λ marked. differ (sym (rw (none-there x y (windows_in d), none-there x y (windows_in e)) refl)
     ∙ desktops-touch none_of d e (unlinked w d a) (λ c. ap (λ (o : Owns). o.surfaces.links) (owned c) ∙ unlinked w d a c) a.mapped.apart
     (ap (λ ss. filter (stands_else none_of) ss) (sym standing)) (λ c surface other. same-stays _ _ _ (ap (λ (o : Owns). history_in surface o.surfaces) (sym (owned c)))) x y marked))
 
 -- nothing changes
-pub still-marks : (w : DeskView) (d e : Desktop) (damage : Damaged) → Agrees w d → e ≡ d → Marks d e damage damage
+pub still-marks : (w : DeskView) (d e : Desktop) (damage : Damaged) → Matches w d → e ≡ d → Marks d e damage damage
 still-marks w d e damage a same = λ x y wide high clean. (clean, same-marks-nothing w d e a (ap (λ (d : Desktop). d.standing) same) (λ c. ap (λ (d : Desktop). owned_in d c) same) (pos x) (pos y))
 
 owned-places : (rs : List (Option Resident)) (k j : ℕ) (x : Option Resident) → owned_of x ≡ owned_of (place rs k) → owned_of (place (with_place k x rs) j) ≡ owned_of (place rs j)
@@ -138,7 +137,7 @@ place-is [] k = refl
 place-is (r ∷ rs) zero = refl
 place-is (r ∷ rs) (suc k) = place-is rs k
 
-pub connects-marks : (w : DeskView) (d e : Desktop) (done : Done) (damage : Damaged) → Agrees w d → ConnectsAt (lowest d.clients) d done e → Marks d e damage damage
+pub connects-marks : (w : DeskView) (d e : Desktop) (done : Done) (damage : Damaged) → Matches w d → ConnectsAt (lowest d.clients) d done e → Marks d e damage damage
 connects-marks w d e done damage a connects = by (lowest d.clients) refl connects
   where
     by : (o : Option ℕ) → lowest d.clients ≡ o → ConnectsAt o d done e → Marks d e damage damage
@@ -158,7 +157,7 @@ connects-marks w d e done damage a connects = by (lowest d.clients) refl connect
 -- ---- a client is told something
 
 -- so it is also where it ends by that
-pub told-marks : (c : ℕ) (there : Resident) (w : DeskView) (d : Desktop) (q : Peer) (ended : Option Cause) (old new : Damaged) → client_at c d ≡ Some there → Agrees w d → q.status ≡ ended → MarksEnd ended c w.scene old new → Marks d (become c there q d) old new
+pub told-marks : (c : ℕ) (there : Resident) (w : DeskView) (d : Desktop) (q : Peer) (ended : Option Cause) (old new : Damaged) → client_at c d ≡ Some there → Matches w d → q.status ≡ ended → MarksEnd ended c w.scene old new → Marks d (become c there q d) old new
 told-marks c there w d q None old new at_c a status marks = λ x y wide high clean. (
   (neither (has old x y) false (sym (marks.1 x y wide high) ∙ clean)).0,
   told-marks-nothing c there d at_c (unlinked w d a) a.mapped.apart there q refl status (pos x) (pos y),
@@ -166,23 +165,23 @@ told-marks c there w d q None old new at_c a status marks = λ x y wide high cle
 told-marks c there w d q (Some cause) old new at_c a status marks = λ x y wide high clean.
     let both = neither (has old x y) (stands_any c w.scene) (sym (marks.1 x y wide high) ∙ clean) in (
       both.0,
-      unless (marks_at_least d (become c there q d) (pos x) (pos y))
+      unless (marks_of_toplevels d (become c there q d) (pos x) (pos y))
           (λ marked. differ (sym (window-stands c d (unlinked w d a) (pos x) (pos y) (sym (any-standing c _ w.scene.standing d.standing a.scene.standing) ∙ both.1))
           ∙ end-touches c there d at_c (unlinked w d a) a.mapped.apart there q cause status (pos x) (pos y) marked)),
     )
 
 -- nobody is there
-pub none-marks : (R : Peer → Done → Option Peer → Type 0) (absent done : Done) (c : ℕ) (w : DeskView) (d e : Desktop) (damage : Damaged) → client_at c d ≡ None → Agrees w d → Changes c R absent d done e → Marks d e damage damage
+pub none-marks : (R : Peer → Done → Option Peer → Type 0) (absent done : Done) (c : ℕ) (w : DeskView) (d e : Desktop) (damage : Damaged) → client_at c d ≡ None → Matches w d → Changes c R absent d done e → Marks d e damage damage
 none-marks R absent done c w d e damage nobody a changes = still-marks w d e damage a (subst (λ (o : Option Resident). ChangesAt R absent c o d done e) nobody changes).1
 
-pub past-marks : (R : Peer → Done → Option Peer → Type 0) (absent done : Done) (us : List (Option ClientView)) (w : DeskView) (d e : Desktop) (c : ℕ) (damage : Damaged) → us ≡ w.clients → (c ≡ 0) ⊎ (length us < c) → Agrees w d
+pub past-marks : (R : Peer → Done → Option Peer → Type 0) (absent done : Done) (us : List (Option ClientView)) (w : DeskView) (d e : Desktop) (c : ℕ) (damage : Damaged) → us ≡ w.clients → (c ≡ 0) ⊎ (length us < c) → Matches w d
     → Changes c R absent d done e → Marks d e damage damage
 past-marks R absent done us w d e c damage same h a changes = none-marks R absent done c w d e damage (client-past us w d c same h a) a changes
 
-pub ends-none-marks : (cause : Cause) (us : List (Option ClientView)) (w : DeskView) (d : Desktop) (c : ℕ) (damage : Damaged) → us ≡ w.clients → (c ≡ 0) ⊎ (length us < c) → Agrees w d → Marks d (ended_at c cause d) damage damage
+pub ends-none-marks : (cause : Cause) (us : List (Option ClientView)) (w : DeskView) (d : Desktop) (c : ℕ) (damage : Damaged) → us ≡ w.clients → (c ≡ 0) ⊎ (length us < c) → Matches w d → Marks d (ended_at c cause d) damage damage
 ends-none-marks cause us w d c damage same h a = still-marks w d (ended_at c cause d) damage a (ap (λ o. ended_of c cause o d) (client-past us w d c same h a))
 
-module _ {A : Type 0} (output : Output) (us : List (Option ClientView)) (os : List (Option (Owned A))) (stack : Stack) (c k : ℕ) (is : IsFound us os c k) (d : Desktop) (a : Agrees (view_of output us os stack) d) where
+module _ {A : Type 0} (output : Output) (us : List (Option ClientView)) (os : List (Option (Owned A))) (stack : Stack) (c k : ℕ) (is : IsFound us os c k) (d : Desktop) (a : Matches (view_of output us os stack) d) where
   abbrev old-view : DeskView
   old-view = view_of output us os stack
 
@@ -245,7 +244,7 @@ module _ {A : Type 0} (output : Output) (us : List (Option ClientView)) (os : Li
   unclosed-marks x done e damage f alive changes = unclosed-by x (at (map (option_map owned_view) os) k) (client_at c d) done e damage refl (place-of x f) alive changes
 
   -- an ended client owns nothing, and none of its toplevels stands
-  gone-marks : (s : Resident) (e : Desktop) → client_at c d ≡ Some s → OwnsNothing s → e ≡ record d { clients = with_number c None d.clients; standing = without_client c d.standing } → (x y : ℤ) → marks_at_least d e x y ≡ false
+  gone-marks : (s : Resident) (e : Desktop) → client_at c d ≡ Some s → OwnsNothing s → e ≡ record d { clients = with_number c None d.clients; standing = without_client c d.standing } → (x y : ℤ) → marks_of_toplevels d e x y ≡ false
   gone-marks s e there nothing same x y =
       let bare : owned_in d c ≡ nothing_owned = ap owned_of there ∙ ap (λ (r : Resident). r.owned) nothing in
       let none : list_any (λ s. s.client == c) d.standing ≡ false = none-standing c d.standing (λ surface. (subst (λ o. AreMapped c o d.standing) bare (a.mapped.each c)).stands surface) in

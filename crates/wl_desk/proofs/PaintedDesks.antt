@@ -10,7 +10,8 @@ use Rattle.wl_paint.specs.Window.{scratch as painted}
 use Rattle.wl_scene.specs.Lent.{slots_lent}
 use Rattle.wl_scene.specs.Stacking.{Stack}
 use Rattle.wl_scene.specs.declared.owned.Owned.{Owned}
-use Rattle.wl_resident.specs.Agreement.{Agrees, numbers_in}
+use Rattle.wl_desk.specs.Agreeing.{Agrees}
+use Rattle.wl_resident.specs.Agreement.{numbers_in}
 use Rattle.wl_plain.specs.Desktop.{Desktop}
 use Rattle.wl_desk.specs.Lent.{client_lent, windows_lent}
 use Rattle.wl_desk.specs.Painting.{AreLent, IsColor, IsOpaqueAsSaid}
@@ -24,10 +25,10 @@ module _ {A : Type 0} (output : Output) (us vs : List (Option ClientView)) (os w
   all-lent : AreLent (client_lent vs) (slots_lent ws) (numbers_in us) stack.standing d
   all-lent =
       subst (λ (vs : List (Option ClientView)). AreLent (client_lent vs) (slots_lent ws) (numbers_in us) stack.standing d) (sym clients)
-      (subst (λ (ws : List (Option (Owned A))). AreLent (client_lent us) (slots_lent ws) (numbers_in us) stack.standing d) (sym owned) (agrees-lent os (view_of output us os stack) d refl a))
+      (subst (λ (ws : List (Option (Owned A))). AreLent (client_lent us) (slots_lent ws) (numbers_in us) stack.standing d) (sym owned) (agrees-lent os (view_of output us os stack) d refl a.matches))
 
   pub desk-painted : (background : Rgb) → IsColor background → painted background (windows_lent (client_lent vs) (slots_lent ws) nowhere stack.standing) x y ≡ scratch background d x y
-  desk-painted background color = paints_the_desktop background nowhere (client_lent vs) (slots_lent ws) (numbers_in us) stack.standing d x y color all-lent
+  desk-painted background color = paints_the_desktop background nowhere (client_lent vs) (slots_lent ws) (numbers_in us) stack.standing d x y color all-lent a.no_more
 
   pub desk-said : IsOpaqueAsSaid d x y → AreOpaqueAsSaid x y (windows_lent (client_lent vs) (slots_lent ws) nowhere stack.standing)
-  desk-said said = lends_opaque_as_said nowhere (client_lent vs) (slots_lent ws) (numbers_in us) stack.standing d x y all-lent said
+  desk-said said = lends_opaque_as_said nowhere (client_lent vs) (slots_lent ws) (numbers_in us) stack.standing d x y all-lent a.no_more said

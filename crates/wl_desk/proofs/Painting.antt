@@ -36,6 +36,7 @@ use Rattle.wl_surface.specs.Surfaces.{Surface, Surfaces, history_in, is_there, s
 use Rattle.wl_scene.proofs.Lone.{no-child, order-once}
 use Rattle.wl_scene.specs.Lent.{AllShow, Shows, shows_buffer}
 use Rattle.wl_scene.specs.Windows.{Owner, Place, Window, corner_at, contains, counting, member_windows, owner_of, shown_windows, surface_windows, tree, window_of, window_showing, window_with}
+use Rattle.wl_plain.proofs.BridgeWindows.{windows-same}
 use Rattle.wl_plain.proofs.OneWindow.{one-window, window_list}
 use Rattle.wl_resident.specs.Agreement.{IsStack}
 use Rattle.wl_desk.specs.Painting.{IsColor, LendsOpaqueAsSaid, PaintsTheDesktop}
@@ -206,8 +207,9 @@ module _ (x y : ℤ) (nowhere : Area) (clients : ℕ → Option ClientView) (slo
       ∙ ap (fold (over d x y) under) (sym (on-first (owned_in d) t ts (kept t.client).links shows)))
 
 pub paints_the_desktop : PaintsTheDesktop
-paints_the_desktop background nowhere clients slots numbers standing d x y color is =
+paints_the_desktop background nowhere clients slots numbers standing d x y color is more =
     all-painted x y nowhere clients slots numbers d is.stores is.surfaces standing d.standing is.toplevels is.shown background color
+    ∙ sym (ap (fold (over d x y) background) (windows-same d more))
 
 -- ---- what is said opaque
 
@@ -316,4 +318,5 @@ module _ (x y : ℤ) (nowhere : Area) (clients : ℕ → Option ClientView) (slo
       (subst (λ (ws : List Window). All (IsSo d x y) ws) (on-first (owned_in d) t ts (kept t.client).links shows) so))
 
 pub lends_opaque_as_said : LendsOpaqueAsSaid
-lends_opaque_as_said nowhere clients slots numbers standing d x y is so = all-said x y nowhere clients slots numbers d is.stores is.surfaces standing d.standing is.toplevels is.shown so
+lends_opaque_as_said nowhere clients slots numbers standing d x y is more so =
+    all-said x y nowhere clients slots numbers d is.stores is.surfaces standing d.standing is.toplevels is.shown (subst (λ (ws : List Window). All (IsSo d x y) ws) (windows-same d more) so)

@@ -1,25 +1,21 @@
 -- What the calls of a desk make of the desktop, message by message.
-use Rattle.std.specs.Prelude.{ℕ, zero, suc, ◌++◌, Bool, true, false, List, [], slice_index_or, Option, Some, None}
-use Rattle.wl_client.specs.Peer.{IsIdle, with_rest}
+use Rattle.std.specs.Prelude.{ℕ, zero, suc, ◌≡◌, ◌++◌, Bool, true, false, List, [], slice_index_or, Option, Some, None}
+use Rattle.wl_client.specs.Peer.{IsIdle, ended, with_rest}
 use Rattle.wl_client.specs.View.{ClientView}
 use Rattle.wl_client.specs.declared.clients.Cause.{Cause}
 use Rattle.wl_client.specs.declared.clients.Cause.TheVariants as cause
 use Rattle.wl_client.specs.declared.served.Served.{Served}
 use Rattle.wl_client.specs.declared.served.Served.TheVariants as served
-use Rattle.wl_resident.specs.Agreement.{Agrees}
-use Rattle.wl_plain.specs.Desktop.{Desktop, Resident, become, client_at}
-use Rattle.wl_resident.specs.Marking.{Marks}
-use Rattle.wl_resident.specs.Seats.{ended_by}
-use Rattle.wl_plain.specs.Served.{beyond_toplevels}
-use Rattle.wl_plain.specs.Steps.{Act, Steps}
-use Rattle.wl_resident.specs.View.{DeskView, MarkedDesk}
-use Rattle.wl_plain.specs.declared.answers.Done.{Done}
+use Rattle.wl_plain.specs.Desktop.{Desktop, Resident, client_at, with_client}
+use Rattle.wl_plain.specs.Settling.{EndsAndSettles, becomes, unstruck}
+use Rattle.wl_plain.specs.Step.{with_peer}
+use Rattle.wl_resident.specs.View.{DeskView}
 use Rattle.wl_plain.specs.declared.answers.Fed.{Fed}
 use Rattle.wl_plain.specs.declared.answers.Fed.TheVariants as fed
 
 -- a piece is kept behind what came before, of a client that lives
 abbrev pub kept_by : ℕ → List ℕ → Option Cause → Resident → Desktop → Desktop
-kept_by c piece None r d = become c r (with_rest (r.peer.rest ++ piece) r.peer) d
+kept_by c piece None r d = with_client c (Some (with_peer (with_rest (r.peer.rest ++ piece) r.peer) r)) d
 kept_by c piece (Some cause) r d = d
 
 abbrev pub kept_of : ℕ → List ℕ → Option Resident → Desktop → Desktop
@@ -38,13 +34,17 @@ abbrev pub kept_in : List ℕ → Option ClientView → Option ClientView
 kept_in piece None = None
 kept_in piece (Some v) = Some (kept_while piece v.ended v)
 
--- a client ends by this, where it lives
-abbrev pub ended_of : ℕ → Cause → Option Resident → Desktop → Desktop
-ended_of c cause None d = d
-ended_of c cause (Some r) d = become c r (ended_by r.peer.status cause r.peer) d
+-- A client ends by this, where it lives, and the focus of the pointer is settled.
+abbrev pub EndsBy : ℕ → Cause → Option Cause → Resident → Desktop → Desktop → Type 0
+EndsBy c cause (Some was) r d e = e ≡ d
+EndsBy c cause None r d e = EndsAndSettles (unstruck (becomes c r (ended cause r.peer) d)) e
 
-abbrev pub ended_at : ℕ → Cause → Desktop → Desktop
-ended_at c cause d = ended_of c cause (client_at c d) d
+abbrev pub EndsOf : ℕ → Cause → Option Resident → Desktop → Desktop → Type 0
+EndsOf c cause None d e = e ≡ d
+EndsOf c cause (Some r) d e = EndsBy c cause r.peer.status r d e
+
+abbrev pub Ends : ℕ → Cause → Desktop → Desktop → Type 0
+Ends c cause d e = EndsOf c cause (client_at c d) d e
 
 -- a client that is there has no message to be taken
 abbrev pub IsIdleOf : Option Resident → Type 0
@@ -77,7 +77,3 @@ rest_of (Some v) = v.rest
 abbrev pub rest_in : ℕ → DeskView → List ℕ
 rest_in zero v = []
 rest_in (suc k) v = rest_of (slice_index_or v.clients k None)
-
--- A step marks what it has to.
-abbrev pub MarksStep : Act → Done → MarkedDesk → MarkedDesk → Type 0
-MarksStep act done old new = (d e : Desktop) → Agrees old.desk d → Steps beyond_toplevels d act done e → Marks d e old.damage new.damage

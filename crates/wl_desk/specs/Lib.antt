@@ -1,3 +1,4 @@
+pub mod Agreeing
 pub mod Feeding
 pub mod Lent
 pub mod Painting

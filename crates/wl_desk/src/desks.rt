@@ -8,14 +8,15 @@ ghost use Rattle.wl_paint.specs.Damage.{has};
 ghost use Rattle.wl_paint.specs.Frame.{color_at, is_side};
 ghost use Rattle.wl_plain.specs.Desktop.{Desktop, empty};
 ghost use Rattle.wl_plain.specs.Steps.{Connect, Feed, Store, Leave, Send, Close, lowest, peer_at, unsent_of, status_of, store_size_of};
-ghost use Rattle.wl_resident.specs.Agreement.{Agrees, IsSlot, TakesStep};
-ghost use Rattle.wl_desk.specs.Feeding.{IsIdleIn, MarksStep, ended_at, kept_at, kept_in, rest_in, served_as, served_of};
-ghost use Rattle.wl_resident.specs.Marking.{IsAsLarge, Marks};
+ghost use Rattle.wl_resident.specs.Agreement.{IsSlot};
+ghost use Rattle.wl_desk.specs.Agreeing.{Agrees, Marks, MarksStep, TakesStep};
+ghost use Rattle.wl_desk.specs.Feeding.{Ends, IsIdleIn, kept_at, kept_in, rest_in, served_as, served_of};
+ghost use Rattle.wl_resident.specs.Marking.{IsAsLarge};
 ghost use Rattle.wl_desk.specs.Painting.{IsOpaqueAsSaid};
 ghost use Rattle.wl_plain.specs.Scratch.{scratch};
 ghost use Rattle.wl_resident.specs.Seats.{has_ended_in};
-ghost use Rattle.wl_plain.specs.Served.{beyond_toplevels};
-ghost use Rattle.wl_plain.specs.Step.{Serves};
+ghost use Rattle.wl_plain.specs.LeftOut.{served_now};
+ghost use Rattle.wl_plain.specs.Whole.{Serves};
 
 use crate::windows::Lent;
 use std::alloc::{AllocError, Allocator};
@@ -136,9 +137,9 @@ impl<A: Allocator + Copy> Desk<A> {
 
     /// Takes the first whole message of what came from a client that lives. `More` where there is none; then nothing is changed.
     pub fn serve(&mut self, client: ClientNo) -> Served
-        ensures serves { result ≢ Served.More → (d : Desktop) → Agrees self.old.desk d → (e : Desktop) × Serves beyond_toplevels client d e × Agrees self.new.desk e }
+        ensures serves { result ≢ Served.More → (d : Desktop) → Agrees self.old.desk d → (e : Desktop) × Serves served_now client d e × Agrees self.new.desk e }
         ensures told { result ≢ Served.More → (d : Desktop) → Agrees self.new.desk d → result ≡ served_of (status_of (peer_at client d)) }
-        ensures marks { result ≢ Served.More → (d e : Desktop) → Agrees self.old.desk d → Serves beyond_toplevels client d e → Agrees self.new.desk e
+        ensures marks { result ≢ Served.More → (d e : Desktop) → Agrees self.old.desk d → Serves served_now client d e → Agrees self.new.desk e
             → Marks d e self.old.damage self.new.damage }
         ensures more { result ≡ Served.More → (d : Desktop) → Agrees self.old.desk d → Agrees self.new.desk d × IsIdleIn client d }
         ensures rests { result ≡ Served.More → self.new.damage ≡ self.old.damage }
@@ -160,8 +161,8 @@ impl<A: Allocator + Copy> Desk<A> {
 
     /// A client ends by this, where it lives. It is told nothing.
     pub fn end(&mut self, client: ClientNo, cause: Cause)
-        ensures ends { (d : Desktop) → Agrees self.old.desk d → Agrees self.new.desk (ended_at client cause d) }
-        ensures marks { (d : Desktop) → Agrees self.old.desk d → Marks d (ended_at client cause d) self.old.damage self.new.damage }
+        ensures ends { (d : Desktop) → Agrees self.old.desk d → (e : Desktop) × Ends client cause d e × Agrees self.new.desk e }
+        ensures marks { (d e : Desktop) → Agrees self.old.desk d → Ends client cause d e → Marks d e self.old.damage self.new.damage }
         ensures output { self.new.desk.output ≡ self.old.desk.output }
     {
         let Some(k) = place_of(&self.clients, client) else {

@@ -18,7 +18,7 @@ use Rattle.wl_plain.specs.Desktop.{Callback, Desktop, Resident, Subsurface}
 use Rattle.wl_plain.specs.Popups.{Popped, dismissed_after, dismissed_among, dismissing, orphan, orphaning, popped_of, popup_changed, popups_of, with_popup, with_popup_role, by_number}
 use Rattle.wl_plain.specs.Replies.{commit_told, configure_told, own_answers}
 use Rattle.wl_plain.specs.Step.{after_surface, answers_to, asked_so_far, changed_by, committed_on, configured, configures_told, effect_on, removing, role_configured, stacked, takes_memory, with_shell, with_surfaces}
-use Rattle.wl_plain.specs.ToplevelsOnly.{AreToplevels, IsToplevel, OwnsToplevelsOnly}
+use Rattle.wl_plain.specs.NoMore.{AreToplevels, IsToplevel, OwnsToplevelsOnly}
 use Rattle.wl_plain.specs.Whole.{wants_memory}
 use Rattle.wl_plain.specs.WlSurface.{effect_for, effect_of, will_show}
 use Rattle.wl_plain.proofs.BridgeBuffers.{changed-after, gone-after}
@@ -227,9 +227,9 @@ stacked-same c ask demand r windows d still only (goes id xdg) = refl
 stacked-same c ask demand r windows d still only (move id serial) =
     subst (λ p. stacked_for c (Move id serial) r windows (record d { pointer = p }) ≡ record d { pointer = p }) (sym still) (moved-plain c id serial r windows d)
 
-pub wants-same : (ask : Ask) (demand : Demand) (r : Resident) → Same r ask demand → takes_memory ask ≡ true → wants_memory demand ≡ true
-wants-same ask demand r (asks other) takes = takes
-wants-same ask demand r (ends id) takes = refl
-wants-same ask demand r (commit id effect e) takes = refl
-wants-same ask demand r (goes id xdg) takes = refl
-wants-same ask demand r (move id serial) takes = refl
+pub wants-same : (ask : Ask) (demand : Demand) (r : Resident) → Same r ask demand → wants_memory demand ≡ takes_memory ask
+wants-same ask demand r (asks other) = refl
+wants-same ask demand r (ends id) = refl
+wants-same ask demand r (commit id effect e) = refl
+wants-same ask demand r (goes id xdg) = refl
+wants-same ask demand r (move id serial) = refl

@@ -9,7 +9,7 @@ use Rattle.wl_scene.specs.Pointer.{first_pointer}
 use Rattle.wl_plain.specs.Ask.{Ask}
 use Rattle.wl_plain.specs.Desktop.{Desktop, Resident, become, become_by, client_at, empty, place, resident_of}
 use Rattle.wl_plain.specs.Laws.{toplevels_of}
-use Rattle.wl_plain.specs.ToplevelsOnly.{HasToplevelsOnly, OwnsToplevelsAt, OwnsToplevelsBy, OwnsToplevelsOnly}
+use Rattle.wl_plain.specs.NoMore.{NoMore, OwnsToplevelsAt, OwnsToplevelsBy, OwnsToplevelsOnly}
 use Rattle.wl_plain.specs.Step.{stacked, with_peer}
 use Rattle.wl_plain.proofs.BridgeServes.{by-pointer}
 use Rattle.wl_plain.proofs.Others.{become-left, stacked-left}
@@ -20,7 +20,7 @@ use Rattle.wl_plain.proofs.WholeOthersSettling.{none_of}
 abbrev pub OthersOwn : ℕ → Desktop → Type 0
 OthersOwn c d = (other : ℕ) → c ≢ other → OwnsToplevelsAt (client_at other d) (toplevels_of other d)
 
-pub become-has : (c : ℕ) (r there : Resident) (q : Peer) (d : Desktop) → client_at c d ≡ Some there → d.pointer ≡ first_pointer → OthersOwn c d → (q.status ≡ None → OwnsToplevelsOnly (with_peer q r)) → HasToplevelsOnly (become c r q d)
+pub become-has : (c : ℕ) (r there : Resident) (q : Peer) (d : Desktop) → client_at c d ≡ Some there → d.pointer ≡ first_pointer → OthersOwn c d → (q.status ≡ None → OwnsToplevelsOnly (with_peer q r)) → NoMore (become c r q d)
 become-has c r there q d is still others owns = record { pointer = by-pointer q.status c r q d ∙ still; each = λ other. at other (c == other) refl }
   where
     here : (s : Option Cause) → q.status ≡ s → OwnsToplevelsAt (client_at c (become_by s c r q d)) (toplevels_of c (become_by s c r q d))
@@ -40,14 +40,14 @@ become-has c r there q d is still others owns = record { pointer = by-pointer q.
         (subst (λ o. OwnsToplevelsAt o (toplevels_of other d)) (sym left.0) (others other (eqb-false c other e)))
 
 -- what is asked leaves the others what they have
-pub stacked-others-own : (c : ℕ) (ask : Ask) (r : Resident) (d : Desktop) → HasToplevelsOnly d → OthersOwn c (stacked c ask r d)
+pub stacked-others-own : (c : ℕ) (ask : Ask) (r : Resident) (d : Desktop) → NoMore d → OthersOwn c (stacked c ask r d)
 stacked-others-own c ask r d only other differ =
     let left = stacked-left c other ask r d differ in
     subst (λ tops. OwnsToplevelsAt (client_at other (stacked c ask r d)) tops) (sym left.1)
     (subst (λ o. OwnsToplevelsAt o (toplevels_of other d)) (sym left.0) (only.each other))
 
 -- nothing is there at first
-pub empty-has : (output : Output) → HasToplevelsOnly (empty output)
+pub empty-has : (output : Output) → NoMore (empty output)
 empty-has output = record { pointer = refl; each = λ c. subst (λ o. OwnsToplevelsAt o (toplevels_of c (empty output))) (sym (nobody c)) tt }
   where
     none : (n k : ℕ) → place (replicate n None) k ≡ None

@@ -21,11 +21,11 @@ use Rattle.wl_plain.specs.Ask.{Ask, DestroySurface, CommitSurface, DestroyToplev
 use Rattle.wl_plain.specs.Demand.{Demand, Asks, EndSurface, CommitTree, EndToplevel, Move}
 use Rattle.wl_plain.specs.Demanding.{commit_demand, committed_by, demand_of, demanded, demands, effect_of_commit, effect_on_xdg, is_dismissed, judge_all, moved_by_pointer}
 use Rattle.wl_plain.specs.Desktop.{Resident}
-use Rattle.wl_plain.specs.LeftOut.{beyond_toplevels_left_out}
+use Rattle.wl_plain.specs.LeftOut.{served_now}
 use Rattle.wl_plain.specs.Popups.{popped_kind, popped_of, popped_role}
 use Rattle.wl_plain.specs.Served.{beyond_toplevels}
 use Rattle.wl_plain.specs.Step.{ask_of, judge}
-use Rattle.wl_plain.specs.ToplevelsOnly.{AreToplevels, IsToplevel}
+use Rattle.wl_plain.specs.NoMore.{AreToplevels, IsToplevel}
 use Rattle.wl_plain.specs.WlSubsurface.{past_limit}
 use Rattle.wl_plain.specs.WlSurface.{committed_for, effect_for, effect_of, refuse_limit, surface_ask, surface_committed, waits_for_all, will_show}
 use Rattle.wl_plain.specs.XdgShell.{toplevel_ask, toplevel_ask_of}
@@ -114,7 +114,7 @@ commit-pair r object top =
 abbrev AsAsked : Interface → Resident → ℕ → ℕ → List Field → ℕ → Type 0
 AsAsked interface r object version fields opcode =
     Pairs r (ask_of beyond_toplevels r object version (record { interface = interface; opcode = opcode; fields = fields }))
-    (demand_of beyond_toplevels_left_out r object version (record { interface = interface; opcode = opcode; fields = fields }))
+    (demand_of served_now r object version (record { interface = interface; opcode = opcode; fields = fields }))
 
 surface-pair : (r : Resident) (object version : ℕ) (fields : List Field) (opcode : ℕ) → AreToplevels r.owned.shell → (b : Bool) → (opcode == 6) ≡ b → AsAsked WlSurface r object version fields opcode
 surface-pair r object version fields opcode top true e =
@@ -183,12 +183,12 @@ judged-pair r objects held ask demand (Ok m) pair =
 
 judged_at-pair : (r : Resident) (object opcode : ℕ) (body : List ℕ) (o : Option Object) → AreToplevels r.owned.shell
     → Pairs r (judged_at r.peer.objects r.peer.held (λ version m. ask_of beyond_toplevels r object version m) opcode body o)
-    (judged_at r.peer.objects r.peer.held (λ version m. demand_of beyond_toplevels_left_out r object version m) opcode body o)
+    (judged_at r.peer.objects r.peer.held (λ version m. demand_of served_now r object version m) opcode body o)
 judged_at-pair r object opcode body None top = refl
 judged_at-pair r object opcode body (Some o) top =
-    judged-pair r r.peer.objects r.peer.held (λ m. ask_of beyond_toplevels r object o.version m) (λ m. demand_of beyond_toplevels_left_out r object o.version m) (decoded o.interface o.version opcode body)
+    judged-pair r r.peer.objects r.peer.held (λ m. ask_of beyond_toplevels r object o.version m) (λ m. demand_of served_now r object o.version m) (decoded o.interface o.version opcode body)
     (λ m. asked-pair m.interface r object o.version m.opcode m.fields top)
 
 -- a message asks the same, or is refused for the same
-pub judge-pair : (r : Resident) (object opcode : ℕ) (body : List ℕ) → AreToplevels r.owned.shell → Pairs r (judge beyond_toplevels r object opcode body) (judge_all beyond_toplevels_left_out r object opcode body)
+pub judge-pair : (r : Resident) (object opcode : ℕ) (body : List ℕ) → AreToplevels r.owned.shell → Pairs r (judge beyond_toplevels r object opcode body) (judge_all served_now r object opcode body)
 judge-pair r object opcode body top = judged_at-pair r object opcode body (r.peer.objects object) top

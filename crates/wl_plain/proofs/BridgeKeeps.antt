@@ -18,7 +18,7 @@ use Rattle.wl_plain.specs.Ask.{Ask, Own, CreateSurface, DestroySurface, AskSurfa
 use Rattle.wl_plain.specs.Desktop.{Resident}
 use Rattle.wl_plain.specs.Owning.{AreApartBy}
 use Rattle.wl_plain.specs.Step.{after_surface, changed_by, committed_on, effect_on, making, own_changed, toplevel_given, with_surfaces}
-use Rattle.wl_plain.specs.ToplevelsOnly.{OwnsToplevelsOnly}
+use Rattle.wl_plain.specs.NoMore.{OwnsToplevelsOnly}
 use Rattle.wl_plain.proofs.BridgeServes.{top-effect, top-given, tops-kept}
 use Rattle.wl_plain.proofs.OwningKeys.{apart-left, apart-map, differ, found-map, gone, new-apart, new-elsewhere, none-left}
 

@@ -15,7 +15,7 @@ use Rattle.wl_plain.specs.Laws.{toplevels_of}
 use Rattle.wl_plain.specs.Served.{beyond_toplevels}
 use Rattle.wl_plain.specs.Step.{FeedsAt, Reaches, StopsAt}
 use Rattle.wl_plain.specs.Steps.{ChangesAt, ConnectsAt, IsClosed, IsFedAt, IsLeft, IsSent, IsStored, Act, Connect, Feed, Store, Leave, Tick, Send, Close, Steps, closed_by, left_so, lowest}
-use Rattle.wl_plain.specs.ToplevelsOnly.{HasToplevelsOnly, OwnsToplevelsAt, OwnsToplevelsOnly}
+use Rattle.wl_plain.specs.NoMore.{NoMore, OwnsToplevelsAt, OwnsToplevelsOnly}
 use Rattle.wl_plain.proofs.BridgeDesks.{become-has}
 use Rattle.wl_plain.proofs.BridgeMessages.{serves-has}
 use Rattle.wl_plain.proofs.BridgeServes.{living, only-peer}
@@ -37,7 +37,7 @@ number-owns zero x standing clients owns = tt
 number-owns (suc k) x standing clients owns = place-owns k x standing clients owns
 
 -- another client or none is there, and the others stand as before
-put-has : (c : ℕ) (x : Option Resident) (standing : List Standing) (d : Desktop) → HasToplevelsOnly d → OwnsToplevelsAt x (filter (λ s. s.client == c) standing) → ((other : ℕ) → c ≢ other → filter (λ s. s.client == other) standing ≡ toplevels_of other d) → HasToplevelsOnly (record d { clients = with_number c x d.clients; standing = standing })
+put-has : (c : ℕ) (x : Option Resident) (standing : List Standing) (d : Desktop) → NoMore d → OwnsToplevelsAt x (filter (λ s. s.client == c) standing) → ((other : ℕ) → c ≢ other → filter (λ s. s.client == other) standing ≡ toplevels_of other d) → NoMore (record d { clients = with_number c x d.clients; standing = standing })
 put-has c x standing d has owns stay = record { pointer = has.pointer; each = λ other. at other (c == other) refl }
   where
     at : (other : ℕ) (b : Bool) → (c == other) ≡ b → OwnsToplevelsAt (client_in (with_number c x d.clients) other) (filter (λ s. s.client == other) standing)
@@ -56,11 +56,11 @@ arrival-owns output =
     none-there : false ≡ true → ⊥
     none-there e = absurd (cc)
 
-connects-has : (o : Option ℕ) (d : Desktop) (done : Done) (e : Desktop) → HasToplevelsOnly d → ConnectsAt o d done e → HasToplevelsOnly e
-connects-has None d done e has h = subst HasToplevelsOnly (sym h.1) has
-connects-has (Some k) d done e has (inl h) = subst HasToplevelsOnly (sym h.1) has
+connects-has : (o : Option ℕ) (d : Desktop) (done : Done) (e : Desktop) → NoMore d → ConnectsAt o d done e → NoMore e
+connects-has None d done e has h = subst NoMore (sym h.1) has
+connects-has (Some k) d done e has (inl h) = subst NoMore (sym h.1) has
 connects-has (Some k) d done e has (inr h) =
-    subst HasToplevelsOnly (sym h.1) (put-has (k + 1) (Some (arrival d.output)) d.standing d has (arrival-owns d.output) (λ other differ. refl))
+    subst NoMore (sym h.1) (put-has (k + 1) (Some (arrival d.output)) d.standing d has (arrival-owns d.output) (λ other differ. refl))
 
 -- ---- what becomes of a client that is there
 
@@ -68,7 +68,7 @@ connects-has (Some k) d done e has (inr h) =
 KeepsObjects : (Peer → Done → Option Peer → Type 0) → Type 0
 KeepsObjects R = (p : Peer) (done : Done) (q : Option Peer) → R p done q → (x : Peer) → q ≡ Some x → x.status ≡ None → (p.status ≡ None) × (x.objects ≡ p.objects)
 
-left-has : (c : ℕ) (r : Resident) (q : Option Peer) (d : Desktop) → client_at c d ≡ Some r → HasToplevelsOnly d → ((x : Peer) → q ≡ Some x → x.status ≡ None → (r.peer.status ≡ None) × (x.objects ≡ r.peer.objects)) → HasToplevelsOnly (left_so c r q d)
+left-has : (c : ℕ) (r : Resident) (q : Option Peer) (d : Desktop) → client_at c d ≡ Some r → NoMore d → ((x : Peer) → q ≡ Some x → x.status ≡ None → (r.peer.status ≡ None) × (x.objects ≡ r.peer.objects)) → NoMore (left_so c r q d)
 left-has c r None d is has keeps =
     put-has c None (without_client c d.standing) d has tt (λ other differ. left_out (λ s. not (s.client == c)) other (one_client c other differ) d.standing)
 left-has c r (Some x) d is has keeps =
@@ -77,10 +77,10 @@ left-has c r (Some x) d is has keeps =
     let kept = keeps x refl alive in
     only-peer r x kept.1 (living r.peer.status r (toplevels_of c d) kept.0 (subst (λ o. OwnsToplevelsAt o (toplevels_of c d)) is (has.each c))))
 
-changes-has : (R : Peer → Done → Option Peer → Type 0) → KeepsObjects R → (absent done : Done) (c : ℕ) (o : Option Resident) (d e : Desktop) → client_at c d ≡ o → HasToplevelsOnly d → ChangesAt R absent c o d done e → HasToplevelsOnly e
+changes-has : (R : Peer → Done → Option Peer → Type 0) → KeepsObjects R → (absent done : Done) (c : ℕ) (o : Option Resident) (d e : Desktop) → client_at c d ≡ o → NoMore d → ChangesAt R absent c o d done e → NoMore e
 unfolding KeepsObjects
-changes-has R keeps absent done c None d e is has h = subst HasToplevelsOnly (sym h.1) has
-changes-has R keeps absent done c (Some r) d e is has h = subst HasToplevelsOnly (sym h.2) (left-has c r h.0 d is has (keeps r.peer done h.0 h.1))
+changes-has R keeps absent done c None d e is has h = subst NoMore (sym h.1) has
+changes-has R keeps absent done c (Some r) d e is has h = subst NoMore (sym h.2) (left-has c r h.0 d is has (keeps r.peer done h.0 h.1))
 
 same-peer : (x y : Peer) (q : Option Peer) → q ≡ Some x → q ≡ Some y → x ≡ y
 same-peer x y q e f = some-same x y (sym e ∙ f)
@@ -134,35 +134,35 @@ left-keeps p done q h x e alive =
 
 -- ---- a piece
 
-reaches-has : (n c : ℕ) (d e : Desktop) → HasToplevelsOnly d → Reaches beyond_toplevels c n d e → HasToplevelsOnly e
-reaches-has zero c d e has h = subst HasToplevelsOnly (sym h) has
+reaches-has : (n c : ℕ) (d e : Desktop) → NoMore d → Reaches beyond_toplevels c n d e → NoMore e
+reaches-has zero c d e has h = subst NoMore (sym h) has
 reaches-has (suc n) c d e has h = serves-has touches_apart c h.0 e (reaches-has n c d h.0 has h.1) h.2
 
-stops-has : (c : ℕ) (o : Option Resident) (d e : Desktop) → client_at c d ≡ o → HasToplevelsOnly d → StopsAt c o d e → HasToplevelsOnly e
+stops-has : (c : ℕ) (o : Option Resident) (d e : Desktop) → client_at c d ≡ o → NoMore d → StopsAt c o d e → NoMore e
 stops-has c None d e is has h = absurd h
-stops-has c (Some r) d e is has (inl h) = subst HasToplevelsOnly (sym h.0) has
+stops-has c (Some r) d e is has (inl h) = subst NoMore (sym h.0) has
 stops-has c (Some r) d e is has (inr h) =
-    subst HasToplevelsOnly (sym h.1) (become-has c r r (ended Memory r.peer) d is has.pointer (λ other differ. has.each other) (λ alive. absurd (none-some Memory (sym alive))))
+    subst NoMore (sym h.1) (become-has c r r (ended Memory r.peer) d is has.pointer (λ other differ. has.each other) (λ alive. absurd (none-some Memory (sym alive))))
 
-feeds-has : (s : Option Cause) (c : ℕ) (piece : List ℕ) (r : Resident) (d e : Desktop) → r.peer.status ≡ s → client_at c d ≡ Some r → HasToplevelsOnly d → FeedsAt beyond_toplevels c piece s r d e → HasToplevelsOnly e
-feeds-has (Some cause) c piece r d e status is has h = subst HasToplevelsOnly (sym h) has
+feeds-has : (s : Option Cause) (c : ℕ) (piece : List ℕ) (r : Resident) (d e : Desktop) → r.peer.status ≡ s → client_at c d ≡ Some r → NoMore d → FeedsAt beyond_toplevels c piece s r d e → NoMore e
+feeds-has (Some cause) c piece r d e status is has h = subst NoMore (sym h) has
 feeds-has None c piece r d e status is has h =
     let come : Peer = with_rest (r.peer.rest ++ piece) r.peer in
-    let start : HasToplevelsOnly (become c r come d) =
+    let start : NoMore (become c r come d) =
     left-has c r (Some come) d is has (λ x e alive. (status, ap (λ (y : Peer). y.objects) (some-same x come (sym e)))) in
     stops-has c (client_at c h.1) h.1 e refl (reaches-has h.0 c (become c r come d) h.1 start h.2) h.3
 
-fed-has : (c : ℕ) (piece : List ℕ) (o : Option Resident) (d : Desktop) (done : Done) (e : Desktop) → client_at c d ≡ o → HasToplevelsOnly d → IsFedAt beyond_toplevels c piece o d done e → HasToplevelsOnly e
-fed-has c piece None d done e is has h = subst HasToplevelsOnly (sym h.1) has
+fed-has : (c : ℕ) (piece : List ℕ) (o : Option Resident) (d : Desktop) (done : Done) (e : Desktop) → client_at c d ≡ o → NoMore d → IsFedAt beyond_toplevels c piece o d done e → NoMore e
+fed-has c piece None d done e is has h = subst NoMore (sym h.1) has
 fed-has c piece (Some r) d done e is has h = feeds-has r.peer.status c piece r d e refl is has h.0
 
 -- ---- every step
 
-pub acts-has : (act : Act) (d e : Desktop) (done : Done) → HasToplevelsOnly d → Steps beyond_toplevels d act done e → HasToplevelsOnly e
+pub acts-has : (act : Act) (d e : Desktop) (done : Done) → NoMore d → Steps beyond_toplevels d act done e → NoMore e
 acts-has Connect d e done has h = connects-has (lowest d.clients) d done e has h
 acts-has (Feed c piece) d e done has h = fed-has c piece (client_at c d) d done e refl has h
 acts-has (Store c store at bytes) d e done has h = changes-has (IsStored store at bytes) (stored-keeps store at bytes) _ done c (client_at c d) d e refl has h
 acts-has (Leave c) d e done has h = changes-has IsLeft left-keeps _ done c (client_at c d) d e refl has h
-acts-has (Tick time) d e done has h = subst HasToplevelsOnly (sym h.1) has
+acts-has (Tick time) d e done has h = subst NoMore (sym h.1) has
 acts-has (Send c n) d e done has h = changes-has (IsSent n) (sent-keeps n) _ done c (client_at c d) d e refl has h
 acts-has (Close c) d e done has h = changes-has IsClosed closed-keeps _ done c (client_at c d) d e refl has h

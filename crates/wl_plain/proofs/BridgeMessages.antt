@@ -15,7 +15,7 @@ use Rattle.wl_plain.specs.Desktop.{Desktop, Resident, client_at, client_in}
 use Rattle.wl_plain.specs.Laws.{toplevels_of}
 use Rattle.wl_plain.specs.Served.{beyond_toplevels}
 use Rattle.wl_plain.specs.Step.{Answers, Becomes, Serves, ServesAt, Takes, WantsOr, answers_to, changed_by, judge, stacked, takes_memory, with_peer}
-use Rattle.wl_plain.specs.ToplevelsOnly.{HasToplevelsOnly, OwnsToplevelsAt, OwnsToplevelsOnly}
+use Rattle.wl_plain.specs.NoMore.{NoMore, OwnsToplevelsAt, OwnsToplevelsOnly}
 use Rattle.wl_plain.proofs.BridgeDesks.{become-has, stacked-others-own}
 use Rattle.wl_plain.proofs.BridgeKeeps.{IsApart, asked-owns, touches}
 use Rattle.wl_plain.proofs.BridgeServes.{living, only-peer, stacked-pointer}
@@ -48,30 +48,30 @@ lacking : (p q : Peer) → LacksMemory p q → q.status ≡ None → ⊥
 lacking p q (inl e) alive = over _ p q e alive
 lacking p q (inr e) alive = none-some _ (sym alive ∙ ap (λ (x : Peer). x.status) e.1)
 
-module _ (c : ℕ) (there : Resident) (d new : Desktop) (is : client_at c d ≡ Some there) (has : HasToplevelsOnly d) where
+module _ (c : ℕ) (there : Resident) (d new : Desktop) (is : client_at c d ≡ Some there) (has : NoMore d) where
   -- one that ends leaves the others what they have
-  ends-has : (Q : Peer → Type 0) → ((q : Peer) → Q q → q.status ≡ None → ⊥) → (r : Resident) → Becomes Q c r d new → HasToplevelsOnly new
-  ends-has Q never r h = subst HasToplevelsOnly (sym h.2) (become-has c r there h.0 d is has.pointer (λ other differ. has.each other) (λ alive. absurd (never h.0 h.1 alive)))
+  ends-has : (Q : Peer → Type 0) → ((q : Peer) → Q q → q.status ≡ None → ⊥) → (r : Resident) → Becomes Q c r d new → NoMore new
+  ends-has Q never r h = subst NoMore (sym h.2) (become-has c r there h.0 d is has.pointer (λ other differ. has.each other) (λ alive. absurd (never h.0 h.1 alive)))
 
-  done-has : (ask : Ask) (r : Resident) → IsApart r.peer.objects (touches ask) → OwnsToplevelsOnly r → Becomes (Queues (answers_to ask r) (changed_by ask r).peer) c (changed_by ask r) (stacked c ask r d) new → HasToplevelsOnly new
+  done-has : (ask : Ask) (r : Resident) → IsApart r.peer.objects (touches ask) → OwnsToplevelsOnly r → Becomes (Queues (answers_to ask r) (changed_by ask r).peer) c (changed_by ask r) (stacked c ask r d) new → NoMore new
   done-has ask r apart only h =
-      subst HasToplevelsOnly (sym h.2)
+      subst NoMore (sym h.2)
       (become-has c (changed_by ask r) there h.0 (stacked c ask r d) (ap (λ clients. client_in clients c) (stacked-clients c ask r d) ∙ is) (stacked-pointer c ask r d ∙ has.pointer)
       (stacked-others-own c ask r d has)
       (λ alive. only-peer (changed_by ask r) h.0 (told-objects (answers_to ask r) (changed_by ask r).peer h.0 h.1 alive) (asked-owns ask r apart only)))
 
-  wants-has : (b : Bool) (r : Resident) (Later : Type 0) → (Later → HasToplevelsOnly new) → WantsOr b Later c r d new → HasToplevelsOnly new
+  wants-has : (b : Bool) (r : Resident) (Later : Type 0) → (Later → NoMore new) → WantsOr b Later c r d new → NoMore new
   wants-has false r Later next h = next h
   wants-has true r Later next (inl h) = ends-has (LacksMemory r.peer) (lacking r.peer) r h
   wants-has true r Later next (inr h) = next h
 
-  answers-has : (judged : Result Ask Refusal) (r : Resident) → ((ask : Ask) → judged ≡ Ok ask → IsApart r.peer.objects (touches ask)) → OwnsToplevelsOnly r → Answers judged c r d new → HasToplevelsOnly new
+  answers-has : (judged : Result Ask Refusal) (r : Resident) → ((ask : Ask) → judged ≡ Ok ask → IsApart r.peer.objects (touches ask)) → OwnsToplevelsOnly r → Answers judged c r d new → NoMore new
   answers-has (Ok ask) r finds only h =
       wants-has (takes_memory ask) (with_peer (counted r.peer) r) _ (λ k. done-has ask (with_peer (counted r.peer) r) (finds ask refl) (only-peer r (counted r.peer) refl only) k) h
   answers-has (Err refusal) r finds only h = ends-has (Errs refusal r.peer) (erred refusal r.peer) r h
 
   module _ (finds : (object opcode : ℕ) (body : List ℕ) (ask : Ask) → judge beyond_toplevels there object opcode body ≡ Ok ask → IsApart there.peer.objects (touches ask)) where
-    pub takes-has : (split : Split) → OwnsToplevelsOnly there → Takes beyond_toplevels split c there d new → HasToplevelsOnly new
+    pub takes-has : (split : Split) → OwnsToplevelsOnly there → Takes beyond_toplevels split c there d new → NoMore new
     takes-has (Message object opcode size) only h =
         let left : Resident = with_peer (with_rest (drop size there.peer.rest) there.peer) there in
         answers-has (judge beyond_toplevels there object opcode (take (size - 8) (drop 8 there.peer.rest))) left (finds object opcode (take (size - 8) (drop 8 there.peer.rest))) (only-peer there left.peer refl only) h
@@ -84,10 +84,10 @@ TouchesApart =
     (r : Resident) (object opcode : ℕ) (body : List ℕ) (ask : Ask) → OwnsToplevelsOnly r → judge beyond_toplevels r object opcode body ≡ Ok ask
     → IsApart r.peer.objects (touches ask)
 
-pub serves-has : TouchesApart → (c : ℕ) (d e : Desktop) → HasToplevelsOnly d → Serves beyond_toplevels c d e → HasToplevelsOnly e
+pub serves-has : TouchesApart → (c : ℕ) (d e : Desktop) → NoMore d → Serves beyond_toplevels c d e → NoMore e
 serves-has finds c d e has h = at (client_at c d) refl (has.each c) h
   where
-    at : (o : Option Resident) → client_at c d ≡ o → OwnsToplevelsAt o (toplevels_of c d) → ServesAt beyond_toplevels c o d e → HasToplevelsOnly e
+    at : (o : Option Resident) → client_at c d ≡ o → OwnsToplevelsAt o (toplevels_of c d) → ServesAt beyond_toplevels c o d e → NoMore e
     at None is owns h = absurd h
     at (Some r) is owns h =
         let only = living r.peer.status r (toplevels_of c d) h.0 owns in

@@ -21,14 +21,14 @@ use Rattle.wl_plain.specs.Demand.{Demand}
 use Rattle.wl_plain.specs.Demanding.{judge_all}
 use Rattle.wl_plain.specs.Desktop.{Desktop, Resident, become, become_by, client_at, client_in, resident_of, with_client}
 use Rattle.wl_plain.specs.Laws.{toplevels_of}
-use Rattle.wl_plain.specs.LeftOut.{beyond_toplevels_left_out}
+use Rattle.wl_plain.specs.LeftOut.{served_now}
 use Rattle.wl_plain.specs.Popups.{is_among}
 use Rattle.wl_plain.specs.Replies.{dismissed_in, newest_first, own_answers, popups_done, replies}
 use Rattle.wl_plain.specs.Served.{beyond_toplevels}
 use Rattle.wl_plain.specs.Settling.{EndsAndSettles, QueuesTo, after_status, becomes, ended_at, pointer_without, unstruck}
 use Rattle.wl_plain.specs.Stacked.{all_windows}
 use Rattle.wl_plain.specs.Step.{Answers, Becomes, Serves, ServesAt, Takes, WantsOr, answers_to, changed_by, effect_on, judge, stacked, takes_memory, toplevel_given, with_peer}
-use Rattle.wl_plain.specs.ToplevelsOnly.{AreToplevels, HasToplevelsOnly, IsToplevel, OwnsToplevelsAt, OwnsToplevelsBy, OwnsToplevelsOnly}
+use Rattle.wl_plain.specs.NoMore.{AreToplevels, NoMore, IsToplevel, OwnsToplevelsAt, OwnsToplevelsBy, OwnsToplevelsOnly}
 use Rattle.wl_plain.specs.Whole.{after_why, done_for, wants_memory, Answers as WholeAnswers, Becomes as WholeBecomes, Does, Serves as WholeServes, ServesAt as WholeServesAt, Takes as WholeTakes, WantsOr as WholeWantsOr}
 use Rattle.wl_plain.proofs.Behind.{changed-status}
 use Rattle.wl_plain.proofs.BridgeBuffers.{nothing-after}
@@ -125,7 +125,7 @@ becomes-whole Q c r d new still h =
 
 -- ---- what a client is told
 
-abbrev ended_why : Option Cause → Peer → Peer
+abbrev pub ended_why : Option Cause → Peer → Peer
 ended_why None q = q
 ended_why (Some cause) q = ended cause q
 
@@ -142,23 +142,29 @@ told-to (event ∷ events) p q h = at (has_room p.unsent event) refl (told-to ev
     at true e later (inr h) = let k = later h in (k.0, k.1, rw e (inr k.2), k.3)
 
 -- a client that lives is told, and ends where that isn't queued
-abbrev IsDone : List Said → ℕ → Resident → Desktop → Desktop → Type 0
+abbrev pub IsDone : List Said → ℕ → Resident → Desktop → Desktop → Type 0
 IsDone events c made d new =
     (q : Peer) × (why : Option Cause) × QueuesTo events made.peer q why × EndsAndSettles (unstruck (after_why why c (with_client c (Some (with_peer q made)) d))) new
 
+-- what it becomes, and what is left of the desktop where it ends
+pub after-same : (events : List Said) (c : ℕ) (made there : Resident) (d : Desktop) → client_at c d ≡ Some there → d.pointer ≡ first_pointer → made.peer.status ≡ None → (q : Peer) (why : Option Cause) → QueuesTo events made.peer q why
+    → after_why why c (with_client c (Some (with_peer q made)) d) ≡ become c made (ended_why why q) d
+after-same events c made there d is still alive q None told = sym (ap (λ s. become_by s c made q d) (queues-status events made.peer q None told ∙ alive))
+after-same events c made there d is still alive q (Some cause) told =
+    let now : Desktop = with_client c (Some (with_peer q made)) d in
+    ap (λ o. ended_at c cause o now) (number-same d.clients c (Some (with_peer q made)) there is) ∙ becomes-same c (with_peer q made) (ended cause q) now still
+    ∙ ap (λ clients. record d { clients = clients; standing = without_client c d.standing }) (number-twice d.clients c (Some (resident_of (ended cause q))) (Some (with_peer q made)))
+
 is-done : (events : List Said) (c : ℕ) (made there : Resident) (d new : Desktop) → client_at c d ≡ Some there → d.pointer ≡ first_pointer → made.peer.status ≡ None → Becomes (Queues events made.peer) c made d new → IsDone events c made d new
 is-done events c made there d new is still alive h =
-    let k = told-to events made.peer h.0 h.1 in (k.0, k.1, k.2, by k.0 k.1 k.2 (h.2 ∙ ap (λ q. become c made q d) k.3))
-  where
-    by : (q : Peer) (why : Option Cause) → QueuesTo events made.peer q why → new ≡ become c made (ended_why why q) d → EndsAndSettles (unstruck (after_why why c (with_client c (Some (with_peer q made)) d))) new
-    by q None told e =
-        let now : Desktop = with_client c (Some (with_peer q made)) d in
-        settles-to now now new refl (e ∙ ap (λ s. become_by s c made q d) (queues-status events made.peer q None told ∙ alive)) still
-    by q (Some cause) told e =
-        let now : Desktop = with_client c (Some (with_peer q made)) d in
-        settles-to (ended_at c cause (client_at c now) now) (become c made (ended cause q) d) new
-        (ap (λ o. ended_at c cause o now) (number-same d.clients c (Some (with_peer q made)) there is) ∙ becomes-same c (with_peer q made) (ended cause q) now still
-        ∙ ap (λ clients. record d { clients = clients; standing = without_client c d.standing }) (number-twice d.clients c (Some (resident_of (ended cause q))) (Some (with_peer q made)))) e still
+    let k = told-to events made.peer h.0 h.1 in
+    let last = become c made (ended_why k.1 k.0) d in (
+      k.0,
+      k.1,
+      k.2,
+      settles-to (after_why k.1 c (with_client c (Some (with_peer k.0 made)) d)) last new (after-same events c made there d is still alive k.0 k.1 k.2)
+          (h.2 ∙ ap (λ q. become c made q d) k.3) (by-pointer (ended_why k.1 k.0).status c made (ended_why k.1 k.0) d ∙ still),
+    )
 
 -- ---- what is asked
 
@@ -174,7 +180,7 @@ stacked-pointer c ask r d = refl
 kept-still : (d : Desktop) → d.pointer ≡ first_pointer → with_kept_move d ≡ d
 kept-still d still = ap (λ p. with_kept_move (record d { pointer = p })) still ∙ sym (ap (λ p. record d { pointer = p }) still)
 
-done-same : (c : ℕ) (ask : Ask) (demand : Demand) (r : Resident) (d : Desktop) → d.pointer ≡ first_pointer → OwnsToplevelsOnly r → Same r ask demand → done_for c demand r d ≡ stacked c ask r d
+pub done-same : (c : ℕ) (ask : Ask) (demand : Demand) (r : Resident) (d : Desktop) → d.pointer ≡ first_pointer → OwnsToplevelsOnly r → Same r ask demand → done_for c demand r d ≡ stacked c ask r d
 done-same c ask demand r d still only same =
     ap with_kept_move (stacked-same c ask demand r (all_windows d) d still only same) ∙ kept-still (stacked c ask r d) (stacked-pointer c ask r d ∙ still)
 
@@ -187,25 +193,25 @@ nothing-between : (xs ys : List Said) → xs ++ [] ++ ys ≡ xs ++ ys
 nothing-between [] ys = refl
 nothing-between (x ∷ xs) ys = ap (λ zs. x ∷ zs) (nothing-between xs ys)
 
-replies-same : (c : ℕ) (ask : Ask) (demand : Demand) (r made : Resident) (d : Desktop) → OwnsToplevelsOnly r → AreToplevels made.owned.shell → Same r ask demand → replies beyond_toplevels_left_out c demand r made (all_windows d) d ≡ answers_to ask r
+pub replies-same : (c : ℕ) (ask : Ask) (demand : Demand) (r made : Resident) (d : Desktop) → OwnsToplevelsOnly r → AreToplevels made.owned.shell → Same r ask demand → replies served_now c demand r made (all_windows d) d ≡ answers_to ask r
 replies-same c ask demand r made d only top same =
     nothing-between (own_answers c demand r (all_windows d) d) (popups_done r made)
     ∙ ap (λ more. own_answers c demand r (all_windows d) d ++ more) (none-done r made top) ∙ nothing-after (own_answers c demand r (all_windows d) d)
     ∙ answers-same c ask demand r (all_windows d) d only same
 
 does-whole : (c : ℕ) (ask : Ask) (demand : Demand) (r there : Resident) (d new : Desktop) → client_at c d ≡ Some there → d.pointer ≡ first_pointer → r.peer.status ≡ None → OwnsToplevelsOnly r → Same r ask demand
-    → Becomes (Queues (answers_to ask r) (changed_by ask r).peer) c (changed_by ask r) (stacked c ask r d) new → Does beyond_toplevels_left_out c demand r d new
+    → Becomes (Queues (answers_to ask r) (changed_by ask r).peer) c (changed_by ask r) (stacked c ask r d) new → Does served_now c demand r d new
 does-whole c ask demand r there d new is still alive only same h =
     let made : Resident = changed_by ask r in
     let on : Desktop = stacked c ask r d in
     let found : client_at c on ≡ Some there = ap (λ clients. client_in clients c) (stacked-clients c ask r d) ∙ is in
     let first : IsDone (answers_to ask r) c made on new =
     is-done (answers_to ask r) c made there on new found (stacked-pointer c ask r d ∙ still) (changed-status ask r ∙ alive) h in
-    let second : IsDone (replies beyond_toplevels_left_out c demand r made (all_windows d) d) c made on new =
+    let second : IsDone (replies served_now c demand r made (all_windows d) d) c made on new =
     subst (λ events. IsDone events c made on new) (sym (replies-same c ask demand r made d only (tops-kept ask r only.roles) same)) first in
-    let third : IsDone (replies beyond_toplevels_left_out c demand r made (all_windows d) d) c made (done_for c demand r d) new =
-    subst (λ e. IsDone (replies beyond_toplevels_left_out c demand r made (all_windows d) d) c made e new) (sym (done-same c ask demand r d still only same)) second in
-    subst (λ m. IsDone (replies beyond_toplevels_left_out c demand r m (all_windows d) d) c m (done_for c demand r d) new) (sym (changed-same c ask demand r d only same)) third
+    let third : IsDone (replies served_now c demand r made (all_windows d) d) c made (done_for c demand r d) new =
+    subst (λ e. IsDone (replies served_now c demand r made (all_windows d) d) c made e new) (sym (done-same c ask demand r d still only same)) second in
+    subst (λ m. IsDone (replies served_now c demand r m (all_windows d) d) c m (done_for c demand r d) new) (sym (changed-same c ask demand r d only same)) third
 
 -- ---- a message
 
@@ -221,44 +227,42 @@ only-peer r p same only =
       pointers = only.pointers;
     }
 
-same-peer : (r : Resident) (p : Peer) (ask : Ask) (demand : Demand) → Same r ask demand → Same (with_peer p r) ask demand
+pub same-peer : (r : Resident) (p : Peer) (ask : Ask) (demand : Demand) → Same r ask demand → Same (with_peer p r) ask demand
 same-peer r p ask demand (asks other) = asks ask
 same-peer r p ask demand (ends id) = ends id
 same-peer r p ask demand (commit id effect e) = commit id effect e
 same-peer r p ask demand (goes id xdg) = goes id xdg
 same-peer r p ask demand (move id serial) = move id serial
 
-pairs-peer : (r : Resident) (p : Peer) (judged : Result Ask Refusal) (demanded : Result Demand Refusal) → Pairs r judged demanded → Pairs (with_peer p r) judged demanded
+pub pairs-peer : (r : Resident) (p : Peer) (judged : Result Ask Refusal) (demanded : Result Demand Refusal) → Pairs r judged demanded → Pairs (with_peer p r) judged demanded
 pairs-peer r p (Ok ask) (Ok demand) same = same-peer r p ask demand same
 pairs-peer r p (Err refusal) (Err other) same = same
 pairs-peer r p (Ok ask) (Err other) same = absurd same
 pairs-peer r p (Err refusal) (Ok demand) same = absurd same
 
 module _ (c : ℕ) (there : Resident) (d new : Desktop) (is : client_at c d ≡ Some there) (still : d.pointer ≡ first_pointer) where
-  wants-whole : (takes wants : Bool) (r : Resident) (Later Then : Type 0) → (takes ≡ true → wants ≡ true) → (Later → Then) → WantsOr takes Later c r d new → WholeWantsOr wants Then c r d new
-  wants-whole false false r Later Then more next h = next h
-  wants-whole false true r Later Then more next h = inr (next h)
-  wants-whole true false r Later Then more next h = let k = more refl in absurd (cc)
-  wants-whole true true r Later Then more next (inl h) = inl (becomes-whole (LacksMemory r.peer) c r d new still h)
-  wants-whole true true r Later Then more next (inr h) = inr (next h)
+  wants-whole : (b : Bool) (r : Resident) (Later Then : Type 0) → (Later → Then) → WantsOr b Later c r d new → WholeWantsOr b Then c r d new
+  wants-whole false r Later Then next h = next h
+  wants-whole true r Later Then next (inl h) = inl (becomes-whole (LacksMemory r.peer) c r d new still h)
+  wants-whole true r Later Then next (inr h) = inr (next h)
 
-  answers-whole : (judged : Result Ask Refusal) (demanded : Result Demand Refusal) (r : Resident) → r.peer.status ≡ None → OwnsToplevelsOnly r → Pairs r judged demanded → Answers judged c r d new → WholeAnswers beyond_toplevels_left_out demanded c r d new
+  answers-whole : (judged : Result Ask Refusal) (demanded : Result Demand Refusal) (r : Resident) → r.peer.status ≡ None → OwnsToplevelsOnly r → Pairs r judged demanded → Answers judged c r d new → WholeAnswers served_now demanded c r d new
   answers-whole (Ok ask) (Ok demand) r alive only same h =
       let now : Resident = with_peer (counted r.peer) r in
       let same_now : Same now ask demand = same-peer r (counted r.peer) ask demand same in
-      wants-whole (takes_memory ask) (wants_memory demand) now _ _ (wants-same ask demand now same_now)
-      (λ k. does-whole c ask demand now there d new is still alive (only-peer r (counted r.peer) refl only) same_now k) h
+      subst (λ b. WholeWantsOr b (Does served_now c demand now d new) c now d new) (sym (wants-same ask demand now same_now))
+      (wants-whole (takes_memory ask) now _ _ (λ k. does-whole c ask demand now there d new is still alive (only-peer r (counted r.peer) refl only) same_now k) h)
   answers-whole (Err refusal) (Err other) r alive only same h =
-      subst (λ e. WholeAnswers beyond_toplevels_left_out (Err e) c r d new) same (becomes-whole _ c r d new still h)
+      subst (λ e. WholeAnswers served_now (Err e) c r d new) same (becomes-whole _ c r d new still h)
   answers-whole (Ok ask) (Err other) r alive only same h = absurd same
   answers-whole (Err refusal) (Ok demand) r alive only same h = absurd same
 
-  takes-whole : (split : Split) → there.peer.status ≡ None → OwnsToplevelsOnly there → Takes beyond_toplevels split c there d new → WholeTakes beyond_toplevels_left_out split c there d new
+  takes-whole : (split : Split) → there.peer.status ≡ None → OwnsToplevelsOnly there → Takes beyond_toplevels split c there d new → WholeTakes served_now split c there d new
   takes-whole (Message object opcode size) alive only h =
       let body = take (size - 8) (drop 8 there.peer.rest) in
       let left : Resident = with_peer (with_rest (drop size there.peer.rest) there.peer) there in
-      answers-whole (judge beyond_toplevels there object opcode body) (judge_all beyond_toplevels_left_out there object opcode body) left alive (only-peer there left.peer refl only)
-      (pairs-peer there left.peer (judge beyond_toplevels there object opcode body) (judge_all beyond_toplevels_left_out there object opcode body) (judge-pair there object opcode body only.roles)) h
+      answers-whole (judge beyond_toplevels there object opcode body) (judge_all served_now there object opcode body) left alive (only-peer there left.peer refl only)
+      (pairs-peer there left.peer (judge beyond_toplevels there object opcode body) (judge_all served_now there object opcode body) (judge-pair there object opcode body only.roles)) h
   takes-whole Bad alive only h = becomes-whole _ c there d new still h
   takes-whole More alive only h = absurd h
 
@@ -267,12 +271,12 @@ living None r standing alive owns = owns
 living (Some cause) r standing alive owns = absurd (cc)
 
 -- A message does where every request may be served what it does where no more than toplevels is.
-pub serves-whole : (c : ℕ) (d new : Desktop) → HasToplevelsOnly d → Serves beyond_toplevels c d new → WholeServes beyond_toplevels_left_out c d new
+pub serves-whole : (c : ℕ) (d new : Desktop) → NoMore d → Serves beyond_toplevels c d new → WholeServes served_now c d new
 serves-whole c d new only h = at (client_at c d) refl (only.each c) h
   where
-    at : (o : Option Resident) → client_at c d ≡ o → OwnsToplevelsAt o (toplevels_of c d) → ServesAt beyond_toplevels c o d new → WholeServesAt beyond_toplevels_left_out c (client_at c d) d new
+    at : (o : Option Resident) → client_at c d ≡ o → OwnsToplevelsAt o (toplevels_of c d) → ServesAt beyond_toplevels c o d new → WholeServesAt served_now c (client_at c d) d new
     at None is owns h = absurd h
     at (Some r) is owns h =
-        let whole : WholeServesAt beyond_toplevels_left_out c (Some r) d new =
+        let whole : WholeServesAt served_now c (Some r) d new =
         (h.0, takes-whole c r d new is only.pointer (split_of r.peer.rest) h.0 (living r.peer.status r (toplevels_of c d) h.0 owns) h.1) in
-        subst (λ o. WholeServesAt beyond_toplevels_left_out c o d new) (sym is) whole
+        subst (λ o. WholeServesAt served_now c o d new) (sym is) whole

@@ -12,12 +12,12 @@ use Rattle.wl_plain.specs.declared.answers.Done.TheVariants as gave
 use Rattle.wl_plain.specs.Changing.{without_callbacks}
 use Rattle.wl_plain.specs.Desktop.{Callback, Desktop, Resident, become, become_by, client_at, resident_of, with_client, with_number}
 use Rattle.wl_plain.specs.Laws.{toplevels_of}
-use Rattle.wl_plain.specs.LeftOut.{beyond_toplevels_left_out}
+use Rattle.wl_plain.specs.LeftOut.{served_now}
 use Rattle.wl_plain.specs.Served.{beyond_toplevels}
 use Rattle.wl_plain.specs.Settling.{TellsAt, becomes, unstruck}
 use Rattle.wl_plain.specs.Step.{FeedsAt, Reaches, Serves, StopsAt, with_peer}
 use Rattle.wl_plain.specs.Steps.{ChangesAt, IsClosed, IsFedAt, IsLeft, IsSent, IsStored, Act, Connect, Feed, Store, Leave, Tick, Send, Close, Steps, closed_by, left_so}
-use Rattle.wl_plain.specs.ToplevelsOnly.{HasToplevelsOnly, OwnsToplevelsAt, OwnsToplevelsBy, OwnsToplevelsOnly}
+use Rattle.wl_plain.specs.NoMore.{NoMore, OwnsToplevelsAt, OwnsToplevelsBy, OwnsToplevelsOnly}
 use Rattle.wl_plain.specs.Whole.{ChangesAt as WholeChangesAt, FeedsAt as WholeFeedsAt, IsFedAt as WholeIsFedAt, LeavesAt, Reaches as WholeReaches, Shows, StopsAt as WholeStopsAt, TellsFrames, callbacks_due, frames_told, Acts}
 use Rattle.wl_plain.proofs.BridgeServes.{becomes-same, living, only-peer, serves-whole, settles-to}
 use Rattle.wl_plain.proofs.OwningKeys.{none-some}
@@ -42,14 +42,14 @@ ended-owns (Some other) cause r standing e owns = owns
 
 -- what becomes of a client that has the status that it had
 module _ (c : ℕ) (r : Resident) (d : Desktop) (owns : OwnsToplevelsBy r.peer.status r (toplevels_of c d)) where
-  stays-by : (s : Option Cause) (x : Peer) → r.peer.status ≡ s → become_by s c r x d ≡ with_client c (Some (with_peer x r)) d
+  pub stays-by : (s : Option Cause) (x : Peer) → r.peer.status ≡ s → become_by s c r x d ≡ with_client c (Some (with_peer x r)) d
   stays-by None x e = refl
   stays-by (Some cause) x e =
       let over = ended-owns r.peer.status cause r (toplevels_of c d) e owns in
       ap (λ ss. record d { clients = with_number c (Some (resident_of x)) d.clients; standing = ss }) (none-taken c d.standing over.1)
       ∙ sym (ap (λ q. with_client c (Some (with_peer x q)) d) over.0)
 
-  left-held : (q : Option Peer) → ((x : Peer) → q ≡ Some x → x.status ≡ r.peer.status) → (q ≡ None → (cause : Cause) × (r.peer.status ≡ Some cause)) → left_so c r q d ≡ held q c r d
+  pub left-held : (q : Option Peer) → ((x : Peer) → q ≡ Some x → x.status ≡ r.peer.status) → (q ≡ None → (cause : Cause) × (r.peer.status ≡ Some cause)) → left_so c r q d ≡ held q c r d
   left-held None keeps gone =
       let why = gone refl in
       ap (λ ss. record d { clients = with_number c None d.clients; standing = ss })
@@ -61,12 +61,12 @@ held-changed R absent done c r d new None h e = (None, h, e)
 held-changed R absent done c r d new (Some q) h e = (Some q, h, e)
 
 -- a change that leaves a client its status, or takes one that ended
-Leaves : (Peer → Done → Option Peer → Type 0) → Type 0
+unfoldable pub Leaves : (Peer → Done → Option Peer → Type 0) → Type 0
 Leaves R =
     (p : Peer) (done : Done) (q : Option Peer) → R p done q
     → ((x : Peer) → q ≡ Some x → x.status ≡ p.status) × (q ≡ None → (cause : Cause) × (p.status ≡ Some cause))
 
-changes-whole : (R : Peer → Done → Option Peer → Type 0) → Leaves R → (absent done : Done) (c : ℕ) (o : Option Resident) (d new : Desktop) → OwnsToplevelsAt o (toplevels_of c d) → ChangesAt R absent c o d done new → WholeChangesAt R absent c o d done new
+pub changes-whole : (R : Peer → Done → Option Peer → Type 0) → Leaves R → (absent done : Done) (c : ℕ) (o : Option Resident) (d new : Desktop) → OwnsToplevelsAt o (toplevels_of c d) → ChangesAt R absent c o d done new → WholeChangesAt R absent c o d done new
 unfolding Leaves
 changes-whole R leaves absent done c None d new owns h = h
 changes-whole R leaves absent done c (Some r) d new owns h =
@@ -76,14 +76,14 @@ changes-whole R leaves absent done c (Some r) d new owns h =
 same-peer : (x y : Peer) → Some x ≡ Some y → x ≡ y
 same-peer x y e = cc
 
-stored-leaves : (store at : ℕ) (bytes : List ℕ) → Leaves (IsStored store at bytes)
+pub stored-leaves : (store at : ℕ) (bytes : List ℕ) → Leaves (IsStored store at bytes)
 unfolding Leaves
 stored-leaves store at bytes p done q h = (
   λ x e. ap (λ (y : Peer). y.status) (same-peer x _ (sym e ∙ h.0)) ∙ stored-status p.status store at bytes p,
   λ e. absurd (none-some _ (sym e ∙ h.0)),
 )
 
-sent-leaves : (n : ℕ) → Leaves (IsSent n)
+pub sent-leaves : (n : ℕ) → Leaves (IsSent n)
 unfolding Leaves
 sent-leaves n p done q h = (
   λ x e. ap (λ (y : Peer). y.status) (same-peer x _ (sym e ∙ h.0)) ∙ sent-status n p,
@@ -92,7 +92,7 @@ sent-leaves n p done q h = (
 
 -- ---- a client goes
 
-so : Option Cause → Resident → Resident
+pub so : Option Cause → Resident → Resident
 so s r = record r { peer = record r.peer { status = s } }
 
 left-so : (s : Option Cause) (c : ℕ) (r : Resident) (d new : Desktop) (done : Done) (q : Option Peer) → d.pointer ≡ first_pointer → OwnsToplevelsBy s (so s r) (toplevels_of c d) → client_at c d ≡ Some (so s r)
@@ -112,7 +112,7 @@ unfolding so
 leaves-whole c None d new done still is owns h = h
 leaves-whole c (Some r) d new done still is owns h = left-so r.peer.status c r d new done h.0 still owns is h.1.0 h.1.1 h.2
 
-closed-leaves : Leaves IsClosed
+pub closed-leaves : Leaves IsClosed
 unfolding Leaves
 closed-leaves p done q h = at p.status refl h.0
   where
@@ -148,17 +148,17 @@ tells-none time c (Some r) d is owns = by r.peer.status refl
         subst (λ q. TellsAt (λ r. without_callbacks (callbacks_due r) r) (frames_told time) c (Some q) (unstruck d) (unstruck d)) whole
         (told r.callbacks only.callbacks refl r.peer.status e refl)
 
-frames-none : (time n c : ℕ) (d : Desktop) → HasToplevelsOnly d → TellsFrames time n c (unstruck d) (unstruck d)
+frames-none : (time n c : ℕ) (d : Desktop) → NoMore d → TellsFrames time n c (unstruck d) (unstruck d)
 frames-none time zero c d only = refl
 frames-none time (suc n) c d only = (unstruck d, tells-none time c (client_at c d) d refl (only.each c), frames-none time n (suc c) d only)
 
-shows-whole : (time : ℕ) (d new : Desktop) → HasToplevelsOnly d → new ≡ d → Shows time d new
+pub shows-whole : (time : ℕ) (d new : Desktop) → NoMore d → new ≡ d → Shows time d new
 shows-whole time d new only e = (unstruck d, frames-none time 32 1 d only, settles-to d d new refl e only.pointer)
 
 -- ---- a piece
 
 -- another client is there, which has no more than toplevels
-has-put : (c : ℕ) (r there : Resident) (d : Desktop) → client_at c d ≡ Some there → OwnsToplevelsAt (Some r) (toplevels_of c d) → HasToplevelsOnly d → HasToplevelsOnly (with_client c (Some r) d)
+pub has-put : (c : ℕ) (r there : Resident) (d : Desktop) → client_at c d ≡ Some there → OwnsToplevelsAt (Some r) (toplevels_of c d) → NoMore d → NoMore (with_client c (Some r) d)
 has-put c r there d is owns only = record { pointer = only.pointer; each = λ other. at other (c == other) refl }
   where
     at : (other : ℕ) (b : Bool) → (c == other) ≡ b → OwnsToplevelsAt (client_at other (with_client c (Some r) d)) (toplevels_of other d)
@@ -167,7 +167,7 @@ has-put c r there d is owns only = record { pointer = only.pointer; each = λ ot
         (subst (λ o. OwnsToplevelsAt o (toplevels_of c d)) (sym (number-same d.clients c (Some r) there is)) owns)
     at other false e = subst (λ o. OwnsToplevelsAt o (toplevels_of other d)) (sym (number-other d.clients c other (Some r) (eqb-false c other e))) (only.each other)
 
-stops-whole : (c : ℕ) (o : Option Resident) (d new : Desktop) → HasToplevelsOnly d → StopsAt c o d new → WholeStopsAt c o d new
+stops-whole : (c : ℕ) (o : Option Resident) (d new : Desktop) → NoMore d → StopsAt c o d new → WholeStopsAt c o d new
 stops-whole c None d new only h = h
 stops-whole c (Some r) d new only (inl h) = inl h
 stops-whole c (Some r) d new only (inr h) =
@@ -175,17 +175,17 @@ stops-whole c (Some r) d new only (inr h) =
     inr (h.0, settles-to (becomes c r gone d) (become c r gone d) new (becomes-same c r gone d only.pointer) h.1 only.pointer)
 
 -- Where a message leaves clients no more than toplevels, a piece does the same.
-module _ (keeps : (c : ℕ) (d e : Desktop) → HasToplevelsOnly d → Serves beyond_toplevels c d e → HasToplevelsOnly e) where
-  reaches-keep : (n c : ℕ) (d e : Desktop) → HasToplevelsOnly d → Reaches beyond_toplevels c n d e → HasToplevelsOnly e
-  reaches-keep zero c d e only h = subst HasToplevelsOnly (sym h) only
+module _ (keeps : (c : ℕ) (d e : Desktop) → NoMore d → Serves beyond_toplevels c d e → NoMore e) where
+  reaches-keep : (n c : ℕ) (d e : Desktop) → NoMore d → Reaches beyond_toplevels c n d e → NoMore e
+  reaches-keep zero c d e only h = subst NoMore (sym h) only
   reaches-keep (suc n) c d e only h = keeps c h.0 e (reaches-keep n c d h.0 only h.1) h.2
 
-  reaches-whole : (n c : ℕ) (d e : Desktop) → HasToplevelsOnly d → Reaches beyond_toplevels c n d e → WholeReaches beyond_toplevels_left_out c n d e
+  reaches-whole : (n c : ℕ) (d e : Desktop) → NoMore d → Reaches beyond_toplevels c n d e → WholeReaches served_now c n d e
   reaches-whole zero c d e only h = h
   reaches-whole (suc n) c d e only h =
       (h.0, reaches-whole n c d h.0 only h.1, serves-whole c h.0 e (reaches-keep n c d h.0 only h.1) h.2)
 
-  feeds-by : (s : Option Cause) (c : ℕ) (piece : List ℕ) (r : Resident) (d e : Desktop) → r.peer.status ≡ s → client_at c d ≡ Some r → HasToplevelsOnly d → FeedsAt beyond_toplevels c piece s r d e → WholeFeedsAt beyond_toplevels_left_out c piece s r d e
+  feeds-by : (s : Option Cause) (c : ℕ) (piece : List ℕ) (r : Resident) (d e : Desktop) → r.peer.status ≡ s → client_at c d ≡ Some r → NoMore d → FeedsAt beyond_toplevels c piece s r d e → WholeFeedsAt served_now c piece s r d e
   feeds-by (Some cause) c piece r d e status is only h = h
   feeds-by None c piece r d e alive is only h =
       let come : Peer = with_rest (r.peer.rest ++ piece) r.peer in
@@ -194,16 +194,16 @@ module _ (keeps : (c : ℕ) (d e : Desktop) → HasToplevelsOnly d → Serves be
       let owns : OwnsToplevelsOnly r = living r.peer.status r (toplevels_of c d) alive (subst (λ o. OwnsToplevelsAt o (toplevels_of c d)) is (only.each c)) in
       let come_owns : OwnsToplevelsBy r.peer.status (with_peer come r) (toplevels_of c d) =
       subst (λ s. OwnsToplevelsBy s (with_peer come r) (toplevels_of c d)) (sym alive) (only-peer r come refl owns) in
-      let has : HasToplevelsOnly start = has-put c (with_peer come r) r d is come_owns only in
+      let has : NoMore start = has-put c (with_peer come r) r d is come_owns only in
       let reached : Reaches beyond_toplevels c h.0 start h.1 = subst (λ x. Reaches beyond_toplevels c h.0 x h.1) begins h.2 in
       (h.0, h.1, reaches-whole h.0 c start h.1 has reached, stops-whole c (client_at c h.1) h.1 e (reaches-keep h.0 c start h.1 has reached) h.3)
 
-  pub fed-whole : (c : ℕ) (piece : List ℕ) (o : Option Resident) (d : Desktop) (done : Done) (e : Desktop) → client_at c d ≡ o → HasToplevelsOnly d → IsFedAt beyond_toplevels c piece o d done e → WholeIsFedAt beyond_toplevels_left_out c piece o d done e
+  pub fed-whole : (c : ℕ) (piece : List ℕ) (o : Option Resident) (d : Desktop) (done : Done) (e : Desktop) → client_at c d ≡ o → NoMore d → IsFedAt beyond_toplevels c piece o d done e → WholeIsFedAt served_now c piece o d done e
   fed-whole c piece None d done e is only h = h
   fed-whole c piece (Some r) d done e is only h = (feeds-by r.peer.status c piece r d e refl is only h.0, h.1)
 
   -- every step does the same
-  pub acts-whole : (act : Act) (d e : Desktop) (done : Done) → HasToplevelsOnly d → Steps beyond_toplevels d act done e → Acts beyond_toplevels_left_out act done d e
+  pub acts-whole : (act : Act) (d e : Desktop) (done : Done) → NoMore d → Steps beyond_toplevels d act done e → Acts served_now act done d e
   acts-whole Connect d e done only h = h
   acts-whole (Feed c piece) d e done only h = fed-whole c piece (client_at c d) d done e refl only h
   acts-whole (Store c store at bytes) d e done only h =

@@ -12,7 +12,7 @@ use Rattle.wl_plain.specs.Ask.{Ask, Own, CreateSurface, DestroyBase, GetXdgSurfa
 use Rattle.wl_plain.specs.Demand.{Demand}
 use Rattle.wl_plain.specs.Demanding.{judge_all}
 use Rattle.wl_plain.specs.Desktop.{Resident}
-use Rattle.wl_plain.specs.LeftOut.{beyond_toplevels_left_out}
+use Rattle.wl_plain.specs.LeftOut.{served_now}
 use Rattle.wl_plain.specs.Served.{beyond_toplevels}
 use Rattle.wl_plain.specs.Step.{judge}
 use Rattle.wl_plain.proofs.BridgeFinds.{free-apart}
@@ -58,13 +58,13 @@ same-apart r ask demand (move id serial) allows = tt
 
 pub touches_apart : TouchesApart
 touches_apart r object opcode body ask only e =
-    at (judge beyond_toplevels r object opcode body) (judge_all beyond_toplevels_left_out r object opcode body) e refl (judge-pair r object opcode body only.roles)
+    at (judge beyond_toplevels r object opcode body) (judge_all served_now r object opcode body) e refl (judge-pair r object opcode body only.roles)
   where
     same-ask : (other : Ask) → (let j : Result Ask Refusal = Ok other in j) ≡ Ok ask → other ≡ ask
     same-ask other e = cc
 
-    at : (judged : Result Ask Refusal) (demanded : Result Demand Refusal) → judged ≡ Ok ask → judge_all beyond_toplevels_left_out r object opcode body ≡ demanded → Pairs r judged demanded → IsApart r.peer.objects (touches ask)
+    at : (judged : Result Ask Refusal) (demanded : Result Demand Refusal) → judged ≡ Ok ask → judge_all served_now r object opcode body ≡ demanded → Pairs r judged demanded → IsApart r.peer.objects (touches ask)
     at (Err refusal) demanded e is pair = absurd (cc)
     at (Ok other) (Err refusal) e is pair = absurd pair
     at (Ok other) (Ok demand) e is pair =
-        subst (λ a. IsApart r.peer.objects (touches a)) (same-ask other e) (same-apart r other demand pair (allowed beyond_toplevels_left_out r object opcode body demand is))
+        subst (λ a. IsApart r.peer.objects (touches a)) (same-ask other e) (same-apart r other demand pair (allowed served_now r object opcode body demand is))

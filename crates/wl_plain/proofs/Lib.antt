@@ -74,6 +74,8 @@ pub mod BridgeFinds
 pub mod BridgeKeeps
 pub mod BridgeMessages
 pub mod BridgeSteps
+pub mod BridgeBack
+pub mod BridgeWindows
 pub mod Orderly
 pub mod WholeOutput
 pub mod OrderlyMoves

@@ -11,7 +11,7 @@ use Rattle.wl_scene.specs.Lent.{shows_buffer}
 use Rattle.wl_scene.specs.Stacking.{is_of, windows_on}
 use Rattle.wl_plain.specs.Desktop.{Desktop, owned_in, windows_in}
 use Rattle.wl_plain.specs.Laws.{AreApart}
-use Rattle.wl_plain.specs.Moments.{applied_between, is_applied_at, is_applied_by, marks_at_least}
+use Rattle.wl_plain.specs.Moments.{applied_between, is_applied_at, is_applied_by, marks_of_toplevels}
 use Rattle.wl_plain.specs.Owning.{AllCounts}
 use Rattle.wl_plain.specs.Touching.{any_window_at}
 use Rattle.wl_plain.proofs.Distinct.{windows_are_distinct}
@@ -35,7 +35,7 @@ module _ (is : ℕ → ℕ → Bool) (d new : Desktop) (unlinked : (c : ℕ) →
     (stack : filter (stands_else is) d.standing ≡ filter (stands_else is) new.standing)
     (stays : (c surface : ℕ) → is c surface ≡ false → StaysAt (list_any (is_of c surface) d.standing) (history_in surface (owned_in d c).surfaces) (history_in surface (owned_in new c).surfaces)) where
   -- Where the other toplevels stand as before, and of their surfaces nothing more counts, the point is in a window of one of these surfaces.
-  pub desktops-touch : (x y : ℤ) → marks_at_least d new x y ≡ true → (any_window_at is x y (windows_in d) || any_window_at is x y (windows_in new)) ≡ true
+  pub desktops-touch : (x y : ℤ) → marks_of_toplevels d new x y ≡ true → (any_window_at is x y (windows_in d) || any_window_at is x y (windows_in new)) ≡ true
   desktops-touch x y e =
       marked-there is x y (windows_in d) (windows_in new)
       (windows-else is (owned_in d) d.standing unlinked

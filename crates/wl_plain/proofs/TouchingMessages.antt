@@ -12,7 +12,7 @@ use Rattle.wl_shell.specs.Kept.{Kept}
 use Rattle.wl_plain.specs.Ask.{Ask, CommitSurface, DestroyToplevel}
 use Rattle.wl_plain.specs.Desktop.{Desktop, Resident, become, client_at, client_in, owned_in, owned_of}
 use Rattle.wl_plain.specs.Laws.{status_in}
-use Rattle.wl_plain.specs.Moments.{marks_at_least}
+use Rattle.wl_plain.specs.Moments.{marks_of_toplevels}
 use Rattle.wl_plain.specs.Owning.{IsOwned, Names}
 use Rattle.wl_plain.specs.Served.{Unserved}
 use Rattle.wl_plain.specs.Standing.{AreMapped, MappedStand}
@@ -97,7 +97,7 @@ module _ (unserved : Unserved) (c : ℕ) (there : Resident) (d : Desktop) (is : 
   module _ (x y : ℤ) where
     -- a point that this leads to is marked
     abbrev IsMarkedSo : Desktop → Type 0
-    IsMarkedSo new = marks_at_least d new x y ≡ true → MarkedBy unserved c there x y d new
+    IsMarkedSo new = marks_of_toplevels d new x y ≡ true → MarkedBy unserved c there x y d new
 
     told-point : (p q : Peer) → IsMarkedSo (become c (with_peer p there) q d)
     told-point p q = at q.status refl
@@ -122,5 +122,5 @@ module _ (unserved : Unserved) (c : ℕ) (there : Resident) (d : Desktop) (is : 
         at (Some cause) over f = inl (ap (λ s. is_some s) (done-status ask p q ∙ over), asked-end-touches c there d is unlinked stand.apart ask (with_peer p there) q cause over x y f)
 
     -- A point that a message marks at least lies in a window of the surface that it touches, or the client ended and it lies in one that it had.
-    pub serves-point : (new : Desktop) → Serves unserved c d new → marks_at_least d new x y ≡ true → MarkedBy unserved c there x y d new
+    pub serves-point : (new : Desktop) → Serves unserved c d new → marks_of_toplevels d new x y ≡ true → MarkedBy unserved c there x y d new
     serves-point new h = serves-so IsMarkedSo told-point new done-point h

@@ -12,7 +12,7 @@ use Rattle.wl_scene.specs.Windows.{Window, contains}
 use Rattle.wl_plain.specs.Ask.{Ask}
 use Rattle.wl_plain.specs.Desktop.{Desktop, Resident, become, become_by, client_at, client_in, owned_in, owned_of, resident_of, windows_in, with_client}
 use Rattle.wl_plain.specs.Laws.{AreApart}
-use Rattle.wl_plain.specs.Moments.{marks_at_least}
+use Rattle.wl_plain.specs.Moments.{marks_of_toplevels}
 use Rattle.wl_plain.specs.Owning.{AllCounts}
 use Rattle.wl_plain.specs.Standing.{AreMapped}
 use Rattle.wl_plain.specs.Step.{changed_by, stacked}
@@ -77,23 +77,23 @@ module _ (c : ℕ) (there : Resident) (d : Desktop) (at_c : client_at c d ≡ So
             subst (λ n. Stays n surface) same (here (ap (λ n. is n surface) same ∙ other))
         by false f = same-stays _ _ _ (ap (λ (o : Owned). history_in surface o.surfaces) (sym (owned-else client (eqb-false c client f))))
 
-    after-touches : (x y : ℤ) → marks_at_least d after x y ≡ true → (any_window_at is x y (windows_in d) || any_window_at is x y (windows_in after)) ≡ true
+    after-touches : (x y : ℤ) → marks_of_toplevels d after x y ≡ true → (any_window_at is x y (windows_in d) || any_window_at is x y (windows_in after)) ≡ true
     after-touches x y f = desktops-touch is d after unlinked still-unlinked apart stack all-stay x y f
 
   -- ---- what leaves the windows as they are
 
   -- it marks nothing
-  nothing-marked : (new : Desktop) (x y : ℤ) → (marks_at_least d new x y ≡ true → (any_window_at none_of x y (windows_in d) || any_window_at none_of x y (windows_in new)) ≡ true) → marks_at_least d new x y ≡ false
-  nothing-marked new x y touches = at (marks_at_least d new x y) refl
+  nothing-marked : (new : Desktop) (x y : ℤ) → (marks_of_toplevels d new x y ≡ true → (any_window_at none_of x y (windows_in d) || any_window_at none_of x y (windows_in new)) ≡ true) → marks_of_toplevels d new x y ≡ false
+  nothing-marked new x y touches = at (marks_of_toplevels d new x y) refl
     where
-      at : (b : Bool) → marks_at_least d new x y ≡ b → b ≡ false
+      at : (b : Bool) → marks_of_toplevels d new x y ≡ b → b ≡ false
       at true f = absurd (neither-there x y (windows_in d) (windows_in new) (touches f))
       at false f = refl
 
   -- A client that lives is told something: nothing is marked.
-  pub told-marks-nothing : (r : Resident) (q : Peer) → r.owned ≡ there.owned → q.status ≡ None → (x y : ℤ) → marks_at_least d (become c r q d) x y ≡ false
+  pub told-marks-nothing : (r : Resident) (q : Peer) → r.owned ≡ there.owned → q.status ≡ None → (x y : ℤ) → marks_of_toplevels d (become c r q d) x y ≡ false
   told-marks-nothing r q same alive x y =
-      subst (λ s. marks_at_least d (become_by s c r q d) x y ≡ false) (sym alive)
+      subst (λ s. marks_of_toplevels d (become_by s c r q d) x y ≡ false) (sym alive)
       (nothing-marked (become_by None c r q d) x y
       (after-touches none_of r q d refl (ap (λ (o : Owned). o.surfaces.links) (same ∙ sym (ap owned_of at_c)) ∙ unlinked c) refl
       (λ surface other. same-stays _ _ _ (ap (λ (o : Owned). history_in surface o.surfaces) (sym same))) x y))
@@ -124,10 +124,10 @@ module _ (c : ℕ) (there : Resident) (d : Desktop) (at_c : client_at c d ≡ So
           (asked-surfaces-stay c r d.standing is counts ask surface finds other)
 
       -- What an accepted message of a client that lives marks at least lies in a window of the surface that it touches, before it or after it.
-      asked-touches-any : marks_at_least d done x y ≡ true → Touches done (touched ask r)
+      asked-touches-any : marks_of_toplevels d done x y ≡ true → Touches done (touched ask r)
       asked-touches-any = by q.status alive
         where
-          by : (s : Option Cause) → s ≡ None → marks_at_least d (become_by s c (changed_by ask r) q (stacked c ask r d)) x y ≡ true
+          by : (s : Option Cause) → s ≡ None → marks_of_toplevels d (become_by s c (changed_by ask r) q (stacked c ask r d)) x y ≡ true
               → Touches (become_by s c (changed_by ask r) q (stacked c ask r d)) (touched ask r)
           by None e f =
               after-touches (is_touched c (touched ask r)) (changed_by ask r) q (stacked c ask r d) (stacked-clients c ask r d)
@@ -135,14 +135,14 @@ module _ (c : ℕ) (there : Resident) (d : Desktop) (at_c : client_at c d ≡ So
               (asked-others-stay c ask r d) stays-here x y f
           by (Some cause) e f = absurd (cc)
 
-      pub asked-touches : marks_at_least d done x y ≡ true → TouchesThere c ask r x y d done
+      pub asked-touches : marks_of_toplevels d done x y ≡ true → TouchesThere c ask r x y d done
       asked-touches f = touches-by done (touched ask r) refl (asked-touches-any f)
 
       -- one that touches no surface marks nothing
-      pub untouched-marks-nothing : touched ask r ≡ None → marks_at_least d done x y ≡ false
-      untouched-marks-nothing none = at (marks_at_least d done x y) refl
+      pub untouched-marks-nothing : touched ask r ≡ None → marks_of_toplevels d done x y ≡ false
+      untouched-marks-nothing none = at (marks_of_toplevels d done x y) refl
         where
-          at : (b : Bool) → marks_at_least d done x y ≡ b → b ≡ false
+          at : (b : Bool) → marks_of_toplevels d done x y ≡ b → b ≡ false
           at false f = refl
           at true f = let touches = asked-touches f in absurd (cc (none, touches.1))
 
@@ -169,24 +169,24 @@ module _ (c : ℕ) (there : Resident) (d : Desktop) (at_c : client_at c d ≡ So
         ap (λ ws. any_window_at of_client x y ws) (sym (windows-else of_client (owned_in gone) e.standing (still-unlinked of_client (resident_of q) q rest clients refl stack stays)))
         ∙ any-gone (λ (w : Window). (w.owner.client == c) && contains w x y) (is_else of_client) (λ w f. ap (λ b. not b) (and-left (w.owner.client == c) _ f)) (windows_on (owned_in gone) e.standing)
 
-    ended : marks_at_least d gone x y ≡ true → has_window_at c x y d ≡ true
+    ended : marks_of_toplevels d gone x y ≡ true → has_window_at c x y d ≡ true
     ended f =
         either-of (any_window_at of_client x y (windows_in d)) (any_window_at of_client x y (windows_in gone)) (has_window_at c x y d)
         (after-touches of_client (resident_of q) q rest clients refl stack stays x y f)
         (λ g. g) (λ g. absurd (differ (sym none-left-there ∙ g)))
 
-    ends-by : (r : Resident) (cause : Cause) → q.status ≡ Some cause → marks_at_least d (become c r q e) x y ≡ true → has_window_at c x y d ≡ true
+    ends-by : (r : Resident) (cause : Cause) → q.status ≡ Some cause → marks_of_toplevels d (become c r q e) x y ≡ true → has_window_at c x y d ≡ true
     ends-by r cause over = by q.status over
       where
-        by : (s : Option Cause) → s ≡ Some cause → marks_at_least d (become_by s c r q e) x y ≡ true → has_window_at c x y d ≡ true
+        by : (s : Option Cause) → s ≡ Some cause → marks_of_toplevels d (become_by s c r q e) x y ≡ true → has_window_at c x y d ≡ true
         by None e f = absurd (cc)
         by (Some other) e f = ended f
 
   -- What the end of a client marks at least lies in a window that it had.
-  pub end-touches : (r : Resident) (q : Peer) (cause : Cause) → q.status ≡ Some cause → (x y : ℤ) → marks_at_least d (become c r q d) x y ≡ true → has_window_at c x y d ≡ true
+  pub end-touches : (r : Resident) (q : Peer) (cause : Cause) → q.status ≡ Some cause → (x y : ℤ) → marks_of_toplevels d (become c r q d) x y ≡ true → has_window_at c x y d ≡ true
   end-touches r q cause over x y = ends-by q d refl refl x y r cause over
 
   -- so does that of one that ends as it is answered
   pub asked-end-touches : (ask : Ask) (r : Resident) (q : Peer) (cause : Cause) → q.status ≡ Some cause → (x y : ℤ)
-      → marks_at_least d (become c (changed_by ask r) q (stacked c ask r d)) x y ≡ true → has_window_at c x y d ≡ true
+      → marks_of_toplevels d (become c (changed_by ask r) q (stacked c ask r d)) x y ≡ true → has_window_at c x y d ≡ true
   asked-end-touches ask r q cause over x y = ends-by q (stacked c ask r d) (stacked-clients c ask r d) (asked-clients-stay c ask r d) x y (changed_by ask r) cause over

@@ -11,5 +11,5 @@ abbrev pub nothing_left_out : LeftOut
 nothing_left_out = record { requests = λ interface opcode. false; releases = false }
 
 -- what is left out where no more than toplevels is served
-abbrev pub beyond_toplevels_left_out : LeftOut
-beyond_toplevels_left_out = record { requests = beyond_toplevels; releases = true }
+abbrev pub served_now : LeftOut
+served_now = record { requests = beyond_toplevels; releases = true }

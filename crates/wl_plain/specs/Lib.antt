@@ -33,4 +33,4 @@ pub mod WlSurface
 pub mod XdgPopup
 pub mod XdgShell
 pub mod ServedToplevels
-pub mod ToplevelsOnly
+pub mod NoMore

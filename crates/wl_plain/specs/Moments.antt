@@ -4,6 +4,7 @@ use Rattle.wl_surface.specs.State.{History, applied, between, damaged_rects, hei
 use Rattle.wl_surface.specs.Surfaces.{history_in}
 use Rattle.wl_plain.specs.Desktop.{Desktop, Showing, owned_in, windows_in}
 use Rattle.wl_plain.specs.Marks.{Applied, at_least, at_most}
+use Rattle.wl_plain.specs.Stacked.{all_windows}
 
 -- the damage that was applied to a surface between its old and its new cut, by the size that it has now
 abbrev pub is_applied_at : History → History → ℕ → ℕ → Bool
@@ -32,9 +33,13 @@ abbrev pub marks_at_most_of : Showing → Desktop → Desktop → Option (ℕ ×
 marks_at_most_of shown old new raised x y =
     at_most old.output.width old.output.height (applied_between old new) raised (shown old) (shown new) x y
 
--- of the windows where no subsurface and no popup is served
+-- of all windows
 abbrev pub marks_at_least : Desktop → Desktop → ℤ → ℤ → Bool
-marks_at_least old new x y = marks_at_least_of windows_in old new x y
+marks_at_least old new x y = marks_at_least_of all_windows old new x y
 
 abbrev pub marks_at_most : Desktop → Desktop → Option (ℕ × ℕ) → ℤ → ℤ → Bool
-marks_at_most old new raised x y = marks_at_most_of windows_in old new raised x y
+marks_at_most old new raised x y = marks_at_most_of all_windows old new raised x y
+
+-- of the windows where no subsurface and no popup is served
+abbrev pub marks_of_toplevels : Desktop → Desktop → ℤ → ℤ → Bool
+marks_of_toplevels old new x y = marks_at_least_of windows_in old new x y

@@ -9,7 +9,8 @@ use Rattle.wl_blend.specs.Blend.{blended}
 use Rattle.wl_blend.specs.declared.color.Rgb.{Rgb}
 use Rattle.wl_surface.specs.Request.{Buffer}
 use Rattle.wl_scene.specs.Windows.{Window, contains}
-use Rattle.wl_plain.specs.Desktop.{Desktop, Resident, Showing, client_at, windows_in}
+use Rattle.wl_plain.specs.Desktop.{Desktop, Resident, Showing, client_at}
+use Rattle.wl_plain.specs.Stacked.{all_windows}
 
 -- the bytes of a client's store as they are now
 abbrev pub bytes_now : Window → Option Resident → List ℕ
@@ -38,6 +39,6 @@ over d x y under w = cond (contains w x y) (blended under (color_in d w x y)) un
 abbrev pub scratch_of : Showing → Rgb → Desktop → ℤ → ℤ → Rgb
 scratch_of shown background d x y = fold (over d x y) background (shown d)
 
--- of the windows where no subsurface and no popup is served
+-- with all its windows
 abbrev pub scratch : Rgb → Desktop → ℤ → ℤ → Rgb
-scratch background d x y = scratch_of windows_in background d x y
+scratch background d x y = scratch_of all_windows background d x y

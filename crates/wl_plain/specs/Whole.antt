@@ -21,7 +21,7 @@ use Rattle.wl_plain.specs.declared.answers.Done.TheVariants as gave
 use Rattle.wl_plain.specs.declared.answers.Fed.TheVariants.{NoClient}
 use Rattle.wl_plain.specs.declared.answers.Stored.TheVariants as stored
 use Rattle.wl_plain.specs.Changing.{changed_for, frames_of, grab_holder, stacked_for, with_kept_move, without_callbacks}
-use Rattle.wl_plain.specs.Demand.{Demand, Asks}
+use Rattle.wl_plain.specs.Demand.{Demand, Asks, Move}
 use Rattle.wl_plain.specs.Demanding.{judge_all}
 use Rattle.wl_plain.specs.Desktop.{Callback, Desktop, Resident, client_at, with_client}
 use Rattle.wl_plain.specs.Laws.{status_in}
@@ -36,9 +36,10 @@ use Rattle.wl_plain.specs.Steps.{Act, Connect, Feed, Store, Leave, Tick, Send, C
 
 -- ---- one message
 
--- what has an effect may want memory
+-- what has an effect may want memory, but for the move of a toplevel, which is only noted of the pointer
 abbrev pub wants_memory : Demand → Bool
 wants_memory (Asks ask) = takes_memory ask
+wants_memory (Move surface serial) = false
 wants_memory demand = true
 
 -- what a client becomes is settled

@@ -7,7 +7,7 @@ mod answers;
 
 ghost use Rattle.wl_plain.specs.Laws.{LeastIsMost, OneRun, OthersStay, ScratchStays, ServedAlone, WindowsAreDistinct};
 ghost use Rattle.wl_plain.specs.Soundness.{EmptyIsSound, RunIsSound, SoundIsDistinct};
-ghost use Rattle.wl_plain.specs.ServedToplevels.{EmptyHasToplevelsOnly, MessagesAreWhole, ServedToplevels};
+ghost use Rattle.wl_plain.specs.ServedToplevels.{EmptyHasNoMore, MessagesAreWhole, ServedToplevels};
 ghost use Rattle.wl_plain.specs.WholeLaws.{EndsStay, WholeHappens, WholeOneRun, WholeOnlyRun};
 ghost use Rattle.wl_plain.specs.WholeOthers.{RefusedAlone, WholeOthersStay};
 ghost use Rattle.wl_plain.specs.WholeOwn.{WholeOwnStays};
@@ -109,5 +109,5 @@ pub fn served_toplevels()
 
 /// A desktop without clients has no more than toplevels.
 pub fn empty_has_toplevels_only()
-    ensures { EmptyHasToplevelsOnly }
+    ensures { EmptyHasNoMore }
 {}

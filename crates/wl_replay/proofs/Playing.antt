@@ -11,7 +11,7 @@ use Rattle.wl_session.specs.declared.sessions.Config.{Config}
 use Rattle.wl_recording.specs.declared.error.Summary.{Summary}
 use Rattle.wl_recording.specs.declared.error.ReplayError.{ReplayError}
 use Rattle.wl_recording.specs.declared.error.ReplayError.TheVariants as error
-use Rattle.wl_resident.specs.Agreement.{Agrees}
+use Rattle.wl_session.specs.Agreeing.{Agrees}
 use Rattle.wl_replay.specs.Report.{FailsAt, IsLackingLine, IsPlayed, Reported, StopsAs, TakesOne, more, none}
 use Rattle.wl_recording.specs.Side.{Files}
 use Rattle.wl_replay.specs.Told.{Counts, Stage, Stands, and_then, first_stage, words}

@@ -1,7 +1,7 @@
 -- What is told, and the stages between which it is told.
 use Rattle.std.specs.Prelude.{◌≡◌, ◌+◌, ◌*◌, ℕ, List, [], ◌++◌, Option}
 use Rattle.std.specs.Io.KnownBytes.{Appends}
-use Rattle.wl_resident.specs.Agreement.{Agrees}
+use Rattle.wl_session.specs.Agreeing.{Agrees}
 use Rattle.wl_session.specs.View.{SessionView}
 use Rattle.wl_plain.specs.Desktop.{Desktop, empty}
 use Rattle.wl_session.specs.Frame.{Image, filled}

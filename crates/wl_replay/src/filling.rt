@@ -1,7 +1,7 @@
 //! The lines that put side files into stores.
 
 ghost use Rattle.std.specs.Prelude.{◌≡◌, ◌≤◌, ℕ, List, length, true, false, Ok, Err, IfOk, OnOk};
-ghost use Rattle.wl_resident.specs.Agreement.{Agrees};
+ghost use Rattle.wl_session.specs.Agreeing.{Agrees};
 ghost use Rattle.wl_plain.specs.Desktop.{Desktop};
 ghost use Rattle.wl_recording.specs.Side.{CountsFault, files_of};
 ghost use Rattle.wl_replay.specs.Storing.{FillsAll, LacksFile, Puts, TellsFile, room_in};

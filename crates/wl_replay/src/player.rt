@@ -3,7 +3,7 @@
 ghost use Rattle.std.specs.Prelude.{◌≡◌, ◌≤◌, ◌⊎◌, ⊤, IfOk, IfErr, OnOk, MatchOption, length, Ok, true, false};
 ghost use Rattle.std.specs.Io.KnownBytes.{IsAtEnd};
 ghost use Rattle.wl_session.specs.Frame.{is_side};
-ghost use Rattle.wl_resident.specs.Agreement.{Agrees};
+ghost use Rattle.wl_session.specs.Agreeing.{Agrees};
 ghost use Rattle.wl_plain.specs.Desktop.{Desktop};
 ghost use Rattle.wl_recording.specs.Lines.{TakesLine};
 ghost use Rattle.wl_replay.specs.Report.{FailsAt, IsLackingLine, IsPlayed, StopsAs, TakesOne, images_in};

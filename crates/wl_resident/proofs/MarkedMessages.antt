@@ -44,13 +44,13 @@ use Rattle.wl_shell.specs.Shell.{Effect, Stays, Unconfigured, Configures, Maps, 
 use Rattle.wl_shell.specs.Shell.{XdgSurface as Xdg}
 use Rattle.wl_scene.specs.Stacking.{Owned, Stack, Standing, root_of, windows_on}
 use Rattle.wl_scene.specs.Windows.{Owner, Place, Window, contains, moved, owner_of, window_with}
-use Rattle.wl_resident.specs.Agreement.{Agrees, IsPlace, IsStack}
+use Rattle.wl_resident.specs.Agreement.{Matches, IsPlace, IsStack}
 use Rattle.wl_plain.specs.Ask.{Ask, Own, CreateSurface, DestroySurface, AskSurface, CommitSurface, DestroyBase, GetXdgSurface, DestroyXdgSurface, GetToplevel, Acknowledge, ConfigureAgain, DestroyToplevel, Ignore, owns}
 use Rattle.wl_plain.specs.Desktop.{Desktop, Resident, client_in, owned_in, owned_of, place}
 use Rattle.wl_plain.specs.Laws.{status_in, status_of}
 use Rattle.wl_resident.specs.Marking.{AreUnlinked, IsAsLarge, Marks, MarksEnd, marked_by, marked_in, stands_any}
 use Rattle.wl_resident.specs.Messages.{IsAsked, IsKind}
-use Rattle.wl_plain.specs.Moments.{marks_at_least}
+use Rattle.wl_plain.specs.Moments.{marks_of_toplevels}
 use Rattle.wl_plain.specs.Owning.{names_in, target_as, targets_in}
 use Rattle.wl_resident.specs.Residents.{AnswersSo, IsLeft, IsResident, KeepsNumbers, TakesSo, asked_by}
 use Rattle.wl_resident.specs.Seats.{IsClearedBy, IsRestacked, IsSeated, IsSettledBy}
@@ -124,7 +124,7 @@ seated-unlinked c others base d v stack r is unlinked other = by (c == other) re
         ∙ unlinked other
 
 -- a desk's clients link no surfaces
-pub agrees-unlinked : (v : DeskView) (d : Desktop) → Agrees v d → AreUnlinked d
+pub agrees-unlinked : (v : DeskView) (d : Desktop) → Matches v d → AreUnlinked d
 agrees-unlinked v d is zero = refl
 agrees-unlinked v d is (suc k) = at (slice_index_or v.clients k None) (slice_index_or v.owned k None) (place d.clients k) (is.clients k)
   where
@@ -473,9 +473,9 @@ module _ {A : Type 0} (c : ℕ) (others : ℕ → ById ℕ) (base d e : Desktop)
         at (inl there) = before-there touches.0 marked there
         at (inr there) = after-there touches.0 marked (sym status ∙ lives) there
 
-    least : marks_at_least d e (pos x) (pos y) ≡ false
+    least : marks_of_toplevels d e (pos x) (pos y) ≡ false
     least =
-        unless (marks_at_least d e (pos x) (pos y))
+        unless (marks_of_toplevels d e (pos x) (pos y))
         (λ f. not-marked (serves-point beyond_toplevels c r d before.based.there _ _ _ before.seat.owns before.mapped (seated-unlinked c others base d old was r before unlinked) (pos x) (pos y) e serves f))
 
   -- What a message marks at least is to be painted, as is what was.

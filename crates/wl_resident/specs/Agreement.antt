@@ -10,11 +10,8 @@ use Rattle.wl_scene.specs.Stacking.{Stack, Standing}
 use Rattle.wl_plain.specs.Desktop.{Desktop, Resident, place}
 use Rattle.wl_plain.specs.Laws.{OwnsNothing}
 use Rattle.wl_plain.specs.Owning.{IsOwned, names_in, targets_in}
-use Rattle.wl_plain.specs.Served.{beyond_toplevels}
 use Rattle.wl_plain.specs.Standing.{MappedStand}
 use Rattle.wl_resident.specs.View.{DeskView, OwnedView}
-use Rattle.wl_plain.specs.declared.answers.Done.{Done}
-use Rattle.wl_plain.specs.Steps.{Act, Steps}
 
 -- ---- the clients
 
@@ -73,13 +70,9 @@ pub record IsScene (numbers : ℕ → ById ℕ) (stack : Stack) (d : Desktop) : 
 -- ---- the desk
 
 -- The output, the clients and the toplevels are those of the desktop; and those stand there that are mapped.
-pub record Agrees (v : DeskView) (d : Desktop) : Type 0 where
+pub record Matches (v : DeskView) (d : Desktop) : Type 0 where
   pub output : output_of v.output ≡ d.output
   pub count : length v.clients ≡ length d.clients
   pub clients : (k : ℕ) → IsPlace (slice_index_or v.clients k None) (slice_index_or v.owned k None) (place d.clients k)
   pub scene : IsScene (numbers_in v.clients) v.scene d
   pub mapped : MappedStand d
-
--- One step leads from old to new: whatever desktop agrees before, one that the step gives agrees after, where toplevels are served.
-abbrev pub TakesStep : Act → Done → DeskView → DeskView → Type 0
-TakesStep act done old new = (d : Desktop) → Agrees old d → (e : Desktop) × Steps beyond_toplevels d act done e × Agrees new e

@@ -2,9 +2,14 @@
 use Rattle.std.proofs.Common.{◌≡◌, ℕ, List, ◌++◌, Option, Some, None, refl, ap, subst, ◌∙◌}
 use Rattle.wl_plain.specs.declared.answers.Done.{Done}
 use Rattle.wl_plain.specs.Desktop.{Desktop, Resident, client_at}
-use Rattle.wl_plain.specs.Served.{Unserved}
+use Rattle.wl_plain.specs.Served.{Unserved, beyond_toplevels}
 use Rattle.wl_plain.proofs.Pieces.{feeds-append, stays-there}
-use Rattle.wl_plain.specs.Steps.{IsFedAt}
+use Rattle.wl_plain.specs.Steps.{Feed, IsFedAt}
+use Rattle.wl_plain.proofs.BridgeBack.{acts-back}
+use Rattle.wl_plain.proofs.BridgeLasts.{acts-has}
+use Rattle.wl_plain.proofs.BridgeMessages.{serves-has}
+use Rattle.wl_plain.proofs.BridgeSteps.{acts-whole}
+use Rattle.wl_plain.proofs.BridgeTouches.{touches_apart}
 use Rattle.wl_session.specs.Laws.{AnyPieces}
 
 -- the client stays there, so the second piece comes to it
@@ -21,4 +26,9 @@ pieces unserved a b c None old mid new first second at h k =
 pieces unserved a b c (Some r) old mid new first second at h k = two_pieces unserved a b c r (client_at c mid) old mid new first second at refl h k
 
 pub any_pieces : AnyPieces
-any_pieces unserved old mid new c a b first second h k = pieces unserved a b c (client_at c old) old mid new first second refl h k
+any_pieces old mid new c a b first second more h k =
+    let keeps = serves-has touches_apart in
+    let was = acts-back keeps (Feed c a) old mid first more h in
+    let between = acts-has (Feed c a) old mid first more was in
+    acts-whole keeps (Feed c (a ++ b)) old new second more
+    (pieces beyond_toplevels a b c (client_at c old) old mid new first second refl was (acts-back keeps (Feed c b) mid new second between k))

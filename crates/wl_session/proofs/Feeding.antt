@@ -11,10 +11,13 @@ use Rattle.wl_client.specs.declared.clients.Cause.TheVariants.{Memory}
 use Rattle.wl_client.specs.Peer.{Peer, LacksMemory, ended, with_rest}
 use Rattle.wl_client.specs.View.{ClientView}
 use Rattle.wl_scene.specs.Stacking.{Owned, Standing, is_of, nothing_owned, without_client}
-use Rattle.wl_resident.specs.Agreement.{Agrees, IsPlace}
+use Rattle.wl_resident.specs.Agreement.{IsPlace, Matches}
+use Rattle.wl_desk.specs.Agreeing.{Agrees}
 use Rattle.wl_plain.specs.Ask.{Ask}
 use Rattle.wl_plain.specs.Desktop.{Desktop, Resident, become, become_by, client_at, client_in, owned_in, owned_of, resident_of, with_client, with_number}
-use Rattle.wl_desk.specs.Feeding.{IsIdleIn, IsIdleOf, ended_at, ended_of, kept_at, kept_by, kept_of}
+use Rattle.wl_desk.specs.Feeding.{Ends, IsIdleIn, IsIdleOf, kept_at, kept_by, kept_of}
+use Rattle.wl_desk.proofs.Calls.{ended_at, ended_of}
+use Rattle.wl_desk.proofs.NoMore.{ended-once, kept-has}
 use Rattle.wl_plain.specs.Laws.{status_in}
 use Rattle.wl_plain.specs.Laws.{status_of as ended_in}
 use Rattle.wl_resident.specs.Seats.{ended_by}
@@ -24,6 +27,13 @@ use Rattle.wl_plain.specs.Steps.{IsFedAt, fed_of, peer_at, peer_of, status_of}
 use Rattle.wl_resident.specs.View.{DeskView, OwnedView}
 use Rattle.wl_plain.specs.declared.answers.Done.TheVariants as gave
 use Rattle.wl_plain.specs.declared.answers.Fed.{Fed}
+use Rattle.wl_plain.specs.LeftOut.{served_now}
+use Rattle.wl_plain.specs.NoMore.{NoMore}
+use Rattle.wl_plain.specs.Whole.{IsFedAt as WholeIsFedAt, Reaches as WholeReaches}
+use Rattle.wl_plain.proofs.BridgeBack.{reaches-back}
+use Rattle.wl_plain.proofs.BridgeMessages.{serves-has}
+use Rattle.wl_plain.proofs.BridgeSteps.{fed-whole}
+use Rattle.wl_plain.proofs.BridgeTouches.{touches_apart}
 use Rattle.wl_plain.proofs.Places.{client-become, number-kept, number-same, number-twice, stacked-clients}
 use Rattle.wl_plain.proofs.Stacks.{and-both, differ, or-left, or-right, same-number}
 
@@ -94,14 +104,14 @@ owns-nothing None None r s is over = absurd is
 owns-nothing None (Some o) r s is over = absurd is
 owns-nothing (Some v) None r s is over = absurd is
 
-bare : (v : DeskView) (c : ℕ) (s : Cause) (r : Resident) (d : Desktop) → Agrees v d → client_at c d ≡ Some r → r.peer.status ≡ Some s → r ≡ resident_of r.peer
+bare : (v : DeskView) (c : ℕ) (s : Cause) (r : Resident) (d : Desktop) → Matches v d → client_at c d ≡ Some r → r.peer.status ≡ Some s → r ≡ resident_of r.peer
 bare v zero s r d a is over = absurd (cc)
 bare v (suc k) s r d a is over =
     owns-nothing (slice_index_or v.clients k None) (slice_index_or v.owned k None) r s
     (subst (λ (o : Option Resident). IsPlace (slice_index_or v.clients k None) (slice_index_or v.owned k None) o) is (a.clients k)) over
 
 -- that it ends changes nothing
-ended-stays : (v : DeskView) (c : ℕ) (s : Cause) (r : Resident) (d : Desktop) → Agrees v d → client_at c d ≡ Some r → r.peer.status ≡ Some s → become c r r.peer d ≡ d
+ended-stays : (v : DeskView) (c : ℕ) (s : Cause) (r : Resident) (d : Desktop) → Matches v d → client_at c d ≡ Some r → r.peer.status ≡ Some s → become c r r.peer d ≡ d
 ended-stays v c s r d a is over =
     let owns = bare v c s r d a is over in
     let nothing : owned_in d c ≡ nothing_owned = ap (λ (o : Option Resident). owned_of o) (is ∙ ap (λ (x : Resident). Some x) owns) in
@@ -118,7 +128,7 @@ fed-as : (c : ℕ) (d : Desktop) → IsThere c d → gave.Feed (status_of (peer_
 fed-as c d there = ap (λ (o : Option Resident). gave.Feed (status_of (peer_of o))) there.1 ∙ sym (ap (λ (o : Option Resident). gave.Feed (fed_of (ended_in o))) there.1)
 
 -- it was kept, and each message was taken
-pub fed-served : (c n : ℕ) (piece : List ℕ) (d mid : Desktop) (answer : Fed) → Reaches beyond_toplevels c n (kept_at c piece d) mid → IsIdleIn c mid → answer ≡ status_of (peer_at c mid)
+fed-served : (c n : ℕ) (piece : List ℕ) (d mid : Desktop) (answer : Fed) → Reaches beyond_toplevels c n (kept_at c piece d) mid → IsIdleIn c mid → answer ≡ status_of (peer_at c mid)
     → IsFedAt beyond_toplevels c piece (client_at c d) d (gave.Feed answer) mid
 fed-served c n piece d mid answer reaches idle told =
     subst (λ (f : Fed). IsFedAt beyond_toplevels c piece (client_at c d) d (gave.Feed f) mid) (sym told) (at (client_at c d) refl reaches)
@@ -136,13 +146,15 @@ fed-served c n piece d mid answer reaches idle told =
             (same, fed-as c mid (r, ap (λ (x : Desktop). client_at c x) same ∙ is))
         by None e reaches =
             let come : Peer = with_rest (r.peer.rest ++ piece) r.peer in
-            let there = reaches-there beyond_toplevels c n (become c r come d) mid (_, client-become come.status c r come d r is) reaches in (
-              (n, mid, reaches, subst (λ (o : Option Resident). StopsAt c o mid mid) (sym there.1) (inl (refl, subst (λ (o : Option Resident). IsIdleOf o) there.1 idle))),
+            let begins : become c r come d ≡ kept_by c piece None r d = ap (λ t. become_by t c r come d) e in
+            let reached : Reaches beyond_toplevels c n (become c r come d) mid = subst (λ x. Reaches beyond_toplevels c n x mid) (sym begins) reaches in
+            let there = reaches-there beyond_toplevels c n (become c r come d) mid (_, client-become come.status c r come d r is) reached in (
+              (n, mid, reached, subst (λ (o : Option Resident). StopsAt c o mid mid) (sym there.1) (inl (refl, subst (λ (o : Option Resident). IsIdleOf o) there.1 idle))),
               fed-as c mid there,
             )
 
 -- there was no memory to keep it
-pub fed-lacking : (v : DeskView) (c : ℕ) (piece : List ℕ) (d : Desktop) (answer : Fed) → Agrees v d → answer ≡ status_of (peer_at c (ended_at c Memory d))
+fed-lacking : (v : DeskView) (c : ℕ) (piece : List ℕ) (d : Desktop) (answer : Fed) → Matches v d → answer ≡ status_of (peer_at c (ended_at c Memory d))
     → IsFedAt beyond_toplevels c piece (client_at c d) d (gave.Feed answer) (ended_at c Memory d)
 fed-lacking v c piece d answer a told =
     subst (λ (f : Fed). IsFedAt beyond_toplevels c piece (client_at c d) d (gave.Feed f) (ended_at c Memory d)) (sym told) (at (client_at c d) refl)
@@ -174,3 +186,19 @@ fed-lacking v c piece d answer a told =
                   ap (λ (clients : List (Option Resident)). record d { clients = clients; standing = without_client c d.standing })
                       (sym (number-twice d.clients c (Some (resident_of (ended Memory r.peer))) (Some (record r { peer = come })))),
                 ))
+
+-- ---- so it happens to the desktop
+
+pub fed-served-whole : (c n : ℕ) (piece : List ℕ) (d mid : Desktop) (answer : Fed) → NoMore d → WholeReaches served_now c n (kept_at c piece d) mid → IsIdleIn c mid → answer ≡ status_of (peer_at c mid)
+    → WholeIsFedAt served_now c piece (client_at c d) d (gave.Feed answer) mid
+fed-served-whole c n piece d mid answer more reaches idle told =
+    let back = reaches-back (serves-has touches_apart) n c (kept_at c piece d) mid (kept-has c piece d more) reaches in
+    fed-whole (serves-has touches_apart) c piece (client_at c d) d (gave.Feed answer) mid refl more (fed-served c n piece d mid answer back.0 idle told)
+
+pub fed-lacking-whole : (v : DeskView) (c : ℕ) (piece : List ℕ) (d e : Desktop) (answer : Fed) → Agrees v d → Ends c Memory d e → answer ≡ status_of (peer_at c e)
+    → WholeIsFedAt served_now c piece (client_at c d) d (gave.Feed answer) e
+fed-lacking-whole v c piece d e answer a ends told =
+    let same : e ≡ ended_at c Memory d = ended-once c Memory d a.no_more e ends in
+    subst (λ x. WholeIsFedAt served_now c piece (client_at c d) d (gave.Feed answer) x) (sym same)
+    (fed-whole (serves-has touches_apart) c piece (client_at c d) d (gave.Feed answer) (ended_at c Memory d) refl a.no_more
+    (fed-lacking v c piece d answer a.matches (told ∙ ap (λ x. status_of (peer_at c x)) same)))

@@ -2,7 +2,8 @@
 use Rattle.std.proofs.Common.{◌≡◌, [], ◌∷◌, true, false, refl}
 use Rattle.std.specs.Prelude.{pos}
 use Rattle.wl_wire.specs.Wire.{Word, Number}
-use Rattle.wl_plain.specs.Desktop.{Desktop, windows_in}
+use Rattle.wl_plain.specs.Desktop.{Desktop}
+use Rattle.wl_plain.specs.Stacked.{all_windows}
 use Rattle.wl_plain.specs.Stacked.{all_windows}
 use Rattle.wl_plain.proofs.Toplevels.{asks, attach, black, commit, green, one, red, rewritten, stores, three, three_ready, two}
 use Rattle.wl_scene.specs.Windows.{tree}
@@ -31,7 +32,7 @@ pub row_seen-kept : seen 2 black (first ∷ second ∷ []) 1 0 ≡ red
 row_seen-kept = refl
 
 -- the red pixels are damaged by the commit that shows them
-pub row_damaged : hides_at windows_in three_ready three 1 (pos 31) (pos 33) ≡ false
+pub row_damaged : hides_at all_windows three_ready three 1 (pos 31) (pos 33) ≡ false
 unfolding tree
 row_damaged = refl
 
@@ -39,16 +40,16 @@ row_damaged = refl
 abbrev undamaged : Desktop
 undamaged = commit 1 (attach 11 (pos 0) 1 two)
 
-pub row_undamaged : hides_at windows_in two undamaged 1 (pos 31) (pos 33) ≡ true
+pub row_undamaged : hides_at all_windows two undamaged 1 (pos 31) (pos 33) ≡ true
 unfolding tree
 row_undamaged = refl
 
 -- it hides nothing where the colour stays, nor of another client
-pub row_undamaged-beside : hides_at windows_in two undamaged 1 (pos 30) (pos 33) ≡ false
+pub row_undamaged-beside : hides_at all_windows two undamaged 1 (pos 30) (pos 33) ≡ false
 unfolding tree
 row_undamaged-beside = refl
 
-pub row_undamaged-other : hides_at windows_in two undamaged 2 (pos 33) (pos 33) ≡ false
+pub row_undamaged-other : hides_at all_windows two undamaged 2 (pos 33) (pos 33) ≡ false
 unfolding tree
 row_undamaged-other = refl
 
@@ -84,15 +85,15 @@ feigned =
     (attach 12 (pos 0) 1
     (asks 1 9 0 (Word 12 ∷ Number (pos 0) ∷ Number (pos 40) ∷ Number (pos 40) ∷ Number (pos 160) ∷ Word 0 ∷ []) one)))))
 
-pub row_feigned : feigns_at windows_in feigned 1 (pos 3) (pos 3) ≡ true
+pub row_feigned : feigns_at all_windows feigned 1 (pos 3) (pos 3) ≡ true
 unfolding tree
 row_feigned = refl
 
-pub row_feigned-beside : feigns_at windows_in feigned 1 (pos 4) (pos 3) ≡ false
+pub row_feigned-beside : feigns_at all_windows feigned 1 (pos 4) (pos 3) ≡ false
 unfolding tree
 row_feigned-beside = refl
 
 -- a format without alpha is opaque
-pub row_opaque : feigns_at windows_in one 1 (pos 3) (pos 3) ≡ false
+pub row_opaque : feigns_at all_windows one 1 (pos 3) (pos 3) ≡ false
 unfolding tree
 row_opaque = refl

@@ -1,7 +1,5 @@
 pub mod Cuts
 pub mod Feeding
-pub mod OneStep
-pub mod OnlyRun
 pub mod Kept
 pub mod Others
 pub mod Reported
@@ -11,5 +9,3 @@ pub mod StoreWrites
 pub mod Seen
 pub mod Promised
 pub use Rattle.wl_client.proofs.Pieces
-pub use Rattle.wl_client.proofs.Unique
-pub use Rattle.wl_paint.proofs.Written

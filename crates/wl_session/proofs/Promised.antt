@@ -19,7 +19,6 @@ use Rattle.wl_plain.proofs.OwningKeys.{none-some}
 use Rattle.wl_plain.proofs.Stacks.{Each, and-both, and-right, same-number, unless}
 use Rattle.wl_plain.proofs.WholeOthersOwn.{whole_own_stays}
 use Rattle.wl_session.specs.Promises.{KeepsBuffers, KeepsDamage, busy_in, bytes_by, bytes_in, is_rewritten_at, is_same_color}
-use Rattle.wl_session.specs.Serving.{Everything, Toplevels}
 use Rattle.wl_session.specs.StoreWrites.{PromisesAreEnough}
 use Rattle.wl_session.proofs.StoreWrites.{IsKept, all-shown, any-none, hides-nothing, write_hides_nothing}
 
@@ -87,14 +86,12 @@ user-hides-nothing left deed old new c user h =
     (own-kept c old new (whole_own_stays left deed c old new (λ e. none-some c (sym user ∙ e)) h))
 
 pub promises_are_enough : PromisesAreEnough
-promises_are_enough serving liars (Step (Store client store at bytes) done) old new happens keep = λ c honest. write_hides_nothing serving old new client store at c bytes done happens (keep c honest)
-promises_are_enough serving liars (Step (Tick time) done) old new happens keep = λ c honest. (keep c honest).0
-promises_are_enough serving liars (Step Connect done) old new happens keep = keep
-promises_are_enough serving liars (Step (Feed c piece) done) old new happens keep = keep
-promises_are_enough serving liars (Step (Leave c) done) old new happens keep = keep
-promises_are_enough serving liars (Step (Send c n) done) old new happens keep = keep
-promises_are_enough serving liars (Step (Close c) done) old new happens keep = keep
-promises_are_enough (Toplevels unserved) liars (Motion time x y) old new happens keep = absurd happens
-promises_are_enough (Everything left) liars (Motion time x y) old new happens keep = λ c honest. user-hides-nothing left (Motion time x y) old new c refl happens
-promises_are_enough (Toplevels unserved) liars (Button time button pressed) old new happens keep = absurd happens
-promises_are_enough (Everything left) liars (Button time button pressed) old new happens keep = λ c honest. user-hides-nothing left (Button time button pressed) old new c refl happens
+promises_are_enough left liars (Step (Store client store at bytes) done) old new happens keep = λ c honest. write_hides_nothing left old new client store at c bytes done happens (keep c honest)
+promises_are_enough left liars (Step (Tick time) done) old new happens keep = λ c honest. (keep c honest).0
+promises_are_enough left liars (Step Connect done) old new happens keep = keep
+promises_are_enough left liars (Step (Feed c piece) done) old new happens keep = keep
+promises_are_enough left liars (Step (Leave c) done) old new happens keep = keep
+promises_are_enough left liars (Step (Send c n) done) old new happens keep = keep
+promises_are_enough left liars (Step (Close c) done) old new happens keep = keep
+promises_are_enough left liars (Motion time x y) old new happens keep = λ c honest. user-hides-nothing left (Motion time x y) old new c refl happens
+promises_are_enough left liars (Button time button pressed) old new happens keep = λ c honest. user-hides-nothing left (Button time button pressed) old new c refl happens

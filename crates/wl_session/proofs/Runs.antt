@@ -10,26 +10,27 @@ use Rattle.wl_plain.specs.declared.answers.Done.TheVariants as gave
 use Rattle.wl_session.specs.declared.steps.Step.{Step}
 use Rattle.wl_plain.specs.declared.answers.ConnectError.TheVariants.{Memory}
 use Rattle.wl_plain.specs.Desktop.{Desktop}
-use Rattle.wl_plain.specs.Served.{Unserved}
-use Rattle.wl_plain.specs.Steps.{Act, Connect, Feed, Store, Leave, Tick, Send, Close, ConnectsAt, Steps}
+use Rattle.wl_plain.specs.LeftOut.{LeftOut}
+use Rattle.wl_plain.specs.Steps.{Act, Connect, Feed, Store, Leave, Tick, Send, Close, ConnectsAt}
+use Rattle.wl_plain.specs.Whole.{Happens, Steps}
 use Rattle.wl_session.specs.Step.{act_of}
 use Rattle.wl_session.specs.Run.{Film, IsNextFrame, IsShownBy, Leads, MayStopAt, Runs, Shows, in_runs, takes_memory}
-use Rattle.wl_resident.specs.Agreement.{Agrees, TakesStep}
+use Rattle.wl_desk.specs.Agreeing.{Agrees, TakesStep}
 use Rattle.wl_session.proofs.Reported.{each_point, in-points}
 
-Runs-snoc : (unserved : Unserved) (acts : List Act) (act : Act) (before image after : Image) (old mid new : Desktop) (films first : List Film) (done : Done) → Runs unserved before old acts films image mid → Steps unserved mid act done new → Shows act mid image first after → Runs unserved before old (acts ++ act ∷ []) (films ++ first) after new
-Runs-snoc unserved [] act before image after old mid new films first done run step shows = (
+Runs-snoc : (left : LeftOut) (acts : List Act) (act : Act) (before image after : Image) (old mid new : Desktop) (films first : List Film) (done : Done) → Runs left before old acts films image mid → Happens left (Steps act done) mid new → Shows act mid image first after → Runs left before old (acts ++ act ∷ []) (films ++ first) after new
+Runs-snoc left [] act before image after old mid new films first done run step shows = (
   new,
   done,
   after,
   first,
   [],
-  subst (λ (x : Desktop). Steps unserved x act done new) run.2 step,
+  subst (λ (x : Desktop). Happens left (Steps act done) x new) run.2 step,
   subst (λ (x : Image). Shows act old x first after) run.1 (subst (λ (x : Desktop). Shows act x image first after) run.2 shows),
   rw run.0 (sym (append-nil first)),
   (refl, refl, refl),
 )
-Runs-snoc unserved (a ∷ acts) act before image after old mid new films first done run step shows = (
+Runs-snoc left (a ∷ acts) act before image after old mid new films first done run step shows = (
   run.0,
   run.1,
   run.2,
@@ -38,15 +39,15 @@ Runs-snoc unserved (a ∷ acts) act before image after old mid new films first d
   run.5,
   run.6,
   ap (λ (fs : List Film). fs ++ first) run.7 ∙ append_assoc run.3 run.4 first,
-  Runs-snoc unserved acts act run.2 image after run.0 mid new run.4 first done run.8 step shows,
+  Runs-snoc left acts act run.2 image after run.0 mid new run.4 first done run.8 step shows,
 )
 
 -- a run goes on by one more step
-pub Runs-more : (unserved : Unserved) (steps : List Step) (i : ℕ) (x : Step) (before image after : Image) (old mid new : Desktop) (films first : List Film) (done : Done) → i < length steps → Runs unserved before old (map act_of (take i steps)) films image mid → Steps unserved mid (act_of (get_or steps i x)) done new → Shows (act_of (get_or steps i x)) mid image first after → Runs unserved before old (map act_of (take (i + 1) steps)) (films ++ first) after new
-Runs-more unserved steps i x before image after old mid new films first done h run step shows =
+pub Runs-more : (left : LeftOut) (steps : List Step) (i : ℕ) (x : Step) (before image after : Image) (old mid new : Desktop) (films first : List Film) (done : Done) → i < length steps → Runs left before old (map act_of (take i steps)) films image mid → Happens left (Steps (act_of (get_or steps i x)) done) mid new → Shows (act_of (get_or steps i x)) mid image first after → Runs left before old (map act_of (take (i + 1) steps)) (films ++ first) after new
+Runs-more left steps i x before image after old mid new films first done h run step shows =
     let e : map act_of (take (i + 1) steps) ≡ map act_of (take i steps) ++ act_of (get_or steps i x) ∷ [] =
     ap (λ (ss : List Step). map act_of ss) (take_more steps i x h) ∙ map-append act_of (take i steps) (get_or steps i x ∷ []) in
-    subst (λ (acts : List Act). Runs unserved before old acts (films ++ first) after new) (sym e) (Runs-snoc unserved (map act_of (take i steps)) (act_of (get_or steps i x)) before image after old mid new films first done run step shows)
+    subst (λ (acts : List Act). Runs left before old acts (films ++ first) after new) (sym e) (Runs-snoc left (map act_of (take i steps)) (act_of (get_or steps i x)) before image after old mid new films first done run step shows)
 
 -- a connect that found no memory changes nothing
 pub Connects-stays : (old new : Desktop) (k : Option ℕ) → ConnectsAt k old (gave.Connect (Err Memory)) new → new ≡ old

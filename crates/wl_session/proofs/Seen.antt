@@ -10,7 +10,6 @@ use Rattle.wl_plain.proofs.RunSound.{happens-keeps, orderly-is-sound}
 use Rattle.wl_plain.proofs.SoundWindows.{sound_is_distinct}
 use Rattle.wl_plain.proofs.WholeOutput.{happens-output}
 use Rattle.wl_session.specs.Seen.{AreDone, IsDone, SeenIsScratch, first_moment}
-use Rattle.wl_session.specs.Serving.{Everything}
 use Rattle.wl_session.specs.Unmarked.{AreHonest, Event, Holds, IsHonest, Moment, Shown, Stepped, after}
 use Rattle.wl_session.proofs.Promised.{promises_are_enough}
 use Rattle.wl_session.proofs.Unmarked.{viewer_sees_scratch}
@@ -22,7 +21,7 @@ module _ (left : LeftOut) (liars : ℕ → Bool) (background : Rgb) where
       let later : AreOrderly new = happens-keeps left h.0 m.desktop new known h.1 in (
         happens-output left h.0 m.desktop new h.1,
         (sound_is_distinct m.desktop (orderly-is-sound m.desktop known), sound_is_distinct new (orderly-is-sound new later)),
-        promises_are_enough (Everything left) liars h.0 m.desktop new h.1 h.2,
+        promises_are_enough left liars h.0 m.desktop new h.1 h.2,
         h.3,
       )
   honest m Shown known h = tt

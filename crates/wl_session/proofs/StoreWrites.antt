@@ -24,7 +24,7 @@ use Rattle.wl_plain.specs.Desktop.{Desktop, Resident, Showing, become, client_at
 use Rattle.wl_plain.specs.Popups.{stacked_popups}
 use Rattle.wl_plain.specs.Stacked.{all_windows}
 use Rattle.wl_plain.specs.Step.{with_peer}
-use Rattle.wl_plain.specs.Whole.{ChangesAt as WholeChangesAt, Steps as Step, Motion, Button}
+use Rattle.wl_plain.specs.Whole.{ChangesAt}
 use Rattle.wl_plain.specs.Scratch.{bytes_now, color_in, pixel_at}
 use Rattle.wl_plain.proofs.Places.{client-become, left_by, number-other, number-same, other-become}
 use Rattle.wl_plain.proofs.Stacks.{Each, Fields, and-left, and-right, differ, each-map, fields, or-left, or-right, unless}
@@ -34,9 +34,8 @@ use Rattle.wl_plain.specs.declared.answers.Done.{Done}
 use Rattle.wl_plain.specs.declared.answers.Done.TheVariants as gave
 use Rattle.wl_plain.specs.declared.answers.Stored.TheVariants as stored
 use Rattle.wl_session.specs.Promises.{KeepsBuffers, KeepsDamage, busy_of, bytes_by, bytes_in, is_hidden_in, is_rewritten_at, is_same_color, windows_by}
-use Rattle.wl_session.specs.Serving.{Everything, Toplevels}
 use Rattle.wl_session.specs.StoreWrites.{WriteHidesNothing}
-use Rattle.wl_plain.specs.Steps.{ChangesAt, Connect, Feed, IsStored, Leave, Send, Close, Store, Tick, left_so}
+use Rattle.wl_plain.specs.Steps.{IsStored}
 
 -- ---- each window shows the buffer that its surface has applied
 
@@ -95,9 +94,6 @@ shown-roots owned popups toplevels =
     (roots_of (owned toplevel.client).surfaces toplevel (popups toplevel.client)))
     toplevels
 
-toplevels-shown : (d : Desktop) → Each (IsShown (owned_in d)) (windows_in d)
-toplevels-shown d = shown-roots (owned_in d) (λ client. []) (map (root_of (owned_in d)) d.standing)
-
 pub all-shown : (d : Desktop) → Each (IsShown (owned_in d)) (all_windows d)
 all-shown d = shown-roots (owned_in d) (λ c. stacked_popups (owned_in d c)) (map (root_of (owned_in d)) d.standing)
 
@@ -123,43 +119,21 @@ far-within at start n (negsuc k) e f = grind (arith, ints)
 abbrev Owns : ℕ → Desktop → Desktop → Type 0
 Owns c old new = (owned_in new c ≡ owned_in old c) ⊎ (owned_in new c ≡ nothing_owned)
 
-left-owns : (s : Option Cause) (r : Resident) (q : Peer) → (owned_of (Some (left_by s r q)) ≡ r.owned) ⊎ (owned_of (Some (left_by s r q)) ≡ nothing_owned)
-left-owns None r q = inl refl
-left-owns (Some cause) r q = inr refl
-
-became : (k c : ℕ) (r : Resident) (q : Peer) (old : Desktop) (same : Bool) → (k == c) ≡ same → client_at k old ≡ Some r → Owns c old (become k r q old)
-became k c r q old true e there =
-    let at = eqb-true k c e in
-    let now : client_at c (become k r q old) ≡ Some (left_by q.status r q) = subst (λ n. client_at n (become k r q old) ≡ Some (left_by q.status r q)) at (client-become q.status k r q old r there) in
-    let was : client_at c old ≡ Some r = subst (λ n. client_at n old ≡ Some r) at there in
-    by-case now was (left-owns q.status r q) where
-      by-case : client_at c (become k r q old) ≡ Some (left_by q.status r q) → client_at c old ≡ Some r → (owned_of (Some (left_by q.status r q)) ≡ r.owned) ⊎ (owned_of (Some (left_by q.status r q)) ≡ nothing_owned) → Owns c old (become k r q old)
-      by-case now was (inl f) = inl (ap owned_of now ∙ f ∙ sym (ap owned_of was))
-      by-case now was (inr f) = inr (ap owned_of now ∙ f)
-became k c r q old false e there = inl (ap owned_of (other-become k c r q old (λ same. eqb-false k c e same)))
-
-owned-after : (k store at c : ℕ) (bytes : List ℕ) (client : Option Resident) (old new : Desktop) (done : Done) → client_at k old ≡ client → ChangesAt (IsStored store at bytes) (gave.Store stored.NoClient) k client old done new → Owns c old new
-owned-after k store at c bytes None old new done e h = subst (λ (d : Desktop). Owns c old d) (sym h.1) (inl refl)
-owned-after k store at c bytes (Some r) old new done e h =
-    let becomes : new ≡ left_so k r (Some (stored_at r.peer.status store at bytes r.peer)) old = h.2 ∙ ap (λ (q : Option Peer). left_so k r q old) h.1.0 in
-    subst (λ (d : Desktop). Owns c old d) (sym becomes) (became k c r (stored_at r.peer.status store at bytes r.peer) old (k == c) refl e)
-
--- the same where every request is served
 put : (k c : ℕ) (r : Resident) (q : Peer) (old : Desktop) (same : Bool) → (k == c) ≡ same → client_at k old ≡ Some r → Owns c old (with_client k (Some (with_peer q r)) old)
 put k c r q old true e there =
     let now : owned_in (with_client k (Some (with_peer q r)) old) k ≡ owned_in old k = ap owned_of (number-same old.clients k (Some (with_peer q r)) r there) ∙ sym (ap owned_of there) in
     inl (subst (λ n. owned_in (with_client k (Some (with_peer q r)) old) n ≡ owned_in old n) (eqb-true k c e) now)
 put k c r q old false e there = inl (ap owned_of (number-other old.clients k c (Some (with_peer q r)) (λ same. eqb-false k c e same)))
 
-put-after : (k store at c : ℕ) (bytes : List ℕ) (r : Resident) (old new : Desktop) (done : Done) → client_at k old ≡ Some r → WholeChangesAt (IsStored store at bytes) (gave.Store stored.NoClient) k (Some r) old done new → Owns c old new
+put-after : (k store at c : ℕ) (bytes : List ℕ) (r : Resident) (old new : Desktop) (done : Done) → client_at k old ≡ Some r → ChangesAt (IsStored store at bytes) (gave.Store stored.NoClient) k (Some r) old done new → Owns c old new
 put-after k store at c bytes r old new done e (Some q, h, becomes) = subst (λ (d : Desktop). Owns c old d) (sym becomes) (put k c r q old (k == c) refl e)
 put-after k store at c bytes r old new done e (None, h, becomes) = absurd (nothing-put (stored_at r.peer.status store at bytes r.peer) h.0) where
   nothing-put : (q : Peer) → None ≡ Some q → ⊥
   nothing-put q f = absurd (cc)
 
-whole-owned-after : (k store at c : ℕ) (bytes : List ℕ) (client : Option Resident) (old new : Desktop) (done : Done) → client_at k old ≡ client → WholeChangesAt (IsStored store at bytes) (gave.Store stored.NoClient) k client old done new → Owns c old new
-whole-owned-after k store at c bytes None old new done e h = subst (λ (d : Desktop). Owns c old d) (sym h.1) (inl refl)
-whole-owned-after k store at c bytes (Some r) old new done e h = put-after k store at c bytes r old new done e h
+owned-after : (k store at c : ℕ) (bytes : List ℕ) (client : Option Resident) (old new : Desktop) (done : Done) → client_at k old ≡ client → ChangesAt (IsStored store at bytes) (gave.Store stored.NoClient) k client old done new → Owns c old new
+owned-after k store at c bytes None old new done e h = subst (λ (d : Desktop). Owns c old d) (sym h.1) (inl refl)
+owned-after k store at c bytes (Some r) old new done e h = put-after k store at c bytes r old new done e h
 
 -- ---- one buffer before and after
 
@@ -289,9 +263,6 @@ hides-nothing shown old new c here there keeps = λ x y.
     (windows_by shown c new) after)
 
 pub write_hides_nothing : WriteHidesNothing
-write_hides_nothing (Toplevels unserved) old new client store at c bytes done step keeps =
-    hides-nothing windows_in old new c (toplevels-shown old) (toplevels-shown new)
-    (kept-by c old new (owned-after client store at c bytes (client_at client old) old new done refl step) keeps)
-write_hides_nothing (Everything left) old new client store at c bytes done step keeps =
+write_hides_nothing left old new client store at c bytes done step keeps =
     hides-nothing all_windows old new c (all-shown old) (all-shown new)
-    (kept-by c old new (whole-owned-after client store at c bytes (client_at client old) old new done refl step) keeps)
+    (kept-by c old new (owned-after client store at c bytes (client_at client old) old new done refl step) keeps)

@@ -1,7 +1,6 @@
 pub mod Laws
 pub mod Promises
 pub mod Run
-pub mod Serving
 pub mod Step
 pub mod Unmarked
 pub mod View
@@ -9,9 +8,10 @@ pub mod Viewer
 pub mod Seen
 pub mod StoreWrites
 pub use Rattle.wl_client.specs.Peer
+pub use Rattle.wl_desk.specs.Agreeing
 pub use Rattle.wl_resident.specs.Agreement
 pub use Rattle.wl_plain.specs.Desktop
-pub use Rattle.wl_plain.specs.Served
+pub use Rattle.wl_plain.specs.LeftOut
 pub use Rattle.wl_plain.specs.Steps
 pub use Rattle.wl_paint.specs.Damage
 pub use Rattle.wl_paint.specs.Frame

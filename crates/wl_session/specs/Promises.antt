@@ -1,6 +1,6 @@
 -- What a client promises: to damage each pixel that it changes, to leave buffers that are shown unchanged, and to call only opaque pixels
--- opaque (wayland.xml, wl_surface.damage, wl_buffer.release and wl_surface.set_opaque_region). Which windows a client has is told by `shown`, as
--- `windows_in` where no subsurface and no popup is served, and `all_windows` where every request is.
+-- opaque (wayland.xml, wl_surface.damage, wl_buffer.release and wl_surface.set_opaque_region). Which windows a client has is told by
+-- `shown`, as `all_windows`.
 use Rattle.std.specs.Prelude.{ℕ, ◌≡◌, ℤ, ◌-ℤ◌, ◌==◌, ◌&&◌, not, nat_lt, Bool, false, Option, Some, None, List, [], ◌++◌, flat_map, filter}
 use Rattle.std.specs.List.{list_any}
 use Rattle.std.specs.Option.{option_map_or}

@@ -5,10 +5,11 @@ use Rattle.wl_paint.specs.Frame.{Image, color_at}
 use Rattle.wl_plain.specs.Desktop.{Desktop}
 use Rattle.wl_desk.specs.Painting.{IsOpaqueAsSaid}
 use Rattle.wl_plain.specs.Scratch.{scratch}
-use Rattle.wl_plain.specs.Served.{Unserved, beyond_toplevels}
-use Rattle.wl_plain.specs.Steps.{Act, Connect, Feed, Store, Leave, Tick, Send, Close, Steps}
+use Rattle.wl_plain.specs.LeftOut.{LeftOut, served_now}
+use Rattle.wl_plain.specs.Steps.{Act, Connect, Feed, Store, Leave, Tick, Send, Close}
+use Rattle.wl_plain.specs.Whole.{Happens, Steps}
 use Rattle.wl_session.specs.Step.{act_of}
-use Rattle.wl_resident.specs.Agreement.{Agrees}
+use Rattle.wl_desk.specs.Agreeing.{Agrees}
 use Rattle.wl_session.specs.View.{SessionView}
 use Rattle.wl_plain.specs.declared.answers.Done.{Done}
 use Rattle.wl_session.specs.declared.steps.Step.{Step}
@@ -66,24 +67,24 @@ IsShownBy act d before after = (films : List Film) × Shows act d before films a
 -- one step leads a session from old to new, and shows these frames
 abbrev pub Leads : Act → List Film → SessionView → SessionView → Type 0
 Leads act films old new =
-    (d : Desktop) → Agrees old.desk d → (e : Desktop) × (done : Done) × Steps beyond_toplevels d act done e × Shows act d old.frame films new.frame × Agrees new.desk e
+    (d : Desktop) → Agrees old.desk d → (e : Desktop) × (done : Done) × Happens served_now (Steps act done) d e × Shows act d old.frame films new.frame × Agrees new.desk e
 
 -- a session stands for every desktop that it stood for, and shows the same frame
 abbrev pub Stays : SessionView → SessionView → Type 0
 Stays old new = ((d : Desktop) → Agrees old.desk d → Agrees new.desk d) × (new.frame ≡ old.frame)
 
 -- A whole run: these steps lead from the first desktop to the second, and these are the frames of their ticks.
-abbrev pub Runs : Unserved → Image → Desktop → List Act → List Film → Image → Desktop → Type 0
-Runs unserved before old [] films after new = (films ≡ []) × (after ≡ before) × (new ≡ old)
-Runs unserved before old (act ∷ acts) films after new =
+abbrev pub Runs : LeftOut → Image → Desktop → List Act → List Film → Image → Desktop → Type 0
+Runs left before old [] films after new = (films ≡ []) × (after ≡ before) × (new ≡ old)
+Runs left before old (act ∷ acts) films after new =
     (mid : Desktop) × (done : Done) × (image : Image) × (first : List Film) × (later : List Film)
-    × Steps unserved old act done mid × Shows act old before first image × (films ≡ first ++ later) × Runs unserved image mid acts later after new
+    × Happens left (Steps act done) old mid × Shows act old before first image × (films ≡ first ++ later) × Runs left image mid acts later after new
 
 -- These steps lead a session from old to new: whatever desktop agrees before, there is a run with these frames from it
 -- to one that agrees after.
 abbrev pub TakesSteps : List Act → List Film → SessionView → SessionView → Type 0
 TakesSteps acts films old new =
-    (d : Desktop) → Agrees old.desk d → (e : Desktop) × Runs beyond_toplevels old.frame d acts films new.frame e × Agrees new.desk e
+    (d : Desktop) → Agrees old.desk d → (e : Desktop) × Runs served_now old.frame d acts films new.frame e × Agrees new.desk e
 
 -- how many steps were taken before a run stopped
 abbrev pub taken_by : RunError → ℕ

@@ -1,6 +1,6 @@
 //! Laws of the plain desktop, each the contract of an empty function.
 
-ghost use Rattle.wl_session.specs.Laws.{AnyPieces, OneRun, OthersStay, OutputStays};
+ghost use Rattle.wl_session.specs.Laws.{AnyPieces, OthersStay, OutputStays};
 ghost use Rattle.wl_session.specs.StoreWrites.{PromisesAreEnough, WriteHidesNothing};
 ghost use Rattle.wl_session.specs.Seen.{SeenIsScratch};
 ghost use Rattle.wl_session.specs.Unmarked.{IncrementalIsFromScratch, UnmarkedStays, ViewerSeesScratch};
@@ -10,35 +10,29 @@ pub fn any_pieces()
     ensures { AnyPieces }
 {}
 
-/// Where no want of memory is met, a list of steps has one run: one list of answers, and one desktop at its end.
-pub fn one_run()
-    ensures { OneRun }
-{}
-
 /// A step leaves each client that it isn't of as it was, with the places and the order of its toplevels.
 pub fn others_stay()
     ensures { OthersStay }
 {}
 
-/// A step leaves the output as it was.
+/// Whatever happens leaves the output as it was.
 pub fn output_stays()
     ensures { OutputStays }
 {}
 
 /// A point of the output that a step doesn't mark is painted from nothing as before, if no window of a client that hid a change covers it
-/// (wayland.xml, wl_surface.damage). So it is whichever windows are shown: toplevels alone, or their subsurfaces and popups too.
+/// (wayland.xml, wl_surface.damage). So it is whichever windows are shown.
 pub fn unmarked_stays()
     ensures { UnmarkedStays }
 {}
 
-/// In whatever may happen, whoever keeps its promises hides no change (wayland.xml, wl_surface.damage and wl_buffer.release): where toplevels
-/// are served, and where every request is.
+/// In whatever may happen, whatever is left out, whoever keeps its promises hides no change (wayland.xml, wl_surface.damage and
+/// wl_buffer.release).
 pub fn promises_are_enough()
     ensures { PromisesAreEnough }
 {}
 
-/// A client whose busy buffers keep their colours in a store write hides no change in it (wayland.xml, wl_buffer.release), where toplevels are
-/// served and where every request is.
+/// A client whose busy buffers keep their colours in a store write hides no change in it (wayland.xml, wl_buffer.release).
 pub fn write_hides_nothing()
     ensures { WriteHidesNothing }
 {}

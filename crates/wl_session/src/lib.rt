@@ -7,7 +7,7 @@ mod shots;
 mod steps;
 
 pub use laws::{
-    any_pieces, incremental_is_from_scratch, one_run, others_stay, output_stays,
+    any_pieces, incremental_is_from_scratch, others_stay, output_stays,
     promises_are_enough, unmarked_stays, viewer_sees_scratch, write_hides_nothing,
 };
 pub use sessions::{Config, Session};

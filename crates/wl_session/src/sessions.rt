@@ -10,11 +10,11 @@ ghost use Rattle.wl_plain.specs.Desktop.{Desktop, empty};
 ghost use Rattle.wl_paint.specs.Frame.{color_at, filled, is_side};
 ghost use Rattle.wl_plain.specs.Steps.{Connect, Feed, Store, Leave, Tick, Send, Close, peer_at, unsent_of, status_of, store_size_of};
 ghost use Rattle.wl_desk.specs.Feeding.{IsIdleIn};
-ghost use Rattle.wl_plain.specs.Served.{beyond_toplevels};
-ghost use Rattle.wl_plain.specs.Step.{Reaches};
+ghost use Rattle.wl_plain.specs.LeftOut.{served_now};
+ghost use Rattle.wl_plain.specs.Whole.{Reaches};
 ghost use Rattle.wl_session.specs.Run.{in_runs};
 ghost use Rattle.wl_session.specs.Step.{act_of};
-ghost use Rattle.wl_resident.specs.Agreement.{Agrees, TakesStep};
+ghost use Rattle.wl_desk.specs.Agreeing.{Agrees, TakesStep};
 
 use crate::shots::{Frame, Run, Shot};
 use crate::steps::{RunError, Step};
@@ -114,7 +114,7 @@ impl<A: Allocator + Copy> Session<A> {
     /// Takes each whole message of what came from a client, until one ends it.
     fn serve_all(&mut self, client: ClientNo)
         ensures serves { (d : Desktop) → Agrees self.old.desk d
-            → (n : ℕ) × (mid : Desktop) × Reaches beyond_toplevels client n d mid × IsIdleIn client mid × Agrees self.new.desk mid }
+            → (n : ℕ) × (mid : Desktop) × Reaches served_now client n d mid × IsIdleIn client mid × Agrees self.new.desk mid }
         ensures frame { self.new.frame ≡ self.old.frame }
     {
         while self.desk.serve(client) != Served::More {}

@@ -1,5 +1,5 @@
 use Rattle.std.proofs.Common.{◌≡◌, ◌≤◌, ◌-◌}
-use Rattle.wl_resident.specs.Agreement.{Agrees}
+use Rattle.wl_session.specs.Agreeing.{Agrees}
 use Rattle.wl_plain.specs.Desktop.{Desktop}
 use Rattle.wl_recording.specs.Side.{files_of}
 use Rattle.wl_replay.specs.Storing.{Fills}

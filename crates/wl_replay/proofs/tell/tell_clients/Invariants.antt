@@ -1,6 +1,6 @@
 use Rattle.std.proofs.Common.{◌≡◌, ℕ, List}
 use Rattle.std.specs.Io.KnownBytes.{Appends}
-use Rattle.wl_resident.specs.Agreement.{Agrees}
+use Rattle.wl_session.specs.Agreeing.{Agrees}
 use Rattle.wl_plain.specs.Desktop.{Desktop}
 use Rattle.wl_replay.specs.Clients.{TellsFirst}
 use Rattle.wl_replay.proofs.tell.tell_clients.Given as goal

@@ -1,5 +1,5 @@
-use Rattle.wl_session.proofs.Others.{output_stays}
+use Rattle.wl_plain.proofs.WholeOutput.{happens-output}
 use Rattle.wl_session.proofs.laws.output_stays.Goals as goal
 
 pub returns : goal.returns
-returns c = output_stays
+returns c = happens-output

@@ -4,36 +4,37 @@ use Rattle.wl_resident.specs.Agreement.{numbers_in}
 use Rattle.wl_desk.proofs.Calls.{found}
 use Rattle.wl_desk.proofs.Kept.{Ended-none, ends, ends-untaken}
 use Rattle.wl_desk.proofs.MarkedCalls.{ends-marks, ends-none-marks, ends-untaken-marks}
+use Rattle.wl_desk.proofs.NoMore.{ends-marked, ends-whole}
 use Rattle.wl_desk.proofs.desks.Desk.end.Goals as goal
 
 pub returns-in_default-clause-ends : goal.returns-in_default-clause-ends
-returns-in_default-clause-ends g c = λ d a. Ended-none c.args.cause _ _ d c.args.client (c.deref.ensures.value ∙ ap (λ w. w.desk.clients) c.self.view_is) c.in_default.ensures.none a
+returns-in_default-clause-ends g c = ends-whole c.args.client c.args.cause _ _ (λ d a. Ended-none c.args.cause _ _ d c.args.client (c.deref.ensures.value ∙ ap (λ w. w.desk.clients) c.self.view_is) c.in_default.ensures.none a)
 
 pub returns-in_default-clause-marks : goal.returns-in_default-clause-marks
-returns-in_default-clause-marks g c = λ d a. ends-none-marks c.args.cause _ _ d c.args.client c.args.self.now.damage (c.deref.ensures.value ∙ ap (λ w. w.desk.clients) c.self.view_is) c.in_default.ensures.none a
+returns-in_default-clause-marks g c = ends-marked c.args.client c.args.cause c.args.self.now.desk c.args.self.now.damage c.args.self.now.damage (λ d a. ends-none-marks c.args.cause _ _ d c.args.client c.args.self.now.damage (c.deref.ensures.value ∙ ap (λ w. w.desk.clients) c.self.view_is) c.in_default.ensures.none a)
 
 pub returns-in_default-take_out-clause-ends : goal.returns-in_default-take_out-clause-ends
-returns-in_default-take_out-clause-ends g c = λ d a.
+returns-in_default-take_out-clause-ends g c = ends-whole c.args.client c.args.cause _ _ (λ d a.
     ends-untaken c.self.inside.output c.self.inside.clients.items c.self.inside.owned.items c.self.inside.scene c.args.client c.in-Some.k (found _ _ _ _ _ c.deref.ensures.value c.in-Some.ensures.some c.self.invariant.0) d (rw (← c.self.view_is) at a)
-    c.args.cause _ _ _ _ c.index_mut.ensures.value c.index_mut-2.ensures.value c.in_default-take_out.ensures.none c.take_out.ensures.left
+    c.args.cause _ _ _ _ c.index_mut.ensures.value c.index_mut-2.ensures.value c.in_default-take_out.ensures.none c.take_out.ensures.left)
 
 pub returns-in_default-take_out-clause-marks : goal.returns-in_default-take_out-clause-marks
-returns-in_default-take_out-clause-marks g c = λ d a.
+returns-in_default-take_out-clause-marks g c = ends-marked c.args.client c.args.cause c.args.self.now.desk c.args.self.now.damage c.self.inside.damage (λ d a.
     rw (← c.self.view_is) (ends-untaken-marks c.self.inside.output c.self.inside.clients.items c.self.inside.owned.items c.self.inside.scene c.args.client c.in-Some.k (found _ _ _ _ _ c.deref.ensures.value c.in-Some.ensures.some c.self.invariant.0) d (rw (← c.self.view_is) at a)
-    c.args.cause _ _ _ _ c.self.inside.damage c.index_mut.ensures.value c.index_mut-2.ensures.value c.in_default-take_out.ensures.none c.take_out.ensures.left)
+    c.args.cause _ _ _ _ c.self.inside.damage c.index_mut.ensures.value c.index_mut-2.ensures.value c.in_default-take_out.ensures.none c.take_out.ensures.left))
 
 pub index_mut-requires-4 : goal.index_mut-requires-4
 index_mut-requires-4 g c = rw c.self.inside.owned.ok.0 (found _ _ _ _ _ c.deref.ensures.value c.in-Some.ensures.some c.self.invariant.0).owned
 
 pub returns-clause-ends : goal.returns-clause-ends
-returns-clause-ends g c = λ d a.
+returns-clause-ends g c = ends-whole c.args.client c.args.cause _ _ (λ d a.
     rw (c.put_back.ensures.client, c.put_back.ensures.owned) (ends c.self.inside.output c.self.inside.clients.items c.self.inside.owned.items c.self.inside.scene c.args.client c.in-Some.k (found _ _ _ _ _ c.deref.ensures.value c.in-Some.ensures.some c.self.invariant.0) d (rw (← c.self.view_is) at a)
-    c.args.cause c.in-Some-take_out.resident c.end.new.self _ _ _ _ c.end.new.scene c.index_mut.ensures.value c.index_mut-2.ensures.value c.in-Some-take_out.ensures.some (c.end.ensures.ends (numbers_in c.self.inside.clients.items) d d))
+    c.args.cause c.in-Some-take_out.resident c.end.new.self _ _ _ _ c.end.new.scene c.index_mut.ensures.value c.index_mut-2.ensures.value c.in-Some-take_out.ensures.some (c.end.ensures.ends (numbers_in c.self.inside.clients.items) d d)))
 
 pub returns-clause-marks : goal.returns-clause-marks
-returns-clause-marks g c = λ d a.
+returns-clause-marks g c = ends-marked c.args.client c.args.cause c.args.self.now.desk c.args.self.now.damage c.end.new.damage (λ d a.
     rw (← c.self.view_is) (ends-marks c.self.inside.output c.self.inside.clients.items c.self.inside.owned.items c.self.inside.scene c.args.client c.in-Some.k (found _ _ _ _ _ c.deref.ensures.value c.in-Some.ensures.some c.self.invariant.0) d (rw (← c.self.view_is) at a)
-    c.args.cause c.in-Some-take_out.resident c.end.new.self _ _ c.end.new.scene c.self.inside.damage c.end.new.damage c.index_mut.ensures.value c.index_mut-2.ensures.value c.in-Some-take_out.ensures.some (c.end.ensures.ends (numbers_in c.self.inside.clients.items) d d) c.end.ensures.marks)
+    c.args.cause c.in-Some-take_out.resident c.end.new.self _ _ c.end.new.scene c.self.inside.damage c.end.new.damage c.index_mut.ensures.value c.index_mut-2.ensures.value c.in-Some-take_out.ensures.some (c.end.ensures.ends (numbers_in c.self.inside.clients.items) d d) c.end.ensures.marks))
 
 pub invariant_of-self-2 : goal.invariant_of-self-2
 invariant_of-self-2 g c = (

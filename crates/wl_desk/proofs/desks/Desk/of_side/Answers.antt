@@ -1,11 +1,12 @@
 use Rattle.std.proofs.Common.{◌≡◌, arith, refl}
 use Rattle.wl_desk.proofs.Calls.{Agrees-empty}
+use Rattle.wl_desk.proofs.NoMore.{empty-agrees}
 use Rattle.wl_desk.proofs.desks.Desk.of_side.Goals as goal
 
 pub returns-clause-desk : goal.returns-clause-desk
 returns-clause-desk g c =
     let full : c.loop.counter ≡ 32 = omega arith in
-    rw c.new-2.ensures (Agrees-empty _ _ _ (rw full at c.loop.invariant.0) (rw full at c.loop.invariant.1))
+    empty-agrees _ _ (rw c.new-2.ensures (Agrees-empty _ _ _ (rw full at c.loop.invariant.0) (rw full at c.loop.invariant.1)))
 
 pub invariant_of-result : goal.invariant_of-result
 invariant_of-result g c =

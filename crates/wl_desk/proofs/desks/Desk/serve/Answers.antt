@@ -4,41 +4,43 @@ use Rattle.wl_resident.specs.Agreement.{numbers_in}
 use Rattle.wl_desk.specs.Feeding.{served_as}
 use Rattle.wl_desk.proofs.Calls.{found, serves}
 use Rattle.wl_desk.proofs.Kept.{Idle-none, idles, idles-untaken, rest-less, served-answer, served-idle, served-took, serves-marks, serves-told}
+use Rattle.wl_plain.proofs.BridgeBack.{serves-back}
+use Rattle.wl_desk.proofs.NoMore.{idles-whole, marks-all, message-whole}
 use Rattle.wl_desk.proofs.desks.Desk.serve.Goals as goal
 
 pub returns-in_default-clause-more : goal.returns-in_default-clause-more
-returns-in_default-clause-more g c = λ more d a. Idle-none _ _ d c.args.client (c.deref.ensures.value ∙ ap (λ w. w.desk.clients) c.self.view_is) c.in_default.ensures.none a
+returns-in_default-clause-more g c = λ more. idles-whole c.args.client _ _ (λ d a. Idle-none _ _ d c.args.client (c.deref.ensures.value ∙ ap (λ w. w.desk.clients) c.self.view_is) c.in_default.ensures.none a)
 
 pub returns-in_default-take_out-clause-more : goal.returns-in_default-take_out-clause-more
-returns-in_default-take_out-clause-more g c = λ more d a.
+returns-in_default-take_out-clause-more g c = λ more. idles-whole c.args.client _ _ (λ d a.
     idles-untaken c.self.inside.output c.self.inside.clients.items c.self.inside.owned.items c.self.inside.scene c.args.client c.in-Some.k (found _ _ _ _ _ c.deref.ensures.value c.in-Some.ensures.some c.self.invariant.0) d (rw (← c.self.view_is) at a)
-    _ _ _ _ c.index_mut.ensures.value c.index_mut-2.ensures.value c.in_default-take_out.ensures.none c.take_out.ensures.left
+    _ _ _ _ c.index_mut.ensures.value c.index_mut-2.ensures.value c.in_default-take_out.ensures.none c.take_out.ensures.left)
 
 pub index_mut-requires-4 : goal.index_mut-requires-4
 index_mut-requires-4 g c = rw c.self.inside.owned.ok.0 (found _ _ _ _ _ c.deref.ensures.value c.in-Some.ensures.some c.self.invariant.0).owned
 
 pub returns-clause-serves : goal.returns-clause-serves
-returns-clause-serves g c = λ some d a.
+returns-clause-serves g c = λ some. message-whole c.args.client _ _ (λ d a.
     rw (c.put_back.ensures.client, c.put_back.ensures.owned) (serves c.self.inside.output c.self.inside.clients.items c.self.inside.owned.items c.self.inside.scene c.args.client c.in-Some.k (found _ _ _ _ _ c.deref.ensures.value c.in-Some.ensures.some c.self.invariant.0) d (rw (← c.self.view_is) at a)
     c.in-Some-take_out.resident c.serve_on-taken.new.self _ _ _ _ c.serve_on-taken.new.scene c.index_mut.ensures.value c.index_mut-2.ensures.value c.in-Some-take_out.ensures.some
-    (c.serve_on-taken.ensures.serves (served-took _ _ _ c.served_of-served.ensures some) (numbers_in c.self.inside.clients.items) d d))
+    (c.serve_on-taken.ensures.serves (served-took _ _ _ c.served_of-served.ensures some) (numbers_in c.self.inside.clients.items) d d)))
 
 pub returns-clause-told : goal.returns-clause-told
 returns-clause-told g c = λ some d a.
     serves-told c.self.inside.output c.self.inside.clients.items c.self.inside.owned.items c.args.client c.in-Some.k (found _ _ _ _ _ c.deref.ensures.value c.in-Some.ensures.some c.self.invariant.0)
-    c.serve_on-taken.new.self _ _ c.serve_on-taken.new.scene d _ (served-answer _ _ _ (c.served_of-served.ensures ∙ ap (served_as c.serve_on-taken.result) c.ended.ensures) some) (rw (c.put_back.ensures.client, c.put_back.ensures.owned) at a)
+    c.serve_on-taken.new.self _ _ c.serve_on-taken.new.scene d _ (served-answer _ _ _ (c.served_of-served.ensures ∙ ap (served_as c.serve_on-taken.result) c.ended.ensures) some) (rw (c.put_back.ensures.client, c.put_back.ensures.owned) at a.matches)
 
 pub returns-clause-marks : goal.returns-clause-marks
 returns-clause-marks g c = λ some d e a step b.
-    rw (← c.self.view_is) (serves-marks c.self.inside.output c.self.inside.clients.items c.self.inside.owned.items c.self.inside.scene c.args.client c.in-Some.k (found _ _ _ _ _ c.deref.ensures.value c.in-Some.ensures.some c.self.invariant.0) d (rw (← c.self.view_is) at a)
+    marks-all d e c.args.self.now.damage c.serve_on-taken.new.damage a.no_more b.no_more (rw (← c.self.view_is) (serves-marks c.self.inside.output c.self.inside.clients.items c.self.inside.owned.items c.self.inside.scene c.args.client c.in-Some.k (found _ _ _ _ _ c.deref.ensures.value c.in-Some.ensures.some c.self.invariant.0) d (rw (← c.self.view_is) at a.matches)
     c.in-Some-take_out.resident c.serve_on-taken.new.self _ _ _ _ c.serve_on-taken.new.scene e c.self.inside.damage c.serve_on-taken.new.damage c.index_mut.ensures.value c.index_mut-2.ensures.value c.in-Some-take_out.ensures.some
-    (c.serve_on-taken.ensures.marks (served-took _ _ _ c.served_of-served.ensures some) (numbers_in c.self.inside.clients.items) d d) step (rw (c.put_back.ensures.client, c.put_back.ensures.owned) at b))
+    (c.serve_on-taken.ensures.marks (served-took _ _ _ c.served_of-served.ensures some) (numbers_in c.self.inside.clients.items) d d) (serves-back c.args.client d e a.no_more step) (rw (c.put_back.ensures.client, c.put_back.ensures.owned) at b.matches)))
 
 pub returns-clause-more : goal.returns-clause-more
-returns-clause-more g c = λ more d a.
+returns-clause-more g c = λ more. idles-whole c.args.client _ _ (λ d a.
     let idle = c.serve_on-taken.ensures.idle (served-idle _ _ _ c.served_of-served.ensures more) in
     rw (c.put_back.ensures.client, c.put_back.ensures.owned) (idles c.self.inside.output c.self.inside.clients.items c.self.inside.owned.items c.self.inside.scene c.args.client c.in-Some.k (found _ _ _ _ _ c.deref.ensures.value c.in-Some.ensures.some c.self.invariant.0) d (rw (← c.self.view_is) at a)
-    c.in-Some-take_out.resident c.serve_on-taken.new.self _ _ _ _ c.serve_on-taken.new.scene c.index_mut.ensures.value c.index_mut-2.ensures.value c.in-Some-take_out.ensures.some idle.0 idle.1 idle.3)
+    c.in-Some-take_out.resident c.serve_on-taken.new.self _ _ _ _ c.serve_on-taken.new.scene c.index_mut.ensures.value c.index_mut-2.ensures.value c.in-Some-take_out.ensures.some idle.0 idle.1 idle.3))
 
 pub returns-clause-rests : goal.returns-clause-rests
 returns-clause-rests g c = λ more. (c.serve_on-taken.ensures.idle (served-idle _ _ _ c.served_of-served.ensures more)).2 ∙ ap (λ w. w.damage) c.self.view_is

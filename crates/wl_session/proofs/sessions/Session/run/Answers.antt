@@ -1,5 +1,6 @@
 use Rattle.std.proofs.Common.{List, map, subst}
 use Rattle.std.proofs.lemmas.List.{take_all}
+use Rattle.wl_plain.specs.LeftOut.{served_now}
 use Rattle.wl_session.specs.declared.steps.Step.{Step}
 use Rattle.wl_session.specs.Step.{act_of}
 use Rattle.wl_session.specs.Run.{TakesSteps, film_of}
@@ -11,7 +12,7 @@ loop-n-preserved g c = λ d a.
     let m = c.loop-n.invariant d a in
     let taken = c.take_step.ensures.taken c.if-not-take_step.false in
     let next = taken.2 m.0 m.2 in
-    (next.0, rw taken.1 (Runs-more _ c.args.steps.now c.loop-n.n _ _ _ _ d m.0 next.0 _ taken.0 next.1 c.loop-n-test.true m.1 next.2 next.3), next.4)
+    (next.0, rw taken.1 (Runs-more served_now c.args.steps.now c.loop-n.n _ _ _ _ d m.0 next.0 _ taken.0 next.1 c.loop-n-test.true m.1 next.2 next.3), next.4)
 
 pub returns-then-not-take_step-clause-err : goal.returns-then-not-take_step-clause-err
 returns-then-not-take_step-clause-err g c =

@@ -11,3 +11,6 @@ returns-in-Tick-clause-frame g c =
     rw c.in-Tick.is (λ d a.
     subst (λ (i : Image). IsShownBy (Tick c.in-Tick.time) d c.args.self.now.frame i) (sym c.tick.follows.holds-at-none.1)
     (Shows-tick c.in-Tick.time d c.args.self.now.frame c.tick.result.pixels.now (has c.tick.result.damage.now) (c.tick.ensures.frame d a)))
+
+pub returns-in-Tick-clause-step : goal.returns-in-Tick-clause-step
+returns-in-Tick-clause-step g c = rw c.in-Tick.is c.tick.follows.holds-at-none.0

@@ -1,11 +1,12 @@
 use Rattle.std.proofs.Common.{◌∙◌, refl, sym, ap}
 use Rattle.wl_client.specs.declared.outputs.Output.{Output}
 use Rattle.wl_paint.specs.Damage.{Damaged, has}
-use Rattle.wl_resident.specs.Agreement.{Agrees}
+use Rattle.wl_desk.specs.Agreeing.{Agrees}
 use Rattle.wl_plain.specs.Desktop.{Desktop}
 use Rattle.wl_resident.specs.View.{DeskView}
 use Rattle.wl_session.specs.Run.{IsNextFrame}
 use Rattle.wl_session.specs.View.{SessionView}
+use Rattle.wl_plain.proofs.BridgeSteps.{shows-whole}
 use Rattle.wl_session.proofs.sessions.Session.tick.Goals as goal
 
 pub invariant_of-self : goal.invariant_of-self
@@ -25,7 +26,7 @@ returns g c =
       painted = λ x y w h here opaque. c.paint.ensures.painted d a x y w h (sym (ap (λ (m : Damaged). has m x y) c.take_damage.ensures.taken) ∙ here) opaque;
       kept = λ x y w h none. c.paint.ensures.kept x y w h (sym (ap (λ (m : Damaged). has m x y) c.take_damage.ensures.taken) ∙ none);
     }) in (
-      (refl, (λ s. tt), ((λ d a. (d, (refl, refl), rw (c.take_damage.ensures.desk) (rw (← c.self.view_is) at a))), sym c.frame.ensures.pixels)),
+      (refl, (λ s. tt), ((λ d a. (d, (refl, shows-whole c.args.time d d a.no_more refl), rw (c.take_damage.ensures.desk) (rw (← c.self.view_is) at a))), sym c.frame.ensures.pixels)),
       record {
         after = tt;
         frame = next;

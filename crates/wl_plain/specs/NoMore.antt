@@ -41,6 +41,6 @@ OwnsToplevelsAt None standing = Unit {0}
 OwnsToplevelsAt (Some r) standing = OwnsToplevelsBy r.peer.status r standing
 
 -- The pointer isn't anywhere, and no client has more than toplevels.
-pub record HasToplevelsOnly (d : Desktop) : Type 0 where
+pub record NoMore (d : Desktop) : Type 0 where
   pub pointer : d.pointer ≡ first_pointer
   pub each : (c : ℕ) → OwnsToplevelsAt (client_at c d) (toplevels_of c d)
