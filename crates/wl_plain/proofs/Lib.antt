@@ -4,7 +4,6 @@ pub mod Toplevels
 pub mod Behind
 pub mod Pieces
 pub mod Places
-pub mod OneRun
 pub mod Others
 pub mod Alone
 pub mod Served

@@ -12,7 +12,7 @@ use Rattle.wl_shell.specs.Shell.{Effect, Stays, Unconfigured, Configures, Maps, 
 use Rattle.wl_scene.specs.Stacking.{Standing, is_of, with_mapped}
 use Rattle.wl_plain.specs.Ask.{Ask, Own, CreateSurface, DestroySurface, AskSurface, CommitSurface, DestroyBase, GetXdgSurface, DestroyXdgSurface, GetToplevel, Acknowledge, ConfigureAgain, DestroyToplevel, Ignore}
 use Rattle.wl_plain.specs.Desktop.{Desktop, Resident, become, become_by, client_at, client_in}
-use Rattle.wl_plain.specs.Laws.{OthersStay, toplevels_of}
+use Rattle.wl_plain.specs.Laws.{toplevels_of}
 use Rattle.wl_plain.specs.Served.{Unserved}
 use Rattle.wl_plain.specs.Step.{Answers, Becomes, FeedsAt, Reaches, ServesAt, StopsAt, Takes, WantsOr, changed_by, stacked, takes_memory}
 use Rattle.wl_plain.proofs.Places.{other-become, stacked-clients}
@@ -146,26 +146,10 @@ feeds-left unserved c other piece None r old new differ h =
     left-then other old start new (become-left c other r come old differ)
     (left-then other start h.1 new (reaches-left unserved c other h.0 start h.1 differ h.2) (stops-left c other (client_at c h.1) h.1 new differ h.3))
 
-pub others_stay : OthersStay
-others_stay unserved c other piece r old new there h differ = feeds-left unserved c other piece r.peer.status r old new differ h
-
 -- ---- the output stays
 
 abbrev pub Keeps : Desktop → Desktop → Type 0
 Keeps old new = new.output ≡ old.output
-
-same-keeps : (old new : Desktop) → new ≡ old → Keeps old new
-same-keeps old new e = ap (λ (x : Desktop). x.output) e
-
-become-keeps-by : (s : Option Cause) (c : ℕ) (r : Resident) (q : Peer) (d : Desktop) → Keeps d (become_by s c r q d)
-become-keeps-by None c r q d = refl
-become-keeps-by (Some cause) c r q d = refl
-
-pub become-keeps : (c : ℕ) (r : Resident) (q : Peer) (d : Desktop) → Keeps d (become c r q d)
-become-keeps c r q d = become-keeps-by q.status c r q d
-
-becomes-keeps : (Q : Peer → Type 0) (c : ℕ) (r : Resident) (d new : Desktop) → Becomes Q c r d new → Keeps d new
-becomes-keeps Q c r d new h = same-keeps (become c r h.0 d) new h.2 ∙ become-keeps c r h.0 d
 
 effect-keeps : (c id : ℕ) (effect : Effect) (r : Resident) (d : Desktop) → Keeps d (stacked c (CommitSurface id effect) r d)
 effect-keeps c id Stays r d = refl
@@ -188,36 +172,3 @@ stacked-keeps c (Acknowledge xdg serial) r d = refl
 stacked-keeps c (ConfigureAgain xdg) r d = refl
 stacked-keeps c (DestroyToplevel id xdg) r d = refl
 stacked-keeps c Ignore r d = refl
-
-wants-keeps : (b : Bool) (Q : Peer → Type 0) (ask : Ask) (c : ℕ) (r : Resident) (d new : Desktop) → WantsOr b (Becomes Q c (changed_by ask r) (stacked c ask r d) new) c r d new → Keeps d new
-wants-keeps false Q ask c r d new h = becomes-keeps Q c (changed_by ask r) (stacked c ask r d) new h ∙ stacked-keeps c ask r d
-wants-keeps true Q ask c r d new (inl h) = becomes-keeps (LacksMemory r.peer) c r d new h
-wants-keeps true Q ask c r d new (inr h) = becomes-keeps Q c (changed_by ask r) (stacked c ask r d) new h ∙ stacked-keeps c ask r d
-
-answers-keeps : (judged : Result Ask _) (c : ℕ) (r : Resident) (d new : Desktop) → Answers judged c r d new → Keeps d new
-answers-keeps (Ok ask) c r d new h = wants-keeps (takes_memory ask) _ ask c _ d new h
-answers-keeps (Err refusal) c r d new h = becomes-keeps _ c r d new h
-
-takes-keeps : (unserved : Unserved) (s : Split) (c : ℕ) (r : Resident) (d new : Desktop) → Takes unserved s c r d new → Keeps d new
-takes-keeps unserved (Message object opcode size) c r d new h = answers-keeps _ c _ d new h
-takes-keeps unserved Bad c r d new h = becomes-keeps _ c r d new h
-takes-keeps unserved More c r d new h = absurd h
-
-serves-keeps : (unserved : Unserved) (c : ℕ) (o : Option Resident) (d new : Desktop) → ServesAt unserved c o d new → Keeps d new
-serves-keeps unserved c None d new h = absurd h
-serves-keeps unserved c (Some r) d new h = takes-keeps unserved (split_of r.peer.rest) c r d new h.1
-
-reaches-keeps : (unserved : Unserved) (c n : ℕ) (d new : Desktop) → Reaches unserved c n d new → Keeps d new
-reaches-keeps unserved c zero d new h = same-keeps d new h
-reaches-keeps unserved c (suc n) d new h = serves-keeps unserved c (client_at c h.0) h.0 new h.2 ∙ reaches-keeps unserved c n d h.0 h.1
-
-stops-keeps : (c : ℕ) (o : Option Resident) (mid new : Desktop) → StopsAt c o mid new → Keeps mid new
-stops-keeps c None mid new h = absurd h
-stops-keeps c (Some r) mid new (inl h) = same-keeps mid new h.0
-stops-keeps c (Some r) mid new (inr h) = same-keeps (become c r (ended Memory r.peer) mid) new h.1 ∙ become-keeps c r (ended Memory r.peer) mid
-
-pub feeds-keeps : (unserved : Unserved) (c : ℕ) (piece : List ℕ) (s : Option Cause) (r : Resident) (old new : Desktop) → FeedsAt unserved c piece s r old new → Keeps old new
-feeds-keeps unserved c piece (Some cause) r old new h = same-keeps old new h
-feeds-keeps unserved c piece None r old new h =
-    let come : Peer = with_rest (r.peer.rest ++ piece) r.peer in
-    stops-keeps c (client_at c h.1) h.1 new h.3 ∙ reaches-keeps unserved c h.0 (become c r come old) h.1 h.2 ∙ become-keeps c r come old

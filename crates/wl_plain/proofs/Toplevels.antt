@@ -9,12 +9,14 @@ use Rattle.wl_client.specs.Peer.{stored_at}
 use Rattle.wl_client.specs.Told.{Output}
 use Rattle.wl_store.specs.Stores.{size_of}
 use Rattle.wl_blend.specs.declared.color.Rgb.{Rgb}
+use Rattle.wl_surface.specs.Trees.{applied_tree, behaves_synchronised, depth, descends_from, height}
 use Rattle.wl_scene.specs.Windows.{Place, Window, tree}
-use Rattle.wl_plain.specs.Desktop.{Desktop, Resident, arrival, client_at, empty, windows_in, with_client}
+use Rattle.wl_plain.specs.Desktop.{Desktop, Resident, arrival, client_at, empty, with_client}
 use Rattle.wl_plain.specs.Moments.{marks_at_least}
-use Rattle.wl_plain.specs.Plain.{fed}
+use Rattle.wl_plain.specs.Ample.{fed}
+use Rattle.wl_plain.specs.LeftOut.{served_now}
 use Rattle.wl_plain.specs.Scratch.{scratch}
-use Rattle.wl_plain.specs.Served.{beyond_toplevels}
+use Rattle.wl_plain.specs.Stacked.{all_windows}
 use Rattle.wl_plain.specs.Ask.{CreateSurface, ConfigureAgain}
 use Rattle.wl_plain.specs.WlSurface.{refuse_limit, surface_created}
 use Rattle.wl_plain.specs.XdgShell.{configured_again}
@@ -29,7 +31,7 @@ start =
 
 -- a request of a client to an object
 abbrev pub asks : ℕ → ℕ → ℕ → List Field → Desktop → Desktop
-asks c object opcode fields d = fed beyond_toplevels c (message_bytes object opcode fields) d
+asks c object opcode fields d = fed served_now c (message_bytes object opcode fields) d
 
 abbrev quiet : ℕ → Option Resident → Desktop → Desktop
 quiet c None d = d
@@ -77,6 +79,7 @@ abbrev xdg_configure : ℕ → List ℕ
 xdg_configure serial = 7 ∷ 0 ∷ 0 ∷ 0 ∷ 0 ∷ 0 ∷ 12 ∷ 0 ∷ serial ∷ 0 ∷ 0 ∷ 0 ∷ []
 
 pub row_first_commit : unsent 1 (configured 1 start) ≡ toplevel_configure ++ xdg_configure 1
+unfolding tree applied_tree behaves_synchronised depth descends_from height
 row_first_commit = refl
 
 -- with a pool 9 of 12,800 bytes and two buffers, 10 and 11, of 40 by 40 pixels
@@ -123,7 +126,7 @@ abbrev pub stores : ℕ → ℕ → List ℕ → ℕ → Desktop → Desktop
 stores store at bytes c d = stores_by store at bytes (client_at c d) c d
 
 abbrev corners : Desktop → List Place
-corners d = map (λ (w : Window). w.corner) (windows_in d)
+corners d = map (λ (w : Window). w.corner) (all_windows d)
 
 abbrev at : ℤ → ℤ → Place
 at x y = record { x = x; y = y }
@@ -133,19 +136,20 @@ abbrev pub one : Desktop
 one = shown 1 start
 
 pub row_shown : corners one ≡ at (pos 0) (pos 0) ∷ []
-unfolding tree
+unfolding tree applied_tree behaves_synchronised depth descends_from height
 row_shown = refl
 
 pub row_shown-unanswered : unsent 1 one ≡ []
+unfolding tree applied_tree behaves_synchronised depth descends_from height
 row_shown-unanswered = refl
 
 -- its mapping marks it
 pub row_shown-marks : marks_at_least (ready 1 start) one (pos 39) (pos 39) ≡ true
-unfolding tree
+unfolding tree applied_tree behaves_synchronised depth descends_from height
 row_shown-marks = refl
 
 pub row_shown-marks-beside : marks_at_least (ready 1 start) one (pos 40) (pos 39) ≡ false
-unfolding tree
+unfolding tree applied_tree behaves_synchronised depth descends_from height
 row_shown-marks-beside = refl
 
 -- red pixels are put into the second buffer, three in each of three rows
@@ -174,24 +178,24 @@ two = commit 2 (damage (pos 0) (pos 0) (pos 8) (pos 8) 2 (attach 10 (pos 0) 2 tw
 
 -- it stands in the next place
 pub row_two : corners two ≡ at (pos 0) (pos 0) ∷ at (pos 32) (pos 32) ∷ []
-unfolding tree
+unfolding tree applied_tree behaves_synchronised depth descends_from height
 row_two = refl
 
 pub row_two-green : color two (pos 32) (pos 32) ≡ green
-unfolding tree
+unfolding tree applied_tree behaves_synchronised depth descends_from height
 row_two-green = refl
 
 -- the red pixels are of the buffer that the first client does not show yet
 pub row_two-black : color two (pos 31) (pos 33) ≡ black
-unfolding tree
+unfolding tree applied_tree behaves_synchronised depth descends_from height
 row_two-black = refl
 
 pub row_two-marks : marks_at_least two_ready two (pos 39) (pos 39) ≡ true
-unfolding tree
+unfolding tree applied_tree behaves_synchronised depth descends_from height
 row_two-marks = refl
 
 pub row_two-marks-beside : marks_at_least two_ready two (pos 31) (pos 33) ≡ false
-unfolding tree
+unfolding tree applied_tree behaves_synchronised depth descends_from height
 row_two-marks-beside = refl
 
 -- the first client attaches it, with damage where it differs
@@ -202,31 +206,32 @@ abbrev pub three : Desktop
 three = commit 1 three_ready
 
 pub row_three-red : color three (pos 31) (pos 35) ≡ red
-unfolding tree
+unfolding tree applied_tree behaves_synchronised depth descends_from height
 row_three-red = refl
 
 -- the second window is above
 pub row_three-green : color three (pos 32) (pos 33) ≡ green
-unfolding tree
+unfolding tree applied_tree behaves_synchronised depth descends_from height
 row_three-green = refl
 
 pub row_three-black : color three (pos 30) (pos 33) ≡ black
-unfolding tree
+unfolding tree applied_tree behaves_synchronised depth descends_from height
 row_three-black = refl
 
 pub row_three-marks : marks_at_least three_ready three (pos 31) (pos 33) ≡ true
-unfolding tree
+unfolding tree applied_tree behaves_synchronised depth descends_from height
 row_three-marks = refl
 
 pub row_three-marks-last : marks_at_least three_ready three (pos 33) (pos 35) ≡ true
-unfolding tree
+unfolding tree applied_tree behaves_synchronised depth descends_from height
 row_three-marks-last = refl
 
 pub row_three-marks-beside : marks_at_least three_ready three (pos 34) (pos 33) ≡ false
-unfolding tree
+unfolding tree applied_tree behaves_synchronised depth descends_from height
 row_three-marks-beside = refl
 
 pub row_three-others : unsent 2 three ≡ []
+unfolding tree applied_tree behaves_synchronised depth descends_from height
 row_three-others = refl
 
 -- a write to a store that is shown marks nothing, and shows only there
@@ -234,15 +239,15 @@ abbrev pub rewritten : Desktop
 rewritten = stores 1 0 (0 ∷ 0 ∷ 255 ∷ 0 ∷ []) 2 two
 
 pub row_rewritten-marks : marks_at_least two rewritten (pos 32) (pos 32) ≡ false
-unfolding tree
+unfolding tree applied_tree behaves_synchronised depth descends_from height
 row_rewritten-marks = refl
 
 pub row_rewritten-red : color rewritten (pos 32) (pos 32) ≡ red
-unfolding tree
+unfolding tree applied_tree behaves_synchronised depth descends_from height
 row_rewritten-red = refl
 
 pub row_rewritten-beside : color rewritten (pos 33) (pos 32) ≡ green
-unfolding tree
+unfolding tree applied_tree behaves_synchronised depth descends_from height
 row_rewritten-beside = refl
 
 -- A pool is destroyed before its buffer is shown: its store lives on, and is written.
@@ -254,10 +259,11 @@ abbrev delete_id : ℕ → List ℕ
 delete_id id = 1 ∷ 0 ∷ 0 ∷ 0 ∷ 1 ∷ 0 ∷ 12 ∷ 0 ∷ id ∷ 0 ∷ 0 ∷ 0 ∷ []
 
 pub row_pool_gone : unsent 1 without_pool ≡ delete_id 9
+unfolding tree applied_tree behaves_synchronised depth descends_from height
 row_pool_gone = refl
 
 pub row_pool_gone-red : color (commit 1 (attach 10 (pos 0) 1 (stores 1 0 (0 ∷ 0 ∷ 255 ∷ 0 ∷ []) 1 without_pool))) (pos 0) (pos 0) ≡ red
-unfolding tree
+unfolding tree applied_tree behaves_synchronised depth descends_from height
 row_pool_gone-red = refl
 
 -- then the wl_buffer too: it goes on being shown, and its store goes with it when another is attached
@@ -272,17 +278,20 @@ abbrev store_size : Desktop → ℕ
 store_size d = size_in (client_at 1 d)
 
 pub row_buffer_gone : store_size without_buffers ≡ 12800
+unfolding tree applied_tree behaves_synchronised depth descends_from height
 row_buffer_gone = refl
 
 pub row_buffer_gone-shown : corners without_buffers ≡ at (pos 0) (pos 0) ∷ []
-unfolding tree
+unfolding tree applied_tree behaves_synchronised depth descends_from height
 row_buffer_gone-shown = refl
 
 -- a null attach that is pending keeps it
 pub row_buffer_gone-pending : store_size (attach 0 (pos 0) 1 without_buffers) ≡ 12800
+unfolding tree applied_tree behaves_synchronised depth descends_from height
 row_buffer_gone-pending = refl
 
 pub row_buffer_gone-released : store_size (commit 1 (attach 0 (pos 0) 1 without_buffers)) ≡ 0
+unfolding tree applied_tree behaves_synchronised depth descends_from height
 row_buffer_gone-released = refl
 
 -- A buffer before the configure was acknowledged is an error that ends the client, and the other's window stays.
@@ -294,16 +303,19 @@ abbrev unconfigured_buffer : List ℕ
 unconfigured_buffer = 1 ∷ 0 ∷ 0 ∷ 0 ∷ 0 ∷ 0 ∷ 40 ∷ 0 ∷ 7 ∷ 0 ∷ 0 ∷ 0 ∷ 3 ∷ 0 ∷ 0 ∷ 0 ∷ 20 ∷ 0 ∷ 0 ∷ 0 ∷ codes "unconfigured_buffer" ++ 0 ∷ []
 
 pub row_unconfigured : unsent 1 (commit 1 unacknowledged) ≡ unconfigured_buffer
+unfolding tree applied_tree behaves_synchronised depth descends_from height
 row_unconfigured = refl
 
 pub row_unconfigured-end : status 1 (commit 1 unacknowledged) ≡ Some (Protocol 7 3)
+unfolding tree applied_tree behaves_synchronised depth descends_from height
 row_unconfigured-end = refl
 
 pub row_unconfigured-other : corners (commit 1 unacknowledged) ≡ at (pos 0) (pos 0) ∷ []
-unfolding tree
+unfolding tree applied_tree behaves_synchronised depth descends_from height
 row_unconfigured-other = refl
 
 pub row_unconfigured-unsent : unsent 2 (commit 1 unacknowledged) ≡ unsent 2 unacknowledged
+unfolding tree applied_tree behaves_synchronised depth descends_from height
 row_unconfigured-unsent = refl
 
 -- an error of a client that has a window takes it away, and marks it
@@ -311,15 +323,15 @@ abbrev wrong : Desktop
 wrong = acknowledged 3 1 three
 
 pub row_wrong : corners wrong ≡ at (pos 32) (pos 32) ∷ []
-unfolding tree
+unfolding tree applied_tree behaves_synchronised depth descends_from height
 row_wrong = refl
 
 pub row_wrong-marks : marks_at_least three wrong (pos 0) (pos 0) ≡ true
-unfolding tree
+unfolding tree applied_tree behaves_synchronised depth descends_from height
 row_wrong-marks = refl
 
 pub row_wrong-beside : marks_at_least three wrong (pos 39) (pos 40) ≡ false
-unfolding tree
+unfolding tree applied_tree behaves_synchronised depth descends_from height
 row_wrong-beside = refl
 
 -- xdg_toplevel.set_maximized is answered by another configure
@@ -327,6 +339,7 @@ abbrev maximized : Desktop
 maximized = asks 1 8 9 [] one
 
 pub row_maximized : unsent 1 maximized ≡ toplevel_configure ++ xdg_configure 2
+unfolding tree applied_tree behaves_synchronised depth descends_from height
 row_maximized = refl
 
 -- wl_display.error(7, 4, "invalid_serial")
@@ -334,9 +347,11 @@ abbrev invalid_serial : List ℕ
 invalid_serial = 1 ∷ 0 ∷ 0 ∷ 0 ∷ 0 ∷ 0 ∷ 36 ∷ 0 ∷ 7 ∷ 0 ∷ 0 ∷ 0 ∷ 4 ∷ 0 ∷ 0 ∷ 0 ∷ 15 ∷ 0 ∷ 0 ∷ 0 ∷ codes "invalid_serial" ++ 0 ∷ 0 ∷ []
 
 pub row_invalid_serial : unsent 1 (acknowledged 3 1 (sent 1 maximized)) ≡ invalid_serial
+unfolding tree applied_tree behaves_synchronised depth descends_from height
 row_invalid_serial = refl
 
 pub row_invalid_serial-end : status 1 (acknowledged 3 1 maximized) ≡ Some (Protocol 7 4)
+unfolding tree applied_tree behaves_synchronised depth descends_from height
 row_invalid_serial-end = refl
 
 -- a null buffer unmaps the surface, and the next commit is a first one again
@@ -344,23 +359,24 @@ abbrev unmapped : Desktop
 unmapped = commit 1 (attach 0 (pos 0) 1 one)
 
 pub row_unmapped : corners unmapped ≡ []
-unfolding tree
+unfolding tree applied_tree behaves_synchronised depth descends_from height
 row_unmapped = refl
 
 pub row_unmapped-marks : marks_at_least one unmapped (pos 39) (pos 39) ≡ true
-unfolding tree
+unfolding tree applied_tree behaves_synchronised depth descends_from height
 row_unmapped-marks = refl
 
 pub row_unmapped-marks-beside : marks_at_least one unmapped (pos 40) (pos 0) ≡ false
-unfolding tree
+unfolding tree applied_tree behaves_synchronised depth descends_from height
 row_unmapped-marks-beside = refl
 
 pub row_unmapped-configure : unsent 1 (commit 1 unmapped) ≡ toplevel_configure ++ xdg_configure 2
+unfolding tree applied_tree behaves_synchronised depth descends_from height
 row_unmapped-configure = refl
 
 -- mapped again it takes the next place
 pub row_mapped_again : corners (commit 1 (attach 10 (pos 0) 1 (acknowledged 2 1 (commit 1 unmapped)))) ≡ at (pos 32) (pos 32) ∷ []
-unfolding tree
+unfolding tree applied_tree behaves_synchronised depth descends_from height
 row_mapped_again = refl
 
 -- an attach with an offset moves the window, and marks its old and its new place
@@ -368,24 +384,24 @@ abbrev pub moved : Desktop
 moved = commit 1 (attach 11 (pos 3) 1 one)
 
 pub row_moved : corners moved ≡ at (pos 3) (pos 0) ∷ []
-unfolding tree
+unfolding tree applied_tree behaves_synchronised depth descends_from height
 row_moved = refl
 
 pub row_moved-old : marks_at_least one moved (pos 0) (pos 0) ≡ true
-unfolding tree
+unfolding tree applied_tree behaves_synchronised depth descends_from height
 row_moved-old = refl
 
 pub row_moved-new : marks_at_least one moved (pos 42) (pos 39) ≡ true
-unfolding tree
+unfolding tree applied_tree behaves_synchronised depth descends_from height
 row_moved-new = refl
 
 pub row_moved-beside : marks_at_least one moved (pos 43) (pos 0) ≡ false
-unfolding tree
+unfolding tree applied_tree behaves_synchronised depth descends_from height
 row_moved-beside = refl
 
 -- an offset is held within the bounds
 pub row_held : corners (commit 1 (attach 10 (negsuc 16777215) 1 (commit 1 (attach 11 (pos 2147483647) 1 one)))) ≡ at (pos 0) (pos 0) ∷ []
-unfolding tree
+unfolding tree applied_tree behaves_synchronised depth descends_from height
 row_held = refl
 
 -- damage outside the surface is none; one row of it is
@@ -393,20 +409,20 @@ abbrev damaged : ℤ → ℤ → ℤ → ℤ → Desktop
 damaged x y w h = commit 1 (damage x y w h 1 one)
 
 pub row_damage_outside : marks_at_least one (damaged (negsuc 2147483647) (pos 0) (pos 2147483647) (pos 2147483647)) (pos 0) (pos 0) ≡ false
-unfolding tree
+unfolding tree applied_tree behaves_synchronised depth descends_from height
 row_damage_outside = refl
 
 pub row_damage_row : marks_at_least one (damaged (pos 0) (pos 0) (pos 2147483647) (pos 1)) (pos 39) (pos 0) ≡ true
-unfolding tree
+unfolding tree applied_tree behaves_synchronised depth descends_from height
 row_damage_row = refl
 
 pub row_damage_row-below : marks_at_least one (damaged (pos 0) (pos 0) (pos 2147483647) (pos 1)) (pos 39) (pos 1) ≡ false
-unfolding tree
+unfolding tree applied_tree behaves_synchronised depth descends_from height
 row_damage_row-below = refl
 
 -- another transform marks the whole window
 pub row_turned : marks_at_least one (commit 1 (asks 1 6 7 (Number (pos 1) ∷ []) one)) (pos 39) (pos 39) ≡ true
-unfolding tree
+unfolding tree applied_tree behaves_synchronised depth descends_from height
 row_turned = refl
 
 -- xdg_toplevel.destroy takes the window away, and the surface keeps what it shows
@@ -414,50 +430,63 @@ abbrev without_toplevel : Desktop
 without_toplevel = asks 1 8 0 [] one
 
 pub row_toplevel_gone : corners without_toplevel ≡ []
-unfolding tree
+unfolding tree applied_tree behaves_synchronised depth descends_from height
 row_toplevel_gone = refl
 
 pub row_toplevel_gone-unsent : unsent 1 without_toplevel ≡ delete_id 8
+unfolding tree applied_tree behaves_synchronised depth descends_from height
 row_toplevel_gone-unsent = refl
 
 -- a surface whose xdg_surface lives is not destroyed, nor that before its role object
 pub row_surface_kept : status 1 (asks 1 6 0 [] without_toplevel) ≡ Some (Protocol 6 4)
+unfolding tree applied_tree behaves_synchronised depth descends_from height
 row_surface_kept = refl
 
 pub row_xdg_surface_kept : status 1 (asks 1 7 0 [] one) ≡ Some (Protocol 7 6)
+unfolding tree applied_tree behaves_synchronised depth descends_from height
 row_xdg_surface_kept = refl
 
 pub row_base_kept : status 1 (asks 1 5 0 [] one) ≡ Some (Protocol 5 1)
+unfolding tree applied_tree behaves_synchronised depth descends_from height
 row_base_kept = refl
 
 pub row_all_gone : unsent 1 (asks 1 5 0 [] (asks 1 6 0 [] (asks 1 7 0 [] (sent 1 without_toplevel)))) ≡ delete_id 7 ++ delete_id 6 ++ delete_id 5
+unfolding tree applied_tree behaves_synchronised depth descends_from height
 row_all_gone = refl
 
 -- a surface has one xdg_surface, and one with a buffer gets none
 pub row_configured_surface : status 1 (asks 1 5 2 (Word 12 ∷ Word 6 ∷ []) one) ≡ Some (Protocol 5 0)
+unfolding tree applied_tree behaves_synchronised depth descends_from height
 row_configured_surface = refl
 
 pub row_shown_surface : status 1 (asks 1 5 2 (Word 12 ∷ Word 6 ∷ []) (asks 1 7 0 [] without_toplevel)) ≡ Some (Protocol 5 4)
+unfolding tree applied_tree behaves_synchronised depth descends_from height
 row_shown_surface = refl
 
 pub row_not_constructed : status 1 (acknowledged 1 1 (asks 1 5 2 (Word 7 ∷ Word 6 ∷ []) (asks 1 3 0 (Word 6 ∷ []) (with_globals 1 start)))) ≡ Some (Protocol 7 1)
+unfolding tree applied_tree behaves_synchronised depth descends_from height
 row_not_constructed = refl
 
 pub row_already_constructed : status 1 (asks 1 7 1 (Word 12 ∷ []) one) ≡ Some (Protocol 7 2)
+unfolding tree applied_tree behaves_synchronised depth descends_from height
 row_already_constructed = refl
 
 pub row_invalid_size : status 1 (asks 1 7 3 (Number (pos 0) ∷ Number (pos 0) ∷ Number (pos 0) ∷ Number (pos 4) ∷ []) one) ≡ Some (Protocol 7 5)
+unfolding tree applied_tree behaves_synchronised depth descends_from height
 row_invalid_size = refl
 
 pub row_invalid_transform : status 1 (asks 1 6 7 (Number (pos 8) ∷ []) one) ≡ Some (Protocol 6 1)
+unfolding tree applied_tree behaves_synchronised depth descends_from height
 row_invalid_transform = refl
 
 -- what is not served yet is refused as a limit would be
 pub row_frame_unserved : status 1 (asks 1 6 3 (Word 12 ∷ []) one) ≡ Some (Protocol 1 3)
+unfolding tree applied_tree behaves_synchronised depth descends_from height
 row_frame_unserved = refl
 
 -- after its new id
 pub row_frame_in_use : status 1 (asks 1 6 3 (Word 6 ∷ []) one) ≡ Some (Protocol 1 0)
+unfolding tree applied_tree behaves_synchronised depth descends_from height
 row_frame_in_use = refl
 
 -- a client with so many surfaces may make another one, or not
@@ -468,9 +497,11 @@ crowded n =
     }
 
 pub row_surface_256 : surface_created (crowded 255) 12 2 ≡ Ok (CreateSurface 12 2)
+unfolding tree applied_tree behaves_synchronised depth descends_from height
 row_surface_256 = refl
 
 pub row_surface_257 : surface_created (crowded 256) 12 2 ≡ refuse_limit
+unfolding tree applied_tree behaves_synchronised depth descends_from height
 row_surface_257 = refl
 
 -- an xdg_surface whose toplevel waits with so many configures may be configured again, or not
@@ -486,7 +517,9 @@ waiting n =
     }
 
 pub row_configure_64 : configured_again (waiting 63) ≡ Ok (ConfigureAgain 7)
+unfolding tree applied_tree behaves_synchronised depth descends_from height
 row_configure_64 = refl
 
 pub row_configure_65 : configured_again (waiting 64) ≡ refuse_limit
+unfolding tree applied_tree behaves_synchronised depth descends_from height
 row_configure_65 = refl

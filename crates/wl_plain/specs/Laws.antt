@@ -1,8 +1,7 @@
 -- Laws of the plain desktop.
-use Rattle.std.specs.Prelude.{ℕ, ◌≡◌, ◌≢◌, ◌==◌, ℤ, [], ◌∷◌, ◌-ℤ◌, slice_get, List, Option, Some, None, IsTrue, true, false, filter}
+use Rattle.std.specs.Prelude.{ℕ, ◌≡◌, ◌==◌, ℤ, [], ◌∷◌, ◌-ℤ◌, slice_get, List, Option, Some, None, IsTrue, true, false, filter}
 use Rattle.std.specs.List.{list_any}
 use Rattle.wl_client.specs.declared.clients.Cause.{Cause}
-use Rattle.wl_client.specs.declared.clients.Cause.TheVariants.{Memory}
 use Rattle.wl_client.specs.Peer.{Peer}
 use Rattle.wl_client.specs.Peer.{Feeds as FeedsAlone}
 use Rattle.wl_scene.specs.Stacking.{Standing, is_of, without_client}
@@ -12,7 +11,7 @@ use Rattle.wl_plain.specs.Desktop.{Desktop, Resident, Showing, client_at, owned_
 use Rattle.wl_plain.specs.Marks.{Applied, AreDistinct, at_least, at_most, has_same_record, in_output}
 use Rattle.wl_plain.specs.Moments.{applied_between, marks_at_least_of}
 use Rattle.wl_plain.specs.Scratch.{color_in, scratch_of}
-use Rattle.wl_plain.specs.Served.{Unserved, beyond_clients}
+use Rattle.wl_plain.specs.Served.{beyond_clients}
 use Rattle.wl_plain.specs.Step.{Feeds}
 
 -- What is marked at least is among what is marked at most.
@@ -60,23 +59,9 @@ status_of (Some r) = r.peer.status
 abbrev pub status_in : ℕ → Desktop → Option Cause
 status_in c d = status_of (client_at c d)
 
--- A piece of a client's leads to one desktop, but for want of memory.
-abbrev pub OneRun : Type 0
-OneRun =
-    (unserved : Unserved) (c : ℕ) (piece : List ℕ) (r : Resident) (old new end : Desktop) → client_at c old ≡ Some r
-    → Feeds unserved c piece r old new → Feeds unserved c piece r old end → status_in c new ≢ Some Memory → status_in c end ≢ Some Memory
-    → new ≡ end
-
 -- the toplevels of a client, from the bottom
 abbrev pub toplevels_of : ℕ → Desktop → List Standing
 toplevels_of c d = filter (λ s. s.client == c) d.standing
-
--- A piece of a client's leaves every other client as it was: what it holds and owns, and the places and the order of its toplevels.
-abbrev pub OthersStay : Type 0
-OthersStay =
-    (unserved : Unserved) (c other : ℕ) (piece : List ℕ) (r : Resident) (old new : Desktop) → client_at c old ≡ Some r
-    → Feeds unserved c piece r old new → c ≢ other
-    → (client_at other new ≡ client_at other old) × (toplevels_of other new ≡ toplevels_of other old)
 
 -- a client has nothing but its own objects: no surfaces and xdg_surfaces, links, positioners, callbacks and pointers
 abbrev pub OwnsNothing : Resident → Type 0

@@ -9,7 +9,6 @@ pub mod LeftOut
 pub mod Marks
 pub mod Moments
 pub mod Owning
-pub mod Plain
 pub mod Pointing
 pub mod Popups
 pub mod Releases
@@ -32,5 +31,5 @@ pub mod WlSubsurface
 pub mod WlSurface
 pub mod XdgPopup
 pub mod XdgShell
-pub mod ServedToplevels
+pub mod NoMoreLaws
 pub mod NoMore

@@ -5,9 +5,9 @@
 
 mod answers;
 
-ghost use Rattle.wl_plain.specs.Laws.{LeastIsMost, OneRun, OthersStay, ScratchStays, ServedAlone, WindowsAreDistinct};
+ghost use Rattle.wl_plain.specs.Laws.{LeastIsMost, ScratchStays, ServedAlone, WindowsAreDistinct};
 ghost use Rattle.wl_plain.specs.Soundness.{EmptyIsSound, RunIsSound, SoundIsDistinct};
-ghost use Rattle.wl_plain.specs.ServedToplevels.{EmptyHasNoMore, MessagesAreWhole, ServedToplevels};
+ghost use Rattle.wl_plain.specs.NoMoreLaws.{EmptyHasNoMore, NoMoreStays};
 ghost use Rattle.wl_plain.specs.WholeLaws.{EndsStay, WholeHappens, WholeOneRun, WholeOnlyRun};
 ghost use Rattle.wl_plain.specs.WholeOthers.{RefusedAlone, WholeOthersStay};
 ghost use Rattle.wl_plain.specs.WholeOwn.{WholeOwnStays};
@@ -43,16 +43,6 @@ pub fn run_is_sound()
 /// did outside the damage that was applied; and so it is whichever windows are shown.
 pub fn scratch_stays()
     ensures { ScratchStays }
-{}
-
-/// A piece of a client's leads to one desktop, but for want of memory.
-pub fn one_run()
-    ensures { OneRun }
-{}
-
-/// A piece of a client's leaves every other client as it was.
-pub fn others_stay()
-    ensures { OthersStay }
 {}
 
 /// Whatever is left out, a step of a client's leaves every other client as it was, but for what that is told of the pointer's focus.
@@ -96,18 +86,12 @@ pub fn ends_stay()
     ensures { EndsStay }
 {}
 
-/// Where no more than toplevels is served, a message leads where it leads the whole desktop with all else left out.
-pub fn messages_are_whole()
-    ensures { MessagesAreWhole }
-{}
-
-/// Where no more than toplevels is served, every step leads where it leads the whole desktop with all else left out, and to no more than
-/// toplevels again.
-pub fn served_toplevels()
-    ensures { ServedToplevels }
-{}
-
-/// A desktop without clients has no more than toplevels.
-pub fn empty_has_toplevels_only()
+/// A desktop without clients has no trace of what isn't served.
+pub fn empty_has_no_more()
     ensures { EmptyHasNoMore }
+{}
+
+/// A step leaves no trace of what isn't served where there was none.
+pub fn no_more_stays()
+    ensures { NoMoreStays }
 {}
