@@ -23,7 +23,7 @@ use Rattle.wl_plain.specs.Settling.{Moving, Strike, becomes, ended_all, ended_by
 use Rattle.wl_plain.specs.Stacked.{all_windows}
 use Rattle.wl_plain.specs.Step.{with_peer}
 use Rattle.wl_plain.specs.Steps.{Act, Connect, Feed, Store, Leave, Tick, Send, Close, closed_by, lowest}
-use Rattle.wl_plain.specs.Whole.{Deed, Steps, Motion, Button, after_why, callbacks_due, done_for, frames_told, hit_now, is_hit_of, noted_if, number_of, point_in, pointed, raised_by, with_press, with_release, without_grabs}
+use Rattle.wl_plain.specs.Whole.{Deed, Steps, Motion, Button, callbacks_due, changed_so, frames_told, hit_now, is_hit_of, noted_if, number_of, point_in, pointed, raised_by, with_press, with_release, without_grabs}
 
 -- ---- events
 
@@ -91,7 +91,7 @@ became c r q d = ends_and_settles (unstruck (becomes c r q d))
 
 abbrev pub done_so : Peer × Option Cause → ℕ → Demand → Resident → Desktop → Desktop
 done_so told c demand r d =
-    ends_and_settles (unstruck (after_why told.1 c (with_client c (Some (with_peer told.0 (changed_for c demand r d))) (done_for c demand r d))))
+    ends_and_settles (changed_so c demand r d told.0 told.1)
 
 abbrev pub done : LeftOut → ℕ → Demand → Resident → Desktop → Desktop
 done left c demand r d =

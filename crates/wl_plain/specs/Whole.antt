@@ -29,7 +29,7 @@ use Rattle.wl_plain.specs.LeftOut.{LeftOut}
 use Rattle.wl_plain.specs.Pointing.{button_told, has_pointers, motion_told, moved_with}
 use Rattle.wl_plain.specs.Popups.{dismissing}
 use Rattle.wl_plain.specs.Replies.{focus_window, popups_done, replies}
-use Rattle.wl_plain.specs.Settling.{EndsAndSettles, Moving, QueuesTo, Settles, SettlesEnds, Tells, becomes, ended_at, is_settled, told_drawn, unstruck}
+use Rattle.wl_plain.specs.Settling.{EndsAndSettles, Moving, QueuesTo, Settles, SettlesEnds, Tells, becomes, ended_all, is_settled, struck_by, told_drawn, unstruck}
 use Rattle.wl_plain.specs.Stacked.{all_windows}
 use Rattle.wl_plain.specs.Step.{takes_memory, with_peer, with_shell}
 use Rattle.wl_plain.specs.Steps.{Act, Connect, Feed, Store, Leave, Tick, Send, Close, ConnectsAt, IsClosed, IsSent, IsStored, fed_of, lowest}
@@ -42,45 +42,77 @@ wants_memory (Asks ask) = takes_memory ask
 wants_memory (Move surface serial) = false
 wants_memory demand = true
 
--- what a client becomes is settled
-abbrev pub Becomes : (Peer → Type 0) → ℕ → Resident → Desktop → Desktop → Type 0
-Becomes Q c r d new = (q : Peer) × Q q × EndsAndSettles (unstruck (becomes c r q d)) new
-
-abbrev pub after_why : Option Cause → ℕ → Desktop → Desktop
-after_why None c d = d
-after_why (Some cause) c d = ended_at c cause (client_at c d) d
+-- What a message does by itself leads to a desktop in the middle of a step, with those that are to end since an event for them wasn't
+-- queued. `Next` says what comes then.
+abbrev pub BecomesThen : (Peer → Type 0) → ℕ → Resident → Desktop → (Moving → Type 0) → Type 0
+BecomesThen Q c r d Next = (q : Peer) × Q q × Next (unstruck (becomes c r q d))
 
 -- the desktop after the change of a message, before its client is told
 abbrev pub done_for : ℕ → Demand → Resident → Desktop → Desktop
 done_for c demand r d = with_kept_move (stacked_for c demand r (all_windows d) d)
 
--- what is asked is done, its client is told, and the focus is settled
-abbrev pub Does : LeftOut → ℕ → Demand → Resident → Desktop → Desktop → Type 0
-Does left c demand r d new =
+-- with its client told of it, which is to end where one of these events wasn't queued
+abbrev pub changed_so : ℕ → Demand → Resident → Desktop → Peer → Option Cause → Moving
+changed_so c demand r d q why =
+    record { desktop = with_client c (Some (with_peer q (changed_for c demand r d))) (done_for c demand r d); struck = struck_by c why [] }
+
+-- what is asked is done, and its client is told
+abbrev pub DoesThen : LeftOut → ℕ → Demand → Resident → Desktop → (Moving → Type 0) → Type 0
+DoesThen left c demand r d Next =
     (q : Peer) × (why : Option Cause)
     × QueuesTo (replies left c demand r (changed_for c demand r d) (all_windows d) d) (changed_for c demand r d).peer q why
-    × EndsAndSettles (unstruck (after_why why c (with_client c (Some (with_peer q (changed_for c demand r d))) (done_for c demand r d)))) new
+    × Next (changed_so c demand r d q why)
 
-abbrev pub WantsOr : Bool → Type 0 → ℕ → Resident → Desktop → Desktop → Type 0
-WantsOr false Later c r d new = Later
-WantsOr true Later c r d new = Becomes (LacksMemory r.peer) c r d new ⊎ Later
+abbrev pub WantsOrThen : Bool → Type 0 → ℕ → Resident → Desktop → (Moving → Type 0) → Type 0
+WantsOrThen false Later c r d Next = Later
+WantsOrThen true Later c r d Next = BecomesThen (LacksMemory r.peer) c r d Next ⊎ Later
 
 -- A message is done, or refused.
-abbrev pub Answers : LeftOut → Result Demand Refusal → ℕ → Resident → Desktop → Desktop → Type 0
-Answers left (Ok demand) c r d new = WantsOr (wants_memory demand) (Does left c demand (with_peer (counted r.peer) r) d new) c (with_peer (counted r.peer) r) d new
-Answers left (Err refusal) c r d new = Becomes (Errs refusal r.peer) c r d new
+abbrev pub AnswersThen : LeftOut → Result Demand Refusal → ℕ → Resident → Desktop → (Moving → Type 0) → Type 0
+AnswersThen left (Ok demand) c r d Next =
+    WantsOrThen (wants_memory demand) (DoesThen left c demand (with_peer (counted r.peer) r) d Next) c (with_peer (counted r.peer) r) d Next
+AnswersThen left (Err refusal) c r d Next = BecomesThen (Errs refusal r.peer) c r d Next
 
 -- The first message of what has come is taken. A header whose size isn't allowed is refused as one.
+abbrev pub TakesThen : LeftOut → Split → ℕ → Resident → Desktop → (Moving → Type 0) → Type 0
+TakesThen left (Whole object opcode size) c r d Next =
+    AnswersThen left (judge_all left r object opcode (take (size - 8) (drop 8 r.peer.rest))) c (with_peer (with_rest (drop size r.peer.rest) r.peer) r) d Next
+TakesThen left Bad c r d Next = BecomesThen (Errs (display_error InvalidMethod) r.peer) c r d Next
+TakesThen left More c r d Next = ⊥
+
+-- a client that is there and lives takes one message
+abbrev pub ServesThen : LeftOut → ℕ → Option Resident → Desktop → (Moving → Type 0) → Type 0
+ServesThen left c None d Next = ⊥
+ServesThen left c (Some r) d Next = (r.peer.status ≡ None) × TakesThen left (split_of r.peer.rest) c r d Next
+
+-- ---- then those end that are to, and the focus is settled
+
+-- the client ends where an event of its wasn't queued
+abbrev pub after_why : Option Cause → ℕ → Desktop → Desktop
+after_why why c d = ended_all (struck_by c why []) d
+
+abbrev pub settling : Desktop → Moving → Type 0
+settling new mid = EndsAndSettles mid new
+
+abbrev pub Becomes : (Peer → Type 0) → ℕ → Resident → Desktop → Desktop → Type 0
+Becomes Q c r d new = BecomesThen Q c r d (settling new)
+
+abbrev pub Does : LeftOut → ℕ → Demand → Resident → Desktop → Desktop → Type 0
+Does left c demand r d new = DoesThen left c demand r d (settling new)
+
+abbrev pub WantsOr : Bool → Type 0 → ℕ → Resident → Desktop → Desktop → Type 0
+WantsOr b Later c r d new = WantsOrThen b Later c r d (settling new)
+
+abbrev pub Answers : LeftOut → Result Demand Refusal → ℕ → Resident → Desktop → Desktop → Type 0
+Answers left judged c r d new = AnswersThen left judged c r d (settling new)
+
 abbrev pub Takes : LeftOut → Split → ℕ → Resident → Desktop → Desktop → Type 0
-Takes left (Whole object opcode size) c r d new =
-    Answers left (judge_all left r object opcode (take (size - 8) (drop 8 r.peer.rest))) c (with_peer (with_rest (drop size r.peer.rest) r.peer) r) d new
-Takes left Bad c r d new = Becomes (Errs (display_error InvalidMethod) r.peer) c r d new
-Takes left More c r d new = ⊥
+Takes left split c r d new = TakesThen left split c r d (settling new)
 
 abbrev pub ServesAt : LeftOut → ℕ → Option Resident → Desktop → Desktop → Type 0
-ServesAt left c None d new = ⊥
-ServesAt left c (Some r) d new = (r.peer.status ≡ None) × Takes left (split_of r.peer.rest) c r d new
+ServesAt left c r d new = ServesThen left c r d (settling new)
 
+-- One message of a client.
 abbrev pub Serves : LeftOut → ℕ → Desktop → Desktop → Type 0
 Serves left c d new = ServesAt left c (client_at c d) d new
 
