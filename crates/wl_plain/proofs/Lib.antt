@@ -108,3 +108,5 @@ pub mod OrderlyMessage
 pub mod RunSound
 pub mod WholeRowsConnect
 pub mod WholeRowsDamage
+pub mod Through
+pub mod WholeRowsThrough

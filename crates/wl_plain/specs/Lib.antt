@@ -33,3 +33,4 @@ pub mod XdgPopup
 pub mod XdgShell
 pub mod NoMoreLaws
 pub mod NoMore
+pub mod Through

@@ -1,5 +1,5 @@
 -- What a step applies and marks, by the desktops before it and after it.
-use Rattle.std.specs.Prelude.{ℕ, ℤ, int_le, pos, unsigned_abs, ◌&&◌, Bool, false, Option, Some, None}
+use Rattle.std.specs.Prelude.{ℕ, ℤ, int_le, pos, unsigned_abs, ◌&&◌, ◌||◌, Bool, false, Option, Some, None, List, [], ◌∷◌}
 use Rattle.wl_surface.specs.State.{History, applied, between, damaged_rects, height_of, is_damaged, width_of}
 use Rattle.wl_surface.specs.Surfaces.{history_in}
 use Rattle.wl_plain.specs.Desktop.{Desktop, Showing, owned_in, windows_in}
@@ -32,6 +32,16 @@ marks_at_least_of shown old new x y = at_least old.output.width old.output.heigh
 abbrev pub marks_at_most_of : Showing → Desktop → Desktop → Option (ℕ × ℕ) → ℤ → ℤ → Bool
 marks_at_most_of shown old new raised x y =
     at_most old.output.width old.output.height (applied_between old new) raised (shown old) (shown new) x y
+
+-- What a step marks that leads through these desktops: by its own change at least and at most, where a press raised this toplevel, and then by each
+-- end and each settling.
+abbrev pub marks_at_least_through : Showing → Desktop → List Desktop → ℤ → ℤ → Bool
+marks_at_least_through shown d [] x y = false
+marks_at_least_through shown d (e ∷ es) x y = marks_at_least_of shown d e x y || marks_at_least_through shown e es x y
+
+abbrev pub marks_at_most_through : Showing → Option (ℕ × ℕ) → Desktop → List Desktop → ℤ → ℤ → Bool
+marks_at_most_through shown raised d [] x y = false
+marks_at_most_through shown raised d (e ∷ es) x y = marks_at_most_of shown d e raised x y || marks_at_most_through shown None e es x y
 
 -- of all windows
 abbrev pub marks_at_least : Desktop → Desktop → ℤ → ℤ → Bool

@@ -1,5 +1,5 @@
 -- What may happen to the plain desktop where every request is served but those that are left out.
-use Rattle.std.specs.Prelude.{ℕ, ℤ, pos, zero, suc, ◌≡◌, ◌-◌, ◌==◌, int_lt, Bool, true, false, if◌then◌else◌, is_none, Option, Some, None, Result, Ok, Err, List, [], ◌∷◌, ◌++◌, take, drop, filter, flat_map, ◌⊎◌}
+use Rattle.std.specs.Prelude.{ℕ, ℤ, pos, zero, suc, ◌≡◌, ◌+◌, ◌-◌, ◌==◌, int_lt, Bool, true, false, if◌then◌else◌, is_none, Option, Some, None, Result, Ok, Err, List, [], ◌∷◌, ◌++◌, take, drop, filter, flat_map, ◌⊎◌}
 use Rattle.std.specs.List.{list_any}
 use Rattle.wl_wire.specs.Wire.{Word, split_of}
 use Rattle.wl_proto.specs.declared.interface.Interface.TheVariants.{WlCallback}
@@ -17,13 +17,14 @@ use Rattle.wl_scene.specs.Pointer.{Pointer, Target, is_down, is_press, without_b
 use Rattle.wl_scene.specs.Stacking.{raised}
 use Rattle.wl_scene.specs.Windows.{Place, Window, counting, hit}
 use Rattle.wl_plain.specs.declared.answers.Done.{Done}
+use Rattle.wl_plain.specs.declared.answers.ConnectError.TheVariants.{Full, Memory}
 use Rattle.wl_plain.specs.declared.answers.Done.TheVariants as gave
 use Rattle.wl_plain.specs.declared.answers.Fed.TheVariants.{NoClient}
 use Rattle.wl_plain.specs.declared.answers.Stored.TheVariants as stored
 use Rattle.wl_plain.specs.Changing.{changed_for, frames_of, grab_holder, stacked_for, with_kept_move, without_callbacks}
 use Rattle.wl_plain.specs.Demand.{Demand, Asks, Move}
 use Rattle.wl_plain.specs.Demanding.{judge_all}
-use Rattle.wl_plain.specs.Desktop.{Callback, Desktop, Resident, client_at, with_client}
+use Rattle.wl_plain.specs.Desktop.{Callback, Desktop, Resident, arrival, client_at, with_client}
 use Rattle.wl_plain.specs.Laws.{status_in}
 use Rattle.wl_plain.specs.LeftOut.{LeftOut}
 use Rattle.wl_plain.specs.Pointing.{button_told, has_pointers, motion_told, moved_with}
@@ -138,24 +139,41 @@ abbrev pub IsFedAt : LeftOut → ℕ → List ℕ → Option Resident → Deskto
 IsFedAt left c piece None d done new = (done ≡ gave.Feed NoClient) × (new ≡ d)
 IsFedAt left c piece (Some r) d done new = FeedsAt left c piece r.peer.status r d new × (done ≡ gave.Feed (fed_of (status_in c new)))
 
--- ---- a client goes, is written to, or closed
+-- ---- a client comes, goes, is written to, or closed
+-- Beside what comes then, there is what comes where the focus needn't be settled any more.
 
-abbrev pub LeavesAt : ℕ → Option Resident → Desktop → Done → Desktop → Type 0
-LeavesAt c None d done new = (done ≡ gave.Gone false) × (new ≡ d)
-LeavesAt c (Some r) d done new = (done ≡ gave.Gone (is_none r.peer.status)) × LeavesBy r.peer.status r
+abbrev pub ConnectsThen : Option ℕ → Desktop → Done → (Moving → Type 0) → Type 0
+ConnectsThen None d done Settled = (done ≡ gave.Connect (Err Full)) × Settled (unstruck d)
+ConnectsThen (Some k) d done Settled =
+    ((done ≡ gave.Connect (Err Memory)) × Settled (unstruck d))
+    ⊎ ((done ≡ gave.Connect (Ok (k + 1))) × Settled (unstruck (with_client (k + 1) (Some (arrival d.output)) d)))
+
+abbrev pub LeavesThen : ℕ → Option Resident → Desktop → Done → (Moving → Type 0) → (Moving → Type 0) → Type 0
+LeavesThen c None d done Next Settled = (done ≡ gave.Gone false) × Settled (unstruck d)
+LeavesThen c (Some r) d done Next Settled = (done ≡ gave.Gone (is_none r.peer.status)) × LeavesBy r.peer.status r
   where
     LeavesBy : Option Cause → Resident → Type 0
-    LeavesBy (Some cause) r = new ≡ d
-    LeavesBy None r = EndsAndSettles (unstruck (becomes c r (ended cause.Gone r.peer) d)) new
+    LeavesBy (Some cause) r = Settled (unstruck d)
+    LeavesBy None r = Next (unstruck (becomes c r (ended cause.Gone r.peer) d))
 
 -- the client that is there changes by R, or there is none
-abbrev pub ChangesAt : (Peer → Done → Option Peer → Type 0) → Done → ℕ → Option Resident → Desktop → Done → Desktop → Type 0
-ChangesAt R absent c None d done new = (done ≡ absent) × (new ≡ d)
-ChangesAt R absent c (Some r) d done new = (q : Option Peer) × R r.peer done q × (new ≡ held_so q r)
+abbrev pub ChangesThen : (Peer → Done → Option Peer → Type 0) → Done → ℕ → Option Resident → Desktop → Done → (Moving → Type 0) → Type 0
+ChangesThen R absent c None d done Settled = (done ≡ absent) × Settled (unstruck d)
+ChangesThen R absent c (Some r) d done Settled = (q : Option Peer) × R r.peer done q × Settled (unstruck (held_so q r))
   where
     held_so : Option Peer → Resident → Desktop
     held_so None r = with_client c None d
     held_so (Some q) r = with_client c (Some (with_peer q r)) d
+
+-- those end that are to, and after each the focus is settled
+abbrev pub ending : Desktop → Moving → Type 0
+ending new mid = SettlesEnds mid new
+
+abbrev pub LeavesAt : ℕ → Option Resident → Desktop → Done → Desktop → Type 0
+LeavesAt c r d done new = LeavesThen c r d done (settling new) (ending new)
+
+abbrev pub ChangesAt : (Peer → Done → Option Peer → Type 0) → Done → ℕ → Option Resident → Desktop → Done → Desktop → Type 0
+ChangesAt R absent c r d done new = ChangesThen R absent c r d done (ending new)
 
 -- ---- a frame is shown
 
@@ -182,8 +200,11 @@ TellsFrames time (suc n) c old new =
     (mid : Moving) × Tells (λ r. without_callbacks (callbacks_due r) r) (frames_told time) c old mid × TellsFrames time n (suc c) mid new
 
 -- the clients in rising number
+abbrev pub ShowsThen : ℕ → Desktop → (Moving → Type 0) → Type 0
+ShowsThen time d Next = (told : Moving) × TellsFrames time 32 1 (unstruck d) told × Next told
+
 abbrev pub Shows : ℕ → Desktop → Desktop → Type 0
-Shows time d new = (told : Moving) × TellsFrames time 32 1 (unstruck d) told × EndsAndSettles told new
+Shows time d new = ShowsThen time d (settling new)
 
 -- ---- the pointer moves
 
@@ -209,8 +230,11 @@ abbrev pub MotionSettles : Bool → ℕ → Moving → Moving → Type 0
 MotionSettles true time old new = TellsMotion time old.desktop.pointer.move old.desktop.pointer.focus old new
 MotionSettles false time old new = Settles old new
 
+abbrev pub MovesThen : ℕ → Desktop → (Moving → Type 0) → Type 0
+MovesThen time d Settled = (told : Moving) × MotionSettles (is_settled d) time (unstruck d) told × Settled told
+
 abbrev pub MovesTo : ℕ → Desktop → Desktop → Type 0
-MovesTo time d new = (told : Moving) × MotionSettles (is_settled d) time (unstruck d) told × SettlesEnds told new
+MovesTo time d new = MovesThen time d (ending new)
 
 -- ---- a button
 
@@ -283,30 +307,45 @@ abbrev pub with_release : ℕ → Desktop → Desktop
 with_release button d = record d { pointer = released_to (without_button button d.pointer.buttons) d.pointer }
 
 -- popups are dismissed, the focus is told, and then it is settled
-abbrev pub PressedSo : ℕ → ℕ → Desktop → Desktop → Type 0
-PressedSo time button d new =
+abbrev pub PressedThen : ℕ → ℕ → Desktop → (Moving → Type 0) → Type 0
+PressedThen time button d Settled =
     (dismissed : Moving)
     × Dismisses (grab_holder d) (hit_now d.pointer.place (all_windows d)) (unstruck (with_press button (raised_by (hit_now d.pointer.place (all_windows d)) d))) dismissed
     × (told : Moving) × TellsButton time button true d.pointer.focus dismissed told
-    × (settled : Moving) × Settles told settled × SettlesEnds settled new
+    × (settled : Moving) × Settles told settled × Settled settled
 
-abbrev pub ReleasedSo : ℕ → ℕ → Desktop → Desktop → Type 0
-ReleasedSo time button d new =
+abbrev pub ReleasedThen : ℕ → ℕ → Desktop → (Moving → Type 0) → Type 0
+ReleasedThen time button d Settled =
     (told : Moving) × TellsButton time button false d.pointer.focus (unstruck (with_release button d)) told
-    × (settled : Moving) × Settles told settled × SettlesEnds settled new
+    × (settled : Moving) × Settles told settled × Settled settled
 
 -- a press of a button that is down, one past 16, and a release of one that isn't, do nothing
+abbrev pub PressesThen : Bool → ℕ → ℕ → Desktop → (Moving → Type 0) → Type 0
+PressesThen true time button d Settled = PressedThen time button d Settled
+PressesThen false time button d Settled = Settled (unstruck d)
+
+abbrev pub ReleasesThen : Bool → ℕ → ℕ → Desktop → (Moving → Type 0) → Type 0
+ReleasesThen true time button d Settled = ReleasedThen time button d Settled
+ReleasesThen false time button d Settled = Settled (unstruck d)
+
+abbrev pub ButtonsThen : Bool → ℕ → ℕ → Desktop → (Moving → Type 0) → Type 0
+ButtonsThen true time button d Settled = PressesThen (is_press button d.pointer.buttons) time button d Settled
+ButtonsThen false time button d Settled = ReleasesThen (is_down button d.pointer.buttons) time button d Settled
+
+abbrev pub PressedSo : ℕ → ℕ → Desktop → Desktop → Type 0
+PressedSo time button d new = PressedThen time button d (ending new)
+
+abbrev pub ReleasedSo : ℕ → ℕ → Desktop → Desktop → Type 0
+ReleasedSo time button d new = ReleasedThen time button d (ending new)
+
 abbrev pub PressesIf : Bool → ℕ → ℕ → Desktop → Desktop → Type 0
-PressesIf true time button d new = PressedSo time button d new
-PressesIf false time button d new = new ≡ d
+PressesIf is_new time button d new = PressesThen is_new time button d (ending new)
 
 abbrev pub ReleasesIf : Bool → ℕ → ℕ → Desktop → Desktop → Type 0
-ReleasesIf true time button d new = ReleasedSo time button d new
-ReleasesIf false time button d new = new ≡ d
+ReleasesIf is_held time button d new = ReleasesThen is_held time button d (ending new)
 
 abbrev pub Buttons : Bool → ℕ → ℕ → Desktop → Desktop → Type 0
-Buttons true time button d new = PressesIf (is_press button d.pointer.buttons) time button d new
-Buttons false time button d new = ReleasesIf (is_down button d.pointer.buttons) time button d new
+Buttons pressed time button d new = ButtonsThen pressed time button d (ending new)
 
 -- ---- all of them
 
@@ -325,6 +364,22 @@ Acts left (Leave c) done d new = LeavesAt c (client_at c d) d done new
 Acts left (Tick time) done d new = (done ≡ gave.Tick) × Shows time d new
 Acts left (Send c n) done d new = ChangesAt (IsSent n) (gave.Sent false) c (client_at c d) d done new
 Acts left (Close c) done d new = ChangesAt IsClosed (gave.Close false) c (client_at c d) d done new
+
+-- What happens but a piece, which is the messages that it completes: by itself it leads to the middle of a step; what comes then is said of
+-- those after which the focus is to be settled, and of the others.
+abbrev pub ActsThen : LeftOut → Act → Done → Desktop → (Moving → Type 0) → (Moving → Type 0) → Type 0
+ActsThen left Connect done d Next Settled = ConnectsThen (lowest d.clients) d done Settled
+ActsThen left (Feed c piece) done d Next Settled = ⊥
+ActsThen left (Store c store at bytes) done d Next Settled = ChangesThen (IsStored store at bytes) (gave.Store stored.NoClient) c (client_at c d) d done Settled
+ActsThen left (Leave c) done d Next Settled = LeavesThen c (client_at c d) d done Next Settled
+ActsThen left (Tick time) done d Next Settled = (done ≡ gave.Tick) × ShowsThen time d Next
+ActsThen left (Send c n) done d Next Settled = ChangesThen (IsSent n) (gave.Sent false) c (client_at c d) d done Settled
+ActsThen left (Close c) done d Next Settled = ChangesThen IsClosed (gave.Close false) c (client_at c d) d done Settled
+
+abbrev pub HappensThen : LeftOut → Deed → Desktop → (Moving → Type 0) → (Moving → Type 0) → Type 0
+HappensThen left (Steps act done) d Next Settled = ActsThen left act done d Next Settled
+HappensThen left (Motion time x y) d Next Settled = MovesThen time (pointed (point_in d.output x y) d) Settled
+HappensThen left (Button time button pressed) d Next Settled = ButtonsThen pressed time button d Settled
 
 -- What may happen to the plain desktop. Want of memory is the only choice.
 abbrev pub Happens : LeftOut → Deed → Desktop → Desktop → Type 0

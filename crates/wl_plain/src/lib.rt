@@ -8,6 +8,7 @@ mod answers;
 ghost use Rattle.wl_plain.specs.Laws.{LeastIsMost, ScratchStays, ServedAlone, WindowsAreDistinct};
 ghost use Rattle.wl_plain.specs.Soundness.{EmptyIsSound, RunIsSound, SoundIsDistinct};
 ghost use Rattle.wl_plain.specs.NoMoreLaws.{EmptyHasNoMore, NoMoreStays};
+ghost use Rattle.wl_plain.specs.Through.{HappensLeadsThrough, MessagesLeadThrough};
 ghost use Rattle.wl_plain.specs.WholeLaws.{EndsStay, WholeHappens, WholeOneRun, WholeOnlyRun};
 ghost use Rattle.wl_plain.specs.WholeOthers.{RefusedAlone, WholeOthersStay};
 ghost use Rattle.wl_plain.specs.WholeOwn.{WholeOwnStays};
@@ -94,4 +95,14 @@ pub fn empty_has_no_more()
 /// A step leaves no trace of what isn't served where there was none.
 pub fn no_more_stays()
     ensures { NoMoreStays }
+{}
+
+/// A message leads where it leads through the desktops of its own change, of each end and of each settling of the focus, and these are there.
+pub fn messages_lead_through()
+    ensures { MessagesLeadThrough }
+{}
+
+/// So does whatever else happens but a piece, which is the messages that it completes.
+pub fn happens_leads_through()
+    ensures { HappensLeadsThrough }
 {}

@@ -1,0 +1,91 @@
+-- The desktops that a step leads through: that of its own change, and one after each end and each settling of the focus, the last one last.
+use Rattle.std.specs.Prelude.{ℕ, zero, suc, ◌≡◌, ◌&&◌, Bool, true, false, if◌then◌else◌, Option, Some, None, List, [], ◌∷◌, ◌++◌}
+use Rattle.wl_scene.specs.Pointer.{is_press}
+use Rattle.wl_scene.specs.Stacking.{Standing, is_of}
+use Rattle.wl_scene.specs.Windows.{Window}
+use Rattle.wl_plain.specs.Desktop.{Desktop, client_at}
+use Rattle.wl_plain.specs.LeftOut.{LeftOut}
+use Rattle.wl_plain.specs.Settling.{Moving, Settles, Strike, ended_all, ended_by, unstruck}
+use Rattle.wl_plain.specs.Stacked.{all_windows}
+use Rattle.wl_plain.specs.Whole.{Button, Deed, Happens, HappensThen, Motion, Serves, ServesThen, Steps, hit_now}
+use Rattle.wl_plain.specs.Steps.{Act, Feed}
+use Rattle.wl_plain.specs.declared.answers.Done.{Done}
+
+-- one after each end of these, where they end one after another
+abbrev pub ends_through : List Strike → Desktop → List Desktop
+ends_through [] d = []
+ends_through (s ∷ ss) d = ended_by s d ∷ ends_through ss (ended_by s d)
+
+-- the first that is to end does, and what comes then
+abbrev pub EndsFirstThrough : (Moving → List Desktop → Desktop → Type 0) → List Strike → Desktop → List Desktop → Desktop → Type 0
+EndsFirstThrough Next [] d path new = (path ≡ []) × (new ≡ d)
+EndsFirstThrough Next (s ∷ ss) d path new =
+    (later : List Desktop) × (path ≡ ended_by s d ∷ later) × Next (record { desktop = ended_by s d; struck = ss }) later new
+
+-- after each end the focus is settled again, at most n times
+abbrev pub SettlesAllThrough : ℕ → Moving → List Desktop → Desktop → Type 0
+SettlesAllThrough zero old path new = (path ≡ []) × (new ≡ old.desktop)
+SettlesAllThrough (suc n) old path new =
+    (mid : Moving) × Settles old mid
+    × (later : List Desktop) × (path ≡ mid.desktop ∷ later) × EndsFirstThrough (SettlesAllThrough n) mid.struck mid.desktop later new
+
+-- what comes after a step's own change, which led to the first of these desktops: all that are to end do, and the focus is settled; or it
+-- was settled already
+abbrev pub settling_through : List Desktop → Desktop → Moving → Type 0
+settling_through path new mid =
+    (later : List Desktop) × (path ≡ mid.desktop ∷ ends_through mid.struck mid.desktop ++ later)
+    × SettlesAllThrough 33 (unstruck (ended_all mid.struck mid.desktop)) later new
+
+abbrev pub ending_through : List Desktop → Desktop → Moving → Type 0
+ending_through path new mid =
+    (later : List Desktop) × (path ≡ mid.desktop ∷ later) × EndsFirstThrough (SettlesAllThrough 32) mid.struck mid.desktop later new
+
+-- One message of a client leads from a desktop through these to the last.
+abbrev pub ServesThrough : LeftOut → ℕ → Desktop → List Desktop → Desktop → Type 0
+ServesThrough left c d path new = ServesThen left c (client_at c d) d (settling_through path new)
+
+-- So does whatever else happens but a piece, which is the messages that it completes.
+abbrev pub HappensThrough : LeftOut → Deed → Desktop → List Desktop → Desktop → Type 0
+HappensThrough left deed d path new = HappensThen left deed d (settling_through path new) (ending_through path new)
+
+-- ---- what a press raises
+
+-- a toplevel stands on top of the others
+abbrev pub is_topmost : ℕ → ℕ → List Standing → Bool
+is_topmost client surface [] = false
+is_topmost client surface (s ∷ []) = is_of client surface s
+is_topmost client surface (s ∷ (t ∷ ts)) = is_topmost client surface (t ∷ ts)
+
+abbrev pub raised_from : List Standing → Option Window → Option (ℕ × ℕ)
+raised_from standing None = None
+raised_from standing (Some w) = if is_topmost w.owner.client w.owner.toplevel standing then None else Some (w.owner.client, w.owner.toplevel)
+
+abbrev pub raised_if : Bool → Desktop → Option (ℕ × ℕ)
+raised_if true d = raised_from d.standing (hit_now d.pointer.place (all_windows d))
+raised_if false d = None
+
+-- the toplevel that a press moved up: the one whose tree or popups hold the hit, where it wasn't topmost
+abbrev pub raised_in : Deed → Desktop → Option (ℕ × ℕ)
+raised_in (Steps act done) d = None
+raised_in (Motion time x y) d = None
+raised_in (Button time button pressed) d = raised_if (pressed && is_press button d.pointer.buttons) d
+
+-- ---- laws
+
+-- what happens isn't a piece
+abbrev pub IsSingle : Deed → Type 0
+IsSingle deed = (c : ℕ) (piece : List ℕ) (done : Done) → deed ≡ Steps (Feed c piece) done → ⊥
+
+-- A message leads where it leads with the desktops on the way, and these are there.
+abbrev pub MessagesLeadThrough : Type 0
+MessagesLeadThrough =
+    (left : LeftOut) (c : ℕ) (d new : Desktop)
+    → ((path : List Desktop) → ServesThrough left c d path new → Serves left c d new)
+    × (Serves left c d new → (path : List Desktop) × ServesThrough left c d path new)
+
+-- So does whatever else happens.
+abbrev pub HappensLeadsThrough : Type 0
+HappensLeadsThrough =
+    (left : LeftOut) (deed : Deed) (d new : Desktop)
+    → ((path : List Desktop) → HappensThrough left deed d path new → Happens left deed d new)
+    × (IsSingle deed → Happens left deed d new → (path : List Desktop) × HappensThrough left deed d path new)
