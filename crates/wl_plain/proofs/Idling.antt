@@ -153,7 +153,7 @@ grab-quiet : (b : Bool) (xdg : ℕ) (r : Resident) → ((grabbed b xdg r).peer.s
 grab-quiet true xdg r = (refl, refl)
 grab-quiet false xdg r = (refl, refl)
 
-change-quiet : (c : ℕ) (demand : Demand) (d : Desktop) (r : Resident) → ((changed_for c demand r d).peer.status ≡ r.peer.status) × ((changed_for c demand r d).peer.rest ≡ r.peer.rest)
+pub change-quiet : (c : ℕ) (demand : Demand) (d : Desktop) (r : Resident) → ((changed_for c demand r d).peer.status ≡ r.peer.status) × ((changed_for c demand r d).peer.rest ≡ r.peer.rest)
 change-quiet c (Asks ask) d r = (changed-status ask r, changed-rest ask r)
 change-quiet c (EndSurface id) d r = without-quiet (callbacks_of id r) _
 change-quiet c (AskFrame id version surface) d r = (refl, refl)

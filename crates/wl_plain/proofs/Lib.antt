@@ -2,7 +2,6 @@ pub mod Bounds
 pub mod Rows
 pub mod Toplevels
 pub mod Behind
-pub mod Pieces
 pub mod Places
 pub mod Others
 pub mod Alone
@@ -110,3 +109,8 @@ pub mod WholeRowsConnect
 pub mod WholeRowsDamage
 pub mod Through
 pub mod WholeRowsThrough
+pub mod WholePiecesPlaces
+pub mod WholePiecesChanging
+pub mod WholePiecesSettling
+pub mod WholePiecesServing
+pub mod WholePieces

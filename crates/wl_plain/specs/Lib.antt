@@ -34,3 +34,4 @@ pub mod XdgShell
 pub mod NoMoreLaws
 pub mod NoMore
 pub mod Through
+pub mod AnyPieces

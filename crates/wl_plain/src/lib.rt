@@ -5,6 +5,7 @@
 
 mod answers;
 
+ghost use Rattle.wl_plain.specs.AnyPieces.{AnyPieces};
 ghost use Rattle.wl_plain.specs.Laws.{LeastIsMost, ScratchStays, ServedAlone, WindowsAreDistinct};
 ghost use Rattle.wl_plain.specs.Soundness.{EmptyIsSound, RunIsSound, SoundIsDistinct};
 ghost use Rattle.wl_plain.specs.NoMoreLaws.{EmptyHasNoMore, NoMoreStays};
@@ -80,6 +81,11 @@ pub fn whole_one_run()
 /// A list of deeds has at most one run that meets no want of memory, with its answers.
 pub fn whole_only_run()
     ensures { WholeOnlyRun }
+{}
+
+/// A client's stream may be cut into any pieces: two pieces lead where they lead as one, whatever is left out.
+pub fn any_pieces()
+    ensures { AnyPieces }
 {}
 
 /// A client that ended stays so, for the same cause, until its number is given back.

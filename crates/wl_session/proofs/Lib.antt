@@ -1,4 +1,3 @@
-pub mod Cuts
 pub mod Feeding
 pub mod Kept
 pub mod Others
@@ -8,4 +7,3 @@ pub mod Unmarked
 pub mod StoreWrites
 pub mod Seen
 pub mod Promised
-pub use Rattle.wl_client.proofs.Pieces

@@ -1,19 +1,13 @@
--- Laws of the plain desktop: cutting streams changes nothing, a step of one client leaves every other as it was, and the output stays.
-use Rattle.std.specs.Prelude.{ℕ, ◌≡◌, ◌≢◌, List, ◌++◌, Some}
+-- Laws of the plain desktop: a step of one client leaves every other as it was, and the output stays.
+use Rattle.std.specs.Prelude.{ℕ, ◌≡◌, ◌≢◌, Some}
 use Rattle.wl_plain.specs.Desktop.{Desktop, client_at}
 use Rattle.wl_plain.specs.Laws.{toplevels_of}
 use Rattle.wl_plain.specs.LeftOut.{LeftOut, served_now}
 use Rattle.wl_plain.specs.NoMore.{NoMore}
 use Rattle.wl_plain.specs.declared.answers.Done.{Done}
-use Rattle.wl_plain.specs.Steps.{Act, Feed}
+use Rattle.wl_plain.specs.Steps.{Act}
 use Rattle.wl_plain.specs.Whole.{Deed, Happens, Steps}
 use Rattle.wl_plain.specs.WholeOthers.{client_of}
-
--- Two pieces of a stream, one after the other, lead where they lead as one, where what isn't served has left no trace.
-abbrev pub AnyPieces : Type 0
-AnyPieces =
-    (old mid new : Desktop) (c : ℕ) (a b : List ℕ) (first second : Done) → NoMore old → Happens served_now (Steps (Feed c a) first) old mid
-    → Happens served_now (Steps (Feed c b) second) mid new → Happens served_now (Steps (Feed c (a ++ b)) second) old new
 
 -- A step leaves each client that it isn't of as it was: its status, requests, objects, serials, unsent bytes and rest, what it owns, and the
 -- places and the order of its toplevels; where what isn't served has left no trace.

@@ -1,14 +1,9 @@
 //! Laws of the plain desktop, each the contract of an empty function.
 
-ghost use Rattle.wl_session.specs.Laws.{AnyPieces, OthersStay, OutputStays};
+ghost use Rattle.wl_session.specs.Laws.{OthersStay, OutputStays};
 ghost use Rattle.wl_session.specs.StoreWrites.{PromisesAreEnough, WriteHidesNothing};
 ghost use Rattle.wl_session.specs.Seen.{SeenIsScratch};
 ghost use Rattle.wl_session.specs.Unmarked.{IncrementalIsFromScratch, UnmarkedStays, ViewerSeesScratch};
-
-/// A client's stream may be cut into any pieces: two pieces lead where they lead as one.
-pub fn any_pieces()
-    ensures { AnyPieces }
-{}
 
 /// A step leaves each client that it isn't of as it was, with the places and the order of its toplevels.
 pub fn others_stay()

@@ -1,0 +1,5 @@
+use Rattle.wl_plain.proofs.WholePieces.{any_pieces}
+use Rattle.wl_plain.proofs.any_pieces.Goals as goal
+
+pub returns : goal.returns
+returns c = any_pieces

@@ -1,0 +1,15 @@
+-- A client's stream may be cut anywhere, whatever is left out.
+use Rattle.std.specs.Prelude.{ℕ, List, ◌++◌}
+use Rattle.wl_plain.specs.declared.answers.Done.{Done}
+use Rattle.wl_plain.specs.Desktop.{Desktop}
+use Rattle.wl_plain.specs.LeftOut.{LeftOut}
+use Rattle.wl_plain.specs.Steps.{Feed}
+use Rattle.wl_plain.specs.Whole.{Happens, Steps}
+
+-- Two pieces of a client's stream, one after the other, lead where they lead as one, whatever is left out.
+abbrev pub AnyPieces : Type 0
+AnyPieces =
+    (left : LeftOut) (c : ℕ) (a b : List ℕ) (first second : Done) (old mid new : Desktop)
+    → Happens left (Steps (Feed c a) first) old mid
+    → Happens left (Steps (Feed c b) second) mid new
+    → Happens left (Steps (Feed c (a ++ b)) second) old new
