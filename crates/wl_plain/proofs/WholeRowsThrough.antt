@@ -81,18 +81,18 @@ row_twice-at_once = refl
 
 -- ---- one piece that takes a subsurface of 4 by 4 away and makes it again under the same ids, with another buffer
 
-abbrev without_link : Desktop
+abbrev pub without_link : Desktop
 without_link = asks 1 16 0 [] (sent 1 first)
 
-abbrev without_child : Desktop
+abbrev pub without_child : Desktop
 without_child = asks 1 14 0 [] without_link
 
-abbrev made_again : Desktop
+abbrev pub made_again : Desktop
 made_again =
     commit 1 14 (damage 1 14 (pos 0) (pos 0) (pos 4) (pos 4) (attach 1 14 19 (asks 1 16 1 (Number (pos 4) ∷ Number (pos 4) ∷ [])
     (asks 1 15 1 (Word 16 ∷ Word 14 ∷ Word 6 ∷ []) (create_surface 1 14 without_child)))))
 
-abbrev shown_again : Desktop
+abbrev pub shown_again : Desktop
 shown_again = commit 1 6 made_again
 
 -- its window goes with its wl_subsurface, and comes back with its parent's commit
@@ -115,6 +115,11 @@ row_made_again = refl
 pub row_shown_again : marked 9 made_again shown_again ≡ 16
 unfolding tree applied_tree behaves_synchronised depth descends_from height
 row_shown_again = refl
+
+-- taken as one step, none of that is seen
+pub row_shown_again-at_once : marked 9 (sent 1 first) shown_again ≡ 0
+unfolding tree applied_tree behaves_synchronised depth descends_from height
+row_shown_again-at_once = refl
 
 -- ---- a commit that grows a window from 8 by 8 to 16 by 16, of which the release of the old buffer isn't queued
 
