@@ -184,7 +184,7 @@ frames-back time (suc n) c d new only h =
     let same : h.0 ≡ unstruck d = told-none time c (client_at c d) d h.0 refl (only.each c) h.1 in
     frames-back time n (suc c) d new only (subst (λ (m : Moving). TellsFrames time n (suc c) m new) same h.2)
 
-shows-back : (time : ℕ) (d new : Desktop) → NoMore d → Shows time d new → new ≡ d
+pub shows-back : (time : ℕ) (d new : Desktop) → NoMore d → Shows time d new → new ≡ d
 shows-back time d new only h =
     settled-back d new only.pointer (subst (λ (m : Moving). EndsAndSettles m new) (frames-back time 32 1 d h.0 only h.1) h.2)
 

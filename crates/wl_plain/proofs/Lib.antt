@@ -114,3 +114,4 @@ pub mod WholePiecesChanging
 pub mod WholePiecesSettling
 pub mod WholePiecesServing
 pub mod WholePieces
+pub mod BridgeLeft

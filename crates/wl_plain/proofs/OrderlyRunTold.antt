@@ -234,7 +234,7 @@ module _ (frames : Frames) where
     where
       times : (times : List (List Said)) (r q : Resident) → IsToldTimes times r q → StaysOrderly r q
       times [] r q h tops known = rw h known
-      times (events ∷ more) r q h tops known = times more (told_once events r) q h.1 tops (once events r tops known)
+      times (events ∷ more) r q h tops known = times more (told_once events r) q h.2 tops (once events r tops known)
 
       living : (r : Resident) (now : Option Resident) → IsLeftLiving r (toplevels_of c old) now (toplevels_of c new) → IsOrderlyAt (Some r) (toplevels_of c old) → IsOrderlyAt now (toplevels_of c new)
       living r None h known = absurd h

@@ -1,20 +1,15 @@
--- What a piece of a client's leaves to the others.
+-- What a change of one client leaves to the others.
 use Rattle.std.proofs.Common.{◌≡◌, ◌≢◌, ℕ, zero, suc, List, [], ◌∷◌, ◌++◌, Bool, true, false, Option, Some, None, Result, refl, ap, sym, ◌∙◌, inl, inr}
 use Rattle.std.specs.Prelude.{Ok, Err, ◌==◌, ◌&&◌, not, cond, filter}
 use Rattle.std.proofs.lemmas.Bool.{eqb-true}
-use Rattle.wl_wire.specs.Wire.{split_of}
-use Rattle.wl_wire.specs.declared.header.Split.{Split}
-use Rattle.wl_wire.specs.declared.header.Split.TheVariants.{Message, More, Bad}
 use Rattle.wl_client.specs.declared.clients.Cause.{Cause}
-use Rattle.wl_client.specs.declared.clients.Cause.TheVariants.{Memory}
-use Rattle.wl_client.specs.Peer.{Peer, LacksMemory, ended, with_rest}
+use Rattle.wl_client.specs.Peer.{Peer}
 use Rattle.wl_shell.specs.Shell.{Effect, Stays, Unconfigured, Configures, Maps, Unmaps}
 use Rattle.wl_scene.specs.Stacking.{Standing, is_of, with_mapped}
 use Rattle.wl_plain.specs.Ask.{Ask, Own, CreateSurface, DestroySurface, AskSurface, CommitSurface, DestroyBase, GetXdgSurface, DestroyXdgSurface, GetToplevel, Acknowledge, ConfigureAgain, DestroyToplevel, Ignore}
 use Rattle.wl_plain.specs.Desktop.{Desktop, Resident, become, become_by, client_at, client_in}
 use Rattle.wl_plain.specs.Laws.{toplevels_of}
-use Rattle.wl_plain.specs.Served.{Unserved}
-use Rattle.wl_plain.specs.Step.{Answers, Becomes, FeedsAt, Reaches, ServesAt, StopsAt, Takes, WantsOr, changed_by, stacked, takes_memory}
+use Rattle.wl_plain.specs.Step.{stacked}
 use Rattle.wl_plain.proofs.Places.{other-become, stacked-clients}
 
 abbrev of : ℕ → List Standing → List Standing
@@ -94,57 +89,12 @@ left-then other old mid new h k = (k.0 ∙ h.0, k.1 ∙ h.1)
 pub become-left : (c other : ℕ) (r : Resident) (q : Peer) (d : Desktop) → c ≢ other → IsLeft other d (become c r q d)
 become-left c other r q d differ = (other-become c other r q d differ, become-others-by q.status c other r q d differ)
 
-becomes-left : (Q : Peer → Type 0) (c other : ℕ) (r : Resident) (d new : Desktop) → c ≢ other → Becomes Q c r d new → IsLeft other d new
-becomes-left Q c other r d new differ h =
-    let left = become-left c other r h.0 d differ in
-    (ap (λ (x : Desktop). client_at other x) h.2 ∙ left.0, ap (λ (x : Desktop). toplevels_of other x) h.2 ∙ left.1)
-
 pub stacked-left : (c other : ℕ) (ask : Ask) (r : Resident) (d : Desktop) → c ≢ other → IsLeft other d (stacked c ask r d)
 stacked-left c other ask r d differ =
     (ap (λ (clients : List (Option Resident)). client_in clients other) (stacked-clients c ask r d), stacked-others c other ask r d differ)
 
-wants-left : (b : Bool) (Q : Peer → Type 0) (ask : Ask) (c other : ℕ) (r : Resident) (d new : Desktop) → c ≢ other → WantsOr b (Becomes Q c (changed_by ask r) (stacked c ask r d) new) c r d new → IsLeft other d new
-wants-left false Q ask c other r d new differ h =
-    left-then other d (stacked c ask r d) new (stacked-left c other ask r d differ) (becomes-left Q c other (changed_by ask r) (stacked c ask r d) new differ h)
-wants-left true Q ask c other r d new differ (inl h) = becomes-left (LacksMemory r.peer) c other r d new differ h
-wants-left true Q ask c other r d new differ (inr h) =
-    left-then other d (stacked c ask r d) new (stacked-left c other ask r d differ) (becomes-left Q c other (changed_by ask r) (stacked c ask r d) new differ h)
-
-answers-left : (judged : Result Ask _) (c other : ℕ) (r : Resident) (d new : Desktop) → c ≢ other → Answers judged c r d new → IsLeft other d new
-answers-left (Ok ask) c other r d new differ h = wants-left (takes_memory ask) _ ask c other _ d new differ h
-answers-left (Err refusal) c other r d new differ h = becomes-left _ c other r d new differ h
-
-takes-left : (unserved : Unserved) (s : Split) (c other : ℕ) (r : Resident) (d new : Desktop) → c ≢ other → Takes unserved s c r d new → IsLeft other d new
-takes-left unserved (Message object opcode size) c other r d new differ h = answers-left _ c other _ d new differ h
-takes-left unserved Bad c other r d new differ h = becomes-left _ c other r d new differ h
-takes-left unserved More c other r d new differ h = absurd h
-
-serves-left : (unserved : Unserved) (c other : ℕ) (o : Option Resident) (d new : Desktop) → c ≢ other → ServesAt unserved c o d new → IsLeft other d new
-serves-left unserved c other None d new differ h = absurd h
-serves-left unserved c other (Some r) d new differ h = takes-left unserved (split_of r.peer.rest) c other r d new differ h.1
-
-reaches-left : (unserved : Unserved) (c other n : ℕ) (d new : Desktop) → c ≢ other → Reaches unserved c n d new → IsLeft other d new
-reaches-left unserved c other zero d new differ h = (ap (λ (x : Desktop). client_at other x) h, ap (λ (x : Desktop). toplevels_of other x) h)
-reaches-left unserved c other (suc n) d new differ h =
-    left-then other d h.0 new (reaches-left unserved c other n d h.0 differ h.1) (serves-left unserved c other (client_at c h.0) h.0 new differ h.2)
-
 pub same-left : (other : ℕ) (d new : Desktop) → new ≡ d → IsLeft other d new
 same-left other d new e = (ap (λ (x : Desktop). client_at other x) e, ap (λ (x : Desktop). toplevels_of other x) e)
-
-stops-left : (c other : ℕ) (o : Option Resident) (mid new : Desktop) → c ≢ other → StopsAt c o mid new → IsLeft other mid new
-stops-left c other None mid new differ h = absurd h
-stops-left c other (Some r) mid new differ (inl h) = same-left other mid new h.0
-stops-left c other (Some r) mid new differ (inr h) =
-    let gone : Peer = ended Memory r.peer in
-    left-then other mid (become c r gone mid) new (become-left c other r gone mid differ) (same-left other (become c r gone mid) new h.1)
-
-pub feeds-left : (unserved : Unserved) (c other : ℕ) (piece : List ℕ) (s : Option Cause) (r : Resident) (old new : Desktop) → c ≢ other → FeedsAt unserved c piece s r old new → IsLeft other old new
-feeds-left unserved c other piece (Some cause) r old new differ h = same-left other old new h
-feeds-left unserved c other piece None r old new differ h =
-    let come : Peer = with_rest (r.peer.rest ++ piece) r.peer in
-    let start = become c r come old in
-    left-then other old start new (become-left c other r come old differ)
-    (left-then other start h.1 new (reaches-left unserved c other h.0 start h.1 differ h.2) (stops-left c other (client_at c h.1) h.1 new differ h.3))
 
 -- ---- the output stays
 

@@ -264,7 +264,7 @@ told-once events r = own-then r (drawing true r) (told_once events r) (own-drawn
 
 told-times : (times : List (List Said)) (r q : Resident) → IsToldTimes times r q → HasItsOwn r q
 told-times [] r q h = rw h (own-same r)
-told-times (events ∷ times) r q h = own-then r (told_once events r) q (told-once events r) (told-times times (told_once events r) q h.1)
+told-times (events ∷ times) r q h = own-then r (told_once events r) q (told-once events r) (told-times times (told_once events r) q h.2)
 
 limit-of : (cause : Cause) (r : Resident) → IsNotQueued cause r → (cause ≡ Slow) ⊎ (cause ≡ Memory)
 limit-of cause r h = at (has_room r.peer.unsent h.1) h.3

@@ -76,11 +76,11 @@ abbrev pub ToldSo : Resident → Resident → Option Cause → Type 0
 ToldSo r q why = IsToldOfFocus r q × Unqueued why q.pointers q.peer.unsent
 
 -- with a serial, or of nothing
-drawn-told : (b : Bool) (events : List Said) (r : Resident) (q : Peer) (why : Option Cause) → AreOfFocus r.pointers r.peer.serial events → (b ≡ false → events ≡ []) → QueuesTo events (drawing b r).peer q why → ToldSo r (record (drawing b r) { peer = q }) why
-drawn-told true events r q why f none h =
+drawn-told : (b : Bool) (events : List Said) (r : Resident) (q : Peer) (why : Option Cause) → AreOfFocus r.pointers r.peer.serial events → (b ≡ true → has_pointers r ≡ true) → (b ≡ false → events ≡ []) → QueuesTo events (drawing b r).peer q why → ToldSo r (record (drawing b r) { peer = q }) why
+drawn-told true events r q why f has none h =
     let k = queued-to r.pointers r.peer.serial events (drawing true r).peer q why f h in
-    ((k.0 ∷ [], (k.1, ap (λ (p : Peer). record r { peer = p }) k.2)), k.3)
-drawn-told false events r q why f none h =
+    ((k.0 ∷ [], (has refl, k.1, ap (λ (p : Peer). record r { peer = p }) k.2)), k.3)
+drawn-told false events r q why f has none h =
     let k : QueuesTo [] r.peer q why = rw (none refl) at h in
     (([], ap (λ (p : Peer). record r { peer = p }) k.0), unqueued-so r.pointers r.peer q why None k.0 k.1 tt)
 
@@ -144,12 +144,16 @@ pub record TellsFocus (T : Resident → Resident → Option Cause → Type 0) : 
   pub leave : (surface : ℕ) → TellsBy T (leave_drawn surface) (left_surface surface)
   pub enter : (at : Option Place) (w : Option Window) → TellsBy T told_drawn (entered_surface at w)
 
+both-of : (a b : Bool) → (a && b) ≡ true → b ≡ true
+both-of true b e = e
+both-of false b e = absurd (cc)
+
 pub told-focus : TellsFocus ToldSo
 told-focus = record {
   leave = λ surface r q why h.
-      drawn-told (is_some (history_in surface r.owned.surfaces) && has_pointers r) (left_surface surface r) r q why (left-focus surface r) (left-none surface r) h;
+      drawn-told (is_some (history_in surface r.owned.surfaces) && has_pointers r) (left_surface surface r) r q why (left-focus surface r) (both-of (is_some (history_in surface r.owned.surfaces)) (has_pointers r)) (left-none surface r) h;
   enter = λ at w r q why h.
-      drawn-told (has_pointers r) (entered_surface at w r) r q why (entered-focus at w r) (λ none. unless_pointers (λ pointer. entered_at pointer r.peer.serial at w) r none) h;
+      drawn-told (has_pointers r) (entered_surface at w r) r q why (entered-focus at w r) (λ has. has) (λ none. unless_pointers (λ pointer. entered_at pointer r.peer.serial at w) r none) h;
 }
 
 -- ---- told again
@@ -159,7 +163,19 @@ told-none r = ([], refl)
 
 told-times : (times more : List (List Said)) (r p q : Resident) → IsToldTimes times r p → IsToldTimes more p q → IsToldTimes (times ++ more) r q
 told-times [] more r p q h k = rw h at k
-told-times (events ∷ times) more r p q h k = (h.0, told-times times more (told_once events r) p q h.1 k)
+told-times (events ∷ times) more r p q h k = (h.0, h.1, told-times times more (told_once events r) p q h.2 k)
 
 pub told-then : (r p q : Resident) → IsToldOfFocus r p → IsToldOfFocus p q → IsToldOfFocus r q
 told-then r p q h k = (h.0 ++ k.0, told-times h.0 k.0 r p q h.1 k.1)
+
+-- ---- a client without wl_pointers
+
+pointless : (r : Resident) → r.pointers ≡ [] → has_pointers r ≡ true → ⊥
+pointless r none e = absurd (cc (rw none at e))
+
+pub told-nothing : (r q : Resident) → r.pointers ≡ [] → IsToldOfFocus r q → q ≡ r
+told-nothing r q none h = at h.0 h.1
+  where
+    at : (times : List (List Said)) → IsToldTimes times r q → q ≡ r
+    at [] k = k
+    at (events ∷ times) k = absurd (pointless r none k.0)

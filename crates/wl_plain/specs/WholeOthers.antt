@@ -20,6 +20,7 @@ use Rattle.wl_plain.specs.Demanding.{judge_all}
 use Rattle.wl_plain.specs.Desktop.{Desktop, Resident, client_at, resident_of}
 use Rattle.wl_plain.specs.Laws.{toplevels_of}
 use Rattle.wl_plain.specs.LeftOut.{LeftOut}
+use Rattle.wl_plain.specs.Pointing.{has_pointers}
 use Rattle.wl_plain.specs.Popups.{is_among}
 use Rattle.wl_plain.specs.Step.{with_peer}
 use Rattle.wl_plain.specs.Steps.{Act, Connect, Feed, Store, Leave, Tick, Send, Close}
@@ -46,10 +47,10 @@ abbrev pub told_once : List Said → Resident → Resident
 told_once events r =
     with_peer (record r.peer { unsent = r.peer.unsent ++ flat_map said_bytes events; serial = next_serial r.peer.serial }) r
 
--- The focus came and went, and each time a client was told so with its next serial; it is else as it was.
+-- The focus came and went, and each time a client that has wl_pointers was told so with its next serial; it is else as it was.
 abbrev pub IsToldTimes : List (List Said) → Resident → Resident → Type 0
 IsToldTimes [] r q = q ≡ r
-IsToldTimes (events ∷ times) r q = AreOfFocus r.pointers r.peer.serial events × IsToldTimes times (told_once events r) q
+IsToldTimes (events ∷ times) r q = (has_pointers r ≡ true) × AreOfFocus r.pointers r.peer.serial events × IsToldTimes times (told_once events r) q
 
 abbrev pub IsToldOfFocus : Resident → Resident → Type 0
 IsToldOfFocus r q = (times : List (List Said)) × IsToldTimes times r q

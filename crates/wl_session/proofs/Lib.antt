@@ -1,6 +1,5 @@
 pub mod Feeding
 pub mod Kept
-pub mod Others
 pub mod Reported
 pub mod Runs
 pub mod Unmarked

@@ -1,5 +1,5 @@
-use Rattle.wl_session.proofs.Others.{others_stay}
+use Rattle.wl_plain.proofs.BridgeLeft.{others-same}
 use Rattle.wl_session.proofs.laws.others_stay.Goals as goal
 
 pub returns : goal.returns
-returns c = others_stay
+returns c = others-same
