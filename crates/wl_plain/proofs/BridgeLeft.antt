@@ -1,5 +1,5 @@
 -- A client that has no wl_pointers, and is left alone, is as it was.
-use Rattle.std.proofs.Common.{◌≡◌, ◌≢◌, ℕ, ◌+◌, List, [], Bool, true, false, Option, Some, None, refl, ap, subst, sym, ◌∙◌, inl, inr}
+use Rattle.std.proofs.Common.{◌≡◌, ◌≢◌, ℕ, ◌+◌, List, [], true, Option, Some, None, refl, ap, sym, ◌∙◌, inl, inr}
 use Rattle.wl_client.specs.declared.clients.Cause.{Cause}
 use Rattle.wl_scene.specs.Stacking.{Standing}
 use Rattle.wl_plain.specs.declared.answers.Done.{Done}
@@ -12,7 +12,6 @@ use Rattle.wl_plain.specs.Steps.{Act, Connect, Feed, Store, Leave, Tick, Send, C
 use Rattle.wl_plain.specs.Whole.{Happens, Steps}
 use Rattle.wl_plain.specs.WholeOthers.{HasEndedUntold, IsLeftAlone, IsLeftBy, IsLeftLiving, IsLeftSo, client_of}
 use Rattle.wl_plain.proofs.BridgeBack.{shows-back}
-use Rattle.wl_plain.proofs.BridgeServes.{living}
 use Rattle.wl_plain.proofs.OwningKeys.{none-some}
 use Rattle.wl_plain.proofs.WholeOthers.{whole_others_stay}
 use Rattle.wl_plain.proofs.WholeOthersTold.{told-nothing}

@@ -29,7 +29,7 @@ use Rattle.wl_plain.specs.Settling.{EndsAndSettles, QueuesTo, after_status, beco
 use Rattle.wl_plain.specs.Stacked.{all_windows}
 use Rattle.wl_plain.specs.Step.{Answers, Becomes, Serves, ServesAt, Takes, WantsOr, answers_to, changed_by, effect_on, judge, stacked, takes_memory, toplevel_given, with_peer}
 use Rattle.wl_plain.specs.NoMore.{AreToplevels, NoMore, IsToplevel, OwnsToplevelsAt, OwnsToplevelsBy, OwnsToplevelsOnly}
-use Rattle.wl_plain.specs.Whole.{after_why, done_for, wants_memory, Answers as WholeAnswers, Becomes as WholeBecomes, Does, Serves as WholeServes, ServesAt as WholeServesAt, Takes as WholeTakes, WantsOr as WholeWantsOr}
+use Rattle.wl_plain.specs.Whole.{after_why, done_for, Answers as WholeAnswers, Becomes as WholeBecomes, Does, Serves as WholeServes, ServesAt as WholeServesAt, Takes as WholeTakes, WantsOr as WholeWantsOr}
 use Rattle.wl_plain.proofs.Behind.{changed-status}
 use Rattle.wl_plain.proofs.BridgeBuffers.{nothing-after}
 use Rattle.wl_plain.proofs.BridgeChanged.{answers-same, changed-same, no-popups, stacked-same, stage-top, wants-same}

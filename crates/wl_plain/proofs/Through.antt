@@ -1,5 +1,5 @@
 -- What happens leads through the desktops of its own change, of each end and of each settling, and where it leads otherwise.
-use Rattle.std.proofs.Common.{◌≡◌, ℕ, zero, suc, ◌-◌, List, [], ◌∷◌, ◌++◌, Bool, true, false, Option, Some, None, Result, drop, take, refl, inl, inr}
+use Rattle.std.proofs.Common.{◌≡◌, ℕ, zero, suc, List, [], ◌∷◌, ◌++◌, Bool, true, false, Option, Some, None, Result, refl, inl, inr}
 use Rattle.std.specs.Prelude.{Ok, Err}
 use Rattle.wl_wire.specs.Wire.{split_of}
 use Rattle.wl_wire.specs.declared.header.Split.{Split}
@@ -7,19 +7,17 @@ use Rattle.wl_wire.specs.declared.header.Split.TheVariants.{Message, More, Bad}
 use Rattle.wl_client.specs.declared.clients.Cause.{Cause}
 use Rattle.wl_client.specs.declared.clients.Cause.TheVariants.{Gone}
 use Rattle.wl_client.specs.declared.refusals.Refusal.{Refusal}
-use Rattle.wl_client.specs.Peer.{LacksMemory, Peer, counted, ended, with_rest}
+use Rattle.wl_client.specs.Peer.{LacksMemory, Peer, counted, ended}
 use Rattle.wl_scene.specs.Pointer.{is_down, is_press}
 use Rattle.wl_plain.specs.declared.answers.Done.{Done}
-use Rattle.wl_plain.specs.Changing.{changed_for}
 use Rattle.wl_plain.specs.Demand.{Demand}
-use Rattle.wl_plain.specs.Demanding.{judge_all}
-use Rattle.wl_plain.specs.Desktop.{Desktop, Resident, arrival, client_at, with_client}
+use Rattle.wl_plain.specs.Desktop.{Desktop, Resident, client_at}
 use Rattle.wl_plain.specs.LeftOut.{LeftOut}
 use Rattle.wl_plain.specs.Settling.{EndsFirst, Moving, SettlesAll, Strike, becomes, ended_all, ended_by, unstruck}
 use Rattle.wl_plain.specs.Step.{with_peer}
 use Rattle.wl_plain.specs.Steps.{Connect, Feed, Store, Leave, Tick, Send, Close, ConnectsAt, lowest}
-use Rattle.wl_plain.specs.Through.{EndsFirstThrough, HappensLeadsThrough, HappensThrough, IsSingle, MessagesLeadThrough, ServesThrough, SettlesAllThrough, ending_through, ends_through, settling_through}
-use Rattle.wl_plain.specs.Whole.{AnswersThen, BecomesThen, Button, ButtonsThen, ChangesThen, ConnectsThen, Deed, DoesThen, Happens, HappensThen, LeavesThen, Motion, PressesThen, ReleasesThen, ServesThen, Steps, TakesThen, WantsOrThen, changed_so, ending, point_in, pointed, settling, wants_memory}
+use Rattle.wl_plain.specs.Through.{EndsFirstThrough, HappensLeadsThrough, IsSingle, MessagesLeadThrough, SettlesAllThrough, ending_through, ends_through, settling_through}
+use Rattle.wl_plain.specs.Whole.{AnswersThen, BecomesThen, Button, ChangesThen, ConnectsThen, Deed, DoesThen, Happens, HappensThen, LeavesThen, Motion, PressesThen, ReleasesThen, ServesThen, Steps, TakesThen, WantsOrThen, changed_so, ending, settling, wants_memory}
 
 -- ---- a step's own change leads to one desktop in its middle, whatever comes then
 

@@ -1,7 +1,5 @@
 -- Worked recording: all numbers of clients are given, and one is given again.
 use Rattle.std.proofs.Common.{◌≡◌, ℕ, zero, suc, ◌+◌, List, [], ◌∷◌, Option, Some, None, refl}
-use Rattle.std.specs.Prelude.{◌-◌}
-use Rattle.wl_client.specs.Told.{Output}
 use Rattle.wl_plain.specs.Ample.{acted}
 use Rattle.wl_plain.specs.Desktop.{Desktop, empty}
 use Rattle.wl_plain.specs.LeftOut.{nothing_left_out}

@@ -1,13 +1,12 @@
 -- Worked recordings that tell a message from a piece, and a step's own change from its ends, computed on the definitions.
-use Rattle.std.proofs.Common.{◌≡◌, ℕ, zero, suc, ◌+◌, List, [], ◌∷◌, ◌++◌, Bool, true, false, Option, Some, None, refl, cond}
-use Rattle.std.specs.Prelude.{ℤ, pos, replicate}
+use Rattle.std.proofs.Common.{◌≡◌, ℕ, zero, suc, ◌+◌, List, [], ◌∷◌, ◌++◌, Bool, true, Option, Some, None, refl, cond}
+use Rattle.std.specs.Prelude.{pos, replicate}
 use Rattle.wl_wire.specs.Wire.{Word, Number}
 use Rattle.wl_client.specs.declared.clients.Cause.TheVariants.{Slow}
-use Rattle.wl_geom.specs.declared.rect.Rect.{Rect}
 use Rattle.wl_surface.specs.Request.{Damage, Request}
 use Rattle.wl_surface.specs.Surfaces.{with_change}
 use Rattle.wl_surface.specs.Trees.{applied_tree, behaves_synchronised, depth, descends_from, height}
-use Rattle.wl_scene.specs.Windows.{Window, tree}
+use Rattle.wl_scene.specs.Windows.{tree}
 use Rattle.wl_plain.specs.Changing.{changed_for}
 use Rattle.wl_plain.specs.Demand.{CommitTree}
 use Rattle.wl_plain.specs.Desktop.{Desktop, Resident, client_at, with_client}

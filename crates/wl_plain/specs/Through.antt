@@ -8,7 +8,7 @@ use Rattle.wl_plain.specs.LeftOut.{LeftOut}
 use Rattle.wl_plain.specs.Settling.{Moving, Settles, Strike, ended_all, ended_by, unstruck}
 use Rattle.wl_plain.specs.Stacked.{all_windows}
 use Rattle.wl_plain.specs.Whole.{Button, Deed, Happens, HappensThen, Motion, Serves, ServesThen, Steps, hit_now}
-use Rattle.wl_plain.specs.Steps.{Act, Feed}
+use Rattle.wl_plain.specs.Steps.{Feed}
 use Rattle.wl_plain.specs.declared.answers.Done.{Done}
 
 -- one after each end of these, where they end one after another
