@@ -2,7 +2,7 @@
 
 use crate::pools::BUFFERS;
 use crate::support::{
-    Case, Fault, Message, Pixel, REGISTRY, Row, bytes_of, is_pixel, play_after, play_all,
+    CONFIG, Case, Fault, Message, Pixel, REGISTRY, Row, bytes_of, is_pixel, play_after, play_in,
 };
 use crate::toplevels::{
     ACKNOWLEDGES, ATTACH_NONE, COMMIT, CONFIGURED, CONFIGURES, GLOBALS, MADE, MAPS,
@@ -364,7 +364,20 @@ const FIRST_ENDED: &[&[Row]] = &[OTHER_STAYS];
 
 /// Plays parts after both windows are there.
 fn play_two(alloc: Global, parts: &[&[Row]]) -> Result<(), Fault> {
-    play_all(alloc, &[START, TWO, parts])
+    match Session::new(alloc, CONFIG) {
+        Ok(mut session) => play_after_two(alloc, &mut session, parts),
+        Err(_) => Err(Fault::NoSession),
+    }
+}
+
+fn play_after_two(
+    alloc: Global,
+    session: &mut Session<Global>,
+    parts: &[&[Row]],
+) -> Result<(), Fault> {
+    play_in(alloc, session, START)?;
+    play_in(alloc, session, TWO)?;
+    play_in(alloc, session, parts)
 }
 
 /// The parts of a session before the client 2 has the only window.

@@ -366,7 +366,11 @@ fn first_missed(alloc: Global, session: &mut Session<Global>, rows: &[Row]) -> O
 }
 
 /// Plays the parts of a case in a session.
-fn play_in(alloc: Global, session: &mut Session<Global>, parts: &[&[Row]]) -> Result<(), Fault> {
+pub(crate) fn play_in(
+    alloc: Global,
+    session: &mut Session<Global>,
+    parts: &[&[Row]],
+) -> Result<(), Fault> {
     for (part, rows) in parts.iter().enumerate() {
         if let Some(place) = first_missed(alloc, session, rows) {
             return Err(Fault::Row(part, place));
@@ -378,33 +382,30 @@ fn play_in(alloc: Global, session: &mut Session<Global>, parts: &[&[Row]]) -> Re
 /// A case: its name, and the parts of rows that are played in turn in a session of its own.
 pub(crate) type Case<'a> = (&'a str, &'a [&'a [Row<'a>]]);
 
-/// Plays groups of parts, one after another, in a new session.
-pub(crate) fn play_all(alloc: Global, groups: &[&[&[Row]]]) -> Result<(), Fault> {
+/// Plays the parts of a case after those that it shares with others.
+pub(crate) fn play_after(alloc: Global, first: &[&[Row]], parts: &[&[Row]]) -> Result<(), Fault> {
     match Session::new(alloc, CONFIG) {
-        Ok(mut session) => play_each(alloc, &mut session, groups),
+        Ok(mut session) => play_both(alloc, &mut session, first, parts),
         Err(_) => Err(Fault::NoSession),
     }
 }
 
-fn play_each(
+fn play_both(
     alloc: Global,
     session: &mut Session<Global>,
-    groups: &[&[&[Row]]],
+    first: &[&[Row]],
+    parts: &[&[Row]],
 ) -> Result<(), Fault> {
-    for parts in groups {
-        play_in(alloc, session, parts)?;
-    }
-    Ok(())
-}
-
-/// Plays the parts of a case after those that it shares with others.
-pub(crate) fn play_after(alloc: Global, first: &[&[Row]], parts: &[&[Row]]) -> Result<(), Fault> {
-    play_all(alloc, &[first, parts])
+    play_in(alloc, session, first)?;
+    play_in(alloc, session, parts)
 }
 
 /// Plays the parts of a case.
 pub(crate) fn play(alloc: Global, parts: &[&[Row]]) -> Result<(), Fault> {
-    play_all(alloc, &[parts])
+    match Session::new(alloc, CONFIG) {
+        Ok(mut session) => play_in(alloc, &mut session, parts),
+        Err(_) => Err(Fault::NoSession),
+    }
 }
 
 fn play_row_in(
