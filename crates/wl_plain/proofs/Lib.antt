@@ -8,6 +8,7 @@ pub mod Alone
 pub mod Served
 pub mod Stacks
 pub mod Painted
+pub mod Together
 pub mod Distinct
 pub mod OwningKeys
 pub mod OwningNames
@@ -115,3 +116,7 @@ pub mod WholePiecesSettling
 pub mod WholePiecesServing
 pub mod WholePieces
 pub mod BridgeLeft
+pub mod HappeningsSound
+pub mod ShownWindows
+pub mod Following
+pub mod MarkedThrough

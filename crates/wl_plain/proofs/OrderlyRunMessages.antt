@@ -112,7 +112,7 @@ module _ (frames : Frames) (message : MessageKeeps) (left : LeftOut) (c : ℕ) w
   takes-known Bad r d new found alive known h = becomes-known (Errs (display_error InvalidMethod) r.peer) (λ q errs. erred-ended (display_error InvalidMethod) r.peer q errs) r r d new found h
   takes-known More r d new found alive known h = absurd h
 
-  serves-known : (o : Option Resident) (d new : Desktop) → client_at c d ≡ o → Known c d → ServesAt left c o d new → Known c new
+  pub serves-known : (o : Option Resident) (d new : Desktop) → client_at c d ≡ o → Known c d → ServesAt left c o d new → Known c new
   serves-known None d new found known h = absurd h
   serves-known (Some r) d new found known h = takes-known (split_of r.peer.rest) r d new found h.0 known h.1
 
@@ -122,13 +122,13 @@ module _ (frames : Frames) (message : MessageKeeps) (left : LeftOut) (c : ℕ) w
   reaches-known zero d new known h = known-same c d new h known
   reaches-known (suc n) d new known h = serves-known (client_at c h.0) h.0 new refl (reaches-known n d h.0 known h.1) h.2
 
-  stops-known : (o : Option Resident) (mid new : Desktop) → client_at c mid ≡ o → Known c mid → StopsAt c o mid new → Known c new
+  pub stops-known : (o : Option Resident) (mid new : Desktop) → client_at c mid ≡ o → Known c mid → StopsAt c o mid new → Known c new
   stops-known None mid new found known h = absurd h
   stops-known (Some r) mid new found known (inl h) = known-same c mid new h.0 known
   stops-known (Some r) mid new found known (inr h) = settled frames c (becomes c r (ended Memory r.peer) mid) new (becomes-ended c r r Memory r.peer mid found) h.1
 
   -- another peer of a client that is there
-  with-known : (r : Resident) (q : Peer) (d : Desktop) → client_at c d ≡ Some r → IsOrderlyAt (Some (with_peer q r)) (toplevels_of c d) → Known c (with_client c (Some (with_peer q r)) d)
+  pub with-known : (r : Resident) (q : Peer) (d : Desktop) → client_at c d ≡ Some r → IsOrderlyAt (Some (with_peer q r)) (toplevels_of c d) → Known c (with_client c (Some (with_peer q r)) d)
   with-known r q d found known = known-so c (with_client c (Some (with_peer q r)) d) (Some (with_peer q r)) (toplevels_of c d) (number-same d.clients c (Some (with_peer q r)) r found) refl known
 
   feeds-known : (piece : List ℕ) (s : Option Cause) (r : Resident) (d new : Desktop) → client_at c d ≡ Some r → Known c d → FeedsAt left c piece s r d new → Known c new

@@ -15,7 +15,7 @@ use Rattle.wl_plain.proofs.OrderlyRunTold.{Frames}
 use Rattle.wl_plain.proofs.OrderlySound.{orderly-sound}
 use Rattle.wl_plain.proofs.OrderlyStanding.{standing-dismissed}
 
-frames : Frames
+pub frames : Frames
 frames =
     record {
       objects_same = objects-same;

@@ -114,15 +114,15 @@ all-with (suc n) old new h =
     let k = first-with (SettlesAllThrough n) (SettlesAll n) (all-with n) h.0.struck h.0.desktop new h.2 in
     (h.0.desktop ∷ k.0, (h.0, h.1, k.0, refl, k.1))
 
-settling-without : (path : List Desktop) (new : Desktop) (mid : Moving) → settling_through path new mid → settling new mid
+pub settling-without : (path : List Desktop) (new : Desktop) (mid : Moving) → settling_through path new mid → settling new mid
 settling-without path new mid h = all-without 33 (unstruck (ended_all mid.struck mid.desktop)) h.0 new h.2
 
-settling-with : (new : Desktop) (mid : Moving) → settling new mid → (path : List Desktop) × settling_through path new mid
+pub settling-with : (new : Desktop) (mid : Moving) → settling new mid → (path : List Desktop) × settling_through path new mid
 settling-with new mid h =
     let k = all-with 33 (unstruck (ended_all mid.struck mid.desktop)) new h in
     (mid.desktop ∷ ends_through mid.struck mid.desktop ++ k.0, (k.0, refl, k.1))
 
-ending-without : (path : List Desktop) (new : Desktop) (mid : Moving) → ending_through path new mid → ending new mid
+pub ending-without : (path : List Desktop) (new : Desktop) (mid : Moving) → ending_through path new mid → ending new mid
 ending-without path new mid h = first-without (SettlesAllThrough 32) (SettlesAll 32) (all-without 32) mid.struck mid.desktop h.0 new h.2
 
 ending-with : (new : Desktop) (mid : Moving) → ending new mid → (path : List Desktop) × ending_through path new mid

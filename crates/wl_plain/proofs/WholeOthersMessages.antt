@@ -132,7 +132,7 @@ module _ (out : LeftOut) (c other : ℕ) (differ : c ≢ other) (A : Option Resi
   reaches-in zero d new known h = same-in d new h known
   reaches-in (suc n) d new known h = serves-in (client_at c h.0) h.0 new (reaches-in n d h.0 known h.1) h.2
 
-  stops-in : (o : Option Resident) (mid new : Desktop) → Known mid → StopsAt c o mid new → Known new
+  pub stops-in : (o : Option Resident) (mid new : Desktop) → Known mid → StopsAt c o mid new → Known new
   stops-in None mid new known h = absurd h
   stops-in (Some r) mid new known (inl h) = same-in mid new h.0 known
   stops-in (Some r) mid new known (inr h) =

@@ -50,7 +50,7 @@ status-same (Some cause) c d = refl
 becomes-same : (c : ℕ) (r : Resident) (q : Peer) (d : Desktop) → Same d (becomes c r q d)
 becomes-same c r q d = status-same q.status c (become c r q d) ∙ become-same q.status c r q d
 
-ended-same : (c : ℕ) (cause : Cause) (o : Option Resident) (d : Desktop) → Same d (ended_at c cause o d)
+pub ended-same : (c : ℕ) (cause : Cause) (o : Option Resident) (d : Desktop) → Same d (ended_at c cause o d)
 ended-same c cause None d = refl
 ended-same c cause (Some r) d = becomes-same c r (ended cause r.peer) d
 
@@ -79,7 +79,7 @@ enters-still : (t : Option Target) (windows : List Window) (old new : Moving) �
 enters-still None windows old new h = of-moving old new h
 enters-still (Some t) windows old new h = tells-still _ _ t.client old new h
 
-settles-still : (old new : Moving) → Settles old new → Still old new
+pub settles-still : (old new : Moving) → Settles old new → Still old new
 settles-still old new h = at (is_settled old.desktop) h
   where
     at : (b : Bool) → MovesUnless b (target_now old.desktop) old new → Still old new
@@ -180,7 +180,7 @@ module _ (out : LeftOut) (c : ℕ) where
   takes-same Bad r d new h = became-same _ c r d new h
   takes-same More r d new h = absurd h
 
-  serves-same : (o : Option Resident) (d new : Desktop) → ServesAt out c o d new → Same d new
+  pub serves-same : (o : Option Resident) (d new : Desktop) → ServesAt out c o d new → Same d new
   serves-same None d new h = absurd h
   serves-same (Some r) d new h = takes-same (split_of r.peer.rest) r d new h.1
 
@@ -188,7 +188,7 @@ module _ (out : LeftOut) (c : ℕ) where
   reaches-same zero d new h = of-desktop d new h
   reaches-same (suc n) d new h = serves-same (client_at c h.0) h.0 new h.2 ∙ reaches-same n d h.0 h.1
 
-  stops-same : (o : Option Resident) (d new : Desktop) → StopsAt c o d new → Same d new
+  pub stops-same : (o : Option Resident) (d new : Desktop) → StopsAt c o d new → Same d new
   stops-same None d new h = absurd h
   stops-same (Some r) d new (inl h) = of-desktop d new h.0
   stops-same (Some r) d new (inr h) = settled-same (becomes c r (ended Memory r.peer) d) new h.1 ∙ becomes-same c r (ended Memory r.peer) d

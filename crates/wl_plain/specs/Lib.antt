@@ -34,4 +34,5 @@ pub mod XdgShell
 pub mod NoMoreLaws
 pub mod NoMore
 pub mod Through
+pub mod Happenings
 pub mod AnyPieces

@@ -6,6 +6,7 @@
 mod answers;
 
 ghost use Rattle.wl_plain.specs.AnyPieces.{AnyPieces};
+ghost use Rattle.wl_plain.specs.Happenings.{HappeningsAreSound, MarkedThrough, PieceIsMessages};
 ghost use Rattle.wl_plain.specs.Laws.{LeastIsMost, ScratchStays, ServedAlone, WindowsAreDistinct};
 ghost use Rattle.wl_plain.specs.Soundness.{EmptyIsSound, RunIsSound, SoundIsDistinct};
 ghost use Rattle.wl_plain.specs.NoMoreLaws.{EmptyHasNoMore, NoMoreStays};
@@ -111,4 +112,19 @@ pub fn messages_lead_through()
 /// So does whatever else happens but a piece, which is the messages that it completes.
 pub fn happens_leads_through()
     ensures { HappensLeadsThrough }
+{}
+
+/// A piece of a client's stream is its bytes as they come, and then the messages that they complete, one after another.
+pub fn piece_is_messages()
+    ensures { PieceIsMessages }
+{}
+
+/// Whatever happens, one message at a time, from a desktop without clients on leaves it so that no surface has two windows.
+pub fn happenings_are_sound()
+    ensures { HappeningsAreSound }
+{}
+
+/// What is marked through the desktops of whatever happens holds what is marked from the first to the last of them.
+pub fn marked_through()
+    ensures { MarkedThrough }
 {}

@@ -1,0 +1,71 @@
+-- What happens, one message at a time: each happening leads through the desktops of its own change, of each end and of each settling.
+use Rattle.std.specs.Prelude.{ℕ, ℤ, ◌≡◌, false, Option, Some, None, List, [], ◌∷◌, ◌++◌}
+use Rattle.wl_client.specs.declared.clients.Cause.TheVariants as cause
+use Rattle.wl_client.specs.Peer.{ended, with_rest}
+use Rattle.wl_client.specs.Told.{Output}
+use Rattle.wl_plain.specs.declared.answers.Done.{Done}
+use Rattle.wl_plain.specs.Desktop.{Desktop, Resident, client_at, empty, with_client}
+use Rattle.wl_plain.specs.LeftOut.{LeftOut}
+use Rattle.wl_plain.specs.Marks.{AreDistinct}
+use Rattle.wl_plain.specs.Moments.{marks_at_least_of, marks_at_least_through}
+use Rattle.wl_plain.specs.Settling.{becomes, unstruck}
+use Rattle.wl_plain.specs.Soundness.{IsSound}
+use Rattle.wl_plain.specs.Stacked.{all_windows}
+use Rattle.wl_plain.specs.Step.{with_peer}
+use Rattle.wl_plain.specs.Steps.{Feed}
+use Rattle.wl_plain.specs.Through.{HappensThrough, ServesThrough, settling_through}
+use Rattle.wl_plain.specs.Whole.{Deed, Happens, Steps}
+
+pub data Happening : Type 0 where
+  -- bytes of a client that lives come, and are kept
+  Receive : ℕ → List ℕ → Happening
+  -- the first whole message of what has come of a client is taken
+  Message : ℕ → Happening
+  -- memory is wanting before the next message of a client is taken
+  Starve : ℕ → Happening
+  -- whatever else happens: all but a piece of a client's stream
+  Single : Deed → Happening
+
+abbrev pub ReceivesAt : ℕ → List ℕ → Option Resident → Desktop → List Desktop → Desktop → Type 0
+ReceivesAt c piece None d path new = ⊥
+ReceivesAt c piece (Some r) d path new =
+    (r.peer.status ≡ None) × (new ≡ with_client c (Some (with_peer (with_rest (r.peer.rest ++ piece) r.peer) r)) d) × (path ≡ new ∷ [])
+
+abbrev pub StarvesAt : ℕ → Option Resident → Desktop → List Desktop → Desktop → Type 0
+StarvesAt c None d path new = ⊥
+StarvesAt c (Some r) d path new = (r.peer.status ≡ None) × settling_through path new (unstruck (becomes c r (ended cause.Memory r.peer) d))
+
+-- One happening leads from a desktop through these to the last.
+abbrev pub Leads : LeftOut → Happening → Desktop → List Desktop → Desktop → Type 0
+Leads left (Receive c piece) d path new = ReceivesAt c piece (client_at c d) d path new
+Leads left (Message c) d path new = ServesThrough left c d path new
+Leads left (Starve c) d path new = StarvesAt c (client_at c d) d path new
+Leads left (Single deed) d path new = HappensThrough left deed d path new
+
+-- happenings one after another
+abbrev pub LeadsAll : LeftOut → List Happening → Desktop → Desktop → Type 0
+LeadsAll left [] d new = new ≡ d
+LeadsAll left (h ∷ hs) d new = (path : List Desktop) × (mid : Desktop) × Leads left h d path mid × LeadsAll left hs mid new
+
+-- ---- laws
+
+-- A piece of a client's stream leads where its bytes lead as they come, then the messages that they complete, and want of memory where it was met.
+abbrev pub PieceIsMessages : Type 0
+PieceIsMessages =
+    (left : LeftOut) (c : ℕ) (piece : List ℕ) (done : Done) (d new : Desktop)
+    → Happens left (Steps (Feed c piece) done) d new
+    → (hs : List Happening) × LeadsAll left hs d new
+
+-- From a desktop without clients on, each happening leaves a sound desktop.
+abbrev pub HappeningsAreSound : Type 0
+HappeningsAreSound = (left : LeftOut) (output : Output) (hs : List Happening) (d : Desktop) → LeadsAll left hs (empty output) d → IsSound d
+
+-- What is marked through the desktops of a happening holds what is marked from the first to the last: the ends and settlings that follow a
+-- change hide nothing of it.
+abbrev pub MarkedThrough : Type 0
+MarkedThrough =
+    (left : LeftOut) (h : Happening) (d : Desktop) (path : List Desktop) (new : Desktop) (x y : ℤ)
+    → AreDistinct (all_windows d)
+    → Leads left h d path new
+    → marks_at_least_through all_windows d path x y ≡ false
+    → marks_at_least_of all_windows d new x y ≡ false
