@@ -1,26 +1,31 @@
--- Whoever keeps its promises hides no change: in a store write, and in what the user does, where nothing is asked of anyone.
-use Rattle.std.proofs.Common.{◌≡◌, ℕ, Bool, true, false, List, [], ◌∷◌, Option, Some, None, refl, ap, sym, subst, ◌∙◌, inl, inr}
-use Rattle.std.specs.Prelude.{ℤ, ◌==◌, ◌&&◌, ◌⊎◌, flat_map, nat_lt, not}
-use Rattle.std.specs.List.{list_any}
+-- Whoever keeps its promises hides no change: in a store write, and in what the user does and as bytes come, where nothing is asked of anyone.
+use Rattle.std.proofs.Common.{◌≡◌, ◌≢◌, ◌++◌, ℕ, Bool, true, false, List, [], ◌∷◌, Option, Some, None, refl, ap, sym, subst, ◌∙◌, inl, inr}
+use Rattle.std.specs.Prelude.{◌==◌, ◌&&◌, ◌⊎◌, nat_lt, not}
 use Rattle.wl_store.specs.declared.color.Argb.{Argb}
 use Rattle.wl_client.specs.declared.clients.Cause.{Cause}
+use Rattle.wl_client.specs.Peer.{with_rest}
 use Rattle.wl_surface.specs.Request.{Buffer}
-use Rattle.wl_surface.specs.Surfaces.{Surface, Surfaces}
-use Rattle.wl_scene.specs.Stacking.{Standing, nothing_owned}
-use Rattle.wl_plain.specs.Desktop.{Desktop, Resident, client_at, owned_in, owned_of}
+use Rattle.wl_plain.specs.Desktop.{Desktop, Resident, client_at, owned_of, with_client}
+use Rattle.wl_plain.specs.Happenings.{Message, Receive, ReceivesAt, Single, Starve}
 use Rattle.wl_plain.specs.Laws.{toplevels_of}
 use Rattle.wl_plain.specs.LeftOut.{LeftOut}
 use Rattle.wl_plain.specs.Scratch.{pixel_at}
 use Rattle.wl_plain.specs.Stacked.{all_windows}
+use Rattle.wl_plain.specs.Step.{with_peer}
 use Rattle.wl_plain.specs.Steps.{Connect, Feed, Leave, Send, Close, Store, Tick}
 use Rattle.wl_plain.specs.Whole.{Deed, Happens, Steps as Step, Motion, Button}
 use Rattle.wl_plain.specs.WholeOwn.{KeepsItsOwn, KeepsItsOwnBy, KeepsItsOwnSo, LivesOrEnds, actor_of}
 use Rattle.wl_plain.proofs.OwningKeys.{none-some}
-use Rattle.wl_plain.proofs.Stacks.{Each, and-both, and-right, same-number, unless}
+use Rattle.wl_plain.proofs.Stacks.{Each, and-both, same-number}
+use Rattle.wl_plain.proofs.Places.{number-other, number-same}
+use Rattle.wl_plain.proofs.ShownWindows.{all-shown}
+use Rattle.wl_plain.proofs.Through.{happens_leads_through}
+use Rattle.wl_plain.proofs.WholeOneRunFates.{same-or}
 use Rattle.wl_plain.proofs.WholeOthersOwn.{whole_own_stays}
-use Rattle.wl_session.specs.Promises.{KeepsBuffers, KeepsDamage, busy_in, bytes_by, bytes_in, is_rewritten_at, is_same_color}
+use Rattle.wl_session.specs.Promises.{KeepBut, KeepsBuffers, KeepsDamage, busy_in, bytes_by, bytes_in, is_rewritten_at, is_same_color}
 use Rattle.wl_session.specs.StoreWrites.{PromisesAreEnough}
-use Rattle.wl_session.proofs.StoreWrites.{IsKept, all-shown, any-none, hides-nothing, write_hides_nothing}
+use Rattle.wl_session.specs.Unmarked.{AllDamageBut}
+use Rattle.wl_session.proofs.StoreWrites.{IsKept, any-none, hides-nothing, kept-by, put, write_hides_nothing}
 
 -- ---- stores that stay
 
@@ -85,13 +90,37 @@ user-hides-nothing left deed old new c user h =
     hides-nothing all_windows old new c (all-shown old) (all-shown new)
     (own-kept c old new (whole_own_stays left deed c old new (λ e. none-some c (sym user ∙ e)) h))
 
+-- what is asked of the others is what is wanted
+enough : (left : LeftOut) (liars : ℕ → Bool) (deed : Deed) (old new : Desktop) → Happens left deed old new → KeepBut all_windows liars (Single deed) old new → AllDamageBut all_windows liars old new
+enough left liars (Step (Store client store at bytes) done) old new happens keep = λ c honest. write_hides_nothing left old new client store at c bytes done happens (keep c honest)
+enough left liars (Step (Tick time) done) old new happens keep = λ c honest. (keep c honest).0
+enough left liars (Step Connect done) old new happens keep = keep
+enough left liars (Step (Feed c piece) done) old new happens keep = keep
+enough left liars (Step (Leave c) done) old new happens keep = keep
+enough left liars (Step (Send c n) done) old new happens keep = keep
+enough left liars (Step (Close c) done) old new happens keep = keep
+enough left liars (Motion time x y) old new happens keep = λ c honest. user-hides-nothing left (Motion time x y) old new c refl happens
+enough left liars (Button time button pressed) old new happens keep = λ c honest. user-hides-nothing left (Button time button pressed) old new c refl happens
+
+-- Nor do bytes that come and are kept.
+receive-hides-nothing : (client : ℕ) (piece : List ℕ) (o : Option Resident) (old : Desktop) (path : List Desktop) (new : Desktop) (c : ℕ) → client_at client old ≡ o → ReceivesAt client piece o old path new → KeepsDamage all_windows old new c
+receive-hides-nothing client piece None old path new c there h = absurd h
+receive-hides-nothing client piece (Some r) old path new c there h =
+    let come : Resident = with_peer (with_rest (r.peer.rest ++ piece) r.peer) r in
+    let now : Desktop = with_client client (Some come) old in
+    let kept : IsKept c old now = kept-by c old now (put client c r (with_rest (r.peer.rest ++ piece) r.peer) old (client == c) refl there) (keeps-buffers old now c (stored (same-or client c))) in
+    hides-nothing all_windows old new c (all-shown old) (all-shown new) (subst (λ (d : Desktop). IsKept c old d) (sym h.1) kept)
+  where
+    stored : (client ≡ c) ⊎ (client ≢ c) → (store : ℕ) → bytes_in (with_client client (Some (with_peer (with_rest (r.peer.rest ++ piece) r.peer) r)) old) c store ≡ bytes_in old c store
+    stored (inl same) store =
+        let come : Resident = with_peer (with_rest (r.peer.rest ++ piece) r.peer) r in
+        let own : bytes_in (with_client client (Some come) old) client store ≡ bytes_in old client store =
+        ap (bytes_by store) (number-same old.clients client (Some come) r there) ∙ sym (ap (bytes_by store) there) in
+        subst (λ (n : ℕ). bytes_in (with_client client (Some come) old) n store ≡ bytes_in old n store) same own
+    stored (inr differ) store = ap (bytes_by store) (number-other old.clients client c (Some (with_peer (with_rest (r.peer.rest ++ piece) r.peer) r)) differ)
+
 pub promises_are_enough : PromisesAreEnough
-promises_are_enough left liars (Step (Store client store at bytes) done) old new happens keep = λ c honest. write_hides_nothing left old new client store at c bytes done happens (keep c honest)
-promises_are_enough left liars (Step (Tick time) done) old new happens keep = λ c honest. (keep c honest).0
-promises_are_enough left liars (Step Connect done) old new happens keep = keep
-promises_are_enough left liars (Step (Feed c piece) done) old new happens keep = keep
-promises_are_enough left liars (Step (Leave c) done) old new happens keep = keep
-promises_are_enough left liars (Step (Send c n) done) old new happens keep = keep
-promises_are_enough left liars (Step (Close c) done) old new happens keep = keep
-promises_are_enough left liars (Motion time x y) old new happens keep = λ c honest. user-hides-nothing left (Motion time x y) old new c refl happens
-promises_are_enough left liars (Button time button pressed) old new happens keep = λ c honest. user-hides-nothing left (Button time button pressed) old new c refl happens
+promises_are_enough left liars (Receive client piece) old path new leads keep = λ c honest. receive-hides-nothing client piece (client_at client old) old path new c refl leads
+promises_are_enough left liars (Message client) old path new leads keep = keep
+promises_are_enough left liars (Starve client) old path new leads keep = keep
+promises_are_enough left liars (Single deed) old path new leads keep = enough left liars deed old new ((happens_leads_through left deed old new).0 path leads) keep

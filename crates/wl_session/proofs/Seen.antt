@@ -1,14 +1,15 @@
 -- Whatever happens from a desktop without clients on, a viewer that copies only what each frame painted sees it as it is.
-use Rattle.std.proofs.Common.{◌≡◌, ℕ, Bool, false, List, [], ◌∷◌, refl, ◌∙◌}
+use Rattle.std.proofs.Common.{ℕ, Bool, List, [], ◌∷◌, refl}
 use Rattle.wl_blend.specs.declared.color.Rgb.{Rgb}
 use Rattle.wl_client.specs.Told.{Output}
 use Rattle.wl_plain.specs.LeftOut.{LeftOut}
 use Rattle.wl_plain.specs.Stacked.{all_windows}
+use Rattle.wl_plain.proofs.HappeningsSound.{leads-orderly}
+use Rattle.wl_plain.proofs.MarkedThrough.{leads-output}
 use Rattle.wl_plain.proofs.Orderly.{AreOrderly}
 use Rattle.wl_plain.proofs.OrderlyRun.{empty-orderly}
-use Rattle.wl_plain.proofs.RunSound.{happens-keeps, orderly-is-sound}
+use Rattle.wl_plain.proofs.RunSound.{orderly-is-sound}
 use Rattle.wl_plain.proofs.SoundWindows.{sound_is_distinct}
-use Rattle.wl_plain.proofs.WholeOutput.{happens-output}
 use Rattle.wl_session.specs.Seen.{AreDone, IsDone, SeenIsScratch, first_moment}
 use Rattle.wl_session.specs.Unmarked.{AreHonest, Event, Holds, IsHonest, Moment, Shown, Stepped, after}
 use Rattle.wl_session.proofs.Promised.{promises_are_enough}
@@ -18,16 +19,16 @@ use Rattle.wl_session.proofs.Unmarked.{viewer_sees_scratch}
 module _ (left : LeftOut) (liars : ℕ → Bool) (background : Rgb) where
   honest : (m : Moment) (e : Event) → AreOrderly m.desktop → IsDone left liars m e → IsHonest all_windows liars m e
   honest m (Stepped new damage) known h =
-      let later : AreOrderly new = happens-keeps left h.0 m.desktop new known h.1 in (
-        happens-output left h.0 m.desktop new h.1,
+      let later : AreOrderly new = leads-orderly left h.0 m.desktop h.1 new known h.2 in (
+        leads-output left h.0 m.desktop h.1 new h.2,
         (sound_is_distinct m.desktop (orderly-is-sound m.desktop known), sound_is_distinct new (orderly-is-sound new later)),
-        promises_are_enough left liars h.0 m.desktop new h.1 h.2,
-        h.3,
+        promises_are_enough left liars h.0 m.desktop h.1 new h.2 h.3,
+        h.4,
       )
   honest m Shown known h = tt
 
   stays : (m : Moment) (e : Event) → AreOrderly m.desktop → IsDone left liars m e → AreOrderly (after all_windows background m e).desktop
-  stays m (Stepped new damage) known h = happens-keeps left h.0 m.desktop new known h.1
+  stays m (Stepped new damage) known h = leads-orderly left h.0 m.desktop h.1 new known h.2
   stays m Shown known h = known
 
   all-honest : (m : Moment) (events : List Event) → AreOrderly m.desktop → AreDone left liars background m events → AreHonest all_windows liars background m events

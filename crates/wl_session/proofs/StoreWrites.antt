@@ -1,6 +1,6 @@
 -- A store write that leaves busy buffers alone hides nothing.
-use Rattle.std.proofs.Common.{◌≡◌, ℕ, zero, suc, ◌<◌, Bool, true, false, List, [], ◌∷◌, ◌++◌, Option, Some, None, refl, ap, sym, subst, ◌∙◌, arith, pos, negsuc}
-use Rattle.std.specs.Prelude.{ℤ, ◌-ℤ◌, ◌+ℤ◌, ◌==◌, ◌&&◌, ◌||◌, nat_lt, unsigned_abs, flat_map, find, cond, not, map}
+use Rattle.std.proofs.Common.{◌≡◌, ℕ, ◌<◌, Bool, true, false, List, [], ◌∷◌, ◌++◌, Option, Some, None, refl, ap, sym, subst, ◌∙◌, arith, pos, negsuc}
+use Rattle.std.specs.Prelude.{ℤ, ◌-ℤ◌, ◌==◌, ◌&&◌, ◌||◌, nat_lt, unsigned_abs, flat_map, find, cond, not}
 use Rattle.std.specs.List.{list_any}
 use Rattle.std.specs.Option.{option_map}
 use Rattle.std.proofs.lemmas.Int.{ints}
@@ -9,26 +9,26 @@ use Rattle.wl_store.specs.declared.color.Argb.{Argb}
 use Rattle.wl_store.specs.Transform.{buffer_point, is_turned, transform_of}
 use Rattle.wl_store.specs.declared.transform.Transform.{Transform}
 use Rattle.wl_store.specs.declared.transform.Transform.TheVariants.{Normal, Rotated90, Rotated180, Rotated270, Flipped, Flipped90, Flipped180, Flipped270}
-use Rattle.wl_surface.specs.Request.{Buffer, Member, Itself, Child}
-use Rattle.wl_surface.specs.State.{History, applied, height_of, order, position, width_of}
-use Rattle.wl_surface.specs.Surfaces.{Link, Surface, Surfaces, history_in, link_at, listed}
-use Rattle.wl_scene.specs.Stacking.{Owned, root_of}
-use Rattle.wl_scene.specs.Windows.{Owner, Place, Root, StackedPopup, Window, child_windows, contains, corner_at, counting, member_windows, owner_of, roots_of, shown_windows, surface_windows, tree, window_with, windows, windows_of}
+use Rattle.wl_surface.specs.Request.{Buffer}
+use Rattle.wl_surface.specs.State.{History, applied}
+use Rattle.wl_surface.specs.Surfaces.{Surface, Surfaces, history_in, listed}
+use Rattle.wl_scene.specs.Stacking.{Owned}
+use Rattle.wl_scene.specs.Windows.{Window, contains}
 use Rattle.std.specs.Prelude.{◌⊎◌}
 use Rattle.std.proofs.Common.{inl, inr}
 use Rattle.std.proofs.lemmas.Bool.{eqb-false, eqb-true}
-use Rattle.wl_client.specs.declared.clients.Cause.{Cause}
 use Rattle.wl_client.specs.Peer.{Peer, stored_at}
 use Rattle.wl_scene.specs.Stacking.{nothing_owned}
-use Rattle.wl_plain.specs.Desktop.{Desktop, Resident, Showing, become, client_at, owned_in, owned_of, windows_in, with_client}
-use Rattle.wl_plain.specs.Popups.{stacked_popups}
+use Rattle.wl_plain.specs.Desktop.{Desktop, Resident, Showing, client_at, owned_in, owned_of, with_client}
 use Rattle.wl_plain.specs.Stacked.{all_windows}
 use Rattle.wl_plain.specs.Step.{with_peer}
 use Rattle.wl_plain.specs.Whole.{ChangesAt}
 use Rattle.wl_plain.specs.Scratch.{bytes_now, color_in, pixel_at}
-use Rattle.wl_plain.proofs.Places.{client-become, left_by, number-other, number-same, other-become}
+use Rattle.wl_plain.proofs.Places.{number-other, number-same}
 use Rattle.wl_plain.proofs.Stacks.{Each, Fields, and-left, and-right, differ, each-map, fields, or-left, or-right, unless}
 use Rattle.wl_plain.proofs.Painted.{each-kept}
+use Rattle.wl_plain.proofs.Following.{Owns}
+use Rattle.wl_plain.proofs.ShownWindows.{IsShown, all-shown}
 use Rattle.wl_plain.specs.Marks.{has_same_record}
 use Rattle.wl_plain.specs.declared.answers.Done.{Done}
 use Rattle.wl_plain.specs.declared.answers.Done.TheVariants as gave
@@ -36,66 +36,6 @@ use Rattle.wl_plain.specs.declared.answers.Stored.TheVariants as stored
 use Rattle.wl_session.specs.Promises.{KeepsBuffers, KeepsDamage, busy_of, bytes_by, bytes_in, is_hidden_in, is_rewritten_at, is_same_color, windows_by}
 use Rattle.wl_session.specs.StoreWrites.{WriteHidesNothing}
 use Rattle.wl_plain.specs.Steps.{IsStored}
-
--- ---- each window shows the buffer that its surface has applied
-
-abbrev pub IsShown : (ℕ → Owned) → Window → Type 0
-IsShown owned w =
-    (h : History) × (history_in w.surface (owned w.owner.client).surfaces ≡ Some h) × ((applied h).buffer ≡ Some w.buffer)
-    × (w.width ≡ width_of (Some w.buffer) w.transform) × (w.height ≡ height_of (Some w.buffer) w.transform)
-
-each-append : {X : Type 0} (P : X → Type 0) (xs ys : List X) → Each P xs → Each P ys → Each P (xs ++ ys)
-each-append P [] ys e f = f
-each-append P (x ∷ xs) ys e f = (e.0, each-append P xs ys e.1 f)
-
-each-flat : {X Y : Type 0} (P : Y → Type 0) (f : X → List Y) → ((x : X) → Each P (f x)) → (xs : List X) → Each P (flat_map f xs)
-each-flat P f e [] = tt
-each-flat P f e (x ∷ xs) = each-append P (f x) (flat_map f xs) (e x) (each-flat P f e xs)
-
-shown-window : (owned : ℕ → Owned) (owner : Owner) (surface : ℕ) (corner : Place) (h : History) (buffer : Option Buffer) → history_in surface (owned owner.client).surfaces ≡ Some h → (applied h).buffer ≡ buffer
-    → Each (IsShown owned) (window_with owner surface corner (applied h) buffer)
-shown-window owned owner surface corner h None e f = tt
-shown-window owned owner surface corner h (Some buffer) e f = ((h, e, f, refl, refl), tt)
-
-shown-child : (owned : ℕ → Owned) (next : ℕ → Place → List Window) → ((child : ℕ) (at : Place) → Each (IsShown owned) (next child at)) → (h : History) (corner : Place) (l : ℕ) (link : Option Link) → Each (IsShown owned) (child_windows next h corner l link)
-shown-child owned next e h corner l None = tt
-shown-child owned next e h corner l (Some link) = go link.has_ended where
-  go : (b : Bool) → Each (IsShown owned) (cond b [] (next link.child (record { x = corner.x +ℤ (position l (counting h)).0; y = corner.y +ℤ (position l (counting h)).1 })))
-  go true = tt
-  go false = e link.child _
-
-shown-member : (owned : ℕ → Owned) (next : ℕ → Place → List Window) → ((child : ℕ) (at : Place) → Each (IsShown owned) (next child at)) → (owner : Owner) (surface : ℕ) (h : History) (corner : Place) → history_in surface (owned owner.client).surfaces ≡ Some h
-    → (m : Member) → Each (IsShown owned) (member_windows next owner (owned owner.client).surfaces surface h corner m)
-shown-member owned next e owner surface h corner is Itself = shown-window owned owner surface corner h (applied h).buffer is refl
-shown-member owned next e owner surface h corner is (Child l) = shown-child owned next e h corner l (link_at l (owned owner.client).surfaces)
-
-shown-all : (owned : ℕ → Owned) (next : ℕ → Place → List Window) → ((child : ℕ) (at : Place) → Each (IsShown owned) (next child at)) → (owner : Owner) (surface : ℕ) (h : History) (corner : Place) (buffer : Option Buffer) → history_in surface (owned owner.client).surfaces ≡ Some h
-    → Each (IsShown owned) (shown_windows next owner (owned owner.client).surfaces surface h corner buffer)
-shown-all owned next e owner surface h corner None is = tt
-shown-all owned next e owner surface h corner (Some buffer) is =
-    each-flat (IsShown owned) (member_windows next owner (owned owner.client).surfaces surface h corner) (shown-member owned next e owner surface h corner is) (order (counting h))
-
-shown-surface : (owned : ℕ → Owned) (next : ℕ → Place → List Window) → ((child : ℕ) (at : Place) → Each (IsShown owned) (next child at)) → (owner : Owner) (surface : ℕ) (place : Place) (h : Option History) → history_in surface (owned owner.client).surfaces ≡ h
-    → Each (IsShown owned) (surface_windows next owner (owned owner.client).surfaces surface place h)
-shown-surface owned next e owner surface place None is = tt
-shown-surface owned next e owner surface place (Some h) is = shown-all owned next e owner surface h (corner_at place h) (applied h).buffer is
-
-shown-tree : (levels : ℕ) (owned : ℕ → Owned) (owner : Owner) (surface : ℕ) (place : Place) → Each (IsShown owned) (tree levels owner (owned owner.client).surfaces surface place)
-unfolding tree
-shown-tree zero owned owner surface place = tt
-shown-tree (suc n) owned owner surface place =
-    shown-surface owned (λ child at. tree n owner (owned owner.client).surfaces child at) (λ child at. shown-tree n owned owner child at) owner surface place (history_in surface (owned owner.client).surfaces) refl
-
-shown-roots : (owned : ℕ → Owned) (popups : ℕ → List StackedPopup) (toplevels : List Root) → Each (IsShown owned) (windows (λ client. (owned client).surfaces) popups toplevels)
-shown-roots owned popups toplevels =
-    each-flat (IsShown owned) (windows_of (λ client. (owned client).surfaces) popups)
-    (λ toplevel. each-flat (IsShown owned) (λ (r : Root). tree 17 (owner_of r) (owned r.client).surfaces r.surface r.place)
-    (λ r. shown-tree 17 owned (owner_of r) r.surface r.place)
-    (roots_of (owned toplevel.client).surfaces toplevel (popups toplevel.client)))
-    toplevels
-
-pub all-shown : (d : Desktop) → Each (IsShown (owned_in d)) (all_windows d)
-all-shown d = shown-roots (owned_in d) (λ c. stacked_popups (owned_in d c)) (map (root_of (owned_in d)) d.standing)
 
 -- ---- a point of a window is one of its buffer
 
@@ -116,10 +56,7 @@ far-within at start n (negsuc k) e f = grind (arith, ints)
 
 -- ---- what a client owns after a store write
 
-abbrev Owns : ℕ → Desktop → Desktop → Type 0
-Owns c old new = (owned_in new c ≡ owned_in old c) ⊎ (owned_in new c ≡ nothing_owned)
-
-put : (k c : ℕ) (r : Resident) (q : Peer) (old : Desktop) (same : Bool) → (k == c) ≡ same → client_at k old ≡ Some r → Owns c old (with_client k (Some (with_peer q r)) old)
+pub put : (k c : ℕ) (r : Resident) (q : Peer) (old : Desktop) (same : Bool) → (k == c) ≡ same → client_at k old ≡ Some r → Owns c old (with_client k (Some (with_peer q r)) old)
 put k c r q old true e there =
     let now : owned_in (with_client k (Some (with_peer q r)) old) k ≡ owned_in old k = ap owned_of (number-same old.clients k (Some (with_peer q r)) r there) ∙ sym (ap owned_of there) in
     inl (subst (λ n. owned_in (with_client k (Some (with_peer q r)) old) n ≡ owned_in old n) (eqb-true k c e) now)
@@ -212,7 +149,7 @@ nothing-shown v o h e f = none (subst (λ (a : Owned). history_in v.surface a.su
 abbrev pub IsKept : ℕ → Desktop → Desktop → Type 0
 IsKept c old new = (((owned_in new c).surfaces ≡ (owned_in old c).surfaces) × KeepsBuffers old new c) ⊎ (owned_in new c ≡ nothing_owned)
 
-kept-by : (c : ℕ) (old new : Desktop) → Owns c old new → KeepsBuffers old new c → IsKept c old new
+pub kept-by : (c : ℕ) (old new : Desktop) → Owns c old new → KeepsBuffers old new c → IsKept c old new
 kept-by c old new (inl e) keeps = inl (ap (λ (o : Owned). o.surfaces) e, keeps)
 kept-by c old new (inr e) keeps = inr e
 

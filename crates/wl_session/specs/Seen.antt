@@ -1,19 +1,21 @@
--- Incremental equals from scratch, of whatever happens from a desktop without clients on, where every request is served.
+-- Incremental equals from scratch, of whatever happens from a desktop without clients on, one message at a time, whatever is left out.
 use Rattle.std.specs.Prelude.{ℕ, ℤ, ◌≡◌, Bool, true, false, fold, List, [], ◌∷◌}
 use Rattle.wl_blend.specs.declared.color.Rgb.{Rgb}
 use Rattle.wl_client.specs.Told.{Output}
-use Rattle.wl_plain.specs.Desktop.{empty}
+use Rattle.wl_plain.specs.Desktop.{Desktop, empty}
+use Rattle.wl_plain.specs.Happenings.{Happening, Leads}
 use Rattle.wl_plain.specs.LeftOut.{LeftOut}
 use Rattle.wl_plain.specs.Scratch.{scratch_of}
 use Rattle.wl_plain.specs.Stacked.{all_windows}
-use Rattle.wl_plain.specs.Whole.{Deed, Happens}
 use Rattle.wl_session.specs.Promises.{KeepBut}
 use Rattle.wl_session.specs.Unmarked.{Event, Marks, Moment, Shown, Stepped, after, in_output_of, is_covered, undamaged}
 
--- Something happens, in which each client but these keeps its promises, and what it has to is marked; or a frame is shown.
+-- Something happens, in which each client but these keeps its promises, and what it has to from its first desktop to its last is marked (what is
+-- marked along the desktops on the way holds that: `marked_through` of wl_plain); or a frame is shown.
 abbrev pub IsDone : LeftOut → (ℕ → Bool) → Moment → Event → Type 0
 IsDone left liars m (Stepped new damage) =
-    (deed : Deed) × Happens left deed m.desktop new × KeepBut all_windows liars deed m.desktop new × Marks all_windows m.desktop new m.damage damage
+    (happening : Happening) × (path : List Desktop) × Leads left happening m.desktop path new
+    × KeepBut all_windows liars happening m.desktop new × Marks all_windows m.desktop new m.damage damage
 IsDone left liars m Shown = Unit {0}
 
 abbrev pub AreDone : LeftOut → (ℕ → Bool) → Rgb → Moment → List Event → Type 0

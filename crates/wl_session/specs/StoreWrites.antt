@@ -1,10 +1,11 @@
 -- What the promises of a step are worth, whatever is left out.
 use Rattle.std.specs.Prelude.{ℕ, Bool, List}
 use Rattle.wl_plain.specs.Desktop.{Desktop}
+use Rattle.wl_plain.specs.Happenings.{Happening, Leads}
 use Rattle.wl_plain.specs.LeftOut.{LeftOut}
 use Rattle.wl_plain.specs.Stacked.{all_windows}
 use Rattle.wl_plain.specs.Steps.{Store}
-use Rattle.wl_plain.specs.Whole.{Deed, Happens, Steps}
+use Rattle.wl_plain.specs.Whole.{Happens, Steps}
 use Rattle.wl_plain.specs.declared.answers.Done.{Done}
 use Rattle.wl_session.specs.Promises.{KeepBut, KeepsBuffers, KeepsDamage}
 use Rattle.wl_session.specs.Unmarked.{AllDamageBut}
@@ -17,10 +18,10 @@ WriteHidesNothing =
     → KeepsBuffers old new c
     → KeepsDamage all_windows old new c
 
--- In whatever may happen, whoever keeps its promises hides no change.
+-- In whatever may happen, one message at a time, whoever keeps its promises hides no change.
 abbrev pub PromisesAreEnough : Type 0
 PromisesAreEnough =
-    (left : LeftOut) (liars : ℕ → Bool) (deed : Deed) (old new : Desktop)
-    → Happens left deed old new
-    → KeepBut all_windows liars deed old new
+    (left : LeftOut) (liars : ℕ → Bool) (happening : Happening) (old : Desktop) (path : List Desktop) (new : Desktop)
+    → Leads left happening old path new
+    → KeepBut all_windows liars happening old new
     → AllDamageBut all_windows liars old new

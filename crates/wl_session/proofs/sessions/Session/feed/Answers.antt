@@ -1,4 +1,3 @@
-use Rattle.wl_client.specs.declared.clients.Cause.TheVariants.{Memory}
 use Rattle.wl_desk.specs.Agreeing.{Agrees}
 use Rattle.wl_desk.specs.Feeding.{kept_at}
 use Rattle.wl_session.proofs.Feeding.{fed-lacking-whole, fed-served-whole}
