@@ -15,8 +15,8 @@ use Rattle.wl_scene.specs.declared.owned.Owned.{Owned}
 use Rattle.wl_resident.specs.Agreement.{Matches, IsPlace, IsScene, IsSlot, numbers_in, numbers_of, with_numbers}
 use Rattle.wl_plain.specs.Desktop.{Desktop, Resident, arrival, become, become_by, client_at, empty, place, with_client, with_number}
 use Rattle.wl_resident.specs.Seats.{IsBare, IsChangedSo, IsSeated, ended_by, has_ended_in}
-use Rattle.wl_plain.specs.Served.{beyond_toplevels}
-use Rattle.wl_plain.specs.Step.{Serves}
+use Rattle.wl_plain.specs.LeftOut.{served_now}
+use Rattle.wl_plain.specs.Whole.{Serves}
 use Rattle.wl_plain.specs.Steps.{Changes, ChangesAt, ConnectsAt, IsClosed, closed_by, left_so, lowest, next_of, peer_at, peer_of}
 use Rattle.wl_resident.specs.View.{DeskView, OwnedView, owned_view}
 use Rattle.wl_plain.specs.declared.answers.ConnectError.TheVariants.{Full, Memory}
@@ -113,8 +113,8 @@ module _ {A : Type 0} (output : Output) (us : List (Option ClientView)) (os : Li
 
   -- one message of a client is taken
   pub serves : (v new : Kept A) (x x2 : Option ClientView) (y y2 : Option (Owned A)) (now : Stack) → x ≡ get_or us k x → y ≡ get_or os k y → (x ≡ Some v.client) × (y ≡ Some v.owned)
-      → ((r : Resident) → IsSeated c (numbers_in us) d v stack d r → (e : Desktop) × (q : Resident) × Serves beyond_toplevels c d e × IsSeated c (numbers_in us) d new now e q)
-      → (e : Desktop) × Serves beyond_toplevels c d e × Matches (view_of output (set (set us k x2) k (Some new.client)) (set (set os k y2) k (Some new.owned)) now) e
+      → ((r : Resident) → IsSeated c (numbers_in us) d v stack d r → (e : Desktop) × (q : Resident) × Serves served_now c d e × IsSeated c (numbers_in us) d new now e q)
+      → (e : Desktop) × Serves served_now c d e × Matches (view_of output (set (set us k x2) k (Some new.client)) (set (set os k y2) k (Some new.owned)) now) e
   serves v new x x2 y y2 now e f taken serve =
       let s = out v x y e f taken in
       let n = serve s.0 s.2 in

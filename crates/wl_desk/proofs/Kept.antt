@@ -24,7 +24,11 @@ use Rattle.wl_resident.specs.Marking.{AreUnlinked, Marks}
 use Rattle.wl_resident.specs.Seats.{IsSeated, ended_by}
 use Rattle.wl_plain.specs.Served.{Unserved, beyond_toplevels}
 use Rattle.wl_plain.specs.Step.{Answers, Becomes, Serves, ServesAt, Takes, WantsOr, changed_by, stacked, takes_memory}
+use Rattle.wl_plain.specs.LeftOut.{served_now}
+use Rattle.wl_plain.specs.NoMore.{NoMore}
 use Rattle.wl_plain.specs.Steps.{fed_of, peer_at, status_of}
+use Rattle.wl_plain.specs.Whole.{Serves as WholeServes}
+use Rattle.wl_plain.proofs.BridgeBack.{serves-back}
 use Rattle.wl_resident.specs.View.{DeskView, OwnedView, owned_view}
 use Rattle.wl_resident.specs.declared.residents.Resident.{Resident as Kept}
 use Rattle.wl_desk.proofs.Calls.{IsFound, back, client-there, ended_at, ended_of, out, place-here, place-none, untaken, view_of}
@@ -147,13 +151,13 @@ module _ {A : Type 0} (output : Output) (us : List (Option ClientView)) (os : Li
         },
       )
 
-  pub serves-marks : (v new : Kept A) (x x2 : Option ClientView) (y y2 : Option (Owned A)) (now : Stack) (e : Desktop) (before after : Damaged) → x ≡ get_or us k x → y ≡ get_or os k y → (x ≡ Some v.client) × (y ≡ Some v.owned)
-      → ((r : Resident) → AreUnlinked d → IsSeated c (numbers_in us) d v stack d r → (e : Desktop) (q : Resident) → Serves beyond_toplevels c d e → IsSeated c (numbers_in us) d new now e q → Marks d e before after)
-      → Serves beyond_toplevels c d e → Matches (put-back new x2 y2 now) e → Marks d e before after
-  serves-marks v new x x2 y y2 now e before after f g taken marks serves b =
+  pub serves-marks : (v new : Kept A) (x x2 : Option ClientView) (y y2 : Option (Owned A)) (now : Stack) (e : Desktop) (before after : Damaged) → x ≡ get_or us k x → y ≡ get_or os k y → (x ≡ Some v.client) × (y ≡ Some v.owned) → NoMore d
+      → ((r : Resident) → AreUnlinked d → IsSeated c (numbers_in us) d v stack d r → NoMore d → (e : Desktop) (q : Resident) → WholeServes served_now c d e → IsSeated c (numbers_in us) d new now e q → Marks d e before after)
+      → WholeServes served_now c d e → Matches (put-back new x2 y2 now) e → Marks d e before after
+  serves-marks v new x x2 y y2 now e before after f g taken more marks serves b =
       let s = out output us os stack c k is d a v x y f g taken in
-      let n = seated-new new x2 y2 now e s.0 s.1 serves b in
-      marks s.0 (unlinked (view_of output us os stack) d a) s.2 e n.0 serves n.1
+      let n = seated-new new x2 y2 now e s.0 s.1 (serves-back c d e more serves) b in
+      marks s.0 (unlinked (view_of output us os stack) d a) s.2 more e n.0 serves n.1
 
   -- there was no message
   pub idles : (v new : Kept A) (x x2 : Option ClientView) (y y2 : Option (Owned A)) (now : Stack) → x ≡ get_or us k x → y ≡ get_or os k y → (x ≡ Some v.client) × (y ≡ Some v.owned)

@@ -15,17 +15,17 @@ use Rattle.wl_plain.specs.LeftOut.{served_now}
 use Rattle.wl_plain.specs.NoMore.{NoMore, OwnsToplevelsAt}
 use Rattle.wl_plain.specs.Served.{beyond_toplevels}
 use Rattle.wl_plain.specs.Settling.{EndsAndSettles, becomes, unstruck}
-use Rattle.wl_plain.specs.Step.{Serves, with_peer}
+use Rattle.wl_plain.specs.Step.{with_peer}
 use Rattle.wl_plain.specs.Steps.{Act, Steps}
-use Rattle.wl_plain.specs.Whole.{Happens, Serves as WholeServes, Steps as Stepping}
+use Rattle.wl_plain.specs.Whole.{Happens, Serves, Steps as Stepping}
 use Rattle.wl_desk.specs.Agreeing.{Agrees, Marks, TakesStep}
 use Rattle.wl_desk.specs.Feeding.{Ends, EndsBy, EndsOf, IsIdleIn, kept_at, kept_by, kept_of}
 use Rattle.wl_desk.proofs.Calls.{ended_at, ended_of}
-use Rattle.wl_plain.proofs.BridgeBack.{acts-back, settled-back}
+use Rattle.wl_plain.proofs.BridgeBack.{acts-back, serves-back, settled-back}
 use Rattle.wl_plain.proofs.BridgeDesks.{become-has, empty-has}
 use Rattle.wl_plain.proofs.BridgeLasts.{acts-has}
 use Rattle.wl_plain.proofs.BridgeMessages.{serves-has}
-use Rattle.wl_plain.proofs.BridgeServes.{becomes-same, by-pointer, living, only-peer, serves-whole, settles-to}
+use Rattle.wl_plain.proofs.BridgeServes.{becomes-same, by-pointer, living, only-peer, settles-to}
 use Rattle.wl_plain.proofs.BridgeSteps.{acts-whole, has-put, stays-by}
 use Rattle.wl_plain.proofs.BridgeTouches.{touches_apart}
 use Rattle.wl_plain.proofs.BridgeWindows.{marks-same}
@@ -52,11 +52,11 @@ steps-marked act done v before after small d e a step =
 
 -- ---- a message
 
-pub message-whole : (c : ℕ) (old new : DeskView) → ((d : Desktop) → Matches old d → (e : Desktop) × Serves beyond_toplevels c d e × Matches new e)
-    → (d : Desktop) → Agrees old d → (e : Desktop) × WholeServes served_now c d e × Agrees new e
-message-whole c old new small d a =
-    let h = small d a.matches in
-    (h.0, serves-whole c d h.0 a.no_more h.1, record { matches = h.2; no_more = serves-has touches_apart c d h.0 a.no_more h.1 })
+pub message-whole : (c : ℕ) (old new : DeskView) → ((d : Desktop) → Agrees old d → (e : Desktop) × Serves served_now c d e × Matches new e)
+    → (d : Desktop) → Agrees old d → (e : Desktop) × Serves served_now c d e × Agrees new e
+message-whole c old new taken d a =
+    let h = taken d a in
+    (h.0, h.1, record { matches = h.2; no_more = serves-has touches_apart c d h.0 a.no_more (serves-back c d h.0 a.no_more h.1) })
 
 pub idles-whole : (c : ℕ) (old new : DeskView) → ((d : Desktop) → Matches old d → Matches new d × IsIdleIn c d) → (d : Desktop) → Agrees old d → Agrees new d × IsIdleIn c d
 idles-whole c old new small d a =

@@ -12,8 +12,9 @@ ghost use Rattle.wl_client.specs.Agreement.{IsPeer};
 ghost use Rattle.wl_client.specs.Peer.{IsIdleAt, Peer, stored_at};
 ghost use Rattle.wl_plain.specs.Desktop.{Desktop, Resident as Plain, become};
 ghost use Rattle.wl_resident.specs.Seats.{IsBare, IsChangedSo, IsClearedBy, IsRestacked, IsSeated, IsSettledBy, ended_by};
-ghost use Rattle.wl_plain.specs.Served.{beyond_toplevels};
-ghost use Rattle.wl_plain.specs.Step.{Serves};
+ghost use Rattle.wl_plain.specs.LeftOut.{served_now};
+ghost use Rattle.wl_plain.specs.NoMore.{NoMore};
+ghost use Rattle.wl_plain.specs.Whole.{Serves};
 ghost use Rattle.wl_plain.specs.Steps.{IsLeft, IsSent, IsStored, stored_of};
 
 use crate::marking::{mark_everywhere, touched_by};
@@ -122,10 +123,10 @@ impl<A: Allocator + Copy> Resident<A> {
         client: ClientNo,
         alloc: A,
     ) -> bool
-        ensures serves { result ≡ true → (others : ℕ → ById ℕ) (base d : Desktop) (r : Plain) → IsSeated client others base self.old scene.old d r
-            → (e : Desktop) × (q : Plain) × Serves beyond_toplevels client d e × IsSeated client others base self.new scene.new e q }
-        ensures marks { result ≡ true → (others : ℕ → ById ℕ) (base d : Desktop) (r : Plain) → AreUnlinked base → IsSeated client others base self.old scene.old d r
-            → (e : Desktop) (q : Plain) → Serves beyond_toplevels client d e → IsSeated client others base self.new scene.new e q
+        ensures serves { result ≡ true → (others : ℕ → ById ℕ) (base d : Desktop) (r : Plain) → IsSeated client others base self.old scene.old d r → NoMore d
+            → (e : Desktop) × (q : Plain) × Serves served_now client d e × IsSeated client others base self.new scene.new e q }
+        ensures marks { result ≡ true → (others : ℕ → ById ℕ) (base d : Desktop) (r : Plain) → AreUnlinked base → IsSeated client others base self.old scene.old d r → NoMore d
+            → (e : Desktop) (q : Plain) → Serves served_now client d e → IsSeated client others base self.new scene.new e q
             → Marks d e damage.old damage.new }
         ensures idle { result ≡ false → (self.new ≡ self.old) × (scene.new ≡ scene.old) × (damage.new ≡ damage.old) × IsIdleAt self.old.client.ended self.old.client.rest }
         ensures sides { IsAsLarge damage.old damage.new }

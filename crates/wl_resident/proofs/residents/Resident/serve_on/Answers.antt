@@ -1,6 +1,8 @@
 use Rattle.std.proofs.Common.{refl, sym, ◌∙◌, ◌≡◌, rules}
 use Rattle.wl_wire.specs.Wire.{split_of}
 use Rattle.wl_wire.specs.declared.header.Split.TheVariants.{More}
+use Rattle.wl_plain.proofs.BridgeBack.{serves-back}
+use Rattle.wl_plain.proofs.BridgeServes.{serves-whole}
 use Rattle.wl_resident.proofs.Asking.{idle-more, idle-unmarked}
 use Rattle.wl_resident.proofs.Seats.{large-then}
 use Rattle.wl_resident.proofs.MarkedMessages.{keeps-numbers, message-marks}
@@ -8,8 +10,10 @@ use Rattle.wl_resident.proofs.Taking.{served}
 use Rattle.wl_resident.proofs.residents.Resident.serve_on.Goals as goal
 
 pub returns-clause-serves : goal.returns-clause-serves
-returns-clause-serves g c = λ some others base d r is.
-    served _ others base d r c.in-Some.stacking _ _ _ _ _ is c.in-Some.ensures.lives (c.in-Some.ensures.takes r (record { peer = is.seat.peer; owns = is.seat.owns })) c.settle.ensures.settles
+returns-clause-serves g c = λ some others base d r is more.
+    let takes = c.in-Some.ensures.takes r (record { peer = is.seat.peer; owns = is.seat.owns }) in
+    let s = served c.args.client others base d r c.in-Some.stacking _ _ _ _ _ is c.in-Some.ensures.lives takes c.settle.ensures.settles in
+    (s.0, s.1, serves-whole c.args.client d s.0 more s.2, s.3)
 
 pub returns-clause-sides : goal.returns-clause-sides
 returns-clause-sides g c =
@@ -24,7 +28,7 @@ returns-in_default-clause-idle g c = λ none.
     (idle.0, refl, c.mark_touched.ensures.nothing (c.touched_by-touched.ensures ∙ idle-unmarked v c.asked-asked.result c.asked-asked.ensures more), idle.1)
 
 pub returns-clause-marks : goal.returns-clause-marks
-returns-clause-marks g c = λ some others base d r unlinked before e q serves after.
+returns-clause-marks g c = λ some others base d r unlinked before more e q serves after.
     let old = c.args.self.now in
     let new = c.settle.new.self in
     let was = c.args.scene.now in
@@ -32,7 +36,7 @@ returns-clause-marks g c = λ some others base d r unlinked before e q serves af
     let takes = c.in-Some.ensures.takes r (record { peer = before.seat.peer; owns = before.seat.owns }) in
     let first = c.mark_touched.ensures in
     let second = c.mark_touched-2.ensures in
-    message-marks c.args.client others base d e r q old new was now before after unlinked serves c.asked-asked.result c.asked-asked.ensures
+    message-marks c.args.client others base d e r q old new was now before after unlinked (serves-back c.args.client d e more serves) c.asked-asked.result c.asked-asked.ensures
     (keeps-numbers (split_of r.peer.rest) r c.args.client c.in-Some.stacking old c.serve.new.self new was now takes c.settle.ensures.settles)
     c.touched_by-touched.result c.touched_by-touched.ensures c.args.damage.now c.mark_touched.new.damage c.settle.new.damage c.mark_touched-2.new.damage
     (record { marks = first.marks; more = first.more; sides = first.sides })
