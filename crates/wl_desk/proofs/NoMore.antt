@@ -13,20 +13,20 @@ use Rattle.wl_plain.specs.Desktop.{Desktop, Resident, become, client_at, empty, 
 use Rattle.wl_plain.specs.Laws.{toplevels_of}
 use Rattle.wl_plain.specs.LeftOut.{served_now}
 use Rattle.wl_plain.specs.NoMore.{NoMore, OwnsToplevelsAt}
-use Rattle.wl_plain.specs.Served.{beyond_toplevels}
 use Rattle.wl_plain.specs.Settling.{EndsAndSettles, becomes, unstruck}
 use Rattle.wl_plain.specs.Step.{with_peer}
-use Rattle.wl_plain.specs.Steps.{Act, Steps}
+use Rattle.wl_plain.specs.Steps.{Act}
 use Rattle.wl_plain.specs.Whole.{Happens, Serves, Steps as Stepping}
 use Rattle.wl_desk.specs.Agreeing.{Agrees, Marks, TakesStep}
 use Rattle.wl_desk.specs.Feeding.{Ends, EndsBy, EndsOf, IsIdleIn, kept_at, kept_by, kept_of}
 use Rattle.wl_desk.proofs.Calls.{ended_at, ended_of}
-use Rattle.wl_plain.proofs.BridgeBack.{acts-back, serves-back, settled-back}
+use Rattle.wl_plain.proofs.Altering.{Alters, IsCall}
+use Rattle.wl_plain.proofs.BridgeBack.{alters-back, serves-back, settled-back}
 use Rattle.wl_plain.proofs.BridgeDesks.{become-has, empty-has}
 use Rattle.wl_plain.proofs.BridgeLasts.{acts-has}
 use Rattle.wl_plain.proofs.BridgeMessages.{serves-has}
 use Rattle.wl_plain.proofs.BridgeServes.{becomes-same, by-pointer, living, only-peer, settles-to}
-use Rattle.wl_plain.proofs.BridgeSteps.{acts-whole, has-put, stays-by}
+use Rattle.wl_plain.proofs.BridgeSteps.{alters-whole, has-put, stays-by}
 use Rattle.wl_plain.proofs.BridgeTouches.{touches_apart}
 use Rattle.wl_plain.proofs.BridgeWindows.{marks-same}
 use Rattle.wl_plain.proofs.OwningKeys.{none-some}
@@ -39,16 +39,16 @@ marks-all d e old new more later marks = λ x y wide high clean.
 
 -- ---- a step
 
-pub steps-whole : (act : Act) (done : Done) (old new : DeskView) → ((d : Desktop) → Matches old d → (e : Desktop) × Steps beyond_toplevels d act done e × Matches new e) → TakesStep act done old new
+pub steps-whole : (act : Act) (done : Done) (old new : DeskView) → ((d : Desktop) → Matches old d → (e : Desktop) × Alters act done d e × Matches new e) → TakesStep act done old new
 steps-whole act done old new small = λ d a.
     let h = small d a.matches in
-    (h.0, acts-whole (serves-has touches_apart) act d h.0 done a.no_more h.1, record { matches = h.2; no_more = acts-has act d h.0 done a.no_more h.1 })
+    let step = alters-whole act d h.0 done a.no_more h.1 in
+    (h.0, step, record { matches = h.2; no_more = acts-has act d h.0 done a.no_more step })
 
-pub steps-marked : (act : Act) (done : Done) (v : DeskView) (before after : Damaged) → ((d e : Desktop) → Matches v d → Steps beyond_toplevels d act done e → MarksToplevels d e before after)
+pub steps-marked : (act : Act) → IsCall act → (done : Done) (v : DeskView) (before after : Damaged) → ((d e : Desktop) → Matches v d → Alters act done d e → MarksToplevels d e before after)
     → (d e : Desktop) → Agrees v d → Happens served_now (Stepping act done) d e → Marks d e before after
-steps-marked act done v before after small d e a step =
-    let back = acts-back (serves-has touches_apart) act d e done a.no_more step in
-    marks-all d e before after a.no_more (acts-has act d e done a.no_more back) (small d e a.matches back)
+steps-marked act call done v before after small d e a step =
+    marks-all d e before after a.no_more (acts-has act d e done a.no_more step) (small d e a.matches (alters-back act call d e done a.no_more step))
 
 -- ---- a message
 

@@ -1,5 +1,5 @@
 -- What happens to clients that have no more than toplevels is what happens where no more is served.
-use Rattle.std.proofs.Common.{◌≡◌, ℕ, zero, suc, ◌-◌, List, [], ◌∷◌, ◌++◌, Bool, true, false, Option, Some, None, Result, drop, take, refl, ap, subst, sym, ◌∙◌, inl, inr}
+use Rattle.std.proofs.Common.{◌≡◌, ℕ, zero, suc, ◌-◌, List, [], ◌∷◌, Bool, true, false, Option, Some, None, Result, drop, take, refl, ap, subst, sym, ◌∙◌, inl, inr}
 use Rattle.std.specs.Prelude.{Ok, Err}
 use Rattle.wl_wire.specs.Wire.{split_of}
 use Rattle.wl_wire.specs.declared.header.Split.{Split}
@@ -16,7 +16,7 @@ use Rattle.wl_plain.specs.Ask.{Ask}
 use Rattle.wl_plain.specs.Changing.{without_callbacks}
 use Rattle.wl_plain.specs.Demand.{Demand}
 use Rattle.wl_plain.specs.Demanding.{judge_all}
-use Rattle.wl_plain.specs.Desktop.{Desktop, Resident, become, become_by, client_at, client_in, with_client}
+use Rattle.wl_plain.specs.Desktop.{Desktop, Resident, become, client_at, client_in, with_client}
 use Rattle.wl_plain.specs.Laws.{toplevels_of}
 use Rattle.wl_plain.specs.LeftOut.{served_now}
 use Rattle.wl_plain.specs.NoMore.{NoMore, OwnsToplevelsAt, OwnsToplevelsBy, OwnsToplevelsOnly}
@@ -24,14 +24,15 @@ use Rattle.wl_plain.specs.Replies.{replies}
 use Rattle.wl_plain.specs.Served.{beyond_toplevels}
 use Rattle.wl_plain.specs.Settling.{EndsAndSettles, EndsFirst, Moving, QueuesFirst, QueuesTo, SettlesAll, TellsAt, becomes, struck_by, unstruck}
 use Rattle.wl_plain.specs.Stacked.{all_windows}
-use Rattle.wl_plain.specs.Step.{Answers, Becomes, FeedsAt, Reaches, Serves, ServesAt, StopsAt, Takes, WantsOr, answers_to, changed_by, judge, stacked, takes_memory, with_peer}
-use Rattle.wl_plain.specs.Steps.{ChangesAt, IsClosed, IsFedAt, IsLeft, IsSent, IsStored, Act, Connect, Feed, Store, Leave, Tick, Send, Close, Steps}
-use Rattle.wl_plain.specs.Whole.{Acts, after_why, callbacks_due, done_for, frames_told, Answers as WholeAnswers, Becomes as WholeBecomes, ChangesAt as WholeChangesAt, Does, FeedsAt as WholeFeedsAt, IsFedAt as WholeIsFedAt, LeavesAt, Reaches as WholeReaches, Serves as WholeServes, ServesAt as WholeServesAt, Shows, StopsAt as WholeStopsAt, Takes as WholeTakes, TellsFrames, WantsOr as WholeWantsOr}
+use Rattle.wl_plain.specs.Step.{Answers, Becomes, Serves, ServesAt, Takes, WantsOr, answers_to, changed_by, judge, stacked, takes_memory, with_peer}
+use Rattle.wl_plain.specs.Steps.{IsClosed, IsLeft, IsSent, IsStored, Act, Connect, Feed, Store, Leave, Tick, Send, Close}
+use Rattle.wl_plain.specs.Whole.{Acts, after_why, callbacks_due, done_for, frames_told, Answers as WholeAnswers, Becomes as WholeBecomes, ChangesAt as WholeChangesAt, Does, LeavesAt, Serves as WholeServes, ServesAt as WholeServesAt, Shows, Takes as WholeTakes, TellsFrames, WantsOr as WholeWantsOr}
+use Rattle.wl_plain.proofs.Altering.{Alters, ChangesAt, IsCall}
 use Rattle.wl_plain.proofs.Behind.{changed-status}
 use Rattle.wl_plain.proofs.BridgeChanged.{changed-same, wants-same}
 use Rattle.wl_plain.proofs.BridgeJudged.{Pairs, Same, judge-pair}
 use Rattle.wl_plain.proofs.BridgeServes.{IsDone, after-same, becomes-same, by-pointer, done-same, ended_why, living, only-peer, pairs-peer, replies-same, same-peer, stacked-pointer, tops-kept}
-use Rattle.wl_plain.proofs.BridgeSteps.{Leaves, closed-leaves, has-put, left-held, sent-leaves, stays-by, stored-leaves}
+use Rattle.wl_plain.proofs.BridgeSteps.{Leaves, closed-leaves, left-held, sent-leaves, stays-by, stored-leaves}
 use Rattle.wl_plain.proofs.Places.{client-kept, stacked-clients}
 use Rattle.wl_plain.proofs.WholeOneRun.{held}
 
@@ -188,53 +189,14 @@ pub shows-back : (time : ℕ) (d new : Desktop) → NoMore d → Shows time d ne
 shows-back time d new only h =
     settled-back d new only.pointer (subst (λ (m : Moving). EndsAndSettles m new) (frames-back time 32 1 d h.0 only h.1) h.2)
 
--- ---- a piece
+-- ---- a call
 
-stops-back : (c : ℕ) (o : Option Resident) (d new : Desktop) → NoMore d → WholeStopsAt c o d new → StopsAt c o d new
-stops-back c None d new only h = h
-stops-back c (Some r) d new only (inl h) = inl h
-stops-back c (Some r) d new only (inr h) =
-    let gone : Peer = ended Memory r.peer in
-    let same = becomes-same c r gone d only.pointer in
-    inr (h.0, settled-back (becomes c r gone d) new (ap (λ (e : Desktop). e.pointer) same ∙ only.pointer) h.1 ∙ same)
-
-module _ (keeps : (c : ℕ) (d e : Desktop) → NoMore d → Serves beyond_toplevels c d e → NoMore e) where
-  -- messages, which leave no more than toplevels
-  pub reaches-back : (n c : ℕ) (d e : Desktop) → NoMore d → WholeReaches served_now c n d e → Reaches beyond_toplevels c n d e × NoMore e
-  reaches-back zero c d e only h = (h, subst NoMore (sym h) only)
-  reaches-back (suc n) c d e only h =
-      let before = reaches-back n c d h.0 only h.1 in
-      let last = serves-back c h.0 e before.1 h.2 in
-      ((h.0, before.0, last), keeps c h.0 e before.1 last)
-
-  feeds-back : (s : Option Cause) (c : ℕ) (piece : List ℕ) (r : Resident) (d e : Desktop) → r.peer.status ≡ s → client_at c d ≡ Some r → NoMore d → WholeFeedsAt served_now c piece s r d e → FeedsAt beyond_toplevels c piece s r d e
-  feeds-back (Some cause) c piece r d e status is only h = h
-  feeds-back None c piece r d e alive is only h =
-      let come : Peer = with_rest (r.peer.rest ++ piece) r.peer in
-      let start : Desktop = with_client c (Some (with_peer come r)) d in
-      let begins : become c r come d ≡ start = ap (λ s. become_by s c r come d) alive in
-      let owns : OwnsToplevelsOnly r = living r.peer.status r (toplevels_of c d) alive (subst (λ o. OwnsToplevelsAt o (toplevels_of c d)) is (only.each c)) in
-      let come_owns : OwnsToplevelsBy r.peer.status (with_peer come r) (toplevels_of c d) =
-      subst (λ s. OwnsToplevelsBy s (with_peer come r) (toplevels_of c d)) (sym alive) (only-peer r come refl owns) in
-      let has : NoMore start = has-put c (with_peer come r) r d is come_owns only in
-      let reached = reaches-back h.0 c start h.1 has h.2 in (
-        h.0,
-        h.1,
-        subst (λ x. Reaches beyond_toplevels c h.0 x h.1) (sym begins) reached.0,
-        stops-back c (client_at c h.1) h.1 e reached.1 h.3,
-      )
-
-  fed-back : (c : ℕ) (piece : List ℕ) (o : Option Resident) (d : Desktop) (done : Done) (e : Desktop) → client_at c d ≡ o → NoMore d → WholeIsFedAt served_now c piece o d done e → IsFedAt beyond_toplevels c piece o d done e
-  fed-back c piece None d done e is only h = h
-  fed-back c piece (Some r) d done e is only h = (feeds-back r.peer.status c piece r d e refl is only h.0, h.1)
-
-  -- every step
-  pub acts-back : (act : Act) (d e : Desktop) (done : Done) → NoMore d → Acts served_now act done d e → Steps beyond_toplevels d act done e
-  acts-back Connect d e done only h = h
-  acts-back (Feed c piece) d e done only h = fed-back c piece (client_at c d) d done e refl only h
-  acts-back (Store c store at bytes) d e done only h =
-      changes-back (IsStored store at bytes) (stored-leaves store at bytes) _ done c (client_at c d) d e (only.each c) h
-  acts-back (Leave c) d e done only h = leaves-back c (client_at c d) d e done only.pointer refl (only.each c) h
-  acts-back (Tick time) d e done only h = (h.0, shows-back time d e only h.1)
-  acts-back (Send c n) d e done only h = changes-back (IsSent n) (sent-leaves n) _ done c (client_at c d) d e (only.each c) h
-  acts-back (Close c) d e done only h = changes-back IsClosed closed-leaves _ done c (client_at c d) d e (only.each c) h
+pub alters-back : (act : Act) → IsCall act → (d e : Desktop) (done : Done) → NoMore d → Acts served_now act done d e → Alters act done d e
+alters-back Connect call d e done only h = h
+alters-back (Feed c piece) call d e done only h = absurd call
+alters-back (Store c store at bytes) call d e done only h =
+    changes-back (IsStored store at bytes) (stored-leaves store at bytes) _ done c (client_at c d) d e (only.each c) h
+alters-back (Leave c) call d e done only h = leaves-back c (client_at c d) d e done only.pointer refl (only.each c) h
+alters-back (Tick time) call d e done only h = absurd call
+alters-back (Send c n) call d e done only h = changes-back (IsSent n) (sent-leaves n) _ done c (client_at c d) d e (only.each c) h
+alters-back (Close c) call d e done only h = changes-back IsClosed closed-leaves _ done c (client_at c d) d e (only.each c) h

@@ -10,15 +10,20 @@ use Rattle.wl_client.specs.Peer.{Peer, ended, left_by, sent_by, stored_at, store
 use Rattle.wl_client.specs.Told.{Output}
 use Rattle.wl_scene.specs.Stacking.{Standing, without_client}
 use Rattle.wl_plain.specs.declared.answers.Done.{Done}
-use Rattle.wl_plain.specs.Desktop.{Desktop, Resident, arrival, become, client_at, client_in, place, with_number, with_place}
+use Rattle.wl_plain.specs.Desktop.{Desktop, Resident, arrival, become, client_at, client_in, place, with_client, with_number, with_place}
 use Rattle.wl_plain.specs.Laws.{toplevels_of}
-use Rattle.wl_plain.specs.Served.{beyond_toplevels}
-use Rattle.wl_plain.specs.Step.{FeedsAt, Reaches, StopsAt}
-use Rattle.wl_plain.specs.Steps.{ChangesAt, ConnectsAt, IsClosed, IsFedAt, IsLeft, IsSent, IsStored, Act, Connect, Feed, Store, Leave, Tick, Send, Close, Steps, closed_by, left_so, lowest}
-use Rattle.wl_plain.specs.NoMore.{NoMore, OwnsToplevelsAt, OwnsToplevelsOnly}
+use Rattle.wl_plain.specs.LeftOut.{served_now}
+use Rattle.wl_plain.specs.Settling.{becomes}
+use Rattle.wl_plain.specs.Step.{with_peer}
+use Rattle.wl_plain.specs.Steps.{ConnectsAt, IsClosed, IsLeft, IsSent, IsStored, Act, Connect, Feed, Store, Leave, Tick, Send, Close, closed_by, lowest}
+use Rattle.wl_plain.specs.NoMore.{NoMore, OwnsToplevelsAt, OwnsToplevelsBy, OwnsToplevelsOnly}
+use Rattle.wl_plain.specs.Whole.{Acts, FeedsAt, IsFedAt, Reaches, StopsAt}
+use Rattle.wl_plain.proofs.Altering.{ChangesAt, left_so}
+use Rattle.wl_plain.proofs.BridgeBack.{alters-back, serves-back, settled-back, shows-back}
 use Rattle.wl_plain.proofs.BridgeDesks.{become-has}
 use Rattle.wl_plain.proofs.BridgeMessages.{serves-has}
-use Rattle.wl_plain.proofs.BridgeServes.{living, only-peer}
+use Rattle.wl_plain.proofs.BridgeServes.{becomes-same, living, only-peer}
+use Rattle.wl_plain.proofs.BridgeSteps.{has-put}
 use Rattle.wl_plain.proofs.BridgeTouches.{touches_apart}
 use Rattle.wl_plain.proofs.OwningKeys.{none-some, some-same}
 use Rattle.wl_plain.proofs.Others.{left_out, one_client}
@@ -134,35 +139,43 @@ left-keeps p done q h x e alive =
 
 -- ---- a piece
 
-reaches-has : (n c : ℕ) (d e : Desktop) → NoMore d → Reaches beyond_toplevels c n d e → NoMore e
+pub reaches-has : (n c : ℕ) (d e : Desktop) → NoMore d → Reaches served_now c n d e → NoMore e
 reaches-has zero c d e has h = subst NoMore (sym h) has
-reaches-has (suc n) c d e has h = serves-has touches_apart c h.0 e (reaches-has n c d h.0 has h.1) h.2
+reaches-has (suc n) c d e has h =
+    let mid = reaches-has n c d h.0 has h.1 in
+    serves-has touches_apart c h.0 e mid (serves-back c h.0 e mid h.2)
 
 stops-has : (c : ℕ) (o : Option Resident) (d e : Desktop) → client_at c d ≡ o → NoMore d → StopsAt c o d e → NoMore e
 stops-has c None d e is has h = absurd h
 stops-has c (Some r) d e is has (inl h) = subst NoMore (sym h.0) has
 stops-has c (Some r) d e is has (inr h) =
-    subst NoMore (sym h.1) (become-has c r r (ended Memory r.peer) d is has.pointer (λ other differ. has.each other) (λ alive. absurd (none-some Memory (sym alive))))
+    let gone : Desktop = become c r (ended Memory r.peer) d in
+    let same = becomes-same c r (ended Memory r.peer) d has.pointer in
+    let ends : e ≡ gone = settled-back (becomes c r (ended Memory r.peer) d) e (ap (λ (x : Desktop). x.pointer) same ∙ has.pointer) h.1 ∙ same in
+    subst NoMore (sym ends) (become-has c r r (ended Memory r.peer) d is has.pointer (λ other differ. has.each other) (λ alive. absurd (none-some Memory (sym alive))))
 
-feeds-has : (s : Option Cause) (c : ℕ) (piece : List ℕ) (r : Resident) (d e : Desktop) → r.peer.status ≡ s → client_at c d ≡ Some r → NoMore d → FeedsAt beyond_toplevels c piece s r d e → NoMore e
+feeds-has : (s : Option Cause) (c : ℕ) (piece : List ℕ) (r : Resident) (d e : Desktop) → r.peer.status ≡ s → client_at c d ≡ Some r → NoMore d → FeedsAt served_now c piece s r d e → NoMore e
 feeds-has (Some cause) c piece r d e status is has h = subst NoMore (sym h) has
 feeds-has None c piece r d e status is has h =
     let come : Peer = with_rest (r.peer.rest ++ piece) r.peer in
-    let start : NoMore (become c r come d) =
-    left-has c r (Some come) d is has (λ x e alive. (status, ap (λ (y : Peer). y.objects) (some-same x come (sym e)))) in
-    stops-has c (client_at c h.1) h.1 e refl (reaches-has h.0 c (become c r come d) h.1 start h.2) h.3
+    let owns : OwnsToplevelsOnly r = living r.peer.status r (toplevels_of c d) status (subst (λ o. OwnsToplevelsAt o (toplevels_of c d)) is (has.each c)) in
+    let come_owns : OwnsToplevelsBy r.peer.status (with_peer come r) (toplevels_of c d) =
+    subst (λ s. OwnsToplevelsBy s (with_peer come r) (toplevels_of c d)) (sym status) (only-peer r come refl owns) in
+    let start : NoMore (with_client c (Some (with_peer come r)) d) = has-put c (with_peer come r) r d is come_owns has in
+    stops-has c (client_at c h.1) h.1 e refl (reaches-has h.0 c (with_client c (Some (with_peer come r)) d) h.1 start h.2) h.3
 
-fed-has : (c : ℕ) (piece : List ℕ) (o : Option Resident) (d : Desktop) (done : Done) (e : Desktop) → client_at c d ≡ o → NoMore d → IsFedAt beyond_toplevels c piece o d done e → NoMore e
+fed-has : (c : ℕ) (piece : List ℕ) (o : Option Resident) (d : Desktop) (done : Done) (e : Desktop) → client_at c d ≡ o → NoMore d → IsFedAt served_now c piece o d done e → NoMore e
 fed-has c piece None d done e is has h = subst NoMore (sym h.1) has
 fed-has c piece (Some r) d done e is has h = feeds-has r.peer.status c piece r d e refl is has h.0
 
 -- ---- every step
 
-pub acts-has : (act : Act) (d e : Desktop) (done : Done) → NoMore d → Steps beyond_toplevels d act done e → NoMore e
+pub acts-has : (act : Act) (d e : Desktop) (done : Done) → NoMore d → Acts served_now act done d e → NoMore e
 acts-has Connect d e done has h = connects-has (lowest d.clients) d done e has h
 acts-has (Feed c piece) d e done has h = fed-has c piece (client_at c d) d done e refl has h
-acts-has (Store c store at bytes) d e done has h = changes-has (IsStored store at bytes) (stored-keeps store at bytes) _ done c (client_at c d) d e refl has h
-acts-has (Leave c) d e done has h = changes-has IsLeft left-keeps _ done c (client_at c d) d e refl has h
-acts-has (Tick time) d e done has h = subst NoMore (sym h.1) has
-acts-has (Send c n) d e done has h = changes-has (IsSent n) (sent-keeps n) _ done c (client_at c d) d e refl has h
-acts-has (Close c) d e done has h = changes-has IsClosed closed-keeps _ done c (client_at c d) d e refl has h
+acts-has (Store c store at bytes) d e done has h =
+    changes-has (IsStored store at bytes) (stored-keeps store at bytes) _ done c (client_at c d) d e refl has (alters-back (Store c store at bytes) tt d e done has h)
+acts-has (Leave c) d e done has h = changes-has IsLeft left-keeps _ done c (client_at c d) d e refl has (alters-back (Leave c) tt d e done has h)
+acts-has (Tick time) d e done has h = subst NoMore (sym (shows-back time d e has h.1)) has
+acts-has (Send c n) d e done has h = changes-has (IsSent n) (sent-keeps n) _ done c (client_at c d) d e refl has (alters-back (Send c n) tt d e done has h)
+acts-has (Close c) d e done has h = changes-has IsClosed closed-keeps _ done c (client_at c d) d e refl has (alters-back (Close c) tt d e done has h)

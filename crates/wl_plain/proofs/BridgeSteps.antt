@@ -1,10 +1,10 @@
--- A step of clients that have no more than toplevels is what it is where every request may be served.
-use Rattle.std.proofs.Common.{◌≡◌, ℕ, zero, suc, List, [], ◌∷◌, ◌++◌, Bool, true, false, Option, Some, None, cond, refl, ap, subst, sym, ◌∙◌, inl, inr}
+-- A call, and a frame, of clients that have no more than toplevels is what it is where every request may be served.
+use Rattle.std.proofs.Common.{◌≡◌, ℕ, zero, suc, List, [], ◌∷◌, Bool, true, false, Option, Some, None, cond, refl, ap, subst, sym, ◌∙◌}
 use Rattle.std.specs.Prelude.{◌==◌, filter, is_none, not}
 use Rattle.std.proofs.lemmas.Bool.{eqb-false, eqb-true}
 use Rattle.wl_client.specs.declared.clients.Cause.{Cause}
-use Rattle.wl_client.specs.declared.clients.Cause.TheVariants.{Gone, Memory}
-use Rattle.wl_client.specs.Peer.{Peer, ended, left_by, with_rest}
+use Rattle.wl_client.specs.declared.clients.Cause.TheVariants.{Gone}
+use Rattle.wl_client.specs.Peer.{Peer, ended, left_by}
 use Rattle.wl_scene.specs.Pointer.{first_pointer}
 use Rattle.wl_scene.specs.Stacking.{Standing, without_client}
 use Rattle.wl_plain.specs.declared.answers.Done.{Done}
@@ -13,13 +13,13 @@ use Rattle.wl_plain.specs.Changing.{without_callbacks}
 use Rattle.wl_plain.specs.Desktop.{Callback, Desktop, Resident, become, become_by, client_at, resident_of, with_client, with_number}
 use Rattle.wl_plain.specs.Laws.{toplevels_of}
 use Rattle.wl_plain.specs.LeftOut.{served_now}
-use Rattle.wl_plain.specs.Served.{beyond_toplevels}
 use Rattle.wl_plain.specs.Settling.{TellsAt, becomes, unstruck}
-use Rattle.wl_plain.specs.Step.{FeedsAt, Reaches, Serves, StopsAt, with_peer}
-use Rattle.wl_plain.specs.Steps.{ChangesAt, IsClosed, IsFedAt, IsLeft, IsSent, IsStored, Act, Connect, Feed, Store, Leave, Tick, Send, Close, Steps, closed_by, left_so}
-use Rattle.wl_plain.specs.NoMore.{NoMore, OwnsToplevelsAt, OwnsToplevelsBy, OwnsToplevelsOnly}
-use Rattle.wl_plain.specs.Whole.{ChangesAt as WholeChangesAt, FeedsAt as WholeFeedsAt, IsFedAt as WholeIsFedAt, LeavesAt, Reaches as WholeReaches, Shows, StopsAt as WholeStopsAt, TellsFrames, callbacks_due, frames_told, Acts}
-use Rattle.wl_plain.proofs.BridgeServes.{becomes-same, living, only-peer, serves-whole, settles-to}
+use Rattle.wl_plain.specs.Step.{with_peer}
+use Rattle.wl_plain.specs.Steps.{IsClosed, IsLeft, IsSent, IsStored, Act, Connect, Feed, Store, Leave, Tick, Send, Close, closed_by}
+use Rattle.wl_plain.specs.NoMore.{NoMore, OwnsToplevelsAt, OwnsToplevelsBy}
+use Rattle.wl_plain.specs.Whole.{ChangesAt as WholeChangesAt, LeavesAt, Shows, TellsFrames, callbacks_due, frames_told, Acts}
+use Rattle.wl_plain.proofs.Altering.{Alters, ChangesAt, left_so}
+use Rattle.wl_plain.proofs.BridgeServes.{becomes-same, living, settles-to}
 use Rattle.wl_plain.proofs.OwningKeys.{none-some}
 use Rattle.wl_plain.proofs.Places.{client-kept, number-other, number-same}
 use Rattle.wl_plain.proofs.WholeOneRun.{held}
@@ -155,7 +155,7 @@ frames-none time (suc n) c d only = (unstruck d, tells-none time c (client_at c 
 pub shows-whole : (time : ℕ) (d new : Desktop) → NoMore d → new ≡ d → Shows time d new
 shows-whole time d new only e = (unstruck d, frames-none time 32 1 d only, settles-to d d new refl e only.pointer)
 
--- ---- a piece
+-- ---- another client
 
 -- another client is there, which has no more than toplevels
 pub has-put : (c : ℕ) (r there : Resident) (d : Desktop) → client_at c d ≡ Some there → OwnsToplevelsAt (Some r) (toplevels_of c d) → NoMore d → NoMore (with_client c (Some r) d)
@@ -167,48 +167,14 @@ has-put c r there d is owns only = record { pointer = only.pointer; each = λ ot
         (subst (λ o. OwnsToplevelsAt o (toplevels_of c d)) (sym (number-same d.clients c (Some r) there is)) owns)
     at other false e = subst (λ o. OwnsToplevelsAt o (toplevels_of other d)) (sym (number-other d.clients c other (Some r) (eqb-false c other e))) (only.each other)
 
-stops-whole : (c : ℕ) (o : Option Resident) (d new : Desktop) → NoMore d → StopsAt c o d new → WholeStopsAt c o d new
-stops-whole c None d new only h = h
-stops-whole c (Some r) d new only (inl h) = inl h
-stops-whole c (Some r) d new only (inr h) =
-    let gone : Peer = ended Memory r.peer in
-    inr (h.0, settles-to (becomes c r gone d) (become c r gone d) new (becomes-same c r gone d only.pointer) h.1 only.pointer)
+-- ---- a call
 
--- Where a message leaves clients no more than toplevels, a piece does the same.
-module _ (keeps : (c : ℕ) (d e : Desktop) → NoMore d → Serves beyond_toplevels c d e → NoMore e) where
-  reaches-keep : (n c : ℕ) (d e : Desktop) → NoMore d → Reaches beyond_toplevels c n d e → NoMore e
-  reaches-keep zero c d e only h = subst NoMore (sym h) only
-  reaches-keep (suc n) c d e only h = keeps c h.0 e (reaches-keep n c d h.0 only h.1) h.2
-
-  reaches-whole : (n c : ℕ) (d e : Desktop) → NoMore d → Reaches beyond_toplevels c n d e → WholeReaches served_now c n d e
-  reaches-whole zero c d e only h = h
-  reaches-whole (suc n) c d e only h =
-      (h.0, reaches-whole n c d h.0 only h.1, serves-whole c h.0 e (reaches-keep n c d h.0 only h.1) h.2)
-
-  feeds-by : (s : Option Cause) (c : ℕ) (piece : List ℕ) (r : Resident) (d e : Desktop) → r.peer.status ≡ s → client_at c d ≡ Some r → NoMore d → FeedsAt beyond_toplevels c piece s r d e → WholeFeedsAt served_now c piece s r d e
-  feeds-by (Some cause) c piece r d e status is only h = h
-  feeds-by None c piece r d e alive is only h =
-      let come : Peer = with_rest (r.peer.rest ++ piece) r.peer in
-      let start : Desktop = with_client c (Some (with_peer come r)) d in
-      let begins : become c r come d ≡ start = ap (λ s. become_by s c r come d) alive in
-      let owns : OwnsToplevelsOnly r = living r.peer.status r (toplevels_of c d) alive (subst (λ o. OwnsToplevelsAt o (toplevels_of c d)) is (only.each c)) in
-      let come_owns : OwnsToplevelsBy r.peer.status (with_peer come r) (toplevels_of c d) =
-      subst (λ s. OwnsToplevelsBy s (with_peer come r) (toplevels_of c d)) (sym alive) (only-peer r come refl owns) in
-      let has : NoMore start = has-put c (with_peer come r) r d is come_owns only in
-      let reached : Reaches beyond_toplevels c h.0 start h.1 = subst (λ x. Reaches beyond_toplevels c h.0 x h.1) begins h.2 in
-      (h.0, h.1, reaches-whole h.0 c start h.1 has reached, stops-whole c (client_at c h.1) h.1 e (reaches-keep h.0 c start h.1 has reached) h.3)
-
-  pub fed-whole : (c : ℕ) (piece : List ℕ) (o : Option Resident) (d : Desktop) (done : Done) (e : Desktop) → client_at c d ≡ o → NoMore d → IsFedAt beyond_toplevels c piece o d done e → WholeIsFedAt served_now c piece o d done e
-  fed-whole c piece None d done e is only h = h
-  fed-whole c piece (Some r) d done e is only h = (feeds-by r.peer.status c piece r d e refl is only h.0, h.1)
-
-  -- every step does the same
-  pub acts-whole : (act : Act) (d e : Desktop) (done : Done) → NoMore d → Steps beyond_toplevels d act done e → Acts served_now act done d e
-  acts-whole Connect d e done only h = h
-  acts-whole (Feed c piece) d e done only h = fed-whole c piece (client_at c d) d done e refl only h
-  acts-whole (Store c store at bytes) d e done only h =
-      changes-whole (IsStored store at bytes) (stored-leaves store at bytes) _ done c (client_at c d) d e (only.each c) h
-  acts-whole (Leave c) d e done only h = leaves-whole c (client_at c d) d e done only.pointer refl (only.each c) h
-  acts-whole (Tick time) d e done only h = (h.0, shows-whole time d e only h.1)
-  acts-whole (Send c n) d e done only h = changes-whole (IsSent n) (sent-leaves n) _ done c (client_at c d) d e (only.each c) h
-  acts-whole (Close c) d e done only h = changes-whole IsClosed closed-leaves _ done c (client_at c d) d e (only.each c) h
+pub alters-whole : (act : Act) (d e : Desktop) (done : Done) → NoMore d → Alters act done d e → Acts served_now act done d e
+alters-whole Connect d e done only h = h
+alters-whole (Feed c piece) d e done only h = absurd h
+alters-whole (Store c store at bytes) d e done only h =
+    changes-whole (IsStored store at bytes) (stored-leaves store at bytes) _ done c (client_at c d) d e (only.each c) h
+alters-whole (Leave c) d e done only h = leaves-whole c (client_at c d) d e done only.pointer refl (only.each c) h
+alters-whole (Tick time) d e done only h = absurd h
+alters-whole (Send c n) d e done only h = changes-whole (IsSent n) (sent-leaves n) _ done c (client_at c d) d e (only.each c) h
+alters-whole (Close c) d e done only h = changes-whole IsClosed closed-leaves _ done c (client_at c d) d e (only.each c) h

@@ -120,3 +120,4 @@ pub mod HappeningsSound
 pub mod ShownWindows
 pub mod Following
 pub mod MarkedThrough
+pub mod Altering

@@ -18,7 +18,8 @@ use Rattle.wl_plain.specs.Owning.{IsOwned, Names}
 use Rattle.wl_plain.specs.Served.{Unserved}
 use Rattle.wl_plain.specs.Standing.{AreMapped, MappedStand}
 use Rattle.wl_plain.specs.Step.{Answers, Becomes, Serves, ServesAt, StopsAt, Takes, WantsOr, changed_by, stacked, takes_memory, with_peer}
-use Rattle.wl_plain.specs.Steps.{ChangesAt, ConnectsAt, left_so, lowest, next_of}
+use Rattle.wl_plain.specs.Steps.{ConnectsAt, lowest, next_of}
+use Rattle.wl_plain.proofs.Altering.{ChangesAt, left_so}
 use Rattle.wl_plain.proofs.OwningKeys.{some-same}
 use Rattle.wl_plain.proofs.Places.{number-other}
 use Rattle.wl_plain.proofs.StandingAsks.{StandAfter, stand-after}

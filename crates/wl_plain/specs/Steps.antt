@@ -1,6 +1,6 @@
--- What may happen to the plain desktop: steps, and their answers.
+-- The steps of the plain desktop, and what they do to the client that they are of.
 use Rattle.std.specs.Option.{option_map}
-use Rattle.std.specs.Prelude.{ℕ, ◌≡◌, ◌+◌, List, [], ◌∷◌, length, false, nat_le, Option, Some, None, Ok, Err, ◌⊎◌, is_none, is_some}
+use Rattle.std.specs.Prelude.{ℕ, ◌≡◌, ◌+◌, List, [], ◌∷◌, length, nat_le, Option, Some, None, Ok, Err, ◌⊎◌, is_none, is_some}
 use Rattle.wl_store.specs.Stores.{store_at, write_refusal}
 use Rattle.wl_store.specs.declared.stores.StoreError.{StoreError}
 use Rattle.wl_store.specs.declared.stores.StoreError.TheVariants as refused
@@ -13,11 +13,7 @@ use Rattle.wl_plain.specs.declared.answers.Done.{Done}
 use Rattle.wl_plain.specs.declared.answers.Done.TheVariants as gave
 use Rattle.wl_plain.specs.declared.answers.ConnectError.TheVariants.{Full, Memory}
 use Rattle.wl_client.specs.Peer.{Peer, left_by, sent_by, stored_at}
-use Rattle.wl_scene.specs.Stacking.{without_client}
-use Rattle.wl_plain.specs.Desktop.{Desktop, Resident, arrival, become, client_at, with_client, with_number}
-use Rattle.wl_plain.specs.Laws.{status_in}
-use Rattle.wl_plain.specs.Served.{Unserved}
-use Rattle.wl_plain.specs.Step.{Feeds}
+use Rattle.wl_plain.specs.Desktop.{Desktop, Resident, arrival, client_at, with_client}
 
 -- a step, of the client with a number
 pub data Act : Type 0 where
@@ -39,24 +35,6 @@ pub data Act : Type 0 where
 abbrev pub fed_of : Option Cause → Fed
 fed_of None = Alive
 fed_of (Some cause) = Ended cause
-
--- what becomes of a client: it is left so, or its number is free
-abbrev pub left_so : ℕ → Resident → Option Peer → Desktop → Desktop
-left_so c r None d = record d { clients = with_number c None d.clients; standing = without_client c d.standing }
-left_so c r (Some q) d = become c r q d
-
--- the client that is there changes by R, or there is none
-abbrev pub ChangesAt : (Peer → Done → Option Peer → Type 0) → Done → ℕ → Option Resident → Desktop → Done → Desktop → Type 0
-ChangesAt R absent c None d done new = (done ≡ absent) × (new ≡ d)
-ChangesAt R absent c (Some r) d done new = (q : Option Peer) × R r.peer done q × (new ≡ left_so c r q d)
-
--- The client with this number changes by R, and no other.
-abbrev pub Changes : ℕ → (Peer → Done → Option Peer → Type 0) → Done → Desktop → Done → Desktop → Type 0
-Changes c R absent d done new = ChangesAt R absent c (client_at c d) d done new
-
-abbrev pub IsFedAt : Unserved → ℕ → List ℕ → Option Resident → Desktop → Done → Desktop → Type 0
-IsFedAt unserved c piece None d done new = (done ≡ gave.Feed NoClient) × (new ≡ d)
-IsFedAt unserved c piece (Some r) d done new = Feeds unserved c piece r d new × (done ≡ gave.Feed (fed_of (status_in c new)))
 
 -- what a write of a store answers: an ended client has none
 abbrev pub answer_of : Option StoreError → Stored
@@ -101,17 +79,6 @@ abbrev pub ConnectsAt : Option ℕ → Desktop → Done → Desktop → Type 0
 ConnectsAt None d done new = (done ≡ gave.Connect (Err Full)) × (new ≡ d)
 ConnectsAt (Some k) d done new =
     ((done ≡ gave.Connect (Err Memory)) × (new ≡ d)) ⊎ ((done ≡ gave.Connect (Ok (k + 1))) × (new ≡ with_client (k + 1) (Some (arrival d.output)) d))
-
--- What a step may do where so much isn't served: from `d` it may answer `done` and lead to `new`. A tick changes nothing yet, since no frame
--- callback is served. Want of memory is the only choice.
-abbrev pub Steps : Unserved → Desktop → Act → Done → Desktop → Type 0
-Steps unserved d Connect done new = ConnectsAt (lowest d.clients) d done new
-Steps unserved d (Feed c piece) done new = IsFedAt unserved c piece (client_at c d) d done new
-Steps unserved d (Store c store at bytes) done new = Changes c (IsStored store at bytes) (gave.Store stored.NoClient) d done new
-Steps unserved d (Leave c) done new = Changes c IsLeft (gave.Gone false) d done new
-Steps unserved d (Tick time) done new = (done ≡ gave.Tick) × (new ≡ d)
-Steps unserved d (Send c n) done new = Changes c (IsSent n) (gave.Sent false) d done new
-Steps unserved d (Close c) done new = Changes c IsClosed (gave.Close false) d done new
 
 -- the client with this number, without what it owns
 abbrev pub peer_of : Option Resident → Option Peer

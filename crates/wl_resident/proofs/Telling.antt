@@ -1,14 +1,14 @@
 -- What is told to one client of the desk, and a piece of its stream.
-use Rattle.std.proofs.Common.{◌≡◌, ℕ, zero, List, ◌++◌, length, Bool, true, false, Option, Some, None, refl, ap, sym, subst, ◌∙◌, inl, inr, ◌⊎◌}
+use Rattle.std.proofs.Common.{◌≡◌, ℕ, List, ◌++◌, length, Bool, true, false, Option, Some, None, refl, ap, sym, subst, ◌∙◌, inl, inr, ◌⊎◌}
 use Rattle.std.specs.Prelude.{is_some, nat_le, drop, if◌then◌else◌}
 use Rattle.wl_store.specs.Stores.{write_refusal}
 use Rattle.wl_store.specs.declared.stores.StoreError.{StoreError}
 use Rattle.wl_client.specs.Agreement.{IsPeer}
 use Rattle.wl_client.specs.Objects.{ById}
-use Rattle.wl_client.specs.Peer.{IsIdleAt, Peer, ended, left_by as gone_by, sent_by, stored_at, stored_by, with_rest}
+use Rattle.wl_client.specs.Peer.{Peer, ended, left_by as gone_by, sent_by, stored_at, stored_by, with_rest}
 use Rattle.wl_client.specs.View.{ClientView}
 use Rattle.wl_client.specs.declared.clients.Cause.{Cause}
-use Rattle.wl_client.specs.declared.clients.Cause.TheVariants.{Gone, Memory}
+use Rattle.wl_client.specs.declared.clients.Cause.TheVariants.{Gone}
 use Rattle.wl_table.specs.Objects.{Held}
 use Rattle.wl_shell.specs.Kept.{kept_of}
 use Rattle.wl_scene.specs.Stacking.{Stack}
@@ -17,8 +17,6 @@ use Rattle.wl_resident.specs.Agreement.{IsScene, with_numbers}
 use Rattle.wl_plain.specs.Desktop.{Desktop, Resident, become, become_by}
 use Rattle.wl_plain.specs.Owning.{IsOwned, names_in, targets_in}
 use Rattle.wl_resident.specs.Seats.{IsClearedBy, IsSeated, ended_by}
-use Rattle.wl_plain.specs.Served.{beyond_toplevels}
-use Rattle.wl_plain.specs.Step.{Feeds, FeedsAt, Reaches, StopsAt}
 use Rattle.wl_proto.specs.declared.interface.Interface.TheVariants.{WlSurface}
 use Rattle.wl_resident.specs.View.{owned_view}
 use Rattle.wl_resident.specs.declared.residents.Resident.{Resident as Kept}
@@ -184,36 +182,6 @@ come-seated c others base d r piece old was is lives =
           rest = ap (λ (bytes : List ℕ). bytes ++ piece) p.rest;
           output = p.output;
         }
-
--- where there is no memory for it, the client ends
-pub lacking-seated : {A : Type 0} (c : ℕ) (others : ℕ → ById ℕ) (base d : Desktop) (r : Resident) (piece : List ℕ) (old mid new : Kept A) (was now : Stack) → IsSeated c others base old was d r → old.client.ended ≡ None
-    → IsPeer mid.client (ended Memory r.peer) → mid.owned ≡ old.owned → IsClearedBy mid.client.ended c mid new was now
-    → (e : Desktop) × (s : Resident) × Feeds beyond_toplevels c piece r d e × IsSeated c others base new now e s
-lacking-seated c others base d r piece old mid new was now is lives peer owned left =
-    let none : r.peer.status ≡ None = sym is.seat.peer.status ∙ lives in
-    let come : Resident = record r { peer = come_to piece r } in
-    let held : Desktop = become c r (come_to piece r) d in
-    let start = come-seated c others base d r piece old was is lives in
-    let over : Peer = ended Memory r.peer in
-    let seated = told-seated c others base held come (come_on piece old) mid new was now start over
-    (record { peer = peer; owned = owned; lives = λ e. absurd (cc); gone = λ e. inl (Memory, r.peer, refl) }) left in (
-      become c come over held,
-      left_by (Some Memory) come over,
-      subst (λ (s : Option Cause). FeedsAt beyond_toplevels c piece s r d (become c come over held)) (sym none)
-          (zero, held, refl, subst (λ (o : Option Resident). StopsAt c o held (become c come over held)) (sym start.based.there) (inr (none, refl))),
-      seated,
-    )
-
--- where no message is left, it stops
-pub idle-seated : {A : Type 0} (c : ℕ) (others : ℕ → ById ℕ) (base d mid : Desktop) (r s : Resident) (n : ℕ) (piece : List ℕ) (old v : Kept A) (was now : Stack) → IsSeated c others base old was d r → old.client.ended ≡ None
-    → Reaches beyond_toplevels c n (become c r (come_to piece r) d) mid → IsSeated c others base v now mid s → IsIdleAt v.client.ended v.client.rest → Feeds beyond_toplevels c piece r d mid
-idle-seated c others base d mid r s n piece old v was now is lives reaches seated idle =
-    let none : r.peer.status ≡ None = sym is.seat.peer.status ∙ lives in
-    let peer = seated.seat.peer in
-    let stays : IsIdleAt s.peer.status s.peer.rest =
-    subst (λ (o : Option Cause). IsIdleAt o s.peer.rest) peer.status (subst (λ (bytes : List ℕ). IsIdleAt v.client.ended bytes) peer.rest idle) in
-    subst (λ (o : Option Cause). FeedsAt beyond_toplevels c piece o r d mid) (sym none)
-    (n, mid, reaches, subst (λ (o : Option Resident). StopsAt c o mid mid) (sym seated.based.there) (inl (refl, stays)))
 
 pub lives-of : (o : Option Cause) → is_some o ≡ false → o ≡ None
 lives-of None e = refl

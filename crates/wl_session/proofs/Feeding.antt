@@ -22,18 +22,18 @@ use Rattle.wl_plain.specs.Laws.{status_in}
 use Rattle.wl_plain.specs.Laws.{status_of as ended_in}
 use Rattle.wl_resident.specs.Seats.{ended_by}
 use Rattle.wl_plain.specs.Served.{Unserved, beyond_toplevels}
-use Rattle.wl_plain.specs.Step.{Answers, Becomes, FeedsAt, Reaches, ServesAt, StopsAt, Takes, WantsOr, changed_by, stacked, takes_memory}
-use Rattle.wl_plain.specs.Steps.{IsFedAt, fed_of, peer_at, peer_of, status_of}
+use Rattle.wl_plain.specs.Settling.{becomes}
+use Rattle.wl_plain.specs.Step.{Answers, Becomes, ServesAt, Takes, WantsOr, changed_by, stacked, takes_memory, with_peer}
+use Rattle.wl_plain.specs.Steps.{fed_of, peer_at, peer_of, status_of}
 use Rattle.wl_resident.specs.View.{DeskView, OwnedView}
 use Rattle.wl_plain.specs.declared.answers.Done.TheVariants as gave
 use Rattle.wl_plain.specs.declared.answers.Fed.{Fed}
 use Rattle.wl_plain.specs.LeftOut.{served_now}
 use Rattle.wl_plain.specs.NoMore.{NoMore}
-use Rattle.wl_plain.specs.Whole.{IsFedAt as WholeIsFedAt, Reaches as WholeReaches}
-use Rattle.wl_plain.proofs.BridgeBack.{reaches-back}
-use Rattle.wl_plain.proofs.BridgeMessages.{serves-has}
-use Rattle.wl_plain.proofs.BridgeSteps.{fed-whole}
-use Rattle.wl_plain.proofs.BridgeTouches.{touches_apart}
+use Rattle.wl_plain.specs.Whole.{FeedsAt, IsFedAt, Reaches, ServesAt as WholeServesAt, StopsAt}
+use Rattle.wl_plain.proofs.BridgeBack.{serves-back}
+use Rattle.wl_plain.proofs.BridgeLasts.{reaches-has}
+use Rattle.wl_plain.proofs.BridgeServes.{becomes-same, settles-to}
 use Rattle.wl_plain.proofs.Places.{client-become, number-kept, number-same, number-twice, stacked-clients}
 use Rattle.wl_plain.proofs.Stacks.{and-both, differ, or-left, or-right, same-number}
 
@@ -67,23 +67,24 @@ serves-there : (unserved : Unserved) (c : ℕ) (o : Option Resident) (d new : De
 serves-there unserved c None d new is h = absurd h
 serves-there unserved c (Some r) d new is h = takes-there unserved (split_of r.peer.rest) c r d new (r, is) h.1
 
-pub reaches-there : (unserved : Unserved) (c n : ℕ) (d new : Desktop) → IsThere c d → Reaches unserved c n d new → IsThere c new
-reaches-there unserved c zero d new there h = (there.0, ap (λ (x : Desktop). client_at c x) h ∙ there.1)
-reaches-there unserved c (suc n) d new there h = serves-there unserved c (client_at c h.0) h.0 new refl h.2
+pub reaches-there : (c n : ℕ) (d new : Desktop) → NoMore d → IsThere c d → Reaches served_now c n d new → IsThere c new
+reaches-there c zero d new more there h = (there.0, ap (λ (x : Desktop). client_at c x) h ∙ there.1)
+reaches-there c (suc n) d new more there h =
+    serves-there beyond_toplevels c (client_at c h.0) h.0 new refl (serves-back c h.0 new (reaches-has n c d h.0 more h.1) h.2)
 
 -- ---- nothing is taken
 
 -- nobody is there
-reaches-none : (unserved : Unserved) (c n : ℕ) (d new : Desktop) → client_at c d ≡ None → Reaches unserved c n d new → new ≡ d
-reaches-none unserved c zero d new none h = h
-reaches-none unserved c (suc n) d new none h =
-    absurd (subst (λ (o : Option Resident). ServesAt unserved c o h.0 new) (ap (λ (x : Desktop). client_at c x) (reaches-none unserved c n d h.0 none h.1) ∙ none) h.2)
+reaches-none : (c n : ℕ) (d new : Desktop) → client_at c d ≡ None → Reaches served_now c n d new → new ≡ d
+reaches-none c zero d new none h = h
+reaches-none c (suc n) d new none h =
+    absurd (subst (λ (o : Option Resident). WholeServesAt served_now c o h.0 new) (ap (λ (x : Desktop). client_at c x) (reaches-none c n d h.0 none h.1) ∙ none) h.2)
 
 -- the client ended
-reaches-ended : (unserved : Unserved) (c n : ℕ) (s : Cause) (r : Resident) (d new : Desktop) → client_at c d ≡ Some r → r.peer.status ≡ Some s → Reaches unserved c n d new → new ≡ d
-reaches-ended unserved c zero s r d new is over h = h
-reaches-ended unserved c (suc n) s r d new is over h =
-    let served : ServesAt unserved c (Some r) h.0 new = subst (λ (o : Option Resident). ServesAt unserved c o h.0 new) (ap (λ (x : Desktop). client_at c x) (reaches-ended unserved c n s r d h.0 is over h.1) ∙ is) h.2 in
+reaches-ended : (c n : ℕ) (s : Cause) (r : Resident) (d new : Desktop) → client_at c d ≡ Some r → r.peer.status ≡ Some s → Reaches served_now c n d new → new ≡ d
+reaches-ended c zero s r d new is over h = h
+reaches-ended c (suc n) s r d new is over h =
+    let served : WholeServesAt served_now c (Some r) h.0 new = subst (λ (o : Option Resident). WholeServesAt served_now c o h.0 new) (ap (λ (x : Desktop). client_at c x) (reaches-ended c n s r d h.0 is over h.1) ∙ is) h.2 in
     let clash : Some s ≡ None = sym over ∙ served.0 in
     absurd (cc)
 
@@ -128,77 +129,61 @@ fed-as : (c : ℕ) (d : Desktop) → IsThere c d → gave.Feed (status_of (peer_
 fed-as c d there = ap (λ (o : Option Resident). gave.Feed (status_of (peer_of o))) there.1 ∙ sym (ap (λ (o : Option Resident). gave.Feed (fed_of (ended_in o))) there.1)
 
 -- it was kept, and each message was taken
-fed-served : (c n : ℕ) (piece : List ℕ) (d mid : Desktop) (answer : Fed) → Reaches beyond_toplevels c n (kept_at c piece d) mid → IsIdleIn c mid → answer ≡ status_of (peer_at c mid)
-    → IsFedAt beyond_toplevels c piece (client_at c d) d (gave.Feed answer) mid
-fed-served c n piece d mid answer reaches idle told =
-    subst (λ (f : Fed). IsFedAt beyond_toplevels c piece (client_at c d) d (gave.Feed f) mid) (sym told) (at (client_at c d) refl reaches)
+pub fed-served : (c n : ℕ) (piece : List ℕ) (d mid : Desktop) (answer : Fed) → NoMore d → Reaches served_now c n (kept_at c piece d) mid → IsIdleIn c mid → answer ≡ status_of (peer_at c mid)
+    → IsFedAt served_now c piece (client_at c d) d (gave.Feed answer) mid
+fed-served c n piece d mid answer more reaches idle told =
+    subst (λ (f : Fed). IsFedAt served_now c piece (client_at c d) d (gave.Feed f) mid) (sym told) (at (client_at c d) refl (kept-has c piece d more) reaches)
   where
-    at : (o : Option Resident) → client_at c d ≡ o → Reaches beyond_toplevels c n (kept_of c piece o d) mid → IsFedAt beyond_toplevels c piece o d (gave.Feed (status_of (peer_at c mid))) mid
-    at None is reaches =
-        let same = reaches-none beyond_toplevels c n d mid is reaches in
+    at : (o : Option Resident) → client_at c d ≡ o → NoMore (kept_of c piece o d) → Reaches served_now c n (kept_of c piece o d) mid → IsFedAt served_now c piece o d (gave.Feed (status_of (peer_at c mid))) mid
+    at None is begun reaches =
+        let same = reaches-none c n d mid is reaches in
         (ap (λ (x : Desktop). gave.Feed (status_of (peer_at c x))) same ∙ ap (λ (o : Option Resident). gave.Feed (status_of (peer_of o))) is, same)
-    at (Some r) is reaches = by r.peer.status refl reaches
+    at (Some r) is begun reaches = by r.peer.status refl begun reaches
       where
-        by : (s : Option Cause) → r.peer.status ≡ s → Reaches beyond_toplevels c n (kept_by c piece s r d) mid
-            → FeedsAt beyond_toplevels c piece s r d mid × (gave.Feed (status_of (peer_at c mid)) ≡ gave.Feed (fed_of (status_in c mid)))
-        by (Some s) e reaches =
-            let same = reaches-ended beyond_toplevels c n s r d mid is e reaches in
+        by : (s : Option Cause) → r.peer.status ≡ s → NoMore (kept_by c piece s r d) → Reaches served_now c n (kept_by c piece s r d) mid
+            → FeedsAt served_now c piece s r d mid × (gave.Feed (status_of (peer_at c mid)) ≡ gave.Feed (fed_of (status_in c mid)))
+        by (Some s) e begun reaches =
+            let same = reaches-ended c n s r d mid is e reaches in
             (same, fed-as c mid (r, ap (λ (x : Desktop). client_at c x) same ∙ is))
-        by None e reaches =
-            let come : Peer = with_rest (r.peer.rest ++ piece) r.peer in
-            let begins : become c r come d ≡ kept_by c piece None r d = ap (λ t. become_by t c r come d) e in
-            let reached : Reaches beyond_toplevels c n (become c r come d) mid = subst (λ x. Reaches beyond_toplevels c n x mid) (sym begins) reaches in
-            let there = reaches-there beyond_toplevels c n (become c r come d) mid (_, client-become come.status c r come d r is) reached in (
-              (n, mid, reached, subst (λ (o : Option Resident). StopsAt c o mid mid) (sym there.1) (inl (refl, subst (λ (o : Option Resident). IsIdleOf o) there.1 idle))),
+        by None e begun reaches =
+            let come : Resident = with_peer (with_rest (r.peer.rest ++ piece) r.peer) r in
+            let there = reaches-there c n (kept_by c piece None r d) mid begun (come, number-same d.clients c (Some come) r is) reaches in (
+              (n, mid, reaches, subst (λ (o : Option Resident). StopsAt c o mid mid) (sym there.1) (inl (refl, subst (λ (o : Option Resident). IsIdleOf o) there.1 idle))),
               fed-as c mid there,
             )
 
 -- there was no memory to keep it
-fed-lacking : (v : DeskView) (c : ℕ) (piece : List ℕ) (d : Desktop) (answer : Fed) → Matches v d → answer ≡ status_of (peer_at c (ended_at c Memory d))
-    → IsFedAt beyond_toplevels c piece (client_at c d) d (gave.Feed answer) (ended_at c Memory d)
-fed-lacking v c piece d answer a told =
-    subst (λ (f : Fed). IsFedAt beyond_toplevels c piece (client_at c d) d (gave.Feed f) (ended_at c Memory d)) (sym told) (at (client_at c d) refl)
+fed-ended : (v : DeskView) (c : ℕ) (piece : List ℕ) (d : Desktop) (answer : Fed) → Agrees v d → answer ≡ status_of (peer_at c (ended_at c Memory d))
+    → IsFedAt served_now c piece (client_at c d) d (gave.Feed answer) (ended_at c Memory d)
+fed-ended v c piece d answer a told =
+    subst (λ (f : Fed). IsFedAt served_now c piece (client_at c d) d (gave.Feed f) (ended_at c Memory d)) (sym told) (at (client_at c d) refl)
   where
-    at : (o : Option Resident) → client_at c d ≡ o → IsFedAt beyond_toplevels c piece o d (gave.Feed (status_of (peer_at c (ended_of c Memory o d)))) (ended_of c Memory o d)
+    at : (o : Option Resident) → client_at c d ≡ o → IsFedAt served_now c piece o d (gave.Feed (status_of (peer_at c (ended_of c Memory o d)))) (ended_of c Memory o d)
     at None is = (ap (λ (o : Option Resident). gave.Feed (status_of (peer_of o))) is, refl)
     at (Some r) is = by r.peer.status refl
       where
         by : (s : Option Cause) → r.peer.status ≡ s
-            → FeedsAt beyond_toplevels c piece s r d (become c r (ended_by s Memory r.peer) d)
+            → FeedsAt served_now c piece s r d (become c r (ended_by s Memory r.peer) d)
             × (gave.Feed (status_of (peer_at c (become c r (ended_by s Memory r.peer) d))) ≡ gave.Feed (fed_of (status_in c (become c r (ended_by s Memory r.peer) d))))
         by (Some s) e =
-            let same = ended-stays v c s r d a is e in
+            let same = ended-stays v c s r d a.matches is e in
             (same, fed-as c (become c r r.peer d) (r, ap (λ (x : Desktop). client_at c x) same ∙ is))
         by None e =
-            let over : Peer = ended Memory r.peer in
-            ((zero, become c r come d, refl, stops r.peer.status e), fed-as c (become c r over d) (_, client-become over.status c r over d r is))
-          where
-            come : Peer
-            come = with_rest (r.peer.rest ++ piece) r.peer
+            let come : Resident = with_peer (with_rest (r.peer.rest ++ piece) r.peer) r in
+            let held : Desktop = with_client c (Some come) d in
+            let over : Peer = ended Memory come.peer in
+            let last : become c r (ended Memory r.peer) d ≡ become c come over held =
+                ap (λ (clients : List (Option Resident)). record d { clients = clients; standing = without_client c d.standing })
+                (sym (number-twice d.clients c (Some (resident_of (ended Memory r.peer))) (Some come))) in
+            let stops : StopsAt c (Some come) held (become c r (ended Memory r.peer) d) =
+                inr (e, settles-to (becomes c come over held) (become c come over held) (become c r (ended Memory r.peer) d) (becomes-same c come over held a.no_more.pointer) last a.no_more.pointer) in (
+              (zero, held, refl, subst (λ (o : Option Resident). StopsAt c o held (become c r (ended Memory r.peer) d)) (sym (number-same d.clients c (Some come) r is)) stops),
+              fed-as c (become c r (ended Memory r.peer) d) (resident_of (ended Memory r.peer), client-become (ended Memory r.peer).status c r (ended Memory r.peer) d r is),
+            )
 
-            stops : (s : Option Cause) → s ≡ None → StopsAt c (client_at c (become_by s c r come d)) (become_by s c r come d) (become c r (ended Memory r.peer) d)
-            stops (Some s) f = absurd (cc)
-            stops None f =
-                let held : Desktop = with_client c (Some (record r { peer = come })) d in
-                subst (λ (o : Option Resident). StopsAt c o held (become c r (ended Memory r.peer) d)) (sym (number-same d.clients c (Some (record r { peer = come })) r is))
-                (inr (
-                  e,
-                  ap (λ (clients : List (Option Resident)). record d { clients = clients; standing = without_client c d.standing })
-                      (sym (number-twice d.clients c (Some (resident_of (ended Memory r.peer))) (Some (record r { peer = come })))),
-                ))
-
--- ---- so it happens to the desktop
-
-pub fed-served-whole : (c n : ℕ) (piece : List ℕ) (d mid : Desktop) (answer : Fed) → NoMore d → WholeReaches served_now c n (kept_at c piece d) mid → IsIdleIn c mid → answer ≡ status_of (peer_at c mid)
-    → WholeIsFedAt served_now c piece (client_at c d) d (gave.Feed answer) mid
-fed-served-whole c n piece d mid answer more reaches idle told =
-    let back = reaches-back (serves-has touches_apart) n c (kept_at c piece d) mid (kept-has c piece d more) reaches in
-    fed-whole (serves-has touches_apart) c piece (client_at c d) d (gave.Feed answer) mid refl more (fed-served c n piece d mid answer back.0 idle told)
-
-pub fed-lacking-whole : (v : DeskView) (c : ℕ) (piece : List ℕ) (d e : Desktop) (answer : Fed) → Agrees v d → Ends c Memory d e → answer ≡ status_of (peer_at c e)
-    → WholeIsFedAt served_now c piece (client_at c d) d (gave.Feed answer) e
-fed-lacking-whole v c piece d e answer a ends told =
+pub fed-lacking : (v : DeskView) (c : ℕ) (piece : List ℕ) (d e : Desktop) (answer : Fed) → Agrees v d → Ends c Memory d e → answer ≡ status_of (peer_at c e)
+    → IsFedAt served_now c piece (client_at c d) d (gave.Feed answer) e
+fed-lacking v c piece d e answer a ends told =
     let same : e ≡ ended_at c Memory d = ended-once c Memory d a.no_more e ends in
-    subst (λ x. WholeIsFedAt served_now c piece (client_at c d) d (gave.Feed answer) x) (sym same)
-    (fed-whole (serves-has touches_apart) c piece (client_at c d) d (gave.Feed answer) (ended_at c Memory d) refl a.no_more
-    (fed-lacking v c piece d answer a.matches (told ∙ ap (λ x. status_of (peer_at c x)) same)))
+    subst (λ x. IsFedAt served_now c piece (client_at c d) d (gave.Feed answer) x) (sym same)
+    (fed-ended v c piece d answer a (told ∙ ap (λ x. status_of (peer_at c x)) same))

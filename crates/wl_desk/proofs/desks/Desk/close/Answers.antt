@@ -22,15 +22,15 @@ returns-clause-step g c = steps-whole (Close c.args.client) _ _ _ (λ d a.
     _ c.unmap_all.new.self c.index.ensures (sym c.has_ended.ensures ∙ c.if-not-has_ended.false) c.unmap_all.ensures.standing c.unmap_all.ensures.next)
 
 pub returns-in_default-clause-marks : goal.returns-in_default-clause-marks
-returns-in_default-clause-marks g c = steps-marked (Close c.args.client) _ c.args.self.now.desk c.args.self.now.damage c.args.self.now.damage (λ d e a steps. past-marks IsClosed (gave.Close false) (gave.Close false) _ _ d e _ c.args.self.now.damage (c.deref.ensures.value ∙ ap (λ w. w.desk.clients) c.self.view_is) c.in_default.ensures.none a steps)
+returns-in_default-clause-marks g c = steps-marked (Close c.args.client) tt _ c.args.self.now.desk c.args.self.now.damage c.args.self.now.damage (λ d e a steps. past-marks IsClosed (gave.Close false) (gave.Close false) _ _ d e _ c.args.self.now.damage (c.deref.ensures.value ∙ ap (λ w. w.desk.clients) c.self.view_is) c.in_default.ensures.none a steps)
 
 pub returns-then-not-has_ended-clause-marks : goal.returns-then-not-has_ended-clause-marks
-returns-then-not-has_ended-clause-marks g c = steps-marked (Close c.args.client) _ c.args.self.now.desk c.args.self.now.damage c.args.self.now.damage (λ d e a steps.
+returns-then-not-has_ended-clause-marks g c = steps-marked (Close c.args.client) tt _ c.args.self.now.desk c.args.self.now.damage c.args.self.now.damage (λ d e a steps.
     rw (← c.self.view_is) (unclosed-marks c.self.inside.output c.self.inside.clients.items c.self.inside.owned.items c.self.inside.scene c.args.client c.in-Some.k (found _ _ _ _ _ c.deref.ensures.value c.in-Some.ensures.some c.self.invariant.0) d (rw (← c.self.view_is) at a)
     _ (gave.Close false) e c.self.inside.damage c.index.ensures (sym c.has_ended.ensures ∙ c.if-not-has_ended.true) steps))
 
 pub returns-clause-marks : goal.returns-clause-marks
-returns-clause-marks g c = steps-marked (Close c.args.client) _ c.args.self.now.desk c.args.self.now.damage c.mark_if.new.damage (λ d e a steps.
+returns-clause-marks g c = steps-marked (Close c.args.client) tt _ c.args.self.now.desk c.args.self.now.damage c.mark_if.new.damage (λ d e a steps.
     rw (← c.self.view_is) (closed-marks c.self.inside.output c.self.inside.clients.items c.self.inside.owned.items c.self.inside.scene c.args.client c.in-Some.k (found _ _ _ _ _ c.deref.ensures.value c.in-Some.ensures.some c.self.invariant.0) d (rw (← c.self.view_is) at a)
     _ (gave.Close true) e c.stands_any.result c.self.inside.damage c.mark_if.new.damage c.index.ensures (sym c.has_ended.ensures ∙ c.if-not-has_ended.false) c.mark_if.ensures.marks steps))
 

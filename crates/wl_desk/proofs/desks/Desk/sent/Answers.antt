@@ -24,15 +24,15 @@ returns-clause-step g c = steps-whole (Send c.args.client c.args.count) _ _ _ (�
     (IsSent c.args.count) (gave.Sent false) (gave.Sent c.sent-sent.result) c.in-Some-take_out.resident c.sent-sent.new.self _ _ _ _ c.sent-sent.new.scene c.index_mut.ensures.value c.index_mut-2.ensures.value c.in-Some-take_out.ensures.some c.sent-sent.ensures.changes))
 
 pub returns-in_default-clause-marks : goal.returns-in_default-clause-marks
-returns-in_default-clause-marks g c = steps-marked (Send c.args.client c.args.count) _ c.args.self.now.desk c.args.self.now.damage c.args.self.now.damage (λ d e a steps. past-marks (IsSent c.args.count) (gave.Sent false) (gave.Sent false) _ _ d e _ c.args.self.now.damage (c.deref.ensures.value ∙ ap (λ w. w.desk.clients) c.self.view_is) c.in_default.ensures.none a steps)
+returns-in_default-clause-marks g c = steps-marked (Send c.args.client c.args.count) tt _ c.args.self.now.desk c.args.self.now.damage c.args.self.now.damage (λ d e a steps. past-marks (IsSent c.args.count) (gave.Sent false) (gave.Sent false) _ _ d e _ c.args.self.now.damage (c.deref.ensures.value ∙ ap (λ w. w.desk.clients) c.self.view_is) c.in_default.ensures.none a steps)
 
 pub returns-in_default-take_out-clause-marks : goal.returns-in_default-take_out-clause-marks
-returns-in_default-take_out-clause-marks g c = steps-marked (Send c.args.client c.args.count) _ c.args.self.now.desk c.args.self.now.damage c.self.inside.damage (λ d e a steps.
+returns-in_default-take_out-clause-marks g c = steps-marked (Send c.args.client c.args.count) tt _ c.args.self.now.desk c.args.self.now.damage c.self.inside.damage (λ d e a steps.
     rw (← c.self.view_is) (untaken-marks c.self.inside.output c.self.inside.clients.items c.self.inside.owned.items c.self.inside.scene c.args.client c.in-Some.k (found _ _ _ _ _ c.deref.ensures.value c.in-Some.ensures.some c.self.invariant.0) d (rw (← c.self.view_is) at a)
     (IsSent c.args.count) (gave.Sent false) (gave.Sent false) _ _ _ _ e c.self.inside.damage c.index_mut.ensures.value c.index_mut-2.ensures.value c.in_default-take_out.ensures.none c.take_out.ensures.left steps))
 
 pub returns-clause-marks : goal.returns-clause-marks
-returns-clause-marks g c = steps-marked (Send c.args.client c.args.count) _ c.args.self.now.desk c.args.self.now.damage c.sent-sent.new.damage (λ d e a steps.
+returns-clause-marks g c = steps-marked (Send c.args.client c.args.count) tt _ c.args.self.now.desk c.args.self.now.damage c.sent-sent.new.damage (λ d e a steps.
     rw (← c.self.view_is) (changes-marks c.self.inside.output c.self.inside.clients.items c.self.inside.owned.items c.self.inside.scene c.args.client c.in-Some.k (found _ _ _ _ _ c.deref.ensures.value c.in-Some.ensures.some c.self.invariant.0) d (rw (← c.self.view_is) at a)
     (IsSent c.args.count) (gave.Sent false) (gave.Sent c.sent-sent.result) c.in-Some-take_out.resident c.sent-sent.new.self _ _ c.sent-sent.new.scene e c.self.inside.damage c.sent-sent.new.damage c.index_mut.ensures.value c.index_mut-2.ensures.value c.in-Some-take_out.ensures.some c.sent-sent.ensures.changes (λ p q r h k. h.0 ∙ sym k.0) c.sent-sent.ensures.marks steps))
 
