@@ -1,5 +1,5 @@
 -- What the calls of a desk make of its clients and toplevels is what happens to the desktop, and leaves nothing there of what isn't served.
-use Rattle.std.proofs.Common.{◌≡◌, ◌≢◌, ℕ, List, ◌++◌, Option, Some, None, refl, ap, subst, sym, ◌∙◌, pos}
+use Rattle.std.proofs.Common.{◌≡◌, ℕ, List, ◌++◌, Option, Some, None, refl, ap, subst, sym, ◌∙◌, pos}
 use Rattle.wl_client.specs.Peer.{Peer, ended, with_rest}
 use Rattle.wl_client.specs.Told.{Output as Shown}
 use Rattle.wl_client.specs.declared.clients.Cause.{Cause}
@@ -25,7 +25,7 @@ use Rattle.wl_plain.proofs.BridgeBack.{alters-back, serves-back, settled-back}
 use Rattle.wl_plain.proofs.BridgeDesks.{become-has, empty-has}
 use Rattle.wl_plain.proofs.BridgeLasts.{acts-has}
 use Rattle.wl_plain.proofs.BridgeMessages.{serves-has}
-use Rattle.wl_plain.proofs.BridgeServes.{becomes-same, by-pointer, living, only-peer, settles-to}
+use Rattle.wl_plain.proofs.BridgeServes.{becomes-same, living, only-peer, settles-to}
 use Rattle.wl_plain.proofs.BridgeSteps.{alters-whole, has-put, stays-by}
 use Rattle.wl_plain.proofs.BridgeTouches.{touches_apart}
 use Rattle.wl_plain.proofs.BridgeWindows.{marks-same}

@@ -32,10 +32,9 @@ use Rattle.wl_plain.proofs.Stacks.{and-both, and-left, and-right, differ}
 use Rattle.wl_blend.specs.Blend.{blended, div255}
 use Rattle.wl_blend.specs.declared.color.Rgb.{Rgb}
 use Rattle.wl_surface.specs.State.{History, Values, applied, height_of, width_of}
-use Rattle.wl_surface.specs.Surfaces.{Surface, Surfaces, history_in, is_there, surface_at}
-use Rattle.wl_scene.proofs.Lone.{no-child, order-once}
+use Rattle.wl_surface.specs.Surfaces.{Surface, history_in, is_there, surface_at}
 use Rattle.wl_scene.specs.Lent.{AllShow, Shows, shows_buffer}
-use Rattle.wl_scene.specs.Windows.{Owner, Place, Window, corner_at, contains, counting, member_windows, owner_of, shown_windows, surface_windows, tree, window_of, window_showing, window_with}
+use Rattle.wl_scene.specs.Windows.{Owner, Place, Window, corner_at, contains, owner_of, window_showing, window_with}
 use Rattle.wl_plain.proofs.BridgeWindows.{windows-same}
 use Rattle.wl_plain.proofs.OneWindow.{one-window, window_list}
 use Rattle.wl_resident.specs.Agreement.{IsStack}
