@@ -21,7 +21,7 @@ pub fn unmarked_stays()
     ensures { UnmarkedStays }
 {}
 
-/// In whatever may happen, whatever is left out, whoever keeps its promises hides no change (wayland.xml, wl_surface.damage and
+/// In whatever may happen, one message at a time and whatever is left out, whoever keeps its promises hides no change (wayland.xml, wl_surface.damage and
 /// wl_buffer.release).
 pub fn promises_are_enough()
     ensures { PromisesAreEnough }
@@ -45,9 +45,9 @@ pub fn viewer_sees_scratch()
     ensures { ViewerSeesScratch }
 {}
 
-/// Whatever happens from a desktop without clients on, where every request is served, with frames between: at each frame such a viewer holds
-/// every window, subsurfaces and popups too, painted from nothing in stacking order, but where a window of a client that broke its promises
-/// covers it.
+/// Whatever happens from a desktop without clients on, one message at a time and whatever is left out, with frames between: at each frame such
+/// a viewer holds every window, subsurfaces and popups too, painted from nothing in stacking order, but where a window of a client that broke
+/// its promises covers it.
 pub fn seen_is_scratch()
     ensures { SeenIsScratch }
 {}
