@@ -15,7 +15,7 @@ use Rattle.wl_scene.specs.declared.owned.Owned.{Owned}
 use Rattle.wl_resident.specs.Agreement.{Matches, IsPlace, IsStack, numbers_in}
 use Rattle.wl_plain.specs.Desktop.{Desktop, Resident, arrival, become, client_at, client_in, owned_in, owned_of, place, windows_in, with_number, with_place}
 use Rattle.wl_plain.specs.Laws.{OwnsNothing, status_of}
-use Rattle.wl_resident.specs.Marking.{AreUnlinked, Marks, MarksEnd, stands_any}
+use Rattle.wl_resident.specs.Marking.{AreUnlinked, MarksEnd, stands_any}
 use Rattle.wl_plain.specs.Moments.{marks_of_toplevels}
 use Rattle.wl_resident.specs.Seats.{IsChangedSo, IsSeated, ended_by, has_ended_in}
 use Rattle.wl_plain.specs.Standing.{AreMapped}
@@ -32,6 +32,7 @@ use Rattle.std.proofs.lemmas.Bool.{eqb-true}
 use Rattle.wl_plain.proofs.Stacks.{and-left, differ}
 use Rattle.wl_plain.proofs.Places.{status-become}
 use Rattle.wl_plain.proofs.StandingLists.{any-gone, of-it}
+use Rattle.wl_resident.proofs.Toplevels.{MarksToplevels}
 use Rattle.wl_resident.proofs.Telling.{lives-of}
 use Rattle.wl_plain.proofs.Touching.{desktops-touch, same-stays}
 use Rattle.wl_plain.proofs.TouchingMarks.{is_else}
@@ -116,7 +117,7 @@ same-marks-nothing w d e a standing owned x y =
     (ap (λ ss. filter (stands_else none_of) ss) (sym standing)) (λ c surface other. same-stays _ _ _ (ap (λ (o : Owns). history_in surface o.surfaces) (sym (owned c)))) x y marked))
 
 -- nothing changes
-pub still-marks : (w : DeskView) (d e : Desktop) (damage : Damaged) → Matches w d → e ≡ d → Marks d e damage damage
+pub still-marks : (w : DeskView) (d e : Desktop) (damage : Damaged) → Matches w d → e ≡ d → MarksToplevels d e damage damage
 still-marks w d e damage a same = λ x y wide high clean. (clean, same-marks-nothing w d e a (ap (λ (d : Desktop). d.standing) same) (λ c. ap (λ (d : Desktop). owned_in d c) same) (pos x) (pos y))
 
 owned-places : (rs : List (Option Resident)) (k j : ℕ) (x : Option Resident) → owned_of x ≡ owned_of (place rs k) → owned_of (place (with_place k x rs) j) ≡ owned_of (place rs j)
@@ -138,10 +139,10 @@ place-is [] k = refl
 place-is (r ∷ rs) zero = refl
 place-is (r ∷ rs) (suc k) = place-is rs k
 
-pub connects-marks : (w : DeskView) (d e : Desktop) (done : Done) (damage : Damaged) → Matches w d → ConnectsAt (lowest d.clients) d done e → Marks d e damage damage
+pub connects-marks : (w : DeskView) (d e : Desktop) (done : Done) (damage : Damaged) → Matches w d → ConnectsAt (lowest d.clients) d done e → MarksToplevels d e damage damage
 connects-marks w d e done damage a connects = by (lowest d.clients) refl connects
   where
-    by : (o : Option ℕ) → lowest d.clients ≡ o → ConnectsAt o d done e → Marks d e damage damage
+    by : (o : Option ℕ) → lowest d.clients ≡ o → ConnectsAt o d done e → MarksToplevels d e damage damage
     by None found is = still-marks w d e damage a is.1
     by (Some k) found (inl is) = still-marks w d e damage a is.1
     by (Some k) found (inr is) = λ x y wide high clean. (
@@ -158,7 +159,7 @@ connects-marks w d e done damage a connects = by (lowest d.clients) refl connect
 -- ---- a client is told something
 
 -- so it is also where it ends by that
-pub told-marks : (c : ℕ) (there : Resident) (w : DeskView) (d : Desktop) (q : Peer) (ended : Option Cause) (old new : Damaged) → client_at c d ≡ Some there → Matches w d → q.status ≡ ended → MarksEnd ended c w.scene old new → Marks d (become c there q d) old new
+pub told-marks : (c : ℕ) (there : Resident) (w : DeskView) (d : Desktop) (q : Peer) (ended : Option Cause) (old new : Damaged) → client_at c d ≡ Some there → Matches w d → q.status ≡ ended → MarksEnd ended c w.scene old new → MarksToplevels d (become c there q d) old new
 told-marks c there w d q None old new at_c a status marks = λ x y wide high clean. (
   (neither (has old x y) false (sym (marks.1 x y wide high) ∙ clean)).0,
   told-marks-nothing c there d at_c (unlinked w d a) a.mapped.apart there q refl status (pos x) (pos y),
@@ -172,14 +173,14 @@ told-marks c there w d q (Some cause) old new at_c a status marks = λ x y wide 
     )
 
 -- nobody is there
-pub none-marks : (R : Peer → Done → Option Peer → Type 0) (absent done : Done) (c : ℕ) (w : DeskView) (d e : Desktop) (damage : Damaged) → client_at c d ≡ None → Matches w d → Changes c R absent d done e → Marks d e damage damage
+pub none-marks : (R : Peer → Done → Option Peer → Type 0) (absent done : Done) (c : ℕ) (w : DeskView) (d e : Desktop) (damage : Damaged) → client_at c d ≡ None → Matches w d → Changes c R absent d done e → MarksToplevels d e damage damage
 none-marks R absent done c w d e damage nobody a changes = still-marks w d e damage a (subst (λ (o : Option Resident). ChangesAt R absent c o d done e) nobody changes).1
 
 pub past-marks : (R : Peer → Done → Option Peer → Type 0) (absent done : Done) (us : List (Option ClientView)) (w : DeskView) (d e : Desktop) (c : ℕ) (damage : Damaged) → us ≡ w.clients → (c ≡ 0) ⊎ (length us < c) → Matches w d
-    → Changes c R absent d done e → Marks d e damage damage
+    → Changes c R absent d done e → MarksToplevels d e damage damage
 past-marks R absent done us w d e c damage same h a changes = none-marks R absent done c w d e damage (client-past us w d c same h a) a changes
 
-pub ends-none-marks : (cause : Cause) (us : List (Option ClientView)) (w : DeskView) (d : Desktop) (c : ℕ) (damage : Damaged) → us ≡ w.clients → (c ≡ 0) ⊎ (length us < c) → Matches w d → Marks d (ended_at c cause d) damage damage
+pub ends-none-marks : (cause : Cause) (us : List (Option ClientView)) (w : DeskView) (d : Desktop) (c : ℕ) (damage : Damaged) → us ≡ w.clients → (c ≡ 0) ⊎ (length us < c) → Matches w d → MarksToplevels d (ended_at c cause d) damage damage
 ends-none-marks cause us w d c damage same h a = still-marks w d (ended_at c cause d) damage a (ap (λ o. ended_of c cause o d) (client-past us w d c same h a))
 
 module _ {A : Type 0} (output : Output) (us : List (Option ClientView)) (os : List (Option (Owned A))) (stack : Stack) (c k : ℕ) (is : IsFound us os c k) (d : Desktop) (a : Matches (view_of output us os stack) d) where
@@ -187,7 +188,7 @@ module _ {A : Type 0} (output : Output) (us : List (Option ClientView)) (os : Li
   old-view = view_of output us os stack
 
   pub untaken-marks : (R : Peer → Done → Option Peer → Type 0) (absent done : Done) (x x2 : Option ClientView) (y y2 : Option (Owned A)) (e : Desktop) (damage : Damaged) → x ≡ get_or us k x → y ≡ get_or os k y → (x ≡ None) ⊎ (y ≡ None)
-      → (x2 ≡ None) × (y2 ≡ None) → Changes c R absent d done e → Marks d e damage damage
+      → (x2 ≡ None) × (y2 ≡ None) → Changes c R absent d done e → MarksToplevels d e damage damage
   untaken-marks R absent done x x2 y y2 e damage f g none left changes =
       none-marks R absent done c old-view d e damage (untaken output us os stack c k is d a x x2 y y2 f g none left).0 a changes
 
@@ -199,36 +200,36 @@ module _ {A : Type 0} (output : Output) (us : List (Option ClientView)) (os : Li
   -- a client that is told something, which leads to one client only
   pub changes-marks : (R : Peer → Done → Option Peer → Type 0) (absent done : Done) (v new : Kept A) (x : Option ClientView) (y : Option (Owned A)) (now : Stack) (e : Desktop) (before after : Damaged) → x ≡ get_or us k x → y ≡ get_or os k y
       → (x ≡ Some v.client) × (y ≡ Some v.owned) → IsChangedSo c R done v new stack now → ((p : Peer) (q r : Option Peer) → R p done q → R p done r → q ≡ r) → MarksEnd new.client.ended c stack before after
-      → Changes c R absent d done e → Marks d e before after
+      → Changes c R absent d done e → MarksToplevels d e before after
   changes-marks R absent done v new x y now e before after f g taken changed once marks changes =
       let s = out output us os stack c k is d a v x y f g taken in
       let n = changed (numbers_in us) d d s.0 s.2 in
       let step : ChangesAt R absent c (Some s.0) d done e = subst (λ (o : Option Resident). ChangesAt R absent c o d done e) s.1 changes in
-      subst (λ (e : Desktop). Marks d e before after) (sym (step.2 ∙ ap (λ q. left_so c s.0 q d) (once s.0.peer step.0 (Some n.0) step.1 n.2)))
+      subst (λ (e : Desktop). MarksToplevels d e before after) (sym (step.2 ∙ ap (λ q. left_so c s.0 q d) (once s.0.peer step.0 (Some n.0) step.1 n.2)))
       (told-marks c s.0 old-view d n.0 new.client.ended before after s.1 a (seated-status s.0 n.0 new now n.1 s.1 n.3) marks)
 
   -- a client ends
-  pub ends-untaken-marks : (cause : Cause) (x x2 : Option ClientView) (y y2 : Option (Owned A)) (damage : Damaged) → x ≡ get_or us k x → y ≡ get_or os k y → (x ≡ None) ⊎ (y ≡ None) → (x2 ≡ None) × (y2 ≡ None) → Marks d (ended_at c cause d) damage damage
+  pub ends-untaken-marks : (cause : Cause) (x x2 : Option ClientView) (y y2 : Option (Owned A)) (damage : Damaged) → x ≡ get_or us k x → y ≡ get_or os k y → (x ≡ None) ⊎ (y ≡ None) → (x2 ≡ None) × (y2 ≡ None) → MarksToplevels d (ended_at c cause d) damage damage
   ends-untaken-marks cause x x2 y y2 damage f g none left =
       still-marks old-view d (ended_at c cause d) damage a (ap (λ o. ended_of c cause o d) (untaken output us os stack c k is d a x x2 y y2 f g none left).0)
 
   pub ends-marks : (cause : Cause) (v new : Kept A) (x : Option ClientView) (y : Option (Owned A)) (now : Stack) (before after : Damaged) → x ≡ get_or us k x → y ≡ get_or os k y → (x ≡ Some v.client) × (y ≡ Some v.owned)
       → ((r : Resident) → IsSeated c (numbers_in us) d v stack d r → (q : Resident) × IsSeated c (numbers_in us) d new now (become c r (ended_by r.peer.status cause r.peer) d) q)
-      → MarksEnd new.client.ended c stack before after → Marks d (ended_at c cause d) before after
+      → MarksEnd new.client.ended c stack before after → MarksToplevels d (ended_at c cause d) before after
   ends-marks cause v new x y now before after f g taken end marks =
       let s = out output us os stack c k is d a v x y f g taken in
       let n = end s.0 s.2 in
       let over = ended_by s.0.peer.status cause s.0.peer in
-      subst (λ o. Marks d (ended_of c cause o d) before after) (sym s.1) (told-marks c s.0 old-view d over new.client.ended before after s.1 a (seated-status s.0 over new now n.0 s.1 n.1) marks)
+      subst (λ o. MarksToplevels d (ended_of c cause o d) before after) (sym s.1) (told-marks c s.0 old-view d over new.client.ended before after s.1 a (seated-status s.0 over new now n.0 s.1 n.1) marks)
 
   -- ---- a number is given back
 
-  unclosed-by : (x : Option ClientView) (o : Option OwnedView) (r : Option Resident) (done : Done) (e : Desktop) (damage : Damaged) → client_at c d ≡ r → IsPlace x o r → has_ended_in x ≡ false → ChangesAt IsClosed (gave.Close false) c r d done e → Marks d e damage damage
+  unclosed-by : (x : Option ClientView) (o : Option OwnedView) (r : Option Resident) (done : Done) (e : Desktop) (damage : Damaged) → client_at c d ≡ r → IsPlace x o r → has_ended_in x ≡ false → ChangesAt IsClosed (gave.Close false) c r d done e → MarksToplevels d e damage damage
   unclosed-by None None None done e damage there here alive changes = still-marks old-view d e damage a changes.1
   unclosed-by (Some v) (Some o) (Some s) done e damage there here alive changes =
       let status : s.peer.status ≡ None = sym here.peer.status ∙ lives-of v.ended alive in
       let same : changes.0 ≡ Some s.peer = changes.1.0 ∙ ap (λ z. closed_by z s.peer) status in
-      subst (λ (e : Desktop). Marks d e damage damage) (sym (changes.2 ∙ ap (λ q. left_so c s q d) same))
+      subst (λ (e : Desktop). MarksToplevels d e damage damage) (sym (changes.2 ∙ ap (λ q. left_so c s q d) same))
       (λ x y wide high clean. (clean, told-marks-nothing c s d there (unlinked old-view d a) a.mapped.apart s s.peer refl status (pos x) (pos y)))
   unclosed-by None None (Some s) done e damage there here alive changes = absurd here
   unclosed-by None (Some o) None done e damage there here alive changes = absurd here
@@ -241,7 +242,7 @@ module _ {A : Type 0} (output : Output) (us : List (Option ClientView)) (os : Li
   place-of x f = rw is.number (rw (client-here output us os stack c k is d a x f) at (place-at old-view d k a))
 
   -- there is nobody, or the client lives
-  pub unclosed-marks : (x : Option ClientView) (done : Done) (e : Desktop) (damage : Damaged) → x ≡ get_or us k x → has_ended_in x ≡ false → Changes c IsClosed (gave.Close false) d done e → Marks d e damage damage
+  pub unclosed-marks : (x : Option ClientView) (done : Done) (e : Desktop) (damage : Damaged) → x ≡ get_or us k x → has_ended_in x ≡ false → Changes c IsClosed (gave.Close false) d done e → MarksToplevels d e damage damage
   unclosed-marks x done e damage f alive changes = unclosed-by x (at (map (option_map owned_view) os) k) (client_at c d) done e damage refl (place-of x f) alive changes
 
   -- an ended client owns nothing, and none of its toplevels stands
@@ -253,7 +254,7 @@ module _ {A : Type 0} (output : Output) (us : List (Option ClientView)) (os : Li
       (λ other. ap (λ (d : Desktop). owned_in d other) same ∙ owned-numbers d.clients c other None (sym bare)) x y
 
   closed-by : (x : Option ClientView) (o : Option OwnedView) (r : Option Resident) (done : Done) (e : Desktop) (stood : Bool) (before after : Damaged) → client_at c d ≡ r → IsPlace x o r → has_ended_in x ≡ true
-      → ((i j : ℕ) → i < before.width → j < before.height → has after i j ≡ (has before i j || stood)) → ChangesAt IsClosed (gave.Close false) c r d done e → Marks d e before after
+      → ((i j : ℕ) → i < before.width → j < before.height → has after i j ≡ (has before i j || stood)) → ChangesAt IsClosed (gave.Close false) c r d done e → MarksToplevels d e before after
   closed-by None o r done e stood before after there here over marks changes = absurd (differ over)
   closed-by (Some v) (Some o) (Some s) done e stood before after there here over marks changes =
       let status : is_some s.peer.status ≡ true = ap (λ (z : Option Cause). is_some z) (sym here.peer.status) ∙ over in
@@ -265,5 +266,5 @@ module _ {A : Type 0} (output : Output) (us : List (Option ClientView)) (os : Li
 
   -- the client ended
   pub closed-marks : (x : Option ClientView) (done : Done) (e : Desktop) (stood : Bool) (before after : Damaged) → x ≡ get_or us k x → has_ended_in x ≡ true
-      → ((i j : ℕ) → i < before.width → j < before.height → has after i j ≡ (has before i j || stood)) → Changes c IsClosed (gave.Close false) d done e → Marks d e before after
+      → ((i j : ℕ) → i < before.width → j < before.height → has after i j ≡ (has before i j || stood)) → Changes c IsClosed (gave.Close false) d done e → MarksToplevels d e before after
   closed-marks x done e stood before after f over marks changes = closed-by x (at (map (option_map owned_view) os) k) (client_at c d) done e stood before after refl (place-of x f) over marks changes

@@ -5,7 +5,7 @@ use Rattle.wl_client.specs.Told.{Output as Shown}
 use Rattle.wl_client.specs.declared.clients.Cause.{Cause}
 use Rattle.wl_paint.specs.Damage.{Damaged}
 use Rattle.wl_resident.specs.Agreement.{Matches}
-use Rattle.wl_resident.specs.Marking.{Marks as MarksToplevels}
+use Rattle.wl_resident.specs.Marking.{Marks}
 use Rattle.wl_resident.specs.Seats.{ended_by}
 use Rattle.wl_resident.specs.View.{DeskView}
 use Rattle.wl_plain.specs.declared.answers.Done.{Done}
@@ -17,7 +17,7 @@ use Rattle.wl_plain.specs.Settling.{EndsAndSettles, becomes, unstruck}
 use Rattle.wl_plain.specs.Step.{with_peer}
 use Rattle.wl_plain.specs.Steps.{Act}
 use Rattle.wl_plain.specs.Whole.{Happens, Serves, Steps as Stepping}
-use Rattle.wl_desk.specs.Agreeing.{Agrees, Marks, TakesStep}
+use Rattle.wl_desk.specs.Agreeing.{Agrees, TakesStep}
 use Rattle.wl_desk.specs.Feeding.{Ends, EndsBy, EndsOf, IsIdleIn, kept_at, kept_by, kept_of}
 use Rattle.wl_desk.proofs.Calls.{ended_at, ended_of}
 use Rattle.wl_plain.proofs.Altering.{Alters, IsCall}
@@ -28,14 +28,9 @@ use Rattle.wl_plain.proofs.BridgeMessages.{serves-has}
 use Rattle.wl_plain.proofs.BridgeServes.{becomes-same, living, only-peer, settles-to}
 use Rattle.wl_plain.proofs.BridgeSteps.{alters-whole, has-put, stays-by}
 use Rattle.wl_plain.proofs.BridgeTouches.{touches_apart}
-use Rattle.wl_plain.proofs.BridgeWindows.{marks-same}
+use Rattle.wl_resident.proofs.Toplevels.{MarksToplevels, marks-all}
 use Rattle.wl_plain.proofs.OwningKeys.{none-some}
 use Rattle.wl_plain.proofs.Places.{client-kept}
-
-pub marks-all : (d e : Desktop) (old new : Damaged) → NoMore d → NoMore e → MarksToplevels d e old new → Marks d e old new
-marks-all d e old new more later marks = λ x y wide high clean.
-    let both = marks x y wide high clean in
-    (both.0, marks-same d e (pos x) (pos y) more later ∙ both.1)
 
 -- ---- a step
 

@@ -1,14 +1,12 @@
 -- A desk agrees with a desktop, and what its calls make of both.
-use Rattle.std.specs.Prelude.{ℕ, ◌≡◌, ◌<◌, pos, false}
-use Rattle.wl_paint.specs.Damage.{Damaged, has}
 use Rattle.wl_plain.specs.declared.answers.Done.{Done}
 use Rattle.wl_plain.specs.Desktop.{Desktop}
 use Rattle.wl_plain.specs.LeftOut.{served_now}
-use Rattle.wl_plain.specs.Moments.{marks_at_least}
 use Rattle.wl_plain.specs.NoMore.{NoMore}
 use Rattle.wl_plain.specs.Steps.{Act}
 use Rattle.wl_plain.specs.Whole.{Happens, Steps}
 use Rattle.wl_resident.specs.Agreement.{Matches}
+use Rattle.wl_resident.specs.Marking.{Marks}
 use Rattle.wl_resident.specs.View.{DeskView, MarkedDesk}
 
 -- What is kept is what the desktop has, and nothing that isn't served has left a trace there.
@@ -19,11 +17,6 @@ pub record Agrees (v : DeskView) (d : Desktop) : Type 0 where
 -- One step leads from old to new: whatever desktop agrees before, one to which the step leads agrees after.
 abbrev pub TakesStep : Act → Done → DeskView → DeskView → Type 0
 TakesStep act done old new = (d : Desktop) → Agrees old d → (e : Desktop) × Happens served_now (Steps act done) d e × Agrees new e
-
--- what is to be painted stays so, and what a step from one desktop to the other marks at least is to be painted too
-abbrev pub Marks : Desktop → Desktop → Damaged → Damaged → Type 0
-Marks d e old new =
-    (x y : ℕ) → x < old.width → y < old.height → has new x y ≡ false → (has old x y ≡ false) × (marks_at_least d e (pos x) (pos y) ≡ false)
 
 -- A step marks what it has to.
 abbrev pub MarksStep : Act → Done → MarkedDesk → MarkedDesk → Type 0

@@ -12,3 +12,4 @@ pub mod Asking
 pub mod OwnAsking
 pub mod MarkedMessages
 pub mod Marked
+pub mod Toplevels

@@ -48,7 +48,8 @@ use Rattle.wl_resident.specs.Agreement.{Matches, IsPlace, IsStack}
 use Rattle.wl_plain.specs.Ask.{Ask, Own, CreateSurface, DestroySurface, AskSurface, CommitSurface, DestroyBase, GetXdgSurface, DestroyXdgSurface, GetToplevel, Acknowledge, ConfigureAgain, DestroyToplevel, Ignore, owns}
 use Rattle.wl_plain.specs.Desktop.{Desktop, Resident, client_in, owned_in, owned_of, place}
 use Rattle.wl_plain.specs.Laws.{status_in, status_of}
-use Rattle.wl_resident.specs.Marking.{AreUnlinked, IsAsLarge, Marks, MarksEnd, marked_by, marked_in, stands_any}
+use Rattle.wl_resident.proofs.Toplevels.{MarksToplevels}
+use Rattle.wl_resident.specs.Marking.{AreUnlinked, IsAsLarge, MarksEnd, marked_by, marked_in, stands_any}
 use Rattle.wl_resident.specs.Messages.{IsAsked, IsKind}
 use Rattle.wl_plain.specs.Moments.{marks_of_toplevels}
 use Rattle.wl_plain.specs.Owning.{names_in, target_as, targets_in}
@@ -479,5 +480,5 @@ module _ {A : Type 0} (c : ℕ) (others : ℕ → ById ℕ) (base d e : Desktop)
         (λ f. not-marked (serves-point beyond_toplevels c r d before.based.there _ _ _ before.seat.owns before.mapped (seated-unlinked c others base d old was r before unlinked) (pos x) (pos y) e serves f))
 
   -- What a message marks at least is to be painted, as is what was.
-  pub message-marks : Marks d e d0 d3
+  pub message-marks : MarksToplevels d e d0 d3
   message-marks = λ x y wide high unmarked. (none0 x y wide high unmarked, least x y wide high unmarked)

@@ -6,7 +6,7 @@ use Rattle.wl_client.specs.declared.clients.Cause.{Cause}
 use Rattle.wl_paint.specs.Damage.{Damaged, has}
 use Rattle.wl_scene.specs.Stacking.{Stack}
 use Rattle.wl_plain.specs.Desktop.{Desktop, owned_in}
-use Rattle.wl_plain.specs.Moments.{marks_of_toplevels}
+use Rattle.wl_plain.specs.Moments.{marks_at_least}
 use Rattle.wl_resident.specs.declared.messages.Asked.{Asked}
 use Rattle.wl_resident.specs.declared.messages.Asked.TheVariants as asked
 use Rattle.wl_resident.specs.declared.messages.Kind.{Kind}
@@ -25,7 +25,7 @@ AreUnlinked d = (c : ℕ) → (owned_in d c).surfaces.links ≡ []
 -- what is to be painted stays so, and what a step from one desktop to the other marks at least is to be painted too
 abbrev pub Marks : Desktop → Desktop → Damaged → Damaged → Type 0
 Marks d e old new =
-    (x y : ℕ) → x < old.width → y < old.height → has new x y ≡ false → (has old x y ≡ false) × (marks_of_toplevels d e (pos x) (pos y) ≡ false)
+    (x y : ℕ) → x < old.width → y < old.height → has new x y ≡ false → (has old x y ≡ false) × (marks_at_least d e (pos x) (pos y) ≡ false)
 
 -- a toplevel of the client stands
 abbrev pub stands_any : ℕ → Stack → Bool

@@ -4,7 +4,7 @@ use Rattle.wl_resident.specs.Agreement.{numbers_in}
 use Rattle.wl_desk.specs.Feeding.{served_as}
 use Rattle.wl_desk.proofs.Calls.{found, serves}
 use Rattle.wl_desk.proofs.Kept.{Idle-none, idles, idles-untaken, rest-less, served-answer, served-idle, served-took, serves-marks, serves-told}
-use Rattle.wl_desk.proofs.NoMore.{idles-whole, marks-all, message-whole}
+use Rattle.wl_desk.proofs.NoMore.{idles-whole, message-whole}
 use Rattle.wl_desk.proofs.desks.Desk.serve.Goals as goal
 
 pub returns-in_default-clause-more : goal.returns-in_default-clause-more
@@ -31,9 +31,9 @@ returns-clause-told g c = λ some d a.
 
 pub returns-clause-marks : goal.returns-clause-marks
 returns-clause-marks g c = λ some d e a step b.
-    marks-all d e c.args.self.now.damage c.serve_on-taken.new.damage a.no_more b.no_more (rw (← c.self.view_is) (serves-marks c.self.inside.output c.self.inside.clients.items c.self.inside.owned.items c.self.inside.scene c.args.client c.in-Some.k (found _ _ _ _ _ c.deref.ensures.value c.in-Some.ensures.some c.self.invariant.0) d (rw (← c.self.view_is) at a.matches)
+    rw (← c.self.view_is) (serves-marks c.self.inside.output c.self.inside.clients.items c.self.inside.owned.items c.self.inside.scene c.args.client c.in-Some.k (found _ _ _ _ _ c.deref.ensures.value c.in-Some.ensures.some c.self.invariant.0) d (rw (← c.self.view_is) at a.matches)
     c.in-Some-take_out.resident c.serve_on-taken.new.self _ _ _ _ c.serve_on-taken.new.scene e c.self.inside.damage c.serve_on-taken.new.damage c.index_mut.ensures.value c.index_mut-2.ensures.value c.in-Some-take_out.ensures.some a.no_more
-    (c.serve_on-taken.ensures.marks (served-took _ _ _ c.served_of-served.ensures some) (numbers_in c.self.inside.clients.items) d d) step (rw (c.put_back.ensures.client, c.put_back.ensures.owned) at b.matches)))
+    (c.serve_on-taken.ensures.marks (served-took _ _ _ c.served_of-served.ensures some) (numbers_in c.self.inside.clients.items) d d) step (rw (c.put_back.ensures.client, c.put_back.ensures.owned) at b.matches))
 
 pub returns-clause-more : goal.returns-clause-more
 returns-clause-more g c = λ more. idles-whole c.args.client _ _ (λ d a.

@@ -2,11 +2,14 @@ use Rattle.std.proofs.Common.{refl, sym, ◌∙◌, ◌≡◌, rules}
 use Rattle.wl_wire.specs.Wire.{split_of}
 use Rattle.wl_wire.specs.declared.header.Split.TheVariants.{More}
 use Rattle.wl_plain.proofs.BridgeBack.{serves-back}
+use Rattle.wl_plain.proofs.BridgeMessages.{serves-has}
 use Rattle.wl_plain.proofs.BridgeServes.{serves-whole}
+use Rattle.wl_plain.proofs.BridgeTouches.{touches_apart}
 use Rattle.wl_resident.proofs.Asking.{idle-more, idle-unmarked}
 use Rattle.wl_resident.proofs.Seats.{large-then}
 use Rattle.wl_resident.proofs.MarkedMessages.{keeps-numbers, message-marks}
 use Rattle.wl_resident.proofs.Taking.{served}
+use Rattle.wl_resident.proofs.Toplevels.{marks-all}
 use Rattle.wl_resident.proofs.residents.Resident.serve_on.Goals as goal
 
 pub returns-clause-serves : goal.returns-clause-serves
@@ -36,12 +39,14 @@ returns-clause-marks g c = λ some others base d r unlinked before more e q serv
     let takes = c.in-Some.ensures.takes r (record { peer = before.seat.peer; owns = before.seat.owns }) in
     let first = c.mark_touched.ensures in
     let second = c.mark_touched-2.ensures in
-    message-marks c.args.client others base d e r q old new was now before after unlinked (serves-back c.args.client d e more serves) c.asked-asked.result c.asked-asked.ensures
+    let small = serves-back c.args.client d e more serves in
+    marks-all d e c.args.damage.now c.mark_touched-2.new.damage more (serves-has touches_apart c.args.client d e more small)
+    (message-marks c.args.client others base d e r q old new was now before after unlinked small c.asked-asked.result c.asked-asked.ensures
     (keeps-numbers (split_of r.peer.rest) r c.args.client c.in-Some.stacking old c.serve.new.self new was now takes c.settle.ensures.settles)
     c.touched_by-touched.result c.touched_by-touched.ensures c.args.damage.now c.mark_touched.new.damage c.settle.new.damage c.mark_touched-2.new.damage
     (record { marks = first.marks; more = first.more; sides = first.sides })
     c.settle.ensures.marks
-    (record { marks = second.marks; more = second.more; sides = second.sides })
+    (record { marks = second.marks; more = second.more; sides = second.sides }))
 
 pub returns-clause-less : goal.returns-clause-less
 returns-clause-less g c = search rules
