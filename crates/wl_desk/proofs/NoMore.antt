@@ -1,5 +1,5 @@
 -- What the calls of a desk make of its clients and toplevels is what happens to the desktop, and leaves nothing there of what isn't served.
-use Rattle.std.proofs.Common.{◌≡◌, ℕ, List, ◌++◌, Option, Some, None, refl, ap, subst, sym, ◌∙◌, pos}
+use Rattle.std.proofs.Common.{◌≡◌, ℕ, List, ◌++◌, Option, Some, None, refl, ap, subst, sym, ◌∙◌}
 use Rattle.wl_client.specs.Peer.{Peer, ended, with_rest}
 use Rattle.wl_client.specs.Told.{Output as Shown}
 use Rattle.wl_client.specs.declared.clients.Cause.{Cause}

@@ -1,80 +1,37 @@
--- What happens one message at a time leaves orderly desktops, which are sound; and a piece of a client's stream is the messages that it completes.
-use Rattle.std.proofs.Common.{◌≡◌, ◌≢◌, ℕ, zero, suc, List, [], ◌∷◌, ◌++◌, Option, Some, None, refl, subst, sym, inl, inr}
-use Rattle.std.specs.Prelude.{◌⊎◌}
+-- What happens one message at a time leads through orderly desktops, which are sound; and a piece is the messages that it completes.
+use Rattle.std.proofs.Common.{◌≡◌, ℕ, zero, suc, List, [], ◌∷◌, ◌++◌, Option, Some, None, refl, subst, sym, inl, inr}
 use Rattle.wl_client.specs.declared.clients.Cause.{Cause}
 use Rattle.wl_client.specs.declared.clients.Cause.TheVariants.{Memory}
 use Rattle.wl_client.specs.Peer.{ended, with_rest}
 use Rattle.wl_plain.specs.declared.answers.Done.{Done}
 use Rattle.wl_plain.specs.Desktop.{Desktop, Resident, client_at, empty, with_client}
-use Rattle.wl_plain.specs.Happenings.{Happening, HappeningsAreSound, Leads, LeadsAll, Message, PieceIsMessages, Receive, ReceivesAt, Single, Starve, StarvesAt}
-use Rattle.wl_plain.specs.Laws.{toplevels_of}
+use Rattle.wl_plain.specs.Happenings.{Happening, HappeningsAreSound, LeadsAll, Message, PieceIsMessages, Receive, ReceivesAt, Starve, StarvesAt}
 use Rattle.wl_plain.specs.LeftOut.{LeftOut}
 use Rattle.wl_plain.specs.Settling.{becomes, unstruck}
 use Rattle.wl_plain.specs.Step.{with_peer}
-use Rattle.wl_plain.specs.Whole.{FeedsAt, IsFedAt, Reaches, Serves, StopsAt}
-use Rattle.wl_plain.proofs.Orderly.{AreOrderly, IsOrderlyAt}
-use Rattle.wl_plain.proofs.OrderlyMessage.{message-keeps}
+use Rattle.wl_plain.specs.Whole.{FeedsAt, IsFedAt, Reaches, StopsAt}
+use Rattle.wl_plain.proofs.Orderly.{AreOrderly}
 use Rattle.wl_plain.proofs.OrderlyRun.{empty-orderly}
-use Rattle.wl_plain.proofs.OrderlyRunMessages.{serves-known, stops-known, with-known}
-use Rattle.wl_plain.proofs.OrderlyRunTold.{Known, alike, known-so, left-orderly}
-use Rattle.wl_plain.proofs.Places.{number-other}
-use Rattle.wl_plain.proofs.RunSound.{frames, happens-keeps, orderly-is-sound}
-use Rattle.wl_plain.proofs.Through.{happens_leads_through, messages_lead_through, settling-with, settling-without}
-use Rattle.wl_plain.proofs.WholeOneRunFates.{same-or}
-use Rattle.wl_plain.proofs.WholeOthers.{left_alone}
-use Rattle.wl_plain.proofs.WholeOthersMessages.{serves-in, stops-in}
+use Rattle.wl_plain.proofs.RunSound.{orderly-is-sound}
+use Rattle.wl_plain.proofs.SoundWithin.{all-sound, leads-known, leads-orderly}
+use Rattle.wl_plain.proofs.Through.{messages_lead_through, settling-with, settling-without}
 
--- ---- each leaves an orderly desktop
+-- ---- each leads through sound desktops to an orderly one
 
-module _ (left : LeftOut) (c : ℕ) where
-  -- one client is orderly, and each other
-  each : (e : Desktop) → Known c e → ((other : ℕ) → c ≢ other → Known other e) → AreOrderly e
-  each e own others k = at (same-or c k)
-    where
-      at : (c ≡ k) ⊎ (c ≢ k) → Known k e
-      at (inl same) = subst (λ (n : ℕ). Known n e) same own
-      at (inr differ) = others k differ
+leads-all-orderly : (left : LeftOut) (hs : List Happening) (d e : Desktop) → AreOrderly d → LeadsAll left hs d e → AreOrderly e
+leads-all-orderly left [] d e orderly h = rw h orderly
+leads-all-orderly left (one ∷ hs) d e orderly h =
+    leads-all-orderly left hs h.1 e (leads-orderly left one d h.0 h.1 orderly h.2) h.3
 
-  message-orderly : (d e : Desktop) → AreOrderly d → Serves left c d e → AreOrderly e
-  message-orderly d e orderly h =
-      each e (serves-known frames message-keeps left c (client_at c d) d e refl (orderly c) h)
-      (λ other differ. left-orderly frames other d e
-      (left_alone other d e (λ A P stays known. serves-in left c other differ A P stays (client_at c d) d e known h)) (orderly other))
-
-  starves-orderly : (d e : Desktop) → AreOrderly d → StopsAt c (client_at c d) d e → AreOrderly e
-  starves-orderly d e orderly h =
-      each e (stops-known frames message-keeps left c (client_at c d) d e refl (orderly c) h)
-      (λ other differ. left-orderly frames other d e
-      (left_alone other d e (λ A P stays known. stops-in left c other differ A P stays (client_at c d) d e known h)) (orderly other))
-
-  receives-orderly : (piece : List ℕ) (o : Option Resident) (d : Desktop) (path : List Desktop) (e : Desktop) → client_at c d ≡ o → AreOrderly d → ReceivesAt c piece o d path e → AreOrderly e
-  receives-orderly piece None d path e found orderly h = absurd h
-  receives-orderly piece (Some r) d path e found orderly h =
-      let come : Resident = with_peer (with_rest (r.peer.rest ++ piece) r.peer) r in
-      let now : Desktop = with_client c (Some come) d in
-      let was : IsOrderlyAt (Some r) (toplevels_of c d) = subst (λ (o : Option Resident). IsOrderlyAt o (toplevels_of c d)) found (orderly c) in
-      let own : Known c now = with-known frames message-keeps left c r (with_rest (r.peer.rest ++ piece) r.peer) d found
-      (alike frames r come (record { status = refl; requests = refl; objects = refl; owned = refl; subsurfaces = refl; callbacks = refl }) (toplevels_of c d) was) in
-      subst (λ (x : Desktop). AreOrderly x) (sym h.1)
-      (each now own (λ other differ. known-so other now (client_at other d) (toplevels_of other d) (number-other d.clients c other (Some come) differ) refl (orderly other)))
+pub happenings_are_sound : HappeningsAreSound
+happenings_are_sound left output hs d h =
+    let orderly : AreOrderly d = leads-all-orderly left hs (empty output) d (empty-orderly output) h in
+    (orderly-is-sound d orderly, λ one path new k. all-sound path new (λ c. leads-known c left one d path new (orderly c) k))
 
 -- the end of a client for want of memory, without the desktops on the way
 pub stops : (c : ℕ) (o : Option Resident) (d : Desktop) (path : List Desktop) (e : Desktop) → StarvesAt c o d path e → StopsAt c o d e
 stops c None d path e h = absurd h
 stops c (Some r) d path e h = inr (h.0, settling-without path e (unstruck (becomes c r (ended Memory r.peer) d)) h.1)
-
-pub leads-orderly : (left : LeftOut) (h : Happening) (d : Desktop) (path : List Desktop) (e : Desktop) → AreOrderly d → Leads left h d path e → AreOrderly e
-leads-orderly left (Receive c piece) d path e orderly h = receives-orderly left c piece (client_at c d) d path e refl orderly h
-leads-orderly left (Message c) d path e orderly h = message-orderly left c d e orderly ((messages_lead_through left c d e).0 path h)
-leads-orderly left (Starve c) d path e orderly h = starves-orderly left c d e orderly (stops c (client_at c d) d path e h)
-leads-orderly left (Single deed) d path e orderly h = happens-keeps left deed d e orderly ((happens_leads_through left deed d e).0 path h)
-
-leads-all-orderly : (left : LeftOut) (hs : List Happening) (d e : Desktop) → AreOrderly d → LeadsAll left hs d e → AreOrderly e
-leads-all-orderly left [] d e orderly h = rw h orderly
-leads-all-orderly left (one ∷ hs) d e orderly h = leads-all-orderly left hs h.1 e (leads-orderly left one d h.0 h.1 orderly h.2) h.3
-
-pub happenings_are_sound : HappeningsAreSound
-happenings_are_sound left output hs d h = orderly-is-sound d (leads-all-orderly left hs (empty output) d (empty-orderly output) h)
 
 -- ---- a piece
 

@@ -117,6 +117,7 @@ pub mod WholePiecesServing
 pub mod WholePieces
 pub mod BridgeLeft
 pub mod HappeningsSound
+pub mod SoundWithin
 pub mod ShownWindows
 pub mod Following
 pub mod MarkedThrough

@@ -15,21 +15,21 @@ use Rattle.wl_plain.specs.declared.answers.Done.{Done}
 use Rattle.wl_plain.specs.Desktop.{Desktop, Resident, arrival, client_at, client_in, empty, place, with_client, with_number, with_place}
 use Rattle.wl_plain.specs.Laws.{toplevels_of}
 use Rattle.wl_plain.specs.LeftOut.{LeftOut}
-use Rattle.wl_plain.specs.Settling.{EndsAndSettles, becomes, unstruck}
+use Rattle.wl_plain.specs.Settling.{Moving, becomes, ended_at, unstruck}
 use Rattle.wl_plain.specs.Stacked.{all_windows}
 use Rattle.wl_plain.specs.Step.{with_peer}
-use Rattle.wl_plain.specs.Steps.{Act, Connect, Feed, Store, Leave, Tick, Send, Close, ConnectsAt, IsClosed, IsSent, IsStored, closed_by, lowest, next_of}
-use Rattle.wl_plain.specs.Whole.{Acts, ChangesAt, Deed, Happens, LeavesAt, PressesIf, ReleasesIf, Steps, Motion, Button, hit_now, point_in, pointed}
-use Rattle.wl_plain.specs.WholeOthers.{client_of}
+use Rattle.wl_plain.specs.Steps.{Connect, Feed, Store, Leave, Tick, Send, Close, IsClosed, IsSent, IsStored, closed_by, lowest, next_of}
+use Rattle.wl_plain.specs.Whole.{Acts, ChangesThen, ConnectsThen, Deed, Happens, HappensThen, LeavesThen, PressesThen, ReleasesThen, Steps, Motion, Button, ending, hit_now, point_in, pointed, settling}
 use Rattle.wl_plain.proofs.Orderly.{AreOrderly, IsOrderlyAt, IsOrderlyBy}
 use Rattle.wl_plain.proofs.OrderlyRunMessages.{MessageKeeps, fed-known}
-use Rattle.wl_plain.proofs.OrderlyRunTold.{Anyhow, Frames, IsAlike, Known, ToldOrderly, alike, becomes-ended, known-same, known-so, left-orderly, nothing-orderly, orderly-all, orderly-stays, settled}
+use Rattle.wl_plain.proofs.OrderlyRunTold.{Anyhow, Frames, IsAlike, Known, ToldOrderly, alike, ended-by-known, ending-known, known-so, left-orderly, nothing-orderly, orderly-all, orderly-stays, settling-known}
 use Rattle.wl_plain.proofs.OrderlyRunTops.{pointed-known, raised-known}
 use Rattle.wl_plain.proofs.OwningKeys.{none-some, some-same}
 use Rattle.wl_plain.proofs.Places.{number-other, number-same}
+use Rattle.wl_plain.proofs.Through.{connects-with}
 use Rattle.wl_plain.proofs.WholeOneRunFates.{same-or}
 use Rattle.wl_plain.proofs.WholeOthers.{whole_others_stay}
-use Rattle.wl_plain.proofs.WholeOthersOwn.{moves, pressed-so, released-so, shown}
+use Rattle.wl_plain.proofs.WholeOthersOwn.{moves-then, pressed-then, released-then, shown-then}
 
 -- ---- a desktop without clients
 
@@ -71,10 +71,9 @@ no-surface output id = at (id == 1)
     at true = refl
     at false = refl
 
-connects : (c : ℕ) (k : Option ℕ) (d : Desktop) (done : Done) (new : Desktop) → lowest d.clients ≡ k → Known c d → ConnectsAt k d done new → Known c new
-connects c None d done new free known h = known-same c d new h.1 known
-connects c (Some k) d done new free known (inl h) = known-same c d new h.1 known
-connects c (Some k) d done new free known (inr h) = known-same c now new h.1 (at (same-or (k + 1) c))
+-- each client is orderly where one has come
+comes-known : (c k : ℕ) (d : Desktop) → lowest d.clients ≡ Some k → Known c d → Known c (with_client (k + 1) (Some (arrival d.output)) d)
+comes-known c k d free known = at (same-or (k + 1) c)
   where
     now : Desktop
     now = with_client (k + 1) (Some (arrival d.output)) d
@@ -99,23 +98,19 @@ held_by (Some q) r = Some (with_peer q r)
 abbrev KeepsHeld : (Peer → Done → Option Peer → Type 0) → Done → Type 0
 KeepsHeld R done = (r : Resident) (q : Option Peer) (tops : List Standing) → R r.peer done q → IsOrderlyAt (Some r) tops → IsOrderlyAt (held_by q r) tops
 
-changes-known : (R : Peer → Done → Option Peer → Type 0) (absent : Done) (c : ℕ) (o : Option Resident) (d : Desktop) (done : Done) (new : Desktop) → KeepsHeld R done → client_at c d ≡ o → Known c d → ChangesAt R absent c o d done new → Known c new
-changes-known R absent c None d done new keeps found known h = known-same c d new h.1 known
-changes-known R absent c (Some r) d done new keeps found known h = at h.0 refl
+-- Each client is orderly where one is changed to what is orderly where that was.
+pub put-known : (c a : ℕ) (x : Option Resident) (r : Resident) (d : Desktop) → client_at a d ≡ Some r
+    → ((tops : List Standing) → IsOrderlyAt (Some r) tops → IsOrderlyAt x tops) → Known c d → Known c (with_client a x d)
+put-known c a x r d found keeps known = at (same-or a c)
   where
-    it : IsOrderlyAt (held_by h.0 r) (toplevels_of c d)
-    it = keeps r h.0 (toplevels_of c d) h.1 (subst (λ (o : Option Resident). IsOrderlyAt o (toplevels_of c d)) found known)
+    own : Known a d → Known a (with_client a x d)
+    own known =
+        let it : IsOrderlyAt (Some r) (toplevels_of a d) = subst (λ (o : Option Resident). IsOrderlyAt o (toplevels_of a d)) found known in
+        known-so a (with_client a x d) x (toplevels_of a d) (number-same d.clients a x r found) refl (keeps (toplevels_of a d) it)
 
-    put : (x : Option Resident) → IsOrderlyAt x (toplevels_of c d) → Known c (with_client c x d)
-    put x known = known-so c (with_client c x d) x (toplevels_of c d) (number-same d.clients c x r found) refl known
-
-    at : (q : Option Peer) → h.0 ≡ q → Known c new
-    at None e =
-        let k : new ≡ with_client c None d = rw e at h.2 in
-        known-same c (with_client c None d) new k (put None (rw e at it))
-    at (Some q) e =
-        let k : new ≡ with_client c (Some (with_peer q r)) d = rw e at h.2 in
-        known-same c (with_client c (Some (with_peer q r)) d) new k (put (Some (with_peer q r)) (rw e at it))
+    at : (a ≡ c) ⊎ (a ≢ c) → Known c (with_client a x d)
+    at (inl same) = subst (λ (n : ℕ). Known n (with_client a x d)) same (own (subst (λ (n : ℕ). Known n d) (sym same) known))
+    at (inr differ) = known-so c (with_client a x d) (client_at c d) (toplevels_of c d) (number-other d.clients a c x differ) refl known
 
 stored-alike : (r : Resident) (s : Option Cause) (store at : ℕ) (bytes : List ℕ) → IsAlike r (with_peer (stored_at s store at bytes r.peer) r)
 stored-alike r (Some cause) store at bytes = record { status = refl; requests = refl; objects = refl; owned = refl; subsurfaces = refl; callbacks = refl }
@@ -152,56 +147,104 @@ module _ (frames : Frames) where
   sent-keeps : (n : ℕ) (done : Done) → KeepsHeld (IsSent n) done
   sent-keeps n done r q tops h known = held-so r q (Some (sent_by n r.peer)) tops h.0 (alike frames r (with_peer (sent_by n r.peer) r) (sent-alike r n) tops known)
 
-  -- ---- a client goes
+  -- ---- all that happens, but for the messages of a client
 
-  leaves-known : (c : ℕ) (o : Option Resident) (d : Desktop) (done : Done) (new : Desktop) → client_at c d ≡ o → Known c d → LeavesAt c o d done new → Known c new
-  leaves-known c None d done new found known h = known-same c d new h.1 known
-  leaves-known c (Some r) d done new found known h = at r.peer.status refl
-    where
-      at : (s : Option Cause) → r.peer.status ≡ s → Known c new
-      at (Some cause) e = let k : new ≡ d = rw e at h.1 in known-same c d new k known
-      at None e =
-          let k : EndsAndSettles (unstruck (becomes c r (ended Gone r.peer) d)) new = rw e at h.1 in
-          settled frames c (becomes c r (ended Gone r.peer) d) new (becomes-ended c r r Gone r.peer d found) k
+  -- each client is orderly where one ended
+  pub gone-known : (c a : ℕ) (cause : Cause) (r : Resident) (d : Desktop)
+      → client_at a d ≡ Some r → Known c d → Known c (becomes a r (ended cause r.peer) d)
+  gone-known c a cause r d found known =
+      subst (λ (o : Option Resident). Known c (ended_at a cause o d)) found (ended-by-known frames c (record { client = a; cause = cause }) d known)
 
-  -- ---- a button
+  -- What follows for a client from the middle of a step, where it is orderly, with what comes then, follows from the step.
+  module _ (c : ℕ) (X : Type 0) (Next Settled : Moving → Type 0)
+      (next : (mid : Moving) → Known c mid.desktop → Next mid → X) (last : (mid : Moving) → Known c mid.desktop → Settled mid → X) where
+    -- a client connects
+    connects-known : (k : Option ℕ) (d : Desktop) (done : Done) → lowest d.clients ≡ k → Known c d → ConnectsThen k d done Settled → X
+    connects-known None d done free known h = last (unstruck d) known h.1
+    connects-known (Some k) d done free known (inl h) = last (unstruck d) known h.1
+    connects-known (Some k) d done free known (inr h) =
+        last (unstruck (with_client (k + 1) (Some (arrival d.output)) d)) (comes-known c k d free known) h.1
 
-  presses-known : (b : Bool) (time button c : ℕ) (d new : Desktop) → Known c d → PressesIf b time button d new → Known c new
-  presses-known false time button c d new known h = known-same c d new h known
-  presses-known true time button c d new known h =
-      pressed-so c ToldOrderly (orderly-all frames) IsOrderlyAt Anyhow (orderly-stays frames) time button d new (raised-known c (hit_now d.pointer.place (all_windows d)) d known) h
+    -- a client is written to, sent to or closed
+    changes-known : (R : Peer → Done → Option Peer → Type 0) (absent : Done) (a : ℕ) (o : Option Resident) (d : Desktop) (done : Done)
+        → KeepsHeld R done → client_at a d ≡ o → Known c d → ChangesThen R absent a o d done Settled → X
+    changes-known R absent a None d done keeps found known h = last (unstruck d) known h.1
+    changes-known R absent a (Some r) d done keeps found known (None, h, e) =
+        last (unstruck (with_client a None d)) (put-known c a None r d found (λ tops. keeps r None tops h) known) e
+    changes-known R absent a (Some r) d done keeps found known (Some q, h, e) =
+        let x : Option Resident = Some (with_peer q r) in
+        last (unstruck (with_client a x d)) (put-known c a x r d found (λ tops. keeps r (Some q) tops h) known) e
 
-  releases-known : (b : Bool) (time button c : ℕ) (d new : Desktop) → Known c d → ReleasesIf b time button d new → Known c new
-  releases-known false time button c d new known h = known-same c d new h known
-  releases-known true time button c d new known h = released-so c ToldOrderly (orderly-all frames) IsOrderlyAt Anyhow (orderly-stays frames) time button d new known h
+    -- a client goes
+    leaves-known : (a : ℕ) (o : Option Resident) (d : Desktop) (done : Done) → client_at a d ≡ o → Known c d → LeavesThen a o d done Next Settled → X
+    leaves-known a None d done found known h = last (unstruck d) known h.1
+    leaves-known a (Some r) d done found known h = at r.peer.status refl
+      where
+        at : (s : Option Cause) → r.peer.status ≡ s → X
+        at (Some cause) e = let k : Settled (unstruck d) = rw e at h.1 in last (unstruck d) known k
+        at None e =
+            let gone : Moving = unstruck (becomes a r (ended Gone r.peer) d) in
+            let k : Next gone = rw e at h.1 in
+            next gone (gone-known c a Gone r d found known) k
+
+    -- a button is pressed, or released
+    presses-known : (b : Bool) (time button : ℕ) (d : Desktop) → Known c d → PressesThen b time button d Settled → X
+    presses-known false time button d known h = last (unstruck d) known h
+    presses-known true time button d known h =
+        pressed-then c ToldOrderly (orderly-all frames) IsOrderlyAt Anyhow (orderly-stays frames) X Settled (λ mid within. last mid within.0)
+        time button d (raised-known c (hit_now d.pointer.place (all_windows d)) d known) h
+
+    releases-known : (b : Bool) (time button : ℕ) (d : Desktop) → Known c d → ReleasesThen b time button d Settled → X
+    releases-known false time button d known h = last (unstruck d) known h
+    releases-known true time button d known h =
+        released-then c ToldOrderly (orderly-all frames) IsOrderlyAt Anyhow (orderly-stays frames) X Settled (λ mid within. last mid within.0)
+        time button d known h
+
+    pub happens-known : (left : LeftOut) (deed : Deed) (d : Desktop) → Known c d → HappensThen left deed d Next Settled → X
+    happens-known left (Steps Connect done) d known h = connects-known (lowest d.clients) d done refl known h
+    happens-known left (Steps (Feed a piece) done) d known h = absurd h
+    happens-known left (Steps (Store a store at bytes) done) d known h =
+        changes-known (IsStored store at bytes) _ a (client_at a d) d done (stored-keeps store at bytes done) refl known h
+    happens-known left (Steps (Leave a) done) d known h = leaves-known a (client_at a d) d done refl known h
+    happens-known left (Steps (Tick time) done) d known h =
+        shown-then c ToldOrderly (orderly-all frames) IsOrderlyAt Anyhow (orderly-stays frames) X Next (λ mid within. next mid within.0)
+        time d known h.1
+    happens-known left (Steps (Send a n) done) d known h = changes-known (IsSent n) _ a (client_at a d) d done (sent-keeps n done) refl known h
+    happens-known left (Steps (Close a) done) d known h = changes-known IsClosed _ a (client_at a d) d done (closed-keeps done) refl known h
+    happens-known left (Motion time x y) d known h =
+        let start : Desktop = pointed (point_in d.output x y) d in
+        moves-then c ToldOrderly (orderly-all frames) IsOrderlyAt Anyhow (orderly-stays frames) X Settled (λ mid within. last mid within.0)
+        time start (pointed-known c (point_in d.output x y) d known) h
+    happens-known left (Button time button true) d known h = presses-known (is_press button d.pointer.buttons) time button d known h
+    happens-known left (Button time button false) d known h = releases-known (is_down button d.pointer.buttons) time button d known h
 
   -- ---- all that happens
 
-  -- a step of one client leaves each client orderly where it leaves that one so
-  each : (left : LeftOut) (act : Act) (done : Done) (a c : ℕ) (d e : Desktop) → client_of act done ≡ Some a → AreOrderly d → Acts left act done d e → Known a e → Known c e
-  each left act done a c d e of orderly h known = at (same-or a c)
-    where
-      at : (a ≡ c) ⊎ (a ≢ c) → Known c e
-      at (inl same) = subst (λ (n : ℕ). Known n e) same known
-      at (inr differ) = left-orderly frames c d e (whole_others_stay left act done a c d e of h differ) (orderly c)
+  -- but for a piece of a client's stream it leaves each client orderly
+  single : (c : ℕ) (left : LeftOut) (deed : Deed) (d e : Desktop) → Known c d → HappensThen left deed d (settling e) (ending e) → Known c e
+  single c left deed d e known h =
+      happens-known c (Known c e) (settling e) (ending e) (settling-known frames c e) (ending-known frames c e) left deed d known h
 
   module _ (message : MessageKeeps) where
-    acts-orderly : (left : LeftOut) (act : Act) (done : Done) (d e : Desktop) → AreOrderly d → Acts left act done d e → AreOrderly e
-    acts-orderly left Connect done d e orderly h c = connects c (lowest d.clients) d done e refl (orderly c) h
-    acts-orderly left (Feed a piece) done d e orderly h c = each left (Feed a piece) done a c d e refl orderly h (fed-known frames message left a piece (client_at a d) d done e refl (orderly a) h)
-    acts-orderly left (Store a store at bytes) done d e orderly h c =
-        each left (Store a store at bytes) done a c d e refl orderly h (changes-known (IsStored store at bytes) _ a (client_at a d) d done e (stored-keeps store at bytes done) refl (orderly a) h)
-    acts-orderly left (Leave a) done d e orderly h c = each left (Leave a) done a c d e refl orderly h (leaves-known a (client_at a d) d done e refl (orderly a) h)
-    acts-orderly left (Tick time) done d e orderly h c = shown c ToldOrderly (orderly-all frames) IsOrderlyAt Anyhow (orderly-stays frames) time d e (orderly c) h.1
-    acts-orderly left (Send a n) done d e orderly h c = each left (Send a n) done a c d e refl orderly h (changes-known (IsSent n) _ a (client_at a d) d done e (sent-keeps n done) refl (orderly a) h)
-    acts-orderly left (Close a) done d e orderly h c = each left (Close a) done a c d e refl orderly h (changes-known IsClosed _ a (client_at a d) d done e (closed-keeps done) refl (orderly a) h)
+    -- the messages of one client leave each orderly
+    feeds : (left : LeftOut) (a : ℕ) (piece : List ℕ) (done : Done) (d e : Desktop) → AreOrderly d → Acts left (Feed a piece) done d e → AreOrderly e
+    feeds left a piece done d e orderly h c = at (same-or a c)
+      where
+        at : (a ≡ c) ⊎ (a ≢ c) → Known c e
+        at (inl same) = subst (λ (n : ℕ). Known n e) same (fed-known frames message left a piece (client_at a d) d done e refl (orderly a) h)
+        at (inr differ) = left-orderly frames c d e (whole_others_stay left (Feed a piece) done a c d e refl h differ) (orderly c)
 
     pub happens-orderly : (left : LeftOut) (deed : Deed) (d e : Desktop) → AreOrderly d → Happens left deed d e → AreOrderly e
-    happens-orderly left (Steps act done) d e orderly h c = acts-orderly left act done d e orderly h c
-    happens-orderly left (Motion time x y) d e orderly h c =
-        moves c ToldOrderly (orderly-all frames) IsOrderlyAt Anyhow (orderly-stays frames) time (pointed (point_in d.output x y) d) e (pointed-known c (point_in d.output x y) d (orderly c)) h
-    happens-orderly left (Button time button true) d e orderly h c = presses-known (is_press button d.pointer.buttons) time button c d e (orderly c) h
-    happens-orderly left (Button time button false) d e orderly h c = releases-known (is_down button d.pointer.buttons) time button c d e (orderly c) h
+    happens-orderly left (Steps Connect done) d e orderly h c =
+        single c left (Steps Connect done) d e (orderly c) (connects-with (lowest d.clients) d done e h)
+    happens-orderly left (Steps (Feed a piece) done) d e orderly h c = feeds left a piece done d e orderly h c
+    happens-orderly left (Steps (Store a store at bytes) done) d e orderly h c = single c left (Steps (Store a store at bytes) done) d e (orderly c) h
+    happens-orderly left (Steps (Leave a) done) d e orderly h c = single c left (Steps (Leave a) done) d e (orderly c) h
+    happens-orderly left (Steps (Tick time) done) d e orderly h c = single c left (Steps (Tick time) done) d e (orderly c) h
+    happens-orderly left (Steps (Send a n) done) d e orderly h c = single c left (Steps (Send a n) done) d e (orderly c) h
+    happens-orderly left (Steps (Close a) done) d e orderly h c = single c left (Steps (Close a) done) d e (orderly c) h
+    happens-orderly left (Motion time x y) d e orderly h c = single c left (Motion time x y) d e (orderly c) h
+    happens-orderly left (Button time button pressed) d e orderly h c = single c left (Button time button pressed) d e (orderly c) h
 
 -- a desktop without clients is orderly
 pub empty-orderly : (output : Output) → AreOrderly (empty output)

@@ -15,10 +15,10 @@ use Rattle.wl_plain.specs.Laws.{toplevels_of}
 use Rattle.wl_plain.specs.Pointing.{button_told, entered_surface, has_pointers, left_surface, motion_told}
 use Rattle.wl_plain.specs.Popups.{Popped, dismissing}
 use Rattle.wl_plain.specs.Replies.{popups_done}
-use Rattle.wl_plain.specs.Settling.{EndsAndSettles, QueuesTo, becomes, leave_drawn, told_drawn, unstruck}
+use Rattle.wl_plain.specs.Settling.{EndsAndSettles, Moving, QueuesTo, Settles, Strike, becomes, ended_by, leave_drawn, told_drawn, unstruck}
 use Rattle.wl_plain.specs.Soundness.{IsLive}
 use Rattle.wl_plain.specs.Step.{with_peer, with_shell}
-use Rattle.wl_plain.specs.Whole.{callbacks_due, frames_counting, frames_told, is_counting, noted, noted_if, number_of, without_grabs}
+use Rattle.wl_plain.specs.Whole.{callbacks_due, ending, frames_counting, frames_told, is_counting, noted, noted_if, number_of, settling, without_grabs}
 use Rattle.wl_plain.specs.WholeOthers.{IsLeftAlone, IsLeftBy, IsLeftLiving, IsLeftSo, IsToldTimes, told_once}
 use Rattle.wl_plain.proofs.Orderly.{HasObjects, HasRoles, IsForest, IsOrderly, IsOrderlyAt, IsOrderlyBy, StandsSo}
 use Rattle.wl_plain.proofs.OwningKeys.{none-some}
@@ -26,8 +26,8 @@ use Rattle.wl_plain.proofs.OrderlyRunSteady.{callbacks-steady}
 use Rattle.wl_plain.proofs.Places.{number-same}
 use Rattle.wl_plain.proofs.Stacks.{differ}
 use Rattle.wl_plain.proofs.WholeOthersKept.{TellsAll, has-more}
-use Rattle.wl_plain.proofs.WholeOthersSettling.{Stays, none_of, settled-in}
-use Rattle.wl_plain.proofs.WholeOthersTold.{TellsBy}
+use Rattle.wl_plain.proofs.WholeOthersSettling.{AreIn, Stays, ended-in, ending-in, none_of, settled-in, settles-in, settling-in}
+use Rattle.wl_plain.proofs.WholeOthersTold.{TellsBy, ToldSo}
 
 -- What changes a client between its messages leaves what is known of its objects and roles, and of what stands.
 pub record Frames : Type 0 where
@@ -220,7 +220,37 @@ module _ (frames : Frames) where
     again = λ r cause other why why_too. tt;
   }
 
-  -- ---- the focus is settled
+  -- ---- those that are to end do, and the focus is settled
+
+  -- nothing need be known of those that are to end
+  strikes-known : (c : ℕ) (o : Option Resident) (ss : List Strike) → AreIn c ToldOrderly orderly-all.focus IsOrderlyAt Anyhow orderly-stays o ss
+  strikes-known c o [] = tt
+  strikes-known c None (s ∷ ss) = (λ same. tt, strikes-known c None ss)
+  strikes-known c (Some r) (s ∷ ss) = (λ same. tt, strikes-known c (Some r) ss)
+
+  -- one that is to end did
+  pub ended-by-known : (c : ℕ) (s : Strike) (d : Desktop) → Known c d → Known c (ended_by s d)
+  ended-by-known c s d known =
+      let those = strikes-known c (client_at c d) (s ∷ []) in
+      (ended-in c ToldOrderly orderly-all.focus IsOrderlyAt Anyhow orderly-stays s.client s.cause [] d known those.0 tt).0
+
+  -- the focus is settled once
+  pub settles-known : (c : ℕ) (old new : Moving) → Known c old.desktop → Settles old new → Known c new.desktop
+  settles-known c old new known h =
+      let those = strikes-known c (client_at c old.desktop) old.struck in
+      (settles-in c ToldOrderly orderly-all.focus IsOrderlyAt Anyhow orderly-stays old new (known, those) h).0
+
+  -- what comes after a step's own change leaves it orderly
+  pub settling-known : (c : ℕ) (new : Desktop) (mid : Moving) → Known c mid.desktop → settling new mid → Known c new
+  settling-known c new mid known h =
+      let those = strikes-known c (client_at c mid.desktop) mid.struck in
+      settling-in c ToldOrderly orderly-all.focus IsOrderlyAt Anyhow orderly-stays mid new (known, those) h
+
+  -- where the focus was settled already, too
+  pub ending-known : (c : ℕ) (new : Desktop) (mid : Moving) → Known c mid.desktop → ending new mid → Known c new
+  ending-known c new mid known h =
+      let those = strikes-known c (client_at c mid.desktop) mid.struck in
+      ending-in c ToldOrderly orderly-all.focus IsOrderlyAt Anyhow orderly-stays mid new (known, those) h
 
   pub settled : (c : ℕ) (d new : Desktop) → Known c d → EndsAndSettles (unstruck d) new → Known c new
   settled c d new known h = settled-in c ToldOrderly orderly-all.focus IsOrderlyAt Anyhow orderly-stays d new known h
@@ -228,17 +258,27 @@ module _ (frames : Frames) where
   once : (events : List Said) (r : Resident) → StaysOrderly r (told_once events r)
   once events r = alike r (told_once events r) (record { status = refl; requests = refl; objects = refl; owned = refl; subsurfaces = refl; callbacks = refl })
 
+  -- so does what it is told of the focus
+  times-orderly : (times : List (List Said)) (r q : Resident) → IsToldTimes times r q → StaysOrderly r q
+  times-orderly [] r q h tops known = rw h known
+  times-orderly (events ∷ more) r q h tops known = times-orderly more (told_once events r) q h.2 tops (once events r tops known)
+
+  -- what is told of the focus alone keeps it orderly
+  pub focus-stays : Stays ToldSo IsOrderlyAt Anyhow
+  focus-stays = record {
+    told = λ r q tops why alive known so. times-orderly so.0.0 r q so.0.1 tops known;
+    untold = λ r q tops cause alive known so. tt;
+    ends = λ r tops cause known why. ended-orderly cause r.peer;
+    again = λ r cause other why why_too. tt;
+  }
+
   -- another step leaves it alone
   pub left-orderly : (c : ℕ) (old new : Desktop) → IsLeftAlone c old new → Known c old → Known c new
   left-orderly c old new h known = at (client_at c old) h known
     where
-      times : (times : List (List Said)) (r q : Resident) → IsToldTimes times r q → StaysOrderly r q
-      times [] r q h tops known = rw h known
-      times (events ∷ more) r q h tops known = times more (told_once events r) q h.2 tops (once events r tops known)
-
       living : (r : Resident) (now : Option Resident) → IsLeftLiving r (toplevels_of c old) now (toplevels_of c new) → IsOrderlyAt (Some r) (toplevels_of c old) → IsOrderlyAt now (toplevels_of c new)
       living r None h known = absurd h
-      living r (Some q) (inl h) known = rw h.1 (times h.0.0 r q h.0.1 (toplevels_of c old) known)
+      living r (Some q) (inl h) known = rw h.1 (times-orderly h.0.0 r q h.0.1 (toplevels_of c old) known)
       living r (Some q) (inr h) known = rw (h.1, h.0.4) (ended-orderly h.0.1 h.0.0.peer)
 
       by : (r : Resident) (s : Option Cause) → IsLeftBy s r (toplevels_of c old) (client_at c new) (toplevels_of c new) → IsOrderlyAt (Some r) (toplevels_of c old) → IsOrderlyAt (client_at c new) (toplevels_of c new)

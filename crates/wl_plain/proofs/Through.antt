@@ -154,12 +154,13 @@ as-happens left (Steps (Close c) done) d new h = h
 as-happens left (Motion time x y) d new h = h
 as-happens left (Button time button pressed) d new h = h
 
+-- a connect, in the form that takes what comes then
+pub connects-with : (k : Option ℕ) (d : Desktop) (done : Done) (new : Desktop) → ConnectsAt k d done new → ConnectsThen k d done (ending new)
+connects-with None d done new h = h
+connects-with (Some n) d done new h = h
+
 from-happens : (left : LeftOut) (deed : Deed) (d new : Desktop) → IsSingle deed → Happens left deed d new → HappensThen left deed d (settling new) (ending new)
-from-happens left (Steps Connect done) d new single h = by (lowest d.clients) h
-  where
-    by : (k : Option ℕ) → ConnectsAt k d done new → ConnectsThen k d done (ending new)
-    by None h = h
-    by (Some n) h = h
+from-happens left (Steps Connect done) d new single h = connects-with (lowest d.clients) d done new h
 from-happens left (Steps (Feed c piece) done) d new single h = absurd (single c piece done refl)
 from-happens left (Steps (Store c store at bytes) done) d new single h = h
 from-happens left (Steps (Leave c) done) d new single h = h

@@ -1,5 +1,5 @@
 -- What a message of a client's leaves of another, where every request is served.
-use Rattle.std.proofs.Common.{◌≡◌, ◌≢◌, ℕ, zero, suc, List, ◌++◌, Bool, true, false, Option, Some, None, Result, refl, inl, inr}
+use Rattle.std.proofs.Common.{◌≡◌, ◌≢◌, ℕ, zero, suc, List, [], ◌++◌, Bool, true, false, Option, Some, None, Result, refl, inl, inr}
 use Rattle.std.specs.Prelude.{Ok, Err, not}
 use Rattle.wl_wire.specs.Wire.{split_of}
 use Rattle.wl_wire.specs.declared.header.Split.{Split}
@@ -17,13 +17,13 @@ use Rattle.wl_plain.specs.Demand.{Demand, Asks, EndSurface, AskFrame, CommitTree
 use Rattle.wl_plain.specs.Demanding.{effect_of_commit}
 use Rattle.wl_plain.specs.Desktop.{Desktop, Resident, become, client_at, with_client}
 use Rattle.wl_plain.specs.LeftOut.{LeftOut}
-use Rattle.wl_plain.specs.Settling.{EndsAndSettles, after_status, becomes, ended_at, unstruck}
+use Rattle.wl_plain.specs.Settling.{Moving, after_status, becomes, unstruck}
 use Rattle.wl_plain.specs.Stacked.{all_windows}
 use Rattle.wl_plain.specs.Step.{surface_of, with_peer}
-use Rattle.wl_plain.specs.Whole.{Answers, Becomes, ChangesAt, Does, FeedsAt, IsFedAt, LeavesAt, Reaches, ServesAt, StopsAt, Takes, WantsOr, after_why, done_for, wants_memory}
+use Rattle.wl_plain.specs.Whole.{AnswersThen, BecomesThen, ChangesAt, DoesThen, FeedsAt, IsFedAt, LeavesAt, Reaches, ServesAt, ServesThen, StopsAt, TakesThen, WantsOrThen, changed_so, done_for, settling, wants_memory}
 use Rattle.wl_plain.proofs.Others.{IsLeft, become-left, left_out, on_top, one_surface, same-left, stacked-left, left-then}
 use Rattle.wl_plain.proofs.Places.{number-other}
-use Rattle.wl_plain.proofs.WholeOthersSettling.{IsIn, Stays as Keeps, settled-in}
+use Rattle.wl_plain.proofs.WholeOthersSettling.{IsIn, IsWithin, Stays as Keeps, settling-in, struck-so}
 use Rattle.wl_plain.proofs.WholeOthersTold.{ToldSo, told-focus}
 
 -- ---- the changes of a desktop
@@ -38,14 +38,6 @@ after-left (Some cause) c other d = (refl, refl)
 pub becomes-left : (c other : ℕ) (r : Resident) (q : Peer) (d : Desktop) → c ≢ other → IsLeft other d (becomes c r q d)
 becomes-left c other r q d differ =
     left-then other d (become c r q d) (becomes c r q d) (become-left c other r q d differ) (after-left q.status c other (become c r q d))
-
-ended-left : (c other : ℕ) (cause : Cause) (o : Option Resident) (d : Desktop) → c ≢ other → IsLeft other d (ended_at c cause o d)
-ended-left c other cause None d differ = (refl, refl)
-ended-left c other cause (Some r) d differ = becomes-left c other r (ended cause r.peer) d differ
-
-why-left : (why : Option Cause) (c other : ℕ) (d : Desktop) → c ≢ other → IsLeft other d (after_why why c d)
-why-left None c other d differ = (refl, refl)
-why-left (Some cause) c other d differ = ended-left c other cause (client_at c d) d differ
 
 commit-left : (effect : Effect) (toplevel : Bool) (c other surface : ℕ) (d : Desktop) → c ≢ other → IsLeft other d (stacked_by effect toplevel c surface d)
 commit-left Maps true c other surface d differ = (refl, on_top d.mappings c surface other differ d.standing)
@@ -92,39 +84,57 @@ module _ (out : LeftOut) (c other : ℕ) (differ : c ≢ other) (A : Option Resi
   same-in : (d e : Desktop) → e ≡ d → Known d → Known e
   same-in d e same known = left-in d e (same-left other d e same) known
 
-  settled : (d new : Desktop) → Known d → EndsAndSettles (unstruck d) new → Known new
-  settled d new known h = settled-in other ToldSo told-focus A P keeps d new known h
+  -- in the middle of a step
+  abbrev Within : Moving → Type 0
+  Within m = IsWithin other ToldSo told-focus A P keeps m
+
+  -- what comes after a step's own change
+  settling-known : (new : Desktop) (mid : Moving) → Within mid → settling new mid → Known new
+  settling-known new mid known h = settling-in other ToldSo told-focus A P keeps mid new known h
+
+  -- what becomes of the one leaves the other
+  becomes-known : (r : Resident) (q : Peer) (d : Desktop) → Known d → Known (becomes c r q d)
+  becomes-known r q d known = left-in d (becomes c r q d) (becomes-left c other r q d differ) known
+
+  with-known : (x : Option Resident) (d : Desktop) → Known d → Known (with_client c x d)
+  with-known x d known = left-in d (with_client c x d) (with-left c other x d differ) known
 
   -- ---- a message
 
-  becomes-in : (Q : Peer → Type 0) (r : Resident) (d new : Desktop) → Known d → Becomes Q c r d new → Known new
-  becomes-in Q r d new known h = settled (becomes c r h.0 d) new (left-in d (becomes c r h.0 d) (becomes-left c other r h.0 d differ) known) h.2
+  -- what follows from the middle of a step, with what comes then, follows from the message
+  module _ (X : Type 0) (Next : Moving → Type 0) (next : (mid : Moving) → Within mid → Next mid → X) where
+    becomes-then : (Q : Peer → Type 0) (r : Resident) (d : Desktop) → Known d → BecomesThen Q c r d Next → X
+    becomes-then Q r d known h = next (unstruck (becomes c r h.0 d)) (becomes-known r h.0 d known, tt) h.2
 
-  does-in : (demand : Demand) (r : Resident) (d new : Desktop) → Known d → Does out c demand r d new → Known new
-  does-in demand r d new known h =
-      let done : Desktop = done_for c demand r d in
-      let now : Desktop = with_client c (Some (with_peer h.0 (changed_for c demand r d))) done in
-      let first : Known done = left-in d done (done-left c other demand r d differ) known in
-      let second : Known now = left-in done now (with-left c other (Some (with_peer h.0 (changed_for c demand r d))) done differ) first in
-      settled (after_why h.1 c now) new (left-in now (after_why h.1 c now) (why-left h.1 c other now differ) second) h.3
+    does-then : (demand : Demand) (r : Resident) (d : Desktop) → Known d → DoesThen out c demand r d Next → X
+    does-then demand r d known h =
+        let told : Option Resident = Some (with_peer h.0 (changed_for c demand r d)) in
+        let done : Desktop = done_for c demand r d in
+        let now : Desktop = with_client c told done in
+        let first : Known done = left-in d done (done-left c other demand r d differ) known in
+        let struck = struck-so other ToldSo told-focus A P keeps (client_at other now) c h.1 [] (λ cause why same. absurd (differ same)) tt in
+        next (changed_so c demand r d h.0 h.1) (with-known told done first, struck) h.3
 
-  wants-in : (b : Bool) (demand : Demand) (r : Resident) (d new : Desktop) → Known d → WantsOr b (Does out c demand r d new) c r d new → Known new
-  wants-in false demand r d new known h = does-in demand r d new known h
-  wants-in true demand r d new known (inl h) = becomes-in (LacksMemory r.peer) r d new known h
-  wants-in true demand r d new known (inr h) = does-in demand r d new known h
+    wants-then : (b : Bool) (demand : Demand) (r : Resident) (d : Desktop) → Known d → WantsOrThen b (DoesThen out c demand r d Next) c r d Next → X
+    wants-then false demand r d known h = does-then demand r d known h
+    wants-then true demand r d known (inl h) = becomes-then (LacksMemory r.peer) r d known h
+    wants-then true demand r d known (inr h) = does-then demand r d known h
 
-  answers-in : (judged : Result Demand Refusal) (r : Resident) (d new : Desktop) → Known d → Answers out judged c r d new → Known new
-  answers-in (Ok demand) r d new known h = wants-in (wants_memory demand) demand (with_peer (counted r.peer) r) d new known h
-  answers-in (Err refusal) r d new known h = becomes-in _ r d new known h
+    answers-then : (judged : Result Demand Refusal) (r : Resident) (d : Desktop) → Known d → AnswersThen out judged c r d Next → X
+    answers-then (Ok demand) r d known h = wants-then (wants_memory demand) demand (with_peer (counted r.peer) r) d known h
+    answers-then (Err refusal) r d known h = becomes-then _ r d known h
 
-  takes-in : (s : Split) (r : Resident) (d new : Desktop) → Known d → Takes out s c r d new → Known new
-  takes-in (Message object opcode size) r d new known h = answers-in _ _ d new known h
-  takes-in Bad r d new known h = becomes-in _ r d new known h
-  takes-in More r d new known h = absurd h
+    takes-then : (s : Split) (r : Resident) (d : Desktop) → Known d → TakesThen out s c r d Next → X
+    takes-then (Message object opcode size) r d known h = answers-then _ _ d known h
+    takes-then Bad r d known h = becomes-then _ r d known h
+    takes-then More r d known h = absurd h
+
+    pub serves-then : (o : Option Resident) (d : Desktop) → Known d → ServesThen out c o d Next → X
+    serves-then None d known h = absurd h
+    serves-then (Some r) d known h = takes-then (split_of r.peer.rest) r d known h.1
 
   pub serves-in : (o : Option Resident) (d new : Desktop) → Known d → ServesAt out c o d new → Known new
-  serves-in None d new known h = absurd h
-  serves-in (Some r) d new known h = takes-in (split_of r.peer.rest) r d new known h.1
+  serves-in o d new known h = serves-then (Known new) (settling new) (settling-known new) o d known h
 
   -- ---- a piece
 
@@ -132,20 +142,18 @@ module _ (out : LeftOut) (c other : ℕ) (differ : c ≢ other) (A : Option Resi
   reaches-in zero d new known h = same-in d new h known
   reaches-in (suc n) d new known h = serves-in (client_at c h.0) h.0 new (reaches-in n d h.0 known h.1) h.2
 
-  pub stops-in : (o : Option Resident) (mid new : Desktop) → Known mid → StopsAt c o mid new → Known new
+  stops-in : (o : Option Resident) (mid new : Desktop) → Known mid → StopsAt c o mid new → Known new
   stops-in None mid new known h = absurd h
   stops-in (Some r) mid new known (inl h) = same-in mid new h.0 known
   stops-in (Some r) mid new known (inr h) =
-      let gone : Desktop = becomes c r (ended Memory r.peer) mid in
-      settled gone new (left-in mid gone (becomes-left c other r (ended Memory r.peer) mid differ) known) h.1
+      settling-known new (unstruck (becomes c r (ended Memory r.peer) mid)) (becomes-known r (ended Memory r.peer) mid known, tt) h.1
 
   feeds-in : (piece : List ℕ) (s : Option Cause) (r : Resident) (d new : Desktop) → Known d → FeedsAt out c piece s r d new → Known new
   feeds-in piece (Some cause) r d new known h = same-in d new h known
   feeds-in piece None r d new known h =
       let come : Resident = with_peer (with_rest (r.peer.rest ++ piece) r.peer) r in
       let start : Desktop = with_client c (Some come) d in
-      let begun : Known start = left-in d start (with-left c other (Some come) d differ) known in
-      stops-in (client_at c h.1) h.1 new (reaches-in h.0 start h.1 begun h.2) h.3
+      stops-in (client_at c h.1) h.1 new (reaches-in h.0 start h.1 (with-known (Some come) d known) h.2) h.3
 
   pub fed-in : (piece : List ℕ) (o : Option Resident) (d : Desktop) (done : Done) (new : Desktop) → Known d → IsFedAt out c piece o d done new → Known new
   fed-in piece None d done new known h = same-in d new h.1 known
@@ -160,9 +168,9 @@ module _ (out : LeftOut) (c other : ℕ) (differ : c ≢ other) (A : Option Resi
       at : (s : Option Cause) → r.peer.status ≡ s → Known new
       at (Some cause) e = let k : new ≡ d = rw e at h.1 in same-in d new k known
       at None e =
-          let gone : Desktop = becomes c r (ended Gone r.peer) d in
-          let k : EndsAndSettles (unstruck gone) new = rw e at h.1 in
-          settled gone new (left-in d gone (becomes-left c other r (ended Gone r.peer) d differ) known) k
+          let gone : Moving = unstruck (becomes c r (ended Gone r.peer) d) in
+          let k : settling new gone = rw e at h.1 in
+          settling-known new gone (becomes-known r (ended Gone r.peer) d known, tt) k
 
   -- bytes are stored or sent, or its number is given back
   pub changes-in : (R : Peer → Done → Option Peer → Type 0) (absent : Done) (o : Option Resident) (d : Desktop) (done : Done) (new : Desktop) → Known d → ChangesAt R absent c o d done new → Known new
@@ -170,10 +178,8 @@ module _ (out : LeftOut) (c other : ℕ) (differ : c ≢ other) (A : Option Resi
   changes-in R absent (Some r) d done new known h = at h.0 refl
     where
       at : (q : Option Peer) → h.0 ≡ q → Known new
-      at None e =
-          let k : new ≡ with_client c None d = rw e at h.2 in
-          same-in (with_client c None d) new k (left-in d (with_client c None d) (with-left c other None d differ) known)
+      at None e = let k : new ≡ with_client c None d = rw e at h.2 in same-in (with_client c None d) new k (with-known None d known)
       at (Some q) e =
           let now : Desktop = with_client c (Some (with_peer q r)) d in
           let k : new ≡ now = rw e at h.2 in
-          same-in now new k (left-in d now (with-left c other (Some (with_peer q r)) d differ) known)
+          same-in now new k (with-known (Some (with_peer q r)) d known)

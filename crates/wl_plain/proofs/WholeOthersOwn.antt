@@ -16,17 +16,17 @@ use Rattle.wl_plain.specs.Laws.{toplevels_of}
 use Rattle.wl_plain.specs.LeftOut.{LeftOut}
 use Rattle.wl_plain.specs.Pointing.{button_told, has_pointers, motion_told, moved_with}
 use Rattle.wl_plain.specs.Replies.{focus_window, popups_done}
-use Rattle.wl_plain.specs.Settling.{Moving, SettlesAll, SettlesEnds, Settles, Strike, ended_all, ended_by, is_settled, unstruck}
+use Rattle.wl_plain.specs.Settling.{Moving, SettlesEnds, Settles, is_settled, unstruck}
 use Rattle.wl_plain.specs.Stacked.{all_windows}
 use Rattle.wl_plain.specs.Steps.{Act, Connect, Feed, Store, Leave, Tick, Send, Close, ConnectsAt, lowest}
-use Rattle.wl_plain.specs.Whole.{Dismisses, DismissesUnless, Happens, MotionSettles, MovesTo, PressedSo, PressesIf, ReleasedSo, ReleasesIf, Shows, Steps, Motion, Button, TellsButton, TellsFrames, TellsMotion, callbacks_due, frames_told, hit_now, is_hit_of, noted_if, number_of, point_in, pointed, raised_by, with_press, with_release, without_grabs}
+use Rattle.wl_plain.specs.Whole.{Dismisses, DismissesUnless, Happens, MotionSettles, MovesThen, MovesTo, PressedSo, PressedThen, PressesIf, ReleasedSo, ReleasedThen, ReleasesIf, Shows, ShowsThen, Steps, Motion, Button, TellsButton, TellsFrames, TellsMotion, callbacks_due, ending, frames_told, hit_now, is_hit_of, noted_if, number_of, point_in, pointed, raised_by, settling, with_press, with_release, without_grabs}
 use Rattle.wl_plain.specs.WholeOthers.{IsLeftAlone, IsLeftBy, IsLeftSo, IsNotQueued, IsToldTimes, client_of, told_once}
 use Rattle.wl_plain.specs.WholeOwn.{HasEndedLate, HasItsOwn, KeepsItsOwn, KeepsItsOwnBy, KeepsItsOwnSo, LivesOrEnds, StandTheSame, WholeOwnStays}
 use Rattle.wl_plain.proofs.OwningKeys.{some-same}
 use Rattle.wl_plain.proofs.StandingLists.{any-last}
 use Rattle.wl_plain.proofs.WholeOthers.{whole_others_stay}
 use Rattle.wl_plain.proofs.WholeOthersKept.{StaysOwn, TellsAll, own-all, own-drawn, own-more, own-same, own-then}
-use Rattle.wl_plain.proofs.WholeOthersSettling.{AreIn, IsIn, IsWithin, Stays, ended-in, ends-in, settles-all, settles-in, tells-in, within-same}
+use Rattle.wl_plain.proofs.WholeOthersSettling.{IsIn, IsWithin, Stays, ending-in, settles-in, settling-in, tells-in, within-same}
 
 -- ---- what stays of a client
 
@@ -184,26 +184,13 @@ module _ (c : ℕ) (T : Resident → Resident → Option Cause → Type 0) (all 
   settles old new known h = settles-in c T all.focus A P stays old new known h
 
   ends : (mid : Moving) (new : Desktop) → Within mid → SettlesEnds mid new → Known new
-  ends mid new known h =
-      ends-in c T all.focus A P stays (SettlesAll 32) (settles-all c T all.focus A P stays 32) mid.struck mid.desktop new known.0 known.1 h
-
-  -- those that a frame struck end first
-  all-end : (ss : List Strike) (d : Desktop) → Known d → AreIn c T all.focus A P stays (client_at c d) ss → Known (ended_all ss d)
-  all-end [] d known rest = known
-  all-end (s ∷ ss) d known rest =
-      let more : Within (record { desktop = ended_by s d; struck = ss }) = ended-in c T all.focus A P stays s.client s.cause ss d known rest.0 rest.1 in
-      all-end ss (ended_by s d) more.0 more.1
+  ends mid new known h = ending-in c T all.focus A P stays mid new known h
 
   frames : (time n k : ℕ) (old new : Moving) → Within old → TellsFrames time n k old new → Within new
   frames time zero k old new known h = same old new h known
   frames time (suc n) k old new known h =
       let mid : Within h.0 = tells-in c T all.focus A P stays (λ r. without_callbacks (callbacks_due r) r) (frames_told time) (all.done time) k old h.0 known h.1 in
       frames time n (suc k) h.0 new mid h.2
-
-  pub shown : (time : ℕ) (d new : Desktop) → Known d → Shows time d new → Known new
-  shown time d new known h =
-      let told : Within h.0 = frames time 32 1 (unstruck d) h.0 (begun d known) h.1 in
-      settles-all c T all.focus A P stays 33 (unstruck (ended_all h.0.struck h.0.desktop)) new (all-end h.0.struck h.0.desktop told.0 told.1, tt) h.2
 
   motion : (time : ℕ) (moves focus : Option Target) (old new : Moving) → Within old → TellsMotion time moves focus old new → Within new
   motion time moves None old new known h = same old new h known
@@ -215,9 +202,6 @@ module _ (c : ℕ) (T : Resident → Resident → Option Cause → Type 0) (all 
   motion-settles : (b : Bool) (time : ℕ) (old new : Moving) → Within old → MotionSettles b time old new → Within new
   motion-settles true time old new known h = motion time old.desktop.pointer.move old.desktop.pointer.focus old new known h
   motion-settles false time old new known h = settles old new known h
-
-  pub moves : (time : ℕ) (d new : Desktop) → Known d → MovesTo time d new → Known new
-  moves time d new known h = ends h.0 new (motion-settles (is_settled d) time (unstruck d) h.0 (begun d known) h.1) h.2
 
   dismisses-unless : (b : Bool) (k : ℕ) (old new : Moving) → Within old → DismissesUnless b k old new → Within new
   dismisses-unless true k old new known h = same old new h known
@@ -234,17 +218,44 @@ module _ (c : ℕ) (T : Resident → Resident → Option Cause → Type 0) (all 
       let change = λ (r : Resident). noted_if (has_pointers r) pressed r in
       tells-in c T all.focus A P stays change (button_told time button (number_of pressed)) (all.pressed time button pressed) t.client old new known h
 
+  -- what follows from the middle of a step, with what comes then, follows from the step
+  module _ (X : Type 0) (Next : Moving → Type 0) (next : (mid : Moving) → Within mid → Next mid → X) where
+    -- a frame is shown
+    pub shown-then : (time : ℕ) (d : Desktop) → Known d → ShowsThen time d Next → X
+    shown-then time d known h = next h.0 (frames time 32 1 (unstruck d) h.0 (begun d known) h.1) h.2
+
+    -- the pointer moves
+    pub moves-then : (time : ℕ) (d : Desktop) → Known d → MovesThen time d Next → X
+    moves-then time d known h = next h.0 (motion-settles (is_settled d) time (unstruck d) h.0 (begun d known) h.1) h.2
+
+    -- a button is pressed
+    pub pressed-then : (time button : ℕ) (d : Desktop) → Known (with_press button (raised_by (hit_now d.pointer.place (all_windows d)) d))
+        → PressedThen time button d Next → X
+    pressed-then time button d known h =
+        let start : Desktop = with_press button (raised_by (hit_now d.pointer.place (all_windows d)) d) in
+        let hit : Option Window = hit_now d.pointer.place (all_windows d) in
+        let dismissed : Within h.0 = dismisses (grab_holder d) hit (unstruck start) h.0 (begun start known) h.1 in
+        let told : Within h.2 = button-told time button true d.pointer.focus h.0 h.2 dismissed h.3 in
+        next h.4 (settles h.2 h.4 told h.5) h.6
+
+    -- a button is released
+    pub released-then : (time button : ℕ) (d : Desktop) → Known d → ReleasedThen time button d Next → X
+    released-then time button d known h =
+        let start : Desktop = with_release button d in
+        let told : Within h.0 = button-told time button false d.pointer.focus (unstruck start) h.0 (begun start known) h.1 in
+        next h.2 (settles h.0 h.2 told h.3) h.4
+
+  pub shown : (time : ℕ) (d new : Desktop) → Known d → Shows time d new → Known new
+  shown time d new known h = shown-then (Known new) (settling new) (λ mid known. settling-in c T all.focus A P stays mid new known) time d known h
+
+  pub moves : (time : ℕ) (d new : Desktop) → Known d → MovesTo time d new → Known new
+  moves time d new known h = moves-then (Known new) (ending new) (λ mid known. ends mid new known) time d known h
+
   pub pressed-so : (time button : ℕ) (d new : Desktop) → Known (with_press button (raised_by (hit_now d.pointer.place (all_windows d)) d)) → PressedSo time button d new → Known new
-  pressed-so time button d new known h =
-      let start : Desktop = with_press button (raised_by (hit_now d.pointer.place (all_windows d)) d) in
-      let dismissed : Within h.0 = dismisses (grab_holder d) (hit_now d.pointer.place (all_windows d)) (unstruck start) h.0 (begun start known) h.1 in
-      let told : Within h.2 = button-told time button true d.pointer.focus h.0 h.2 dismissed h.3 in
-      ends h.4 new (settles h.2 h.4 told h.5) h.6
+  pressed-so time button d new known h = pressed-then (Known new) (ending new) (λ mid known. ends mid new known) time button d known h
 
   pub released-so : (time button : ℕ) (d new : Desktop) → Known d → ReleasedSo time button d new → Known new
-  released-so time button d new known h =
-      let told : Within h.0 = button-told time button false d.pointer.focus (unstruck (with_release button d)) h.0 (begun (with_release button d) known) h.1 in
-      ends h.2 new (settles h.0 h.2 told h.3) h.4
+  released-so time button d new known h = released-then (Known new) (ending new) (λ mid known. ends mid new known) time button d known h
 
 presses : (b : Bool) (time button c : ℕ) (d new : Desktop) → PressesIf b time button d new → KeepsItsOwn c d new
 presses false time button c d new h = kept-same c d new h

@@ -11,7 +11,7 @@ use Rattle.wl_scene.specs.Windows.{Window}
 use Rattle.wl_plain.specs.Desktop.{Desktop, Resident, client_at, client_in, resident_of, with_number}
 use Rattle.wl_plain.specs.Laws.{toplevels_of}
 use Rattle.wl_plain.specs.Replies.{focus_window}
-use Rattle.wl_plain.specs.Settling.{Enters, EndsAndSettles, EndsFirst, Leaves, MovesUnless, Moving, Settles, SettlesAll, Strike, Tells, TellsAt, TellsUnless, ended_at, in_order, is_settled, is_struck, struck_by, target_now, unstruck}
+use Rattle.wl_plain.specs.Settling.{Enters, EndsAndSettles, EndsFirst, Leaves, MovesUnless, Moving, Settles, SettlesAll, SettlesEnds, Strike, Tells, TellsAt, TellsUnless, ended_all, ended_at, ended_by, in_order, is_settled, is_struck, struck_by, target_now, unstruck}
 use Rattle.wl_plain.specs.Stacked.{all_windows}
 use Rattle.wl_plain.proofs.Others.{left_out, one_client}
 use Rattle.wl_plain.proofs.Places.{number-other, number-same}
@@ -95,7 +95,7 @@ module _ (other : ℕ) (T : Resident → Resident → Option Cause → Type 0) (
       at false more = (rest.0, more)
 
   -- a client is struck, or isn't
-  struck-so : (o : Option Resident) (c : ℕ) (why : Option Cause) (ss : List Strike) → ((cause : Cause) → why ≡ Some cause → c ≡ other → PAt o cause) → AreIn o ss → AreIn o (struck_by c why ss)
+  pub struck-so : (o : Option Resident) (c : ℕ) (why : Option Cause) (ss : List Strike) → ((cause : Cause) → why ≡ Some cause → c ≡ other → PAt o cause) → AreIn o ss → AreIn o (struck_by c why ss)
   struck-so o c None ss known rest = rest
   struck-so o c (Some cause) ss known rest = ordered o (record { client = c; cause = cause }) ss (known cause refl) rest
 
@@ -220,6 +220,22 @@ module _ (other : ℕ) (T : Resident → Resident → Option Cause → Type 0) (
   settles-all (suc n) old new known h =
       let settled : IsWithin h.0 = settles-in old h.0 known h.1 in
       ends-in (SettlesAll n) (settles-all n) h.0.struck h.0.desktop new settled.0 settled.1 h.2
+
+  -- those that are to end do, one after another
+  pub all-end : (ss : List Strike) (d : Desktop) → IsIn d → AreIn (client_at other d) ss → IsIn (ended_all ss d)
+  all-end [] d known rest = known
+  all-end (s ∷ ss) d known rest =
+      let more : IsWithin (record { desktop = ended_by s d; struck = ss }) = ended-in s.client s.cause ss d known rest.0 rest.1 in
+      all-end ss (ended_by s d) more.0 more.1
+
+  -- what comes after a step's own change: all that are to end do, and the focus is settled
+  pub settling-in : (mid : Moving) (new : Desktop) → IsWithin mid → EndsAndSettles mid new → IsIn new
+  settling-in mid new known h =
+      settles-all 33 (unstruck (ended_all mid.struck mid.desktop)) new (all-end mid.struck mid.desktop known.0 known.1, tt) h
+
+  -- or the focus was settled already
+  pub ending-in : (mid : Moving) (new : Desktop) → IsWithin mid → SettlesEnds mid new → IsIn new
+  ending-in mid new known h = ends-in (SettlesAll 32) (settles-all 32) mid.struck mid.desktop new known.0 known.1 h
 
   -- a message's own change is done, and the focus is settled
   pub settled-in : (d new : Desktop) → IsIn d → EndsAndSettles (unstruck d) new → IsIn new

@@ -56,9 +56,16 @@ PieceIsMessages =
     → Happens left (Steps (Feed c piece) done) d new
     → (hs : List Happening) × LeadsAll left hs d new
 
--- From a desktop without clients on, each happening leaves a sound desktop.
+abbrev pub AreSound : List Desktop → Type 0
+AreSound [] = Unit {0}
+AreSound (d ∷ ds) = IsSound d × AreSound ds
+
+-- After whatever happened from a desktop without clients on the desktop is sound, and so is each that the next happening leads through.
 abbrev pub HappeningsAreSound : Type 0
-HappeningsAreSound = (left : LeftOut) (output : Output) (hs : List Happening) (d : Desktop) → LeadsAll left hs (empty output) d → IsSound d
+HappeningsAreSound =
+    (left : LeftOut) (output : Output) (hs : List Happening) (d : Desktop)
+    → LeadsAll left hs (empty output) d
+    → IsSound d × ((h : Happening) (path : List Desktop) (new : Desktop) → Leads left h d path new → AreSound path)
 
 -- What is marked through the desktops of a happening holds what is marked from the first to the last: the ends and settlings that follow a
 -- change hide nothing of it.

@@ -119,7 +119,8 @@ pub fn piece_is_messages()
     ensures { PieceIsMessages }
 {}
 
-/// Whatever happens, one message at a time, from a desktop without clients on leaves it so that no surface has two windows.
+/// Whatever happens, one message at a time, from a desktop without clients on leaves it so that no surface has two windows, and so is each
+/// desktop on the way: that of its own change, and one after each end and each settling of the focus.
 pub fn happenings_are_sound()
     ensures { HappeningsAreSound }
 {}

@@ -173,10 +173,10 @@ fed-ended v c piece d answer a told =
             let held : Desktop = with_client c (Some come) d in
             let over : Peer = ended Memory come.peer in
             let last : become c r (ended Memory r.peer) d ≡ become c come over held =
-                ap (λ (clients : List (Option Resident)). record d { clients = clients; standing = without_client c d.standing })
-                (sym (number-twice d.clients c (Some (resident_of (ended Memory r.peer))) (Some come))) in
+            ap (λ (clients : List (Option Resident)). record d { clients = clients; standing = without_client c d.standing })
+            (sym (number-twice d.clients c (Some (resident_of (ended Memory r.peer))) (Some come))) in
             let stops : StopsAt c (Some come) held (become c r (ended Memory r.peer) d) =
-                inr (e, settles-to (becomes c come over held) (become c come over held) (become c r (ended Memory r.peer) d) (becomes-same c come over held a.no_more.pointer) last a.no_more.pointer) in (
+            inr (e, settles-to (becomes c come over held) (become c come over held) (become c r (ended Memory r.peer) d) (becomes-same c come over held a.no_more.pointer) last a.no_more.pointer) in (
               (zero, held, refl, subst (λ (o : Option Resident). StopsAt c o held (become c r (ended Memory r.peer) d)) (sym (number-same d.clients c (Some come) r is)) stops),
               fed-as c (become c r (ended Memory r.peer) d) (resident_of (ended Memory r.peer), client-become (ended Memory r.peer).status c r (ended Memory r.peer) d r is),
             )

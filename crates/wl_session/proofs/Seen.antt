@@ -4,7 +4,7 @@ use Rattle.wl_blend.specs.declared.color.Rgb.{Rgb}
 use Rattle.wl_client.specs.Told.{Output}
 use Rattle.wl_plain.specs.LeftOut.{LeftOut}
 use Rattle.wl_plain.specs.Stacked.{all_windows}
-use Rattle.wl_plain.proofs.HappeningsSound.{leads-orderly}
+use Rattle.wl_plain.proofs.SoundWithin.{leads-orderly}
 use Rattle.wl_plain.proofs.MarkedThrough.{leads-output}
 use Rattle.wl_plain.proofs.Orderly.{AreOrderly}
 use Rattle.wl_plain.proofs.OrderlyRun.{empty-orderly}
