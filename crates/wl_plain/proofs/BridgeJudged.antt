@@ -49,12 +49,12 @@ if-pairs : (r : Resident) (b : Bool) (x y : Result Ask Refusal) (v w : Result De
 if-pairs r true x y v w f g = f refl
 if-pairs r false x y v w f g = g refl
 
-ask-same : (r : Resident) (ask : Ask) → Same r ask (demanded ask)
+pub ask-same : (r : Resident) (ask : Ask) → Same r ask (demanded ask)
 ask-same r (DestroySurface id) = ends id
 ask-same r (DestroyToplevel id xdg) = goes id xdg
 ask-same r ask = asks ask
 
-demands-pair : (r : Resident) (judged : Result Ask Refusal) → Pairs r judged (demands judged)
+pub demands-pair : (r : Resident) (judged : Result Ask Refusal) → Pairs r judged (demands judged)
 demands-pair r (Ok ask) = ask-same r ask
 demands-pair r (Err refusal) = refl
 
@@ -103,7 +103,7 @@ committed-pair r o object Configures e = if-pairs r (waits_for_all o) _ _ _ _ (�
 committed-pair r o object Maps e = commit object Maps e
 committed-pair r o object Unmaps e = commit object Unmaps e
 
-commit-pair : (r : Resident) (object : ℕ) → AreToplevels r.owned.shell → Pairs r (surface_committed r object) (commit_demand r object)
+pub commit-pair : (r : Resident) (object : ℕ) → AreToplevels r.owned.shell → Pairs r (surface_committed r object) (commit_demand r object)
 commit-pair r object top =
     subst (λ effect. Pairs r (surface_committed r object) (committed_by (xdg_of object r.owned.shell) object effect)) (sym (effect-same r object top))
     (committed-pair r (xdg_of object r.owned.shell) object (effect_of r object) refl)
@@ -111,7 +111,7 @@ commit-pair r object top =
 -- ---- each interface
 
 -- a message to an interface, as it is asked and as it is demanded
-abbrev AsAsked : Interface → Resident → ℕ → ℕ → List Field → ℕ → Type 0
+abbrev pub AsAsked : Interface → Resident → ℕ → ℕ → List Field → ℕ → Type 0
 AsAsked interface r object version fields opcode =
     Pairs r (ask_of beyond_toplevels r object version (record { interface = interface; opcode = opcode; fields = fields }))
     (demand_of served_now r object version (record { interface = interface; opcode = opcode; fields = fields }))
@@ -148,7 +148,7 @@ toplevel-pair r object version fields opcode false e = at (opcode == 5) e
     at true e = absurd (cc)
     at false e = demands-pair r (toplevel_ask r object opcode)
 
-asked-pair : (interface : Interface) (r : Resident) (object version opcode : ℕ) (fields : List Field) → AreToplevels r.owned.shell → AsAsked interface r object version fields opcode
+pub asked-pair : (interface : Interface) (r : Resident) (object version opcode : ℕ) (fields : List Field) → AreToplevels r.owned.shell → AsAsked interface r object version fields opcode
 asked-pair WlDisplay r object version opcode fields top = demands-pair r (ask_of beyond_toplevels r object version (record { interface = WlDisplay; opcode = opcode; fields = fields }))
 asked-pair WlRegistry r object version opcode fields top = demands-pair r _
 asked-pair WlCallback r object version opcode fields top = demands-pair r (ask_of beyond_toplevels r object version (record { interface = WlCallback; opcode = opcode; fields = fields }))

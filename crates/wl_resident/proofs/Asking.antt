@@ -33,20 +33,27 @@ use Rattle.wl_resident.specs.declared.residents.Resident.{Resident as Kept}
 use Rattle.wl_resident.specs.declared.residents.Stacking.{Stacking}
 use Rattle.wl_resident.specs.declared.residents.Stacking.TheVariants.{Stays}
 use Rattle.wl_plain.specs.Ask.{Ask, CommitSurface, DestroyToplevel}
-use Rattle.wl_plain.specs.Desktop.{Resident}
+use Rattle.wl_plain.specs.Changing.{changed_for}
+use Rattle.wl_plain.specs.Demand.{Demand, Asks, CommitTree, EndToplevel}
+use Rattle.wl_plain.specs.Demanding.{demand_of, effect_of_commit, judge_all}
+use Rattle.wl_plain.specs.Desktop.{Desktop, Resident}
+use Rattle.wl_plain.specs.LeftOut.{served_now}
+use Rattle.wl_plain.specs.NoMore.{OwnsToplevelsOnly}
 use Rattle.wl_resident.specs.Marking.{marked_by}
 use Rattle.wl_resident.specs.Messages.{IsAsked}
 use Rattle.wl_resident.specs.declared.messages.Asked.{Asked}
 use Rattle.wl_resident.specs.declared.messages.Asked.TheVariants as asks
-use Rattle.wl_resident.specs.Residents.{Answers, AnswersSo, IsResident, NewIsFree, ObjectsFit, StacksBy, StacksSo, TakesSo}
+use Rattle.wl_resident.specs.Residents.{Answers, AnswersSo, IsResident, NewIsFree, ObjectsFit, Stacks, StacksBy, StacksFor, StacksSo, TakesSo}
 use Rattle.wl_plain.specs.Served.{beyond_toplevels}
-use Rattle.wl_plain.specs.Step.{ask_of, changed_by, judge, surface_of, with_peer}
+use Rattle.wl_plain.specs.Step.{ask_of, judge, surface_of, with_peer}
 use Rattle.wl_plain.proofs.Behind.{judge-behind}
+use Rattle.wl_plain.proofs.BridgeServes.{only-peer}
+use Rattle.wl_plain.proofs.WholePiecesChanging.{judged-behind}
 use Rattle.wl_resident.proofs.Numbers.{left-from}
-use Rattle.wl_resident.proofs.Shelling.{new-free, refused}
+use Rattle.wl_resident.proofs.Shelling.{new-free, refused-whole}
 
 -- a seat has no keyboard and no touch
-pub seat-refused : (r : Resident) (object version : ℕ) (request : WlSeatRequest) → ((id : ℕ) × (request ≡ GetKeyboard id)) ⊎ ((id : ℕ) × (request ≡ GetTouch id)) → ask_of beyond_toplevels r object version (wl_seat_request request) ≡ Err (record { object = object; code = MissingCapability })
+pub seat-refused : (r : Resident) (object version : ℕ) (request : WlSeatRequest) → ((id : ℕ) × (request ≡ GetKeyboard id)) ⊎ ((id : ℕ) × (request ≡ GetTouch id)) → demand_of served_now r object version (wl_seat_request request) ≡ Err (record { object = object; code = MissingCapability })
 seat-refused r object version request (inl is) = rw is.1 refl
 seat-refused r object version request (inr is) = rw is.1 refl
 
@@ -72,23 +79,23 @@ errs-by true refusal p q rest (inr h) = inr h
 errs-dropped : (refusal : Refusal) (p q : Peer) (rest : List ℕ) → Errs refusal p q → Errs refusal (with_rest rest p) q
 errs-dropped refusal p q rest h = errs-by (has_room p.unsent (error_told refusal)) refusal p q rest h
 
-first-refused-by : {A : Type 0} (old new : Kept A) (r : Resident) (refusal : Refusal) (s : Split) → IsRefused s old.client refusal → IsResident old r → is_some new.client.ended ≡ true
-    → (q : Peer) × Errs refusal r.peer q × IsPeer new.client q → TakesSo s r old new Stays
-first-refused-by old new r refusal (Whole object opcode size) why is ended errs =
+first-refused-by : {A : Type 0} (old new : Kept A) (c : ℕ) (r : Resident) (d : Desktop) (refusal : Refusal) (s : Split) → IsRefused s old.client refusal → IsResident old r → is_some new.client.ended ≡ true
+    → (q : Peer) × Errs refusal r.peer q × IsPeer new.client q → TakesSo s c r d old new Stays
+first-refused-by old new c r d refusal (Whole object opcode size) why is ended errs =
     let body = take (size - 8) (drop 8 r.peer.rest) in
-    let judged : judge beyond_toplevels r object opcode body ≡ Err refusal =
-    judged-refused r.peer.objects r.peer.held (λ version m. ask_of beyond_toplevels r object version m) opcode body (r.peer.objects object) refusal (passing-peer old.client r.peer object opcode size (Err refusal) is.peer why) in (
-      refused old new (with_peer (with_rest (drop size r.peer.rest) r.peer) r) (judge beyond_toplevels r object opcode body) refusal judged ended
+    let judged : judge_all served_now r object opcode body ≡ Err refusal =
+    judged-refused r.peer.objects r.peer.held (λ version m. demand_of served_now r object version m) opcode body (r.peer.objects object) refusal (passing-peer old.client r.peer object opcode size (Err refusal) is.peer why) in (
+      refused-whole old new c (with_peer (with_rest (drop size r.peer.rest) r.peer) r) d (judge_all served_now r object opcode body) refusal judged ended
           (errs.0, errs-dropped refusal r.peer errs.0 (drop size r.peer.rest) errs.1, errs.2),
-      subst (λ (j : Result Ask Refusal). StacksSo old r j Stays) (sym judged) tt,
+      subst (λ (j : Result Demand Refusal). StacksSo old r j Stays) (sym judged) tt,
     )
-first-refused-by old new r refusal Bad why is ended errs = refused old new r (Err (display_error InvalidMethod)) refusal (ap (λ (f : Refusal). Err f) (sym why)) ended errs
-first-refused-by old new r refusal More why is ended errs = absurd why
+first-refused-by old new c r d refusal Bad why is ended errs = refused-whole old new c r d (Err (display_error InvalidMethod)) refusal (ap (λ (f : Refusal). Err f) (sym why)) ended errs
+first-refused-by old new c r d refusal More why is ended errs = absurd why
 
-pub first-refused : {A : Type 0} (old new : Kept A) (r : Resident) (refusal : Refusal) → IsRefused (split_of old.client.rest) old.client refusal → IsResident old r → is_some new.client.ended ≡ true
-    → (q : Peer) × Errs refusal r.peer q × IsPeer new.client q → TakesSo (split_of r.peer.rest) r old new Stays
-first-refused old new r refusal why is ended errs =
-    subst (λ (rest : List ℕ). TakesSo (split_of rest) r old new Stays) is.peer.rest (first-refused-by old new r refusal (split_of old.client.rest) why is ended errs)
+pub first-refused : {A : Type 0} (old new : Kept A) (c : ℕ) (r : Resident) (d : Desktop) (refusal : Refusal) → IsRefused (split_of old.client.rest) old.client refusal → IsResident old r → is_some new.client.ended ≡ true
+    → (q : Peer) × Errs refusal r.peer q × IsPeer new.client q → TakesSo (split_of r.peer.rest) c r d old new Stays
+first-refused old new c r d refusal why is ended errs =
+    subst (λ (rest : List ℕ). TakesSo (split_of rest) c r d old new Stays) is.peer.rest (first-refused-by old new c r d refusal (split_of old.client.rest) why is ended errs)
 
 -- ---- a message that passes
 
@@ -110,9 +117,9 @@ dropped old mid r size e is = rw e (record {
 })
 
 -- what is answered to a client with the same objects before
-answers-from : {A : Type 0} (old mid new : Kept A) (r : Resident) (judged : Result Ask Refusal) → mid.client.objects ≡ old.client.objects → AnswersSo judged r mid new → AnswersSo judged r old new
-answers-from old mid new r (Ok ask) same h = (h.0, h.1, left-from old mid new (changed_by ask (with_peer (counted r.peer) r)) h.0 same h.2)
-answers-from old mid new r (Err refusal) same h = (h.0, h.1, left-from old mid new r h.0 same h.2)
+answers-from : {A : Type 0} (old mid new : Kept A) (c : ℕ) (r : Resident) (d : Desktop) (judged : Result Demand Refusal) → mid.client.objects ≡ old.client.objects → AnswersSo judged c r d mid new → AnswersSo judged c r d old new
+answers-from old mid new c r d (Ok demand) same h = (h.0, h.1, left-from old mid new (changed_for c demand (with_peer (counted r.peer) r) d) h.0 same h.2)
+answers-from old mid new c r d (Err refusal) same h = (h.0, h.1, left-from old mid new r h.0 same h.2)
 
 stacks-by-from : {A : Type 0} (old mid : Kept A) (r : Resident) (rest : List ℕ) (ask : Ask) (stacking : Stacking) → mid.client.objects ≡ old.client.objects → StacksBy mid (with_peer (with_rest rest r.peer) r) ask stacking → StacksBy old r ask stacking
 stacks-by-from old mid r rest (CommitSurface id Maps) stacking same h = (h.0, ap (λ (held : Held). targets_in WlSurface held id) (sym same) ∙ h.1, h.2)
@@ -122,8 +129,14 @@ stacks-by-from old mid r rest (DestroyToplevel id xdg) stacking same h =
     (h.0, ap (λ (held : Held). targets_in WlSurface held (surface_of (xdg_at xdg r.owned.shell))) (sym same) ∙ h.1, h.2)
 stacks-by-from old mid r rest ask stacking same h = h
 
-stacks-from : {A : Type 0} (old mid : Kept A) (r : Resident) (rest : List ℕ) (judged : Result Ask Refusal) (stacking : Stacking) → mid.client.objects ≡ old.client.objects → StacksSo mid (with_peer (with_rest rest r.peer) r) judged stacking → StacksSo old r judged stacking
-stacks-from old mid r rest (Ok ask) stacking same h = stacks-by-from old mid r rest ask stacking same h
+stacks-for-from : {A : Type 0} (old mid : Kept A) (r : Resident) (rest : List ℕ) (demand : Demand) (stacking : Stacking) → mid.client.objects ≡ old.client.objects → StacksFor mid (with_peer (with_rest rest r.peer) r) demand stacking → StacksFor old r demand stacking
+stacks-for-from old mid r rest (Asks ask) stacking same h = stacks-by-from old mid r rest ask stacking same h
+stacks-for-from old mid r rest (CommitTree id) stacking same h = stacks-by-from old mid r rest (CommitSurface id (effect_of_commit r id)) stacking same h
+stacks-for-from old mid r rest (EndToplevel id xdg) stacking same h = stacks-by-from old mid r rest (DestroyToplevel id xdg) stacking same h
+stacks-for-from old mid r rest demand stacking same h = h
+
+stacks-from : {A : Type 0} (old mid : Kept A) (r : Resident) (rest : List ℕ) (judged : Result Demand Refusal) (stacking : Stacking) → mid.client.objects ≡ old.client.objects → StacksSo mid (with_peer (with_rest rest r.peer) r) judged stacking → StacksSo old r judged stacking
+stacks-from old mid r rest (Ok demand) stacking same h = stacks-for-from old mid r rest demand stacking same h
 stacks-from old mid r rest (Err refusal) stacking same h = tt
 
 module _ {A : Type 0} (old : Kept A) (r : Resident) (object version size target : ℕ) (m : Message) (passes : Passes old.client object version size target m) (is : IsResident old r) where
@@ -147,17 +160,21 @@ module _ {A : Type 0} (old : Kept A) (r : Resident) (object version size target 
   pub judged-first : judge beyond_toplevels r object m.opcode body ≡ ask_of beyond_toplevels left object version m
   judged-first = sym (judge-behind beyond_toplevels r object m.opcode body (drop size r.peer.rest)) ∙ judged-by (λ version m. ask_of beyond_toplevels left object version m)
 
+  pub demanded-first : judge_all served_now r object m.opcode body ≡ demand_of served_now left object version m
+  demanded-first = sym (judged-behind served_now r object m.opcode body (drop size r.peer.rest)) ∙ judged-by (λ version m. demand_of served_now left object version m)
+
   pub whole-first : split_of r.peer.rest ≡ Whole object m.opcode size
   whole-first = ap split_of (sym is.peer.rest) ∙ passes.first
 
-  pub first-taken : (mid new : Kept A) (stacking : Stacking) → mid ≡ record old { client = record old.client { rest = drop size old.client.rest } } → Answers (λ r. ask_of beyond_toplevels r object version m) mid new
-      → ((r : Resident) → IsResident mid r → StacksSo mid r (ask_of beyond_toplevels r object version m) stacking) → TakesSo (split_of r.peer.rest) r old new stacking
-  first-taken mid new stacking same answers stacks =
+  pub first-taken : (mid new : Kept A) (stacking : Stacking) → mid ≡ record old { client = record old.client { rest = drop size old.client.rest } } → Answers (λ r. demand_of served_now r object version m) mid new
+      → Stacks (λ r. demand_of served_now r object version m) mid stacking → (c : ℕ) (d : Desktop) → OwnsToplevelsOnly r → TakesSo (split_of r.peer.rest) c r d old new stacking
+  first-taken mid new stacking same answers stacks c d only =
       let there = dropped old mid r size same is in
       let objects : mid.client.objects ≡ old.client.objects = ap (λ (k : Kept A). k.client.objects) same in
-      subst (λ (s : Split). TakesSo s r old new stacking) (sym whole-first) (
-        subst (λ (j : Result Ask Refusal). AnswersSo j left old new) (sym judged-first) (answers-from old mid new left (ask_of beyond_toplevels left object version m) objects (answers left there)),
-        subst (λ (j : Result Ask Refusal). StacksSo old r j stacking) (sym judged-first) (stacks-from old mid r (drop size r.peer.rest) (ask_of beyond_toplevels left object version m) stacking objects (stacks left there)),
+      let has : OwnsToplevelsOnly left = only-peer r left.peer refl only in
+      subst (λ (s : Split). TakesSo s c r d old new stacking) (sym whole-first) (
+        subst (λ (j : Result Demand Refusal). AnswersSo j c left d old new) (sym demanded-first) (answers-from old mid new c left d (demand_of served_now left object version m) objects (answers c left d there has)),
+        subst (λ (j : Result Demand Refusal). StacksSo old r j stacking) (sym demanded-first) (stacks-from old mid r (drop size r.peer.rest) (demand_of served_now left object version m) stacking objects (stacks left there has)),
       )
 
 -- ---- where there is no whole message

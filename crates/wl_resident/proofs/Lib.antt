@@ -1,4 +1,5 @@
 pub mod Numbers
+pub mod Simply
 pub mod Doing
 pub mod Shelling
 pub mod Scenes

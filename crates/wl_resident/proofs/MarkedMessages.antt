@@ -53,7 +53,8 @@ use Rattle.wl_resident.specs.Marking.{AreUnlinked, IsAsLarge, MarksEnd, marked_b
 use Rattle.wl_resident.specs.Messages.{IsAsked, IsKind}
 use Rattle.wl_plain.specs.Moments.{marks_of_toplevels}
 use Rattle.wl_plain.specs.Owning.{names_in, target_as, targets_in}
-use Rattle.wl_resident.specs.Residents.{AnswersSo, IsLeft, IsResident, KeepsNumbers, TakesSo, asked_by}
+use Rattle.wl_resident.specs.Residents.{IsLeft, IsResident, KeepsNumbers, asked_by}
+use Rattle.wl_resident.proofs.Simply.{AnswersSo, TakesSo}
 use Rattle.wl_resident.specs.Seats.{IsClearedBy, IsRestacked, IsSeated, IsSettledBy}
 use Rattle.wl_plain.specs.Served.{beyond_toplevels}
 use Rattle.wl_plain.specs.Step.{Serves, ask_by, ask_of, changed_by, judge, surface_of, with_peer}

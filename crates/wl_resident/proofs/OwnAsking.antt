@@ -27,13 +27,19 @@ use Rattle.wl_table.specs.Objects.{Held, entry_of}
 use Rattle.wl_table.specs.declared.entry.Entry.{Entry}
 use Rattle.wl_resident.specs.declared.residents.Resident.{Resident as Kept}
 use Rattle.wl_resident.specs.declared.residents.Stacking.TheVariants.{Stays}
-use Rattle.wl_plain.specs.Ask.{Ask, owns}
-use Rattle.wl_plain.specs.Desktop.{Resident}
+use Rattle.wl_plain.specs.Ask.{owns}
+use Rattle.wl_plain.specs.Demand.{Demand}
+use Rattle.wl_plain.specs.Demanding.{demand_by, demand_of, demands, judge_all}
+use Rattle.wl_plain.specs.Desktop.{Desktop, Resident}
+use Rattle.wl_plain.specs.LeftOut.{served_now}
+use Rattle.wl_plain.specs.NoMore.{OwnsToplevelsOnly}
 use Rattle.wl_plain.specs.Owning.{by_number, names_in, target_as, targets_in}
-use Rattle.wl_resident.specs.Residents.{AnswersSo, IsLeft, IsResident, StacksSo, TakesSo}
-use Rattle.wl_plain.specs.Served.{beyond_toplevels}
-use Rattle.wl_plain.specs.Step.{ask_by, ask_of, judge, with_peer}
-use Rattle.wl_resident.proofs.Asking.{judged-by, judged-first, whole-first}
+use Rattle.wl_resident.specs.Residents.{AnswersSo as AnswersWhole, IsLeft, IsResident, StacksSo as StacksWhole, TakesSo}
+use Rattle.wl_plain.specs.Step.{with_peer}
+use Rattle.wl_plain.proofs.BridgeJudged.{demands-pair}
+use Rattle.wl_plain.proofs.BridgeServes.{only-peer}
+use Rattle.wl_resident.proofs.Asking.{demanded-first, judged-by, whole-first}
+use Rattle.wl_resident.proofs.Simply.{AnswersSo, simply, stacks-simply}
 use Rattle.wl_resident.proofs.Numbers.{keeps-names}
 use Rattle.wl_plain.proofs.OwningNames.{names-with}
 use Rattle.wl_plain.proofs.OwningSurfaces.{any-is}
@@ -108,17 +114,18 @@ names-kept old new keeps =
 -- ---- it is answered
 
 -- one of the client's own interfaces
-own-asked : (interface : Interface) (r : Resident) (object version : ℕ) (m : Message) → is_own interface ≡ true → (beyond_toplevels interface m.opcode ≡ false) × (ask_by interface r object version m ≡ owns (action_of (known_of r.peer) object version m.interface m.opcode m.fields))
-own-asked WlDisplay r object version m own = (refl, refl)
-own-asked WlRegistry r object version m own = (refl, refl)
-own-asked WlRegion r object version m own = (refl, refl)
-own-asked WlShm r object version m own = (refl, refl)
-own-asked WlShmPool r object version m own = (refl, refl)
-own-asked WlBuffer r object version m own = (refl, refl)
+own-asked : (interface : Interface) (r : Resident) (object version : ℕ) (m : Message) → is_own interface ≡ true
+    → (served_now.requests interface m.opcode ≡ false) × (m.interface ≡ interface → demand_by interface r object version m ≡ demands (owns (action_of (known_of r.peer) object version m.interface m.opcode m.fields)))
+own-asked WlDisplay r object version m own = (refl, λ is. rw is refl)
+own-asked WlRegistry r object version m own = (refl, λ is. rw is refl)
+own-asked WlRegion r object version m own = (refl, λ is. rw is refl)
+own-asked WlShm r object version m own = (refl, λ is. rw is refl)
+own-asked WlShmPool r object version m own = (refl, λ is. rw is refl)
+own-asked WlBuffer r object version m own = (refl, λ is. rw is refl)
 own-asked interface r object version m own = absurd (cc)
 
-own-ask-of : (r : Resident) (object version : ℕ) (m : Message) → is_own m.interface ≡ true → ask_of beyond_toplevels r object version m ≡ owns (action_of (known_of r.peer) object version m.interface m.opcode m.fields)
-own-ask-of r object version m own = let asked = own-asked m.interface r object version m own in rw asked.0 asked.1
+own-demand-of : (r : Resident) (object version : ℕ) (m : Message) → is_own m.interface ≡ true → demand_of served_now r object version m ≡ demands (owns (action_of (known_of r.peer) object version m.interface m.opcode m.fields))
+own-demand-of r object version m own = let asked = own-asked m.interface r object version m own in rw asked.0 (asked.1 refl)
 
 -- what it leaves
 own-left : {A : Type 0} (old new : Kept A) (r then : Resident) (q : Peer) → IsResident old r → then.owned ≡ r.owned → new.owned ≡ old.owned → (new.client.ended ≡ None → KeepsSurfaces old.client.objects new.client.objects) → IsPeer new.client q → IsLeft old new then q
@@ -141,18 +148,19 @@ used-of old r is =
     (by_number numbers r.owned.surfaces, is.owns.surfaces.stand, λ number. any-is numbers slots r.owned.surfaces is.owns.surfaces (λ s. has number s.history) (has_at number) refl (λ s. refl))
 
 pub own-served : {A : Type 0} (old new : Kept A) (r : Resident) (q : Peer) → IsResident old r → PassesTo true old.client → new.owned ≡ old.owned → (new.client.ended ≡ None → KeepsSurfaces old.client.objects new.client.objects)
-    → ServesWith (λ number. is_used number r.owned.surfaces) r.peer q → IsPeer new.client q → TakesSo (split_of r.peer.rest) r old new Stays
-own-served old new r q is (object, version, size, target, m, passes, own) same keeps serves peer =
+    → ServesWith (λ number. is_used number r.owned.surfaces) r.peer q → IsPeer new.client q → (c : ℕ) (d : Desktop) → OwnsToplevelsOnly r → TakesSo (split_of r.peer.rest) c r d old new Stays
+own-served old new r q is (object, version, size, target, m, passes, own) same keeps serves peer c d only =
     let whole = whole-first old r object version size target m passes is in
     let body = take (size - 8) (drop 8 r.peer.rest) in
     let left : Resident = with_peer (with_rest (drop size r.peer.rest) r.peer) r in
     let action : Result Action Refusal = action_of (known_of r.peer) object version m.interface m.opcode m.fields in
     let used : ℕ → Bool = λ number. is_used number r.owned.surfaces in
-    let judged : judge beyond_toplevels r object m.opcode body ≡ owns action = judged-first old r object version size target m passes is ∙ own-ask-of left object version m own in
+    let judged : judge_all served_now r object m.opcode body ≡ demands (owns action) = demanded-first old r object version size target m passes is ∙ own-demand-of left object version m own in
     let judged_own : judge_own (known_of r.peer) object m.opcode body ≡ action = judged-by old r object version size target m passes is (λ version m. action_of (known_of r.peer) object version m.interface m.opcode m.fields) in
     let taken : TakesWith used (Whole object m.opcode size) r.peer q = subst (λ (s : Split). TakesWith used s r.peer q) whole serves.1 in
     let answers : AnswersWith used action left.peer q = subst (λ (j : Result Action Refusal). AnswersWith used j left.peer q) judged_own taken in
-    subst (λ (s : Split). TakesSo s r old new Stays) (sym whole) (
-      subst (λ (j : Result Ask Refusal). AnswersSo j left old new) (sym judged) (own-answered old new r left action q is refl same keeps answers peer),
-      subst (λ (j : Result Ask Refusal). StacksSo old r j Stays) (sym judged) (own-stays old r action),
+    subst (λ (s : Split). TakesSo s c r d old new Stays) (sym whole) (
+      subst (λ (j : Result Demand Refusal). AnswersWhole j c left d old new) (sym judged)
+          (simply old new c d left (only-peer r left.peer refl only) (owns action) (own-answered old new r left action q is refl same keeps answers peer)),
+      subst (λ (j : Result Demand Refusal). StacksWhole old r j Stays) (sym judged) (stacks-simply old (owns action) (demands (owns action)) r Stays only.roles (demands-pair r (owns action)) (own-stays old r action)),
     )

@@ -34,14 +34,18 @@ use Rattle.wl_scene.specs.Stacking.{Owned}
 use Rattle.wl_scene.specs.declared.owned.Owned.{Owned as Lent}
 use Rattle.wl_resident.specs.declared.residents.Resident.{Resident as Kept}
 use Rattle.wl_plain.specs.Ask.{Ask, AskSurface, DestroyToplevel, GetToplevel, Ignore}
-use Rattle.wl_plain.specs.Desktop.{Resident}
+use Rattle.wl_plain.specs.Demand.{Demand}
+use Rattle.wl_plain.specs.Desktop.{Desktop, Resident}
+use Rattle.wl_plain.specs.NoMore.{OwnsToplevelsOnly}
 use Rattle.wl_plain.specs.Owning.{AreKept, IsOwned, IsXdg, Names, asks_by, by_number, configuring_if, kept_base, names_in, names_surface, shell_refusal, target_as, targets_in, with_surface, with_toplevel, with_xdg}
-use Rattle.wl_resident.specs.Residents.{ActsFor, AnswersSo, Does, IsBase, IsFree, NewIsFree, IsResident, IsToplevel, IsXdgSurface}
+use Rattle.wl_resident.specs.Residents.{ActsFor, AnswersSo as AnswersWhole, Does, IsBase, IsFree, NewIsFree, IsResident, IsToplevel, IsXdgSurface, Meets, MeetsSo}
 use Rattle.wl_plain.specs.Step.{changed_by, configures_told, role_configured, toplevel_configured, toplevel_given, with_peer, xdg_configured}
 use Rattle.wl_plain.specs.XdgShell.{configured_again, is_no_toplevel, is_state, role_of, toplevel_ask, toplevel_ask_of, xdg_ask, xdg_ask_of}
 use Rattle.wl_resident.proofs.Doing.{cut-bounds}
 use Rattle.wl_plain.proofs.Letting.{asked-keeps}
+use Rattle.wl_plain.proofs.BridgeServes.{only-peer}
 use Rattle.wl_resident.proofs.Numbers.{left-from}
+use Rattle.wl_resident.proofs.Simply.{AnswersSo}
 use Rattle.wl_plain.proofs.OwningSurfaces.{surface-named, surface-read}
 use Rattle.wl_plain.proofs.OwningNames.{names-other-gone, names-surface-gone, names-toplevel-gone, names-xdg-gone}
 use Rattle.wl_plain.proofs.OwningReads.{role-fits, role-read}
@@ -119,6 +123,11 @@ refused old new r judged refusal e ended errs =
         numbers = λ none. absurd (gone new.client.ended ended none);
       },
     )
+
+pub refused-whole : {A : Type 0} (old new : Kept A) (c : ℕ) (r : Resident) (d : Desktop) (judged : Result Demand Refusal) (refusal : Refusal) → judged ≡ Err refusal → is_some new.client.ended ≡ true → (q : Peer) × Errs refusal r.peer q × IsPeer new.client q
+    → AnswersWhole judged c r d old new
+refused-whole old new c r d judged refusal e ended errs =
+    subst (λ (j : Result Demand Refusal). AnswersWhole j c r d old new) (sym e) (refused old new r (Err refusal) refusal refl ended errs)
 
 -- it is accepted
 pub accepted : {A : Type 0} {old : Kept A} (new : Kept A) (r : Resident) (judged : Result Ask Refusal) (ask : Ask) → judged ≡ Ok ask → AnswersSo (Ok ask) r old new → AnswersSo judged r old new
@@ -339,6 +348,12 @@ pub counted-does : {A : Type 0} (old mid new : Kept A) (r : Resident) (ask : Res
     → Does ask mid new → AnswersSo (Ok (ask (with_peer (counted r.peer) r))) r old new
 counted-does old mid new r ask is only same peer does =
     let done = does (with_peer (counted r.peer) r) (counted-on old mid r is only same peer) in
+    (done.0, done.1, left-from old mid new _ done.0 (objects-counted old.client mid.client only) done.2)
+
+pub counted-meets : {A : Type 0} (old mid new : Kept A) (c : ℕ) (r : Resident) (d : Desktop) (demand : Resident → Demand) → IsResident old r → OwnsToplevelsOnly r → mid.client ≡ record old.client { requests = mid.client.requests } → mid.owned ≡ old.owned
+    → IsPeer mid.client (counted r.peer) → Meets demand mid new → MeetsSo c (demand (with_peer (counted r.peer) r)) (with_peer (counted r.peer) r) d old new
+counted-meets old mid new c r d demand is has only same peer meets =
+    let done = meets c (with_peer (counted r.peer) r) d (counted-on old mid r is only same peer) (only-peer r (counted r.peer) refl has) in
     (done.0, done.1, left-from old mid new _ done.0 (objects-counted old.client mid.client only) done.2)
 
 pub surface-counted : (old mid : ClientView) (id number : ℕ) → mid ≡ record old { requests = mid.requests } → targets_in WlSurface old.objects id ≡ Some number → targets_in WlSurface mid.objects id ≡ Some number

@@ -1,8 +1,11 @@
 -- What requests do to the stack of toplevels.
 use Rattle.std.proofs.Common.{◌≡◌, ℕ, Bool, true, false, Option, Some, None, Result, refl, ap, sym, subst, ◌∙◌}
-use Rattle.std.specs.Prelude.{◌==◌, ◌&&◌, pos, int_lt, if◌then◌else◌, is_some, Ok, Err}
+use Rattle.std.specs.Prelude.{◌==◌, ◌&&◌, ◌||◌, pos, int_lt, if◌then◌else◌, is_some, Ok, Err}
 use Rattle.wl_geom.specs.declared.rect.Rect.{Rect}
-use Rattle.wl_proto.specs.Messages.{xdg_surface_request}
+use Rattle.std.specs.List.{list_any}
+use Rattle.wl_proto.specs.Messages.{xdg_surface_request, xdg_wm_base_request}
+use Rattle.wl_proto.specs.declared.xdg_wm_base.XdgWmBaseRequest.{XdgWmBaseRequest}
+use Rattle.wl_proto.specs.declared.xdg_wm_base.XdgWmBaseRequest.TheVariants as base
 use Rattle.wl_proto.specs.declared.xdg_surface.XdgSurfaceRequest.{XdgSurfaceRequest}
 use Rattle.wl_proto.specs.declared.xdg_surface.XdgSurfaceRequest.TheVariants as requests
 use Rattle.wl_client.specs.declared.refusals.ErrorCode.TheVariants as error
@@ -12,7 +15,7 @@ use Rattle.wl_client.specs.declared.actions.Action.{Action}
 use Rattle.wl_client.specs.declared.refusals.Refusal.{Refusal}
 use Rattle.wl_proto.specs.declared.interface.Interface.TheVariants.{WlSurface}
 use Rattle.wl_shell.specs.Kept.{kept_of}
-use Rattle.wl_shell.specs.Shell.{XdgSurface as Xdg, answers_states, is_full, is_waiting, stage_of, xdg_at, xdg_with}
+use Rattle.wl_shell.specs.Shell.{XdgSurface as Xdg, answers_states, is_full, is_waiting, stage_of, xdg_at, xdg_of, xdg_with}
 use Rattle.wl_shell.specs.declared.acts.ShellAct.{ShellAct}
 use Rattle.wl_shell.specs.declared.acts.ShellAct.TheVariants.{Configure, Map, Unmap, Nothing}
 use Rattle.std.proofs.lemmas.Bool.{eqb-true}
@@ -21,14 +24,15 @@ use Rattle.wl_resident.specs.declared.xdg_toplevel.ToplevelAsked.TheVariants.{De
 use Rattle.wl_resident.specs.declared.residents.Resident.{Resident as Kept}
 use Rattle.wl_resident.specs.declared.residents.Stacking.{Stacking}
 use Rattle.wl_resident.specs.declared.residents.Stacking.TheVariants.{Stays, Out}
-use Rattle.wl_plain.specs.Ask.{Ask, AskSurface, CommitSurface, DestroyXdgSurface, GetToplevel, Acknowledge, ConfigureAgain, DestroyToplevel, Ignore, owns}
+use Rattle.wl_plain.specs.Ask.{Ask, AskSurface, CommitSurface, DestroyBase, DestroyXdgSurface, GetXdgSurface, GetToplevel, Acknowledge, ConfigureAgain, DestroyToplevel, Ignore, owns}
 use Rattle.wl_plain.specs.WlSurface.{refuse, refuse_limit}
 use Rattle.wl_plain.specs.Served.{beyond_toplevels}
 use Rattle.wl_plain.specs.Desktop.{Resident}
 use Rattle.wl_plain.specs.Owning.{effect_by, names_in, targets_in}
-use Rattle.wl_resident.specs.Residents.{IsResident, IsSurface, IsToplevel, StacksBy, StacksSo, asked_by, stacking_by}
+use Rattle.wl_resident.specs.Residents.{IsResident, IsSurface, IsToplevel, StacksBy, asked_by, stacking_by}
+use Rattle.wl_resident.proofs.Simply.{StacksSo}
 use Rattle.wl_plain.specs.Step.{ask_of, surface_of}
-use Rattle.wl_plain.specs.XdgShell.{configured_again, is_no_toplevel, is_state, role_of, toplevel_ask, toplevel_ask_of, xdg_ask_of}
+use Rattle.wl_plain.specs.XdgShell.{configured_again, has_any, is_foreign, is_no_toplevel, is_state, role_of, toplevel_ask, toplevel_ask_of, xdg_ask_of}
 use Rattle.wl_plain.proofs.OwningXdg.{toplevel-named}
 
 -- it asks nothing of the stack
@@ -139,3 +143,15 @@ xdg-stays old r object version (requests.GetToplevel id) = xdg-still old r (xdg_
 xdg-stays old r object version (requests.GetPopup id parent positioner) = tt
 xdg-stays old r object version (requests.SetWindowGeometry a b width height) = xdg-still old r (xdg_at object r.owned.shell) version (requests.SetWindowGeometry a b width height)
 xdg-stays old r object version (requests.AckConfigure serial) = xdg-still old r (xdg_at object r.owned.shell) version (requests.AckConfigure serial)
+
+-- a request of an xdg_wm_base
+pub base-stays : {A : Type 0} (old : Kept A) (r : Resident) (object version : ℕ) (request : XdgWmBaseRequest) → StacksSo old r (ask_of beyond_toplevels r object version (xdg_wm_base_request request)) Stays
+base-stays old r object version base.Destroy =
+    either-stays old r (list_any (λ x. x.base == object) r.owned.shell) (refuse object error.DefunctSurfaces) (Ok (DestroyBase object)) tt refl
+base-stays old r object version (base.CreatePositioner id) = tt
+base-stays old r object version (base.GetXdgSurface id surface) =
+    let any = has_any r surface in
+    either-stays old r (is_foreign (role_of r surface) || is_some (xdg_of surface r.owned.shell)) (refuse object error.Role)
+    (if any then refuse object error.InvalidSurfaceState else Ok (GetXdgSurface id version object surface)) tt
+    (either-stays old r any (refuse object error.InvalidSurfaceState) (Ok (GetXdgSurface id version object surface)) tt refl)
+base-stays old r object version (base.Pong serial) = refl

@@ -26,7 +26,8 @@ use Rattle.wl_resident.specs.Agreement.{IsScene, IsSeat, IsStack, with_numbers}
 use Rattle.wl_plain.specs.Ask.{Ask, Own, CreateSurface, DestroySurface, AskSurface, CommitSurface, DestroyBase, GetXdgSurface, DestroyXdgSurface, GetToplevel, Acknowledge, ConfigureAgain, DestroyToplevel, Ignore}
 use Rattle.wl_plain.specs.Desktop.{Desktop, Resident, become, become_by, client_at, client_in, owned_of, resident_of, with_number}
 use Rattle.wl_plain.specs.Owning.{targets_in}
-use Rattle.wl_resident.specs.Residents.{ActsFor, AnswersSo, IsLeft, StacksBy, StacksSo, TakesSo}
+use Rattle.wl_resident.specs.Residents.{ActsFor, IsLeft, StacksBy}
+use Rattle.wl_resident.proofs.Simply.{AnswersSo, StacksSo, TakesSo}
 use Rattle.wl_resident.specs.Seats.{IsBased, IsClearedBy, IsRestacked, IsSeated, IsSettledBy, Lacks}
 use Rattle.wl_plain.specs.Served.{beyond_toplevels}
 use Rattle.wl_plain.specs.Step.{Acts, Answers, Becomes, ServesAt, Serves, Takes, WantsOr, after_surface, answers_to, changed_by, committed_on, effect_on, judge, stacked, surface_of, takes_memory, with_peer}

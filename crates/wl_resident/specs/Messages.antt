@@ -12,7 +12,7 @@ use Rattle.wl_resident.specs.declared.messages.Asked.TheVariants as asked
 use Rattle.wl_resident.specs.declared.messages.Kind.{Kind}
 use Rattle.wl_resident.specs.declared.messages.Kind.TheVariants as kind
 use Rattle.wl_resident.specs.Residents.{asked_by}
-use Rattle.wl_plain.specs.Served.{beyond_toplevels}
+use Rattle.wl_plain.specs.LeftOut.{served_now}
 
 -- the message is this request
 abbrev pub IsKind : Kind → Message → Type 0
@@ -22,7 +22,7 @@ IsKind (kind.Seat request) m = m ≡ wl_seat_request request
 IsKind (kind.Base request) m = m ≡ xdg_wm_base_request request
 IsKind (kind.XdgSurface request) m = m ≡ xdg_surface_request request
 IsKind (kind.Toplevel toplevel) m = (m.interface ≡ XdgToplevel) × (toplevel ≡ asked_by m.opcode)
-IsKind kind.Unserved m = beyond_toplevels m.interface m.opcode ≡ true
+IsKind kind.Unserved m = served_now.requests m.interface m.opcode ≡ true
 
 abbrev pub IsAsked : ClientView → Asked → Type 0
 IsAsked v asked.More = split_of v.rest ≡ More

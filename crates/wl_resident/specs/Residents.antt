@@ -1,6 +1,7 @@
 -- What the desk keeps of a client agrees with a client of the plain desktop, and what a request makes of both.
 use Rattle.std.specs.List.{list_all}
 use Rattle.std.specs.Prelude.{ℕ, ◌≡◌, ◌-◌, ◌==◌, if◌then◌else◌, IfSome, None, Some, Result, Ok, Err, true, Option, List, [], take, drop}
+use Rattle.wl_wire.specs.Wire.{split_of}
 use Rattle.wl_wire.specs.declared.header.Split.{Split}
 use Rattle.wl_wire.specs.declared.header.Split.TheVariants.{Message as Whole, More, Bad}
 use Rattle.wl_proto.specs.declared.interface.Interface.TheVariants.{WlSurface, XdgSurface, XdgToplevel, XdgWmBase}
@@ -24,11 +25,18 @@ use Rattle.wl_resident.specs.declared.xdg_toplevel.ToplevelAsked.TheVariants.{De
 use Rattle.wl_resident.specs.declared.residents.Stacking.{Stacking}
 use Rattle.wl_resident.specs.declared.residents.Stacking.TheVariants.{Stays, ToTop, Out}
 use Rattle.wl_plain.specs.Ask.{Ask, CommitSurface, DestroyToplevel}
-use Rattle.wl_plain.specs.Desktop.{Resident}
+use Rattle.wl_plain.specs.Changing.{changed_for}
+use Rattle.wl_plain.specs.Demand.{Demand, Asks, CommitTree, EndToplevel}
+use Rattle.wl_plain.specs.Demanding.{effect_of_commit, judge_all}
+use Rattle.wl_plain.specs.Desktop.{Desktop, Resident}
+use Rattle.wl_plain.specs.LeftOut.{served_now}
+use Rattle.wl_plain.specs.NoMore.{OwnsToplevelsOnly}
 use Rattle.wl_plain.specs.Owning.{IsOwned, names_in, targets_in}
-use Rattle.wl_plain.specs.Served.{beyond_toplevels}
+use Rattle.wl_plain.specs.Replies.{replies}
+use Rattle.wl_plain.specs.Stacked.{all_windows}
 use Rattle.wl_plain.specs.XdgShell.{is_state}
-use Rattle.wl_plain.specs.Step.{answers_to, changed_by, judge, role_configured, surface_of, takes_memory, with_peer}
+use Rattle.wl_plain.specs.Step.{answers_to, changed_by, role_configured, surface_of, takes_memory, with_peer}
+use Rattle.wl_plain.specs.Whole.{wants_memory}
 
 -- what is kept of the surfaces and of the shell stands for what the client owns
 abbrev pub Owns : {A : Type 0} → Kept A → Resident → Type 0
@@ -57,13 +65,27 @@ ActsFor ask r q = WantsOr (takes_memory ask) (Queues (answers_to ask r) (changed
 abbrev pub Does : {A : Type 0} → (Resident → Ask) → Kept A → Kept A → Type 0
 Does ask old new = (r : Resident) → IsResident old r → (q : Peer) × ActsFor (ask r) r q × IsLeft old new (changed_by (ask r) r) q
 
--- What is judged so is answered: what is asked is done, with its request counted; a refusal ends the client.
-abbrev pub AnswersSo : {A : Type 0} → Result Ask Refusal → Resident → Kept A → Kept A → Type 0
-AnswersSo (Ok ask) r old new = (q : Peer) × ActsFor ask (with_peer (counted r.peer) r) q × IsLeft old new (changed_by ask (with_peer (counted r.peer) r)) q
-AnswersSo (Err refusal) r old new = (q : Peer) × Errs refusal r.peer q × IsLeft old new r q
+-- What client c demands of a desktop is done, and it is told of it; there may be no memory for it.
+abbrev pub MeetsFor : ℕ → Demand → Resident → Desktop → Peer → Type 0
+MeetsFor c demand r d q =
+    WantsOr (wants_memory demand)
+    (Queues (replies served_now c demand r (changed_for c demand r d) (all_windows d) d) (changed_for c demand r d).peer q)
+    r.peer q
 
-abbrev pub Answers : {A : Type 0} → (Resident → Result Ask Refusal) → Kept A → Kept A → Type 0
-Answers judged old new = (r : Resident) → IsResident old r → AnswersSo (judged r) r old new
+abbrev pub MeetsSo : {A : Type 0} → ℕ → Demand → Resident → Desktop → Kept A → Kept A → Type 0
+MeetsSo c demand r d old new = (q : Peer) × MeetsFor c demand r d q × IsLeft old new (changed_for c demand r d) q
+
+-- so it is done, whatever client is stood for, which has no more than toplevels, and whatever else the desktop has
+abbrev pub Meets : {A : Type 0} → (Resident → Demand) → Kept A → Kept A → Type 0
+Meets demand old new = (c : ℕ) (r : Resident) (d : Desktop) → IsResident old r → OwnsToplevelsOnly r → MeetsSo c (demand r) r d old new
+
+-- What is judged so is answered: what is demanded is done, with its request counted; a refusal ends the client.
+abbrev pub AnswersSo : {A : Type 0} → Result Demand Refusal → ℕ → Resident → Desktop → Kept A → Kept A → Type 0
+AnswersSo (Ok demand) c r d old new = MeetsSo c demand (with_peer (counted r.peer) r) d old new
+AnswersSo (Err refusal) c r d old new = (q : Peer) × Errs refusal r.peer q × IsLeft old new r q
+
+abbrev pub Answers : {A : Type 0} → (Resident → Result Demand Refusal) → Kept A → Kept A → Type 0
+Answers judged old new = (c : ℕ) (r : Resident) (d : Desktop) → IsResident old r → OwnsToplevelsOnly r → AnswersSo (judged r) c r d old new
 
 -- the wl_surface with this id has the surface of this number
 abbrev pub IsSurface : {A : Type 0} → Kept A → ℕ → ℕ → Type 0
@@ -121,18 +143,32 @@ stacking_by Map number = ToTop number
 stacking_by Unmap number = Out number
 stacking_by act number = Stays
 
+abbrev pub StacksFor : {A : Type 0} → Kept A → Resident → Demand → Stacking → Type 0
+StacksFor old r (Asks ask) stacking = StacksBy old r ask stacking
+StacksFor old r (CommitTree id) stacking = StacksBy old r (CommitSurface id (effect_of_commit r id)) stacking
+StacksFor old r (EndToplevel id xdg) stacking = StacksBy old r (DestroyToplevel id xdg) stacking
+StacksFor old r demand stacking = stacking ≡ Stays
+
 -- a refusal ends the client, and with it its toplevels
-abbrev pub StacksSo : {A : Type 0} → Kept A → Resident → Result Ask Refusal → Stacking → Type 0
-StacksSo old r (Ok ask) stacking = StacksBy old r ask stacking
+abbrev pub StacksSo : {A : Type 0} → Kept A → Resident → Result Demand Refusal → Stacking → Type 0
+StacksSo old r (Ok demand) stacking = StacksFor old r demand stacking
 StacksSo old r (Err refusal) stacking = Unit {0}
 
+-- of whatever client is stood for, which has no more than toplevels
+abbrev pub Stacks : {A : Type 0} → (Resident → Result Demand Refusal) → Kept A → Stacking → Type 0
+Stacks judged old stacking = (r : Resident) → IsResident old r → OwnsToplevelsOnly r → StacksSo old r (judged r) stacking
+
 -- The first message of what has come is taken and answered.
-abbrev pub TakesSo : {A : Type 0} → Split → Resident → Kept A → Kept A → Stacking → Type 0
-TakesSo (Whole object opcode size) r old new stacking =
-    AnswersSo (judge beyond_toplevels r object opcode (take (size - 8) (drop 8 r.peer.rest))) (with_peer (with_rest (drop size r.peer.rest) r.peer) r) old new
-    × StacksSo old r (judge beyond_toplevels r object opcode (take (size - 8) (drop 8 r.peer.rest))) stacking
-TakesSo Bad r old new stacking = AnswersSo (Err (display_error InvalidMethod)) r old new
-TakesSo More r old new stacking = ⊥
+abbrev pub TakesSo : {A : Type 0} → Split → ℕ → Resident → Desktop → Kept A → Kept A → Stacking → Type 0
+TakesSo (Whole object opcode size) c r d old new stacking =
+    AnswersSo (judge_all served_now r object opcode (take (size - 8) (drop 8 r.peer.rest))) c (with_peer (with_rest (drop size r.peer.rest) r.peer) r) d old new
+    × StacksSo old r (judge_all served_now r object opcode (take (size - 8) (drop 8 r.peer.rest))) stacking
+TakesSo Bad c r d old new stacking = AnswersSo (Err (display_error InvalidMethod)) c r d old new
+TakesSo More c r d old new stacking = ⊥
+
+abbrev pub Takes : {A : Type 0} → Kept A → Kept A → Stacking → Type 0
+Takes old new stacking =
+    (c : ℕ) (r : Resident) (d : Desktop) → IsResident old r → OwnsToplevelsOnly r → TakesSo (split_of r.peer.rest) c r d old new stacking
 
 -- what a toplevel's request with this opcode comes to
 abbrev pub asked_by : ℕ → ToplevelAsked

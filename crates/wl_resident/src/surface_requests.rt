@@ -11,13 +11,16 @@ ghost use Rattle.wl_surface.specs.Request.{Attach, Damage as DamageAsked, SetBuf
 ghost use Rattle.wl_proto.specs.Messages.{wl_surface_request};
 ghost use Rattle.wl_proto.specs.declared.wl_surface.WlSurfaceRequest.TheVariants.{Commit, Destroy, SetBufferTransform as TransformAsked};
 ghost use Rattle.wl_shell.specs.Kept.{Kept as KeptXdg, changing, commit_answer, kept_after, kept_of};
-ghost use Rattle.wl_plain.specs.Ask.{AskSurface, CommitSurface, DestroySurface};
-ghost use Rattle.wl_plain.specs.Desktop.{Resident as Plain};
+ghost use Rattle.wl_plain.specs.Ask.{AskSurface};
+ghost use Rattle.wl_plain.specs.Demand.{CommitTree, EndSurface};
+ghost use Rattle.wl_plain.specs.Desktop.{Desktop, Resident as Plain};
+ghost use Rattle.wl_plain.specs.NoMore.{OwnsToplevelsOnly};
 ghost use Rattle.wl_plain.specs.Owning.{AreKept, IsOwned, Names, effect_by, names_in};
-ghost use Rattle.wl_plain.specs.Served.{beyond_toplevels};
+ghost use Rattle.wl_plain.specs.LeftOut.{served_now};
 ghost use Rattle.wl_plain.specs.Releases.{let_if, same_number};
-ghost use Rattle.wl_resident.specs.Residents.{ActsFor, Answers, Does, IsLeft, IsResident, IsSurface, StacksSo, stacking_by};
-ghost use Rattle.wl_plain.specs.Step.{ask_of, buffers_had, changed_by, is_number, is_over, letting_go};
+ghost use Rattle.wl_resident.specs.Residents.{Answers, Does, IsSurface, Meets, MeetsSo, Stacks, stacking_by};
+ghost use Rattle.wl_plain.specs.Step.{buffers_had, is_number, is_over, letting_go};
+ghost use Rattle.wl_plain.specs.Demanding.{demand_of, effect_of_commit};
 ghost use Rattle.wl_surface.specs.Surfaces.{Surface, listed};
 ghost use Rattle.wl_plain.specs.WlSurface.{buffer_named, region_named};
 
@@ -147,7 +150,7 @@ impl<A: Allocator + Copy> Resident<A> {
 
     /// wl_surface.destroy of a surface that has no xdg_surface.
     pub(crate) fn destroy_surface(&mut self, object: u32, surface: SurfaceNo)
-        ensures does { IsSurface self.old object surface → kept_of self.old.owned.shell surface ≡ None → Does (λ r. DestroySurface object) self.old self.new }
+        ensures does { IsSurface self.old object surface → kept_of self.old.owned.shell surface ≡ None → Meets (λ r. EndSurface object) self.old self.new }
         ensures rest { length self.new.client.rest ≤ length self.old.client.rest }
     {
         let had = self.owned.surfaces.buffers(surface);
@@ -210,9 +213,9 @@ impl<A: Allocator + Copy> Resident<A> {
 
     /// wl_surface.commit: what is pending counts, and the shell says what that comes to.
     fn commit(&mut self, object: u32, version: u32, surface: SurfaceNo) -> Stacking
-        ensures answers { IsSurface self.old object surface → Answers (λ r. ask_of beyond_toplevels r object version (wl_surface_request Commit)) self.old self.new }
-        ensures stacks { IsSurface self.old object surface → (r : Plain) → IsResident self.old r
-            → StacksSo self.old r (ask_of beyond_toplevels r object version (wl_surface_request Commit)) result }
+        ensures answers { IsSurface self.old object surface → Answers (λ r. demand_of served_now r object version (wl_surface_request Commit)) self.old self.new }
+        ensures stacks { IsSurface self.old object surface
+            → Stacks (λ r. demand_of served_now r object version (wl_surface_request Commit)) self.old result }
         ensures rest { length self.new.client.rest ≤ length self.old.client.rest }
     {
         let has_buffer = self.owned.surfaces.pending_buffer(surface).is_some();
@@ -237,10 +240,11 @@ impl<A: Allocator + Copy> Resident<A> {
 
     /// What is pending of a surface counts, and what that came to for the shell is told.
     fn apply(&mut self, surface: SurfaceNo, act: ShellAct, serial: u32)
-        ensures applies { (r : Plain) (names : Names) (object : ℕ) (kept : ℕ → Option KeptXdg) (shows : Bool) → IsPeer self.old.client r.peer → IsOwned names self.old.owned.surfaces kept r.owned
+        ensures applies { (c : ℕ) (r : Plain) (d : Desktop) (names : Names) (object : ℕ) (kept : ℕ → Option KeptXdg) (shows : Bool) → OwnsToplevelsOnly r
+            → effect_of_commit r object ≡ effect_by act → IsPeer self.old.client r.peer → IsOwned names self.old.owned.surfaces kept r.owned
             → names_in self.old.client.objects ≡ names → names.surfaces object ≡ Some surface → commit_answer shows (kept surface) ≡ Ok act → serial ≡ r.peer.serial
             → kept_of self.old.owned.shell ≡ changing surface (kept_after r.peer.serial act) kept
-            → (q : Peer) × ActsFor (CommitSurface object (effect_by act)) r q × IsLeft self.old self.new (changed_by (CommitSurface object (effect_by act)) r) q }
+            → MeetsSo c (CommitTree object) r d self.old self.new }
         ensures rest { length self.new.client.rest ≤ length self.old.client.rest }
     {
         let had = self.owned.surfaces.buffers(surface);
@@ -279,7 +283,7 @@ impl<A: Allocator + Copy> Resident<A> {
 
     /// wl_surface.destroy: the xdg_surface of the surface must be gone.
     fn destroy(&mut self, object: u32, version: u32, surface: SurfaceNo)
-        ensures answers { IsSurface self.old object surface → Answers (λ r. ask_of beyond_toplevels r object version (wl_surface_request Destroy)) self.old self.new }
+        ensures answers { IsSurface self.old object surface → Answers (λ r. demand_of served_now r object version (wl_surface_request Destroy)) self.old self.new }
         ensures rest { length self.new.client.rest ≤ length self.old.client.rest }
     {
         if self.has_xdg_surface(surface) {
@@ -294,7 +298,7 @@ impl<A: Allocator + Copy> Resident<A> {
     /// wl_surface.set_buffer_transform, of one of the eight.
     fn transform(&mut self, object: u32, version: u32, surface: SurfaceNo, transform: i32)
         ensures answers { IsSurface self.old object surface
-            → Answers (λ r. ask_of beyond_toplevels r object version (wl_surface_request (TransformAsked transform))) self.old self.new }
+            → Answers (λ r. demand_of served_now r object version (wl_surface_request (TransformAsked transform))) self.old self.new }
         ensures rest { length self.new.client.rest ≤ length self.old.client.rest }
     {
         if !is_valid(transform) {
@@ -315,9 +319,9 @@ impl<A: Allocator + Copy> Resident<A> {
         request: &WlSurfaceRequest,
     ) -> Stacking
         ensures answers { IsSurface self.old object surface
-            → Answers (λ r. ask_of beyond_toplevels r object version (wl_surface_request request.now)) self.old self.new }
-        ensures stacks { IsSurface self.old object surface → (r : Plain) → IsResident self.old r
-            → StacksSo self.old r (ask_of beyond_toplevels r object version (wl_surface_request request.now)) result }
+            → Answers (λ r. demand_of served_now r object version (wl_surface_request request.now)) self.old self.new }
+        ensures stacks { IsSurface self.old object surface
+            → Stacks (λ r. demand_of served_now r object version (wl_surface_request request.now)) self.old result }
         ensures rest { length self.new.client.rest ≤ length self.old.client.rest }
     {
         match *request {

@@ -4,8 +4,9 @@ ghost use Rattle.std.specs.Prelude.{◌≡◌, ◌≤◌, ◌↔◌, IsTrue, Ok,
 ghost use Rattle.wl_proto.specs.Messages.{wl_compositor_request};
 ghost use Rattle.wl_client.specs.declared.actions.Action.TheVariants.{CreateRegion};
 ghost use Rattle.wl_plain.specs.Ask.{Own};
-ghost use Rattle.wl_plain.specs.Served.{beyond_toplevels};
-ghost use Rattle.wl_plain.specs.Step.{ask_of};
+ghost use Rattle.wl_plain.specs.Demand.{Asks};
+ghost use Rattle.wl_plain.specs.LeftOut.{served_now};
+ghost use Rattle.wl_plain.specs.Demanding.{demand_of, demands};
 ghost use Rattle.wl_resident.specs.Residents.{Answers, IsFree, NewIsFree};
 ghost use Rattle.wl_plain.specs.WlSurface.{surface_created};
 
@@ -25,7 +26,7 @@ fn is_too_many(error: SurfaceError) -> bool
 impl<A: Allocator + Copy> Resident<A> {
     /// wl_compositor.create_surface: a new surface under a free id. A client may have 256 surfaces.
     fn create_surface(&mut self, version: u32, id: u32)
-        ensures answers { IsFree self.old id → Answers (λ r. surface_created r id version) self.old self.new }
+        ensures answers { IsFree self.old id → Answers (λ r. demands (surface_created r id version)) self.old self.new }
         ensures rest { length self.new.client.rest ≤ length self.old.client.rest }
     {
         match self.owned.surfaces.create() {
@@ -51,7 +52,7 @@ impl<A: Allocator + Copy> Resident<A> {
 
     /// wl_compositor.create_region: a new region, which is empty, under a free id.
     fn create_region(&mut self, version: u32, id: u32)
-        ensures answers { IsFree self.old id → Answers (λ r. Ok (Own (CreateRegion id version))) self.old self.new }
+        ensures answers { IsFree self.old id → Answers (λ r. Ok (Asks (Own (CreateRegion id version)))) self.old self.new }
         ensures rest { length self.new.client.rest ≤ length self.old.client.rest }
     {
         self.client.count();
@@ -61,7 +62,7 @@ impl<A: Allocator + Copy> Resident<A> {
     /// A request of a wl_compositor whose new id is free.
     pub(crate) fn wl_compositor(&mut self, object: u32, version: u32, request: &WlCompositorRequest)
         ensures answers { NewIsFree self.old (wl_compositor_request request.now)
-            → Answers (λ r. ask_of beyond_toplevels r object version (wl_compositor_request request.now)) self.old self.new }
+            → Answers (λ r. demand_of served_now r object version (wl_compositor_request request.now)) self.old self.new }
         ensures rest { length self.new.client.rest ≤ length self.old.client.rest }
     {
         match *request {

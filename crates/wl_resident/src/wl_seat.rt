@@ -3,8 +3,8 @@
 ghost use Rattle.std.specs.Prelude.{◌≡◌, ◌≤◌, length};
 ghost use Rattle.wl_proto.specs.Messages.{wl_seat_request};
 ghost use Rattle.wl_resident.specs.Residents.{Answers};
-ghost use Rattle.wl_plain.specs.Served.{beyond_toplevels};
-ghost use Rattle.wl_plain.specs.Step.{ask_of};
+ghost use Rattle.wl_plain.specs.LeftOut.{served_now};
+ghost use Rattle.wl_plain.specs.Demanding.{demand_of};
 
 use crate::residents::Resident;
 use std::alloc::Allocator;
@@ -14,7 +14,7 @@ use wl_proto::WlSeatRequest;
 impl<A: Allocator + Copy> Resident<A> {
     /// A request of a wl_seat. Its pointer isn't served yet, and it has no keyboard and no touch.
     pub(crate) fn wl_seat(&mut self, object: u32, version: u32, request: &WlSeatRequest)
-        ensures answers { Answers (λ r. ask_of beyond_toplevels r object version (wl_seat_request request.now)) self.old self.new }
+        ensures answers { Answers (λ r. demand_of served_now r object version (wl_seat_request request.now)) self.old self.new }
         ensures rest { length self.new.client.rest ≤ length self.old.client.rest }
     {
         match *request {

@@ -4,10 +4,12 @@ ghost use Rattle.std.specs.Prelude.{◌≡◌, ◌∷◌, ℕ, [], None, true, �
 ghost use Rattle.std.specs.Option.{option_and_then, option_map};
 ghost use Rattle.wl_client.specs.Agreement.{IsPeer};
 ghost use Rattle.wl_client.specs.Peer.{Peer, Queues};
-ghost use Rattle.wl_proto.specs.Messages.{xdg_toplevel_request};
+ghost use Rattle.wl_proto.specs.declared.interface.Interface.TheVariants.{XdgToplevel};
+ghost use Rattle.wl_proto.specs.Messages.{Message, xdg_toplevel_request};
 ghost use Rattle.wl_shell.specs.Kept.{kept_of};
-ghost use Rattle.wl_plain.specs.Desktop.{Resident as Plain};
-ghost use Rattle.wl_resident.specs.Residents.{Answers, IsResident, IsToplevel, StacksSo, asked_by, drawn_by, told_by};
+ghost use Rattle.wl_plain.specs.Demanding.{demand_of, demands};
+ghost use Rattle.wl_plain.specs.LeftOut.{served_now};
+ghost use Rattle.wl_resident.specs.Residents.{Answers, IsToplevel, Stacks, asked_by, drawn_by, told_by};
 ghost use Rattle.wl_plain.specs.Step.{toplevel_configured, xdg_configured};
 ghost use Rattle.wl_plain.specs.XdgShell.{is_state, toplevel_ask};
 
@@ -56,7 +58,7 @@ pub(crate) fn asked_of(request: &XdgToplevelRequest) -> ToplevelAsked
 impl<A: Allocator + Copy> Resident<A> {
     /// xdg_toplevel.destroy: its id is given back.
     fn destroy_toplevel(&mut self, object: u32, surface: SurfaceNo)
-        ensures answers { IsToplevel self.old object surface → Answers (λ r. toplevel_ask r object 0) self.old self.new }
+        ensures answers { IsToplevel self.old object surface → Answers (λ r. demands (toplevel_ask r object 0)) self.old self.new }
         ensures rest { length self.new.client.rest ≤ length self.old.client.rest }
     {
         self.client.count();
@@ -117,7 +119,7 @@ impl<A: Allocator + Copy> Resident<A> {
 
     /// A request for another state, as xdg_toplevel.set_maximized: the toplevel is configured again, if it was configured before.
     fn configure_again(&mut self, object: u32, surface: SurfaceNo)
-        ensures answers { IsToplevel self.old object surface → (opcode : ℕ) → is_state opcode ≡ true → Answers (λ r. toplevel_ask r object opcode) self.old self.new }
+        ensures answers { IsToplevel self.old object surface → (opcode : ℕ) → is_state opcode ≡ true → Answers (λ r. demands (toplevel_ask r object opcode)) self.old self.new }
         ensures rest { length self.new.client.rest ≤ length self.old.client.rest }
     {
         let xdg_surface = self.xdg_surface_of(surface);
@@ -140,9 +142,10 @@ impl<A: Allocator + Copy> Resident<A> {
         surface: SurfaceNo,
         asked: ToplevelAsked,
     ) -> Stacking
-        ensures answers { IsToplevel self.old object surface → (opcode : ℕ) → asked ≡ asked_by opcode → Answers (λ r. toplevel_ask r object opcode) self.old self.new }
-        ensures stacks { IsToplevel self.old object surface → (opcode : ℕ) → asked ≡ asked_by opcode → (r : Plain) → IsResident self.old r
-            → StacksSo self.old r (toplevel_ask r object opcode) result }
+        ensures answers { IsToplevel self.old object surface → (version : ℕ) (m : Message) → m.interface ≡ XdgToplevel → asked ≡ asked_by m.opcode
+            → Answers (λ r. demand_of served_now r object version m) self.old self.new }
+        ensures stacks { IsToplevel self.old object surface → (version : ℕ) (m : Message) → m.interface ≡ XdgToplevel → asked ≡ asked_by m.opcode
+            → Stacks (λ r. demand_of served_now r object version m) self.old result }
         ensures rest { length self.new.client.rest ≤ length self.old.client.rest }
     {
         match asked {

@@ -1,3 +1,4 @@
+use Rattle.wl_plain.specs.XdgShell.{xdg_ask}
 use Rattle.std.proofs.Common.{[], ◌∷◌, ap, inr, refl, subst, sym}
 use Rattle.wl_wire.specs.Wire.{Word}
 use Rattle.wl_client.specs.Peer.{counted}
@@ -10,10 +11,12 @@ use Rattle.wl_plain.proofs.OwningAsks.{owned-acknowledged}
 use Rattle.wl_plain.proofs.OwningReads.{acknowledged-by}
 use Rattle.wl_resident.proofs.Shelling.{accepted, names-counted, told-err, told-ok, xdg-answered, xdg-refused}
 use Rattle.wl_resident.proofs.Numbers.{keeps-names}
+use Rattle.wl_resident.proofs.Simply.{simply}
 use Rattle.wl_resident.proofs.residents.Resident.ack_configure.Goals as goal
 
 pub returns-in-Ok-clause-answers : goal.returns-in-Ok-clause-answers
-returns-in-Ok-clause-answers g c = λ named r is.
+returns-in-Ok-clause-answers g c = λ named client r on is only.
+    simply _ _ client on r only (xdg_ask r c.args.object c.args.version 4 (Word c.args.serial ∷ [])) (
     let v = c.args.self.now in
     let names = names_in v.client.objects in
     let kept = kept_of v.owned.shell in
@@ -31,10 +34,11 @@ returns-in-Ok-clause-answers g c = λ named r is.
         owns = λ alive. subst (λ (n : Names). IsOwned n v.owned.surfaces (kept_of c.ack.new.self) (changed_by (Acknowledge x.id serial) r).owned) (sym (names-counted v.client c.count.new.self c.count.ensures.only))
             (owned-acknowledged names v.owned.surfaces kept r is.owns c.args.surface k x h one serial (kept_of c.ack.new.self) c.in-Ok.ensures.ok);
       },
-    ))
+    )))
 
 pub returns-in-Err-clause-answers : goal.returns-in-Err-clause-answers
-returns-in-Err-clause-answers g c = λ named r is.
+returns-in-Err-clause-answers g c = λ named client r on is only.
+    simply _ _ client on r only (xdg_ask r c.args.object c.args.version 4 (Word c.args.serial ∷ [])) (
     let v = c.args.self.now in
     let kept = kept_of v.owned.shell in
     let serial = c.args.serial in
@@ -45,4 +49,4 @@ returns-in-Err-clause-answers g c = λ named r is.
     (told-err _ _ (shell_refusal x.base x.id c.args.object) (acknowledgement_answer serial (kept c.args.surface)) c.ack.result c.in-Err.error judged c.ack.ensures.answer c.in-Err.is)
     (ap kept_of c.in-Err.ensures.err)
     c.refuse_xdg_surface.ensures.ended
-    (c.refuse_xdg_surface.ensures.errs r.peer is.peer))
+    (c.refuse_xdg_surface.ensures.errs r.peer is.peer)))

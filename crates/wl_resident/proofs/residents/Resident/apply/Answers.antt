@@ -6,9 +6,12 @@ use Rattle.wl_shell.specs.Kept.{Kept, changing, kept_after, kept_of}
 use Rattle.wl_surface.specs.Request.{Commit}
 use Rattle.wl_surface.specs.Surfaces.{applying, asking, surface_at}
 use Rattle.wl_plain.specs.Ask.{CommitSurface}
+use Rattle.wl_plain.specs.Demand.{CommitTree}
 use Rattle.wl_plain.specs.Owning.{effect_by, names_in}
 use Rattle.wl_resident.specs.Residents.{told_by}
 use Rattle.wl_plain.specs.Step.{after_surface, changed_by, committed_on}
+use Rattle.wl_plain.proofs.BridgeJudged.{commit, effect-same}
+use Rattle.wl_resident.proofs.Simply.{meets-simply}
 use Rattle.wl_resident.proofs.Committing.{commit-peer, commit-told}
 use Rattle.wl_resident.proofs.Doing.{had-by, lacked}
 use Rattle.wl_plain.proofs.OwningAsks.{owned-committed-by}
@@ -18,7 +21,8 @@ use Rattle.wl_resident.proofs.Numbers.{keeps-same}
 use Rattle.wl_resident.proofs.residents.Resident.apply.Goals as goal
 
 pub returns-clause-applies : goal.returns-clause-applies
-returns-clause-applies g c = λ r names object kept shows is owned names_are named answer serial shell.
+returns-clause-applies g c = λ client r on names object kept shows only comes is owned names_are named answer serial shell.
+    meets-simply _ _ client on (CommitSurface object (effect_by c.args.act)) (CommitTree object) r only (commit object (effect_by c.args.act) (sym (effect-same r object only.roles) ∙ comes)) (
     let v = c.args.self.now in
     let number = c.args.surface in
     let act = c.args.act in
@@ -43,9 +47,10 @@ returns-clause-applies g c = λ r names object kept shows is owned names_are nam
             (c.tell_act.ensures.owned ∙ c.let_go_of.ensures.owned)
             (owned-committed-by names v.owned.surfaces kept r owned object number shows act c.commit.new.self (kept_of v.owned.shell) named c.in-Ok.ensures.ok answer shell);
       },
-    )
+    ))
 
 pub returns-in-Err-clause-applies : goal.returns-in-Err-clause-applies
-returns-in-Err-clause-applies g c = λ r names object kept shows is owned names_are named answer serial shell.
+returns-in-Err-clause-applies g c = λ client r on names object kept shows only comes is owned names_are named answer serial shell.
+    meets-simply _ _ client on (CommitSurface object (effect_by c.args.act)) (CommitTree object) r only (commit object (effect_by c.args.act) (sym (effect-same r object only.roles) ∙ comes)) (
     let lacks = lacked c.args.self.now _ _ r (c.lack_memory.ensures.lacks r.peer is) c.lack_memory.ensures.ended in
-    (lacks.0, inl lacks.1, lacks.2)
+    (lacks.0, inl lacks.1, lacks.2))

@@ -1,3 +1,4 @@
+use Rattle.wl_plain.specs.XdgShell.{toplevel_ask}
 use Rattle.std.proofs.Common.{◌≡◌, List, ap, inr, refl, subst, sym, ◌∙◌}
 use Rattle.std.specs.Prelude.{Some, true, false, ℕ, Option}
 use Rattle.wl_client.specs.Peer.{Queues, counted}
@@ -12,10 +13,12 @@ use Rattle.wl_plain.proofs.OwningAsks.{owned-configured}
 use Rattle.wl_plain.proofs.OwningReads.{configured-by}
 use Rattle.wl_resident.proofs.Shelling.{accepted, changing-same, drawn, events-told, names-counted, owns-told, refused-again, told-again, toplevel-answered, xdg-refused}
 use Rattle.wl_resident.proofs.Numbers.{keeps-names}
+use Rattle.wl_resident.proofs.Simply.{simply}
 use Rattle.wl_resident.proofs.residents.Resident.configure_again.Goals as goal
 
 pub returns-in-Ok-true-clause-answers : goal.returns-in-Ok-true-clause-answers
-returns-in-Ok-true-clause-answers g c = λ named opcode state r is.
+returns-in-Ok-true-clause-answers g c = λ named opcode state client r on is only.
+    simply _ _ client on r only (toplevel_ask r c.args.object opcode) (
     let v = c.args.self.now in
     let names = names_in v.client.objects in
     let kept = kept_of v.owned.shell in
@@ -39,10 +42,11 @@ returns-in-Ok-true-clause-answers g c = λ named opcode state r is.
             (owned-configured names v.owned.surfaces kept r is.owns number k x h one (kept_of c.configure.new.self)
             (c.in-Ok-true.ensures.ok ∙ ap (λ b. changing number (kept_configured b c.serial-serial.result) kept) c.in-Ok-true.field-0-test ∙ ap (λ n. changing number (kept_configuring n) kept) serial));
       },
-    ))
+    )))
 
 pub returns-in-Ok-false-clause-answers : goal.returns-in-Ok-false-clause-answers
-returns-in-Ok-false-clause-answers g c = λ named opcode state r is.
+returns-in-Ok-false-clause-answers g c = λ named opcode state client r on is only.
+    simply _ _ client on r only (toplevel_ask r c.args.object opcode) (
     let v = c.args.self.now in
     let names = names_in v.client.objects in
     let kept = kept_of v.owned.shell in
@@ -62,10 +66,11 @@ returns-in-Ok-false-clause-answers g c = λ named opcode state r is.
             (subst (λ (ks : ℕ → Option KeptXdg). IsOwned names v.owned.surfaces ks r.owned)
             (sym (c.in-Ok-false.ensures.ok ∙ ap (λ b. changing number (kept_configured b c.serial-serial.result) kept) c.in-Ok-false.field-0-test ∙ changing-same number kept)) is.owns);
       },
-    ))
+    )))
 
 pub returns-in-Err-clause-answers : goal.returns-in-Err-clause-answers
-returns-in-Err-clause-answers g c = λ named opcode state r is.
+returns-in-Err-clause-answers g c = λ named opcode state client r on is only.
+    simply _ _ client on r only (toplevel_ask r c.args.object opcode) (
     let v = c.args.self.now in
     let names = names_in v.client.objects in
     let kept = kept_of v.owned.shell in
@@ -78,4 +83,4 @@ returns-in-Err-clause-answers g c = λ named opcode state r is.
     (refused-again object opcode x (shell_refusal x.base x.id c.xdg_surface_of-xdg_surface.result) (configure_answer (kept number)) c.configure.result c.in-Err.error state (configured-by names kept r number k x h one c.xdg_surface_of-xdg_surface.result) c.configure.ensures.answer c.in-Err.is)
     (ap kept_of c.in-Err.ensures.err)
     c.refuse_xdg_surface.ensures.ended
-    (c.refuse_xdg_surface.ensures.errs r.peer is.peer))
+    (c.refuse_xdg_surface.ensures.errs r.peer is.peer)))

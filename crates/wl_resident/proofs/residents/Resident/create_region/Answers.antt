@@ -1,3 +1,6 @@
+use Rattle.std.specs.Prelude.{Ok}
+use Rattle.wl_client.specs.declared.actions.Action.TheVariants.{CreateRegion}
+use Rattle.wl_plain.specs.Ask.{Own}
 use Rattle.std.proofs.Common.{◌≡◌, Some, None, refl, subst, sym}
 use Rattle.wl_client.specs.Objects.{entry_at_version}
 use Rattle.wl_plain.proofs.OwningNames.{names-other-made}
@@ -7,10 +10,12 @@ use Rattle.wl_shell.specs.Kept.{kept_of}
 use Rattle.wl_plain.specs.Owning.{IsOwned, Names}
 use Rattle.wl_resident.proofs.Numbers.{keeps-names}
 use Rattle.wl_resident.proofs.Shelling.{holds-counted}
+use Rattle.wl_resident.proofs.Simply.{simply}
 use Rattle.wl_resident.proofs.residents.Resident.create_region.Goals as goal
 
 pub returns-clause-answers : goal.returns-clause-answers
-returns-clause-answers g c = λ free r is.
+returns-clause-answers g c = λ free client r on is only.
+    simply _ _ client on r only (Ok (Own (CreateRegion c.args.id c.args.version))) (
     let v = c.args.self.now in
     let made = c.create_region.ensures.acts (counted r.peer) (c.count.ensures.counts r.peer is.peer) in
     let named = λ (alive : c.create_region.new.self.ended ≡ None). names-other-made v.client.objects c.create_region.new.self.objects c.args.id (entry_at_version WlRegion c.args.version) free refl
@@ -22,4 +27,4 @@ returns-clause-answers g c = λ free r is.
         owns = λ alive. subst (λ (n : Names). IsOwned n v.owned.surfaces (kept_of v.owned.shell) r.owned) (sym (named alive)) is.owns;
         numbers = λ alive. keeps-names v.client.objects c.create_region.new.self.objects (named alive);
       },
-    )
+    ))

@@ -5,6 +5,7 @@ use Rattle.wl_shell.specs.Kept.{kept_of}
 use Rattle.std.specs.Prelude.{Result}
 use Rattle.wl_client.specs.declared.refusals.Refusal.{Refusal}
 use Rattle.wl_plain.specs.Ask.{Ask, CreateSurface}
+use Rattle.wl_plain.specs.Demanding.{demands}
 use Rattle.wl_resident.specs.Residents.{AnswersSo}
 use Rattle.wl_plain.specs.Owning.{names_in}
 use Rattle.wl_plain.specs.Step.{changed_by, with_peer}
@@ -15,10 +16,12 @@ use Rattle.wl_plain.proofs.OwningAsks.{owned-created}
 use Rattle.wl_plain.proofs.OwningNames.{names-surface-made, targets-free}
 use Rattle.wl_plain.proofs.Creating.{created-past, created-short, created-within}
 use Rattle.wl_resident.proofs.Shelling.{accepted, holds-counted}
+use Rattle.wl_resident.proofs.Simply.{simply}
 use Rattle.wl_resident.proofs.residents.Resident.create_surface.Goals as goal
 
 pub returns-in-Ok-clause-answers : goal.returns-in-Ok-clause-answers
-returns-in-Ok-clause-answers g c = λ free r is.
+returns-in-Ok-clause-answers g c = λ free client r on is only.
+    simply _ _ client on r only (surface_created r c.args.id c.args.version) (
     let v = c.args.self.now in
     let id = c.args.id in
     let made = c.add.ensures.makes (counted r.peer) (c.count.ensures.counts r.peer is.peer) in
@@ -35,18 +38,19 @@ returns-in-Ok-clause-answers g c = λ free r is.
         numbers = λ alive. keeps-made v.client.objects c.add.new.self.objects id c.in-Ok.surface (targets-free WlSurface v.client.objects id free)
             (names (holds-counted v.client c.count.new.self c.add.new.self.objects id _ c.count.ensures.only (c.add.ensures.table alive)));
       },
-    )
+    ))
 
 pub returns-then-is_too_many-clause-answers : goal.returns-then-is_too_many-clause-answers
-returns-then-is_too_many-clause-answers g c = λ free r is.
+returns-then-is_too_many-clause-answers g c = λ free client r on is only.
     let v = c.args.self.now in
     let many = c.is_too_many.ensures.0 c.if-is_too_many.true in
-    subst (λ (j : Result Ask Refusal). AnswersSo j r v c.refuse_unserved.new.self)
+    subst (λ (j : Result Ask Refusal). AnswersSo (demands j) client r on v c.refuse_unserved.new.self)
     (sym (created-past (names_in v.client.objects) v.owned.surfaces r c.args.id c.args.version c.in-Err.error is.owns.surfaces c.in-Err.ensures.cause many))
-    (rw c.in-Err.ensures.err at c.refuse_unserved.ensures.answers r is)
+    (rw c.in-Err.ensures.err at c.refuse_unserved.ensures.answers client r on is only)
 
 pub returns-else-is_too_many-clause-answers : goal.returns-else-is_too_many-clause-answers
-returns-else-is_too_many-clause-answers g c = λ free r is.
+returns-else-is_too_many-clause-answers g c = λ free client r on is only.
+    simply _ _ client on r only (surface_created r c.args.id c.args.version) (
     let v = c.args.self.now in
     let id = c.args.id in
     let ask = CreateSurface id c.args.version in
@@ -54,4 +58,4 @@ returns-else-is_too_many-clause-answers g c = λ free r is.
     let lacks = lacked v _ (changed_by ask then) then (c.lack_memory.ensures.lacks (counted r.peer) (c.count-else-is_too_many.ensures.counts r.peer is.peer)) c.lack_memory.ensures.ended in
     accepted _ r (surface_created r id c.args.version) ask
     (created-short (names_in v.client.objects) v.owned.surfaces r id c.args.version c.in-Err.error is.owns.surfaces c.in-Err.ensures.cause (λ many. absurd (let told = c.is_too_many.ensures.1 many in let not = c.if-is_too_many.false in cc)))
-    (lacks.0, inl lacks.1, lacks.2)
+    (lacks.0, inl lacks.1, lacks.2))

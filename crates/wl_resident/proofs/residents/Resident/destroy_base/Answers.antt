@@ -7,20 +7,23 @@ use Rattle.wl_plain.specs.Owning.{names_in}
 use Rattle.wl_plain.specs.XdgShell.{base_destroyed}
 use Rattle.wl_plain.proofs.OwningReads.{base-unused, base-used}
 use Rattle.wl_resident.proofs.Shelling.{accepted, base-held, counted-does, refused-so}
+use Rattle.wl_resident.proofs.Simply.{simply}
 use Rattle.wl_resident.proofs.residents.Resident.destroy_base.Goals as goal
 
 pub returns-in-Ok-clause-answers : goal.returns-in-Ok-clause-answers
-returns-in-Ok-clause-answers g c = λ base r is.
+returns-in-Ok-clause-answers g c = λ base client r on is only.
+    simply _ _ client on r only (base_destroyed r c.args.object) (
     let v = c.args.self.now in
     accepted _ r (base_destroyed r c.args.object) (DestroyBase c.args.object)
     (base-unused (names_in v.client.objects) v.owned.surfaces (kept_of v.owned.shell) r is.owns c.args.object c.in-Ok.ensures.ok)
     (counted-does v (record v { client = c.count.new.self }) c.remove_base.new.self r (λ (q : Resident). DestroyBase c.args.object) is c.count.ensures.only refl (c.count.ensures.counts r.peer is.peer)
-    (c.remove_base.ensures.does (base-held v.client c.count.new.self c.args.object c.count.ensures.only base)))
+    (c.remove_base.ensures.does (base-held v.client c.count.new.self c.args.object c.count.ensures.only base))))
 
 pub returns-in-Err-clause-answers : goal.returns-in-Err-clause-answers
-returns-in-Err-clause-answers g c = λ base r is.
+returns-in-Err-clause-answers g c = λ base client r on is only.
+    simply _ _ client on r only (base_destroyed r c.args.object) (
     let v = c.args.self.now in
     let used = c.in-Err.ensures.err.1 in
     refused-so _ _ r (base_destroyed r c.args.object) c.of.result (record { object = c.args.object; code = DefunctSurfaces })
     (base-used (names_in v.client.objects) v.owned.surfaces (kept_of v.owned.shell) r is.owns c.args.object used.0 used.1)
-    c.of.ensures c.refuse.ensures.ended (c.refuse.ensures.errs r.peer is.peer)
+    c.of.ensures c.refuse.ensures.ended (c.refuse.ensures.errs r.peer is.peer))

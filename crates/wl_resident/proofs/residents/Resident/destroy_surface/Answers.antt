@@ -2,22 +2,28 @@ use Rattle.std.proofs.Common.{◌≡◌, None, ap, refl, inl, inr}
 use Rattle.wl_client.specs.View.{ClientView}
 use Rattle.wl_shell.specs.Kept.{kept_of}
 use Rattle.wl_surface.specs.Surfaces.{surface_at, without_surface}
+use Rattle.wl_plain.specs.Ask.{DestroySurface}
+use Rattle.wl_plain.specs.Demand.{EndSurface}
 use Rattle.wl_plain.specs.Owning.{Names, names_in, with_surface}
 use Rattle.wl_plain.specs.Step.{after_surface, with_surfaces}
 use Rattle.wl_resident.proofs.Doing.{had-by, lacked}
 use Rattle.wl_plain.proofs.OwningAsks.{owned-destroyed}
 use Rattle.wl_resident.proofs.Shelling.{surface-gone}
 use Rattle.wl_plain.proofs.OwningXdg.{xdg-of-none}
+use Rattle.wl_plain.proofs.BridgeJudged.{ends}
 use Rattle.wl_resident.proofs.Numbers.{keeps-gone}
+use Rattle.wl_resident.proofs.Simply.{meets-simply}
 use Rattle.wl_resident.proofs.residents.Resident.destroy_surface.Goals as goal
 
 pub returns-in-Err-clause-does : goal.returns-in-Err-clause-does
-returns-in-Err-clause-does g c = λ named bare r is.
+returns-in-Err-clause-does g c = λ named bare client r on is only.
+    meets-simply _ _ client on (DestroySurface c.args.object) (EndSurface c.args.object) r only (ends c.args.object) (
     let lacks = lacked c.args.self.now _ _ r (c.lack_memory.ensures.lacks r.peer is.peer) c.lack_memory.ensures.ended in
-    (lacks.0, inl lacks.1, lacks.2)
+    (lacks.0, inl lacks.1, lacks.2))
 
 pub returns-clause-does : goal.returns-clause-does
-returns-clause-does g c = λ named bare r is.
+returns-clause-does g c = λ named bare client r on is only.
+    meets-simply _ _ client on (DestroySurface c.args.object) (EndSurface c.args.object) r only (ends c.args.object) (
     let v = c.args.self.now in
     let id = c.args.object in
     let names = names_in v.client.objects in
@@ -40,4 +46,4 @@ returns-clause-does g c = λ named bare r is.
             let holds = rw table at c.remove.ensures.table alive in
             rw c.let_go_of.ensures.owned (destroyed (names_in c.remove.new.self.objects) (surface-gone v.client.objects c.remove.new.self.objects id c.args.surface named holds));
       },
-    )
+    ))

@@ -1,3 +1,4 @@
+use Rattle.wl_plain.specs.XdgShell.{toplevel_ask}
 use Rattle.std.proofs.Common.{None, inr}
 use Rattle.wl_shell.specs.Kept.{kept_of}
 use Rattle.wl_client.specs.Peer.{counted}
@@ -5,10 +6,12 @@ use Rattle.wl_plain.specs.Owning.{names_in}
 use Rattle.wl_plain.proofs.OwningAsks.{owned-toplevel-gone}
 use Rattle.wl_resident.proofs.Shelling.{toplevel-answered, toplevel-gone}
 use Rattle.wl_resident.proofs.Numbers.{keeps-toplevel}
+use Rattle.wl_resident.proofs.Simply.{simply}
 use Rattle.wl_resident.proofs.residents.Resident.destroy_toplevel.Goals as goal
 
 pub returns-clause-answers : goal.returns-clause-answers
-returns-clause-answers g c = λ named r is.
+returns-clause-answers g c = λ named client r on is only.
+    simply _ _ client on r only (toplevel_ask r c.args.object 0) (
     let v = c.args.self.now in
     let gone = c.remove.ensures.removes (counted r.peer) (c.count.ensures.counts r.peer is.peer) in
     toplevel-answered v _ c.args.object c.args.surface 0 r is named
@@ -22,4 +25,4 @@ returns-clause-answers g c = λ named r is.
             c.destroy_toplevel.ensures
             (toplevel-gone v.client c.count.new.self c.remove.new.self c.args.object c.args.surface c.count.ensures.only named (c.remove.ensures.table alive));
       },
-    ))
+    )))

@@ -1,3 +1,4 @@
+use Rattle.wl_plain.specs.XdgShell.{xdg_ask}
 use Rattle.std.proofs.Common.{[], ◌≡◌, ap, inr, subst, sym, ◌∙◌}
 use Rattle.std.specs.Prelude.{Ok, None}
 use Rattle.wl_client.specs.Peer.{counted}
@@ -10,10 +11,12 @@ use Rattle.wl_plain.proofs.OwningAsks.{owned-xdg-gone}
 use Rattle.wl_plain.proofs.OwningReads.{bare-destroyed, xdg-destroyed-by}
 use Rattle.wl_resident.proofs.Shelling.{accepted, told-err, told-ok, xdg-answered, xdg-gone, xdg-refused}
 use Rattle.wl_resident.proofs.Numbers.{keeps-xdg}
+use Rattle.wl_resident.proofs.Simply.{simply}
 use Rattle.wl_resident.proofs.residents.Resident.destroy_xdg_surface.Goals as goal
 
 pub returns-in-Ok-clause-answers : goal.returns-in-Ok-clause-answers
-returns-in-Ok-clause-answers g c = λ named r is.
+returns-in-Ok-clause-answers g c = λ named client r on is only.
+    simply _ _ client on r only (xdg_ask r c.args.object c.args.version 0 []) (
     let v = c.args.self.now in
     let names = names_in v.client.objects in
     let kept = kept_of v.owned.shell in
@@ -38,10 +41,11 @@ returns-in-Ok-clause-answers g c = λ named r is.
             subst (λ i. IsOwned left v.owned.surfaces after (changed_by (DestroyXdgSurface i) (with_peer (counted r.peer) r)).owned) same
             (owned-xdg-gone names v.owned.surfaces kept r is.owns number k x h one after left bare c.in-Ok.ensures.ok (subst (λ i. left ≡ with_xdg i None names) (sym same) went));
       },
-    ))
+    )))
 
 pub returns-in-Err-clause-answers : goal.returns-in-Err-clause-answers
-returns-in-Err-clause-answers g c = λ named r is.
+returns-in-Err-clause-answers g c = λ named client r on is only.
+    simply _ _ client on r only (xdg_ask r c.args.object c.args.version 0 []) (
     let v = c.args.self.now in
     let kept = kept_of v.owned.shell in
     xdg-answered v _ c.args.object c.args.surface c.args.version 0 [] r is named
@@ -51,4 +55,4 @@ returns-in-Err-clause-answers g c = λ named r is.
     (told-err _ _ (shell_refusal x.base x.id c.args.object) (destruction_answer (kept c.args.surface)) c.destroy_xdg_surface.result c.in-Err.error judged c.destroy_xdg_surface.ensures.answer c.in-Err.is)
     (ap kept_of c.in-Err.ensures.err)
     c.refuse_xdg_surface.ensures.ended
-    (c.refuse_xdg_surface.ensures.errs r.peer is.peer))
+    (c.refuse_xdg_surface.ensures.errs r.peer is.peer)))

@@ -1,3 +1,4 @@
+use Rattle.wl_plain.specs.XdgShell.{xdg_ask}
 use Rattle.std.proofs.Common.{[], ◌∷◌, ◌≡◌, ap, refl, sym, ◌∙◌}
 use Rattle.std.specs.Prelude.{Some}
 use Rattle.wl_proto.specs.declared.interface.Interface.TheVariants.{XdgToplevel}
@@ -13,10 +14,12 @@ use Rattle.wl_plain.proofs.OwningNames.{names-toplevel-made, targets-free}
 use Rattle.wl_plain.proofs.OwningReads.{bare-toplevel, role-read, toplevel-made-by}
 use Rattle.wl_resident.proofs.Shelling.{accepted, acts-given, holds-counted, role-given, told-err, told-ok, xdg-answered, xdg-refused}
 use Rattle.wl_resident.proofs.Numbers.{keeps-toplevel}
+use Rattle.wl_resident.proofs.Simply.{simply}
 use Rattle.wl_resident.proofs.residents.Resident.get_toplevel.Goals as goal
 
 pub returns-in-Ok-clause-answers : goal.returns-in-Ok-clause-answers
-returns-in-Ok-clause-answers g c = λ named free r is.
+returns-in-Ok-clause-answers g c = λ named free client r on is only.
+    simply _ _ client on r only (xdg_ask r c.args.object c.args.version 1 (Word c.args.id ∷ [])) (
     let v = c.args.self.now in
     let names = names_in v.client.objects in
     let kept = kept_of v.owned.shell in
@@ -46,10 +49,11 @@ returns-in-Ok-clause-answers g c = λ named free r is.
             (names-toplevel-made v.client.objects c.add.new.self.objects id (record { interface = XdgToplevel; version = version; target = number }) free refl
             (holds-counted v.client c.count.new.self c.add.new.self.objects id (Some (record { interface = XdgToplevel; version = version; target = number })) c.count.ensures.only (c.add.ensures.table alive)));
       },
-    ))
+    )))
 
 pub returns-in-Err-clause-answers : goal.returns-in-Err-clause-answers
-returns-in-Err-clause-answers g c = λ named free r is.
+returns-in-Err-clause-answers g c = λ named free client r on is only.
+    simply _ _ client on r only (xdg_ask r c.args.object c.args.version 1 (Word c.args.id ∷ [])) (
     let v = c.args.self.now in
     let names = names_in v.client.objects in
     let kept = kept_of v.owned.shell in
@@ -63,4 +67,4 @@ returns-in-Err-clause-answers g c = λ named free r is.
     (c.get_toplevel.ensures.answer ∙ ap (λ b. toplevel_answer b (kept number)) other) c.in-Err.is)
     (ap kept_of c.in-Err.ensures.err)
     c.refuse_xdg_surface.ensures.ended
-    (c.refuse_xdg_surface.ensures.errs r.peer is.peer))
+    (c.refuse_xdg_surface.ensures.errs r.peer is.peer)))

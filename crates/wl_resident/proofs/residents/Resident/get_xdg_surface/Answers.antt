@@ -14,10 +14,12 @@ use Rattle.wl_plain.proofs.OwningNames.{names-xdg-made, targets-free}
 use Rattle.wl_plain.proofs.OwningReads.{content-read, free-made, made-by, role-read}
 use Rattle.wl_resident.proofs.Shelling.{accepted, making-err, making-memory, making-ok, making-read, holds-counted, refused-so}
 use Rattle.wl_resident.proofs.Numbers.{keeps-xdg}
+use Rattle.wl_resident.proofs.Simply.{simply}
 use Rattle.wl_resident.proofs.residents.Resident.get_xdg_surface.Goals as goal
 
 pub returns-in-Ok-clause-answers : goal.returns-in-Ok-clause-answers
-returns-in-Ok-clause-answers g c = λ free named r is.
+returns-in-Ok-clause-answers g c = λ free named client r on is only.
+    simply _ _ client on r only (xdg_surface_made r c.args.object c.args.version c.args.id c.args.surface) (
     let v = c.args.self.now in
     let names = names_in v.client.objects in
     let kept = kept_of v.owned.shell in
@@ -48,10 +50,11 @@ returns-in-Ok-clause-answers g c = λ free named r is.
             (names-xdg-made v.client.objects c.add.new.self.objects id (record { interface = XdgSurface; version = version; target = number }) free refl
             (holds-counted v.client c.count.new.self c.add.new.self.objects id (Some (record { interface = XdgSurface; version = version; target = number })) c.count.ensures.only (c.add.ensures.table alive)));
       },
-    )
+    ))
 
 pub returns-then-is_memory-clause-answers : goal.returns-then-is_memory-clause-answers
-returns-then-is_memory-clause-answers g c = λ free named r is.
+returns-then-is_memory-clause-answers g c = λ free named client r on is only.
+    simply _ _ client on r only (xdg_surface_made r c.args.object c.args.version c.args.id c.args.surface) (
     let v = c.args.self.now in
     let names = names_in v.client.objects in
     let kept = kept_of v.owned.shell in
@@ -69,10 +72,11 @@ returns-then-is_memory-clause-answers g c = λ free named r is.
     let lacks = lacked c.args.self.now _ (changed_by ask then) then (c.lack_memory.ensures.lacks (counted r.peer) (c.count-then-is_memory.ensures.counts r.peer is.peer)) c.lack_memory.ensures.ended in
     accepted _ r (xdg_surface_made r base version id surface) ask
     (made-by names v.owned.surfaces kept r is.owns base version id surface number id base named ∙ ap (asks_unless ask (shell_refusal base id base)) none)
-    (lacks.0, inl lacks.1, lacks.2)
+    (lacks.0, inl lacks.1, lacks.2))
 
 pub returns-else-is_memory-clause-answers : goal.returns-else-is_memory-clause-answers
-returns-else-is_memory-clause-answers g c = λ free named r is.
+returns-else-is_memory-clause-answers g c = λ free named client r on is only.
+    simply _ _ client on r only (xdg_surface_made r c.args.object c.args.version c.args.id c.args.surface) (
     let v = c.args.self.now in
     let names = names_in v.client.objects in
     let kept = kept_of v.owned.shell in
@@ -88,4 +92,4 @@ returns-else-is_memory-clause-answers g c = λ free named r is.
     let some = making-err (making_refused (is_foreign (role_of r surface)) (has_any r surface) (kept number)) c.get_xdg_surface.result c.in-Err.error refuses c.in-Err.is (λ memory. absurd (let told = c.is_memory.ensures.1 memory in let not = c.if-is_memory.false in cc)) in
     refused-so _ _ r (xdg_surface_made r base version id surface) c.refusal_of.result (shell_refusal base id base c.in-Err.error)
     (made-by names v.owned.surfaces kept r is.owns base version id surface number id base named ∙ ap (asks_unless ask (shell_refusal base id base)) some)
-    c.refusal_of.ensures c.refuse.ensures.ended (c.refuse.ensures.errs r.peer is.peer)
+    c.refusal_of.ensures c.refuse.ensures.ended (c.refuse.ensures.errs r.peer is.peer))

@@ -1,13 +1,17 @@
+use Rattle.std.specs.Prelude.{Ok}
+use Rattle.wl_plain.specs.Ask.{Ignore}
 use Rattle.std.proofs.Common.{refl, subst, sym}
 use Rattle.wl_client.specs.Peer.{counted}
 use Rattle.wl_shell.specs.Kept.{kept_of}
 use Rattle.wl_plain.specs.Owning.{IsOwned, Names}
 use Rattle.wl_resident.proofs.Shelling.{names-counted}
 use Rattle.wl_resident.proofs.Numbers.{keeps-names}
+use Rattle.wl_resident.proofs.Simply.{simply}
 use Rattle.wl_resident.proofs.residents.Resident.ignore.Goals as goal
 
 pub returns-clause-answers : goal.returns-clause-answers
-returns-clause-answers g c = λ r is.
+returns-clause-answers g c = λ client r on is only.
+    simply _ _ client on r only (Ok Ignore) (
     let v = c.args.self.now in (
       counted r.peer,
       refl,
@@ -16,4 +20,4 @@ returns-clause-answers g c = λ r is.
         numbers = λ alive. keeps-names v.client.objects c.count.new.self.objects (names-counted v.client c.count.new.self c.count.ensures.only);
         owns = λ alive. subst (λ (n : Names). IsOwned n v.owned.surfaces (kept_of v.owned.shell) r.owned) (sym (names-counted v.client c.count.new.self c.count.ensures.only)) is.owns;
       },
-    )
+    ))

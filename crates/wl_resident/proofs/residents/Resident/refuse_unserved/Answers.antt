@@ -3,7 +3,10 @@ use Rattle.wl_client.specs.Told.{display_error}
 use Rattle.wl_client.specs.declared.refusals.ErrorCode.TheVariants.{Implementation}
 use Rattle.wl_plain.specs.WlSurface.{refuse_limit}
 use Rattle.wl_resident.proofs.Shelling.{refused-so}
+use Rattle.wl_resident.proofs.Simply.{simply}
 use Rattle.wl_resident.proofs.residents.Resident.refuse_unserved.Goals as goal
 
 pub returns-clause-answers : goal.returns-clause-answers
-returns-clause-answers g c = λ r is. refused-so _ _ r refuse_limit c.of_display.result (display_error Implementation) refl c.of_display.ensures c.refuse.ensures.ended (c.refuse.ensures.errs r.peer is.peer)
+returns-clause-answers g c = λ client r on is only.
+    simply _ _ client on r only refuse_limit (
+    refused-so _ _ r refuse_limit c.of_display.result (display_error Implementation) refl c.of_display.ensures c.refuse.ensures.ended (c.refuse.ensures.errs r.peer is.peer))

@@ -11,10 +11,10 @@ use Rattle.wl_resident.proofs.Shelling.{absent-kept}
 use Rattle.wl_resident.proofs.residents.Resident.serve.Goals as goal
 
 pub returns-in-Refused-clause-takes : goal.returns-in-Refused-clause-takes
-returns-in-Refused-clause-takes g c = λ r is. first-refused c.args.self.now _ r c.in-Refused.refusal (rw c.in-Refused.is at c.requires) is c.refuse.ensures.ended (c.refuse.ensures.errs r.peer is.peer)
+returns-in-Refused-clause-takes g c = λ client r on is only. first-refused c.args.self.now _ client r on c.in-Refused.refusal (rw c.in-Refused.is at c.requires) is c.refuse.ensures.ended (c.refuse.ensures.errs r.peer is.peer)
 
 pub returns-in-Request-clause-takes : goal.returns-in-Request-clause-takes
-returns-in-Request-clause-takes g c = λ r is.
+returns-in-Request-clause-takes g c = λ client r on is only.
     let v = c.args.self.now in
     let asked : IsAsked v.client (Request c.in-Request.object c.in-Request.version c.in-Request.size c.in-Request.target c.in-Request.kind) = rw c.in-Request.is at c.requires in
     let m = asked.0 in
@@ -26,15 +26,15 @@ returns-in-Request-clause-takes g c = λ r is.
     first-taken v r c.in-Request.object c.in-Request.version c.in-Request.size c.in-Request.target m passes is mid c.answer.new.self c.answer.result
     (ap (λ (w : ClientView). record v { client = w }) c.take_first.ensures)
     (c.answer.ensures.answers m asked.2 table free fit)
-    (c.answer.ensures.stacks m asked.2 table)
+    (c.answer.ensures.stacks m asked.2 table) client on only
 
 pub returns-in-Own-clause-takes : goal.returns-in-Own-clause-takes
-returns-in-Own-clause-takes g c = λ r is.
+returns-in-Own-clause-takes g c = λ client r on is only.
     let v = c.args.self.now in
     let asked : IsAsked v.client Own = rw c.in-Own.is at c.requires in
     let taken = own-taken v.client c.serve-served.result (absent-kept v.client.ended (sym c.has_ended.ensures ∙ c.if-has_ended.false)) asked c.serve-served.ensures.more c.serve-served.ensures.other in
     let served = c.serve-served.ensures.serves taken (λ number. is_used number r.owned.surfaces) (used-of v r is) r.peer is.peer in
-    own-served v _ r served.0 is asked refl c.serve-served.ensures.table served.1 served.2
+    own-served v _ r served.0 is asked refl c.serve-served.ensures.table served.1 served.2 client on only
 
 pub returns-in-Refused-clause-lives : goal.returns-in-Refused-clause-lives
 returns-in-Refused-clause-lives g c = search rules

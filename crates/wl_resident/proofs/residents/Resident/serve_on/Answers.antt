@@ -8,13 +8,15 @@ use Rattle.wl_plain.proofs.BridgeTouches.{touches_apart}
 use Rattle.wl_resident.proofs.Asking.{idle-more, idle-unmarked}
 use Rattle.wl_resident.proofs.Seats.{large-then}
 use Rattle.wl_resident.proofs.MarkedMessages.{keeps-numbers, message-marks}
+use Rattle.wl_resident.proofs.Simply.{seated-only, simply-takes}
 use Rattle.wl_resident.proofs.Taking.{served}
 use Rattle.wl_resident.proofs.Toplevels.{marks-all}
 use Rattle.wl_resident.proofs.residents.Resident.serve_on.Goals as goal
 
 pub returns-clause-serves : goal.returns-clause-serves
 returns-clause-serves g c = λ some others base d r is more.
-    let takes = c.in-Some.ensures.takes r (record { peer = is.seat.peer; owns = is.seat.owns }) in
+    let only = seated-only c.args.client others base d _ _ r is c.in-Some.ensures.lives more in
+    let takes = simply-takes (split_of r.peer.rest) c.args.client r d _ _ c.in-Some.stacking only (c.in-Some.ensures.takes c.args.client r d (record { peer = is.seat.peer; owns = is.seat.owns }) only) in
     let s = served c.args.client others base d r c.in-Some.stacking _ _ _ _ _ is c.in-Some.ensures.lives takes c.settle.ensures.settles in
     (s.0, s.1, serves-whole c.args.client d s.0 more s.2, s.3)
 
@@ -36,7 +38,8 @@ returns-clause-marks g c = λ some others base d r unlinked before more e q serv
     let new = c.settle.new.self in
     let was = c.args.scene.now in
     let now = c.settle.new.scene in
-    let takes = c.in-Some.ensures.takes r (record { peer = before.seat.peer; owns = before.seat.owns }) in
+    let only = seated-only c.args.client others base d old was r before c.in-Some.ensures.lives more in
+    let takes = simply-takes (split_of r.peer.rest) c.args.client r d old c.serve.new.self c.in-Some.stacking only (c.in-Some.ensures.takes c.args.client r d (record { peer = before.seat.peer; owns = before.seat.owns }) only) in
     let first = c.mark_touched.ensures in
     let second = c.mark_touched-2.ensures in
     let small = serves-back c.args.client d e more serves in

@@ -1,5 +1,5 @@
 use Rattle.std.proofs.Common.{refl, rules, w32}
-use Rattle.std.specs.Prelude.{FitsSigned}
+use Rattle.std.specs.Prelude.{FitsSigned, Ok}
 use Rattle.std.proofs.lemmas.Int.{to_z-of_z}
 use Rattle.wl_geom.specs.declared.rect.Rect.{Rect}
 use Rattle.wl_surface.specs.Request.{Attach, Damage, SetInputRegion, SetOpaqueRegion}
@@ -7,10 +7,11 @@ use Rattle.wl_plain.specs.Ask.{AskSurface}
 use Rattle.wl_plain.specs.Desktop.{Resident}
 use Rattle.wl_plain.specs.WlSurface.{buffer_named, region_named}
 use Rattle.wl_resident.proofs.Shelling.{counted-does, surface-counted}
+use Rattle.wl_resident.proofs.Simply.{simply}
 use Rattle.wl_resident.proofs.residents.Resident.wl_surface.Goals as goal
 
 pub returns-in-Attach-clause-answers : goal.returns-in-Attach-clause-answers
-returns-in-Attach-clause-answers g c = λ named r is.
+returns-in-Attach-clause-answers g c = λ named client r on is only.
     let v = c.args.self.now in
     let id = c.args.object in
     let x = c.in-Attach.x in
@@ -19,11 +20,12 @@ returns-in-Attach-clause-answers g c = λ named r is.
     let y-fits : FitsSigned w32 y = search rules in
     let does = simp (to_z-of_z w32 x x-fits, to_z-of_z w32 y y-fits) at c.attach.ensures.does in
     rw c.in-Attach.is
+    (simply _ _ client on r only (Ok (AskSurface id (Attach (buffer_named r c.in-Attach.buffer) x y)))
     (counted-does v (record { client = c.count.new.self; owned = v.owned }) c.attach.new.self r (λ (q : Resident). AskSurface id (Attach (buffer_named q c.in-Attach.buffer) x y)) is c.count.ensures.only refl (c.count.ensures.counts r.peer is.peer)
-    (does (surface-counted v.client c.count.new.self id c.args.surface c.count.ensures.only named)))
+    (does (surface-counted v.client c.count.new.self id c.args.surface c.count.ensures.only named))))
 
 pub returns-in-Damage-clause-answers : goal.returns-in-Damage-clause-answers
-returns-in-Damage-clause-answers g c = λ named r is.
+returns-in-Damage-clause-answers g c = λ named client r on is only.
     let v = c.args.self.now in
     let id = c.args.object in
     let rect : Rect = record { x = c.in-Damage.x; y = c.in-Damage.y; w = c.in-Damage.w; h = c.in-Damage.h } in
@@ -34,28 +36,31 @@ returns-in-Damage-clause-answers g c = λ named r is.
     let h-fits : FitsSigned w32 c.in-Damage.h = search rules in
     let does = simp (to_z-of_z w32 c.in-Damage.x x-fits, to_z-of_z w32 c.in-Damage.y y-fits, to_z-of_z w32 c.in-Damage.w w-fits, to_z-of_z w32 c.in-Damage.h h-fits) at c.damage.ensures.does in
     rw c.in-Damage.is
+    (simply _ _ client on r only (Ok (AskSurface id (Damage rect)))
     (counted-does v (record { client = count.new.self; owned = v.owned }) c.damage.new.self r (λ (q : Resident). AskSurface id (Damage rect)) is count.ensures.only refl (count.ensures.counts r.peer is.peer)
-    (does (surface-counted v.client count.new.self id c.args.surface count.ensures.only named)))
+    (does (surface-counted v.client count.new.self id c.args.surface count.ensures.only named))))
 
 pub returns-in-SetOpaqueRegion-clause-answers : goal.returns-in-SetOpaqueRegion-clause-answers
-returns-in-SetOpaqueRegion-clause-answers g c = λ named r is.
+returns-in-SetOpaqueRegion-clause-answers g c = λ named client r on is only.
     let v = c.args.self.now in
     let id = c.args.object in
     let region = c.in-SetOpaqueRegion.region in
     let count = c.count-in-SetOpaqueRegion in
     rw c.in-SetOpaqueRegion.is
+    (simply _ _ client on r only (Ok (AskSurface id (SetOpaqueRegion (region_named r region))))
     (counted-does v (record { client = count.new.self; owned = v.owned }) c.set_opaque_region.new.self r (λ (q : Resident). AskSurface id (SetOpaqueRegion (region_named q region))) is count.ensures.only refl (count.ensures.counts r.peer is.peer)
-    (c.set_opaque_region.ensures.does (surface-counted v.client count.new.self id c.args.surface count.ensures.only named)))
+    (c.set_opaque_region.ensures.does (surface-counted v.client count.new.self id c.args.surface count.ensures.only named))))
 
 pub returns-in-SetInputRegion-clause-answers : goal.returns-in-SetInputRegion-clause-answers
-returns-in-SetInputRegion-clause-answers g c = λ named r is.
+returns-in-SetInputRegion-clause-answers g c = λ named client r on is only.
     let v = c.args.self.now in
     let id = c.args.object in
     let region = c.in-SetInputRegion.region in
     let count = c.count-in-SetInputRegion in
     rw c.in-SetInputRegion.is
+    (simply _ _ client on r only (Ok (AskSurface id (SetInputRegion (region_named r region))))
     (counted-does v (record { client = count.new.self; owned = v.owned }) c.set_input_region.new.self r (λ (q : Resident). AskSurface id (SetInputRegion (region_named q region))) is count.ensures.only refl (count.ensures.counts r.peer is.peer)
-    (c.set_input_region.ensures.does (surface-counted v.client count.new.self id c.args.surface count.ensures.only named)))
+    (c.set_input_region.ensures.does (surface-counted v.client count.new.self id c.args.surface count.ensures.only named))))
 
 pub returns-in-Attach-clause-rest : goal.returns-in-Attach-clause-rest
 returns-in-Attach-clause-rest g c = rw (← c.count.ensures.rest) c.attach.ensures.rest
@@ -115,4 +120,8 @@ pub returns-in-Frame-clause-answers : goal.returns-in-Frame-clause-answers
 returns-in-Frame-clause-answers g c = search rules
 
 pub returns-in-SetBufferTransform-clause-answers : goal.returns-in-SetBufferTransform-clause-answers
-returns-in-SetBufferTransform-clause-answers g c = search rules
+returns-in-SetBufferTransform-clause-answers g c = λ named.
+    let z = c.in-SetBufferTransform.transform in
+    let fits : FitsSigned w32 z = search rules in
+    let answers = simp (to_z-of_z w32 z fits) at c.transform.ensures.answers in
+    rw c.in-SetBufferTransform.is (answers named)
