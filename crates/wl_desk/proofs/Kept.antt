@@ -22,13 +22,12 @@ use Rattle.wl_plain.specs.Desktop.{Desktop, Resident, become, become_by, client_
 use Rattle.wl_desk.specs.Feeding.{IsIdleIn, IsIdleOf, kept_at, kept_by, kept_in, kept_of, kept_while, rest_in, served_as, served_by, served_of}
 use Rattle.wl_resident.specs.Marking.{AreUnlinked, Marks}
 use Rattle.wl_resident.specs.Seats.{IsSeated, ended_by}
-use Rattle.wl_plain.specs.Served.{Unserved, beyond_toplevels}
-use Rattle.wl_plain.specs.Step.{Answers, Becomes, Serves, ServesAt, Takes, WantsOr, changed_by, stacked, takes_memory}
+use Rattle.wl_plain.specs.Step.{changed_by, stacked, with_peer}
 use Rattle.wl_plain.specs.LeftOut.{served_now}
 use Rattle.wl_plain.specs.NoMore.{NoMore}
 use Rattle.wl_plain.specs.Steps.{fed_of, peer_at, status_of}
-use Rattle.wl_plain.specs.Whole.{Serves as WholeServes}
-use Rattle.wl_plain.proofs.BridgeBack.{serves-back}
+use Rattle.wl_plain.specs.Whole.{Serves}
+use Rattle.wl_plain.proofs.BridgeBack.{message-by}
 use Rattle.wl_resident.specs.View.{DeskView, OwnedView, owned_view}
 use Rattle.wl_resident.specs.declared.residents.Resident.{Resident as Kept}
 use Rattle.wl_desk.proofs.Calls.{IsFound, back, client-there, ended_at, ended_of, out, place-here, place-none, untaken, view_of}
@@ -85,31 +84,12 @@ become-else : (s : Option Cause) (c : ℕ) (r : Resident) (q : Peer) (d : Deskto
 become-else None c r q d = (Some (record r { peer = q }), refl)
 become-else (Some cause) c r q d = (Some (resident_of q), refl)
 
-becomes-else : (Q : Peer → Type 0) (c : ℕ) (r : Resident) (mid d new : Desktop) → mid.clients ≡ d.clients → Becomes Q c r mid new → IsOneElse c d new
-becomes-else Q c r mid d new same h =
-    let one = become-else h.0.status c r h.0 mid in
-    (one.0, ap (λ (d : Desktop). d.clients) h.2 ∙ (one.1 ∙ ap (λ clients. with_number c one.0 clients) same))
-
-wants-else : (b : Bool) (Q : Peer → Type 0) (ask : Ask) (c : ℕ) (r : Resident) (d new : Desktop) → WantsOr b (Becomes Q c (changed_by ask r) (stacked c ask r d) new) c r d new → IsOneElse c d new
-wants-else false Q ask c r d new h = becomes-else Q c (changed_by ask r) (stacked c ask r d) d new (stacked-clients c ask r d) h
-wants-else true Q ask c r d new (inl h) = becomes-else (LacksMemory r.peer) c r d d new refl h
-wants-else true Q ask c r d new (inr h) = becomes-else Q c (changed_by ask r) (stacked c ask r d) d new (stacked-clients c ask r d) h
-
-answers-else : (judged : Result Ask _) (c : ℕ) (r : Resident) (d new : Desktop) → Answers judged c r d new → IsOneElse c d new
-answers-else (Ok ask) c r d new h = wants-else (takes_memory ask) _ ask c _ d new h
-answers-else (Err refusal) c r d new h = becomes-else _ c r d d new refl h
-
-takes-else : (unserved : Unserved) (s : Split) (c : ℕ) (r : Resident) (d new : Desktop) → Takes unserved s c r d new → IsOneElse c d new
-takes-else unserved (Message object opcode size) c r d new h = answers-else _ c _ d new h
-takes-else unserved Bad c r d new h = becomes-else _ c r d d new refl h
-takes-else unserved More c r d new h = absurd h
-
-serves-else : (unserved : Unserved) (c : ℕ) (d new : Desktop) → Serves unserved c d new → IsOneElse c d new
-serves-else unserved c d new h = by (client_at c d) h
-  where
-    by : (o : Option Resident) → ServesAt unserved c o d new → IsOneElse c d new
-    by None h = absurd h
-    by (Some r) h = takes-else unserved (split_of r.peer.rest) c r d new h.1
+serves-else : (c : ℕ) (r : Resident) (d new : Desktop) → client_at c d ≡ Some r → NoMore d → Serves served_now c d new → IsOneElse c d new
+serves-else c r d new is more h =
+    message-by c r d new is more (λ e. IsOneElse c d e) (λ p q never. become-else q.status c (with_peer p r) q d)
+    (λ ask asks p q objects told.
+    let one = become-else q.status c (changed_by ask (with_peer p r)) q (stacked c ask (with_peer p r) d) in
+    (one.0, one.1 ∙ ap (λ clients. with_number c one.0 clients) (stacked-clients c ask (with_peer p r) d))) h
 
 -- what is kept of a client isn't touched by the rest
 seat-here : (x : Option ClientView) (o : Option OwnedView) (r : Option Resident) (v : ClientView) (w : OwnedView) → x ≡ Some v → o ≡ Some w → IsPlace x o r → (q : Resident) × (r ≡ Some q) × IsSeat v w q
@@ -130,14 +110,14 @@ module _ {A : Type 0} (output : Output) (us : List (Option ClientView)) (os : Li
   put-back new x2 y2 now = view_of output (set (set us k x2) k (Some new.client)) (set (set os k y2) k (Some new.owned)) now
 
   -- who was served and put back is seated in the desktop that agrees
-  seated-new : (new : Kept A) (x2 : Option ClientView) (y2 : Option (Owned A)) (now : Stack) (e : Desktop) (s : Resident) → client_at c d ≡ Some s → Serves beyond_toplevels c d e → Matches (put-back new x2 y2 now) e
+  seated-new : (new : Kept A) (x2 : Option ClientView) (y2 : Option (Owned A)) (now : Stack) (e : Desktop) (s : Resident) → client_at c d ≡ Some s → NoMore d → Serves served_now c d e → Matches (put-back new x2 y2 now) e
       → (q : Resident) × IsSeated c (numbers_in us) d new now e q
-  seated-new new x2 y2 now e s there serves b =
+  seated-new new x2 y2 now e s there more serves b =
       let view = put-back new x2 y2 now in
       let puts : IsPut k (Some new.client) us view.clients = put-twice k (Some new.client) x2 us is.client in
       let owns = put-map owned_view k (Some new.owned) os _ (put-twice k (Some new.owned) y2 os is.owned) in
       let seat = seat-here (at view.clients k) (at view.owned k) (client_at c e) new.client (owned_view new.owned) puts.here owns.here (rw is.number (place-at view e k b)) in
-      let else = serves-else beyond_toplevels c d e serves in
+      let else = serves-else c s d e there more serves in
       let same : else.0 ≡ Some seat.0 = sym (ap (λ clients. client_in clients c) else.1 ∙ number-same d.clients c else.0 s there) ∙ seat.1 in (
         seat.0,
         record {
@@ -152,11 +132,11 @@ module _ {A : Type 0} (output : Output) (us : List (Option ClientView)) (os : Li
       )
 
   pub serves-marks : (v new : Kept A) (x x2 : Option ClientView) (y y2 : Option (Owned A)) (now : Stack) (e : Desktop) (before after : Damaged) → x ≡ get_or us k x → y ≡ get_or os k y → (x ≡ Some v.client) × (y ≡ Some v.owned) → NoMore d
-      → ((r : Resident) → AreUnlinked d → IsSeated c (numbers_in us) d v stack d r → NoMore d → (e : Desktop) (q : Resident) → WholeServes served_now c d e → IsSeated c (numbers_in us) d new now e q → Marks d e before after)
-      → WholeServes served_now c d e → Matches (put-back new x2 y2 now) e → Marks d e before after
+      → ((r : Resident) → AreUnlinked d → IsSeated c (numbers_in us) d v stack d r → NoMore d → (e : Desktop) (q : Resident) → Serves served_now c d e → IsSeated c (numbers_in us) d new now e q → Marks d e before after)
+      → Serves served_now c d e → Matches (put-back new x2 y2 now) e → Marks d e before after
   serves-marks v new x x2 y y2 now e before after f g taken more marks serves b =
       let s = out output us os stack c k is d a v x y f g taken in
-      let n = seated-new new x2 y2 now e s.0 s.1 (serves-back c d e more serves) b in
+      let n = seated-new new x2 y2 now e s.0 s.1 more serves b in
       marks s.0 (unlinked (view_of output us os stack) d a) s.2 more e n.0 serves n.1
 
   -- there was no message

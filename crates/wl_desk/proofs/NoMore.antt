@@ -21,7 +21,7 @@ use Rattle.wl_desk.specs.Agreeing.{Agrees, TakesStep}
 use Rattle.wl_desk.specs.Feeding.{Ends, EndsBy, EndsOf, IsIdleIn, kept_at, kept_by, kept_of}
 use Rattle.wl_desk.proofs.Calls.{ended_at, ended_of}
 use Rattle.wl_plain.proofs.Altering.{Alters, IsCall}
-use Rattle.wl_plain.proofs.BridgeBack.{alters-back, serves-back, settled-back}
+use Rattle.wl_plain.proofs.BridgeBack.{alters-back, settled-back}
 use Rattle.wl_plain.proofs.BridgeDesks.{become-has, empty-has}
 use Rattle.wl_plain.proofs.BridgeLasts.{acts-has}
 use Rattle.wl_plain.proofs.BridgeMessages.{serves-has}
@@ -51,7 +51,7 @@ pub message-whole : (c : ℕ) (old new : DeskView) → ((d : Desktop) → Agrees
     → (d : Desktop) → Agrees old d → (e : Desktop) × Serves served_now c d e × Agrees new e
 message-whole c old new taken d a =
     let h = taken d a in
-    (h.0, h.1, record { matches = h.2; no_more = serves-has touches_apart c d h.0 a.no_more (serves-back c d h.0 a.no_more h.1) })
+    (h.0, h.1, record { matches = h.2; no_more = serves-has touches_apart c d h.0 a.no_more h.1 })
 
 pub idles-whole : (c : ℕ) (old new : DeskView) → ((d : Desktop) → Matches old d → Matches new d × IsIdleIn c d) → (d : Desktop) → Agrees old d → Agrees new d × IsIdleIn c d
 idles-whole c old new small d a =

@@ -18,25 +18,29 @@ use Rattle.wl_client.specs.Judgement.{action_of, after_new_id, is_free, judged, 
 use Rattle.wl_client.specs.Judgement.{judge as judge_alone}
 use Rattle.wl_client.specs.Objects.{Object, Objects, fits}
 use Rattle.wl_client.specs.Told.{display_error}
-use Rattle.wl_plain.specs.Ask.{Ask, owns}
+use Rattle.wl_plain.specs.Ask.{owns}
 use Rattle.wl_plain.specs.Desktop.{Resident}
-use Rattle.wl_plain.specs.Served.{beyond_clients}
-use Rattle.wl_plain.specs.Step.{ask_of, judge}
+use Rattle.wl_plain.specs.Demand.{Demand}
+use Rattle.wl_plain.specs.Demanding.{demand_of, demands, judge_all}
+use Rattle.wl_plain.specs.LeftOut.{own_only}
 use Rattle.wl_client.specs.Peer.{known_of}
 
 -- ---- the judgement
 
-compositor : (b : Bool) (r : Resident) (object version opcode : ℕ) (fields : List Field) → (opcode == 0) ≡ b → ask_of beyond_clients r object version (record { interface = WlCompositor; opcode = opcode; fields = fields }) ≡ owns (action_of (known_of r.peer) object version WlCompositor opcode fields)
+abbrev pub as_own : Result Action Refusal → Result Demand Refusal
+as_own judged = demands (owns judged)
+
+compositor : (b : Bool) (r : Resident) (object version opcode : ℕ) (fields : List Field) → (opcode == 0) ≡ b → demand_of own_only r object version (record { interface = WlCompositor; opcode = opcode; fields = fields }) ≡ demands (owns (action_of (known_of r.peer) object version WlCompositor opcode fields))
 compositor true r object version opcode fields e =
-    subst (λ (n : ℕ). ask_of beyond_clients r object version (record { interface = WlCompositor; opcode = n; fields = fields }) ≡ owns (action_of (known_of r.peer) object version WlCompositor n fields)) (sym (eqb-true opcode 0 e)) refl
+    subst (λ (n : ℕ). demand_of own_only r object version (record { interface = WlCompositor; opcode = n; fields = fields }) ≡ demands (owns (action_of (known_of r.peer) object version WlCompositor n fields))) (sym (eqb-true opcode 0 e)) refl
 compositor false r object version opcode fields e = rw e refl
 
-seat : (b : Bool) (r : Resident) (object version opcode : ℕ) (fields : List Field) → (opcode == 0) ≡ b → ask_of beyond_clients r object version (record { interface = WlSeat; opcode = opcode; fields = fields }) ≡ owns (action_of (known_of r.peer) object version WlSeat opcode fields)
+seat : (b : Bool) (r : Resident) (object version opcode : ℕ) (fields : List Field) → (opcode == 0) ≡ b → demand_of own_only r object version (record { interface = WlSeat; opcode = opcode; fields = fields }) ≡ demands (owns (action_of (known_of r.peer) object version WlSeat opcode fields))
 seat true r object version opcode fields e =
-    subst (λ (n : ℕ). ask_of beyond_clients r object version (record { interface = WlSeat; opcode = n; fields = fields }) ≡ owns (action_of (known_of r.peer) object version WlSeat n fields)) (sym (eqb-true opcode 0 e)) refl
+    subst (λ (n : ℕ). demand_of own_only r object version (record { interface = WlSeat; opcode = n; fields = fields }) ≡ demands (owns (action_of (known_of r.peer) object version WlSeat n fields))) (sym (eqb-true opcode 0 e)) refl
 seat false r object version opcode fields e = rw e refl
 
-asked : (interface : Interface) (r : Resident) (object version opcode : ℕ) (fields : List Field) → ask_of beyond_clients r object version (record { interface = interface; opcode = opcode; fields = fields }) ≡ owns (action_of (known_of r.peer) object version interface opcode fields)
+asked : (interface : Interface) (r : Resident) (object version opcode : ℕ) (fields : List Field) → demand_of own_only r object version (record { interface = interface; opcode = opcode; fields = fields }) ≡ demands (owns (action_of (known_of r.peer) object version interface opcode fields))
 asked WlDisplay r object version opcode fields = refl
 asked WlRegistry r object version opcode fields = refl
 asked WlCallback r object version opcode fields = refl
@@ -57,34 +61,30 @@ asked XdgSurface r object version opcode fields = refl
 asked XdgToplevel r object version opcode fields = refl
 asked XdgPopup r object version opcode fields = refl
 
-owned-if : (b : Bool) (a e : Result Action Refusal) → (if b then owns a else owns e) ≡ owns (if b then a else e)
-owned-if true a e = refl
-owned-if false a e = refl
-
-new_id-owns : (objects : Objects) (held : ℕ) (new : Option NewId) (ask : Result Ask Refusal) (action : Result Action Refusal) → ask ≡ owns action → after_new_id objects held new ask ≡ owns (after_new_id objects held new action)
+new_id-owns : (objects : Objects) (held : ℕ) (new : Option NewId) (ask : Result Demand Refusal) (action : Result Action Refusal) → ask ≡ as_own action → after_new_id objects held new ask ≡ as_own (after_new_id objects held new action)
 new_id-owns objects held None ask action e = e
 new_id-owns objects held (Some new) ask action e =
     at (is_free objects new.id) (nat_le 8192 held)
   where
-    at : (free full : Bool) → (if free then (if full then Err (display_error Implementation) else ask) else Err (display_error InvalidObject)) ≡ owns (if free then (if full then Err (display_error Implementation) else action) else Err (display_error InvalidObject))
+    at : (free full : Bool) → (if free then (if full then Err (display_error Implementation) else ask) else Err (display_error InvalidObject)) ≡ as_own (if free then (if full then Err (display_error Implementation) else action) else Err (display_error InvalidObject))
     at false full = refl
     at true true = refl
     at true false = e
 
-judged-owns : (objects : Objects) (held : ℕ) (ask : Message → Result Ask Refusal) (action : Message → Result Action Refusal) (request : Result Message ProtoError) → ((m : Message) → ask m ≡ owns (action m)) → judged objects held ask request ≡ owns (judged objects held action request)
+judged-owns : (objects : Objects) (held : ℕ) (ask : Message → Result Demand Refusal) (action : Message → Result Action Refusal) (request : Result Message ProtoError) → ((m : Message) → ask m ≡ as_own (action m)) → judged objects held ask request ≡ as_own (judged objects held action request)
 judged-owns objects held ask action (Err error) e = refl
 judged-owns objects held ask action (Ok m) e = at (list_all (fits objects) (objects_named m))
   where
-    at : (b : Bool) → (if b then after_new_id objects held (new_id_in m) (ask m) else Err (display_error InvalidMethod)) ≡ owns (if b then after_new_id objects held (new_id_in m) (action m) else Err (display_error InvalidMethod))
+    at : (b : Bool) → (if b then after_new_id objects held (new_id_in m) (ask m) else Err (display_error InvalidMethod)) ≡ as_own (if b then after_new_id objects held (new_id_in m) (action m) else Err (display_error InvalidMethod))
     at true = new_id-owns objects held (new_id_in m) (ask m) (action m) (e m)
     at false = refl
 
-judged_at-owns : (r : Resident) (object opcode : ℕ) (body : List ℕ) (o : Option Object) → judged_at r.peer.objects r.peer.held (λ version m. ask_of beyond_clients r object version m) opcode body o ≡ owns (judged_at r.peer.objects r.peer.held (λ version m. action_of (known_of r.peer) object version m.interface m.opcode m.fields) opcode body o)
+judged_at-owns : (r : Resident) (object opcode : ℕ) (body : List ℕ) (o : Option Object) → judged_at r.peer.objects r.peer.held (λ version m. demand_of own_only r object version m) opcode body o ≡ as_own (judged_at r.peer.objects r.peer.held (λ version m. action_of (known_of r.peer) object version m.interface m.opcode m.fields) opcode body o)
 judged_at-owns r object opcode body None = refl
 judged_at-owns r object opcode body (Some o) =
     judged-owns r.peer.objects r.peer.held _ (λ m. action_of (known_of r.peer) object o.version m.interface m.opcode m.fields) (decoded o.interface o.version opcode body)
     (λ m. asked m.interface r object o.version m.opcode m.fields)
 
 -- a message asks of the desktop what it asks of the client
-pub judge-owns : (r : Resident) (object opcode : ℕ) (body : List ℕ) → judge beyond_clients r object opcode body ≡ owns (judge_alone (known_of r.peer) object opcode body)
+pub judge-owns : (r : Resident) (object opcode : ℕ) (body : List ℕ) → judge_all own_only r object opcode body ≡ as_own (judge_alone (known_of r.peer) object opcode body)
 judge-owns r object opcode body = judged_at-owns r object opcode body (r.peer.objects object)

@@ -21,11 +21,12 @@ use Rattle.wl_client.specs.Peer.{Peer, changed, with_rest}
 use Rattle.wl_client.specs.Told.{display_error}
 use Rattle.wl_shell.specs.Shell.{Effect, Stays, Unconfigured, Configures, Maps, Unmaps, XdgSurface as Xdg, xdg_at, xdg_of}
 use Rattle.wl_plain.specs.Ask.{Ask, Own, CreateSurface, DestroySurface, AskSurface, CommitSurface, DestroyBase, GetXdgSurface, DestroyXdgSurface, GetToplevel, Acknowledge, ConfigureAgain, DestroyToplevel, Ignore}
+use Rattle.wl_plain.specs.LeftOut.{served_now}
 use Rattle.wl_plain.specs.Desktop.{Desktop, Resident, with_client}
-use Rattle.wl_plain.specs.Served.{Unserved}
 use Rattle.wl_client.specs.Serving.{has_used, keeps_store}
 use Rattle.wl_surface.specs.Surfaces.{is_used}
-use Rattle.wl_plain.specs.Step.{after_surface, answers_to, ask_by, ask_of, changed_by, committed_on, effect_on, judge, making, own_changed, stacked, toplevel_given, with_peer}
+use Rattle.wl_plain.specs.Step.{after_surface, answers_to, ask_by, changed_by, committed_on, effect_on, making, own_changed, stacked, toplevel_given, with_peer}
+use Rattle.wl_plain.proofs.Simply.{ask_of, judge}
 use Rattle.wl_plain.specs.WlSurface.{refuse_limit}
 use Rattle.wl_plain.specs.XdgShell.{xdg_ask_of}
 
@@ -60,24 +61,24 @@ asks-by XdgSurface r object version m rest = xdg-asks (xdg_at object r.owned.she
 asks-by XdgToplevel r object version m rest = refl
 asks-by XdgPopup r object version m rest = refl
 
-asks : (unserved : Unserved) (r : Resident) (object version : ℕ) (m : Message) (rest : List ℕ) → ask_of unserved (with_behind rest r) object version m ≡ ask_of unserved r object version m
-asks unserved r object version m rest =
-    ap (λ (ask : Result Ask Refusal). if unserved m.interface m.opcode then refuse_limit else ask) (asks-by m.interface r object version m rest)
+asks : (r : Resident) (object version : ℕ) (m : Message) (rest : List ℕ) → ask_of (with_behind rest r) object version m ≡ ask_of r object version m
+asks r object version m rest =
+    ap (λ (ask : Result Ask Refusal). if served_now.requests m.interface m.opcode then refuse_limit else ask) (asks-by m.interface r object version m rest)
 
 judged-same : (objects : Objects) (held : ℕ) (ask other : Message → Result Ask Refusal) (request : Result Message ProtoError) → ((m : Message) → ask m ≡ other m) → judged objects held ask request ≡ judged objects held other request
 judged-same objects held ask other (Err error) e = refl
 judged-same objects held ask other (Ok m) e =
     ap (λ (asked : Result Ask Refusal). if list_all (fits objects) (objects_named m) then after_new_id objects held (new_id_in m) asked else Err (display_error InvalidMethod)) (e m)
 
-judged_at-behind : (unserved : Unserved) (r : Resident) (object opcode : ℕ) (body rest : List ℕ) (o : Option Object) → judged_at r.peer.objects r.peer.held (λ version m. ask_of unserved (with_behind rest r) object version m) opcode body o ≡ judged_at r.peer.objects r.peer.held (λ version m. ask_of unserved r object version m) opcode body o
-judged_at-behind unserved r object opcode body rest None = refl
-judged_at-behind unserved r object opcode body rest (Some o) =
-    judged-same r.peer.objects r.peer.held (λ m. ask_of unserved (with_behind rest r) object o.version m) (λ m. ask_of unserved r object o.version m) (decoded o.interface o.version opcode body)
-    (λ m. asks unserved r object o.version m rest)
+judged_at-behind : (r : Resident) (object opcode : ℕ) (body rest : List ℕ) (o : Option Object) → judged_at r.peer.objects r.peer.held (λ version m. ask_of (with_behind rest r) object version m) opcode body o ≡ judged_at r.peer.objects r.peer.held (λ version m. ask_of r object version m) opcode body o
+judged_at-behind r object opcode body rest None = refl
+judged_at-behind r object opcode body rest (Some o) =
+    judged-same r.peer.objects r.peer.held (λ m. ask_of (with_behind rest r) object o.version m) (λ m. ask_of r object o.version m) (decoded o.interface o.version opcode body)
+    (λ m. asks r object o.version m rest)
 
 -- a message asks the same
-pub judge-behind : (unserved : Unserved) (r : Resident) (object opcode : ℕ) (body rest : List ℕ) → judge unserved (with_behind rest r) object opcode body ≡ judge unserved r object opcode body
-judge-behind unserved r object opcode body rest = judged_at-behind unserved r object opcode body rest (r.peer.objects object)
+pub judge-behind : (r : Resident) (object opcode : ℕ) (body rest : List ℕ) → judge (with_behind rest r) object opcode body ≡ judge r object opcode body
+judge-behind r object opcode body rest = judged_at-behind r object opcode body rest (r.peer.objects object)
 
 -- ---- what it changes
 

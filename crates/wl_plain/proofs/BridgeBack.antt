@@ -5,10 +5,11 @@ use Rattle.wl_wire.specs.Wire.{split_of}
 use Rattle.wl_wire.specs.declared.header.Split.{Split}
 use Rattle.wl_wire.specs.declared.header.Split.TheVariants.{Message, More, Bad}
 use Rattle.wl_client.specs.declared.clients.Cause.{Cause}
-use Rattle.wl_client.specs.declared.clients.Cause.TheVariants.{Gone, Memory, Slow}
+use Rattle.wl_client.specs.declared.clients.Cause.TheVariants.{Gone, Memory, Protocol, Slow}
+use Rattle.wl_client.specs.declared.refusals.ErrorCode.TheVariants.{InvalidMethod}
 use Rattle.wl_client.specs.declared.refusals.Refusal.{Refusal}
-use Rattle.wl_client.specs.Peer.{LacksMemory, Peer, Queues, QueuesOr, counted, ended, has_room, left_by, queued, with_rest}
-use Rattle.wl_client.specs.Told.{Said}
+use Rattle.wl_client.specs.Peer.{Errs, LacksMemory, Peer, Queues, QueuesOr, counted, ended, has_room, left_by, queued, with_rest}
+use Rattle.wl_client.specs.Told.{Said, code_number, display_error, error_told}
 use Rattle.wl_scene.specs.Pointer.{first_pointer}
 use Rattle.wl_plain.specs.declared.answers.Done.{Done}
 use Rattle.wl_plain.specs.declared.answers.Done.TheVariants as gave
@@ -21,18 +22,19 @@ use Rattle.wl_plain.specs.Laws.{toplevels_of}
 use Rattle.wl_plain.specs.LeftOut.{served_now}
 use Rattle.wl_plain.specs.NoMore.{NoMore, OwnsToplevelsAt, OwnsToplevelsBy, OwnsToplevelsOnly}
 use Rattle.wl_plain.specs.Replies.{replies}
-use Rattle.wl_plain.specs.Served.{beyond_toplevels}
 use Rattle.wl_plain.specs.Settling.{EndsAndSettles, EndsFirst, Moving, QueuesFirst, QueuesTo, SettlesAll, TellsAt, becomes, struck_by, unstruck}
 use Rattle.wl_plain.specs.Stacked.{all_windows}
-use Rattle.wl_plain.specs.Step.{Answers, Becomes, Serves, ServesAt, Takes, WantsOr, answers_to, changed_by, judge, stacked, takes_memory, with_peer}
+use Rattle.wl_plain.specs.Step.{answers_to, changed_by, stacked, takes_memory, with_peer}
+use Rattle.wl_plain.proofs.Simply.{Becomes, judge}
 use Rattle.wl_plain.specs.Steps.{IsClosed, IsLeft, IsSent, IsStored, Act, Connect, Feed, Store, Leave, Tick, Send, Close}
-use Rattle.wl_plain.specs.Whole.{Acts, after_why, callbacks_due, done_for, frames_told, Answers as WholeAnswers, Becomes as WholeBecomes, ChangesAt as WholeChangesAt, Does, LeavesAt, Serves as WholeServes, ServesAt as WholeServesAt, Shows, Takes as WholeTakes, TellsFrames, WantsOr as WholeWantsOr}
+use Rattle.wl_plain.specs.Whole.{Acts, after_why, callbacks_due, done_for, frames_told, Answers as WholeAnswers, Becomes as WholeBecomes, ChangesAt as WholeChangesAt, Does, LeavesAt, Serves as WholeServes, ServesAt as WholeServesAt, Shows, Takes as WholeTakes, TellsFrames, WantsOr as WholeWantsOr, wants_memory}
 use Rattle.wl_plain.proofs.Altering.{Alters, ChangesAt, IsCall}
 use Rattle.wl_plain.proofs.Behind.{changed-status}
 use Rattle.wl_plain.proofs.BridgeChanged.{changed-same, wants-same}
 use Rattle.wl_plain.proofs.BridgeJudged.{Pairs, Same, judge-pair}
 use Rattle.wl_plain.proofs.BridgeServes.{IsDone, after-same, becomes-same, by-pointer, done-same, ended_why, living, only-peer, pairs-peer, replies-same, same-peer, stacked-pointer, tops-kept}
 use Rattle.wl_plain.proofs.BridgeSteps.{Leaves, closed-leaves, left-held, sent-leaves, stays-by, stored-leaves}
+use Rattle.wl_plain.proofs.OwningKeys.{none-some}
 use Rattle.wl_plain.proofs.Places.{client-kept, stacked-clients}
 use Rattle.wl_plain.proofs.WholeOneRun.{held}
 
@@ -91,41 +93,68 @@ does-back c ask demand r there d new is still alive only same h =
 
 -- ---- a message
 
-module _ (c : ℕ) (there : Resident) (d new : Desktop) (is : client_at c d ≡ Some there) (still : d.pointer ≡ first_pointer) where
-  wants-back : (b : Bool) (r : Resident) (Later Then : Type 0) → (Later → Then) → WholeWantsOr b Later c r d new → WantsOr b Then c r d new
-  wants-back false r Later Then next h = next h
-  wants-back true r Later Then next (inl h) = inl (becomes-back (LacksMemory r.peer) c r d new still h)
-  wants-back true r Later Then next (inr h) = inr (next h)
+-- a client that ended doesn't live
+over : (cause : Cause) (p q : Peer) → q ≡ ended cause p → q.status ≡ None → ⊥
+over cause p q e alive = none-some cause (sym alive ∙ ap (λ (x : Peer). x.status) e)
 
-  answers-back : (judged : Result Ask Refusal) (demanded : Result Demand Refusal) (r : Resident) → r.peer.status ≡ None → OwnsToplevelsOnly r → Pairs r judged demanded → WholeAnswers served_now demanded c r d new → Answers judged c r d new
-  answers-back (Ok ask) (Ok demand) r alive only same h =
-      let now : Resident = with_peer (counted r.peer) r in
-      let same_now : Same now ask demand = same-peer r (counted r.peer) ask demand same in
-      wants-back (takes_memory ask) now _ _ (λ k. does-back c ask demand now there d new is still alive (only-peer r (counted r.peer) refl only) same_now k)
-      (subst (λ b. WholeWantsOr b (Does served_now c demand now d new) c now d new) (wants-same ask demand now same_now) h)
-  answers-back (Err refusal) (Err other) r alive only same h =
-      becomes-back _ c r d new still (subst (λ e. WholeAnswers served_now (Err e) c r d new) (sym same) h)
-  answers-back (Ok ask) (Err other) r alive only same h = absurd same
-  answers-back (Err refusal) (Ok demand) r alive only same h = absurd same
-
-  takes-back : (split : Split) → there.peer.status ≡ None → OwnsToplevelsOnly there → WholeTakes served_now split c there d new → Takes beyond_toplevels split c there d new
-  takes-back (Message object opcode size) alive only h =
-      let body = take (size - 8) (drop 8 there.peer.rest) in
-      let left : Resident = with_peer (with_rest (drop size there.peer.rest) there.peer) there in
-      answers-back (judge beyond_toplevels there object opcode body) (judge_all served_now there object opcode body) left alive (only-peer there left.peer refl only)
-      (pairs-peer there left.peer (judge beyond_toplevels there object opcode body) (judge_all served_now there object opcode body) (judge-pair there object opcode body only.roles)) h
-  takes-back Bad alive only h = becomes-back _ c there d new still h
-  takes-back More alive only h = absurd h
-
-pub serves-back : (c : ℕ) (d new : Desktop) → NoMore d → WholeServes served_now c d new → Serves beyond_toplevels c d new
-serves-back c d new only h = at (client_at c d) refl (only.each c) h
+erred : (refusal : Refusal) (p q : Peer) → Errs refusal p q → q.status ≡ None → ⊥
+erred refusal p q h alive = at (has_room p.unsent (error_told refusal)) h
   where
-    at : (o : Option Resident) → client_at c d ≡ o → OwnsToplevelsAt o (toplevels_of c d) → WholeServesAt served_now c o d new → ServesAt beyond_toplevels c (client_at c d) d new
-    at None is owns h = absurd h
-    at (Some r) is owns h =
-        let small : ServesAt beyond_toplevels c (Some r) d new =
-        (h.0, takes-back c r d new is only.pointer (split_of r.peer.rest) h.0 (living r.peer.status r (toplevels_of c d) h.0 owns) h.1) in
-        subst (λ o. ServesAt beyond_toplevels c o d new) (sym is) small
+    at : (b : Bool) → QueuesOr b (q ≡ ended (Protocol refusal.object (code_number refusal.code)) (queued (error_told refusal) p)) p q → ⊥
+    at false e = over _ p q e alive
+    at true (inl e) = over _ p q e alive
+    at true (inr e) = over _ (queued (error_told refusal) p) q e alive
+
+lacking : (p q : Peer) → LacksMemory p q → q.status ≡ None → ⊥
+lacking p q (inl e) alive = over _ p q e alive
+lacking p q (inr e) alive = none-some _ (sym alive ∙ ap (λ (x : Peer). x.status) e.1)
+
+-- the message at the front of what came is whole, and asks this
+abbrev pub AsksBy : Resident → Split → Ask → Type 0
+AsksBy r (Message object opcode size) ask = judge r object opcode (take (size - 8) (drop 8 r.peer.rest)) ≡ Ok ask
+AsksBy r Bad ask = ⊥
+AsksBy r More ask = ⊥
+
+-- Where no client has more than toplevels, a message leads to a desktop on which its client was told something and has ended, or to one on
+-- which what it asks is done.
+module _ (c : ℕ) (there : Resident) (d new : Desktop) (is : client_at c d ≡ Some there) (more : NoMore d) (P : Desktop → Type 0) (told : (p q : Peer) → (q.status ≡ None → ⊥) → P (become c (with_peer p there) q d)) (done : (ask : Ask) → AsksBy there (split_of there.peer.rest) ask → (p q : Peer) → p.objects ≡ there.peer.objects → Queues (answers_to ask (with_peer p there)) (changed_by ask (with_peer p there)).peer q → P (become c (changed_by ask (with_peer p there)) q (stacked c ask (with_peer p there) d))) where
+  becomes-by : (Q : Peer → Type 0) → ((q : Peer) → Q q → q.status ≡ None → ⊥) → (p : Peer) → WholeBecomes Q c (with_peer p there) d new → P new
+  becomes-by Q never p h =
+      let k = becomes-back Q c (with_peer p there) d new more.pointer h in
+      subst P (sym k.2) (told p k.0 (never k.0 k.1))
+
+  does-by : (ask : Ask) (demand : Demand) (p : Peer) → p.status ≡ None → p.objects ≡ there.peer.objects → OwnsToplevelsOnly there → AsksBy there (split_of there.peer.rest) ask → Same (with_peer p there) ask demand
+      → Does served_now c demand (with_peer p there) d new → P new
+  does-by ask demand p alive objects only asks same h =
+      let k = does-back c ask demand (with_peer p there) there d new is more.pointer alive (only-peer there p objects only) same h in
+      subst P (sym k.2) (done ask asks p k.0 objects k.1)
+
+  wants-by : (b : Bool) (p : Peer) (Later : Type 0) → (Later → P new) → WholeWantsOr b Later c (with_peer p there) d new → P new
+  wants-by false p Later next h = next h
+  wants-by true p Later next (inl h) = becomes-by (LacksMemory p) (lacking p) p h
+  wants-by true p Later next (inr h) = next h
+
+  answers-by : (judged : Result Ask Refusal) (demanded : Result Demand Refusal) (p : Peer) → p.status ≡ None → p.objects ≡ there.peer.objects → OwnsToplevelsOnly there → ((ask : Ask) → judged ≡ Ok ask → AsksBy there (split_of there.peer.rest) ask)
+      → Pairs there judged demanded → WholeAnswers served_now demanded c (with_peer p there) d new → P new
+  answers-by (Ok ask) (Ok demand) p alive objects only asks same h =
+      wants-by (wants_memory demand) (counted p) _ (λ k. does-by ask demand (counted p) alive objects only (asks ask refl) (same-peer there (counted p) ask demand same) k) h
+  answers-by (Err refusal) (Err other) p alive objects only asks same h = becomes-by (Errs other p) (erred other p) p h
+  answers-by (Ok ask) (Err other) p alive objects only asks same h = absurd same
+  answers-by (Err refusal) (Ok demand) p alive objects only asks same h = absurd same
+
+  takes-by : (split : Split) → split_of there.peer.rest ≡ split → there.peer.status ≡ None → OwnsToplevelsOnly there → WholeTakes served_now split c there d new → P new
+  takes-by (Message object opcode size) e alive only h =
+      let body = take (size - 8) (drop 8 there.peer.rest) in
+      answers-by (judge there object opcode body) (judge_all served_now there object opcode body) (with_rest (drop size there.peer.rest) there.peer) alive refl only
+      (λ ask judged. subst (λ s. AsksBy there s ask) (sym e) judged) (judge-pair there object opcode body only.roles) h
+  takes-by Bad e alive only h = becomes-by (Errs (display_error InvalidMethod) there.peer) (erred (display_error InvalidMethod) there.peer) there.peer h
+  takes-by More e alive only h = absurd h
+
+  pub message-by : WholeServes served_now c d new → P new
+  message-by h =
+      let served : WholeServesAt served_now c (Some there) d new = subst (λ o. WholeServesAt served_now c o d new) is h in
+      let owns = subst (λ o. OwnsToplevelsAt o (toplevels_of c d)) is (more.each c) in
+      takes-by (split_of there.peer.rest) refl served.0 (living there.peer.status there (toplevels_of c d) served.0 owns) served.1
 
 -- ---- a client is written to, sent to or closed, or goes
 

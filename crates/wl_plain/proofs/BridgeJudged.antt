@@ -23,8 +23,7 @@ use Rattle.wl_plain.specs.Demanding.{commit_demand, committed_by, demand_of, dem
 use Rattle.wl_plain.specs.Desktop.{Resident}
 use Rattle.wl_plain.specs.LeftOut.{served_now}
 use Rattle.wl_plain.specs.Popups.{popped_kind, popped_of, popped_role}
-use Rattle.wl_plain.specs.Served.{beyond_toplevels}
-use Rattle.wl_plain.specs.Step.{ask_of, judge}
+use Rattle.wl_plain.proofs.Simply.{ask_of, judge}
 use Rattle.wl_plain.specs.NoMore.{AreToplevels, IsToplevel}
 use Rattle.wl_plain.specs.WlSubsurface.{past_limit}
 use Rattle.wl_plain.specs.WlSurface.{committed_for, effect_for, effect_of, refuse_limit, surface_ask, surface_committed, waits_for_all, will_show}
@@ -113,7 +112,7 @@ commit-pair r object top =
 -- a message to an interface, as it is asked and as it is demanded
 abbrev pub AsAsked : Interface → Resident → ℕ → ℕ → List Field → ℕ → Type 0
 AsAsked interface r object version fields opcode =
-    Pairs r (ask_of beyond_toplevels r object version (record { interface = interface; opcode = opcode; fields = fields }))
+    Pairs r (ask_of r object version (record { interface = interface; opcode = opcode; fields = fields }))
     (demand_of served_now r object version (record { interface = interface; opcode = opcode; fields = fields }))
 
 surface-pair : (r : Resident) (object version : ℕ) (fields : List Field) (opcode : ℕ) → AreToplevels r.owned.shell → (b : Bool) → (opcode == 6) ≡ b → AsAsked WlSurface r object version fields opcode
@@ -149,9 +148,9 @@ toplevel-pair r object version fields opcode false e = at (opcode == 5) e
     at false e = demands-pair r (toplevel_ask r object opcode)
 
 pub asked-pair : (interface : Interface) (r : Resident) (object version opcode : ℕ) (fields : List Field) → AreToplevels r.owned.shell → AsAsked interface r object version fields opcode
-asked-pair WlDisplay r object version opcode fields top = demands-pair r (ask_of beyond_toplevels r object version (record { interface = WlDisplay; opcode = opcode; fields = fields }))
+asked-pair WlDisplay r object version opcode fields top = demands-pair r (ask_of r object version (record { interface = WlDisplay; opcode = opcode; fields = fields }))
 asked-pair WlRegistry r object version opcode fields top = demands-pair r _
-asked-pair WlCallback r object version opcode fields top = demands-pair r (ask_of beyond_toplevels r object version (record { interface = WlCallback; opcode = opcode; fields = fields }))
+asked-pair WlCallback r object version opcode fields top = demands-pair r (ask_of r object version (record { interface = WlCallback; opcode = opcode; fields = fields }))
 asked-pair WlCompositor r object version opcode fields top = demands-pair r _
 asked-pair WlRegion r object version opcode fields top = demands-pair r _
 asked-pair WlSurface r object version opcode fields top = surface-pair r object version fields opcode top (opcode == 6) refl
@@ -160,7 +159,7 @@ asked-pair WlShmPool r object version opcode fields top = demands-pair r _
 asked-pair WlBuffer r object version opcode fields top = demands-pair r _
 asked-pair WlSubcompositor r object version opcode fields top = refl
 asked-pair WlSubsurface r object version opcode fields top = refl
-asked-pair WlOutput r object version opcode fields top = demands-pair r (ask_of beyond_toplevels r object version (record { interface = WlOutput; opcode = opcode; fields = fields }))
+asked-pair WlOutput r object version opcode fields top = demands-pair r (ask_of r object version (record { interface = WlOutput; opcode = opcode; fields = fields }))
 asked-pair WlSeat r object version opcode fields top = seat-pair r object version fields opcode
 asked-pair WlPointer r object version opcode fields top = refl
 asked-pair XdgWmBase r object version opcode fields top = without-pair r (opcode == 1) _ _
@@ -182,13 +181,13 @@ judged-pair r objects held ask demand (Ok m) pair =
     if-pairs r (list_all (fits objects) (objects_named m)) _ _ _ _ (λ fit. new_id-pair r objects held (new_id_in m) (ask m) (demand m) (pair m)) (λ unfit. refl)
 
 judged_at-pair : (r : Resident) (object opcode : ℕ) (body : List ℕ) (o : Option Object) → AreToplevels r.owned.shell
-    → Pairs r (judged_at r.peer.objects r.peer.held (λ version m. ask_of beyond_toplevels r object version m) opcode body o)
+    → Pairs r (judged_at r.peer.objects r.peer.held (λ version m. ask_of r object version m) opcode body o)
     (judged_at r.peer.objects r.peer.held (λ version m. demand_of served_now r object version m) opcode body o)
 judged_at-pair r object opcode body None top = refl
 judged_at-pair r object opcode body (Some o) top =
-    judged-pair r r.peer.objects r.peer.held (λ m. ask_of beyond_toplevels r object o.version m) (λ m. demand_of served_now r object o.version m) (decoded o.interface o.version opcode body)
+    judged-pair r r.peer.objects r.peer.held (λ m. ask_of r object o.version m) (λ m. demand_of served_now r object o.version m) (decoded o.interface o.version opcode body)
     (λ m. asked-pair m.interface r object o.version m.opcode m.fields top)
 
 -- a message asks the same, or is refused for the same
-pub judge-pair : (r : Resident) (object opcode : ℕ) (body : List ℕ) → AreToplevels r.owned.shell → Pairs r (judge beyond_toplevels r object opcode body) (judge_all served_now r object opcode body)
+pub judge-pair : (r : Resident) (object opcode : ℕ) (body : List ℕ) → AreToplevels r.owned.shell → Pairs r (judge r object opcode body) (judge_all served_now r object opcode body)
 judge-pair r object opcode body top = judged_at-pair r object opcode body (r.peer.objects object) top

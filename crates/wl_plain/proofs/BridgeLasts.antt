@@ -19,7 +19,7 @@ use Rattle.wl_plain.specs.Steps.{ConnectsAt, IsClosed, IsLeft, IsSent, IsStored,
 use Rattle.wl_plain.specs.NoMore.{NoMore, OwnsToplevelsAt, OwnsToplevelsBy, OwnsToplevelsOnly}
 use Rattle.wl_plain.specs.Whole.{Acts, FeedsAt, IsFedAt, Reaches, StopsAt}
 use Rattle.wl_plain.proofs.Altering.{ChangesAt, left_so}
-use Rattle.wl_plain.proofs.BridgeBack.{alters-back, serves-back, settled-back, shows-back}
+use Rattle.wl_plain.proofs.BridgeBack.{alters-back, settled-back, shows-back}
 use Rattle.wl_plain.proofs.BridgeDesks.{become-has}
 use Rattle.wl_plain.proofs.BridgeMessages.{serves-has}
 use Rattle.wl_plain.proofs.BridgeServes.{becomes-same, living, only-peer}
@@ -143,7 +143,7 @@ pub reaches-has : (n c : ℕ) (d e : Desktop) → NoMore d → Reaches served_no
 reaches-has zero c d e has h = subst NoMore (sym h) has
 reaches-has (suc n) c d e has h =
     let mid = reaches-has n c d h.0 has h.1 in
-    serves-has touches_apart c h.0 e mid (serves-back c h.0 e mid h.2)
+    serves-has touches_apart c h.0 e mid h.2
 
 stops-has : (c : ℕ) (o : Option Resident) (d e : Desktop) → client_at c d ≡ o → NoMore d → StopsAt c o d e → NoMore e
 stops-has c None d e is has h = absurd h

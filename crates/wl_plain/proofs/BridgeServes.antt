@@ -24,10 +24,10 @@ use Rattle.wl_plain.specs.Laws.{toplevels_of}
 use Rattle.wl_plain.specs.LeftOut.{served_now}
 use Rattle.wl_plain.specs.Popups.{is_among}
 use Rattle.wl_plain.specs.Replies.{dismissed_in, newest_first, own_answers, popups_done, replies}
-use Rattle.wl_plain.specs.Served.{beyond_toplevels}
 use Rattle.wl_plain.specs.Settling.{EndsAndSettles, QueuesTo, after_status, becomes, ended_at, pointer_without, unstruck}
 use Rattle.wl_plain.specs.Stacked.{all_windows}
-use Rattle.wl_plain.specs.Step.{Answers, Becomes, Serves, ServesAt, Takes, WantsOr, answers_to, changed_by, effect_on, judge, stacked, takes_memory, toplevel_given, with_peer}
+use Rattle.wl_plain.specs.Step.{answers_to, changed_by, effect_on, stacked, takes_memory, toplevel_given, with_peer}
+use Rattle.wl_plain.proofs.Simply.{Answers, Becomes, WantsOr, judge}
 use Rattle.wl_plain.specs.NoMore.{AreToplevels, NoMore, IsToplevel, OwnsToplevelsAt, OwnsToplevelsBy, OwnsToplevelsOnly}
 use Rattle.wl_plain.specs.Whole.{after_why, done_for, Answers as WholeAnswers, Becomes as WholeBecomes, Does, Serves as WholeServes, ServesAt as WholeServesAt, Takes as WholeTakes, WantsOr as WholeWantsOr}
 use Rattle.wl_plain.proofs.Behind.{changed-status}
@@ -155,7 +155,7 @@ after-same events c made there d is still alive q (Some cause) told =
     ap (λ o. ended_at c cause o now) (number-same d.clients c (Some (with_peer q made)) there is) ∙ becomes-same c (with_peer q made) (ended cause q) now still
     ∙ ap (λ clients. record d { clients = clients; standing = without_client c d.standing }) (number-twice d.clients c (Some (resident_of (ended cause q))) (Some (with_peer q made)))
 
-is-done : (events : List Said) (c : ℕ) (made there : Resident) (d new : Desktop) → client_at c d ≡ Some there → d.pointer ≡ first_pointer → made.peer.status ≡ None → Becomes (Queues events made.peer) c made d new → IsDone events c made d new
+pub is-done : (events : List Said) (c : ℕ) (made there : Resident) (d new : Desktop) → client_at c d ≡ Some there → d.pointer ≡ first_pointer → made.peer.status ≡ None → Becomes (Queues events made.peer) c made d new → IsDone events c made d new
 is-done events c made there d new is still alive h =
     let k = told-to events made.peer h.0 h.1 in
     let last = become c made (ended_why k.1 k.0) d in (
@@ -177,19 +177,19 @@ stacked-pointer c (CommitSurface id Unmaps) r d = refl
 stacked-pointer c (DestroyToplevel id xdg) r d = refl
 stacked-pointer c ask r d = refl
 
-kept-still : (d : Desktop) → d.pointer ≡ first_pointer → with_kept_move d ≡ d
+pub kept-still : (d : Desktop) → d.pointer ≡ first_pointer → with_kept_move d ≡ d
 kept-still d still = ap (λ p. with_kept_move (record d { pointer = p })) still ∙ sym (ap (λ p. record d { pointer = p }) still)
 
 pub done-same : (c : ℕ) (ask : Ask) (demand : Demand) (r : Resident) (d : Desktop) → d.pointer ≡ first_pointer → OwnsToplevelsOnly r → Same r ask demand → done_for c demand r d ≡ stacked c ask r d
 done-same c ask demand r d still only same =
     ap with_kept_move (stacked-same c ask demand r (all_windows d) d still only same) ∙ kept-still (stacked c ask r d) (stacked-pointer c ask r d ∙ still)
 
-none-done : (r made : Resident) → AreToplevels made.owned.shell → popups_done r made ≡ []
+pub none-done : (r made : Resident) → AreToplevels made.owned.shell → popups_done r made ≡ []
 none-done r made top =
     ap (λ ps. map (λ id. said id (says XdgPopup 1 [])) (filter (λ id. not (is_among id (dismissed_in r.owned.shell))) (newest_first (flat_map (λ p. cond p.popup.is_dismissed (p.object.id ∷ []) []) ps))))
     (no-popups made.owned.shell top)
 
-nothing-between : (xs ys : List Said) → xs ++ [] ++ ys ≡ xs ++ ys
+pub nothing-between : (xs ys : List Said) → xs ++ [] ++ ys ≡ xs ++ ys
 nothing-between [] ys = refl
 nothing-between (x ∷ xs) ys = ap (λ zs. x ∷ zs) (nothing-between xs ys)
 
@@ -246,7 +246,7 @@ module _ (c : ℕ) (there : Resident) (d new : Desktop) (is : client_at c d ≡ 
   wants-whole true r Later Then next (inl h) = inl (becomes-whole (LacksMemory r.peer) c r d new still h)
   wants-whole true r Later Then next (inr h) = inr (next h)
 
-  answers-whole : (judged : Result Ask Refusal) (demanded : Result Demand Refusal) (r : Resident) → r.peer.status ≡ None → OwnsToplevelsOnly r → Pairs r judged demanded → Answers judged c r d new → WholeAnswers served_now demanded c r d new
+  pub answers-whole : (judged : Result Ask Refusal) (demanded : Result Demand Refusal) (r : Resident) → r.peer.status ≡ None → OwnsToplevelsOnly r → Pairs r judged demanded → Answers judged c r d new → WholeAnswers served_now demanded c r d new
   answers-whole (Ok ask) (Ok demand) r alive only same h =
       let now : Resident = with_peer (counted r.peer) r in
       let same_now : Same now ask demand = same-peer r (counted r.peer) ask demand same in
@@ -257,26 +257,6 @@ module _ (c : ℕ) (there : Resident) (d new : Desktop) (is : client_at c d ≡ 
   answers-whole (Ok ask) (Err other) r alive only same h = absurd same
   answers-whole (Err refusal) (Ok demand) r alive only same h = absurd same
 
-  takes-whole : (split : Split) → there.peer.status ≡ None → OwnsToplevelsOnly there → Takes beyond_toplevels split c there d new → WholeTakes served_now split c there d new
-  takes-whole (Message object opcode size) alive only h =
-      let body = take (size - 8) (drop 8 there.peer.rest) in
-      let left : Resident = with_peer (with_rest (drop size there.peer.rest) there.peer) there in
-      answers-whole (judge beyond_toplevels there object opcode body) (judge_all served_now there object opcode body) left alive (only-peer there left.peer refl only)
-      (pairs-peer there left.peer (judge beyond_toplevels there object opcode body) (judge_all served_now there object opcode body) (judge-pair there object opcode body only.roles)) h
-  takes-whole Bad alive only h = becomes-whole _ c there d new still h
-  takes-whole More alive only h = absurd h
-
 pub living : (s : Option Cause) (r : Resident) (standing : List Standing) → s ≡ None → OwnsToplevelsBy s r standing → OwnsToplevelsOnly r
 living None r standing alive owns = owns
 living (Some cause) r standing alive owns = absurd (cc)
-
--- A message does where every request may be served what it does where no more than toplevels is.
-pub serves-whole : (c : ℕ) (d new : Desktop) → NoMore d → Serves beyond_toplevels c d new → WholeServes served_now c d new
-serves-whole c d new only h = at (client_at c d) refl (only.each c) h
-  where
-    at : (o : Option Resident) → client_at c d ≡ o → OwnsToplevelsAt o (toplevels_of c d) → ServesAt beyond_toplevels c o d new → WholeServesAt served_now c (client_at c d) d new
-    at None is owns h = absurd h
-    at (Some r) is owns h =
-        let whole : WholeServesAt served_now c (Some r) d new =
-        (h.0, takes-whole c r d new is only.pointer (split_of r.peer.rest) h.0 (living r.peer.status r (toplevels_of c d) h.0 owns) h.1) in
-        subst (λ o. WholeServesAt served_now c o d new) (sym is) whole

@@ -13,8 +13,7 @@ use Rattle.wl_plain.specs.Demand.{Demand}
 use Rattle.wl_plain.specs.Demanding.{judge_all}
 use Rattle.wl_plain.specs.Desktop.{Resident}
 use Rattle.wl_plain.specs.LeftOut.{served_now}
-use Rattle.wl_plain.specs.Served.{beyond_toplevels}
-use Rattle.wl_plain.specs.Step.{judge}
+use Rattle.wl_plain.proofs.Simply.{judge}
 use Rattle.wl_plain.proofs.BridgeFinds.{free-apart}
 use Rattle.wl_plain.proofs.BridgeJudged.{Pairs, Same, asks, commit, ends, goes, judge-pair, move}
 use Rattle.wl_plain.proofs.BridgeKeeps.{IsApart, action_touches, touches}
@@ -58,7 +57,7 @@ same-apart r ask demand (move id serial) allows = tt
 
 pub touches_apart : TouchesApart
 touches_apart r object opcode body ask only e =
-    at (judge beyond_toplevels r object opcode body) (judge_all served_now r object opcode body) e refl (judge-pair r object opcode body only.roles)
+    at (judge r object opcode body) (judge_all served_now r object opcode body) e refl (judge-pair r object opcode body only.roles)
   where
     same-ask : (other : Ask) → (let j : Result Ask Refusal = Ok other in j) ≡ Ok ask → other ≡ ask
     same-ask other e = cc

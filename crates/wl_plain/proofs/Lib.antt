@@ -1,6 +1,7 @@
 pub mod Bounds
 pub mod Rows
 pub mod Toplevels
+pub mod Simply
 pub mod Behind
 pub mod Places
 pub mod Others

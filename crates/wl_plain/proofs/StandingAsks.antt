@@ -25,9 +25,9 @@ use Rattle.wl_plain.specs.Ask.{Ask, Own, CreateSurface, DestroySurface, AskSurfa
 use Rattle.wl_plain.specs.Desktop.{Desktop, Resident}
 use Rattle.wl_plain.specs.Laws.{AreApart}
 use Rattle.wl_plain.specs.Owning.{AllCounts, IsOwned, Names}
-use Rattle.wl_plain.specs.Served.{Unserved}
 use Rattle.wl_plain.specs.Standing.{AreMapped, is_mapped, is_mapped_at}
-use Rattle.wl_plain.specs.Step.{after_surface, ask_of, asked_so_far, changed_by, committed_on, effect_on, own_changed, stacked, surface_of, toplevel_given, with_peer}
+use Rattle.wl_plain.specs.Step.{after_surface, asked_so_far, changed_by, committed_on, effect_on, own_changed, stacked, surface_of, toplevel_given, with_peer}
+use Rattle.wl_plain.proofs.Simply.{ask_of}
 use Rattle.wl_plain.specs.WlSurface.{effect_for, effect_of, will_show}
 use Rattle.wl_plain.proofs.OwningKeys.{found-passes}
 use Rattle.wl_plain.proofs.OwningXdg.{has_surface}
@@ -261,8 +261,8 @@ stand-after c (DestroyToplevel id xdg) r d told counts is apart finds = (topleve
 stand-after c Ignore r d told counts is apart finds = (is, apart)
 
 -- An accepted request leaves the mapped toplevels of its client standing, each once, whatever the client was told since it was judged.
-pub accepted-stand : (unserved : Unserved) (c : ℕ) (r : Resident) (p : Peer) (d : Desktop) (object version : ℕ) (m : Message) (ask : Ask) (names : Names) (slots : Slots) (kept : ℕ → Option Kept) → IsOwned names slots kept r.owned
-    → ask_of unserved r object version m ≡ Ok ask → AreMapped c r.owned d.standing → AreApart d.standing → StandAfter c ask (with_peer p r) d
-accepted-stand unserved c r p d object version m ask names slots kept owned e is apart =
+pub accepted-stand : (c : ℕ) (r : Resident) (p : Peer) (d : Desktop) (object version : ℕ) (m : Message) (ask : Ask) (names : Names) (slots : Slots) (kept : ℕ → Option Kept) → IsOwned names slots kept r.owned
+    → ask_of r object version m ≡ Ok ask → AreMapped c r.owned d.standing → AreApart d.standing → StandAfter c ask (with_peer p r) d
+accepted-stand c r p d object version m ask names slots kept owned e is apart =
     stand-after c ask (with_peer p r) d owned.shell.apart owned.surfaces.counts is apart
-    (finds-peer ask p r (ask-finds unserved r object version m ask owned.shell.apart e))
+    (finds-peer ask p r (ask-finds r object version m ask owned.shell.apart e))

@@ -23,9 +23,10 @@ use Rattle.wl_shell.specs.Agreement.{AreApart}
 use Rattle.wl_shell.specs.Shell.{Effect, Stays, Unconfigured, Configures, Maps, Unmaps, RoleObject, answers_states, is_full, stage_of, xdg_at, xdg_of, xdg_with}
 use Rattle.wl_shell.specs.Shell.{XdgSurface as Xdg}
 use Rattle.wl_plain.specs.Ask.{Ask, Own, CreateSurface, DestroySurface, AskSurface, CommitSurface, DestroyBase, GetXdgSurface, DestroyXdgSurface, GetToplevel, Acknowledge, ConfigureAgain, DestroyToplevel, Ignore, owns}
+use Rattle.wl_plain.specs.LeftOut.{served_now}
 use Rattle.wl_plain.specs.Desktop.{Resident}
-use Rattle.wl_plain.specs.Served.{Unserved}
-use Rattle.wl_plain.specs.Step.{ask_by, ask_of, judge, with_peer}
+use Rattle.wl_plain.specs.Step.{ask_by, with_peer}
+use Rattle.wl_plain.proofs.Simply.{ask_of, judge}
 use Rattle.wl_plain.specs.WlSurface.{committed_for, effect_of, surface_ask, surface_destroyed, transform_set, waits_for_all}
 use Rattle.wl_plain.specs.XdgShell.{base_ask, configured_again, has_any, is_foreign, is_state, role_of, toplevel_ask, toplevel_ask_of, xdg_ask, xdg_ask_of, xdg_surface_made}
 use Rattle.wl_plain.proofs.OwningKeys.{found-by}
@@ -166,9 +167,9 @@ interface-finds XdgSurface r object version m apart = xdg-finds r object version
 interface-finds XdgToplevel r object version m apart = toplevel-finds r object m.opcode apart
 interface-finds interface r object version m apart = owned-finds _ r
 
-pub ask-finds : (unserved : Unserved) (r : Resident) (object version : ℕ) (m : Message) (ask : Ask) → AreApart r.owned.shell → ask_of unserved r object version m ≡ Ok ask → Finds ask r
-ask-finds unserved r object version m ask apart e =
-    either (unserved m.interface m.opcode) _ _ r (λ left_out. refused _ r) (λ served. interface-finds m.interface r object version m apart) ask e
+pub ask-finds : (r : Resident) (object version : ℕ) (m : Message) (ask : Ask) → AreApart r.owned.shell → ask_of r object version m ≡ Ok ask → Finds ask r
+ask-finds r object version m ask apart e =
+    either (served_now.requests m.interface m.opcode) _ _ r (λ left_out. refused _ r) (λ served. interface-finds m.interface r object version m apart) ask e
 
 -- ---- every message
 
@@ -179,18 +180,18 @@ id-finds r objects held (Some new) asked finds =
     (λ free. either (nat_le 8192 held) (Err (display_error Implementation)) asked r (λ full. refused (display_error Implementation) r) (λ room. finds))
     (λ used. refused (display_error InvalidObject) r)
 
-pub judge-finds : (unserved : Unserved) (r : Resident) (object opcode : ℕ) (body : List ℕ) → AreApart r.owned.shell → Accepts (judge unserved r object opcode body) r
-judge-finds unserved r object opcode body apart = at (r.peer.objects object)
+pub judge-finds : (r : Resident) (object opcode : ℕ) (body : List ℕ) → AreApart r.owned.shell → Accepts (judge r object opcode body) r
+judge-finds r object opcode body apart = at (r.peer.objects object)
   where
-    by : (version : ℕ) (decoded : Result Message ProtoError) → Accepts (judged r.peer.objects r.peer.held (λ m. ask_of unserved r object version m) decoded) r
+    by : (version : ℕ) (decoded : Result Message ProtoError) → Accepts (judged r.peer.objects r.peer.held (λ m. ask_of r object version m) decoded) r
     by version (Err error) = refused (display_error InvalidMethod) r
     by version (Ok m) =
-        let asked = ask_of unserved r object version m in
+        let asked = ask_of r object version m in
         either (list_all (fits r.peer.objects) (objects_named m)) (after_new_id r.peer.objects r.peer.held (new_id_in m) asked) (Err (display_error InvalidMethod)) r
-        (λ fit. id-finds r r.peer.objects r.peer.held (new_id_in m) asked (λ ask e. ask-finds unserved r object version m ask apart e))
+        (λ fit. id-finds r r.peer.objects r.peer.held (new_id_in m) asked (λ ask e. ask-finds r object version m ask apart e))
         (λ unfit. refused (display_error InvalidMethod) r)
 
-    at : (o : Option Object) → Accepts (judged_at r.peer.objects r.peer.held (λ version m. ask_of unserved r object version m) opcode body o) r
+    at : (o : Option Object) → Accepts (judged_at r.peer.objects r.peer.held (λ version m. ask_of r object version m) opcode body o) r
     at None = refused (display_error InvalidObject) r
     at (Some o) = by o.version (decoded o.interface o.version opcode body)
 

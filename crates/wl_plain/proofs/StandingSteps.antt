@@ -15,60 +15,40 @@ use Rattle.wl_plain.specs.declared.answers.Done.{Done}
 use Rattle.wl_plain.specs.Ask.{Ask}
 use Rattle.wl_plain.specs.Desktop.{Desktop, Resident, arrival, client_at, client_in, empty, owned_in, owned_of, place, with_client, with_number}
 use Rattle.wl_plain.specs.Owning.{IsOwned, Names}
-use Rattle.wl_plain.specs.Served.{Unserved}
+use Rattle.wl_plain.specs.LeftOut.{served_now}
+use Rattle.wl_plain.specs.NoMore.{NoMore}
+use Rattle.wl_plain.specs.Whole.{Serves}
+use Rattle.wl_plain.proofs.BridgeBack.{AsksBy, message-by}
 use Rattle.wl_plain.specs.Standing.{AreMapped, MappedStand}
-use Rattle.wl_plain.specs.Step.{Answers, Becomes, Serves, ServesAt, StopsAt, Takes, WantsOr, changed_by, stacked, takes_memory, with_peer}
+use Rattle.wl_plain.specs.Step.{changed_by, stacked, takes_memory, with_peer}
+use Rattle.wl_plain.proofs.Simply.{Answers, Becomes, WantsOr}
 use Rattle.wl_plain.specs.Steps.{ConnectsAt, lowest, next_of}
 use Rattle.wl_plain.proofs.Altering.{ChangesAt, left_so}
 use Rattle.wl_plain.proofs.OwningKeys.{some-same}
 use Rattle.wl_plain.proofs.Places.{number-other}
 use Rattle.wl_plain.proofs.StandingAsks.{StandAfter, stand-after}
 use Rattle.wl_plain.proofs.StandingDesks.{become-stand, done-stand, each-mapped, ended-apart, ended-mapped, ended-stay, nothing-mapped}
-use Rattle.wl_plain.proofs.StandingFound.{Accepts, finds-peer, judge-finds}
+use Rattle.wl_plain.proofs.StandingFound.{Finds, finds-peer, judge-finds}
 
-module _ (unserved : Unserved) (c : ℕ) (there : Resident) (d : Desktop) (is : client_at c d ≡ Some there) (names : Names) (slots : Slots) (kept : ℕ → Option Kept) (owned : IsOwned names slots kept there.owned) (stand : MappedStand d) where
+module _ (c : ℕ) (there : Resident) (d : Desktop) (is : client_at c d ≡ Some there) (names : Names) (slots : Slots) (kept : ℕ → Option Kept) (owned : IsOwned names slots kept there.owned) (stand : MappedStand d) where
   -- ---- a message
 
-  becomes-stand : (Q : Peer → Type 0) (p : Peer) (new : Desktop) → Becomes Q c (with_peer p there) d new → MappedStand new
-  becomes-stand Q p new h = subst MappedStand (sym h.2) (become-stand c (with_peer p there) there h.0 d is refl stand)
+  asks-find : (split : Split) (ask : Ask) (p : Peer) → AsksBy there split ask → Finds ask (with_peer p there)
+  asks-find (Whole object opcode size) ask p asks = finds-peer ask p there (judge-finds there object opcode _ owned.shell.apart ask asks)
+  asks-find Bad ask p asks = absurd asks
+  asks-find More ask p asks = absurd asks
 
   -- an accepted request is done
-  asked-stand : (ask : Ask) (p : Peer) → Accepts (Ok ask) there → StandAfter c ask (with_peer p there) d
-  asked-stand ask p accepts =
+  asked-stand : (ask : Ask) (p : Peer) → AsksBy there (split_of there.peer.rest) ask → StandAfter c ask (with_peer p there) d
+  asked-stand ask p asks =
       stand-after c ask (with_peer p there) d owned.shell.apart owned.surfaces.counts (subst (λ o. AreMapped c o d.standing) (ap owned_of is) (stand.each c)) stand.apart
-      (finds-peer ask p there (accepts ask refl))
-
-  acts-stand : (b : Bool) (Q : Peer → Type 0) (ask : Ask) (p : Peer) (new : Desktop) → Accepts (Ok ask) there
-      → WantsOr b (Becomes Q c (changed_by ask (with_peer p there)) (stacked c ask (with_peer p there) d) new) c (with_peer p there) d new → MappedStand new
-  acts-stand false Q ask p new accepts h = subst MappedStand (sym h.2) (done-stand c ask (with_peer p there) there h.0 d is (asked-stand ask p accepts) stand)
-  acts-stand true Q ask p new accepts (inl h) = becomes-stand (LacksMemory p) p new h
-  acts-stand true Q ask p new accepts (inr h) = subst MappedStand (sym h.2) (done-stand c ask (with_peer p there) there h.0 d is (asked-stand ask p accepts) stand)
-
-  -- what is judged of the client is answered
-  pub answers-stand : (judged : Result Ask Refusal) (p : Peer) (new : Desktop) → Accepts judged there → Answers judged c (with_peer p there) d new → MappedStand new
-  answers-stand (Ok ask) p new accepts h = acts-stand (takes_memory ask) _ ask (counted p) new accepts h
-  answers-stand (Err refusal) p new accepts h = becomes-stand _ p new h
-
-  takes-stand : (split : Split) (new : Desktop) → Takes unserved split c there d new → MappedStand new
-  takes-stand (Whole object opcode size) new h = answers-stand _ (with_rest (drop size there.peer.rest) there.peer) new (judge-finds unserved there object opcode _ owned.shell.apart) h
-  takes-stand Bad new h = becomes-stand _ there.peer new h
-  takes-stand More new h = absurd h
+      (asks-find (split_of there.peer.rest) ask p asks)
 
   -- a message of the client is taken
-  pub serves-stand : (new : Desktop) → Serves unserved c d new → MappedStand new
-  serves-stand new h = takes-stand (split_of there.peer.rest) new (served.1)
-    where
-      served : ServesAt unserved c (Some there) d new
-      served = subst (λ o. ServesAt unserved c o d new) is h
-
--- the taking of messages stops
-pub stops-stand : (c : ℕ) (d new : Desktop) → MappedStand d → StopsAt c (client_at c d) d new → MappedStand new
-stops-stand c d new stand h = at (client_at c d) refl h
-  where
-    at : (o : Option Resident) → client_at c d ≡ o → StopsAt c o d new → MappedStand new
-    at None is h = absurd h
-    at (Some r) is (inl h) = subst MappedStand (sym h.0) stand
-    at (Some r) is (inr h) = subst MappedStand (sym h.1) (become-stand c r r (ended Memory r.peer) d is refl stand)
+  pub serves-stand : (new : Desktop) → NoMore d → Serves served_now c d new → MappedStand new
+  serves-stand new more h =
+      message-by c there d new is more MappedStand (λ p q never. become-stand c (with_peer p there) there q d is refl stand)
+      (λ ask asks p q objects told. done-stand c ask (with_peer p there) there q d is (asked-stand ask p asks) stand) h
 
 -- ---- clients come and go
 

@@ -2,17 +2,13 @@
 use Rattle.std.specs.Prelude.{ℕ, ◌≡◌, ◌==◌, ℤ, [], ◌∷◌, ◌-ℤ◌, slice_get, List, Option, Some, None, IsTrue, true, false, filter}
 use Rattle.std.specs.List.{list_any}
 use Rattle.wl_client.specs.declared.clients.Cause.{Cause}
-use Rattle.wl_client.specs.Peer.{Peer}
-use Rattle.wl_client.specs.Peer.{Feeds as FeedsAlone}
-use Rattle.wl_scene.specs.Stacking.{Standing, is_of, without_client}
+use Rattle.wl_scene.specs.Stacking.{Standing, is_of}
 use Rattle.wl_scene.specs.Windows.{Window, contains}
 use Rattle.wl_blend.specs.declared.color.Rgb.{Rgb}
-use Rattle.wl_plain.specs.Desktop.{Desktop, Resident, Showing, client_at, owned_in, resident_of, windows_in, with_client}
+use Rattle.wl_plain.specs.Desktop.{Desktop, Resident, Showing, client_at, owned_in, resident_of, windows_in}
 use Rattle.wl_plain.specs.Marks.{Applied, AreDistinct, at_least, at_most, has_same_record, in_output}
 use Rattle.wl_plain.specs.Moments.{applied_between, marks_at_least_of}
 use Rattle.wl_plain.specs.Scratch.{color_in, scratch_of}
-use Rattle.wl_plain.specs.Served.{beyond_clients}
-use Rattle.wl_plain.specs.Step.{Feeds}
 
 -- What is marked at least is among what is marked at most.
 abbrev pub LeastIsMost : Type 0
@@ -66,18 +62,3 @@ toplevels_of c d = filter (λ s. s.client == c) d.standing
 -- a client has nothing but its own objects: no surfaces and xdg_surfaces, links, positioners, callbacks and pointers
 abbrev pub OwnsNothing : Resident → Type 0
 OwnsNothing r = r ≡ resident_of r.peer
-
--- the client there is this one, and owns nothing
-abbrev pub IsAlone : Peer → Option Resident → Type 0
-IsAlone p None = ⊥
-IsAlone p (Some r) = (r.peer ≡ p) × OwnsNothing r
-
--- Where no toplevel of a client's stands, nothing of the desktop changes but the client.
-abbrev pub IsAllThatChanges : ℕ → Desktop → Desktop → Type 0
-IsAllThatChanges c old new = without_client c old.standing ≡ old.standing → new ≡ with_client c (client_at c new) old
-
--- What a piece makes of a client by itself, it makes of the desktop's client where no more than that is served.
-abbrev pub ServedAlone : Type 0
-ServedAlone =
-    (c : ℕ) (piece : List ℕ) (r : Resident) (p q : Peer) (old : Desktop) → client_at c old ≡ Some r → IsAlone p (Some r) → FeedsAlone piece p q
-    → (new : Desktop) × Feeds beyond_clients c piece r old new × IsAlone q (client_at c new) × IsAllThatChanges c old new

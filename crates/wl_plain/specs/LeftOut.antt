@@ -1,6 +1,6 @@
 -- What is left out of all that may be served.
 use Rattle.std.specs.Prelude.{Bool, true, false}
-use Rattle.wl_plain.specs.Served.{Unserved, beyond_toplevels}
+use Rattle.wl_plain.specs.Served.{Unserved, beyond_clients, unserved_now}
 
 -- which requests are refused as a limit would be, and whether wl_buffer.release is never told
 pub record LeftOut : Type 0 where
@@ -10,6 +10,10 @@ pub record LeftOut : Type 0 where
 abbrev pub nothing_left_out : LeftOut
 nothing_left_out = record { requests = λ interface opcode. false; releases = false }
 
--- what is left out where no more than toplevels is served
+-- what is left out now
 abbrev pub served_now : LeftOut
-served_now = record { requests = beyond_toplevels; releases = true }
+served_now = record { requests = unserved_now; releases = true }
+
+-- what is left out where no more is served than a client's own interfaces
+abbrev pub own_only : LeftOut
+own_only = record { requests = beyond_clients; releases = true }

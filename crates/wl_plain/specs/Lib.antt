@@ -1,3 +1,4 @@
+pub mod Alone
 pub mod Ample
 pub mod Ask
 pub mod Changing

@@ -7,18 +7,18 @@ use Rattle.wl_proto.specs.declared.interface.Interface.TheVariants.{WlCompositor
 abbrev pub Unserved : Type 0
 Unserved = Interface → ℕ → Bool
 
--- what is left out where toplevels are served, but no frame callbacks, subsurfaces, popups and pointers
-abbrev pub beyond_toplevels : Unserved
-beyond_toplevels WlSurface opcode = opcode == 3
-beyond_toplevels WlSubcompositor opcode = true
-beyond_toplevels WlSubsurface opcode = true
-beyond_toplevels WlSeat opcode = opcode == 0
-beyond_toplevels WlPointer opcode = true
-beyond_toplevels XdgWmBase opcode = opcode == 1
-beyond_toplevels XdgPositioner opcode = true
-beyond_toplevels XdgSurface opcode = opcode == 2
-beyond_toplevels XdgPopup opcode = true
-beyond_toplevels interface opcode = false
+-- which aren't served now: those of frame callbacks, subsurfaces, popups and pointers
+abbrev pub unserved_now : Unserved
+unserved_now WlSurface opcode = opcode == 3
+unserved_now WlSubcompositor opcode = true
+unserved_now WlSubsurface opcode = true
+unserved_now WlSeat opcode = opcode == 0
+unserved_now WlPointer opcode = true
+unserved_now XdgWmBase opcode = opcode == 1
+unserved_now XdgPositioner opcode = true
+unserved_now XdgSurface opcode = opcode == 2
+unserved_now XdgPopup opcode = true
+unserved_now interface opcode = false
 
 -- what is left out where a client's own interfaces are served, and no surfaces, shell and pointers
 abbrev pub beyond_clients : Unserved

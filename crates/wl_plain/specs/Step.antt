@@ -1,4 +1,4 @@
--- One message of one client: what it asks of the desktop, or why it is refused, and what becomes of the desktop.
+-- One message of one client: what it asks of the desktop, or why it is refused, and what is changed and told where it asks no more.
 use Rattle.std.specs.Prelude.{ℕ, zero, suc, ◌≡◌, ◌+◌, ◌-◌, ◌==◌, ◌&&◌, Bool, true, false, not, if◌then◌else◌, Option, Some, None, Result, Ok, Err, List, [], ◌∷◌, ◌++◌, length, take, drop, filter, fold, ◌⊎◌, pos}
 use Rattle.std.specs.Option.{option_map, option_map_or}
 use Rattle.wl_wire.specs.Wire.{Word, Number, Block, split_of}
@@ -45,14 +45,6 @@ ask_by XdgWmBase r object version m = base_ask r object version m.opcode m.field
 ask_by XdgSurface r object version m = xdg_ask r object version m.opcode m.fields
 ask_by XdgToplevel r object version m = toplevel_ask r object m.opcode
 ask_by interface r object version m = own_ask r object version m
-
-abbrev pub ask_of : Unserved → Resident → ℕ → ℕ → Message → Result Ask Refusal
-ask_of unserved r object version m = if unserved m.interface m.opcode then refuse_limit else ask_by m.interface r object version m
-
--- what a message to an object asks, or the first error that it has
-abbrev pub judge : Unserved → Resident → ℕ → ℕ → List ℕ → Result Ask Refusal
-judge unserved r object opcode body =
-    judged_at r.peer.objects r.peer.held (λ version m. ask_of unserved r object version m) opcode body (r.peer.objects object)
 
 -- ---- what an accepted message changes
 
@@ -199,57 +191,3 @@ abbrev pub takes_memory : Ask → Bool
 takes_memory (Own action) = own_takes_memory action
 takes_memory Ignore = false
 takes_memory ask = true
-
--- ---- the step of one message
-
--- this is told to the client, and it becomes what that leaves of it
-abbrev pub Becomes : (Peer → Type 0) → ℕ → Resident → Desktop → Desktop → Type 0
-Becomes Q c r d new = (q : Peer) × Q q × (new ≡ become c r q d)
-
-abbrev pub WantsOr : Bool → Type 0 → ℕ → Resident → Desktop → Desktop → Type 0
-WantsOr false Later c r d new = Later
-WantsOr true Later c r d new = Becomes (LacksMemory r.peer) c r d new ⊎ Later
-
--- What an accepted message asks is done, and then answered.
-abbrev pub Acts : Ask → ℕ → Resident → Desktop → Desktop → Type 0
-Acts ask c r d new =
-    WantsOr (takes_memory ask) (Becomes (Queues (answers_to ask r) (changed_by ask r).peer) c (changed_by ask r) (stacked c ask r d) new) c r d new
-
--- A message is answered, or refused. Of the desktop a refusal changes only its client.
-abbrev pub Answers : Result Ask Refusal → ℕ → Resident → Desktop → Desktop → Type 0
-Answers (Ok ask) c r d new = Acts ask c (with_peer (counted r.peer) r) d new
-Answers (Err refusal) c r d new = Becomes (Errs refusal r.peer) c r d new
-
--- The first message of what has come is taken. A header whose size isn't allowed is refused as one.
-abbrev pub Takes : Unserved → Split → ℕ → Resident → Desktop → Desktop → Type 0
-Takes unserved (Whole object opcode size) c r d new =
-    Answers (judge unserved r object opcode (take (size - 8) (drop 8 r.peer.rest))) c (with_peer (with_rest (drop size r.peer.rest) r.peer) r) d new
-Takes unserved Bad c r d new = Becomes (Errs (display_error InvalidMethod) r.peer) c r d new
-Takes unserved More c r d new = ⊥
-
--- a client that is there and lives takes one message
-abbrev pub ServesAt : Unserved → ℕ → Option Resident → Desktop → Desktop → Type 0
-ServesAt unserved c None d new = ⊥
-ServesAt unserved c (Some r) d new = (r.peer.status ≡ None) × Takes unserved (split_of r.peer.rest) c r d new
-
-abbrev pub Serves : Unserved → ℕ → Desktop → Desktop → Type 0
-Serves unserved c d new = ServesAt unserved c (client_at c d) d new
-
--- n messages, one after another
-abbrev pub Reaches : Unserved → ℕ → ℕ → Desktop → Desktop → Type 0
-Reaches unserved c zero d new = new ≡ d
-Reaches unserved c (suc n) d new = (mid : Desktop) × Reaches unserved c n d mid × Serves unserved c mid new
-
--- The taking of messages stops where none is left, or at any moment for want of memory.
-abbrev pub StopsAt : ℕ → Option Resident → Desktop → Desktop → Type 0
-StopsAt c None d new = ⊥
-StopsAt c (Some r) d new = ((new ≡ d) × IsIdle r.peer) ⊎ ((r.peer.status ≡ None) × (new ≡ become c r (ended cause.Memory r.peer) d))
-
--- A piece comes to a client that lives: it is kept, and each whole message is taken. An end is the end.
-abbrev pub FeedsAt : Unserved → ℕ → List ℕ → Option Cause → Resident → Desktop → Desktop → Type 0
-FeedsAt unserved c piece (Some cause) r d new = new ≡ d
-FeedsAt unserved c piece None r d new =
-    (n : ℕ) × (mid : Desktop) × Reaches unserved c n (become c r (with_rest (r.peer.rest ++ piece) r.peer) d) mid × StopsAt c (client_at c mid) mid new
-
-abbrev pub Feeds : Unserved → ℕ → List ℕ → Resident → Desktop → Desktop → Type 0
-Feeds unserved c piece r d new = FeedsAt unserved c piece r.peer.status r d new

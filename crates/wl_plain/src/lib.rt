@@ -7,7 +7,8 @@ mod answers;
 
 ghost use Rattle.wl_plain.specs.AnyPieces.{AnyPieces};
 ghost use Rattle.wl_plain.specs.Happenings.{HappeningsAreSound, MarkedThrough, PieceIsMessages};
-ghost use Rattle.wl_plain.specs.Laws.{LeastIsMost, ScratchStays, ServedAlone, WindowsAreDistinct};
+ghost use Rattle.wl_plain.specs.Alone.{ServedAlone};
+ghost use Rattle.wl_plain.specs.Laws.{LeastIsMost, ScratchStays, WindowsAreDistinct};
 ghost use Rattle.wl_plain.specs.Soundness.{EmptyIsSound, RunIsSound, SoundIsDistinct};
 ghost use Rattle.wl_plain.specs.NoMoreLaws.{EmptyHasNoMore, NoMoreStays};
 ghost use Rattle.wl_plain.specs.Through.{HappensLeadsThrough, MessagesLeadThrough};

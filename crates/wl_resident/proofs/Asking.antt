@@ -44,8 +44,8 @@ use Rattle.wl_resident.specs.Messages.{IsAsked}
 use Rattle.wl_resident.specs.declared.messages.Asked.{Asked}
 use Rattle.wl_resident.specs.declared.messages.Asked.TheVariants as asks
 use Rattle.wl_resident.specs.Residents.{Answers, AnswersSo, IsResident, NewIsFree, ObjectsFit, Stacks, StacksBy, StacksFor, StacksSo, TakesSo}
-use Rattle.wl_plain.specs.Served.{beyond_toplevels}
-use Rattle.wl_plain.specs.Step.{ask_of, judge, surface_of, with_peer}
+use Rattle.wl_plain.specs.Step.{surface_of, with_peer}
+use Rattle.wl_plain.proofs.Simply.{ask_of, judge}
 use Rattle.wl_plain.proofs.Behind.{judge-behind}
 use Rattle.wl_plain.proofs.BridgeServes.{only-peer}
 use Rattle.wl_plain.proofs.WholePiecesChanging.{judged-behind}
@@ -157,8 +157,8 @@ module _ {A : Type 0} (old : Kept A) (r : Resident) (object version size target 
       ∙ judged-passing r.peer.objects r.peer.held asks m.opcode body (record { interface = m.interface; version = version }) m
       (ap (λ (o : Option Object). passing r.peer.objects r.peer.held m.opcode body o) (sym object-there) ∙ passed)
 
-  pub judged-first : judge beyond_toplevels r object m.opcode body ≡ ask_of beyond_toplevels left object version m
-  judged-first = sym (judge-behind beyond_toplevels r object m.opcode body (drop size r.peer.rest)) ∙ judged-by (λ version m. ask_of beyond_toplevels left object version m)
+  pub judged-first : judge r object m.opcode body ≡ ask_of left object version m
+  judged-first = sym (judge-behind r object m.opcode body (drop size r.peer.rest)) ∙ judged-by (λ version m. ask_of left object version m)
 
   pub demanded-first : judge_all served_now r object m.opcode body ≡ demand_of served_now left object version m
   demanded-first = sym (judged-behind served_now r object m.opcode body (drop size r.peer.rest)) ∙ judged-by (λ version m. demand_of served_now left object version m)

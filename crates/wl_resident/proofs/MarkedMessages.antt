@@ -56,8 +56,11 @@ use Rattle.wl_plain.specs.Owning.{names_in, target_as, targets_in}
 use Rattle.wl_resident.specs.Residents.{IsLeft, IsResident, KeepsNumbers, asked_by}
 use Rattle.wl_resident.proofs.Simply.{AnswersSo, TakesSo}
 use Rattle.wl_resident.specs.Seats.{IsClearedBy, IsRestacked, IsSeated, IsSettledBy}
-use Rattle.wl_plain.specs.Served.{beyond_toplevels}
-use Rattle.wl_plain.specs.Step.{Serves, ask_by, ask_of, changed_by, judge, surface_of, with_peer}
+use Rattle.wl_plain.specs.LeftOut.{served_now}
+use Rattle.wl_plain.specs.NoMore.{NoMore}
+use Rattle.wl_plain.specs.Whole.{Serves}
+use Rattle.wl_plain.specs.Step.{ask_by, changed_by, surface_of, with_peer}
+use Rattle.wl_plain.proofs.Simply.{ask_of, judge}
 use Rattle.wl_plain.specs.Touching.{any_window_at, has_window_at, is_window_at, touched}
 use Rattle.wl_resident.specs.View.{DeskView, OwnedView}
 use Rattle.wl_plain.specs.WlSurface.{committed_for, effect_of, surface_ask, waits_for_all}
@@ -72,12 +75,13 @@ use Rattle.wl_resident.specs.declared.residents.Stacking.TheVariants as on
 use Rattle.wl_resident.proofs.Asking.{judged-first, passing-peer, whole-first}
 use Rattle.wl_resident.proofs.Doing.{named-by}
 use Rattle.wl_resident.proofs.Ends.{lacks-over, over-ended}
+use Rattle.wl_plain.proofs.BridgeBack.{AsksBy}
 use Rattle.wl_plain.proofs.OwningXdg.{toplevel-named}
 use Rattle.wl_plain.proofs.Places.{number-other}
 use Rattle.wl_plain.proofs.Stacks.{and-both, and-left, differ, or-left, or-right, unless}
 use Rattle.wl_resident.proofs.Taking.{known-mapped, none-is, numbers}
 use Rattle.wl_plain.proofs.TouchingMarks.{either-of}
-use Rattle.wl_plain.proofs.TouchingMessages.{AsksBy, MarkedBy, serves-point, touched-peer}
+use Rattle.wl_plain.proofs.TouchingMessages.{MarkedBy, serves-point, touched-peer}
 use Rattle.wl_plain.proofs.TouchingWindows.{counted as counted_of, lone, window_by, windows-first}
 
 -- ---- windows are those of toplevels that stand
@@ -227,8 +231,8 @@ module _ (r : Resident) (P : ℕ → Type 0) where
   interface-touches XdgToplevel object version m commits destroys = toplevel-touches object m.opcode (destroys refl)
   interface-touches interface object version m commits destroys = owned-touches _
 
-  pub asks-touch : (object version : ℕ) (m : Message) → (m.interface ≡ WlSurface → m.opcode ≡ 6 → P object) → (m.interface ≡ XdgToplevel → m.opcode ≡ 0 → Destroys object) → TouchesSo r P (ask_of beyond_toplevels r object version m)
-  asks-touch object version m commits destroys = either (beyond_toplevels m.interface m.opcode) _ _ (λ left_out. refused _) (λ served. interface-touches m.interface object version m commits destroys)
+  pub asks-touch : (object version : ℕ) (m : Message) → (m.interface ≡ WlSurface → m.opcode ≡ 6 → P object) → (m.interface ≡ XdgToplevel → m.opcode ≡ 0 → Destroys object) → TouchesSo r P (ask_of r object version m)
+  asks-touch object version m commits destroys = either (served_now.requests m.interface m.opcode) _ _ (λ left_out. refused _) (λ served. interface-touches m.interface object version m commits destroys)
 
 -- ---- and then the desk marks
 
@@ -292,7 +296,7 @@ commit-marks (kind.Base request) m target is i o = absurd (idle m _ is (base-idl
 commit-marks (kind.XdgSurface request) m target is i o = absurd (idle m _ is (xdg-idle request) (ap may_touch i))
 commit-marks (kind.Toplevel toplevel) m target is i o = absurd (let both = sym is.0 ∙ i in cc)
 commit-marks kind.Unserved m target is i o =
-    absurd (differ (sym (ap (λ (n : Interface). beyond_toplevels n m.opcode) i ∙ ap (λ n. n == 3) o) ∙ is))
+    absurd (differ (sym (ap (λ (n : Interface). served_now.requests n m.opcode) i ∙ ap (λ n. n == 3) o) ∙ is))
 
 destroy-marks : (k : Kind) (m : Message) (target : ℕ) → IsKind k m → m.interface ≡ XdgToplevel → m.opcode ≡ 0 → marked_in k target ≡ Some target
 destroy-marks (kind.Compositor request) m target is i o = absurd (idle m _ is (compositor-idle request) (ap may_touch i))
@@ -302,7 +306,7 @@ destroy-marks (kind.Base request) m target is i o = absurd (idle m _ is (base-id
 destroy-marks (kind.XdgSurface request) m target is i o = absurd (idle m _ is (xdg-idle request) (ap may_touch i))
 destroy-marks (kind.Toplevel toplevel) m target is i o = ap (λ t. marked_in (kind.Toplevel t) target) (is.1 ∙ ap (λ n. asked_by n) o)
 destroy-marks kind.Unserved m target is i o =
-    absurd (differ (sym (ap (λ (n : Interface). beyond_toplevels n m.opcode) i) ∙ is))
+    absurd (differ (sym (ap (λ (n : Interface). served_now.requests n m.opcode) i) ∙ is))
 
 -- what the desk takes a message for has this number, and so has the surface that it touches
 abbrev pub IsMarkedBy : {A : Type 0} → Kept A → Asked → ℕ → Type 0
@@ -311,14 +315,14 @@ IsMarkedBy v asked id = (number : ℕ) × (marked_by asked ≡ Some number) × (
 module _ {A : Type 0} (v : Kept A) (r : Resident) (is : IsResident v r) where
   -- a message that passes
   passed-touches : (P : ℕ → Type 0) (object version size target : ℕ) (m : Message) → Passes v.client object version size target m → (m.interface ≡ WlSurface → m.opcode ≡ 6 → P object)
-      → (m.interface ≡ XdgToplevel → m.opcode ≡ 0 → Destroys r P object) → (ask : Ask) (id : ℕ) → AsksBy beyond_toplevels r (split_of r.peer.rest) ask → touched ask r ≡ Some id → P id
+      → (m.interface ≡ XdgToplevel → m.opcode ≡ 0 → Destroys r P object) → (ask : Ask) (id : ℕ) → AsksBy r (split_of r.peer.rest) ask → touched ask r ≡ Some id → P id
   passed-touches P object version size target m passes commits destroys ask id asks t =
       let left = with_peer (with_rest (drop size r.peer.rest) r.peer) r in
-      let whole : AsksBy beyond_toplevels r (Whole object m.opcode size) ask = subst (λ (s : Split). AsksBy beyond_toplevels r s ask) (whole-first v r object version size target m passes is) asks in
+      let whole : AsksBy r (Whole object m.opcode size) ask = subst (λ (s : Split). AsksBy r s ask) (whole-first v r object version size target m passes is) asks in
       asks-touch left P object version m commits destroys ask id (sym (judged-first v r object version size target m passes is) ∙ whole) (touched-peer ask (with_rest (drop size r.peer.rest) r.peer) r ∙ t)
 
   request-marks : (object version size target : ℕ) (k : Kind) (m : Message) → Passes v.client object version size target m → IsKind k m
-      → (ask : Ask) (id : ℕ) → AsksBy beyond_toplevels r (split_of r.peer.rest) ask → touched ask r ≡ Some id → IsMarkedBy v (asked.Request object version size target k) id
+      → (ask : Ask) (id : ℕ) → AsksBy r (split_of r.peer.rest) ask → touched ask r ≡ Some id → IsMarkedBy v (asked.Request object version size target k) id
   request-marks object version size target k m passes told =
       passed-touches (IsMarkedBy v (asked.Request object version size target k)) object version size target m passes
       (λ i o. (target, commit-marks k m target told i o, named-by v.client.objects object target _ passes.entry i refl))
@@ -337,9 +341,9 @@ module _ {A : Type 0} (v : Kept A) (r : Resident) (is : IsResident v r) where
           subst (λ (z : Xdg). targets_in WlSurface v.client.objects (surface_of (xdg_at z.id r.owned.shell)) ≡ Some target) same
           (ap (λ (o : Option Xdg). targets_in WlSurface v.client.objects (surface_of o)) there.3.at_id ∙ there.3.surface)
 
-  refused-asks : (s : Split) (refusal : Refusal) (ask : Ask) → IsRefused s v.client refusal → AsksBy beyond_toplevels r s ask → ⊥
+  refused-asks : (s : Split) (refusal : Refusal) (ask : Ask) → IsRefused s v.client refusal → AsksBy r s ask → ⊥
   refused-asks (Whole object opcode size) refusal ask why asks =
-      let judged = judged-refused r.peer.objects r.peer.held (λ version m. ask_of beyond_toplevels r object version m) opcode (take (size - 8) (drop 8 r.peer.rest)) (r.peer.objects object) refusal
+      let judged = judged-refused r.peer.objects r.peer.held (λ version m. ask_of r object version m) opcode (take (size - 8) (drop 8 r.peer.rest)) (r.peer.objects object) refusal
       (passing-peer v.client r.peer object opcode size (Err refusal) is.peer why) in
       let both : Result.Err refusal ≡ Ok ask = sym judged ∙ asks in
       cc
@@ -347,11 +351,11 @@ module _ {A : Type 0} (v : Kept A) (r : Resident) (is : IsResident v r) where
   refused-asks More refusal ask why asks = asks
 
   -- Where a message touches a surface, the desk marks the window of that surface.
-  pub asked-marks : (a : Asked) → IsAsked v.client a → (ask : Ask) (id : ℕ) → AsksBy beyond_toplevels r (split_of r.peer.rest) ask → touched ask r ≡ Some id → IsMarkedBy v a id
+  pub asked-marks : (a : Asked) → IsAsked v.client a → (ask : Ask) (id : ℕ) → AsksBy r (split_of r.peer.rest) ask → touched ask r ≡ Some id → IsMarkedBy v a id
   asked-marks asked.More more ask id asks t =
-      absurd (subst (λ (s : Split). AsksBy beyond_toplevels r s ask) (ap split_of (sym is.peer.rest) ∙ more) asks)
+      absurd (subst (λ (s : Split). AsksBy r s ask) (ap split_of (sym is.peer.rest) ∙ more) asks)
   asked-marks (asked.Refused refusal) why ask id asks t =
-      absurd (refused-asks (split_of v.client.rest) refusal ask why (subst (λ (rest : List ℕ). AsksBy beyond_toplevels r (split_of rest) ask) (sym is.peer.rest) asks))
+      absurd (refused-asks (split_of v.client.rest) refusal ask why (subst (λ (rest : List ℕ). AsksBy r (split_of rest) ask) (sym is.peer.rest) asks))
   asked-marks asked.Own (object, version, size, target, m, passes, own) ask id asks t =
       passed-touches (IsMarkedBy v asked.Own) object version size target m passes (λ i o. absurd (differ (sym (ap is_own i) ∙ own))) (λ i o. absurd (differ (sym (ap is_own i) ∙ own))) ask id asks t
   asked-marks (asked.Request object version size target k) (m, passes, told) ask id asks t = request-marks object version size target k m passes told ask id asks t
@@ -367,7 +371,7 @@ takes-left {A} s r old new stacking = at s
     answers (Err refusal) r h = (r, h.0, h.2)
 
     at : (s : Split) → TakesSo s r old new stacking → (x : Resident) × (q : Peer) × IsLeft old new x q
-    at (Whole object opcode size) h = answers (judge beyond_toplevels r object opcode (take (size - 8) (drop 8 r.peer.rest))) (with_peer (with_rest (drop size r.peer.rest) r.peer) r) h.0
+    at (Whole object opcode size) h = answers (judge r object opcode (take (size - 8) (drop 8 r.peer.rest))) (with_peer (with_rest (drop size r.peer.rest) r.peer) r) h.0
     at Bad h = answers (Err (display_error InvalidMethod)) r h
     at More h = absurd h
 
@@ -415,7 +419,7 @@ some-number (Some number) e = (number, refl)
 some-number None e = absurd (differ e)
 
 module _ {A : Type 0} (c : ℕ) (others : ℕ → ById ℕ) (base d e : Desktop) (r q : Resident) (old new : Kept A) (was now : Stack) (before : IsSeated c others base old was d r) (after : IsSeated c others base new now e q)
-    (unlinked : AreUnlinked base) (serves : Serves beyond_toplevels c d e) (a : Asked) (asks : IsAsked old.client a)
+    (unlinked : AreUnlinked base) (more : NoMore d) (serves : Serves served_now c d e) (a : Asked) (asks : IsAsked old.client a)
     (keeps : new.client.ended ≡ None → KeepsNumbers old.client.objects new.client.objects) (surface : Option ℕ) (by_asked : surface ≡ marked_by a)
     (d0 d1 d2 d3 : Damaged) (first : MarksTouched c old was surface d0 d1) (settled : MarksEnd new.client.ended c was d1 d2) (second : MarksTouched c new now surface d2 d3) where
   status : status_in c e ≡ new.client.ended
@@ -464,7 +468,7 @@ module _ {A : Type 0} (c : ℕ) (others : ℕ → ById ℕ) (base d e : Desktop)
         let surface-named : surface ≡ Some named.0 = by_asked ∙ marked.1 ∙ ap (λ n. Some n) same in
         differ (sym (or-right (has d2 x y) _ (sym (second.marks others base e q after id named.0 surface-named named.1 x y wide2 high2) ∙ unmarked)) ∙ there)
 
-    not-marked : MarkedBy beyond_toplevels c r (pos x) (pos y) d e → ⊥
+    not-marked : MarkedBy c r (pos x) (pos y) d e → ⊥
     not-marked (inl (over, there)) = ended-there over there
     not-marked (inr (lives, ask, told, touches)) = at touches.2
       where
@@ -478,7 +482,7 @@ module _ {A : Type 0} (c : ℕ) (others : ℕ → ById ℕ) (base d e : Desktop)
     least : marks_of_toplevels d e (pos x) (pos y) ≡ false
     least =
         unless (marks_of_toplevels d e (pos x) (pos y))
-        (λ f. not-marked (serves-point beyond_toplevels c r d before.based.there _ _ _ before.seat.owns before.mapped (seated-unlinked c others base d old was r before unlinked) (pos x) (pos y) e serves f))
+        (λ f. not-marked (serves-point c r d before.based.there _ _ _ before.seat.owns before.mapped (seated-unlinked c others base d old was r before unlinked) (pos x) (pos y) e more serves f))
 
   -- What a message marks at least is to be painted, as is what was.
   pub message-marks : MarksToplevels d e d0 d3

@@ -28,10 +28,10 @@ use Rattle.wl_plain.specs.Desktop.{Desktop, Resident}
 use Rattle.wl_plain.specs.LeftOut.{served_now}
 use Rattle.wl_plain.specs.NoMore.{AreToplevels, NoMore, OwnsToplevelsAt, OwnsToplevelsOnly}
 use Rattle.wl_plain.specs.Laws.{toplevels_of}
-use Rattle.wl_plain.specs.Served.{beyond_toplevels}
 use Rattle.wl_plain.specs.Replies.{replies}
 use Rattle.wl_plain.specs.Stacked.{all_windows}
-use Rattle.wl_plain.specs.Step.{changed_by, judge, takes_memory, with_peer}
+use Rattle.wl_plain.specs.Step.{changed_by, takes_memory, with_peer}
+use Rattle.wl_plain.proofs.Simply.{judge}
 use Rattle.wl_plain.proofs.BridgeChanged.{changed-same, wants-same}
 use Rattle.wl_plain.proofs.BridgeJudged.{Pairs, asked-pair, Same, asks, commit, demands-pair, effect-same, ends, goes, judge-pair, move}
 use Rattle.wl_plain.proofs.BridgeServes.{living, only-peer, pairs-peer, replies-same, same-peer, tops-kept}
@@ -51,8 +51,8 @@ StacksSo old r (Err refusal) stacking = Unit {0}
 
 abbrev pub TakesSo : {A : Type 0} → Split → Resident → Kept A → Kept A → Stacking → Type 0
 TakesSo (Whole object opcode size) r old new stacking =
-    AnswersSo (judge beyond_toplevels r object opcode (take (size - 8) (drop 8 r.peer.rest))) (with_peer (with_rest (drop size r.peer.rest) r.peer) r) old new
-    × StacksSo old r (judge beyond_toplevels r object opcode (take (size - 8) (drop 8 r.peer.rest))) stacking
+    AnswersSo (judge r object opcode (take (size - 8) (drop 8 r.peer.rest))) (with_peer (with_rest (drop size r.peer.rest) r.peer) r) old new
+    × StacksSo old r (judge r object opcode (take (size - 8) (drop 8 r.peer.rest))) stacking
 TakesSo Bad r old new stacking = AnswersSo (Err (display_error InvalidMethod)) r old new
 TakesSo More r old new stacking = ⊥
 
@@ -172,9 +172,9 @@ simply-takes (Whole object opcode size) c r d old new stacking only h =
     let body = take (size - 8) (drop 8 r.peer.rest) in
     let left : Resident = with_peer (with_rest (drop size r.peer.rest) r.peer) r in
     let same = judge-pair r object opcode body only.roles in (
-      simply-answers old new c d (judge beyond_toplevels r object opcode body) (judge_all served_now r object opcode body) left (only-peer r left.peer refl only)
-          (pairs-peer r left.peer (judge beyond_toplevels r object opcode body) (judge_all served_now r object opcode body) same) h.0,
-      simply-stacks old (judge beyond_toplevels r object opcode body) (judge_all served_now r object opcode body) r stacking only.roles same h.1,
+      simply-answers old new c d (judge r object opcode body) (judge_all served_now r object opcode body) left (only-peer r left.peer refl only)
+          (pairs-peer r left.peer (judge r object opcode body) (judge_all served_now r object opcode body) same) h.0,
+      simply-stacks old (judge r object opcode body) (judge_all served_now r object opcode body) r stacking only.roles same h.1,
     )
 simply-takes Bad c r d old new stacking only h = h
 simply-takes More c r d old new stacking only h = h

@@ -26,12 +26,12 @@ use Rattle.wl_resident.specs.declared.residents.Stacking.{Stacking}
 use Rattle.wl_resident.specs.declared.residents.Stacking.TheVariants.{Stays, Out}
 use Rattle.wl_plain.specs.Ask.{Ask, AskSurface, CommitSurface, DestroyBase, DestroyXdgSurface, GetXdgSurface, GetToplevel, Acknowledge, ConfigureAgain, DestroyToplevel, Ignore, owns}
 use Rattle.wl_plain.specs.WlSurface.{refuse, refuse_limit}
-use Rattle.wl_plain.specs.Served.{beyond_toplevels}
 use Rattle.wl_plain.specs.Desktop.{Resident}
 use Rattle.wl_plain.specs.Owning.{effect_by, names_in, targets_in}
 use Rattle.wl_resident.specs.Residents.{IsResident, IsSurface, IsToplevel, StacksBy, asked_by, stacking_by}
 use Rattle.wl_resident.proofs.Simply.{StacksSo}
-use Rattle.wl_plain.specs.Step.{ask_of, surface_of}
+use Rattle.wl_plain.specs.Step.{surface_of}
+use Rattle.wl_plain.proofs.Simply.{ask_of}
 use Rattle.wl_plain.specs.XdgShell.{configured_again, has_any, is_foreign, is_no_toplevel, is_state, role_of, toplevel_ask, toplevel_ask_of, xdg_ask_of}
 use Rattle.wl_plain.proofs.OwningXdg.{toplevel-named}
 
@@ -137,7 +137,7 @@ xdg-still old r (Some x) version (requests.AckConfigure serial) =
     either-stays old r (is_some x.role) (if waits then Ok (Acknowledge x.id serial) else refuse x.id error.InvalidSerial) (refuse x.id error.NotConstructed)
     (either-stays old r waits (Ok (Acknowledge x.id serial)) (refuse x.id error.InvalidSerial) refl tt) tt
 
-pub xdg-stays : {A : Type 0} (old : Kept A) (r : Resident) (object version : ℕ) (request : XdgSurfaceRequest) → StacksSo old r (ask_of beyond_toplevels r object version (xdg_surface_request request)) Stays
+pub xdg-stays : {A : Type 0} (old : Kept A) (r : Resident) (object version : ℕ) (request : XdgSurfaceRequest) → StacksSo old r (ask_of r object version (xdg_surface_request request)) Stays
 xdg-stays old r object version requests.Destroy = xdg-still old r (xdg_at object r.owned.shell) version requests.Destroy
 xdg-stays old r object version (requests.GetToplevel id) = xdg-still old r (xdg_at object r.owned.shell) version (requests.GetToplevel id)
 xdg-stays old r object version (requests.GetPopup id parent positioner) = tt
@@ -145,7 +145,7 @@ xdg-stays old r object version (requests.SetWindowGeometry a b width height) = x
 xdg-stays old r object version (requests.AckConfigure serial) = xdg-still old r (xdg_at object r.owned.shell) version (requests.AckConfigure serial)
 
 -- a request of an xdg_wm_base
-pub base-stays : {A : Type 0} (old : Kept A) (r : Resident) (object version : ℕ) (request : XdgWmBaseRequest) → StacksSo old r (ask_of beyond_toplevels r object version (xdg_wm_base_request request)) Stays
+pub base-stays : {A : Type 0} (old : Kept A) (r : Resident) (object version : ℕ) (request : XdgWmBaseRequest) → StacksSo old r (ask_of r object version (xdg_wm_base_request request)) Stays
 base-stays old r object version base.Destroy =
     either-stays old r (list_any (λ x. x.base == object) r.owned.shell) (refuse object error.DefunctSurfaces) (Ok (DestroyBase object)) tt refl
 base-stays old r object version (base.CreatePositioner id) = tt

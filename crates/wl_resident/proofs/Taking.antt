@@ -8,7 +8,7 @@ use Rattle.wl_wire.specs.declared.header.Split.TheVariants.{Message as Whole, Mo
 use Rattle.wl_proto.specs.declared.interface.Interface.TheVariants.{WlSurface}
 use Rattle.wl_client.specs.Agreement.{IsPeer}
 use Rattle.wl_client.specs.Objects.{ById}
-use Rattle.wl_client.specs.Peer.{LacksMemory, Peer, Queues, counted, with_rest}
+use Rattle.wl_client.specs.Peer.{Errs, LacksMemory, Peer, Queues, counted, with_rest}
 use Rattle.wl_client.specs.Peer.{WantsOr as WantsOrAlone}
 use Rattle.wl_client.specs.Told.{display_error}
 use Rattle.wl_client.specs.declared.refusals.ErrorCode.TheVariants.{InvalidMethod}
@@ -27,10 +27,16 @@ use Rattle.wl_plain.specs.Ask.{Ask, Own, CreateSurface, DestroySurface, AskSurfa
 use Rattle.wl_plain.specs.Desktop.{Desktop, Resident, become, become_by, client_at, client_in, owned_of, resident_of, with_number}
 use Rattle.wl_plain.specs.Owning.{targets_in}
 use Rattle.wl_resident.specs.Residents.{ActsFor, IsLeft, StacksBy}
-use Rattle.wl_resident.proofs.Simply.{AnswersSo, StacksSo, TakesSo}
+use Rattle.wl_plain.proofs.BridgeJudged.{judge-pair}
+use Rattle.wl_plain.proofs.BridgeServes.{answers-whole, becomes-whole, only-peer, pairs-peer}
+use Rattle.wl_resident.proofs.Simply.{AnswersSo, StacksSo, TakesSo, seated-only}
 use Rattle.wl_resident.specs.Seats.{IsBased, IsClearedBy, IsRestacked, IsSeated, IsSettledBy, Lacks}
-use Rattle.wl_plain.specs.Served.{beyond_toplevels}
-use Rattle.wl_plain.specs.Step.{Acts, Answers, Becomes, ServesAt, Serves, Takes, WantsOr, after_surface, answers_to, changed_by, committed_on, effect_on, judge, stacked, surface_of, takes_memory, with_peer}
+use Rattle.wl_plain.specs.Demanding.{judge_all}
+use Rattle.wl_plain.specs.LeftOut.{served_now}
+use Rattle.wl_plain.specs.NoMore.{NoMore, OwnsToplevelsOnly}
+use Rattle.wl_plain.specs.Whole.{Serves, ServesAt, Takes}
+use Rattle.wl_plain.specs.Step.{after_surface, answers_to, changed_by, committed_on, effect_on, stacked, surface_of, takes_memory, with_peer}
+use Rattle.wl_plain.proofs.Simply.{Acts, Answers, Becomes, WantsOr, judge}
 use Rattle.wl_plain.specs.Standing.{MappedStand, is_mapped}
 use Rattle.wl_resident.specs.View.{owned_view}
 use Rattle.wl_resident.specs.declared.residents.Resident.{Resident as Kept}
@@ -402,11 +408,22 @@ module _ {A : Type 0} (c : ℕ) (others : ℕ → ById ℕ) (base d : Desktop) (
             (subst (λ (o : Option Cause). IsSettledBy o c stacking mid new was now) (answers.2.peer.status ∙ cause) settled)),
       )
 
-  taken : (split : Split) → r.peer.status ≡ None → TakesSo split r old mid stacking → (e : Desktop) × (s : Resident) × Takes beyond_toplevels split c r d e × Sits c others base new now e s
-  taken (Whole object opcode size) lives takes =
-      answered (judge beyond_toplevels r object opcode (take (size - 8) (drop 8 r.peer.rest))) (with_rest (drop size r.peer.rest) r.peer) lives takes.0 takes.1
-  taken Bad lives takes = answered (Err (display_error InvalidMethod)) r.peer lives takes tt
-  taken More lives takes = absurd takes
+  taken : (split : Split) → client_at c d ≡ Some r → NoMore d → OwnsToplevelsOnly r → r.peer.status ≡ None → TakesSo split r old mid stacking
+      → (e : Desktop) × (s : Resident) × Takes served_now split c r d e × Sits c others base new now e s
+  taken (Whole object opcode size) there more only lives takes =
+      let body = take (size - 8) (drop 8 r.peer.rest) in
+      let left : Resident = with_peer (with_rest (drop size r.peer.rest) r.peer) r in
+      let a = answered (judge r object opcode body) left.peer lives takes.0 takes.1 in (
+        a.0,
+        a.1,
+        answers-whole c r d a.0 there more.pointer (judge r object opcode body) (judge_all served_now r object opcode body) left lives (only-peer r left.peer refl only)
+            (pairs-peer r left.peer (judge r object opcode body) (judge_all served_now r object opcode body) (judge-pair r object opcode body only.roles)) a.2,
+        a.3,
+      )
+  taken Bad there more only lives takes =
+      let a = answered (Err (display_error InvalidMethod)) r.peer lives takes tt in
+      (a.0, a.1, becomes-whole (Errs (display_error InvalidMethod) r.peer) c r d a.0 more.pointer a.2, a.3)
+  taken More there more only lives takes = absurd takes
 
 -- a surface that is mapped has a number
 known-by : {N : Type 0} (kept : ℕ → Option N) (n : Option ℕ) (x : Option Xdg) (is_kept : Option N → Option Xdg → Type 0) → is_kept (option_and_then kept n) x → ((y : Xdg) → is_kept None (Some y) → ⊥) → is_mapped x ≡ true → is_some n ≡ true
@@ -424,10 +441,11 @@ sits-seated c others base v stack e s sits mapped =
     record { based = sits.based; seat = sits.seat; scene = sits.scene (known-mapped c v e s sits.based.there sits.seat mapped); mapped = mapped }
 
 -- The first message of a client is taken, and the stack is settled.
-pub served : {A : Type 0} (c : ℕ) (others : ℕ → ById ℕ) (base d : Desktop) (r : Resident) (stacking : Stacking) (old mid new : Kept A) (was now : Stack) → IsSeated c others base old was d r → old.client.ended ≡ None
-    → TakesSo (split_of r.peer.rest) r old mid stacking → IsSettledBy mid.client.ended c stacking mid new was now → (e : Desktop) × (s : Resident) × Serves beyond_toplevels c d e × IsSeated c others base new now e s
-served c others base d r stacking old mid new was now is lives takes settled =
+pub served : {A : Type 0} (c : ℕ) (others : ℕ → ById ℕ) (base d : Desktop) (r : Resident) (stacking : Stacking) (old mid new : Kept A) (was now : Stack) → IsSeated c others base old was d r → old.client.ended ≡ None → NoMore d
+    → TakesSo (split_of r.peer.rest) r old mid stacking → IsSettledBy mid.client.ended c stacking mid new was now → (e : Desktop) × (s : Resident) × Serves served_now c d e × IsSeated c others base new now e s
+served c others base d r stacking old mid new was now is lives more takes settled =
     let alive : r.peer.status ≡ None = sym is.seat.peer.status ∙ lives in
-    let t = taken c others base d r stacking old mid new was now is.based is.seat.owns.surfaces.once is.scene settled (split_of r.peer.rest) alive takes in
-    let serves : Serves beyond_toplevels c d t.0 = subst (λ (o : Option Resident). ServesAt beyond_toplevels c o d t.0) (sym is.based.there) (alive, t.2) in
-    (t.0, t.1, serves, sits-seated c others base new now t.0 t.1 t.3 (serves-stand beyond_toplevels c r d is.based.there _ _ _ is.seat.owns is.mapped t.0 serves))
+    let only = seated-only c others base d old was r is lives more in
+    let t = taken c others base d r stacking old mid new was now is.based is.seat.owns.surfaces.once is.scene settled (split_of r.peer.rest) is.based.there more only alive takes in
+    let serves : Serves served_now c d t.0 = subst (λ (o : Option Resident). ServesAt served_now c o d t.0) (sym is.based.there) (alive, t.2) in
+    (t.0, t.1, serves, sits-seated c others base new now t.0 t.1 t.3 (serves-stand c r d is.based.there _ _ _ is.seat.owns is.mapped t.0 more serves))

@@ -21,17 +21,16 @@ use Rattle.wl_desk.proofs.NoMore.{ended-once, kept-has}
 use Rattle.wl_plain.specs.Laws.{status_in}
 use Rattle.wl_plain.specs.Laws.{status_of as ended_in}
 use Rattle.wl_resident.specs.Seats.{ended_by}
-use Rattle.wl_plain.specs.Served.{Unserved, beyond_toplevels}
 use Rattle.wl_plain.specs.Settling.{becomes}
-use Rattle.wl_plain.specs.Step.{Answers, Becomes, ServesAt, Takes, WantsOr, changed_by, stacked, takes_memory, with_peer}
+use Rattle.wl_plain.specs.Step.{changed_by, stacked, takes_memory, with_peer}
 use Rattle.wl_plain.specs.Steps.{fed_of, peer_at, peer_of, status_of}
 use Rattle.wl_resident.specs.View.{DeskView, OwnedView}
 use Rattle.wl_plain.specs.declared.answers.Done.TheVariants as gave
 use Rattle.wl_plain.specs.declared.answers.Fed.{Fed}
 use Rattle.wl_plain.specs.LeftOut.{served_now}
 use Rattle.wl_plain.specs.NoMore.{NoMore}
-use Rattle.wl_plain.specs.Whole.{FeedsAt, IsFedAt, Reaches, ServesAt as WholeServesAt, StopsAt}
-use Rattle.wl_plain.proofs.BridgeBack.{serves-back}
+use Rattle.wl_plain.specs.Whole.{FeedsAt, IsFedAt, Reaches, Serves, ServesAt as WholeServesAt, StopsAt}
+use Rattle.wl_plain.proofs.BridgeBack.{message-by}
 use Rattle.wl_plain.proofs.BridgeLasts.{reaches-has}
 use Rattle.wl_plain.proofs.BridgeServes.{becomes-same, settles-to}
 use Rattle.wl_plain.proofs.Places.{client-become, number-kept, number-same, number-twice, stacked-clients}
@@ -43,34 +42,24 @@ use Rattle.wl_plain.proofs.Stacks.{and-both, differ, or-left, or-right, same-num
 abbrev pub IsThere : ℕ → Desktop → Type 0
 IsThere c d = (r : Resident) × (client_at c d ≡ Some r)
 
-becomes-there : (Q : Peer → Type 0) (c : ℕ) (r : Resident) (d new : Desktop) → IsThere c d → Becomes Q c r d new → IsThere c new
-becomes-there Q c r d new there h = (_, ap (λ (x : Desktop). client_at c x) h.2 ∙ client-become h.0.status c r h.0 d there.0 there.1)
-
 stacked-there : (c : ℕ) (ask : Ask) (r : Resident) (d : Desktop) → IsThere c d → IsThere c (stacked c ask r d)
 stacked-there c ask r d there = (there.0, ap (λ (clients : List (Option Resident)). client_in clients c) (stacked-clients c ask r d) ∙ there.1)
 
-wants-there : (b : Bool) (Q : Peer → Type 0) (ask : Ask) (c : ℕ) (r : Resident) (d new : Desktop) → IsThere c d → WantsOr b (Becomes Q c (changed_by ask r) (stacked c ask r d) new) c r d new → IsThere c new
-wants-there false Q ask c r d new there h = becomes-there Q c (changed_by ask r) (stacked c ask r d) new (stacked-there c ask r d there) h
-wants-there true Q ask c r d new there (inl h) = becomes-there (LacksMemory r.peer) c r d new there h
-wants-there true Q ask c r d new there (inr h) = becomes-there Q c (changed_by ask r) (stacked c ask r d) new (stacked-there c ask r d there) h
-
-answers-there : (judged : Result Ask _) (c : ℕ) (r : Resident) (d new : Desktop) → IsThere c d → Answers judged c r d new → IsThere c new
-answers-there (Ok ask) c r d new there h = wants-there (takes_memory ask) _ ask c _ d new there h
-answers-there (Err refusal) c r d new there h = becomes-there _ c r d new there h
-
-takes-there : (unserved : Unserved) (s : Split) (c : ℕ) (r : Resident) (d new : Desktop) → IsThere c d → Takes unserved s c r d new → IsThere c new
-takes-there unserved (Message object opcode size) c r d new there h = answers-there _ c _ d new there h
-takes-there unserved Bad c r d new there h = becomes-there _ c r d new there h
-takes-there unserved More c r d new there h = absurd h
-
-serves-there : (unserved : Unserved) (c : ℕ) (o : Option Resident) (d new : Desktop) → client_at c d ≡ o → ServesAt unserved c o d new → IsThere c new
-serves-there unserved c None d new is h = absurd h
-serves-there unserved c (Some r) d new is h = takes-there unserved (split_of r.peer.rest) c r d new (r, is) h.1
+serves-there : (c : ℕ) (d new : Desktop) → NoMore d → Serves served_now c d new → IsThere c new
+serves-there c d new more h = at (client_at c d) refl h
+  where
+    at : (o : Option Resident) → client_at c d ≡ o → WholeServesAt served_now c o d new → IsThere c new
+    at None is served = absurd served
+    at (Some r) is served =
+        message-by c r d new is more (λ e. IsThere c e) (λ p q never. (_, client-become q.status c (with_peer p r) q d r is))
+        (λ ask asks p q objects told.
+        let there = stacked-there c ask (with_peer p r) d (r, is) in
+        (_, client-become q.status c (changed_by ask (with_peer p r)) q (stacked c ask (with_peer p r) d) there.0 there.1)) h
 
 pub reaches-there : (c n : ℕ) (d new : Desktop) → NoMore d → IsThere c d → Reaches served_now c n d new → IsThere c new
 reaches-there c zero d new more there h = (there.0, ap (λ (x : Desktop). client_at c x) h ∙ there.1)
 reaches-there c (suc n) d new more there h =
-    serves-there beyond_toplevels c (client_at c h.0) h.0 new refl (serves-back c h.0 new (reaches-has n c d h.0 more h.1) h.2)
+    serves-there c h.0 new (reaches-has n c d h.0 more h.1) h.2
 
 -- ---- nothing is taken
 

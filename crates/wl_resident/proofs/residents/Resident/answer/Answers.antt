@@ -2,8 +2,7 @@ use Rattle.std.proofs.Common.{subst, sym, rules}
 use Rattle.wl_proto.specs.Messages.{Message, xdg_surface_request, xdg_wm_base_request}
 use Rattle.wl_resident.specs.declared.residents.Stacking.TheVariants.{Stays}
 use Rattle.wl_resident.specs.Residents.{StacksSo}
-use Rattle.wl_plain.specs.Served.{beyond_toplevels}
-use Rattle.wl_plain.specs.Step.{ask_of}
+use Rattle.wl_plain.proofs.Simply.{ask_of}
 use Rattle.wl_plain.specs.Demanding.{demand_of}
 use Rattle.wl_plain.specs.LeftOut.{served_now}
 use Rattle.wl_plain.proofs.BridgeJudged.{asked-pair}
@@ -16,7 +15,7 @@ returns-in-XdgSurface-clause-stacks g c = λ m kind entry r is only.
     let v = c.args.self.now in
     let told = xdg_surface_request c.in-XdgSurface.request in
     subst (λ (m : Message). StacksSo v r (demand_of served_now r c.args.object c.args.version m) Stays) (sym (rw c.in-XdgSurface.is at kind))
-    (stacks-simply v (ask_of beyond_toplevels r c.args.object c.args.version told) (demand_of served_now r c.args.object c.args.version told) r Stays only.roles
+    (stacks-simply v (ask_of r c.args.object c.args.version told) (demand_of served_now r c.args.object c.args.version told) r Stays only.roles
     (asked-pair told.interface r c.args.object c.args.version told.opcode told.fields only.roles) (xdg-stays v r c.args.object c.args.version c.in-XdgSurface.request))
 
 pub returns-in-Surface-clause-rest : goal.returns-in-Surface-clause-rest
@@ -72,7 +71,7 @@ returns-in-Base-clause-stacks g c = λ m kind entry r is only.
     let v = c.args.self.now in
     let told = xdg_wm_base_request c.in-Base.request in
     subst (λ (m : Message). StacksSo v r (demand_of served_now r c.args.object c.args.version m) Stays) (sym (rw c.in-Base.is at kind))
-    (stacks-simply v (ask_of beyond_toplevels r c.args.object c.args.version told) (demand_of served_now r c.args.object c.args.version told) r Stays only.roles
+    (stacks-simply v (ask_of r c.args.object c.args.version told) (demand_of served_now r c.args.object c.args.version told) r Stays only.roles
     (asked-pair told.interface r c.args.object c.args.version told.opcode told.fields only.roles) (base-stays v r c.args.object c.args.version c.in-Base.request))
 
 pub returns-in-XdgSurface-clause-answers : goal.returns-in-XdgSurface-clause-answers

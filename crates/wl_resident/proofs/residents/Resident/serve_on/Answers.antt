@@ -1,9 +1,7 @@
 use Rattle.std.proofs.Common.{refl, sym, ◌∙◌, ◌≡◌, rules}
 use Rattle.wl_wire.specs.Wire.{split_of}
 use Rattle.wl_wire.specs.declared.header.Split.TheVariants.{More}
-use Rattle.wl_plain.proofs.BridgeBack.{serves-back}
 use Rattle.wl_plain.proofs.BridgeMessages.{serves-has}
-use Rattle.wl_plain.proofs.BridgeServes.{serves-whole}
 use Rattle.wl_plain.proofs.BridgeTouches.{touches_apart}
 use Rattle.wl_resident.proofs.Asking.{idle-more, idle-unmarked}
 use Rattle.wl_resident.proofs.Seats.{large-then}
@@ -17,8 +15,8 @@ pub returns-clause-serves : goal.returns-clause-serves
 returns-clause-serves g c = λ some others base d r is more.
     let only = seated-only c.args.client others base d _ _ r is c.in-Some.ensures.lives more in
     let takes = simply-takes (split_of r.peer.rest) c.args.client r d _ _ c.in-Some.stacking only (c.in-Some.ensures.takes c.args.client r d (record { peer = is.seat.peer; owns = is.seat.owns }) only) in
-    let s = served c.args.client others base d r c.in-Some.stacking _ _ _ _ _ is c.in-Some.ensures.lives takes c.settle.ensures.settles in
-    (s.0, s.1, serves-whole c.args.client d s.0 more s.2, s.3)
+    let s = served c.args.client others base d r c.in-Some.stacking _ _ _ _ _ is c.in-Some.ensures.lives more takes c.settle.ensures.settles in
+    (s.0, s.1, s.2, s.3)
 
 pub returns-clause-sides : goal.returns-clause-sides
 returns-clause-sides g c =
@@ -42,9 +40,8 @@ returns-clause-marks g c = λ some others base d r unlinked before more e q serv
     let takes = simply-takes (split_of r.peer.rest) c.args.client r d old c.serve.new.self c.in-Some.stacking only (c.in-Some.ensures.takes c.args.client r d (record { peer = before.seat.peer; owns = before.seat.owns }) only) in
     let first = c.mark_touched.ensures in
     let second = c.mark_touched-2.ensures in
-    let small = serves-back c.args.client d e more serves in
-    marks-all d e c.args.damage.now c.mark_touched-2.new.damage more (serves-has touches_apart c.args.client d e more small)
-    (message-marks c.args.client others base d e r q old new was now before after unlinked small c.asked-asked.result c.asked-asked.ensures
+    marks-all d e c.args.damage.now c.mark_touched-2.new.damage more (serves-has touches_apart c.args.client d e more serves)
+    (message-marks c.args.client others base d e r q old new was now before after unlinked more serves c.asked-asked.result c.asked-asked.ensures
     (keeps-numbers (split_of r.peer.rest) r c.args.client c.in-Some.stacking old c.serve.new.self new was now takes c.settle.ensures.settles)
     c.touched_by-touched.result c.touched_by-touched.ensures c.args.damage.now c.mark_touched.new.damage c.settle.new.damage c.mark_touched-2.new.damage
     (record { marks = first.marks; more = first.more; sides = first.sides })
