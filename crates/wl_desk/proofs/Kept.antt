@@ -3,10 +3,7 @@ use Rattle.std.proofs.Common.{◌≡◌, ℕ, ◌<◌, List, ◌++◌, Bool, tru
 use Rattle.std.specs.Option.{option_map}
 use Rattle.std.specs.Prelude.{Ok, Err, OnErr, OnOk, ◌≢◌}
 use Rattle.std.proofs.lemmas.List.{set-get_or}
-use Rattle.wl_wire.specs.Wire.{split_of}
-use Rattle.wl_wire.specs.declared.header.Split.{Split}
-use Rattle.wl_wire.specs.declared.header.Split.TheVariants.{Message, More, Bad}
-use Rattle.wl_client.specs.Peer.{IsIdleAt, LacksMemory, Peer}
+use Rattle.wl_client.specs.Peer.{IsIdleAt, Peer}
 use Rattle.wl_client.specs.View.{ClientView}
 use Rattle.wl_client.specs.declared.clients.Cause.{Cause}
 use Rattle.wl_client.specs.declared.clients.Cause.TheVariants as cause
@@ -17,7 +14,6 @@ use Rattle.wl_paint.specs.Damage.{Damaged}
 use Rattle.wl_scene.specs.Stacking.{Stack}
 use Rattle.wl_scene.specs.declared.owned.Owned.{Owned}
 use Rattle.wl_resident.specs.Agreement.{Matches, IsPlace, IsSeat, numbers_in}
-use Rattle.wl_plain.specs.Ask.{Ask}
 use Rattle.wl_plain.specs.Desktop.{Desktop, Resident, become, become_by, client_at, client_in, resident_of, with_number}
 use Rattle.wl_desk.specs.Feeding.{IsIdleIn, IsIdleOf, kept_at, kept_by, kept_in, kept_of, kept_while, rest_in, served_as, served_by, served_of}
 use Rattle.wl_resident.specs.Marking.{AreUnlinked, Marks}

@@ -24,15 +24,15 @@ use Rattle.wl_plain.specs.NoMore.{NoMore, OwnsToplevelsAt, OwnsToplevelsBy, Owns
 use Rattle.wl_plain.specs.Replies.{replies}
 use Rattle.wl_plain.specs.Settling.{EndsAndSettles, EndsFirst, Moving, QueuesFirst, QueuesTo, SettlesAll, TellsAt, becomes, struck_by, unstruck}
 use Rattle.wl_plain.specs.Stacked.{all_windows}
-use Rattle.wl_plain.specs.Step.{answers_to, changed_by, stacked, takes_memory, with_peer}
+use Rattle.wl_plain.specs.Step.{answers_to, changed_by, stacked, with_peer}
 use Rattle.wl_plain.proofs.Simply.{Becomes, judge}
 use Rattle.wl_plain.specs.Steps.{IsClosed, IsLeft, IsSent, IsStored, Act, Connect, Feed, Store, Leave, Tick, Send, Close}
 use Rattle.wl_plain.specs.Whole.{Acts, after_why, callbacks_due, done_for, frames_told, Answers as WholeAnswers, Becomes as WholeBecomes, ChangesAt as WholeChangesAt, Does, LeavesAt, Serves as WholeServes, ServesAt as WholeServesAt, Shows, Takes as WholeTakes, TellsFrames, WantsOr as WholeWantsOr, wants_memory}
 use Rattle.wl_plain.proofs.Altering.{Alters, ChangesAt, IsCall}
 use Rattle.wl_plain.proofs.Behind.{changed-status}
-use Rattle.wl_plain.proofs.BridgeChanged.{changed-same, wants-same}
+use Rattle.wl_plain.proofs.BridgeChanged.{changed-same}
 use Rattle.wl_plain.proofs.BridgeJudged.{Pairs, Same, judge-pair}
-use Rattle.wl_plain.proofs.BridgeServes.{IsDone, after-same, becomes-same, by-pointer, done-same, ended_why, living, only-peer, pairs-peer, replies-same, same-peer, stacked-pointer, tops-kept}
+use Rattle.wl_plain.proofs.BridgeServes.{IsDone, after-same, becomes-same, by-pointer, done-same, ended_why, living, only-peer, replies-same, same-peer, stacked-pointer, tops-kept}
 use Rattle.wl_plain.proofs.BridgeSteps.{Leaves, closed-leaves, left-held, sent-leaves, stays-by, stored-leaves}
 use Rattle.wl_plain.proofs.OwningKeys.{none-some}
 use Rattle.wl_plain.proofs.Places.{client-kept, stacked-clients}

@@ -1,15 +1,12 @@
 -- A message leaves clients no more than toplevels, where the object that it makes or takes away is no wl_surface.
-use Rattle.std.proofs.Common.{◌≡◌, ℕ, ◌-◌, List, [], ◌∷◌, Bool, true, false, Option, Some, None, Result, drop, take, refl, ap, subst, sym, ◌∙◌, inl, inr}
-use Rattle.std.specs.Prelude.{Ok, Err}
+use Rattle.std.proofs.Common.{◌≡◌, ℕ, ◌-◌, List, [], ◌∷◌, Bool, true, false, Option, Some, None, drop, take, refl, ap, subst, sym, ◌∙◌, inl, inr}
+use Rattle.std.specs.Prelude.{Ok}
 use Rattle.wl_wire.specs.Wire.{split_of}
 use Rattle.wl_wire.specs.declared.header.Split.{Split}
 use Rattle.wl_wire.specs.declared.header.Split.TheVariants.{Message, More, Bad}
 use Rattle.wl_client.specs.declared.clients.Cause.{Cause}
-use Rattle.wl_client.specs.declared.clients.Cause.TheVariants.{Protocol}
-use Rattle.wl_client.specs.declared.refusals.ErrorCode.TheVariants.{InvalidMethod}
-use Rattle.wl_client.specs.declared.refusals.Refusal.{Refusal}
-use Rattle.wl_client.specs.Peer.{Errs, LacksMemory, Peer, Queues, QueuesOr, counted, ended, has_room, queued, with_rest}
-use Rattle.wl_client.specs.Told.{Said, code_number, display_error, error_told}
+use Rattle.wl_client.specs.Peer.{Peer, Queues, QueuesOr, ended, has_room, queued}
+use Rattle.wl_client.specs.Told.{Said}
 use Rattle.wl_plain.specs.Ask.{Ask}
 use Rattle.wl_plain.specs.Desktop.{Desktop, Resident, become, client_at, client_in}
 use Rattle.wl_plain.specs.Laws.{toplevels_of}
@@ -17,7 +14,7 @@ use Rattle.wl_plain.specs.LeftOut.{served_now}
 use Rattle.wl_plain.specs.Whole.{Serves, ServesAt}
 use Rattle.wl_plain.proofs.BridgeBack.{AsksBy, message-by}
 use Rattle.wl_client.specs.Objects.{Objects}
-use Rattle.wl_plain.specs.Step.{answers_to, changed_by, stacked, takes_memory, with_peer}
+use Rattle.wl_plain.specs.Step.{answers_to, changed_by, stacked, with_peer}
 use Rattle.wl_plain.proofs.Simply.{judge}
 use Rattle.wl_plain.specs.NoMore.{NoMore, OwnsToplevelsAt, OwnsToplevelsOnly}
 use Rattle.wl_plain.proofs.BridgeDesks.{become-has, stacked-others-own}

@@ -1,16 +1,13 @@
 -- A message of a client, where no client has more than toplevels, does what it does where every request may be served.
-use Rattle.std.proofs.Common.{◌≡◌, ℕ, ◌-◌, List, [], ◌∷◌, ◌++◌, Bool, true, false, Option, Some, None, Result, cond, drop, take, refl, ap, subst, sym, ◌∙◌, map, inl, inr}
+use Rattle.std.proofs.Common.{◌≡◌, ℕ, List, [], ◌∷◌, ◌++◌, Bool, true, false, Option, Some, None, Result, cond, refl, ap, subst, sym, ◌∙◌, map, inl, inr}
 use Rattle.std.specs.Prelude.{Ok, Err, ◌==◌, not, filter, flat_map}
-use Rattle.wl_wire.specs.Wire.{split_of}
-use Rattle.wl_wire.specs.declared.header.Split.{Split}
-use Rattle.wl_wire.specs.declared.header.Split.TheVariants.{Message, More, Bad}
 use Rattle.wl_proto.specs.declared.interface.Interface.TheVariants.{WlSurface, XdgPopup}
 use Rattle.wl_proto.specs.Messages.{says}
 use Rattle.wl_client.specs.declared.clients.Cause.{Cause}
 use Rattle.wl_client.specs.declared.clients.Cause.TheVariants.{Memory, Slow}
 use Rattle.wl_client.specs.declared.refusals.Refusal.{Refusal}
 use Rattle.wl_client.specs.Objects.{is_of}
-use Rattle.wl_client.specs.Peer.{LacksMemory, Peer, Queues, QueuesOr, counted, ended, has_room, queued, with_rest}
+use Rattle.wl_client.specs.Peer.{LacksMemory, Peer, Queues, QueuesOr, counted, ended, has_room, queued}
 use Rattle.wl_client.specs.Told.{Said, said}
 use Rattle.wl_shell.specs.Shell.{Effect, Stays, Unconfigured, Configures, Maps, Unmaps, Fresh, Waiting, Mapped, RoleObject, Shell, XdgSurface as Xdg, acknowledging, configuring, in_stage, new_toplevel, unmapping, with_change, with_new, without_role, without_xdg, xdg_at, xdg_of}
 use Rattle.wl_scene.specs.Pointer.{first_pointer}
@@ -18,22 +15,20 @@ use Rattle.wl_scene.specs.Stacking.{Standing, without_client}
 use Rattle.wl_plain.specs.Ask.{Ask, Own, CreateSurface, DestroySurface, AskSurface, CommitSurface, DestroyBase, GetXdgSurface, DestroyXdgSurface, GetToplevel, Acknowledge, ConfigureAgain, DestroyToplevel, Ignore}
 use Rattle.wl_plain.specs.Changing.{with_kept_move}
 use Rattle.wl_plain.specs.Demand.{Demand}
-use Rattle.wl_plain.specs.Demanding.{judge_all}
 use Rattle.wl_plain.specs.Desktop.{Desktop, Resident, become, become_by, client_at, client_in, resident_of, with_client}
-use Rattle.wl_plain.specs.Laws.{toplevels_of}
 use Rattle.wl_plain.specs.LeftOut.{served_now}
 use Rattle.wl_plain.specs.Popups.{is_among}
 use Rattle.wl_plain.specs.Replies.{dismissed_in, newest_first, own_answers, popups_done, replies}
 use Rattle.wl_plain.specs.Settling.{EndsAndSettles, QueuesTo, after_status, becomes, ended_at, pointer_without, unstruck}
 use Rattle.wl_plain.specs.Stacked.{all_windows}
 use Rattle.wl_plain.specs.Step.{answers_to, changed_by, effect_on, stacked, takes_memory, toplevel_given, with_peer}
-use Rattle.wl_plain.proofs.Simply.{Answers, Becomes, WantsOr, judge}
-use Rattle.wl_plain.specs.NoMore.{AreToplevels, NoMore, IsToplevel, OwnsToplevelsAt, OwnsToplevelsBy, OwnsToplevelsOnly}
-use Rattle.wl_plain.specs.Whole.{after_why, done_for, Answers as WholeAnswers, Becomes as WholeBecomes, Does, Serves as WholeServes, ServesAt as WholeServesAt, Takes as WholeTakes, WantsOr as WholeWantsOr}
+use Rattle.wl_plain.proofs.Simply.{Answers, Becomes, WantsOr}
+use Rattle.wl_plain.specs.NoMore.{AreToplevels, IsToplevel, OwnsToplevelsBy, OwnsToplevelsOnly}
+use Rattle.wl_plain.specs.Whole.{after_why, done_for, Answers as WholeAnswers, Becomes as WholeBecomes, Does, WantsOr as WholeWantsOr}
 use Rattle.wl_plain.proofs.Behind.{changed-status}
 use Rattle.wl_plain.proofs.BridgeBuffers.{nothing-after}
 use Rattle.wl_plain.proofs.BridgeChanged.{answers-same, changed-same, no-popups, stacked-same, stage-top, wants-same}
-use Rattle.wl_plain.proofs.BridgeJudged.{Pairs, Same, asks, commit, ends, goes, judge-pair, move}
+use Rattle.wl_plain.proofs.BridgeJudged.{Pairs, Same, asks, commit, ends, goes, move}
 use Rattle.wl_plain.proofs.Places.{number-same, number-twice, stacked-clients}
 use Rattle.wl_plain.proofs.WholeOneRunEnds.{queues-status}
 

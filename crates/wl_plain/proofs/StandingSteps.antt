@@ -1,12 +1,10 @@
 -- The mapped toplevels stand through the messages of a client, and as clients come and go.
-use Rattle.std.proofs.Common.{◌≡◌, ℕ, zero, suc, ◌+◌, List, [], ◌∷◌, Bool, true, false, Option, Some, None, Result, refl, ap, sym, subst, ◌∙◌, arith, inl, inr}
-use Rattle.std.specs.Prelude.{Ok, Err, drop, replicate}
+use Rattle.std.proofs.Common.{◌≡◌, ℕ, zero, suc, ◌+◌, List, [], ◌∷◌, Option, Some, None, refl, ap, sym, subst, ◌∙◌, arith, inl, inr}
+use Rattle.std.specs.Prelude.{replicate}
 use Rattle.wl_wire.specs.Wire.{split_of}
 use Rattle.wl_wire.specs.declared.header.Split.{Split}
 use Rattle.wl_wire.specs.declared.header.Split.TheVariants.{Message as Whole, More, Bad}
-use Rattle.wl_client.specs.declared.clients.Cause.TheVariants.{Memory}
-use Rattle.wl_client.specs.declared.refusals.Refusal.{Refusal}
-use Rattle.wl_client.specs.Peer.{LacksMemory, Peer, counted, ended, with_rest}
+use Rattle.wl_client.specs.Peer.{Peer}
 use Rattle.wl_client.specs.Told.{Output}
 use Rattle.wl_surface.specs.Kept.{Slots}
 use Rattle.wl_shell.specs.Kept.{Kept}
@@ -20,8 +18,7 @@ use Rattle.wl_plain.specs.NoMore.{NoMore}
 use Rattle.wl_plain.specs.Whole.{Serves}
 use Rattle.wl_plain.proofs.BridgeBack.{AsksBy, message-by}
 use Rattle.wl_plain.specs.Standing.{AreMapped, MappedStand}
-use Rattle.wl_plain.specs.Step.{changed_by, stacked, takes_memory, with_peer}
-use Rattle.wl_plain.proofs.Simply.{Answers, Becomes, WantsOr}
+use Rattle.wl_plain.specs.Step.{with_peer}
 use Rattle.wl_plain.specs.Steps.{ConnectsAt, lowest, next_of}
 use Rattle.wl_plain.proofs.Altering.{ChangesAt, left_so}
 use Rattle.wl_plain.proofs.OwningKeys.{some-same}

@@ -1,12 +1,11 @@
 -- What one message of a client marks at least lies in the windows of one surface, or, where the client ends, in windows that it had.
-use Rattle.std.proofs.Common.{◌≡◌, ℕ, [], Bool, true, false, Option, Some, None, Result, refl, ap, sym, subst, ◌∙◌, inl, inr}
-use Rattle.std.specs.Prelude.{ℤ, ◌-◌, ◌⊎◌, Ok, Err, drop, is_some, take}
+use Rattle.std.proofs.Common.{◌≡◌, ℕ, [], true, Option, Some, None, refl, ap, sym, subst, ◌∙◌, inl, inr}
+use Rattle.std.specs.Prelude.{ℤ, ◌⊎◌, is_some}
 use Rattle.wl_wire.specs.Wire.{split_of}
 use Rattle.wl_wire.specs.declared.header.Split.{Split}
 use Rattle.wl_wire.specs.declared.header.Split.TheVariants.{Message as Whole, More, Bad}
 use Rattle.wl_client.specs.declared.clients.Cause.{Cause}
-use Rattle.wl_client.specs.declared.refusals.Refusal.{Refusal}
-use Rattle.wl_client.specs.Peer.{LacksMemory, Peer, counted, with_rest}
+use Rattle.wl_client.specs.Peer.{Peer}
 use Rattle.wl_surface.specs.Kept.{Slots}
 use Rattle.wl_shell.specs.Kept.{Kept}
 use Rattle.wl_plain.specs.Ask.{Ask, CommitSurface, DestroyToplevel}
@@ -19,8 +18,7 @@ use Rattle.wl_plain.specs.NoMore.{NoMore}
 use Rattle.wl_plain.specs.Whole.{Serves}
 use Rattle.wl_plain.proofs.BridgeBack.{AsksBy, message-by}
 use Rattle.wl_plain.specs.Standing.{AreMapped, MappedStand}
-use Rattle.wl_plain.specs.Step.{changed_by, stacked, takes_memory, with_peer}
-use Rattle.wl_plain.proofs.Simply.{Answers, Becomes, WantsOr, judge}
+use Rattle.wl_plain.specs.Step.{changed_by, stacked, with_peer}
 use Rattle.wl_plain.specs.Touching.{TouchesThere, has_window_at, touched}
 use Rattle.wl_plain.proofs.Places.{stacked-clients, status-become}
 use Rattle.wl_plain.proofs.Stacks.{differ}

@@ -1,22 +1,17 @@
 -- One message of one client: what it asks of the desktop, or why it is refused, and what is changed and told where it asks no more.
-use Rattle.std.specs.Prelude.{ℕ, zero, suc, ◌≡◌, ◌+◌, ◌-◌, ◌==◌, ◌&&◌, Bool, true, false, not, if◌then◌else◌, Option, Some, None, Result, Ok, Err, List, [], ◌∷◌, ◌++◌, length, take, drop, filter, fold, ◌⊎◌, pos}
+use Rattle.std.specs.Prelude.{ℕ, ◌+◌, ◌==◌, ◌&&◌, Bool, true, false, not, if◌then◌else◌, Option, Some, None, Result, List, [], ◌∷◌, length, filter, fold, pos}
 use Rattle.std.specs.Option.{option_map, option_map_or}
-use Rattle.wl_wire.specs.Wire.{Word, Number, Block, split_of}
-use Rattle.wl_wire.specs.declared.header.Split.{Split}
-use Rattle.wl_wire.specs.declared.header.Split.TheVariants.{Message as Whole, More, Bad}
+use Rattle.wl_wire.specs.Wire.{Word, Number, Block}
 use Rattle.wl_proto.specs.declared.interface.Interface.{Interface}
 use Rattle.wl_proto.specs.declared.interface.Interface.TheVariants.{WlCompositor, WlSurface, XdgWmBase, XdgSurface, XdgToplevel}
 use Rattle.wl_proto.specs.Messages.{Message, says}
 use Rattle.wl_client.specs.declared.actions.Action.{Action}
-use Rattle.wl_client.specs.declared.clients.Cause.{Cause}
-use Rattle.wl_client.specs.declared.clients.Cause.TheVariants as cause
-use Rattle.wl_client.specs.declared.refusals.ErrorCode.TheVariants.{InvalidMethod}
 use Rattle.wl_client.specs.declared.refusals.Refusal.{Refusal}
-use Rattle.wl_client.specs.Judgement.{action_of, judged_at, word_in}
-use Rattle.wl_client.specs.Peer.{Peer, Errs, IsIdle, LacksMemory, Queues, counted, ended, known_of, made, object_at_version, released, removed, with_rest}
+use Rattle.wl_client.specs.Judgement.{action_of, word_in}
+use Rattle.wl_client.specs.Peer.{Peer, known_of, made, object_at_version, released, removed}
 use Rattle.wl_client.specs.Peer.{answers_to as own_answers, takes_memory as own_takes_memory}
 use Rattle.wl_client.specs.Serving.{changed_with}
-use Rattle.wl_client.specs.Told.{Said, display_error, id_deleted, said}
+use Rattle.wl_client.specs.Told.{Said, id_deleted, said}
 use Rattle.wl_surface.specs.Request.{Buffer, Request, Commit}
 use Rattle.wl_surface.specs.State.{History}
 use Rattle.wl_surface.specs.Surfaces.{Surfaces, applying, asking, buffers_of, history_in, is_used, with_change, with_new, with_role, without_surface}
@@ -26,9 +21,8 @@ use Rattle.wl_shell.specs.Shell.{Effect, Stays, Unconfigured, Configures, Maps, 
 use Rattle.wl_shell.specs.Shell.{with_change as with_xdg_change, with_new as with_new_xdg}
 use Rattle.wl_scene.specs.Stacking.{with_mapped, without_surface_of}
 use Rattle.wl_plain.specs.Ask.{Ask, Own, CreateSurface, DestroySurface, AskSurface, CommitSurface, DestroyBase, GetXdgSurface, DestroyXdgSurface, GetToplevel, Acknowledge, ConfigureAgain, DestroyToplevel, Ignore, owns}
-use Rattle.wl_plain.specs.Desktop.{Desktop, Resident, become, client_at}
-use Rattle.wl_plain.specs.Served.{Unserved}
-use Rattle.wl_plain.specs.WlSurface.{refuse_limit, surface_ask, surface_created}
+use Rattle.wl_plain.specs.Desktop.{Desktop, Resident}
+use Rattle.wl_plain.specs.WlSurface.{surface_ask, surface_created}
 use Rattle.wl_plain.specs.XdgShell.{base_ask, toplevel_ask, xdg_ask}
 
 -- the request's own errors, and what it asks
