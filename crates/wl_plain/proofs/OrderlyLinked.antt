@@ -23,6 +23,7 @@ forest-trees bound all f = record {
   depth = depth levels all;
   below = λ number link live. depth-step bound link.child link all f (live-link bound number link all f live);
   top = λ surface none. depth-none levels all surface (no-link bound surface all f none);
+  shallow = λ surface. depth-low bound surface all f;
 }
 
 -- ---- the new link

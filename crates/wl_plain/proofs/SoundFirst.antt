@@ -1,5 +1,5 @@
 -- A desktop without clients is sound.
-use Rattle.std.proofs.Common.{◌≡◌, ℕ, zero, suc, Option, Some, None, refl, sym, subst}
+use Rattle.std.proofs.Common.{◌≡◌, ℕ, zero, suc, Option, Some, None, refl, sym, subst, arith}
 use Rattle.std.specs.Prelude.{replicate}
 use Rattle.wl_client.specs.Told.{Output}
 use Rattle.wl_surface.specs.State.{History}
@@ -27,6 +27,7 @@ no-trees =
       depth = λ surface. 0;
       below = λ number link live. absurd (no-live number link live);
       top = λ surface no. refl;
+      shallow = λ surface. omega arith;
     }
 
 no-place : (n k : ℕ) → place (replicate n None) k ≡ None

@@ -1,5 +1,5 @@
 -- What of a desktop makes its windows distinct.
-use Rattle.std.specs.Prelude.{ℕ, suc, ◌≡◌, ◌==◌, Bool, true, false, Some, List, [], ◌∷◌, take}
+use Rattle.std.specs.Prelude.{ℕ, suc, ◌≡◌, ◌≤◌, ◌==◌, Bool, true, false, Some, List, [], ◌∷◌, take}
 use Rattle.std.specs.List.{list_any}
 use Rattle.wl_client.specs.Told.{Output}
 use Rattle.wl_surface.specs.Request.{Child}
@@ -31,8 +31,9 @@ abbrev pub IsNoChild : ℕ → Surfaces → Type 0
 IsNoChild surface all = (number : ℕ) (link : Link) → IsLive number link all → link.child ≡ surface → ⊥
 
 -- The links of a client that haven't ended make trees: each child has one; whatever counts of what was asked of a surface, its order has no
--- member twice, and only links to its own children; and each child is a level deeper than its parent, so that none descends from itself
--- (wayland.xml, wl_subcompositor.get_subsurface).
+-- member twice, and only links to its own children; each child is a level deeper than its parent, so that none descends from itself
+-- (wayland.xml, wl_subcompositor.get_subsurface); and no surface stands deeper than 16, a root having depth 0, so that the 17 levels that
+-- the windows are read from hold all of them.
 pub record AreTrees (all : Surfaces) : Type 0 where
   pub once : (k l : ℕ) (a b : Link) → IsLive k a all → IsLive l b all → a.child ≡ b.child → k ≡ l
   pub ordered : (surface counting : ℕ) (h : History) → history_in surface all ≡ Some h → AreOnce is_member (order (take counting h.requests))
@@ -42,6 +43,7 @@ pub record AreTrees (all : Surfaces) : Type 0 where
   pub depth : ℕ → ℕ
   pub below : (number : ℕ) (link : Link) → IsLive number link all → depth link.child ≡ suc (depth link.parent)
   pub top : (surface : ℕ) → IsNoChild surface all → depth surface ≡ 0
+  pub shallow : (surface : ℕ) → depth surface ≤ 16
 
 -- a popup of this surface
 abbrev pub has_surface : ℕ → StackedPopup → Bool
