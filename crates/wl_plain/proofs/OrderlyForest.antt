@@ -7,8 +7,9 @@ use Rattle.std.proofs.lemmas.Bool.{eqb-true, eqb-false}
 use Rattle.wl_surface.specs.Request.{Request, Member, Itself, Child, Commit, AddChild, PlaceAbove, PlaceBelow}
 use Rattle.wl_surface.specs.State.{History, above, below, is_member, order, ordered, without}
 use Rattle.wl_surface.specs.Surfaces.{Link, Surface, Surfaces, asking, history_in, link_at, new_surface, surface_at, with_change, with_new, with_role, without_surface}
-use Rattle.wl_surface.specs.Trees.{committed_in, desynchronised_in, destroyed_in, ended_in, links_with, synchronised_in, unlinked}
+use Rattle.wl_surface.specs.Trees.{committed_in, desynchronised_in, destroyed_in, ended_in, links_with, synchronised_in}
 use Rattle.wl_surface.specs.declared.role.Role.{Role}
+use Rattle.wl_plain.specs.Changing.{unlinked_at}
 use Rattle.wl_plain.specs.Owning.{AreApartBy}
 use Rattle.wl_plain.specs.Soundness.{AreOnce, IsLive}
 use Rattle.wl_plain.proofs.Orderly.{IsAskable, IsForest, IsOfParent, KeepsLinks}
@@ -97,8 +98,8 @@ forest-synchronised b number all = forest-moved b all (synchronised_in number al
 pub forest-desynchronised : (b number : ℕ) (all : Surfaces) → IsForest b all → IsForest b (desynchronised_in number all)
 forest-desynchronised b number all = forest-moved b all (desynchronised_in number all) (moves-desynchronised number all)
 
-pub forest-unlinked : (b number : ℕ) (all : Surfaces) → IsForest b all → IsForest b (unlinked number all)
-forest-unlinked b number all = forest-moved b all (unlinked number all) (moves-unlinked number all)
+pub forest-unlinked : (b : ℕ) (link : Option ℕ) (all : Surfaces) → IsForest b all → IsForest b (unlinked_at link all)
+forest-unlinked b link all = forest-moved b all (unlinked_at link all) (moves-unlinked link all)
 
 -- the links stay, and the surfaces are others
 forest-surfaces : (bound : ℕ) (xs : List Surface) (all : Surfaces) → HasOrders bound all (record all { surfaces = xs }) → IsForest bound all → IsForest bound (record all { surfaces = xs })

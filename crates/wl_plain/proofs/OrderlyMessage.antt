@@ -9,7 +9,7 @@ use Rattle.wl_surface.specs.Surfaces.{Link, Surfaces}
 use Rattle.wl_shell.specs.Positioner.{Positioner}
 use Rattle.wl_shell.specs.Shell.{Effect, Stays, Unconfigured, Configures, Maps, Unmaps, XdgSurface as Xdg, xdg_at, xdg_of}
 use Rattle.wl_plain.specs.Ask.{Ask, Own, CreateSurface, DestroySurface, AskSurface, CommitSurface, DestroyBase, GetXdgSurface, DestroyXdgSurface, GetToplevel, Acknowledge, ConfigureAgain, DestroyToplevel, Ignore}
-use Rattle.wl_plain.specs.Changing.{changed_for, drawing, effect_done, grab_allowed, grabbed, has_focus, in_rising_order, popup_given_to, tree_committed}
+use Rattle.wl_plain.specs.Changing.{changed_for, drawing, effect_done, grab_allowed, grabbed, has_focus, in_rising_order, link_with_id, popup_given_to, tree_committed}
 use Rattle.wl_plain.specs.Demand.{Demand, Asks, EndSurface, AskFrame, CommitTree, EndObject, GetSubsurface, EndSubsurface, SetMode, GetPointer, MakeCursor, CreatePositioner, EndPositioner, SetPositioner, GetPopup, Grab, EndPopup, EndToplevel, Move}
 use Rattle.wl_plain.specs.Demanding.{effect_of_commit}
 use Rattle.wl_plain.specs.Desktop.{Desktop, Resident}
@@ -151,7 +151,7 @@ forest-kept c (CommitTree surface) r d ok roles forest =
 forest-kept c (EndObject id) r d ok roles forest = next r.peer.requests r.owned.surfaces forest
 forest-kept c (GetSubsurface id version child parent) r d ok roles forest =
     forest-linked r.peer.requests child parent r.owned.surfaces forest (no-child r child roles ok.3) ok.5 ok.6
-forest-kept c (EndSubsurface id) r d ok roles forest = next r.peer.requests _ (forest-unlinked r.peer.requests _ r.owned.surfaces forest)
+forest-kept c (EndSubsurface id) r d ok roles forest = next r.peer.requests _ (forest-unlinked r.peer.requests (link_with_id id r) r.owned.surfaces forest)
 forest-kept c (SetMode link true) r d ok roles forest = next r.peer.requests _ (forest-synchronised r.peer.requests link r.owned.surfaces forest)
 forest-kept c (SetMode link false) r d ok roles forest = next r.peer.requests _ (forest-desynchronised r.peer.requests link r.owned.surfaces forest)
 forest-kept c (GetPointer id version) r d ok roles forest = by-same r.peer.requests r.owned.surfaces _ (drawn-surfaces (has_focus c d.pointer.focus) (record r { pointers = in_rising_order id r.pointers })) forest

@@ -7,7 +7,8 @@ use Rattle.std.proofs.lemmas.Bool.{eqb-true, ne_eqb}
 use Rattle.wl_surface.specs.Request.{Request, Commit}
 use Rattle.wl_surface.specs.State.{History}
 use Rattle.wl_surface.specs.Surfaces.{Link, Surface, Surfaces, applying, asking, history_in, link_at, surface_at, with_change, without_surface}
-use Rattle.wl_surface.specs.Trees.{applied_tree, applied_unless, behaves_synchronised, children_of, committed_in, desynchronised_in, destroyed_in, ended_in, ending, in_mode, levels, links_with, released_in, synchronised_in, unlinked, with_link}
+use Rattle.wl_surface.specs.Trees.{applied_tree, applied_unless, behaves_synchronised, children_of, committed_in, desynchronised_in, destroyed_in, ended_in, ending, in_mode, levels, links_with, released_in, synchronised_in, with_link}
+use Rattle.wl_plain.specs.Changing.{unlinked_at}
 use Rattle.wl_plain.specs.Owning.{AreApartBy}
 use Rattle.wl_plain.specs.Soundness.{IsLive}
 use Rattle.wl_plain.proofs.OwningKeys.{apart-map, differ, found-map, found-passes, some-same}
@@ -262,11 +263,12 @@ moves-ended all l =
 pub moves-all-ended : (ls : List Link) (all : Surfaces) → Moves all (fold ended_in all ls)
 moves-all-ended ls all = moves-fold ended_in moves-ended ls all
 
-pub moves-unlinked : (number : ℕ) (all : Surfaces) → Moves all (unlinked number all)
-moves-unlinked number all = moves-all-ended (filter (λ l. not l.has_ended && l.number == number) all.links) all
+pub moves-unlinked : (link : Option ℕ) (all : Surfaces) → Moves all (unlinked_at link all)
+moves-unlinked None all = moves-none all
+moves-unlinked (Some number) all = moves-all-ended (filter (λ l. not l.has_ended && l.number == number) all.links) all
 
-pub trees-unlinked : (number : ℕ) (all : Surfaces) → KeepsTrees all (unlinked number all)
-trees-unlinked number all = moves-trees all (unlinked number all) (moves-unlinked number all)
+pub trees-unlinked : (link : Option ℕ) (all : Surfaces) → KeepsTrees all (unlinked_at link all)
+trees-unlinked link all = moves-trees all (unlinked_at link all) (moves-unlinked link all)
 
 -- ---- which links live then
 
@@ -322,12 +324,13 @@ never-ended q n link l all live found is = differ (sym (left-there (has_number n
 lives-and : (a b : Bool) → a ≡ false → b ≡ true → (not a && b) ≡ true
 lives-and a b e f = and-both (not a) b (ap (λ c. not c) e) f
 
-pub unlinked-live : (number n : ℕ) (link : Link) (all : Surfaces) → AreApartBy (λ number l. l.number == number) all.links → IsLive n link (unlinked number all) → n ≢ number
-unlinked-live number n link all apart live same =
-    let old = (moves-unlinked number all).links n link live in
+pub unlinked-live : (gone : Option ℕ) (n : ℕ) (link : Link) (all : Surfaces) → AreApartBy (λ number l. l.number == number) all.links → IsLive n link (unlinked_at gone all) → Some n ≢ gone
+unlinked-live None n link all apart live same = absurd (cc)
+unlinked-live (Some number) n link all apart live same =
+    let old = (moves-unlinked (Some number) all).links n link live in
     let is : old.0.number ≡ n = eqb-true old.0.number n (found-passes (has_number n) all.links old.0 old.1.here) in
     never-ended (λ l. not l.has_ended && l.number == number) n link old.0 all live old.1.here
-    (lives-and old.0.has_ended (old.0.number == number) old.1.lives (equal-numbers old.0.number number (is ∙ same)))
+    (lives-and old.0.has_ended (old.0.number == number) old.1.lives (equal-numbers old.0.number number (is ∙ some-same n number same)))
 
 -- ---- a surface goes
 

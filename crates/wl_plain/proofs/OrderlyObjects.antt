@@ -12,13 +12,13 @@ use Rattle.wl_client.specs.Serving.{changed_with, has_used, keeps_store}
 use Rattle.wl_surface.specs.Request.{Frame}
 use Rattle.wl_surface.specs.Surfaces.{Surfaces, asking, history_in, is_used, with_new, with_role}
 use Rattle.wl_surface.specs.Surfaces.{with_change as with_surface_change}
-use Rattle.wl_surface.specs.Trees.{committed_in, desynchronised_in, destroyed_in, linked, synchronised_in, unlinked}
+use Rattle.wl_surface.specs.Trees.{committed_in, desynchronised_in, destroyed_in, linked, synchronised_in}
 use Rattle.wl_surface.specs.declared.role.Role.TheVariants as role
 use Rattle.wl_shell.specs.Positioner.{Positioner}
 use Rattle.wl_shell.specs.Shell.{Effect, Stays, Unconfigured, Configures, Maps, Unmaps, Waiting, Mapped, Shell, XdgSurface as Xdg, acknowledging, configuring, in_stage, unmapping, with_change, without_role, xdg_at, xdg_of}
 use Rattle.wl_scene.specs.Stacking.{Owned}
 use Rattle.wl_plain.specs.Ask.{Ask, Own, CreateSurface, DestroySurface, AskSurface, CommitSurface, DestroyBase, GetXdgSurface, DestroyXdgSurface, GetToplevel, Acknowledge, ConfigureAgain, DestroyToplevel, Ignore}
-use Rattle.wl_plain.specs.Changing.{after_all, frames_asked, is_asked, link_with_id, changed_for, drawing, effect_done, frame_asked, grab_allowed, grabbed, has_focus, in_rising_order, mode_set, placement_now, placing, popup_given_to, subsurface_ended, subsurface_given, surface_ended, toplevel_ended, tree_committed, with_grab, without_callbacks, without_child, without_grab}
+use Rattle.wl_plain.specs.Changing.{after_all, frames_asked, is_asked, link_with_id, unlinked_at, changed_for, drawing, effect_done, frame_asked, grab_allowed, grabbed, has_focus, in_rising_order, mode_set, placement_now, placing, popup_given_to, subsurface_ended, subsurface_given, surface_ended, toplevel_ended, tree_committed, with_grab, without_callbacks, without_child, without_grab}
 use Rattle.wl_plain.specs.Demand.{Demand, Asks, EndSurface, AskFrame, CommitTree, EndObject, GetSubsurface, EndSubsurface, SetMode, GetPointer, MakeCursor, CreatePositioner, EndPositioner, SetPositioner, GetPopup, Grab, EndPopup, EndToplevel, Move}
 use Rattle.wl_plain.specs.Demanding.{effect_of_commit}
 use Rattle.wl_plain.specs.Desktop.{Callback, Desktop, Resident, Subsurface}
@@ -198,7 +198,7 @@ pointer-made false id version r new h = has-object r.peer.objects r.owned.surfac
 
 subsurface-gone : (id : ℕ) (r : Resident) → IsObject of.WlSubsurface id r → HasOf r → HasOf (subsurface_ended id r)
 subsurface-gone id r ok h =
-    let all = unlinked (link_with_id id r) r.owned.surfaces in
+    let all = unlinked_at (link_with_id id r) r.owned.surfaces in
     has-subsurface-gone r.peer.objects all r.subsurfaces r.owned.shell r.callbacks (there-has r all (there-unlinked (link_with_id id r) r.owned.surfaces) h) id ok
 
 subsurface-made : (id version child parent : ℕ) (r : Resident) → IsNew id r → HasOf r → HasOf (subsurface_given id version child parent r)

@@ -6,7 +6,8 @@ use Rattle.std.proofs.lemmas.Bool.{eqb-true}
 use Rattle.wl_surface.specs.declared.role.Role.TheVariants.{Subsurface}
 use Rattle.wl_surface.specs.Request.{AddChild, Commit}
 use Rattle.wl_surface.specs.Surfaces.{Link, Surface, Surfaces, applying, asking, link_at, new_surface, surface_at, with_change, with_new, with_role}
-use Rattle.wl_surface.specs.Trees.{applied_tree, applied_unless, behaves_synchronised, children_of, committed_in, desynchronised_in, destroyed_in, ended_in, in_mode, levels, linked, links_with, released_in, unlinked, with_link}
+use Rattle.wl_surface.specs.Trees.{applied_tree, applied_unless, behaves_synchronised, children_of, committed_in, desynchronised_in, destroyed_in, ended_in, in_mode, levels, linked, links_with, released_in, with_link}
+use Rattle.wl_plain.specs.Changing.{unlinked_at}
 use Rattle.wl_plain.proofs.OwningKeys.{differ, found-map}
 use Rattle.wl_plain.proofs.Stacks.{equal-numbers}
 
@@ -98,8 +99,9 @@ there-desynchronised number all id = there-released (link_at number all) all (wi
 there-ended : (all : Surfaces) (l : Link) → There all (ended_in all l)
 there-ended all l id = there-applied levels l.child _ id
 
-pub there-unlinked : (number : ℕ) (all : Surfaces) → There all (unlinked number all)
-there-unlinked number all id = there-all ended_in there-ended (filter (λ l. not l.has_ended && l.number == number) all.links) all id
+pub there-unlinked : (link : Option ℕ) (all : Surfaces) → There all (unlinked_at link all)
+there-unlinked None all id = refl
+there-unlinked (Some number) all id = there-all ended_in there-ended (filter (λ l. not l.has_ended && l.number == number) all.links) all id
 
 -- each surface but the one that goes
 pub there-destroyed : (surface : ℕ) (all : Surfaces) (id : ℕ) → (id == surface) ≡ false → is_some (surface_at id (destroyed_in surface all)) ≡ is_some (surface_at id all)

@@ -290,14 +290,14 @@ roles-subsurface id version child parent r there none forest has = record {
 
 -- what is of another link is left
 names-left :
-    (id n child : ℕ) (ss : List Subsurface) → AreApartBy (λ id s. s.id == id) ss → n ≢ option_map_or (λ s. s.link) (find (λ s. s.id == id) ss) 0 → list_any (names_child n child) ss ≡ true
+    (id n child : ℕ) (ss : List Subsurface) → AreApartBy (λ id s. s.id == id) ss → Some n ≢ option_map (λ s. s.link) (find (λ s. s.id == id) ss) → list_any (names_child n child) ss ≡ true
     → list_any (names_child n child) (filter (λ s. not (s.id == id)) ss) ≡ true
 names-left id n child ss apart other any = at (any-found (λ id s. s.id == id) (names_child n child) ss apart any)
   where
     at : (s : Subsurface) × (names_child n child s ≡ true) × ((key : ℕ) → (s.id == key) ≡ true → find (λ s. s.id == key) ss ≡ Some s) → list_any (names_child n child) (filter (λ s. not (s.id == id)) ss) ≡ true
     at one =
         let not_it : (one.0.id == id) ≡ false = unless (one.0.id == id)
-        (λ same. other (sym (eqb-true one.0.link n (and-left (one.0.link == n) (is_of_child child one.0.surface) one.1)) ∙ sym (ap (λ (o : Option Subsurface). option_map_or (λ s. s.link) o 0) (one.2 id same)))) in
+        (λ same. other (ap (λ k. Some k) (sym (eqb-true one.0.link n (and-left (one.0.link == n) (is_of_child child one.0.surface) one.1))) ∙ sym (ap (λ (o : Option Subsurface). option_map (λ s. s.link) o) (one.2 id same)))) in
         found-any (λ s. s.id == one.0.id) (names_child n child) (filter (λ s. not (s.id == id)) ss) one.0
         (found-kept (λ s. s.id == one.0.id) (λ s. not (s.id == id)) ss one.0 (one.2 one.0.id (equal-numbers one.0.id one.0.id refl)) (ap (λ b. not b) not_it)) one.1
 

@@ -2,6 +2,7 @@
 use Rattle.std.proofs.Common.{◌≡◌, ℕ, List, [], ◌∷◌, ◌++◌, Bool, true, false, Option, Some, None, Result, refl, ap, sym, ◌∙◌}
 use Rattle.std.specs.Prelude.{Ok, Err, ◌==◌, ◌&&◌, fold, if◌then◌else◌, map, not}
 use Rattle.std.specs.List.{list_all}
+use Rattle.std.specs.Option.{option_and_then}
 use Rattle.wl_wire.specs.Wire.{Field}
 use Rattle.wl_proto.specs.declared.error.ProtoError.{ProtoError}
 use Rattle.wl_proto.specs.declared.interface.Interface.{Interface}
@@ -170,7 +171,7 @@ module _ (c : ℕ) (more : List ℕ) where
 
   allowed-behind : (xdg serial : ℕ) (r : Resident) (d : Desktop) (rest : List ℕ) → grab_allowed c xdg serial (with_behind rest r) (longer_in c more d) ≡ grab_allowed c xdg serial r d
   allowed-behind xdg serial r d rest =
-      ap (λ (o : Option ℕ). is_latest serial r && (parent_allows (xdg_at (parent_of (popup_at xdg r.owned.shell)) r.owned.shell) && not (is_held_elsewhere c o))) (holder-longer c more d)
+      ap (λ (o : Option ℕ). is_latest serial r && (parent_allows (option_and_then (parent_of r.owned.shell) (popup_at xdg r.owned.shell)) && not (is_held_elsewhere c o))) (holder-longer c more d)
 
   -- the same is done
   pub done-behind : (demand : Demand) (r : Resident) (d : Desktop) (rest : List ℕ) → changed_for c demand (with_behind rest r) (longer_in c more d) ≡ with_behind rest (changed_for c demand r d)

@@ -1,7 +1,7 @@
 -- What an accepted message changes of its client, of the stack of toplevels, and of the pointer, where every request is served.
 use Rattle.std.specs.Prelude.{ℕ, pos, suc, ◌+◌, ◌==◌, ◌&&◌, ◌||◌, nat_lt, not, Bool, true, false, if◌then◌else◌, Option, Some, None, List, [], ◌∷◌, ◌++◌, filter, find, flat_map, fold, map, is_some}
 use Rattle.std.specs.List.{list_any}
-use Rattle.std.specs.Option.{option_map_or}
+use Rattle.std.specs.Option.{option_and_then, option_map, option_map_or}
 use Rattle.wl_geom.specs.declared.rect.Rect.{Rect}
 use Rattle.wl_proto.specs.declared.interface.Interface.TheVariants.{WlCallback, WlSubsurface, WlPointer, XdgPositioner, XdgPopup}
 use Rattle.wl_client.specs.Objects.{with_id}
@@ -9,11 +9,11 @@ use Rattle.wl_client.specs.Peer.{removed}
 use Rattle.wl_client.specs.Told.{Output}
 use Rattle.wl_surface.specs.Request.{Request, Frame}
 use Rattle.wl_surface.specs.State.{History}
-use Rattle.wl_surface.specs.Surfaces.{buffers_of, history_in, with_change as with_surface_change, with_role}
+use Rattle.wl_surface.specs.Surfaces.{Surfaces, buffers_of, history_in, with_change as with_surface_change, with_role}
 use Rattle.wl_surface.specs.Trees.{committed_in, desynchronised_in, destroyed_in, linked, synchronised_in, unlinked}
 use Rattle.wl_surface.specs.declared.role.Role.TheVariants.{Popup as AsPopup, Cursor as AsCursor}
 use Rattle.wl_shell.specs.Positioner.{Placed, Positioner, first_positioner, place}
-use Rattle.wl_shell.specs.Shell.{Effect, Stays, Unconfigured, Configures, Maps, Unmaps, Fresh, Waiting, Mapped, Kind, Toplevel, IsPopup, Popup, XdgSurface, in_stage, next_serial, unmapping, with_change, without_role, xdg_at, xdg_of}
+use Rattle.wl_shell.specs.Shell.{Effect, Stays, Unconfigured, Configures, Maps, Unmaps, Fresh, Waiting, Mapped, Kind, Toplevel, IsPopup, Popup, Shell, XdgSurface, in_stage, next_serial, unmapping, with_change, without_role, xdg_at, xdg_of}
 use Rattle.wl_scene.specs.Pointer.{Pointer, Target}
 use Rattle.wl_scene.specs.Stacking.{Standing, is_of, with_mapped, without_surface_of}
 use Rattle.wl_scene.specs.Windows.{Place, Window}
@@ -76,13 +76,20 @@ subsurface_given id version child parent r =
     (with_surfaces (linked r.peer.requests child parent r.owned.surfaces)
     (record r { subsurfaces = r.subsurfaces ++ record { id = id; link = r.peer.requests; surface = Some child } ∷ [] }))
 
-abbrev pub link_with_id : ℕ → Resident → ℕ
-link_with_id id r = option_map_or (λ s. s.link) (find (λ s. s.id == id) r.subsurfaces) 0
+-- the number of the link of the wl_subsurface with this id
+abbrev pub link_with_id : ℕ → Resident → Option ℕ
+link_with_id id r = option_map (λ s. s.link) (find (λ s. s.id == id) r.subsurfaces)
 
+-- the link ends, where there is one
+abbrev pub unlinked_at : Option ℕ → Surfaces → Surfaces
+unlinked_at None all = all
+unlinked_at (Some number) all = unlinked number all
+
+-- wl_subsurface.destroy
 abbrev pub subsurface_ended : ℕ → Resident → Resident
 subsurface_ended id r =
     removing id
-    (after_all r (with_surfaces (unlinked (link_with_id id r) r.owned.surfaces) (record r { subsurfaces = filter (λ s. not (s.id == id)) r.subsurfaces })))
+    (after_all r (with_surfaces (unlinked_at (link_with_id id r) r.owned.surfaces) (record r { subsurfaces = filter (λ s. not (s.id == id)) r.subsurfaces })))
 
 abbrev pub mode_set : ℕ → Bool → Resident → Resident
 mode_set link true r = with_surfaces (synchronised_in link r.owned.surfaces) r
@@ -172,9 +179,9 @@ abbrev pub parent_allows : Option XdgSurface → Bool
 parent_allows None = false
 parent_allows (Some x) = allows_grab (popped_of x) (is_some x.role)
 
-abbrev pub parent_of : Option Popped → ℕ
-parent_of None = 0
-parent_of (Some p) = p.popup.parent
+-- the xdg_surface of a popup's parent
+abbrev pub parent_of : Shell → Popped → Option XdgSurface
+parent_of shell p = xdg_at p.popup.parent shell
 
 -- the serial is that of the latest press or the latest release that the client was told of
 abbrev pub is_serial : ℕ → Option ℕ → Bool
@@ -186,7 +193,7 @@ is_latest serial r = is_serial serial r.press || is_serial serial r.release
 
 abbrev pub grab_allowed : ℕ → ℕ → ℕ → Resident → Desktop → Bool
 grab_allowed c xdg serial r d =
-    is_latest serial r && (parent_allows (xdg_at (parent_of (popup_at xdg r.owned.shell)) r.owned.shell) && not (is_held_elsewhere c (grab_holder d)))
+    is_latest serial r && (parent_allows (option_and_then (parent_of r.owned.shell) (popup_at xdg r.owned.shell)) && not (is_held_elsewhere c (grab_holder d)))
 
 -- xdg_popup.grab: taken, or the popup is dismissed
 abbrev pub with_grab : Popup → Popup
