@@ -16,7 +16,7 @@ use Rattle.wl_client.specs.declared.refusals.Refusal.{Refusal}
 use Rattle.wl_client.specs.Judgement.{after_new_id, is_free, judged, judged_at, word_in}
 use Rattle.wl_client.specs.Objects.{Object, Objects, fits}
 use Rattle.wl_client.specs.Told.{display_error}
-use Rattle.wl_shell.specs.Shell.{Effect, Stays, Unconfigured, Configures, Maps, Unmaps, Kind, Toplevel, RoleObject, Shell, XdgSurface as Xdg, on_commit, stage_of, xdg_of, xdg_with}
+use Rattle.wl_shell.specs.Shell.{Effect, Stays, Unconfigured, Configures, Maps, Unmaps, Kind, Toplevel, RoleObject, Shell, XdgSurface as Xdg, is_full, on_commit, stage_of, xdg_of, xdg_with}
 use Rattle.wl_plain.specs.Ask.{Ask, DestroySurface, CommitSurface, DestroyToplevel, Ignore}
 use Rattle.wl_plain.specs.Demand.{Demand, Asks, EndSurface, CommitTree, EndToplevel, Move}
 use Rattle.wl_plain.specs.Demanding.{commit_demand, committed_by, demand_of, demanded, demands, effect_of_commit, effect_on_xdg, is_dismissed, judge_all, moved_by_pointer}
@@ -26,7 +26,7 @@ use Rattle.wl_plain.specs.Popups.{popped_kind, popped_of, popped_role}
 use Rattle.wl_plain.proofs.Simply.{ask_of, judge}
 use Rattle.wl_plain.specs.NoMore.{AreToplevels, IsToplevel}
 use Rattle.wl_plain.specs.WlSubsurface.{past_limit}
-use Rattle.wl_plain.specs.WlSurface.{committed_for, effect_for, effect_of, refuse_limit, surface_ask, surface_committed, waits_for_all, will_show}
+use Rattle.wl_plain.specs.WlSurface.{committed_for, effect_for, effect_of, refuse_limit, surface_ask, surface_committed, will_show}
 use Rattle.wl_plain.specs.XdgShell.{toplevel_ask, toplevel_ask_of}
 
 -- what is asked is the same
@@ -95,12 +95,12 @@ pub effect-same : (r : Resident) (surface : ℕ) → AreToplevels r.owned.shell 
 effect-same r surface top = effect-so (will_show r surface) (xdg_of surface r.owned.shell) (found-toplevel (λ x. x.surface == surface) r.owned.shell top)
 
 committed-pair : (r : Resident) (o : Option Xdg) (object : ℕ) (effect : Effect) → effect_of r object ≡ effect → Pairs r (committed_for o object effect) (committed_by o object effect)
-committed-pair r o object Stays e = commit object Stays e
-committed-pair r None object Unconfigured e = refl
+committed-pair r None object effect e = commit object effect e
+committed-pair r (Some x) object Stays e = commit object Stays e
 committed-pair r (Some x) object Unconfigured e = refl
-committed-pair r o object Configures e = if-pairs r (waits_for_all o) _ _ _ _ (λ full. refl) (λ room. commit object Configures e)
-committed-pair r o object Maps e = commit object Maps e
-committed-pair r o object Unmaps e = commit object Unmaps e
+committed-pair r (Some x) object Configures e = if-pairs r (is_full x.serials) _ _ _ _ (λ full. refl) (λ room. commit object Configures e)
+committed-pair r (Some x) object Maps e = commit object Maps e
+committed-pair r (Some x) object Unmaps e = commit object Unmaps e
 
 pub commit-pair : (r : Resident) (object : ℕ) → AreToplevels r.owned.shell → Pairs r (surface_committed r object) (commit_demand r object)
 commit-pair r object top =

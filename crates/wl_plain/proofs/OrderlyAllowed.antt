@@ -12,7 +12,7 @@ use Rattle.wl_surface.specs.Request.{Member, PlaceAbove, PlaceBelow}
 use Rattle.wl_surface.specs.Surfaces.{Link, link_at}
 use Rattle.wl_surface.specs.Trees.{is_bad_parent, is_too_deep}
 use Rattle.wl_shell.specs.Positioner.{Positioner, is_anchor_rect, is_complete, is_size}
-use Rattle.wl_shell.specs.Shell.{Effect, Stays, Unconfigured, Configures, Maps, Unmaps, XdgSurface as Xdg, xdg_at, xdg_of, xdg_with}
+use Rattle.wl_shell.specs.Shell.{Effect, Stays, Unconfigured, Configures, Maps, Unmaps, XdgSurface as Xdg, is_full, xdg_at, xdg_of, xdg_with}
 use Rattle.wl_plain.specs.Demand.{Demand}
 use Rattle.wl_plain.specs.Demanding.{committed_by, demand_by, demand_of, effect_of_commit, judge_all, moved_by_pointer}
 use Rattle.wl_plain.specs.Desktop.{Resident, Subsurface}
@@ -20,7 +20,6 @@ use Rattle.wl_plain.specs.LeftOut.{LeftOut}
 use Rattle.wl_plain.specs.Popups.{Popped, is_parent, is_popup_mapped, popup_at}
 use Rattle.wl_plain.specs.WlPointer.{is_no_cursor}
 use Rattle.wl_plain.specs.WlSubsurface.{beside, demand_by_link, has_subsurface, is_no_subsurface, link_of_subsurface, living, placed_beside, subsurface_at, subsurface_made}
-use Rattle.wl_plain.specs.WlSurface.{waits_for_all}
 use Rattle.wl_plain.specs.XdgPopup.{grab_of, is_no_popup, may_be_parent, popup_asked, popup_demand_of, positioner_of, positioner_set, set_if}
 use Rattle.wl_plain.specs.XdgShell.{role_of}
 use Rattle.wl_plain.proofs.Orderly.{HasId, IsAllowed, IsObject, IsOfParent}
@@ -33,11 +32,12 @@ use Rattle.wl_plain.proofs.Stacks.{or-left, or-right}
 -- ---- surfaces
 
 committed-allowed : (r : Resident) (o : Option Xdg) (object : ℕ) (effect : Effect) → Allows r (committed_by o object effect)
-committed-allowed r o object Unconfigured = tt
-committed-allowed r o object Configures = either r (waits_for_all o) _ _ (λ e. tt) (λ e. tt)
-committed-allowed r o object Stays = tt
-committed-allowed r o object Maps = tt
-committed-allowed r o object Unmaps = tt
+committed-allowed r None object effect = tt
+committed-allowed r (Some x) object Unconfigured = tt
+committed-allowed r (Some x) object Configures = either r (is_full x.serials) _ _ (λ e. tt) (λ e. tt)
+committed-allowed r (Some x) object Stays = tt
+committed-allowed r (Some x) object Maps = tt
+committed-allowed r (Some x) object Unmaps = tt
 
 abbrev Demanded : Interface → Resident → ℕ → ℕ → ℕ → List Field → Type 0
 Demanded interface r object version opcode fields =

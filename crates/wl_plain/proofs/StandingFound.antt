@@ -27,7 +27,7 @@ use Rattle.wl_plain.specs.LeftOut.{served_now}
 use Rattle.wl_plain.specs.Desktop.{Resident}
 use Rattle.wl_plain.specs.Step.{ask_by, with_peer}
 use Rattle.wl_plain.proofs.Simply.{ask_of, judge}
-use Rattle.wl_plain.specs.WlSurface.{committed_for, effect_of, surface_ask, surface_destroyed, transform_set, waits_for_all}
+use Rattle.wl_plain.specs.WlSurface.{committed_for, effect_of, surface_ask, surface_destroyed, transform_set}
 use Rattle.wl_plain.specs.XdgShell.{base_ask, configured_again, has_any, is_foreign, is_state, role_of, toplevel_ask, toplevel_ask_of, xdg_ask, xdg_ask_of, xdg_surface_made}
 use Rattle.wl_plain.proofs.OwningKeys.{found-by}
 use Rattle.wl_plain.proofs.OwningXdg.{has_role, has_surface, has_xdg, ids-apart, surfaces-apart}
@@ -73,12 +73,13 @@ none-there : (o : Option Xdg) → is_some o ≡ false → o ≡ None
 none-there None e = refl
 none-there (Some x) e = absurd (cc)
 
-effect-finds : (r : Resident) (object : ℕ) (effect : Effect) → effect_of r object ≡ effect → Accepts (committed_for (xdg_of object r.owned.shell) object effect) r
-effect-finds r object Stays e = accepted (CommitSurface object Stays) r e
-effect-finds r object Unconfigured e = refused _ r
-effect-finds r object Configures e = either (waits_for_all (xdg_of object r.owned.shell)) _ _ r (λ full. refused _ r) (λ room. accepted (CommitSurface object Configures) r e)
-effect-finds r object Maps e = accepted (CommitSurface object Maps) r e
-effect-finds r object Unmaps e = accepted (CommitSurface object Unmaps) r e
+effect-finds : (r : Resident) (o : Option Xdg) (object : ℕ) (effect : Effect) → effect_of r object ≡ effect → Accepts (committed_for o object effect) r
+effect-finds r None object effect e = accepted (CommitSurface object effect) r e
+effect-finds r (Some x) object Stays e = accepted (CommitSurface object Stays) r e
+effect-finds r (Some x) object Unconfigured e = refused _ r
+effect-finds r (Some x) object Configures e = either (is_full x.serials) _ _ r (λ full. refused _ r) (λ room. accepted (CommitSurface object Configures) r e)
+effect-finds r (Some x) object Maps e = accepted (CommitSurface object Maps) r e
+effect-finds r (Some x) object Unmaps e = accepted (CommitSurface object Unmaps) r e
 
 destroyed-finds : (r : Resident) (object : ℕ) → Accepts (surface_destroyed r object) r
 destroyed-finds r object =
@@ -95,7 +96,7 @@ surface-finds r object opcode fields =
     (λ e. either (opcode == 3) _ _ r (λ e. accepted _ r tt)
     (λ e. either (opcode == 4) _ _ r (λ e. accepted _ r tt)
     (λ e. either (opcode == 5) _ _ r (λ e. accepted _ r tt)
-    (λ e. either (opcode == 6) _ _ r (λ e. effect-finds r object (effect_of r object) refl)
+    (λ e. either (opcode == 6) _ _ r (λ e. effect-finds r (xdg_of object r.owned.shell) object (effect_of r object) refl)
     (λ e. transform-finds r object (number_in 0 fields))))))))
 
 -- ---- the shell

@@ -6,7 +6,7 @@ use Rattle.wl_proto.specs.Messages.{Message}
 use Rattle.wl_client.specs.declared.refusals.ErrorCode.TheVariants.{UnconfiguredBuffer as unconfigured}
 use Rattle.wl_client.specs.declared.refusals.Refusal.{Refusal}
 use Rattle.wl_client.specs.Judgement.{judged_at, word_in}
-use Rattle.wl_shell.specs.Shell.{Effect, Stays, Unconfigured, Configures, XdgSurface as Xdg, on_commit, stage_of, xdg_at, xdg_of, xdg_with}
+use Rattle.wl_shell.specs.Shell.{Effect, Stays, Unconfigured, Configures, XdgSurface as Xdg, is_full, on_commit, stage_of, xdg_at, xdg_of, xdg_with}
 use Rattle.wl_plain.specs.Ask.{Ask, DestroySurface, DestroyToplevel}
 use Rattle.wl_plain.specs.Demand.{Demand, Asks, EndSurface, AskFrame, CommitTree, CreatePositioner, EndToplevel, Move}
 use Rattle.wl_plain.specs.Desktop.{Resident}
@@ -15,7 +15,7 @@ use Rattle.wl_plain.specs.Popups.{Popped, popped_of}
 use Rattle.wl_plain.specs.Step.{ask_by}
 use Rattle.wl_plain.specs.WlPointer.{pointer_demand, seat_demand}
 use Rattle.wl_plain.specs.WlSubsurface.{past_limit, refuses, subcompositor_demand, subsurface_demand}
-use Rattle.wl_plain.specs.WlSurface.{waits_for_all, will_show}
+use Rattle.wl_plain.specs.WlSurface.{will_show}
 use Rattle.wl_plain.specs.XdgPopup.{popup_asked, popup_demand, positioner_demand}
 
 -- what is asked as where no more than toplevels is served; of the ends of surfaces and toplevels more comes
@@ -47,14 +47,12 @@ effect_on_xdg shows (Some x) = effect_for_xdg shows x
 abbrev pub effect_of_commit : Resident → ℕ → Effect
 effect_of_commit r surface = effect_on_xdg (will_show r surface) (xdg_of surface r.owned.shell)
 
-abbrev pub xdg_id_or : Option Xdg → ℕ
-xdg_id_or None = 0
-xdg_id_or (Some x) = x.id
-
+-- a buffer before a configure was acknowledged is an error of the xdg_surface
 abbrev pub committed_by : Option Xdg → ℕ → Effect → Result Demand Refusal
-committed_by x object Unconfigured = refuses (xdg_id_or x) unconfigured
-committed_by x object Configures = if waits_for_all x then past_limit else Ok (CommitTree object)
-committed_by x object effect = Ok (CommitTree object)
+committed_by None object effect = Ok (CommitTree object)
+committed_by (Some x) object Unconfigured = refuses x.id unconfigured
+committed_by (Some x) object Configures = if is_full x.serials then past_limit else Ok (CommitTree object)
+committed_by (Some x) object effect = Ok (CommitTree object)
 
 abbrev pub commit_demand : Resident → ℕ → Result Demand Refusal
 commit_demand r object = committed_by (xdg_of object r.owned.shell) object (effect_of_commit r object)

@@ -1,6 +1,6 @@
 -- What is asked of a surface (wayland.xml, wl_compositor.create_surface and wl_surface).
-use Rattle.std.specs.Prelude.{ℕ, ℤ, pos, ◌+◌, ◌==◌, ◌&&◌, nat_le, int_le, unsigned_abs, Bool, if◌then◌else◌, Option, Some, None, Result, Ok, Err, List, [], length, is_some}
-use Rattle.std.specs.Option.{option_and_then, option_map, option_map_or}
+use Rattle.std.specs.Prelude.{ℕ, ℤ, pos, ◌+◌, ◌==◌, ◌&&◌, nat_le, int_le, unsigned_abs, Bool, if◌then◌else◌, Option, Some, None, Result, Ok, Err, List, length, is_some}
+use Rattle.std.specs.Option.{option_and_then, option_map}
 use Rattle.wl_wire.specs.Wire.{Field}
 use Rattle.wl_geom.specs.Region.{Change}
 use Rattle.wl_client.specs.declared.refusals.ErrorCode.{ErrorCode}
@@ -69,18 +69,12 @@ effect_for shows (Some x) = on_commit (stage_of x) shows
 abbrev pub effect_of : Resident → ℕ → Effect
 effect_of r surface = effect_for (will_show r surface) (xdg_of surface r.owned.shell)
 
--- the xdg_surface of a surface, and how many of its configures weren't acknowledged
-abbrev pub xdg_id : Option XdgSurface → ℕ
-xdg_id x = option_map_or (λ x. x.id) x 0
-
-abbrev pub waits_for_all : Option XdgSurface → Bool
-waits_for_all x = is_full (option_map_or (λ x. x.serials) x [])
-
 -- wl_surface.commit: a buffer before a configure was acknowledged is an error of the xdg_surface
 abbrev pub committed_for : Option XdgSurface → ℕ → Effect → Result Ask Refusal
-committed_for x object Unconfigured = refuse (xdg_id x) unconfigured
-committed_for x object Configures = if waits_for_all x then refuse_limit else Ok (CommitSurface object Configures)
-committed_for x object effect = Ok (CommitSurface object effect)
+committed_for None object effect = Ok (CommitSurface object effect)
+committed_for (Some x) object Unconfigured = refuse x.id unconfigured
+committed_for (Some x) object Configures = if is_full x.serials then refuse_limit else Ok (CommitSurface object Configures)
+committed_for (Some x) object effect = Ok (CommitSurface object effect)
 
 abbrev pub surface_committed : Resident → ℕ → Result Ask Refusal
 surface_committed r object = committed_for (xdg_of object r.owned.shell) object (effect_of r object)

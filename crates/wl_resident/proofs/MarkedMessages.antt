@@ -63,7 +63,7 @@ use Rattle.wl_plain.specs.Step.{ask_by, changed_by, surface_of, with_peer}
 use Rattle.wl_plain.proofs.Simply.{ask_of, judge}
 use Rattle.wl_plain.specs.Touching.{any_window_at, has_window_at, is_window_at, touched}
 use Rattle.wl_resident.specs.View.{DeskView, OwnedView}
-use Rattle.wl_plain.specs.WlSurface.{committed_for, effect_of, surface_ask, waits_for_all}
+use Rattle.wl_plain.specs.WlSurface.{committed_for, effect_of, surface_ask}
 use Rattle.wl_plain.specs.XdgShell.{base_ask, configured_again, has_any, is_foreign, is_state, role_of, toplevel_ask, toplevel_ask_of, xdg_ask_of}
 use Rattle.wl_resident.specs.declared.messages.Asked.{Asked}
 use Rattle.wl_resident.specs.declared.messages.Asked.TheVariants as asked
@@ -169,11 +169,12 @@ module _ (r : Resident) (P : ℕ → Type 0) where
   owned-touches (Err refusal) = refused refusal
 
   commit-touches : (object : ℕ) → P object → (x : Option Xdg) (effect : Effect) → TouchesSo r P (committed_for x object effect)
-  commit-touches object there x Stays = one (CommitSurface object Stays) object refl there
-  commit-touches object there x Unconfigured = refused _
-  commit-touches object there x Configures = either (waits_for_all x) _ _ (λ full. refused _) (λ room. one (CommitSurface object Configures) object refl there)
-  commit-touches object there x Maps = one (CommitSurface object Maps) object refl there
-  commit-touches object there x Unmaps = one (CommitSurface object Unmaps) object refl there
+  commit-touches object there None effect = one (CommitSurface object effect) object refl there
+  commit-touches object there (Some x) Stays = one (CommitSurface object Stays) object refl there
+  commit-touches object there (Some x) Unconfigured = refused _
+  commit-touches object there (Some x) Configures = either (is_full x.serials) _ _ (λ full. refused _) (λ room. one (CommitSurface object Configures) object refl there)
+  commit-touches object there (Some x) Maps = one (CommitSurface object Maps) object refl there
+  commit-touches object there (Some x) Unmaps = one (CommitSurface object Unmaps) object refl there
 
   surface-touches : (object opcode : ℕ) (fields : List Field) → (opcode ≡ 6 → P object) → TouchesSo r P (surface_ask r object opcode fields)
   surface-touches object opcode fields commits =
