@@ -18,11 +18,11 @@ use Rattle.wl_resident.specs.Residents.{ActsFor, AnswersSo as AnswersWhole, IsLe
 use Rattle.wl_resident.specs.Seats.{IsSeated}
 use Rattle.wl_scene.specs.Stacking.{Stack}
 use Rattle.wl_plain.specs.Ask.{Ask, CommitSurface}
-use Rattle.wl_shell.specs.Shell.{Effect, Stays, Unconfigured, Configures, Maps, Unmaps, XdgSurface as Xdg, xdg_of}
+use Rattle.wl_shell.specs.Shell.{Effect, Stays, Unconfigured, Configures, Maps, Unmaps, XdgSurface as Xdg, is_full, xdg_of}
 use Rattle.wl_plain.specs.Demand.{Demand, CommitTree}
 use Rattle.wl_plain.specs.Demanding.{commit_demand, committed_by, demand_of, demands, effect_of_commit, judge_all}
 use Rattle.wl_plain.specs.WlSubsurface.{past_limit}
-use Rattle.wl_plain.specs.WlSurface.{committed_for, effect_of, refuse_limit, surface_committed, waits_for_all}
+use Rattle.wl_plain.specs.WlSurface.{committed_for, effect_of, refuse_limit, surface_committed}
 use Rattle.wl_plain.specs.Changing.{changed_for}
 use Rattle.wl_plain.specs.Desktop.{Desktop, Resident}
 use Rattle.wl_plain.specs.LeftOut.{served_now}
@@ -140,16 +140,16 @@ simply-stacks old (Err refusal) (Ok demand) r stacking top same h = absurd same
 -- ---- what is demanded
 
 committed-by-effect : (r : Resident) (object : ℕ) (effect : Effect) (o : Option Xdg) (e : Effect) → committed_for o object e ≡ Ok (CommitSurface object effect) → (e ≡ effect) × (committed_by o object e ≡ Ok (CommitTree object))
-committed-by-effect r object effect o Stays h = (cc, refl)
-committed-by-effect r object effect None Unconfigured h = absurd (cc)
+committed-by-effect r object effect None e h = (cc, refl)
+committed-by-effect r object effect (Some x) Stays h = (cc, refl)
 committed-by-effect r object effect (Some x) Unconfigured h = absurd (cc)
-committed-by-effect r object effect o Configures h = at (waits_for_all o) h
+committed-by-effect r object effect (Some x) Configures h = at (is_full x.serials) h
   where
     at : (b : Bool) → (if b then refuse_limit else Ok (CommitSurface object Configures)) ≡ Ok (CommitSurface object effect) → (Configures ≡ effect) × ((if b then past_limit else Ok (CommitTree object)) ≡ Ok (CommitTree object))
     at true h = absurd (cc)
     at false h = (cc, refl)
-committed-by-effect r object effect o Maps h = (cc, refl)
-committed-by-effect r object effect o Unmaps h = (cc, refl)
+committed-by-effect r object effect (Some x) Maps h = (cc, refl)
+committed-by-effect r object effect (Some x) Unmaps h = (cc, refl)
 
 -- a commit that is accepted
 pub committed-tree : (r : Resident) (object : ℕ) (effect : Effect) → AreToplevels r.owned.shell → surface_committed r object ≡ Ok (CommitSurface object effect) → (effect_of_commit r object ≡ effect) × (commit_demand r object ≡ Ok (CommitTree object))
