@@ -16,14 +16,14 @@ use Rattle.wl_plain.specs.NoMore.{NoMore, OwnsToplevelsAt}
 use Rattle.wl_plain.specs.Settling.{EndsAndSettles, becomes, unstruck}
 use Rattle.wl_plain.specs.Step.{with_peer}
 use Rattle.wl_plain.specs.Steps.{Act}
-use Rattle.wl_plain.specs.Whole.{Happens, Serves, Steps as Stepping}
+use Rattle.wl_plain.specs.Whole.{Happens, Serves}
 use Rattle.wl_desk.specs.Agreeing.{Agrees, TakesStep}
 use Rattle.wl_desk.specs.Feeding.{Ends, EndsBy, EndsOf, IsIdleIn, kept_at, kept_by, kept_of}
 use Rattle.wl_desk.proofs.Calls.{ended_at, ended_of}
 use Rattle.wl_plain.proofs.Altering.{Alters, IsCall}
 use Rattle.wl_plain.proofs.BridgeBack.{alters-back, settled-back}
 use Rattle.wl_plain.proofs.BridgeDesks.{become-has, empty-has}
-use Rattle.wl_plain.proofs.BridgeLasts.{acts-has}
+use Rattle.wl_plain.proofs.BridgeLasts.{alters-has}
 use Rattle.wl_plain.proofs.BridgeMessages.{serves-has}
 use Rattle.wl_plain.proofs.BridgeServes.{becomes-same, living, only-peer, settles-to}
 use Rattle.wl_plain.proofs.BridgeSteps.{alters-whole, has-put, stays-by}
@@ -37,13 +37,13 @@ use Rattle.wl_plain.proofs.Places.{client-kept}
 pub steps-whole : (act : Act) (done : Done) (old new : DeskView) → ((d : Desktop) → Matches old d → (e : Desktop) × Alters act done d e × Matches new e) → TakesStep act done old new
 steps-whole act done old new small = λ d a.
     let h = small d a.matches in
-    let step = alters-whole act d h.0 done a.no_more h.1 in
-    (h.0, step, record { matches = h.2; no_more = acts-has act d h.0 done a.no_more step })
+    (h.0, alters-whole act d h.0 done a.no_more h.1, record { matches = h.2; no_more = alters-has act d h.0 done a.no_more h.1 })
 
 pub steps-marked : (act : Act) → IsCall act → (done : Done) (v : DeskView) (before after : Damaged) → ((d e : Desktop) → Matches v d → Alters act done d e → MarksToplevels d e before after)
-    → (d e : Desktop) → Agrees v d → Happens served_now (Stepping act done) d e → Marks d e before after
+    → (d e : Desktop) → Agrees v d → Happens served_now act done d e → Marks d e before after
 steps-marked act call done v before after small d e a step =
-    marks-all d e before after a.no_more (acts-has act d e done a.no_more step) (small d e a.matches (alters-back act call d e done a.no_more step))
+    let altered = alters-back act call d e done a.no_more step in
+    marks-all d e before after a.no_more (alters-has act d e done a.no_more altered) (small d e a.matches altered)
 
 -- ---- a message
 

@@ -4,7 +4,7 @@ use Rattle.wl_plain.specs.Desktop.{Desktop}
 use Rattle.wl_plain.specs.LeftOut.{served_now}
 use Rattle.wl_plain.specs.NoMore.{NoMore}
 use Rattle.wl_plain.specs.Steps.{Act}
-use Rattle.wl_plain.specs.Whole.{Happens, Steps}
+use Rattle.wl_plain.specs.Whole.{Happens}
 use Rattle.wl_resident.specs.Agreement.{Matches}
 use Rattle.wl_resident.specs.Marking.{Marks}
 use Rattle.wl_resident.specs.View.{DeskView, MarkedDesk}
@@ -16,8 +16,8 @@ pub record Agrees (v : DeskView) (d : Desktop) : Type 0 where
 
 -- One step leads from old to new: whatever desktop agrees before, one to which the step leads agrees after.
 abbrev pub TakesStep : Act → Done → DeskView → DeskView → Type 0
-TakesStep act done old new = (d : Desktop) → Agrees old d → (e : Desktop) × Happens served_now (Steps act done) d e × Agrees new e
+TakesStep act done old new = (d : Desktop) → Agrees old d → (e : Desktop) × Happens served_now act done d e × Agrees new e
 
 -- A step marks what it has to.
 abbrev pub MarksStep : Act → Done → MarkedDesk → MarkedDesk → Type 0
-MarksStep act done old new = (d e : Desktop) → Agrees old.desk d → Happens served_now (Steps act done) d e → Marks d e old.damage new.damage
+MarksStep act done old new = (d e : Desktop) → Agrees old.desk d → Happens served_now act done d e → Marks d e old.damage new.damage

@@ -6,7 +6,7 @@ use Rattle.wl_plain.specs.declared.answers.Done.{Done}
 use Rattle.wl_plain.specs.declared.answers.Done.TheVariants as gave
 use Rattle.wl_plain.specs.declared.answers.Stored.TheVariants as stored
 use Rattle.wl_plain.specs.Desktop.{Desktop, Resident, become, client_at, with_number}
-use Rattle.wl_plain.specs.Steps.{Act, Connect, Feed, Store, Leave, Tick, Send, Close, ConnectsAt, IsClosed, IsLeft, IsSent, IsStored, lowest}
+use Rattle.wl_plain.specs.Steps.{Act, Connect, Feed, Store, Leave, Tick, Send, Close, Motion, Button, ConnectsAt, IsClosed, IsLeft, IsSent, IsStored, lowest}
 
 -- what becomes of a client: it is left so, or its number is free
 abbrev pub left_so : ℕ → Resident → Option Peer → Desktop → Desktop
@@ -26,6 +26,8 @@ Changes c R absent d done new = ChangesAt R absent c (client_at c d) d done new
 abbrev pub IsCall : Act → Type 0
 IsCall (Feed c piece) = ⊥
 IsCall (Tick time) = ⊥
+IsCall (Motion time x y) = ⊥
+IsCall (Button time button pressed) = ⊥
 IsCall act = Unit {0}
 
 abbrev pub Alters : Act → Done → Desktop → Desktop → Type 0

@@ -26,8 +26,8 @@ use Rattle.wl_plain.specs.Settling.{EndsAndSettles, EndsFirst, Moving, QueuesFir
 use Rattle.wl_plain.specs.Stacked.{all_windows}
 use Rattle.wl_plain.specs.Step.{answers_to, changed_by, stacked, with_peer}
 use Rattle.wl_plain.proofs.Simply.{Becomes, judge}
-use Rattle.wl_plain.specs.Steps.{IsClosed, IsLeft, IsSent, IsStored, Act, Connect, Feed, Store, Leave, Tick, Send, Close}
-use Rattle.wl_plain.specs.Whole.{Acts, after_why, callbacks_due, done_for, frames_told, Answers as WholeAnswers, Becomes as WholeBecomes, ChangesAt as WholeChangesAt, Does, LeavesAt, Serves as WholeServes, ServesAt as WholeServesAt, Shows, Takes as WholeTakes, TellsFrames, WantsOr as WholeWantsOr, wants_memory}
+use Rattle.wl_plain.specs.Steps.{IsClosed, IsLeft, IsSent, IsStored, Act, Connect, Feed, Store, Leave, Tick, Send, Close, Motion, Button}
+use Rattle.wl_plain.specs.Whole.{Happens, after_why, callbacks_due, done_for, frames_told, Answers as WholeAnswers, Becomes as WholeBecomes, ChangesAt as WholeChangesAt, Does, LeavesAt, Serves as WholeServes, ServesAt as WholeServesAt, Shows, Takes as WholeTakes, TellsFrames, WantsOr as WholeWantsOr, wants_memory}
 use Rattle.wl_plain.proofs.Altering.{Alters, ChangesAt, IsCall}
 use Rattle.wl_plain.proofs.Behind.{changed-status}
 use Rattle.wl_plain.proofs.BridgeChanged.{changed-same}
@@ -220,7 +220,7 @@ shows-back time d new only h =
 
 -- ---- a call
 
-pub alters-back : (act : Act) → IsCall act → (d e : Desktop) (done : Done) → NoMore d → Acts served_now act done d e → Alters act done d e
+pub alters-back : (act : Act) → IsCall act → (d e : Desktop) (done : Done) → NoMore d → Happens served_now act done d e → Alters act done d e
 alters-back Connect call d e done only h = h
 alters-back (Feed c piece) call d e done only h = absurd call
 alters-back (Store c store at bytes) call d e done only h =
@@ -229,3 +229,5 @@ alters-back (Leave c) call d e done only h = leaves-back c (client_at c d) d e d
 alters-back (Tick time) call d e done only h = absurd call
 alters-back (Send c n) call d e done only h = changes-back (IsSent n) (sent-leaves n) _ done c (client_at c d) d e (only.each c) h
 alters-back (Close c) call d e done only h = changes-back IsClosed closed-leaves _ done c (client_at c d) d e (only.each c) h
+alters-back (Motion time x y) call d e done only h = absurd call
+alters-back (Button time button pressed) call d e done only h = absurd call

@@ -15,10 +15,11 @@ use Rattle.wl_plain.specs.Laws.{toplevels_of}
 use Rattle.wl_plain.specs.LeftOut.{served_now}
 use Rattle.wl_plain.specs.Settling.{becomes}
 use Rattle.wl_plain.specs.Step.{with_peer}
-use Rattle.wl_plain.specs.Steps.{ConnectsAt, IsClosed, IsLeft, IsSent, IsStored, Act, Connect, Feed, Store, Leave, Tick, Send, Close, closed_by, lowest}
+use Rattle.wl_plain.specs.Steps.{ConnectsAt, IsClosed, IsLeft, IsSent, IsStored, Act, Connect, Feed, Store, Leave, Tick, Send, Close, Motion, Button, closed_by, lowest}
 use Rattle.wl_plain.specs.NoMore.{NoMore, OwnsToplevelsAt, OwnsToplevelsBy, OwnsToplevelsOnly}
-use Rattle.wl_plain.specs.Whole.{Acts, FeedsAt, IsFedAt, Reaches, StopsAt}
-use Rattle.wl_plain.proofs.Altering.{ChangesAt, left_so}
+use Rattle.wl_plain.specs.NoMoreLaws.{LeavesPointer}
+use Rattle.wl_plain.specs.Whole.{Happens, FeedsAt, IsFedAt, Reaches, StopsAt}
+use Rattle.wl_plain.proofs.Altering.{Alters, ChangesAt, left_so}
 use Rattle.wl_plain.proofs.BridgeBack.{alters-back, settled-back, shows-back}
 use Rattle.wl_plain.proofs.BridgeDesks.{become-has}
 use Rattle.wl_plain.proofs.BridgeMessages.{serves-has}
@@ -168,14 +169,29 @@ fed-has : (c : ℕ) (piece : List ℕ) (o : Option Resident) (d : Desktop) (done
 fed-has c piece None d done e is has h = subst NoMore (sym h.1) has
 fed-has c piece (Some r) d done e is has h = feeds-has r.peer.status c piece r d e refl is has h.0
 
+-- ---- a call
+
+pub alters-has : (act : Act) (d e : Desktop) (done : Done) → NoMore d → Alters act done d e → NoMore e
+alters-has Connect d e done has h = connects-has (lowest d.clients) d done e has h
+alters-has (Feed c piece) d e done has h = absurd h
+alters-has (Store c store at bytes) d e done has h = changes-has (IsStored store at bytes) (stored-keeps store at bytes) _ done c (client_at c d) d e refl has h
+alters-has (Leave c) d e done has h = changes-has IsLeft left-keeps _ done c (client_at c d) d e refl has h
+alters-has (Tick time) d e done has h = absurd h
+alters-has (Send c n) d e done has h = changes-has (IsSent n) (sent-keeps n) _ done c (client_at c d) d e refl has h
+alters-has (Close c) d e done has h = changes-has IsClosed closed-keeps _ done c (client_at c d) d e refl has h
+alters-has (Motion time x y) d e done has h = absurd h
+alters-has (Button time button pressed) d e done has h = absurd h
+
 -- ---- every step
 
-pub acts-has : (act : Act) (d e : Desktop) (done : Done) → NoMore d → Acts served_now act done d e → NoMore e
-acts-has Connect d e done has h = connects-has (lowest d.clients) d done e has h
-acts-has (Feed c piece) d e done has h = fed-has c piece (client_at c d) d done e refl has h
-acts-has (Store c store at bytes) d e done has h =
-    changes-has (IsStored store at bytes) (stored-keeps store at bytes) _ done c (client_at c d) d e refl has (alters-back (Store c store at bytes) tt d e done has h)
-acts-has (Leave c) d e done has h = changes-has IsLeft left-keeps _ done c (client_at c d) d e refl has (alters-back (Leave c) tt d e done has h)
-acts-has (Tick time) d e done has h = subst NoMore (sym (shows-back time d e has h.1)) has
-acts-has (Send c n) d e done has h = changes-has (IsSent n) (sent-keeps n) _ done c (client_at c d) d e refl has (alters-back (Send c n) tt d e done has h)
-acts-has (Close c) d e done has h = changes-has IsClosed closed-keeps _ done c (client_at c d) d e refl has (alters-back (Close c) tt d e done has h)
+pub happens-has : (act : Act) (d e : Desktop) (done : Done) → LeavesPointer act → NoMore d → Happens served_now act done d e → NoMore e
+happens-has Connect d e done leaves has h = connects-has (lowest d.clients) d done e has h
+happens-has (Feed c piece) d e done leaves has h = fed-has c piece (client_at c d) d done e refl has h
+happens-has (Store c store at bytes) d e done leaves has h =
+    alters-has (Store c store at bytes) d e done has (alters-back (Store c store at bytes) tt d e done has h)
+happens-has (Leave c) d e done leaves has h = alters-has (Leave c) d e done has (alters-back (Leave c) tt d e done has h)
+happens-has (Tick time) d e done leaves has h = subst NoMore (sym (shows-back time d e has h.1)) has
+happens-has (Send c n) d e done leaves has h = alters-has (Send c n) d e done has (alters-back (Send c n) tt d e done has h)
+happens-has (Close c) d e done leaves has h = alters-has (Close c) d e done has (alters-back (Close c) tt d e done has h)
+happens-has (Motion time x y) d e done leaves has h = absurd leaves
+happens-has (Button time button pressed) d e done leaves has h = absurd leaves

@@ -15,9 +15,9 @@ use Rattle.wl_plain.specs.Laws.{toplevels_of}
 use Rattle.wl_plain.specs.LeftOut.{served_now}
 use Rattle.wl_plain.specs.Settling.{TellsAt, becomes, unstruck}
 use Rattle.wl_plain.specs.Step.{with_peer}
-use Rattle.wl_plain.specs.Steps.{IsClosed, IsLeft, IsSent, IsStored, Act, Connect, Feed, Store, Leave, Tick, Send, Close, closed_by}
+use Rattle.wl_plain.specs.Steps.{IsClosed, IsLeft, IsSent, IsStored, Act, Connect, Feed, Store, Leave, Tick, Send, Close, Motion, Button, closed_by}
 use Rattle.wl_plain.specs.NoMore.{NoMore, OwnsToplevelsAt, OwnsToplevelsBy}
-use Rattle.wl_plain.specs.Whole.{ChangesAt as WholeChangesAt, LeavesAt, Shows, TellsFrames, callbacks_due, frames_told, Acts}
+use Rattle.wl_plain.specs.Whole.{ChangesAt as WholeChangesAt, LeavesAt, Shows, TellsFrames, callbacks_due, frames_told, Happens}
 use Rattle.wl_plain.proofs.Altering.{Alters, ChangesAt, left_so}
 use Rattle.wl_plain.proofs.BridgeServes.{becomes-same, living, settles-to}
 use Rattle.wl_plain.proofs.OwningKeys.{none-some}
@@ -169,7 +169,7 @@ has-put c r there d is owns only = record { pointer = only.pointer; each = λ ot
 
 -- ---- a call
 
-pub alters-whole : (act : Act) (d e : Desktop) (done : Done) → NoMore d → Alters act done d e → Acts served_now act done d e
+pub alters-whole : (act : Act) (d e : Desktop) (done : Done) → NoMore d → Alters act done d e → Happens served_now act done d e
 alters-whole Connect d e done only h = h
 alters-whole (Feed c piece) d e done only h = absurd h
 alters-whole (Store c store at bytes) d e done only h =
@@ -178,3 +178,5 @@ alters-whole (Leave c) d e done only h = leaves-whole c (client_at c d) d e done
 alters-whole (Tick time) d e done only h = absurd h
 alters-whole (Send c n) d e done only h = changes-whole (IsSent n) (sent-leaves n) _ done c (client_at c d) d e (only.each c) h
 alters-whole (Close c) d e done only h = changes-whole IsClosed closed-leaves _ done c (client_at c d) d e (only.each c) h
+alters-whole (Motion time x y) d e done only h = absurd h
+alters-whole (Button time button pressed) d e done only h = absurd h

@@ -14,7 +14,7 @@ use Rattle.wl_client.specs.Plain.{or_slow as refused_or, refused}
 use Rattle.wl_client.specs.Told.{Said, code_number, display_error, error_told}
 use Rattle.wl_scene.specs.Pointer.{Target, is_down, is_press}
 use Rattle.wl_scene.specs.Windows.{Window}
-use Rattle.wl_plain.specs.Ample.{acted, answered, became, buttons, changes_at, connects_at, dismisses, dismisses_unless, done, ends_and_settles, ends_first, enters, fed_at, fed_by, frames_to, happened, held_so, leaves, left_at, left_by, motion_for, motion_settles, moved_to, moves_unless, or_slow, pressed_if, queued_to, released_if, served_all, served_at, served_by, settles, settles_all, settles_ends, shown, taken, tells, tells_at, tells_button, tells_unless}
+use Rattle.wl_plain.specs.Ample.{answered, became, buttons, changes_at, connects_at, dismisses, dismisses_unless, done, ends_and_settles, ends_first, enters, fed_at, fed_by, frames_to, happened, held_so, leaves, left_at, left_by, motion_for, motion_settles, moved_to, moves_unless, or_slow, pressed_if, queued_to, released_if, served_all, served_at, served_by, settles, settles_all, settles_ends, shown, taken, tells, tells_at, tells_button, tells_unless}
 use Rattle.wl_plain.specs.declared.answers.ConnectError.TheVariants.{Full}
 use Rattle.wl_plain.specs.declared.answers.Done.{Done}
 use Rattle.wl_plain.specs.declared.answers.Done.TheVariants as gave
@@ -31,9 +31,8 @@ use Rattle.wl_plain.specs.Settling.{EndsAndSettles, EndsFirst, Enters, Leaves, M
 use Rattle.wl_plain.specs.Stacked.{all_windows}
 use Rattle.wl_plain.specs.Step.{with_peer}
 use Rattle.wl_plain.proofs.Idling.{IsTaken, all-taken}
-use Rattle.wl_plain.specs.Steps.{Act, Connect, Feed, Store, Leave, Tick, Send, Close, ConnectsAt, IsClosed, IsSent, IsStored, closed_by, fed_of, lowest, stored_of}
-use Rattle.wl_plain.specs.WholeLaws.{with_answer}
-use Rattle.wl_plain.specs.Whole.{Acts, Answers, Becomes, Button, Buttons, ChangesAt, Deed, Dismisses, DismissesUnless, Does, FeedsAt, Happens, IsFedAt, LeavesAt, Motion, MotionSettles, MovesTo, PressesIf, Reaches, ReleasesIf, ServesAt, Shows, Steps, StopsAt, Takes, TellsButton, TellsFrames, TellsMotion, WantsOr, after_why, done_for, hit_now, is_hit_of, point_in, pointed, raised_by, wants_memory, with_press, with_release}
+use Rattle.wl_plain.specs.Steps.{Act, Connect, Feed, Store, Leave, Tick, Send, Close, Motion, Button, ConnectsAt, IsClosed, IsSent, IsStored, closed_by, fed_of, lowest, stored_of}
+use Rattle.wl_plain.specs.Whole.{Answers, Becomes, Buttons, ChangesAt, Dismisses, DismissesUnless, Does, FeedsAt, Happens, IsFedAt, LeavesAt, MotionSettles, MovesTo, PressesIf, Reaches, ReleasesIf, ServesAt, Shows, StopsAt, Takes, TellsButton, TellsFrames, TellsMotion, WantsOr, after_why, done_for, hit_now, is_hit_of, point_in, pointed, raised_by, wants_memory, with_press, with_release}
 
 -- ---- events
 
@@ -264,21 +263,18 @@ module _ (out : LeftOut) where
 
   -- ---- all of them
 
-  acts-so : (act : Act) (d : Desktop) → (done : Done) × Acts out act done d (acted out act d)
-  acts-so Connect d = connects-so (lowest d.clients) d
-  acts-so (Feed c piece) d = fed-so c piece (client_at c d) d refl
-  acts-so (Store c store at bytes) d =
+  -- Whatever happens where memory is always there may happen.
+  pub happens-ample : (act : Act) (d : Desktop) → (answer : Done) × Happens out act answer d (happened out act d)
+  happens-ample Connect d = connects-so (lowest d.clients) d
+  happens-ample (Feed c piece) d = fed-so c piece (client_at c d) d refl
+  happens-ample (Store c store at bytes) d =
       changes-so (IsStored store at bytes) (gave.Store stored.NoClient) (λ p. gave.Store (stored_of p.status (write_refusal store at (length bytes) p.stores)))
       (λ p. Some (stored_at p.status store at bytes p)) (λ p. (refl, refl)) c (client_at c d) d
-  acts-so (Leave c) d = left-so c (client_at c d) d
-  acts-so (Tick time) d = (gave.Tick, (refl, shows-so time d))
-  acts-so (Send c n) d =
+  happens-ample (Leave c) d = left-so c (client_at c d) d
+  happens-ample (Tick time) d = (gave.Tick, (refl, shows-so time d))
+  happens-ample (Send c n) d =
       changes-so (IsSent n) (gave.Sent false) (λ p. gave.Sent (nat_le n (length p.unsent))) (λ p. Some (sent_by n p)) (λ p. (refl, refl)) c (client_at c d) d
-  acts-so (Close c) d =
+  happens-ample (Close c) d =
       changes-so IsClosed (gave.Close false) (λ p. gave.Close (is_some p.status)) (λ p. closed_by p.status p) (λ p. (refl, refl)) c (client_at c d) d
-
-  -- Whatever happens where memory is always there may happen.
-  pub happens-ample : (deed : Deed) (d : Desktop) → (answer : Done) × Happens out (with_answer answer deed) d (happened out deed d)
-  happens-ample (Steps act done) d = acts-so act d
-  happens-ample (Motion time x y) d = (gave.Tick, moves-so time (pointed (point_in d.output x y) d))
-  happens-ample (Button time button pressed) d = (gave.Tick, buttons-so pressed time button d)
+  happens-ample (Motion time x y) d = (gave.Motion, (refl, moves-so time (pointed (point_in d.output x y) d)))
+  happens-ample (Button time button pressed) d = (gave.Button, (refl, buttons-so pressed time button d))

@@ -116,6 +116,7 @@ pub mod WholePiecesChanging
 pub mod WholePiecesSettling
 pub mod WholePiecesServing
 pub mod WholePieces
+pub mod BridgePointer
 pub mod BridgeLeft
 pub mod HappeningsSound
 pub mod SoundWithin

@@ -40,9 +40,9 @@ leads-follow left (Starve c) d path new h = at (client_at c d) h
     at : (o : Option Resident) → StarvesAt c o d path new → Follow path new
     at None h = absurd h
     at (Some r) h = settling-follows path new (unstruck (becomes c r (ended Memory r.peer) d)) h.1
-leads-follow left (Single deed) d path new h =
+leads-follow left (Single act done) d path new h =
     (happened (settling_through path new) (ending_through path new) (λ (p : Follow path new). λ (mid : Moving). Unit {0}) (λ (p : Follow path new). λ (mid : Moving). Unit {0})
-    (λ mid k. (settling-follows path new mid k, tt)) (λ mid k. (ending-follows path new mid k, tt)) left deed d h).0
+    (λ mid k. (settling-follows path new mid k, tt)) (λ mid k. (ending-follows path new mid k, tt)) left act done d h).0
 
 pub leads-output : (left : LeftOut) (h : Happening) (d : Desktop) (path : List Desktop) (new : Desktop) → Leads left h d path new → new.output ≡ d.output
 leads-output left (Receive c piece) d path new h = at (client_at c d) h
@@ -52,7 +52,7 @@ leads-output left (Receive c piece) d path new h = at (client_at c d) h
     at (Some r) h = ap (λ (x : Desktop). x.output) h.1
 leads-output left (Message c) d path new h = serves-same left c (client_at c d) d new ((messages_lead_through left c d new).0 path h)
 leads-output left (Starve c) d path new h = stops-same left c (client_at c d) d new (stops c (client_at c d) d path new h)
-leads-output left (Single deed) d path new h = happens-output left deed d new ((happens_leads_through left deed d new).0 path h)
+leads-output left (Single act done) d path new h = happens-output left act done d new ((happens_leads_through left act done d new).0 path h)
 
 along-output : (d : Desktop) (es : List Desktop) (new : Desktop) → Along d es new → new.output ≡ d.output
 along-output d [] new h = ap (λ (x : Desktop). x.output) h

@@ -18,8 +18,8 @@ use Rattle.wl_plain.specs.LeftOut.{LeftOut}
 use Rattle.wl_plain.specs.Settling.{Moving, becomes, ended_at, unstruck}
 use Rattle.wl_plain.specs.Stacked.{all_windows}
 use Rattle.wl_plain.specs.Step.{with_peer}
-use Rattle.wl_plain.specs.Steps.{Connect, Feed, Store, Leave, Tick, Send, Close, IsClosed, IsSent, IsStored, closed_by, lowest, next_of}
-use Rattle.wl_plain.specs.Whole.{Acts, ChangesThen, ConnectsThen, Deed, Happens, HappensThen, LeavesThen, PressesThen, ReleasesThen, Steps, Motion, Button, ending, hit_now, point_in, pointed, settling}
+use Rattle.wl_plain.specs.Steps.{Act, Connect, Feed, Store, Leave, Tick, Send, Close, Motion, Button, IsClosed, IsSent, IsStored, closed_by, lowest, next_of}
+use Rattle.wl_plain.specs.Whole.{ChangesThen, ConnectsThen, Happens, HappensThen, LeavesThen, PressesThen, ReleasesThen, ending, hit_now, point_in, pointed, settling}
 use Rattle.wl_plain.proofs.Orderly.{AreOrderly, IsOrderlyAt, IsOrderlyBy}
 use Rattle.wl_plain.proofs.OrderlyRunMessages.{MessageKeeps, fed-known}
 use Rattle.wl_plain.proofs.OrderlyRunTold.{Anyhow, Frames, IsAlike, Known, ToldOrderly, alike, ended-by-known, ending-known, known-so, left-orderly, nothing-orderly, orderly-all, orderly-stays, settling-known}
@@ -200,51 +200,51 @@ module _ (frames : Frames) where
         released-then c ToldOrderly (orderly-all frames) IsOrderlyAt Anyhow (orderly-stays frames) X Settled (λ mid within. last mid within.0)
         time button d known h
 
-    pub happens-known : (left : LeftOut) (deed : Deed) (d : Desktop) → Known c d → HappensThen left deed d Next Settled → X
-    happens-known left (Steps Connect done) d known h = connects-known (lowest d.clients) d done refl known h
-    happens-known left (Steps (Feed a piece) done) d known h = absurd h
-    happens-known left (Steps (Store a store at bytes) done) d known h =
+    pub happens-known : (left : LeftOut) (act : Act) (done : Done) (d : Desktop) → Known c d → HappensThen left act done d Next Settled → X
+    happens-known left Connect done d known h = connects-known (lowest d.clients) d done refl known h
+    happens-known left (Feed a piece) done d known h = absurd h
+    happens-known left (Store a store at bytes) done d known h =
         changes-known (IsStored store at bytes) _ a (client_at a d) d done (stored-keeps store at bytes done) refl known h
-    happens-known left (Steps (Leave a) done) d known h = leaves-known a (client_at a d) d done refl known h
-    happens-known left (Steps (Tick time) done) d known h =
+    happens-known left (Leave a) done d known h = leaves-known a (client_at a d) d done refl known h
+    happens-known left (Tick time) done d known h =
         shown-then c ToldOrderly (orderly-all frames) IsOrderlyAt Anyhow (orderly-stays frames) X Next (λ mid within. next mid within.0)
         time d known h.1
-    happens-known left (Steps (Send a n) done) d known h = changes-known (IsSent n) _ a (client_at a d) d done (sent-keeps n done) refl known h
-    happens-known left (Steps (Close a) done) d known h = changes-known IsClosed _ a (client_at a d) d done (closed-keeps done) refl known h
-    happens-known left (Motion time x y) d known h =
+    happens-known left (Send a n) done d known h = changes-known (IsSent n) _ a (client_at a d) d done (sent-keeps n done) refl known h
+    happens-known left (Close a) done d known h = changes-known IsClosed _ a (client_at a d) d done (closed-keeps done) refl known h
+    happens-known left (Motion time x y) done d known h =
         let start : Desktop = pointed (point_in d.output x y) d in
         moves-then c ToldOrderly (orderly-all frames) IsOrderlyAt Anyhow (orderly-stays frames) X Settled (λ mid within. last mid within.0)
-        time start (pointed-known c (point_in d.output x y) d known) h
-    happens-known left (Button time button true) d known h = presses-known (is_press button d.pointer.buttons) time button d known h
-    happens-known left (Button time button false) d known h = releases-known (is_down button d.pointer.buttons) time button d known h
+        time start (pointed-known c (point_in d.output x y) d known) h.1
+    happens-known left (Button time button true) done d known h = presses-known (is_press button d.pointer.buttons) time button d known h.1
+    happens-known left (Button time button false) done d known h = releases-known (is_down button d.pointer.buttons) time button d known h.1
 
   -- ---- all that happens
 
   -- but for a piece of a client's stream it leaves each client orderly
-  single : (c : ℕ) (left : LeftOut) (deed : Deed) (d e : Desktop) → Known c d → HappensThen left deed d (settling e) (ending e) → Known c e
-  single c left deed d e known h =
-      happens-known c (Known c e) (settling e) (ending e) (settling-known frames c e) (ending-known frames c e) left deed d known h
+  single : (c : ℕ) (left : LeftOut) (act : Act) (done : Done) (d e : Desktop) → Known c d → HappensThen left act done d (settling e) (ending e) → Known c e
+  single c left act done d e known h =
+      happens-known c (Known c e) (settling e) (ending e) (settling-known frames c e) (ending-known frames c e) left act done d known h
 
   module _ (message : MessageKeeps) where
     -- the messages of one client leave each orderly
-    feeds : (left : LeftOut) (a : ℕ) (piece : List ℕ) (done : Done) (d e : Desktop) → AreOrderly d → Acts left (Feed a piece) done d e → AreOrderly e
+    feeds : (left : LeftOut) (a : ℕ) (piece : List ℕ) (done : Done) (d e : Desktop) → AreOrderly d → Happens left (Feed a piece) done d e → AreOrderly e
     feeds left a piece done d e orderly h c = at (same-or a c)
       where
         at : (a ≡ c) ⊎ (a ≢ c) → Known c e
         at (inl same) = subst (λ (n : ℕ). Known n e) same (fed-known frames message left a piece (client_at a d) d done e refl (orderly a) h)
         at (inr differ) = left-orderly frames c d e (whole_others_stay left (Feed a piece) done a c d e refl h differ) (orderly c)
 
-    pub happens-orderly : (left : LeftOut) (deed : Deed) (d e : Desktop) → AreOrderly d → Happens left deed d e → AreOrderly e
-    happens-orderly left (Steps Connect done) d e orderly h c =
-        single c left (Steps Connect done) d e (orderly c) (connects-with (lowest d.clients) d done e h)
-    happens-orderly left (Steps (Feed a piece) done) d e orderly h c = feeds left a piece done d e orderly h c
-    happens-orderly left (Steps (Store a store at bytes) done) d e orderly h c = single c left (Steps (Store a store at bytes) done) d e (orderly c) h
-    happens-orderly left (Steps (Leave a) done) d e orderly h c = single c left (Steps (Leave a) done) d e (orderly c) h
-    happens-orderly left (Steps (Tick time) done) d e orderly h c = single c left (Steps (Tick time) done) d e (orderly c) h
-    happens-orderly left (Steps (Send a n) done) d e orderly h c = single c left (Steps (Send a n) done) d e (orderly c) h
-    happens-orderly left (Steps (Close a) done) d e orderly h c = single c left (Steps (Close a) done) d e (orderly c) h
-    happens-orderly left (Motion time x y) d e orderly h c = single c left (Motion time x y) d e (orderly c) h
-    happens-orderly left (Button time button pressed) d e orderly h c = single c left (Button time button pressed) d e (orderly c) h
+    pub happens-orderly : (left : LeftOut) (act : Act) (done : Done) (d e : Desktop) → AreOrderly d → Happens left act done d e → AreOrderly e
+    happens-orderly left Connect done d e orderly h c =
+        single c left Connect done d e (orderly c) (connects-with (lowest d.clients) d done e h)
+    happens-orderly left (Feed a piece) done d e orderly h c = feeds left a piece done d e orderly h c
+    happens-orderly left (Store a store at bytes) done d e orderly h c = single c left (Store a store at bytes) done d e (orderly c) h
+    happens-orderly left (Leave a) done d e orderly h c = single c left (Leave a) done d e (orderly c) h
+    happens-orderly left (Tick time) done d e orderly h c = single c left (Tick time) done d e (orderly c) h
+    happens-orderly left (Send a n) done d e orderly h c = single c left (Send a n) done d e (orderly c) h
+    happens-orderly left (Close a) done d e orderly h c = single c left (Close a) done d e (orderly c) h
+    happens-orderly left (Motion time x y) done d e orderly h c = single c left (Motion time x y) done d e (orderly c) h
+    happens-orderly left (Button time button pressed) done d e orderly h c = single c left (Button time button pressed) done d e (orderly c) h
 
 -- a desktop without clients is orderly
 pub empty-orderly : (output : Output) → AreOrderly (empty output)

@@ -1,9 +1,11 @@
 -- Whatever happens leaves orderly desktops, which are sound.
 use Rattle.std.proofs.Common.{List, [], ◌∷◌}
+use Rattle.wl_plain.specs.declared.answers.Done.{Done}
 use Rattle.wl_plain.specs.Desktop.{Desktop, empty}
 use Rattle.wl_plain.specs.LeftOut.{LeftOut}
 use Rattle.wl_plain.specs.Soundness.{IsSound, RunIsSound}
-use Rattle.wl_plain.specs.Whole.{Deed, Happens}
+use Rattle.wl_plain.specs.Steps.{Act}
+use Rattle.wl_plain.specs.Whole.{Happens}
 use Rattle.wl_plain.specs.WholeLaws.{Lasts}
 use Rattle.wl_plain.proofs.Orderly.{AreOrderly}
 use Rattle.wl_plain.proofs.OrderlyLinked.{forest-trees}
@@ -29,12 +31,14 @@ frames =
 pub orderly-is-sound : (d : Desktop) → AreOrderly d → IsSound d
 orderly-is-sound d orderly = orderly-sound forest-trees d orderly
 
-pub happens-keeps : (left : LeftOut) (deed : Deed) (d e : Desktop) → AreOrderly d → Happens left deed d e → AreOrderly e
-happens-keeps left deed d e orderly h = happens-orderly frames message-keeps left deed d e orderly h
+pub happens-keeps : (left : LeftOut) (act : Act) (done : Done) (d e : Desktop) → AreOrderly d → Happens left act done d e → AreOrderly e
+happens-keeps left act done d e orderly h = happens-orderly frames message-keeps left act done d e orderly h
 
-lasts-keeps : (left : LeftOut) (deeds : List Deed) (d e : Desktop) → AreOrderly d → Lasts left deeds d e → AreOrderly e
-lasts-keeps left [] d e orderly h = rw h orderly
-lasts-keeps left (deed ∷ deeds) d e orderly h = lasts-keeps left deeds h.0 e (happens-keeps left deed d h.0 orderly h.1) h.2
+lasts-keeps : (left : LeftOut) (acts : List Act) (dones : List Done) (d e : Desktop) → AreOrderly d → Lasts left acts dones d e → AreOrderly e
+lasts-keeps left [] [] d e orderly h = rw h orderly
+lasts-keeps left [] (done ∷ dones) d e orderly h = absurd h
+lasts-keeps left (act ∷ acts) [] d e orderly h = absurd h
+lasts-keeps left (act ∷ acts) (done ∷ dones) d e orderly h = lasts-keeps left acts dones h.0 e (happens-keeps left act done d h.0 orderly h.1) h.2
 
 pub run_is_sound : RunIsSound
-run_is_sound left output deeds d h = orderly-is-sound d (lasts-keeps left deeds (empty output) d (empty-orderly output) h)
+run_is_sound left output acts dones d h = orderly-is-sound d (lasts-keeps left acts dones (empty output) d (empty-orderly output) h)

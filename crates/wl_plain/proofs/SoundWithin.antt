@@ -110,9 +110,9 @@ module _ (c : ℕ) where
   leads-known left (Receive a piece) d path new known h = receives-known a piece (client_at a d) d path new refl known h
   leads-known left (Message a) d path new known h = serves-known left a d path new known h
   leads-known left (Starve a) d path new known h = starves-known a (client_at a d) d path new refl known h
-  leads-known left (Single deed) d path new known h =
+  leads-known left (Single act done) d path new known h =
       happens-known frames c (AllKnown c path new) (settling_through path new) (ending_through path new)
-      (all-settling path new) (all-ending path new) left deed d known h
+      (all-settling path new) (all-ending path new) left act done d known h
 
 -- where all clients are orderly in each of these, each is sound
 pub all-sound : (path : List Desktop) (new : Desktop) → ((c : ℕ) → AllKnown c path new) → AreSound path

@@ -15,9 +15,9 @@ use Rattle.wl_plain.specs.Desktop.{Desktop, Resident, client_at}
 use Rattle.wl_plain.specs.LeftOut.{LeftOut}
 use Rattle.wl_plain.specs.Settling.{EndsFirst, Moving, SettlesAll, Strike, becomes, ended_all, ended_by, unstruck}
 use Rattle.wl_plain.specs.Step.{with_peer}
-use Rattle.wl_plain.specs.Steps.{Connect, Feed, Store, Leave, Tick, Send, Close, ConnectsAt, lowest}
+use Rattle.wl_plain.specs.Steps.{Act, Connect, Feed, Store, Leave, Tick, Send, Close, Motion, Button, ConnectsAt, lowest}
 use Rattle.wl_plain.specs.Through.{EndsFirstThrough, HappensLeadsThrough, IsSingle, MessagesLeadThrough, SettlesAllThrough, ending_through, ends_through, settling_through}
-use Rattle.wl_plain.specs.Whole.{AnswersThen, BecomesThen, Button, ChangesThen, ConnectsThen, Deed, DoesThen, Happens, HappensThen, LeavesThen, Motion, PressesThen, ReleasesThen, ServesThen, Steps, TakesThen, WantsOrThen, changed_so, ending, settling, wants_memory}
+use Rattle.wl_plain.specs.Whole.{AnswersThen, BecomesThen, ChangesThen, ConnectsThen, DoesThen, Happens, HappensThen, LeavesThen, PressesThen, ReleasesThen, ServesThen, TakesThen, WantsOrThen, changed_so, ending, settling, wants_memory}
 
 -- ---- a step's own change leads to one desktop in its middle, whatever comes then
 
@@ -81,17 +81,17 @@ module _ {P : Type 0} (N S : Moving → Type 0) (T U : P → Moving → Type 0) 
   released true time button d h = let k = last h.2 h.4 in (k.0, (h.0, h.1, h.2, h.3, k.1))
   released false time button d h = last (unstruck d) h
 
-  pub happened : (left : LeftOut) (deed : Deed) (d : Desktop) → HappensThen left deed d N S → (p : P) × HappensThen left deed d (T p) (U p)
-  happened left (Steps Connect done) d h = connected (lowest d.clients) d done h
-  happened left (Steps (Feed c piece) done) d h = absurd h
-  happened left (Steps (Store c store at bytes) done) d h = changed _ _ c (client_at c d) d done h
-  happened left (Steps (Leave c) done) d h = went c (client_at c d) d done h
-  happened left (Steps (Tick time) done) d h = let k = next h.1.0 h.1.2 in (k.0, (h.0, (h.1.0, h.1.1, k.1)))
-  happened left (Steps (Send c n) done) d h = changed _ _ c (client_at c d) d done h
-  happened left (Steps (Close c) done) d h = changed _ _ c (client_at c d) d done h
-  happened left (Motion time x y) d h = let k = last h.0 h.2 in (k.0, (h.0, h.1, k.1))
-  happened left (Button time button true) d h = pressed (is_press button d.pointer.buttons) time button d h
-  happened left (Button time button false) d h = released (is_down button d.pointer.buttons) time button d h
+  pub happened : (left : LeftOut) (act : Act) (done : Done) (d : Desktop) → HappensThen left act done d N S → (p : P) × HappensThen left act done d (T p) (U p)
+  happened left Connect done d h = connected (lowest d.clients) d done h
+  happened left (Feed c piece) done d h = absurd h
+  happened left (Store c store at bytes) done d h = changed _ _ c (client_at c d) d done h
+  happened left (Leave c) done d h = went c (client_at c d) d done h
+  happened left (Tick time) done d h = let k = next h.1.0 h.1.2 in (k.0, (h.0, (h.1.0, h.1.1, k.1)))
+  happened left (Send c n) done d h = changed _ _ c (client_at c d) d done h
+  happened left (Close c) done d h = changed _ _ c (client_at c d) d done h
+  happened left (Motion time x y) done d h = let k = last h.1.0 h.1.2 in (k.0, (h.0, (h.1.0, h.1.1, k.1)))
+  happened left (Button time button true) done d h = let k = pressed (is_press button d.pointer.buttons) time button d h.1 in (k.0, (h.0, k.1))
+  happened left (Button time button false) done d h = let k = released (is_down button d.pointer.buttons) time button d h.1 in (k.0, (h.0, k.1))
 
 -- ---- the ends and settlings with the desktops on the way, and without
 
@@ -139,40 +139,40 @@ messages_lead_through left c d new = (
   λ h. served (settling new) (settling new) (λ path. settling_through path new) (λ path. settling_through path new) (settling-with new) (settling-with new) left c (client_at c d) d h,
 )
 
-as-happens : (left : LeftOut) (deed : Deed) (d new : Desktop) → HappensThen left deed d (settling new) (ending new) → Happens left deed d new
-as-happens left (Steps Connect done) d new h = by (lowest d.clients) h
+as-happens : (left : LeftOut) (act : Act) (done : Done) (d new : Desktop) → HappensThen left act done d (settling new) (ending new) → Happens left act done d new
+as-happens left Connect done d new h = by (lowest d.clients) h
   where
     by : (k : Option ℕ) → ConnectsThen k d done (ending new) → ConnectsAt k d done new
     by None h = h
     by (Some n) h = h
-as-happens left (Steps (Feed c piece) done) d new h = absurd h
-as-happens left (Steps (Store c store at bytes) done) d new h = h
-as-happens left (Steps (Leave c) done) d new h = h
-as-happens left (Steps (Tick time) done) d new h = h
-as-happens left (Steps (Send c n) done) d new h = h
-as-happens left (Steps (Close c) done) d new h = h
-as-happens left (Motion time x y) d new h = h
-as-happens left (Button time button pressed) d new h = h
+as-happens left (Feed c piece) done d new h = absurd h
+as-happens left (Store c store at bytes) done d new h = h
+as-happens left (Leave c) done d new h = h
+as-happens left (Tick time) done d new h = h
+as-happens left (Send c n) done d new h = h
+as-happens left (Close c) done d new h = h
+as-happens left (Motion time x y) done d new h = h
+as-happens left (Button time button pressed) done d new h = h
 
 -- a connect, in the form that takes what comes then
 pub connects-with : (k : Option ℕ) (d : Desktop) (done : Done) (new : Desktop) → ConnectsAt k d done new → ConnectsThen k d done (ending new)
 connects-with None d done new h = h
 connects-with (Some n) d done new h = h
 
-from-happens : (left : LeftOut) (deed : Deed) (d new : Desktop) → IsSingle deed → Happens left deed d new → HappensThen left deed d (settling new) (ending new)
-from-happens left (Steps Connect done) d new single h = connects-with (lowest d.clients) d done new h
-from-happens left (Steps (Feed c piece) done) d new single h = absurd (single c piece done refl)
-from-happens left (Steps (Store c store at bytes) done) d new single h = h
-from-happens left (Steps (Leave c) done) d new single h = h
-from-happens left (Steps (Tick time) done) d new single h = h
-from-happens left (Steps (Send c n) done) d new single h = h
-from-happens left (Steps (Close c) done) d new single h = h
-from-happens left (Motion time x y) d new single h = h
-from-happens left (Button time button pressed) d new single h = h
+from-happens : (left : LeftOut) (act : Act) (done : Done) (d new : Desktop) → IsSingle act → Happens left act done d new → HappensThen left act done d (settling new) (ending new)
+from-happens left Connect done d new single h = connects-with (lowest d.clients) d done new h
+from-happens left (Feed c piece) done d new single h = absurd (single c piece refl)
+from-happens left (Store c store at bytes) done d new single h = h
+from-happens left (Leave c) done d new single h = h
+from-happens left (Tick time) done d new single h = h
+from-happens left (Send c n) done d new single h = h
+from-happens left (Close c) done d new single h = h
+from-happens left (Motion time x y) done d new single h = h
+from-happens left (Button time button pressed) done d new single h = h
 
 pub happens_leads_through : HappensLeadsThrough
-happens_leads_through left deed d new = (
-  λ path h. as-happens left deed d new (happened (settling_through path new) (ending_through path new) (λ (u : Unit {0}). settling new) (λ (u : Unit {0}). ending new)
-      (λ mid k. (tt, settling-without path new mid k)) (λ mid k. (tt, ending-without path new mid k)) left deed d h).1,
-  λ single h. happened (settling new) (ending new) (λ path. settling_through path new) (λ path. ending_through path new) (settling-with new) (ending-with new) left deed d (from-happens left deed d new single h),
+happens_leads_through left act done d new = (
+  λ path h. as-happens left act done d new (happened (settling_through path new) (ending_through path new) (λ (u : Unit {0}). settling new) (λ (u : Unit {0}). ending new)
+      (λ mid k. (tt, settling-without path new mid k)) (λ mid k. (tt, ending-without path new mid k)) left act done d h).1,
+  λ single h. happened (settling new) (ending new) (λ path. settling_through path new) (λ path. ending_through path new) (settling-with new) (ending-with new) left act done d (from-happens left act done d new single h),
 )

@@ -1,5 +1,5 @@
 -- Where no want of memory is met, what happens is determined.
-use Rattle.std.proofs.Common.{◌≡◌, ℕ, ◌≤◌, List, length, Option, Some, None, refl, ap, subst, sym, ◌∙◌, arith, inl, inr}
+use Rattle.std.proofs.Common.{◌≡◌, ℕ, ◌≤◌, List, length, Option, Some, None, refl, ap, sym, ◌∙◌, arith, inl, inr}
 use Rattle.std.specs.Prelude.{ℤ, ◌+◌, false, true}
 use Rattle.wl_client.specs.declared.clients.Cause.{Cause}
 use Rattle.wl_client.specs.declared.clients.Cause.TheVariants as cause
@@ -12,9 +12,9 @@ use Rattle.wl_plain.specs.Laws.{status_in}
 use Rattle.wl_plain.specs.LeftOut.{LeftOut}
 use Rattle.wl_plain.specs.Settling.{EndsAndSettles, becomes, unstruck}
 use Rattle.wl_plain.specs.Step.{with_peer}
-use Rattle.wl_plain.specs.Steps.{Act, Connect, Feed, Store, Leave, Tick, Send, Close, ConnectsAt, IsClosed, IsSent, IsStored, fed_of, lowest}
-use Rattle.wl_plain.specs.Whole.{Acts, ChangesAt, Deed, FeedsAt, Happens, IsFedAt, LeavesAt, Motion, Button, MovesTo, Shows, Steps, point_in, pointed}
-use Rattle.wl_plain.specs.WholeLaws.{HadMemory, WholeOneRun, with_answer}
+use Rattle.wl_plain.specs.Steps.{Act, Connect, Feed, Store, Leave, Tick, Send, Close, Motion, Button, ConnectsAt, IsClosed, IsSent, IsStored, fed_of, lowest}
+use Rattle.wl_plain.specs.Whole.{Buttons, ChangesAt, FeedsAt, Happens, IsFedAt, LeavesAt, MovesTo, Shows, point_in, pointed}
+use Rattle.wl_plain.specs.WholeLaws.{HadMemory, WholeOneRun}
 use Rattle.wl_plain.proofs.WholeOneRunFates.{Lives, lasting, lasting-within, number-long, still}
 use Rattle.wl_plain.proofs.WholeOneRunLeads.{After, Leads, Spares, from, only}
 use Rattle.wl_plain.proofs.WholeOneRunMoves.{buttons-leads, moves-leads, shows-leads}
@@ -35,11 +35,11 @@ stays-leads d = only Desktop unstruck (unstruck d) d (still _ d.clients tt)
 
 -- ---- a client connects
 
-connects-once : (k : Option ℕ) (d new end : Desktop) (done other : Done) → ConnectsAt k d done new → ConnectsAt k d other end → HadMemory (Steps Connect done) d new → HadMemory (Steps Connect other) d end → Same done other new end
+connects-once : (k : Option ℕ) (d new end : Desktop) (done other : Done) → ConnectsAt k d done new → ConnectsAt k d other end → HadMemory Connect done d new → HadMemory Connect other d end → Same done other new end
 unfolding Same
 connects-once None d new end done other h k fine well = (h.0 ∙ sym k.0, h.1 ∙ sym k.1)
-connects-once (Some n) d new end done other (inl h) k fine well = absurd (fine.0 (ap (λ x. Steps Connect x) h.0))
-connects-once (Some n) d new end done other (inr h) (inl k) fine well = absurd (well.0 (ap (λ x. Steps Connect x) k.0))
+connects-once (Some n) d new end done other (inl h) k fine well = absurd (fine.0 refl h.0)
+connects-once (Some n) d new end done other (inr h) (inl k) fine well = absurd (well.0 refl k.0)
 connects-once (Some n) d new end done other (inr h) (inr k) fine well = (h.0 ∙ sym k.0, h.1 ∙ sym k.1)
 
 connects-long : (k : Option ℕ) (d new : Desktop) (done : Done) → ConnectsAt k d done new → length new.clients ≡ length d.clients
@@ -137,48 +137,35 @@ closed_once p a b q r h k = (h.1 ∙ sym k.1, h.0 ∙ sym k.0)
 pub few-of : (d : Desktop) → length d.clients ≤ 32 → lasting d.clients ≤ 32
 few-of d short = omega (arith, lasting-within d.clients, short)
 
-acts-once : (out : LeftOut) (act : Act) (d new end : Desktop) (done other : Done) → length d.clients ≤ 32 → Acts out act done d new → Acts out act other d end → HadMemory (Steps act done) d new → HadMemory (Steps act other) d end → Same done other new end
-acts-once out Connect d new end done other short h k fine well = connects-once (lowest d.clients) d new end done other h k fine well
-acts-once out (Feed c piece) d new end done other short h k fine well = fed-once out c piece (client_at c d) d new end done other refl (few-of d short) h k fine.1 well.1
-acts-once out (Store c store at bytes) d new end done other short h k fine well =
-    changes-once (IsStored store at bytes) (stored_once store at bytes) _ done other c (client_at c d) d new end h k
-acts-once out (Leave c) d new end done other short h k fine well = leaves-once c (client_at c d) d new end done other refl (few-of d short) h k fine.1 well.1
-acts-once out (Tick time) d new end done other short h k fine well =
-    answered-once (Shows time d) (λ new. gave.Tick) d new end done other (shows-leads time d (few-of d short)) h.1 k.1 h.0 k.0 fine.1 well.1
-acts-once out (Send c n) d new end done other short h k fine well = changes-once (IsSent n) (sent_once n) _ done other c (client_at c d) d new end h k
-acts-once out (Close c) d new end done other short h k fine well = changes-once IsClosed closed_once _ done other c (client_at c d) d new end h k
-
-pub motion-leads : (out : LeftOut) (time : ℕ) (x y : ℤ) (d : Desktop) → length d.clients ≤ 32 → Leads Desktop unstruck (unstruck d) (Happens out (Motion time x y) d)
-motion-leads out time x y d short =
+pub motion-leads : (time : ℕ) (x y : ℤ) (d : Desktop) → length d.clients ≤ 32 → Leads Desktop unstruck (unstruck d) (MovesTo time (pointed (point_in d.output x y) d))
+motion-leads time x y d short =
     let to = pointed (point_in d.output x y) d in
     from Desktop unstruck (unstruck d) (unstruck to) (MovesTo time to) (still _ d.clients tt) (moves-leads time to (few-of d short))
 
-deeds-once : (out : LeftOut) (deed : Deed) (done : Done) (d new end : Desktop) → length d.clients ≤ 32 → Happens out deed d new → Happens out (with_answer done deed) d end → HadMemory deed d new → HadMemory (with_answer done deed) d end → (deed ≡ with_answer done deed) × (new ≡ end)
-unfolding Same
-deeds-once out (Steps act done) other d new end short h k fine well =
-    let same = acts-once out act d new end done other short h k fine well in (ap (λ x. Steps act x) same.0, same.1)
-deeds-once out (Motion time x y) done d new end short h k fine well = (refl, (motion-leads out time x y d short).once new end h k fine.1 well.1)
-deeds-once out (Button time button pressed) done d new end short h k fine well =
-    (refl, (buttons-leads pressed time button d (few-of d short)).once new end h k fine.1 well.1)
-
 pub whole_one_run : WholeOneRun
-whole_one_run out deed other old new end short alike h k fine well =
-    let again : Happens out (with_answer alike.0 deed) old end = subst (λ x. Happens out x old end) alike.1 k in
-    let amply : HadMemory (with_answer alike.0 deed) old end = subst (λ x. HadMemory x old end) alike.1 well in
-    let same = deeds-once out deed alike.0 old new end short h again fine amply in
-    (same.0 ∙ sym alike.1, same.1)
-
-acts-long : (out : LeftOut) (act : Act) (d new : Desktop) (done : Done) → length d.clients ≤ 32 → Acts out act done d new → length new.clients ≡ length d.clients
-acts-long out Connect d new done short h = connects-long (lowest d.clients) d new done h
-acts-long out (Feed c piece) d new done short h = (fed-after out c piece (client_at c d) d new done refl (few-of d short) h).long
-acts-long out (Store c store at bytes) d new done short h = changes-long (IsStored store at bytes) _ done c (client_at c d) d new h
-acts-long out (Leave c) d new done short h = (leaves-after c (client_at c d) d new done refl (few-of d short) h).long
-acts-long out (Tick time) d new done short h = ((shows-leads time d (few-of d short)).follows new h.1).long
-acts-long out (Send c n) d new done short h = changes-long (IsSent n) _ done c (client_at c d) d new h
-acts-long out (Close c) d new done short h = changes-long IsClosed _ done c (client_at c d) d new h
+unfolding Same
+whole_one_run out Connect done other d new end short h k fine well = connects-once (lowest d.clients) d new end done other h k fine well
+whole_one_run out (Feed c piece) done other d new end short h k fine well = fed-once out c piece (client_at c d) d new end done other refl (few-of d short) h k fine.1 well.1
+whole_one_run out (Store c store at bytes) done other d new end short h k fine well =
+    changes-once (IsStored store at bytes) (stored_once store at bytes) _ done other c (client_at c d) d new end h k
+whole_one_run out (Leave c) done other d new end short h k fine well = leaves-once c (client_at c d) d new end done other refl (few-of d short) h k fine.1 well.1
+whole_one_run out (Tick time) done other d new end short h k fine well =
+    answered-once (Shows time d) (λ new. gave.Tick) d new end done other (shows-leads time d (few-of d short)) h.1 k.1 h.0 k.0 fine.1 well.1
+whole_one_run out (Send c n) done other d new end short h k fine well = changes-once (IsSent n) (sent_once n) _ done other c (client_at c d) d new end h k
+whole_one_run out (Close c) done other d new end short h k fine well = changes-once IsClosed closed_once _ done other c (client_at c d) d new end h k
+whole_one_run out (Motion time x y) done other d new end short h k fine well =
+    answered-once (MovesTo time (pointed (point_in d.output x y) d)) (λ new. gave.Motion) d new end done other (motion-leads time x y d short) h.1 k.1 h.0 k.0 fine.1 well.1
+whole_one_run out (Button time button pressed) done other d new end short h k fine well =
+    answered-once (Buttons pressed time button d) (λ new. gave.Button) d new end done other (buttons-leads pressed time button d (few-of d short)) h.1 k.1 h.0 k.0 fine.1 well.1
 
 -- there are as many numbers as before
-pub happens-long : (out : LeftOut) (deed : Deed) (d new : Desktop) → length d.clients ≤ 32 → Happens out deed d new → length new.clients ≡ length d.clients
-happens-long out (Steps act done) d new short h = acts-long out act d new done short h
-happens-long out (Motion time x y) d new short h = ((motion-leads out time x y d short).follows new h).long
-happens-long out (Button time button pressed) d new short h = ((buttons-leads pressed time button d (few-of d short)).follows new h).long
+pub happens-long : (out : LeftOut) (act : Act) (done : Done) (d new : Desktop) → length d.clients ≤ 32 → Happens out act done d new → length new.clients ≡ length d.clients
+happens-long out Connect done d new short h = connects-long (lowest d.clients) d new done h
+happens-long out (Feed c piece) done d new short h = (fed-after out c piece (client_at c d) d new done refl (few-of d short) h).long
+happens-long out (Store c store at bytes) done d new short h = changes-long (IsStored store at bytes) _ done c (client_at c d) d new h
+happens-long out (Leave c) done d new short h = (leaves-after c (client_at c d) d new done refl (few-of d short) h).long
+happens-long out (Tick time) done d new short h = ((shows-leads time d (few-of d short)).follows new h.1).long
+happens-long out (Send c n) done d new short h = changes-long (IsSent n) _ done c (client_at c d) d new h
+happens-long out (Close c) done d new short h = changes-long IsClosed _ done c (client_at c d) d new h
+happens-long out (Motion time x y) done d new short h = ((motion-leads time x y d short).follows new h.1).long
+happens-long out (Button time button pressed) done d new short h = ((buttons-leads pressed time button d (few-of d short)).follows new h.1).long

@@ -1,5 +1,5 @@
 -- A client that ended stays so until its number is given back.
-use Rattle.std.proofs.Common.{◌≡◌, ◌≢◌, ℕ, zero, suc, ◌≤◌, List, [], ◌∷◌, length, Bool, true, false, Option, Some, None, refl, ap, subst, sym, ◌∙◌, arith, inl, inr}
+use Rattle.std.proofs.Common.{◌≡◌, ◌≢◌, ℕ, zero, suc, List, [], ◌∷◌, length, Bool, true, false, Option, Some, None, refl, ap, subst, sym, ◌∙◌, arith, inl, inr}
 use Rattle.std.specs.Prelude.{◌+◌, ◌⊎◌, drop, if◌then◌else◌, nat_le}
 use Rattle.wl_store.specs.Stores.{write_refusal}
 use Rattle.wl_store.specs.declared.stores.StoreError.{StoreError}
@@ -8,10 +8,9 @@ use Rattle.wl_client.specs.Peer.{Peer, sent_by, stored_at, stored_by}
 use Rattle.wl_plain.specs.declared.answers.Done.{Done}
 use Rattle.wl_plain.specs.Desktop.{Desktop, Resident, arrival, client_at, client_in, place, with_client, with_number, with_place}
 use Rattle.wl_plain.specs.Laws.{status_in, status_of}
-use Rattle.wl_plain.specs.LeftOut.{LeftOut}
 use Rattle.wl_plain.specs.Step.{with_peer}
-use Rattle.wl_plain.specs.Steps.{Act, Connect, Feed, Store, Leave, Tick, Send, Close, ConnectsAt, IsClosed, IsSent, IsStored, lowest, next_of}
-use Rattle.wl_plain.specs.Whole.{Acts, Button, ChangesAt, Motion, Steps}
+use Rattle.wl_plain.specs.Steps.{Connect, Feed, Store, Leave, Tick, Send, Close, Motion, Button, ConnectsAt, IsClosed, IsSent, IsStored, lowest, next_of}
+use Rattle.wl_plain.specs.Whole.{ChangesAt}
 use Rattle.wl_plain.specs.WholeLaws.{EndsStay}
 use Rattle.wl_plain.proofs.OwningKeys.{none-some, some-same}
 use Rattle.wl_plain.proofs.Places.{number-other, number-same}
@@ -121,18 +120,16 @@ closed-leaves c other p done q away h = inr away
 
 -- ---- all of them
 
-acts-stay : (out : LeftOut) (act : Act) (d new : Desktop) (done : Done) (c : ℕ) (why : Cause) → length d.clients ≤ 32 → Acts out act done d new → act ≢ Close c → status_in c d ≡ Some why → status_in c new ≡ Some why
-acts-stay out Connect d new done c why short h kept is = connects-stay d new done c why h is
-acts-stay out (Feed a piece) d new done c why short h kept is = (fed-after out a piece (client_at a d) d new done refl (few-of d short) h).keeps c why is
-acts-stay out (Store a store at bytes) d new done c why short h kept is =
-    changes-stay (IsStored store at bytes) _ done a c (client_at a d) d new refl (λ p q stored. stored-leaves a c store at bytes p done q stored) h ∙ is
-acts-stay out (Leave a) d new done c why short h kept is = (leaves-after a (client_at a d) d new done refl (few-of d short) h).keeps c why is
-acts-stay out (Tick time) d new done c why short h kept is = ((shows-leads time d (few-of d short)).follows new h.1).keeps c why is
-acts-stay out (Send a n) d new done c why short h kept is = changes-stay (IsSent n) _ done a c (client_at a d) d new refl (λ p q sent. sent-leaves a c n p done q sent) h ∙ is
-acts-stay out (Close a) d new done c why short h kept is =
-    changes-stay IsClosed _ done a c (client_at a d) d new refl (λ p q closed. closed-leaves a c p done q (λ e. kept (ap (λ n. Close n) e)) closed) h ∙ is
-
 pub ends_stay : EndsStay
-ends_stay out (Steps act done) old new c why short h kept is = acts-stay out act old new done c why short h (λ e. kept done (ap (λ x. Steps x done) e)) is
-ends_stay out (Motion time x y) old new c why short h kept is = ((motion-leads out time x y old short).follows new h).keeps c why is
-ends_stay out (Button time button pressed) old new c why short h kept is = ((buttons-leads pressed time button old (few-of old short)).follows new h).keeps c why is
+ends_stay out Connect done d new c why short h kept is = connects-stay d new done c why h is
+ends_stay out (Feed a piece) done d new c why short h kept is = (fed-after out a piece (client_at a d) d new done refl (few-of d short) h).keeps c why is
+ends_stay out (Store a store at bytes) done d new c why short h kept is =
+    changes-stay (IsStored store at bytes) _ done a c (client_at a d) d new refl (λ p q stored. stored-leaves a c store at bytes p done q stored) h ∙ is
+ends_stay out (Leave a) done d new c why short h kept is = (leaves-after a (client_at a d) d new done refl (few-of d short) h).keeps c why is
+ends_stay out (Tick time) done d new c why short h kept is = ((shows-leads time d (few-of d short)).follows new h.1).keeps c why is
+ends_stay out (Send a n) done d new c why short h kept is = changes-stay (IsSent n) _ done a c (client_at a d) d new refl (λ p q sent. sent-leaves a c n p done q sent) h ∙ is
+ends_stay out (Close a) done d new c why short h kept is =
+    changes-stay IsClosed _ done a c (client_at a d) d new refl (λ p q closed. closed-leaves a c p done q (λ e. kept (ap (λ n. Close n) e)) closed) h ∙ is
+ends_stay out (Motion time x y) done d new c why short h kept is = ((motion-leads time x y d short).follows new h.1).keeps c why is
+ends_stay out (Button time button pressed) done d new c why short h kept is =
+    ((buttons-leads pressed time button d (few-of d short)).follows new h.1).keeps c why is

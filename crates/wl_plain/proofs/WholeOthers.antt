@@ -6,7 +6,7 @@ use Rattle.wl_scene.specs.Stacking.{Standing}
 use Rattle.wl_plain.specs.declared.answers.Done.{Done}
 use Rattle.wl_plain.specs.Desktop.{Desktop, Resident, arrival, client_at, resident_of, with_client}
 use Rattle.wl_plain.specs.Laws.{toplevels_of}
-use Rattle.wl_plain.specs.Steps.{Connect, Feed, Store, Leave, Tick, Send, Close, ConnectsAt, lowest}
+use Rattle.wl_plain.specs.Steps.{Connect, Feed, Store, Leave, Tick, Send, Close, Motion, Button, ConnectsAt, lowest}
 use Rattle.wl_plain.specs.WholeOthers.{HasEndedUntold, IsLeftAlone, IsLeftBy, IsLeftLiving, IsLeftSo, IsNotQueued, IsToldOfFocus, WholeOthersStay, client_of}
 use Rattle.wl_plain.proofs.OwningKeys.{some-same}
 use Rattle.wl_plain.proofs.Others.{IsLeft, left-then, same-left}
@@ -123,3 +123,5 @@ whole_others_stay out (Send a n) done c other old new of h differ =
     left_alone other old new (λ A P stays known. changes-in out a other (else-than a c other of differ) A P stays _ _ (client_at a old) old done new known h)
 whole_others_stay out (Close a) done c other old new of h differ =
     left_alone other old new (λ A P stays known. changes-in out a other (else-than a c other of differ) A P stays _ _ (client_at a old) old done new known h)
+whole_others_stay out (Motion time x y) done c other old new of h differ = absurd (cc)
+whole_others_stay out (Button time button pressed) done c other old new of h differ = absurd (cc)

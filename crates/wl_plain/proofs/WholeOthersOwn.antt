@@ -18,8 +18,8 @@ use Rattle.wl_plain.specs.Pointing.{button_told, has_pointers, motion_told, move
 use Rattle.wl_plain.specs.Replies.{focus_window, popups_done}
 use Rattle.wl_plain.specs.Settling.{Moving, SettlesEnds, Settles, is_settled, unstruck}
 use Rattle.wl_plain.specs.Stacked.{all_windows}
-use Rattle.wl_plain.specs.Steps.{Act, Connect, Feed, Store, Leave, Tick, Send, Close, ConnectsAt, lowest}
-use Rattle.wl_plain.specs.Whole.{Dismisses, DismissesUnless, Happens, MotionSettles, MovesThen, MovesTo, PressedSo, PressedThen, PressesIf, ReleasedSo, ReleasedThen, ReleasesIf, Shows, ShowsThen, Steps, Motion, Button, TellsButton, TellsFrames, TellsMotion, callbacks_due, ending, frames_told, hit_now, is_hit_of, noted_if, number_of, point_in, pointed, raised_by, settling, with_press, with_release, without_grabs}
+use Rattle.wl_plain.specs.Steps.{Act, Connect, Feed, Store, Leave, Tick, Send, Close, Motion, Button, ConnectsAt, lowest}
+use Rattle.wl_plain.specs.Whole.{Dismisses, DismissesUnless, Happens, MotionSettles, MovesThen, MovesTo, PressedSo, PressedThen, PressesIf, ReleasedSo, ReleasedThen, ReleasesIf, Shows, ShowsThen, TellsButton, TellsFrames, TellsMotion, callbacks_due, ending, frames_told, hit_now, is_hit_of, noted_if, number_of, point_in, pointed, raised_by, settling, with_press, with_release, without_grabs}
 use Rattle.wl_plain.specs.WholeOthers.{IsLeftAlone, IsLeftBy, IsLeftSo, IsNotQueued, IsToldTimes, client_of, told_once}
 use Rattle.wl_plain.specs.WholeOwn.{HasEndedLate, HasItsOwn, KeepsItsOwn, KeepsItsOwnBy, KeepsItsOwnSo, LivesOrEnds, StandTheSame, WholeOwnStays}
 use Rattle.wl_plain.proofs.OwningKeys.{some-same}
@@ -309,22 +309,22 @@ connects out c (Some k) done old new is not_it (inr h) =
     kept-alone c old new (whole_others_stay out Connect done (k + 1) c old new of all (λ e. not_it (of ∙ ap (λ (n : ℕ). Some n) e)))
 
 -- a step of another's, whose number is known
-another : (out : LeftOut) (act : Act) (done : Done) (a c : ℕ) (old new : Desktop) → client_of act done ≡ Some a → client_of act done ≢ Some c → Happens out (Steps act done) old new → KeepsItsOwn c old new
+another : (out : LeftOut) (act : Act) (done : Done) (a c : ℕ) (old new : Desktop) → client_of act done ≡ Some a → client_of act done ≢ Some c → Happens out act done old new → KeepsItsOwn c old new
 another out act done a c old new of not_it h =
     kept-alone c old new (whole_others_stay out act done a c old new of h (λ e. not_it (of ∙ ap (λ (n : ℕ). Some n) e)))
 
 pub whole_own_stays : WholeOwnStays
-whole_own_stays out (Steps Connect done) c old new not_it h = connects out c (lowest old.clients) done old new refl not_it h
-whole_own_stays out (Steps (Feed a piece) done) c old new not_it h = another out (Feed a piece) done a c old new refl not_it h
-whole_own_stays out (Steps (Store a store at bytes) done) c old new not_it h = another out (Store a store at bytes) done a c old new refl not_it h
-whole_own_stays out (Steps (Leave a) done) c old new not_it h = another out (Leave a) done a c old new refl not_it h
-whole_own_stays out (Steps (Tick time) done) c old new not_it h =
+whole_own_stays out Connect done c old new not_it h = connects out c (lowest old.clients) done old new refl not_it h
+whole_own_stays out (Feed a piece) done c old new not_it h = another out (Feed a piece) done a c old new refl not_it h
+whole_own_stays out (Store a store at bytes) done c old new not_it h = another out (Store a store at bytes) done a c old new refl not_it h
+whole_own_stays out (Leave a) done c old new not_it h = another out (Leave a) done a c old new refl not_it h
+whole_own_stays out (Tick time) done c old new not_it h =
     kept c old old new refl (λ surface. refl) (λ A P stays known. shown c StaysOwn own-all A P stays time old new known h.1)
-whole_own_stays out (Steps (Send a n) done) c old new not_it h = another out (Send a n) done a c old new refl not_it h
-whole_own_stays out (Steps (Close a) done) c old new not_it h = another out (Close a) done a c old new refl not_it h
-whole_own_stays out (Motion time x y) c old new not_it h =
+whole_own_stays out (Send a n) done c old new not_it h = another out (Send a n) done a c old new refl not_it h
+whole_own_stays out (Close a) done c old new not_it h = another out (Close a) done a c old new refl not_it h
+whole_own_stays out (Motion time x y) done c old new not_it h =
     let start : Desktop = pointed (point_in old.output x y) old in
     kept c old start new refl (stand-same c old start (stand-moved c old.pointer.place (point_in old.output x y) old.pointer.move old.standing))
-    (λ A P stays known. moves c StaysOwn own-all A P stays time start new known h)
-whole_own_stays out (Button time button true) c old new not_it h = presses (is_press button old.pointer.buttons) time button c old new h
-whole_own_stays out (Button time button false) c old new not_it h = releases (is_down button old.pointer.buttons) time button c old new h
+    (λ A P stays known. moves c StaysOwn own-all A P stays time start new known h.1)
+whole_own_stays out (Button time button true) done c old new not_it h = presses (is_press button old.pointer.buttons) time button c old new h.1
+whole_own_stays out (Button time button false) done c old new not_it h = releases (is_down button old.pointer.buttons) time button c old new h.1

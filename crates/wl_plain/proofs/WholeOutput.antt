@@ -22,8 +22,8 @@ use Rattle.wl_plain.specs.LeftOut.{LeftOut}
 use Rattle.wl_plain.specs.Settling.{EndsAndSettles, EndsFirst, Enters, Leaves, MovesUnless, Moving, Settles, SettlesAll, SettlesEnds, Strike, Tells, TellsAt, TellsUnless, after_status, becomes, ended_all, ended_at, ended_by, is_settled, target_now, unstruck}
 use Rattle.wl_plain.specs.Stacked.{all_windows}
 use Rattle.wl_plain.specs.Step.{stacked, with_peer}
-use Rattle.wl_plain.specs.Steps.{Connect, Feed, Store, Leave, Tick, Send, Close, ConnectsAt, lowest}
-use Rattle.wl_plain.specs.Whole.{Answers, Becomes, Button, ChangesAt, Deed, Dismisses, DismissesUnless, Does, FeedsAt, Happens, IsFedAt, LeavesAt, Motion, MotionSettles, PressedSo, PressesIf, Reaches, ReleasesIf, ServesAt, Steps, StopsAt, Takes, TellsButton, TellsFrames, TellsMotion, WantsOr, after_why, done_for, hit_now, is_hit_of, point_in, pointed, raised_by, wants_memory, with_press}
+use Rattle.wl_plain.specs.Steps.{Act, Connect, Feed, Store, Leave, Tick, Send, Close, Motion, Button, ConnectsAt, lowest}
+use Rattle.wl_plain.specs.Whole.{Answers, Becomes, ChangesAt, Dismisses, DismissesUnless, Does, FeedsAt, Happens, IsFedAt, LeavesAt, MotionSettles, PressedSo, PressesIf, Reaches, ReleasesIf, ServesAt, StopsAt, Takes, TellsButton, TellsFrames, TellsMotion, WantsOr, after_why, done_for, hit_now, is_hit_of, point_in, pointed, raised_by, wants_memory, with_press}
 
 -- ---- what a step is made of
 
@@ -270,16 +270,16 @@ releases-same : (b : Bool) (time button : ℕ) (d new : Desktop) → ReleasesIf 
 releases-same true time button d new h = last-same h.2 new h.4 ∙ settles-still h.0 h.2 h.3 ∙ button-still time button false d.pointer.focus _ h.0 h.1
 releases-same false time button d new h = of-desktop d new h
 
-pub happens-output : (left : LeftOut) (deed : Deed) (d e : Desktop) → Happens left deed d e → e.output ≡ d.output
-happens-output left (Steps Connect done) d e h = connects-same (lowest d.clients) d done e h
-happens-output left (Steps (Feed c piece) done) d e h = fed-same left c piece (client_at c d) d done e h
-happens-output left (Steps (Store c store at bytes) done) d e h = changes-same _ _ c (client_at c d) d done e h
-happens-output left (Steps (Leave c) done) d e h = leaves-same c (client_at c d) d done e h
-happens-output left (Steps (Tick time) done) d e h = struck-same h.1.0 e h.1.2 ∙ frames-still time 32 1 (unstruck d) h.1.0 h.1.1
-happens-output left (Steps (Send c n) done) d e h = changes-same _ _ c (client_at c d) d done e h
-happens-output left (Steps (Close c) done) d e h = changes-same _ _ c (client_at c d) d done e h
-happens-output left (Motion time x y) d e h =
+pub happens-output : (left : LeftOut) (act : Act) (done : Done) (d e : Desktop) → Happens left act done d e → e.output ≡ d.output
+happens-output left Connect done d e h = connects-same (lowest d.clients) d done e h
+happens-output left (Feed c piece) done d e h = fed-same left c piece (client_at c d) d done e h
+happens-output left (Store c store at bytes) done d e h = changes-same _ _ c (client_at c d) d done e h
+happens-output left (Leave c) done d e h = leaves-same c (client_at c d) d done e h
+happens-output left (Tick time) done d e h = struck-same h.1.0 e h.1.2 ∙ frames-still time 32 1 (unstruck d) h.1.0 h.1.1
+happens-output left (Send c n) done d e h = changes-same _ _ c (client_at c d) d done e h
+happens-output left (Close c) done d e h = changes-same _ _ c (client_at c d) d done e h
+happens-output left (Motion time x y) done d e h =
     let start : Desktop = pointed (point_in d.output x y) d in
-    last-same h.0 e h.2 ∙ moves-still (is_settled start) time (unstruck start) h.0 h.1
-happens-output left (Button time button true) d e h = presses-same (is_press button d.pointer.buttons) time button d e h
-happens-output left (Button time button false) d e h = releases-same (is_down button d.pointer.buttons) time button d e h
+    last-same h.1.0 e h.1.2 ∙ moves-still (is_settled start) time (unstruck start) h.1.0 h.1.1
+happens-output left (Button time button true) done d e h = presses-same (is_press button d.pointer.buttons) time button d e h.1
+happens-output left (Button time button false) done d e h = releases-same (is_down button d.pointer.buttons) time button d e h.1

@@ -7,13 +7,12 @@ use Rattle.wl_client.specs.declared.clients.Cause.{Cause}
 use Rattle.wl_client.specs.Told.{Output}
 use Rattle.wl_blend.specs.declared.color.Rgb.{Rgb}
 use Rattle.wl_scene.specs.Windows.{Place, Window}
-use Rattle.wl_plain.specs.Ample.{acted, fed, happened}
+use Rattle.wl_plain.specs.Ample.{fed, happened}
 use Rattle.wl_plain.specs.Desktop.{Desktop, Resident, arrival, client_at, empty, with_client}
 use Rattle.wl_plain.specs.LeftOut.{nothing_left_out}
 use Rattle.wl_plain.specs.Scratch.{scratch_of}
 use Rattle.wl_plain.specs.Stacked.{all_windows}
-use Rattle.wl_plain.specs.Steps.{Store, Leave, Tick}
-use Rattle.wl_plain.specs.Whole.{Motion, Button}
+use Rattle.wl_plain.specs.Steps.{Store, Leave, Tick, Motion, Button}
 
 -- two clients on an output of 64 by 64
 abbrev pub start : Desktop
@@ -35,14 +34,14 @@ abbrev pub release : ℕ → ℕ → Desktop → Desktop
 release time button d = happened nothing_left_out (Button time button false) d
 
 abbrev pub tick : ℕ → Desktop → Desktop
-tick time d = acted nothing_left_out (Tick time) d
+tick time d = happened nothing_left_out (Tick time) d
 
 abbrev pub leaves : ℕ → Desktop → Desktop
-leaves c d = acted nothing_left_out (Leave c) d
+leaves c d = happened nothing_left_out (Leave c) d
 
 -- bytes are put into a store of a client
 abbrev pub stores : ℕ → ℕ → List ℕ → ℕ → Desktop → Desktop
-stores store at bytes c d = acted nothing_left_out (Store c store at bytes) d
+stores store at bytes c d = happened nothing_left_out (Store c store at bytes) d
 
 abbrev quiet : ℕ → Option Resident → Desktop → Desktop
 quiet c None d = d

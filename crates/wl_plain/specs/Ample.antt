@@ -22,8 +22,8 @@ use Rattle.wl_plain.specs.Replies.{focus_window, popups_done, replies}
 use Rattle.wl_plain.specs.Settling.{Moving, Strike, becomes, ended_all, ended_by, is_settled, is_struck, leave_drawn, struck_by, target_now, told_drawn, unstruck, with_focus}
 use Rattle.wl_plain.specs.Stacked.{all_windows}
 use Rattle.wl_plain.specs.Step.{with_peer}
-use Rattle.wl_plain.specs.Steps.{Act, Connect, Feed, Store, Leave, Tick, Send, Close, closed_by, lowest}
-use Rattle.wl_plain.specs.Whole.{Deed, Steps, Motion, Button, callbacks_due, changed_so, frames_told, hit_now, is_hit_of, noted_if, number_of, point_in, pointed, raised_by, with_press, with_release, without_grabs}
+use Rattle.wl_plain.specs.Steps.{Act, Connect, Feed, Store, Leave, Tick, Send, Close, Motion, Button, closed_by, lowest}
+use Rattle.wl_plain.specs.Whole.{callbacks_due, changed_so, frames_told, hit_now, is_hit_of, noted_if, number_of, point_in, pointed, raised_by, with_press, with_release, without_grabs}
 
 -- ---- events
 
@@ -210,16 +210,13 @@ buttons false time button d = released_if (is_down button d.pointer.buttons) tim
 
 -- ---- all of them
 
-abbrev pub acted : LeftOut → Act → Desktop → Desktop
-acted left Connect d = connects_at (lowest d.clients) d
-acted left (Feed c piece) d = fed left c piece d
-acted left (Store c store at bytes) d = changes_at (λ p. Some (stored_at p.status store at bytes p)) c (client_at c d) d
-acted left (Leave c) d = left_at c (client_at c d) d
-acted left (Tick time) d = shown time d
-acted left (Send c n) d = changes_at (λ p. Some (sent_by n p)) c (client_at c d) d
-acted left (Close c) d = changes_at (λ p. closed_by p.status p) c (client_at c d) d
-
-abbrev pub happened : LeftOut → Deed → Desktop → Desktop
-happened left (Steps act done) d = acted left act d
+abbrev pub happened : LeftOut → Act → Desktop → Desktop
+happened left Connect d = connects_at (lowest d.clients) d
+happened left (Feed c piece) d = fed left c piece d
+happened left (Store c store at bytes) d = changes_at (λ p. Some (stored_at p.status store at bytes p)) c (client_at c d) d
+happened left (Leave c) d = left_at c (client_at c d) d
+happened left (Tick time) d = shown time d
+happened left (Send c n) d = changes_at (λ p. Some (sent_by n p)) c (client_at c d) d
+happened left (Close c) d = changes_at (λ p. closed_by p.status p) c (client_at c d) d
 happened left (Motion time x y) d = moved_to time (pointed (point_in d.output x y) d)
 happened left (Button time button pressed) d = buttons pressed time button d

@@ -4,12 +4,12 @@ use Rattle.wl_plain.specs.declared.answers.Done.{Done}
 use Rattle.wl_plain.specs.Desktop.{Desktop}
 use Rattle.wl_plain.specs.LeftOut.{LeftOut}
 use Rattle.wl_plain.specs.Steps.{Feed}
-use Rattle.wl_plain.specs.Whole.{Happens, Steps}
+use Rattle.wl_plain.specs.Whole.{Happens}
 
 -- Two pieces of a client's stream, one after the other, lead where they lead as one, whatever is left out.
 abbrev pub AnyPieces : Type 0
 AnyPieces =
     (left : LeftOut) (c : ℕ) (a b : List ℕ) (first second : Done) (old mid new : Desktop)
-    → Happens left (Steps (Feed c a) first) old mid
-    → Happens left (Steps (Feed c b) second) mid new
-    → Happens left (Steps (Feed c (a ++ b)) second) old new
+    → Happens left (Feed c a) first old mid
+    → Happens left (Feed c b) second mid new
+    → Happens left (Feed c (a ++ b)) second old new

@@ -12,9 +12,9 @@ use Rattle.wl_plain.specs.Settling.{becomes, unstruck}
 use Rattle.wl_plain.specs.Soundness.{IsSound}
 use Rattle.wl_plain.specs.Stacked.{all_windows}
 use Rattle.wl_plain.specs.Step.{with_peer}
-use Rattle.wl_plain.specs.Steps.{Feed}
+use Rattle.wl_plain.specs.Steps.{Act, Feed}
 use Rattle.wl_plain.specs.Through.{HappensThrough, ServesThrough, settling_through}
-use Rattle.wl_plain.specs.Whole.{Deed, Happens, Steps}
+use Rattle.wl_plain.specs.Whole.{Happens}
 
 pub data Happening : Type 0 where
   -- bytes of a client that lives come, and are kept
@@ -23,8 +23,8 @@ pub data Happening : Type 0 where
   Message : ℕ → Happening
   -- memory is wanting before the next message of a client is taken
   Starve : ℕ → Happening
-  -- whatever else happens: all but a piece of a client's stream
-  Single : Deed → Happening
+  -- whatever else happens, with its answer: all but a piece of a client's stream
+  Single : Act → Done → Happening
 
 abbrev pub ReceivesAt : ℕ → List ℕ → Option Resident → Desktop → List Desktop → Desktop → Type 0
 ReceivesAt c piece None d path new = ⊥
@@ -40,7 +40,7 @@ abbrev pub Leads : LeftOut → Happening → Desktop → List Desktop → Deskto
 Leads left (Receive c piece) d path new = ReceivesAt c piece (client_at c d) d path new
 Leads left (Message c) d path new = ServesThrough left c d path new
 Leads left (Starve c) d path new = StarvesAt c (client_at c d) d path new
-Leads left (Single deed) d path new = HappensThrough left deed d path new
+Leads left (Single act done) d path new = HappensThrough left act done d path new
 
 -- happenings one after another
 abbrev pub LeadsAll : LeftOut → List Happening → Desktop → Desktop → Type 0
@@ -53,7 +53,7 @@ LeadsAll left (h ∷ hs) d new = (path : List Desktop) × (mid : Desktop) × Lea
 abbrev pub PieceIsMessages : Type 0
 PieceIsMessages =
     (left : LeftOut) (c : ℕ) (piece : List ℕ) (done : Done) (d new : Desktop)
-    → Happens left (Steps (Feed c piece) done) d new
+    → Happens left (Feed c piece) done d new
     → (hs : List Happening) × LeadsAll left hs d new
 
 abbrev pub AreSound : List Desktop → Type 0

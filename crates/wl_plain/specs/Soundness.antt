@@ -7,13 +7,14 @@ use Rattle.wl_surface.specs.State.{History, is_member, order}
 use Rattle.wl_surface.specs.Surfaces.{Link, Surfaces, history_in, link_at}
 use Rattle.wl_scene.specs.Stacking.{is_of}
 use Rattle.wl_scene.specs.Windows.{StackedPopup}
+use Rattle.wl_plain.specs.declared.answers.Done.{Done}
 use Rattle.wl_plain.specs.Desktop.{Desktop, empty, owned_in}
 use Rattle.wl_plain.specs.Laws.{AreApart}
 use Rattle.wl_plain.specs.LeftOut.{LeftOut}
 use Rattle.wl_plain.specs.Marks.{AreDistinct}
 use Rattle.wl_plain.specs.Popups.{stacked_popups}
 use Rattle.wl_plain.specs.Stacked.{all_windows}
-use Rattle.wl_plain.specs.Whole.{Deed}
+use Rattle.wl_plain.specs.Steps.{Act}
 use Rattle.wl_plain.specs.WholeLaws.{Lasts}
 
 -- none of these is there twice
@@ -71,4 +72,5 @@ EmptyIsSound = (output : Output) → IsSound (empty output)
 
 -- Whatever happens from a desktop without clients on, the desktop is sound.
 abbrev pub RunIsSound : Type 0
-RunIsSound = (left : LeftOut) (output : Output) (deeds : List Deed) (d : Desktop) → Lasts left deeds (empty output) d → IsSound d
+RunIsSound =
+    (left : LeftOut) (output : Output) (acts : List Act) (dones : List Done) (d : Desktop) → Lasts left acts dones (empty output) d → IsSound d

@@ -1,6 +1,6 @@
--- The steps of the plain desktop, and what they do to the client that they are of.
+-- What may happen to the plain desktop, and what a step does to the client that it is of.
 use Rattle.std.specs.Option.{option_map}
-use Rattle.std.specs.Prelude.{ℕ, ◌≡◌, ◌+◌, List, [], ◌∷◌, length, nat_le, Option, Some, None, Ok, Err, ◌⊎◌, is_none, is_some}
+use Rattle.std.specs.Prelude.{ℕ, ℤ, ◌≡◌, ◌+◌, List, [], ◌∷◌, length, nat_le, Bool, Option, Some, None, Ok, Err, ◌⊎◌, is_none, is_some}
 use Rattle.wl_store.specs.Stores.{store_at, write_refusal}
 use Rattle.wl_store.specs.declared.stores.StoreError.{StoreError}
 use Rattle.wl_store.specs.declared.stores.StoreError.TheVariants as refused
@@ -15,7 +15,7 @@ use Rattle.wl_plain.specs.declared.answers.ConnectError.TheVariants.{Full, Memor
 use Rattle.wl_client.specs.Peer.{Peer, left_by, sent_by, stored_at}
 use Rattle.wl_plain.specs.Desktop.{Desktop, Resident, arrival, client_at, with_client}
 
--- a step, of the client with a number
+-- what may happen, most of it to the client with a number
 pub data Act : Type 0 where
   -- a client connects
   Connect : Act
@@ -31,6 +31,10 @@ pub data Act : Type 0 where
   Send : ℕ → ℕ → Act
   -- the number of a client that ended is given back
   Close : ℕ → Act
+  -- the pointer moves, at this time, to this point
+  Motion : ℕ → ℤ → ℤ → Act
+  -- a button of the pointer is pressed or released: the time, the button, and whether it is pressed
+  Button : ℕ → ℕ → Bool → Act
 
 abbrev pub fed_of : Option Cause → Fed
 fed_of None = Alive

@@ -7,8 +7,8 @@ use Rattle.wl_plain.specs.Desktop.{Desktop, client_at}
 use Rattle.wl_plain.specs.LeftOut.{LeftOut}
 use Rattle.wl_plain.specs.Settling.{Moving, Settles, Strike, ended_all, ended_by, unstruck}
 use Rattle.wl_plain.specs.Stacked.{all_windows}
-use Rattle.wl_plain.specs.Whole.{Button, Deed, Happens, HappensThen, Motion, Serves, ServesThen, Steps, hit_now}
-use Rattle.wl_plain.specs.Steps.{Feed}
+use Rattle.wl_plain.specs.Whole.{Happens, HappensThen, Serves, ServesThen, hit_now}
+use Rattle.wl_plain.specs.Steps.{Act, Button, Feed}
 use Rattle.wl_plain.specs.declared.answers.Done.{Done}
 
 -- one after each end of these, where they end one after another
@@ -45,8 +45,8 @@ abbrev pub ServesThrough : LeftOut → ℕ → Desktop → List Desktop → Desk
 ServesThrough left c d path new = ServesThen left c (client_at c d) d (settling_through path new)
 
 -- So does whatever else happens but a piece, which is the messages that it completes.
-abbrev pub HappensThrough : LeftOut → Deed → Desktop → List Desktop → Desktop → Type 0
-HappensThrough left deed d path new = HappensThen left deed d (settling_through path new) (ending_through path new)
+abbrev pub HappensThrough : LeftOut → Act → Done → Desktop → List Desktop → Desktop → Type 0
+HappensThrough left act done d path new = HappensThen left act done d (settling_through path new) (ending_through path new)
 
 -- ---- what a press raises
 
@@ -65,16 +65,15 @@ raised_if true d = raised_from d.standing (hit_now d.pointer.place (all_windows 
 raised_if false d = None
 
 -- the toplevel that a press moved up: the one whose tree or popups hold the hit, where it wasn't topmost
-abbrev pub raised_in : Deed → Desktop → Option (ℕ × ℕ)
-raised_in (Steps act done) d = None
-raised_in (Motion time x y) d = None
+abbrev pub raised_in : Act → Desktop → Option (ℕ × ℕ)
 raised_in (Button time button pressed) d = raised_if (pressed && is_press button d.pointer.buttons) d
+raised_in act d = None
 
 -- ---- laws
 
 -- what happens isn't a piece
-abbrev pub IsSingle : Deed → Type 0
-IsSingle deed = (c : ℕ) (piece : List ℕ) (done : Done) → deed ≡ Steps (Feed c piece) done → ⊥
+abbrev pub IsSingle : Act → Type 0
+IsSingle act = (c : ℕ) (piece : List ℕ) → act ≡ Feed c piece → ⊥
 
 -- A message leads where it leads with the desktops on the way, and these are there.
 abbrev pub MessagesLeadThrough : Type 0
@@ -86,6 +85,6 @@ MessagesLeadThrough =
 -- So does whatever else happens.
 abbrev pub HappensLeadsThrough : Type 0
 HappensLeadsThrough =
-    (left : LeftOut) (deed : Deed) (d new : Desktop)
-    → ((path : List Desktop) → HappensThrough left deed d path new → Happens left deed d new)
-    × (IsSingle deed → Happens left deed d new → (path : List Desktop) × HappensThrough left deed d path new)
+    (left : LeftOut) (act : Act) (done : Done) (d new : Desktop)
+    → ((path : List Desktop) → HappensThrough left act done d path new → Happens left act done d new)
+    × (IsSingle act → Happens left act done d new → (path : List Desktop) × HappensThrough left act done d path new)

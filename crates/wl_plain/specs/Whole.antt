@@ -33,7 +33,7 @@ use Rattle.wl_plain.specs.Replies.{focus_window, popups_done, replies}
 use Rattle.wl_plain.specs.Settling.{EndsAndSettles, Moving, QueuesTo, Settles, SettlesEnds, Tells, becomes, ended_all, is_settled, struck_by, told_drawn, unstruck}
 use Rattle.wl_plain.specs.Stacked.{all_windows}
 use Rattle.wl_plain.specs.Step.{takes_memory, with_peer, with_shell}
-use Rattle.wl_plain.specs.Steps.{Act, Connect, Feed, Store, Leave, Tick, Send, Close, ConnectsAt, IsClosed, IsSent, IsStored, fed_of, lowest}
+use Rattle.wl_plain.specs.Steps.{Act, Connect, Feed, Store, Leave, Tick, Send, Close, Motion, Button, ConnectsAt, IsClosed, IsSent, IsStored, fed_of, lowest}
 
 -- ---- one message
 
@@ -349,40 +349,28 @@ Buttons pressed time button d new = ButtonsThen pressed time button d (ending ne
 
 -- ---- all of them
 
--- what happens: a step with its answer, or the pointer moves, or a button is pressed or released
-pub data Deed : Type 0 where
-  Steps : Act → Done → Deed
-  Motion : ℕ → ℤ → ℤ → Deed
-  Button : ℕ → ℕ → Bool → Deed
-
--- A step as it is where every request is served.
-abbrev pub Acts : LeftOut → Act → Done → Desktop → Desktop → Type 0
-Acts left Connect done d new = ConnectsAt (lowest d.clients) d done new
-Acts left (Feed c piece) done d new = IsFedAt left c piece (client_at c d) d done new
-Acts left (Store c store at bytes) done d new = ChangesAt (IsStored store at bytes) (gave.Store stored.NoClient) c (client_at c d) d done new
-Acts left (Leave c) done d new = LeavesAt c (client_at c d) d done new
-Acts left (Tick time) done d new = (done ≡ gave.Tick) × Shows time d new
-Acts left (Send c n) done d new = ChangesAt (IsSent n) (gave.Sent false) c (client_at c d) d done new
-Acts left (Close c) done d new = ChangesAt IsClosed (gave.Close false) c (client_at c d) d done new
-
 -- What happens but a piece, which is the messages that it completes: by itself it leads to the middle of a step; what comes then is said of
 -- those after which the focus is to be settled, and of the others.
-abbrev pub ActsThen : LeftOut → Act → Done → Desktop → (Moving → Type 0) → (Moving → Type 0) → Type 0
-ActsThen left Connect done d Next Settled = ConnectsThen (lowest d.clients) d done Settled
-ActsThen left (Feed c piece) done d Next Settled = ⊥
-ActsThen left (Store c store at bytes) done d Next Settled = ChangesThen (IsStored store at bytes) (gave.Store stored.NoClient) c (client_at c d) d done Settled
-ActsThen left (Leave c) done d Next Settled = LeavesThen c (client_at c d) d done Next Settled
-ActsThen left (Tick time) done d Next Settled = (done ≡ gave.Tick) × ShowsThen time d Next
-ActsThen left (Send c n) done d Next Settled = ChangesThen (IsSent n) (gave.Sent false) c (client_at c d) d done Settled
-ActsThen left (Close c) done d Next Settled = ChangesThen IsClosed (gave.Close false) c (client_at c d) d done Settled
+abbrev pub HappensThen : LeftOut → Act → Done → Desktop → (Moving → Type 0) → (Moving → Type 0) → Type 0
+HappensThen left Connect done d Next Settled = ConnectsThen (lowest d.clients) d done Settled
+HappensThen left (Feed c piece) done d Next Settled = ⊥
+HappensThen left (Store c store at bytes) done d Next Settled =
+    ChangesThen (IsStored store at bytes) (gave.Store stored.NoClient) c (client_at c d) d done Settled
+HappensThen left (Leave c) done d Next Settled = LeavesThen c (client_at c d) d done Next Settled
+HappensThen left (Tick time) done d Next Settled = (done ≡ gave.Tick) × ShowsThen time d Next
+HappensThen left (Send c n) done d Next Settled = ChangesThen (IsSent n) (gave.Sent false) c (client_at c d) d done Settled
+HappensThen left (Close c) done d Next Settled = ChangesThen IsClosed (gave.Close false) c (client_at c d) d done Settled
+HappensThen left (Motion time x y) done d Next Settled = (done ≡ gave.Motion) × MovesThen time (pointed (point_in d.output x y) d) Settled
+HappensThen left (Button time button pressed) done d Next Settled = (done ≡ gave.Button) × ButtonsThen pressed time button d Settled
 
-abbrev pub HappensThen : LeftOut → Deed → Desktop → (Moving → Type 0) → (Moving → Type 0) → Type 0
-HappensThen left (Steps act done) d Next Settled = ActsThen left act done d Next Settled
-HappensThen left (Motion time x y) d Next Settled = MovesThen time (pointed (point_in d.output x y) d) Settled
-HappensThen left (Button time button pressed) d Next Settled = ButtonsThen pressed time button d Settled
-
--- What may happen to the plain desktop. Want of memory is the only choice.
-abbrev pub Happens : LeftOut → Deed → Desktop → Desktop → Type 0
-Happens left (Steps act done) d new = Acts left act done d new
-Happens left (Motion time x y) d new = MovesTo time (pointed (point_in d.output x y) d) new
-Happens left (Button time button pressed) d new = Buttons pressed time button d new
+-- What may happen to the plain desktop, with its answer. Want of memory is the only choice.
+abbrev pub Happens : LeftOut → Act → Done → Desktop → Desktop → Type 0
+Happens left Connect done d new = ConnectsAt (lowest d.clients) d done new
+Happens left (Feed c piece) done d new = IsFedAt left c piece (client_at c d) d done new
+Happens left (Store c store at bytes) done d new = ChangesAt (IsStored store at bytes) (gave.Store stored.NoClient) c (client_at c d) d done new
+Happens left (Leave c) done d new = LeavesAt c (client_at c d) d done new
+Happens left (Tick time) done d new = (done ≡ gave.Tick) × Shows time d new
+Happens left (Send c n) done d new = ChangesAt (IsSent n) (gave.Sent false) c (client_at c d) d done new
+Happens left (Close c) done d new = ChangesAt IsClosed (gave.Close false) c (client_at c d) d done new
+Happens left (Motion time x y) done d new = (done ≡ gave.Motion) × MovesTo time (pointed (point_in d.output x y) d) new
+Happens left (Button time button pressed) done d new = (done ≡ gave.Button) × Buttons pressed time button d new

@@ -23,8 +23,8 @@ use Rattle.wl_plain.specs.LeftOut.{LeftOut}
 use Rattle.wl_plain.specs.Pointing.{has_pointers}
 use Rattle.wl_plain.specs.Popups.{is_among}
 use Rattle.wl_plain.specs.Step.{with_peer}
-use Rattle.wl_plain.specs.Steps.{Act, Connect, Feed, Store, Leave, Tick, Send, Close}
-use Rattle.wl_plain.specs.Whole.{Happens, Reaches, Serves, Steps, StopsAt}
+use Rattle.wl_plain.specs.Steps.{Act, Connect, Feed, Store, Leave, Tick, Send, Close, Motion, Button}
+use Rattle.wl_plain.specs.Whole.{Happens, Reaches, Serves, StopsAt}
 
 -- wl_pointer.enter and leave, of a surface, with a serial (wayland.xml, wl_pointer)
 abbrev pub IsEnter : ℕ → ℕ → Said → Type 0
@@ -93,11 +93,13 @@ client_of (Leave c) done = Some c
 client_of (Tick time) done = None
 client_of (Send c n) done = Some c
 client_of (Close c) done = Some c
+client_of (Motion time x y) done = None
+client_of (Button time button pressed) done = None
 
 -- A step of a client leaves every other client alone, a message that is refused too.
 abbrev pub WholeOthersStay : Type 0
 WholeOthersStay =
-    (left : LeftOut) (act : Act) (done : Done) (c other : ℕ) (old new : Desktop) → client_of act done ≡ Some c → Happens left (Steps act done) old new → c ≢ other
+    (left : LeftOut) (act : Act) (done : Done) (c other : ℕ) (old new : Desktop) → client_of act done ≡ Some c → Happens left act done old new → c ≢ other
     → IsLeftAlone other old new
 
 -- ---- a message that is refused

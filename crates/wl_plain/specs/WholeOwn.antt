@@ -10,7 +10,9 @@ use Rattle.wl_plain.specs.Desktop.{Desktop, Resident, client_at, resident_of}
 use Rattle.wl_plain.specs.Laws.{toplevels_of}
 use Rattle.wl_plain.specs.LeftOut.{LeftOut}
 use Rattle.wl_plain.specs.Popups.{dismiss, popup_changed}
-use Rattle.wl_plain.specs.Whole.{Deed, Happens, Steps, Motion, Button}
+use Rattle.wl_plain.specs.declared.answers.Done.{Done}
+use Rattle.wl_plain.specs.Steps.{Act}
+use Rattle.wl_plain.specs.Whole.{Happens}
 use Rattle.wl_plain.specs.WholeOthers.{client_of}
 
 -- A client lives as it did, and of its messages and what they made all is the same, but for its objects; more may wait to be sent to it.
@@ -77,13 +79,8 @@ KeepsItsOwnSo (Some r) before now after = KeepsItsOwnBy r.peer.status r before n
 abbrev pub KeepsItsOwn : ℕ → Desktop → Desktop → Type 0
 KeepsItsOwn c old new = KeepsItsOwnSo (client_at c old) (toplevels_of c old) (client_at c new) (toplevels_of c new)
 
--- the client that what happens is a step of, if it is of one
-abbrev pub actor_of : Deed → Option ℕ
-actor_of (Steps act done) = client_of act done
-actor_of (Motion time x y) = None
-actor_of (Button time button pressed) = None
-
 -- Whatever happens that isn't a step of a client's leaves it what it has, with the same toplevels standing, or ends it for an event that wasn't
 -- queued.
 abbrev pub WholeOwnStays : Type 0
-WholeOwnStays = (left : LeftOut) (deed : Deed) (c : ℕ) (old new : Desktop) → actor_of deed ≢ Some c → Happens left deed old new → KeepsItsOwn c old new
+WholeOwnStays =
+    (left : LeftOut) (act : Act) (done : Done) (c : ℕ) (old new : Desktop) → client_of act done ≢ Some c → Happens left act done old new → KeepsItsOwn c old new

@@ -63,7 +63,7 @@ impl Stored {
     }
 }
 
-/// What a step answered: for each kind of step what its call gives.
+/// What is answered as something happens: of a step what its call gives.
 #[derive(Clone, Copy, Debug, PartialEq, Eq)]
 pub enum Done {
     Connect(Result<ClientNo, ConnectError>),
@@ -73,6 +73,8 @@ pub enum Done {
     Tick,
     Sent(bool),
     Close(bool),
+    Motion,
+    Button,
 }
 
 /// Why no client could connect.

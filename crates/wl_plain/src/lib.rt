@@ -80,7 +80,7 @@ pub fn whole_one_run()
     ensures { WholeOneRun }
 {}
 
-/// A list of deeds has at most one run that meets no want of memory, with its answers.
+/// A list of acts has at most one run that meets no want of memory, with its answers.
 pub fn whole_only_run()
     ensures { WholeOnlyRun }
 {}
@@ -100,7 +100,7 @@ pub fn empty_has_no_more()
     ensures { EmptyHasNoMore }
 {}
 
-/// A step leaves no trace of what isn't served where there was none.
+/// A step leaves no trace of what isn't served where there was none, unless it is a motion of the pointer or a button.
 pub fn no_more_stays()
     ensures { NoMoreStays }
 {}

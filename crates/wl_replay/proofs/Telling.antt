@@ -3,7 +3,7 @@ use Rattle.std.proofs.Common.{◌≡◌, ℕ, suc, ◌+◌, List, [], ◌∷◌,
 use Rattle.wl_plain.specs.declared.answers.Done.{Done}
 use Rattle.wl_plain.specs.LeftOut.{served_now}
 use Rattle.wl_plain.specs.Steps.{Send}
-use Rattle.wl_plain.specs.Whole.{Happens, Steps}
+use Rattle.wl_plain.specs.Whole.{Happens}
 use Rattle.wl_plain.specs.Desktop.{Desktop}
 use Rattle.wl_replay.specs.Clients.{Sends, TellsClient, TellsFirst}
 use Rattle.wl_recording.specs.Text.{to_line}
@@ -22,10 +22,10 @@ TellsFirst-more n d mid e front last first next =
     (TellsFirst-suc n d mid e front last first (subst (λ (k : ℕ). TellsClient k mid last e) (add-one n) next))
 
 -- what waits for a client is sent
-sends-bytes : (client : ℕ) (d e : Desktop) (bytes : List ℕ) (done : Done) → (length bytes ≡ 0 → ⊥) → Happens served_now (Steps (Send client (length bytes)) done) d e → Sends client (Some bytes) d (to_line client bytes) e
+sends-bytes : (client : ℕ) (d e : Desktop) (bytes : List ℕ) (done : Done) → (length bytes ≡ 0 → ⊥) → Happens served_now (Send client (length bytes)) done d e → Sends client (Some bytes) d (to_line client bytes) e
 sends-bytes client d e [] done some step = absurd (some refl)
 sends-bytes client d e (b ∷ bytes) done some step = (done, step, refl)
 
-pub sends-so : (client : ℕ) (d e : Desktop) (bytes : List ℕ) (waits : Option (List ℕ)) (done : Done) → Some bytes ≡ waits → (length bytes ≡ 0 → ⊥) → Happens served_now (Steps (Send client (length bytes)) done) d e
+pub sends-so : (client : ℕ) (d e : Desktop) (bytes : List ℕ) (waits : Option (List ℕ)) (done : Done) → Some bytes ≡ waits → (length bytes ≡ 0 → ⊥) → Happens served_now (Send client (length bytes)) done d e
     → Sends client waits d (to_line client bytes) e
 sends-so client d e bytes waits done is some step = subst (λ (o : Option (List ℕ)). Sends client o d (to_line client bytes) e) is (sends-bytes client d e bytes done some step)

@@ -4,7 +4,7 @@ use Rattle.wl_plain.specs.Desktop.{Desktop}
 use Rattle.wl_plain.specs.LeftOut.{served_now}
 use Rattle.wl_plain.specs.Steps as act
 use Rattle.wl_plain.specs.Steps.{peer_at, status_of, unsent_of}
-use Rattle.wl_plain.specs.Whole.{Happens, Steps}
+use Rattle.wl_plain.specs.Whole.{Happens}
 use Rattle.wl_plain.specs.declared.answers.Done.{Done}
 use Rattle.wl_plain.specs.declared.answers.Fed.{Fed}
 use Rattle.wl_plain.specs.declared.answers.Fed.TheVariants.{Alive, Ended, NoClient}
@@ -15,11 +15,11 @@ abbrev pub Sends : ℕ → Option (List ℕ) → Desktop → List ℕ → Deskto
 Sends client None old text new = (text ≡ []) × (new ≡ old)
 Sends client (Some []) old text new = (text ≡ []) × (new ≡ old)
 Sends client (Some (b ∷ bytes)) old text new =
-    (done : Done) × Happens served_now (Steps (act.Send client (length (b ∷ bytes))) done) old new × (text ≡ to_line client (b ∷ bytes))
+    (done : Done) × Happens served_now (act.Send client (length (b ∷ bytes))) done old new × (text ≡ to_line client (b ∷ bytes))
 
 -- A client that ended is closed.
 abbrev pub Closes : ℕ → Fed → Desktop → List ℕ → Desktop → Type 0
-Closes client (Ended cause) old text new = (done : Done) × Happens served_now (Steps (act.Close client) done) old new × (text ≡ end_line client cause)
+Closes client (Ended cause) old text new = (done : Done) × Happens served_now (act.Close client) done old new × (text ≡ end_line client cause)
 Closes client Alive old text new = (text ≡ []) × (new ≡ old)
 Closes client NoClient old text new = (text ≡ []) × (new ≡ old)
 

@@ -10,7 +10,7 @@ use Rattle.wl_session.specs.Run.{IsNextFrame}
 use Rattle.wl_plain.specs.LeftOut.{served_now}
 use Rattle.wl_plain.specs.Steps as act
 use Rattle.wl_plain.specs.Steps.{peer_at, status_of}
-use Rattle.wl_plain.specs.Whole.{Happens, Steps}
+use Rattle.wl_plain.specs.Whole.{Happens}
 use Rattle.wl_plain.specs.declared.answers.ConnectError.{ConnectError}
 use Rattle.wl_plain.specs.declared.answers.ConnectError.TheVariants.{Full, Memory}
 use Rattle.wl_plain.specs.declared.answers.Done.{Done}
@@ -43,22 +43,22 @@ absent_text client (Ended cause) = []
 -- The step that each kind of line asks, and what is told of it.
 abbrev pub TellsConnect : Stage → Told → Stage → Type 0
 TellsConnect old told new =
-    (answer : Result ℕ ConnectError) × Happens served_now (Steps act.Connect (gave.Connect answer)) old.desktop new.desktop × (new.frame ≡ old.frame)
+    (answer : Result ℕ ConnectError) × Happens served_now act.Connect (gave.Connect answer) old.desktop new.desktop × (new.frame ≡ old.frame)
     × (connect_told answer ≡ Some told)
 
 abbrev pub TellsBytes : ℕ → List ℕ → Stage → Told → Stage → Type 0
 TellsBytes client piece old told new =
-    (done : Done) × Happens served_now (Steps (act.Feed client piece) done) old.desktop new.desktop × (new.frame ≡ old.frame)
+    (done : Done) × Happens served_now (act.Feed client piece) done old.desktop new.desktop × (new.frame ≡ old.frame)
     × (told ≡ words (absent_text client (status_of (peer_at client old.desktop))))
 
 abbrev pub TellsGone : ℕ → Stage → Told → Stage → Type 0
 TellsGone client old told new =
-    (done : Done) × Happens served_now (Steps (act.Leave client) done) old.desktop new.desktop × (new.frame ≡ old.frame)
+    (done : Done) × Happens served_now (act.Leave client) done old.desktop new.desktop × (new.frame ≡ old.frame)
     × (told ≡ words (absent_text client (status_of (peer_at client old.desktop))))
 
 abbrev pub TellsTick : ℕ → Stage → Told → Stage → Type 0
 TellsTick time old told new =
-    (damage : Damaged) × Happens served_now (Steps (act.Tick time) gave.Tick) old.desktop new.desktop × IsNextFrame old.desktop old.frame new.frame (has damage)
+    (damage : Damaged) × Happens served_now (act.Tick time) gave.Tick old.desktop new.desktop × IsNextFrame old.desktop old.frame new.frame (has damage)
     × (told ≡ record {
       text = frame_line time (count_points damage.width damage.height (has damage));
       images = image_of new.frame.width new.frame.height new.frame.pixels;

@@ -6,7 +6,7 @@ use Rattle.wl_plain.specs.Desktop.{Desktop}
 use Rattle.wl_plain.specs.LeftOut.{served_now}
 use Rattle.wl_plain.specs.Steps as act
 use Rattle.wl_plain.specs.Steps.{peer_at, status_of, store_size_of}
-use Rattle.wl_plain.specs.Whole.{Happens, Steps}
+use Rattle.wl_plain.specs.Whole.{Happens}
 use Rattle.wl_plain.specs.declared.answers.Done.{Done}
 use Rattle.wl_plain.specs.declared.answers.Done.TheVariants as gave
 use Rattle.wl_plain.specs.declared.answers.Fed.{Fed}
@@ -28,7 +28,7 @@ stored_text place stored.OutOfRange = outside_line place.client place.store
 -- one store write
 abbrev pub TellsStore : Place → List ℕ → Stage → Told → Stage → Type 0
 TellsStore place bytes old told new =
-    (answer : Stored) × Happens served_now (Steps (act.Store place.client place.store place.at bytes) (gave.Store answer)) old.desktop new.desktop
+    (answer : Stored) × Happens served_now (act.Store place.client place.store place.at bytes) (gave.Store answer) old.desktop new.desktop
     × (new.frame ≡ old.frame) × (told ≡ words (stored_text place answer))
 
 -- A store's size, where a file may be put into it from this byte on; it may be from its end. Else why not.
@@ -48,7 +48,7 @@ pub data Fills {S : Type 0} (files : Files S) (place : Place) (size : ℕ) (firs
   none : Fills files place size first opened place.at first opened
   more : (at : ℕ) (mid last : Desktop) (from to : S) (bytes : List ℕ) (done : Done) → Fills files place size first opened at mid from
       → bytes ≢ [] → length bytes ≤ 4096 → at + length bytes ≤ size → files.gives from bytes to
-      → Happens served_now (Steps (act.Store place.client place.store at bytes) done) mid last
+      → Happens served_now (act.Store place.client place.store at bytes) done mid last
       → Fills files place size first opened (at + length bytes) last to
 
 -- bytes are written to a place, if there are any

@@ -5,6 +5,7 @@ use Rattle.wl_store.specs.declared.color.Argb.{Argb}
 use Rattle.wl_client.specs.declared.clients.Cause.{Cause}
 use Rattle.wl_client.specs.Peer.{with_rest}
 use Rattle.wl_surface.specs.Request.{Buffer}
+use Rattle.wl_plain.specs.declared.answers.Done.{Done}
 use Rattle.wl_plain.specs.Desktop.{Desktop, Resident, client_at, owned_of, with_client}
 use Rattle.wl_plain.specs.Happenings.{Message, Receive, ReceivesAt, Single, Starve}
 use Rattle.wl_plain.specs.Laws.{toplevels_of}
@@ -12,9 +13,10 @@ use Rattle.wl_plain.specs.LeftOut.{LeftOut}
 use Rattle.wl_plain.specs.Scratch.{pixel_at}
 use Rattle.wl_plain.specs.Stacked.{all_windows}
 use Rattle.wl_plain.specs.Step.{with_peer}
-use Rattle.wl_plain.specs.Steps.{Connect, Feed, Leave, Send, Close, Store, Tick}
-use Rattle.wl_plain.specs.Whole.{Deed, Happens, Steps as Step, Motion, Button}
-use Rattle.wl_plain.specs.WholeOwn.{KeepsItsOwn, KeepsItsOwnBy, KeepsItsOwnSo, LivesOrEnds, actor_of}
+use Rattle.wl_plain.specs.Steps.{Act, Connect, Feed, Leave, Send, Close, Store, Tick, Motion, Button}
+use Rattle.wl_plain.specs.Whole.{Happens}
+use Rattle.wl_plain.specs.WholeOthers.{client_of}
+use Rattle.wl_plain.specs.WholeOwn.{KeepsItsOwn, KeepsItsOwnBy, KeepsItsOwnSo, LivesOrEnds}
 use Rattle.wl_plain.proofs.OwningKeys.{none-some}
 use Rattle.wl_plain.proofs.Stacks.{Each, and-both, same-number}
 use Rattle.wl_plain.proofs.Places.{number-other, number-same}
@@ -85,22 +87,22 @@ own-kept c old new h = at (client_at c old) refl h
     at (Some r) was k = by r was r.peer.status k
 
 -- Neither a motion of the pointer nor a button shows a change that isn't damaged.
-user-hides-nothing : (left : LeftOut) (deed : Deed) (old new : Desktop) (c : ℕ) → actor_of deed ≡ None → Happens left deed old new → KeepsDamage all_windows old new c
-user-hides-nothing left deed old new c user h =
+user-hides-nothing : (left : LeftOut) (act : Act) (done : Done) (old new : Desktop) (c : ℕ) → client_of act done ≡ None → Happens left act done old new → KeepsDamage all_windows old new c
+user-hides-nothing left act done old new c user h =
     hides-nothing all_windows old new c (all-shown old) (all-shown new)
-    (own-kept c old new (whole_own_stays left deed c old new (λ e. none-some c (sym user ∙ e)) h))
+    (own-kept c old new (whole_own_stays left act done c old new (λ e. none-some c (sym user ∙ e)) h))
 
 -- what is asked of the others is what is wanted
-enough : (left : LeftOut) (liars : ℕ → Bool) (deed : Deed) (old new : Desktop) → Happens left deed old new → KeepBut all_windows liars (Single deed) old new → AllDamageBut all_windows liars old new
-enough left liars (Step (Store client store at bytes) done) old new happens keep = λ c honest. write_hides_nothing left old new client store at c bytes done happens (keep c honest)
-enough left liars (Step (Tick time) done) old new happens keep = λ c honest. (keep c honest).0
-enough left liars (Step Connect done) old new happens keep = keep
-enough left liars (Step (Feed c piece) done) old new happens keep = keep
-enough left liars (Step (Leave c) done) old new happens keep = keep
-enough left liars (Step (Send c n) done) old new happens keep = keep
-enough left liars (Step (Close c) done) old new happens keep = keep
-enough left liars (Motion time x y) old new happens keep = λ c honest. user-hides-nothing left (Motion time x y) old new c refl happens
-enough left liars (Button time button pressed) old new happens keep = λ c honest. user-hides-nothing left (Button time button pressed) old new c refl happens
+enough : (left : LeftOut) (liars : ℕ → Bool) (act : Act) (done : Done) (old new : Desktop) → Happens left act done old new → KeepBut all_windows liars (Single act done) old new → AllDamageBut all_windows liars old new
+enough left liars (Store client store at bytes) done old new happens keep = λ c honest. write_hides_nothing left old new client store at c bytes done happens (keep c honest)
+enough left liars (Tick time) done old new happens keep = λ c honest. (keep c honest).0
+enough left liars Connect done old new happens keep = keep
+enough left liars (Feed c piece) done old new happens keep = keep
+enough left liars (Leave c) done old new happens keep = keep
+enough left liars (Send c n) done old new happens keep = keep
+enough left liars (Close c) done old new happens keep = keep
+enough left liars (Motion time x y) done old new happens keep = λ c honest. user-hides-nothing left (Motion time x y) done old new c refl happens
+enough left liars (Button time button pressed) done old new happens keep = λ c honest. user-hides-nothing left (Button time button pressed) done old new c refl happens
 
 -- Nor do bytes that come and are kept.
 receive-hides-nothing : (client : ℕ) (piece : List ℕ) (o : Option Resident) (old : Desktop) (path : List Desktop) (new : Desktop) (c : ℕ) → client_at client old ≡ o → ReceivesAt client piece o old path new → KeepsDamage all_windows old new c
@@ -123,4 +125,4 @@ pub promises_are_enough : PromisesAreEnough
 promises_are_enough left liars (Receive client piece) old path new leads keep = λ c honest. receive-hides-nothing client piece (client_at client old) old path new c refl leads
 promises_are_enough left liars (Message client) old path new leads keep = keep
 promises_are_enough left liars (Starve client) old path new leads keep = keep
-promises_are_enough left liars (Single deed) old path new leads keep = enough left liars deed old new ((happens_leads_through left deed old new).0 path leads) keep
+promises_are_enough left liars (Single act done) old path new leads keep = enough left liars act done old new ((happens_leads_through left act done old new).0 path leads) keep

@@ -11,21 +11,21 @@ use Rattle.wl_session.specs.declared.steps.Step.{Step}
 use Rattle.wl_plain.specs.declared.answers.ConnectError.TheVariants.{Memory}
 use Rattle.wl_plain.specs.Desktop.{Desktop}
 use Rattle.wl_plain.specs.LeftOut.{LeftOut}
-use Rattle.wl_plain.specs.Steps.{Act, Connect, Feed, Store, Leave, Tick, Send, Close, ConnectsAt}
-use Rattle.wl_plain.specs.Whole.{Happens, Steps}
+use Rattle.wl_plain.specs.Steps.{Act, Connect, Feed, Store, Leave, Tick, Send, Close, Motion, Button, ConnectsAt}
+use Rattle.wl_plain.specs.Whole.{Happens}
 use Rattle.wl_session.specs.Step.{act_of}
 use Rattle.wl_session.specs.Run.{Film, IsNextFrame, IsShownBy, Leads, MayStopAt, Runs, Shows, in_runs, takes_memory}
 use Rattle.wl_desk.specs.Agreeing.{Agrees, TakesStep}
 use Rattle.wl_session.proofs.Reported.{each_point, in-points}
 
-Runs-snoc : (left : LeftOut) (acts : List Act) (act : Act) (before image after : Image) (old mid new : Desktop) (films first : List Film) (done : Done) → Runs left before old acts films image mid → Happens left (Steps act done) mid new → Shows act mid image first after → Runs left before old (acts ++ act ∷ []) (films ++ first) after new
+Runs-snoc : (left : LeftOut) (acts : List Act) (act : Act) (before image after : Image) (old mid new : Desktop) (films first : List Film) (done : Done) → Runs left before old acts films image mid → Happens left act done mid new → Shows act mid image first after → Runs left before old (acts ++ act ∷ []) (films ++ first) after new
 Runs-snoc left [] act before image after old mid new films first done run step shows = (
   new,
   done,
   after,
   first,
   [],
-  subst (λ (x : Desktop). Happens left (Steps act done) x new) run.2 step,
+  subst (λ (x : Desktop). Happens left act done x new) run.2 step,
   subst (λ (x : Image). Shows act old x first after) run.1 (subst (λ (x : Desktop). Shows act x image first after) run.2 shows),
   rw run.0 (sym (append-nil first)),
   (refl, refl, refl),
@@ -43,7 +43,7 @@ Runs-snoc left (a ∷ acts) act before image after old mid new films first done 
 )
 
 -- a run goes on by one more step
-pub Runs-more : (left : LeftOut) (steps : List Step) (i : ℕ) (x : Step) (before image after : Image) (old mid new : Desktop) (films first : List Film) (done : Done) → i < length steps → Runs left before old (map act_of (take i steps)) films image mid → Happens left (Steps (act_of (get_or steps i x)) done) mid new → Shows (act_of (get_or steps i x)) mid image first after → Runs left before old (map act_of (take (i + 1) steps)) (films ++ first) after new
+pub Runs-more : (left : LeftOut) (steps : List Step) (i : ℕ) (x : Step) (before image after : Image) (old mid new : Desktop) (films first : List Film) (done : Done) → i < length steps → Runs left before old (map act_of (take i steps)) films image mid → Happens left (act_of (get_or steps i x)) done mid new → Shows (act_of (get_or steps i x)) mid image first after → Runs left before old (map act_of (take (i + 1) steps)) (films ++ first) after new
 Runs-more left steps i x before image after old mid new films first done h run step shows =
     let e : map act_of (take (i + 1) steps) ≡ map act_of (take i steps) ++ act_of (get_or steps i x) ∷ [] =
     ap (λ (ss : List Step). map act_of ss) (take_more steps i x h) ∙ map-append act_of (take i steps) (get_or steps i x ∷ []) in
@@ -81,6 +81,8 @@ Shows-quiet (Leave c) d before after films quiet shows = (refl, shows.1)
 Shows-quiet (Tick time) d before after films quiet shows = absurd (cc)
 Shows-quiet (Send c n) d before after films quiet shows = (refl, shows.1)
 Shows-quiet (Close c) d before after films quiet shows = (refl, shows.1)
+Shows-quiet (Motion time x y) d before after films quiet shows = (refl, shows.1)
+Shows-quiet (Button time button pressed) d before after films quiet shows = (refl, shows.1)
 
 pub Leads-quiet : (act : Act) (done : Done) (old new : SessionView) → takes_memory act ≡ false → TakesStep act done old.desk new.desk → ((d : Desktop) → Agrees old.desk d → IsShownBy act d old.frame new.frame) → Leads act [] old new
 Leads-quiet act done old new quiet step shows = λ d a.

@@ -6,16 +6,16 @@ use Rattle.wl_plain.specs.LeftOut.{LeftOut, served_now}
 use Rattle.wl_plain.specs.NoMore.{NoMore}
 use Rattle.wl_plain.specs.declared.answers.Done.{Done}
 use Rattle.wl_plain.specs.Steps.{Act}
-use Rattle.wl_plain.specs.Whole.{Deed, Happens, Steps}
+use Rattle.wl_plain.specs.Whole.{Happens}
 use Rattle.wl_plain.specs.WholeOthers.{client_of}
 
--- A step leaves each client that it isn't of as it was: its status, requests, objects, serials, unsent bytes and rest, what it owns, and the
--- places and the order of its toplevels; where what isn't served has left no trace.
+-- Whatever happens leaves each client that it isn't a step of as it was: its status, requests, objects, serials, unsent bytes and rest, what
+-- it owns, and the places and the order of its toplevels; where what isn't served has left no trace.
 abbrev pub OthersStay : Type 0
 OthersStay =
-    (act : Act) (old new : Desktop) (done : Done) (other : ℕ) → NoMore old → Happens served_now (Steps act done) old new → client_of act done ≢ Some other
+    (act : Act) (old new : Desktop) (done : Done) (other : ℕ) → NoMore old → Happens served_now act done old new → client_of act done ≢ Some other
     → (client_at other new ≡ client_at other old) × (toplevels_of other new ≡ toplevels_of other old)
 
 -- Whatever happens leaves the output as it was.
 abbrev pub OutputStays : Type 0
-OutputStays = (left : LeftOut) (deed : Deed) (old new : Desktop) → Happens left deed old new → new.output ≡ old.output
+OutputStays = (left : LeftOut) (act : Act) (done : Done) (old new : Desktop) → Happens left act done old new → new.output ≡ old.output

@@ -16,8 +16,7 @@ use Rattle.wl_plain.specs.Happenings.{Happening, Message, Receive, Single, Starv
 use Rattle.wl_plain.specs.Marks.{has_same_record}
 use Rattle.wl_plain.specs.Moments.{applied_between}
 use Rattle.wl_plain.specs.Scratch.{color_in, pixel_at}
-use Rattle.wl_plain.specs.Steps.{Act, Store, Tick}
-use Rattle.wl_plain.specs.Whole.{Steps, Motion, Button}
+use Rattle.wl_plain.specs.Steps.{Act, Store, Tick, Motion, Button}
 
 abbrev pub is_same_color : Argb → Argb → Bool
 is_same_color c d = ((c.a == d.a) && (c.r == d.r)) && ((c.g == d.g) && (c.b == d.b))
@@ -87,20 +86,20 @@ KeepsOpaque shown d c = (x y : ℤ) → feigns_at shown d c x y ≡ false
 -- ---- in a step
 
 -- A client keeps its promises in a step: in a store write that on buffers, in any other that on damage, in a tick that on opaque regions too.
+-- A motion of the pointer and a button are the user's: nothing of a client's changes in them, and nothing is asked of it.
 abbrev pub Keeps : Showing → Act → Desktop → Desktop → ℕ → Type 0
 Keeps shown (Store client store at bytes) old new c = KeepsBuffers old new c
 Keeps shown (Tick time) old new c = KeepsDamage shown old new c × KeepsOpaque shown old c
+Keeps shown (Motion time x y) old new c = Unit {0}
+Keeps shown (Button time button pressed) old new c = Unit {0}
 Keeps shown act old new c = KeepsDamage shown old new c
 
--- The same of whatever may happen, one message at a time. Nothing is asked as bytes come, of which no message is taken yet; a motion of the
--- pointer and a button are the user's: nothing of a client's changes in them, and nothing is asked of it.
+-- The same of whatever may happen, one message at a time. Nothing is asked as bytes come, of which no message is taken yet.
 abbrev pub KeepsIn : Showing → Happening → Desktop → Desktop → ℕ → Type 0
 KeepsIn shown (Receive client piece) old new c = Unit {0}
 KeepsIn shown (Message client) old new c = KeepsDamage shown old new c
 KeepsIn shown (Starve client) old new c = KeepsDamage shown old new c
-KeepsIn shown (Single (Steps act done)) old new c = Keeps shown act old new c
-KeepsIn shown (Single (Motion time x y)) old new c = Unit {0}
-KeepsIn shown (Single (Button time button pressed)) old new c = Unit {0}
+KeepsIn shown (Single act done) old new c = Keeps shown act old new c
 
 -- Each client keeps its promises but those of a set.
 abbrev pub KeepBut : Showing → (ℕ → Bool) → Happening → Desktop → Desktop → Type 0

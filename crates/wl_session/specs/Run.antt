@@ -6,8 +6,8 @@ use Rattle.wl_plain.specs.Desktop.{Desktop}
 use Rattle.wl_desk.specs.Painting.{IsOpaqueAsSaid}
 use Rattle.wl_plain.specs.Scratch.{scratch}
 use Rattle.wl_plain.specs.LeftOut.{LeftOut, served_now}
-use Rattle.wl_plain.specs.Steps.{Act, Connect, Feed, Store, Leave, Tick, Send, Close}
-use Rattle.wl_plain.specs.Whole.{Happens, Steps}
+use Rattle.wl_plain.specs.Steps.{Act, Connect, Feed, Store, Leave, Tick, Send, Close, Motion, Button}
+use Rattle.wl_plain.specs.Whole.{Happens}
 use Rattle.wl_session.specs.Step.{act_of}
 use Rattle.wl_desk.specs.Agreeing.{Agrees}
 use Rattle.wl_session.specs.View.{SessionView}
@@ -59,6 +59,8 @@ Shows (Store c store at bytes) d before films after = (films ≡ []) × (after �
 Shows (Leave c) d before films after = (films ≡ []) × (after ≡ before)
 Shows (Send c n) d before films after = (films ≡ []) × (after ≡ before)
 Shows (Close c) d before films after = (films ≡ []) × (after ≡ before)
+Shows (Motion time x y) d before films after = (films ≡ []) × (after ≡ before)
+Shows (Button time button pressed) d before films after = (films ≡ []) × (after ≡ before)
 
 -- what one step leaves of the last frame: a tick shows another
 abbrev pub IsShownBy : Act → Desktop → Image → Image → Type 0
@@ -67,7 +69,7 @@ IsShownBy act d before after = (films : List Film) × Shows act d before films a
 -- one step leads a session from old to new, and shows these frames
 abbrev pub Leads : Act → List Film → SessionView → SessionView → Type 0
 Leads act films old new =
-    (d : Desktop) → Agrees old.desk d → (e : Desktop) × (done : Done) × Happens served_now (Steps act done) d e × Shows act d old.frame films new.frame × Agrees new.desk e
+    (d : Desktop) → Agrees old.desk d → (e : Desktop) × (done : Done) × Happens served_now act done d e × Shows act d old.frame films new.frame × Agrees new.desk e
 
 -- a session stands for every desktop that it stood for, and shows the same frame
 abbrev pub Stays : SessionView → SessionView → Type 0
@@ -78,7 +80,7 @@ abbrev pub Runs : LeftOut → Image → Desktop → List Act → List Film → I
 Runs left before old [] films after new = (films ≡ []) × (after ≡ before) × (new ≡ old)
 Runs left before old (act ∷ acts) films after new =
     (mid : Desktop) × (done : Done) × (image : Image) × (first : List Film) × (later : List Film)
-    × Happens left (Steps act done) old mid × Shows act old before first image × (films ≡ first ++ later) × Runs left image mid acts later after new
+    × Happens left act done old mid × Shows act old before first image × (films ≡ first ++ later) × Runs left image mid acts later after new
 
 -- These steps lead a session from old to new: whatever desktop agrees before, there is a run with these frames from it
 -- to one that agrees after.
@@ -99,6 +101,8 @@ takes_memory (Store c store at bytes) = false
 takes_memory (Leave c) = false
 takes_memory (Send c n) = false
 takes_memory (Close c) = false
+takes_memory (Motion time x y) = false
+takes_memory (Button time button pressed) = false
 
 -- the step with this index, counted from 0, may want memory
 abbrev pub MayStopAt : List Step → ℕ → Type 0

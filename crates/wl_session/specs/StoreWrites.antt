@@ -5,7 +5,7 @@ use Rattle.wl_plain.specs.Happenings.{Happening, Leads}
 use Rattle.wl_plain.specs.LeftOut.{LeftOut}
 use Rattle.wl_plain.specs.Stacked.{all_windows}
 use Rattle.wl_plain.specs.Steps.{Store}
-use Rattle.wl_plain.specs.Whole.{Happens, Steps}
+use Rattle.wl_plain.specs.Whole.{Happens}
 use Rattle.wl_plain.specs.declared.answers.Done.{Done}
 use Rattle.wl_session.specs.Promises.{KeepBut, KeepsBuffers, KeepsDamage}
 use Rattle.wl_session.specs.Unmarked.{AllDamageBut}
@@ -14,7 +14,7 @@ use Rattle.wl_session.specs.Unmarked.{AllDamageBut}
 abbrev pub WriteHidesNothing : Type 0
 WriteHidesNothing =
     (left : LeftOut) (old new : Desktop) (client store at c : ℕ) (bytes : List ℕ) (done : Done)
-    → Happens left (Steps (Store client store at bytes) done) old new
+    → Happens left (Store client store at bytes) done old new
     → KeepsBuffers old new c
     → KeepsDamage all_windows old new c
 

@@ -5,7 +5,7 @@ ghost use Rattle.wl_session.specs.StoreWrites.{PromisesAreEnough, WriteHidesNoth
 ghost use Rattle.wl_session.specs.Seen.{SeenIsScratch};
 ghost use Rattle.wl_session.specs.Unmarked.{IncrementalIsFromScratch, UnmarkedStays, ViewerSeesScratch};
 
-/// A step leaves each client that it isn't of as it was, with the places and the order of its toplevels.
+/// Whatever happens leaves each client that it isn't a step of as it was, with the places and the order of its toplevels.
 pub fn others_stay()
     ensures { OthersStay }
 {}
