@@ -197,14 +197,6 @@ lowest-more (None ∷ xs) (suc k) d x h none here = absurd (cc)
 lowest-more (Some y ∷ xs) zero d x h none here = refl
 lowest-more (Some y ∷ xs) (suc k) d x h none here = ap (λ (o : Option ℕ). next_of o) (lowest-more xs k d x (omega arith) (none_of (lowest (take k xs)) none) here)
 
-none-behind : {X : Type 0} (n : ℕ) (x : Option X) → replicate n x ++ x ∷ [] ≡ replicate (suc n) x
-none-behind zero x = refl
-none-behind (suc n) x = ap (λ xs. x ∷ xs) (none-behind n x)
-
--- a place more without a client
-pub none-more : {X : Type 0} (xs : List (Option X)) (n : ℕ) → xs ≡ replicate n None → xs ++ None ∷ [] ≡ replicate (n + 1) None
-none-more xs n is = let e : n + 1 ≡ suc n = omega arith in rw (is, e) (none-behind n None)
-
 pub lowest-here : {X : Type 0} (xs : List (Option X)) (k : ℕ) (u : Option X) → k < length xs → lowest (take k xs) ≡ None → u ≡ get_or xs k u → is_some u ≡ false → Some k ≡ lowest xs
 lowest-here xs k None h none at test = sym (lowest-found xs k None h none (sym at))
 lowest-here xs k (Some x) h none at test = absurd (cc)

@@ -3,11 +3,8 @@ use Rattle.std.proofs.Common.{◌≡◌, ℕ, List, [], ◌∷◌, Bool, true, f
 use Rattle.std.specs.Prelude.{Ok, Err, ◌==◌, ◌&&◌, if◌then◌else◌, is_some, nat_le, nat_lt, not, ◌+◌, ◌-◌, drop, slice_index, take}
 use Rattle.wl_wire.specs.declared.error.ArgError.{ArgError}
 use Rattle.wl_wire.specs.declared.error.ArgError.TheVariants.{Null, Short, NoNul}
-use Rattle.wl_wire.specs.Wire.{Field, Word, Number, Text, Block, Kind, AWord, ANumber, AText, ABlock, block_at, field_at, fields_at, fields_behind, kind_of, none_left, text_at, whole, with_front, word_of}
-use Rattle.wl_proto.specs.declared.interface.Interface.{Interface}
-use Rattle.wl_proto.specs.Table.{ANewId, Argument}
-use Rattle.wl_proto.specs.Objects.{new_id_of}
-use Rattle.wl_client.specs.Judgement.{is_free, word_in}
+use Rattle.wl_wire.specs.Wire.{Field, Text, Block, Kind, AWord, ANumber, AText, ABlock, block_at, field_at, fields_at, fields_behind, kind_of, none_left, text_at, whole, with_front, word_of}
+use Rattle.wl_client.specs.Judgement.{is_free}
 use Rattle.wl_client.specs.Objects.{Object, Objects, is_of}
 use Rattle.wl_proto.specs.declared.interface.Interface.TheVariants.{WlSurface}
 
@@ -64,14 +61,6 @@ fields-kinds (kind ∷ kinds) bytes fields e = at (field_at kind bytes) refl e (
     at (Err fault) is e later = absurd (cc)
 
 -- ---- a new id
-
--- a new id in front is the first word
-pub first-new : (interface : Option Interface) (arguments : List Argument) (kinds : List Kind) (fields : List Field) → map kind_of fields ≡ AWord ∷ kinds → new_id_of (ANewId interface ∷ arguments) fields ≡ Some (record { id = word_in 0 fields; interface = interface })
-first-new interface arguments kinds [] e = absurd (cc)
-first-new interface arguments kinds (Word n ∷ fields) e = refl
-first-new interface arguments kinds (Number z ∷ fields) e = absurd (cc)
-first-new interface arguments kinds (Text t ∷ fields) e = absurd (cc)
-first-new interface arguments kinds (Block b ∷ fields) e = absurd (cc)
 
 -- a free id is no wl_surface's
 pub free-apart : (objects : Objects) (id : ℕ) → is_free objects id ≡ true → is_of WlSurface (objects id) ≡ false

@@ -216,9 +216,6 @@ moves-applied (suc n) surface all =
     (moves-changed surface applying (λ s. refl) (λ s. refl) all (λ s. refl))
     (moves-fold (λ done child. applied_tree n child done) (λ done child. moves-applied n child done) (children_of surface all) (with_change surface applying all))
 
-pub trees-applied : (n surface : ℕ) (all : Surfaces) → KeepsTrees all (applied_tree n surface all)
-trees-applied n surface all = moves-trees all (applied_tree n surface all) (moves-applied n surface all)
-
 pub moves-unless : (b : Bool) (surface : ℕ) (all : Surfaces) → Moves all (applied_unless b surface all)
 moves-unless true surface all = moves-none all
 moves-unless false surface all = moves-applied levels surface all
@@ -365,6 +362,3 @@ found-left surface id all other =
 pub destroyed-role : (surface id : ℕ) (all : Surfaces) → id ≢ surface → role_in id (destroyed_in surface all) ≡ role_in id all
 destroyed-role surface id all other =
     ap (option_and_then (λ (s : Surface). s.role)) (found-left surface id (fold ended_in all (links_with surface all)) other) ∙ (moves-those surface all).roles id
-
-pub destroyed-there : (surface id : ℕ) (all : Surfaces) → id ≢ surface → is_some (surface_at id (destroyed_in surface all)) ≡ is_some (surface_at id all)
-destroyed-there surface id all other = ap is_some (found-left surface id (fold ended_in all (links_with surface all)) other) ∙ (moves-those surface all).there id

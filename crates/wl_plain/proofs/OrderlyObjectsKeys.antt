@@ -8,7 +8,7 @@ use Rattle.wl_client.specs.Judgement.{is_free}
 use Rattle.wl_client.specs.Objects.{Object, Objects, interface_number, is_of, with_id}
 use Rattle.wl_plain.specs.Owning.{AreApartBy}
 use Rattle.wl_plain.proofs.Orderly.{AreObjects}
-use Rattle.wl_plain.proofs.OwningKeys.{any-found, apart-left, differ, found-any, found-none, found-passes, new-apart, none-first, none-later}
+use Rattle.wl_plain.proofs.OwningKeys.{apart-left, differ, found-any, found-none, found-passes, new-apart, none-first, none-later}
 use Rattle.wl_plain.proofs.Stacks.{and-right, equal-numbers}
 use Rattle.wl_plain.proofs.StandingLists.{any-gone, any-last, none-left}
 
@@ -52,16 +52,6 @@ any-less p f (x ∷ xs) less any = at (p x) (p (f x)) (less x) any (any-less p f
     at true b e any rest = refl
     at false true e any rest = absurd (differ (sym (e refl)))
     at false false e any rest = rest any
-
--- the only one of this key doesn't have it any more
-pub gone-map : {X : Type 0} (has : ℕ → X → Bool) (key : ℕ) (f : X → X) (xs : List X) → AreApartBy has xs → ((x : X) → has key (f x) ≡ true → has key x ≡ true)
-    → ((z : X) → find (has key) xs ≡ Some z → has key (f z) ≡ false) → list_any (has key) (map f xs) ≡ false
-gone-map has key f xs apart less gone = is-false (list_any (has key) (map f xs)) never
-  where
-    never : list_any (has key) (map f xs) ≡ true → ⊥
-    never any =
-        let one = any-found has (λ x. has key (f x)) xs apart (sym (any-map (has key) f xs) ∙ any) in
-        differ (sym one.1 ∙ gone one.0 (one.2 key (less one.0 one.1)))
 
 -- ---- objects by their ids
 

@@ -15,9 +15,6 @@ use Rattle.wl_plain.proofs.Stacks.{equal-numbers}
 abbrev pub There : Surfaces → Surfaces → Type 0
 There old new = (id : ℕ) → is_some (surface_at id new) ≡ is_some (surface_at id old)
 
-pub there-then : (a b c : Surfaces) → There a b → There b c → There a c
-there-then a b c ab bc id = bc id ∙ ab id
-
 -- ---- lists
 
 still : {X : Type 0} (f : X → X) (o : Option X) → is_some (option_map f o) ≡ is_some o

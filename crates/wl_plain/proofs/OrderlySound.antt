@@ -137,18 +137,6 @@ unpopped surface (x ∷ xs) none =
 abbrev IsApart : Shell → Type 0
 IsApart shell = AreApartBy (λ surface x. x.surface == surface) shell
 
--- each xdg_surface of a surface of its own has a popup at most
-popped-once : (x : XdgSurface) → AreOnce same_popped (popped_of x)
-popped-once x = at x.role
-  where
-    kind : (object : RoleObject) (k : Kind) → AreOnce same_popped (popped_kind x object k)
-    kind object Toplevel = tt
-    kind object (IsPopup popup) = (refl, tt)
-
-    at : (o : Option RoleObject) → AreOnce same_popped (popped_role x o)
-    at None = tt
-    at (Some object) = kind object object.kind
-
 -- before others of other surfaces
 popped-before : (x : XdgSurface) (ps : List Popped) → list_any (popped_on x.surface) ps ≡ false → AreOnce same_popped ps → AreOnce same_popped (popped_of x ++ ps)
 popped-before x ps new once = at x.role

@@ -3,9 +3,7 @@ use Rattle.std.proofs.Common.{◌≡◌, ℕ, ◌+◌, List, [], ◌∷◌, Bool
 use Rattle.std.specs.Prelude.{◌==◌, Ok, Result}
 use Rattle.std.specs.Option.{option_map, option_map_or}
 use Rattle.wl_geom.specs.declared.rect.Rect.{Rect}
-use Rattle.wl_client.specs.declared.actions.Action.{Action}
-use Rattle.wl_client.specs.declared.actions.Action.TheVariants.{CreateBuffer, DestroyBuffer}
-use Rattle.wl_surface.specs.Kept.{Changes, Numbered, Slots, StandForAll, kept_at, nobody, one_if_kept, with_at}
+use Rattle.wl_surface.specs.Kept.{Changes, Numbered, Slots, StandForAll, kept_at, one_if_kept, with_at}
 use Rattle.wl_surface.specs.Kept.{count as count_kept}
 use Rattle.wl_surface.specs.Request.{Request, Commit, SetWindowGeometry}
 use Rattle.wl_surface.specs.State.{History, apply, geometry_asked, is_commit}
@@ -13,7 +11,7 @@ use Rattle.wl_surface.specs.Surfaces.{Surface, Surfaces, applying, asking, histo
 use Rattle.wl_surface.specs.Surfaces.{with_change as with_surface_change}
 use Rattle.wl_surface.specs.declared.role.Role.TheVariants.{Toplevel as AsToplevel}
 use Rattle.wl_shell.specs.Agreement.{with_history}
-use Rattle.wl_shell.specs.Kept.{Kept, Stands, changing, commit_answer, effect_answer, first_kept, kept_acknowledging, kept_after, kept_asking, kept_configuring, kept_of, kept_toplevel, kept_without_role, stage_in, with_kept}
+use Rattle.wl_shell.specs.Kept.{Kept, Stands, changing, commit_answer, effect_answer, first_kept, kept_acknowledging, kept_after, kept_asking, kept_configuring, kept_toplevel, kept_without_role, stage_in, with_kept}
 use Rattle.wl_shell.specs.Laws.{one_more}
 use Rattle.wl_shell.specs.Shell.{Effect, Stays, Unconfigured, Configures, Maps, Unmaps, Fresh, Waiting, Mapped, RoleObject, Shell, XdgSurface, acknowledging, at_stage, configuring, in_stage, is_full, is_role, new_toplevel, on_commit, role_acknowledged, stage_of, with_change, with_effect, without_role, xdg_of}
 use Rattle.wl_shell.specs.declared.acts.ShellAct.{ShellAct}
@@ -21,10 +19,10 @@ use Rattle.wl_shell.specs.declared.acts.ShellAct.TheVariants.{Configure, Map, Un
 use Rattle.wl_shell.specs.declared.error.ShellError.{ShellError}
 use Rattle.wl_shell.specs.declared.stage.Stage.{Stage}
 use Rattle.wl_shell.proofs.Standing.{changes_stand}
-use Rattle.wl_scene.specs.Stacking.{Owned, nothing_owned}
-use Rattle.wl_plain.specs.Ask.{Own, CreateSurface, DestroySurface, AskSurface, CommitSurface, GetXdgSurface, DestroyXdgSurface, GetToplevel, Acknowledge, ConfigureAgain, DestroyToplevel}
+use Rattle.wl_scene.specs.Stacking.{Owned}
+use Rattle.wl_plain.specs.Ask.{CreateSurface, DestroySurface, AskSurface, CommitSurface, GetXdgSurface, DestroyXdgSurface, GetToplevel, Acknowledge, ConfigureAgain, DestroyToplevel}
 use Rattle.wl_plain.specs.Desktop.{Resident}
-use Rattle.wl_plain.specs.Owning.{IsOwned, IsXdg, KeepsRole, Names, effect_by, names_in, with_surface, with_toplevel, with_xdg}
+use Rattle.wl_plain.specs.Owning.{IsOwned, IsXdg, KeepsRole, Names, effect_by, with_surface, with_toplevel, with_xdg}
 use Rattle.wl_plain.specs.Step.{after_surface, asked_so_far, changed_by, committed_on, effect_on, toplevel_given}
 use Rattle.wl_plain.specs.WlSurface.{effect_for}
 use Rattle.wl_plain.proofs.OwningChanges.{IsOwned-history, IsOwned-left, IsOwned-made, IsOwned-shelled, IsOwned-stepped, IsOwned-toplevel, IsOwned-unshelled, IsOwned-untoplevel, changing-none, renumbered}
@@ -95,12 +93,6 @@ effect-owned id Maps x r = refl
 effect-owned id Unmaps x r = refl
 
 -- ---- what is asked
-
--- a client's own interfaces change nothing of it
-pub owned-own : (action : Action) (r : Resident) → (changed_by (Own action) r).owned ≡ r.owned
-owned-own (CreateBuffer id version buffer) r = refl
-owned-own (DestroyBuffer id store) r = refl
-owned-own action r = refl
 
 module _ (names : Names) (slots : Slots) (kept : ℕ → Option Kept) (r : Resident) (is : IsOwned names slots kept r.owned) where
   pub owned-created : (id version number : ℕ) (new : Slots) (now : Names) → names.surfaces id ≡ None
@@ -270,21 +262,3 @@ module _ (names : Names) (slots : Slots) (kept : ℕ → Option Kept) (r : Resid
           ∙ by-effect (on_commit (stage_in k) shows) k.serials (is_full k.serials) refl (ap (commit_answer shows) (sym here) ∙ answer)
 
 -- ---- a new client
-
-pub owned-nothing : (slots : Slots) → StandForAll slots nobody → count_kept slots ≡ 0 → IsOwned (names_in []) slots (kept_of []) nothing_owned
-owned-nothing slots stand counted = record {
-  surfaces = record {
-    links = refl;
-    numbered = λ id. refl;
-    once = λ a b number named other. absurd (cc);
-    apart = tt;
-    counts = λ id h there. absurd (cc);
-    stand = stand;
-    count = counted;
-  };
-  shell = record { each = λ id. tt; apart = tt };
-  known = λ number some. absurd (cc);
-  named = λ id. refl;
-  toplevels = λ id. refl;
-  roles = tt;
-}

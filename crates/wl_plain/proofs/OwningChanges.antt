@@ -43,10 +43,6 @@ changing-same number kept = fun_ext (λ other. at other (other == number) refl)
     at other true here = same (kept number) ∙ ap kept (sym (eqb-true other number here))
     at other false here = refl
 
-still-some : {X : Type 0} (f : X → X) (o : Option X) → is_some (option_map f o) ≡ is_some o
-still-some f None = refl
-still-some f (Some x) = refl
-
 -- the same numbers of a surface are read
 same-number : (a b : ById ℕ) (o : Option XdgSurface) → ((x : XdgSurface) → o ≡ Some x → a x.surface ≡ b x.surface) → number_of a o ≡ number_of b o
 same-number a b None same = refl

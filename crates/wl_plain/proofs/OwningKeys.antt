@@ -15,11 +15,6 @@ none-some x e = absurd (cc)
 pub some-same : {X : Type 0} (x y : X) → Some x ≡ Some y → x ≡ y
 some-same x y e = cc
 
--- the first of a list, or a later one
-first-is : {X : Type 0} (b : Bool) (x y : X) (o : Option X) → b ≡ true → cond b (Some x) o ≡ Some y → x ≡ y
-first-is true x y o h e = cc
-first-is false x y o h e = absurd (cc)
-
 pub none-first : {X : Type 0} (b : Bool) (x : X) (o : Option X) → cond b (Some x) o ≡ None → b ≡ false
 none-first true x o e = absurd (cc)
 none-first false x o e = refl
@@ -88,11 +83,6 @@ any-found {X} has r (y ∷ ys) apart any = at (r y) refl any (λ e. any-found ha
           later.1,
           λ key is. ap (λ b. cond b (Some y) (find (has key) ys)) (false_from_ne_true (has key y) (λ same. none-some later.0 (sym (apart.0 key same) ∙ later.2 key is))) ∙ later.2 key is,
         )
-
--- tests that agree find the same
-pub found-same : {X : Type 0} (p q : X → Bool) (xs : List X) → ((x : X) → p x ≡ q x) → find p xs ≡ find q xs
-found-same p q [] same = refl
-found-same p q (x ∷ xs) same = ap (λ b. cond b (Some x) (find p xs)) (same x) ∙ ap (λ o. cond (q x) (Some x) o) (found-same p q xs same)
 
 -- a change that keeps what is tested
 pub found-map : {X : Type 0} (p : X → Bool) (f : X → X) (xs : List X) → ((x : X) → p (f x) ≡ p x) → find p (map f xs) ≡ option_map f (find p xs)

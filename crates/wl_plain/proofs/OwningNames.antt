@@ -1,14 +1,14 @@
 -- How the numbers that a table names change with it.
 use Rattle.std.proofs.Common.{◌≡◌, ℕ, Bool, true, false, Option, Some, None, cond, refl, ap, sym, ◌∙◌, eq-eqb}
-use Rattle.std.specs.Prelude.{◌==◌, is_some}
-use Rattle.std.specs.Option.{option_and_then, option_map}
+use Rattle.std.specs.Prelude.{◌==◌}
+use Rattle.std.specs.Option.{option_and_then}
 use Rattle.std.proofs.Math.Path.{fun_ext}
 use Rattle.std.proofs.lemmas.Bool.{eqb-false, eqb-true}
 use Rattle.wl_proto.specs.declared.interface.Interface.{Interface}
 use Rattle.wl_proto.specs.declared.interface.Interface.TheVariants.{WlSurface, XdgSurface, XdgToplevel}
 use Rattle.wl_table.specs.Objects.{Held, HoldsAt, entry_of, with_target}
 use Rattle.wl_table.specs.declared.entry.Entry.{Entry}
-use Rattle.wl_client.specs.Objects.{ById, interface_number, is_of, object_of, objects_in, with_id}
+use Rattle.wl_client.specs.Objects.{ById, interface_number, with_id}
 use Rattle.wl_plain.specs.Owning.{Names, names_in, names_surface, target_as, targets_in, with_surface, with_toplevel, with_xdg}
 
 -- ---- what there is by ids
@@ -48,18 +48,6 @@ targets-at interface held id entry found is = ap (option_and_then (target_as int
 
 pub targets-free : (interface : Interface) (held : Held) (id : ℕ) → entry_of held id ≡ None → targets_in interface held id ≡ None
 targets-free interface held id free = ap (option_and_then (target_as interface)) free
-
--- an object of the interface is there where a number is named
-pub targets-there : (interface : Interface) (held : Held) (id : ℕ) → is_some (targets_in interface held id) ≡ is_of interface (objects_in held id)
-targets-there interface held id = at (entry_of held id)
-  where
-    there : (b : Bool) (target : ℕ) → is_some (cond b (Some target) None) ≡ b
-    there true target = refl
-    there false target = refl
-
-    at : (o : Option Entry) → is_some (option_and_then (target_as interface) o) ≡ is_of interface (option_map object_of o)
-    at None = refl
-    at (Some entry) = there (interface_number entry.interface == interface_number interface) entry.target
 
 -- ---- the numbers of all three
 

@@ -138,11 +138,6 @@ recorded w v f =
     (and-both (w.width == v.width) _ (equal-numbers w.width v.width f.width) (equal-numbers w.height v.height f.height))
     (equal-numbers w.transform v.transform f.transform)))
 
-pub record-turned : (w v : Window) → has_same_record w v ≡ true → has_same_record v w ≡ true
-record-turned w v e =
-    let f = fields w v e in
-    recorded v w (record { client = sym f.client; surface = sym f.surface; x = sym f.x; y = sym f.y; width = sym f.width; height = sym f.height; transform = sym f.transform })
-
 pub record-surface : (w v : Window) → has_same_record w v ≡ true → is_same_surface w v ≡ true
 record-surface w v e = and-left (is_same_surface w v) _ e
 

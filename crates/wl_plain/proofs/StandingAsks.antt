@@ -1,20 +1,15 @@
 -- After an accepted request the mapped toplevels of its client stand, each once.
 use Rattle.std.proofs.Common.{◌≡◌, ◌≢◌, ℕ, List, [], Bool, true, false, Option, Some, None, refl, ap, sym, subst, ◌∙◌}
-use Rattle.std.specs.Prelude.{Ok}
 use Rattle.std.specs.List.{list_any}
 use Rattle.std.specs.Option.{option_map}
 use Rattle.std.proofs.lemmas.Bool.{eqb-true}
-use Rattle.wl_proto.specs.Messages.{Message}
 use Rattle.wl_client.specs.declared.actions.Action.{Action}
 use Rattle.wl_client.specs.declared.actions.Action.TheVariants.{DestroyBuffer}
-use Rattle.wl_client.specs.Peer.{Peer}
-use Rattle.wl_surface.specs.Kept.{Slots}
 use Rattle.wl_surface.specs.Request.{Request}
 use Rattle.wl_surface.specs.State.{History}
 use Rattle.wl_surface.specs.Surfaces.{Surfaces, history_in, with_change, with_new, with_role, without_surface, asking}
 use Rattle.wl_surface.specs.declared.role.Role.TheVariants.{Toplevel as AsToplevel}
 use Rattle.wl_shell.specs.Agreement.{AreApart as AreToldApart}
-use Rattle.wl_shell.specs.Kept.{Kept}
 use Rattle.wl_shell.specs.Shell.{Effect, Stays, RoleObject, Shell, XdgSurface, acknowledging, configuring, forgetting, in_stage, new_toplevel, on_commit, stage_of, unmapping, without_role, without_xdg, xdg_at, xdg_of}
 use Rattle.wl_shell.specs.Shell.{with_change as with_xdg_change, with_new as with_new_xdg}
 use Rattle.wl_shell.specs.declared.stage.Stage.{Stage}
@@ -24,15 +19,14 @@ use Rattle.wl_scene.specs.Stacking.{Owned, Standing, is_of, with_mapped, without
 use Rattle.wl_plain.specs.Ask.{Ask, Own, CreateSurface, DestroySurface, AskSurface, CommitSurface, DestroyBase, GetXdgSurface, DestroyXdgSurface, GetToplevel, Acknowledge, ConfigureAgain, DestroyToplevel, Ignore}
 use Rattle.wl_plain.specs.Desktop.{Desktop, Resident}
 use Rattle.wl_plain.specs.Laws.{AreApart}
-use Rattle.wl_plain.specs.Owning.{AllCounts, IsOwned, Names}
+use Rattle.wl_plain.specs.Owning.{AllCounts}
 use Rattle.wl_plain.specs.Standing.{AreMapped, is_mapped, is_mapped_at}
-use Rattle.wl_plain.specs.Step.{after_surface, asked_so_far, changed_by, committed_on, effect_on, own_changed, stacked, surface_of, toplevel_given, with_peer}
-use Rattle.wl_plain.proofs.Simply.{ask_of}
+use Rattle.wl_plain.specs.Step.{after_surface, asked_so_far, changed_by, committed_on, effect_on, own_changed, stacked, surface_of, toplevel_given}
 use Rattle.wl_plain.specs.WlSurface.{effect_for, effect_of, will_show}
 use Rattle.wl_plain.proofs.OwningKeys.{found-passes}
 use Rattle.wl_plain.proofs.OwningXdg.{has_surface}
 use Rattle.wl_plain.proofs.StandingClients.{IsAt, IsFound, acknowledging-same, fresh-unmapped, left-else, left-none, mapped-at, mapped-but, mapped-kept, new-unmapped, ready-mapped, stepped-else, stepped-here, stepped-same, unmapped-at, waiting-unmapped}
-use Rattle.wl_plain.proofs.StandingFound.{Finds, FindsBare, FindsXdg, ask-finds, finds-peer, found-so}
+use Rattle.wl_plain.proofs.StandingFound.{Finds, FindsBare, FindsXdg, found-so}
 use Rattle.wl_plain.proofs.StandingLists.{apart-left, mapped-another, mapped-apart, mapped-here, without-another, without-here}
 use Rattle.wl_plain.proofs.StandingSurfaces.{committing, history-else, history-left, shown-asked, shown-committed, shown-made, shown-role}
 
@@ -259,10 +253,3 @@ stand-after c (ConfigureAgain xdg) r d told counts is apart finds =
     (shell-kept c r d is apart (with_xdg_change xdg (configuring r.peer.serial) r.owned.shell) (λ surface. stepped-same xdg surface (configuring r.peer.serial) r.owned.shell (λ y. refl) (λ y. refl)), apart)
 stand-after c (DestroyToplevel id xdg) r d told counts is apart finds = (toplevel-destroyed c r d is apart xdg finds, apart-left _ d.standing apart)
 stand-after c Ignore r d told counts is apart finds = (is, apart)
-
--- An accepted request leaves the mapped toplevels of its client standing, each once, whatever the client was told since it was judged.
-pub accepted-stand : (c : ℕ) (r : Resident) (p : Peer) (d : Desktop) (object version : ℕ) (m : Message) (ask : Ask) (names : Names) (slots : Slots) (kept : ℕ → Option Kept) → IsOwned names slots kept r.owned
-    → ask_of r object version m ≡ Ok ask → AreMapped c r.owned d.standing → AreApart d.standing → StandAfter c ask (with_peer p r) d
-accepted-stand c r p d object version m ask names slots kept owned e is apart =
-    stand-after c ask (with_peer p r) d owned.shell.apart owned.surfaces.counts is apart
-    (finds-peer ask p r (ask-finds r object version m ask owned.shell.apart e))

@@ -20,7 +20,6 @@ use Rattle.wl_plain.proofs.BridgeBack.{AsksBy, message-by}
 use Rattle.wl_plain.specs.Standing.{AreMapped, MappedStand}
 use Rattle.wl_plain.specs.Step.{with_peer}
 use Rattle.wl_plain.specs.Steps.{ConnectsAt, lowest, next_of}
-use Rattle.wl_plain.proofs.Altering.{ChangesAt, left_so}
 use Rattle.wl_plain.proofs.OwningKeys.{some-same}
 use Rattle.wl_plain.proofs.Places.{number-other}
 use Rattle.wl_plain.proofs.StandingAsks.{StandAfter, stand-after}
@@ -90,18 +89,6 @@ closed-stand c d stand =
     gone (r ∷ rs) (suc (suc k)) = gone rs (suc k)
 
 -- ---- steps
-
-pub left-stand : (c : ℕ) (r : Resident) (q : Option Peer) (d : Desktop) → client_at c d ≡ Some r → MappedStand d → MappedStand (left_so c r q d)
-left-stand c r None d is stand = closed-stand c d stand
-left-stand c r (Some q) d is stand = become-stand c r r q d is refl stand
-
--- a client changes by R, or there is none
-pub changes-stand : (R : Peer → Done → Option Peer → Type 0) (absent done : Done) (c : ℕ) (d new : Desktop) → MappedStand d → ChangesAt R absent c (client_at c d) d done new → MappedStand new
-changes-stand R absent done c d new stand h = at (client_at c d) refl h
-  where
-    at : (o : Option Resident) → client_at c d ≡ o → ChangesAt R absent c o d done new → MappedStand new
-    at None is h = subst MappedStand (sym h.1) stand
-    at (Some r) is h = subst MappedStand (sym h.2) (left-stand c r h.0 d is stand)
 
 -- the lowest free number is that of no client
 lowest-free : (rs : List (Option Resident)) (k : ℕ) → lowest rs ≡ Some k → place rs k ≡ None

@@ -90,9 +90,6 @@ one-let v w r change is only stores = subst (λ (x : ClientView). IsPeer x (reco
 pub kept-there : {A : Type 0} (v w : Lent A) (numbers : ById ℕ) (all : Surfaces) → w ≡ v → AreKept numbers v.surfaces all → AreKept numbers w.surfaces all
 kept-there v w numbers all same kept = rw same kept
 
-pub only-stores : (v w x : ClientView) → w ≡ record v { stores = w.stores } → x ≡ record w { stores = x.stores } → x ≡ record v { stores = x.stores }
-only-stores v w x first second = second ∙ ap (λ (y : ClientView). record y { stores = x.stores }) first
-
 -- The buffers that a surface had are let go of, once what was asked of it stands: so it was done.
 pub let-go-so : {A : Type 0} (old v w : Kept A) (after : Resident) → v.client ≡ old.client → Owns v after → w.client ≡ record v.client { stores = w.client.stores } → w.owned ≡ v.owned → IsPeer w.client after.peer → IsLeft old w after after.peer
 let-go-so old v w after still owns only same peer =

@@ -129,18 +129,6 @@ seated-unlinked c others base d v stack r is unlinked other = by (c == other) re
         ∙ ap (λ (o : Option Resident). (owned_of o).surfaces.links) (number-other base.clients c other (Some r) (eqb-false c other e))
         ∙ unlinked other
 
--- a desk's clients link no surfaces
-pub agrees-unlinked : (v : DeskView) (d : Desktop) → Matches v d → AreUnlinked d
-agrees-unlinked v d is zero = refl
-agrees-unlinked v d is (suc k) = at (slice_index_or v.clients k None) (slice_index_or v.owned k None) (place d.clients k) (is.clients k)
-  where
-    at : (w : Option ClientView) (o : Option OwnedView) (r : Option Resident) → IsPlace w o r → (owned_of r).surfaces.links ≡ []
-    at w o None h = refl
-    at (Some w) (Some o) (Some r) h = h.owns.surfaces.links
-    at (Some w) None (Some r) h = absurd h
-    at None (Some o) (Some r) h = absurd h
-    at None None (Some r) h = absurd h
-
 -- ---- what touches a surface is a commit, or the destruction of a toplevel
 
 -- where what is judged touches a surface, this holds of it

@@ -331,9 +331,6 @@ new-free v m free = at (new_id_in m) refl
     at None e = tt
     at (Some new) e = free-entry v new.id (free new e)
 
-pub base-entry : {A : Type 0} (v : Kept A) (id : ℕ) (entry : Entry) → entry_of v.client.objects id ≡ Some entry → entry.interface ≡ XdgWmBase → IsBase v id
-base-entry v id entry found is = ap (λ (o : Option Entry). is_of XdgWmBase (option_map object_of o)) found ∙ ap (λ i. interface_number i == interface_number XdgWmBase) is
-
 number-surface : (interface : Interface) → (interface_number interface == interface_number WlSurface) ≡ true → interface ≡ WlSurface
 number-surface WlSurface e = refl
 number-surface interface e = absurd (cc)

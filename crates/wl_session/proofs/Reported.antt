@@ -14,19 +14,6 @@ before a b h = grind (arith)
 after : (a b : ℕ) → b < a → (a == b) ≡ false
 after a b h = grind (arith)
 
--- the first run at or after a place goes on with what is damaged
-goes-on : (p : ℕ → Bool) (width from start count x : ℕ) → IsFirstRun p width from (start, count) → ((nat_lt x from && p x) || (nat_le start x && nat_lt x (start + count))) ≡ (nat_lt x (start + count) && p x)
-goes-on p width from start count x run = elim (cases_lt x from) [
-  | inl l ↦ rw (lt-ltb x from l, lt-leb start x (omega (arith, run.starts)), lt-ltb x (start + count) (omega (arith, run.starts))) (or-false (p x))
-  | inr g ↦ elim (cases_lt x start) [
-    | inl l ↦ rw (le-ltb x from g, lt-leb start x l, run.before x g l, and-false (nat_lt x (start + count))) refl
-    | inr s ↦ elim (cases_lt x (start + count)) [
-      | inl l ↦ rw (le-ltb x from g, le-leb start x s, lt-ltb x (start + count) l, run.inside x s l) refl
-      | inr e ↦ rw (le-ltb x from g, le-leb start x s, le-ltb x (start + count) e) refl
-    ]
-  ]
-]
-
 -- a test of one row more
 by-row : (was row first second whole : Bool) → (first || second) ≡ whole → ((was || (row && first)) || (row && second)) ≡ (was || (row && whole))
 by-row true row first second whole e = refl
@@ -40,14 +27,6 @@ AreRunsTo was now p width y from = (x z : ℕ) → x < width → in_runs now x z
 -- none yet
 pub runs-none : (was : List Run) (p : ℕ → Bool) (width y : ℕ) → AreRunsTo was was p width y 0
 runs-none was p width y = λ x z h. sym (rw (le-ltb x 0 (omega arith), and-false (y == z)) (or-false (in_runs was x z)))
-
--- one run more
-pub runs-more : (was now : List Run) (p : ℕ → Bool) (width y from start count : ℕ) → IsFirstRun p width from (start, count) → AreRunsTo was now p width y from
-    → AreRunsTo was (now ++ record { x = start; y = y; w = count } ∷ []) p width y (start + count)
-runs-more was now p width y from start count run so = λ x z h.
-    any-last (λ (r : Run). (r.y == z) && (nat_le r.x x && nat_lt x (r.x + r.w))) now (record { x = start; y = y; w = count })
-    ∙ (ap (λ (b : Bool). b || ((y == z) && (nat_le start x && nat_lt x (start + count)))) (so x z h)
-    ∙ by-row (in_runs was x z) (y == z) (nat_lt x from && p x) (nat_le start x && nat_lt x (start + count)) (nat_lt x (start + count) && p x) (goes-on p width from start count x run))
 
 -- where no other follows, they are those of the whole row
 pub runs-all : (was now : List Run) (p : ℕ → Bool) (width y from : ℕ) → ((k : ℕ) → from ≤ k → k < width → p k ≡ false) → AreRunsTo was now p width y from

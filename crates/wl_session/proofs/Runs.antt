@@ -49,12 +49,6 @@ Runs-more left steps i x before image after old mid new films first done h run s
     ap (λ (ss : List Step). map act_of ss) (take_more steps i x h) ∙ map-append act_of (take i steps) (get_or steps i x ∷ []) in
     subst (λ (acts : List Act). Runs left before old acts (films ++ first) after new) (sym e) (Runs-snoc left (map act_of (take i steps)) (act_of (get_or steps i x)) before image after old mid new films first done run step shows)
 
--- a connect that found no memory changes nothing
-pub Connects-stays : (old new : Desktop) (k : Option ℕ) → ConnectsAt k old (gave.Connect (Err Memory)) new → new ≡ old
-Connects-stays old new None h = h.1
-Connects-stays old new (Some k) (inl h) = h.1
-Connects-stays old new (Some k) (inr h) = absurd (cc (h.0))
-
 -- a frame that was painted where these points are was painted where those are that are the same on it
 pub IsNextFrame-by : (d : Desktop) (before after : Image) (damaged reported : ℕ → ℕ → Bool) → ((x y : ℕ) → x < before.width → y < before.height → reported x y ≡ damaged x y) → IsNextFrame d before after damaged → IsNextFrame d before after reported
 IsNextFrame-by d before after damaged reported same next = record {
