@@ -1,7 +1,7 @@
 -- What a change of one client does to the whole desk.
-use Rattle.std.proofs.Common.{◌≡◌, ◌≢◌, ℕ, ◌+◌, suc, zero, ◌<◌, List, [], ◌∷◌, ◌++◌, Bool, true, false, length, map, take, Option, Some, None, get_or, set, refl, sym, ◌∙◌, ap, arith, ◌≤◌, ◌⊎◌, inl, inr}
+use Rattle.std.proofs.Common.{◌≡◌, ◌≢◌, ℕ, ◌+◌, suc, zero, ◌<◌, List, [], ◌∷◌, Bool, true, false, length, map, take, Option, Some, None, get_or, set, refl, sym, ◌∙◌, ap, arith, ◌≤◌, ◌⊎◌, inl, inr}
 use Rattle.std.specs.Option.{option_map}
-use Rattle.std.specs.Prelude.{if◌then◌else◌, is_some, replicate, ◌==◌}
+use Rattle.std.specs.Prelude.{if◌then◌else◌, is_some, ◌==◌}
 use Rattle.std.proofs.lemmas.Bool.{eqb-false, eqb-true}
 use Rattle.std.proofs.lemmas.List.{get_or-set_other, get_or-set_same, length-set}
 use Rattle.wl_client.specs.View.{ClientView}

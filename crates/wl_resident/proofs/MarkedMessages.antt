@@ -1,7 +1,7 @@
 -- A message of a client marks to be painted again what the desk marks: the window of the surface that it touches, before it and after it, and
 -- everything where its client ends and a toplevel of its stood.
-use Rattle.std.proofs.Common.{◌≡◌, ℕ, zero, suc, ◌<◌, ◌-◌, List, [], ◌∷◌, ◌++◌, Bool, true, false, Option, Some, None, Result, refl, ap, sym, subst, ◌∙◌, inl, inr, ◌⊎◌}
-use Rattle.std.specs.Prelude.{ℤ, pos, ◌==◌, ◌&&◌, ◌||◌, Ok, Err, drop, if◌then◌else◌, int_le, is_some, slice_index_or, take}
+use Rattle.std.proofs.Common.{◌≡◌, ℕ, ◌<◌, ◌-◌, List, [], ◌∷◌, ◌++◌, Bool, true, false, Option, Some, None, Result, refl, ap, sym, subst, ◌∙◌, inl, inr, ◌⊎◌}
+use Rattle.std.specs.Prelude.{ℤ, pos, ◌==◌, ◌&&◌, ◌||◌, Ok, Err, drop, if◌then◌else◌, int_le, is_some, take}
 use Rattle.std.specs.List.{list_any}
 use Rattle.std.specs.Option.{option_and_then, option_map_or}
 use Rattle.std.proofs.lemmas.Bool.{eqb-false, eqb-true, or_left, or_right}
@@ -28,7 +28,6 @@ use Rattle.wl_client.specs.Judgement.{number_in, word_in}
 use Rattle.wl_client.specs.Objects.{ById}
 use Rattle.wl_client.specs.Peer.{Peer, counted, with_rest}
 use Rattle.wl_client.specs.Serving.{is_own}
-use Rattle.wl_client.specs.View.{ClientView}
 use Rattle.wl_client.specs.declared.actions.Action.{Action}
 use Rattle.wl_client.specs.declared.clients.Cause.{Cause}
 use Rattle.wl_client.specs.Told.{display_error}
@@ -44,7 +43,7 @@ use Rattle.wl_shell.specs.Shell.{Effect, Stays, Unconfigured, Configures, Maps, 
 use Rattle.wl_shell.specs.Shell.{XdgSurface as Xdg}
 use Rattle.wl_scene.specs.Stacking.{Owned, Stack, Standing, root_of, windows_on}
 use Rattle.wl_scene.specs.Windows.{Owner, Place, Window, contains, moved, owner_of, window_with}
-use Rattle.wl_resident.specs.Agreement.{Matches, IsPlace, IsStack}
+use Rattle.wl_resident.specs.Agreement.{IsStack}
 use Rattle.wl_plain.specs.Ask.{Ask, Own, CreateSurface, DestroySurface, AskSurface, CommitSurface, DestroyBase, GetXdgSurface, DestroyXdgSurface, GetToplevel, Acknowledge, ConfigureAgain, DestroyToplevel, Ignore, owns}
 use Rattle.wl_plain.specs.Desktop.{Desktop, Resident, client_in, owned_in, owned_of, place}
 use Rattle.wl_plain.specs.Laws.{status_in, status_of}
@@ -62,7 +61,6 @@ use Rattle.wl_plain.specs.Whole.{Serves}
 use Rattle.wl_plain.specs.Step.{ask_by, changed_by, surface_of, with_peer}
 use Rattle.wl_plain.proofs.Simply.{ask_of, judge}
 use Rattle.wl_plain.specs.Touching.{any_window_at, has_window_at, is_window_at, touched}
-use Rattle.wl_resident.specs.View.{DeskView, OwnedView}
 use Rattle.wl_plain.specs.WlSurface.{committed_for, effect_of, surface_ask}
 use Rattle.wl_plain.specs.XdgShell.{base_ask, configured_again, has_any, is_foreign, is_state, role_of, toplevel_ask, toplevel_ask_of, xdg_ask_of}
 use Rattle.wl_resident.specs.declared.messages.Asked.{Asked}

@@ -38,7 +38,7 @@ use Rattle.wl_plain.specs.Demand.{Demand}
 use Rattle.wl_plain.specs.Desktop.{Desktop, Resident}
 use Rattle.wl_plain.specs.NoMore.{OwnsToplevelsOnly}
 use Rattle.wl_plain.specs.Owning.{AreKept, IsOwned, IsXdg, Names, asks_by, by_number, configuring_if, kept_base, names_in, names_surface, shell_refusal, target_as, targets_in, with_surface, with_toplevel, with_xdg}
-use Rattle.wl_resident.specs.Residents.{ActsFor, AnswersSo as AnswersWhole, Does, IsBase, IsFree, NewIsFree, IsResident, IsToplevel, IsXdgSurface, Meets, MeetsSo}
+use Rattle.wl_resident.specs.Residents.{ActsFor, AnswersSo as AnswersWhole, Does, IsFree, NewIsFree, IsResident, IsToplevel, IsXdgSurface, Meets, MeetsSo}
 use Rattle.wl_plain.specs.Step.{changed_by, configures_told, role_configured, toplevel_configured, toplevel_given, with_peer, xdg_configured}
 use Rattle.wl_plain.specs.XdgShell.{configured_again, is_no_toplevel, is_state, role_of, toplevel_ask, toplevel_ask_of, xdg_ask, xdg_ask_of}
 use Rattle.wl_resident.proofs.Doing.{cut-bounds}
