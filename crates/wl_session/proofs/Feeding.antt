@@ -1,14 +1,11 @@
 -- A piece of a client's stream, message by message.
-use Rattle.std.proofs.Common.{◌≡◌, ℕ, zero, suc, List, [], ◌∷◌, ◌++◌, Bool, true, false, Option, Some, None, Result, Ok, Err, refl, ap, sym, subst, ◌∙◌, inl, inr}
+use Rattle.std.proofs.Common.{◌≡◌, ℕ, zero, suc, List, [], ◌∷◌, ◌++◌, Bool, true, false, Option, Some, None, refl, ap, sym, subst, ◌∙◌, inl, inr}
 use Rattle.std.specs.Prelude.{◌==◌, not, cond, is_some, slice_index_or}
 use Rattle.wl_plain.specs.Standing.{AreMapped}
 use Rattle.std.specs.List.{list_any}
-use Rattle.wl_wire.specs.Wire.{split_of}
-use Rattle.wl_wire.specs.declared.header.Split.{Split}
-use Rattle.wl_wire.specs.declared.header.Split.TheVariants.{Message, More, Bad}
 use Rattle.wl_client.specs.declared.clients.Cause.{Cause}
 use Rattle.wl_client.specs.declared.clients.Cause.TheVariants.{Memory}
-use Rattle.wl_client.specs.Peer.{Peer, LacksMemory, ended, with_rest}
+use Rattle.wl_client.specs.Peer.{Peer, ended, with_rest}
 use Rattle.wl_client.specs.View.{ClientView}
 use Rattle.wl_scene.specs.Stacking.{Owned, Standing, is_of, nothing_owned, without_client}
 use Rattle.wl_resident.specs.Agreement.{IsPlace, Matches}
@@ -22,7 +19,7 @@ use Rattle.wl_plain.specs.Laws.{status_in}
 use Rattle.wl_plain.specs.Laws.{status_of as ended_in}
 use Rattle.wl_resident.specs.Seats.{ended_by}
 use Rattle.wl_plain.specs.Settling.{becomes}
-use Rattle.wl_plain.specs.Step.{changed_by, stacked, takes_memory, with_peer}
+use Rattle.wl_plain.specs.Step.{changed_by, stacked, with_peer}
 use Rattle.wl_plain.specs.Steps.{fed_of, peer_at, peer_of, status_of}
 use Rattle.wl_resident.specs.View.{DeskView, OwnedView}
 use Rattle.wl_plain.specs.declared.answers.Done.TheVariants as gave

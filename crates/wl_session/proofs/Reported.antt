@@ -3,7 +3,6 @@ use Rattle.std.proofs.Common.{◌≡◌, ℕ, zero, suc, subst, ◌+◌, ◌<◌
 use Rattle.std.specs.Prelude.{◌==◌, ◌&&◌, ◌||◌, nat_le, nat_lt}
 use Rattle.std.proofs.Math.Bool.{and-false, and-true, or-false}
 use Rattle.std.proofs.lemmas.Bool.{cases_lt, eq-eqb, le-leb, le-ltb, lt-leb, lt-ltb}
-use Rattle.wl_paint.specs.Damage.{IsFirstRun}
 use Rattle.wl_plain.proofs.StandingLists.{any-last}
 use Rattle.wl_session.specs.Run.{in_runs}
 use Rattle.wl_session.specs.declared.shots.Run.{Run}
