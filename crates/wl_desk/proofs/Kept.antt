@@ -18,7 +18,7 @@ use Rattle.wl_plain.specs.Desktop.{Desktop, Resident, become, become_by, client_
 use Rattle.wl_desk.specs.Feeding.{IsIdleIn, IsIdleOf, kept_at, kept_by, kept_in, kept_of, kept_while, rest_in, served_as, served_by, served_of}
 use Rattle.wl_resident.specs.Marking.{AreUnlinked, Marks}
 use Rattle.wl_resident.specs.Seats.{IsSeated, ended_by}
-use Rattle.wl_plain.specs.Step.{changed_by, stacked, with_peer}
+use Rattle.wl_plain.specs.Step.{with_peer}
 use Rattle.wl_plain.specs.LeftOut.{served_now}
 use Rattle.wl_plain.specs.NoMore.{NoMore}
 use Rattle.wl_plain.specs.Steps.{fed_of, peer_at, status_of}
@@ -32,6 +32,7 @@ use Rattle.wl_desk.proofs.MarkedCalls.{unlinked}
 use Rattle.wl_plain.proofs.Places.{number-same, stacked-clients}
 use Rattle.wl_resident.proofs.Scenes.{stack-by}
 use Rattle.wl_resident.proofs.Telling.{come-seated, come_on, come_to}
+use Rattle.wl_plain.proofs.Simply.{changed_simply, stacked_simply}
 
 pub ok-then : {A E P Q : Type 0} (r : Result A E) → (P → Q) → OnOk r P → OnOk r Q
 ok-then (Ok v) f p = f p
@@ -84,7 +85,7 @@ serves-else : (c : ℕ) (r : Resident) (d new : Desktop) → client_at c d ≡ S
 serves-else c r d new is more h =
     message-by c r d new is more (λ e. IsOneElse c d e) (λ p q never. become-else q.status c (with_peer p r) q d)
     (λ ask asks p q objects told.
-    let one = become-else q.status c (changed_by ask (with_peer p r)) q (stacked c ask (with_peer p r) d) in
+    let one = become-else q.status c (changed_simply ask (with_peer p r)) q (stacked_simply c ask (with_peer p r) d) in
     (one.0, one.1 ∙ ap (λ clients. with_number c one.0 clients) (stacked-clients c ask (with_peer p r) d))) h
 
 -- what is kept of a client isn't touched by the rest

@@ -1,4 +1,4 @@
--- What came from a client and wasn't taken yet changes neither what a message asks nor what is done.
+-- What came from a client and wasn't taken yet doesn't change what is done.
 use Rattle.std.proofs.Common.{◌≡◌, ℕ, List, Bool, true, false, Option, Some, None, Result, refl, ap, sym, ◌∙◌}
 use Rattle.std.specs.Prelude.{Ok, Err, if◌then◌else◌}
 use Rattle.std.specs.List.{list_all}
@@ -20,65 +20,16 @@ use Rattle.wl_client.specs.Objects.{Object, Objects, fits}
 use Rattle.wl_client.specs.Peer.{Peer, changed, with_rest}
 use Rattle.wl_client.specs.Told.{display_error}
 use Rattle.wl_shell.specs.Shell.{Effect, Stays, Unconfigured, Configures, Maps, Unmaps, XdgSurface as Xdg, xdg_at, xdg_of}
-use Rattle.wl_plain.specs.Ask.{Ask, Own, CreateSurface, DestroySurface, AskSurface, CommitSurface, DestroyBase, GetXdgSurface, DestroyXdgSurface, GetToplevel, Acknowledge, ConfigureAgain, DestroyToplevel, Ignore}
-use Rattle.wl_plain.specs.LeftOut.{served_now}
+use Rattle.wl_plain.specs.Ask.{Ask, Own, CreateSurface, AskSurface, DestroyBase, GetXdgSurface, DestroyXdgSurface, GetToplevel, Acknowledge, ConfigureAgain, Ignore}
 use Rattle.wl_plain.specs.Desktop.{Desktop, Resident, with_client}
 use Rattle.wl_client.specs.Serving.{has_used, keeps_store}
 use Rattle.wl_surface.specs.Surfaces.{is_used}
-use Rattle.wl_plain.specs.Step.{after_surface, answers_to, ask_by, changed_by, committed_on, effect_on, making, own_changed, stacked, toplevel_given, with_peer}
-use Rattle.wl_plain.proofs.Simply.{ask_of, judge}
-use Rattle.wl_plain.specs.WlSurface.{refuse_limit}
-use Rattle.wl_plain.specs.XdgShell.{xdg_ask_of}
+use Rattle.wl_plain.specs.Step.{after_surface, answers_to, making, own_changed, toplevel_given, with_peer}
+use Rattle.wl_plain.proofs.Simply.{Simple, Asking, DestroySurface, CommitSurface, DestroyToplevel, changed_simply, committed_on, effect_on}
 
 -- a client from which this came and wasn't taken yet
 abbrev pub with_behind : List ℕ → Resident → Resident
 with_behind rest r = with_peer (with_rest rest r.peer) r
-
--- ---- what a message asks
-
-xdg-asks : (x : Option Xdg) (r : Resident) (version opcode : ℕ) (fields : List Field) (rest : List ℕ) → xdg_ask_of (with_behind rest r) x version opcode fields ≡ xdg_ask_of r x version opcode fields
-xdg-asks None r version opcode fields rest = refl
-xdg-asks (Some x) r version opcode fields rest = refl
-
-asks-by : (interface : Interface) (r : Resident) (object version : ℕ) (m : Message) (rest : List ℕ) → ask_by interface (with_behind rest r) object version m ≡ ask_by interface r object version m
-asks-by WlDisplay r object version m rest = refl
-asks-by WlRegistry r object version m rest = refl
-asks-by WlCallback r object version m rest = refl
-asks-by WlCompositor r object version m rest = refl
-asks-by WlRegion r object version m rest = refl
-asks-by WlSurface r object version m rest = refl
-asks-by WlShm r object version m rest = refl
-asks-by WlShmPool r object version m rest = refl
-asks-by WlBuffer r object version m rest = refl
-asks-by WlSubcompositor r object version m rest = refl
-asks-by WlSubsurface r object version m rest = refl
-asks-by WlOutput r object version m rest = refl
-asks-by WlSeat r object version m rest = refl
-asks-by WlPointer r object version m rest = refl
-asks-by XdgWmBase r object version m rest = refl
-asks-by XdgPositioner r object version m rest = refl
-asks-by XdgSurface r object version m rest = xdg-asks (xdg_at object r.owned.shell) r version m.opcode m.fields rest
-asks-by XdgToplevel r object version m rest = refl
-asks-by XdgPopup r object version m rest = refl
-
-asks : (r : Resident) (object version : ℕ) (m : Message) (rest : List ℕ) → ask_of (with_behind rest r) object version m ≡ ask_of r object version m
-asks r object version m rest =
-    ap (λ (ask : Result Ask Refusal). if served_now.requests m.interface m.opcode then refuse_limit else ask) (asks-by m.interface r object version m rest)
-
-judged-same : (objects : Objects) (held : ℕ) (ask other : Message → Result Ask Refusal) (request : Result Message ProtoError) → ((m : Message) → ask m ≡ other m) → judged objects held ask request ≡ judged objects held other request
-judged-same objects held ask other (Err error) e = refl
-judged-same objects held ask other (Ok m) e =
-    ap (λ (asked : Result Ask Refusal). if list_all (fits objects) (objects_named m) then after_new_id objects held (new_id_in m) asked else Err (display_error InvalidMethod)) (e m)
-
-judged_at-behind : (r : Resident) (object opcode : ℕ) (body rest : List ℕ) (o : Option Object) → judged_at r.peer.objects r.peer.held (λ version m. ask_of (with_behind rest r) object version m) opcode body o ≡ judged_at r.peer.objects r.peer.held (λ version m. ask_of r object version m) opcode body o
-judged_at-behind r object opcode body rest None = refl
-judged_at-behind r object opcode body rest (Some o) =
-    judged-same r.peer.objects r.peer.held (λ m. ask_of (with_behind rest r) object o.version m) (λ m. ask_of r object o.version m) (decoded o.interface o.version opcode body)
-    (λ m. asks r object o.version m rest)
-
--- a message asks the same
-pub judge-behind : (r : Resident) (object opcode : ℕ) (body rest : List ℕ) → judge (with_behind rest r) object opcode body ≡ judge r object opcode body
-judge-behind r object opcode body rest = judged_at-behind r object opcode body rest (r.peer.objects object)
 
 -- ---- what it changes
 
@@ -118,76 +69,44 @@ toplevel-stream : (id xdg : ℕ) (x : Option Xdg) (r : Resident) (s : Option Cau
 toplevel-stream id xdg None r s rest = refl
 toplevel-stream id xdg (Some x) r s rest = refl
 
-changed-stream : (ask : Ask) (r : Resident) (s : Option Cause) (rest : List ℕ) → changed_by ask (with_stream s rest r) ≡ with_stream s rest (changed_by ask r)
-changed-stream (Own action) r s rest = own-stream action r s rest
-changed-stream (CreateSurface id version) r s rest = refl
+changed-stream : (ask : Simple) (r : Resident) (s : Option Cause) (rest : List ℕ) → changed_simply ask (with_stream s rest r) ≡ with_stream s rest (changed_simply ask r)
+changed-stream (Asking (Own action)) r s rest = own-stream action r s rest
+changed-stream (Asking (CreateSurface id version)) r s rest = refl
 changed-stream (DestroySurface id) r s rest = refl
-changed-stream (AskSurface id request) r s rest = refl
+changed-stream (Asking (AskSurface id request)) r s rest = refl
 changed-stream (CommitSurface id effect) r s rest = effect-stream id effect (xdg_of id r.owned.shell) (after_surface id r (committed_on id r)) s rest
-changed-stream (DestroyBase id) r s rest = refl
-changed-stream (GetXdgSurface id version base surface) r s rest = refl
-changed-stream (DestroyXdgSurface id) r s rest = refl
-changed-stream (GetToplevel id version xdg) r s rest =
+changed-stream (Asking (DestroyBase id)) r s rest = refl
+changed-stream (Asking (GetXdgSurface id version base surface)) r s rest = refl
+changed-stream (Asking (DestroyXdgSurface id)) r s rest = refl
+changed-stream (Asking (GetToplevel id version xdg)) r s rest =
     ap (λ (q : Resident). making XdgToplevel id version q) (toplevel-stream id xdg (xdg_at xdg r.owned.shell) r s rest)
-changed-stream (Acknowledge xdg serial) r s rest = refl
-changed-stream (ConfigureAgain xdg) r s rest = refl
+changed-stream (Asking (Acknowledge xdg serial)) r s rest = refl
+changed-stream (Asking (ConfigureAgain xdg)) r s rest = refl
 changed-stream (DestroyToplevel id xdg) r s rest = refl
-changed-stream Ignore r s rest = refl
+changed-stream (Asking Ignore) r s rest = refl
 
 -- what is done is neither whether the client lives nor what came from it
-pub changed-status : (ask : Ask) (r : Resident) → (changed_by ask r).peer.status ≡ r.peer.status
+pub changed-status : (ask : Simple) (r : Resident) → (changed_simply ask r).peer.status ≡ r.peer.status
 changed-status ask r = ap (λ (q : Resident). q.peer.status) (changed-stream ask r r.peer.status r.peer.rest)
 
-pub changed-rest : (ask : Ask) (r : Resident) → (changed_by ask r).peer.rest ≡ r.peer.rest
+pub changed-rest : (ask : Simple) (r : Resident) → (changed_simply ask r).peer.rest ≡ r.peer.rest
 changed-rest ask r = ap (λ (q : Resident). q.peer.rest) (changed-stream ask r r.peer.status r.peer.rest)
 
 -- and the same is done
-pub changed-behind : (ask : Ask) (r : Resident) (rest : List ℕ) → changed_by ask (with_behind rest r) ≡ with_behind rest (changed_by ask r)
+pub changed-behind : (ask : Simple) (r : Resident) (rest : List ℕ) → changed_simply ask (with_behind rest r) ≡ with_behind rest (changed_simply ask r)
 changed-behind ask r rest =
-    changed-stream ask r r.peer.status rest ∙ ap (λ (s : Option Cause). with_stream s rest (changed_by ask r)) (sym (changed-status ask r))
+    changed-stream ask r r.peer.status rest ∙ ap (λ (s : Option Cause). with_stream s rest (changed_simply ask r)) (sym (changed-status ask r))
 
--- ---- what it is answered with, and what it does to the stack of toplevels
-
-commit-answers : (id : ℕ) (effect : Effect) (r : Resident) (rest : List ℕ) → answers_to (CommitSurface id effect) (with_behind rest r) ≡ answers_to (CommitSurface id effect) r
-commit-answers id Stays r rest = refl
-commit-answers id Unconfigured r rest = refl
-commit-answers id Configures r rest = refl
-commit-answers id Maps r rest = refl
-commit-answers id Unmaps r rest = refl
+-- ---- what it is answered with
 
 pub answers-behind : (ask : Ask) (r : Resident) (rest : List ℕ) → answers_to ask (with_behind rest r) ≡ answers_to ask r
 answers-behind (Own action) r rest = refl
 answers-behind (CreateSurface id version) r rest = refl
-answers-behind (DestroySurface id) r rest = refl
 answers-behind (AskSurface id request) r rest = refl
-answers-behind (CommitSurface id effect) r rest = commit-answers id effect r rest
 answers-behind (DestroyBase id) r rest = refl
 answers-behind (GetXdgSurface id version base surface) r rest = refl
 answers-behind (DestroyXdgSurface id) r rest = refl
 answers-behind (GetToplevel id version xdg) r rest = refl
 answers-behind (Acknowledge xdg serial) r rest = refl
 answers-behind (ConfigureAgain xdg) r rest = refl
-answers-behind (DestroyToplevel id xdg) r rest = refl
 answers-behind Ignore r rest = refl
-
-commit-stacks : (c id : ℕ) (effect : Effect) (r : Resident) (rest : List ℕ) (x : Option Resident) (d : Desktop) → with_client c x (stacked c (CommitSurface id effect) r d) ≡ stacked c (CommitSurface id effect) (with_behind rest r) (with_client c x d)
-commit-stacks c id Stays r rest x d = refl
-commit-stacks c id Unconfigured r rest x d = refl
-commit-stacks c id Configures r rest x d = refl
-commit-stacks c id Maps r rest x d = refl
-commit-stacks c id Unmaps r rest x d = refl
-
-pub stacked-behind : (c : ℕ) (ask : Ask) (r : Resident) (rest : List ℕ) (x : Option Resident) (d : Desktop) → with_client c x (stacked c ask r d) ≡ stacked c ask (with_behind rest r) (with_client c x d)
-stacked-behind c (Own action) r rest x d = refl
-stacked-behind c (CreateSurface id version) r rest x d = refl
-stacked-behind c (DestroySurface id) r rest x d = refl
-stacked-behind c (AskSurface id request) r rest x d = refl
-stacked-behind c (CommitSurface id effect) r rest x d = commit-stacks c id effect r rest x d
-stacked-behind c (DestroyBase id) r rest x d = refl
-stacked-behind c (GetXdgSurface id version base surface) r rest x d = refl
-stacked-behind c (DestroyXdgSurface id) r rest x d = refl
-stacked-behind c (GetToplevel id version xdg) r rest x d = refl
-stacked-behind c (Acknowledge xdg serial) r rest x d = refl
-stacked-behind c (ConfigureAgain xdg) r rest x d = refl
-stacked-behind c (DestroyToplevel id xdg) r rest x d = refl
-stacked-behind c Ignore r rest x d = refl

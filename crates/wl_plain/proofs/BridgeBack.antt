@@ -13,7 +13,6 @@ use Rattle.wl_client.specs.Told.{Said, code_number, display_error, error_told}
 use Rattle.wl_scene.specs.Pointer.{first_pointer}
 use Rattle.wl_plain.specs.declared.answers.Done.{Done}
 use Rattle.wl_plain.specs.declared.answers.Done.TheVariants as gave
-use Rattle.wl_plain.specs.Ask.{Ask}
 use Rattle.wl_plain.specs.Changing.{without_callbacks}
 use Rattle.wl_plain.specs.Demand.{Demand}
 use Rattle.wl_plain.specs.Demanding.{judge_all}
@@ -24,8 +23,8 @@ use Rattle.wl_plain.specs.NoMore.{NoMore, OwnsToplevelsAt, OwnsToplevelsBy, Owns
 use Rattle.wl_plain.specs.Replies.{replies}
 use Rattle.wl_plain.specs.Settling.{EndsAndSettles, EndsFirst, Moving, QueuesFirst, QueuesTo, SettlesAll, TellsAt, becomes, struck_by, unstruck}
 use Rattle.wl_plain.specs.Stacked.{all_windows}
-use Rattle.wl_plain.specs.Step.{answers_to, changed_by, stacked, with_peer}
-use Rattle.wl_plain.proofs.Simply.{Becomes, judge}
+use Rattle.wl_plain.specs.Step.{with_peer}
+use Rattle.wl_plain.proofs.Simply.{Becomes, Simple, changed_simply, judge, stacked_simply, told_simply}
 use Rattle.wl_plain.specs.Steps.{IsClosed, IsLeft, IsSent, IsStored, Act, Connect, Feed, Store, Leave, Tick, Send, Close, Motion, Button}
 use Rattle.wl_plain.specs.Whole.{Happens, after_why, callbacks_due, done_for, frames_told, Answers as WholeAnswers, Becomes as WholeBecomes, ChangesAt as WholeChangesAt, Does, LeavesAt, Serves as WholeServes, ServesAt as WholeServesAt, Shows, Takes as WholeTakes, TellsFrames, WantsOr as WholeWantsOr, wants_memory}
 use Rattle.wl_plain.proofs.Altering.{Alters, ChangesAt, IsCall}
@@ -77,19 +76,19 @@ done-back events c made there d new is still alive h =
       settled-back after new (ap (λ (e : Desktop). e.pointer) same ∙ by-pointer last.status c made last d ∙ still) h.3 ∙ same,
     )
 
-does-back : (c : ℕ) (ask : Ask) (demand : Demand) (r there : Resident) (d new : Desktop) → client_at c d ≡ Some there → d.pointer ≡ first_pointer → r.peer.status ≡ None → OwnsToplevelsOnly r → Same r ask demand → Does served_now c demand r d new
-    → Becomes (Queues (answers_to ask r) (changed_by ask r).peer) c (changed_by ask r) (stacked c ask r d) new
+does-back : (c : ℕ) (ask : Simple) (demand : Demand) (r there : Resident) (d new : Desktop) → client_at c d ≡ Some there → d.pointer ≡ first_pointer → r.peer.status ≡ None → OwnsToplevelsOnly r → Same r ask demand → Does served_now c demand r d new
+    → Becomes (Queues (told_simply ask r) (changed_simply ask r).peer) c (changed_simply ask r) (stacked_simply c ask r d) new
 does-back c ask demand r there d new is still alive only same h =
-    let made : Resident = changed_by ask r in
-    let on : Desktop = stacked c ask r d in
+    let made : Resident = changed_simply ask r in
+    let on : Desktop = stacked_simply c ask r d in
     let found : client_at c on ≡ Some there = ap (λ clients. client_in clients c) (stacked-clients c ask r d) ∙ is in
     let third : IsDone (replies served_now c demand r made (all_windows d) d) c made (done_for c demand r d) new =
     subst (λ m. IsDone (replies served_now c demand r m (all_windows d) d) c m (done_for c demand r d) new) (changed-same c ask demand r d only same) h in
     let second : IsDone (replies served_now c demand r made (all_windows d) d) c made on new =
     subst (λ e. IsDone (replies served_now c demand r made (all_windows d) d) c made e new) (done-same c ask demand r d still only same) third in
-    let first : IsDone (answers_to ask r) c made on new =
+    let first : IsDone (told_simply ask r) c made on new =
     subst (λ events. IsDone events c made on new) (replies-same c ask demand r made d only (tops-kept ask r only.roles) same) second in
-    done-back (answers_to ask r) c made there on new found (stacked-pointer c ask r d ∙ still) (changed-status ask r ∙ alive) first
+    done-back (told_simply ask r) c made there on new found (stacked-pointer c ask r d ∙ still) (changed-status ask r ∙ alive) first
 
 -- ---- a message
 
@@ -110,20 +109,20 @@ lacking p q (inl e) alive = over _ p q e alive
 lacking p q (inr e) alive = none-some _ (sym alive ∙ ap (λ (x : Peer). x.status) e.1)
 
 -- the message at the front of what came is whole, and asks this
-abbrev pub AsksBy : Resident → Split → Ask → Type 0
+abbrev pub AsksBy : Resident → Split → Simple → Type 0
 AsksBy r (Message object opcode size) ask = judge r object opcode (take (size - 8) (drop 8 r.peer.rest)) ≡ Ok ask
 AsksBy r Bad ask = ⊥
 AsksBy r More ask = ⊥
 
 -- Where no client has more than toplevels, a message leads to a desktop on which its client was told something and has ended, or to one on
 -- which what it asks is done.
-module _ (c : ℕ) (there : Resident) (d new : Desktop) (is : client_at c d ≡ Some there) (more : NoMore d) (P : Desktop → Type 0) (told : (p q : Peer) → (q.status ≡ None → ⊥) → P (become c (with_peer p there) q d)) (done : (ask : Ask) → AsksBy there (split_of there.peer.rest) ask → (p q : Peer) → p.objects ≡ there.peer.objects → Queues (answers_to ask (with_peer p there)) (changed_by ask (with_peer p there)).peer q → P (become c (changed_by ask (with_peer p there)) q (stacked c ask (with_peer p there) d))) where
+module _ (c : ℕ) (there : Resident) (d new : Desktop) (is : client_at c d ≡ Some there) (more : NoMore d) (P : Desktop → Type 0) (told : (p q : Peer) → (q.status ≡ None → ⊥) → P (become c (with_peer p there) q d)) (done : (ask : Simple) → AsksBy there (split_of there.peer.rest) ask → (p q : Peer) → p.objects ≡ there.peer.objects → Queues (told_simply ask (with_peer p there)) (changed_simply ask (with_peer p there)).peer q → P (become c (changed_simply ask (with_peer p there)) q (stacked_simply c ask (with_peer p there) d))) where
   becomes-by : (Q : Peer → Type 0) → ((q : Peer) → Q q → q.status ≡ None → ⊥) → (p : Peer) → WholeBecomes Q c (with_peer p there) d new → P new
   becomes-by Q never p h =
       let k = becomes-back Q c (with_peer p there) d new more.pointer h in
       subst P (sym k.2) (told p k.0 (never k.0 k.1))
 
-  does-by : (ask : Ask) (demand : Demand) (p : Peer) → p.status ≡ None → p.objects ≡ there.peer.objects → OwnsToplevelsOnly there → AsksBy there (split_of there.peer.rest) ask → Same (with_peer p there) ask demand
+  does-by : (ask : Simple) (demand : Demand) (p : Peer) → p.status ≡ None → p.objects ≡ there.peer.objects → OwnsToplevelsOnly there → AsksBy there (split_of there.peer.rest) ask → Same (with_peer p there) ask demand
       → Does served_now c demand (with_peer p there) d new → P new
   does-by ask demand p alive objects only asks same h =
       let k = does-back c ask demand (with_peer p there) there d new is more.pointer alive (only-peer there p objects only) same h in
@@ -134,7 +133,7 @@ module _ (c : ℕ) (there : Resident) (d new : Desktop) (is : client_at c d ≡ 
   wants-by true p Later next (inl h) = becomes-by (LacksMemory p) (lacking p) p h
   wants-by true p Later next (inr h) = next h
 
-  answers-by : (judged : Result Ask Refusal) (demanded : Result Demand Refusal) (p : Peer) → p.status ≡ None → p.objects ≡ there.peer.objects → OwnsToplevelsOnly there → ((ask : Ask) → judged ≡ Ok ask → AsksBy there (split_of there.peer.rest) ask)
+  answers-by : (judged : Result Simple Refusal) (demanded : Result Demand Refusal) (p : Peer) → p.status ≡ None → p.objects ≡ there.peer.objects → OwnsToplevelsOnly there → ((ask : Simple) → judged ≡ Ok ask → AsksBy there (split_of there.peer.rest) ask)
       → Pairs there judged demanded → WholeAnswers served_now demanded c (with_peer p there) d new → P new
   answers-by (Ok ask) (Ok demand) p alive objects only asks same h =
       wants-by (wants_memory demand) (counted p) _ (λ k. does-by ask demand (counted p) alive objects only (asks ask refl) (same-peer there (counted p) ask demand same) k) h
@@ -146,7 +145,7 @@ module _ (c : ℕ) (there : Resident) (d new : Desktop) (is : client_at c d ≡ 
   takes-by (Message object opcode size) e alive only h =
       let body = take (size - 8) (drop 8 there.peer.rest) in
       answers-by (judge there object opcode body) (judge_all served_now there object opcode body) (with_rest (drop size there.peer.rest) there.peer) alive refl only
-      (λ ask judged. subst (λ s. AsksBy there s ask) (sym e) judged) (judge-pair there object opcode body only.roles) h
+      (λ ask judged. subst (λ s. AsksBy there s ask) (sym e) judged) (judge-pair there object opcode body) h
   takes-by Bad e alive only h = becomes-by (Errs (display_error InvalidMethod) there.peer) (erred (display_error InvalidMethod) there.peer) there.peer h
   takes-by More e alive only h = absurd h
 

@@ -10,19 +10,19 @@ use Rattle.wl_shell.specs.declared.stage.Stage.{Stage}
 use Rattle.wl_shell.specs.Shell.{Effect, Stays, Unconfigured, Configures, Maps, Unmaps, Waiting, Kind, Toplevel, Popup, RoleObject, Shell, XdgSurface as Xdg, at_stage, in_stage, on_commit, stage_of, unmapping, with_change, without_role, xdg_of}
 use Rattle.wl_scene.specs.Pointer.{first_pointer}
 use Rattle.wl_scene.specs.Windows.{Window}
-use Rattle.wl_plain.specs.Ask.{Ask, CommitSurface, DestroySurface, DestroyToplevel}
 use Rattle.wl_plain.specs.Changing.{after_all, changed_for, commit_done, effect_done, is_asked, is_toplevel, is_toplevel_kind, placement_now, placing, stacked_by, stacked_for, surface_ended, toplevel_ended, tree_committed, without_grab, frames_asked}
 use Rattle.wl_plain.specs.Demand.{Demand, Move}
 use Rattle.wl_plain.specs.Demanding.{effect_of_commit}
 use Rattle.wl_plain.specs.Desktop.{Callback, Desktop, Resident, Subsurface}
 use Rattle.wl_plain.specs.Popups.{Popped, dismissed_after, dismissed_among, dismissing, orphan, orphaning, popped_of, popup_changed, popups_of, with_popup, with_popup_role, by_number}
 use Rattle.wl_plain.specs.Replies.{commit_told, configure_told, own_answers}
-use Rattle.wl_plain.specs.Step.{after_surface, answers_to, asked_so_far, changed_by, committed_on, configured, configures_told, effect_on, removing, role_configured, stacked, takes_memory, with_shell, with_surfaces}
+use Rattle.wl_plain.specs.Step.{after_surface, asked_so_far, configured, configures_told, removing, role_configured, with_shell, with_surfaces}
 use Rattle.wl_plain.specs.NoMore.{AreToplevels, IsToplevel, OwnsToplevelsOnly}
 use Rattle.wl_plain.specs.Whole.{wants_memory}
-use Rattle.wl_plain.specs.WlSurface.{effect_for, effect_of, will_show}
+use Rattle.wl_plain.specs.WlSurface.{will_show}
 use Rattle.wl_plain.proofs.BridgeBuffers.{changed-after, gone-after}
 use Rattle.wl_plain.proofs.BridgeJudged.{IsToplevelAt, Same, asks, commit, effect-same, ends, found-toplevel, goes, move, none-popped}
+use Rattle.wl_plain.proofs.Simply.{CommitSurface, DestroySurface, DestroyToplevel, Simple, changed_simply, committed_on, effect_for, effect_of, effect_on, stacked_simply, told_simply, wants_simply}
 
 -- ---- popups, where there are none
 
@@ -96,7 +96,7 @@ ended-plain : (id : ℕ) (r : Resident) → surface_ended id (plain r) ≡ remov
 unfolding plain
 ended-plain id r = refl
 
-ended-same : (id : ℕ) (r : Resident) → OwnsToplevelsOnly r → surface_ended id r ≡ changed_by (DestroySurface id) r
+ended-same : (id : ℕ) (r : Resident) → OwnsToplevelsOnly r → surface_ended id r ≡ changed_simply (DestroySurface id) r
 ended-same id r only =
     subst (λ q. surface_ended id q ≡ removing id (after_all q (with_surfaces (without_surface id q.owned.surfaces) q))) (is-plain r only) (ended-plain id r)
     ∙ ap (λ q. removing id q) (gone-after id r only.apart)
@@ -141,7 +141,7 @@ effect-done c id Unmaps (Some x) d r top =
     (change-same x.id (λ x. popup_changed without_grab (unmapping (asked_so_far id r) x)) (unmapping (asked_so_far id r))
     (λ y is. popup-still without_grab (unmapping (asked_so_far id r) y) (stage-top _ y.role is)) r.owned.shell top)
 
-commit-same : (c id : ℕ) (effect : Effect) (r : Resident) (d : Desktop) → OwnsToplevelsOnly r → effect_of r id ≡ effect → commit_done c id r d ≡ changed_by (CommitSurface id effect) r
+commit-same : (c id : ℕ) (effect : Effect) (r : Resident) (d : Desktop) → OwnsToplevelsOnly r → effect_of r id ≡ effect → commit_done c id r d ≡ changed_simply (CommitSurface id effect) r
 commit-same c id effect r d only e =
     let o = xdg_of id r.owned.shell in
     ap (λ f. effect_done c id f o d (tree_committed id r)) (effect-same r id only.roles ∙ e)
@@ -149,14 +149,14 @@ commit-same c id effect r d only e =
 
 -- ---- the end of a toplevel
 
-toplevel-same : (id xdg : ℕ) (r : Resident) → OwnsToplevelsOnly r → toplevel_ended id xdg r ≡ changed_by (DestroyToplevel id xdg) r
+toplevel-same : (id xdg : ℕ) (r : Resident) → OwnsToplevelsOnly r → toplevel_ended id xdg r ≡ changed_simply (DestroyToplevel id xdg) r
 toplevel-same id xdg r only =
     ap (λ shell. removing id (with_shell (with_change xdg without_role (orphaning xdg shell)) r)) (none-dismissed (λ p. p.popup.parent == xdg) r.owned.shell only.roles)
     ∙ ap (λ shell. removing id (with_shell (with_change xdg without_role shell) r)) (all-still (orphan xdg) r.owned.shell only.roles)
 
 -- ---- all that is asked
 
-pub changed-same : (c : ℕ) (ask : Ask) (demand : Demand) (r : Resident) (d : Desktop) → OwnsToplevelsOnly r → Same r ask demand → changed_for c demand r d ≡ changed_by ask r
+pub changed-same : (c : ℕ) (ask : Simple) (demand : Demand) (r : Resident) (d : Desktop) → OwnsToplevelsOnly r → Same r ask demand → changed_for c demand r d ≡ changed_simply ask r
 changed-same c ask demand r d only (asks other) = refl
 changed-same c ask demand r d only (ends id) = ended-same id r only
 changed-same c ask demand r d only (commit id effect e) = commit-same c id effect r d only e
@@ -168,7 +168,7 @@ configures-same c serial xdg r d None e top = refl
 configures-same c serial xdg r d (Some object) e top =
     ap (λ k. configure_told c r d xdg (Some (record object { kind = k }))) top ∙ ap (λ n. role_configured n xdg (Some object)) e
 
-commit-answers : (c id : ℕ) (effect : Effect) (o : Option Xdg) (r now : Resident) (d : Desktop) → now.peer.serial ≡ r.peer.serial → xdg_of id r.owned.shell ≡ o → IsToplevelAt o → commit_told c effect o now d ≡ answers_to (CommitSurface id effect) r
+commit-answers : (c id : ℕ) (effect : Effect) (o : Option Xdg) (r now : Resident) (d : Desktop) → now.peer.serial ≡ r.peer.serial → xdg_of id r.owned.shell ≡ o → IsToplevelAt o → commit_told c effect o now d ≡ told_simply (CommitSurface id effect) r
 commit-answers c id Stays o r now d e is top = refl
 commit-answers c id Unconfigured o r now d e is top = refl
 commit-answers c id Maps o r now d e is top = refl
@@ -176,7 +176,7 @@ commit-answers c id Unmaps o r now d e is top = refl
 commit-answers c id Configures None r now d e is top = sym (ap (configures_told r.peer.serial) is)
 commit-answers c id Configures (Some x) r now d e is top = configures-same c r.peer.serial x.id now d x.role e top ∙ sym (ap (configures_told r.peer.serial) is)
 
-pub answers-same : (c : ℕ) (ask : Ask) (demand : Demand) (r : Resident) (windows : List Window) (d : Desktop) → OwnsToplevelsOnly r → Same r ask demand → own_answers c demand r windows d ≡ answers_to ask r
+pub answers-same : (c : ℕ) (ask : Simple) (demand : Demand) (r : Resident) (windows : List Window) (d : Desktop) → OwnsToplevelsOnly r → Same r ask demand → own_answers c demand r windows d ≡ told_simply ask r
 answers-same c ask demand r windows d only (asks other) = refl
 answers-same c ask demand r windows d only (ends id) =
     ap (λ (cs : List Callback). id_deleted id ∷ map (λ (callback : Callback). id_deleted callback.id) (filter (is_asked (frames_asked (history_in id r.owned.surfaces))) cs)) only.callbacks
@@ -204,14 +204,14 @@ is-mapped shows None top (inr e) = absurd (cc)
 is-mapped shows (Some x) top e = role-there x.role x shows refl top e
 
 -- what a commit maps or unmaps is a toplevel
-is-one : (shows : Bool) (o : Option Xdg) (effect : Effect) → IsToplevelAt o → effect_for shows o ≡ effect → (c id : ℕ) (r : Resident) (d : Desktop) → stacked_by effect (is_toplevel o) c id d ≡ stacked c (CommitSurface id effect) r d
+is-one : (shows : Bool) (o : Option Xdg) (effect : Effect) → IsToplevelAt o → effect_for shows o ≡ effect → (c id : ℕ) (r : Resident) (d : Desktop) → stacked_by effect (is_toplevel o) c id d ≡ stacked_simply c (CommitSurface id effect) r d
 is-one shows o Stays top e c id r d = refl
 is-one shows o Unconfigured top e c id r d = refl
 is-one shows o Configures top e c id r d = refl
 is-one shows o Maps top e c id r d = ap (λ b. stacked_by Maps b c id d) (is-mapped shows o top (inl e))
 is-one shows o Unmaps top e c id r d = ap (λ b. stacked_by Unmaps b c id d) (is-mapped shows o top (inr e))
 
-stacked-commit : (c id : ℕ) (effect : Effect) (r : Resident) (d : Desktop) → AreToplevels r.owned.shell → effect_of r id ≡ effect → stacked_by (effect_of_commit r id) (is_toplevel (xdg_of id r.owned.shell)) c id d ≡ stacked c (CommitSurface id effect) r d
+stacked-commit : (c id : ℕ) (effect : Effect) (r : Resident) (d : Desktop) → AreToplevels r.owned.shell → effect_of r id ≡ effect → stacked_by (effect_of_commit r id) (is_toplevel (xdg_of id r.owned.shell)) c id d ≡ stacked_simply c (CommitSurface id effect) r d
 stacked-commit c id effect r d top e =
     ap (λ f. stacked_by f (is_toplevel (xdg_of id r.owned.shell)) c id d) (effect-same r id top ∙ e)
     ∙ is-one (will_show r id) (xdg_of id r.owned.shell) effect (found-toplevel (λ x. x.surface == id) r.owned.shell top) e c id r d
@@ -219,7 +219,7 @@ stacked-commit c id effect r d top e =
 moved-plain : (c id serial : ℕ) (r : Resident) (windows : List Window) (d : Desktop) → stacked_for c (Move id serial) r windows (record d { pointer = first_pointer }) ≡ record d { pointer = first_pointer }
 moved-plain c id serial r windows d = refl
 
-pub stacked-same : (c : ℕ) (ask : Ask) (demand : Demand) (r : Resident) (windows : List Window) (d : Desktop) → d.pointer ≡ first_pointer → OwnsToplevelsOnly r → Same r ask demand → stacked_for c demand r windows d ≡ stacked c ask r d
+pub stacked-same : (c : ℕ) (ask : Simple) (demand : Demand) (r : Resident) (windows : List Window) (d : Desktop) → d.pointer ≡ first_pointer → OwnsToplevelsOnly r → Same r ask demand → stacked_for c demand r windows d ≡ stacked_simply c ask r d
 stacked-same c ask demand r windows d still only (asks other) = refl
 stacked-same c ask demand r windows d still only (ends id) = refl
 stacked-same c ask demand r windows d still only (commit id effect e) = stacked-commit c id effect r d only.roles e
@@ -227,7 +227,7 @@ stacked-same c ask demand r windows d still only (goes id xdg) = refl
 stacked-same c ask demand r windows d still only (move id serial) =
     subst (λ p. stacked_for c (Move id serial) r windows (record d { pointer = p }) ≡ record d { pointer = p }) (sym still) (moved-plain c id serial r windows d)
 
-pub wants-same : (ask : Ask) (demand : Demand) (r : Resident) → Same r ask demand → wants_memory demand ≡ takes_memory ask
+pub wants-same : (ask : Simple) (demand : Demand) (r : Resident) → Same r ask demand → wants_memory demand ≡ wants_simply ask
 wants-same ask demand r (asks other) = refl
 wants-same ask demand r (ends id) = refl
 wants-same ask demand r (commit id effect e) = refl

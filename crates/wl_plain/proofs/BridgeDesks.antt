@@ -6,15 +6,15 @@ use Rattle.wl_client.specs.declared.clients.Cause.{Cause}
 use Rattle.wl_client.specs.Peer.{Peer}
 use Rattle.wl_client.specs.Told.{Output}
 use Rattle.wl_scene.specs.Pointer.{first_pointer}
-use Rattle.wl_plain.specs.Ask.{Ask}
 use Rattle.wl_plain.specs.Desktop.{Desktop, Resident, become, become_by, client_at, empty, place, resident_of}
 use Rattle.wl_plain.specs.Laws.{toplevels_of}
 use Rattle.wl_plain.specs.NoMore.{NoMore, OwnsToplevelsAt, OwnsToplevelsBy, OwnsToplevelsOnly}
-use Rattle.wl_plain.specs.Step.{stacked, with_peer}
+use Rattle.wl_plain.specs.Step.{with_peer}
 use Rattle.wl_plain.proofs.BridgeServes.{by-pointer}
 use Rattle.wl_plain.proofs.Others.{become-left, stacked-left}
 use Rattle.wl_plain.proofs.Places.{client-become}
 use Rattle.wl_plain.proofs.WholeOthersSettling.{none_of}
+use Rattle.wl_plain.proofs.Simply.{Simple, stacked_simply}
 
 -- the others have no more than toplevels
 abbrev pub OthersOwn : ℕ → Desktop → Type 0
@@ -40,10 +40,10 @@ become-has c r there q d is still others owns = record { pointer = by-pointer q.
         (subst (λ o. OwnsToplevelsAt o (toplevels_of other d)) (sym left.0) (others other (eqb-false c other e)))
 
 -- what is asked leaves the others what they have
-pub stacked-others-own : (c : ℕ) (ask : Ask) (r : Resident) (d : Desktop) → NoMore d → OthersOwn c (stacked c ask r d)
+pub stacked-others-own : (c : ℕ) (ask : Simple) (r : Resident) (d : Desktop) → NoMore d → OthersOwn c (stacked_simply c ask r d)
 stacked-others-own c ask r d only other differ =
     let left = stacked-left c other ask r d differ in
-    subst (λ tops. OwnsToplevelsAt (client_at other (stacked c ask r d)) tops) (sym left.1)
+    subst (λ tops. OwnsToplevelsAt (client_at other (stacked_simply c ask r d)) tops) (sym left.1)
     (subst (λ o. OwnsToplevelsAt o (toplevels_of other d)) (sym left.0) (only.each other))
 
 -- nothing is there at first

@@ -14,13 +14,14 @@ use Rattle.wl_surface.specs.Surfaces.{Surface, Surfaces, applying, asking, is_us
 use Rattle.wl_surface.specs.Request.{Commit}
 use Rattle.wl_surface.specs.declared.role.Role.TheVariants.{Toplevel as AsToplevel}
 use Rattle.wl_shell.specs.Shell.{Effect, Stays, Unconfigured, Configures, Maps, Unmaps, XdgSurface as Xdg, xdg_at, xdg_of}
-use Rattle.wl_plain.specs.Ask.{Ask, Own, CreateSurface, DestroySurface, AskSurface, CommitSurface, DestroyBase, GetXdgSurface, DestroyXdgSurface, GetToplevel, Acknowledge, ConfigureAgain, DestroyToplevel, Ignore}
+use Rattle.wl_plain.specs.Ask.{Own, CreateSurface, AskSurface, DestroyBase, GetXdgSurface, DestroyXdgSurface, GetToplevel, Acknowledge, ConfigureAgain, Ignore}
 use Rattle.wl_plain.specs.Desktop.{Resident}
 use Rattle.wl_plain.specs.Owning.{AreApartBy}
-use Rattle.wl_plain.specs.Step.{after_surface, changed_by, committed_on, effect_on, making, own_changed, toplevel_given, with_surfaces}
+use Rattle.wl_plain.specs.Step.{after_surface, making, own_changed, toplevel_given, with_surfaces}
 use Rattle.wl_plain.specs.NoMore.{OwnsToplevelsOnly}
 use Rattle.wl_plain.proofs.BridgeServes.{top-effect, top-given, tops-kept}
 use Rattle.wl_plain.proofs.OwningKeys.{apart-left, apart-map, differ, found-map, gone, new-apart, new-elsewhere, none-left}
+use Rattle.wl_plain.proofs.Simply.{Asking, CommitSurface, DestroySurface, DestroyToplevel, Simple, changed_simply, committed_on, effect_on}
 
 -- the objects that are surfaces
 abbrev pub AreKnown : Surfaces → Objects → Type 0
@@ -48,13 +49,13 @@ action_touches (DestroyPool id store) = Some id
 action_touches (DestroyBuffer id store) = Some id
 action_touches action = None
 
-abbrev pub touches : Ask → Option ℕ
-touches (Own action) = action_touches action
-touches (CreateSurface id version) = Some id
-touches (DestroyBase id) = Some id
-touches (GetXdgSurface id version base surface) = Some id
-touches (DestroyXdgSurface id) = Some id
-touches (GetToplevel id version xdg) = Some id
+abbrev pub touches : Simple → Option ℕ
+touches (Asking (Own action)) = action_touches action
+touches (Asking (CreateSurface id version)) = Some id
+touches (Asking (DestroyBase id)) = Some id
+touches (Asking (GetXdgSurface id version base surface)) = Some id
+touches (Asking (DestroyXdgSurface id)) = Some id
+touches (Asking (GetToplevel id version xdg)) = Some id
 touches (DestroyToplevel id xdg) = Some id
 touches ask = None
 
@@ -193,22 +194,22 @@ given-owns id version xdg (Some x) r other only =
     }
 
 -- the surfaces are the same
-same-owns : (ask : Ask) (r : Resident) → (changed_by ask r).owned.surfaces ≡ r.owned.surfaces → AreKnown r.owned.surfaces (changed_by ask r).peer.objects → (changed_by ask r).subsurfaces ≡ r.subsurfaces → (changed_by ask r).callbacks ≡ r.callbacks
-    → (changed_by ask r).pointers ≡ r.pointers → OwnsToplevelsOnly r → OwnsToplevelsOnly (changed_by ask r)
+same-owns : (ask : Simple) (r : Resident) → (changed_simply ask r).owned.surfaces ≡ r.owned.surfaces → AreKnown r.owned.surfaces (changed_simply ask r).peer.objects → (changed_simply ask r).subsurfaces ≡ r.subsurfaces → (changed_simply ask r).callbacks ≡ r.callbacks
+    → (changed_simply ask r).pointers ≡ r.pointers → OwnsToplevelsOnly r → OwnsToplevelsOnly (changed_simply ask r)
 same-owns ask r same known subsurfaces callbacks pointers only =
     record {
       links = ap (λ all. all.links) same ∙ only.links;
       apart = subst Apart (sym same) only.apart;
-      known = subst (λ all. AreKnown all (changed_by ask r).peer.objects) (sym same) known;
+      known = subst (λ all. AreKnown all (changed_simply ask r).peer.objects) (sym same) known;
       roles = tops-kept ask r only.roles;
       subsurfaces = subsurfaces ∙ only.subsurfaces;
       callbacks = callbacks ∙ only.callbacks;
       pointers = pointers ∙ only.pointers;
     }
 
-pub asked-owns : (ask : Ask) (r : Resident) → IsApart r.peer.objects (touches ask) → OwnsToplevelsOnly r → OwnsToplevelsOnly (changed_by ask r)
-asked-owns (Own action) r other only = same-owns (Own action) r refl (own-known action r other only.known) refl refl refl only
-asked-owns (CreateSurface id version) r other only =
+pub asked-owns : (ask : Simple) (r : Resident) → IsApart r.peer.objects (touches ask) → OwnsToplevelsOnly r → OwnsToplevelsOnly (changed_simply ask r)
+asked-owns (Asking (Own action)) r other only = same-owns (Asking (Own action)) r refl (own-known action r other only.known) refl refl refl only
+asked-owns (Asking (CreateSurface id version)) r other only =
     record {
       links = only.links;
       apart = new-is-apart id r.owned.surfaces (nobody r.owned.surfaces r.peer.objects id other only.known) only.apart;
@@ -228,15 +229,15 @@ asked-owns (DestroySurface id) r other only =
       callbacks = only.callbacks;
       pointers = only.pointers;
     }
-asked-owns (AskSurface id request) r other only = changed-owns id (asking request) (λ s. refl) r only
+asked-owns (Asking (AskSurface id request)) r other only = changed-owns id (asking request) (λ s. refl) r only
 asked-owns (CommitSurface id effect) r other only =
     effect-owns id effect (xdg_of id r.owned.shell) (after_surface id r (committed_on id r)) (changed-owns id (λ s. applying (asking Commit s)) (λ s. refl) r only)
-asked-owns (DestroyBase id) r other only = same-owns (DestroyBase id) r refl (known-at r.owned.surfaces r.peer.objects id None other only.known) refl refl refl only
-asked-owns (GetXdgSurface id version base surface) r other only =
-    same-owns (GetXdgSurface id version base surface) r refl (known-at r.owned.surfaces r.peer.objects id _ other only.known) refl refl refl only
-asked-owns (DestroyXdgSurface id) r other only = same-owns (DestroyXdgSurface id) r refl (known-at r.owned.surfaces r.peer.objects id None other only.known) refl refl refl only
-asked-owns (GetToplevel id version xdg) r other only = given-owns id version xdg (xdg_at xdg r.owned.shell) r other only
-asked-owns (Acknowledge xdg serial) r other only = same-owns (Acknowledge xdg serial) r refl only.known refl refl refl only
-asked-owns (ConfigureAgain xdg) r other only = same-owns (ConfigureAgain xdg) r refl only.known refl refl refl only
+asked-owns (Asking (DestroyBase id)) r other only = same-owns (Asking (DestroyBase id)) r refl (known-at r.owned.surfaces r.peer.objects id None other only.known) refl refl refl only
+asked-owns (Asking (GetXdgSurface id version base surface)) r other only =
+    same-owns (Asking (GetXdgSurface id version base surface)) r refl (known-at r.owned.surfaces r.peer.objects id _ other only.known) refl refl refl only
+asked-owns (Asking (DestroyXdgSurface id)) r other only = same-owns (Asking (DestroyXdgSurface id)) r refl (known-at r.owned.surfaces r.peer.objects id None other only.known) refl refl refl only
+asked-owns (Asking (GetToplevel id version xdg)) r other only = given-owns id version xdg (xdg_at xdg r.owned.shell) r other only
+asked-owns (Asking (Acknowledge xdg serial)) r other only = same-owns (Asking (Acknowledge xdg serial)) r refl only.known refl refl refl only
+asked-owns (Asking (ConfigureAgain xdg)) r other only = same-owns (Asking (ConfigureAgain xdg)) r refl only.known refl refl refl only
 asked-owns (DestroyToplevel id xdg) r other only = same-owns (DestroyToplevel id xdg) r refl (known-at r.owned.surfaces r.peer.objects id None other only.known) refl refl refl only
-asked-owns Ignore r other only = only
+asked-owns (Asking Ignore) r other only = only

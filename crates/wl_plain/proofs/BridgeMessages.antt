@@ -7,15 +7,14 @@ use Rattle.wl_wire.specs.declared.header.Split.TheVariants.{Message, More, Bad}
 use Rattle.wl_client.specs.declared.clients.Cause.{Cause}
 use Rattle.wl_client.specs.Peer.{Peer, Queues, QueuesOr, ended, has_room, queued}
 use Rattle.wl_client.specs.Told.{Said}
-use Rattle.wl_plain.specs.Ask.{Ask}
 use Rattle.wl_plain.specs.Desktop.{Desktop, Resident, become, client_at, client_in}
 use Rattle.wl_plain.specs.Laws.{toplevels_of}
 use Rattle.wl_plain.specs.LeftOut.{served_now}
 use Rattle.wl_plain.specs.Whole.{Serves, ServesAt}
 use Rattle.wl_plain.proofs.BridgeBack.{AsksBy, message-by}
 use Rattle.wl_client.specs.Objects.{Objects}
-use Rattle.wl_plain.specs.Step.{answers_to, changed_by, stacked, with_peer}
-use Rattle.wl_plain.proofs.Simply.{judge}
+use Rattle.wl_plain.specs.Step.{with_peer}
+use Rattle.wl_plain.proofs.Simply.{Simple, changed_simply, judge, stacked_simply, told_simply}
 use Rattle.wl_plain.specs.NoMore.{NoMore, OwnsToplevelsAt, OwnsToplevelsOnly}
 use Rattle.wl_plain.proofs.BridgeDesks.{become-has, stacked-others-own}
 use Rattle.wl_plain.proofs.BridgeKeeps.{IsApart, asked-owns, touches}
@@ -39,7 +38,7 @@ told-objects (event ∷ events) p q h alive = at (has_room p.unsent event) (λ k
 -- what an accepted message makes or takes away is no wl_surface, unless it is one that goes
 abbrev pub TouchesApart : Type 0
 TouchesApart =
-    (r : Resident) (object opcode : ℕ) (body : List ℕ) (ask : Ask) → OwnsToplevelsOnly r → judge r object opcode body ≡ Ok ask
+    (r : Resident) (object opcode : ℕ) (body : List ℕ) (ask : Simple) → OwnsToplevelsOnly r → judge r object opcode body ≡ Ok ask
     → IsApart r.peer.objects (touches ask)
 
 module _ (finds : TouchesApart) (c : ℕ) (there : Resident) (d new : Desktop) (is : client_at c d ≡ Some there) (has : NoMore d) (only : OwnsToplevelsOnly there) where
@@ -47,19 +46,19 @@ module _ (finds : TouchesApart) (c : ℕ) (there : Resident) (d new : Desktop) (
   ends-has : (p q : Peer) → (q.status ≡ None → ⊥) → NoMore (become c (with_peer p there) q d)
   ends-has p q never = become-has c (with_peer p there) there q d is has.pointer (λ other differ. has.each other) (λ alive. absurd (never alive))
 
-  apart : (split : Split) (ask : Ask) → AsksBy there split ask → IsApart there.peer.objects (touches ask)
+  apart : (split : Split) (ask : Simple) → AsksBy there split ask → IsApart there.peer.objects (touches ask)
   apart (Message object opcode size) ask asks = finds there object opcode (take (size - 8) (drop 8 there.peer.rest)) ask only asks
   apart Bad ask asks = absurd asks
   apart More ask asks = absurd asks
 
-  done-has : (ask : Ask) → AsksBy there (split_of there.peer.rest) ask → (p q : Peer) → p.objects ≡ there.peer.objects → Queues (answers_to ask (with_peer p there)) (changed_by ask (with_peer p there)).peer q
-      → NoMore (become c (changed_by ask (with_peer p there)) q (stacked c ask (with_peer p there) d))
+  done-has : (ask : Simple) → AsksBy there (split_of there.peer.rest) ask → (p q : Peer) → p.objects ≡ there.peer.objects → Queues (told_simply ask (with_peer p there)) (changed_simply ask (with_peer p there)).peer q
+      → NoMore (become c (changed_simply ask (with_peer p there)) q (stacked_simply c ask (with_peer p there) d))
   done-has ask asks p q objects told =
       let r : Resident = with_peer p there in
       let touched = subst (λ (o : Objects). IsApart o (touches ask)) (sym objects) (apart (split_of there.peer.rest) ask asks) in
-      become-has c (changed_by ask r) there q (stacked c ask r d) (ap (λ clients. client_in clients c) (stacked-clients c ask r d) ∙ is) (stacked-pointer c ask r d ∙ has.pointer)
+      become-has c (changed_simply ask r) there q (stacked_simply c ask r d) (ap (λ clients. client_in clients c) (stacked-clients c ask r d) ∙ is) (stacked-pointer c ask r d ∙ has.pointer)
       (stacked-others-own c ask r d has)
-      (λ alive. only-peer (changed_by ask r) q (told-objects (answers_to ask r) (changed_by ask r).peer q told alive) (asked-owns ask r touched (only-peer there p objects only)))
+      (λ alive. only-peer (changed_simply ask r) q (told-objects (told_simply ask r) (changed_simply ask r).peer q told alive) (asked-owns ask r touched (only-peer there p objects only)))
 
   message-has : Serves served_now c d new → NoMore new
   message-has h = message-by c there d new is has NoMore ends-has done-has h

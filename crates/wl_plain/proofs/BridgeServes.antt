@@ -12,7 +12,7 @@ use Rattle.wl_client.specs.Told.{Said, said}
 use Rattle.wl_shell.specs.Shell.{Effect, Stays, Unconfigured, Configures, Maps, Unmaps, Fresh, Waiting, Mapped, RoleObject, Shell, XdgSurface as Xdg, acknowledging, configuring, in_stage, new_toplevel, unmapping, with_change, with_new, without_role, without_xdg, xdg_at, xdg_of}
 use Rattle.wl_scene.specs.Pointer.{first_pointer}
 use Rattle.wl_scene.specs.Stacking.{Standing, without_client}
-use Rattle.wl_plain.specs.Ask.{Ask, Own, CreateSurface, DestroySurface, AskSurface, CommitSurface, DestroyBase, GetXdgSurface, DestroyXdgSurface, GetToplevel, Acknowledge, ConfigureAgain, DestroyToplevel, Ignore}
+use Rattle.wl_plain.specs.Ask.{Own, CreateSurface, AskSurface, DestroyBase, GetXdgSurface, DestroyXdgSurface, GetToplevel, Acknowledge, ConfigureAgain, Ignore}
 use Rattle.wl_plain.specs.Changing.{with_kept_move}
 use Rattle.wl_plain.specs.Demand.{Demand}
 use Rattle.wl_plain.specs.Desktop.{Desktop, Resident, become, become_by, client_at, client_in, resident_of, with_client}
@@ -21,8 +21,8 @@ use Rattle.wl_plain.specs.Popups.{is_among}
 use Rattle.wl_plain.specs.Replies.{dismissed_in, newest_first, own_answers, popups_done, replies}
 use Rattle.wl_plain.specs.Settling.{EndsAndSettles, QueuesTo, after_status, becomes, ended_at, pointer_without, unstruck}
 use Rattle.wl_plain.specs.Stacked.{all_windows}
-use Rattle.wl_plain.specs.Step.{answers_to, changed_by, effect_on, stacked, takes_memory, toplevel_given, with_peer}
-use Rattle.wl_plain.proofs.Simply.{Answers, Becomes, WantsOr}
+use Rattle.wl_plain.specs.Step.{toplevel_given, with_peer}
+use Rattle.wl_plain.proofs.Simply.{Answers, Asking, Becomes, CommitSurface, DestroySurface, DestroyToplevel, Simple, WantsOr, changed_simply, effect_on, stacked_simply, told_simply, wants_simply}
 use Rattle.wl_plain.specs.NoMore.{AreToplevels, IsToplevel, OwnsToplevelsBy, OwnsToplevelsOnly}
 use Rattle.wl_plain.specs.Whole.{after_why, done_for, Answers as WholeAnswers, Becomes as WholeBecomes, Does, WantsOr as WholeWantsOr}
 use Rattle.wl_plain.proofs.Behind.{changed-status}
@@ -74,20 +74,20 @@ pub top-given : (id xdg : ℕ) (o : Option Xdg) (r : Resident) → AreToplevels 
 top-given id xdg None r top = top
 top-given id xdg (Some x) r top = top-change xdg (new_toplevel id _) (λ y is. refl) r.owned.shell top
 
-pub tops-kept : (ask : Ask) (r : Resident) → AreToplevels r.owned.shell → AreToplevels (changed_by ask r).owned.shell
-tops-kept (Own action) r top = top
-tops-kept (CreateSurface id version) r top = top
+pub tops-kept : (ask : Simple) (r : Resident) → AreToplevels r.owned.shell → AreToplevels (changed_simply ask r).owned.shell
+tops-kept (Asking (Own action)) r top = top
+tops-kept (Asking (CreateSurface id version)) r top = top
 tops-kept (DestroySurface id) r top = top
-tops-kept (AskSurface id request) r top = top
+tops-kept (Asking (AskSurface id request)) r top = top
 tops-kept (CommitSurface id effect) r top = top-effect id effect (xdg_of id r.owned.shell) _ top
-tops-kept (DestroyBase id) r top = top
-tops-kept (GetXdgSurface id version base surface) r top = top-new id base surface r.owned.shell top
-tops-kept (DestroyXdgSurface id) r top = top-without id r.owned.shell top
-tops-kept (GetToplevel id version xdg) r top = top-given id xdg (xdg_at xdg r.owned.shell) r top
-tops-kept (Acknowledge xdg serial) r top = top-change xdg (acknowledging serial) (λ y is. top-acknowledged serial y y.role refl is) r.owned.shell top
-tops-kept (ConfigureAgain xdg) r top = top-change xdg (configuring r.peer.serial) (λ y is. is) r.owned.shell top
+tops-kept (Asking (DestroyBase id)) r top = top
+tops-kept (Asking (GetXdgSurface id version base surface)) r top = top-new id base surface r.owned.shell top
+tops-kept (Asking (DestroyXdgSurface id)) r top = top-without id r.owned.shell top
+tops-kept (Asking (GetToplevel id version xdg)) r top = top-given id xdg (xdg_at xdg r.owned.shell) r top
+tops-kept (Asking (Acknowledge xdg serial)) r top = top-change xdg (acknowledging serial) (λ y is. top-acknowledged serial y y.role refl is) r.owned.shell top
+tops-kept (Asking (ConfigureAgain xdg)) r top = top-change xdg (configuring r.peer.serial) (λ y is. is) r.owned.shell top
 tops-kept (DestroyToplevel id xdg) r top = top-change xdg without_role (λ y is. tt) r.owned.shell top
-tops-kept Ignore r top = top
+tops-kept (Asking Ignore) r top = top
 
 -- ---- the pointer isn't anywhere
 
@@ -163,7 +163,7 @@ is-done events c made there d new is still alive h =
 
 -- ---- what is asked
 
-pub stacked-pointer : (c : ℕ) (ask : Ask) (r : Resident) (d : Desktop) → (stacked c ask r d).pointer ≡ d.pointer
+pub stacked-pointer : (c : ℕ) (ask : Simple) (r : Resident) (d : Desktop) → (stacked_simply c ask r d).pointer ≡ d.pointer
 stacked-pointer c (CommitSurface id Stays) r d = refl
 stacked-pointer c (CommitSurface id Unconfigured) r d = refl
 stacked-pointer c (CommitSurface id Configures) r d = refl
@@ -175,9 +175,9 @@ stacked-pointer c ask r d = refl
 pub kept-still : (d : Desktop) → d.pointer ≡ first_pointer → with_kept_move d ≡ d
 kept-still d still = ap (λ p. with_kept_move (record d { pointer = p })) still ∙ sym (ap (λ p. record d { pointer = p }) still)
 
-pub done-same : (c : ℕ) (ask : Ask) (demand : Demand) (r : Resident) (d : Desktop) → d.pointer ≡ first_pointer → OwnsToplevelsOnly r → Same r ask demand → done_for c demand r d ≡ stacked c ask r d
+pub done-same : (c : ℕ) (ask : Simple) (demand : Demand) (r : Resident) (d : Desktop) → d.pointer ≡ first_pointer → OwnsToplevelsOnly r → Same r ask demand → done_for c demand r d ≡ stacked_simply c ask r d
 done-same c ask demand r d still only same =
-    ap with_kept_move (stacked-same c ask demand r (all_windows d) d still only same) ∙ kept-still (stacked c ask r d) (stacked-pointer c ask r d ∙ still)
+    ap with_kept_move (stacked-same c ask demand r (all_windows d) d still only same) ∙ kept-still (stacked_simply c ask r d) (stacked-pointer c ask r d ∙ still)
 
 pub none-done : (r made : Resident) → AreToplevels made.owned.shell → popups_done r made ≡ []
 none-done r made top =
@@ -188,20 +188,20 @@ pub nothing-between : (xs ys : List Said) → xs ++ [] ++ ys ≡ xs ++ ys
 nothing-between [] ys = refl
 nothing-between (x ∷ xs) ys = ap (λ zs. x ∷ zs) (nothing-between xs ys)
 
-pub replies-same : (c : ℕ) (ask : Ask) (demand : Demand) (r made : Resident) (d : Desktop) → OwnsToplevelsOnly r → AreToplevels made.owned.shell → Same r ask demand → replies served_now c demand r made (all_windows d) d ≡ answers_to ask r
+pub replies-same : (c : ℕ) (ask : Simple) (demand : Demand) (r made : Resident) (d : Desktop) → OwnsToplevelsOnly r → AreToplevels made.owned.shell → Same r ask demand → replies served_now c demand r made (all_windows d) d ≡ told_simply ask r
 replies-same c ask demand r made d only top same =
     nothing-between (own_answers c demand r (all_windows d) d) (popups_done r made)
     ∙ ap (λ more. own_answers c demand r (all_windows d) d ++ more) (none-done r made top) ∙ nothing-after (own_answers c demand r (all_windows d) d)
     ∙ answers-same c ask demand r (all_windows d) d only same
 
-does-whole : (c : ℕ) (ask : Ask) (demand : Demand) (r there : Resident) (d new : Desktop) → client_at c d ≡ Some there → d.pointer ≡ first_pointer → r.peer.status ≡ None → OwnsToplevelsOnly r → Same r ask demand
-    → Becomes (Queues (answers_to ask r) (changed_by ask r).peer) c (changed_by ask r) (stacked c ask r d) new → Does served_now c demand r d new
+does-whole : (c : ℕ) (ask : Simple) (demand : Demand) (r there : Resident) (d new : Desktop) → client_at c d ≡ Some there → d.pointer ≡ first_pointer → r.peer.status ≡ None → OwnsToplevelsOnly r → Same r ask demand
+    → Becomes (Queues (told_simply ask r) (changed_simply ask r).peer) c (changed_simply ask r) (stacked_simply c ask r d) new → Does served_now c demand r d new
 does-whole c ask demand r there d new is still alive only same h =
-    let made : Resident = changed_by ask r in
-    let on : Desktop = stacked c ask r d in
+    let made : Resident = changed_simply ask r in
+    let on : Desktop = stacked_simply c ask r d in
     let found : client_at c on ≡ Some there = ap (λ clients. client_in clients c) (stacked-clients c ask r d) ∙ is in
-    let first : IsDone (answers_to ask r) c made on new =
-    is-done (answers_to ask r) c made there on new found (stacked-pointer c ask r d ∙ still) (changed-status ask r ∙ alive) h in
+    let first : IsDone (told_simply ask r) c made on new =
+    is-done (told_simply ask r) c made there on new found (stacked-pointer c ask r d ∙ still) (changed-status ask r ∙ alive) h in
     let second : IsDone (replies served_now c demand r made (all_windows d) d) c made on new =
     subst (λ events. IsDone events c made on new) (sym (replies-same c ask demand r made d only (tops-kept ask r only.roles) same)) first in
     let third : IsDone (replies served_now c demand r made (all_windows d) d) c made (done_for c demand r d) new =
@@ -222,14 +222,14 @@ only-peer r p same only =
       pointers = only.pointers;
     }
 
-pub same-peer : (r : Resident) (p : Peer) (ask : Ask) (demand : Demand) → Same r ask demand → Same (with_peer p r) ask demand
-same-peer r p ask demand (asks other) = asks ask
+pub same-peer : (r : Resident) (p : Peer) (ask : Simple) (demand : Demand) → Same r ask demand → Same (with_peer p r) ask demand
+same-peer r p ask demand (asks other) = asks other
 same-peer r p ask demand (ends id) = ends id
 same-peer r p ask demand (commit id effect e) = commit id effect e
 same-peer r p ask demand (goes id xdg) = goes id xdg
 same-peer r p ask demand (move id serial) = move id serial
 
-pub pairs-peer : (r : Resident) (p : Peer) (judged : Result Ask Refusal) (demanded : Result Demand Refusal) → Pairs r judged demanded → Pairs (with_peer p r) judged demanded
+pub pairs-peer : (r : Resident) (p : Peer) (judged : Result Simple Refusal) (demanded : Result Demand Refusal) → Pairs r judged demanded → Pairs (with_peer p r) judged demanded
 pairs-peer r p (Ok ask) (Ok demand) same = same-peer r p ask demand same
 pairs-peer r p (Err refusal) (Err other) same = same
 pairs-peer r p (Ok ask) (Err other) same = absurd same
@@ -241,12 +241,12 @@ module _ (c : ℕ) (there : Resident) (d new : Desktop) (is : client_at c d ≡ 
   wants-whole true r Later Then next (inl h) = inl (becomes-whole (LacksMemory r.peer) c r d new still h)
   wants-whole true r Later Then next (inr h) = inr (next h)
 
-  pub answers-whole : (judged : Result Ask Refusal) (demanded : Result Demand Refusal) (r : Resident) → r.peer.status ≡ None → OwnsToplevelsOnly r → Pairs r judged demanded → Answers judged c r d new → WholeAnswers served_now demanded c r d new
+  pub answers-whole : (judged : Result Simple Refusal) (demanded : Result Demand Refusal) (r : Resident) → r.peer.status ≡ None → OwnsToplevelsOnly r → Pairs r judged demanded → Answers judged c r d new → WholeAnswers served_now demanded c r d new
   answers-whole (Ok ask) (Ok demand) r alive only same h =
       let now : Resident = with_peer (counted r.peer) r in
       let same_now : Same now ask demand = same-peer r (counted r.peer) ask demand same in
       subst (λ b. WholeWantsOr b (Does served_now c demand now d new) c now d new) (sym (wants-same ask demand now same_now))
-      (wants-whole (takes_memory ask) now _ _ (λ k. does-whole c ask demand now there d new is still alive (only-peer r (counted r.peer) refl only) same_now k) h)
+      (wants-whole (wants_simply ask) now _ _ (λ k. does-whole c ask demand now there d new is still alive (only-peer r (counted r.peer) refl only) same_now k) h)
   answers-whole (Err refusal) (Err other) r alive only same h =
       subst (λ e. WholeAnswers served_now (Err e) c r d new) same (becomes-whole _ c r d new still h)
   answers-whole (Ok ask) (Err other) r alive only same h = absurd same

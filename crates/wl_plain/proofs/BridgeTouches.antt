@@ -8,12 +8,12 @@ use Rattle.wl_client.specs.declared.actions.Action.{Action}
 use Rattle.wl_client.specs.declared.actions.Action.TheVariants.{GetRegistry, Bind, CreateRegion, DestroyRegion, CreatePool, CreateBuffer, DestroyPool, DestroyBuffer}
 use Rattle.wl_client.specs.declared.refusals.Refusal.{Refusal}
 use Rattle.wl_client.specs.Objects.{Object, interface_number, is_of}
-use Rattle.wl_plain.specs.Ask.{Ask, Own, CreateSurface, DestroyBase, GetXdgSurface, DestroyXdgSurface, GetToplevel, DestroyToplevel}
+use Rattle.wl_plain.specs.Ask.{Ask, Own, CreateSurface, DestroyBase, GetXdgSurface, DestroyXdgSurface, GetToplevel}
 use Rattle.wl_plain.specs.Demand.{Demand}
 use Rattle.wl_plain.specs.Demanding.{judge_all}
 use Rattle.wl_plain.specs.Desktop.{Resident}
 use Rattle.wl_plain.specs.LeftOut.{served_now}
-use Rattle.wl_plain.proofs.Simply.{judge}
+use Rattle.wl_plain.proofs.Simply.{Asking, Simple, judge}
 use Rattle.wl_plain.proofs.BridgeFinds.{free-apart}
 use Rattle.wl_plain.proofs.BridgeJudged.{Pairs, Same, asks, commit, ends, goes, judge-pair, move}
 use Rattle.wl_plain.proofs.BridgeKeeps.{IsApart, action_touches, touches}
@@ -38,18 +38,17 @@ own-apart r (DestroyPool id store) own = other-object WlShmPool refl (r.peer.obj
 own-apart r (DestroyBuffer id store) own = other-object WlBuffer refl (r.peer.objects id) own
 own-apart r action own = tt
 
-ask-apart : (r : Resident) (ask : Ask) → IsAsked r ask → IsApart r.peer.objects (touches ask)
+ask-apart : (r : Resident) (ask : Ask) → IsAsked r ask → IsApart r.peer.objects (touches (Asking ask))
 ask-apart r (Own action) asked = own-apart r action asked
 ask-apart r (CreateSurface id version) asked = free-apart r.peer.objects id asked
 ask-apart r (DestroyBase id) asked = other-object XdgWmBase refl (r.peer.objects id) asked
 ask-apart r (GetXdgSurface id version base surface) asked = free-apart r.peer.objects id asked.0
 ask-apart r (DestroyXdgSurface id) asked = other-object XdgSurface refl (r.peer.objects id) asked.0
 ask-apart r (GetToplevel id version xdg) asked = free-apart r.peer.objects id asked.0
-ask-apart r (DestroyToplevel id xdg) asked = absurd asked
 ask-apart r ask asked = tt
 
-same-apart : (r : Resident) (ask : Ask) (demand : Demand) → Same r ask demand → IsAllowed r demand → IsApart r.peer.objects (touches ask)
-same-apart r ask demand (asks other) allows = ask-apart r ask allows
+same-apart : (r : Resident) (ask : Simple) (demand : Demand) → Same r ask demand → IsAllowed r demand → IsApart r.peer.objects (touches ask)
+same-apart r ask demand (asks other) allows = ask-apart r other allows
 same-apart r ask demand (ends id) allows = tt
 same-apart r ask demand (commit id effect e) allows = tt
 same-apart r ask demand (goes id xdg) allows = other-object XdgToplevel refl (r.peer.objects id) allows.0
@@ -57,12 +56,12 @@ same-apart r ask demand (move id serial) allows = tt
 
 pub touches_apart : TouchesApart
 touches_apart r object opcode body ask only e =
-    at (judge r object opcode body) (judge_all served_now r object opcode body) e refl (judge-pair r object opcode body only.roles)
+    at (judge r object opcode body) (judge_all served_now r object opcode body) e refl (judge-pair r object opcode body)
   where
-    same-ask : (other : Ask) → (let j : Result Ask Refusal = Ok other in j) ≡ Ok ask → other ≡ ask
+    same-ask : (other : Simple) → (let j : Result Simple Refusal = Ok other in j) ≡ Ok ask → other ≡ ask
     same-ask other e = cc
 
-    at : (judged : Result Ask Refusal) (demanded : Result Demand Refusal) → judged ≡ Ok ask → judge_all served_now r object opcode body ≡ demanded → Pairs r judged demanded → IsApart r.peer.objects (touches ask)
+    at : (judged : Result Simple Refusal) (demanded : Result Demand Refusal) → judged ≡ Ok ask → judge_all served_now r object opcode body ≡ demanded → Pairs r judged demanded → IsApart r.peer.objects (touches ask)
     at (Err refusal) demanded e is pair = absurd (cc)
     at (Ok other) (Err refusal) e is pair = absurd pair
     at (Ok other) (Ok demand) e is pair =

@@ -26,6 +26,7 @@ use Rattle.wl_plain.specs.Whole.{after_why, done_for}
 use Rattle.wl_plain.specs.Settling.{Moving, Strike, after_status, becomes, ended_at, is_settled, is_struck, leave_drawn, target_now, told_drawn, unstruck}
 use Rattle.wl_plain.specs.Stacked.{all_windows}
 use Rattle.wl_plain.specs.Step.{with_peer}
+use Rattle.wl_plain.proofs.Simply.{Asking}
 use Rattle.wl_plain.proofs.Behind.{changed-rest, changed-status}
 use Rattle.wl_plain.proofs.Places.{number-same, stacked-clients}
 
@@ -154,7 +155,7 @@ grab-quiet true xdg r = (refl, refl)
 grab-quiet false xdg r = (refl, refl)
 
 pub change-quiet : (c : ℕ) (demand : Demand) (d : Desktop) (r : Resident) → ((changed_for c demand r d).peer.status ≡ r.peer.status) × ((changed_for c demand r d).peer.rest ≡ r.peer.rest)
-change-quiet c (Asks ask) d r = (changed-status ask r, changed-rest ask r)
+change-quiet c (Asks ask) d r = (changed-status (Asking ask) r, changed-rest (Asking ask) r)
 change-quiet c (EndSurface id) d r = without-quiet (callbacks_of id r) _
 change-quiet c (AskFrame id version surface) d r = (refl, refl)
 change-quiet c (CommitTree surface) d r = effect-quiet c surface (effect_of_commit r surface) (xdg_of surface r.owned.shell) d (tree_committed surface r)
@@ -184,7 +185,7 @@ stacked-by Unmaps true c surface d = refl
 stacked-by Unmaps false c surface d = refl
 
 stacked-for : (c : ℕ) (demand : Demand) (r : Resident) (windows : List Window) (d : Desktop) → (stacked_for c demand r windows d).clients ≡ d.clients
-stacked-for c (Asks ask) r windows d = stacked-clients c ask r d
+stacked-for c (Asks ask) r windows d = refl
 stacked-for c (EndSurface id) r windows d = refl
 stacked-for c (AskFrame id version surface) r windows d = refl
 stacked-for c (CommitTree surface) r windows d = stacked-by (effect_of_commit r surface) (is_toplevel (xdg_of surface r.owned.shell)) c surface d

@@ -18,7 +18,7 @@ use Rattle.wl_surface.specs.declared.role.Role.{Role}
 use Rattle.wl_surface.specs.declared.role.Role.TheVariants.{Subsurface as AsSubsurface}
 use Rattle.wl_shell.specs.Shell.{Mapped, RoleObject, Shell, Toplevel, XdgSurface as Xdg, xdg_at, xdg_of, xdg_with}
 use Rattle.wl_scene.specs.Stacking.{Standing}
-use Rattle.wl_plain.specs.Ask.{Ask, Own, CreateSurface, DestroySurface, AskSurface, CommitSurface, DestroyBase, GetXdgSurface, DestroyXdgSurface, GetToplevel, Acknowledge, ConfigureAgain, DestroyToplevel, Ignore}
+use Rattle.wl_plain.specs.Ask.{Ask, Own, CreateSurface, AskSurface, DestroyBase, GetXdgSurface, DestroyXdgSurface, GetToplevel, Acknowledge, ConfigureAgain, Ignore}
 use Rattle.wl_plain.specs.Changing.{is_toplevel_kind}
 use Rattle.wl_plain.specs.Demand.{Demand, Asks, EndSurface, AskFrame, CommitTree, EndObject, GetSubsurface, EndSubsurface, SetMode, GetPointer, MakeCursor, CreatePositioner, EndPositioner, SetPositioner, GetPopup, Grab, EndPopup, EndToplevel, Move}
 use Rattle.wl_plain.specs.Desktop.{Desktop, Resident, client_at}
@@ -166,9 +166,7 @@ IsOwn r action = Unit {0}
 abbrev pub IsAsked : Resident → Ask → Type 0
 IsAsked r (Own action) = IsOwn r action
 IsAsked r (CreateSurface id version) = IsNew id r
-IsAsked r (DestroySurface id) = ⊥
 IsAsked r (AskSurface id request) = IsAskable id r.owned.surfaces request
-IsAsked r (CommitSurface id effect) = ⊥
 IsAsked r (DestroyBase id) = IsObject XdgWmBase id r
 IsAsked r (GetXdgSurface id version base surface) =
     IsNew id r × (is_foreign (role_of r surface) ≡ false) × (xdg_of surface r.owned.shell ≡ None)
@@ -176,7 +174,6 @@ IsAsked r (DestroyXdgSurface id) = IsObject XdgSurface id r × HasNoRole (xdg_at
 IsAsked r (GetToplevel id version xdg) = IsNew id r × HasNoRole (xdg_at xdg r.owned.shell)
 IsAsked r (Acknowledge xdg serial) = Unit {0}
 IsAsked r (ConfigureAgain xdg) = Unit {0}
-IsAsked r (DestroyToplevel id xdg) = ⊥
 IsAsked r Ignore = Unit {0}
 
 -- What is known of an accepted message: the object that it makes has a new id, the one that it takes away is of its interface, and the errors

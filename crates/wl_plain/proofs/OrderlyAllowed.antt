@@ -14,7 +14,7 @@ use Rattle.wl_surface.specs.Trees.{is_bad_parent, is_too_deep}
 use Rattle.wl_shell.specs.Positioner.{Positioner, is_anchor_rect, is_complete, is_size}
 use Rattle.wl_shell.specs.Shell.{Effect, Stays, Unconfigured, Configures, Maps, Unmaps, XdgSurface as Xdg, is_full, xdg_at, xdg_of, xdg_with}
 use Rattle.wl_plain.specs.Demand.{Demand}
-use Rattle.wl_plain.specs.Demanding.{committed_by, demand_by, demand_of, effect_of_commit, judge_all, moved_by_pointer}
+use Rattle.wl_plain.specs.Demanding.{committed_by, demand_by, demand_of, effect_of_commit, judge_all, moved_by_pointer, toplevel_destroyed}
 use Rattle.wl_plain.specs.Desktop.{Resident, Subsurface}
 use Rattle.wl_plain.specs.LeftOut.{LeftOut}
 use Rattle.wl_plain.specs.Popups.{Popped, is_parent, is_popup_mapped, popup_at}
@@ -23,7 +23,7 @@ use Rattle.wl_plain.specs.WlSubsurface.{beside, demand_by_link, has_subsurface, 
 use Rattle.wl_plain.specs.XdgPopup.{grab_of, is_no_popup, may_be_parent, popup_asked, popup_demand_of, positioner_of, positioner_set, set_if}
 use Rattle.wl_plain.specs.XdgShell.{role_of}
 use Rattle.wl_plain.proofs.Orderly.{HasId, IsAllowed, IsObject, IsOfParent}
-use Rattle.wl_plain.proofs.OrderlyAllowedAsks.{Allows, base-ask-allowed, compositor-ask-allowed, either, found-bare, none-there, own-ask-allowed, surface-ask-allowed, toplevel-ask-allowed, xdg-ask-allowed}
+use Rattle.wl_plain.proofs.OrderlyAllowedAsks.{Allows, base-ask-allowed, compositor-allowed, either, found-bare, none-there, own-allowed-so, surface-ask-allowed, toplevel-ask-allowed, xdg-ask-allowed}
 use Rattle.wl_plain.proofs.OrderlyAllowedHeard.{fresh-first, heard-at, judged-hears, named-second}
 use Rattle.wl_plain.proofs.OrderlyAllowedOwn.{IsHeardBy}
 use Rattle.wl_plain.proofs.OwningKeys.{found-passes, some-same}
@@ -45,10 +45,12 @@ Demanded interface r object version opcode fields =
 
 surface-allowed : (r : Resident) (object version opcode : ℕ) (fields : List Field) → IsHeardBy WlSurface r object opcode fields → Demanded WlSurface r object version opcode fields
 surface-allowed r object version opcode fields heard =
-    either r (opcode == 3) _ _
+    either r (opcode == 0) _ _
+    (λ e. either r (is_some (xdg_of object r.owned.shell)) _ _ (λ f. tt) (λ f. (heard.live, none-there (xdg_of object r.owned.shell) f)))
+    (λ e. either r (opcode == 3) _ _
     (λ e. let h = heard-at r.peer.objects object WlSurface opcode 3 fields heard e in fresh-first r.peer.objects _ [] _ fields h.kinds h.fresh)
     (λ e. either r (opcode == 6) _ _ (λ f. committed-allowed r (xdg_of object r.owned.shell) object (effect_of_commit r object))
-    (λ f. surface-ask-allowed r object version opcode fields heard f))
+    (λ f. surface-ask-allowed r object opcode fields)))
 
 -- ---- subsurfaces
 
@@ -188,10 +190,15 @@ moved-allowed : (r : Resident) (serial : ℕ) (o : Option Xdg) → Allows r (mov
 moved-allowed r serial None = tt
 moved-allowed r serial (Some x) = tt
 
+gone-allowed : (r : Resident) (object : ℕ) (o : Option Xdg) → xdg_with object r.owned.shell ≡ o → IsObject XdgToplevel object r → Allows r (toplevel_destroyed object o)
+gone-allowed r object None is live = tt
+gone-allowed r object (Some x) is live = (live, subst (λ o. HasId x.id o) (sym is) refl)
+
 toplevel-allowed : (r : Resident) (object version opcode : ℕ) (fields : List Field) → IsHeardBy XdgToplevel r object opcode fields → Demanded XdgToplevel r object version opcode fields
 toplevel-allowed r object version opcode fields heard =
-    either r (opcode == 5) _ _ (λ e. moved-allowed r (word_in 1 fields) (xdg_with object r.owned.shell))
-    (λ e. toplevel-ask-allowed r object opcode (xdg_with object r.owned.shell) refl heard.live)
+    either r (opcode == 0) _ _ (λ e. gone-allowed r object (xdg_with object r.owned.shell) refl heard.live)
+    (λ e. either r (opcode == 5) _ _ (λ e. moved-allowed r (word_in 1 fields) (xdg_with object r.owned.shell))
+    (λ e. toplevel-ask-allowed r opcode (xdg_with object r.owned.shell)))
 
 grab-allowed : (r : Resident) (object serial : ℕ) (x : Xdg) (o : Option Popped) → Allows r (grab_of object serial x o)
 grab-allowed r object serial x None = tt
@@ -207,7 +214,7 @@ popup-at-allowed r object opcode fields (Some x) is live =
 -- ---- every interface
 
 demanded-allowed : (interface : Interface) (r : Resident) (object version opcode : ℕ) (fields : List Field) → IsHeardBy interface r object opcode fields → Demanded interface r object version opcode fields
-demanded-allowed WlCompositor r object version opcode fields heard = compositor-ask-allowed r object version opcode fields heard
+demanded-allowed WlCompositor r object version opcode fields heard = compositor-allowed r object version opcode fields heard
 demanded-allowed WlSurface r object version opcode fields heard = surface-allowed r object version opcode fields heard
 demanded-allowed WlSubcompositor r object version opcode fields heard = subcompositor-allowed r object version opcode fields heard
 demanded-allowed WlSubsurface r object version opcode fields heard = subsurface-allowed r object version opcode fields heard
@@ -218,14 +225,14 @@ demanded-allowed XdgPositioner r object version opcode fields heard = positioner
 demanded-allowed XdgSurface r object version opcode fields heard = xdg-allowed r object version opcode fields heard
 demanded-allowed XdgToplevel r object version opcode fields heard = toplevel-allowed r object version opcode fields heard
 demanded-allowed XdgPopup r object version opcode fields heard = popup-at-allowed r object opcode fields (xdg_with object r.owned.shell) refl heard.live
-demanded-allowed WlDisplay r object version opcode fields heard = own-ask-allowed WlDisplay r object version opcode fields heard
-demanded-allowed WlRegistry r object version opcode fields heard = own-ask-allowed WlRegistry r object version opcode fields heard
-demanded-allowed WlCallback r object version opcode fields heard = own-ask-allowed WlCallback r object version opcode fields heard
-demanded-allowed WlRegion r object version opcode fields heard = own-ask-allowed WlRegion r object version opcode fields heard
-demanded-allowed WlShm r object version opcode fields heard = own-ask-allowed WlShm r object version opcode fields heard
-demanded-allowed WlShmPool r object version opcode fields heard = own-ask-allowed WlShmPool r object version opcode fields heard
-demanded-allowed WlBuffer r object version opcode fields heard = own-ask-allowed WlBuffer r object version opcode fields heard
-demanded-allowed WlOutput r object version opcode fields heard = own-ask-allowed WlOutput r object version opcode fields heard
+demanded-allowed WlDisplay r object version opcode fields heard = own-allowed-so WlDisplay r object version opcode fields heard
+demanded-allowed WlRegistry r object version opcode fields heard = own-allowed-so WlRegistry r object version opcode fields heard
+demanded-allowed WlCallback r object version opcode fields heard = own-allowed-so WlCallback r object version opcode fields heard
+demanded-allowed WlRegion r object version opcode fields heard = own-allowed-so WlRegion r object version opcode fields heard
+demanded-allowed WlShm r object version opcode fields heard = own-allowed-so WlShm r object version opcode fields heard
+demanded-allowed WlShmPool r object version opcode fields heard = own-allowed-so WlShmPool r object version opcode fields heard
+demanded-allowed WlBuffer r object version opcode fields heard = own-allowed-so WlBuffer r object version opcode fields heard
+demanded-allowed WlOutput r object version opcode fields heard = own-allowed-so WlOutput r object version opcode fields heard
 
 -- what is known of an accepted message
 pub allowed : (left : LeftOut) (r : Resident) (object opcode : ℕ) (body : List ℕ) (demand : Demand) → judge_all left r object opcode body ≡ Ok demand → IsAllowed r demand

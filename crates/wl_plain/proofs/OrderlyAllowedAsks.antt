@@ -16,11 +16,10 @@ use Rattle.wl_client.specs.Peer.{known_of}
 use Rattle.wl_shell.specs.Shell.{XdgSurface as Xdg, answers_states, is_full, is_waiting, stage_of, xdg_at, xdg_of, xdg_with}
 use Rattle.wl_plain.specs.Ask.{Ask, owns}
 use Rattle.wl_plain.specs.Demand.{Demand}
-use Rattle.wl_plain.specs.Demanding.{demands}
+use Rattle.wl_plain.specs.Demanding.{compositor_demand, demands, own_demand}
 use Rattle.wl_plain.specs.Desktop.{Resident}
-use Rattle.wl_plain.specs.Step.{compositor_ask, own_ask}
 use Rattle.wl_plain.specs.WlSurface.{surface_ask}
-use Rattle.wl_plain.specs.XdgShell.{acknowledged_by, base_ask, configured_again, geometry_set, has_any, is_foreign, is_no_toplevel, is_state, role_of, toplevel_ask_of, toplevel_made, xdg_ask_of, xdg_surface_made}
+use Rattle.wl_plain.specs.XdgShell.{acknowledged_by, base_ask, configured_again, geometry_set, has_any, is_foreign, is_no_toplevel, is_state, role_of, toplevel_made, xdg_ask_of, xdg_surface_made, toplevel_ask}
 use Rattle.wl_plain.proofs.Orderly.{HasId, HasNoRole, IsAllowed, IsObject}
 use Rattle.wl_plain.proofs.OrderlyAllowedHeard.{fresh-first, heard-at}
 use Rattle.wl_plain.proofs.OrderlyAllowedOwn.{AllowsOwn, IsHeardBy, own-allowed}
@@ -52,32 +51,28 @@ own-asked : (r : Resident) (judged : Result Action Refusal) → AllowsOwn r judg
 own-asked r (Ok action) own = own
 own-asked r (Err refusal) own = tt
 
-pub own-ask-allowed : (interface : Interface) (r : Resident) (object version opcode : ℕ) (fields : List Field) → IsHeardBy interface r object opcode fields → AllowsAsk r (own_ask r object version (record { interface = interface; opcode = opcode; fields = fields }))
-own-ask-allowed interface r object version opcode fields heard =
+pub own-allowed-so : (interface : Interface) (r : Resident) (object version opcode : ℕ) (fields : List Field) → IsHeardBy interface r object opcode fields → Allows r (own_demand r object version (record { interface = interface; opcode = opcode; fields = fields }))
+own-allowed-so interface r object version opcode fields heard =
     own-asked r (action_of (known_of r.peer) object version interface opcode fields) (own-allowed interface r object opcode fields heard (known_of r.peer) version)
 
-pub compositor-ask-allowed : (r : Resident) (object version opcode : ℕ) (fields : List Field) → IsHeardBy WlCompositor r object opcode fields → AllowsAsk r (compositor_ask r object version (record { interface = WlCompositor; opcode = opcode; fields = fields }))
-compositor-ask-allowed r object version opcode fields heard =
-    ask-either r (opcode == 0) _ _
+pub compositor-allowed : (r : Resident) (object version opcode : ℕ) (fields : List Field) → IsHeardBy WlCompositor r object opcode fields → Allows r (compositor_demand r object version (record { interface = WlCompositor; opcode = opcode; fields = fields }))
+compositor-allowed r object version opcode fields heard =
+    either r (opcode == 0) _ _
     (λ e.
     let h = heard-at r.peer.objects object WlCompositor opcode 0 fields heard e in
     ask-either r (nat_le 256 (length r.owned.surfaces.surfaces)) _ _ (λ f. tt) (λ f. fresh-first r.peer.objects _ [] _ fields h.kinds h.fresh))
-    (λ e. own-ask-allowed WlCompositor r object version opcode fields heard)
+    (λ e. own-allowed-so WlCompositor r object version opcode fields heard)
 
 -- ---- a surface
 
--- all but a commit
-pub surface-ask-allowed : (r : Resident) (object version opcode : ℕ) (fields : List Field) → IsHeardBy WlSurface r object opcode fields → (opcode == 6) ≡ false → AllowsAsk r (surface_ask r object opcode fields)
-surface-ask-allowed r object version opcode fields heard other =
-    ask-either r (opcode == 0) _ _
-    (λ e. ask-either r (is_some (xdg_of object r.owned.shell)) _ _ (λ f. tt) (λ f. (heard.live, none-there (xdg_of object r.owned.shell) f)))
-    (λ e. ask-either r (opcode == 1) _ _ (λ f. tt)
+-- all but its end, a frame and a commit
+pub surface-ask-allowed : (r : Resident) (object opcode : ℕ) (fields : List Field) → AllowsAsk r (surface_ask r object opcode fields)
+surface-ask-allowed r object opcode fields =
+    ask-either r (opcode == 1) _ _ (λ f. tt)
     (λ f. ask-either r (opcode == 2) _ _ (λ g. tt)
-    (λ g. ask-either r (opcode == 3) _ _ (λ h. tt)
-    (λ h. ask-either r (opcode == 4) _ _ (λ i. tt)
+    (λ g. ask-either r (opcode == 4) _ _ (λ i. tt)
     (λ i. ask-either r (opcode == 5) _ _ (λ j. tt)
-    (λ j. ask-either r (opcode == 6) _ _ (λ k. absurd (differ (sym k ∙ other)))
-    (λ k. ask-either r (int_le (pos 0) (number_in 0 fields) && int_le (number_in 0 fields) (pos 7)) _ _ (λ l. tt) (λ l. tt))))))))
+    (λ j. ask-either r (int_le (pos 0) (number_in 0 fields) && int_le (number_in 0 fields) (pos 7)) _ _ (λ l. tt) (λ l. tt)))))
 
 -- ---- the shell
 
@@ -86,8 +81,7 @@ pub base-ask-allowed : (r : Resident) (object version opcode : ℕ) (fields : Li
 base-ask-allowed r object version opcode fields heard =
     ask-either r (opcode == 0) _ _
     (λ e. ask-either r (list_any (λ x. x.base == object) r.owned.shell) _ _ (λ f. tt) (λ f. heard.live))
-    (λ e. ask-either r (opcode == 1) _ _ (λ f. tt)
-    (λ f. ask-either r (opcode == 2) _ _ (λ g. made (heard-at r.peer.objects object XdgWmBase opcode 2 fields heard g)) (λ g. tt)))
+    (λ e. ask-either r (opcode == 2) _ _ (λ g. made (heard-at r.peer.objects object XdgWmBase opcode 2 fields heard g)) (λ g. tt))
   where
     made : IsHeardBy XdgWmBase r object 2 fields → AllowsAsk r (xdg_surface_made r object version (word_in 0 fields) (word_in 1 fields))
     made h =
@@ -123,8 +117,7 @@ xdg-ask-allowed r object version opcode fields (Some x) is heard =
     (λ e. ask-either r (is_some x.role) _ _ (λ f. tt)
     (λ f. (subst (λ n. IsObject XdgSurface n r) (sym (at-id r object x is)) heard.live, found-bare r object x is (none-there x.role f))))
     (λ e. ask-either r (opcode == 1) _ _ (λ f. made (heard-at r.peer.objects object XdgSurface opcode 1 fields heard f))
-    (λ f. ask-either r (opcode == 2) _ _ (λ g. tt)
-    (λ g. ask-either r (opcode == 3) _ _ (λ h. geometry-allowed r x (rect_in fields)) (λ h. acknowledged-allowed r x (word_in 0 fields)))))
+    (λ f. ask-either r (opcode == 3) _ _ (λ h. geometry-allowed r x (rect_in fields)) (λ h. acknowledged-allowed r x (word_in 0 fields))))
   where
     made : IsHeardBy XdgSurface r object 1 fields → AllowsAsk r (toplevel_made r x version (word_in 0 fields))
     made h =
@@ -135,8 +128,7 @@ xdg-ask-allowed r object version opcode fields (Some x) is heard =
 again-allowed : (r : Resident) (x : Xdg) → AllowsAsk r (configured_again x)
 again-allowed r x = ask-either r (option_map_or answers_states (stage_of x) false) _ _ (λ e. ask-either r (is_full x.serials) _ _ (λ f. tt) (λ f. tt)) (λ e. tt)
 
--- all but a move
-pub toplevel-ask-allowed : (r : Resident) (object opcode : ℕ) (o : Option Xdg) → xdg_with object r.owned.shell ≡ o → IsObject XdgToplevel object r → AllowsAsk r (toplevel_ask_of object o opcode)
-toplevel-ask-allowed r object opcode None is live = tt
-toplevel-ask-allowed r object opcode (Some x) is live =
-    ask-either r (opcode == 0) _ _ (λ e. (live, subst (λ o. HasId x.id o) (sym is) refl)) (λ e. ask-either r (is_state opcode) _ _ (λ f. again-allowed r x) (λ f. tt))
+-- all but its end and a move
+pub toplevel-ask-allowed : (r : Resident) (opcode : ℕ) (o : Option Xdg) → AllowsAsk r (toplevel_ask o opcode)
+toplevel-ask-allowed r opcode None = tt
+toplevel-ask-allowed r opcode (Some x) = ask-either r (is_state opcode) _ _ (λ f. again-allowed r x) (λ f. tt)

@@ -8,7 +8,7 @@ use Rattle.wl_surface.specs.Request.{Frame}
 use Rattle.wl_surface.specs.Surfaces.{Link, Surfaces}
 use Rattle.wl_shell.specs.Positioner.{Positioner}
 use Rattle.wl_shell.specs.Shell.{Effect, Stays, Unconfigured, Configures, Maps, Unmaps, XdgSurface as Xdg, xdg_at, xdg_of}
-use Rattle.wl_plain.specs.Ask.{Ask, Own, CreateSurface, DestroySurface, AskSurface, CommitSurface, DestroyBase, GetXdgSurface, DestroyXdgSurface, GetToplevel, Acknowledge, ConfigureAgain, DestroyToplevel, Ignore}
+use Rattle.wl_plain.specs.Ask.{Ask, Own, CreateSurface, AskSurface, DestroyBase, GetXdgSurface, DestroyXdgSurface, GetToplevel, Acknowledge, ConfigureAgain, Ignore}
 use Rattle.wl_plain.specs.Changing.{changed_for, drawing, effect_done, grab_allowed, grabbed, has_focus, in_rising_order, link_with_id, popup_given_to, tree_committed}
 use Rattle.wl_plain.specs.Demand.{Demand, Asks, EndSurface, AskFrame, CommitTree, EndObject, GetSubsurface, EndSubsurface, SetMode, GetPointer, MakeCursor, CreatePositioner, EndPositioner, SetPositioner, GetPopup, Grab, EndPopup, EndToplevel, Move}
 use Rattle.wl_plain.specs.Demanding.{effect_of_commit}
@@ -49,16 +49,13 @@ module _ (r : Resident) (rest : List ℕ) where
   asked-counted : (ask : Ask) → IsAsked r ask → IsAsked Counted ask
   asked-counted (Own action) h = own-counted action h
   asked-counted (CreateSurface id version) h = h
-  asked-counted (DestroySurface id) h = h
   asked-counted (AskSurface id request) h = h
-  asked-counted (CommitSurface id effect) h = h
   asked-counted (DestroyBase id) h = h
   asked-counted (GetXdgSurface id version base surface) h = h
   asked-counted (DestroyXdgSurface id) h = h
   asked-counted (GetToplevel id version xdg) h = h
   asked-counted (Acknowledge xdg serial) h = h
   asked-counted (ConfigureAgain xdg) h = h
-  asked-counted (DestroyToplevel id xdg) h = h
   asked-counted Ignore h = h
 
   allowed-counted : (demand : Demand) → IsAllowed r demand → IsAllowed Counted demand
@@ -127,16 +124,13 @@ module _ (b : ℕ) where
   asked-forest : (ask : Ask) (r : Resident) → IsAsked r ask → IsForest b r.owned.surfaces → IsForest (b + 1) (changed_by ask r).owned.surfaces
   asked-forest (Own action) r ok forest = next r.owned.surfaces forest
   asked-forest (CreateSurface id version) r ok forest = next _ (forest-new b id r.owned.surfaces forest)
-  asked-forest (DestroySurface id) r ok forest = absurd ok
   asked-forest (AskSurface id request) r ok forest = next _ (forest-asked b id request r.owned.surfaces ok forest)
-  asked-forest (CommitSurface id effect) r ok forest = absurd ok
   asked-forest (DestroyBase id) r ok forest = next r.owned.surfaces forest
   asked-forest (GetXdgSurface id version base surface) r ok forest = next r.owned.surfaces forest
   asked-forest (DestroyXdgSurface id) r ok forest = next r.owned.surfaces forest
   asked-forest (GetToplevel id version xdg) r ok forest = toplevel-forest id xdg (xdg_at xdg r.owned.shell) r forest
   asked-forest (Acknowledge xdg serial) r ok forest = next r.owned.surfaces forest
   asked-forest (ConfigureAgain xdg) r ok forest = next r.owned.surfaces forest
-  asked-forest (DestroyToplevel id xdg) r ok forest = absurd ok
   asked-forest Ignore r ok forest = next r.owned.surfaces forest
 
 pub forest-kept : (c : ℕ) (demand : Demand) (r : Resident) (d : Desktop) → IsAllowed r demand → HasRoles r → IsForest r.peer.requests r.owned.surfaces → IsForest (r.peer.requests + 1) (changed_for c demand r d).owned.surfaces

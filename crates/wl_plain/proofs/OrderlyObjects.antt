@@ -17,7 +17,7 @@ use Rattle.wl_surface.specs.declared.role.Role.TheVariants as role
 use Rattle.wl_shell.specs.Positioner.{Positioner}
 use Rattle.wl_shell.specs.Shell.{Effect, Stays, Unconfigured, Configures, Maps, Unmaps, Waiting, Mapped, Shell, XdgSurface as Xdg, acknowledging, configuring, in_stage, unmapping, with_change, without_role, xdg_at, xdg_of}
 use Rattle.wl_scene.specs.Stacking.{Owned}
-use Rattle.wl_plain.specs.Ask.{Ask, Own, CreateSurface, DestroySurface, AskSurface, CommitSurface, DestroyBase, GetXdgSurface, DestroyXdgSurface, GetToplevel, Acknowledge, ConfigureAgain, DestroyToplevel, Ignore}
+use Rattle.wl_plain.specs.Ask.{Ask, Own, CreateSurface, AskSurface, DestroyBase, GetXdgSurface, DestroyXdgSurface, GetToplevel, Acknowledge, ConfigureAgain, Ignore}
 use Rattle.wl_plain.specs.Changing.{after_all, frames_asked, is_asked, link_with_id, unlinked_at, changed_for, drawing, effect_done, frame_asked, grab_allowed, grabbed, has_focus, in_rising_order, mode_set, placement_now, placing, popup_given_to, subsurface_ended, subsurface_given, surface_ended, toplevel_ended, tree_committed, with_grab, without_callbacks, without_child, without_grab}
 use Rattle.wl_plain.specs.Demand.{Demand, Asks, EndSurface, AskFrame, CommitTree, EndObject, GetSubsurface, EndSubsurface, SetMode, GetPointer, MakeCursor, CreatePositioner, EndPositioner, SetPositioner, GetPopup, Grab, EndPopup, EndToplevel, Move}
 use Rattle.wl_plain.specs.Demanding.{effect_of_commit}
@@ -152,16 +152,13 @@ popup-made id version xdg parent p r (Some x) new found h =
 asks-has : (ask : Ask) (r : Resident) → IsAsked r ask → HasOf r → HasOf (changed_by ask r)
 asks-has (Own action) r ok h = own-has (λ number. is_used number r.owned.surfaces) action r ok h
 asks-has (CreateSurface id version) r ok h = surface-made id version r ok h
-asks-has (DestroySurface id) r ok h = absurd ok
 asks-has (AskSurface id request) r ok h = there-has r (with_surface_change id (asking request) r.owned.surfaces) (there-changed id (asking request) r.owned.surfaces (λ s. refl)) h
-asks-has (CommitSurface id effect) r ok h = absurd ok
 asks-has (DestroyBase id) r ok h = has-object-gone r.peer.objects r.owned.surfaces r.subsurfaces r.owned.shell r.callbacks h id of.XdgWmBase refl refl refl refl refl ok
 asks-has (GetXdgSurface id version base surface) r ok h = has-xdg-more r.peer.objects r.owned.surfaces r.subsurfaces r.owned.shell r.callbacks h id version ok.0 base surface
 asks-has (DestroyXdgSurface id) r ok h = has-xdg-gone r.peer.objects r.owned.surfaces r.subsurfaces r.owned.shell r.callbacks h id ok.0
 asks-has (GetToplevel id version xdg) r ok h = toplevel-made id version xdg r (xdg_at xdg r.owned.shell) ok.0 refl h
 asks-has (Acknowledge xdg serial) r ok h = xdg-has r xdg (acknowledging serial) (no-id-acknowledged serial) h
 asks-has (ConfigureAgain xdg) r ok h = configured-has r xdg h
-asks-has (DestroyToplevel id xdg) r ok h = absurd ok
 asks-has Ignore r ok h = h
 
 -- ---- what is demanded

@@ -32,7 +32,7 @@ use Rattle.wl_plain.proofs.OrderlyMoves.{destroyed-live, destroyed-role, links-d
 use Rattle.wl_plain.proofs.OrderlyLinked.{linked-live}
 use Rattle.wl_plain.proofs.StandingLists.{any-last}
 use Rattle.wl_plain.specs.Demanding.{effect_of_commit}
-use Rattle.wl_plain.specs.Ask.{Ask, Own, CreateSurface, DestroySurface, AskSurface, CommitSurface, DestroyBase, GetXdgSurface, DestroyXdgSurface, GetToplevel, Acknowledge, ConfigureAgain, DestroyToplevel, Ignore}
+use Rattle.wl_plain.specs.Ask.{Ask, Own, CreateSurface, AskSurface, DestroyBase, GetXdgSurface, DestroyXdgSurface, GetToplevel, Acknowledge, ConfigureAgain, Ignore}
 use Rattle.wl_plain.specs.Demand.{Demand, Asks, EndSurface, AskFrame, CommitTree, EndObject, GetSubsurface, EndSubsurface, SetMode, GetPointer, MakeCursor, CreatePositioner, EndPositioner, SetPositioner, GetPopup, Grab, EndPopup, EndToplevel, Move}
 
 -- ---- what is kept
@@ -380,10 +380,8 @@ roles-asked : (ask : Ask) (r : Resident) → IsAsked r ask → HasRoles r → Ha
 roles-asked (Own action) r is has = roles-same r (changed_by (Own action) r) refl refl has
 roles-asked (CreateSurface id version) r is has =
     roles-same (with_surfaces (with_new_surface id r.owned.surfaces) r) (changed_by (CreateSurface id version) r) refl refl (roles-created id r has)
-roles-asked (DestroySurface id) r is has = absurd is
 roles-asked (AskSurface id request) r is has =
     roles-trees r (changed_by (AskSurface id request) r) (trees-asked id request r.owned.surfaces) (shell-same r.owned.shell) refl has
-roles-asked (CommitSurface id effect) r is has = absurd is
 roles-asked (DestroyBase id) r is has = roles-same r (changed_by (DestroyBase id) r) refl refl has
 roles-asked (GetXdgSurface id version base surface) r is has =
     roles-same (with_shell (with_new id base surface r.owned.shell) r) (changed_by (GetXdgSurface id version base surface) r) refl refl (roles-shelled id base surface r is.1 is.2 has)
@@ -394,7 +392,6 @@ roles-asked (GetToplevel id version xdg) r is has =
 roles-asked (Acknowledge xdg serial) r is has = roles-changed xdg (acknowledging serial) r (λ x. refl) has
 roles-asked (ConfigureAgain xdg) r is has =
     roles-same (xdg_changed xdg (configuring r.peer.serial) r) (changed_by (ConfigureAgain xdg) r) refl refl (roles-changed xdg (configuring r.peer.serial) r (λ x. refl) has)
-roles-asked (DestroyToplevel id xdg) r is has = absurd is
 roles-asked Ignore r is has = has
 
 -- Children are subsurfaces without xdg_surface, each known by its wl_subsurface, and no surface has two xdg_surfaces.

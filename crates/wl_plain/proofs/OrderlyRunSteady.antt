@@ -9,12 +9,12 @@ use Rattle.wl_client.specs.Serving.{changed_with, has_used, keeps_store}
 use Rattle.wl_shell.specs.Positioner.{Positioner}
 use Rattle.wl_shell.specs.Shell.{Effect, Stays, Unconfigured, Configures, Maps, Unmaps, XdgSurface, xdg_at, xdg_of}
 use Rattle.wl_surface.specs.Surfaces.{is_used}
-use Rattle.wl_plain.specs.Ask.{Ask, Own, CreateSurface, DestroySurface, AskSurface, CommitSurface, DestroyBase, GetXdgSurface, DestroyXdgSurface, GetToplevel, Acknowledge, ConfigureAgain, DestroyToplevel, Ignore}
+use Rattle.wl_plain.specs.Ask.{Ask, Own, CreateSurface, AskSurface, DestroyBase, GetXdgSurface, DestroyXdgSurface, GetToplevel, Acknowledge, ConfigureAgain, Ignore}
 use Rattle.wl_plain.specs.Changing.{callbacks_of, changed_for, drawing, effect_done, grab_allowed, grabbed, has_focus, in_rising_order, mode_set, popup_given_to, tree_committed}
 use Rattle.wl_plain.specs.Demand.{Demand, Asks, EndSurface, AskFrame, CommitTree, EndObject, GetSubsurface, EndSubsurface, SetMode, GetPointer, MakeCursor, CreatePositioner, EndPositioner, SetPositioner, GetPopup, Grab, EndPopup, EndToplevel, Move}
 use Rattle.wl_plain.specs.Demanding.{effect_of_commit}
 use Rattle.wl_plain.specs.Desktop.{Callback, Desktop, Resident}
-use Rattle.wl_plain.specs.Step.{after_surface, changed_by, committed_on, effect_on, toplevel_given}
+use Rattle.wl_plain.specs.Step.{after_surface, changed_by, toplevel_given}
 
 abbrev pub IsSteady : Peer → Peer → Type 0
 IsSteady p q = (q.status ≡ p.status) × (q.requests ≡ p.requests)
@@ -37,14 +37,6 @@ own-steady used (ResizePool store size) p = (refl, refl)
 own-steady used (DestroyPool id store) p = (refl, refl)
 own-steady used (DestroyBuffer id store) p = stored-steady (has_used used (p.buffers id)) p.stores (changed (DestroyBuffer id store) p)
 
-committed-steady : (surface : ℕ) (effect : Effect) (x : Option XdgSurface) (r : Resident) → IsSteady r.peer (effect_on surface effect x r).peer
-committed-steady surface effect None r = (refl, refl)
-committed-steady surface Stays (Some x) r = (refl, refl)
-committed-steady surface Unconfigured (Some x) r = (refl, refl)
-committed-steady surface Configures (Some x) r = (refl, refl)
-committed-steady surface Maps (Some x) r = (refl, refl)
-committed-steady surface Unmaps (Some x) r = (refl, refl)
-
 toplevel-steady : (id xdg : ℕ) (x : Option XdgSurface) (r : Resident) → IsSteady r.peer (toplevel_given id xdg x r).peer
 toplevel-steady id xdg None r = (refl, refl)
 toplevel-steady id xdg (Some x) r = (refl, refl)
@@ -52,16 +44,13 @@ toplevel-steady id xdg (Some x) r = (refl, refl)
 asked-steady : (ask : Ask) (r : Resident) → IsSteady r.peer (changed_by ask r).peer
 asked-steady (Own action) r = own-steady (λ number. is_used number r.owned.surfaces) action r.peer
 asked-steady (CreateSurface id version) r = (refl, refl)
-asked-steady (DestroySurface id) r = (refl, refl)
 asked-steady (AskSurface id request) r = (refl, refl)
-asked-steady (CommitSurface id effect) r = committed-steady id effect (xdg_of id r.owned.shell) (after_surface id r (committed_on id r))
 asked-steady (DestroyBase id) r = (refl, refl)
 asked-steady (GetXdgSurface id version base surface) r = (refl, refl)
 asked-steady (DestroyXdgSurface id) r = (refl, refl)
 asked-steady (GetToplevel id version xdg) r = toplevel-steady id xdg (xdg_at xdg r.owned.shell) r
 asked-steady (Acknowledge xdg serial) r = (refl, refl)
 asked-steady (ConfigureAgain xdg) r = (refl, refl)
-asked-steady (DestroyToplevel id xdg) r = (refl, refl)
 asked-steady Ignore r = (refl, refl)
 
 pub callbacks-steady : (gone : List Callback) (p : Peer) → IsSteady p (fold (λ p callback. removed callback.id p) p gone)

@@ -20,11 +20,11 @@ use Rattle.wl_plain.proofs.StandingLists.{any-last, apart-left, mapped-apart, no
 use Rattle.wl_plain.proofs.Stacks.{and-both, and-right, any-more, equal-numbers, unless}
 use Rattle.wl_plain.specs.Desktop.{Desktop, Resident}
 use Rattle.wl_plain.specs.WlSurface.{will_show}
-use Rattle.wl_plain.specs.Step.{asked_so_far, changed_by, stacked, surface_of, toplevel_given}
+use Rattle.wl_plain.specs.Step.{asked_so_far, changed_by, surface_of, toplevel_given}
 use Rattle.wl_shell.specs.Positioner.{Positioner}
 use Rattle.wl_client.specs.Objects.{Object, interface_number, is_of as is_object_of}
 use Rattle.wl_proto.specs.declared.interface.Interface.TheVariants.{XdgPopup, XdgToplevel}
-use Rattle.wl_plain.specs.Ask.{Ask, Own, CreateSurface, DestroySurface, AskSurface, CommitSurface, DestroyBase, GetXdgSurface, DestroyXdgSurface, GetToplevel, Acknowledge, ConfigureAgain, DestroyToplevel, Ignore}
+use Rattle.wl_plain.specs.Ask.{Ask, Own, CreateSurface, AskSurface, DestroyBase, GetXdgSurface, DestroyXdgSurface, GetToplevel, Acknowledge, ConfigureAgain, Ignore}
 use Rattle.wl_plain.specs.Demand.{Demand, Asks, EndSurface, AskFrame, CommitTree, EndObject, GetSubsurface, EndSubsurface, SetMode, GetPointer, MakeCursor, CreatePositioner, EndPositioner, SetPositioner, GetPopup, Grab, EndPopup, EndToplevel, Move}
 
 -- ---- lists
@@ -448,12 +448,10 @@ acknowledged-role (Some object) is = (is.0, ap acknowledged is.1)
 
 standing-asked :
     (c : ℕ) (ask : Ask) (r : Resident) (d : Desktop) → IsAsked r ask → HasObjects r → StandsSo r.owned.shell (toplevels_of c d)
-    → StandsSo (changed_by ask r).owned.shell (toplevels_of c (stacked c ask r d))
+    → StandsSo (changed_by ask r).owned.shell (toplevels_of c d)
 standing-asked c (Own action) r d is has stands = stands
 standing-asked c (CreateSurface id version) r d is has stands = stands
-standing-asked c (DestroySurface id) r d is has stands = absurd is
 standing-asked c (AskSurface id request) r d is has stands = stands
-standing-asked c (CommitSurface id effect) r d is has stands = absurd is
 standing-asked c (DestroyBase id) r d is has stands = stands
 standing-asked c (GetXdgSurface id version base surface) r d is has stands =
     standing-same r.owned.shell (with_new id base surface r.owned.shell) (toplevels_of c d) (λ other here. mapped-new id base surface other r.owned.shell here) stands
@@ -466,7 +464,6 @@ standing-asked c (Acknowledge xdg serial) r d is has stands =
 standing-asked c (ConfigureAgain xdg) r d is has stands =
     standing-same r.owned.shell (with_change xdg (configuring r.peer.serial) r.owned.shell) (toplevels_of c d)
     (λ other here. mapped-changed xdg (configuring r.peer.serial) r.owned.shell other (λ y. refl) (λ y there same role. role) here) stands
-standing-asked c (DestroyToplevel id xdg) r d is has stands = absurd is
 standing-asked c Ignore r d is has stands = stands
 
 drawing-shell : (b : Bool) (r : Resident) → (drawing b r).owned ≡ r.owned

@@ -20,14 +20,14 @@ use Rattle.wl_shell.specs.declared.error.ShellError.{ShellError}
 use Rattle.wl_shell.specs.declared.stage.Stage.{Stage}
 use Rattle.wl_shell.proofs.Standing.{changes_stand}
 use Rattle.wl_scene.specs.Stacking.{Owned}
-use Rattle.wl_plain.specs.Ask.{CreateSurface, DestroySurface, AskSurface, CommitSurface, GetXdgSurface, DestroyXdgSurface, GetToplevel, Acknowledge, ConfigureAgain, DestroyToplevel}
+use Rattle.wl_plain.specs.Ask.{CreateSurface, AskSurface, GetXdgSurface, DestroyXdgSurface, GetToplevel, Acknowledge, ConfigureAgain}
 use Rattle.wl_plain.specs.Desktop.{Resident}
 use Rattle.wl_plain.specs.Owning.{IsOwned, IsXdg, KeepsRole, Names, effect_by, with_surface, with_toplevel, with_xdg}
-use Rattle.wl_plain.specs.Step.{after_surface, asked_so_far, changed_by, committed_on, effect_on, toplevel_given}
-use Rattle.wl_plain.specs.WlSurface.{effect_for}
+use Rattle.wl_plain.specs.Step.{after_surface, asked_so_far, toplevel_given}
 use Rattle.wl_plain.proofs.OwningChanges.{IsOwned-history, IsOwned-left, IsOwned-made, IsOwned-shelled, IsOwned-stepped, IsOwned-toplevel, IsOwned-unshelled, IsOwned-untoplevel, changing-none, renumbered}
 use Rattle.wl_plain.proofs.OwningSurfaces.{AreKept-changed, counts-asking, geometry-asked, surface-named}
 use Rattle.wl_plain.proofs.OwningXdg.{histories-changed, histories-same, xdg-of, xdg-of-none}
+use Rattle.wl_plain.proofs.Simply.{Asking, CommitSurface, DestroySurface, DestroyToplevel, changed_simply, committed_on, effect_for, effect_on}
 
 -- ---- histories of a surface that changes
 
@@ -97,15 +97,15 @@ effect-owned id Unmaps x r = refl
 module _ (names : Names) (slots : Slots) (kept : ℕ → Option Kept) (r : Resident) (is : IsOwned names slots kept r.owned) where
   pub owned-created : (id version number : ℕ) (new : Slots) (now : Names) → names.surfaces id ≡ None
       → ((named : Numbered) (id : ℕ) → StandForAll slots named → (named number ≡ None) × StandForAll new (with_at number (Some (new_surface id)) named)) → count_kept new ≡ count_kept slots + 1
-      → now ≡ with_surface id (Some number) names → IsOwned now new kept (changed_by (CreateSurface id version) r).owned
+      → now ≡ with_surface id (Some number) names → IsOwned now new kept (changed_simply (Asking (CreateSurface id version)) r).owned
   owned-created id version number new now free created counted same =
-      subst (λ (n : Names). IsOwned n new kept (changed_by (CreateSurface id version) r).owned) (sym same) (IsOwned-made names slots kept r.owned is id number new free created counted)
+      subst (λ (n : Names). IsOwned n new kept (changed_simply (Asking (CreateSurface id version)) r).owned) (sym same) (IsOwned-made names slots kept r.owned is id number new free created counted)
 
   pub owned-destroyed : (id number : ℕ) (new : Slots) (now : Names) → names.surfaces id ≡ Some number → xdg_of id r.owned.shell ≡ None
       → ((named : Numbered) → StandForAll slots named → StandForAll new (with_at number None named)) → count_kept new + one_if_kept (kept_at slots number) ≡ count_kept slots
-      → now ≡ with_surface id None names → IsOwned now new kept (changed_by (DestroySurface id) r).owned
+      → now ≡ with_surface id None names → IsOwned now new kept (changed_simply (DestroySurface id) r).owned
   owned-destroyed id number new now named none left counted same =
-      subst (λ (n : Names). IsOwned n new kept (changed_by (DestroySurface id) r).owned) (sym same) (IsOwned-left names slots kept r.owned is id number new named none left counted)
+      subst (λ (n : Names). IsOwned n new kept (changed_simply (DestroySurface id) r).owned) (sym same) (IsOwned-left names slots kept r.owned is id number new named none left counted)
 
   -- a surface that is there has a history
   there : (id number : ℕ) → names.surfaces id ≡ Some number → (h : History) × (history_in id r.owned.surfaces ≡ Some h)
@@ -115,7 +115,7 @@ module _ (names : Names) (slots : Slots) (kept : ℕ → Option Kept) (r : Resid
 
   -- of a surface all but a window geometry
   pub owned-asked : (id number : ℕ) (request : Request) (new : Slots) → names.surfaces id ≡ Some number → is_commit request ≡ false → ((asked : Option Rect) → geometry_asked asked request ≡ asked) → Changes slots new number (asking request)
-      → IsOwned names new kept (changed_by (AskSurface id request) r).owned
+      → IsOwned names new kept (changed_simply (Asking (AskSurface id request)) r).owned
   owned-asked id number request new named plain other changes =
       let one = there id number named in
       IsOwned-history names slots kept r.owned is id one.0 (one_more request one.0) new (with_surface_change id (asking request) r.owned.surfaces)
@@ -125,10 +125,10 @@ module _ (names : Names) (slots : Slots) (kept : ℕ → Option Kept) (r : Resid
       (λ k x stands. changes_stand.other request k x one.0 other stands)
 
   pub owned-xdg-made : (id version base surface number : ℕ) (after : ℕ → Option Kept) (now : Names) → names.surfaces surface ≡ Some number → kept number ≡ None → names.shell id ≡ None
-      → after ≡ with_kept number (Some (first_kept id base)) kept → now ≡ with_xdg id (Some number) names → IsOwned now slots after (changed_by (GetXdgSurface id version base surface) r).owned
+      → after ≡ with_kept number (Some (first_kept id base)) kept → now ≡ with_xdg id (Some number) names → IsOwned now slots after (changed_simply (Asking (GetXdgSurface id version base surface)) r).owned
   owned-xdg-made id version base surface number after now named free unnamed keeps same =
-      subst (λ (n : Names). IsOwned n slots after (changed_by (GetXdgSurface id version base surface) r).owned) (sym same)
-      (subst (λ (ks : ℕ → Option Kept). IsOwned (with_xdg id (Some number) names) slots ks (changed_by (GetXdgSurface id version base surface) r).owned) (sym keeps)
+      subst (λ (n : Names). IsOwned n slots after (changed_simply (Asking (GetXdgSurface id version base surface)) r).owned) (sym same)
+      (subst (λ (ks : ℕ → Option Kept). IsOwned (with_xdg id (Some number) names) slots ks (changed_simply (Asking (GetXdgSurface id version base surface)) r).owned) (sym keeps)
       (IsOwned-shelled names slots kept r.owned is id base surface number named free unnamed))
 
   module _ (number : ℕ) (k : Kept) (x : XdgSurface) (h : History) (one : IsXdg names kept r.owned number k x h) where
@@ -138,7 +138,7 @@ module _ (names : Names) (slots : Slots) (kept : ℕ → Option Kept) (r : Resid
         IsOwned-stepped names slots kept r.owned is number k x h one change step h slots r.owned.surfaces keeps is.surfaces
         (sym (histories-same x.surface (Some h) (λ other. history_in other r.owned.surfaces) one.history)) stands
 
-    pub owned-geometry : (rect : Rect) (after : ℕ → Option Kept) → after ≡ changing number (kept_asking rect) kept → IsOwned names slots after (changed_by (AskSurface x.surface (SetWindowGeometry rect)) r).owned
+    pub owned-geometry : (rect : Rect) (after : ℕ → Option Kept) → after ≡ changing number (kept_asking rect) kept → IsOwned names slots after (changed_simply (Asking (AskSurface x.surface (SetWindowGeometry rect))) r).owned
     owned-geometry rect after keeps =
         let request = SetWindowGeometry rect in
         let all = with_surface_change x.surface (asking request) r.owned.surfaces in
@@ -147,45 +147,45 @@ module _ (names : Names) (slots : Slots) (kept : ℕ → Option Kept) (r : Resid
         (AreKept-changed names.surfaces slots r.owned.surfaces is.surfaces x.surface number one.surface (asking request) (λ s. refl) slots (counts-asking request refl) (geometry-asked slots number rect))
         (histories-to x.surface (asking request) (one_more request) r.owned.surfaces h (λ s. refl) (λ s. refl) one.history)
         (changes_stand.geometry rect k x h one.stands) in
-        subst (λ (ks : ℕ → Option Kept). IsOwned names slots ks (changed_by (AskSurface x.surface request) r).owned) (sym keeps)
+        subst (λ (ks : ℕ → Option Kept). IsOwned names slots ks (changed_simply (Asking (AskSurface x.surface request)) r).owned) (sym keeps)
         (subst (λ (s : Shell). IsOwned names slots (changing number (kept_asking rect) kept) (record { surfaces = all; shell = s })) (changed-same x.id r.owned.shell) stepped)
 
-    pub owned-xdg-gone : (after : ℕ → Option Kept) (now : Names) → x.role ≡ None → after ≡ with_kept number None kept → now ≡ with_xdg x.id None names → IsOwned now slots after (changed_by (DestroyXdgSurface x.id) r).owned
+    pub owned-xdg-gone : (after : ℕ → Option Kept) (now : Names) → x.role ≡ None → after ≡ with_kept number None kept → now ≡ with_xdg x.id None names → IsOwned now slots after (changed_simply (Asking (DestroyXdgSurface x.id)) r).owned
     owned-xdg-gone after now bare keeps same =
-        subst (λ (n : Names). IsOwned n slots after (changed_by (DestroyXdgSurface x.id) r).owned) (sym same)
-        (subst (λ (ks : ℕ → Option Kept). IsOwned (with_xdg x.id None names) slots ks (changed_by (DestroyXdgSurface x.id) r).owned) (sym keeps)
+        subst (λ (n : Names). IsOwned n slots after (changed_simply (Asking (DestroyXdgSurface x.id)) r).owned) (sym same)
+        (subst (λ (ks : ℕ → Option Kept). IsOwned (with_xdg x.id None names) slots ks (changed_simply (Asking (DestroyXdgSurface x.id)) r).owned) (sym keeps)
         (IsOwned-unshelled names slots kept r.owned is number k x h one bare))
 
     pub owned-toplevel-made : (id version : ℕ) (new : Slots) (after : ℕ → Option Kept) (now : Names) → x.role ≡ None → names.toplevels id ≡ None → Changes slots new number (with_role AsToplevel)
-        → after ≡ changing number (kept_toplevel id) kept → now ≡ with_toplevel id (Some number) names → IsOwned now new after (changed_by (GetToplevel id version x.id) r).owned
+        → after ≡ changing number (kept_toplevel id) kept → now ≡ with_toplevel id (Some number) names → IsOwned now new after (changed_simply (Asking (GetToplevel id version x.id)) r).owned
     owned-toplevel-made id version new after now bare free changes keeps same =
         let all = with_surface_change x.surface (with_role AsToplevel) r.owned.surfaces in
         let since : asked_so_far x.surface r ≡ length h.requests = ap (λ (g : Option History). option_map_or (λ (h : History). length h.requests) g 0) one.history in
         let step = new_toplevel id (asked_so_far x.surface r) in
         let stands : Stands (kept_toplevel id k) (step x) h = subst (λ n. Stands (kept_toplevel id k) (new_toplevel id n x) h) (sym since) (changes_stand.toplevel id k x h one.stands) in
-        subst (λ (n : Names). IsOwned n new after (changed_by (GetToplevel id version x.id) r).owned) (sym same)
-        (subst (λ (ks : ℕ → Option Kept). IsOwned (with_toplevel id (Some number) names) new ks (changed_by (GetToplevel id version x.id) r).owned) (sym keeps)
+        subst (λ (n : Names). IsOwned n new after (changed_simply (Asking (GetToplevel id version x.id)) r).owned) (sym same)
+        (subst (λ (ks : ℕ → Option Kept). IsOwned (with_toplevel id (Some number) names) new ks (changed_simply (Asking (GetToplevel id version x.id)) r).owned) (sym keeps)
         (subst (λ (o : Option XdgSurface). IsOwned (with_toplevel id (Some number) names) new (changing number (kept_toplevel id) kept) (toplevel_given id x.id o r).owned) (sym one.at_id)
         (IsOwned-toplevel names slots kept r.owned is number k x h one id (kept_toplevel id) step (record { id = id; kind = _; stage = Fresh }) h new all (λ y. refl) (λ y. refl) bare refl refl free
         (AreKept-changed names.surfaces slots r.owned.surfaces is.surfaces x.surface number one.surface (with_role AsToplevel) (λ s. refl) new (λ s counts. counts) changes)
         (histories-to x.surface (with_role AsToplevel) (λ g. g) r.owned.surfaces h (λ s. refl) (λ s. refl) one.history)
         stands)))
 
-    pub owned-acknowledged : (serial : ℕ) (after : ℕ → Option Kept) → after ≡ changing number (kept_acknowledging serial) kept → IsOwned names slots after (changed_by (Acknowledge x.id serial) r).owned
+    pub owned-acknowledged : (serial : ℕ) (after : ℕ → Option Kept) → after ≡ changing number (kept_acknowledging serial) kept → IsOwned names slots after (changed_simply (Asking (Acknowledge x.id serial)) r).owned
     owned-acknowledged serial after keeps =
-        subst (λ (ks : ℕ → Option Kept). IsOwned names slots ks (changed_by (Acknowledge x.id serial) r).owned) (sym keeps)
+        subst (λ (ks : ℕ → Option Kept). IsOwned names slots ks (changed_simply (Asking (Acknowledge x.id serial)) r).owned) (sym keeps)
         (stepped-still (kept_acknowledging serial) (acknowledging serial) (acknowledging-keeps serial) (changes_stand.acknowledgement serial k x h one.stands))
 
-    pub owned-configured : (after : ℕ → Option Kept) → after ≡ changing number (kept_configuring r.peer.serial) kept → IsOwned names slots after (changed_by (ConfigureAgain x.id) r).owned
+    pub owned-configured : (after : ℕ → Option Kept) → after ≡ changing number (kept_configuring r.peer.serial) kept → IsOwned names slots after (changed_simply (Asking (ConfigureAgain x.id)) r).owned
     owned-configured after keeps =
-        subst (λ (ks : ℕ → Option Kept). IsOwned names slots ks (changed_by (ConfigureAgain x.id) r).owned) (sym keeps)
+        subst (λ (ks : ℕ → Option Kept). IsOwned names slots ks (changed_simply (Asking (ConfigureAgain x.id)) r).owned) (sym keeps)
         (stepped-still (kept_configuring r.peer.serial) (configuring r.peer.serial) (configuring-keeps r.peer.serial) (changes_stand.configure r.peer.serial k x h one.stands))
 
     pub owned-toplevel-gone : (id : ℕ) (after : ℕ → Option Kept) (now : Names) → is_role id x.role ≡ true → after ≡ changing number kept_without_role kept → now ≡ with_toplevel id None names
-        → IsOwned now slots after (changed_by (DestroyToplevel id x.id) r).owned
+        → IsOwned now slots after (changed_simply (DestroyToplevel id x.id) r).owned
     owned-toplevel-gone id after now its keeps same =
-        subst (λ (n : Names). IsOwned n slots after (changed_by (DestroyToplevel id x.id) r).owned) (sym same)
-        (subst (λ (ks : ℕ → Option Kept). IsOwned (with_toplevel id None names) slots ks (changed_by (DestroyToplevel id x.id) r).owned) (sym keeps)
+        subst (λ (n : Names). IsOwned n slots after (changed_simply (DestroyToplevel id x.id) r).owned) (sym same)
+        (subst (λ (ks : ℕ → Option Kept). IsOwned (with_toplevel id None names) slots ks (changed_simply (DestroyToplevel id x.id) r).owned) (sym keeps)
         (IsOwned-untoplevel names slots kept r.owned is number k x h one id kept_without_role without_role h slots r.owned.surfaces (λ y. refl) (λ y. refl) its refl is.surfaces
         (sym (histories-same x.surface (Some h) (λ other. history_in other r.owned.surfaces) one.history)) (changes_stand.destruction k x h one.stands)))
 
@@ -212,14 +212,14 @@ module _ (names : Names) (slots : Slots) (kept : ℕ → Option Kept) (r : Resid
 
   pub owned-committed : (id number : ℕ) (shows : Bool) (act : ShellAct) (new : Slots) (after : ℕ → Option Kept) → names.surfaces id ≡ Some number → Changes slots new number (λ s. applying (asking Commit s))
       → commit_answer shows (kept number) ≡ Ok act → after ≡ changing number (kept_after r.peer.serial act) kept
-      → IsOwned names new after (changed_by (CommitSurface id (effect_for shows (xdg_of id r.owned.shell))) r).owned
+      → IsOwned names new after (changed_simply (CommitSurface id (effect_for shows (xdg_of id r.owned.shell))) r).owned
   owned-committed id number shows act new after named changes answer keeps =
-      subst (λ (ks : ℕ → Option Kept). IsOwned names new ks (changed_by (CommitSurface id (effect_for shows (xdg_of id r.owned.shell))) r).owned) (sym keeps) (at (kept number) refl)
+      subst (λ (ks : ℕ → Option Kept). IsOwned names new ks (changed_simply (CommitSurface id (effect_for shows (xdg_of id r.owned.shell))) r).owned) (sym keeps) (at (kept number) refl)
     where
       commits : Surface → Surface
       commits s = applying (asking Commit s)
 
-      at : (o : Option Kept) → kept number ≡ o → IsOwned names new (changing number (kept_after r.peer.serial act) kept) (changed_by (CommitSurface id (effect_for shows (xdg_of id r.owned.shell))) r).owned
+      at : (o : Option Kept) → kept number ≡ o → IsOwned names new (changing number (kept_after r.peer.serial act) kept) (changed_simply (CommitSurface id (effect_for shows (xdg_of id r.owned.shell))) r).owned
       at None here =
           let none = xdg-of-none names slots kept r.owned is id number named here in
           let history = there id number named in
@@ -238,9 +238,9 @@ module _ (names : Names) (slots : Slots) (kept : ℕ → Option Kept) (r : Resid
 
   -- the same by what the shell answered
   pub owned-committed-by : (id number : ℕ) (shows : Bool) (act : ShellAct) (new : Slots) (after : ℕ → Option Kept) → names.surfaces id ≡ Some number → Changes slots new number (λ s. applying (asking Commit s))
-      → commit_answer shows (kept number) ≡ Ok act → after ≡ changing number (kept_after r.peer.serial act) kept → IsOwned names new after (changed_by (CommitSurface id (effect_by act)) r).owned
+      → commit_answer shows (kept number) ≡ Ok act → after ≡ changing number (kept_after r.peer.serial act) kept → IsOwned names new after (changed_simply (CommitSurface id (effect_by act)) r).owned
   owned-committed-by id number shows act new after named changes answer keeps =
-      subst (λ effect. IsOwned names new after (changed_by (CommitSurface id effect) r).owned) (at (kept number) refl) (owned-committed id number shows act new after named changes answer keeps)
+      subst (λ effect. IsOwned names new after (changed_simply (CommitSurface id effect) r).owned) (at (kept number) refl) (owned-committed id number shows act new after named changes answer keeps)
     where
       of-act : (a : ShellAct) → ◌≡◌ {A = Result ShellAct ShellError} (Ok a) (Ok act) → effect_by a ≡ effect_by act
       of-act a e = let same : a ≡ act = cc in ap effect_by same

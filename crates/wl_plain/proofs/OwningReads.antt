@@ -18,21 +18,29 @@ use Rattle.wl_surface.specs.Kept.{count as count_kept}
 use Rattle.wl_surface.specs.Request.{Buffer, Commit, SetWindowGeometry}
 use Rattle.wl_surface.specs.State.{History, applied, held, pending, values}
 use Rattle.wl_surface.specs.Surfaces.{Surface, applying, asking, has_content, history_in, is_busy, is_there, is_used, listed, surface_at, with_change, without_surface}
+use Rattle.wl_shell.specs.declared.acts.ShellAct.{ShellAct}
+use Rattle.wl_shell.specs.declared.acts.ShellAct.TheVariants.{Configure, Map, Unmap, Nothing}
 use Rattle.wl_shell.specs.declared.error.ShellError.{ShellError}
 use Rattle.wl_shell.specs.declared.error.ShellError.TheVariants as failed
 use Rattle.wl_shell.specs.declared.stage.Stage.{Stage}
 use Rattle.wl_shell.specs.Kept.{Kept, acknowledgement_answer, commit_answer, configure_answer, destruction_answer, effect_answer, geometry_answer, making_refused, stage_configured, stage_in, toplevel_answer}
 use Rattle.wl_shell.specs.Shell.{Effect, Stays, Unconfigured, Configures, Maps, Unmaps, RoleObject, XdgSurface, answers_states, is_full, is_waiting, on_commit, stage_of, xdg_of}
 use Rattle.wl_shell.proofs.Shells.{shells_stand}
-use Rattle.wl_plain.specs.Ask.{CreateSurface, DestroySurface, AskSurface, CommitSurface, DestroyBase, GetXdgSurface, DestroyXdgSurface, GetToplevel, Acknowledge, ConfigureAgain, Ignore}
+use Rattle.wl_plain.specs.Ask.{CreateSurface, AskSurface, DestroyBase, GetXdgSurface, DestroyXdgSurface, GetToplevel, Acknowledge, ConfigureAgain, Ignore}
 use Rattle.wl_plain.specs.Desktop.{Resident}
 use Rattle.wl_plain.specs.Owning.{AllCounts, IsOwned, IsXdg, Names, asks_by, asks_unless, by_id, by_number, configuring_if, effect_by, kept_id, shell_refusal}
 use Rattle.wl_plain.specs.Step.{buffers_had, configures_told, each_once, role_configured, without_buffer}
-use Rattle.wl_plain.specs.WlSurface.{committed_for, effect_for, effect_of, refuse, refuse_limit, surface_committed, surface_created, surface_destroyed, will_show}
+use Rattle.wl_plain.specs.WlSurface.{refuse, refuse_limit, surface_created, will_show}
 use Rattle.wl_plain.specs.XdgShell.{acknowledged_by, base_destroyed, configured_again, geometry_set, has_any, is_foreign, is_no_toplevel, role_of, toplevel_made, xdg_surface_destroyed, xdg_surface_made}
 use Rattle.wl_plain.proofs.OwningKeys.{none-some, some-same}
 use Rattle.wl_plain.proofs.OwningSurfaces.{AreKept-changed, AreKept-left, busy-is, busy-read, surfaces-changed, surfaces-left, surface-read, used-read}
 use Rattle.wl_plain.proofs.OwningXdg.{xdg-of, xdg-of-none, xdg-there}
+use Rattle.wl_plain.proofs.Simply.{effect_for, effect_of}
+use Rattle.wl_plain.specs.Demand.{EndSurface, CommitTree}
+use Rattle.wl_plain.specs.Demanding.{commit_demand, committed_by, effect_of_commit, surface_destroyed}
+use Rattle.wl_plain.specs.NoMore.{AreToplevels}
+use Rattle.wl_plain.specs.WlSubsurface.{refuses}
+use Rattle.wl_plain.proofs.BridgeJudged.{effect-same}
 
 there-mapped : {X : Type 0} (f : X → Buffer) (o : Option X) → is_there (option_map f o) ≡ is_some o
 there-mapped f None = refl
@@ -129,8 +137,8 @@ module _ (names : Names) (slots : Slots) (kept : ℕ → Option Kept) (r : Resid
   pub created-by : (id version : ℕ) → surface_created r id version ≡ (if nat_le 256 (count_kept slots) then refuse_limit else Ok (CreateSurface id version))
   created-by id version = ap (λ n. if nat_le 256 n then refuse_limit else Ok (CreateSurface id version)) (sym is.surfaces.count)
 
-  pub destroyed-by : (id number : ℕ) → names.surfaces id ≡ Some number → surface_destroyed r id ≡ (if is_some (kept number) then refuse id error.SurfaceHasRoleObject else Ok (DestroySurface id))
-  destroyed-by id number named = ap (λ b. if b then refuse id error.SurfaceHasRoleObject else Ok (DestroySurface id)) (sym (xdg-there names slots kept r.owned is id number named))
+  pub destroyed-by : (id number : ℕ) → names.surfaces id ≡ Some number → surface_destroyed r id ≡ (if is_some (kept number) then refuses id error.SurfaceHasRoleObject else Ok (EndSurface id))
+  destroyed-by id number named = ap (λ b. if b then refuses id error.SurfaceHasRoleObject else Ok (EndSurface id)) (sym (xdg-there names slots kept r.owned is id number named))
 
   -- ---- a commit
 
@@ -143,12 +151,12 @@ module _ (names : Names) (slots : Slots) (kept : ℕ → Option Kept) (r : Resid
           let xdg = xdg-of names slots kept r.owned is id number k named here in
           ap (effect_for (will_show r id)) xdg.3 ∙ ap (λ (role : Option RoleObject). on_commit (option_map (λ object. object.stage) role) (will_show r id)) (sym xdg.2.stands.role)
 
-  pub committed-by : (id number base object : ℕ) → names.surfaces id ≡ Some number
-      → surface_committed r id ≡ asks_by (λ act. CommitSurface id (effect_by act)) (shell_refusal base (kept_id (kept number)) object) (commit_answer (will_show r id) (kept number))
-  committed-by id number base object named = at (kept number) refl
+  pub committed-by : (id number base object : ℕ) → AreToplevels r.owned.shell → names.surfaces id ≡ Some number
+      → commit_demand r id ≡ asks_by (λ act. CommitTree id) (shell_refusal base (kept_id (kept number)) object) (commit_answer (will_show r id) (kept number))
+  committed-by id number base object top named = ap (λ effect. committed_by (xdg_of id r.owned.shell) id effect) (effect-same r id top) ∙ at (kept number) refl
     where
       by-effect : (x : XdgSurface) (effect : Effect) (full : Bool) → is_full x.serials ≡ full
-          → committed_for (Some x) id effect ≡ asks_by (λ act. CommitSurface id (effect_by act)) (shell_refusal base x.id object) (effect_answer effect x.serials)
+          → committed_by (Some x) id effect ≡ asks_by (λ act. CommitTree id) (shell_refusal base x.id object) (effect_answer effect x.serials)
       by-effect x Stays full e = refl
       by-effect x Unconfigured full e = refl
       by-effect x Maps full e = refl
@@ -157,17 +165,36 @@ module _ (names : Names) (slots : Slots) (kept : ℕ → Option Kept) (r : Resid
       by-effect x Configures false e = rw e refl
 
       at : (o : Option Kept) → kept number ≡ o
-          → committed_for (xdg_of id r.owned.shell) id (effect_for (will_show r id) (xdg_of id r.owned.shell)) ≡ asks_by (λ act. CommitSurface id (effect_by act)) (shell_refusal base (kept_id o) object) (commit_answer (will_show r id) o)
-      at None here = ap (λ (o : Option XdgSurface). committed_for o id (effect_for (will_show r id) o)) (xdg-of-none names slots kept r.owned is id number named here)
+          → committed_by (xdg_of id r.owned.shell) id (effect_for (will_show r id) (xdg_of id r.owned.shell)) ≡ asks_by (λ act. CommitTree id) (shell_refusal base (kept_id o) object) (commit_answer (will_show r id) o)
+      at None here = ap (λ (o : Option XdgSurface). committed_by o id (effect_for (will_show r id) o)) (xdg-of-none names slots kept r.owned is id number named here)
       at (Some k) here =
           let xdg = xdg-of names slots kept r.owned is id number k named here in
           let x = xdg.0 in
           let stands = xdg.2.stands in
-          ap (λ (o : Option XdgSurface). committed_for o id (effect_for (will_show r id) o)) xdg.3
+          ap (λ (o : Option XdgSurface). committed_by o id (effect_for (will_show r id) o)) xdg.3
           ∙ by-effect x (on_commit (stage_of x) (will_show r id)) (is_full x.serials) refl
-          ∙ sym (ap (λ (i : ℕ). asks_by (λ act. CommitSurface id (effect_by act)) (shell_refusal base i object) (effect_answer (on_commit (stage_in k) (will_show r id)) k.serials)) stands.id
-          ∙ ap (λ (role : Option RoleObject). asks_by (λ act. CommitSurface id (effect_by act)) (shell_refusal base x.id object) (effect_answer (on_commit (option_map (λ object. object.stage) role) (will_show r id)) k.serials)) stands.role
-          ∙ ap (λ serials. asks_by (λ act. CommitSurface id (effect_by act)) (shell_refusal base x.id object) (effect_answer (on_commit (stage_of x) (will_show r id)) serials)) stands.serials)
+          ∙ sym (ap (λ (i : ℕ). asks_by (λ act. CommitTree id) (shell_refusal base i object) (effect_answer (on_commit (stage_in k) (will_show r id)) k.serials)) stands.id
+          ∙ ap (λ (role : Option RoleObject). asks_by (λ act. CommitTree id) (shell_refusal base x.id object) (effect_answer (on_commit (option_map (λ object. object.stage) role) (will_show r id)) k.serials)) stands.role
+          ∙ ap (λ serials. asks_by (λ act. CommitTree id) (shell_refusal base x.id object) (effect_answer (on_commit (stage_of x) (will_show r id)) serials)) stands.serials)
+
+  -- an answer tells what it comes to
+  pub accepted-effect : (id number : ℕ) (act : ShellAct) → AreToplevels r.owned.shell → names.surfaces id ≡ Some number → commit_answer (will_show r id) (kept number) ≡ Ok act → effect_of_commit r id ≡ effect_by act
+  accepted-effect id number act top named answer = effect-same r id top ∙ effect-read id number named ∙ at (kept number) answer
+    where
+      by : (effect : Effect) (serials : List ℕ) → effect_answer effect serials ≡ Ok act → effect ≡ effect_by act
+      by Stays serials e = let same : Nothing ≡ act = cc in ap effect_by same
+      by Unconfigured serials e = absurd (cc)
+      by Configures serials e = full (is_full serials) e
+        where
+          full : (b : Bool) → (if b then Err failed.TooMany else Ok (Configure None)) ≡ Ok act → Configures ≡ effect_by act
+          full true e = absurd (cc)
+          full false e = let same : Configure None ≡ act = cc in ap effect_by same
+      by Maps serials e = let same : Map ≡ act = cc in ap effect_by same
+      by Unmaps serials e = let same : Unmap ≡ act = cc in ap effect_by same
+
+      at : (o : Option Kept) → commit_answer (will_show r id) o ≡ Ok act → option_map_or (λ k. on_commit (stage_in k) (will_show r id)) o Stays ≡ effect_by act
+      at None e = let same : Nothing ≡ act = cc in ap effect_by same
+      at (Some k) e = by (on_commit (stage_in k) (will_show r id)) k.serials e
 
   -- ---- xdg_wm_base
 

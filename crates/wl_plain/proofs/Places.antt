@@ -3,10 +3,9 @@ use Rattle.std.proofs.Common.{◌≡◌, ◌≢◌, ℕ, zero, suc, List, [], �
 use Rattle.wl_client.specs.declared.clients.Cause.{Cause}
 use Rattle.wl_client.specs.Peer.{Peer}
 use Rattle.wl_shell.specs.Shell.{Effect, Stays, Unconfigured, Configures, Maps, Unmaps}
-use Rattle.wl_plain.specs.Ask.{Ask, Own, CreateSurface, DestroySurface, AskSurface, CommitSurface, DestroyBase, GetXdgSurface, DestroyXdgSurface, GetToplevel, Acknowledge, ConfigureAgain, DestroyToplevel, Ignore}
 use Rattle.wl_plain.specs.Desktop.{Desktop, Resident, become, become_by, client_at, client_in, place, resident_of, with_client, with_number, with_place}
 use Rattle.wl_plain.specs.Laws.{status_in, status_of}
-use Rattle.wl_plain.specs.Step.{stacked}
+use Rattle.wl_plain.proofs.Simply.{Asking, CommitSurface, DestroySurface, DestroyToplevel, Simple, stacked_simply}
 
 place-same : (rs : List (Option Resident)) (k : ℕ) (x : Option Resident) (r : Resident) → place rs k ≡ Some r → place (with_place k x rs) k ≡ x
 place-same [] k x r h = absurd (cc)
@@ -80,7 +79,7 @@ other-by (Some cause) c other r q d differ = number-other d.clients c other (Som
 pub other-become : (c other : ℕ) (r : Resident) (q : Peer) (d : Desktop) → c ≢ other → client_at other (become c r q d) ≡ client_at other d
 other-become c other r q d differ = other-by q.status c other r q d differ
 
-effect-clients : (c id : ℕ) (effect : Effect) (r : Resident) (d : Desktop) → (stacked c (CommitSurface id effect) r d).clients ≡ d.clients
+effect-clients : (c id : ℕ) (effect : Effect) (r : Resident) (d : Desktop) → (stacked_simply c (CommitSurface id effect) r d).clients ≡ d.clients
 effect-clients c id Stays r d = refl
 effect-clients c id Unconfigured r d = refl
 effect-clients c id Configures r d = refl
@@ -88,17 +87,8 @@ effect-clients c id Maps r d = refl
 effect-clients c id Unmaps r d = refl
 
 -- the stack of toplevels is apart from the clients
-pub stacked-clients : (c : ℕ) (ask : Ask) (r : Resident) (d : Desktop) → (stacked c ask r d).clients ≡ d.clients
-stacked-clients c (Own action) r d = refl
-stacked-clients c (CreateSurface id version) r d = refl
+pub stacked-clients : (c : ℕ) (ask : Simple) (r : Resident) (d : Desktop) → (stacked_simply c ask r d).clients ≡ d.clients
+stacked-clients c (Asking ask) r d = refl
 stacked-clients c (DestroySurface id) r d = refl
-stacked-clients c (AskSurface id request) r d = refl
 stacked-clients c (CommitSurface id effect) r d = effect-clients c id effect r d
-stacked-clients c (DestroyBase id) r d = refl
-stacked-clients c (GetXdgSurface id version base surface) r d = refl
-stacked-clients c (DestroyXdgSurface id) r d = refl
-stacked-clients c (GetToplevel id version xdg) r d = refl
-stacked-clients c (Acknowledge xdg serial) r d = refl
-stacked-clients c (ConfigureAgain xdg) r d = refl
 stacked-clients c (DestroyToplevel id xdg) r d = refl
-stacked-clients c Ignore r d = refl

@@ -31,6 +31,7 @@ use Rattle.wl_plain.specs.Step.{own_changed, with_peer}
 use Rattle.wl_client.specs.Serving.{has_used, keeps_store}
 use Rattle.wl_surface.specs.Surfaces.{is_used}
 use Rattle.wl_plain.proofs.Alone.{as_own, judge-owns}
+use Rattle.wl_plain.proofs.Simply.{Asking}
 use Rattle.wl_plain.proofs.Behind.{changed-status}
 use Rattle.wl_plain.proofs.BridgeBuffers.{nothing-after}
 use Rattle.wl_plain.proofs.BridgeServes.{IsDone, becomes-same, becomes-whole, by-pointer, is-done, kept-still, none-done, nothing-between, settles-to}
@@ -135,7 +136,7 @@ module _ (c : ℕ) (there : Resident) (d : Desktop) (is : client_at c d ≡ Some
   does-alone action r q alive alone told =
       let made : Resident = own_changed action r in
       let new = become c made q d in
-      let first : IsDone (own_answers r.peer.output action) c made d new = is-done (own_answers r.peer.output action) c made there d new is still (changed-status (Own action) r ∙ alive) (q, told, refl) in
+      let first : IsDone (own_answers r.peer.output action) c made d new = is-done (own_answers r.peer.output action) c made there d new is still (changed-status (Asking (Own action)) r ∙ alive) (q, told, refl) in
       let second : IsDone (replies own_only c (Asks (Own action)) r made (all_windows d) d) c made d new =
       subst (λ events. IsDone events c made d new) (sym (own-replies c action r made d (owned-alone action r alone))) first in
       subst (λ e. IsDone (replies own_only c (Asks (Own action)) r made (all_windows d) d) c made e new) (sym (kept-still d still)) second

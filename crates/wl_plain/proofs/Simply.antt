@@ -1,21 +1,121 @@
--- What a message asks of a client that has no more than toplevels, and what becomes of the desktop where nobody points.
-use Rattle.std.specs.Prelude.{ℕ, ◌≡◌, Bool, true, false, if◌then◌else◌, Result, Ok, Err, List, ◌⊎◌}
+-- What comes of a message to a client that has no more than toplevels, and what becomes of the desktop where nobody points.
+use Rattle.std.specs.Prelude.{ℕ, ℤ, ◌+◌, ◌≡◌, ◌==◌, ◌&&◌, Bool, true, false, Option, Some, None, Result, Ok, Err, List, [], ◌∷◌, ◌⊎◌}
 use Rattle.wl_proto.specs.Messages.{Message}
 use Rattle.wl_client.specs.declared.refusals.Refusal.{Refusal}
-use Rattle.wl_client.specs.Judgement.{judged_at}
 use Rattle.wl_client.specs.Peer.{Errs, LacksMemory, Peer, Queues, counted}
-use Rattle.wl_plain.specs.Ask.{Ask}
+use Rattle.wl_client.specs.Told.{Said, id_deleted}
+use Rattle.wl_surface.specs.Request.{Commit}
+use Rattle.wl_surface.specs.Surfaces.{applying, asking, with_change, without_surface}
+use Rattle.wl_shell.specs.Shell.{Effect, Stays, Unconfigured, Configures, Maps, Unmaps, Waiting, Mapped, XdgSurface as Xdg, in_stage, on_commit, stage_of, unmapping, without_role, xdg_at, xdg_of}
+use Rattle.wl_scene.specs.Stacking.{with_mapped, without_surface_of}
+use Rattle.wl_plain.specs.Ask.{Ask, Ignore}
+use Rattle.wl_plain.specs.Demand.{Demand, Asks, EndSurface, CommitTree, EndToplevel}
+use Rattle.wl_plain.specs.Demanding.{demand_of, judge_all}
 use Rattle.wl_plain.specs.Desktop.{Desktop, Resident, become}
 use Rattle.wl_plain.specs.LeftOut.{served_now}
-use Rattle.wl_plain.specs.Step.{answers_to, ask_by, changed_by, stacked, takes_memory, with_peer}
-use Rattle.wl_plain.specs.WlSurface.{refuse_limit}
+use Rattle.wl_plain.specs.Step.{after_surface, answers_to, asked_so_far, changed_by, configured, configures_told, removing, surface_of, takes_memory, with_peer, with_surfaces, xdg_changed}
+use Rattle.wl_plain.specs.Touching.{is_window_at}
+use Rattle.wl_plain.specs.WlSurface.{will_show}
 
-abbrev pub ask_of : Resident → ℕ → ℕ → Message → Result Ask Refusal
-ask_of r object version m = if served_now.requests m.interface m.opcode then refuse_limit else ask_by m.interface r object version m
+-- What a demand comes to there: of surfaces and toplevels that go no more goes with them, and a commit applies its surface alone.
+pub data Simple : Type 0 where
+  Asking : Ask → Simple
+  DestroySurface : ℕ → Simple
+  -- a commit, with what it comes to for the shell
+  CommitSurface : ℕ → Effect → Simple
+  -- a toplevel, and its xdg_surface
+  DestroyToplevel : ℕ → ℕ → Simple
 
--- what a message to an object asks, or the first error that it has
-abbrev pub judge : Resident → ℕ → ℕ → List ℕ → Result Ask Refusal
-judge r object opcode body = judged_at r.peer.objects r.peer.held (λ version m. ask_of r object version m) opcode body (r.peer.objects object)
+-- what a commit comes to for the shell: nothing of a surface without xdg_surface
+abbrev pub effect_for : Bool → Option Xdg → Effect
+effect_for shows None = Stays
+effect_for shows (Some x) = on_commit (stage_of x) shows
+
+abbrev pub effect_of : Resident → ℕ → Effect
+effect_of r surface = effect_for (will_show r surface) (xdg_of surface r.owned.shell)
+
+abbrev pub simple_of : Resident → Demand → Simple
+simple_of r (Asks ask) = Asking ask
+simple_of r (EndSurface id) = DestroySurface id
+simple_of r (CommitTree id) = CommitSurface id (effect_of r id)
+simple_of r (EndToplevel id xdg) = DestroyToplevel id xdg
+simple_of r demand = Asking Ignore
+
+abbrev pub simply : Resident → Result Demand Refusal → Result Simple Refusal
+simply r (Ok demand) = Ok (simple_of r demand)
+simply r (Err refusal) = Err refusal
+
+abbrev pub asks_simply : Result Ask Refusal → Result Simple Refusal
+asks_simply (Ok ask) = Ok (Asking ask)
+asks_simply (Err refusal) = Err refusal
+
+abbrev pub ask_of : Resident → ℕ → ℕ → Message → Result Simple Refusal
+ask_of r object version m = simply r (demand_of served_now r object version m)
+
+-- what a message to an object comes to, or the first error that it has
+abbrev pub judge : Resident → ℕ → ℕ → List ℕ → Result Simple Refusal
+judge r object opcode body = simply r (judge_all served_now r object opcode body)
+
+-- ---- what it changes
+
+abbrev pub committed_on : ℕ → Resident → Resident
+committed_on surface r = with_surfaces (with_change surface (λ s. applying (asking Commit s)) r.owned.surfaces) r
+
+abbrev pub effect_on : ℕ → Effect → Option Xdg → Resident → Resident
+effect_on surface effect None r = r
+effect_on surface Stays (Some x) r = r
+effect_on surface Unconfigured (Some x) r = r
+effect_on surface Configures (Some x) r = configured x.id (xdg_changed x.id (in_stage Waiting) r)
+effect_on surface Maps (Some x) r = xdg_changed x.id (in_stage Mapped) r
+effect_on surface Unmaps (Some x) r = xdg_changed x.id (unmapping (asked_so_far surface r)) r
+
+abbrev pub changed_simply : Simple → Resident → Resident
+changed_simply (Asking ask) r = changed_by ask r
+changed_simply (DestroySurface id) r = removing id (after_surface id r (with_surfaces (without_surface id r.owned.surfaces) r))
+changed_simply (CommitSurface id effect) r = effect_on id effect (xdg_of id r.owned.shell) (after_surface id r (committed_on id r))
+changed_simply (DestroyToplevel id xdg) r = removing id (xdg_changed xdg without_role r)
+
+-- ---- what it does to the stack of toplevels: one that is mapped stands on top; one that is unmapped or goes is taken out
+
+abbrev pub stacked_simply : ℕ → Simple → Resident → Desktop → Desktop
+stacked_simply c (CommitSurface id Maps) r d = record d { standing = with_mapped d.mappings c id d.standing; mappings = d.mappings + 1 }
+stacked_simply c (CommitSurface id Unmaps) r d = record d { standing = without_surface_of c id d.standing }
+stacked_simply c (DestroyToplevel id xdg) r d = record d { standing = without_surface_of c (surface_of (xdg_at xdg r.owned.shell)) d.standing }
+stacked_simply c ask r d = d
+
+-- ---- what it is answered with
+
+abbrev pub told_simply : Simple → Resident → List Said
+told_simply (Asking ask) r = answers_to ask r
+told_simply (DestroySurface id) r = id_deleted id ∷ []
+told_simply (CommitSurface id Configures) r = configures_told r.peer.serial (xdg_of id r.owned.shell)
+told_simply (CommitSurface id effect) r = []
+told_simply (DestroyToplevel id xdg) r = id_deleted id ∷ []
+
+abbrev pub wants_simply : Simple → Bool
+wants_simply (Asking ask) = takes_memory ask
+wants_simply ask = true
+
+-- ---- which window it changes: it is one at most
+
+-- the surface whose window may change: that of a commit, or of a toplevel that goes (wayland.xml, wl_surface.commit; xdg-shell.xml,
+-- xdg_toplevel.destroy)
+abbrev pub touched : Simple → Resident → Option ℕ
+touched (CommitSurface id effect) r = Some id
+touched (DestroyToplevel id xdg) r = Some (surface_of (xdg_at xdg r.owned.shell))
+touched ask r = None
+
+-- the surface of client c that this may be
+abbrev pub is_touched : ℕ → Option ℕ → ℕ → ℕ → Bool
+is_touched c None client surface = false
+is_touched c (Some id) client surface = (client == c) && (surface == id)
+
+-- The surface that the message touches has a window there, before it or after it.
+abbrev pub TouchesThere : ℕ → Simple → Resident → ℤ → ℤ → Desktop → Desktop → Type 0
+TouchesThere c ask r x y old new =
+    (id : ℕ) × (touched ask r ≡ Some id) × ((is_window_at c id x y old ≡ true) ⊎ (is_window_at c id x y new ≡ true))
+
+-- ---- what becomes of the desktop
 
 -- this is told to the client, and it becomes what that leaves of it
 abbrev pub Becomes : (Peer → Type 0) → ℕ → Resident → Desktop → Desktop → Type 0
@@ -26,10 +126,10 @@ WantsOr false Later c r d new = Later
 WantsOr true Later c r d new = Becomes (LacksMemory r.peer) c r d new ⊎ Later
 
 -- what an accepted message asks is done, and then answered
-abbrev pub Acts : Ask → ℕ → Resident → Desktop → Desktop → Type 0
-Acts ask c r d new = WantsOr (takes_memory ask) (Becomes (Queues (answers_to ask r) (changed_by ask r).peer) c (changed_by ask r) (stacked c ask r d) new) c r d new
+abbrev pub Acts : Simple → ℕ → Resident → Desktop → Desktop → Type 0
+Acts ask c r d new = WantsOr (wants_simply ask) (Becomes (Queues (told_simply ask r) (changed_simply ask r).peer) c (changed_simply ask r) (stacked_simply c ask r d) new) c r d new
 
 -- a message is answered, or refused
-abbrev pub Answers : Result Ask Refusal → ℕ → Resident → Desktop → Desktop → Type 0
+abbrev pub Answers : Result Simple Refusal → ℕ → Resident → Desktop → Desktop → Type 0
 Answers (Ok ask) c r d new = Acts ask c (with_peer (counted r.peer) r) d new
 Answers (Err refusal) c r d new = Becomes (Errs refusal r.peer) c r d new

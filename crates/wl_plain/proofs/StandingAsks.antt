@@ -16,23 +16,24 @@ use Rattle.wl_shell.specs.declared.stage.Stage.{Stage}
 use Rattle.wl_shell.specs.declared.stage.Stage.TheVariants as stage
 use Rattle.wl_scene.specs.Lent.{shows_buffer}
 use Rattle.wl_scene.specs.Stacking.{Owned, Standing, is_of, with_mapped, without_surface_of}
-use Rattle.wl_plain.specs.Ask.{Ask, Own, CreateSurface, DestroySurface, AskSurface, CommitSurface, DestroyBase, GetXdgSurface, DestroyXdgSurface, GetToplevel, Acknowledge, ConfigureAgain, DestroyToplevel, Ignore}
+use Rattle.wl_plain.specs.Ask.{Own, CreateSurface, AskSurface, DestroyBase, GetXdgSurface, DestroyXdgSurface, GetToplevel, Acknowledge, ConfigureAgain, Ignore}
 use Rattle.wl_plain.specs.Desktop.{Desktop, Resident}
 use Rattle.wl_plain.specs.Laws.{AreApart}
 use Rattle.wl_plain.specs.Owning.{AllCounts}
 use Rattle.wl_plain.specs.Standing.{AreMapped, is_mapped, is_mapped_at}
-use Rattle.wl_plain.specs.Step.{after_surface, asked_so_far, changed_by, committed_on, effect_on, own_changed, stacked, surface_of, toplevel_given}
-use Rattle.wl_plain.specs.WlSurface.{effect_for, effect_of, will_show}
+use Rattle.wl_plain.specs.Step.{after_surface, asked_so_far, own_changed, surface_of, toplevel_given}
+use Rattle.wl_plain.specs.WlSurface.{will_show}
 use Rattle.wl_plain.proofs.OwningKeys.{found-passes}
 use Rattle.wl_plain.proofs.OwningXdg.{has_surface}
 use Rattle.wl_plain.proofs.StandingClients.{IsAt, IsFound, acknowledging-same, fresh-unmapped, left-else, left-none, mapped-at, mapped-but, mapped-kept, new-unmapped, ready-mapped, stepped-else, stepped-here, stepped-same, unmapped-at, waiting-unmapped}
 use Rattle.wl_plain.proofs.StandingFound.{Finds, FindsBare, FindsXdg, found-so}
 use Rattle.wl_plain.proofs.StandingLists.{apart-left, mapped-another, mapped-apart, mapped-here, without-another, without-here}
 use Rattle.wl_plain.proofs.StandingSurfaces.{committing, history-else, history-left, shown-asked, shown-committed, shown-made, shown-role}
+use Rattle.wl_plain.proofs.Simply.{Asking, CommitSurface, DestroySurface, DestroyToplevel, Simple, changed_simply, committed_on, effect_for, effect_of, effect_on, stacked_simply}
 
 -- the mapped toplevels stand after what is asked, each once
-abbrev pub StandAfter : ℕ → Ask → Resident → Desktop → Type 0
-StandAfter c ask r d = AreMapped c (changed_by ask r).owned (stacked c ask r d).standing × AreApart (stacked c ask r d).standing
+abbrev pub StandAfter : ℕ → Simple → Resident → Desktop → Type 0
+StandAfter c ask r d = AreMapped c (changed_simply ask r).owned (stacked_simply c ask r d).standing × AreApart (stacked_simply c ask r d).standing
 
 own-owned : (action : Action) (r : Resident) → (own_changed action r).owned ≡ r.owned
 own-owned (DestroyBuffer id store) r = refl
@@ -114,7 +115,7 @@ module _ (c : ℕ) (r : Resident) (d : Desktop) (is : AreMapped c r.owned d.stan
     gone_on = after_surface x.surface r (committed_on x.surface r)
 
     abbrev Commits : Effect → Type 0
-    Commits effect = AreMapped c (effect_on x.surface effect (Some x) gone_on).owned (stacked c (CommitSurface x.surface effect) r d).standing × AreApart (stacked c (CommitSurface x.surface effect) r d).standing
+    Commits effect = AreMapped c (effect_on x.surface effect (Some x) gone_on).owned (stacked_simply c (CommitSurface x.surface effect) r d).standing × AreApart (stacked_simply c (CommitSurface x.surface effect) r d).standing
 
     without-apart : AreApart (without_surface_of c x.surface d.standing)
     without-apart = apart-left _ d.standing apart
@@ -132,7 +133,7 @@ module _ (c : ℕ) (r : Resident) (d : Desktop) (is : AreMapped c r.owned d.stan
     by-stage (Some stage.Mapped) true at shows = (still-mapped (ap is_mapped_at at) shows, apart)
 
   abbrev After : ℕ → Effect → Option XdgSurface → Type 0
-  After id effect o = AreMapped c (effect_on id effect o (after_surface id r (committed_on id r))).owned (stacked c (CommitSurface id effect) r d).standing × AreApart (stacked c (CommitSurface id effect) r d).standing
+  After id effect o = AreMapped c (effect_on id effect o (after_surface id r (committed_on id r))).owned (stacked_simply c (CommitSurface id effect) r d).standing × AreApart (stacked_simply c (CommitSurface id effect) r d).standing
 
   -- a surface without xdg_surface doesn't stand
   committed-none : (id : ℕ) → xdg_of id r.owned.shell ≡ None → After id Stays None
@@ -235,21 +236,21 @@ module _ (c : ℕ) (r : Resident) (d : Desktop) (is : AreMapped c r.owned d.stan
       })))
 
 -- What is asked leaves the mapped toplevels of the client standing, where its xdg_surfaces are told apart and all that was committed counts.
-pub stand-after : (c : ℕ) (ask : Ask) (r : Resident) (d : Desktop) → AreToldApart r.owned.shell → ((s : ℕ) (h : History) → history_in s r.owned.surfaces ≡ Some h → AllCounts h)
+pub stand-after : (c : ℕ) (ask : Simple) (r : Resident) (d : Desktop) → AreToldApart r.owned.shell → ((s : ℕ) (h : History) → history_in s r.owned.surfaces ≡ Some h → AllCounts h)
     → AreMapped c r.owned d.standing → AreApart d.standing → Finds ask r → StandAfter c ask r d
-stand-after c (Own action) r d told counts is apart finds = (unchanged c r d is apart (own_changed action r).owned (own-owned action r), apart)
-stand-after c (CreateSurface id version) r d told counts is apart finds = (created c r d is apart id, apart)
+stand-after c (Asking (Own action)) r d told counts is apart finds = (unchanged c r d is apart (own_changed action r).owned (own-owned action r), apart)
+stand-after c (Asking (CreateSurface id version)) r d told counts is apart finds = (created c r d is apart id, apart)
 stand-after c (DestroySurface id) r d told counts is apart finds = (destroyed c r d is apart id finds, apart)
-stand-after c (AskSurface id request) r d told counts is apart finds = (asked c r d is apart id request counts, apart)
+stand-after c (Asking (AskSurface id request)) r d told counts is apart finds = (asked c r d is apart id request counts, apart)
 stand-after c (CommitSurface id effect) r d told counts is apart finds = committed-after c r d is apart id effect told finds
-stand-after c (DestroyBase id) r d told counts is apart finds = (is, apart)
-stand-after c (GetXdgSurface id version base surface) r d told counts is apart finds =
+stand-after c (Asking (DestroyBase id)) r d told counts is apart finds = (is, apart)
+stand-after c (Asking (GetXdgSurface id version base surface)) r d told counts is apart finds =
     (shell-kept c r d is apart (with_new_xdg id base surface r.owned.shell) (λ other. new-unmapped (bare_xdg id base surface) other r.owned.shell refl), apart)
-stand-after c (DestroyXdgSurface id) r d told counts is apart finds = (xdg-destroyed c r d is apart id finds, apart)
-stand-after c (GetToplevel id version xdg) r d told counts is apart finds = (toplevel-made c r d is apart id version xdg finds, apart)
-stand-after c (Acknowledge xdg serial) r d told counts is apart finds =
+stand-after c (Asking (DestroyXdgSurface id)) r d told counts is apart finds = (xdg-destroyed c r d is apart id finds, apart)
+stand-after c (Asking (GetToplevel id version xdg)) r d told counts is apart finds = (toplevel-made c r d is apart id version xdg finds, apart)
+stand-after c (Asking (Acknowledge xdg serial)) r d told counts is apart finds =
     (shell-kept c r d is apart (with_xdg_change xdg (acknowledging serial) r.owned.shell) (λ surface. stepped-same xdg surface (acknowledging serial) r.owned.shell (λ y. refl) (acknowledging-same serial)), apart)
-stand-after c (ConfigureAgain xdg) r d told counts is apart finds =
+stand-after c (Asking (ConfigureAgain xdg)) r d told counts is apart finds =
     (shell-kept c r d is apart (with_xdg_change xdg (configuring r.peer.serial) r.owned.shell) (λ surface. stepped-same xdg surface (configuring r.peer.serial) r.owned.shell (λ y. refl) (λ y. refl)), apart)
 stand-after c (DestroyToplevel id xdg) r d told counts is apart finds = (toplevel-destroyed c r d is apart xdg finds, apart-left _ d.standing apart)
-stand-after c Ignore r d told counts is apart finds = (is, apart)
+stand-after c (Asking Ignore) r d told counts is apart finds = (is, apart)

@@ -9,22 +9,21 @@ use Rattle.wl_surface.specs.Surfaces.{history_in}
 use Rattle.wl_shell.specs.Shell.{Effect, Stays, Unconfigured, Configures, Maps, Unmaps}
 use Rattle.wl_scene.specs.Lent.{AllShow, shows_buffer}
 use Rattle.wl_scene.specs.Stacking.{Owned, Standing, is_of, nothing_owned, without_client}
-use Rattle.wl_plain.specs.Ask.{Ask, CommitSurface, DestroyToplevel}
 use Rattle.wl_plain.specs.Desktop.{Desktop, Resident, become, become_by, client_at, client_in, owned_in, owned_of, resident_of, with_number}
 use Rattle.wl_plain.specs.Laws.{AreApart}
 use Rattle.wl_plain.specs.Standing.{AreMapped, MappedStand}
-use Rattle.wl_plain.specs.Step.{changed_by, stacked}
 use Rattle.wl_plain.proofs.OwningKeys.{differ}
 use Rattle.wl_plain.proofs.Places.{client-become, left_by, number-other, stacked-clients}
 use Rattle.wl_plain.proofs.StandingAsks.{StandAfter}
 use Rattle.wl_plain.proofs.StandingLists.{apart-left, ended-here, ended-other, mapped-other, of-it, without-other}
+use Rattle.wl_plain.proofs.Simply.{CommitSurface, DestroyToplevel, Simple, changed_simply, stacked_simply}
 
 -- ---- one client, where others' toplevels come and go
 
 pub mapped-same : (c : ℕ) (o : Owned) (old new : List Standing) → ((surface : ℕ) → list_any (is_of c surface) new ≡ list_any (is_of c surface) old) → AreMapped c o old → AreMapped c o new
 mapped-same c o old new same is = record { stands = λ surface. same surface ∙ is.stands surface; shows = is.shows }
 
-effect-other : (c other surface id : ℕ) (effect : Effect) (r : Resident) (d : Desktop) → c ≢ other → list_any (is_of other surface) (stacked c (CommitSurface id effect) r d).standing ≡ list_any (is_of other surface) d.standing
+effect-other : (c other surface id : ℕ) (effect : Effect) (r : Resident) (d : Desktop) → c ≢ other → list_any (is_of other surface) (stacked_simply c (CommitSurface id effect) r d).standing ≡ list_any (is_of other surface) d.standing
 effect-other c other surface id Stays r d apart = refl
 effect-other c other surface id Unconfigured r d apart = refl
 effect-other c other surface id Configures r d apart = refl
@@ -32,7 +31,7 @@ effect-other c other surface id Maps r d apart = mapped-other d.mappings c id ot
 effect-other c other surface id Unmaps r d apart = without-other c id other surface d.standing apart
 
 -- a request takes no other client's toplevel away, and brings none
-pub stacked-other : (c other surface : ℕ) (ask : Ask) (r : Resident) (d : Desktop) → c ≢ other → list_any (is_of other surface) (stacked c ask r d).standing ≡ list_any (is_of other surface) d.standing
+pub stacked-other : (c other surface : ℕ) (ask : Simple) (r : Resident) (d : Desktop) → c ≢ other → list_any (is_of other surface) (stacked_simply c ask r d).standing ≡ list_any (is_of other surface) d.standing
 stacked-other c other surface (CommitSurface id effect) r d apart = effect-other c other surface id effect r d apart
 stacked-other c other surface (DestroyToplevel id xdg) r d apart = without-other c _ other surface d.standing apart
 stacked-other c other surface ask r d apart = refl
@@ -88,11 +87,11 @@ become-stand c r there q d is same stand =
     told-stand c r there q d is stand.apart (subst (λ o. AreMapped c o d.standing) (ap owned_of is ∙ sym same) (stand.each c)) (λ other differ. stand.each other)
 
 -- what is asked is done, and told
-pub done-stand : (c : ℕ) (ask : Ask) (r there : Resident) (q : Peer) (d : Desktop) → client_at c d ≡ Some there → StandAfter c ask r d → MappedStand d → MappedStand (become c (changed_by ask r) q (stacked c ask r d))
+pub done-stand : (c : ℕ) (ask : Simple) (r there : Resident) (q : Peer) (d : Desktop) → client_at c d ≡ Some there → StandAfter c ask r d → MappedStand d → MappedStand (become c (changed_simply ask r) q (stacked_simply c ask r d))
 done-stand c ask r there q d is after stand =
-    told-stand c (changed_by ask r) there q (stacked c ask r d) (ap (λ clients. client_in clients c) (stacked-clients c ask r d) ∙ is) after.1 after.0
-    (λ other differ. subst (λ o. AreMapped other o (stacked c ask r d).standing) (sym (ap (λ clients. owned_of (client_in clients other)) (stacked-clients c ask r d)))
-    (mapped-same other (owned_in d other) d.standing (stacked c ask r d).standing (λ surface. stacked-other c other surface ask r d differ) (stand.each other)))
+    told-stand c (changed_simply ask r) there q (stacked_simply c ask r d) (ap (λ clients. client_in clients c) (stacked-clients c ask r d) ∙ is) after.1 after.0
+    (λ other differ. subst (λ o. AreMapped other o (stacked_simply c ask r d).standing) (sym (ap (λ clients. owned_of (client_in clients other)) (stacked-clients c ask r d)))
+    (mapped-same other (owned_in d other) d.standing (stacked_simply c ask r d).standing (λ surface. stacked-other c other surface ask r d differ) (stand.each other)))
 
 -- ---- every surface that stands shows a buffer
 

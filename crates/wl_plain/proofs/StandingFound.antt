@@ -1,11 +1,11 @@
 -- What a request finds of the shell where it is accepted.
 use Rattle.std.proofs.Common.{◌≡◌, ℕ, List, Bool, true, false, Option, Some, None, Result, refl, subst, eq-eqb}
-use Rattle.std.specs.Prelude.{ℤ, pos, ◌==◌, ◌&&◌, ◌||◌, Ok, Err, find, if◌then◌else◌, int_le, is_some, nat_le}
-use Rattle.std.specs.List.{list_all}
+use Rattle.std.specs.Prelude.{ℤ, pos, ◌==◌, ◌&&◌, ◌||◌, Ok, Err, find, if◌then◌else◌, int_le, int_lt, is_some, length, nat_le}
+use Rattle.std.specs.List.{list_all, list_any}
 use Rattle.std.specs.Option.{option_map_or}
 use Rattle.wl_wire.specs.Wire.{Field}
 use Rattle.wl_proto.specs.declared.interface.Interface.{Interface}
-use Rattle.wl_proto.specs.declared.interface.Interface.TheVariants.{WlCompositor, WlSurface, XdgWmBase, XdgSurface, XdgToplevel}
+use Rattle.wl_proto.specs.declared.interface.Interface.TheVariants.{WlDisplay, WlRegistry, WlCallback, WlCompositor, WlRegion, WlSurface, WlShm, WlShmPool, WlBuffer, WlSubcompositor, WlSubsurface, WlOutput, WlSeat, WlPointer, XdgWmBase, XdgPositioner, XdgSurface, XdgToplevel, XdgPopup}
 use Rattle.wl_proto.specs.Messages.{Message}
 use Rattle.wl_proto.specs.Objects.{new_id_in}
 use Rattle.wl_proto.specs.Objects.{objects_in as objects_named}
@@ -15,20 +15,25 @@ use Rattle.wl_proto.specs.declared.error.ProtoError.{ProtoError}
 use Rattle.wl_client.specs.declared.actions.Action.{Action}
 use Rattle.wl_client.specs.declared.refusals.ErrorCode.TheVariants.{Implementation, InvalidMethod, InvalidObject}
 use Rattle.wl_client.specs.declared.refusals.Refusal.{Refusal}
-use Rattle.wl_client.specs.Judgement.{after_new_id, is_free, judged, judged_at, number_in, word_in}
+use Rattle.wl_client.specs.Judgement.{action_of, after_new_id, is_free, judged, judged_at, number_in, rect_in, word_in}
 use Rattle.wl_client.specs.Objects.{Object, Objects, fits}
-use Rattle.wl_client.specs.Peer.{Peer}
+use Rattle.wl_client.specs.Peer.{Peer, known_of}
 use Rattle.wl_client.specs.Told.{display_error}
 use Rattle.wl_shell.specs.Agreement.{AreApart}
-use Rattle.wl_shell.specs.Shell.{Effect, Stays, Unconfigured, Configures, Maps, Unmaps, RoleObject, answers_states, is_full, stage_of, xdg_at, xdg_of, xdg_with}
+use Rattle.wl_shell.specs.Shell.{Effect, Stays, Unconfigured, Configures, Maps, Unmaps, RoleObject, answers_states, is_full, is_waiting, stage_of, xdg_at, xdg_of, xdg_with}
 use Rattle.wl_shell.specs.Shell.{XdgSurface as Xdg}
-use Rattle.wl_plain.specs.Ask.{Ask, Own, CreateSurface, DestroySurface, AskSurface, CommitSurface, DestroyBase, GetXdgSurface, DestroyXdgSurface, GetToplevel, Acknowledge, ConfigureAgain, DestroyToplevel, Ignore, owns}
+use Rattle.wl_plain.specs.Ask.{Ask, Own, CreateSurface, AskSurface, DestroyBase, GetXdgSurface, DestroyXdgSurface, GetToplevel, Acknowledge, ConfigureAgain, Ignore, owns}
+use Rattle.wl_plain.specs.Demand.{Demand, Asks, EndSurface, CommitTree, EndToplevel, Move}
+use Rattle.wl_plain.specs.Demanding.{base_demand, committed_by, demand_by, demand_of, demands, effect_of_commit, judge_all, moved_by_pointer, surface_demand, surface_destroyed, toplevel_demand, toplevel_destroyed, xdg_demand}
 use Rattle.wl_plain.specs.LeftOut.{served_now}
+use Rattle.wl_plain.specs.WlPointer.{seat_demand}
 use Rattle.wl_plain.specs.Desktop.{Resident}
-use Rattle.wl_plain.specs.Step.{ask_by, with_peer}
-use Rattle.wl_plain.proofs.Simply.{ask_of, judge}
-use Rattle.wl_plain.specs.WlSurface.{committed_for, effect_of, surface_ask, surface_destroyed, transform_set}
-use Rattle.wl_plain.specs.XdgShell.{base_ask, configured_again, has_any, is_foreign, is_state, role_of, toplevel_ask, toplevel_ask_of, xdg_ask, xdg_ask_of, xdg_surface_made}
+use Rattle.wl_plain.specs.Step.{with_peer}
+use Rattle.wl_plain.proofs.Simply.{Simple, Asking, DestroySurface, CommitSurface, DestroyToplevel, ask_of, effect_of, judge, simple_of, simply}
+use Rattle.wl_plain.specs.WlSurface.{refuse, refuse_limit, transform_set}
+use Rattle.wl_client.specs.declared.refusals.ErrorCode.TheVariants as error
+use Rattle.wl_surface.specs.Request.{SetWindowGeometry}
+use Rattle.wl_plain.specs.XdgShell.{base_destroyed, configured_again, has_any, is_foreign, is_no_toplevel, is_state, role_of, toplevel_ask, xdg_ask, xdg_ask_of, xdg_surface_made}
 use Rattle.wl_plain.proofs.OwningKeys.{found-by}
 use Rattle.wl_plain.proofs.OwningXdg.{has_role, has_surface, has_xdg, ids-apart, surfaces-apart}
 use Rattle.wl_plain.proofs.StandingClients.{IsFound}
@@ -41,76 +46,87 @@ abbrev pub FindsXdg : ℕ → Resident → Type 0
 FindsXdg id r = (x : Xdg) × (x.id ≡ id) × IsFound x r.owned.shell
 
 -- A surface goes without an xdg_surface, and an xdg_surface without a role object; a commit comes to what the stage says.
-abbrev pub Finds : Ask → Resident → Type 0
+abbrev pub Finds : Simple → Resident → Type 0
 Finds (DestroySurface id) r = xdg_of id r.owned.shell ≡ None
 Finds (CommitSurface id effect) r = effect_of r id ≡ effect
-Finds (DestroyXdgSurface id) r = FindsBare id r
-Finds (GetToplevel id version xdg) r = FindsBare xdg r
+Finds (Asking (DestroyXdgSurface id)) r = FindsBare id r
+Finds (Asking (GetToplevel id version xdg)) r = FindsBare xdg r
 Finds (DestroyToplevel id xdg) r = FindsXdg xdg r
 Finds ask r = Unit {0}
 
--- what is judged leads to an ask that finds this
-abbrev pub Accepts : Result Ask Refusal → Resident → Type 0
-Accepts judged r = (ask : Ask) → judged ≡ Ok ask → Finds ask r
+-- what is judged leads to a demand that finds this
+abbrev pub Accepts : Result Demand Refusal → Resident → Type 0
+Accepts judged r = (demand : Demand) → judged ≡ Ok demand → Finds (simple_of r demand) r
 
-accepted : (a : Ask) (r : Resident) → Finds a r → Accepts (Ok a) r
-accepted a r finds ask e = let same : a ≡ ask = cc in subst (λ b. Finds b r) same finds
+accepted : (a : Demand) (r : Resident) → Finds (simple_of r a) r → Accepts (Ok a) r
+accepted a r finds demand e = let same : a ≡ demand = cc in subst (λ b. Finds (simple_of r b) r) same finds
 
 refused : (refusal : Refusal) (r : Resident) → Accepts (Err refusal) r
-refused refusal r ask e = absurd (cc)
+refused refusal r demand e = absurd (cc)
 
-either : (b : Bool) (x y : Result Ask Refusal) (r : Resident) → (b ≡ true → Accepts x r) → (b ≡ false → Accepts y r) → Accepts (if b then x else y) r
+either : (b : Bool) (x y : Result Demand Refusal) (r : Resident) → (b ≡ true → Accepts x r) → (b ≡ false → Accepts y r) → Accepts (if b then x else y) r
 either true x y r f g = f refl
 either false x y r f g = g refl
 
+asks-either : (b : Bool) (x y : Result Ask Refusal) (r : Resident) → (b ≡ true → Accepts (demands x) r) → (b ≡ false → Accepts (demands y) r) → Accepts (demands (if b then x else y)) r
+asks-either true x y r f g = f refl
+asks-either false x y r f g = g refl
+
+asked : (a : Ask) (r : Resident) → Finds (Asking a) r → Accepts (demands (Ok a)) r
+asked a r finds = accepted (Asks a) r finds
+
+unasked : (refusal : Refusal) (r : Resident) → Accepts (demands (Err refusal)) r
+unasked refusal r = refused refusal r
+
 -- ---- a client's own interfaces, and surfaces
 
-owned-finds : (judged : Result Action Refusal) (r : Resident) → Accepts (owns judged) r
-owned-finds (Ok action) r = accepted (Own action) r tt
+owned-finds : (judged : Result Action Refusal) (r : Resident) → Accepts (demands (owns judged)) r
+owned-finds (Ok action) r = asked (Own action) r tt
 owned-finds (Err refusal) r = refused refusal r
 
 none-there : (o : Option Xdg) → is_some o ≡ false → o ≡ None
 none-there None e = refl
 none-there (Some x) e = absurd (cc)
 
-effect-finds : (r : Resident) (o : Option Xdg) (object : ℕ) (effect : Effect) → effect_of r object ≡ effect → Accepts (committed_for o object effect) r
-effect-finds r None object effect e = accepted (CommitSurface object effect) r e
-effect-finds r (Some x) object Stays e = accepted (CommitSurface object Stays) r e
-effect-finds r (Some x) object Unconfigured e = refused _ r
-effect-finds r (Some x) object Configures e = either (is_full x.serials) _ _ r (λ full. refused _ r) (λ room. accepted (CommitSurface object Configures) r e)
-effect-finds r (Some x) object Maps e = accepted (CommitSurface object Maps) r e
-effect-finds r (Some x) object Unmaps e = accepted (CommitSurface object Unmaps) r e
+effect-finds : (r : Resident) (o : Option Xdg) (object : ℕ) (effect : Effect) → Accepts (committed_by o object effect) r
+effect-finds r None object effect = accepted (CommitTree object) r refl
+effect-finds r (Some x) object Stays = accepted (CommitTree object) r refl
+effect-finds r (Some x) object Unconfigured = refused _ r
+effect-finds r (Some x) object Configures = either (is_full x.serials) _ _ r (λ full. refused _ r) (λ room. accepted (CommitTree object) r refl)
+effect-finds r (Some x) object Maps = accepted (CommitTree object) r refl
+effect-finds r (Some x) object Unmaps = accepted (CommitTree object) r refl
 
 destroyed-finds : (r : Resident) (object : ℕ) → Accepts (surface_destroyed r object) r
 destroyed-finds r object =
-    either (is_some (xdg_of object r.owned.shell)) _ _ r (λ there. refused _ r) (λ none. accepted (DestroySurface object) r (none-there (xdg_of object r.owned.shell) none))
+    either (is_some (xdg_of object r.owned.shell)) _ _ r (λ there. refused _ r) (λ none. accepted (EndSurface object) r (none-there (xdg_of object r.owned.shell) none))
 
-transform-finds : (r : Resident) (object : ℕ) (z : ℤ) → Accepts (transform_set object z) r
-transform-finds r object z = either (int_le (pos 0) z && int_le z (pos 7)) _ _ r (λ fits. accepted (AskSurface object _) r tt) (λ no_transform. refused _ r)
+transform-finds : (r : Resident) (object : ℕ) (z : ℤ) → Accepts (demands (transform_set object z)) r
+transform-finds r object z = asks-either (int_le (pos 0) z && int_le z (pos 7)) _ _ r (λ fits. asked (AskSurface object _) r tt) (λ no_transform. unasked _ r)
 
-surface-finds : (r : Resident) (object opcode : ℕ) (fields : List Field) → Accepts (surface_ask r object opcode fields) r
-surface-finds r object opcode fields =
+surface-finds : (r : Resident) (object version opcode : ℕ) (fields : List Field) → (opcode == 3) ≡ false → Accepts (surface_demand r object version opcode fields) r
+surface-finds r object version opcode fields served =
     either (opcode == 0) _ _ r (λ e. destroyed-finds r object)
-    (λ e. either (opcode == 1) _ _ r (λ e. accepted _ r tt)
-    (λ e. either (opcode == 2) _ _ r (λ e. accepted _ r tt)
-    (λ e. either (opcode == 3) _ _ r (λ e. accepted _ r tt)
-    (λ e. either (opcode == 4) _ _ r (λ e. accepted _ r tt)
-    (λ e. either (opcode == 5) _ _ r (λ e. accepted _ r tt)
-    (λ e. either (opcode == 6) _ _ r (λ e. effect-finds r (xdg_of object r.owned.shell) object (effect_of r object) refl)
+    (λ e. either (opcode == 3) _ _ r (λ frame. absurd (cc))
+    (λ e. either (opcode == 6) _ _ r (λ e. effect-finds r (xdg_of object r.owned.shell) object (effect_of_commit r object))
+    (λ e. asks-either (opcode == 1) _ _ r (λ e. asked _ r tt)
+    (λ e. asks-either (opcode == 2) _ _ r (λ e. asked _ r tt)
+    (λ e. asks-either (opcode == 4) _ _ r (λ e. asked _ r tt)
+    (λ e. asks-either (opcode == 5) _ _ r (λ e. asked _ r tt)
     (λ e. transform-finds r object (number_in 0 fields))))))))
 
 -- ---- the shell
 
-made-finds : (r : Resident) (object version id surface : ℕ) → Accepts (xdg_surface_made r object version id surface) r
+made-finds : (r : Resident) (object version id surface : ℕ) → Accepts (demands (xdg_surface_made r object version id surface)) r
 made-finds r object version id surface =
-    either (is_foreign (role_of r surface) || is_some (xdg_of surface r.owned.shell)) _ _ r (λ other. refused _ r)
-    (λ free. either (has_any r surface) _ _ r (λ full. refused _ r) (λ none. accepted (GetXdgSurface id version object surface) r tt))
+    asks-either (is_foreign (role_of r surface) || is_some (xdg_of surface r.owned.shell)) _ _ r (λ other. unasked _ r)
+    (λ free. asks-either (has_any r surface) _ _ r (λ full. unasked _ r) (λ none. asked (GetXdgSurface id version object surface) r tt))
 
-base-finds : (r : Resident) (object version opcode : ℕ) (fields : List Field) → Accepts (base_ask r object version opcode fields) r
-base-finds r object version opcode fields =
-    either (opcode == 0) _ _ r (λ e. either _ _ _ r (λ used. refused _ r) (λ unused. accepted (DestroyBase object) r tt))
-    (λ e. either (opcode == 1) _ _ r (λ e. refused _ r)
-    (λ e. either (opcode == 2) _ _ r (λ e. made-finds r object version (word_in 0 fields) (word_in 1 fields)) (λ e. accepted Ignore r tt)))
+base-finds : (r : Resident) (object version opcode : ℕ) (fields : List Field) → (opcode == 1) ≡ false → Accepts (base_demand r object version opcode fields) r
+base-finds r object version opcode fields served =
+    either (opcode == 1) _ _ r (λ positioner. absurd (cc))
+    (λ e. asks-either (opcode == 0) (base_destroyed r object) (if opcode == 2 then xdg_surface_made r object version (word_in 0 fields) (word_in 1 fields) else Ok Ignore) r
+    (λ e. asks-either (list_any (λ x. x.base == object) r.owned.shell) _ _ r (λ used. unasked _ r) (λ unused. asked (DestroyBase object) r tt))
+    (λ e. asks-either (opcode == 2) _ _ r (λ e. made-finds r object version (word_in 0 fields) (word_in 1 fields)) (λ e. asked Ignore r tt)))
 
 -- one that is found by any test is found by its id and by its surface
 pub found-so : (r : Resident) (p : Xdg → Bool) (x : Xdg) → AreApart r.owned.shell → find p r.owned.shell ≡ Some x → IsFound x r.owned.shell
@@ -124,83 +140,122 @@ bare : (o : Option RoleObject) → is_some o ≡ false → o ≡ None
 bare None e = refl
 bare (Some object) e = absurd (cc)
 
-xdg-finds : (r : Resident) (object version opcode : ℕ) (fields : List Field) → AreApart r.owned.shell → Accepts (xdg_ask r object version opcode fields) r
-xdg-finds r object version opcode fields apart = at (xdg_at object r.owned.shell) refl
+xdg-finds : (r : Resident) (object version opcode : ℕ) (fields : List Field) → (opcode == 2) ≡ false → AreApart r.owned.shell → Accepts (xdg_demand r object version opcode fields) r
+xdg-finds r object version opcode fields served apart =
+    either (opcode == 2) _ _ r (λ popup. absurd (cc)) (λ e. at (xdg_at object r.owned.shell) refl)
   where
-    some : (x : Xdg) → IsFound x r.owned.shell → Accepts (xdg_ask_of r (Some x) version opcode fields) r
+    some : (x : Xdg) → IsFound x r.owned.shell → Accepts (demands (xdg_ask_of r (Some x) version opcode fields)) r
     some x is =
-        either (opcode == 0) _ _ r (λ e. either (is_some x.role) _ _ r (λ there. refused _ r) (λ none. accepted (DestroyXdgSurface x.id) r (x, refl, is, bare x.role none)))
-        (λ e. either (opcode == 1) _ _ r
-        (λ e. either (is_some x.role) _ _ r (λ there. refused _ r) (λ none. either _ _ _ r (λ other. refused _ r) (λ fits. accepted (GetToplevel _ version x.id) r (x, refl, is, bare x.role none))))
-        (λ e. either (opcode == 2) _ _ r (λ e. refused _ r)
-        (λ e. either (opcode == 3) _ _ r
-        (λ e. either (is_some x.role) _ _ r (λ there. either _ _ _ r (λ fits. accepted (AskSurface x.surface _) r tt) (λ no_size. refused _ r)) (λ none. refused _ r))
-        (λ e. either (is_some x.role) _ _ r (λ there. either _ _ _ r (λ waits. accepted (Acknowledge x.id _) r tt) (λ unknown. refused _ r)) (λ none. refused _ r)))))
+        asks-either (opcode == 0) _ _ r (λ e. asks-either (is_some x.role) _ _ r (λ there. unasked _ r) (λ none. asked (DestroyXdgSurface x.id) r (x, refl, is, bare x.role none)))
+        (λ e. asks-either (opcode == 1) _ _ r
+        (λ e. asks-either (is_some x.role) _ _ r (λ there. unasked _ r) (λ none. asks-either (is_no_toplevel (role_of r x.surface)) (refuse x.base error.Role) (Ok (GetToplevel (word_in 0 fields) version x.id)) r
+        (λ other. unasked _ r) (λ fits. asked (GetToplevel (word_in 0 fields) version x.id) r (x, refl, is, bare x.role none))))
+        (λ e. asks-either (opcode == 3) _ _ r
+        (λ e. asks-either (is_some x.role) _ _ r (λ there. asks-either (int_lt (pos 0) (rect_in fields).w && int_lt (pos 0) (rect_in fields).h) (Ok (AskSurface x.surface (SetWindowGeometry (rect_in fields)))) (refuse x.id error.InvalidSize) r
+        (λ fits. asked (AskSurface x.surface (SetWindowGeometry (rect_in fields))) r tt) (λ no_size. unasked _ r)) (λ none. unasked _ r))
+        (λ e. asks-either (is_some x.role) _ _ r (λ there. asks-either (is_waiting (word_in 0 fields) x.serials) (Ok (Acknowledge x.id (word_in 0 fields))) (refuse x.id error.InvalidSerial) r
+        (λ waits. asked (Acknowledge x.id (word_in 0 fields)) r tt) (λ unknown. unasked _ r)) (λ none. unasked _ r))))
 
-    at : (o : Option Xdg) → xdg_at object r.owned.shell ≡ o → Accepts (xdg_ask_of r o version opcode fields) r
-    at None found = refused (display_error Implementation) r
+    at : (o : Option Xdg) → xdg_at object r.owned.shell ≡ o → Accepts (demands (xdg_ask_of r o version opcode fields)) r
+    at None found = unasked (display_error Implementation) r
     at (Some x) found = some x (found-so r (has_xdg object) x apart found)
 
-again-finds : (r : Resident) (x : Xdg) → Accepts (configured_again x) r
+again-finds : (r : Resident) (x : Xdg) → Accepts (demands (configured_again x)) r
 again-finds r x =
-    either (option_map_or answers_states (stage_of x) false) _ _ r
-    (λ answers. either (is_full x.serials) _ _ r (λ full. refused _ r) (λ room. accepted (ConfigureAgain x.id) r tt))
-    (λ none. accepted Ignore r tt)
+    asks-either (option_map_or answers_states (stage_of x) false) _ _ r
+    (λ answers. asks-either (is_full x.serials) _ _ r (λ full. unasked _ r) (λ room. asked (ConfigureAgain x.id) r tt))
+    (λ none. asked Ignore r tt)
 
-toplevel-finds : (r : Resident) (object opcode : ℕ) → AreApart r.owned.shell → Accepts (toplevel_ask r object opcode) r
-toplevel-finds r object opcode apart = at (xdg_with object r.owned.shell) refl
+toplevel-finds : (r : Resident) (object opcode : ℕ) (fields : List Field) → AreApart r.owned.shell → Accepts (toplevel_demand r object opcode fields) r
+toplevel-finds r object opcode fields apart =
+    either (opcode == 0) _ _ r (λ e. gone (xdg_with object r.owned.shell) refl)
+    (λ e. either (opcode == 5) _ _ r (λ e. moved (xdg_with object r.owned.shell)) (λ e. others (xdg_with object r.owned.shell)))
   where
-    at : (o : Option Xdg) → xdg_with object r.owned.shell ≡ o → Accepts (toplevel_ask_of object o opcode) r
-    at None found = refused (display_error Implementation) r
-    at (Some x) found =
-        either (opcode == 0) (Ok (DestroyToplevel object x.id)) (if is_state opcode then configured_again x else Ok Ignore) r
-        (λ e. accepted (DestroyToplevel object x.id) r (x, refl, found-so r (has_role object) x apart found))
-        (λ e. either (is_state opcode) (configured_again x) (Ok Ignore) r (λ state. again-finds r x) (λ other. accepted Ignore r tt))
+    gone : (o : Option Xdg) → xdg_with object r.owned.shell ≡ o → Accepts (toplevel_destroyed object o) r
+    gone None found = refused (display_error Implementation) r
+    gone (Some x) found = accepted (EndToplevel object x.id) r (x, refl, found-so r (has_role object) x apart found)
+
+    moved : (o : Option Xdg) → Accepts (moved_by_pointer (word_in 1 fields) o) r
+    moved None = refused (display_error Implementation) r
+    moved (Some x) = accepted (Move x.surface (word_in 1 fields)) r tt
+
+    others : (o : Option Xdg) → Accepts (demands (toplevel_ask o opcode)) r
+    others None = unasked (display_error Implementation) r
+    others (Some x) = asks-either (is_state opcode) (configured_again x) (Ok Ignore) r (λ state. again-finds r x) (λ other. asked Ignore r tt)
 
 -- ---- every request
 
-interface-finds : (interface : Interface) (r : Resident) (object version : ℕ) (m : Message) → AreApart r.owned.shell → Accepts (ask_by interface r object version m) r
-interface-finds WlCompositor r object version m apart =
-    either (m.opcode == 0) _ _ r (λ e. either _ _ _ r (λ full. refused _ r) (λ room. accepted (CreateSurface _ version) r tt)) (λ e. owned-finds _ r)
-interface-finds WlSurface r object version m apart = surface-finds r object m.opcode m.fields
-interface-finds XdgWmBase r object version m apart = base-finds r object version m.opcode m.fields
-interface-finds XdgSurface r object version m apart = xdg-finds r object version m.opcode m.fields apart
-interface-finds XdgToplevel r object version m apart = toplevel-finds r object m.opcode apart
-interface-finds interface r object version m apart = owned-finds _ r
+seat-finds : (r : Resident) (object version opcode : ℕ) (fields : List Field) → (opcode == 0) ≡ false → Accepts (seat_demand object version opcode fields) r
+seat-finds r object version opcode fields served = either (opcode == 0) _ _ r (λ pointer. absurd (cc)) (λ e. refused _ r)
 
-pub ask-finds : (r : Resident) (object version : ℕ) (m : Message) (ask : Ask) → AreApart r.owned.shell → ask_of r object version m ≡ Ok ask → Finds ask r
-ask-finds r object version m ask apart e =
-    either (served_now.requests m.interface m.opcode) _ _ r (λ left_out. refused _ r) (λ served. interface-finds m.interface r object version m apart) ask e
+interface-finds : (interface : Interface) (r : Resident) (object version opcode : ℕ) (fields : List Field) → AreApart r.owned.shell → served_now.requests interface opcode ≡ false
+    → Accepts (demand_by interface r object version (record { interface = interface; opcode = opcode; fields = fields })) r
+interface-finds WlCompositor r object version opcode fields apart served =
+    either (opcode == 0) _ _ r
+    (λ e. asks-either (nat_le 256 (length r.owned.surfaces.surfaces)) refuse_limit (Ok (CreateSurface (word_in 0 fields) version)) r (λ full. unasked _ r) (λ room. asked (CreateSurface (word_in 0 fields) version) r tt))
+    (λ e. owned-finds (action_of (known_of r.peer) object version WlCompositor opcode fields) r)
+interface-finds WlSurface r object version opcode fields apart served = surface-finds r object version opcode fields served
+interface-finds WlSubcompositor r object version opcode fields apart served = absurd (cc)
+interface-finds WlSubsurface r object version opcode fields apart served = absurd (cc)
+interface-finds WlSeat r object version opcode fields apart served = seat-finds r object version opcode fields served
+interface-finds WlPointer r object version opcode fields apart served = absurd (cc)
+interface-finds XdgWmBase r object version opcode fields apart served = base-finds r object version opcode fields served
+interface-finds XdgPositioner r object version opcode fields apart served = absurd (cc)
+interface-finds XdgSurface r object version opcode fields apart served = xdg-finds r object version opcode fields served apart
+interface-finds XdgToplevel r object version opcode fields apart served = toplevel-finds r object opcode fields apart
+interface-finds XdgPopup r object version opcode fields apart served = absurd (cc)
+interface-finds WlDisplay r object version opcode fields apart served = owned-finds (action_of (known_of r.peer) object version WlDisplay opcode fields) r
+interface-finds WlRegistry r object version opcode fields apart served = owned-finds (action_of (known_of r.peer) object version WlRegistry opcode fields) r
+interface-finds WlCallback r object version opcode fields apart served = owned-finds (action_of (known_of r.peer) object version WlCallback opcode fields) r
+interface-finds WlRegion r object version opcode fields apart served = owned-finds (action_of (known_of r.peer) object version WlRegion opcode fields) r
+interface-finds WlShm r object version opcode fields apart served = owned-finds (action_of (known_of r.peer) object version WlShm opcode fields) r
+interface-finds WlShmPool r object version opcode fields apart served = owned-finds (action_of (known_of r.peer) object version WlShmPool opcode fields) r
+interface-finds WlBuffer r object version opcode fields apart served = owned-finds (action_of (known_of r.peer) object version WlBuffer opcode fields) r
+interface-finds WlOutput r object version opcode fields apart served = owned-finds (action_of (known_of r.peer) object version WlOutput opcode fields) r
+
+demand-finds : (r : Resident) (object version : ℕ) (m : Message) → AreApart r.owned.shell → Accepts (demand_of served_now r object version m) r
+demand-finds r object version m apart =
+    either (served_now.requests m.interface m.opcode) _ _ r (λ left_out. refused _ r) (λ served. interface-finds m.interface r object version m.opcode m.fields apart served)
 
 -- ---- every message
 
-id-finds : (r : Resident) (objects : Objects) (held : ℕ) (new : Option NewId) (asked : Result Ask Refusal) → Accepts asked r → Accepts (after_new_id objects held new asked) r
+id-finds : (r : Resident) (objects : Objects) (held : ℕ) (new : Option NewId) (asked : Result Demand Refusal) → Accepts asked r → Accepts (after_new_id objects held new asked) r
 id-finds r objects held None asked finds = finds
 id-finds r objects held (Some new) asked finds =
     either (is_free objects new.id) (if nat_le 8192 held then Err (display_error Implementation) else asked) (Err (display_error InvalidObject)) r
     (λ free. either (nat_le 8192 held) (Err (display_error Implementation)) asked r (λ full. refused (display_error Implementation) r) (λ room. finds))
     (λ used. refused (display_error InvalidObject) r)
 
-pub judge-finds : (r : Resident) (object opcode : ℕ) (body : List ℕ) → AreApart r.owned.shell → Accepts (judge r object opcode body) r
-judge-finds r object opcode body apart = at (r.peer.objects object)
+judged-finds : (r : Resident) (object opcode : ℕ) (body : List ℕ) → AreApart r.owned.shell → Accepts (judge_all served_now r object opcode body) r
+judged-finds r object opcode body apart = at (r.peer.objects object)
   where
-    by : (version : ℕ) (decoded : Result Message ProtoError) → Accepts (judged r.peer.objects r.peer.held (λ m. ask_of r object version m) decoded) r
+    by : (version : ℕ) (decoded : Result Message ProtoError) → Accepts (judged r.peer.objects r.peer.held (λ m. demand_of served_now r object version m) decoded) r
     by version (Err error) = refused (display_error InvalidMethod) r
     by version (Ok m) =
-        let asked = ask_of r object version m in
+        let asked = demand_of served_now r object version m in
         either (list_all (fits r.peer.objects) (objects_named m)) (after_new_id r.peer.objects r.peer.held (new_id_in m) asked) (Err (display_error InvalidMethod)) r
-        (λ fit. id-finds r r.peer.objects r.peer.held (new_id_in m) asked (λ ask e. ask-finds r object version m ask apart e))
+        (λ fit. id-finds r r.peer.objects r.peer.held (new_id_in m) asked (demand-finds r object version m apart))
         (λ unfit. refused (display_error InvalidMethod) r)
 
-    at : (o : Option Object) → Accepts (judged_at r.peer.objects r.peer.held (λ version m. ask_of r object version m) opcode body o) r
+    at : (o : Option Object) → Accepts (judged_at r.peer.objects r.peer.held (λ version m. demand_of served_now r object version m) opcode body o) r
     at None = refused (display_error InvalidObject) r
     at (Some o) = by o.version (decoded o.interface o.version opcode body)
 
+simply-finds : (r : Resident) (judged : Result Demand Refusal) (ask : Simple) → Accepts judged r → simply r judged ≡ Ok ask → Finds ask r
+simply-finds r (Ok demand) ask finds e = let same : simple_of r demand ≡ ask = cc in subst (λ b. Finds b r) same (finds demand refl)
+simply-finds r (Err refusal) ask finds e = absurd (cc)
+
+pub ask-finds : (r : Resident) (object version : ℕ) (m : Message) (ask : Simple) → AreApart r.owned.shell → ask_of r object version m ≡ Ok ask → Finds ask r
+ask-finds r object version m ask apart e = simply-finds r (demand_of served_now r object version m) ask (demand-finds r object version m apart) e
+
+pub judge-finds : (r : Resident) (object opcode : ℕ) (body : List ℕ) → AreApart r.owned.shell → (ask : Simple) → judge r object opcode body ≡ Ok ask → Finds ask r
+judge-finds r object opcode body apart ask e = simply-finds r (judge_all served_now r object opcode body) ask (judged-finds r object opcode body apart) e
+
 -- what is told to a client leaves what a request finds
-pub finds-peer : (ask : Ask) (p : Peer) (r : Resident) → Finds ask r → Finds ask (with_peer p r)
+pub finds-peer : (ask : Simple) (p : Peer) (r : Resident) → Finds ask r → Finds ask (with_peer p r)
 finds-peer (DestroySurface id) p r finds = finds
 finds-peer (CommitSurface id effect) p r finds = finds
-finds-peer (DestroyXdgSurface id) p r finds = finds
-finds-peer (GetToplevel id version xdg) p r finds = finds
+finds-peer (Asking (DestroyXdgSurface id)) p r finds = finds
+finds-peer (Asking (GetToplevel id version xdg)) p r finds = finds
 finds-peer (DestroyToplevel id xdg) p r finds = finds
 finds-peer ask p r finds = tt

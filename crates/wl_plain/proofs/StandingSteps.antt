@@ -10,7 +10,6 @@ use Rattle.wl_surface.specs.Kept.{Slots}
 use Rattle.wl_shell.specs.Kept.{Kept}
 use Rattle.wl_scene.specs.Stacking.{nothing_owned, without_client}
 use Rattle.wl_plain.specs.declared.answers.Done.{Done}
-use Rattle.wl_plain.specs.Ask.{Ask}
 use Rattle.wl_plain.specs.Desktop.{Desktop, Resident, arrival, client_at, client_in, empty, owned_in, owned_of, place, with_client, with_number}
 use Rattle.wl_plain.specs.Owning.{IsOwned, Names}
 use Rattle.wl_plain.specs.LeftOut.{served_now}
@@ -25,17 +24,18 @@ use Rattle.wl_plain.proofs.Places.{number-other}
 use Rattle.wl_plain.proofs.StandingAsks.{StandAfter, stand-after}
 use Rattle.wl_plain.proofs.StandingDesks.{become-stand, done-stand, each-mapped, ended-apart, ended-mapped, ended-stay, nothing-mapped}
 use Rattle.wl_plain.proofs.StandingFound.{Finds, finds-peer, judge-finds}
+use Rattle.wl_plain.proofs.Simply.{Simple}
 
 module _ (c : ℕ) (there : Resident) (d : Desktop) (is : client_at c d ≡ Some there) (names : Names) (slots : Slots) (kept : ℕ → Option Kept) (owned : IsOwned names slots kept there.owned) (stand : MappedStand d) where
   -- ---- a message
 
-  asks-find : (split : Split) (ask : Ask) (p : Peer) → AsksBy there split ask → Finds ask (with_peer p there)
+  asks-find : (split : Split) (ask : Simple) (p : Peer) → AsksBy there split ask → Finds ask (with_peer p there)
   asks-find (Whole object opcode size) ask p asks = finds-peer ask p there (judge-finds there object opcode _ owned.shell.apart ask asks)
   asks-find Bad ask p asks = absurd asks
   asks-find More ask p asks = absurd asks
 
   -- an accepted request is done
-  asked-stand : (ask : Ask) (p : Peer) → AsksBy there (split_of there.peer.rest) ask → StandAfter c ask (with_peer p there) d
+  asked-stand : (ask : Simple) (p : Peer) → AsksBy there (split_of there.peer.rest) ask → StandAfter c ask (with_peer p there) d
   asked-stand ask p asks =
       stand-after c ask (with_peer p there) d owned.shell.apart owned.surfaces.counts (subst (λ o. AreMapped c o d.standing) (ap owned_of is) (stand.each c)) stand.apart
       (asks-find (split_of there.peer.rest) ask p asks)

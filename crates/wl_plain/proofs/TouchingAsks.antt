@@ -12,17 +12,17 @@ use Rattle.wl_shell.specs.Shell.{Effect, Stays, Unconfigured, Configures, Maps, 
 use Rattle.wl_shell.specs.Shell.{XdgSurface as Xdg}
 use Rattle.wl_scene.specs.Stacking.{Standing, is_of}
 use Rattle.wl_scene.specs.Windows.{mapping_place}
-use Rattle.wl_plain.specs.Ask.{Ask, Own, CreateSurface, DestroySurface, AskSurface, CommitSurface, DestroyBase, GetXdgSurface, DestroyXdgSurface, GetToplevel, Acknowledge, ConfigureAgain, DestroyToplevel, Ignore}
+use Rattle.wl_plain.specs.Ask.{Own, CreateSurface, AskSurface, DestroyBase, GetXdgSurface, DestroyXdgSurface, GetToplevel, Acknowledge, ConfigureAgain, Ignore}
 use Rattle.wl_plain.specs.Desktop.{Desktop, Resident}
 use Rattle.wl_plain.specs.Owning.{AllCounts}
 use Rattle.wl_plain.specs.Standing.{AreMapped, is_mapped}
-use Rattle.wl_plain.specs.Step.{changed_by, effect_on, stacked, surface_of, toplevel_given}
-use Rattle.wl_plain.specs.Touching.{is_touched, touched}
+use Rattle.wl_plain.specs.Step.{surface_of, toplevel_given}
 use Rattle.wl_plain.proofs.Stacks.{and-both}
 use Rattle.wl_plain.proofs.StandingFound.{Finds}
 use Rattle.wl_plain.proofs.StandingSurfaces.{committing, history-else, history-left, shown-role}
 use Rattle.wl_plain.proofs.Touching.{StaysAt, asked-stays, gone-stays, history-gone, made-stays, same-stays}
 use Rattle.wl_plain.proofs.TouchingWindows.{stands_else}
+use Rattle.wl_plain.proofs.Simply.{Asking, CommitSurface, DestroySurface, DestroyToplevel, Simple, changed_simply, effect_on, is_touched, stacked_simply, touched}
 
 -- ---- what a client owns
 
@@ -44,20 +44,20 @@ given-links id xdg None r = refl
 given-links id xdg (Some x) r = refl
 
 -- a request links no surfaces
-pub asked-links : (ask : Ask) (r : Resident) → (changed_by ask r).owned.surfaces.links ≡ r.owned.surfaces.links
-asked-links (Own action) r = refl
-asked-links (CreateSurface id version) r = refl
+pub asked-links : (ask : Simple) (r : Resident) → (changed_simply ask r).owned.surfaces.links ≡ r.owned.surfaces.links
+asked-links (Asking (Own action)) r = refl
+asked-links (Asking (CreateSurface id version)) r = refl
 asked-links (DestroySurface id) r = refl
-asked-links (AskSurface id request) r = refl
+asked-links (Asking (AskSurface id request)) r = refl
 asked-links (CommitSurface id effect) r = ap (λ (all : Surfaces). all.links) (effect-surfaces id effect (xdg_of id r.owned.shell) _)
-asked-links (DestroyBase id) r = refl
-asked-links (GetXdgSurface id version base surface) r = refl
-asked-links (DestroyXdgSurface id) r = refl
-asked-links (GetToplevel id version xdg) r = given-links id xdg (xdg_at xdg r.owned.shell) r
-asked-links (Acknowledge xdg serial) r = refl
-asked-links (ConfigureAgain xdg) r = refl
+asked-links (Asking (DestroyBase id)) r = refl
+asked-links (Asking (GetXdgSurface id version base surface)) r = refl
+asked-links (Asking (DestroyXdgSurface id)) r = refl
+asked-links (Asking (GetToplevel id version xdg)) r = given-links id xdg (xdg_at xdg r.owned.shell) r
+asked-links (Asking (Acknowledge xdg serial)) r = refl
+asked-links (Asking (ConfigureAgain xdg)) r = refl
 asked-links (DestroyToplevel id xdg) r = refl
-asked-links Ignore r = refl
+asked-links (Asking Ignore) r = refl
 
 module _ (c : ℕ) (r : Resident) (standing : List Standing) (is : AreMapped c r.owned standing) (counts : (s : ℕ) (h : History) → history_in s r.owned.surfaces ≡ Some h → AllCounts h) where
   -- this surface stays, where the client has these surfaces now
@@ -82,29 +82,29 @@ module _ (c : ℕ) (r : Resident) (standing : List Standing) (is : AreMapped c r
   apart-from id surface other e =
       absurd (cc (other, and-both (c == c) (surface == id) (eq-eqb c c refl) (eq-eqb surface id (sym e))))
 
-  committed-stays : (id surface : ℕ) (effect : Effect) → is_touched c (Some id) c surface ≡ false → StaysIn surface (changed_by (CommitSurface id effect) r).owned.surfaces
+  committed-stays : (id surface : ℕ) (effect : Effect) → is_touched c (Some id) c surface ≡ false → StaysIn surface (changed_simply (CommitSurface id effect) r).owned.surfaces
   committed-stays id surface effect other =
-      same-in surface (changed_by (CommitSurface id effect) r).owned.surfaces
+      same-in surface (changed_simply (CommitSurface id effect) r).owned.surfaces
       (ap (λ all. history_in surface all) (effect-surfaces id effect (xdg_of id r.owned.shell) _)
       ∙ history-else id committing (λ s. refl) r.owned.surfaces surface (apart-from id surface other))
 
   -- Of a surface that isn't touched the same counts, where it stands, and no damage was applied to it.
-  pub asked-surfaces-stay : (ask : Ask) (surface : ℕ) → Finds ask r → is_touched c (touched ask r) c surface ≡ false → StaysIn surface (changed_by ask r).owned.surfaces
-  asked-surfaces-stay (Own action) surface finds other = same-in surface r.owned.surfaces refl
-  asked-surfaces-stay (CreateSurface id version) surface finds other =
+  pub asked-surfaces-stay : (ask : Simple) (surface : ℕ) → Finds ask r → is_touched c (touched ask r) c surface ≡ false → StaysIn surface (changed_simply ask r).owned.surfaces
+  asked-surfaces-stay (Asking (Own action)) surface finds other = same-in surface r.owned.surfaces refl
+  asked-surfaces-stay (Asking (CreateSurface id version)) surface finds other =
       made-stays (list_any (is_of c surface) standing) id surface r.owned.surfaces (λ there. is.shows surface (sym (is.stands surface) ∙ there))
   asked-surfaces-stay (DestroySurface id) surface finds other = destroyed-stays id surface finds
-  asked-surfaces-stay (AskSurface id request) surface finds other = asked-stays (list_any (is_of c surface) standing) id surface request r.owned.surfaces counts
+  asked-surfaces-stay (Asking (AskSurface id request)) surface finds other = asked-stays (list_any (is_of c surface) standing) id surface request r.owned.surfaces counts
   asked-surfaces-stay (CommitSurface id effect) surface finds other = committed-stays id surface effect other
-  asked-surfaces-stay (DestroyBase id) surface finds other = same-in surface r.owned.surfaces refl
-  asked-surfaces-stay (GetXdgSurface id version base of) surface finds other = same-in surface r.owned.surfaces refl
-  asked-surfaces-stay (DestroyXdgSurface id) surface finds other = same-in surface r.owned.surfaces refl
-  asked-surfaces-stay (GetToplevel id version xdg) surface finds other =
+  asked-surfaces-stay (Asking (DestroyBase id)) surface finds other = same-in surface r.owned.surfaces refl
+  asked-surfaces-stay (Asking (GetXdgSurface id version base of)) surface finds other = same-in surface r.owned.surfaces refl
+  asked-surfaces-stay (Asking (DestroyXdgSurface id)) surface finds other = same-in surface r.owned.surfaces refl
+  asked-surfaces-stay (Asking (GetToplevel id version xdg)) surface finds other =
       same-in surface (toplevel_given id xdg (xdg_at xdg r.owned.shell) r).owned.surfaces (given-history id xdg surface (xdg_at xdg r.owned.shell) r)
-  asked-surfaces-stay (Acknowledge xdg serial) surface finds other = same-in surface r.owned.surfaces refl
-  asked-surfaces-stay (ConfigureAgain xdg) surface finds other = same-in surface r.owned.surfaces refl
+  asked-surfaces-stay (Asking (Acknowledge xdg serial)) surface finds other = same-in surface r.owned.surfaces refl
+  asked-surfaces-stay (Asking (ConfigureAgain xdg)) surface finds other = same-in surface r.owned.surfaces refl
   asked-surfaces-stay (DestroyToplevel id xdg) surface finds other = same-in surface r.owned.surfaces refl
-  asked-surfaces-stay Ignore surface finds other = same-in surface r.owned.surfaces refl
+  asked-surfaces-stay (Asking Ignore) surface finds other = same-in surface r.owned.surfaces refl
 
 -- ---- the stack of toplevels
 
@@ -125,9 +125,9 @@ left-twice q xs = left-within q q (λ x out. out) xs
 left-last : {X : Type 0} (q : X → Bool) (xs : List X) (x : X) → q x ≡ false → filter q (xs ++ x ∷ []) ≡ filter q xs
 left-last q xs x out = filter-append q xs (x ∷ []) ∙ ap (λ b. filter q xs ++ cond b (x ∷ []) []) out ∙ append-nil (filter q xs)
 
-abbrev OthersStay : ℕ → Ask → Resident → Desktop → Type 0
+abbrev OthersStay : ℕ → Simple → Resident → Desktop → Type 0
 OthersStay c ask r d =
-    filter (stands_else (is_touched c (touched ask r))) d.standing ≡ filter (stands_else (is_touched c (touched ask r))) (stacked c ask r d).standing
+    filter (stands_else (is_touched c (touched ask r))) d.standing ≡ filter (stands_else (is_touched c (touched ask r))) (stacked_simply c ask r d).standing
 
 effect-others : (c id : ℕ) (effect : Effect) (r : Resident) (d : Desktop) → OthersStay c (CommitSurface id effect) r d
 effect-others c id Stays r d = refl
@@ -139,7 +139,7 @@ effect-others c id Maps r d =
 effect-others c id Unmaps r d = sym (left-twice (stands_else (is_touched c (Some id))) d.standing)
 
 -- the other toplevels stand in the same order
-pub asked-others-stay : (c : ℕ) (ask : Ask) (r : Resident) (d : Desktop) → OthersStay c ask r d
+pub asked-others-stay : (c : ℕ) (ask : Simple) (r : Resident) (d : Desktop) → OthersStay c ask r d
 asked-others-stay c (CommitSurface id effect) r d = effect-others c id effect r d
 asked-others-stay c (DestroyToplevel id xdg) r d = sym (left-twice (stands_else (is_touched c (touched (DestroyToplevel id xdg) r))) d.standing)
 asked-others-stay c ask r d = refl
@@ -158,8 +158,8 @@ not-others c id s e = at (s.client == c) e
     at true e = refl
     at false e = absurd (cc)
 
-abbrev ClientsStay : ℕ → Ask → Resident → Desktop → Type 0
-ClientsStay c ask r d = filter (of_others c) d.standing ≡ filter (of_others c) (stacked c ask r d).standing
+abbrev ClientsStay : ℕ → Simple → Resident → Desktop → Type 0
+ClientsStay c ask r d = filter (of_others c) d.standing ≡ filter (of_others c) (stacked_simply c ask r d).standing
 
 effect-clients-stay : (c id : ℕ) (effect : Effect) (r : Resident) (d : Desktop) → ClientsStay c (CommitSurface id effect) r d
 effect-clients-stay c id Stays r d = refl
@@ -170,7 +170,7 @@ effect-clients-stay c id Maps r d =
 effect-clients-stay c id Unmaps r d = sym (left-within (λ s. not (is_of c id s)) (of_others c) (not-others c id) d.standing)
 
 -- the toplevels of other clients stand in the same order
-pub asked-clients-stay : (c : ℕ) (ask : Ask) (r : Resident) (d : Desktop) → ClientsStay c ask r d
+pub asked-clients-stay : (c : ℕ) (ask : Simple) (r : Resident) (d : Desktop) → ClientsStay c ask r d
 asked-clients-stay c (CommitSurface id effect) r d = effect-clients-stay c id effect r d
 asked-clients-stay c (DestroyToplevel id xdg) r d =
     let surface = surface_of (xdg_at xdg r.owned.shell) in

@@ -8,7 +8,6 @@ use Rattle.wl_client.specs.declared.clients.Cause.{Cause}
 use Rattle.wl_client.specs.Peer.{Peer}
 use Rattle.wl_surface.specs.Kept.{Slots}
 use Rattle.wl_shell.specs.Kept.{Kept}
-use Rattle.wl_plain.specs.Ask.{Ask, CommitSurface, DestroyToplevel}
 use Rattle.wl_plain.specs.Desktop.{Desktop, Resident, become, client_at, client_in, owned_in, owned_of}
 use Rattle.wl_plain.specs.Laws.{status_in}
 use Rattle.wl_plain.specs.Moments.{marks_of_toplevels}
@@ -18,22 +17,23 @@ use Rattle.wl_plain.specs.NoMore.{NoMore}
 use Rattle.wl_plain.specs.Whole.{Serves}
 use Rattle.wl_plain.proofs.BridgeBack.{AsksBy, message-by}
 use Rattle.wl_plain.specs.Standing.{AreMapped, MappedStand}
-use Rattle.wl_plain.specs.Step.{changed_by, stacked, with_peer}
-use Rattle.wl_plain.specs.Touching.{TouchesThere, has_window_at, touched}
+use Rattle.wl_plain.specs.Step.{with_peer}
+use Rattle.wl_plain.specs.Touching.{has_window_at}
 use Rattle.wl_plain.proofs.Places.{stacked-clients, status-become}
 use Rattle.wl_plain.proofs.Stacks.{differ}
 use Rattle.wl_plain.proofs.StandingFound.{Finds, finds-peer, judge-finds}
 use Rattle.wl_plain.proofs.TouchingSteps.{asked-end-touches, asked-touches, end-touches, told-marks-nothing}
+use Rattle.wl_plain.proofs.Simply.{CommitSurface, DestroyToplevel, Simple, TouchesThere, changed_simply, stacked_simply, touched}
 
 -- The client ended, and the point lies in a window that it had; or it lives, and the point lies in a window of the surface that its message
 -- touched, before it or after it.
 abbrev pub MarkedBy : ℕ → Resident → ℤ → ℤ → Desktop → Desktop → Type 0
 MarkedBy c r x y old new =
     ((is_some (status_in c new) ≡ true) × (has_window_at c x y old ≡ true))
-    ⊎ ((status_in c new ≡ None) × (ask : Ask) × AsksBy r (split_of r.peer.rest) ask × TouchesThere c ask r x y old new)
+    ⊎ ((status_in c new ≡ None) × (ask : Simple) × AsksBy r (split_of r.peer.rest) ask × TouchesThere c ask r x y old new)
 
 -- what a message touches doesn't hang on what is told to its client
-pub touched-peer : (ask : Ask) (p : Peer) (r : Resident) → touched ask (with_peer p r) ≡ touched ask r
+pub touched-peer : (ask : Simple) (p : Peer) (r : Resident) → touched ask (with_peer p r) ≡ touched ask r
 touched-peer (CommitSurface id effect) p r = refl
 touched-peer (DestroyToplevel id xdg) p r = refl
 touched-peer ask p r = refl
@@ -43,13 +43,13 @@ module _ (c : ℕ) (there : Resident) (d : Desktop) (is : client_at c d ≡ Some
   here-mapped : AreMapped c there.owned d.standing
   here-mapped = subst (λ o. AreMapped c o d.standing) (ap owned_of is) (stand.each c)
 
-  done-status : (ask : Ask) (p q : Peer) → status_in c (become c (changed_by ask (with_peer p there)) q (stacked c ask (with_peer p there) d)) ≡ q.status
+  done-status : (ask : Simple) (p q : Peer) → status_in c (become c (changed_simply ask (with_peer p there)) q (stacked_simply c ask (with_peer p there) d)) ≡ q.status
   done-status ask p q =
-      status-become c (changed_by ask (with_peer p there)) q (stacked c ask (with_peer p there) d) there
+      status-become c (changed_simply ask (with_peer p there)) q (stacked_simply c ask (with_peer p there) d) there
       (ap (λ rs. client_in rs c) (stacked-clients c ask (with_peer p there) d) ∙ is)
 
   -- what is asked finds what it needs
-  asks-find : (split : Split) (ask : Ask) (p : Peer) → AsksBy there split ask → Finds ask (with_peer p there)
+  asks-find : (split : Split) (ask : Simple) (p : Peer) → AsksBy there split ask → Finds ask (with_peer p there)
   asks-find (Whole object opcode size) ask p asks = finds-peer ask p there (judge-finds there object opcode _ owned.shell.apart ask asks)
   asks-find Bad ask p asks = absurd asks
   asks-find More ask p asks = absurd asks
@@ -69,13 +69,13 @@ module _ (c : ℕ) (there : Resident) (d : Desktop) (is : client_at c d ≡ Some
         at (Some cause) over f = inl (ap (λ s. is_some s) (status-become c (with_peer p there) q d there is ∙ over), end-touches c there d is unlinked stand.apart (with_peer p there) q cause over x y f)
 
     -- what becomes of the desktop where this is done
-    abbrev done : Ask → Peer → Peer → Desktop
-    done ask p q = become c (changed_by ask (with_peer p there)) q (stacked c ask (with_peer p there) d)
+    abbrev done : Simple → Peer → Peer → Desktop
+    done ask p q = become c (changed_simply ask (with_peer p there)) q (stacked_simply c ask (with_peer p there) d)
 
-    there-so : (ask : Ask) (p q : Peer) → TouchesThere c ask (with_peer p there) x y d (done ask p q) → TouchesThere c ask there x y d (done ask p q)
+    there-so : (ask : Simple) (p q : Peer) → TouchesThere c ask (with_peer p there) x y d (done ask p q) → TouchesThere c ask there x y d (done ask p q)
     there-so ask p q touches = (touches.0, sym (touched-peer ask p there) ∙ touches.1, touches.2)
 
-    done-point : (ask : Ask) → AsksBy there (split_of there.peer.rest) ask → (p q : Peer) → IsMarkedSo (done ask p q)
+    done-point : (ask : Simple) → AsksBy there (split_of there.peer.rest) ask → (p q : Peer) → IsMarkedSo (done ask p q)
     done-point ask asks p q = at q.status refl
       where
         at : (s : Option Cause) → q.status ≡ s → IsMarkedSo (done ask p q)

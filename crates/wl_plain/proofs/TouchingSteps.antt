@@ -9,14 +9,12 @@ use Rattle.wl_surface.specs.State.{History}
 use Rattle.wl_surface.specs.Surfaces.{history_in}
 use Rattle.wl_scene.specs.Stacking.{Owned, is_of, windows_on, without_client}
 use Rattle.wl_scene.specs.Windows.{Window, contains}
-use Rattle.wl_plain.specs.Ask.{Ask}
 use Rattle.wl_plain.specs.Desktop.{Desktop, Resident, become, become_by, client_at, client_in, owned_in, owned_of, resident_of, windows_in, with_client}
 use Rattle.wl_plain.specs.Laws.{AreApart}
 use Rattle.wl_plain.specs.Moments.{marks_of_toplevels}
 use Rattle.wl_plain.specs.Owning.{AllCounts}
 use Rattle.wl_plain.specs.Standing.{AreMapped}
-use Rattle.wl_plain.specs.Step.{changed_by, stacked}
-use Rattle.wl_plain.specs.Touching.{TouchesThere, any_window_at, has_window_at, is_touched, is_window_at, touched}
+use Rattle.wl_plain.specs.Touching.{any_window_at, has_window_at, is_window_at}
 use Rattle.wl_plain.proofs.Places.{number-other, number-same, stacked-clients}
 use Rattle.wl_plain.proofs.Stacks.{and-left, differ}
 use Rattle.wl_plain.proofs.StandingLists.{any-gone}
@@ -25,6 +23,7 @@ use Rattle.wl_plain.proofs.Touching.{StaysAt, desktops-touch, same-stays}
 use Rattle.wl_plain.proofs.TouchingAsks.{asked-clients-stay, asked-links, asked-others-stay, asked-surfaces-stay, left-twice, of_others}
 use Rattle.wl_plain.proofs.TouchingMarks.{either-of, is_else}
 use Rattle.wl_plain.proofs.TouchingWindows.{stands_else, windows-else}
+use Rattle.wl_plain.proofs.Simply.{Simple, TouchesThere, changed_simply, is_touched, stacked_simply, touched}
 
 -- no surface passes
 abbrev pub none_of : ℕ → ℕ → Bool
@@ -100,10 +99,10 @@ module _ (c : ℕ) (there : Resident) (d : Desktop) (at_c : client_at c d ≡ So
 
   -- ---- a message
 
-  module _ (ask : Ask) (r : Resident) (q : Peer) (same : r.owned ≡ there.owned) (alive : q.status ≡ None) (x y : ℤ) where
+  module _ (ask : Simple) (r : Resident) (q : Peer) (same : r.owned ≡ there.owned) (alive : q.status ≡ None) (x y : ℤ) where
     -- what becomes of the desktop
     abbrev pub done : Desktop
-    done = become c (changed_by ask r) q (stacked c ask r d)
+    done = become c (changed_simply ask r) q (stacked_simply c ask r d)
 
     abbrev Touches : Desktop → Option ℕ → Type 0
     Touches new t = (any_window_at (is_touched c t) x y (windows_in d) || any_window_at (is_touched c t) x y (windows_in new)) ≡ true
@@ -118,19 +117,19 @@ module _ (c : ℕ) (there : Resident) (d : Desktop) (at_c : client_at c d ≡ So
 
     module _ (is : AreMapped c r.owned d.standing) (counts : (s : ℕ) (h : History) → history_in s r.owned.surfaces ≡ Some h → AllCounts h) (finds : Finds ask r) where
       stays-here : (surface : ℕ) → is_touched c (touched ask r) c surface ≡ false
-          → StaysAt (list_any (is_of c surface) d.standing) (history_in surface there.owned.surfaces) (history_in surface (changed_by ask r).owned.surfaces)
+          → StaysAt (list_any (is_of c surface) d.standing) (history_in surface there.owned.surfaces) (history_in surface (changed_simply ask r).owned.surfaces)
       stays-here surface other =
-          subst (λ (o : Owned). StaysAt (list_any (is_of c surface) d.standing) (history_in surface o.surfaces) (history_in surface (changed_by ask r).owned.surfaces)) same
+          subst (λ (o : Owned). StaysAt (list_any (is_of c surface) d.standing) (history_in surface o.surfaces) (history_in surface (changed_simply ask r).owned.surfaces)) same
           (asked-surfaces-stay c r d.standing is counts ask surface finds other)
 
       -- What an accepted message of a client that lives marks at least lies in a window of the surface that it touches, before it or after it.
       asked-touches-any : marks_of_toplevels d done x y ≡ true → Touches done (touched ask r)
       asked-touches-any = by q.status alive
         where
-          by : (s : Option Cause) → s ≡ None → marks_of_toplevels d (become_by s c (changed_by ask r) q (stacked c ask r d)) x y ≡ true
-              → Touches (become_by s c (changed_by ask r) q (stacked c ask r d)) (touched ask r)
+          by : (s : Option Cause) → s ≡ None → marks_of_toplevels d (become_by s c (changed_simply ask r) q (stacked_simply c ask r d)) x y ≡ true
+              → Touches (become_by s c (changed_simply ask r) q (stacked_simply c ask r d)) (touched ask r)
           by None e f =
-              after-touches (is_touched c (touched ask r)) (changed_by ask r) q (stacked c ask r d) (stacked-clients c ask r d)
+              after-touches (is_touched c (touched ask r)) (changed_simply ask r) q (stacked_simply c ask r d) (stacked-clients c ask r d)
               (asked-links ask r ∙ ap (λ (o : Owned). o.surfaces.links) (same ∙ sym (ap owned_of at_c)) ∙ unlinked c)
               (asked-others-stay c ask r d) stays-here x y f
           by (Some cause) e f = absurd (cc)
@@ -187,6 +186,6 @@ module _ (c : ℕ) (there : Resident) (d : Desktop) (at_c : client_at c d ≡ So
   end-touches r q cause over x y = ends-by q d refl refl x y r cause over
 
   -- so does that of one that ends as it is answered
-  pub asked-end-touches : (ask : Ask) (r : Resident) (q : Peer) (cause : Cause) → q.status ≡ Some cause → (x y : ℤ)
-      → marks_of_toplevels d (become c (changed_by ask r) q (stacked c ask r d)) x y ≡ true → has_window_at c x y d ≡ true
-  asked-end-touches ask r q cause over x y = ends-by q (stacked c ask r d) (stacked-clients c ask r d) (asked-clients-stay c ask r d) x y (changed_by ask r) cause over
+  pub asked-end-touches : (ask : Simple) (r : Resident) (q : Peer) (cause : Cause) → q.status ≡ Some cause → (x y : ℤ)
+      → marks_of_toplevels d (become c (changed_simply ask r) q (stacked_simply c ask r d)) x y ≡ true → has_window_at c x y d ≡ true
+  asked-end-touches ask r q cause over x y = ends-by q (stacked_simply c ask r d) (stacked-clients c ask r d) (asked-clients-stay c ask r d) x y (changed_simply ask r) cause over

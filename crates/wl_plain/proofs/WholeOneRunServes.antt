@@ -138,7 +138,7 @@ effect-clients Unmaps true c surface d = refl
 effect-clients Unmaps false c surface d = refl
 
 demand-clients : (c : ℕ) (demand : Demand) (r : Resident) (windows : List Window) (d : Desktop) → (stacked_for c demand r windows d).clients ≡ d.clients
-demand-clients c (Asks ask) r windows d = stacked-clients c ask r d
+demand-clients c (Asks ask) r windows d = refl
 demand-clients c (EndSurface id) r windows d = refl
 demand-clients c (AskFrame id version surface) r windows d = refl
 demand-clients c (CommitTree surface) r windows d = effect-clients (effect_of_commit r surface) (is_toplevel _) c surface d

@@ -49,7 +49,7 @@ commit-left Unconfigured toplevel c other surface d differ = (refl, refl)
 commit-left Configures toplevel c other surface d differ = (refl, refl)
 
 stacked_for-left : (c other : ℕ) (demand : Demand) (r : Resident) (windows : List Window) (d : Desktop) → c ≢ other → IsLeft other d (stacked_for c demand r windows d)
-stacked_for-left c other (Asks ask) r windows d differ = stacked-left c other ask r d differ
+stacked_for-left c other (Asks ask) r windows d differ = (refl, refl)
 stacked_for-left c other (CommitTree surface) r windows d differ =
     commit-left (effect_of_commit r surface) (is_toplevel (xdg_of surface r.owned.shell)) c other surface d differ
 stacked_for-left c other (EndToplevel id xdg) r windows d differ =

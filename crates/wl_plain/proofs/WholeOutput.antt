@@ -13,7 +13,7 @@ use Rattle.wl_shell.specs.Shell.{Effect, Stays, Unconfigured, Configures, Maps, 
 use Rattle.wl_scene.specs.Pointer.{Target, is_down, is_press}
 use Rattle.wl_scene.specs.Windows.{Window}
 use Rattle.wl_plain.specs.declared.answers.Done.{Done}
-use Rattle.wl_plain.specs.Ask.{Ask, Own, CreateSurface, DestroySurface, AskSurface, CommitSurface, DestroyBase, GetXdgSurface, DestroyXdgSurface, GetToplevel, Acknowledge, ConfigureAgain, DestroyToplevel, Ignore}
+use Rattle.wl_plain.specs.Ask.{Ask, Own, CreateSurface, AskSurface, DestroyBase, GetXdgSurface, DestroyXdgSurface, GetToplevel, Acknowledge, ConfigureAgain, Ignore}
 use Rattle.wl_plain.specs.Changing.{changed_for, grab_holder, is_toplevel, stacked_by, stacked_for}
 use Rattle.wl_plain.specs.Demand.{Demand, Asks, EndSurface, AskFrame, CommitTree, EndObject, GetSubsurface, EndSubsurface, SetMode, GetPointer, MakeCursor, CreatePositioner, EndPositioner, SetPositioner, GetPopup, Grab, EndPopup, EndToplevel, Move}
 use Rattle.wl_plain.specs.Demanding.{effect_of_commit}
@@ -21,7 +21,7 @@ use Rattle.wl_plain.specs.Desktop.{Desktop, Resident, arrival, become, become_by
 use Rattle.wl_plain.specs.LeftOut.{LeftOut}
 use Rattle.wl_plain.specs.Settling.{EndsAndSettles, EndsFirst, Enters, Leaves, MovesUnless, Moving, Settles, SettlesAll, SettlesEnds, Strike, Tells, TellsAt, TellsUnless, after_status, becomes, ended_all, ended_at, ended_by, is_settled, target_now, unstruck}
 use Rattle.wl_plain.specs.Stacked.{all_windows}
-use Rattle.wl_plain.specs.Step.{stacked, with_peer}
+use Rattle.wl_plain.specs.Step.{with_peer}
 use Rattle.wl_plain.specs.Steps.{Act, Connect, Feed, Store, Leave, Tick, Send, Close, Motion, Button, ConnectsAt, lowest}
 use Rattle.wl_plain.specs.Whole.{Answers, Becomes, ChangesAt, Dismisses, DismissesUnless, Does, FeedsAt, Happens, IsFedAt, LeavesAt, MotionSettles, PressedSo, PressesIf, Reaches, ReleasesIf, ServesAt, StopsAt, Takes, TellsButton, TellsFrames, TellsMotion, WantsOr, after_why, done_for, hit_now, is_hit_of, point_in, pointed, raised_by, wants_memory, with_press}
 
@@ -105,25 +105,6 @@ last-same mid new h = ends-same (SettlesAll 32) (settles-same 32) mid.struck mid
 
 -- ---- messages
 
-asked-same : (c : ℕ) (ask : Ask) (r : Resident) (d : Desktop) → Same d (stacked c ask r d)
-asked-same c (CommitSurface id Stays) r d = refl
-asked-same c (CommitSurface id Unconfigured) r d = refl
-asked-same c (CommitSurface id Configures) r d = refl
-asked-same c (CommitSurface id Maps) r d = refl
-asked-same c (CommitSurface id Unmaps) r d = refl
-asked-same c (Own action) r d = refl
-asked-same c (CreateSurface id version) r d = refl
-asked-same c (DestroySurface id) r d = refl
-asked-same c (AskSurface id request) r d = refl
-asked-same c (DestroyBase id) r d = refl
-asked-same c (GetXdgSurface id version base surface) r d = refl
-asked-same c (DestroyXdgSurface id) r d = refl
-asked-same c (GetToplevel id version xdg) r d = refl
-asked-same c (Acknowledge xdg serial) r d = refl
-asked-same c (ConfigureAgain xdg) r d = refl
-asked-same c (DestroyToplevel id xdg) r d = refl
-asked-same c Ignore r d = refl
-
 commit-same : (effect : Effect) (toplevel : Bool) (c surface : ℕ) (d : Desktop) → Same d (stacked_by effect toplevel c surface d)
 commit-same Maps true c surface d = refl
 commit-same Unmaps true c surface d = refl
@@ -134,7 +115,7 @@ commit-same Unconfigured toplevel c surface d = refl
 commit-same Configures toplevel c surface d = refl
 
 stacked-same : (c : ℕ) (demand : Demand) (r : Resident) (windows : List Window) (d : Desktop) → Same d (stacked_for c demand r windows d)
-stacked-same c (Asks ask) r windows d = asked-same c ask r d
+stacked-same c (Asks ask) r windows d = refl
 stacked-same c (CommitTree surface) r windows d = commit-same (effect_of_commit r surface) (is_toplevel (xdg_of surface r.owned.shell)) c surface d
 stacked-same c (EndToplevel id xdg) r windows d = refl
 stacked-same c (EndSurface id) r windows d = refl

@@ -24,50 +24,27 @@ use Rattle.wl_scene.specs.Windows.{Window}
 use Rattle.wl_plain.specs.Ask.{Ask}
 use Rattle.wl_plain.specs.Changing.{after_all, callbacks_of, changed_for, drawing, effect_done, grab_allowed, grabbed, has_focus, in_rising_order, is_held_elsewhere, is_latest, is_toplevel, mode_set, parent_allows, parent_of, popup_given_to, stacked_by, stacked_for, tree_committed, with_kept_move, without_callbacks, without_child}
 use Rattle.wl_plain.specs.Demand.{Demand, Asks, EndSurface, AskFrame, CommitTree, EndObject, GetSubsurface, EndSubsurface, SetMode, GetPointer, MakeCursor, CreatePositioner, EndPositioner, SetPositioner, GetPopup, Grab, EndPopup, EndToplevel, Move}
-use Rattle.wl_plain.specs.Demanding.{ask_demand, commit_demand, demand_by, demand_of, demands, effect_of_commit, judge_all, moved_by_pointer}
+use Rattle.wl_plain.specs.Demanding.{commit_demand, demand_by, demand_of, demands, effect_of_commit, judge_all, moved_by_pointer}
 use Rattle.wl_plain.specs.Desktop.{Callback, Desktop, Resident, client_at, client_in, with_client}
 use Rattle.wl_plain.specs.LeftOut.{LeftOut}
 use Rattle.wl_plain.specs.Popups.{popup_at}
 use Rattle.wl_plain.specs.Replies.{commit_told, configure_told, new_pointer_told, own_answers, popups_done, releases_unless, replies, role_told}
 use Rattle.wl_plain.specs.Stacked.{all_windows}
-use Rattle.wl_plain.specs.Step.{ask_by, making, removing, stacked, with_peer, with_surfaces, xdg_configured}
+use Rattle.wl_plain.specs.Step.{making, removing, with_peer, with_surfaces, xdg_configured}
 use Rattle.wl_plain.specs.Whole.{done_for}
 use Rattle.wl_plain.specs.WlSubsurface.{demand_by_link, link_of_subsurface, past_limit}
 use Rattle.wl_plain.specs.XdgPopup.{popup_asked, popup_demand_of}
-use Rattle.wl_plain.specs.XdgShell.{xdg_ask_of}
-use Rattle.wl_plain.proofs.Behind.{answers-behind, changed-behind, stacked-behind, with_behind}
+use Rattle.wl_plain.specs.XdgShell.{xdg_ask, xdg_ask_of}
+use Rattle.wl_plain.proofs.Behind.{answers-behind, changed-behind, with_behind}
 use Rattle.wl_plain.proofs.Places.{stacked-clients}
 use Rattle.wl_plain.proofs.WholePiecesPlaces.{holder-longer, longer_client, longer_in, windows-longer}
+use Rattle.wl_plain.proofs.Simply.{Asking}
 
 -- ---- what a message asks
 
 xdg-asks : (x : Option Xdg) (r : Resident) (version opcode : ℕ) (fields : List Field) (rest : List ℕ) → xdg_ask_of (with_behind rest r) x version opcode fields ≡ xdg_ask_of r x version opcode fields
 xdg-asks None r version opcode fields rest = refl
 xdg-asks (Some x) r version opcode fields rest = refl
-
-asks-by : (interface : Interface) (r : Resident) (object version : ℕ) (m : Message) (rest : List ℕ) → ask_by interface (with_behind rest r) object version m ≡ ask_by interface r object version m
-asks-by WlDisplay r object version m rest = refl
-asks-by WlRegistry r object version m rest = refl
-asks-by WlCallback r object version m rest = refl
-asks-by WlCompositor r object version m rest = refl
-asks-by WlRegion r object version m rest = refl
-asks-by WlSurface r object version m rest = refl
-asks-by WlShm r object version m rest = refl
-asks-by WlShmPool r object version m rest = refl
-asks-by WlBuffer r object version m rest = refl
-asks-by WlSubcompositor r object version m rest = refl
-asks-by WlSubsurface r object version m rest = refl
-asks-by WlOutput r object version m rest = refl
-asks-by WlSeat r object version m rest = refl
-asks-by WlPointer r object version m rest = refl
-asks-by XdgWmBase r object version m rest = refl
-asks-by XdgPositioner r object version m rest = refl
-asks-by XdgSurface r object version m rest = xdg-asks (xdg_at object r.owned.shell) r version m.opcode m.fields rest
-asks-by XdgToplevel r object version m rest = refl
-asks-by XdgPopup r object version m rest = refl
-
-asks : (r : Resident) (object version : ℕ) (m : Message) (rest : List ℕ) → ask_demand (with_behind rest r) object version m ≡ ask_demand r object version m
-asks r object version m rest = ap (λ (ask : Result Ask Refusal). demands ask) (asks-by m.interface r object version m rest)
 
 link-asks : (l : Option Link) (r : Resident) (object opcode : ℕ) (fields : List Field) (rest : List ℕ)
     → demand_by_link (with_behind rest r) object opcode fields l ≡ demand_by_link r object opcode fields l
@@ -85,31 +62,27 @@ popup-asks (Some x) r object opcode fields rest = refl
 
 demand-by : (interface : Interface) (r : Resident) (object version : ℕ) (m : Message) (rest : List ℕ)
     → demand_by interface (with_behind rest r) object version m ≡ demand_by interface r object version m
-demand-by WlDisplay r object version m rest = asks r object version m rest
-demand-by WlRegistry r object version m rest = asks r object version m rest
-demand-by WlCallback r object version m rest = asks r object version m rest
-demand-by WlCompositor r object version m rest = asks r object version m rest
-demand-by WlRegion r object version m rest = asks r object version m rest
-demand-by WlSurface r object version m rest =
-    ap (λ (asked : Result Demand Refusal). if m.opcode == 3 then Ok (AskFrame (word_in 0 m.fields) version object) else (if m.opcode == 6 then commit_demand r object else asked))
-    (asks r object version m rest)
-demand-by WlShm r object version m rest = asks r object version m rest
-demand-by WlShmPool r object version m rest = asks r object version m rest
-demand-by WlBuffer r object version m rest = asks r object version m rest
+demand-by WlDisplay r object version m rest = refl
+demand-by WlRegistry r object version m rest = refl
+demand-by WlCallback r object version m rest = refl
+demand-by WlCompositor r object version m rest = refl
+demand-by WlRegion r object version m rest = refl
+demand-by WlSurface r object version m rest = refl
+demand-by WlShm r object version m rest = refl
+demand-by WlShmPool r object version m rest = refl
+demand-by WlBuffer r object version m rest = refl
 demand-by WlSubcompositor r object version m rest = refl
 demand-by WlSubsurface r object version m rest =
     ap (λ (asked : Result Demand Refusal). if m.opcode == 0 then Ok (EndSubsurface object) else asked) (link-asks (link_of_subsurface object r) r object m.opcode m.fields rest)
-demand-by WlOutput r object version m rest = asks r object version m rest
+demand-by WlOutput r object version m rest = refl
 demand-by WlSeat r object version m rest = refl
 demand-by WlPointer r object version m rest = refl
-demand-by XdgWmBase r object version m rest =
-    ap (λ (asked : Result Demand Refusal). if m.opcode == 1 then Ok (CreatePositioner (word_in 0 m.fields) version) else asked) (asks r object version m rest)
+demand-by XdgWmBase r object version m rest = refl
 demand-by XdgPositioner r object version m rest = refl
 demand-by XdgSurface r object version m rest =
-    ap (λ (asked : Result Demand Refusal). if m.opcode == 2 then asked else ask_demand (with_behind rest r) object version m) (popup-asked (xdg_at object r.owned.shell) r version m.fields rest)
-    ∙ ap (λ (asked : Result Demand Refusal). if m.opcode == 2 then popup_asked r (xdg_at object r.owned.shell) version m.fields else asked) (asks r object version m rest)
-demand-by XdgToplevel r object version m rest =
-    ap (λ (asked : Result Demand Refusal). if m.opcode == 5 then moved_by_pointer (word_in 1 m.fields) (xdg_with object r.owned.shell) else asked) (asks r object version m rest)
+    ap (λ (asked : Result Demand Refusal). if m.opcode == 2 then asked else demands (xdg_ask (with_behind rest r) object version m.opcode m.fields)) (popup-asked (xdg_at object r.owned.shell) r version m.fields rest)
+    ∙ ap (λ (asked : Result Ask Refusal). if m.opcode == 2 then popup_asked r (xdg_at object r.owned.shell) version m.fields else demands asked) (xdg-asks (xdg_at object r.owned.shell) r version m.opcode m.fields rest)
+demand-by XdgToplevel r object version m rest = refl
 demand-by XdgPopup r object version m rest = popup-asks (xdg_with object r.owned.shell) r object m.opcode m.fields rest
 
 module _ (left : LeftOut) where
@@ -175,7 +148,7 @@ module _ (c : ℕ) (more : List ℕ) where
 
   -- the same is done
   pub done-behind : (demand : Demand) (r : Resident) (d : Desktop) (rest : List ℕ) → changed_for c demand (with_behind rest r) (longer_in c more d) ≡ with_behind rest (changed_for c demand r d)
-  done-behind (Asks ask) r d rest = changed-behind ask r rest
+  done-behind (Asks ask) r d rest = changed-behind (Asking ask) r rest
   done-behind (EndSurface id) r d rest =
       let bare : Resident = after_all r (with_surfaces (destroyed_in id r.owned.surfaces) (record r { subsurfaces = map (without_child id) r.subsurfaces })) in
       ap (λ (p : Peer). removing id (with_peer p (without_callbacks (callbacks_of id r) bare))) (without-behind (callbacks_of id r) bare.peer rest)
@@ -266,9 +239,7 @@ module _ (c : ℕ) (more : List ℕ) where
 
   stacks : (demand : Demand) (r : Resident) (windows : List Window) (d : Desktop) (rest : List ℕ)
       → stacked_for c demand (with_behind rest r) windows (longer_in c more d) ≡ longer_in c more (stacked_for c demand r windows d)
-  stacks (Asks ask) r windows d rest =
-      sym (stacked-behind c ask r rest (longer_client true more (client_at c d)) d)
-      ∙ ap (λ (clients : List (Option Resident)). with_client c (longer_client true more (client_in clients c)) (stacked c ask r d)) (sym (stacked-clients c ask r d))
+  stacks (Asks ask) r windows d rest = refl
   stacks (EndSurface id) r windows d rest = refl
   stacks (AskFrame id version surface) r windows d rest = refl
   stacks (CommitTree surface) r windows d rest = commit-stacks (effect_of_commit r surface) (is_toplevel (xdg_of surface r.owned.shell)) surface d

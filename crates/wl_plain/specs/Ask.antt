@@ -1,20 +1,16 @@
--- What an accepted message asks of the desktop.
+-- What an accepted message asks that touches no more than its own client.
 use Rattle.std.specs.Prelude.{ℕ, Result, Ok, Err}
 use Rattle.wl_client.specs.declared.actions.Action.{Action}
 use Rattle.wl_client.specs.declared.refusals.Refusal.{Refusal}
 use Rattle.wl_surface.specs.Request.{Request}
-use Rattle.wl_shell.specs.Shell.{Effect}
 
 pub data Ask : Type 0 where
   -- what is asked of a client's own interfaces
   Own : Action → Ask
   -- a new surface, with its version
   CreateSurface : ℕ → ℕ → Ask
-  DestroySurface : ℕ → Ask
   -- of a surface, what is pending until its next commit
   AskSurface : ℕ → Request → Ask
-  -- a commit, with what it comes to for the shell
-  CommitSurface : ℕ → Effect → Ask
   DestroyBase : ℕ → Ask
   -- a new xdg_surface, with its version, by an xdg_wm_base, of a surface
   GetXdgSurface : ℕ → ℕ → ℕ → ℕ → Ask
@@ -25,8 +21,6 @@ pub data Ask : Type 0 where
   Acknowledge : ℕ → ℕ → Ask
   -- the toplevel of an xdg_surface is configured again
   ConfigureAgain : ℕ → Ask
-  -- a toplevel, and its xdg_surface
-  DestroyToplevel : ℕ → ℕ → Ask
   -- what has no effect
   Ignore : Ask
 

@@ -21,7 +21,7 @@ use Rattle.wl_plain.specs.Demand.{Demand, Asks, EndSurface, AskFrame, CommitTree
 use Rattle.wl_plain.specs.Demanding.{effect_of_commit}
 use Rattle.wl_plain.specs.Desktop.{Callback, Desktop, Resident, Subsurface}
 use Rattle.wl_plain.specs.Popups.{Popped, dismissing, orphaning, parent_corner, popped_of, popup_at, popup_changed, popups_of}
-use Rattle.wl_plain.specs.Step.{asked_of, asked_so_far, changed_by, configured, letting_go, making, removing, stacked, surface_of, with_peer, with_shell, with_surfaces, xdg_changed}
+use Rattle.wl_plain.specs.Step.{asked_of, asked_so_far, changed_by, configured, letting_go, making, removing, surface_of, with_peer, with_shell, with_surfaces, xdg_changed}
 
 -- ---- surfaces
 
@@ -276,7 +276,6 @@ moving_from c surface serial windows p =
     if is_serial serial p.hold && is_focus_in c surface p.focus windows then record p { move = Some (record { client = c; surface = surface }) } else p
 
 abbrev pub stacked_for : ℕ → Demand → Resident → List Window → Desktop → Desktop
-stacked_for c (Asks ask) r windows d = stacked c ask r d
 stacked_for c (CommitTree surface) r windows d = stacked_by (effect_of_commit r surface) (is_toplevel (xdg_of surface r.owned.shell)) c surface d
 stacked_for c (EndToplevel id xdg) r windows d = record d { standing = without_surface_of c (surface_of (xdg_at xdg r.owned.shell)) d.standing }
 stacked_for c (Move surface serial) r windows d = record d { pointer = moving_from c surface serial windows d.pointer }

@@ -138,7 +138,7 @@ shell_refusal base xdg object failed.TooMany = display_error error.Implementatio
 shell_refusal base xdg object failed.Memory = display_error error.NoMemory
 
 -- what an answer leads to
-abbrev pub asks_by : {X : Type 0} → (X → Ask) → (ShellError → Refusal) → Result X ShellError → Result Ask Refusal
+abbrev pub asks_by : {X Y : Type 0} → (X → Y) → (ShellError → Refusal) → Result X ShellError → Result Y Refusal
 asks_by ask refusal (Ok x) = Ok (ask x)
 asks_by ask refusal (Err e) = Err (refusal e)
 

@@ -1,4 +1,4 @@
--- One message of one client: what it asks of the desktop, or why it is refused, and what is changed and told where it asks no more.
+-- What an accepted message that touches no more than its own client changes, and with what it is answered.
 use Rattle.std.specs.Prelude.{ℕ, ◌+◌, ◌==◌, ◌&&◌, Bool, true, false, not, if◌then◌else◌, Option, Some, None, Result, List, [], ◌∷◌, length, filter, fold, pos}
 use Rattle.std.specs.Option.{option_map, option_map_or}
 use Rattle.wl_wire.specs.Wire.{Word, Number, Block}
@@ -20,25 +20,10 @@ use Rattle.wl_shell.specs.declared.stage.Stage.TheVariants.{Waiting, Mapped}
 use Rattle.wl_shell.specs.Shell.{Effect, Stays, Unconfigured, Configures, Maps, Unmaps, RoleObject, Shell, XdgSurface as Xdg, acknowledging, configuring, in_stage, new_toplevel, next_serial, unmapping, without_role, xdg_at, xdg_of, without_xdg}
 use Rattle.wl_shell.specs.Shell.{with_change as with_xdg_change, with_new as with_new_xdg}
 use Rattle.wl_scene.specs.Stacking.{with_mapped, without_surface_of}
-use Rattle.wl_plain.specs.Ask.{Ask, Own, CreateSurface, DestroySurface, AskSurface, CommitSurface, DestroyBase, GetXdgSurface, DestroyXdgSurface, GetToplevel, Acknowledge, ConfigureAgain, DestroyToplevel, Ignore, owns}
+use Rattle.wl_plain.specs.Ask.{Ask, Own, CreateSurface, AskSurface, DestroyBase, GetXdgSurface, DestroyXdgSurface, GetToplevel, Acknowledge, ConfigureAgain, Ignore, owns}
 use Rattle.wl_plain.specs.Desktop.{Desktop, Resident}
 use Rattle.wl_plain.specs.WlSurface.{surface_ask, surface_created}
 use Rattle.wl_plain.specs.XdgShell.{base_ask, toplevel_ask, xdg_ask}
-
--- the request's own errors, and what it asks
-abbrev pub own_ask : Resident → ℕ → ℕ → Message → Result Ask Refusal
-own_ask r object version m = owns (action_of (known_of r.peer) object version m.interface m.opcode m.fields)
-
-abbrev pub compositor_ask : Resident → ℕ → ℕ → Message → Result Ask Refusal
-compositor_ask r object version m = if m.opcode == 0 then surface_created r (word_in 0 m.fields) version else own_ask r object version m
-
-abbrev pub ask_by : Interface → Resident → ℕ → ℕ → Message → Result Ask Refusal
-ask_by WlCompositor r object version m = compositor_ask r object version m
-ask_by WlSurface r object version m = surface_ask r object m.opcode m.fields
-ask_by XdgWmBase r object version m = base_ask r object version m.opcode m.fields
-ask_by XdgSurface r object version m = xdg_ask r object version m.opcode m.fields
-ask_by XdgToplevel r object version m = toplevel_ask r object m.opcode
-ask_by interface r object version m = own_ask r object version m
 
 -- ---- what an accepted message changes
 
@@ -87,10 +72,6 @@ after_surface surface old new = letting_go (buffers_had (history_in surface old.
 abbrev pub asked_of : ℕ → Request → Resident → Resident
 asked_of surface request r = with_surfaces (with_change surface (asking request) r.owned.surfaces) r
 
--- A commit is applied at once (no subsurfaces are served yet).
-abbrev pub committed_on : ℕ → Resident → Resident
-committed_on surface r = with_surfaces (with_change surface (λ s. applying (asking Commit s)) r.owned.surfaces) r
-
 abbrev pub xdg_changed : ℕ → (Xdg → Xdg) → Resident → Resident
 xdg_changed id change r = with_shell (with_xdg_change id change r.owned.shell) r
 
@@ -102,14 +83,6 @@ configured id r =
 -- how many requests were made of a surface
 abbrev pub asked_so_far : ℕ → Resident → ℕ
 asked_so_far surface r = option_map_or (λ h. length h.requests) (history_in surface r.owned.surfaces) 0
-
-abbrev pub effect_on : ℕ → Effect → Option Xdg → Resident → Resident
-effect_on surface effect None r = r
-effect_on surface Stays (Some x) r = r
-effect_on surface Unconfigured (Some x) r = r
-effect_on surface Configures (Some x) r = configured x.id (xdg_changed x.id (in_stage Waiting) r)
-effect_on surface Maps (Some x) r = xdg_changed x.id (in_stage Mapped) r
-effect_on surface Unmaps (Some x) r = xdg_changed x.id (unmapping (asked_so_far surface r)) r
 
 abbrev pub toplevel_given : ℕ → ℕ → Option Xdg → Resident → Resident
 toplevel_given id xdg None r = r
@@ -126,29 +99,18 @@ removing id r = with_peer (removed id r.peer) r
 abbrev pub changed_by : Ask → Resident → Resident
 changed_by (Own action) r = own_changed action r
 changed_by (CreateSurface id version) r = making WlSurface id version (with_surfaces (with_new id r.owned.surfaces) r)
-changed_by (DestroySurface id) r = removing id (after_surface id r (with_surfaces (without_surface id r.owned.surfaces) r))
 changed_by (AskSurface id request) r = after_surface id r (asked_of id request r)
-changed_by (CommitSurface id effect) r = effect_on id effect (xdg_of id r.owned.shell) (after_surface id r (committed_on id r))
 changed_by (DestroyBase id) r = removing id r
 changed_by (GetXdgSurface id version base surface) r = making XdgSurface id version (with_shell (with_new_xdg id base surface r.owned.shell) r)
 changed_by (DestroyXdgSurface id) r = removing id (with_shell (without_xdg id r.owned.shell) r)
 changed_by (GetToplevel id version xdg) r = making XdgToplevel id version (toplevel_given id xdg (xdg_at xdg r.owned.shell) r)
 changed_by (Acknowledge xdg serial) r = xdg_changed xdg (acknowledging serial) r
 changed_by (ConfigureAgain xdg) r = configured xdg r
-changed_by (DestroyToplevel id xdg) r = removing id (xdg_changed xdg without_role r)
 changed_by Ignore r = r
 
--- ---- what it does to the stack of toplevels
-
+-- the surface of an xdg_surface that is there
 abbrev pub surface_of : Option Xdg → ℕ
 surface_of x = option_map_or (λ x. x.surface) x 0
-
--- a toplevel that is mapped stands on top; one that is unmapped or goes is taken out
-abbrev pub stacked : ℕ → Ask → Resident → Desktop → Desktop
-stacked c (CommitSurface id Maps) r d = record d { standing = with_mapped d.mappings c id d.standing; mappings = d.mappings + 1 }
-stacked c (CommitSurface id Unmaps) r d = record d { standing = without_surface_of c id d.standing }
-stacked c (DestroyToplevel id xdg) r d = record d { standing = without_surface_of c (surface_of (xdg_at xdg r.owned.shell)) d.standing }
-stacked c ask r d = d
 
 -- ---- what it is answered with
 
@@ -172,12 +134,9 @@ configures_told serial (Some x) = role_configured serial x.id x.role
 
 abbrev pub answers_to : Ask → Resident → List Said
 answers_to (Own action) r = own_answers r.peer.output action
-answers_to (DestroySurface id) r = id_deleted id ∷ []
-answers_to (CommitSurface id Configures) r = configures_told r.peer.serial (xdg_of id r.owned.shell)
 answers_to (DestroyBase id) r = id_deleted id ∷ []
 answers_to (DestroyXdgSurface id) r = id_deleted id ∷ []
 answers_to (ConfigureAgain xdg) r = configures_told r.peer.serial (xdg_at xdg r.owned.shell)
-answers_to (DestroyToplevel id xdg) r = id_deleted id ∷ []
 answers_to ask r = []
 
 -- what has an effect may want memory, but for what takes away

@@ -13,7 +13,7 @@ use Rattle.wl_surface.specs.Request.{Buffer, Attach, Damage, Frame, SetOpaqueReg
 use Rattle.wl_surface.specs.State.{pending}
 use Rattle.wl_surface.specs.Surfaces.{history_in, is_there}
 use Rattle.wl_shell.specs.Shell.{Effect, Stays, Unconfigured, Configures, XdgSurface, is_full, on_commit, stage_of, xdg_of}
-use Rattle.wl_plain.specs.Ask.{Ask, CreateSurface, DestroySurface, AskSurface, CommitSurface}
+use Rattle.wl_plain.specs.Ask.{Ask, CreateSurface, AskSurface}
 use Rattle.wl_plain.specs.Desktop.{Resident}
 
 abbrev pub refuse : ℕ → ErrorCode → Result Ask Refusal
@@ -48,10 +48,6 @@ buffer_named r id = option_map (buffer_of id) (r.peer.buffers id)
 abbrev pub region_named : Resident → ℕ → Option (List Change)
 region_named r id = r.peer.regions id
 
--- wl_surface.destroy: its xdg_surface must be gone
-abbrev pub surface_destroyed : Resident → ℕ → Result Ask Refusal
-surface_destroyed r object = if is_some (xdg_of object r.owned.shell) then refuse object SurfaceHasRoleObject else Ok (DestroySurface object)
-
 -- wl_surface.set_buffer_transform: one of 0 to 7
 abbrev pub transform_set : ℕ → ℤ → Result Ask Refusal
 transform_set object z =
@@ -61,30 +57,10 @@ transform_set object z =
 abbrev pub will_show : Resident → ℕ → Bool
 will_show r surface = is_there (option_and_then (λ h. (pending h).buffer) (history_in surface r.owned.surfaces))
 
--- what a commit comes to: nothing of a surface without xdg_surface
-abbrev pub effect_for : Bool → Option XdgSurface → Effect
-effect_for shows None = Stays
-effect_for shows (Some x) = on_commit (stage_of x) shows
-
-abbrev pub effect_of : Resident → ℕ → Effect
-effect_of r surface = effect_for (will_show r surface) (xdg_of surface r.owned.shell)
-
--- wl_surface.commit: a buffer before a configure was acknowledged is an error of the xdg_surface
-abbrev pub committed_for : Option XdgSurface → ℕ → Effect → Result Ask Refusal
-committed_for None object effect = Ok (CommitSurface object effect)
-committed_for (Some x) object Unconfigured = refuse x.id unconfigured
-committed_for (Some x) object Configures = if is_full x.serials then refuse_limit else Ok (CommitSurface object Configures)
-committed_for (Some x) object effect = Ok (CommitSurface object effect)
-
-abbrev pub surface_committed : Resident → ℕ → Result Ask Refusal
-surface_committed r object = committed_for (xdg_of object r.owned.shell) object (effect_of r object)
-
+-- All but destroy, frame and commit: 1 is attach, 2 damage, 4 set_opaque_region, 5 set_input_region and 7 set_buffer_transform.
 abbrev pub surface_ask : Resident → ℕ → ℕ → List Field → Result Ask Refusal
 surface_ask r object opcode fields =
-    if opcode == 0 then surface_destroyed r object else (
     if opcode == 1 then Ok (AskSurface object (Attach (buffer_named r (word_in 0 fields)) (number_in 1 fields) (number_in 2 fields))) else (
     if opcode == 2 then Ok (AskSurface object (Damage (rect_in fields))) else (
-    if opcode == 3 then Ok (AskSurface object (Frame (r.peer.requests + 1))) else (
     if opcode == 4 then Ok (AskSurface object (SetOpaqueRegion (region_named r (word_in 0 fields)))) else (
-    if opcode == 5 then Ok (AskSurface object (SetInputRegion (region_named r (word_in 0 fields)))) else (
-    if opcode == 6 then surface_committed r object else transform_set object (number_in 0 fields)))))))
+    if opcode == 5 then Ok (AskSurface object (SetInputRegion (region_named r (word_in 0 fields)))) else transform_set object (number_in 0 fields))))

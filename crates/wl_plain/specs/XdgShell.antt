@@ -12,7 +12,7 @@ use Rattle.wl_surface.specs.Surfaces.{has_content, history_in, surface_at}
 use Rattle.wl_surface.specs.declared.role.Role.{Role}
 use Rattle.wl_surface.specs.declared.role.Role.TheVariants.{Toplevel as AsToplevel, Popup as AsPopup, Subsurface as AsSubsurface, Cursor as AsCursor}
 use Rattle.wl_shell.specs.Shell.{XdgSurface, answers_states, is_full, is_waiting, stage_of, xdg_at, xdg_of, xdg_with}
-use Rattle.wl_plain.specs.Ask.{Ask, AskSurface, DestroyBase, GetXdgSurface, DestroyXdgSurface, GetToplevel, Acknowledge, ConfigureAgain, DestroyToplevel, Ignore}
+use Rattle.wl_plain.specs.Ask.{Ask, AskSurface, DestroyBase, GetXdgSurface, DestroyXdgSurface, GetToplevel, Acknowledge, ConfigureAgain, Ignore}
 use Rattle.wl_plain.specs.Desktop.{Resident}
 use Rattle.wl_plain.specs.WlSurface.{refuse, refuse_limit}
 
@@ -41,12 +41,11 @@ xdg_surface_made r object version id surface =
     then refuse object error.Role
     else (if has_any r surface then refuse object error.InvalidSurfaceState else Ok (GetXdgSurface id version object surface))
 
--- 1 is create_positioner, which has no errors of its own and isn't served yet, and 3 pong
+-- All but create_positioner: 0 is destroy, 2 get_xdg_surface and 3 pong.
 abbrev pub base_ask : Resident → ℕ → ℕ → ℕ → List Field → Result Ask Refusal
 base_ask r object version opcode fields =
     if opcode == 0 then base_destroyed r object else (
-    if opcode == 1 then refuse_limit else (
-    if opcode == 2 then xdg_surface_made r object version (word_in 0 fields) (word_in 1 fields) else Ok Ignore))
+    if opcode == 2 then xdg_surface_made r object version (word_in 0 fields) (word_in 1 fields) else Ok Ignore)
 
 -- xdg_surface.destroy: its role object must be gone
 abbrev pub xdg_surface_destroyed : XdgSurface → Result Ask Refusal
@@ -81,14 +80,13 @@ acknowledged_by x serial =
     then (if is_waiting serial x.serials then Ok (Acknowledge x.id serial) else refuse x.id error.InvalidSerial)
     else refuse x.id error.NotConstructed
 
--- 2 is get_popup, which isn't served yet
+-- All but get_popup: 0 is destroy, 1 get_toplevel, 3 set_window_geometry and 4 ack_configure.
 abbrev pub xdg_ask_of : Resident → Option XdgSurface → ℕ → ℕ → List Field → Result Ask Refusal
 xdg_ask_of r None version opcode fields = refuse_limit
 xdg_ask_of r (Some x) version opcode fields =
     if opcode == 0 then xdg_surface_destroyed x else (
     if opcode == 1 then toplevel_made r x version (word_in 0 fields) else (
-    if opcode == 2 then refuse_limit else (
-    if opcode == 3 then geometry_set x (rect_in fields) else acknowledged_by x (word_in 0 fields))))
+    if opcode == 3 then geometry_set x (rect_in fields) else acknowledged_by x (word_in 0 fields)))
 
 abbrev pub xdg_ask : Resident → ℕ → ℕ → ℕ → List Field → Result Ask Refusal
 xdg_ask r object version opcode fields = xdg_ask_of r (xdg_at object r.owned.shell) version opcode fields
@@ -105,11 +103,7 @@ configured_again x =
 abbrev pub is_state : ℕ → Bool
 is_state opcode = nat_le 9 opcode && nat_le opcode 12
 
--- All but destroy and these four have no effect; move will have one with the pointer.
-abbrev pub toplevel_ask_of : ℕ → Option XdgSurface → ℕ → Result Ask Refusal
-toplevel_ask_of object None opcode = refuse_limit
-toplevel_ask_of object (Some x) opcode =
-    if opcode == 0 then Ok (DestroyToplevel object x.id) else (if is_state opcode then configured_again x else Ok Ignore)
-
-abbrev pub toplevel_ask : Resident → ℕ → ℕ → Result Ask Refusal
-toplevel_ask r object opcode = toplevel_ask_of object (xdg_with object r.owned.shell) opcode
+-- All but destroy and move: no other than these four have an effect.
+abbrev pub toplevel_ask : Option XdgSurface → ℕ → Result Ask Refusal
+toplevel_ask None opcode = refuse_limit
+toplevel_ask (Some x) opcode = if is_state opcode then configured_again x else Ok Ignore

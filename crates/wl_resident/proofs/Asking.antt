@@ -20,7 +20,7 @@ use Rattle.wl_client.specs.Judgement.{is_free, judged_at}
 use Rattle.wl_client.specs.Told.{code_number, display_error, error_told}
 use Rattle.wl_client.specs.declared.clients.Cause.{Cause}
 use Rattle.wl_client.specs.declared.clients.Cause.TheVariants.{Protocol}
-use Rattle.wl_shell.specs.Shell.{Maps, Unmaps, xdg_at}
+use Rattle.wl_shell.specs.Shell.{Effect, Maps, Unmaps, xdg_at}
 use Rattle.wl_table.specs.Objects.{Held}
 use Rattle.wl_proto.specs.declared.interface.Interface.TheVariants.{WlSurface}
 use Rattle.wl_plain.specs.Owning.{targets_in}
@@ -32,9 +32,9 @@ use Rattle.wl_client.proofs.Peers.{IsPeer-with_rest}
 use Rattle.wl_resident.specs.declared.residents.Resident.{Resident as Kept}
 use Rattle.wl_resident.specs.declared.residents.Stacking.{Stacking}
 use Rattle.wl_resident.specs.declared.residents.Stacking.TheVariants.{Stays}
-use Rattle.wl_plain.specs.Ask.{Ask, CommitSurface, DestroyToplevel}
+use Rattle.wl_resident.specs.declared.residents.Stacking.TheVariants as on
 use Rattle.wl_plain.specs.Changing.{changed_for}
-use Rattle.wl_plain.specs.Demand.{Demand, Asks, CommitTree, EndToplevel}
+use Rattle.wl_plain.specs.Demand.{Demand, CommitTree, EndToplevel}
 use Rattle.wl_plain.specs.Demanding.{demand_of, effect_of_commit, judge_all}
 use Rattle.wl_plain.specs.Desktop.{Desktop, Resident}
 use Rattle.wl_plain.specs.LeftOut.{served_now}
@@ -43,10 +43,8 @@ use Rattle.wl_resident.specs.Marking.{marked_by}
 use Rattle.wl_resident.specs.Messages.{IsAsked}
 use Rattle.wl_resident.specs.declared.messages.Asked.{Asked}
 use Rattle.wl_resident.specs.declared.messages.Asked.TheVariants as asks
-use Rattle.wl_resident.specs.Residents.{Answers, AnswersSo, IsResident, NewIsFree, ObjectsFit, Stacks, StacksBy, StacksFor, StacksSo, TakesSo}
+use Rattle.wl_resident.specs.Residents.{Answers, AnswersSo, IsResident, NewIsFree, ObjectsFit, Stacks, StacksBy, StacksFor, StacksSo, StacksTo, TakesSo}
 use Rattle.wl_plain.specs.Step.{surface_of, with_peer}
-use Rattle.wl_plain.proofs.Simply.{ask_of, judge}
-use Rattle.wl_plain.proofs.Behind.{judge-behind}
 use Rattle.wl_plain.proofs.BridgeServes.{only-peer}
 use Rattle.wl_plain.proofs.WholePiecesChanging.{judged-behind}
 use Rattle.wl_resident.proofs.Numbers.{left-from}
@@ -121,18 +119,17 @@ answers-from : {A : Type 0} (old mid new : Kept A) (c : ℕ) (r : Resident) (d :
 answers-from old mid new c r d (Ok demand) same h = (h.0, h.1, left-from old mid new (changed_for c demand (with_peer (counted r.peer) r) d) h.0 same h.2)
 answers-from old mid new c r d (Err refusal) same h = (h.0, h.1, left-from old mid new r h.0 same h.2)
 
-stacks-by-from : {A : Type 0} (old mid : Kept A) (r : Resident) (rest : List ℕ) (ask : Ask) (stacking : Stacking) → mid.client.objects ≡ old.client.objects → StacksBy mid (with_peer (with_rest rest r.peer) r) ask stacking → StacksBy old r ask stacking
-stacks-by-from old mid r rest (CommitSurface id Maps) stacking same h = (h.0, ap (λ (held : Held). targets_in WlSurface held id) (sym same) ∙ h.1, h.2)
-stacks-by-from old mid r rest (CommitSurface id Unmaps) stacking same h = (h.0, ap (λ (held : Held). targets_in WlSurface held id) (sym same) ∙ h.1, h.2)
-stacks-by-from old mid r rest (CommitSurface id effect) stacking same h = h
-stacks-by-from old mid r rest (DestroyToplevel id xdg) stacking same h =
-    (h.0, ap (λ (held : Held). targets_in WlSurface held (surface_of (xdg_at xdg r.owned.shell))) (sym same) ∙ h.1, h.2)
-stacks-by-from old mid r rest ask stacking same h = h
+stacks-to-from : {A : Type 0} (old mid : Kept A) (id : ℕ) (place : ℕ → Stacking) (stacking : Stacking) → mid.client.objects ≡ old.client.objects → StacksTo mid id place stacking → StacksTo old id place stacking
+stacks-to-from old mid id place stacking same h = (h.0, ap (λ (held : Held). targets_in WlSurface held id) (sym same) ∙ h.1, h.2)
+
+stacks-by-from : {A : Type 0} (old mid : Kept A) (id : ℕ) (effect : Effect) (stacking : Stacking) → mid.client.objects ≡ old.client.objects → StacksBy mid id effect stacking → StacksBy old id effect stacking
+stacks-by-from old mid id Maps stacking same h = stacks-to-from old mid id on.ToTop stacking same h
+stacks-by-from old mid id Unmaps stacking same h = stacks-to-from old mid id on.Out stacking same h
+stacks-by-from old mid id effect stacking same h = h
 
 stacks-for-from : {A : Type 0} (old mid : Kept A) (r : Resident) (rest : List ℕ) (demand : Demand) (stacking : Stacking) → mid.client.objects ≡ old.client.objects → StacksFor mid (with_peer (with_rest rest r.peer) r) demand stacking → StacksFor old r demand stacking
-stacks-for-from old mid r rest (Asks ask) stacking same h = stacks-by-from old mid r rest ask stacking same h
-stacks-for-from old mid r rest (CommitTree id) stacking same h = stacks-by-from old mid r rest (CommitSurface id (effect_of_commit r id)) stacking same h
-stacks-for-from old mid r rest (EndToplevel id xdg) stacking same h = stacks-by-from old mid r rest (DestroyToplevel id xdg) stacking same h
+stacks-for-from old mid r rest (CommitTree id) stacking same h = stacks-by-from old mid id (effect_of_commit r id) stacking same h
+stacks-for-from old mid r rest (EndToplevel id xdg) stacking same h = stacks-to-from old mid (surface_of (xdg_at xdg r.owned.shell)) on.Out stacking same h
 stacks-for-from old mid r rest demand stacking same h = h
 
 stacks-from : {A : Type 0} (old mid : Kept A) (r : Resident) (rest : List ℕ) (judged : Result Demand Refusal) (stacking : Stacking) → mid.client.objects ≡ old.client.objects → StacksSo mid (with_peer (with_rest rest r.peer) r) judged stacking → StacksSo old r judged stacking
@@ -156,9 +153,6 @@ module _ {A : Type 0} (old : Kept A) (r : Resident) (object version size target 
       ap (λ (o : Option Object). judged_at r.peer.objects r.peer.held asks m.opcode body o) object-there
       ∙ judged-passing r.peer.objects r.peer.held asks m.opcode body (record { interface = m.interface; version = version }) m
       (ap (λ (o : Option Object). passing r.peer.objects r.peer.held m.opcode body o) (sym object-there) ∙ passed)
-
-  pub judged-first : judge r object m.opcode body ≡ ask_of left object version m
-  judged-first = sym (judge-behind r object m.opcode body (drop size r.peer.rest)) ∙ judged-by (λ version m. ask_of left object version m)
 
   pub demanded-first : judge_all served_now r object m.opcode body ≡ demand_of served_now left object version m
   demanded-first = sym (judged-behind served_now r object m.opcode body (drop size r.peer.rest)) ∙ judged-by (λ version m. demand_of served_now left object version m)

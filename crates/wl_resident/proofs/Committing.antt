@@ -8,13 +8,13 @@ use Rattle.wl_shell.specs.Shell.{Stays, Configures, Maps, Unmaps, RoleObject, Xd
 use Rattle.wl_shell.specs.declared.acts.Placed.{Placed}
 use Rattle.wl_shell.specs.declared.acts.ShellAct.{ShellAct}
 use Rattle.wl_shell.specs.declared.acts.ShellAct.TheVariants.{Configure, Map, Unmap, Nothing}
-use Rattle.wl_plain.specs.Ask.{CommitSurface}
 use Rattle.wl_plain.specs.Desktop.{Resident}
 use Rattle.wl_plain.specs.Owning.{IsOwned, Names, effect_by, kept_id}
 use Rattle.wl_resident.specs.Residents.{drawn_by, told_by, told_of}
-use Rattle.wl_plain.specs.Step.{after_surface, answers_to, changed_by, committed_on, configures_told, effect_on, role_configured, toplevel_configured, xdg_configured}
+use Rattle.wl_plain.specs.Step.{after_surface, answers_to, changed_by, configures_told, role_configured, toplevel_configured, xdg_configured}
 use Rattle.wl_plain.proofs.OwningReads.{configures-read}
 use Rattle.wl_plain.proofs.OwningXdg.{xdg-of}
+use Rattle.wl_plain.proofs.Simply.{CommitSurface, changed_simply, committed_on, effect_on, told_simply}
 
 -- only a configure changes more of a client than its xdg_surface
 mapped-peer : (id : ℕ) (o : Option XdgSurface) (r : Resident) → (effect_on id Maps o r).peer ≡ r.peer
@@ -40,7 +40,7 @@ unconfigured shows None placed e = absurd (cc)
 unconfigured shows (Some k) placed e = (k, refl)
 
 module _ (names : Names) (slots : Slots) (kept : ℕ → Option Kept) (r : Resident) (is : IsOwned names slots kept r.owned) (id number : ℕ) (named : names.surfaces id ≡ Some number) (shows : Bool) where
-  pub commit-peer : (act : ShellAct) → commit_answer shows (kept number) ≡ Ok act → (changed_by (CommitSurface id (effect_by act)) r).peer ≡ drawn_by act (after_surface id r (committed_on id r)).peer
+  pub commit-peer : (act : ShellAct) → commit_answer shows (kept number) ≡ Ok act → (changed_simply (CommitSurface id (effect_by act)) r).peer ≡ drawn_by act (after_surface id r (committed_on id r)).peer
   commit-peer (Configure placed) answer =
       let k = unconfigured shows (kept number) placed answer in
       let xdg = xdg-of names slots kept r.owned is id number k.0 named k.1 in
@@ -49,7 +49,7 @@ module _ (names : Names) (slots : Slots) (kept : ℕ → Option Kept) (r : Resid
   commit-peer Unmap answer = unmapped-peer id (xdg_of id r.owned.shell) (after_surface id r (committed_on id r))
   commit-peer Nothing answer = still-peer id (xdg_of id r.owned.shell) (after_surface id r (committed_on id r))
 
-  pub commit-told : (act : ShellAct) (serial : ℕ) → commit_answer shows (kept number) ≡ Ok act → serial ≡ r.peer.serial → told_by act serial (changing number (kept_after serial act) kept number) ≡ answers_to (CommitSurface id (effect_by act)) r
+  pub commit-told : (act : ShellAct) (serial : ℕ) → commit_answer shows (kept number) ≡ Ok act → serial ≡ r.peer.serial → told_by act serial (changing number (kept_after serial act) kept number) ≡ told_simply (CommitSurface id (effect_by act)) r
   commit-told (Configure placed) serial answer same =
       let k = unconfigured shows (kept number) placed answer in
       let xdg = xdg-of names slots kept r.owned is id number k.0 named k.1 in

@@ -11,7 +11,7 @@ use Rattle.wl_wire.specs.declared.header.Split.{Split}
 use Rattle.wl_wire.specs.declared.header.Split.TheVariants.{Message as Whole, More, Bad}
 use Rattle.wl_proto.specs.Messages.{Message, wl_compositor_request, wl_seat_request, wl_surface_request, xdg_surface_request, xdg_wm_base_request}
 use Rattle.wl_proto.specs.declared.interface.Interface.{Interface}
-use Rattle.wl_proto.specs.declared.interface.Interface.TheVariants.{WlCompositor, WlSurface, XdgWmBase, XdgSurface, XdgToplevel}
+use Rattle.wl_proto.specs.declared.interface.Interface.TheVariants.{WlDisplay, WlRegistry, WlCallback, WlCompositor, WlRegion, WlSurface, WlShm, WlShmPool, WlBuffer, WlSubcompositor, WlSubsurface, WlOutput, WlSeat, WlPointer, XdgWmBase, XdgPositioner, XdgSurface, XdgToplevel, XdgPopup}
 use Rattle.wl_proto.specs.declared.wl_compositor.WlCompositorRequest.{WlCompositorRequest}
 use Rattle.wl_proto.specs.declared.wl_compositor.WlCompositorRequest.TheVariants as compositor
 use Rattle.wl_proto.specs.declared.wl_seat.WlSeatRequest.{WlSeatRequest}
@@ -44,7 +44,10 @@ use Rattle.wl_shell.specs.Shell.{XdgSurface as Xdg}
 use Rattle.wl_scene.specs.Stacking.{Owned, Stack, Standing, root_of, windows_on}
 use Rattle.wl_scene.specs.Windows.{Owner, Place, Window, contains, moved, owner_of, window_with}
 use Rattle.wl_resident.specs.Agreement.{IsStack}
-use Rattle.wl_plain.specs.Ask.{Ask, Own, CreateSurface, DestroySurface, AskSurface, CommitSurface, DestroyBase, GetXdgSurface, DestroyXdgSurface, GetToplevel, Acknowledge, ConfigureAgain, DestroyToplevel, Ignore, owns}
+use Rattle.wl_plain.specs.Ask.{Ask}
+use Rattle.wl_plain.specs.Demand.{Demand, Asks, EndSurface, AskFrame, CommitTree, EndToplevel, Move}
+use Rattle.wl_plain.specs.Demanding.{committed_by, demand_by, demand_of, demands, effect_of_commit, judge_all, moved_by_pointer, surface_demand, toplevel_demand, toplevel_destroyed}
+use Rattle.wl_plain.proofs.BridgeJudged.{simple-peer, simply-ok}
 use Rattle.wl_plain.specs.Desktop.{Desktop, Resident, client_in, owned_in, owned_of, place}
 use Rattle.wl_plain.specs.Laws.{status_in, status_of}
 use Rattle.wl_resident.proofs.Toplevels.{MarksToplevels}
@@ -58,11 +61,11 @@ use Rattle.wl_resident.specs.Seats.{IsClearedBy, IsRestacked, IsSeated, IsSettle
 use Rattle.wl_plain.specs.LeftOut.{served_now}
 use Rattle.wl_plain.specs.NoMore.{NoMore}
 use Rattle.wl_plain.specs.Whole.{Serves}
-use Rattle.wl_plain.specs.Step.{ask_by, changed_by, surface_of, with_peer}
-use Rattle.wl_plain.proofs.Simply.{ask_of, judge}
-use Rattle.wl_plain.specs.Touching.{any_window_at, has_window_at, is_window_at, touched}
-use Rattle.wl_plain.specs.WlSurface.{committed_for, effect_of, surface_ask}
-use Rattle.wl_plain.specs.XdgShell.{base_ask, configured_again, has_any, is_foreign, is_state, role_of, toplevel_ask, toplevel_ask_of, xdg_ask_of}
+use Rattle.wl_plain.specs.Step.{changed_by, surface_of, with_peer}
+use Rattle.wl_plain.proofs.Simply.{Simple, simple_of, simply, touched}
+use Rattle.wl_plain.specs.Touching.{any_window_at, has_window_at, is_window_at}
+use Rattle.wl_plain.specs.WlSurface.{surface_ask}
+use Rattle.wl_plain.specs.XdgShell.{base_ask, configured_again, has_any, is_foreign, is_state, role_of, toplevel_ask, xdg_ask_of}
 use Rattle.wl_resident.specs.declared.messages.Asked.{Asked}
 use Rattle.wl_resident.specs.declared.messages.Asked.TheVariants as asked
 use Rattle.wl_resident.specs.declared.messages.Kind.{Kind}
@@ -70,7 +73,7 @@ use Rattle.wl_resident.specs.declared.messages.Kind.TheVariants as kind
 use Rattle.wl_resident.specs.declared.residents.Resident.{Resident as Kept}
 use Rattle.wl_resident.specs.declared.residents.Stacking.{Stacking}
 use Rattle.wl_resident.specs.declared.residents.Stacking.TheVariants as on
-use Rattle.wl_resident.proofs.Asking.{judged-first, passing-peer, whole-first}
+use Rattle.wl_resident.proofs.Asking.{demanded-first, passing-peer, whole-first}
 use Rattle.wl_resident.proofs.Doing.{named-by}
 use Rattle.wl_resident.proofs.Ends.{lacks-over, over-ended}
 use Rattle.wl_plain.proofs.BridgeBack.{AsksBy}
@@ -130,96 +133,87 @@ seated-unlinked c others base d v stack r is unlinked other = by (c == other) re
 -- ---- what touches a surface is a commit, or the destruction of a toplevel
 
 -- where what is judged touches a surface, this holds of it
-abbrev pub TouchesSo : Resident → (ℕ → Type 0) → Result Ask Refusal → Type 0
-TouchesSo r P judged = (ask : Ask) (id : ℕ) → judged ≡ Ok ask → touched ask r ≡ Some id → P id
+abbrev pub TouchesSo : Resident → (ℕ → Type 0) → Result Demand Refusal → Type 0
+TouchesSo r P judged = (demand : Demand) (id : ℕ) → judged ≡ Ok demand → touched (simple_of r demand) r ≡ Some id → P id
 
 module _ (r : Resident) (P : ℕ → Type 0) where
-  by-ask : (a : Ask) → ((id : ℕ) → touched a r ≡ Some id → P id) → TouchesSo r P (Ok a)
-  by-ask a f ask id e t = let same : a ≡ ask = cc in f id (ap (λ b. touched b r) same ∙ t)
+  by-demand : (a : Demand) → ((id : ℕ) → touched (simple_of r a) r ≡ Some id → P id) → TouchesSo r P (Ok a)
+  by-demand a f demand id e t = let same : a ≡ demand = cc in f id (ap (λ b. touched (simple_of r b) r) same ∙ t)
 
-  one : (a : Ask) (surface : ℕ) → touched a r ≡ Some surface → P surface → TouchesSo r P (Ok a)
-  one a surface is there = by-ask a (λ id t. let both = sym is ∙ t in let same : surface ≡ id = cc in subst P same there)
+  one : (a : Demand) (surface : ℕ) → touched (simple_of r a) r ≡ Some surface → P surface → TouchesSo r P (Ok a)
+  one a surface is there = by-demand a (λ id t. let both = sym is ∙ t in let same : surface ≡ id = cc in subst P same there)
 
-  none : (a : Ask) → touched a r ≡ None → TouchesSo r P (Ok a)
-  none a is = by-ask a (λ id t. absurd (let both = sym is ∙ t in cc))
+  none : (a : Demand) → touched (simple_of r a) r ≡ None → TouchesSo r P (Ok a)
+  none a is = by-demand a (λ id t. absurd (let both = sym is ∙ t in cc))
 
   refused : (refusal : Refusal) → TouchesSo r P (Err refusal)
-  refused refusal ask id e t = absurd (cc)
+  refused refusal demand id e t = absurd (cc)
 
-  either : (b : Bool) (a o : Result Ask Refusal) → (b ≡ true → TouchesSo r P a) → (b ≡ false → TouchesSo r P o) → TouchesSo r P (if b then a else o)
+  either : (b : Bool) (a o : Result Demand Refusal) → (b ≡ true → TouchesSo r P a) → (b ≡ false → TouchesSo r P o) → TouchesSo r P (if b then a else o)
   either true a o f g = f refl
   either false a o f g = g refl
 
-  owned-touches : (judged : Result Action Refusal) → TouchesSo r P (owns judged)
-  owned-touches (Ok action) = none (Own action) refl
-  owned-touches (Err refusal) = refused refusal
+  asks-touch-none : (judged : Result Ask Refusal) → TouchesSo r P (demands judged)
+  asks-touch-none (Ok ask) = none (Asks ask) refl
+  asks-touch-none (Err refusal) = refused refusal
 
-  commit-touches : (object : ℕ) → P object → (x : Option Xdg) (effect : Effect) → TouchesSo r P (committed_for x object effect)
-  commit-touches object there None effect = one (CommitSurface object effect) object refl there
-  commit-touches object there (Some x) Stays = one (CommitSurface object Stays) object refl there
+  commit-touches : (object : ℕ) → P object → (x : Option Xdg) (effect : Effect) → TouchesSo r P (committed_by x object effect)
+  commit-touches object there None effect = one (CommitTree object) object refl there
+  commit-touches object there (Some x) Stays = one (CommitTree object) object refl there
   commit-touches object there (Some x) Unconfigured = refused _
-  commit-touches object there (Some x) Configures = either (is_full x.serials) _ _ (λ full. refused _) (λ room. one (CommitSurface object Configures) object refl there)
-  commit-touches object there (Some x) Maps = one (CommitSurface object Maps) object refl there
-  commit-touches object there (Some x) Unmaps = one (CommitSurface object Unmaps) object refl there
+  commit-touches object there (Some x) Configures = either (is_full x.serials) _ _ (λ full. refused _) (λ room. one (CommitTree object) object refl there)
+  commit-touches object there (Some x) Maps = one (CommitTree object) object refl there
+  commit-touches object there (Some x) Unmaps = one (CommitTree object) object refl there
 
-  surface-touches : (object opcode : ℕ) (fields : List Field) → (opcode ≡ 6 → P object) → TouchesSo r P (surface_ask r object opcode fields)
-  surface-touches object opcode fields commits =
-      either (opcode == 0) _ _ (λ e. either (is_some (xdg_of object r.owned.shell)) _ _ (λ there. refused _) (λ free. none (DestroySurface object) refl))
-      (λ e. either (opcode == 1) _ _ (λ e. none (AskSurface object _) refl)
-      (λ e. either (opcode == 2) _ _ (λ e. none (AskSurface object _) refl)
-      (λ e. either (opcode == 3) _ _ (λ e. none (AskSurface object _) refl)
-      (λ e. either (opcode == 4) _ _ (λ e. none (AskSurface object _) refl)
-      (λ e. either (opcode == 5) _ _ (λ e. none (AskSurface object _) refl)
-      (λ e. either (opcode == 6) _ _ (λ e. commit-touches object (commits (eqb-true opcode 6 e)) (xdg_of object r.owned.shell) (effect_of r object))
-      (λ e. either (int_le (pos 0) (number_in 0 fields) && int_le (number_in 0 fields) (pos 7)) _ _ (λ fits. none (AskSurface object _) refl) (λ no_transform. refused _))))))))
-
-  base-touches : (object version opcode : ℕ) (fields : List Field) → TouchesSo r P (base_ask r object version opcode fields)
-  base-touches object version opcode fields =
-      either (opcode == 0) _ _ (λ e. either _ _ _ (λ used. refused _) (λ unused. none (DestroyBase object) refl))
-      (λ e. either (opcode == 1) _ _ (λ e. refused _)
-      (λ e. either (opcode == 2) _ _
-      (λ e. either (is_foreign (role_of r (word_in 1 fields)) || is_some (xdg_of (word_in 1 fields) r.owned.shell)) _ _ (λ other. refused _)
-      (λ free. either (has_any r (word_in 1 fields)) _ _ (λ full. refused _) (λ room. none (GetXdgSurface (word_in 0 fields) version object (word_in 1 fields)) refl)))
-      (λ e. none Ignore refl)))
-
-  xdg-touches : (o : Option Xdg) (version opcode : ℕ) (fields : List Field) → TouchesSo r P (xdg_ask_of r o version opcode fields)
-  xdg-touches None version opcode fields = refused _
-  xdg-touches (Some x) version opcode fields =
-      either (opcode == 0) _ _ (λ e. either (is_some x.role) _ _ (λ there. refused _) (λ free. none (DestroyXdgSurface x.id) refl))
-      (λ e. either (opcode == 1) _ _
-      (λ e. either (is_some x.role) _ _ (λ there. refused _) (λ free. either _ _ _ (λ other. refused _) (λ fits. none (GetToplevel _ version x.id) refl)))
-      (λ e. either (opcode == 2) _ _ (λ e. refused _)
-      (λ e. either (opcode == 3) _ _
-      (λ e. either (is_some x.role) _ _ (λ there. either _ _ _ (λ fits. none (AskSurface x.surface _) refl) (λ no_size. refused _)) (λ free. refused _))
-      (λ e. either (is_some x.role) _ _ (λ there. either _ _ _ (λ waits. none (Acknowledge x.id _) refl) (λ unknown. refused _)) (λ free. refused _)))))
+  surface-touches : (object version opcode : ℕ) (fields : List Field) → (opcode ≡ 6 → P object) → TouchesSo r P (surface_demand r object version opcode fields)
+  surface-touches object version opcode fields commits =
+      either (opcode == 0) _ _ (λ e. either (is_some (xdg_of object r.owned.shell)) _ _ (λ there. refused _) (λ free. none (EndSurface object) refl))
+      (λ e. either (opcode == 3) _ _ (λ e. none (AskFrame _ version object) refl)
+      (λ e. either (opcode == 6) _ _ (λ e. commit-touches object (commits (eqb-true opcode 6 e)) (xdg_of object r.owned.shell) (effect_of_commit r object))
+      (λ e. asks-touch-none (surface_ask r object opcode fields))))
 
   -- the surface of the toplevel with this id
   abbrev Destroys : ℕ → Type 0
   Destroys object = (x : Xdg) → xdg_with object r.owned.shell ≡ Some x → P (surface_of (xdg_at x.id r.owned.shell))
 
-  toplevel-touches : (object opcode : ℕ) → (opcode ≡ 0 → Destroys object) → TouchesSo r P (toplevel_ask r object opcode)
-  toplevel-touches object opcode destroys = at (xdg_with object r.owned.shell) refl
+  toplevel-touches : (object opcode : ℕ) (fields : List Field) → (opcode ≡ 0 → Destroys object) → TouchesSo r P (toplevel_demand r object opcode fields)
+  toplevel-touches object opcode fields destroys =
+      either (opcode == 0) _ _ (λ e. goes (destroys (eqb-true opcode 0 e)) (xdg_with object r.owned.shell) refl)
+      (λ e. either (opcode == 5) _ _ (λ e. moves (xdg_with object r.owned.shell)) (λ e. asks-touch-none (toplevel_ask (xdg_with object r.owned.shell) opcode)))
     where
-      at : (o : Option Xdg) → xdg_with object r.owned.shell ≡ o → TouchesSo r P (toplevel_ask_of object o opcode)
-      at None found = refused _
-      at (Some x) found =
-          either (opcode == 0) (Ok (DestroyToplevel object x.id)) (if is_state opcode then configured_again x else Ok Ignore)
-          (λ e. one (DestroyToplevel object x.id) (surface_of (xdg_at x.id r.owned.shell)) refl (destroys (eqb-true opcode 0 e) x found))
-          (λ e. either (is_state opcode) (configured_again x) (Ok Ignore)
-          (λ state. either (option_map_or answers_states (stage_of x) false) _ _ (λ answers. either (is_full x.serials) _ _ (λ full. refused _) (λ room. none (ConfigureAgain x.id) refl)) (λ none_now. none Ignore refl))
-          (λ other. none Ignore refl))
+      goes : Destroys object → (o : Option Xdg) → xdg_with object r.owned.shell ≡ o → TouchesSo r P (toplevel_destroyed object o)
+      goes destroyed None found = refused _
+      goes destroyed (Some x) found = one (EndToplevel object x.id) (surface_of (xdg_at x.id r.owned.shell)) refl (destroyed x found)
 
-  interface-touches : (interface : Interface) (object version : ℕ) (m : Message) → (interface ≡ WlSurface → m.opcode ≡ 6 → P object) → (interface ≡ XdgToplevel → m.opcode ≡ 0 → Destroys object) → TouchesSo r P (ask_by interface r object version m)
-  interface-touches WlCompositor object version m commits destroys =
-      either (m.opcode == 0) _ _ (λ e. either _ _ _ (λ full. refused _) (λ room. none (CreateSurface _ version) refl)) (λ e. owned-touches _)
-  interface-touches WlSurface object version m commits destroys = surface-touches object m.opcode m.fields (commits refl)
-  interface-touches XdgWmBase object version m commits destroys = base-touches object version m.opcode m.fields
-  interface-touches XdgSurface object version m commits destroys = xdg-touches (xdg_at object r.owned.shell) version m.opcode m.fields
-  interface-touches XdgToplevel object version m commits destroys = toplevel-touches object m.opcode (destroys refl)
-  interface-touches interface object version m commits destroys = owned-touches _
+      moves : (o : Option Xdg) → TouchesSo r P (moved_by_pointer (word_in 1 fields) o)
+      moves None = refused _
+      moves (Some x) = none (Move x.surface (word_in 1 fields)) refl
 
-  pub asks-touch : (object version : ℕ) (m : Message) → (m.interface ≡ WlSurface → m.opcode ≡ 6 → P object) → (m.interface ≡ XdgToplevel → m.opcode ≡ 0 → Destroys object) → TouchesSo r P (ask_of r object version m)
-  asks-touch object version m commits destroys = either (served_now.requests m.interface m.opcode) _ _ (λ left_out. refused _) (λ served. interface-touches m.interface object version m commits destroys)
+  interface-touches : (interface : Interface) (object version opcode : ℕ) (fields : List Field) → served_now.requests interface opcode ≡ false → (interface ≡ WlSurface → opcode ≡ 6 → P object) → (interface ≡ XdgToplevel → opcode ≡ 0 → Destroys object)
+      → TouchesSo r P (demand_by interface r object version (record { interface = interface; opcode = opcode; fields = fields }))
+  interface-touches WlCompositor object version opcode fields served commits destroys = either (opcode == 0) _ _ (λ e. asks-touch-none _) (λ e. asks-touch-none _)
+  interface-touches WlSurface object version opcode fields served commits destroys = surface-touches object version opcode fields (commits refl)
+  interface-touches WlSubcompositor object version opcode fields served commits destroys = absurd (cc)
+  interface-touches WlSubsurface object version opcode fields served commits destroys = absurd (cc)
+  interface-touches WlSeat object version opcode fields served commits destroys = either (opcode == 0) _ _ (λ pointer. absurd (cc)) (λ e. refused _)
+  interface-touches WlPointer object version opcode fields served commits destroys = absurd (cc)
+  interface-touches XdgWmBase object version opcode fields served commits destroys = either (opcode == 1) _ _ (λ positioner. absurd (cc)) (λ e. asks-touch-none _)
+  interface-touches XdgPositioner object version opcode fields served commits destroys = absurd (cc)
+  interface-touches XdgSurface object version opcode fields served commits destroys = either (opcode == 2) _ _ (λ popup. absurd (cc)) (λ e. asks-touch-none _)
+  interface-touches XdgToplevel object version opcode fields served commits destroys = toplevel-touches object opcode fields (destroys refl)
+  interface-touches XdgPopup object version opcode fields served commits destroys = absurd (cc)
+  interface-touches WlDisplay object version opcode fields served commits destroys = asks-touch-none _
+  interface-touches WlRegistry object version opcode fields served commits destroys = asks-touch-none _
+  interface-touches WlCallback object version opcode fields served commits destroys = asks-touch-none _
+  interface-touches WlRegion object version opcode fields served commits destroys = asks-touch-none _
+  interface-touches WlShm object version opcode fields served commits destroys = asks-touch-none _
+  interface-touches WlShmPool object version opcode fields served commits destroys = asks-touch-none _
+  interface-touches WlBuffer object version opcode fields served commits destroys = asks-touch-none _
+  interface-touches WlOutput object version opcode fields served commits destroys = asks-touch-none _
+
+  pub demand-touches : (object version : ℕ) (m : Message) → (m.interface ≡ WlSurface → m.opcode ≡ 6 → P object) → (m.interface ≡ XdgToplevel → m.opcode ≡ 0 → Destroys object) → TouchesSo r P (demand_of served_now r object version m)
+  demand-touches object version m commits destroys =
+      either (served_now.requests m.interface m.opcode) _ _ (λ left_out. refused _) (λ served. interface-touches m.interface object version m.opcode m.fields served commits destroys)
 
 -- ---- and then the desk marks
 
@@ -302,14 +296,16 @@ IsMarkedBy v asked id = (number : ℕ) × (marked_by asked ≡ Some number) × (
 module _ {A : Type 0} (v : Kept A) (r : Resident) (is : IsResident v r) where
   -- a message that passes
   passed-touches : (P : ℕ → Type 0) (object version size target : ℕ) (m : Message) → Passes v.client object version size target m → (m.interface ≡ WlSurface → m.opcode ≡ 6 → P object)
-      → (m.interface ≡ XdgToplevel → m.opcode ≡ 0 → Destroys r P object) → (ask : Ask) (id : ℕ) → AsksBy r (split_of r.peer.rest) ask → touched ask r ≡ Some id → P id
+      → (m.interface ≡ XdgToplevel → m.opcode ≡ 0 → Destroys r P object) → (ask : Simple) (id : ℕ) → AsksBy r (split_of r.peer.rest) ask → touched ask r ≡ Some id → P id
   passed-touches P object version size target m passes commits destroys ask id asks t =
       let left = with_peer (with_rest (drop size r.peer.rest) r.peer) r in
       let whole : AsksBy r (Whole object m.opcode size) ask = subst (λ (s : Split). AsksBy r s ask) (whole-first v r object version size target m passes is) asks in
-      asks-touch left P object version m commits destroys ask id (sym (judged-first v r object version size target m passes is) ∙ whole) (touched-peer ask (with_rest (drop size r.peer.rest) r.peer) r ∙ t)
+      let judged = simply-ok r (judge_all served_now r object m.opcode (take (size - 8) (drop 8 r.peer.rest))) ask whole in
+      demand-touches left P object version m commits destroys judged.0 id (sym (demanded-first v r object version size target m passes is) ∙ judged.1)
+      (ap (λ (a : Simple). touched a left) (simple-peer (with_rest (drop size r.peer.rest) r.peer) r judged.0 ∙ judged.2) ∙ touched-peer ask (with_rest (drop size r.peer.rest) r.peer) r ∙ t)
 
   request-marks : (object version size target : ℕ) (k : Kind) (m : Message) → Passes v.client object version size target m → IsKind k m
-      → (ask : Ask) (id : ℕ) → AsksBy r (split_of r.peer.rest) ask → touched ask r ≡ Some id → IsMarkedBy v (asked.Request object version size target k) id
+      → (ask : Simple) (id : ℕ) → AsksBy r (split_of r.peer.rest) ask → touched ask r ≡ Some id → IsMarkedBy v (asked.Request object version size target k) id
   request-marks object version size target k m passes told =
       passed-touches (IsMarkedBy v (asked.Request object version size target k)) object version size target m passes
       (λ i o. (target, commit-marks k m target told i o, named-by v.client.objects object target _ passes.entry i refl))
@@ -328,17 +324,17 @@ module _ {A : Type 0} (v : Kept A) (r : Resident) (is : IsResident v r) where
           subst (λ (z : Xdg). targets_in WlSurface v.client.objects (surface_of (xdg_at z.id r.owned.shell)) ≡ Some target) same
           (ap (λ (o : Option Xdg). targets_in WlSurface v.client.objects (surface_of o)) there.3.at_id ∙ there.3.surface)
 
-  refused-asks : (s : Split) (refusal : Refusal) (ask : Ask) → IsRefused s v.client refusal → AsksBy r s ask → ⊥
+  refused-asks : (s : Split) (refusal : Refusal) (ask : Simple) → IsRefused s v.client refusal → AsksBy r s ask → ⊥
   refused-asks (Whole object opcode size) refusal ask why asks =
-      let judged = judged-refused r.peer.objects r.peer.held (λ version m. ask_of r object version m) opcode (take (size - 8) (drop 8 r.peer.rest)) (r.peer.objects object) refusal
+      let judged = judged-refused r.peer.objects r.peer.held (λ version m. demand_of served_now r object version m) opcode (take (size - 8) (drop 8 r.peer.rest)) (r.peer.objects object) refusal
       (passing-peer v.client r.peer object opcode size (Err refusal) is.peer why) in
-      let both : Result.Err refusal ≡ Ok ask = sym judged ∙ asks in
+      let both : Result.Err refusal ≡ Ok ask = sym (ap (simply r) judged) ∙ asks in
       cc
   refused-asks Bad refusal ask why asks = asks
   refused-asks More refusal ask why asks = asks
 
   -- Where a message touches a surface, the desk marks the window of that surface.
-  pub asked-marks : (a : Asked) → IsAsked v.client a → (ask : Ask) (id : ℕ) → AsksBy r (split_of r.peer.rest) ask → touched ask r ≡ Some id → IsMarkedBy v a id
+  pub asked-marks : (a : Asked) → IsAsked v.client a → (ask : Simple) (id : ℕ) → AsksBy r (split_of r.peer.rest) ask → touched ask r ≡ Some id → IsMarkedBy v a id
   asked-marks asked.More more ask id asks t =
       absurd (subst (λ (s : Split). AsksBy r s ask) (ap split_of (sym is.peer.rest) ∙ more) asks)
   asked-marks (asked.Refused refusal) why ask id asks t =

@@ -162,5 +162,5 @@ own-served old new r q is (object, version, size, target, m, passes, own) same k
     subst (λ (s : Split). TakesSo s c r d old new Stays) (sym whole) (
       subst (λ (j : Result Demand Refusal). AnswersWhole j c left d old new) (sym judged)
           (simply old new c d left (only-peer r left.peer refl only) (owns action) (own-answered old new r left action q is refl same keeps answers peer)),
-      subst (λ (j : Result Demand Refusal). StacksWhole old r j Stays) (sym judged) (stacks-simply old (owns action) (demands (owns action)) r Stays only.roles (demands-pair r (owns action)) (own-stays old r action)),
+      subst (λ (j : Result Demand Refusal). StacksWhole old r j Stays) (sym judged) (asks-stay old r (owns action)),
     )

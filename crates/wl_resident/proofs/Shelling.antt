@@ -33,23 +33,25 @@ use Rattle.wl_shell.specs.declared.error.ShellError.TheVariants as failed
 use Rattle.wl_scene.specs.Stacking.{Owned}
 use Rattle.wl_scene.specs.declared.owned.Owned.{Owned as Lent}
 use Rattle.wl_resident.specs.declared.residents.Resident.{Resident as Kept}
-use Rattle.wl_plain.specs.Ask.{Ask, AskSurface, DestroyToplevel, GetToplevel, Ignore}
+use Rattle.wl_plain.specs.Ask.{Ask, AskSurface, GetToplevel, Ignore}
 use Rattle.wl_plain.specs.Demand.{Demand}
 use Rattle.wl_plain.specs.Desktop.{Desktop, Resident}
 use Rattle.wl_plain.specs.NoMore.{OwnsToplevelsOnly}
 use Rattle.wl_plain.specs.Owning.{AreKept, IsOwned, IsXdg, Names, asks_by, by_number, configuring_if, kept_base, names_in, names_surface, shell_refusal, target_as, targets_in, with_surface, with_toplevel, with_xdg}
 use Rattle.wl_resident.specs.Residents.{ActsFor, AnswersSo as AnswersWhole, Does, IsFree, NewIsFree, IsResident, IsToplevel, IsXdgSurface, Meets, MeetsSo}
 use Rattle.wl_plain.specs.Step.{changed_by, configures_told, role_configured, toplevel_configured, toplevel_given, with_peer, xdg_configured}
-use Rattle.wl_plain.specs.XdgShell.{configured_again, is_no_toplevel, is_state, role_of, toplevel_ask, toplevel_ask_of, xdg_ask, xdg_ask_of}
+use Rattle.wl_plain.specs.XdgShell.{configured_again, is_no_toplevel, is_state, role_of, toplevel_ask, xdg_ask, xdg_ask_of}
 use Rattle.wl_resident.proofs.Doing.{cut-bounds}
 use Rattle.wl_plain.proofs.Letting.{asked-keeps}
 use Rattle.wl_plain.proofs.BridgeServes.{only-peer}
 use Rattle.wl_resident.proofs.Numbers.{left-from}
-use Rattle.wl_resident.proofs.Simply.{AnswersSo}
+use Rattle.wl_resident.proofs.Simply.{AnswersSimply, AnswersSo}
+use Rattle.wl_plain.proofs.Simply.{Simple}
 use Rattle.wl_plain.proofs.OwningSurfaces.{surface-named, surface-read}
 use Rattle.wl_plain.proofs.OwningNames.{names-other-gone, names-surface-gone, names-toplevel-gone, names-xdg-gone}
 use Rattle.wl_plain.proofs.OwningReads.{role-fits, role-read}
 use Rattle.wl_plain.proofs.OwningXdg.{toplevel-named, xdg-named}
+use Rattle.wl_plain.proofs.Simply.{DestroyToplevel}
 
 -- ---- objects that go
 
@@ -142,18 +144,18 @@ xdg-answered old new object number version opcode fields r is named answers =
     subst (λ (o : Option Xdg). AnswersSo (xdg_ask_of r o version opcode fields) r old new) (sym one.4) (answers one.0 one.1 one.2 one.3 one.5)
 
 -- the object is a toplevel
-pub toplevel-answered : {A : Type 0} (old new : Kept A) (object number opcode : ℕ) (r : Resident) → IsResident old r → IsToplevel old object number
-    → ((k : KeptXdg) (x : Xdg) (h : History) → IsXdg (names_in old.client.objects) (kept_of old.owned.shell) r.owned number k x h → is_role object x.role ≡ true → AnswersSo (toplevel_ask_of object (Some x) opcode) r old new)
-    → AnswersSo (toplevel_ask r object opcode) r old new
-toplevel-answered old new object number opcode r is named answers =
+pub toplevel-answered : {A : Type 0} (old new : Kept A) (object number : ℕ) (judged : Option Xdg → Result Simple Refusal) (r : Resident) → IsResident old r → IsToplevel old object number
+    → ((k : KeptXdg) (x : Xdg) (h : History) → IsXdg (names_in old.client.objects) (kept_of old.owned.shell) r.owned number k x h → is_role object x.role ≡ true → AnswersSimply (judged (Some x)) r old new)
+    → AnswersSimply (judged (xdg_with object r.owned.shell)) r old new
+toplevel-answered old new object number judged r is named answers =
     let one = toplevel-named (names_in old.client.objects) old.owned.surfaces (kept_of old.owned.shell) r.owned is.owns object number named in
-    subst (λ (o : Option Xdg). AnswersSo (toplevel_ask_of object o opcode) r old new) (sym one.4) (answers one.0 one.1 one.2 one.3 one.5)
+    subst (λ (o : Option Xdg). AnswersSimply (judged o) r old new) (sym one.4) (answers one.0 one.1 one.2 one.3 one.5)
 
 -- what the shell answered is told
 pub told-ok : (judged : Result Ask Refusal) (ask : Ask) (refusal : ShellError → Refusal) (answer told : Result (Unit {0}) ShellError) → judged ≡ asks_by {X = Unit {0}} (λ u. ask) refusal answer → told ≡ answer → told ≡ Ok tt → judged ≡ Ok ask
 told-ok judged ask refusal answer told e same ok = e ∙ ap (asks_by {X = Unit {0}} (λ u. ask) refusal) (sym same ∙ ok)
 
-pub told-err : {X : Type 0} (judged : Result Ask Refusal) (ask : X → Ask) (refusal : ShellError → Refusal) (answer told : Result X ShellError) (error : ShellError) → judged ≡ asks_by ask refusal answer → told ≡ answer → told ≡ Err error → judged ≡ Err (refusal error)
+pub told-err : {X Y : Type 0} (judged : Result Y Refusal) (ask : X → Y) (refusal : ShellError → Refusal) (answer told : Result X ShellError) (error : ShellError) → judged ≡ asks_by ask refusal answer → told ≡ answer → told ≡ Err error → judged ≡ Err (refusal error)
 told-err judged ask refusal answer told error e same err = e ∙ ap (asks_by ask refusal) (sym same ∙ err)
 
 -- an error is told with the xdg_wm_base that made the xdg_surface
@@ -237,21 +239,17 @@ making-err (Some e) told error refuses err other = let same : e ≡ error = cc i
 
 -- ---- a toplevel that is configured again
 
-asked-again : (object opcode : ℕ) (x : Xdg) → is_state opcode ≡ true → toplevel_ask_of object (Some x) opcode ≡ configured_again x
-asked-again object opcode x state = at (opcode == 0) refl
-  where
-    at : (b : Bool) → (opcode == 0) ≡ b → (if b then Ok (DestroyToplevel object x.id) else (if is_state opcode then configured_again x else Ok Ignore)) ≡ configured_again x
-    at true e = absurd (let zero = subst (λ o. is_state o ≡ true) (eqb-true opcode 0 e) state in cc)
-    at false e = ap (λ b. if b then configured_again x else Ok Ignore) state
+asked-again : (opcode : ℕ) (x : Xdg) → is_state opcode ≡ true → toplevel_ask (Some x) opcode ≡ configured_again x
+asked-again opcode x state = ap (λ b. if b then configured_again x else Ok Ignore) state
 
-pub told-again : (object opcode : ℕ) (x : Xdg) (refusal : ShellError → Refusal) (answer told : Result Bool ShellError) (sent b : Bool) → is_state opcode ≡ true → configured_again x ≡ asks_by (λ sent. configuring_if sent x.id) refusal answer → told ≡ answer → told ≡ Ok sent → sent ≡ b
-    → toplevel_ask_of object (Some x) opcode ≡ Ok (configuring_if b x.id)
-told-again object opcode x refusal answer told sent b state e same ok is =
-    asked-again object opcode x state ∙ e ∙ ap (asks_by (λ sent. configuring_if sent x.id) refusal) (sym same ∙ ok) ∙ ap (λ c. Ok (configuring_if c x.id)) is
+pub told-again : (opcode : ℕ) (x : Xdg) (refusal : ShellError → Refusal) (answer told : Result Bool ShellError) (sent b : Bool) → is_state opcode ≡ true → configured_again x ≡ asks_by (λ sent. configuring_if sent x.id) refusal answer → told ≡ answer → told ≡ Ok sent → sent ≡ b
+    → toplevel_ask (Some x) opcode ≡ Ok (configuring_if b x.id)
+told-again opcode x refusal answer told sent b state e same ok is =
+    asked-again opcode x state ∙ e ∙ ap (asks_by (λ sent. configuring_if sent x.id) refusal) (sym same ∙ ok) ∙ ap (λ c. Ok (configuring_if c x.id)) is
 
-pub refused-again : (object opcode : ℕ) (x : Xdg) (refusal : ShellError → Refusal) (answer told : Result Bool ShellError) (error : ShellError) → is_state opcode ≡ true → configured_again x ≡ asks_by (λ sent. configuring_if sent x.id) refusal answer → told ≡ answer → told ≡ Err error
-    → toplevel_ask_of object (Some x) opcode ≡ Err (refusal error)
-refused-again object opcode x refusal answer told error state e same err = asked-again object opcode x state ∙ told-err _ _ refusal answer told error e same err
+pub refused-again : (opcode : ℕ) (x : Xdg) (refusal : ShellError → Refusal) (answer told : Result Bool ShellError) (error : ShellError) → is_state opcode ≡ true → configured_again x ≡ asks_by (λ sent. configuring_if sent x.id) refusal answer → told ≡ answer → told ≡ Err error
+    → toplevel_ask (Some x) opcode ≡ Err (refusal error)
+refused-again opcode x refusal answer told error state e same err = asked-again opcode x state ∙ told-err _ _ refusal answer told error e same err
 
 -- its serial is drawn
 pub drawn : (v w : ClientView) (p : Peer) → IsPeer v p → w ≡ record v { serial = next_serial v.serial } → IsPeer w (record p { serial = next_serial p.serial })

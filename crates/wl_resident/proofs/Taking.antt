@@ -23,20 +23,20 @@ use Rattle.wl_shell.specs.Shell.{Effect, Stays, Unconfigured, Configures, Maps, 
 use Rattle.wl_shell.specs.Shell.{XdgSurface as Xdg}
 use Rattle.wl_scene.specs.Stacking.{Owned, Stack, Standing, mapped_on, without_client, without_surface_of}
 use Rattle.wl_resident.specs.Agreement.{IsScene, IsSeat, IsStack, with_numbers}
-use Rattle.wl_plain.specs.Ask.{Ask, Own, CreateSurface, DestroySurface, AskSurface, CommitSurface, DestroyBase, GetXdgSurface, DestroyXdgSurface, GetToplevel, Acknowledge, ConfigureAgain, DestroyToplevel, Ignore}
+use Rattle.wl_plain.specs.Ask.{Own, CreateSurface, AskSurface, DestroyBase, GetXdgSurface, DestroyXdgSurface, GetToplevel, Acknowledge, ConfigureAgain, Ignore}
 use Rattle.wl_plain.specs.Desktop.{Desktop, Resident, become, become_by, client_at, client_in, owned_of, resident_of, with_number}
 use Rattle.wl_plain.specs.Owning.{targets_in}
 use Rattle.wl_resident.specs.Residents.{ActsFor, IsLeft, StacksBy}
 use Rattle.wl_plain.proofs.BridgeJudged.{judge-pair}
 use Rattle.wl_plain.proofs.BridgeServes.{answers-whole, becomes-whole, only-peer, pairs-peer}
-use Rattle.wl_resident.proofs.Simply.{AnswersSo, StacksSo, TakesSo, seated-only}
+use Rattle.wl_resident.proofs.Simply.{AnswersSimply, StacksOne, StacksSimply, TakesSo, seated-only}
 use Rattle.wl_resident.specs.Seats.{IsBased, IsClearedBy, IsRestacked, IsSeated, IsSettledBy, Lacks}
 use Rattle.wl_plain.specs.Demanding.{judge_all}
 use Rattle.wl_plain.specs.LeftOut.{served_now}
 use Rattle.wl_plain.specs.NoMore.{NoMore, OwnsToplevelsOnly}
 use Rattle.wl_plain.specs.Whole.{Serves, ServesAt, Takes}
-use Rattle.wl_plain.specs.Step.{after_surface, answers_to, changed_by, committed_on, effect_on, stacked, surface_of, takes_memory, with_peer}
-use Rattle.wl_plain.proofs.Simply.{Acts, Answers, Becomes, WantsOr, judge}
+use Rattle.wl_plain.specs.Step.{after_surface, surface_of, with_peer}
+use Rattle.wl_plain.proofs.Simply.{Acts, Answers, Asking, Becomes, CommitSurface, DestroySurface, DestroyToplevel, Simple, WantsOr, changed_simply, committed_on, effect_on, judge, stacked_simply, told_simply, wants_simply}
 use Rattle.wl_plain.specs.Standing.{MappedStand, is_mapped}
 use Rattle.wl_resident.specs.View.{owned_view}
 use Rattle.wl_resident.specs.declared.residents.Resident.{Resident as Kept}
@@ -145,13 +145,13 @@ become-lives {A} o c others base y x q new is e sits =
 -- ---- what a request does to the stack
 
 -- it stays, a toplevel goes, or one is mapped
-abbrev pub Stacks : ℕ → ById ℕ → Ask → Resident → Desktop → Stacking → Type 0
+abbrev pub Stacks : ℕ → ById ℕ → Simple → Resident → Desktop → Stacking → Type 0
 Stacks c old ask r d stacking =
-    ((stacking ≡ on.Stays) × (stacked c ask r d ≡ d))
-    ⊎ (((id : ℕ) × (n : ℕ) × (old id ≡ Some n) × (stacking ≡ on.Out n) × (stacked c ask r d ≡ record d { standing = without_surface_of c id d.standing }))
+    ((stacking ≡ on.Stays) × (stacked_simply c ask r d ≡ d))
+    ⊎ (((id : ℕ) × (n : ℕ) × (old id ≡ Some n) × (stacking ≡ on.Out n) × (stacked_simply c ask r d ≡ record d { standing = without_surface_of c id d.standing }))
     ⊎ ((id : ℕ) × (n : ℕ) × (old id ≡ Some n) × (stacking ≡ on.ToTop n) × (ask ≡ CommitSurface id Maps)))
 
-commit-stacks : {A : Type 0} (c id : ℕ) (effect : Effect) (old : Kept A) (r : Resident) (p : Peer) (d : Desktop) (stacking : Stacking) → StacksBy old r (CommitSurface id effect) stacking
+commit-stacks : {A : Type 0} (c id : ℕ) (effect : Effect) (old : Kept A) (r : Resident) (p : Peer) (d : Desktop) (stacking : Stacking) → StacksBy old id effect stacking
     → Stacks c (numbers old) (CommitSurface id effect) (with_peer p r) d stacking
 commit-stacks c id Stays old r p d stacking h = inl (h, refl)
 commit-stacks c id Unconfigured old r p d stacking h = inl (h, refl)
@@ -159,23 +159,14 @@ commit-stacks c id Configures old r p d stacking h = inl (h, refl)
 commit-stacks c id Maps old r p d stacking h = inr (inr (id, h.0, h.1, h.2, refl))
 commit-stacks c id Unmaps old r p d stacking h = inr (inl (id, h.0, h.1, h.2, refl))
 
-stacks-so : {A : Type 0} (c : ℕ) (ask : Ask) (old : Kept A) (r : Resident) (p : Peer) (d : Desktop) (stacking : Stacking) → StacksBy old r ask stacking → Stacks c (numbers old) ask (with_peer p r) d stacking
-stacks-so c (Own action) old r p d stacking h = inl (h, refl)
-stacks-so c (CreateSurface id version) old r p d stacking h = inl (h, refl)
+stacks-so : {A : Type 0} (c : ℕ) (ask : Simple) (old : Kept A) (r : Resident) (p : Peer) (d : Desktop) (stacking : Stacking) → StacksOne old r ask stacking → Stacks c (numbers old) ask (with_peer p r) d stacking
+stacks-so c (Asking ask) old r p d stacking h = inl (h, refl)
 stacks-so c (DestroySurface id) old r p d stacking h = inl (h, refl)
-stacks-so c (AskSurface id request) old r p d stacking h = inl (h, refl)
 stacks-so c (CommitSurface id effect) old r p d stacking h = commit-stacks c id effect old r p d stacking h
-stacks-so c (DestroyBase id) old r p d stacking h = inl (h, refl)
-stacks-so c (GetXdgSurface id version base surface) old r p d stacking h = inl (h, refl)
-stacks-so c (DestroyXdgSurface id) old r p d stacking h = inl (h, refl)
-stacks-so c (GetToplevel id version xdg) old r p d stacking h = inl (h, refl)
-stacks-so c (Acknowledge xdg serial) old r p d stacking h = inl (h, refl)
-stacks-so c (ConfigureAgain xdg) old r p d stacking h = inl (h, refl)
 stacks-so c (DestroyToplevel id xdg) old r p d stacking h = inr (inl (surface_of (xdg_at xdg r.owned.shell), h.0, h.1, h.2, refl))
-stacks-so c Ignore old r p d stacking h = inl (h, refl)
 
 -- a mapping leaves of a peer all but its stores
-mapped-peer : (id : ℕ) (r : Resident) → (changed_by (CommitSurface id Maps) r).peer ≡ record r.peer { stores = (after_surface id r (committed_on id r)).peer.stores }
+mapped-peer : (id : ℕ) (r : Resident) → (changed_simply (CommitSurface id Maps) r).peer ≡ record r.peer { stores = (after_surface id r (committed_on id r)).peer.stores }
 mapped-peer id r = at (xdg_of id r.owned.shell)
   where
     at : (o : Option Xdg) → (effect_on id Maps o (after_surface id r (committed_on id r))).peer ≡ record r.peer { stores = (after_surface id r (committed_on id r)).peer.stores }
@@ -211,17 +202,17 @@ cleared-none (Some cause) c on new between now e h = absurd (cc)
 -- ---- an accepted request
 
 -- What a request asks was done, told and counted for a client of the desktop.
-pub record Asked {A : Type 0} (c : ℕ) (others : ℕ → ById ℕ) (base d : Desktop) (r : Resident) (p : Peer) (ask : Ask) (q : Peer) (stacking : Stacking) (old mid : Kept A) (was : Stack) : Type 0 where
+pub record Asked {A : Type 0} (c : ℕ) (others : ℕ → ById ℕ) (base d : Desktop) (r : Resident) (p : Peer) (ask : Simple) (q : Peer) (stacking : Stacking) (old mid : Kept A) (was : Stack) : Type 0 where
   pub based : IsBased c base d r
   pub once : AreOnce (numbers old)
   pub scene : IsScene (with_numbers c (numbers old) others) was d
   pub lives : p.status ≡ None
   pub acts : ActsFor ask (with_peer p r) q
-  pub left : IsLeft old mid (changed_by ask (with_peer p r)) q
+  pub left : IsLeft old mid (changed_simply ask (with_peer p r)) q
   pub stacks : Stacks c (numbers old) ask (with_peer p r) d stacking
 
 -- so the desktop has it done, and the desk agrees
-abbrev pub Acted : {A : Type 0} → ℕ → (ℕ → ById ℕ) → Desktop → Desktop → Resident → Peer → Ask → Kept A → Stack → Type 0
+abbrev pub Acted : {A : Type 0} → ℕ → (ℕ → ById ℕ) → Desktop → Desktop → Resident → Peer → Simple → Kept A → Stack → Type 0
 Acted c others base d r p ask new is = (e : Desktop) × (s : Resident) × Acts ask c (with_peer p r) d e × Sits c others base new is e s
 
 lacks-status : (p q : Peer) → LacksMemory p q → q.status ≡ None → true ≡ false
@@ -236,12 +227,12 @@ acts-later : (b : Bool) (Later : Type 0) (c : ℕ) (r : Resident) (d e : Desktop
 acts-later false Later c r d e h = h
 acts-later true Later c r d e h = inr h
 
-module _ {A : Type 0} (c : ℕ) (others : ℕ → ById ℕ) (base d : Desktop) (r : Resident) (p : Peer) (ask : Ask) (q : Peer) (stacking : Stacking) (old mid : Kept A) (was : Stack) (is : Asked c others base d r p ask q stacking old mid was) where
+module _ {A : Type 0} (c : ℕ) (others : ℕ → ById ℕ) (base d : Desktop) (r : Resident) (p : Peer) (ask : Simple) (q : Peer) (stacking : Stacking) (old mid : Kept A) (was : Stack) (is : Asked c others base d r p ask q stacking old mid was) where
   abbrev changed : Resident
-  changed = changed_by ask (with_peer p r)
+  changed = changed_simply ask (with_peer p r)
 
   abbrev after : Desktop
-  after = stacked c ask (with_peer p r) d
+  after = stacked_simply c ask (with_peer p r) d
 
   -- the numbers of the surfaces that are there after are those from before
   numbers-on : mid.client.ended ≡ None → (e : Desktop) → Known c mid e → (surface n : ℕ) → Has e.standing c surface → numbers old surface ≡ Some n → numbers mid surface ≡ Some n
@@ -264,7 +255,7 @@ module _ {A : Type 0} (c : ℕ) (others : ℕ → ById ℕ) (base d : Desktop) (
   lives-on none told stack scene = (
     become c changed q after,
     left_by q.status changed q,
-    acts-later (takes_memory ask) _ c (with_peer p r) d (become c changed q after) (q, queues-at (takes_memory ask) _ p q is.acts told, refl),
+    acts-later (wants_simply ask) _ c (with_peer p r) d (become c changed q after) (q, queues-at (wants_simply ask) _ p q is.acts told, refl),
     become-lives q.status c others base after changed q mid stack told (record {
       based = based-at None c base d after r changed q is.based (stacked-clients c ask (with_peer p r) d) (stacked-keeps c ask (with_peer p r) d);
       seat = record { peer = is.left.peer; owns = is.left.owns none; ended = λ some. absurd (differ (none-is q.status told some)) };
@@ -278,10 +269,10 @@ module _ {A : Type 0} (c : ℕ) (others : ℕ → ById ℕ) (base d : Desktop) (
   changed-lives = changed-status ask (with_peer p r) ∙ is.lives
 
   -- a mapping tells nothing that might end it
-  maps-lives : (id : ℕ) → ask ≡ CommitSurface id Maps → Queues (answers_to ask (with_peer p r)) changed.peer q → q.status ≡ None
-  maps-lives id e h = ap (λ (x : Peer). x.status) (subst (λ (a : Ask). Queues (answers_to a (with_peer p r)) changed.peer q) e h) ∙ changed-lives
+  maps-lives : (id : ℕ) → ask ≡ CommitSurface id Maps → Queues (told_simply ask (with_peer p r)) changed.peer q → q.status ≡ None
+  maps-lives id e h = ap (λ (x : Peer). x.status) (subst (λ (a : Simple). Queues (told_simply a (with_peer p r)) changed.peer q) e h) ∙ changed-lives
 
-  same-after : (s : Cause) → q.status ≡ Some s → Queues (answers_to ask (with_peer p r)) changed.peer q → IsSameBut c d after
+  same-after : (s : Cause) → q.status ≡ Some s → Queues (told_simply ask (with_peer p r)) changed.peer q → IsSameBut c d after
   same-after s ended h = at is.stacks
     where
       at : Stacks c (numbers old) ask (with_peer p r) d stacking → IsSameBut c d after
@@ -290,21 +281,21 @@ module _ {A : Type 0} (c : ℕ) (others : ℕ → ById ℕ) (base d : Desktop) (
       at (inr (inr k)) = absurd (differ (none-is q.status (maps-lives k.0 k.4 h) (some-is q.status s ended)))
 
   acted-gone : (s : Cause) (new : Kept A) (now : Stack) → q.status ≡ Some s → IsClearedBy (Some s) c mid new was now → Acted c others base d r p ask new now
-  acted-gone s new now ended left = at (takes_memory ask) is.acts
+  acted-gone s new now ended left = at (wants_simply ask) is.acts
     where
-      told : Queues (answers_to ask (with_peer p r)) changed.peer q → (b : Bool)
-          → (e : Desktop) × (s : Resident) × WantsOr b (Becomes (Queues (answers_to ask (with_peer p r)) changed.peer) c changed after e) c (with_peer p r) d e × Sits c others base new now e s
+      told : Queues (told_simply ask (with_peer p r)) changed.peer q → (b : Bool)
+          → (e : Desktop) × (s : Resident) × WantsOr b (Becomes (Queues (told_simply ask (with_peer p r)) changed.peer) c changed after e) c (with_peer p r) d e × Sits c others base new now e s
       told h b = (
         become c changed q after,
         left_by q.status changed q,
         acts-later b _ c (with_peer p r) d (become c changed q after) (q, h, refl),
         become-gone q.status s c others base after changed q new now ended
             (sits-gone s c (numbers old) others base d after r changed q mid new was now is.based (same-after s ended h) is.scene is.left.peer
-            (nameless-over mid.client q is.left.peer (queues-over (answers_to ask (with_peer p r)) changed.peer q changed-lives h (some-is q.status s ended))) left),
+            (nameless-over mid.client q is.left.peer (queues-over (told_simply ask (with_peer p r)) changed.peer q changed-lives h (some-is q.status s ended))) left),
       )
 
-      at : (b : Bool) → WantsOrAlone b (Queues (answers_to ask (with_peer p r)) changed.peer q) p q
-          → (e : Desktop) × (s : Resident) × WantsOr b (Becomes (Queues (answers_to ask (with_peer p r)) changed.peer) c changed after e) c (with_peer p r) d e × Sits c others base new now e s
+      at : (b : Bool) → WantsOrAlone b (Queues (told_simply ask (with_peer p r)) changed.peer q) p q
+          → (e : Desktop) × (s : Resident) × WantsOr b (Becomes (Queues (told_simply ask (with_peer p r)) changed.peer) c changed after e) c (with_peer p r) d e × Sits c others base new now e s
       at false h = told h false
       at true (inr h) = told h true
       at true (inl h) = (
@@ -333,11 +324,11 @@ module _ {A : Type 0} (c : ℕ) (others : ℕ → ById ℕ) (base d : Desktop) (
       let gone = lacks q is.left.peer in
       let over = lacks-over q gone.0 gone.1 in
       let cause : gone.0.status ≡ Some over.0 = ap (λ (x : Peer). x.status) over.2 in
-      let queues = subst (λ (a : Ask). Queues (answers_to a (with_peer p r)) (changed_by a (with_peer p r)).peer q) e (queues-at (takes_memory ask) _ p q is.acts told) in
+      let queues = subst (λ (a : Simple). Queues (told_simply a (with_peer p r)) (changed_simply a (with_peer p r)).peer q) e (queues-at (wants_simply ask) _ p q is.acts told) in
       let before = lacks-before p q gone.0 _ (queues ∙ mapped-peer id (with_peer p r)) gone.1 in (
         become c (with_peer p r) gone.0 d,
         left_by gone.0.status (with_peer p r) gone.0,
-        wants (takes_memory ask) _ _ (ap (λ (a : Ask). takes_memory a) e) (gone.0, before, refl),
+        wants (wants_simply ask) _ _ (ap (λ (a : Simple). wants_simply a) e) (gone.0, before, refl),
         become-gone gone.0.status over.0 c others base d (with_peer p r) gone.0 new now cause
             (sits-gone over.0 c (numbers old) others base d d r (with_peer p r) gone.0 on new was now is.based (itself c d) is.scene gone.2 (nameless-over on.client gone.0 gone.2 over)
             (subst (λ (o : Option Cause). IsClearedBy o c on new was now) (gone.2.status ∙ cause) left)),
@@ -354,7 +345,7 @@ module _ {A : Type 0} (c : ℕ) (others : ℕ → ById ℕ) (base d : Desktop) (
       mapped id n number e (inl h) =
           lived-on none told on new between now h.0 left
           (subst (λ (k : Stack). IsScene (with_numbers c (numbers old) others) k after) (sym h.1)
-          (subst (λ (a : Ask). IsScene (with_numbers c (numbers old) others) (mapped_on c n was) (stacked c a (with_peer p r) d)) (sym e)
+          (subst (λ (a : Simple). IsScene (with_numbers c (numbers old) others) (mapped_on c n was) (stacked_simply c a (with_peer p r) d)) (sym e)
           (record {
             standing = stack-mapped (with_numbers c (numbers old) others) c id n was.next d.mappings was.standing d.standing (ap (λ (f : ById ℕ). f id) (numbers-same c (numbers old) others) ∙ number) is.scene.next is.scene.standing;
             next = next-of was.next d.mappings is.scene.next;
@@ -390,7 +381,7 @@ module _ {A : Type 0} (c : ℕ) (others : ℕ → ById ℕ) (base d : Desktop) (
 
 module _ {A : Type 0} (c : ℕ) (others : ℕ → ById ℕ) (base d : Desktop) (r : Resident) (stacking : Stacking) (old mid new : Kept A) (was now : Stack) (based : IsBased c base d r) (once : AreOnce (numbers old)) (scene : IsScene (with_numbers c (numbers old) others) was d) (settled : IsSettledBy mid.client.ended c stacking mid new was now) where
   -- what is judged of it is answered
-  answered : (judged : Result Ask Refusal) (p : Peer) → p.status ≡ None → AnswersSo judged (with_peer p r) old mid → StacksSo old r judged stacking
+  answered : (judged : Result Simple Refusal) (p : Peer) → p.status ≡ None → AnswersSimply judged (with_peer p r) old mid → StacksSimply old r judged stacking
       → (e : Desktop) × (s : Resident) × Answers judged c (with_peer p r) d e × Sits c others base new now e s
   answered (Ok ask) p lives answers stacks =
       acted c others base d r (counted p) ask answers.0 stacking old mid was
@@ -417,7 +408,7 @@ module _ {A : Type 0} (c : ℕ) (others : ℕ → ById ℕ) (base d : Desktop) (
         a.0,
         a.1,
         answers-whole c r d a.0 there more.pointer (judge r object opcode body) (judge_all served_now r object opcode body) left lives (only-peer r left.peer refl only)
-            (pairs-peer r left.peer (judge r object opcode body) (judge_all served_now r object opcode body) (judge-pair r object opcode body only.roles)) a.2,
+            (pairs-peer r left.peer (judge r object opcode body) (judge_all served_now r object opcode body) (judge-pair r object opcode body)) a.2,
         a.3,
       )
   taken Bad there more only lives takes =

@@ -16,7 +16,7 @@ use Rattle.wl_client.specs.declared.refusals.Refusal.{Refusal}
 use Rattle.wl_client.specs.declared.refusals.ErrorCode.TheVariants.{InvalidMethod}
 use Rattle.wl_client.specs.Told.{Said, display_error}
 use Rattle.wl_shell.specs.Kept.{Kept as KeptXdg, kept_of}
-use Rattle.wl_shell.specs.Shell.{Maps, Unmaps, next_serial, xdg_at}
+use Rattle.wl_shell.specs.Shell.{Effect, Maps, Unmaps, next_serial, xdg_at}
 use Rattle.wl_shell.specs.declared.acts.ShellAct.{ShellAct}
 use Rattle.wl_shell.specs.declared.acts.ShellAct.TheVariants.{Configure, Map, Unmap}
 use Rattle.wl_resident.specs.declared.residents.Resident.{Resident as Kept}
@@ -24,9 +24,9 @@ use Rattle.wl_resident.specs.declared.xdg_toplevel.ToplevelAsked.{ToplevelAsked}
 use Rattle.wl_resident.specs.declared.xdg_toplevel.ToplevelAsked.TheVariants.{Destruction, Configure as AskedConfigure, Nothing as AskedNothing}
 use Rattle.wl_resident.specs.declared.residents.Stacking.{Stacking}
 use Rattle.wl_resident.specs.declared.residents.Stacking.TheVariants.{Stays, ToTop, Out}
-use Rattle.wl_plain.specs.Ask.{Ask, CommitSurface, DestroyToplevel}
+use Rattle.wl_plain.specs.Ask.{Ask}
 use Rattle.wl_plain.specs.Changing.{changed_for}
-use Rattle.wl_plain.specs.Demand.{Demand, Asks, CommitTree, EndToplevel}
+use Rattle.wl_plain.specs.Demand.{Demand, CommitTree, EndToplevel}
 use Rattle.wl_plain.specs.Demanding.{effect_of_commit, judge_all}
 use Rattle.wl_plain.specs.Desktop.{Desktop, Resident}
 use Rattle.wl_plain.specs.LeftOut.{served_now}
@@ -130,12 +130,13 @@ told_by act serial k = []
 
 -- What a request does to the stack of toplevels, by the number of its toplevel's surface: one that is mapped comes to the top, and one that is
 -- unmapped or goes is taken out.
-abbrev pub StacksBy : {A : Type 0} → Kept A → Resident → Ask → Stacking → Type 0
-StacksBy old r (CommitSurface id Maps) stacking = (number : ℕ) × (targets_in WlSurface old.client.objects id ≡ Some number) × (stacking ≡ ToTop number)
-StacksBy old r (CommitSurface id Unmaps) stacking = (number : ℕ) × (targets_in WlSurface old.client.objects id ≡ Some number) × (stacking ≡ Out number)
-StacksBy old r (DestroyToplevel id xdg) stacking =
-    (number : ℕ) × (targets_in WlSurface old.client.objects (surface_of (xdg_at xdg r.owned.shell)) ≡ Some number) × (stacking ≡ Out number)
-StacksBy old r ask stacking = stacking ≡ Stays
+abbrev pub StacksTo : {A : Type 0} → Kept A → ℕ → (ℕ → Stacking) → Stacking → Type 0
+StacksTo old id place stacking = (number : ℕ) × (targets_in WlSurface old.client.objects id ≡ Some number) × (stacking ≡ place number)
+
+abbrev pub StacksBy : {A : Type 0} → Kept A → ℕ → Effect → Stacking → Type 0
+StacksBy old id Maps stacking = StacksTo old id ToTop stacking
+StacksBy old id Unmaps stacking = StacksTo old id Out stacking
+StacksBy old id effect stacking = stacking ≡ Stays
 
 -- what a commit does to it, which came to this for the shell
 abbrev pub stacking_by : ShellAct → ℕ → Stacking
@@ -144,9 +145,8 @@ stacking_by Unmap number = Out number
 stacking_by act number = Stays
 
 abbrev pub StacksFor : {A : Type 0} → Kept A → Resident → Demand → Stacking → Type 0
-StacksFor old r (Asks ask) stacking = StacksBy old r ask stacking
-StacksFor old r (CommitTree id) stacking = StacksBy old r (CommitSurface id (effect_of_commit r id)) stacking
-StacksFor old r (EndToplevel id xdg) stacking = StacksBy old r (DestroyToplevel id xdg) stacking
+StacksFor old r (CommitTree id) stacking = StacksBy old id (effect_of_commit r id) stacking
+StacksFor old r (EndToplevel id xdg) stacking = StacksTo old (surface_of (xdg_at xdg r.owned.shell)) Out stacking
 StacksFor old r demand stacking = stacking ≡ Stays
 
 -- a refusal ends the client, and with it its toplevels

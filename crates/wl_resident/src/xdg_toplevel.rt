@@ -7,7 +7,7 @@ ghost use Rattle.wl_client.specs.Peer.{Peer, Queues};
 ghost use Rattle.wl_proto.specs.declared.interface.Interface.TheVariants.{XdgToplevel};
 ghost use Rattle.wl_proto.specs.Messages.{Message, xdg_toplevel_request};
 ghost use Rattle.wl_shell.specs.Kept.{kept_of};
-ghost use Rattle.wl_plain.specs.Demanding.{demand_of, demands};
+ghost use Rattle.wl_plain.specs.Demanding.{demand_of, demands, toplevel_destroyed};
 ghost use Rattle.wl_plain.specs.LeftOut.{served_now};
 ghost use Rattle.wl_resident.specs.Residents.{Answers, IsToplevel, Stacks, asked_by, drawn_by, told_by};
 ghost use Rattle.wl_plain.specs.Step.{toplevel_configured, xdg_configured};
@@ -58,7 +58,7 @@ pub(crate) fn asked_of(request: &XdgToplevelRequest) -> ToplevelAsked
 impl<A: Allocator + Copy> Resident<A> {
     /// xdg_toplevel.destroy: its id is given back.
     fn destroy_toplevel(&mut self, object: u32, surface: SurfaceNo)
-        ensures answers { IsToplevel self.old object surface → Answers (λ r. demands (toplevel_ask r object 0)) self.old self.new }
+        ensures answers { IsToplevel self.old object surface → Answers (λ r. toplevel_destroyed object (xdg_with object r.owned.shell)) self.old self.new }
         ensures rest { length self.new.client.rest ≤ length self.old.client.rest }
     {
         self.client.count();
@@ -119,7 +119,7 @@ impl<A: Allocator + Copy> Resident<A> {
 
     /// A request for another state, as xdg_toplevel.set_maximized: the toplevel is configured again, if it was configured before.
     fn configure_again(&mut self, object: u32, surface: SurfaceNo)
-        ensures answers { IsToplevel self.old object surface → (opcode : ℕ) → is_state opcode ≡ true → Answers (λ r. demands (toplevel_ask r object opcode)) self.old self.new }
+        ensures answers { IsToplevel self.old object surface → (opcode : ℕ) → is_state opcode ≡ true → Answers (λ r. demands (toplevel_ask (xdg_with object r.owned.shell) opcode)) self.old self.new }
         ensures rest { length self.new.client.rest ≤ length self.old.client.rest }
     {
         let xdg_surface = self.xdg_surface_of(surface);

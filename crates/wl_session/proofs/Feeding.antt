@@ -10,7 +10,6 @@ use Rattle.wl_client.specs.View.{ClientView}
 use Rattle.wl_scene.specs.Stacking.{Owned, Standing, is_of, nothing_owned, without_client}
 use Rattle.wl_resident.specs.Agreement.{IsPlace, Matches}
 use Rattle.wl_desk.specs.Agreeing.{Agrees}
-use Rattle.wl_plain.specs.Ask.{Ask}
 use Rattle.wl_plain.specs.Desktop.{Desktop, Resident, become, become_by, client_at, client_in, owned_in, owned_of, resident_of, with_client, with_number}
 use Rattle.wl_desk.specs.Feeding.{Ends, IsIdleIn, IsIdleOf, kept_at, kept_by, kept_of}
 use Rattle.wl_desk.proofs.Calls.{ended_at, ended_of}
@@ -19,7 +18,7 @@ use Rattle.wl_plain.specs.Laws.{status_in}
 use Rattle.wl_plain.specs.Laws.{status_of as ended_in}
 use Rattle.wl_resident.specs.Seats.{ended_by}
 use Rattle.wl_plain.specs.Settling.{becomes}
-use Rattle.wl_plain.specs.Step.{changed_by, stacked, with_peer}
+use Rattle.wl_plain.specs.Step.{with_peer}
 use Rattle.wl_plain.specs.Steps.{fed_of, peer_at, peer_of, status_of}
 use Rattle.wl_resident.specs.View.{DeskView, OwnedView}
 use Rattle.wl_plain.specs.declared.answers.Done.TheVariants as gave
@@ -32,6 +31,7 @@ use Rattle.wl_plain.proofs.BridgeLasts.{reaches-has}
 use Rattle.wl_plain.proofs.BridgeServes.{becomes-same, settles-to}
 use Rattle.wl_plain.proofs.Places.{client-become, number-kept, number-same, number-twice, stacked-clients}
 use Rattle.wl_plain.proofs.Stacks.{and-both, differ, or-left, or-right, same-number}
+use Rattle.wl_plain.proofs.Simply.{Simple, changed_simply, stacked_simply}
 
 -- ---- a client stays there
 
@@ -39,7 +39,7 @@ use Rattle.wl_plain.proofs.Stacks.{and-both, differ, or-left, or-right, same-num
 abbrev pub IsThere : ℕ → Desktop → Type 0
 IsThere c d = (r : Resident) × (client_at c d ≡ Some r)
 
-stacked-there : (c : ℕ) (ask : Ask) (r : Resident) (d : Desktop) → IsThere c d → IsThere c (stacked c ask r d)
+stacked-there : (c : ℕ) (ask : Simple) (r : Resident) (d : Desktop) → IsThere c d → IsThere c (stacked_simply c ask r d)
 stacked-there c ask r d there = (there.0, ap (λ (clients : List (Option Resident)). client_in clients c) (stacked-clients c ask r d) ∙ there.1)
 
 serves-there : (c : ℕ) (d new : Desktop) → NoMore d → Serves served_now c d new → IsThere c new
@@ -51,7 +51,7 @@ serves-there c d new more h = at (client_at c d) refl h
         message-by c r d new is more (λ e. IsThere c e) (λ p q never. (_, client-become q.status c (with_peer p r) q d r is))
         (λ ask asks p q objects told.
         let there = stacked-there c ask (with_peer p r) d (r, is) in
-        (_, client-become q.status c (changed_by ask (with_peer p r)) q (stacked c ask (with_peer p r) d) there.0 there.1)) h
+        (_, client-become q.status c (changed_simply ask (with_peer p r)) q (stacked_simply c ask (with_peer p r) d) there.0 there.1)) h
 
 pub reaches-there : (c n : ℕ) (d new : Desktop) → NoMore d → IsThere c d → Reaches served_now c n d new → IsThere c new
 reaches-there c zero d new more there h = (there.0, ap (λ (x : Desktop). client_at c x) h ∙ there.1)

@@ -2,21 +2,16 @@ use Rattle.std.proofs.Common.{subst, sym, rules}
 use Rattle.wl_proto.specs.Messages.{Message, xdg_surface_request, xdg_wm_base_request}
 use Rattle.wl_resident.specs.declared.residents.Stacking.TheVariants.{Stays}
 use Rattle.wl_resident.specs.Residents.{StacksSo}
-use Rattle.wl_plain.proofs.Simply.{ask_of}
 use Rattle.wl_plain.specs.Demanding.{demand_of}
 use Rattle.wl_plain.specs.LeftOut.{served_now}
-use Rattle.wl_plain.proofs.BridgeJudged.{asked-pair}
-use Rattle.wl_resident.proofs.Simply.{stacks-simply}
 use Rattle.wl_resident.proofs.Stackings.{base-stays, xdg-stays}
 use Rattle.wl_resident.proofs.residents.Resident.answer.Goals as goal
 
 pub returns-in-XdgSurface-clause-stacks : goal.returns-in-XdgSurface-clause-stacks
 returns-in-XdgSurface-clause-stacks g c = λ m kind entry r is only.
     let v = c.args.self.now in
-    let told = xdg_surface_request c.in-XdgSurface.request in
     subst (λ (m : Message). StacksSo v r (demand_of served_now r c.args.object c.args.version m) Stays) (sym (rw c.in-XdgSurface.is at kind))
-    (stacks-simply v (ask_of r c.args.object c.args.version told) (demand_of served_now r c.args.object c.args.version told) r Stays only.roles
-    (asked-pair told.interface r c.args.object c.args.version told.opcode told.fields only.roles) (xdg-stays v r c.args.object c.args.version c.in-XdgSurface.request))
+    (xdg-stays v r c.args.object c.args.version c.in-XdgSurface.request)
 
 pub returns-in-Surface-clause-rest : goal.returns-in-Surface-clause-rest
 returns-in-Surface-clause-rest g c = c.wl_surface.ensures.rest
@@ -69,10 +64,8 @@ returns-in-Base-clause-answers g c = search rules
 pub returns-in-Base-clause-stacks : goal.returns-in-Base-clause-stacks
 returns-in-Base-clause-stacks g c = λ m kind entry r is only.
     let v = c.args.self.now in
-    let told = xdg_wm_base_request c.in-Base.request in
     subst (λ (m : Message). StacksSo v r (demand_of served_now r c.args.object c.args.version m) Stays) (sym (rw c.in-Base.is at kind))
-    (stacks-simply v (ask_of r c.args.object c.args.version told) (demand_of served_now r c.args.object c.args.version told) r Stays only.roles
-    (asked-pair told.interface r c.args.object c.args.version told.opcode told.fields only.roles) (base-stays v r c.args.object c.args.version c.in-Base.request))
+    (base-stays v r c.args.object c.args.version c.in-Base.request)
 
 pub returns-in-XdgSurface-clause-answers : goal.returns-in-XdgSurface-clause-answers
 returns-in-XdgSurface-clause-answers g c = search rules

@@ -5,11 +5,10 @@ use Rattle.wl_client.specs.View.{ClientView}
 use Rattle.wl_shell.specs.Kept.{Kept, changing, kept_after, kept_of}
 use Rattle.wl_surface.specs.Request.{Commit}
 use Rattle.wl_surface.specs.Surfaces.{applying, asking, surface_at}
-use Rattle.wl_plain.specs.Ask.{CommitSurface}
 use Rattle.wl_plain.specs.Demand.{CommitTree}
 use Rattle.wl_plain.specs.Owning.{effect_by, names_in}
 use Rattle.wl_resident.specs.Residents.{told_by}
-use Rattle.wl_plain.specs.Step.{after_surface, changed_by, committed_on}
+use Rattle.wl_plain.specs.Step.{after_surface}
 use Rattle.wl_plain.proofs.BridgeJudged.{commit, effect-same}
 use Rattle.wl_resident.proofs.Simply.{meets-simply}
 use Rattle.wl_resident.proofs.Committing.{commit-peer, commit-told}
@@ -19,6 +18,7 @@ use Rattle.wl_plain.proofs.OwningSurfaces.{AreKept-changed}
 use Rattle.wl_resident.proofs.Shelling.{owns-told}
 use Rattle.wl_resident.proofs.Numbers.{keeps-same}
 use Rattle.wl_resident.proofs.residents.Resident.apply.Goals as goal
+use Rattle.wl_plain.proofs.Simply.{CommitSurface, changed_simply, committed_on}
 
 pub returns-clause-applies : goal.returns-clause-applies
 returns-clause-applies g c = λ client r on names object kept shows only comes is owned names_are named answer serial shell.
@@ -38,7 +38,7 @@ returns-clause-applies g c = λ client r on names object kept shows only comes i
     let events = ap (told_by act c.args.serial) same ∙ commit-told names v.owned.surfaces kept r owned object number named shows act c.args.serial answer serial in
     let left = commit-peer names v.owned.surfaces kept r owned object number named shows act answer in (
       told.0,
-      inr (subst (λ (es : List Said). Queues es (changed_by ask r).peer told.0) events (subst (λ (p : Peer). Queues (told_by act c.args.serial (kept_of c.let_go_of.new.self.owned.shell number)) p told.0) (sym left) told.1)),
+      inr (subst (λ (es : List Said). Queues es (changed_simply ask r).peer told.0) events (subst (λ (p : Peer). Queues (told_by act c.args.serial (kept_of c.let_go_of.new.self.owned.shell number)) p told.0) (sym left) told.1)),
       record {
         peer = told.2;
         numbers = λ alive. keeps-same v.client.objects c.tell_act.new.self.client.objects (c.tell_act.ensures.table alive ∙ ap (λ (w : ClientView). w.objects) c.let_go_of.ensures.only);

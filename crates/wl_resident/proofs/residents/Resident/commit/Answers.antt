@@ -4,21 +4,18 @@ use Rattle.wl_client.specs.Peer.{counted}
 use Rattle.wl_shell.specs.Kept.{changing, commit_answer, kept_after, kept_of}
 use Rattle.wl_shell.specs.declared.acts.ShellAct.{ShellAct}
 use Rattle.wl_client.specs.declared.refusals.Refusal.{Refusal}
-use Rattle.wl_plain.specs.Ask.{Ask, CommitSurface}
-use Rattle.wl_plain.specs.Owning.{asks_by, effect_by, kept_base, kept_id, names_in, shell_refusal}
+use Rattle.wl_plain.specs.Owning.{asks_by, kept_base, kept_id, names_in, shell_refusal}
 use Rattle.wl_plain.specs.Step.{with_peer}
-use Rattle.wl_plain.specs.WlSurface.{surface_committed, will_show}
-use Rattle.wl_plain.proofs.OwningReads.{committed-by, pending-read}
-use Rattle.wl_plain.specs.Demand.{Demand}
+use Rattle.wl_plain.specs.WlSurface.{will_show}
+use Rattle.wl_plain.proofs.OwningReads.{accepted-effect, committed-by, pending-read}
+use Rattle.wl_plain.specs.Demand.{Demand, CommitTree}
 use Rattle.wl_plain.specs.Demanding.{commit_demand}
-use Rattle.wl_resident.specs.Residents.{AnswersSo}
-use Rattle.wl_plain.proofs.BridgeJudged.{commit-pair}
+use Rattle.wl_resident.specs.Residents.{AnswersSo, StacksSo}
 use Rattle.wl_plain.proofs.BridgeServes.{only-peer}
-use Rattle.wl_resident.proofs.Simply.{StacksSo, answers-simply, committed-tree, stacks-simply}
 use Rattle.wl_resident.specs.declared.residents.Stacking.TheVariants.{Stays}
 use Rattle.wl_resident.proofs.Stackings.{commit-stacks}
 use Rattle.wl_resident.proofs.Numbers.{left-from}
-use Rattle.wl_resident.proofs.Shelling.{names-counted, objects-counted, refused, told-err}
+use Rattle.wl_resident.proofs.Shelling.{names-counted, objects-counted, refused-whole, told-err}
 use Rattle.wl_resident.proofs.residents.Resident.commit.Goals as goal
 
 pub returns-in-Ok-clause-answers : goal.returns-in-Ok-clause-answers
@@ -32,19 +29,18 @@ returns-in-Ok-clause-answers g c = λ named client r on is only.
     let shows = c.is_some-has_buffer.result in
     let will : shows ≡ will_show r object = c.is_some-has_buffer.ensures ∙ pending-read names v.owned.surfaces kept r is.owns object number c.pending_buffer.result named c.pending_buffer.ensures in
     let answer = sym c.on_commit.ensures.answer ∙ c.in-Ok.is in
-    let judged = committed-by names v.owned.surfaces kept r is.owns object number 0 0 named
-    ∙ ap (λ (b : Bool). asks_by (λ (a : ShellAct). CommitSurface object (effect_by a)) (shell_refusal 0 (kept_id (kept number)) 0) (commit_answer b (kept number))) (sym will)
-    ∙ ap (asks_by (λ (a : ShellAct). CommitSurface object (effect_by a)) (shell_refusal 0 (kept_id (kept number)) 0)) answer in
+    let judged = committed-by names v.owned.surfaces kept r is.owns object number 0 0 only.roles named
+    ∙ ap (λ (b : Bool). asks_by (λ (a : ShellAct). CommitTree object) (shell_refusal 0 (kept_id (kept number)) 0) (commit_answer b (kept number))) (sym will)
+    ∙ ap (asks_by (λ (a : ShellAct). CommitTree object) (shell_refusal 0 (kept_id (kept number)) 0)) answer in
     let serial : c.serial-serial.result ≡ r.peer.serial = c.serial-serial.ensures ∙ is.peer.serial in
     let shell = c.in-Ok.ensures.ok ∙ ap (λ (n : ℕ). changing number (kept_after n act) kept) serial in
-    let comes = committed-tree r object (effect_by act) only.roles judged in
-    let applied = c.apply.ensures.applies client (with_peer (counted r.peer) r) on names object kept shows (only-peer r (counted r.peer) refl only) comes.0 (c.count.ensures.counts r.peer is.peer) is.owns (names-counted v.client c.count.new.self c.count.ensures.only) named answer serial shell in
-    subst (λ (j : Result Demand Refusal). AnswersSo j client r on v c.apply.new.self) (sym comes.1)
+    let comes = accepted-effect names v.owned.surfaces kept r is.owns object number act only.roles named (ap (λ (b : Bool). commit_answer b (kept number)) (sym will) ∙ answer) in
+    let applied = c.apply.ensures.applies client (with_peer (counted r.peer) r) on names object kept shows (only-peer r (counted r.peer) refl only) comes (c.count.ensures.counts r.peer is.peer) is.owns (names-counted v.client c.count.new.self c.count.ensures.only) named answer serial shell in
+    subst (λ (j : Result Demand Refusal). AnswersSo j client r on v c.apply.new.self) (sym judged)
     (applied.0, applied.1, left-from v (record { client = c.count.new.self; owned = record v.owned { shell = c.on_commit.new.self } }) _ _ applied.0 (objects-counted v.client c.count.new.self c.count.ensures.only) applied.2)
 
 pub returns-in-Err-clause-answers : goal.returns-in-Err-clause-answers
 returns-in-Err-clause-answers g c = λ named client r on is only.
-    answers-simply _ _ client on (surface_committed r c.args.object) (commit_demand r c.args.object) r only (commit-pair r c.args.object only.roles) (
     let v = c.args.self.now in
     let object = c.args.object in
     let number = c.args.surface in
@@ -55,26 +51,26 @@ returns-in-Err-clause-answers g c = λ named client r on is only.
     let base = kept_base (kept_of c.on_commit.new.self number) in
     let will : c.is_some-has_buffer.result ≡ will_show r object = c.is_some-has_buffer.ensures ∙ pending-read names v.owned.surfaces kept r is.owns object number c.pending_buffer.result named c.pending_buffer.ensures in
     let same : kept_id (kept number) ≡ xdg = sym (c.xdg_surface_of-xdg_surface.ensures ∙ ap (λ b. kept_id (kept_of b number)) c.in-Err.ensures.err) in
-    let judged = told-err (surface_committed r object) (λ (a : ShellAct). CommitSurface object (effect_by a)) (shell_refusal base (kept_id (kept number)) xdg) (commit_answer (will_show r object) (kept number)) c.on_commit.result error
-    (committed-by names v.owned.surfaces kept r is.owns object number base xdg named)
+    let judged = told-err (commit_demand r object) (λ (a : ShellAct). CommitTree object) (shell_refusal base (kept_id (kept number)) xdg) (commit_answer (will_show r object) (kept number)) c.on_commit.result error
+    (committed-by names v.owned.surfaces kept r is.owns object number base xdg only.roles named)
     (c.on_commit.ensures.answer ∙ ap (λ (b : Bool). commit_answer b (kept number)) will) c.in-Err.is in
-    refused _ _ r (surface_committed r object) (shell_refusal base xdg xdg error) (judged ∙ ap (λ i. Err (shell_refusal base i xdg error)) same)
+    refused-whole _ _ client r on (commit_demand r object) (shell_refusal base xdg xdg error) (judged ∙ ap (λ i. Err (shell_refusal base i xdg error)) same)
     c.refuse_xdg_surface.ensures.ended
-    (c.refuse_xdg_surface.ensures.errs r.peer is.peer))
+    (c.refuse_xdg_surface.ensures.errs r.peer is.peer)
 
 pub returns-in-Ok-clause-stacks : goal.returns-in-Ok-clause-stacks
 returns-in-Ok-clause-stacks g c = λ named r is only.
-    stacks-simply c.args.self.now (surface_committed r c.args.object) (commit_demand r c.args.object) r c.stacking_of.result only.roles (commit-pair r c.args.object only.roles) (
     let v = c.args.self.now in
     let object = c.args.object in
     let number = c.args.surface in
     let names = names_in v.client.objects in
     let kept = kept_of v.owned.shell in
     let will : c.is_some-has_buffer.result ≡ will_show r object = c.is_some-has_buffer.ensures ∙ pending-read names v.owned.surfaces kept r is.owns object number c.pending_buffer.result named c.pending_buffer.ensures in
-    let judged = committed-by names v.owned.surfaces kept r is.owns object number 0 0 named
-    ∙ ap (λ (b : Bool). asks_by (λ (a : ShellAct). CommitSurface object (effect_by a)) (shell_refusal 0 (kept_id (kept number)) 0) (commit_answer b (kept number))) (sym will)
-    ∙ ap (asks_by (λ (a : ShellAct). CommitSurface object (effect_by a)) (shell_refusal 0 (kept_id (kept number)) 0)) (sym c.on_commit.ensures.answer ∙ c.in-Ok.is) in
-    commit-stacks v r object number c.in-Ok.act (surface_committed r object) c.stacking_of.result named judged c.stacking_of.ensures)
+    let judged = committed-by names v.owned.surfaces kept r is.owns object number 0 0 only.roles named
+    ∙ ap (λ (b : Bool). asks_by (λ (a : ShellAct). CommitTree object) (shell_refusal 0 (kept_id (kept number)) 0) (commit_answer b (kept number))) (sym will)
+    ∙ ap (asks_by (λ (a : ShellAct). CommitTree object) (shell_refusal 0 (kept_id (kept number)) 0)) (sym c.on_commit.ensures.answer ∙ c.in-Ok.is) in
+    let comes = accepted-effect names v.owned.surfaces kept r is.owns object number c.in-Ok.act only.roles named (ap (λ (b : Bool). commit_answer b (kept number)) (sym will) ∙ sym c.on_commit.ensures.answer ∙ c.in-Ok.is) in
+    commit-stacks v r object number c.in-Ok.act (commit_demand r object) c.stacking_of.result named judged comes c.stacking_of.ensures
 
 pub returns-in-Ok-clause-rest : goal.returns-in-Ok-clause-rest
 returns-in-Ok-clause-rest g c = rw (← c.count.ensures.rest) c.apply.ensures.rest
@@ -84,7 +80,6 @@ returns-in-Err-clause-rest g c = c.refuse_xdg_surface.ensures.rest
 
 pub returns-in-Err-clause-stacks : goal.returns-in-Err-clause-stacks
 returns-in-Err-clause-stacks g c = λ named r is only.
-    stacks-simply c.args.self.now (surface_committed r c.args.object) (commit_demand r c.args.object) r Stays only.roles (commit-pair r c.args.object only.roles) (
     let v = c.args.self.now in
     let object = c.args.object in
     let number = c.args.surface in
@@ -95,7 +90,7 @@ returns-in-Err-clause-stacks g c = λ named r is only.
     let base = kept_base (kept_of c.on_commit.new.self number) in
     let will : c.is_some-has_buffer.result ≡ will_show r object = c.is_some-has_buffer.ensures ∙ pending-read names v.owned.surfaces kept r is.owns object number c.pending_buffer.result named c.pending_buffer.ensures in
     let same : kept_id (kept number) ≡ xdg = sym (c.xdg_surface_of-xdg_surface.ensures ∙ ap (λ b. kept_id (kept_of b number)) c.in-Err.ensures.err) in
-    let judged = told-err (surface_committed r object) (λ (a : ShellAct). CommitSurface object (effect_by a)) (shell_refusal base (kept_id (kept number)) xdg) (commit_answer (will_show r object) (kept number)) c.on_commit.result error
-    (committed-by names v.owned.surfaces kept r is.owns object number base xdg named)
+    let judged = told-err (commit_demand r object) (λ (a : ShellAct). CommitTree object) (shell_refusal base (kept_id (kept number)) xdg) (commit_answer (will_show r object) (kept number)) c.on_commit.result error
+    (committed-by names v.owned.surfaces kept r is.owns object number base xdg only.roles named)
     (c.on_commit.ensures.answer ∙ ap (λ (b : Bool). commit_answer b (kept number)) will) c.in-Err.is in
-    subst (λ (j : Result Ask Refusal). StacksSo v r j Stays) (sym judged) tt)
+    subst (λ (j : Result Demand Refusal). StacksSo v r j Stays) (sym judged) tt

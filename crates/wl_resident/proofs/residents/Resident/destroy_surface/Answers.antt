@@ -2,7 +2,6 @@ use Rattle.std.proofs.Common.{◌≡◌, None, ap, refl, inl, inr}
 use Rattle.wl_client.specs.View.{ClientView}
 use Rattle.wl_shell.specs.Kept.{kept_of}
 use Rattle.wl_surface.specs.Surfaces.{surface_at, without_surface}
-use Rattle.wl_plain.specs.Ask.{DestroySurface}
 use Rattle.wl_plain.specs.Demand.{EndSurface}
 use Rattle.wl_plain.specs.Owning.{Names, names_in, with_surface}
 use Rattle.wl_plain.specs.Step.{after_surface, with_surfaces}
@@ -14,6 +13,7 @@ use Rattle.wl_plain.proofs.BridgeJudged.{ends}
 use Rattle.wl_resident.proofs.Numbers.{keeps-gone}
 use Rattle.wl_resident.proofs.Simply.{meets-simply}
 use Rattle.wl_resident.proofs.residents.Resident.destroy_surface.Goals as goal
+use Rattle.wl_plain.proofs.Simply.{DestroySurface}
 
 pub returns-in-Err-clause-does : goal.returns-in-Err-clause-does
 returns-in-Err-clause-does g c = λ named bare client r on is only.

@@ -1,4 +1,7 @@
-use Rattle.wl_plain.specs.XdgShell.{toplevel_ask}
+use Rattle.wl_plain.specs.Demanding.{toplevel_destroyed}
+use Rattle.wl_plain.proofs.BridgeJudged.{gone-simple}
+use Rattle.wl_plain.proofs.Simply.{simply}
+use Rattle.wl_shell.specs.Shell.{xdg_with}
 use Rattle.std.proofs.Common.{None, inr}
 use Rattle.wl_shell.specs.Kept.{kept_of}
 use Rattle.wl_client.specs.Peer.{counted}
@@ -6,15 +9,16 @@ use Rattle.wl_plain.specs.Owning.{names_in}
 use Rattle.wl_plain.proofs.OwningAsks.{owned-toplevel-gone}
 use Rattle.wl_resident.proofs.Shelling.{toplevel-answered, toplevel-gone}
 use Rattle.wl_resident.proofs.Numbers.{keeps-toplevel}
-use Rattle.wl_resident.proofs.Simply.{simply}
+use Rattle.wl_resident.proofs.Simply.{answers-simply}
 use Rattle.wl_resident.proofs.residents.Resident.destroy_toplevel.Goals as goal
 
 pub returns-clause-answers : goal.returns-clause-answers
 returns-clause-answers g c = λ named client r on is only.
-    simply _ _ client on r only (toplevel_ask r c.args.object 0) (
+    let o = xdg_with c.args.object r.owned.shell in
+    answers-simply _ _ client on (simply r (toplevel_destroyed c.args.object o)) (toplevel_destroyed c.args.object o) r only (gone-simple r c.args.object o) (
     let v = c.args.self.now in
     let gone = c.remove.ensures.removes (counted r.peer) (c.count.ensures.counts r.peer is.peer) in
-    toplevel-answered v _ c.args.object c.args.surface 0 r is named
+    toplevel-answered v _ c.args.object c.args.surface (λ o. simply r (toplevel_destroyed c.args.object o)) r is named
     (λ k x h one its. (
       gone.0,
       inr gone.1,
