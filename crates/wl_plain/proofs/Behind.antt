@@ -1,27 +1,14 @@
 -- What came from a client and wasn't taken yet doesn't change what is done.
-use Rattle.std.proofs.Common.{◌≡◌, ℕ, List, Bool, true, false, Option, Some, None, Result, refl, ap, sym, ◌∙◌}
-use Rattle.std.specs.Prelude.{Ok, Err, if◌then◌else◌}
-use Rattle.std.specs.List.{list_all}
-use Rattle.wl_wire.specs.Wire.{Field}
-use Rattle.wl_proto.specs.declared.error.ProtoError.{ProtoError}
-use Rattle.wl_proto.specs.declared.interface.Interface.{Interface}
-use Rattle.wl_proto.specs.declared.interface.Interface.TheVariants.{WlDisplay, WlRegistry, WlCallback, WlCompositor, WlRegion, WlSurface, WlShm, WlShmPool, WlBuffer, WlSubcompositor, WlSubsurface, WlOutput, WlSeat, WlPointer, XdgWmBase, XdgPositioner, XdgSurface, XdgToplevel, XdgPopup}
-use Rattle.wl_proto.specs.Messages.{Message}
-use Rattle.wl_proto.specs.Objects.{objects_in as objects_named, new_id_in}
-use Rattle.wl_proto.specs.Spelling.{decoded}
+use Rattle.std.proofs.Common.{◌≡◌, ℕ, List, Bool, true, false, Option, Some, None, refl, ap, sym, ◌∙◌}
+use Rattle.wl_proto.specs.declared.interface.Interface.TheVariants.{XdgToplevel}
 use Rattle.wl_store.specs.Stores.{Stock}
 use Rattle.wl_client.specs.declared.actions.Action.{Action}
 use Rattle.wl_client.specs.declared.actions.Action.TheVariants.{Sync, GetRegistry, Bind, CreateRegion, AddToRegion, SubtractFromRegion, DestroyRegion, CreatePool, CreateBuffer, ResizePool, DestroyPool, DestroyBuffer}
 use Rattle.wl_client.specs.declared.clients.Cause.{Cause}
-use Rattle.wl_client.specs.declared.refusals.ErrorCode.TheVariants.{InvalidMethod}
-use Rattle.wl_client.specs.declared.refusals.Refusal.{Refusal}
-use Rattle.wl_client.specs.Judgement.{after_new_id, judged, judged_at}
-use Rattle.wl_client.specs.Objects.{Object, Objects, fits}
 use Rattle.wl_client.specs.Peer.{Peer, changed, with_rest}
-use Rattle.wl_client.specs.Told.{display_error}
 use Rattle.wl_shell.specs.Shell.{Effect, Stays, Unconfigured, Configures, Maps, Unmaps, XdgSurface as Xdg, xdg_at, xdg_of}
 use Rattle.wl_plain.specs.Ask.{Ask, Own, CreateSurface, AskSurface, DestroyBase, GetXdgSurface, DestroyXdgSurface, GetToplevel, Acknowledge, ConfigureAgain, Ignore}
-use Rattle.wl_plain.specs.Desktop.{Desktop, Resident, with_client}
+use Rattle.wl_plain.specs.Desktop.{Resident}
 use Rattle.wl_client.specs.Serving.{has_used, keeps_store}
 use Rattle.wl_surface.specs.Surfaces.{is_used}
 use Rattle.wl_plain.specs.Step.{after_surface, answers_to, making, own_changed, toplevel_given, with_peer}

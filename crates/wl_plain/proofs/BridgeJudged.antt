@@ -1,7 +1,6 @@
 -- What a message demands where what is beyond toplevels is left out comes to something simple.
-use Rattle.std.proofs.Common.{◌≡◌, ℕ, List, [], ◌∷◌, Bool, true, false, Option, Some, None, Result, refl, ap, subst, sym}
+use Rattle.std.proofs.Common.{◌≡◌, ℕ, List, [], ◌∷◌, Bool, true, false, Option, Some, None, Result, refl, ap}
 use Rattle.std.specs.Prelude.{Ok, Err, ◌==◌, if◌then◌else◌, is_some, nat_le, find, cond}
-use Rattle.std.proofs.lemmas.Bool.{eqb-true}
 use Rattle.std.specs.List.{list_all}
 use Rattle.wl_wire.specs.Wire.{Field}
 use Rattle.wl_proto.specs.declared.argument.NewId.{NewId}
@@ -11,11 +10,9 @@ use Rattle.wl_proto.specs.declared.interface.Interface.TheVariants.{WlDisplay, W
 use Rattle.wl_proto.specs.Messages.{Message}
 use Rattle.wl_proto.specs.Objects.{objects_in as objects_named, new_id_in}
 use Rattle.wl_proto.specs.Spelling.{decoded}
-use Rattle.wl_client.specs.declared.refusals.ErrorCode.TheVariants.{Implementation, MissingCapability}
 use Rattle.wl_client.specs.declared.refusals.Refusal.{Refusal}
 use Rattle.wl_client.specs.Judgement.{action_of, after_new_id, is_free, judged, judged_at, word_in}
 use Rattle.wl_client.specs.Objects.{Object, Objects, fits}
-use Rattle.wl_client.specs.Told.{display_error}
 use Rattle.wl_shell.specs.Shell.{Effect, Stays, Unconfigured, Configures, Maps, Unmaps, Kind, Toplevel, RoleObject, Shell, XdgSurface as Xdg, is_full, on_commit, stage_of, xdg_of, xdg_with}
 use Rattle.wl_plain.specs.Ask.{Ask, Ignore, owns}
 use Rattle.wl_plain.specs.Demand.{Demand, Asks, EndSurface, CommitTree, EndToplevel, Move}
@@ -27,7 +24,6 @@ use Rattle.wl_plain.specs.Step.{with_peer}
 use Rattle.wl_plain.specs.Popups.{popped_kind, popped_of, popped_role}
 use Rattle.wl_plain.proofs.Simply.{Simple, Asking, DestroySurface, CommitSurface, DestroyToplevel, asks_simply, effect_for, effect_of, judge, simple_of, simply}
 use Rattle.wl_plain.specs.NoMore.{AreToplevels, IsToplevel}
-use Rattle.wl_plain.specs.WlSubsurface.{past_limit}
 use Rattle.wl_plain.specs.WlSurface.{surface_ask, surface_created, will_show}
 use Rattle.wl_plain.specs.XdgShell.{base_ask, toplevel_ask, xdg_ask}
 

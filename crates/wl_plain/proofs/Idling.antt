@@ -28,7 +28,7 @@ use Rattle.wl_plain.specs.Stacked.{all_windows}
 use Rattle.wl_plain.specs.Step.{with_peer}
 use Rattle.wl_plain.proofs.Simply.{Asking}
 use Rattle.wl_plain.proofs.Behind.{changed-rest, changed-status}
-use Rattle.wl_plain.proofs.Places.{number-same, stacked-clients}
+use Rattle.wl_plain.proofs.Places.{number-same}
 
 -- ---- what has come of a client that is there: it ended, or this is left of it
 

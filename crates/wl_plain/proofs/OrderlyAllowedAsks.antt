@@ -7,23 +7,23 @@ use Rattle.std.proofs.lemmas.Bool.{eqb-true}
 use Rattle.wl_wire.specs.Wire.{Field}
 use Rattle.wl_geom.specs.declared.rect.Rect.{Rect}
 use Rattle.wl_proto.specs.declared.interface.Interface.{Interface}
-use Rattle.wl_proto.specs.declared.interface.Interface.TheVariants.{WlCompositor, WlSurface, XdgWmBase, XdgSurface, XdgToplevel}
+use Rattle.wl_proto.specs.declared.interface.Interface.TheVariants.{WlCompositor, WlSurface, XdgWmBase, XdgSurface}
 use Rattle.wl_proto.specs.Table.{AnObject}
 use Rattle.wl_client.specs.declared.actions.Action.{Action}
 use Rattle.wl_client.specs.declared.refusals.Refusal.{Refusal}
 use Rattle.wl_client.specs.Judgement.{action_of, number_in, rect_in, word_in}
 use Rattle.wl_client.specs.Peer.{known_of}
-use Rattle.wl_shell.specs.Shell.{XdgSurface as Xdg, answers_states, is_full, is_waiting, stage_of, xdg_at, xdg_of, xdg_with}
+use Rattle.wl_shell.specs.Shell.{XdgSurface as Xdg, answers_states, is_full, is_waiting, stage_of, xdg_at, xdg_of}
 use Rattle.wl_plain.specs.Ask.{Ask, owns}
 use Rattle.wl_plain.specs.Demand.{Demand}
 use Rattle.wl_plain.specs.Demanding.{compositor_demand, demands, own_demand}
 use Rattle.wl_plain.specs.Desktop.{Resident}
 use Rattle.wl_plain.specs.WlSurface.{surface_ask}
 use Rattle.wl_plain.specs.XdgShell.{acknowledged_by, base_ask, configured_again, geometry_set, has_any, is_foreign, is_no_toplevel, is_state, role_of, toplevel_made, xdg_ask_of, xdg_surface_made, toplevel_ask}
-use Rattle.wl_plain.proofs.Orderly.{HasId, HasNoRole, IsAllowed, IsObject}
+use Rattle.wl_plain.proofs.Orderly.{HasNoRole, IsAllowed, IsObject}
 use Rattle.wl_plain.proofs.OrderlyAllowedHeard.{fresh-first, heard-at}
 use Rattle.wl_plain.proofs.OrderlyAllowedOwn.{AllowsOwn, IsHeardBy, own-allowed}
-use Rattle.wl_plain.proofs.OwningKeys.{differ, found-passes}
+use Rattle.wl_plain.proofs.OwningKeys.{found-passes}
 use Rattle.wl_plain.proofs.Stacks.{or-left, or-right}
 
 -- what a message that is accepted demands is allowed

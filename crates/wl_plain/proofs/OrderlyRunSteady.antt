@@ -14,7 +14,7 @@ use Rattle.wl_plain.specs.Changing.{callbacks_of, changed_for, drawing, effect_d
 use Rattle.wl_plain.specs.Demand.{Demand, Asks, EndSurface, AskFrame, CommitTree, EndObject, GetSubsurface, EndSubsurface, SetMode, GetPointer, MakeCursor, CreatePositioner, EndPositioner, SetPositioner, GetPopup, Grab, EndPopup, EndToplevel, Move}
 use Rattle.wl_plain.specs.Demanding.{effect_of_commit}
 use Rattle.wl_plain.specs.Desktop.{Callback, Desktop, Resident}
-use Rattle.wl_plain.specs.Step.{after_surface, changed_by, toplevel_given}
+use Rattle.wl_plain.specs.Step.{changed_by, toplevel_given}
 
 abbrev pub IsSteady : Peer → Peer → Type 0
 IsSteady p q = (q.status ≡ p.status) × (q.requests ≡ p.requests)

@@ -33,7 +33,7 @@ use Rattle.wl_plain.proofs.Simply.{Simple, Asking, DestroySurface, CommitSurface
 use Rattle.wl_plain.specs.WlSurface.{refuse, refuse_limit, transform_set}
 use Rattle.wl_client.specs.declared.refusals.ErrorCode.TheVariants as error
 use Rattle.wl_surface.specs.Request.{SetWindowGeometry}
-use Rattle.wl_plain.specs.XdgShell.{base_destroyed, configured_again, has_any, is_foreign, is_no_toplevel, is_state, role_of, toplevel_ask, xdg_ask, xdg_ask_of, xdg_surface_made}
+use Rattle.wl_plain.specs.XdgShell.{base_destroyed, configured_again, has_any, is_foreign, is_no_toplevel, is_state, role_of, toplevel_ask, xdg_ask_of, xdg_surface_made}
 use Rattle.wl_plain.proofs.OwningKeys.{found-by}
 use Rattle.wl_plain.proofs.OwningXdg.{has_role, has_surface, has_xdg, ids-apart, surfaces-apart}
 use Rattle.wl_plain.proofs.StandingClients.{IsFound}

@@ -24,7 +24,7 @@ use Rattle.wl_plain.specs.Settling.{EndsAndSettles, QueuesTo, after_status, beco
 use Rattle.wl_plain.specs.Stacked.{all_windows}
 use Rattle.wl_plain.specs.Step.{with_peer}
 use Rattle.wl_plain.specs.Whole.{Answers, Becomes, Does, FeedsAt, Reaches, Serves, ServesAt, StopsAt, Takes, WantsOr, after_why, done_for, wants_memory}
-use Rattle.wl_plain.proofs.Places.{left_by, number-same, number-twice, stacked-clients}
+use Rattle.wl_plain.proofs.Places.{left_by, number-same, number-twice}
 use Rattle.wl_plain.proofs.OwningKeys.{none-some}
 use Rattle.wl_plain.proofs.WholeOneRunEnds.{end_all-leads, queues-once, same-pair}
 use Rattle.wl_plain.proofs.WholeOneRunFates.{Follows, Lives, follows-on, lasting, put-follows, status-here, status-lives, still}

@@ -1,5 +1,5 @@
 -- More bytes of a client's stream behind the others change neither what a message asks, where every request is served, nor what is done.
-use Rattle.std.proofs.Common.{◌≡◌, ℕ, List, [], ◌∷◌, ◌++◌, Bool, true, false, Option, Some, None, Result, refl, ap, sym, ◌∙◌}
+use Rattle.std.proofs.Common.{◌≡◌, ℕ, List, [], ◌∷◌, ◌++◌, Bool, true, false, Option, Some, None, Result, refl, ap, ◌∙◌}
 use Rattle.std.specs.Prelude.{Ok, Err, ◌==◌, ◌&&◌, fold, if◌then◌else◌, map, not}
 use Rattle.std.specs.List.{list_all}
 use Rattle.std.specs.Option.{option_and_then}
@@ -12,7 +12,7 @@ use Rattle.wl_proto.specs.Objects.{objects_in as objects_named, new_id_in}
 use Rattle.wl_proto.specs.Spelling.{decoded}
 use Rattle.wl_client.specs.declared.refusals.ErrorCode.TheVariants.{InvalidMethod}
 use Rattle.wl_client.specs.declared.refusals.Refusal.{Refusal}
-use Rattle.wl_client.specs.Judgement.{after_new_id, judged, judged_at, word_in}
+use Rattle.wl_client.specs.Judgement.{after_new_id, judged, judged_at}
 use Rattle.wl_client.specs.Objects.{Object, Objects, fits}
 use Rattle.wl_client.specs.Peer.{Peer, removed, with_rest}
 use Rattle.wl_client.specs.Told.{Said, display_error}
@@ -24,8 +24,8 @@ use Rattle.wl_scene.specs.Windows.{Window}
 use Rattle.wl_plain.specs.Ask.{Ask}
 use Rattle.wl_plain.specs.Changing.{after_all, callbacks_of, changed_for, drawing, effect_done, grab_allowed, grabbed, has_focus, in_rising_order, is_held_elsewhere, is_latest, is_toplevel, mode_set, parent_allows, parent_of, popup_given_to, stacked_by, stacked_for, tree_committed, with_kept_move, without_callbacks, without_child}
 use Rattle.wl_plain.specs.Demand.{Demand, Asks, EndSurface, AskFrame, CommitTree, EndObject, GetSubsurface, EndSubsurface, SetMode, GetPointer, MakeCursor, CreatePositioner, EndPositioner, SetPositioner, GetPopup, Grab, EndPopup, EndToplevel, Move}
-use Rattle.wl_plain.specs.Demanding.{commit_demand, demand_by, demand_of, demands, effect_of_commit, judge_all, moved_by_pointer}
-use Rattle.wl_plain.specs.Desktop.{Callback, Desktop, Resident, client_at, client_in, with_client}
+use Rattle.wl_plain.specs.Demanding.{demand_by, demand_of, demands, effect_of_commit, judge_all}
+use Rattle.wl_plain.specs.Desktop.{Callback, Desktop, Resident}
 use Rattle.wl_plain.specs.LeftOut.{LeftOut}
 use Rattle.wl_plain.specs.Popups.{popup_at}
 use Rattle.wl_plain.specs.Replies.{commit_told, configure_told, new_pointer_told, own_answers, popups_done, releases_unless, replies, role_told}
@@ -36,8 +36,7 @@ use Rattle.wl_plain.specs.WlSubsurface.{demand_by_link, link_of_subsurface, past
 use Rattle.wl_plain.specs.XdgPopup.{popup_asked, popup_demand_of}
 use Rattle.wl_plain.specs.XdgShell.{xdg_ask, xdg_ask_of}
 use Rattle.wl_plain.proofs.Behind.{answers-behind, changed-behind, with_behind}
-use Rattle.wl_plain.proofs.Places.{stacked-clients}
-use Rattle.wl_plain.proofs.WholePiecesPlaces.{holder-longer, longer_client, longer_in, windows-longer}
+use Rattle.wl_plain.proofs.WholePiecesPlaces.{holder-longer, longer_in, windows-longer}
 use Rattle.wl_plain.proofs.Simply.{Asking}
 
 -- ---- what a message asks

@@ -1,29 +1,23 @@
 -- What an accepted message that touches no more than its own client changes, and with what it is answered.
-use Rattle.std.specs.Prelude.{ℕ, ◌+◌, ◌==◌, ◌&&◌, Bool, true, false, not, if◌then◌else◌, Option, Some, None, Result, List, [], ◌∷◌, length, filter, fold, pos}
+use Rattle.std.specs.Prelude.{ℕ, ◌==◌, ◌&&◌, Bool, true, false, not, Option, Some, None, List, [], ◌∷◌, length, filter, fold, pos}
 use Rattle.std.specs.Option.{option_map, option_map_or}
 use Rattle.wl_wire.specs.Wire.{Word, Number, Block}
 use Rattle.wl_proto.specs.declared.interface.Interface.{Interface}
-use Rattle.wl_proto.specs.declared.interface.Interface.TheVariants.{WlCompositor, WlSurface, XdgWmBase, XdgSurface, XdgToplevel}
-use Rattle.wl_proto.specs.Messages.{Message, says}
+use Rattle.wl_proto.specs.declared.interface.Interface.TheVariants.{WlSurface, XdgSurface, XdgToplevel}
+use Rattle.wl_proto.specs.Messages.{says}
 use Rattle.wl_client.specs.declared.actions.Action.{Action}
-use Rattle.wl_client.specs.declared.refusals.Refusal.{Refusal}
-use Rattle.wl_client.specs.Judgement.{action_of, word_in}
-use Rattle.wl_client.specs.Peer.{Peer, known_of, made, object_at_version, released, removed}
+use Rattle.wl_client.specs.Peer.{Peer, made, object_at_version, released, removed}
 use Rattle.wl_client.specs.Peer.{answers_to as own_answers, takes_memory as own_takes_memory}
 use Rattle.wl_client.specs.Serving.{changed_with}
 use Rattle.wl_client.specs.Told.{Said, id_deleted, said}
-use Rattle.wl_surface.specs.Request.{Buffer, Request, Commit}
+use Rattle.wl_surface.specs.Request.{Buffer, Request}
 use Rattle.wl_surface.specs.State.{History}
-use Rattle.wl_surface.specs.Surfaces.{Surfaces, applying, asking, buffers_of, history_in, is_used, with_change, with_new, with_role, without_surface}
+use Rattle.wl_surface.specs.Surfaces.{Surfaces, asking, buffers_of, history_in, is_used, with_change, with_new, with_role}
 use Rattle.wl_surface.specs.declared.role.Role.TheVariants.{Toplevel as AsToplevel}
-use Rattle.wl_shell.specs.declared.stage.Stage.TheVariants.{Waiting, Mapped}
-use Rattle.wl_shell.specs.Shell.{Effect, Stays, Unconfigured, Configures, Maps, Unmaps, RoleObject, Shell, XdgSurface as Xdg, acknowledging, configuring, in_stage, new_toplevel, next_serial, unmapping, without_role, xdg_at, xdg_of, without_xdg}
+use Rattle.wl_shell.specs.Shell.{RoleObject, Shell, XdgSurface as Xdg, acknowledging, configuring, new_toplevel, next_serial, xdg_at, without_xdg}
 use Rattle.wl_shell.specs.Shell.{with_change as with_xdg_change, with_new as with_new_xdg}
-use Rattle.wl_scene.specs.Stacking.{with_mapped, without_surface_of}
-use Rattle.wl_plain.specs.Ask.{Ask, Own, CreateSurface, AskSurface, DestroyBase, GetXdgSurface, DestroyXdgSurface, GetToplevel, Acknowledge, ConfigureAgain, Ignore, owns}
-use Rattle.wl_plain.specs.Desktop.{Desktop, Resident}
-use Rattle.wl_plain.specs.WlSurface.{surface_ask, surface_created}
-use Rattle.wl_plain.specs.XdgShell.{base_ask, toplevel_ask, xdg_ask}
+use Rattle.wl_plain.specs.Ask.{Ask, Own, CreateSurface, AskSurface, DestroyBase, GetXdgSurface, DestroyXdgSurface, GetToplevel, Acknowledge, ConfigureAgain, Ignore}
+use Rattle.wl_plain.specs.Desktop.{Resident}
 
 -- ---- what an accepted message changes
 

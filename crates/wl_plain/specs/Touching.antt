@@ -1,11 +1,8 @@
 -- Whether a desktop without subsurfaces and popups has a window of a client there.
-use Rattle.std.specs.Prelude.{ℕ, ℤ, ◌≡◌, ◌==◌, ◌&&◌, ◌⊎◌, Bool, true, false, Option, Some, None, List}
+use Rattle.std.specs.Prelude.{ℕ, ℤ, ◌==◌, ◌&&◌, Bool, List}
 use Rattle.std.specs.List.{list_any}
-use Rattle.wl_shell.specs.Shell.{xdg_at}
 use Rattle.wl_scene.specs.Windows.{Window, contains}
-use Rattle.wl_plain.specs.Ask.{Ask}
-use Rattle.wl_plain.specs.Desktop.{Desktop, Resident, windows_in}
-use Rattle.wl_plain.specs.Step.{surface_of}
+use Rattle.wl_plain.specs.Desktop.{Desktop, windows_in}
 
 -- one of these windows is of a surface that passes, and contains the point
 abbrev pub any_window_at : (ℕ → ℕ → Bool) → ℤ → ℤ → List Window → Bool

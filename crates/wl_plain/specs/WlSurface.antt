@@ -1,18 +1,17 @@
 -- What is asked of a surface (wayland.xml, wl_compositor.create_surface and wl_surface).
-use Rattle.std.specs.Prelude.{ℕ, ℤ, pos, ◌+◌, ◌==◌, ◌&&◌, nat_le, int_le, unsigned_abs, Bool, if◌then◌else◌, Option, Some, None, Result, Ok, Err, List, length, is_some}
+use Rattle.std.specs.Prelude.{ℕ, ℤ, pos, ◌==◌, ◌&&◌, nat_le, int_le, unsigned_abs, Bool, if◌then◌else◌, Option, Result, Ok, Err, List, length}
 use Rattle.std.specs.Option.{option_and_then, option_map}
 use Rattle.wl_wire.specs.Wire.{Field}
 use Rattle.wl_geom.specs.Region.{Change}
 use Rattle.wl_client.specs.declared.refusals.ErrorCode.{ErrorCode}
-use Rattle.wl_client.specs.declared.refusals.ErrorCode.TheVariants.{Implementation, InvalidTransform, SurfaceHasRoleObject, UnconfiguredBuffer as unconfigured}
+use Rattle.wl_client.specs.declared.refusals.ErrorCode.TheVariants.{Implementation, InvalidTransform}
 use Rattle.wl_client.specs.declared.refusals.Refusal.{Refusal}
 use Rattle.wl_client.specs.Buffers.{Buffer as Made}
 use Rattle.wl_client.specs.Judgement.{number_in, rect_in, word_in}
 use Rattle.wl_client.specs.Told.{display_error}
-use Rattle.wl_surface.specs.Request.{Buffer, Attach, Damage, Frame, SetOpaqueRegion, SetInputRegion, SetBufferTransform}
+use Rattle.wl_surface.specs.Request.{Buffer, Attach, Damage, SetOpaqueRegion, SetInputRegion, SetBufferTransform}
 use Rattle.wl_surface.specs.State.{pending}
 use Rattle.wl_surface.specs.Surfaces.{history_in, is_there}
-use Rattle.wl_shell.specs.Shell.{Effect, Stays, Unconfigured, Configures, XdgSurface, is_full, on_commit, stage_of, xdg_of}
 use Rattle.wl_plain.specs.Ask.{Ask, CreateSurface, AskSurface}
 use Rattle.wl_plain.specs.Desktop.{Resident}
 

@@ -24,9 +24,9 @@ use Rattle.wl_proto.specs.declared.xdg_wm_base.XdgWmBaseRequest.{XdgWmBaseReques
 use Rattle.wl_proto.specs.declared.xdg_wm_base.XdgWmBaseRequest.TheVariants as base
 use Rattle.wl_client.specs.Agreement.{IsPeer}
 use Rattle.wl_client.specs.First.{IsRefused, Passes}
-use Rattle.wl_client.specs.Judgement.{number_in, word_in}
+use Rattle.wl_client.specs.Judgement.{action_of, word_in}
 use Rattle.wl_client.specs.Objects.{ById}
-use Rattle.wl_client.specs.Peer.{Peer, counted, with_rest}
+use Rattle.wl_client.specs.Peer.{Peer, counted, with_rest, known_of}
 use Rattle.wl_client.specs.Serving.{is_own}
 use Rattle.wl_client.specs.declared.actions.Action.{Action}
 use Rattle.wl_client.specs.declared.clients.Cause.{Cause}
@@ -44,7 +44,7 @@ use Rattle.wl_shell.specs.Shell.{XdgSurface as Xdg}
 use Rattle.wl_scene.specs.Stacking.{Owned, Stack, Standing, root_of, windows_on}
 use Rattle.wl_scene.specs.Windows.{Owner, Place, Window, contains, moved, owner_of, window_with}
 use Rattle.wl_resident.specs.Agreement.{IsStack}
-use Rattle.wl_plain.specs.Ask.{Ask}
+use Rattle.wl_plain.specs.Ask.{Ask, owns}
 use Rattle.wl_plain.specs.Demand.{Demand, Asks, EndSurface, AskFrame, CommitTree, EndToplevel, Move}
 use Rattle.wl_plain.specs.Demanding.{committed_by, demand_by, demand_of, demands, effect_of_commit, judge_all, moved_by_pointer, surface_demand, toplevel_demand, toplevel_destroyed}
 use Rattle.wl_plain.proofs.BridgeJudged.{simple-peer, simply-ok}
@@ -56,16 +56,16 @@ use Rattle.wl_resident.specs.Messages.{IsAsked, IsKind}
 use Rattle.wl_plain.specs.Moments.{marks_of_toplevels}
 use Rattle.wl_plain.specs.Owning.{names_in, target_as, targets_in}
 use Rattle.wl_resident.specs.Residents.{IsLeft, IsResident, KeepsNumbers, asked_by}
-use Rattle.wl_resident.proofs.Simply.{AnswersSo, TakesSo}
+use Rattle.wl_resident.proofs.Simply.{AnswersSimply, TakesSo}
 use Rattle.wl_resident.specs.Seats.{IsClearedBy, IsRestacked, IsSeated, IsSettledBy}
 use Rattle.wl_plain.specs.LeftOut.{served_now}
 use Rattle.wl_plain.specs.NoMore.{NoMore}
 use Rattle.wl_plain.specs.Whole.{Serves}
 use Rattle.wl_plain.specs.Step.{changed_by, surface_of, with_peer}
-use Rattle.wl_plain.proofs.Simply.{Simple, simple_of, simply, touched}
+use Rattle.wl_plain.proofs.Simply.{Simple, changed_simply, judge, simple_of, simply, touched}
 use Rattle.wl_plain.specs.Touching.{any_window_at, has_window_at, is_window_at}
-use Rattle.wl_plain.specs.WlSurface.{surface_ask}
-use Rattle.wl_plain.specs.XdgShell.{base_ask, configured_again, has_any, is_foreign, is_state, role_of, toplevel_ask, xdg_ask_of}
+use Rattle.wl_plain.specs.WlSurface.{surface_ask, surface_created}
+use Rattle.wl_plain.specs.XdgShell.{base_ask, toplevel_ask, xdg_ask}
 use Rattle.wl_resident.specs.declared.messages.Asked.{Asked}
 use Rattle.wl_resident.specs.declared.messages.Asked.TheVariants as asked
 use Rattle.wl_resident.specs.declared.messages.Kind.{Kind}
@@ -191,25 +191,26 @@ module _ (r : Resident) (P : ℕ → Type 0) where
 
   interface-touches : (interface : Interface) (object version opcode : ℕ) (fields : List Field) → served_now.requests interface opcode ≡ false → (interface ≡ WlSurface → opcode ≡ 6 → P object) → (interface ≡ XdgToplevel → opcode ≡ 0 → Destroys object)
       → TouchesSo r P (demand_by interface r object version (record { interface = interface; opcode = opcode; fields = fields }))
-  interface-touches WlCompositor object version opcode fields served commits destroys = either (opcode == 0) _ _ (λ e. asks-touch-none _) (λ e. asks-touch-none _)
+  interface-touches WlCompositor object version opcode fields served commits destroys =
+      either (opcode == 0) _ _ (λ e. asks-touch-none (surface_created r (word_in 0 fields) version)) (λ e. asks-touch-none (owns (action_of (known_of r.peer) object version WlCompositor opcode fields)))
   interface-touches WlSurface object version opcode fields served commits destroys = surface-touches object version opcode fields (commits refl)
   interface-touches WlSubcompositor object version opcode fields served commits destroys = absurd (cc)
   interface-touches WlSubsurface object version opcode fields served commits destroys = absurd (cc)
   interface-touches WlSeat object version opcode fields served commits destroys = either (opcode == 0) _ _ (λ pointer. absurd (cc)) (λ e. refused _)
   interface-touches WlPointer object version opcode fields served commits destroys = absurd (cc)
-  interface-touches XdgWmBase object version opcode fields served commits destroys = either (opcode == 1) _ _ (λ positioner. absurd (cc)) (λ e. asks-touch-none _)
+  interface-touches XdgWmBase object version opcode fields served commits destroys = either (opcode == 1) _ _ (λ positioner. absurd (cc)) (λ e. asks-touch-none (base_ask r object version opcode fields))
   interface-touches XdgPositioner object version opcode fields served commits destroys = absurd (cc)
-  interface-touches XdgSurface object version opcode fields served commits destroys = either (opcode == 2) _ _ (λ popup. absurd (cc)) (λ e. asks-touch-none _)
+  interface-touches XdgSurface object version opcode fields served commits destroys = either (opcode == 2) _ _ (λ popup. absurd (cc)) (λ e. asks-touch-none (xdg_ask r object version opcode fields))
   interface-touches XdgToplevel object version opcode fields served commits destroys = toplevel-touches object opcode fields (destroys refl)
   interface-touches XdgPopup object version opcode fields served commits destroys = absurd (cc)
-  interface-touches WlDisplay object version opcode fields served commits destroys = asks-touch-none _
-  interface-touches WlRegistry object version opcode fields served commits destroys = asks-touch-none _
-  interface-touches WlCallback object version opcode fields served commits destroys = asks-touch-none _
-  interface-touches WlRegion object version opcode fields served commits destroys = asks-touch-none _
-  interface-touches WlShm object version opcode fields served commits destroys = asks-touch-none _
-  interface-touches WlShmPool object version opcode fields served commits destroys = asks-touch-none _
-  interface-touches WlBuffer object version opcode fields served commits destroys = asks-touch-none _
-  interface-touches WlOutput object version opcode fields served commits destroys = asks-touch-none _
+  interface-touches WlDisplay object version opcode fields served commits destroys = asks-touch-none (owns (action_of (known_of r.peer) object version WlDisplay opcode fields))
+  interface-touches WlRegistry object version opcode fields served commits destroys = asks-touch-none (owns (action_of (known_of r.peer) object version WlRegistry opcode fields))
+  interface-touches WlCallback object version opcode fields served commits destroys = asks-touch-none (owns (action_of (known_of r.peer) object version WlCallback opcode fields))
+  interface-touches WlRegion object version opcode fields served commits destroys = asks-touch-none (owns (action_of (known_of r.peer) object version WlRegion opcode fields))
+  interface-touches WlShm object version opcode fields served commits destroys = asks-touch-none (owns (action_of (known_of r.peer) object version WlShm opcode fields))
+  interface-touches WlShmPool object version opcode fields served commits destroys = asks-touch-none (owns (action_of (known_of r.peer) object version WlShmPool opcode fields))
+  interface-touches WlBuffer object version opcode fields served commits destroys = asks-touch-none (owns (action_of (known_of r.peer) object version WlBuffer opcode fields))
+  interface-touches WlOutput object version opcode fields served commits destroys = asks-touch-none (owns (action_of (known_of r.peer) object version WlOutput opcode fields))
 
   pub demand-touches : (object version : ℕ) (m : Message) → (m.interface ≡ WlSurface → m.opcode ≡ 6 → P object) → (m.interface ≡ XdgToplevel → m.opcode ≡ 0 → Destroys object) → TouchesSo r P (demand_of served_now r object version m)
   demand-touches object version m commits destroys =
@@ -349,8 +350,8 @@ module _ {A : Type 0} (v : Kept A) (r : Resident) (is : IsResident v r) where
 takes-left : {A : Type 0} (s : Split) (r : Resident) (old new : Kept A) (stacking : Stacking) → TakesSo s r old new stacking → (x : Resident) × (q : Peer) × IsLeft old new x q
 takes-left {A} s r old new stacking = at s
   where
-    answers : (judged : Result Ask Refusal) (r : Resident) → AnswersSo judged r old new → (x : Resident) × (q : Peer) × IsLeft old new x q
-    answers (Ok ask) r h = (changed_by ask (with_peer (counted r.peer) r), h.0, h.2)
+    answers : (judged : Result Simple Refusal) (r : Resident) → AnswersSimply judged r old new → (x : Resident) × (q : Peer) × IsLeft old new x q
+    answers (Ok ask) r h = (changed_simply ask (with_peer (counted r.peer) r), h.0, h.2)
     answers (Err refusal) r h = (r, h.0, h.2)
 
     at : (s : Split) → TakesSo s r old new stacking → (x : Resident) × (q : Peer) × IsLeft old new x q

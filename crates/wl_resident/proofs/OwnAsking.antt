@@ -39,11 +39,10 @@ use Rattle.wl_plain.specs.Step.{with_peer}
 use Rattle.wl_plain.proofs.BridgeJudged.{demands-pair}
 use Rattle.wl_plain.proofs.BridgeServes.{only-peer}
 use Rattle.wl_resident.proofs.Asking.{demanded-first, judged-by, whole-first}
-use Rattle.wl_resident.proofs.Simply.{AnswersSo, simply, stacks-simply}
+use Rattle.wl_resident.proofs.Simply.{AnswersSo, asks-stay, simply}
 use Rattle.wl_resident.proofs.Numbers.{keeps-names}
 use Rattle.wl_plain.proofs.OwningNames.{names-with}
 use Rattle.wl_plain.proofs.OwningSurfaces.{any-is}
-use Rattle.wl_resident.proofs.Stackings.{own-stays}
 
 -- ---- it is taken
 

@@ -27,7 +27,7 @@ use Rattle.wl_surface.specs.declared.role.Role.{Role}
 use Rattle.wl_surface.specs.declared.role.Role.TheVariants.{Toplevel as AsToplevel}
 use Rattle.wl_surface.specs.declared.role.SurfaceError.{SurfaceError}
 use Rattle.wl_shell.specs.Kept.{Kept as KeptXdg, changing, kept_of, making_refused}
-use Rattle.wl_shell.specs.Shell.{RoleObject, Shell, XdgSurface as Xdg, is_role, next_serial, xdg_at}
+use Rattle.wl_shell.specs.Shell.{RoleObject, Shell, XdgSurface as Xdg, is_role, next_serial, xdg_at, xdg_with}
 use Rattle.wl_shell.specs.declared.error.ShellError.{ShellError}
 use Rattle.wl_shell.specs.declared.error.ShellError.TheVariants as failed
 use Rattle.wl_scene.specs.Stacking.{Owned}
@@ -51,7 +51,6 @@ use Rattle.wl_plain.proofs.OwningSurfaces.{surface-named, surface-read}
 use Rattle.wl_plain.proofs.OwningNames.{names-other-gone, names-surface-gone, names-toplevel-gone, names-xdg-gone}
 use Rattle.wl_plain.proofs.OwningReads.{role-fits, role-read}
 use Rattle.wl_plain.proofs.OwningXdg.{toplevel-named, xdg-named}
-use Rattle.wl_plain.proofs.Simply.{DestroyToplevel}
 
 -- ---- objects that go
 

@@ -207,7 +207,7 @@ pub record Asked {A : Type 0} (c : ℕ) (others : ℕ → ById ℕ) (base d : De
   pub once : AreOnce (numbers old)
   pub scene : IsScene (with_numbers c (numbers old) others) was d
   pub lives : p.status ≡ None
-  pub acts : ActsFor ask (with_peer p r) q
+  pub acts : WantsOrAlone (wants_simply ask) (Queues (told_simply ask (with_peer p r)) (changed_simply ask (with_peer p r)).peer q) p q
   pub left : IsLeft old mid (changed_simply ask (with_peer p r)) q
   pub stacks : Stacks c (numbers old) ask (with_peer p r) d stacking
 

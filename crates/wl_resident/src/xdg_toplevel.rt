@@ -7,6 +7,7 @@ ghost use Rattle.wl_client.specs.Peer.{Peer, Queues};
 ghost use Rattle.wl_proto.specs.declared.interface.Interface.TheVariants.{XdgToplevel};
 ghost use Rattle.wl_proto.specs.Messages.{Message, xdg_toplevel_request};
 ghost use Rattle.wl_shell.specs.Kept.{kept_of};
+ghost use Rattle.wl_shell.specs.Shell.{xdg_with};
 ghost use Rattle.wl_plain.specs.Demanding.{demand_of, demands, toplevel_destroyed};
 ghost use Rattle.wl_plain.specs.LeftOut.{served_now};
 ghost use Rattle.wl_resident.specs.Residents.{Answers, IsToplevel, Stacks, asked_by, drawn_by, told_by};
