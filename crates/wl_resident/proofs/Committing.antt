@@ -11,7 +11,7 @@ use Rattle.wl_shell.specs.declared.acts.ShellAct.TheVariants.{Configure, Map, Un
 use Rattle.wl_plain.specs.Desktop.{Resident}
 use Rattle.wl_plain.specs.Owning.{IsOwned, Names, effect_by, kept_id}
 use Rattle.wl_resident.specs.Residents.{drawn_by, told_by, told_of}
-use Rattle.wl_plain.specs.Step.{after_surface, answers_to, changed_by, configures_told, role_configured, toplevel_configured, xdg_configured}
+use Rattle.wl_plain.specs.Step.{after_surface, configures_told, role_configured, toplevel_configured, xdg_configured}
 use Rattle.wl_plain.proofs.OwningReads.{configures-read}
 use Rattle.wl_plain.proofs.OwningXdg.{xdg-of}
 use Rattle.wl_plain.proofs.Simply.{CommitSurface, changed_simply, committed_on, effect_on, told_simply}

@@ -1,9 +1,9 @@
 -- A message of a client marks to be painted again what the desk marks: the window of the surface that it touches, before it and after it, and
 -- everything where its client ends and a toplevel of its stood.
 use Rattle.std.proofs.Common.{◌≡◌, ℕ, ◌<◌, ◌-◌, List, [], ◌∷◌, ◌++◌, Bool, true, false, Option, Some, None, Result, refl, ap, sym, subst, ◌∙◌, inl, inr, ◌⊎◌}
-use Rattle.std.specs.Prelude.{ℤ, pos, ◌==◌, ◌&&◌, ◌||◌, Ok, Err, drop, if◌then◌else◌, int_le, is_some, take}
+use Rattle.std.specs.Prelude.{ℤ, pos, ◌==◌, ◌&&◌, ◌||◌, Ok, Err, drop, if◌then◌else◌, is_some, take}
 use Rattle.std.specs.List.{list_any}
-use Rattle.std.specs.Option.{option_and_then, option_map_or}
+use Rattle.std.specs.Option.{option_and_then}
 use Rattle.std.proofs.lemmas.Bool.{eqb-false, eqb-true, or_left, or_right}
 use Rattle.std.proofs.lemmas.List.Folds.{list_any-append}
 use Rattle.wl_wire.specs.Wire.{Field, split_of}
@@ -28,7 +28,6 @@ use Rattle.wl_client.specs.Judgement.{action_of, word_in}
 use Rattle.wl_client.specs.Objects.{ById}
 use Rattle.wl_client.specs.Peer.{Peer, counted, with_rest, known_of}
 use Rattle.wl_client.specs.Serving.{is_own}
-use Rattle.wl_client.specs.declared.actions.Action.{Action}
 use Rattle.wl_client.specs.declared.clients.Cause.{Cause}
 use Rattle.wl_client.specs.Told.{display_error}
 use Rattle.wl_client.specs.declared.refusals.ErrorCode.TheVariants.{InvalidMethod}
@@ -39,7 +38,7 @@ use Rattle.wl_surface.specs.Request.{Buffer, Request}
 use Rattle.wl_surface.specs.State.{offset, values}
 use Rattle.wl_surface.specs.Surfaces.{history_in}
 use Rattle.wl_shell.specs.Kept.{kept_of}
-use Rattle.wl_shell.specs.Shell.{Effect, Stays, Unconfigured, Configures, Maps, Unmaps, answers_states, is_full, stage_of, xdg_at, xdg_of, xdg_with}
+use Rattle.wl_shell.specs.Shell.{Effect, Stays, Unconfigured, Configures, Maps, Unmaps, is_full, xdg_at, xdg_of, xdg_with}
 use Rattle.wl_shell.specs.Shell.{XdgSurface as Xdg}
 use Rattle.wl_scene.specs.Stacking.{Owned, Stack, Standing, root_of, windows_on}
 use Rattle.wl_scene.specs.Windows.{Owner, Place, Window, contains, moved, owner_of, window_with}
@@ -61,7 +60,7 @@ use Rattle.wl_resident.specs.Seats.{IsClearedBy, IsRestacked, IsSeated, IsSettle
 use Rattle.wl_plain.specs.LeftOut.{served_now}
 use Rattle.wl_plain.specs.NoMore.{NoMore}
 use Rattle.wl_plain.specs.Whole.{Serves}
-use Rattle.wl_plain.specs.Step.{changed_by, surface_of, with_peer}
+use Rattle.wl_plain.specs.Step.{surface_of, with_peer}
 use Rattle.wl_plain.proofs.Simply.{Simple, changed_simply, judge, simple_of, simply, touched}
 use Rattle.wl_plain.specs.Touching.{any_window_at, has_window_at, is_window_at}
 use Rattle.wl_plain.specs.WlSurface.{surface_ask, surface_created}

@@ -36,7 +36,6 @@ use Rattle.wl_plain.specs.NoMore.{OwnsToplevelsOnly}
 use Rattle.wl_plain.specs.Owning.{by_number, names_in, target_as, targets_in}
 use Rattle.wl_resident.specs.Residents.{AnswersSo as AnswersWhole, IsLeft, IsResident, StacksSo as StacksWhole, TakesSo}
 use Rattle.wl_plain.specs.Step.{with_peer}
-use Rattle.wl_plain.proofs.BridgeJudged.{demands-pair}
 use Rattle.wl_plain.proofs.BridgeServes.{only-peer}
 use Rattle.wl_resident.proofs.Asking.{demanded-first, judged-by, whole-first}
 use Rattle.wl_resident.proofs.Simply.{AnswersSo, asks-stay, simply}

@@ -1,6 +1,6 @@
 -- What is asked of a client that has no more than toplevels is done simply, and so is what is demanded of the desktop.
-use Rattle.std.proofs.Common.{◌≡◌, ℕ, ◌-◌, take, drop, List, Bool, true, false, Option, Some, None, Result, refl, ap, subst, sym, ◌∙◌}
-use Rattle.std.specs.Prelude.{Ok, Err, if◌then◌else◌}
+use Rattle.std.proofs.Common.{◌≡◌, ℕ, ◌-◌, take, drop, List, Bool, Option, None, Result, refl, subst, sym, ◌∙◌}
+use Rattle.std.specs.Prelude.{Ok, Err}
 use Rattle.wl_wire.specs.declared.header.Split.{Split}
 use Rattle.wl_wire.specs.declared.header.Split.TheVariants.{Message as Whole, More, Bad}
 use Rattle.wl_client.specs.Objects.{ById}
@@ -26,7 +26,7 @@ use Rattle.wl_plain.specs.Laws.{toplevels_of}
 use Rattle.wl_plain.specs.Replies.{replies}
 use Rattle.wl_plain.specs.Stacked.{all_windows}
 use Rattle.wl_plain.specs.Step.{surface_of, with_peer}
-use Rattle.wl_plain.proofs.Simply.{Simple, Asking, CommitSurface, DestroyToplevel, asks_simply, changed_simply, judge, told_simply, wants_simply}
+use Rattle.wl_plain.proofs.Simply.{Simple, CommitSurface, DestroyToplevel, asks_simply, changed_simply, judge, told_simply, wants_simply}
 use Rattle.wl_plain.proofs.BridgeChanged.{changed-same, wants-same}
 use Rattle.wl_plain.proofs.BridgeJudged.{Pairs, Same, asks, commit, demands-pair, effect-same, ends, goes, judge-pair, move}
 use Rattle.wl_plain.proofs.BridgeServes.{living, only-peer, pairs-peer, replies-same, same-peer, tops-kept}

@@ -23,10 +23,9 @@ use Rattle.wl_shell.specs.Shell.{Effect, Stays, Unconfigured, Configures, Maps, 
 use Rattle.wl_shell.specs.Shell.{XdgSurface as Xdg}
 use Rattle.wl_scene.specs.Stacking.{Owned, Stack, Standing, mapped_on, without_client, without_surface_of}
 use Rattle.wl_resident.specs.Agreement.{IsScene, IsSeat, IsStack, with_numbers}
-use Rattle.wl_plain.specs.Ask.{Own, CreateSurface, AskSurface, DestroyBase, GetXdgSurface, DestroyXdgSurface, GetToplevel, Acknowledge, ConfigureAgain, Ignore}
 use Rattle.wl_plain.specs.Desktop.{Desktop, Resident, become, become_by, client_at, client_in, owned_of, resident_of, with_number}
 use Rattle.wl_plain.specs.Owning.{targets_in}
-use Rattle.wl_resident.specs.Residents.{ActsFor, IsLeft, StacksBy}
+use Rattle.wl_resident.specs.Residents.{IsLeft, StacksBy}
 use Rattle.wl_plain.proofs.BridgeJudged.{judge-pair}
 use Rattle.wl_plain.proofs.BridgeServes.{answers-whole, becomes-whole, only-peer, pairs-peer}
 use Rattle.wl_resident.proofs.Simply.{AnswersSimply, StacksOne, StacksSimply, TakesSo, seated-only}

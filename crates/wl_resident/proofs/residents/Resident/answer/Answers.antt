@@ -1,5 +1,5 @@
 use Rattle.std.proofs.Common.{subst, sym, rules}
-use Rattle.wl_proto.specs.Messages.{Message, xdg_surface_request, xdg_wm_base_request}
+use Rattle.wl_proto.specs.Messages.{Message}
 use Rattle.wl_resident.specs.declared.residents.Stacking.TheVariants.{Stays}
 use Rattle.wl_resident.specs.Residents.{StacksSo}
 use Rattle.wl_plain.specs.Demanding.{demand_of}

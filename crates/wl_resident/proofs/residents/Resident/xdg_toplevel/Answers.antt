@@ -1,7 +1,7 @@
-use Rattle.std.proofs.Common.{◌≡◌, ℕ, Some, refl, subst, sym, ◌∙◌, ap}
-use Rattle.std.specs.Prelude.{Ok, Option, Result}
+use Rattle.std.proofs.Common.{◌≡◌, ℕ, subst, sym, ◌∙◌, ap}
+use Rattle.std.specs.Prelude.{Ok, Result}
 use Rattle.wl_client.specs.declared.refusals.Refusal.{Refusal}
-use Rattle.wl_shell.specs.Shell.{XdgSurface as Xdg, xdg_with}
+use Rattle.wl_shell.specs.Shell.{xdg_with}
 use Rattle.wl_resident.specs.declared.residents.Stacking.TheVariants.{Out, Stays}
 use Rattle.wl_plain.specs.Ask.{Ignore}
 use Rattle.wl_plain.specs.Demanding.{toplevel_demand}
