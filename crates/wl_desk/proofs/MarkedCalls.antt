@@ -13,10 +13,9 @@ use Rattle.wl_scene.specs.Stacking.{Owned as Owns, Stack, Standing, is_of, nothi
 use Rattle.wl_scene.specs.Windows.{Window, contains}
 use Rattle.wl_scene.specs.declared.owned.Owned.{Owned}
 use Rattle.wl_resident.specs.Agreement.{Matches, IsPlace, IsStack, numbers_in}
-use Rattle.wl_plain.specs.Desktop.{Desktop, Resident, arrival, become, client_at, client_in, owned_in, owned_of, place, windows_in, with_number, with_place}
+use Rattle.wl_plain.specs.Desktop.{Desktop, Resident, arrival, become, client_at, client_in, owned_in, owned_of, place, with_number, with_place}
 use Rattle.wl_plain.specs.Laws.{OwnsNothing, status_of}
 use Rattle.wl_resident.specs.Marking.{AreUnlinked, MarksEnd, stands_any}
-use Rattle.wl_plain.specs.Moments.{marks_of_toplevels}
 use Rattle.wl_resident.specs.Seats.{IsChangedSo, IsSeated, ended_by, has_ended_in}
 use Rattle.wl_plain.specs.Standing.{AreMapped}
 use Rattle.wl_plain.proofs.Altering.{Changes, ChangesAt, left_so}
@@ -38,6 +37,7 @@ use Rattle.wl_plain.proofs.Touching.{desktops-touch, same-stays}
 use Rattle.wl_plain.proofs.TouchingMarks.{is_else}
 use Rattle.wl_plain.proofs.TouchingSteps.{end-touches, none-there, none_of, told-marks-nothing}
 use Rattle.wl_plain.proofs.TouchingWindows.{stands_else, windows-else}
+use Rattle.wl_plain.proofs.ToplevelWindows.{windows_in, marks_of_toplevels}
 
 -- ---- Booleans
 

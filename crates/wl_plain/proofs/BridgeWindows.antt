@@ -4,14 +4,15 @@ use Rattle.std.specs.Prelude.{ℤ, flat_map}
 use Rattle.wl_client.specs.declared.clients.Cause.{Cause}
 use Rattle.wl_scene.specs.Stacking.{Owned, Standing, root_of, windows_on}
 use Rattle.wl_scene.specs.Windows.{Root, StackedPopup, owner_of, roots_of, tree, windows}
-use Rattle.wl_plain.specs.Desktop.{Desktop, Resident, client_at, owned_in, owned_of, windows_in}
+use Rattle.wl_plain.specs.Desktop.{Desktop, Resident, client_at, owned_in, owned_of}
 use Rattle.wl_plain.specs.Laws.{toplevels_of}
-use Rattle.wl_plain.specs.Moments.{applied_between, marks_at_least, marks_of_toplevels}
+use Rattle.wl_plain.specs.Moments.{applied_between, marks_at_least}
 use Rattle.wl_plain.specs.Marks.{at_least}
 use Rattle.wl_plain.specs.NoMore.{AreToplevels, NoMore, OwnsToplevelsAt, OwnsToplevelsBy}
 use Rattle.wl_plain.specs.Popups.{stacked_popup, stacked_popups}
 use Rattle.wl_plain.specs.Stacked.{all_windows}
 use Rattle.wl_plain.proofs.BridgeChanged.{no-popups}
+use Rattle.wl_plain.proofs.ToplevelWindows.{windows_in, marks_of_toplevels}
 
 none-stacked : (o : Owned) → AreToplevels o.shell → stacked_popups o ≡ []
 none-stacked o top = ap (λ ps. map (stacked_popup o) ps) (no-popups o.shell top)

@@ -76,6 +76,7 @@ pub mod BridgeMessages
 pub mod BridgeSteps
 pub mod BridgeBack
 pub mod BridgeWindows
+pub mod ToplevelWindows
 pub mod Orderly
 pub mod WholeOutput
 pub mod OrderlyMoves

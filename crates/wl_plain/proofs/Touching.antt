@@ -9,9 +9,9 @@ use Rattle.wl_surface.specs.State.{History, applied, between, committed_from, da
 use Rattle.wl_surface.specs.Surfaces.{Surface, Surfaces, asking, history_in, new_surface, surface_at, with_change, with_new, without_surface}
 use Rattle.wl_scene.specs.Lent.{shows_buffer}
 use Rattle.wl_scene.specs.Stacking.{is_of, windows_on}
-use Rattle.wl_plain.specs.Desktop.{Desktop, owned_in, windows_in}
+use Rattle.wl_plain.specs.Desktop.{Desktop, owned_in}
 use Rattle.wl_plain.specs.Laws.{AreApart}
-use Rattle.wl_plain.specs.Moments.{applied_between, is_applied_at, is_applied_by, marks_of_toplevels}
+use Rattle.wl_plain.specs.Moments.{applied_between, is_applied_at, is_applied_by}
 use Rattle.wl_plain.specs.Owning.{AllCounts}
 use Rattle.wl_plain.specs.Touching.{any_window_at}
 use Rattle.wl_plain.proofs.Distinct.{windows_are_distinct}
@@ -20,6 +20,7 @@ use Rattle.wl_plain.proofs.Stacks.{differ}
 use Rattle.wl_plain.proofs.StandingSurfaces.{changed-found}
 use Rattle.wl_plain.proofs.TouchingMarks.{marked-there}
 use Rattle.wl_plain.proofs.TouchingWindows.{counted, stands_else, windows-else, windows-same}
+use Rattle.wl_plain.proofs.ToplevelWindows.{windows_in, marks_of_toplevels}
 
 -- What is asked of a surface counts as before, where it stands, and no damage was applied to it.
 abbrev pub StaysAt : Bool → Option History → Option History → Type 0

@@ -10,7 +10,6 @@ use Rattle.wl_surface.specs.Kept.{Slots}
 use Rattle.wl_shell.specs.Kept.{Kept}
 use Rattle.wl_plain.specs.Desktop.{Desktop, Resident, become, client_at, client_in, owned_in, owned_of}
 use Rattle.wl_plain.specs.Laws.{status_in}
-use Rattle.wl_plain.specs.Moments.{marks_of_toplevels}
 use Rattle.wl_plain.specs.Owning.{IsOwned, Names}
 use Rattle.wl_plain.specs.LeftOut.{served_now}
 use Rattle.wl_plain.specs.NoMore.{NoMore}
@@ -24,6 +23,7 @@ use Rattle.wl_plain.proofs.Stacks.{differ}
 use Rattle.wl_plain.proofs.StandingFound.{Finds, finds-peer, judge-finds}
 use Rattle.wl_plain.proofs.TouchingSteps.{asked-end-touches, asked-touches, end-touches, told-marks-nothing}
 use Rattle.wl_plain.proofs.Simply.{CommitSurface, DestroyToplevel, Simple, TouchesThere, changed_simply, stacked_simply, touched}
+use Rattle.wl_plain.proofs.ToplevelWindows.{marks_of_toplevels}
 
 -- The client ended, and the point lies in a window that it had; or it lives, and the point lies in a window of the surface that its message
 -- touched, before it or after it.

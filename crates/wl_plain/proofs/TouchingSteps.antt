@@ -9,9 +9,8 @@ use Rattle.wl_surface.specs.State.{History}
 use Rattle.wl_surface.specs.Surfaces.{history_in}
 use Rattle.wl_scene.specs.Stacking.{Owned, is_of, windows_on, without_client}
 use Rattle.wl_scene.specs.Windows.{Window, contains}
-use Rattle.wl_plain.specs.Desktop.{Desktop, Resident, become, become_by, client_at, client_in, owned_in, owned_of, resident_of, windows_in, with_client}
+use Rattle.wl_plain.specs.Desktop.{Desktop, Resident, become, become_by, client_at, client_in, owned_in, owned_of, resident_of, with_client}
 use Rattle.wl_plain.specs.Laws.{AreApart}
-use Rattle.wl_plain.specs.Moments.{marks_of_toplevels}
 use Rattle.wl_plain.specs.Owning.{AllCounts}
 use Rattle.wl_plain.specs.Standing.{AreMapped}
 use Rattle.wl_plain.specs.Touching.{any_window_at, has_window_at, is_window_at}
@@ -24,6 +23,7 @@ use Rattle.wl_plain.proofs.TouchingAsks.{asked-clients-stay, asked-links, asked-
 use Rattle.wl_plain.proofs.TouchingMarks.{either-of, is_else}
 use Rattle.wl_plain.proofs.TouchingWindows.{stands_else, windows-else}
 use Rattle.wl_plain.proofs.Simply.{Simple, TouchesThere, changed_simply, is_touched, stacked_simply, touched}
+use Rattle.wl_plain.proofs.ToplevelWindows.{windows_in, marks_of_toplevels}
 
 -- no surface passes
 abbrev pub none_of : ℕ → ℕ → Bool

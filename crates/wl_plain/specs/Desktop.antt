@@ -6,7 +6,7 @@ use Rattle.wl_client.specs.declared.clients.Cause.{Cause}
 use Rattle.wl_client.specs.Peer.{Peer, newcomer}
 use Rattle.wl_shell.specs.Positioner.{Positioner}
 use Rattle.wl_scene.specs.Pointer.{Pointer, first_pointer}
-use Rattle.wl_scene.specs.Stacking.{Owned, Standing, nothing_owned, windows_on, without_client}
+use Rattle.wl_scene.specs.Stacking.{Owned, Standing, nothing_owned, without_client}
 use Rattle.wl_scene.specs.Windows.{Window}
 
 -- a callback that a frame request asked for, by that request's number among the client's
@@ -106,7 +106,3 @@ owned_in d c = owned_of (client_at c d)
 -- a way of showing a desktop: which windows it has, from bottom to top
 abbrev pub Showing : Type 0
 Showing = Desktop → List Window
-
--- the windows where no subsurface and no popup is served
-abbrev pub windows_in : Showing
-windows_in d = windows_on (owned_in d) d.standing

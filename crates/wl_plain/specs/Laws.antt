@@ -2,10 +2,10 @@
 use Rattle.std.specs.Prelude.{ℕ, ◌≡◌, ◌==◌, ℤ, [], ◌∷◌, ◌-ℤ◌, slice_get, List, Option, Some, None, IsTrue, true, false, filter}
 use Rattle.std.specs.List.{list_any}
 use Rattle.wl_client.specs.declared.clients.Cause.{Cause}
-use Rattle.wl_scene.specs.Stacking.{Standing, is_of}
+use Rattle.wl_scene.specs.Stacking.{Standing, is_of, windows_on}
 use Rattle.wl_scene.specs.Windows.{Window, contains}
 use Rattle.wl_blend.specs.declared.color.Rgb.{Rgb}
-use Rattle.wl_plain.specs.Desktop.{Desktop, Resident, Showing, client_at, owned_in, resident_of, windows_in}
+use Rattle.wl_plain.specs.Desktop.{Desktop, Resident, Showing, client_at, owned_in, resident_of}
 use Rattle.wl_plain.specs.Marks.{Applied, AreDistinct, at_least, at_most, has_same_record, in_output}
 use Rattle.wl_plain.specs.Moments.{applied_between, marks_at_least_of}
 use Rattle.wl_plain.specs.Scratch.{color_in, scratch_of}
@@ -23,7 +23,7 @@ AreApart (s ∷ ss) = (list_any (is_of s.client s.surface) ss ≡ false) × AreA
 
 -- Where no toplevel stands twice and no surface is linked to another, no surface has two windows.
 abbrev pub WindowsAreDistinct : Type 0
-WindowsAreDistinct = (d : Desktop) → ((c : ℕ) → (owned_in d c).surfaces.links ≡ []) → AreApart d.standing → AreDistinct (windows_in d)
+WindowsAreDistinct = (d : Desktop) → ((c : ℕ) → (owned_in d c).surfaces.links ≡ []) → AreApart d.standing → AreDistinct (windows_on (owned_in d) d.standing)
 
 -- Windows that keep their records show at this point the colours that they did, where no damage was applied.
 abbrev pub ColorsStay : Showing → Desktop → Desktop → ℤ → ℤ → Type 0

@@ -2,7 +2,7 @@
 use Rattle.std.specs.Prelude.{ℕ, ℤ, int_le, pos, unsigned_abs, ◌&&◌, ◌||◌, Bool, false, Option, Some, None, List, [], ◌∷◌}
 use Rattle.wl_surface.specs.State.{History, applied, between, damaged_rects, height_of, is_damaged, width_of}
 use Rattle.wl_surface.specs.Surfaces.{history_in}
-use Rattle.wl_plain.specs.Desktop.{Desktop, Showing, owned_in, windows_in}
+use Rattle.wl_plain.specs.Desktop.{Desktop, Showing, owned_in}
 use Rattle.wl_plain.specs.Marks.{Applied, at_least, at_most}
 use Rattle.wl_plain.specs.Stacked.{all_windows}
 
@@ -49,7 +49,3 @@ marks_at_least old new x y = marks_at_least_of all_windows old new x y
 
 abbrev pub marks_at_most : Desktop → Desktop → Option (ℕ × ℕ) → ℤ → ℤ → Bool
 marks_at_most old new raised x y = marks_at_most_of all_windows old new raised x y
-
--- of the windows where no subsurface and no popup is served
-abbrev pub marks_of_toplevels : Desktop → Desktop → ℤ → ℤ → Bool
-marks_of_toplevels old new x y = marks_at_least_of windows_in old new x y

@@ -1,8 +1,9 @@
--- Whether a desktop without subsurfaces and popups has a window of a client there.
+-- Whether a toplevel of a client shows a point: popups are not looked for.
 use Rattle.std.specs.Prelude.{ℕ, ℤ, ◌==◌, ◌&&◌, Bool, List}
 use Rattle.std.specs.List.{list_any}
 use Rattle.wl_scene.specs.Windows.{Window, contains}
-use Rattle.wl_plain.specs.Desktop.{Desktop, windows_in}
+use Rattle.wl_scene.specs.Stacking.{windows_on}
+use Rattle.wl_plain.specs.Desktop.{Desktop, owned_in}
 
 -- one of these windows is of a surface that passes, and contains the point
 abbrev pub any_window_at : (ℕ → ℕ → Bool) → ℤ → ℤ → List Window → Bool
@@ -10,8 +11,8 @@ any_window_at is x y windows = list_any (λ w. is w.owner.client w.surface && co
 
 -- the desktop has a window of this surface of client c that contains the point
 abbrev pub is_window_at : ℕ → ℕ → ℤ → ℤ → Desktop → Bool
-is_window_at c id x y d = any_window_at (λ client surface. (client == c) && (surface == id)) x y (windows_in d)
+is_window_at c id x y d = any_window_at (λ client surface. (client == c) && (surface == id)) x y (windows_on (owned_in d) d.standing)
 
 -- the desktop has a window of client c that contains the point
 abbrev pub has_window_at : ℕ → ℤ → ℤ → Desktop → Bool
-has_window_at c x y d = any_window_at (λ client surface. client == c) x y (windows_in d)
+has_window_at c x y d = any_window_at (λ client surface. client == c) x y (windows_on (owned_in d) d.standing)

@@ -52,7 +52,6 @@ use Rattle.wl_plain.specs.Laws.{status_in, status_of}
 use Rattle.wl_resident.proofs.Toplevels.{MarksToplevels}
 use Rattle.wl_resident.specs.Marking.{AreUnlinked, IsAsLarge, MarksEnd, marked_by, marked_in, stands_any}
 use Rattle.wl_resident.specs.Messages.{IsAsked, IsKind}
-use Rattle.wl_plain.specs.Moments.{marks_of_toplevels}
 use Rattle.wl_plain.specs.Owning.{names_in, target_as, targets_in}
 use Rattle.wl_resident.specs.Residents.{IsLeft, IsResident, KeepsNumbers, asked_by}
 use Rattle.wl_resident.proofs.Simply.{AnswersSimply, TakesSo}
@@ -83,6 +82,7 @@ use Rattle.wl_resident.proofs.Taking.{known-mapped, none-is, numbers}
 use Rattle.wl_plain.proofs.TouchingMarks.{either-of}
 use Rattle.wl_plain.proofs.TouchingMessages.{MarkedBy, serves-point, touched-peer}
 use Rattle.wl_plain.proofs.TouchingWindows.{counted as counted_of, lone, window_by, windows-first}
+use Rattle.wl_plain.proofs.ToplevelWindows.{marks_of_toplevels}
 
 -- ---- windows are those of toplevels that stand
 
