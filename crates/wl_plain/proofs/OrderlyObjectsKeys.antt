@@ -106,11 +106,6 @@ module _ {X : Type 0} (interface : Interface) (has : ℕ → X → Bool) where
   pub objects-filter : (objects : Objects) (q : X → Bool) (xs : List X) → AreObjects interface objects has xs → AreObjects interface objects has (filter q xs)
   objects-filter objects q xs are = (apart-left has q xs are.0, λ id any. are.1 id (any-of-filter (has id) q xs any))
 
-  -- the object goes with what is known by it
-  pub objects-without : (objects : Objects) (id : ℕ) (xs : List X) → AreObjects interface objects has xs → AreObjects interface (with_id id None objects) has (filter (λ x. not (has id x)) xs)
-  objects-without objects id xs are =
-      objects-gone objects id (filter (λ x. not (has id x)) xs) (any-gone (has id) (λ x. not (has id x)) (λ x is. ap (λ b. not b) is) xs) (objects-filter objects (λ x. not (has id x)) xs are)
-
   pub objects-map : (objects : Objects) (f : X → X) (xs : List X) → ((key : ℕ) (x : X) → has key (f x) ≡ true → has key x ≡ true) → AreObjects interface objects has xs → AreObjects interface objects has (map f xs)
   objects-map objects f xs less are = (apart-less has f xs less are.0, λ id any. are.1 id (any-less (has id) f xs (less id) any))
 

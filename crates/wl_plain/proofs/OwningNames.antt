@@ -122,17 +122,3 @@ module _ (old new : Held) (id : ℕ) where
   pub names-other-gone : (entry : Entry) → entry_of old id ≡ Some entry → names_surface entry.interface ≡ false → HoldsAt old new id None → names_in new ≡ names_in old
   names-other-gone entry found other holds =
       names-with old new _ _ _ (none-gone WlSurface entry found (not-surface entry.interface other) holds) (none-gone XdgSurface entry found (not-xdg entry.interface other) holds) (none-gone XdgToplevel entry found (not-toplevel entry.interface other) holds)
-
-  -- nothing was there
-  pub names-none-gone : entry_of old id ≡ None → HoldsAt old new id None → names_in new ≡ names_in old
-  names-none-gone free holds =
-      names-with old new _ _ _ (unnamed WlSurface None (sym (targets-free WlSurface old id free)) holds) (unnamed XdgSurface None (sym (targets-free XdgSurface old id free)) holds) (unnamed XdgToplevel None (sym (targets-free XdgToplevel old id free)) holds)
-
-  -- an object of another interface has another target
-  pub names-other-set : (entry : Entry) (target : ℕ) → entry_of old id ≡ Some entry → names_surface entry.interface ≡ false → HoldsAt old new id (Some (with_target target entry)) → names_in new ≡ names_in old
-  names-other-set entry target found other holds =
-      names-with old new _ _ _ (set WlSurface (not-surface entry.interface other)) (set XdgSurface (not-xdg entry.interface other)) (set XdgToplevel (not-toplevel entry.interface other))
-    where
-      set : (interface : Interface) → (interface_number entry.interface == interface_number interface) ≡ false → targets_in interface new ≡ targets_in interface old
-      set interface differs =
-          unnamed interface (Some (with_target target entry)) (target-not interface (with_target target entry) differs ∙ sym (ap (option_and_then (target_as interface)) found ∙ target-not interface entry differs)) holds

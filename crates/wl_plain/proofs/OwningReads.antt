@@ -134,9 +134,6 @@ module _ (names : Names) (slots : Slots) (kept : ℕ → Option Kept) (r : Resid
       (subst (λ (all : Numbered). IsAny (shows_at buffer) all (is_busy buffer after)) (fun_ext (surfaces-left names.surfaces slots r.owned.surfaces is.surfaces id number named new))
       (busy-is (with_id id None names.surfaces) new after now buffer))
 
-  pub created-by : (id version : ℕ) → surface_created r id version ≡ (if nat_le 256 (count_kept slots) then refuse_limit else Ok (CreateSurface id version))
-  created-by id version = ap (λ n. if nat_le 256 n then refuse_limit else Ok (CreateSurface id version)) (sym is.surfaces.count)
-
   pub destroyed-by : (id number : ℕ) → names.surfaces id ≡ Some number → surface_destroyed r id ≡ (if is_some (kept number) then refuses id error.SurfaceHasRoleObject else Ok (EndSurface id))
   destroyed-by id number named = ap (λ b. if b then refuses id error.SurfaceHasRoleObject else Ok (EndSurface id)) (sym (xdg-there names slots kept r.owned is id number named))
 

@@ -49,9 +49,6 @@ abbrev pub asks_simply : Result Ask Refusal → Result Simple Refusal
 asks_simply (Ok ask) = Ok (Asking ask)
 asks_simply (Err refusal) = Err refusal
 
-abbrev pub ask_of : Resident → ℕ → ℕ → Message → Result Simple Refusal
-ask_of r object version m = simply r (demand_of served_now r object version m)
-
 -- what a message to an object comes to, or the first error that it has
 abbrev pub judge : Resident → ℕ → ℕ → List ℕ → Result Simple Refusal
 judge r object opcode body = simply r (judge_all served_now r object opcode body)

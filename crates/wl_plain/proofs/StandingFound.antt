@@ -29,7 +29,7 @@ use Rattle.wl_plain.specs.LeftOut.{served_now}
 use Rattle.wl_plain.specs.WlPointer.{seat_demand}
 use Rattle.wl_plain.specs.Desktop.{Resident}
 use Rattle.wl_plain.specs.Step.{with_peer}
-use Rattle.wl_plain.proofs.Simply.{Simple, Asking, DestroySurface, CommitSurface, DestroyToplevel, ask_of, effect_of, judge, simple_of, simply}
+use Rattle.wl_plain.proofs.Simply.{Simple, Asking, DestroySurface, CommitSurface, DestroyToplevel, effect_of, judge, simple_of, simply}
 use Rattle.wl_plain.specs.WlSurface.{refuse, refuse_limit, transform_set}
 use Rattle.wl_client.specs.declared.refusals.ErrorCode.TheVariants as error
 use Rattle.wl_surface.specs.Request.{SetWindowGeometry}
@@ -244,9 +244,6 @@ judged-finds r object opcode body apart = at (r.peer.objects object)
 simply-finds : (r : Resident) (judged : Result Demand Refusal) (ask : Simple) → Accepts judged r → simply r judged ≡ Ok ask → Finds ask r
 simply-finds r (Ok demand) ask finds e = let same : simple_of r demand ≡ ask = cc in subst (λ b. Finds b r) same (finds demand refl)
 simply-finds r (Err refusal) ask finds e = absurd (cc)
-
-pub ask-finds : (r : Resident) (object version : ℕ) (m : Message) (ask : Simple) → AreApart r.owned.shell → ask_of r object version m ≡ Ok ask → Finds ask r
-ask-finds r object version m ask apart e = simply-finds r (demand_of served_now r object version m) ask (demand-finds r object version m apart) e
 
 pub judge-finds : (r : Resident) (object opcode : ℕ) (body : List ℕ) → AreApart r.owned.shell → (ask : Simple) → judge r object opcode body ≡ Ok ask → Finds ask r
 judge-finds r object opcode body apart ask e = simply-finds r (judge_all served_now r object opcode body) ask (judged-finds r object opcode body apart) e

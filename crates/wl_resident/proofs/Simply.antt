@@ -112,14 +112,6 @@ module _ {A : Type 0} (old new : Kept A) (c : ℕ) (d : Desktop) where
 
 -- ---- the stack of toplevels
 
-stacks-for : {A : Type 0} (old : Kept A) (ask : Simple) (demand : Demand) (r : Resident) (stacking : Stacking) → AreToplevels r.owned.shell → Same r ask demand → StacksOne old r ask stacking → StacksFor old r demand stacking
-stacks-for old ask demand r stacking top (asks other) h = h
-stacks-for old ask demand r stacking top (ends id) h = h
-stacks-for old ask demand r stacking top (commit id effect e) h =
-    subst (λ f. StacksBy old id f stacking) (sym (effect-same r id top ∙ e)) h
-stacks-for old ask demand r stacking top (goes id xdg) h = h
-stacks-for old ask demand r stacking top (move id serial) h = h
-
 for-stacks : {A : Type 0} (old : Kept A) (ask : Simple) (demand : Demand) (r : Resident) (stacking : Stacking) → AreToplevels r.owned.shell → Same r ask demand → StacksFor old r demand stacking → StacksOne old r ask stacking
 for-stacks old ask demand r stacking top (asks other) h = h
 for-stacks old ask demand r stacking top (ends id) h = h
@@ -127,12 +119,6 @@ for-stacks old ask demand r stacking top (commit id effect e) h =
     subst (λ f. StacksBy old id f stacking) (effect-same r id top ∙ e) h
 for-stacks old ask demand r stacking top (goes id xdg) h = h
 for-stacks old ask demand r stacking top (move id serial) h = h
-
-pub stacks-simply : {A : Type 0} (old : Kept A) (judged : Result Simple Refusal) (demanded : Result Demand Refusal) (r : Resident) (stacking : Stacking) → AreToplevels r.owned.shell → Pairs r judged demanded → StacksSimply old r judged stacking → StacksWhole old r demanded stacking
-stacks-simply old (Ok ask) (Ok demand) r stacking top same h = stacks-for old ask demand r stacking top same h
-stacks-simply old (Err refusal) (Err other) r stacking top same h = tt
-stacks-simply old (Ok ask) (Err other) r stacking top same h = absurd same
-stacks-simply old (Err refusal) (Ok demand) r stacking top same h = absurd same
 
 pub simply-stacks : {A : Type 0} (old : Kept A) (judged : Result Simple Refusal) (demanded : Result Demand Refusal) (r : Resident) (stacking : Stacking) → AreToplevels r.owned.shell → Pairs r judged demanded → StacksWhole old r demanded stacking → StacksSimply old r judged stacking
 simply-stacks old (Ok ask) (Ok demand) r stacking top same h = for-stacks old ask demand r stacking top same h
