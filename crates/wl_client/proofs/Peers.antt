@@ -1,6 +1,6 @@
 -- What each change of a client does to what is kept of it.
 use Rattle.std.proofs.Common.{◌≡◌, ◌≢◌, ℕ, suc, ◌+◌, ◌-◌, ◌<◌, List, [], ◌∷◌, ◌++◌, Bool, true, false, Some, None, Option, Result, refl, ap, subst, sym, ◌∙◌, inl, inr, length, map, drop, ◌≤◌, get_or, drop-cons, arith}
-use Rattle.std.specs.Prelude.{is_some, IfNone, IfSome, IsOk, IsTrue, MatchBool, OnOk, OnErr, Ok, Err, ◌==◌, if◌then◌else◌}
+use Rattle.std.specs.Prelude.{is_some, IfErr, IfNone, IfSome, IsOk, IsTrue, MatchBool, OnOk, Ok, Err, ◌==◌, if◌then◌else◌}
 use Rattle.std.specs.Option.{option_map, option_map_or, unwrap_or}
 use Rattle.std.proofs.lemmas.List.{drop_all}
 use Rattle.std.proofs.Math.Path.{fun_ext}
@@ -27,12 +27,13 @@ use Rattle.wl_client.specs.Buffers.{Buffer}
 use Rattle.wl_client.specs.Objects.{ById, Object, Objects, held_at, nothing, objects_in, object_of, with_id}
 use Rattle.wl_client.specs.Told.{Output, Said, bind_told, code_number, display_error, error_told, said_bytes}
 use Rattle.wl_client.specs.Judgement.{Known, buffer_created, layout_refused}
-use Rattle.wl_client.specs.Peer.{Peer, changed_region, ended, has_room, known_of, made, newcomer, no_stores, queued, removed, with_rest, QueuesOr, Queues, Errs, LacksMemory, WantsOr}
+use Rattle.wl_client.specs.Peer.{Peer, changed_region, ended, has_room, known_of, made, newcomer, no_stores, queued, removed, with_rest, IsUnqueuedFor, QueuesOr, Queues, Errs, LacksMemory, WantsOr}
 use Rattle.wl_client.specs.Agreement.{IsPeer, IsRegion, known_in, output_of}
 
 pub IsPeer-queued : (v : ClientView) (p : Peer) (e : Said) → IsPeer v p → IsPeer (record v { unsent = v.unsent ++ said_bytes e }) (queued e p)
 IsPeer-queued v p e is = record {
   status = is.status;
+  «open» = is.open;
   requests = is.requests;
   objects = is.objects;
   held = is.held;
@@ -49,6 +50,7 @@ IsPeer-queued v p e is = record {
 pub IsPeer-ended : (v : ClientView) (p : Peer) (cause : Cause) → IsPeer v p → IsPeer (cleared cause v) (ended cause p)
 IsPeer-ended v p cause is = record {
   status = refl;
+  «open» = refl;
   requests = is.requests;
   objects = refl;
   held = refl;
@@ -62,9 +64,26 @@ IsPeer-ended v p cause is = record {
   output = is.output;
 }
 
+-- the client ends, as an event wasn't queued
+pub IsPeer-unqueued : (v w : ClientView) (p : Peer) (why cause : Cause) → w ≡ record v { refused = Some why } → IsPeer v p → IsPeer (cleared cause w) (ended cause p)
+IsPeer-unqueued v w p why cause only is = subst (λ (x : ClientView). IsPeer (cleared cause x) (ended cause p)) (sym only) (IsPeer-ended v p cause is)
+
+-- why an event isn't queued now, where each refusal before was acted upon
+unqueued-now : (v : ClientView) (p : Peer) (event : Said) (cause : Cause) → IsPeer v p → IsUnqueuedFor v.refused (has_room v.unsent event) cause → MatchBool (has_room v.unsent event) (cause ≡ Memory) (cause ≡ Slow)
+unqueued-now v p event cause is why = subst (λ (was : Option Cause). IsUnqueuedFor was (has_room v.unsent event) cause) is.open why
+
+slow-of : (room : Bool) (cause : Cause) → MatchBool room (cause ≡ Memory) (cause ≡ Slow) → cause ≢ Memory → Slow ≡ cause
+slow-of true cause why another = absurd (another why)
+slow-of false cause why another = sym why
+
+-- an event that isn't queued, and not for want of memory, has no room
+pub unqueued-slow : (v : ClientView) (p : Peer) (event : Said) (cause : Cause) → IsPeer v p → IsUnqueuedFor v.refused (has_room v.unsent event) cause → cause ≢ Memory → Slow ≡ cause
+unqueued-slow v p event cause is why another = slow-of (has_room v.unsent event) cause (unqueued-now v p event cause is why) another
+
 pub IsPeer-with_rest : (v : ClientView) (p : Peer) (rest : List ℕ) → IsPeer v p → IsPeer (record v { rest = rest }) (with_rest rest p)
 IsPeer-with_rest v p rest is = record {
   status = is.status;
+  «open» = is.open;
   requests = is.requests;
   objects = is.objects;
   held = is.held;
@@ -92,6 +111,7 @@ objects_in-with old new id entry holds = fun_ext (λ other. at other (other == i
 pub IsPeer-made : (v : ClientView) (p : Peer) (id : ℕ) (entry : Entry) (new : Held) → HoldsAt v.objects new id (Some entry) → length new ≡ length v.objects + 1 → IsPeer v p → IsPeer (record v { objects = new }) (made id (object_of entry) p)
 IsPeer-made v p id entry new holds longer is = record {
   status = is.status;
+  «open» = is.open;
   requests = is.requests;
   objects = objects_in-with v.objects new id (Some entry) holds ∙ ap (λ os. with_id id (Some (object_of entry)) os) is.objects;
   held = longer ∙ ap (λ n. n + 1) is.held;
@@ -117,6 +137,7 @@ pub IsPeer-removed : (v : ClientView) (p : Peer) (id : ℕ) (was : Option Entry)
 IsPeer-removed v p id was new found holds shorter is =
     let there : is_some was ≡ is_some (p.objects id) = ap is_some found ∙ sym (object-there (entry_of v.objects id)) ∙ ap (λ (os : Objects). is_some (os id)) is.objects in record {
       status = is.status;
+      «open» = is.open;
       requests = is.requests;
       objects = objects_in-with v.objects new id None holds ∙ ap (λ os. with_id id None os) is.objects;
       held = less (is_some was) (length v.objects) (length new) shorter ∙ ap (λ (n : ℕ). n - (if is_some was then 1 else 0)) is.held ∙ ap (λ (b : Bool). p.held - (if b then 1 else 0)) there;
@@ -145,6 +166,7 @@ pub IsPeer-regions : (v : ClientView) (p : Peer) (old new : BTreeMap ℕ Area) (
 IsPeer-regions v p old new id area changes same updates region is =
     let now = held_at-updates old new v.regions id area same updates in record {
       status = is.status;
+      «open» = is.open;
       requests = is.requests;
       objects = is.objects;
       held = is.held;
@@ -165,6 +187,7 @@ IsPeer-regions v p old new id area changes same updates region is =
 pub IsPeer-pools : (v : ClientView) (p : Peer) (old new : BTreeMap ℕ ℕ) (id : ℕ) (store : Option ℕ) → old.entries ≡ v.pools → UpdatesBy nat_cmp (nat_cmp id) old new store → IsPeer v p → IsPeer (record v { pools = new.entries }) (record p { pools = with_id id store p.pools })
 IsPeer-pools v p old new id store same updates is = record {
   status = is.status;
+  «open» = is.open;
   requests = is.requests;
   objects = is.objects;
   held = is.held;
@@ -181,6 +204,7 @@ IsPeer-pools v p old new id store same updates is = record {
 pub IsPeer-buffers : (v : ClientView) (p : Peer) (old new : BTreeMap ℕ Buffer) (id : ℕ) (buffer : Option Buffer) → old.entries ≡ v.buffers → UpdatesBy nat_cmp (nat_cmp id) old new buffer → IsPeer v p → IsPeer (record v { buffers = new.entries }) (record p { buffers = with_id id buffer p.buffers })
 IsPeer-buffers v p old new id buffer same updates is = record {
   status = is.status;
+  «open» = is.open;
   requests = is.requests;
   objects = is.objects;
   held = is.held;
@@ -197,6 +221,7 @@ IsPeer-buffers v p old new id buffer same updates is = record {
 pub IsPeer-stores : (v : ClientView) (p : Peer) (change : Stock → Stock) (new : Stock) → new ≡ change v.stores → IsPeer v p → IsPeer (record v { stores = new }) (record p { stores = change p.stores })
 IsPeer-stores v p change new same is = record {
   status = is.status;
+  «open» = is.open;
   requests = is.requests;
   objects = is.objects;
   held = is.held;
@@ -241,9 +266,9 @@ QueuesOr-refused true Later p cause why = inl (ap (λ c. ended c p) why)
 QueuesOr-refused false Later p cause why = ap (λ c. ended c p) why
 
 -- the event at a place isn't queued
-pub Queues-refused : {X : Type 0} (f : X → Said) (events : List X) (i : ℕ) (d : X) (v : ClientView) (p : Peer) (cause : Cause) → i < length events → IsPeer v p → MatchBool (has_room v.unsent (f (get_or events i d))) (cause ≡ Memory) (cause ≡ Slow) → Queues (map f (drop i events)) p (ended cause p)
+pub Queues-refused : {X : Type 0} (f : X → Said) (events : List X) (i : ℕ) (d : X) (v : ClientView) (p : Peer) (cause : Cause) → i < length events → IsPeer v p → IsUnqueuedFor v.refused (has_room v.unsent (f (get_or events i d))) cause → Queues (map f (drop i events)) p (ended cause p)
 Queues-refused {X} f events i d v p cause lt is why =
-    let refused = QueuesOr-refused (has_room p.unsent (f (get_or events i d))) (Queues (map f (drop (suc i) events)) (queued (f (get_or events i d)) p) (ended cause p)) p cause (rw is.unsent at why) in
+    let refused = QueuesOr-refused (has_room p.unsent (f (get_or events i d))) (Queues (map f (drop (suc i) events)) (queued (f (get_or events i d)) p) (ended cause p)) p cause (rw is.unsent at (unqueued-now v p (f (get_or events i d)) cause is why)) in
     subst (λ (es : List X). Queues (map f es) p (ended cause p)) (sym (drop-cons events i d lt)) refused
 
 -- the event at a place is queued
@@ -259,36 +284,36 @@ pub Queues-none : {X : Type 0} (f : X → Said) (events : List X) (i : ℕ) (p :
 Queues-none {X} f events i p past = subst (λ (es : List X). Queues (map f es) p p) (sym (drop_all i events past)) refl
 
 -- an error was told
-pub Errs-told : (v w : ClientView) (p : Peer) (refusal : Refusal) (event : Said) → event ≡ error_told refusal → IsPeer v p → IsTrue (has_room v.unsent event) × (w ≡ record v { unsent = v.unsent ++ said_bytes event }) → (q : Peer) × Errs refusal p q × IsPeer (cleared (Protocol refusal.object (code_number refusal.code)) w) q
+pub Errs-told : (v w : ClientView) (p : Peer) (refusal : Refusal) (event : Said) → event ≡ error_told refusal → IsPeer v p → (v.refused ≡ None) × IsTrue (has_room v.unsent event) × (w ≡ record v { unsent = v.unsent ++ said_bytes event }) → (q : Peer) × Errs refusal p q × IsPeer (cleared (Protocol refusal.object (code_number refusal.code)) w) q
 Errs-told v w p refusal event same is ok =
     let cause = Protocol refusal.object (code_number refusal.code) in
-    let here : IsTrue (has_room v.unsent (error_told refusal)) = subst (λ (e : Said). IsTrue (has_room v.unsent e)) same ok.0 in
+    let here : IsTrue (has_room v.unsent (error_told refusal)) = subst (λ (e : Said). IsTrue (has_room v.unsent e)) same ok.1 in
     let room : IsTrue (has_room p.unsent (error_told refusal)) = subst (λ (u : List ℕ). IsTrue (has_room u (error_told refusal))) is.unsent here in
-    let told : IsPeer w (queued (error_told refusal) p) = subst (λ (e : Said). IsPeer w (queued e p)) same (subst (λ (x : ClientView). IsPeer x (queued event p)) (sym ok.1) (IsPeer-queued v p event is)) in (
+    let told : IsPeer w (queued (error_told refusal) p) = subst (λ (e : Said). IsPeer w (queued e p)) same (subst (λ (x : ClientView). IsPeer x (queued event p)) (sym ok.2) (IsPeer-queued v p event is)) in (
       ended cause (queued (error_told refusal) p),
       QueuesOr-queued (has_room p.unsent (error_told refusal)) _ p _ room refl,
       IsPeer-ended w _ cause told,
     )
 
 -- an error couldn't be told
-pub Errs-untold : (v w : ClientView) (p : Peer) (refusal : Refusal) (event : Said) (cause : Cause) → event ≡ error_told refusal → IsPeer v p → MatchBool (has_room v.unsent event) (cause ≡ Memory) (cause ≡ Slow) → w ≡ v → (q : Peer) × Errs refusal p q × IsPeer (cleared cause w) q
-Errs-untold v w p refusal event cause same is why stays =
-    let here = subst (λ (e : Said). MatchBool (has_room v.unsent e) (cause ≡ Memory) (cause ≡ Slow)) same why in
+pub Errs-untold : (v w : ClientView) (p : Peer) (refusal : Refusal) (event : Said) (cause : Cause) → event ≡ error_told refusal → IsPeer v p → IsUnqueuedFor v.refused (has_room v.unsent event) cause → w ≡ record v { refused = Some cause } → (q : Peer) × Errs refusal p q × IsPeer (cleared cause w) q
+Errs-untold v w p refusal event cause same is why only =
+    let here = subst (λ (e : Said). MatchBool (has_room v.unsent e) (cause ≡ Memory) (cause ≡ Slow)) same (unqueued-now v p event cause is why) in
     let reason = subst (λ (u : List ℕ). MatchBool (has_room u (error_told refusal)) (cause ≡ Memory) (cause ≡ Slow)) is.unsent here in (
       ended cause p,
       QueuesOr-refused (has_room p.unsent (error_told refusal)) _ p cause reason,
-      IsPeer-ended w p cause (subst (λ (x : ClientView). IsPeer x p) (sym stays) is),
+      IsPeer-unqueued v w p cause cause only is,
     )
 
 -- no_memory was told, or couldn't be
-pub LacksMemory-told : {X Y : Type 0} (result : Result X Y) (v w : ClientView) (p : Peer) (event : Said) → event ≡ error_told (display_error NoMemory) → IsPeer v p → OnOk result (IsTrue (has_room v.unsent event) × (w ≡ record v { unsent = v.unsent ++ said_bytes event })) → OnErr result (w ≡ v) → (q : Peer) × LacksMemory p q × IsPeer (cleared Memory w) q
+pub LacksMemory-told : {X : Type 0} (result : Result X Cause) (v w : ClientView) (p : Peer) (event : Said) → event ≡ error_told (display_error NoMemory) → IsPeer v p → OnOk result ((v.refused ≡ None) × IsTrue (has_room v.unsent event) × (w ≡ record v { unsent = v.unsent ++ said_bytes event })) → IfErr result (λ e. w ≡ record v { refused = Some e }) → (q : Peer) × LacksMemory p q × IsPeer (cleared Memory w) q
 LacksMemory-told (Ok x) v w p event same is ok err =
     let told = error_told (display_error NoMemory) in
-    let here = subst (λ (e : Said). IsTrue (has_room v.unsent e)) same ok.0 in
+    let here = subst (λ (e : Said). IsTrue (has_room v.unsent e)) same ok.1 in
     let room = subst (λ (u : List ℕ). IsTrue (has_room u told)) is.unsent here in
-    let next : IsPeer w (queued told p) = subst (λ (e : Said). IsPeer w (queued e p)) same (subst (λ (x : ClientView). IsPeer x (queued event p)) (sym ok.1) (IsPeer-queued v p event is)) in
+    let next : IsPeer w (queued told p) = subst (λ (e : Said). IsPeer w (queued e p)) same (subst (λ (x : ClientView). IsPeer x (queued event p)) (sym ok.2) (IsPeer-queued v p event is)) in
     (ended Memory (queued told p), inr (room, refl), IsPeer-ended w _ Memory next)
-LacksMemory-told (Err y) v w p event same is ok err = (ended Memory p, inl refl, IsPeer-ended w p Memory (subst (λ (x : ClientView). IsPeer x p) (sym err) is))
+LacksMemory-told (Err cause) v w p event same is ok err = (ended Memory p, inl refl, IsPeer-unqueued v w p cause Memory err is)
 
 pub told_both : (a b x y : Said) → a ≡ x → b ≡ y → a ∷ b ∷ [] ≡ x ∷ y ∷ []
 told_both a b x y one two = ap (λ e. e ∷ b ∷ []) one ∙ ap (λ e. x ∷ e ∷ []) two
@@ -329,9 +354,10 @@ absent None h = refl
 absent (Some cause) h = absurd (cc)
 
 -- a client that has just connected
-pub IsPeer-new : (v : ClientView) (output : Output) (entry : Entry) → object_of entry ≡ record { interface = WlDisplay; version = 1 } → v.ended ≡ None → v.requests ≡ 0 → v.serial ≡ 1 → v.rest ≡ [] → v.unsent ≡ [] → HoldsAt [] v.objects 1 (Some entry) → length v.objects ≡ 1 → v.regions ≡ [] → v.pools ≡ [] → v.buffers ≡ [] → v.stores ≡ no_stores → output_of v.output ≡ output → IsPeer v (newcomer output)
-IsPeer-new v output entry display alive none first rest unsent holds held regions pools buffers stores shown = record {
+pub IsPeer-new : (v : ClientView) (output : Output) (entry : Entry) → object_of entry ≡ record { interface = WlDisplay; version = 1 } → v.ended ≡ None → v.refused ≡ None → v.requests ≡ 0 → v.serial ≡ 1 → v.rest ≡ [] → v.unsent ≡ [] → HoldsAt [] v.objects 1 (Some entry) → length v.objects ≡ 1 → v.regions ≡ [] → v.pools ≡ [] → v.buffers ≡ [] → v.stores ≡ no_stores → output_of v.output ≡ output → IsPeer v (newcomer output)
+IsPeer-new v output entry display alive unrefused none first rest unsent holds held regions pools buffers stores shown = record {
   status = alive;
+  «open» = unrefused;
   requests = λ below. none;
   objects = objects_in-with [] v.objects 1 (Some entry) holds ∙ ap (λ (o : Object). with_id 1 (Some o) nothing) display;
   held = held;
@@ -369,6 +395,7 @@ nobody (Some cs) change h = absurd h
 pub region-absent : (v : ClientView) (p : Peer) (id : ℕ) (change : Change) → held_at v.regions id ≡ None → IsPeer v p → IsPeer v (changed_region id change p)
 region-absent v p id change none is = record {
   status = is.status;
+  «open» = is.open;
   requests = is.requests;
   objects = is.objects;
   held = is.held;

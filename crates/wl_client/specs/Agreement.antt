@@ -26,9 +26,10 @@ most_counted = 18446744073709551615
 abbrev pub IsCount : ℕ → ℕ → Type 0
 IsCount kept requests = kept ≢ most_counted → kept ≡ requests
 
--- what is kept of a client are its values
+-- what is kept of a client are its values, and each refusal of an event was acted upon
 pub record IsPeer (v : ClientView) (p : Peer) : Type 0 where
   pub status : v.ended ≡ p.status
+  pub «open» : v.refused ≡ None
   pub requests : IsCount v.requests p.requests
   pub objects : objects_in v.objects ≡ p.objects
   pub held : length v.objects ≡ p.held

@@ -1,6 +1,6 @@
 -- One client of the plain desktop: what a compositor holds of it, whatever a program keeps.
 use Rattle.std.specs.Option.{option_map}
-use Rattle.std.specs.Prelude.{ℕ, suc, zero, ◌≡◌, ◌+◌, ◌-◌, List, [], ◌∷◌, ◌++◌, length, take, drop, Bool, true, false, ◌&&◌, nat_le, if◌then◌else◌, is_some, Option, Some, None, Result, Ok, Err, ◌⊎◌, IsTrue, unsigned_abs}
+use Rattle.std.specs.Prelude.{ℕ, suc, zero, ◌≡◌, ◌+◌, ◌-◌, List, [], ◌∷◌, ◌++◌, length, take, drop, Bool, true, false, ◌&&◌, nat_le, if◌then◌else◌, is_some, Option, Some, None, Result, Ok, Err, ◌⊎◌, IsTrue, MatchBool, MatchOption, unsigned_abs}
 use Rattle.wl_wire.specs.Wire.{split_of}
 use Rattle.wl_wire.specs.declared.header.Split.{Split}
 use Rattle.wl_wire.specs.declared.header.Split.TheVariants.{Message as Whole, More, Bad}
@@ -103,6 +103,11 @@ with_rest rest p = record p { rest = rest }
 -- an event may be queued: with it at most 1,048,576 bytes wait
 abbrev pub has_room : List ℕ → Said → Bool
 has_room unsent event = nat_le (event_size event.message) 65532 && nat_le (length unsent + event_size event.message) 1048576
+
+-- An event isn't queued for this cause: the one that an event before it wasn't queued for, if there is one; else for want of memory where
+-- there is room, and of room where there is none.
+abbrev pub IsUnqueuedFor : Option Cause → Bool → Cause → Type 0
+IsUnqueuedFor before room cause = MatchOption before (MatchBool room (cause ≡ Memory) (cause ≡ Slow)) (λ was. cause ≡ was)
 
 -- One event: past the limit the client ends, and want of memory may end it. `Later` is what comes where it was queued.
 abbrev pub QueuesOr : Bool → Type 0 → Peer → Peer → Type 0

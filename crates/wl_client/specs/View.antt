@@ -8,10 +8,12 @@ use Rattle.wl_client.specs.declared.clients.Cause.{Cause}
 use Rattle.wl_client.specs.declared.outputs.Output.{Output}
 use Rattle.wl_client.specs.Buffers.{Buffer}
 
--- why it ended; how many requests were counted; the bytes that wait to be read and to be sent; the table of its live objects; by their ids
--- the regions, the stores of the pools, and the buffers; the stores; the next serial; and the output that it is shown on
+-- why it ended; why an event wasn't queued; how many requests were counted; the bytes that wait to be read and to be sent; the table of its
+-- live objects; by their ids the regions, the stores of the pools, and the buffers; the stores; the next serial; and the output that it is
+-- shown on
 pub record ClientView : Type 0 where
   pub ended : Option Cause
+  pub refused : Option Cause
   pub requests : ℕ
   pub rest : List ℕ
   pub unsent : List ℕ
@@ -28,6 +30,7 @@ abbrev pub cleared : Cause → ClientView → ClientView
 cleared cause v =
     record v {
       ended = Some cause;
+      refused = None;
       rest = [];
       objects = [];
       regions = [];

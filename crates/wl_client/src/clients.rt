@@ -4,7 +4,7 @@ ghost use Rattle.std.specs.Option.{option_copied, option_map};
 ghost use Rattle.std.specs.Prelude.{◌≡◌, ◌++◌, [], length, ◌≤◌, ◌∷◌, ◌==◌, ◌+◌, if◌then◌else◌, OnOk, OnErr, IfOk, IfErr, IsTrue, MatchBool, Some, None, true, false, is_some, is_none, map, nat_le};
 ghost use Rattle.wl_client.specs.Agreement.{output_of};
 ghost use Rattle.wl_client.specs.Told.{id_deleted, said_bytes};
-ghost use Rattle.wl_client.specs.Peer.{has_room, object_at_version};
+ghost use Rattle.wl_client.specs.Peer.{IsUnqueuedFor, has_room, object_at_version};
 ghost use Rattle.wl_client.specs.Said.{said_of};
 
 use crate::actions::Action;
@@ -42,6 +42,8 @@ const UNSENT_LIMIT: usize = 1_048_576;
 #[derive(Drop)]
 pub struct Client<A: Allocator> {
     pub(crate) ended: Option<Cause>,
+    /// Why an event wasn't queued, as long as the client hasn't ended for it. No event is queued while that stands here.
+    pub(crate) refused: Option<Cause>,
     pub(crate) requests: u64,
     pub(crate) rest: Backlog<A>,
     pub(crate) unsent: Backlog<A>,
@@ -60,7 +62,7 @@ impl<A: Allocator> Model for Client<A> {
 
     ghost Value = { ClientView };
 
-    ghost view = { λ c. record { ended = c.ended; requests = c.requests; rest = c.rest; unsent = c.unsent; objects = c.objects; regions = c.regions.entries; pools = c.pools.entries; buffers = c.buffers.entries; stores = c.stores; serial = c.serial; output = c.output } };
+    ghost view = { λ c. record { ended = c.ended; refused = c.refused; requests = c.requests; rest = c.rest; unsent = c.unsent; objects = c.objects; regions = c.regions.entries; pools = c.pools.entries; buffers = c.buffers.entries; stores = c.stores; serial = c.serial; output = c.output } };
 }
 
 impl<A: Allocator + Copy> Client<A> {
@@ -87,6 +89,7 @@ impl<A: Allocator + Copy> Client<A> {
         };
         Ok(Client {
             ended: None,
+            refused: None,
             requests: 0,
             rest: Backlog::new(alloc),
             unsent: Backlog::new(alloc),
@@ -101,8 +104,23 @@ impl<A: Allocator + Copy> Client<A> {
         })
     }
 
-    /// Queues an event. An `Err` says why it can't be queued, and changes nothing.
+    /// Queues an event. An `Err` says why it isn't queued: `Slow` where too many bytes would wait then, or `Memory`. From then on every call
+    /// answers that cause and queues nothing, until the client ends.
     pub fn queue(&mut self, event: &Event) -> Result<(), Cause>
+        ensures ok { OnOk result ((self.old.refused ≡ None) × IsTrue (has_room self.old.unsent (said_of event.now)) × (self.new ≡ record self.old { unsent = self.old.unsent ++ said_bytes (said_of event.now) })) }
+        ensures err { IfErr result (λ e. self.new ≡ record self.old { refused = Some e }) }
+        ensures cause { IfErr result (λ e. IsUnqueuedFor self.old.refused (has_room self.old.unsent (said_of event.now)) e) }
+    {
+        if let Some(cause) = self.refused {
+            return Err(cause);
+        }
+        let queued = self.try_queue(event);
+        self.refused = queued.err();
+        queued
+    }
+
+    /// Puts an event behind those that wait, where that is allowed and there is memory for it. An `Err` changes nothing.
+    fn try_queue(&mut self, event: &Event) -> Result<(), Cause>
         ensures ok { OnOk result (IsTrue (has_room self.old.unsent (said_of event.now)) × (self.new ≡ record self.old { unsent = self.old.unsent ++ said_bytes (said_of event.now) })) }
         ensures err { OnErr result (self.new ≡ self.old) }
         ensures cause { IfErr result (λ e. MatchBool (has_room self.old.unsent (said_of event.now)) (e ≡ Cause.Memory) (e ≡ Cause.Slow)) }
@@ -126,6 +144,7 @@ impl<A: Allocator + Copy> Client<A> {
         ensures ends { (p : Peer) → IsPeer self.old p → IsPeer self.new (ended cause p) }
     {
         self.ended = Some(cause);
+        self.refused = None;
         self.rest.clear();
         self.objects = Objects::new(self.alloc);
         self.regions = BTreeMap::new(self.alloc);
@@ -146,7 +165,11 @@ impl<A: Allocator + Copy> Client<A> {
                 object: refusal.object,
                 code: refusal.code.number(),
             },
-            Err(cause) => cause,
+            // Where the error isn't queued, the client ends for want of memory or of room.
+            Err(cause) => match cause {
+                Cause::Memory => Cause::Memory,
+                _ => Cause::Slow,
+            },
         };
         self.end(cause);
     }

@@ -254,6 +254,7 @@ refused-again opcode x refusal answer told error state e same err = asked-again 
 pub drawn : (v w : ClientView) (p : Peer) → IsPeer v p → w ≡ record v { serial = next_serial v.serial } → IsPeer w (record p { serial = next_serial p.serial })
 drawn v w p is e = rw e (record {
   status = is.status;
+  «open» = is.open;
   requests = is.requests;
   objects = is.objects;
   held = is.held;

@@ -170,6 +170,7 @@ come-seated c others base d r piece old was is lives =
         let p = is.seat.peer in
         record {
           status = p.status;
+          «open» = p.open;
           requests = p.requests;
           objects = p.objects;
           held = p.held;

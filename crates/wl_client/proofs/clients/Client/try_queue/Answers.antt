@@ -1,5 +1,5 @@
 use Rattle.std.proofs.Common.{rules}
-use Rattle.wl_client.proofs.clients.Client.queue.Goals as goal
+use Rattle.wl_client.proofs.clients.Client.try_queue.Goals as goal
 
 pub returns-in_default-clause-ok : goal.returns-in_default-clause-ok
 returns-in_default-clause-ok g c = search rules
