@@ -16,13 +16,13 @@ use Rattle.wl_client.specs.declared.refusals.Refusal.{Refusal}
 use Rattle.wl_client.specs.Judgement.{after_new_id, is_free, judged, judged_at, word_in}
 use Rattle.wl_client.specs.Objects.{Object, Objects, fits}
 use Rattle.wl_client.specs.Told.{display_error}
+use Rattle.wl_shell.specs.Popups.{popped_kind, popped_of, popped_role}
 use Rattle.wl_shell.specs.Shell.{Effect, Stays, Unconfigured, Configures, Maps, Unmaps, Kind, Toplevel, RoleObject, Shell, XdgSurface as Xdg, is_full, on_commit, stage_of, xdg_of, xdg_with}
 use Rattle.wl_plain.specs.Ask.{Ask, DestroySurface, CommitSurface, DestroyToplevel, Ignore}
 use Rattle.wl_plain.specs.Demand.{Demand, Asks, EndSurface, CommitTree, EndToplevel, Move}
 use Rattle.wl_plain.specs.Demanding.{commit_demand, committed_by, demand_of, demanded, demands, effect_of_commit, effect_on_xdg, is_dismissed, judge_all, moved_by_pointer}
 use Rattle.wl_plain.specs.Desktop.{Resident}
 use Rattle.wl_plain.specs.LeftOut.{served_now}
-use Rattle.wl_plain.specs.Popups.{popped_kind, popped_of, popped_role}
 use Rattle.wl_plain.proofs.Simply.{ask_of, judge}
 use Rattle.wl_plain.specs.NoMore.{AreToplevels, IsToplevel}
 use Rattle.wl_plain.specs.WlSubsurface.{past_limit}

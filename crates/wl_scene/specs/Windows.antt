@@ -1,10 +1,10 @@
 -- The windows of a desktop, from bottom to top.
-use Rattle.std.specs.Prelude.{ℕ, zero, suc, ℤ, pos, ◌+ℤ◌, ◌-ℤ◌, ◌*◌, ◌%◌, ◌==◌, ◌&&◌, Bool, true, if◌then◌else◌, Option, Some, None, List, [], ◌∷◌, ◌++◌, take, fold, flat_map}
+use Rattle.std.specs.Prelude.{ℕ, zero, suc, ℤ, pos, ◌+ℤ◌, ◌-ℤ◌, ◌*◌, ◌%◌, ◌==◌, ◌&&◌, Bool, true, if◌then◌else◌, Option, Some, None, List, [], ◌∷◌, ◌++◌, fold, flat_map}
 use Rattle.wl_geom.specs.declared.rect.Rect.{Rect}
 use Rattle.wl_geom.specs.Rect.{in_rect}
 use Rattle.wl_geom.specs.Region.{Change, holds}
-use Rattle.wl_surface.specs.Request.{Buffer, Member, Itself, Child, Request}
-use Rattle.wl_surface.specs.State.{History, Values, applied, height_of, offset, order, position, width_of, within_bounds}
+use Rattle.wl_surface.specs.Request.{Buffer, Member, Itself, Child}
+use Rattle.wl_surface.specs.State.{History, Values, applied, counting, height_of, offset, order, position, width_of, within_bounds}
 use Rattle.wl_surface.specs.Surfaces.{Link, Surfaces, history_in, link_at}
 
 -- a point, or the corner of a surface
@@ -32,10 +32,6 @@ pub record Window : Type 0 where
   pub buffer : Buffer
   pub opaque : List Change
   pub input : Option (List Change)
-
--- what counts of a surface's list
-abbrev pub counting : History → List Request
-counting h = take h.cut h.requests
 
 -- the window of a surface that stands there and shows this buffer
 abbrev pub window_showing : Owner → ℕ → Place → Values → Buffer → Window
