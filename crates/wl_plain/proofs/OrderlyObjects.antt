@@ -15,7 +15,7 @@ use Rattle.wl_surface.specs.Surfaces.{Surfaces, asking, history_in, is_used, wit
 use Rattle.wl_surface.specs.Surfaces.{with_change as with_surface_change}
 use Rattle.wl_surface.specs.Trees.{committed_in, desynchronised_in, destroyed_in, linked, synchronised_in}
 use Rattle.wl_surface.specs.declared.role.Role.TheVariants as role
-use Rattle.wl_shell.specs.Popups.{Popped, dismissed_among, dismissed_with, dismissing, orphan, orphaning, placing, popup_changed, with_grab, without_grab}
+use Rattle.wl_shell.specs.Popups.{Popped, dismissed_among, dismissed_with, dismissing, is_parent_of, orphan, orphaning, placing, popup_changed, with_grab, without_grab}
 use Rattle.wl_shell.specs.Positioner.{Positioner}
 use Rattle.wl_shell.specs.Shell.{Effect, Stays, Unconfigured, Configures, Maps, Unmaps, Waiting, Mapped, Shell, XdgSurface as Xdg, acknowledging, configuring, in_stage, unmapping, with_change, without_role, xdg_at, xdg_of}
 use Rattle.wl_scene.specs.Stacking.{Owned}
@@ -174,8 +174,8 @@ popup-ended id xdg r ok h =
 
 toplevel-gone : (id xdg : ℕ) (r : Resident) → IsAllowed r (EndToplevel id xdg) → HasOf r → HasOf (toplevel_ended id xdg r)
 toplevel-gone id xdg r ok h =
-    let ids = dismissed_with (λ p. p.popup.parent == xdg) r.owned.shell in
-    let dismissed = dismissing (λ p. p.popup.parent == xdg) r.owned.shell in
+    let ids = dismissed_with (λ p. is_parent_of xdg p.popup) r.owned.shell in
+    let dismissed = dismissing (λ p. is_parent_of xdg p.popup) r.owned.shell in
     let only = only-toplevel r.peer.objects r.owned.surfaces r.subsurfaces r.owned.shell r.callbacks h id xdg ok.0 ok.1 in
     let first = has-mapped r.peer.objects r.owned.surfaces r.subsurfaces r.owned.shell r.callbacks h (dismissed_among ids) (no-id-dismissed ids) in
     let second = has-mapped r.peer.objects r.owned.surfaces r.subsurfaces dismissed r.callbacks first (popup_changed (orphan xdg)) (no-id-popup (orphan xdg)) in

@@ -8,7 +8,7 @@ use Rattle.wl_surface.specs.Surfaces.{Link, Surface, Surfaces, surface_at, with_
 use Rattle.wl_surface.specs.Surfaces.{with_change as with_surface_change}
 use Rattle.wl_surface.specs.declared.role.Role.{Role}
 use Rattle.wl_surface.specs.declared.role.Role.TheVariants.{Subsurface as AsSubsurface, Toplevel as AsToplevel, Popup as AsPopup, Cursor as AsCursor}
-use Rattle.wl_shell.specs.Popups.{Popped, dismiss, dismissed_among, dismissed_with, dismissing, is_among, new_popup, orphan, orphaning, popup_changed, with_grab}
+use Rattle.wl_shell.specs.Popups.{Popped, dismiss, dismissed_among, dismissed_with, dismissing, is_among, is_parent_of, new_popup, orphan, orphaning, popup_changed, with_grab}
 use Rattle.wl_shell.specs.Shell.{Shell, XdgSurface, with_change, without_xdg, xdg_at, xdg_of, new_toplevel, with_new, Configures, Effect, Mapped, Maps, Stays, Unconfigured, Unmaps, acknowledging, configuring, in_stage, without_role}
 use Rattle.wl_scene.specs.Stacking.{Owned}
 use Rattle.wl_plain.specs.Desktop.{Resident, Subsurface, Desktop}
@@ -366,11 +366,11 @@ roles-ended : (id xdg : ℕ) (r : Resident) → HasRoles r → HasRoles (topleve
 roles-ended id xdg r has =
     roles-trees r (toplevel_ended id xdg r) (trees-same r.owned.surfaces)
     (shell-more r.owned.shell (orphaning xdg dismissed) (with_change xdg without_role (orphaning xdg dismissed))
-    (shell-more r.owned.shell dismissed (orphaning xdg dismissed) (shell-dismissed (λ p. p.popup.parent == xdg) r.owned.shell) (shell-orphaned xdg dismissed))
+    (shell-more r.owned.shell dismissed (orphaning xdg dismissed) (shell-dismissed (λ p. is_parent_of xdg p.popup) r.owned.shell) (shell-orphaned xdg dismissed))
     (shell-changed xdg without_role (orphaning xdg dismissed) (λ x. refl))) refl has
   where
     dismissed : Shell
-    dismissed = dismissing (λ p. p.popup.parent == xdg) r.owned.shell
+    dismissed = dismissing (λ p. is_parent_of xdg p.popup) r.owned.shell
 
 roles-mode : (link : ℕ) (synchronised : Bool) (r : Resident) → HasRoles r → HasRoles (mode_set link synchronised r)
 roles-mode link true r has = roles-trees r (mode_set link true r) (trees-synchronised link r.owned.surfaces) (shell-same r.owned.shell) refl has

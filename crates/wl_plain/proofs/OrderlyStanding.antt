@@ -5,7 +5,7 @@ use Rattle.std.specs.List.{list_any}
 use Rattle.std.specs.Option.{option_map, option_map_or}
 use Rattle.std.proofs.lemmas.Bool.{eqb-true, ne_eqb, or_left, or_right}
 use Rattle.std.proofs.lemmas.List.Elements.{filter-append}
-use Rattle.wl_shell.specs.Popups.{Popped, dismiss, dismissed_among, dismissed_with, dismissing, is_among, is_toplevel, is_toplevel_kind, new_popup, orphan, orphaning, popped_of, popup_changed, with_grab, with_popup, with_popup_role, without_grab}
+use Rattle.wl_shell.specs.Popups.{Popped, dismiss, dismissed_among, dismissed_with, dismissing, is_among, is_parent_of, is_toplevel, is_toplevel_kind, new_popup, orphan, orphaning, popped_of, popup_changed, with_grab, with_popup, with_popup_role, without_grab}
 use Rattle.wl_shell.specs.declared.stage.Stage.{Stage}
 use Rattle.wl_shell.specs.Shell.{Configures, Effect, IsPopup, Kind, Mapped, Maps, Popup, RoleObject, Shell, Stays, Toplevel, Unconfigured, Unmaps, XdgSurface, at_stage, in_stage, on_commit, with_change, with_new, without_xdg, xdg_at, xdg_of, configuring, unmapping, acknowledged, acknowledging, is_role, new_toplevel, role_acknowledged, without_role, xdg_with}
 use Rattle.wl_scene.specs.Stacking.{Standing, is_of, with_mapped, without_surface_of, Owned}
@@ -495,5 +495,5 @@ standing-kept c (SetPositioner id p) r windows d is has roles stands = stands
 standing-kept c (GetPopup id version xdg parent p) r windows d is has roles stands = standing-popup-given id xdg parent p r (toplevels_of c d) has.shell.0 is.1 stands
 standing-kept c (Grab xdg serial) r windows d is has roles stands = standing-grabbed (grab_allowed c xdg serial r d) xdg r (toplevels_of c d) stands
 standing-kept c (EndPopup id xdg) r windows d is has roles stands = standing-popup-ended id xdg r (toplevels_of c d) has is.0 is.1 stands
-standing-kept c (EndToplevel id xdg) r windows d is has roles stands = standing-toplevel-ended c xdg (λ p. p.popup.parent == xdg) r.owned.shell d.standing has.shell.0 stands
+standing-kept c (EndToplevel id xdg) r windows d is has roles stands = standing-toplevel-ended c xdg (λ p. is_parent_of xdg p.popup) r.owned.shell d.standing has.shell.0 stands
 standing-kept c (Move surface serial) r windows d is has roles stands = stands

@@ -12,7 +12,7 @@ use Rattle.wl_surface.specs.Request.{Frame}
 use Rattle.wl_surface.specs.Surfaces.{Surfaces, buffers_of, history_in, with_change as with_surface_change, with_role}
 use Rattle.wl_surface.specs.Trees.{committed_in, desynchronised_in, destroyed_in, linked, synchronised_in, unlinked}
 use Rattle.wl_surface.specs.declared.role.Role.TheVariants.{Popup as AsPopup, Cursor as AsCursor}
-use Rattle.wl_shell.specs.Popups.{dismissing, is_toplevel, new_popup, orphaning, parent_allows, parent_of, placing, popup_at, popup_changed, popups_of, with_grab, without_grab}
+use Rattle.wl_shell.specs.Popups.{dismissing, is_parent_of, is_toplevel, new_popup, orphaning, parent_allows, parent_of, placing, popup_at, popup_changed, popups_of, with_grab, without_grab}
 use Rattle.wl_shell.specs.Positioner.{Placed, Positioner, first_positioner, place}
 use Rattle.wl_shell.specs.Shell.{Effect, Stays, Unconfigured, Configures, Maps, Unmaps, Waiting, Mapped, Popup, XdgSurface, in_stage, next_serial, unmapping, with_change, without_role, xdg_at, xdg_of}
 use Rattle.wl_scene.specs.Pointer.{Pointer, Target}
@@ -161,7 +161,7 @@ grabbed false xdg r = with_shell (dismissing (λ p. p.xdg.id == xdg) r.owned.she
 -- xdg_toplevel.destroy: its popups are dismissed
 abbrev pub toplevel_ended : ℕ → ℕ → Resident → Resident
 toplevel_ended id xdg r =
-    removing id (with_shell (with_change xdg without_role (orphaning xdg (dismissing (λ p. p.popup.parent == xdg) r.owned.shell))) r)
+    removing id (with_shell (with_change xdg without_role (orphaning xdg (dismissing (λ p. is_parent_of xdg p.popup) r.owned.shell))) r)
 
 -- ---- the pointer
 
