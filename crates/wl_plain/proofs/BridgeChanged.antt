@@ -3,18 +3,19 @@ use Rattle.std.proofs.Common.{◌≡◌, ℕ, List, [], ◌∷◌, ◌++◌, Boo
 use Rattle.std.specs.Prelude.{◌==◌, ◌⊎◌, filter, flat_map, fold}
 use Rattle.std.specs.Option.{option_map, option_map_or}
 use Rattle.wl_client.specs.Told.{id_deleted}
+use Rattle.wl_surface.specs.Frames.{frames_asked}
 use Rattle.wl_surface.specs.Request.{Commit}
 use Rattle.wl_surface.specs.Surfaces.{Link, Surface, Surfaces, applying, asking, history_in, with_change as with_surface_change, without_surface}
 use Rattle.wl_surface.specs.Trees.{applied_tree, behaves_synchronised, committed_in}
+use Rattle.wl_shell.specs.Popups.{Popped, by_number, dismissed_after, dismissed_among, dismissing, is_parent_of, is_toplevel, is_toplevel_kind, orphan, orphaning, placing, popped_of, popup_changed, popups_of, with_popup, with_popup_role, without_grab}
 use Rattle.wl_shell.specs.declared.stage.Stage.{Stage}
 use Rattle.wl_shell.specs.Shell.{Effect, Stays, Unconfigured, Configures, Maps, Unmaps, Waiting, Kind, Toplevel, Popup, RoleObject, Shell, XdgSurface as Xdg, at_stage, in_stage, on_commit, stage_of, unmapping, with_change, without_role, xdg_of}
 use Rattle.wl_scene.specs.Pointer.{first_pointer}
 use Rattle.wl_scene.specs.Windows.{Window}
-use Rattle.wl_plain.specs.Changing.{after_all, changed_for, commit_done, effect_done, is_asked, is_toplevel, is_toplevel_kind, placement_now, placing, stacked_by, stacked_for, surface_ended, toplevel_ended, tree_committed, without_grab, frames_asked}
+use Rattle.wl_plain.specs.Changing.{after_all, changed_for, commit_done, effect_done, is_asked, placement_now, stacked_by, stacked_for, surface_ended, toplevel_ended, tree_committed}
 use Rattle.wl_plain.specs.Demand.{Demand, Move}
 use Rattle.wl_plain.specs.Demanding.{effect_of_commit}
 use Rattle.wl_plain.specs.Desktop.{Callback, Desktop, Resident, Subsurface}
-use Rattle.wl_plain.specs.Popups.{Popped, dismissed_after, dismissed_among, dismissing, orphan, orphaning, popped_of, popup_changed, popups_of, with_popup, with_popup_role, by_number}
 use Rattle.wl_plain.specs.Replies.{commit_told, configure_told, own_answers}
 use Rattle.wl_plain.specs.Step.{after_surface, asked_so_far, configured, configures_told, removing, role_configured, with_shell, with_surfaces}
 use Rattle.wl_plain.specs.NoMore.{AreToplevels, IsToplevel, OwnsToplevelsOnly}
@@ -151,7 +152,7 @@ commit-same c id effect r d only e =
 
 toplevel-same : (id xdg : ℕ) (r : Resident) → OwnsToplevelsOnly r → toplevel_ended id xdg r ≡ changed_simply (DestroyToplevel id xdg) r
 toplevel-same id xdg r only =
-    ap (λ shell. removing id (with_shell (with_change xdg without_role (orphaning xdg shell)) r)) (none-dismissed (λ p. p.popup.parent == xdg) r.owned.shell only.roles)
+    ap (λ shell. removing id (with_shell (with_change xdg without_role (orphaning xdg shell)) r)) (none-dismissed (λ p. is_parent_of xdg p.popup) r.owned.shell only.roles)
     ∙ ap (λ shell. removing id (with_shell (with_change xdg without_role shell) r)) (all-still (orphan xdg) r.owned.shell only.roles)
 
 -- ---- all that is asked

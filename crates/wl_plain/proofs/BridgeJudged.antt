@@ -13,6 +13,7 @@ use Rattle.wl_proto.specs.Spelling.{decoded}
 use Rattle.wl_client.specs.declared.refusals.Refusal.{Refusal}
 use Rattle.wl_client.specs.Judgement.{action_of, after_new_id, is_free, judged, judged_at, word_in}
 use Rattle.wl_client.specs.Objects.{Object, Objects, fits}
+use Rattle.wl_shell.specs.Popups.{popped_kind, popped_of, popped_role}
 use Rattle.wl_shell.specs.Shell.{Effect, Stays, Unconfigured, Configures, Maps, Unmaps, Kind, Toplevel, RoleObject, Shell, XdgSurface as Xdg, is_full, on_commit, stage_of, xdg_of, xdg_with}
 use Rattle.wl_plain.specs.Ask.{Ask, Ignore, owns}
 use Rattle.wl_plain.specs.Demand.{Demand, Asks, EndSurface, CommitTree, EndToplevel, Move}
@@ -21,7 +22,6 @@ use Rattle.wl_plain.specs.Desktop.{Resident}
 use Rattle.wl_plain.specs.LeftOut.{served_now}
 use Rattle.wl_client.specs.Peer.{Peer, known_of}
 use Rattle.wl_plain.specs.Step.{with_peer}
-use Rattle.wl_plain.specs.Popups.{popped_kind, popped_of, popped_role}
 use Rattle.wl_plain.proofs.Simply.{Simple, Asking, DestroySurface, CommitSurface, DestroyToplevel, asks_simply, effect_for, effect_of, judge, simple_of, simply}
 use Rattle.wl_plain.specs.NoMore.{AreToplevels, IsToplevel}
 use Rattle.wl_plain.specs.WlSurface.{surface_ask, surface_created, will_show}

@@ -1,13 +1,13 @@
 -- A client that has no wl_pointers, and is left alone, is as it was.
 use Rattle.std.proofs.Common.{◌≡◌, ◌≢◌, ℕ, ◌+◌, List, [], true, Option, Some, None, refl, ap, sym, ◌∙◌, inl, inr}
 use Rattle.wl_client.specs.declared.clients.Cause.{Cause}
+use Rattle.wl_shell.specs.Popups.{is_among}
 use Rattle.wl_scene.specs.Stacking.{Standing}
 use Rattle.wl_plain.specs.declared.answers.Done.{Done}
 use Rattle.wl_plain.specs.Desktop.{Desktop, Resident, client_at}
 use Rattle.wl_plain.specs.Laws.{toplevels_of}
 use Rattle.wl_plain.specs.LeftOut.{served_now}
 use Rattle.wl_plain.specs.NoMore.{NoMore, OwnsToplevelsAt, OwnsToplevelsBy}
-use Rattle.wl_plain.specs.Popups.{is_among}
 use Rattle.wl_plain.specs.Steps.{Act, Connect, Feed, Store, Leave, Tick, Send, Close, Motion, Button, ConnectsAt, lowest}
 use Rattle.wl_plain.specs.Whole.{Happens}
 use Rattle.wl_plain.specs.WholeOthers.{HasEndedUntold, IsLeftAlone, IsLeftBy, IsLeftLiving, IsLeftSo, client_of}

@@ -9,6 +9,7 @@ use Rattle.wl_client.specs.declared.refusals.Refusal.{Refusal}
 use Rattle.wl_client.specs.Objects.{is_of}
 use Rattle.wl_client.specs.Peer.{LacksMemory, Peer, Queues, QueuesOr, counted, ended, has_room, queued}
 use Rattle.wl_client.specs.Told.{Said, said}
+use Rattle.wl_shell.specs.Popups.{is_among}
 use Rattle.wl_shell.specs.Shell.{Effect, Stays, Unconfigured, Configures, Maps, Unmaps, Fresh, Waiting, Mapped, RoleObject, Shell, XdgSurface as Xdg, acknowledging, configuring, in_stage, new_toplevel, unmapping, with_change, with_new, without_role, without_xdg, xdg_at, xdg_of}
 use Rattle.wl_scene.specs.Pointer.{first_pointer}
 use Rattle.wl_scene.specs.Stacking.{Standing, without_client}
@@ -17,7 +18,6 @@ use Rattle.wl_plain.specs.Changing.{with_kept_move}
 use Rattle.wl_plain.specs.Demand.{Demand}
 use Rattle.wl_plain.specs.Desktop.{Desktop, Resident, become, become_by, client_at, client_in, resident_of, with_client}
 use Rattle.wl_plain.specs.LeftOut.{served_now}
-use Rattle.wl_plain.specs.Popups.{is_among}
 use Rattle.wl_plain.specs.Replies.{dismissed_in, newest_first, own_answers, popups_done, replies}
 use Rattle.wl_plain.specs.Settling.{EndsAndSettles, QueuesTo, after_status, becomes, ended_at, pointer_without, unstruck}
 use Rattle.wl_plain.specs.Stacked.{all_windows}

@@ -5,11 +5,11 @@ use Rattle.std.specs.List.{list_any}
 use Rattle.std.proofs.lemmas.List.{append-nil}
 use Rattle.std.proofs.lemmas.Bool.{eqb-true}
 use Rattle.wl_surface.specs.Request.{Buffer}
-use Rattle.wl_surface.specs.State.{History, applied}
+use Rattle.wl_surface.specs.State.{History, applied, counting}
 use Rattle.wl_surface.specs.Surfaces.{Surfaces, history_in}
 use Rattle.wl_scene.proofs.Lone.{no-child, order-once}
 use Rattle.wl_scene.specs.Stacking.{Owned, Standing, is_of, root_of, windows_on}
-use Rattle.wl_scene.specs.Windows.{Owner, Place, Window, corner_at, counting, member_windows, owner_of, shown_windows, surface_windows, tree, window_of, window_showing, window_with}
+use Rattle.wl_scene.specs.Windows.{Owner, Place, Window, corner_at, member_windows, owner_of, shown_windows, surface_windows, tree, window_of, window_showing, window_with}
 use Rattle.wl_plain.specs.Desktop.{owned_in}
 use Rattle.wl_plain.specs.Laws.{AreApart, WindowsAreDistinct}
 use Rattle.wl_plain.specs.Marks.{AreDistinct, is_same_surface}

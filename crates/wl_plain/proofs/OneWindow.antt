@@ -1,11 +1,11 @@
 -- Without links a surface has one window.
 use Rattle.std.proofs.Common.{◌≡◌, ℕ, suc, List, [], true, Option, Some, None, refl}
 use Rattle.wl_surface.specs.Request.{Buffer}
-use Rattle.wl_surface.specs.State.{History, applied}
+use Rattle.wl_surface.specs.State.{History, applied, counting}
 use Rattle.wl_surface.specs.Surfaces.{Surfaces, history_in, is_there}
 use Rattle.wl_scene.proofs.Lone.{no-child, order-once}
 use Rattle.wl_scene.specs.Lent.{shows_buffer}
-use Rattle.wl_scene.specs.Windows.{Owner, Place, Window, corner_at, counting, member_windows, shown_windows, surface_windows, tree, window_of}
+use Rattle.wl_scene.specs.Windows.{Owner, Place, Window, corner_at, member_windows, shown_windows, surface_windows, tree, window_of}
 
 -- what a surface shows by itself
 abbrev pub window_list : Owner → ℕ → Place → Option History → List Window

@@ -9,20 +9,21 @@ use Rattle.wl_client.specs.declared.actions.Action.TheVariants.{Sync, GetRegistr
 use Rattle.wl_client.specs.Objects.{Objects, is_of, with_id}
 use Rattle.wl_client.specs.Peer.{Peer, object_at_version, changed}
 use Rattle.wl_client.specs.Serving.{changed_with, has_used, keeps_store}
+use Rattle.wl_surface.specs.Frames.{frames_asked}
 use Rattle.wl_surface.specs.Request.{Frame}
 use Rattle.wl_surface.specs.Surfaces.{Surfaces, asking, history_in, is_used, with_new, with_role}
 use Rattle.wl_surface.specs.Surfaces.{with_change as with_surface_change}
 use Rattle.wl_surface.specs.Trees.{committed_in, desynchronised_in, destroyed_in, linked, synchronised_in}
 use Rattle.wl_surface.specs.declared.role.Role.TheVariants as role
+use Rattle.wl_shell.specs.Popups.{Popped, dismissed_among, dismissed_with, dismissing, is_parent_of, orphan, orphaning, placing, popup_changed, with_grab, without_grab}
 use Rattle.wl_shell.specs.Positioner.{Positioner}
 use Rattle.wl_shell.specs.Shell.{Effect, Stays, Unconfigured, Configures, Maps, Unmaps, Waiting, Mapped, Shell, XdgSurface as Xdg, acknowledging, configuring, in_stage, unmapping, with_change, without_role, xdg_at, xdg_of}
 use Rattle.wl_scene.specs.Stacking.{Owned}
 use Rattle.wl_plain.specs.Ask.{Ask, Own, CreateSurface, AskSurface, DestroyBase, GetXdgSurface, DestroyXdgSurface, GetToplevel, Acknowledge, ConfigureAgain, Ignore}
-use Rattle.wl_plain.specs.Changing.{after_all, frames_asked, is_asked, link_with_id, unlinked_at, changed_for, drawing, effect_done, frame_asked, grab_allowed, grabbed, has_focus, in_rising_order, mode_set, placement_now, placing, popup_given_to, subsurface_ended, subsurface_given, surface_ended, toplevel_ended, tree_committed, with_grab, without_callbacks, without_child, without_grab}
+use Rattle.wl_plain.specs.Changing.{after_all, is_asked, link_with_id, unlinked_at, changed_for, drawing, effect_done, frame_asked, grab_allowed, grabbed, has_focus, in_rising_order, mode_set, placement_now, popup_given_to, subsurface_ended, subsurface_given, surface_ended, toplevel_ended, tree_committed, without_callbacks, without_child}
 use Rattle.wl_plain.specs.Demand.{Demand, Asks, EndSurface, AskFrame, CommitTree, EndObject, GetSubsurface, EndSubsurface, SetMode, GetPointer, MakeCursor, CreatePositioner, EndPositioner, SetPositioner, GetPopup, Grab, EndPopup, EndToplevel, Move}
 use Rattle.wl_plain.specs.Demanding.{effect_of_commit}
 use Rattle.wl_plain.specs.Desktop.{Callback, Desktop, Resident, Subsurface}
-use Rattle.wl_plain.specs.Popups.{Popped, dismissed_among, dismissed_with, dismissing, orphan, orphaning, popup_changed}
 use Rattle.wl_plain.specs.Step.{asked_so_far, changed_by, configured, making, toplevel_given, with_shell, with_surfaces, xdg_changed}
 use Rattle.wl_plain.proofs.Orderly.{HasObjects, IsAllowed, IsAsked, IsNew, IsObject, IsOwn, is_no_surface}
 use Rattle.wl_plain.proofs.OrderlyObjectsCalls.{has-callbacks, is_left, left, other-left}
@@ -170,8 +171,8 @@ popup-ended id xdg r ok h =
 
 toplevel-gone : (id xdg : ℕ) (r : Resident) → IsAllowed r (EndToplevel id xdg) → HasOf r → HasOf (toplevel_ended id xdg r)
 toplevel-gone id xdg r ok h =
-    let ids = dismissed_with (λ p. p.popup.parent == xdg) r.owned.shell in
-    let dismissed = dismissing (λ p. p.popup.parent == xdg) r.owned.shell in
+    let ids = dismissed_with (λ p. is_parent_of xdg p.popup) r.owned.shell in
+    let dismissed = dismissing (λ p. is_parent_of xdg p.popup) r.owned.shell in
     let only = only-toplevel r.peer.objects r.owned.surfaces r.subsurfaces r.owned.shell r.callbacks h id xdg ok.0 ok.1 in
     let first = has-mapped r.peer.objects r.owned.surfaces r.subsurfaces r.owned.shell r.callbacks h (dismissed_among ids) (no-id-dismissed ids) in
     let second = has-mapped r.peer.objects r.owned.surfaces r.subsurfaces dismissed r.callbacks first (popup_changed (orphan xdg)) (no-id-popup (orphan xdg)) in

@@ -9,9 +9,9 @@ use Rattle.wl_client.specs.Judgement.{is_free}
 use Rattle.wl_client.specs.Objects.{Object, Objects, interface_number, is_of, with_id}
 use Rattle.wl_client.specs.Peer.{object_at_version}
 use Rattle.wl_surface.specs.Surfaces.{Surfaces}
+use Rattle.wl_shell.specs.Popups.{new_popup}
 use Rattle.wl_shell.specs.Positioner.{Positioner}
 use Rattle.wl_shell.specs.Shell.{Shell, XdgSurface as Xdg, new_toplevel, with_change, with_new, without_xdg, xdg_at}
-use Rattle.wl_plain.specs.Changing.{new_popup}
 use Rattle.wl_plain.specs.Desktop.{Callback, Subsurface}
 use Rattle.wl_plain.specs.Owning.{AreApartBy}
 use Rattle.wl_plain.proofs.Orderly.{AreObjects}

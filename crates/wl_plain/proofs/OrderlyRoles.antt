@@ -8,18 +8,18 @@ use Rattle.wl_surface.specs.Surfaces.{Link, Surface, Surfaces, surface_at, with_
 use Rattle.wl_surface.specs.Surfaces.{with_change as with_surface_change}
 use Rattle.wl_surface.specs.declared.role.Role.{Role}
 use Rattle.wl_surface.specs.declared.role.Role.TheVariants.{Subsurface as AsSubsurface, Toplevel as AsToplevel, Popup as AsPopup, Cursor as AsCursor}
+use Rattle.wl_shell.specs.Popups.{Popped, dismiss, dismissed_among, dismissed_with, dismissing, is_among, is_parent_of, new_popup, orphan, orphaning, popup_changed, with_grab}
 use Rattle.wl_shell.specs.Shell.{Shell, XdgSurface, with_change, without_xdg, xdg_at, xdg_of, new_toplevel, with_new, Configures, Effect, Mapped, Maps, Stays, Unconfigured, Unmaps, acknowledging, configuring, in_stage, without_role}
 use Rattle.wl_scene.specs.Stacking.{Owned}
 use Rattle.wl_plain.specs.Desktop.{Resident, Subsurface, Desktop}
 use Rattle.wl_plain.specs.Owning.{AreApartBy}
-use Rattle.wl_plain.specs.Popups.{Popped, dismiss, dismissed_among, dismissed_with, dismissing, is_among, orphan, orphaning, popup_changed}
 use Rattle.wl_plain.specs.Soundness.{IsLive}
 use Rattle.wl_plain.specs.Step.{with_shell, with_surfaces, xdg_changed, asked_so_far, toplevel_given, changed_by, removing}
 use Rattle.wl_plain.specs.WlSubsurface.{is_of_child}
 use Rattle.wl_plain.specs.XdgShell.{role_of, is_foreign}
 use Rattle.wl_plain.proofs.Orderly.{HasRoles, KeepsLinks, KeepsTrees, role_in, IsForest, HasObjects, IsAllowed, IsAsked}
 use Rattle.wl_plain.proofs.OwningKeys.{apart-left, apart-map, found-map, none-left, differ, found-fails, found-passes, new-apart, new-elsewhere, any-found, found-any}
-use Rattle.wl_plain.specs.Changing.{new_popup, popup_given_to, link_with_id, subsurface_ended, subsurface_given, surface_ended, without_child, changed_for, commit_done, drawing, effect_done, frame_asked, grab_allowed, grabbed, has_focus, in_rising_order, mode_set, pointer_given, popup_given, toplevel_ended, tree_committed, with_grab}
+use Rattle.wl_plain.specs.Changing.{popup_given_to, link_with_id, subsurface_ended, subsurface_given, surface_ended, without_child, changed_for, commit_done, drawing, effect_done, frame_asked, grab_allowed, grabbed, has_focus, in_rising_order, mode_set, pointer_given, popup_given, toplevel_ended, tree_committed}
 use Rattle.wl_shell.specs.Positioner.{Positioner}
 use Rattle.wl_plain.specs.WlPointer.{is_no_cursor}
 use Rattle.wl_plain.proofs.OwningSurfaces.{has_id}
@@ -366,11 +366,11 @@ roles-ended : (id xdg : ℕ) (r : Resident) → HasRoles r → HasRoles (topleve
 roles-ended id xdg r has =
     roles-trees r (toplevel_ended id xdg r) (trees-same r.owned.surfaces)
     (shell-more r.owned.shell (orphaning xdg dismissed) (with_change xdg without_role (orphaning xdg dismissed))
-    (shell-more r.owned.shell dismissed (orphaning xdg dismissed) (shell-dismissed (λ p. p.popup.parent == xdg) r.owned.shell) (shell-orphaned xdg dismissed))
+    (shell-more r.owned.shell dismissed (orphaning xdg dismissed) (shell-dismissed (λ p. is_parent_of xdg p.popup) r.owned.shell) (shell-orphaned xdg dismissed))
     (shell-changed xdg without_role (orphaning xdg dismissed) (λ x. refl))) refl has
   where
     dismissed : Shell
-    dismissed = dismissing (λ p. p.popup.parent == xdg) r.owned.shell
+    dismissed = dismissing (λ p. is_parent_of xdg p.popup) r.owned.shell
 
 roles-mode : (link : ℕ) (synchronised : Bool) (r : Resident) → HasRoles r → HasRoles (mode_set link synchronised r)
 roles-mode link true r has = roles-trees r (mode_set link true r) (trees-synchronised link r.owned.surfaces) (shell-same r.owned.shell) refl has

@@ -6,19 +6,20 @@ use Rattle.wl_client.specs.declared.clients.Cause.{Cause}
 use Rattle.wl_client.specs.Objects.{is_of}
 use Rattle.wl_client.specs.Peer.{Peer, ended}
 use Rattle.wl_client.specs.Told.{Said}
+use Rattle.wl_surface.specs.Frames.{frames_counting}
 use Rattle.wl_surface.specs.Surfaces.{Link, no_surfaces}
+use Rattle.wl_shell.specs.Popups.{Popped, dismissing}
 use Rattle.wl_shell.specs.Shell.{Shell}
 use Rattle.wl_scene.specs.Stacking.{Standing}
 use Rattle.wl_plain.specs.Changing.{drawing, without_callbacks}
 use Rattle.wl_plain.specs.Desktop.{Callback, Desktop, Resident, client_at, resident_of}
 use Rattle.wl_plain.specs.Laws.{toplevels_of}
 use Rattle.wl_plain.specs.Pointing.{button_told, entered_surface, has_pointers, left_surface, motion_told}
-use Rattle.wl_plain.specs.Popups.{Popped, dismissing}
 use Rattle.wl_plain.specs.Replies.{popups_done}
 use Rattle.wl_plain.specs.Settling.{EndsAndSettles, Moving, QueuesTo, Settles, Strike, becomes, ended_by, leave_drawn, told_drawn, unstruck}
 use Rattle.wl_plain.specs.Soundness.{IsLive}
 use Rattle.wl_plain.specs.Step.{with_peer, with_shell}
-use Rattle.wl_plain.specs.Whole.{callbacks_due, ending, frames_counting, frames_told, is_counting, noted, noted_if, number_of, settling, without_grabs}
+use Rattle.wl_plain.specs.Whole.{callbacks_due, ending, frames_told, is_counting, noted, noted_if, number_of, settling, without_grabs}
 use Rattle.wl_plain.specs.WholeOthers.{IsLeftAlone, IsLeftBy, IsLeftLiving, IsLeftSo, IsToldTimes, told_once}
 use Rattle.wl_plain.proofs.Orderly.{HasObjects, HasRoles, IsForest, IsOrderly, IsOrderlyAt, IsOrderlyBy, StandsSo}
 use Rattle.wl_plain.proofs.OwningKeys.{none-some}

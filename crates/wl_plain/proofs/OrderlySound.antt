@@ -5,12 +5,13 @@ use Rattle.std.specs.List.{list_any}
 use Rattle.std.proofs.lemmas.Bool.{eqb-true}
 use Rattle.wl_client.specs.declared.clients.Cause.{Cause}
 use Rattle.wl_surface.specs.Surfaces.{Link, Surfaces}
+use Rattle.wl_shell.specs.Popups.{Popped, by_number, popped_kind, popped_of, popped_role, popups_of}
 use Rattle.wl_shell.specs.Shell.{Kind, RoleObject, Shell, Toplevel, IsPopup, XdgSurface, xdg_of}
 use Rattle.wl_scene.specs.Stacking.{Owned, Standing, is_of}
 use Rattle.wl_plain.specs.Desktop.{Desktop, Resident, client_at, owned_in, owned_of}
 use Rattle.wl_plain.specs.Laws.{AreApart, toplevels_of}
 use Rattle.wl_plain.specs.Owning.{AreApartBy}
-use Rattle.wl_plain.specs.Popups.{Popped, by_number, popped_kind, popped_of, popped_role, popups_of, stacked_popup, stacked_popups}
+use Rattle.wl_plain.specs.Popups.{stacked_popup, stacked_popups}
 use Rattle.wl_plain.specs.Soundness.{AreOnce, AreTrees, IsLive, IsNoChild, IsSound, has_surface}
 use Rattle.wl_plain.proofs.Orderly.{AreOrderly, IsForest, IsMapped, IsMappedRole, IsOrderly, IsOrderlyAt, IsOrderlyBy}
 use Rattle.wl_plain.proofs.SoundFirst.{no-trees}

@@ -5,15 +5,15 @@ use Rattle.std.specs.List.{list_any}
 use Rattle.std.specs.Option.{option_map, option_map_or}
 use Rattle.std.proofs.lemmas.Bool.{eqb-true, ne_eqb, or_left, or_right}
 use Rattle.std.proofs.lemmas.List.Elements.{filter-append}
+use Rattle.wl_shell.specs.Popups.{Popped, dismiss, dismissed_among, dismissed_with, dismissing, is_among, is_parent_of, is_toplevel, is_toplevel_kind, new_popup, orphan, orphaning, popped_of, popup_changed, with_grab, with_popup, with_popup_role, without_grab}
 use Rattle.wl_shell.specs.declared.stage.Stage.{Stage}
 use Rattle.wl_shell.specs.Shell.{Configures, Effect, IsPopup, Kind, Mapped, Maps, Popup, RoleObject, Shell, Stays, Toplevel, Unconfigured, Unmaps, XdgSurface, at_stage, in_stage, on_commit, with_change, with_new, without_xdg, xdg_at, xdg_of, configuring, unmapping, acknowledged, acknowledging, is_role, new_toplevel, role_acknowledged, without_role, xdg_with}
 use Rattle.wl_scene.specs.Stacking.{Standing, is_of, with_mapped, without_surface_of, Owned}
 use Rattle.wl_scene.specs.Windows.{mapping_place, Window}
-use Rattle.wl_plain.specs.Changing.{is_toplevel, is_toplevel_kind, commit_done, effect_done, stacked_by, tree_committed, without_grab, grabbed, new_popup, popup_given_to, with_grab, changed_for, drawing, grab_allowed, has_focus, in_rising_order, stacked_for}
+use Rattle.wl_plain.specs.Changing.{commit_done, effect_done, stacked_by, tree_committed, grabbed, popup_given_to, changed_for, drawing, grab_allowed, has_focus, in_rising_order, stacked_for}
 use Rattle.wl_plain.specs.Demanding.{effect_for_xdg, is_dismissed, effect_of_commit, effect_on_xdg}
 use Rattle.wl_plain.specs.Laws.{AreApart, toplevels_of}
 use Rattle.wl_plain.specs.Owning.{AreApartBy}
-use Rattle.wl_plain.specs.Popups.{Popped, dismiss, dismissed_with, dismissing, is_among, popped_of, popup_changed, with_popup, with_popup_role, dismissed_among, orphan, orphaning}
 use Rattle.wl_plain.proofs.Orderly.{HasNoRole, IsMapped, IsMappedRole, StandsSo, HasId, HasObjects, IsAsked, is_toplevel_at, HasRoles, IsAllowed}
 use Rattle.wl_plain.proofs.OwningKeys.{differ, found-by, found-map, found-passes, some-same, apart-map, found-any}
 use Rattle.wl_plain.proofs.StandingLists.{any-last, apart-left, mapped-apart, none-left, without-here}
@@ -492,5 +492,5 @@ standing-kept c (SetPositioner id p) r windows d is has roles stands = stands
 standing-kept c (GetPopup id version xdg parent p) r windows d is has roles stands = standing-popup-given id xdg parent p r (toplevels_of c d) has.shell.0 is.1 stands
 standing-kept c (Grab xdg serial) r windows d is has roles stands = standing-grabbed (grab_allowed c xdg serial r d) xdg r (toplevels_of c d) stands
 standing-kept c (EndPopup id xdg) r windows d is has roles stands = standing-popup-ended id xdg r (toplevels_of c d) has is.0 is.1 stands
-standing-kept c (EndToplevel id xdg) r windows d is has roles stands = standing-toplevel-ended c xdg (λ p. p.popup.parent == xdg) r.owned.shell d.standing has.shell.0 stands
+standing-kept c (EndToplevel id xdg) r windows d is has roles stands = standing-toplevel-ended c xdg (λ p. is_parent_of xdg p.popup) r.owned.shell d.standing has.shell.0 stands
 standing-kept c (Move surface serial) r windows d is has roles stands = stands

@@ -4,9 +4,9 @@ use Rattle.std.specs.Prelude.{◌==◌, ◌||◌, ◌+◌, ◌+ℤ◌, cond, fla
 use Rattle.std.specs.List.{list_any}
 use Rattle.std.proofs.lemmas.Bool.{eqb-true}
 use Rattle.wl_surface.specs.Request.{Buffer, Member, Itself, Child}
-use Rattle.wl_surface.specs.State.{History, Values, applied, is_member, order, position}
+use Rattle.wl_surface.specs.State.{History, Values, applied, counting, is_member, order, position}
 use Rattle.wl_surface.specs.Surfaces.{Link, Surfaces, history_in, link_at}
-use Rattle.wl_scene.specs.Windows.{Owner, Place, Window, child_windows, corner_at, counting, member_windows, shown_windows, surface_windows, tree, window_with}
+use Rattle.wl_scene.specs.Windows.{Owner, Place, Window, child_windows, corner_at, member_windows, shown_windows, surface_windows, tree, window_with}
 use Rattle.wl_plain.specs.Marks.{AreDistinct, is_same_surface}
 use Rattle.wl_plain.specs.Soundness.{AreOnce, AreTrees, IsLive}
 use Rattle.wl_plain.proofs.Stacks.{Each, and-left, and-right, differ, each-map, equal-numbers, or-left, or-right, same-number, unless}

@@ -1,7 +1,8 @@
 -- No surface has two windows where a desktop is sound.
-use Rattle.std.proofs.Common.{◌≡◌, ℕ, Bool, true, false, List, [], ◌∷◌, ◌++◌, refl, sym, subst, ◌∙◌}
+use Rattle.std.proofs.Common.{◌≡◌, ℕ, Bool, true, false, Option, Some, None, List, [], ◌∷◌, ◌++◌, refl, sym, subst, ◌∙◌}
 use Rattle.std.specs.Prelude.{◌==◌, ◌&&◌, ◌||◌, cond, fold, map}
 use Rattle.std.specs.List.{list_any}
+use Rattle.std.specs.Option.{option_map_or}
 use Rattle.std.proofs.lemmas.Bool.{eqb-true}
 use Rattle.wl_surface.specs.Surfaces.{Surfaces}
 use Rattle.wl_scene.specs.Stacking.{Owned, Standing, is_of, root_of}
@@ -23,6 +24,13 @@ roots_at x r = r.surface == x
 abbrev pub In : ℕ → List Root → Bool
 In x roots = list_any (roots_at x) roots
 
+-- a root of the parent's surface
+abbrev is_on : Option ℕ → Root → Bool
+is_on parent r = option_map_or (λ surface. r.surface == surface) parent false
+
+abbrev InParent : Option ℕ → List Root → Bool
+InParent parent roots = list_any (is_on parent) roots
+
 abbrev pub same_root : Root → Root → Bool
 same_root r q = roots_at r.surface q
 
@@ -32,7 +40,7 @@ same_popup p q = has_surface p.surface q
 -- a popup gives no root, or one of its surface where its parent is among the roots
 abbrev Shape : StackedPopup → List Root → List Root → Type 0
 Shape p rs [] = Unit {0}
-Shape p rs (r ∷ []) = (r.surface ≡ p.surface) × (In p.parent rs ≡ true)
+Shape p rs (r ∷ []) = (r.surface ≡ p.surface) × (InParent p.parent rs ≡ true)
 Shape p rs (r ∷ q ∷ qs) = ⊥
 
 or-later : (a b : Bool) → b ≡ true → (a || b) ≡ true
@@ -45,18 +53,18 @@ or-now false b e = absurd (differ e)
 
 shape-more : (p : StackedPopup) (r : Root) (rs on : List Root) → Shape p rs on → Shape p (r ∷ rs) on
 shape-more p r rs [] e = tt
-shape-more p r rs (q ∷ []) e = (e.0, or-later (roots_at p.parent r) (In p.parent rs) e.1)
+shape-more p r rs (q ∷ []) e = (e.0, or-later (is_on p.parent r) (InParent p.parent rs) e.1)
 shape-more p r rs (q ∷ s ∷ ss) e = e
 
 on-shape : (surfaces : Surfaces) (p : StackedPopup) (rs : List Root) → Shape p rs (stacked_on surfaces p rs)
 on-shape surfaces p [] = tt
-on-shape surfaces p (r ∷ rs) = by (on-shape surfaces p rs) (p.is_mapped && (r.surface == p.parent)) refl
+on-shape surfaces p (r ∷ rs) = by (on-shape surfaces p rs) (p.is_mapped && is_on p.parent r) refl
   where
-    by : Shape p rs (stacked_on surfaces p rs) → (b : Bool) → (p.is_mapped && (r.surface == p.parent)) ≡ b → Shape p (r ∷ rs) (cond b (root_on surfaces r p ∷ []) (stacked_on surfaces p rs))
-    by shape true e = (refl, or-now (roots_at p.parent r) (In p.parent rs) (and-right p.is_mapped (r.surface == p.parent) e))
+    by : Shape p rs (stacked_on surfaces p rs) → (b : Bool) → (p.is_mapped && is_on p.parent r) ≡ b → Shape p (r ∷ rs) (cond b (root_on surfaces r p ∷ []) (stacked_on surfaces p rs))
+    by shape true e = (refl, or-now (is_on p.parent r) (InParent p.parent rs) (and-right p.is_mapped (is_on p.parent r) e))
     by shape false e = shape-more p r rs (stacked_on surfaces p rs) shape
 
-in-shape : (p : StackedPopup) (rs on : List Root) (x : ℕ) → Shape p rs on → In x on ≡ true → (p.surface ≡ x) × (In p.parent rs ≡ true)
+in-shape : (p : StackedPopup) (rs on : List Root) (x : ℕ) → Shape p rs on → In x on ≡ true → (p.surface ≡ x) × (InParent p.parent rs ≡ true)
 in-shape p rs [] x e f = absurd (differ f)
 in-shape p rs (r ∷ []) x e f = (sym e.0 ∙ eqb-true r.surface x (first (roots_at x r) f), e.1)
   where
@@ -68,7 +76,7 @@ in-shape p rs (r ∷ q ∷ qs) x e f = absurd e
 -- each root is one of these
 on-each : (P : Root → Type 0) (surfaces : Surfaces) (p : StackedPopup) → ((r : Root) → P r → P (root_on surfaces r p)) → (rs : List Root) → Each P rs → Each P (stacked_on surfaces p rs)
 on-each P surfaces p f [] e = tt
-on-each P surfaces p f (r ∷ rs) e = by (on-each P surfaces p f rs e.1) (p.is_mapped && (r.surface == p.parent))
+on-each P surfaces p f (r ∷ rs) e = by (on-each P surfaces p f rs e.1) (p.is_mapped && is_on p.parent r)
   where
     by : Each P (stacked_on surfaces p rs) → (b : Bool) → Each P (cond b (root_on surfaces r p ∷ []) (stacked_on surfaces p rs))
     by rest true = (f r e.0, tt)
@@ -126,6 +134,15 @@ AreAway rs qs = (x : ℕ) → In x rs ≡ true → In x qs ≡ true → ⊥
 in-either : (x : ℕ) (rs qs : List Root) → In x (rs ++ qs) ≡ true → (In x rs ≡ true → ⊥) → (In x qs ≡ true → ⊥) → ⊥
 in-either x rs qs e f g = differ (sym (none-append (roots_at x) rs qs (unless (In x rs) f) (unless (In x qs) g)) ∙ e)
 
+no-parent : (rs : List Root) → InParent None rs ≡ false
+no-parent [] = refl
+no-parent (r ∷ rs) = no-parent rs
+
+-- and so no parent
+away-parent : (parent : Option ℕ) (rs qs : List Root) → AreAway rs qs → InParent parent rs ≡ true → InParent parent qs ≡ true → ⊥
+away-parent None rs qs away e f = differ (sym (no-parent rs) ∙ e)
+away-parent (Some x) rs qs away e f = away x e f
+
 away-step : (surfaces : Surfaces) (p : StackedPopup) (rs qs : List Root) → AreAway rs qs → In p.surface rs ≡ false → In p.surface qs ≡ false → AreAway (stacked surfaces rs p) (stacked surfaces qs p)
 away-step surfaces p rs qs away f g x a b =
     in-either x rs (stacked_on surfaces p rs) a
@@ -133,7 +150,7 @@ away-step surfaces p rs qs away f g x a b =
     (λ v. differ (sym f ∙ subst (λ y. In y rs ≡ true) (sym (in-shape p qs (stacked_on surfaces p qs) x (on-shape surfaces p qs) v).0) u)))
     (λ u. in-either x qs (stacked_on surfaces p qs) b
     (λ v. differ (sym g ∙ subst (λ y. In y qs ≡ true) (sym (in-shape p rs (stacked_on surfaces p rs) x (on-shape surfaces p rs) u).0) v))
-    (λ v. away p.parent (in-shape p rs (stacked_on surfaces p rs) x (on-shape surfaces p rs) u).1 (in-shape p qs (stacked_on surfaces p qs) x (on-shape surfaces p qs) v).1))
+    (λ v. away-parent p.parent rs qs away (in-shape p rs (stacked_on surfaces p rs) x (on-shape surfaces p rs) u).1 (in-shape p qs (stacked_on surfaces p qs) x (on-shape surfaces p qs) v).1))
 
 stacked-away : (surfaces : Surfaces) (rs qs : List Root) (ps : List StackedPopup) → AreAway rs qs → Each (λ p. In p.surface rs ≡ false) ps → Each (λ p. In p.surface qs ≡ false) ps → AreOnce same_popup ps → AreAway (fold (stacked surfaces) rs ps) (fold (stacked surfaces) qs ps)
 stacked-away surfaces rs qs [] away f g once = away

@@ -11,9 +11,10 @@ use Rattle.wl_client.specs.declared.refusals.Refusal.{Refusal}
 use Rattle.wl_client.specs.Peer.{Errs, IsIdleAt, LacksMemory, Peer, counted, ended, with_rest}
 use Rattle.wl_client.specs.Told.{Said, display_error}
 use Rattle.wl_client.proofs.Unique.{refused_is}
+use Rattle.wl_shell.specs.Popups.{is_toplevel}
 use Rattle.wl_shell.specs.Shell.{Effect, Stays, Unconfigured, Configures, Maps, Unmaps}
 use Rattle.wl_scene.specs.Windows.{Window}
-use Rattle.wl_plain.specs.Changing.{changed_for, is_toplevel, stacked_by, stacked_for}
+use Rattle.wl_plain.specs.Changing.{changed_for, stacked_by, stacked_for}
 use Rattle.wl_plain.specs.Demand.{Demand, Asks, EndSurface, AskFrame, CommitTree, EndObject, GetSubsurface, EndSubsurface, SetMode, GetPointer, MakeCursor, CreatePositioner, EndPositioner, SetPositioner, GetPopup, Grab, EndPopup, EndToplevel, Move}
 use Rattle.wl_plain.specs.Demanding.{effect_of_commit, judge_all}
 use Rattle.wl_plain.specs.Desktop.{Desktop, Resident, become_by, client_at, client_in, resident_of, with_client, with_number}

@@ -8,15 +8,16 @@ use Rattle.wl_client.specs.declared.clients.Cause.{Cause}
 use Rattle.wl_client.specs.declared.clients.Cause.TheVariants.{Memory, Slow}
 use Rattle.wl_client.specs.Peer.{Peer, has_room, queued, removed}
 use Rattle.wl_client.specs.Told.{Said, said_bytes}
+use Rattle.wl_surface.specs.Frames.{frames_counting}
+use Rattle.wl_shell.specs.Popups.{dismiss, dismissed_among, dismissed_with, is_among, popup_changed, with_popup, with_popup_role}
 use Rattle.wl_shell.specs.Shell.{Kind, Toplevel, IsPopup, RoleObject, Shell, XdgSurface}
 use Rattle.wl_scene.specs.Windows.{Place, Window}
 use Rattle.wl_plain.specs.Changing.{drawing, without_callbacks}
 use Rattle.wl_plain.specs.Desktop.{Callback, Resident}
 use Rattle.wl_plain.specs.Pointing.{button_told, entered_surface, has_pointers, left_surface, motion_told}
-use Rattle.wl_plain.specs.Popups.{dismiss, dismissed_among, dismissed_with, is_among, popup_changed, with_popup, with_popup_role}
 use Rattle.wl_plain.specs.Replies.{popups_done}
 use Rattle.wl_plain.specs.Settling.{QueuesFirst, QueuesTo, leave_drawn, told_drawn}
-use Rattle.wl_plain.specs.Whole.{callbacks_due, frames_told, is_counting, frames_counting, noted, noted_if, number_of, without_grabs}
+use Rattle.wl_plain.specs.Whole.{callbacks_due, frames_told, is_counting, noted, noted_if, number_of, without_grabs}
 use Rattle.wl_plain.specs.WholeOwn.{AreSameOrDismissed, HasItsOwn, IsSameOrDismissed, LivesOn}
 use Rattle.wl_plain.proofs.StandingLists.{none-left}
 use Rattle.wl_plain.proofs.Stacks.{equal-numbers, or-left, or-right, unless}

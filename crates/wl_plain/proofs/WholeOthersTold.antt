@@ -9,11 +9,11 @@ use Rattle.wl_client.specs.declared.clients.Cause.TheVariants.{Memory, Slow}
 use Rattle.wl_client.specs.Peer.{Peer, has_room, queued}
 use Rattle.wl_client.specs.Told.{Said, said, said_bytes}
 use Rattle.wl_surface.specs.Surfaces.{history_in}
+use Rattle.wl_shell.specs.Popups.{is_among}
 use Rattle.wl_scene.specs.Windows.{Place, Window}
 use Rattle.wl_plain.specs.Changing.{drawing}
 use Rattle.wl_plain.specs.Desktop.{Resident}
 use Rattle.wl_plain.specs.Pointing.{entered_surface, has_pointers, left_surface, to_pointers}
-use Rattle.wl_plain.specs.Popups.{is_among}
 use Rattle.wl_plain.specs.Replies.{entered_at}
 use Rattle.wl_plain.specs.Settling.{QueuesFirst, QueuesTo, leave_drawn, told_drawn}
 use Rattle.wl_plain.specs.WholeOthers.{AreOfFocus, IsOfFocus, IsToldOfFocus, IsToldTimes, told_once}

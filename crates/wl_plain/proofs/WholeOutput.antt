@@ -9,11 +9,12 @@ use Rattle.wl_client.specs.declared.clients.Cause.TheVariants.{Gone, Memory}
 use Rattle.wl_client.specs.declared.refusals.Refusal.{Refusal}
 use Rattle.wl_client.specs.Peer.{Peer, LacksMemory, counted, ended}
 use Rattle.wl_client.specs.Told.{Said}
+use Rattle.wl_shell.specs.Popups.{is_toplevel}
 use Rattle.wl_shell.specs.Shell.{Effect, Stays, Unconfigured, Configures, Maps, Unmaps, xdg_of}
 use Rattle.wl_scene.specs.Pointer.{Target, is_down, is_press}
 use Rattle.wl_scene.specs.Windows.{Window}
 use Rattle.wl_plain.specs.declared.answers.Done.{Done}
-use Rattle.wl_plain.specs.Changing.{changed_for, grab_holder, is_toplevel, stacked_by, stacked_for}
+use Rattle.wl_plain.specs.Changing.{changed_for, grab_holder, stacked_by, stacked_for}
 use Rattle.wl_plain.specs.Demand.{Demand, Asks, EndSurface, AskFrame, CommitTree, EndObject, GetSubsurface, EndSubsurface, SetMode, GetPointer, MakeCursor, CreatePositioner, EndPositioner, SetPositioner, GetPopup, Grab, EndPopup, EndToplevel, Move}
 use Rattle.wl_plain.specs.Demanding.{effect_of_commit}
 use Rattle.wl_plain.specs.Desktop.{Desktop, Resident, arrival, become, become_by, client_at, with_client}

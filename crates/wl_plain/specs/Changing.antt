@@ -1,5 +1,5 @@
 -- What an accepted message changes of its client, of the stack of toplevels, and of the pointer, where every request is served.
-use Rattle.std.specs.Prelude.{ℕ, pos, suc, ◌+◌, ◌==◌, ◌&&◌, ◌||◌, nat_lt, not, Bool, true, false, if◌then◌else◌, Option, Some, None, List, [], ◌∷◌, ◌++◌, filter, find, flat_map, fold, map, is_some}
+use Rattle.std.specs.Prelude.{ℕ, pos, suc, ◌+◌, ◌==◌, ◌&&◌, ◌||◌, nat_lt, not, Bool, true, false, if◌then◌else◌, Option, Some, None, List, [], ◌∷◌, ◌++◌, filter, find, flat_map, fold, map}
 use Rattle.std.specs.List.{list_any}
 use Rattle.std.specs.Option.{option_and_then, option_map, option_map_or}
 use Rattle.wl_geom.specs.declared.rect.Rect.{Rect}
@@ -7,20 +7,21 @@ use Rattle.wl_proto.specs.declared.interface.Interface.TheVariants.{WlCallback, 
 use Rattle.wl_client.specs.Objects.{with_id}
 use Rattle.wl_client.specs.Peer.{removed}
 use Rattle.wl_client.specs.Told.{Output}
-use Rattle.wl_surface.specs.Request.{Request, Frame}
-use Rattle.wl_surface.specs.State.{History}
+use Rattle.wl_surface.specs.Frames.{frames_asked}
+use Rattle.wl_surface.specs.Request.{Frame}
 use Rattle.wl_surface.specs.Surfaces.{Surfaces, buffers_of, history_in, with_change as with_surface_change, with_role}
 use Rattle.wl_surface.specs.Trees.{committed_in, desynchronised_in, destroyed_in, linked, synchronised_in, unlinked}
 use Rattle.wl_surface.specs.declared.role.Role.TheVariants.{Popup as AsPopup, Cursor as AsCursor}
+use Rattle.wl_shell.specs.Popups.{dismissing, is_parent_of, is_toplevel, new_popup, orphaning, parent_allows, parent_of, placing, popup_at, popup_changed, popups_of, with_grab, without_grab, Popped, popped_of}
 use Rattle.wl_shell.specs.Positioner.{Placed, Positioner, first_positioner, place}
-use Rattle.wl_shell.specs.Shell.{Effect, Stays, Unconfigured, Configures, Maps, Unmaps, Fresh, Waiting, Mapped, Kind, Toplevel, IsPopup, Popup, Shell, XdgSurface, in_stage, next_serial, unmapping, with_change, without_role, xdg_at, xdg_of}
+use Rattle.wl_shell.specs.Shell.{Effect, Stays, Unconfigured, Configures, Maps, Unmaps, Waiting, Mapped, Popup, XdgSurface, in_stage, next_serial, unmapping, with_change, without_role, xdg_at, xdg_of}
 use Rattle.wl_scene.specs.Pointer.{Pointer, Target}
 use Rattle.wl_scene.specs.Stacking.{Standing, is_of, with_mapped, without_surface_of}
 use Rattle.wl_scene.specs.Windows.{Place, Window}
 use Rattle.wl_plain.specs.Demand.{Demand, Asks, EndSurface, AskFrame, CommitTree, EndObject, GetSubsurface, EndSubsurface, SetMode, GetPointer, MakeCursor, CreatePositioner, EndPositioner, SetPositioner, GetPopup, Grab, EndPopup, EndToplevel, Move}
 use Rattle.wl_plain.specs.Demanding.{effect_of_commit}
 use Rattle.wl_plain.specs.Desktop.{Callback, Desktop, Resident, Subsurface}
-use Rattle.wl_plain.specs.Popups.{Popped, dismissing, orphaning, parent_corner, popped_of, popup_at, popup_changed, popups_of}
+use Rattle.wl_plain.specs.Popups.{parent_corner}
 use Rattle.wl_plain.specs.Step.{asked_of, asked_so_far, changed_by, configured, letting_go, making, removing, surface_of, with_peer, with_shell, with_surfaces, xdg_changed}
 
 -- ---- surfaces
@@ -28,17 +29,6 @@ use Rattle.wl_plain.specs.Step.{asked_of, asked_so_far, changed_by, configured, 
 -- of the buffers that surfaces had, those that are over let their stores go
 abbrev pub after_all : Resident → Resident → Resident
 after_all old new = letting_go (flat_map (λ s. buffers_of s.history) old.owned.surfaces.surfaces) new
-
-abbrev pub frames_of : List Request → List ℕ
-frames_of requests = flat_map (λ request. frame_of request) requests
-  where
-    frame_of : Request → List ℕ
-    frame_of (Frame number) = number ∷ []
-    frame_of request = []
-
-abbrev pub frames_asked : Option History → List ℕ
-frames_asked None = []
-frames_asked (Some h) = frames_of h.requests
 
 -- the frame callbacks of a surface, in the order of their requests
 abbrev pub is_asked : List ℕ → Callback → Bool
@@ -104,14 +94,8 @@ output_rect output = record { x = pos 0; y = pos 0; w = pos output.width; h = po
 abbrev pub placed_at : Place → Output → Positioner → Option Placed
 placed_at corner output positioner = place positioner (output_rect output) (corner.x, corner.y)
 
-abbrev pub placing : (Popup → Option Placed) → Popup → Popup
-placing where_to popup = record popup { placement = where_to popup }
-
 abbrev pub placement_now : ℕ → Resident → Desktop → Popup → Option Placed
 placement_now c r d popup = placed_at (parent_corner d.standing c r.owned popup.parent) d.output popup.positioner
-
-abbrev pub without_grab : Popup → Popup
-without_grab popup = record popup { has_grab = false }
 
 -- A popup is placed as it is configured; one that is unmapped holds no grab.
 abbrev pub effect_done : ℕ → ℕ → Effect → Option XdgSurface → Desktop → Resident → Resident
@@ -130,19 +114,6 @@ abbrev pub commit_done : ℕ → ℕ → Resident → Desktop → Resident
 commit_done c surface r d = effect_done c surface (effect_of_commit r surface) (xdg_of surface r.owned.shell) d (tree_committed surface r)
 
 -- ---- popups
-
--- xdg_surface.get_popup: the positioner is copied
-abbrev pub new_popup : ℕ → ℕ → Positioner → ℕ → ℕ → XdgSurface → XdgSurface
-new_popup id parent positioner number since x =
-    record x {
-      role = Some (record {
-        id = id;
-        kind = IsPopup (record { parent = parent; positioner = positioner; placement = None; is_dismissed = false; has_grab = false; number = number });
-        stage = Fresh;
-      });
-      serials = [];
-      since = since;
-    }
 
 abbrev pub popup_given_to : ℕ → ℕ → ℕ → Positioner → Option XdgSurface → Resident → Resident
 popup_given_to id xdg parent positioner None r = r
@@ -170,19 +141,6 @@ abbrev pub is_held_elsewhere : ℕ → Option ℕ → Bool
 is_held_elsewhere c None = false
 is_held_elsewhere c (Some holder) = not (holder == c)
 
--- the parent is a toplevel, or a popup with a grab
-abbrev pub allows_grab : List Popped → Bool → Bool
-allows_grab [] is_role = is_role
-allows_grab (p ∷ ps) is_role = p.popup.has_grab
-
-abbrev pub parent_allows : Option XdgSurface → Bool
-parent_allows None = false
-parent_allows (Some x) = allows_grab (popped_of x) (is_some x.role)
-
--- the xdg_surface of a popup's parent
-abbrev pub parent_of : Shell → Popped → Option XdgSurface
-parent_of shell p = xdg_at p.popup.parent shell
-
 -- the serial is that of the latest press or the latest release that the client was told of
 abbrev pub is_serial : ℕ → Option ℕ → Bool
 is_serial serial None = false
@@ -196,9 +154,6 @@ grab_allowed c xdg serial r d =
     is_latest serial r && (parent_allows (option_and_then (parent_of r.owned.shell) (popup_at xdg r.owned.shell)) && not (is_held_elsewhere c (grab_holder d)))
 
 -- xdg_popup.grab: taken, or the popup is dismissed
-abbrev pub with_grab : Popup → Popup
-with_grab popup = record popup { has_grab = true }
-
 abbrev pub grabbed : Bool → ℕ → Resident → Resident
 grabbed true xdg r = xdg_changed xdg (popup_changed with_grab) r
 grabbed false xdg r = with_shell (dismissing (λ p. p.xdg.id == xdg) r.owned.shell) r
@@ -206,7 +161,7 @@ grabbed false xdg r = with_shell (dismissing (λ p. p.xdg.id == xdg) r.owned.she
 -- xdg_toplevel.destroy: its popups are dismissed
 abbrev pub toplevel_ended : ℕ → ℕ → Resident → Resident
 toplevel_ended id xdg r =
-    removing id (with_shell (with_change xdg without_role (orphaning xdg (dismissing (λ p. p.popup.parent == xdg) r.owned.shell))) r)
+    removing id (with_shell (with_change xdg without_role (orphaning xdg (dismissing (λ p. is_parent_of xdg p.popup) r.owned.shell))) r)
 
 -- ---- the pointer
 
@@ -249,15 +204,6 @@ changed_for c (Grab xdg serial) r d = grabbed (grab_allowed c xdg serial r d) xd
 changed_for c (EndPopup id xdg) r d = removing id (xdg_changed xdg without_role r)
 changed_for c (EndToplevel id xdg) r d = toplevel_ended id xdg r
 changed_for c (Move surface serial) r d = r
-
--- the role object of an xdg_surface is a toplevel
-abbrev pub is_toplevel_kind : Kind → Bool
-is_toplevel_kind Toplevel = true
-is_toplevel_kind (IsPopup popup) = false
-
-abbrev pub is_toplevel : Option XdgSurface → Bool
-is_toplevel None = false
-is_toplevel (Some x) = option_map_or (λ object. is_toplevel_kind object.kind) x.role false
 
 -- a toplevel that a commit maps stands on top; one that it unmaps is taken out
 abbrev pub stacked_by : Effect → Bool → ℕ → ℕ → Desktop → Desktop

@@ -8,12 +8,12 @@ use Rattle.wl_client.specs.declared.refusals.ErrorCode.TheVariants.{SurfaceHasRo
 use Rattle.wl_client.specs.declared.refusals.Refusal.{Refusal}
 use Rattle.wl_client.specs.Judgement.{action_of, judged_at, word_in}
 use Rattle.wl_client.specs.Peer.{known_of}
+use Rattle.wl_shell.specs.Popups.{Popped, popped_of}
 use Rattle.wl_shell.specs.Shell.{Effect, Stays, Unconfigured, Configures, XdgSurface as Xdg, is_full, on_commit, stage_of, xdg_at, xdg_of, xdg_with}
 use Rattle.wl_plain.specs.Ask.{Ask, owns}
 use Rattle.wl_plain.specs.Demand.{Demand, Asks, EndSurface, AskFrame, CommitTree, CreatePositioner, EndToplevel, Move}
 use Rattle.wl_plain.specs.Desktop.{Resident}
 use Rattle.wl_plain.specs.LeftOut.{LeftOut}
-use Rattle.wl_plain.specs.Popups.{Popped, popped_of}
 use Rattle.wl_plain.specs.WlPointer.{pointer_demand, seat_demand}
 use Rattle.wl_plain.specs.WlSubsurface.{past_limit, refuses, subcompositor_demand, subsurface_demand}
 use Rattle.wl_plain.specs.WlSurface.{surface_ask, surface_created, will_show}

@@ -8,6 +8,7 @@ use Rattle.wl_client.specs.Told.{Said, id_deleted, said}
 use Rattle.wl_surface.specs.Request.{Buffer}
 use Rattle.wl_surface.specs.State.{History, applied, held}
 use Rattle.wl_surface.specs.Surfaces.{Surfaces, is_busy, listed}
+use Rattle.wl_shell.specs.Popups.{is_among, popups_of}
 use Rattle.wl_shell.specs.Positioner.{Placed}
 use Rattle.wl_shell.specs.Shell.{Effect, Configures, Kind, Toplevel, IsPopup, RoleObject, Shell, XdgSurface, xdg_of}
 use Rattle.wl_scene.specs.Pointer.{Target, fixed_from}
@@ -17,7 +18,6 @@ use Rattle.wl_plain.specs.Demand.{Demand, Asks, EndSurface, CommitTree, EndObjec
 use Rattle.wl_plain.specs.Demanding.{effect_of_commit}
 use Rattle.wl_plain.specs.Desktop.{Desktop, Resident}
 use Rattle.wl_plain.specs.LeftOut.{LeftOut}
-use Rattle.wl_plain.specs.Popups.{is_among, popups_of}
 use Rattle.wl_plain.specs.Step.{answers_to, each_once, toplevel_configured, xdg_configured}
 
 -- ---- configures

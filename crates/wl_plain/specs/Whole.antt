@@ -12,23 +12,23 @@ use Rattle.wl_client.specs.declared.refusals.ErrorCode.TheVariants.{InvalidMetho
 use Rattle.wl_client.specs.declared.refusals.Refusal.{Refusal}
 use Rattle.wl_client.specs.Peer.{Errs, IsIdle, LacksMemory, Peer, counted, ended, with_rest}
 use Rattle.wl_client.specs.Told.{Output, Said, display_error, id_deleted, said}
-use Rattle.wl_surface.specs.Surfaces.{Surfaces}
+use Rattle.wl_surface.specs.Frames.{frames_counting}
+use Rattle.wl_shell.specs.Popups.{dismissing}
 use Rattle.wl_scene.specs.Pointer.{Pointer, Target, is_down, is_press, without_button}
 use Rattle.wl_scene.specs.Stacking.{raised}
-use Rattle.wl_scene.specs.Windows.{Place, Window, counting, hit}
+use Rattle.wl_scene.specs.Windows.{Place, Window, hit}
 use Rattle.wl_plain.specs.declared.answers.Done.{Done}
 use Rattle.wl_plain.specs.declared.answers.ConnectError.TheVariants.{Full, Memory}
 use Rattle.wl_plain.specs.declared.answers.Done.TheVariants as gave
 use Rattle.wl_plain.specs.declared.answers.Fed.TheVariants.{NoClient}
 use Rattle.wl_plain.specs.declared.answers.Stored.TheVariants as stored
-use Rattle.wl_plain.specs.Changing.{changed_for, frames_of, grab_holder, stacked_for, with_kept_move, without_callbacks}
+use Rattle.wl_plain.specs.Changing.{changed_for, grab_holder, stacked_for, with_kept_move, without_callbacks}
 use Rattle.wl_plain.specs.Demand.{Demand, Asks, Move}
 use Rattle.wl_plain.specs.Demanding.{judge_all}
 use Rattle.wl_plain.specs.Desktop.{Callback, Desktop, Resident, arrival, client_at, with_client}
 use Rattle.wl_plain.specs.Laws.{status_in}
 use Rattle.wl_plain.specs.LeftOut.{LeftOut}
 use Rattle.wl_plain.specs.Pointing.{button_told, has_pointers, motion_told, moved_with}
-use Rattle.wl_plain.specs.Popups.{dismissing}
 use Rattle.wl_plain.specs.Replies.{focus_window, popups_done, replies}
 use Rattle.wl_plain.specs.Settling.{EndsAndSettles, Moving, QueuesTo, Settles, SettlesEnds, Tells, becomes, ended_all, is_settled, struck_by, told_drawn, unstruck}
 use Rattle.wl_plain.specs.Stacked.{all_windows}
@@ -176,10 +176,6 @@ abbrev pub ChangesAt : (Peer → Done → Option Peer → Type 0) → Done → �
 ChangesAt R absent c r d done new = ChangesThen R absent c r d done (ending new)
 
 -- ---- a frame is shown
-
--- the frame requests of a client's surfaces that count
-abbrev pub frames_counting : Surfaces → List ℕ
-frames_counting all = flat_map (λ s. frames_of (counting s.history)) all.surfaces
 
 abbrev pub is_counting : List ℕ → Callback → Bool
 is_counting numbers callback = list_any (λ number. number == callback.number) numbers

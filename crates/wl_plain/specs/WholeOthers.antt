@@ -11,6 +11,7 @@ use Rattle.wl_client.specs.declared.refusals.ErrorCode.TheVariants.{InvalidMetho
 use Rattle.wl_client.specs.declared.refusals.Refusal.{Refusal}
 use Rattle.wl_client.specs.Peer.{Errs, Peer, ended, has_room}
 use Rattle.wl_client.specs.Told.{Said, display_error, said, said_bytes}
+use Rattle.wl_shell.specs.Popups.{is_among}
 use Rattle.wl_shell.specs.Shell.{next_serial}
 use Rattle.wl_scene.specs.Stacking.{Standing}
 use Rattle.wl_plain.specs.declared.answers.Done.{Done}
@@ -21,7 +22,6 @@ use Rattle.wl_plain.specs.Desktop.{Desktop, Resident, client_at, resident_of}
 use Rattle.wl_plain.specs.Laws.{toplevels_of}
 use Rattle.wl_plain.specs.LeftOut.{LeftOut}
 use Rattle.wl_plain.specs.Pointing.{has_pointers}
-use Rattle.wl_plain.specs.Popups.{is_among}
 use Rattle.wl_plain.specs.Step.{with_peer}
 use Rattle.wl_plain.specs.Steps.{Act, Connect, Feed, Store, Leave, Tick, Send, Close, Motion, Button}
 use Rattle.wl_plain.specs.Whole.{Happens, Reaches, Serves, StopsAt}

@@ -4,12 +4,12 @@ use Rattle.std.specs.List.{list_any}
 use Rattle.wl_client.specs.declared.clients.Cause.{Cause}
 use Rattle.wl_client.specs.declared.clients.Cause.TheVariants.{Memory, Slow}
 use Rattle.wl_client.specs.Peer.{Peer, ended}
+use Rattle.wl_shell.specs.Popups.{dismiss, popup_changed}
 use Rattle.wl_shell.specs.Shell.{Shell, XdgSurface}
 use Rattle.wl_scene.specs.Stacking.{Standing}
 use Rattle.wl_plain.specs.Desktop.{Desktop, Resident, client_at, resident_of}
 use Rattle.wl_plain.specs.Laws.{toplevels_of}
 use Rattle.wl_plain.specs.LeftOut.{LeftOut}
-use Rattle.wl_plain.specs.Popups.{dismiss, popup_changed}
 use Rattle.wl_plain.specs.declared.answers.Done.{Done}
 use Rattle.wl_plain.specs.Steps.{Act}
 use Rattle.wl_plain.specs.Whole.{Happens}

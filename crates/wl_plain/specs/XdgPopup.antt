@@ -6,12 +6,12 @@ use Rattle.wl_client.specs.declared.refusals.Refusal.{Refusal}
 use Rattle.wl_client.specs.Judgement.{number_in, rect_in, word_in}
 use Rattle.wl_surface.specs.declared.role.Role.{Role}
 use Rattle.wl_surface.specs.declared.role.Role.TheVariants.{Toplevel as AsToplevel, Popup as AsPopup, Subsurface as AsSubsurface, Cursor as AsCursor}
+use Rattle.wl_shell.specs.Popups.{Popped, is_parent, is_popup_mapped, popup_at}
 use Rattle.wl_shell.specs.Positioner.{Positioner, first_positioner, is_anchor_rect, is_complete, is_size, rect_set}
 use Rattle.wl_shell.specs.Shell.{XdgSurface, xdg_at, xdg_with}
 use Rattle.wl_plain.specs.Ask.{Ignore}
 use Rattle.wl_plain.specs.Demand.{Demand, Asks, EndPositioner, SetPositioner, GetPopup, Grab, EndPopup}
 use Rattle.wl_plain.specs.Desktop.{Resident}
-use Rattle.wl_plain.specs.Popups.{Popped, is_parent, is_popup_mapped, popup_at}
 use Rattle.wl_plain.specs.WlSubsurface.{past_limit, refuses}
 use Rattle.wl_plain.specs.XdgShell.{role_of}
 

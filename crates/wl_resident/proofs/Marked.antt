@@ -13,7 +13,7 @@ use Rattle.wl_store.specs.Transform.{is_turned, transform_of}
 use Rattle.wl_client.specs.Objects.{ById}
 use Rattle.wl_surface.specs.Kept.{IsCurrent, IsCurrentAt, Numbered, StandForAll, buffer_of}
 use Rattle.wl_surface.specs.Request.{Buffer, Member, Itself, Child}
-use Rattle.wl_surface.specs.State.{History, Values, applied, height_of, order, position, width_of, within_bounds}
+use Rattle.wl_surface.specs.State.{History, Values, applied, counting, height_of, order, position, width_of, within_bounds}
 use Rattle.wl_surface.specs.Surfaces.{Link, Surface, Surfaces, history_in, is_there, link_at, surface_at}
 use Rattle.wl_surface.specs.declared.content.Attached.{Attached}
 use Rattle.wl_surface.specs.declared.content.Offset.{Offset}
@@ -22,7 +22,7 @@ use Rattle.wl_scene.specs.Lent.{AllShow, Shows, shows_buffer}
 use Rattle.wl_scene.specs.Stacking.{Owned, Stack, Standing, is_of, root_of, standing_of, windows_on}
 use Rattle.wl_scene.specs.declared.scene.Toplevel.{Toplevel}
 use Rattle.wl_paint.specs.Damage.{Damaged, has}
-use Rattle.wl_scene.specs.Windows.{Owner, Place, Window, child_windows, contains, corner_at, counting, member_windows, owner_of, shown_windows, surface_windows, tree, window_of, window_showing, window_with}
+use Rattle.wl_scene.specs.Windows.{Owner, Place, Window, child_windows, contains, corner_at, member_windows, owner_of, shown_windows, surface_windows, tree, window_of, window_showing, window_with}
 use Rattle.wl_resident.specs.Agreement.{IsStack, IsStanding, with_numbers}
 use Rattle.wl_plain.specs.Desktop.{Desktop, Resident, owned_in, owned_of}
 use Rattle.wl_resident.specs.Marking.{IsAsLarge}

@@ -4,11 +4,11 @@ use Rattle.std.specs.Prelude.{◌==◌, cond, flat_map, fold, not}
 use Rattle.std.proofs.lemmas.Grind.{flat_map-append}
 use Rattle.std.proofs.lemmas.List.{append-nil, length-map, map-append}
 use Rattle.wl_surface.specs.Request.{Buffer, Member, Itself, Child, Request, Attach, Damage, Frame, SetOpaqueRegion, SetInputRegion, SetBufferTransform, SetWindowGeometry, Commit, AddChild, SetPosition, PlaceAbove, PlaceBelow}
-use Rattle.wl_surface.specs.State.{History, Values, above, applied, below, height_of, is_member, order, ordered, width_of, without}
+use Rattle.wl_surface.specs.State.{History, Values, above, applied, below, counting, height_of, is_member, order, ordered, width_of, without}
 use Rattle.wl_surface.specs.Surfaces.{Surfaces, history_in, is_there}
 use Rattle.wl_scene.specs.Lent.{AllShow, shown_by, shown_with, shows_buffer, told}
 use Rattle.wl_scene.specs.Stacking.{Owned, Standing, root_of, windows_on}
-use Rattle.wl_scene.specs.Windows.{Owner, Place, Window, corner_at, counting, member_windows, owner_of, shown_windows, surface_windows, tree, window_of, window_with}
+use Rattle.wl_scene.specs.Windows.{Owner, Place, Window, corner_at, member_windows, owner_of, shown_windows, surface_windows, tree, window_of, window_with}
 use Rattle.wl_scene.specs.declared.window.Window.{Window as Told}
 
 -- nothing comes of a child

@@ -94,7 +94,7 @@ row_no_input = refl
 
 -- a popup of 8 by 8 at its parent's lower right corner, and where it stands once the parent has a window geometry of (4, 4, 32, 32)
 abbrev popup : StackedPopup
-popup = record { surface = 2; parent = 1; placement = at (pos 40) (pos 40); geometry = None; is_mapped = true }
+popup = record { surface = 2; parent = Some 1; placement = at (pos 40) (pos 40); geometry = None; is_mapped = true }
 
 abbrev with_popup : Option Rect → List Window
 with_popup geometry =

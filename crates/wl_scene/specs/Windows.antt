@@ -1,10 +1,11 @@
 -- The windows of a desktop, from bottom to top.
-use Rattle.std.specs.Prelude.{ℕ, zero, suc, ℤ, pos, ◌+ℤ◌, ◌-ℤ◌, ◌*◌, ◌%◌, ◌==◌, ◌&&◌, Bool, true, if◌then◌else◌, Option, Some, None, List, [], ◌∷◌, ◌++◌, take, fold, flat_map}
+use Rattle.std.specs.Prelude.{ℕ, zero, suc, ℤ, pos, ◌+ℤ◌, ◌-ℤ◌, ◌*◌, ◌%◌, ◌==◌, ◌&&◌, Bool, true, false, if◌then◌else◌, Option, Some, None, List, [], ◌∷◌, ◌++◌, fold, flat_map}
+use Rattle.std.specs.Option.{option_map_or}
 use Rattle.wl_geom.specs.declared.rect.Rect.{Rect}
 use Rattle.wl_geom.specs.Rect.{in_rect}
 use Rattle.wl_geom.specs.Region.{Change, holds}
-use Rattle.wl_surface.specs.Request.{Buffer, Member, Itself, Child, Request}
-use Rattle.wl_surface.specs.State.{History, Values, applied, height_of, offset, order, position, width_of, within_bounds}
+use Rattle.wl_surface.specs.Request.{Buffer, Member, Itself, Child}
+use Rattle.wl_surface.specs.State.{History, Values, applied, counting, height_of, offset, order, position, width_of, within_bounds}
 use Rattle.wl_surface.specs.Surfaces.{Link, Surfaces, history_in, link_at}
 
 -- a point, or the corner of a surface
@@ -32,10 +33,6 @@ pub record Window : Type 0 where
   pub buffer : Buffer
   pub opaque : List Change
   pub input : Option (List Change)
-
--- what counts of a surface's list
-abbrev pub counting : History → List Request
-counting h = take h.cut h.requests
 
 -- the window of a surface that stands there and shows this buffer
 abbrev pub window_showing : Owner → ℕ → Place → Values → Buffer → Window
@@ -92,8 +89,8 @@ tree zero owner surfaces surface place = []
 tree (suc levels) owner surfaces surface place =
     surface_windows (λ child at. tree levels owner surfaces child at) owner surfaces surface place (history_in surface surfaces)
 
--- A mapped toplevel with its place, or a popup that is to be stacked, with the surface of its parent, its placement relative to the parent's
--- window geometry, and its own geometry; all of one client.
+-- A mapped toplevel with its place, or a popup that is to be stacked, with the surface of its parent, if it has one, its placement relative to
+-- the parent's window geometry, and its own geometry; all of one client.
 pub record Root : Type 0 where
   pub client : ℕ
   pub surface : ℕ
@@ -103,7 +100,7 @@ pub record Root : Type 0 where
 
 pub record StackedPopup : Type 0 where
   pub surface : ℕ
-  pub parent : ℕ
+  pub parent : Option ℕ
   pub placement : Place
   pub geometry : Option Rect
   pub is_mapped : Bool
@@ -146,10 +143,14 @@ root_on surfaces parent p =
       place = popup_place (geometry_corner (corner_in surfaces parent) parent.geometry) p;
     }
 
+-- the surface is the parent of the popup
+abbrev pub has_parent : ℕ → StackedPopup → Bool
+has_parent surface p = option_map_or (λ parent. surface == parent) p.parent false
+
 -- The popups of a client in order of creation: one is stacked on its parent, where that is among the roots before and it is mapped.
 abbrev pub stacked_on : Surfaces → StackedPopup → List Root → List Root
 stacked_on surfaces p [] = []
-stacked_on surfaces p (r ∷ rs) = if p.is_mapped && r.surface == p.parent then root_on surfaces r p ∷ [] else stacked_on surfaces p rs
+stacked_on surfaces p (r ∷ rs) = if p.is_mapped && has_parent r.surface p then root_on surfaces r p ∷ [] else stacked_on surfaces p rs
 
 abbrev pub stacked : Surfaces → List Root → StackedPopup → List Root
 stacked surfaces roots p = roots ++ stacked_on surfaces p roots

@@ -19,10 +19,10 @@ Ready = stage.Ready
 abbrev pub Mapped : Stage
 Mapped = stage.Mapped
 
--- A popup: the xdg_surface of its parent, the copy of its positioner, where it was placed last, whether it was dismissed, whether it has a
--- grab, and its number among the popups in order of creation.
+-- A popup: the xdg_surface of its parent, unless that toplevel is gone, the copy of its positioner, where it was placed last, whether it was
+-- dismissed, whether it has a grab, and its number among the popups in order of creation.
 pub record Popup : Type 0 where
-  pub parent : ℕ
+  pub parent : Option ℕ
   pub positioner : Positioner
   pub placement : Option Placed
   pub is_dismissed : Bool

@@ -1,4 +1,5 @@
 pub mod Applied
+pub mod Frames
 pub mod Kept
 pub mod Laws
 pub mod Request

@@ -12,6 +12,10 @@ pub record History : Type 0 where
   pub requests : List Request
   pub cut : ℕ
 
+-- what counts of a surface's list
+abbrev pub counting : History → List Request
+counting h = take h.cut h.requests
+
 -- The kinds of state of which the last request counts. No input region means that each point takes input.
 pub record Values : Type 0 where
   pub buffer : Option Buffer
@@ -59,7 +63,7 @@ abbrev pub held : History → Values
 held h = values (take (committed h.requests) h.requests)
 
 abbrev pub applied : History → Values
-applied h = values (take h.cut h.requests)
+applied h = values (counting h)
 
 -- to apply a surface is to take its state up to its last commit
 abbrev pub apply : History → History
@@ -132,7 +136,7 @@ geometry_asked g request = g
 -- The window geometry that counts: the last counting one since the place in the list at which the role object was made, or at which the
 -- last unmapping commit stands, whichever is later (xdg-shell.xml, xdg_surface.set_window_geometry).
 abbrev pub geometry : ℕ → History → Option Rect
-geometry since h = fold geometry_asked None (drop since (take h.cut h.requests))
+geometry since h = fold geometry_asked None (drop since (counting h))
 
 -- the order of a surface and its children, from below; links that ended are among them
 abbrev pub is_member : Member → Member → Bool
