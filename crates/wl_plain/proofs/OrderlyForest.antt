@@ -272,18 +272,24 @@ order-placed bound surface l all old new f of comes once o = record {
 not-left : (m : Member) (xs : List Member) → list_any (is_member m) (without m xs) ≡ false
 not-left m xs = any-gone (is_member m) (λ other. not (is_member m other)) (λ other is. ap (λ b. not b) is) xs
 
+order-either : (bound surface : ℕ) (all : Surfaces) (old new : List Member) (b : Bool) → IsOrder bound surface all old → IsOrder bound surface all new → IsOrder bound surface all (cond b new old)
+order-either bound surface all old new true before after = after
+order-either bound surface all old new false before after = before
+
 order-asked : (bound surface : ℕ) (request : Request) (all : Surfaces) (members : List Member) → IsForest bound all → IsAskable surface all request → IsOrder bound surface all members → IsOrder bound surface all (ordered members request)
 order-asked bound surface (AddChild l) all members f is o = absurd is
 order-asked bound surface (PlaceAbove l place) all members f is o =
     let rest = without (Child l) members in
-    order-placed bound surface l all members (above (Child l) place rest) f is
+    order-either bound surface all members (above (Child l) place rest) (list_any (is_member place) rest) o
+    (order-placed bound surface l all members (above (Child l) place rest) f is
     (λ p fails none. none-above p (Child l) place rest fails (none-left p (λ other. not (is_member (Child l) other)) members none))
-    (once-above (Child l) place rest (not-left (Child l) members) (once-left is_member (λ other. not (is_member (Child l) other)) members o.once)) o
+    (once-above (Child l) place rest (not-left (Child l) members) (once-left is_member (λ other. not (is_member (Child l) other)) members o.once)) o)
 order-asked bound surface (PlaceBelow l place) all members f is o =
     let rest = without (Child l) members in
-    order-placed bound surface l all members (below (Child l) place rest) f is
+    order-either bound surface all members (below (Child l) place rest) (list_any (is_member place) rest) o
+    (order-placed bound surface l all members (below (Child l) place rest) f is
     (λ p fails none. none-below p (Child l) place rest fails (none-left p (λ other. not (is_member (Child l) other)) members none))
-    (once-below (Child l) place rest (not-left (Child l) members) (once-left is_member (λ other. not (is_member (Child l) other)) members o.once)) o
+    (once-below (Child l) place rest (not-left (Child l) members) (once-left is_member (λ other. not (is_member (Child l) other)) members o.once)) o)
 order-asked bound surface request all members f is o = o
 
 -- the order of one surface where one more request may be among those that count

@@ -1,6 +1,7 @@
 -- Without links the tree of a surface is its own window.
 use Rattle.std.proofs.Common.{◌≡◌, ℕ, suc, List, [], ◌∷◌, ◌++◌, Bool, true, false, Option, Some, None, refl, ap, sym, ◌∙◌, map, length, arith}
 use Rattle.std.specs.Prelude.{◌==◌, cond, flat_map, fold, not}
+use Rattle.std.specs.List.{list_any}
 use Rattle.std.proofs.lemmas.Grind.{flat_map-append}
 use Rattle.std.proofs.lemmas.List.{append-nil, length-map, map-append}
 use Rattle.wl_surface.specs.Request.{Buffer, Member, Itself, Child, Request, Attach, Damage, Frame, SetOpaqueRegion, SetInputRegion, SetBufferTransform, SetWindowGeometry, Commit, AddChild, SetPosition, PlaceAbove, PlaceBelow}
@@ -43,10 +44,16 @@ without-same f none l (Child k ∷ xs) = by (l == k) (without-same f none l xs)
 added-same : {X : Type 0} (f : Member → List X) → ChildrenGiveNone f → (l : ℕ) (xs : List Member) → flat_map f (xs ++ Child l ∷ []) ≡ flat_map f xs
 added-same f none l xs = flat_map-append f xs (Child l ∷ []) ∙ rw (none l) (append-nil (flat_map f xs))
 
+either-same : {X : Type 0} (f : Member → List X) (b : Bool) (xs ys : List Member) → flat_map f ys ≡ flat_map f xs → flat_map f (cond b ys xs) ≡ flat_map f xs
+either-same f true xs ys e = e
+either-same f false xs ys e = refl
+
 ordered-same : {X : Type 0} (f : Member → List X) → ChildrenGiveNone f → (xs : List Member) (r : Request) → flat_map f (ordered xs r) ≡ flat_map f xs
 ordered-same f none xs (AddChild l) = added-same f none l xs
-ordered-same f none xs (PlaceAbove l at) = above-same f none l at (without (Child l) xs) ∙ without-same f none l xs
-ordered-same f none xs (PlaceBelow l at) = below-same f none l at (without (Child l) xs) ∙ without-same f none l xs
+ordered-same f none xs (PlaceAbove l at) =
+    either-same f (list_any (is_member at) (without (Child l) xs)) xs (above (Child l) at (without (Child l) xs)) (above-same f none l at (without (Child l) xs) ∙ without-same f none l xs)
+ordered-same f none xs (PlaceBelow l at) =
+    either-same f (list_any (is_member at) (without (Child l) xs)) xs (below (Child l) at (without (Child l) xs)) (below-same f none l at (without (Child l) xs) ∙ without-same f none l xs)
 ordered-same f none xs (Attach buffer x y) = refl
 ordered-same f none xs (Damage rect) = refl
 ordered-same f none xs (Frame number) = refl

@@ -109,6 +109,10 @@ row_below = refl
 pub row_above : order (AddChild 1 ∷ AddChild 2 ∷ PlaceAbove 1 (Child 2) ∷ []) ≡ Itself ∷ Child 2 ∷ Child 1 ∷ []
 row_above = refl
 
+-- beside a sibling that the order hasn't, it stays where it was
+pub row_stays : order (AddChild 1 ∷ AddChild 2 ∷ PlaceAbove 1 (Child 3) ∷ []) ≡ Itself ∷ Child 1 ∷ Child 2 ∷ []
+row_stays = refl
+
 pub row_position : position 1 (AddChild 1 ∷ SetPosition 1 (pos 4) (pos 5) ∷ SetPosition 2 (pos 6) (pos 7) ∷ []) ≡ (pos 4, pos 5)
 row_position = refl
 

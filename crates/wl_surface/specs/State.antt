@@ -156,10 +156,15 @@ abbrev pub below : Member → Member → List Member → List Member
 below m at [] = []
 below m at (x ∷ xs) = if is_member at x then m ∷ x ∷ xs else x ∷ below m at xs
 
+-- A child beside a sibling, or beside the surface itself; where the order has no such sibling it stays as it is.
+abbrev pub placed : (Member → Member → List Member → List Member) → ℕ → Member → List Member → List Member
+placed beside l at members =
+    if list_any (is_member at) (without (Child l) members) then beside (Child l) at (without (Child l) members) else members
+
 abbrev pub ordered : List Member → Request → List Member
 ordered members (AddChild l) = members ++ Child l ∷ []
-ordered members (PlaceAbove l at) = above (Child l) at (without (Child l) members)
-ordered members (PlaceBelow l at) = below (Child l) at (without (Child l) members)
+ordered members (PlaceAbove l at) = placed above l at members
+ordered members (PlaceBelow l at) = placed below l at members
 ordered members request = members
 
 -- The order that counts: a new child is topmost; placing moves it next to the parent or a sibling (wayland.xml, wl_subsurface.place_above).
