@@ -8,13 +8,15 @@ use Rattle.wl_proto.specs.declared.argument.NewId.{NewId}
 use Rattle.wl_proto.specs.declared.error.ProtoError.{ProtoError}
 use Rattle.wl_proto.specs.declared.interface.Interface.{Interface}
 use Rattle.wl_proto.specs.declared.interface.Interface.TheVariants.{WlDisplay, WlRegistry, WlCallback, WlCompositor, WlRegion, WlSurface, WlShm, WlShmPool, WlBuffer, WlSubcompositor, WlSubsurface, WlOutput, WlSeat, WlPointer, XdgWmBase, XdgPositioner, XdgSurface, XdgToplevel, XdgPopup}
+use Rattle.wl_proto.specs.declared.wl_seat.WlSeatRequest.{WlSeatRequest}
+use Rattle.wl_proto.specs.declared.wl_seat.WlSeatRequest.TheVariants as requests
 use Rattle.wl_proto.specs.Messages.{Message}
 use Rattle.wl_proto.specs.Objects.{objects_in as objects_named, new_id_in}
 use Rattle.wl_proto.specs.Spelling.{decoded}
 use Rattle.wl_client.specs.declared.actions.Action.{Action}
-use Rattle.wl_client.specs.declared.refusals.ErrorCode.TheVariants.{Implementation, InvalidMethod, InvalidObject}
+use Rattle.wl_client.specs.declared.refusals.ErrorCode.TheVariants.{Implementation, InvalidMethod, InvalidObject, MissingCapability}
 use Rattle.wl_client.specs.declared.refusals.Refusal.{Refusal}
-use Rattle.wl_client.specs.Judgement.{action_of, after_new_id, is_free, judged, judged_at}
+use Rattle.wl_client.specs.Judgement.{action_of, after_new_id, is_free, judged, judged_at, word_in}
 use Rattle.wl_client.specs.Judgement.{judge as judge_alone}
 use Rattle.wl_client.specs.Objects.{Object, Objects, fits}
 use Rattle.wl_client.specs.Told.{display_error}
@@ -23,6 +25,10 @@ use Rattle.wl_plain.specs.Desktop.{Resident}
 use Rattle.wl_plain.specs.Demand.{Demand}
 use Rattle.wl_plain.specs.Demanding.{demand_of, demands, judge_all}
 use Rattle.wl_plain.specs.LeftOut.{own_only}
+use Rattle.wl_plain.specs.Requests.{ToSeat}
+use Rattle.wl_plain.specs.Served.{beyond_clients}
+use Rattle.wl_plain.specs.WlPointer.{seat_demand}
+use Rattle.wl_plain.specs.WlSubsurface.{past_limit, refuses}
 use Rattle.wl_client.specs.Peer.{known_of}
 
 -- ---- the judgement
@@ -38,7 +44,14 @@ compositor false r object version opcode fields e = rw e refl
 seat : (b : Bool) (r : Resident) (object version opcode : ℕ) (fields : List Field) → (opcode == 0) ≡ b → demand_of own_only r object version (record { interface = WlSeat; opcode = opcode; fields = fields }) ≡ demands (owns (action_of (known_of r.peer) object version WlSeat opcode fields))
 seat true r object version opcode fields e =
     subst (λ (n : ℕ). demand_of own_only r object version (record { interface = WlSeat; opcode = n; fields = fields }) ≡ demands (owns (action_of (known_of r.peer) object version WlSeat n fields))) (sym (eqb-true opcode 0 e)) refl
-seat false r object version opcode fields e = rw e refl
+seat false r object version opcode fields e = rw e (other (opcode == 1))
+  where
+    asks : Bool → WlSeatRequest
+    asks b = if b then requests.GetKeyboard (word_in 0 fields) else requests.GetTouch (word_in 0 fields)
+
+    other : (b : Bool) → (if beyond_clients (ToSeat (asks b)) then past_limit else seat_demand object version (asks b)) ≡ refuses object MissingCapability
+    other true = refl
+    other false = refl
 
 asked : (interface : Interface) (r : Resident) (object version opcode : ℕ) (fields : List Field) → demand_of own_only r object version (record { interface = interface; opcode = opcode; fields = fields }) ≡ demands (owns (action_of (known_of r.peer) object version interface opcode fields))
 asked WlDisplay r object version opcode fields = refl

@@ -2,30 +2,39 @@
 use Rattle.std.proofs.Common.{◌≡◌, ℕ, List, [], ◌∷◌, Bool, true, false, Option, Some, None, Result, refl, ap}
 use Rattle.std.specs.Prelude.{Ok, Err, ◌==◌, if◌then◌else◌, is_some, nat_le, find, cond}
 use Rattle.std.specs.List.{list_all}
-use Rattle.wl_wire.specs.Wire.{Field}
 use Rattle.wl_proto.specs.declared.argument.NewId.{NewId}
 use Rattle.wl_proto.specs.declared.error.ProtoError.{ProtoError}
-use Rattle.wl_proto.specs.declared.interface.Interface.{Interface}
-use Rattle.wl_proto.specs.declared.interface.Interface.TheVariants.{WlDisplay, WlRegistry, WlCallback, WlCompositor, WlRegion, WlSurface, WlShm, WlShmPool, WlBuffer, WlSubcompositor, WlSubsurface, WlOutput, WlSeat, WlPointer, XdgWmBase, XdgPositioner, XdgSurface, XdgToplevel, XdgPopup}
+use Rattle.wl_proto.specs.declared.wl_compositor.WlCompositorRequest.TheVariants as compositor
+use Rattle.wl_proto.specs.declared.wl_seat.WlSeatRequest.TheVariants as seat
+use Rattle.wl_proto.specs.declared.wl_surface.WlSurfaceRequest.{WlSurfaceRequest}
+use Rattle.wl_proto.specs.declared.wl_surface.WlSurfaceRequest.TheVariants as surface
+use Rattle.wl_proto.specs.declared.xdg_surface.XdgSurfaceRequest.{XdgSurfaceRequest}
+use Rattle.wl_proto.specs.declared.xdg_surface.XdgSurfaceRequest.TheVariants as xdg
+use Rattle.wl_proto.specs.declared.xdg_wm_base.XdgWmBaseRequest.{XdgWmBaseRequest}
+use Rattle.wl_proto.specs.declared.xdg_wm_base.XdgWmBaseRequest.TheVariants as base
 use Rattle.wl_proto.specs.Messages.{Message}
 use Rattle.wl_proto.specs.Objects.{objects_in as objects_named, new_id_in}
 use Rattle.wl_proto.specs.Spelling.{decoded}
 use Rattle.wl_client.specs.declared.refusals.Refusal.{Refusal}
-use Rattle.wl_client.specs.Judgement.{action_of, after_new_id, is_free, judged, judged_at, word_in}
+use Rattle.wl_client.specs.Judgement.{action_of, after_new_id, is_free, judged, judged_at}
 use Rattle.wl_client.specs.Objects.{Object, Objects, fits}
 use Rattle.wl_shell.specs.Popups.{popped_kind, popped_of, popped_role}
-use Rattle.wl_shell.specs.Shell.{Effect, Stays, Unconfigured, Configures, Maps, Unmaps, Kind, Toplevel, RoleObject, Shell, XdgSurface as Xdg, is_full, on_commit, stage_of, xdg_of, xdg_with}
+use Rattle.wl_shell.specs.Shell.{Effect, Stays, Unconfigured, Configures, Maps, Unmaps, Kind, Toplevel, RoleObject, Shell, XdgSurface as Xdg, is_full, on_commit, stage_of, xdg_at, xdg_of, xdg_with}
 use Rattle.wl_plain.specs.Ask.{Ask, Ignore, owns}
 use Rattle.wl_plain.specs.Demand.{Demand, Asks, EndSurface, CommitTree, EndToplevel, Move}
-use Rattle.wl_plain.specs.Demanding.{committed_by, demand_by, demand_of, demands, effect_of_commit, effect_on_xdg, is_dismissed, judge_all, moved_by_pointer, surface_demand, toplevel_demand, toplevel_destroyed}
+use Rattle.wl_plain.specs.Demanding.{base_demand, committed_by, demand_by, demand_of, demands, effect_of_commit, effect_on_xdg, is_dismissed, judge_all, moved_by_pointer, own_demand, surface_demand, toplevel_asked, toplevel_destroyed, xdg_asked}
 use Rattle.wl_plain.specs.Desktop.{Resident}
 use Rattle.wl_plain.specs.LeftOut.{served_now}
+use Rattle.wl_plain.specs.Requests.{Request, ToCompositor, ToSurface, ToSubcompositor, ToSubsurface, ToSeat, ToPointer, ToBase, ToPositioner, ToXdgSurface, ToToplevel, ToPopup, ToOwn, request_of}
+use Rattle.wl_plain.specs.ToplevelRequest.{ToplevelRequest}
+use Rattle.wl_plain.specs.ToplevelRequest as toplevel
+use Rattle.wl_plain.specs.Served.{unserved_now}
 use Rattle.wl_client.specs.Peer.{Peer, known_of}
 use Rattle.wl_plain.specs.Step.{with_peer}
 use Rattle.wl_plain.proofs.Simply.{Simple, Asking, DestroySurface, CommitSurface, DestroyToplevel, asks_simply, effect_for, effect_of, judge, simple_of, simply}
 use Rattle.wl_plain.specs.NoMore.{AreToplevels, IsToplevel}
-use Rattle.wl_plain.specs.WlSurface.{surface_ask, surface_created, will_show}
-use Rattle.wl_plain.specs.XdgShell.{base_ask, toplevel_ask, xdg_ask}
+use Rattle.wl_plain.specs.WlSurface.{rect, surface_created, transform_set, will_show}
+use Rattle.wl_plain.specs.XdgShell.{acknowledged_by, base_destroyed, geometry_set, state_asked, toplevel_made, xdg_surface_destroyed, xdg_surface_made}
 
 -- what is asked is the same
 pub data Same (r : Resident) : Simple → Demand → Type 0 where
@@ -113,11 +122,29 @@ commit-simple r (Some x) object Configures = if-simple r (is_full x.serials) _ _
 commit-simple r (Some x) object Maps = commit object (effect_of r object) refl
 commit-simple r (Some x) object Unmaps = commit object (effect_of r object) refl
 
-surface-simple : (r : Resident) (object version opcode : ℕ) (fields : List Field) → (opcode == 3) ≡ false → IsSimple r (surface_demand r object version opcode fields)
-surface-simple r object version opcode fields served =
-    if-simple r (opcode == 0) _ _ (λ e. if-simple r (is_some (xdg_of object r.owned.shell)) _ _ (λ there. refl) (λ none. ends object))
-    (λ e. if-simple r (opcode == 3) _ _ (λ frame. absurd (cc))
-    (λ e. if-simple r (opcode == 6) _ _ (λ e. commit-simple r (xdg_of object r.owned.shell) object (effect_of_commit r object)) (λ e. demands-simple r (surface_ask r object opcode fields))))
+surface-simple : (r : Resident) (object version : ℕ) (request : WlSurfaceRequest) → unserved_now (ToSurface request) ≡ false → IsSimple r (surface_demand r object version request)
+surface-simple r object version surface.Destroy served = if-simple r (is_some (xdg_of object r.owned.shell)) _ _ (λ there. refl) (λ none. ends object)
+surface-simple r object version (surface.Frame callback) served = absurd (cc)
+surface-simple r object version surface.Commit served = commit-simple r (xdg_of object r.owned.shell) object (effect_of_commit r object)
+surface-simple r object version (surface.SetBufferTransform transform) served = demands-simple r (transform_set object transform)
+surface-simple r object version (surface.Attach buffer x y) served = asks _
+surface-simple r object version (surface.Damage x y width height) served = asks _
+surface-simple r object version (surface.SetOpaqueRegion region) served = asks _
+surface-simple r object version (surface.SetInputRegion region) served = asks _
+
+base-simple : (r : Resident) (object version : ℕ) (request : XdgWmBaseRequest) → unserved_now (ToBase request) ≡ false → IsSimple r (base_demand r object version request)
+base-simple r object version base.Destroy served = demands-simple r (base_destroyed r object)
+base-simple r object version (base.CreatePositioner id) served = absurd (cc)
+base-simple r object version (base.GetXdgSurface id surface) served = demands-simple r (xdg_surface_made r object version id surface)
+base-simple r object version (base.Pong serial) served = asks Ignore
+
+xdg-simple : (r : Resident) (x : Option Xdg) (version : ℕ) (request : XdgSurfaceRequest) → unserved_now (ToXdgSurface request) ≡ false → IsSimple r (xdg_asked r x version request)
+xdg-simple r None version request served = refl
+xdg-simple r (Some x) version xdg.Destroy served = demands-simple r (xdg_surface_destroyed x)
+xdg-simple r (Some x) version (xdg.GetToplevel id) served = demands-simple r (toplevel_made r x version id)
+xdg-simple r (Some x) version (xdg.GetPopup id parent positioner) served = absurd (cc)
+xdg-simple r (Some x) version (xdg.SetWindowGeometry a b width height) served = demands-simple r (geometry_set x (rect a b width height))
+xdg-simple r (Some x) version (xdg.AckConfigure serial) served = demands-simple r (acknowledged_by x serial)
 
 pub gone-simple : (r : Resident) (object : ℕ) (o : Option Xdg) → IsSimple r (toplevel_destroyed object o)
 gone-simple r object None = refl
@@ -127,37 +154,39 @@ moved-simple : (r : Resident) (serial : ℕ) (o : Option Xdg) → IsSimple r (mo
 moved-simple r serial None = refl
 moved-simple r serial (Some x) = move x.surface serial
 
-pub toplevel-simple : (r : Resident) (object opcode : ℕ) (fields : List Field) → IsSimple r (toplevel_demand r object opcode fields)
-toplevel-simple r object opcode fields =
-    if-simple r (opcode == 0) _ _ (λ e. gone-simple r object (xdg_with object r.owned.shell))
-    (λ e. if-simple r (opcode == 5) _ _ (λ e. moved-simple r (word_in 1 fields) (xdg_with object r.owned.shell)) (λ e. demands-simple r (toplevel_ask (xdg_with object r.owned.shell) opcode)))
+pub toplevel-simple : (r : Resident) (object : ℕ) (o : Option Xdg) (request : ToplevelRequest) → IsSimple r (toplevel_asked object o request)
+toplevel-simple r object o toplevel.Destroy = gone-simple r object o
+toplevel-simple r object o (toplevel.Move seat serial) = moved-simple r serial o
+toplevel-simple r object o toplevel.SetMaximized = demands-simple r (state_asked o)
+toplevel-simple r object o toplevel.UnsetMaximized = demands-simple r (state_asked o)
+toplevel-simple r object o (toplevel.SetFullscreen output) = demands-simple r (state_asked o)
+toplevel-simple r object o toplevel.UnsetFullscreen = demands-simple r (state_asked o)
+toplevel-simple r object None request = refl
+toplevel-simple r object (Some x) request = asks Ignore
 
-interface-simple : (interface : Interface) (r : Resident) (object version opcode : ℕ) (fields : List Field) → served_now.requests interface opcode ≡ false
-    → IsSimple r (demand_by interface r object version (record { interface = interface; opcode = opcode; fields = fields }))
-interface-simple WlCompositor r object version opcode fields served = if-simple r (opcode == 0) _ _ (λ e. demands-simple r (surface_created r (word_in 0 fields) version))
-    (λ e. demands-simple r (owns (action_of (known_of r.peer) object version WlCompositor opcode fields)))
-interface-simple WlSurface r object version opcode fields served = surface-simple r object version opcode fields served
-interface-simple WlSubcompositor r object version opcode fields served = absurd (cc)
-interface-simple WlSubsurface r object version opcode fields served = absurd (cc)
-interface-simple WlSeat r object version opcode fields served = if-simple r (opcode == 0) _ _ (λ pointer. absurd (cc)) (λ e. refl)
-interface-simple WlPointer r object version opcode fields served = absurd (cc)
-interface-simple XdgWmBase r object version opcode fields served = if-simple r (opcode == 1) _ _ (λ positioner. absurd (cc)) (λ e. demands-simple r (base_ask r object version opcode fields))
-interface-simple XdgPositioner r object version opcode fields served = absurd (cc)
-interface-simple XdgSurface r object version opcode fields served = if-simple r (opcode == 2) _ _ (λ popup. absurd (cc)) (λ e. demands-simple r (xdg_ask r object version opcode fields))
-interface-simple XdgToplevel r object version opcode fields served = toplevel-simple r object opcode fields
-interface-simple XdgPopup r object version opcode fields served = absurd (cc)
-interface-simple WlDisplay r object version opcode fields served = demands-simple r (owns (action_of (known_of r.peer) object version WlDisplay opcode fields))
-interface-simple WlRegistry r object version opcode fields served = demands-simple r (owns (action_of (known_of r.peer) object version WlRegistry opcode fields))
-interface-simple WlCallback r object version opcode fields served = demands-simple r (owns (action_of (known_of r.peer) object version WlCallback opcode fields))
-interface-simple WlRegion r object version opcode fields served = demands-simple r (owns (action_of (known_of r.peer) object version WlRegion opcode fields))
-interface-simple WlShm r object version opcode fields served = demands-simple r (owns (action_of (known_of r.peer) object version WlShm opcode fields))
-interface-simple WlShmPool r object version opcode fields served = demands-simple r (owns (action_of (known_of r.peer) object version WlShmPool opcode fields))
-interface-simple WlBuffer r object version opcode fields served = demands-simple r (owns (action_of (known_of r.peer) object version WlBuffer opcode fields))
-interface-simple WlOutput r object version opcode fields served = demands-simple r (owns (action_of (known_of r.peer) object version WlOutput opcode fields))
+own-simple : (r : Resident) (object version : ℕ) (m : Message) → IsSimple r (own_demand r object version m)
+own-simple r object version m = demands-simple r (owns (action_of (known_of r.peer) object version m.interface m.opcode m.fields))
+
+interface-simple : (request : Request) (r : Resident) (object version : ℕ) (m : Message) → unserved_now request ≡ false → IsSimple r (demand_by request r object version m)
+interface-simple (ToCompositor (compositor.CreateSurface id)) r object version m served = demands-simple r (surface_created r id version)
+interface-simple (ToCompositor (compositor.CreateRegion id)) r object version m served = own-simple r object version m
+interface-simple (ToSurface request) r object version m served = surface-simple r object version request served
+interface-simple (ToSeat (seat.GetPointer id)) r object version m served = absurd (cc)
+interface-simple (ToSeat (seat.GetKeyboard id)) r object version m served = refl
+interface-simple (ToSeat (seat.GetTouch id)) r object version m served = refl
+interface-simple (ToBase request) r object version m served = base-simple r object version request served
+interface-simple (ToXdgSurface request) r object version m served = xdg-simple r (xdg_at object r.owned.shell) version request served
+interface-simple (ToToplevel request) r object version m served = toplevel-simple r object (xdg_with object r.owned.shell) request
+interface-simple ToOwn r object version m served = own-simple r object version m
+interface-simple (ToSubcompositor request) r object version m served = absurd (cc)
+interface-simple (ToSubsurface request) r object version m served = absurd (cc)
+interface-simple (ToPointer request) r object version m served = absurd (cc)
+interface-simple (ToPositioner request) r object version m served = absurd (cc)
+interface-simple (ToPopup request) r object version m served = absurd (cc)
 
 pub demand-simple : (r : Resident) (object version : ℕ) (m : Message) → IsSimple r (demand_of served_now r object version m)
 demand-simple r object version m =
-    if-simple r (served_now.requests m.interface m.opcode) _ _ (λ left. refl) (λ served. interface-simple m.interface r object version m.opcode m.fields served)
+    if-simple r (unserved_now (request_of m)) _ _ (λ left. refl) (λ served. interface-simple (request_of m) r object version m served)
 
 -- ---- the judgement
 

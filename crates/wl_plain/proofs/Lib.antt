@@ -107,6 +107,7 @@ pub mod OrderlyRunTops
 pub mod OrderlyRunMessages
 pub mod OrderlyRun
 pub mod OrderlyMessage
+pub mod Requests
 pub mod RunSound
 pub mod WholeRowsConnect
 pub mod WholeRowsDamage

@@ -1,30 +1,36 @@
 -- What is known of an accepted message.
 use Rattle.std.proofs.Common.{◌≡◌, ℕ, zero, suc, List, [], ◌∷◌, Bool, true, false, Option, Some, None, refl, ap, sym, subst, ◌∙◌}
-use Rattle.std.specs.Prelude.{Ok, ◌==◌, ◌||◌, if◌then◌else◌, is_some, nat_le}
+use Rattle.std.specs.Prelude.{Ok, pos, ◌==◌, ◌&&◌, ◌||◌, int_le, if◌then◌else◌, is_some, nat_le}
 use Rattle.std.specs.Option.{option_and_then}
 use Rattle.std.proofs.lemmas.Bool.{eqb-true}
 use Rattle.wl_wire.specs.Wire.{Field}
 use Rattle.wl_proto.specs.declared.interface.Interface.{Interface}
 use Rattle.wl_proto.specs.declared.interface.Interface.TheVariants.{WlDisplay, WlRegistry, WlCallback, WlCompositor, WlRegion, WlSurface, WlShm, WlShmPool, WlBuffer, WlSubcompositor, WlSubsurface, WlOutput, WlSeat, WlPointer, XdgWmBase, XdgPositioner, XdgSurface, XdgToplevel, XdgPopup}
 use Rattle.wl_proto.specs.Table.{AnObject}
-use Rattle.wl_client.specs.Judgement.{number_in, rect_in, word_in}
+use Rattle.wl_proto.specs.declared.xdg_popup.XdgPopupRequest.{XdgPopupRequest}
+use Rattle.wl_proto.specs.declared.xdg_popup.XdgPopupRequest.TheVariants as popup
+use Rattle.wl_client.specs.Judgement.{number_in, word_in}
 use Rattle.wl_surface.specs.Request.{Member, PlaceAbove, PlaceBelow}
 use Rattle.wl_surface.specs.Surfaces.{Link, link_at}
 use Rattle.wl_surface.specs.Trees.{is_bad_parent, is_too_deep}
 use Rattle.wl_shell.specs.Popups.{Popped, is_parent, is_popup_mapped, popup_at}
-use Rattle.wl_shell.specs.Positioner.{Positioner, is_anchor_rect, is_complete, is_size}
+use Rattle.wl_shell.specs.Positioner.{Positioner, is_anchor_rect, is_size}
 use Rattle.wl_shell.specs.Shell.{Effect, Stays, Unconfigured, Configures, Maps, Unmaps, XdgSurface as Xdg, is_full, xdg_at, xdg_of, xdg_with}
 use Rattle.wl_plain.specs.Demand.{Demand}
-use Rattle.wl_plain.specs.Demanding.{committed_by, demand_by, demand_of, effect_of_commit, judge_all, moved_by_pointer, toplevel_destroyed}
+use Rattle.wl_plain.specs.Demanding.{committed_by, demand_by, demand_of, effect_of_commit, judge_all, moved_by_pointer, surface_demand, toplevel_asked, toplevel_destroyed}
 use Rattle.wl_plain.specs.Desktop.{Resident, Subsurface}
 use Rattle.wl_plain.specs.LeftOut.{LeftOut}
-use Rattle.wl_plain.specs.WlPointer.{is_no_cursor}
-use Rattle.wl_plain.specs.WlSubsurface.{beside, demand_by_link, has_subsurface, is_no_subsurface, link_of_subsurface, living, placed_beside, subsurface_at, subsurface_made}
-use Rattle.wl_plain.specs.XdgPopup.{grab_of, is_no_popup, may_be_parent, popup_asked, popup_demand_of, positioner_of, positioner_set, set_if}
+use Rattle.wl_plain.specs.Requests.{pointer_request, popup_request, positioner_request, request_in, seat_request, subcompositor_request, subsurface_request, surface_request, toplevel_request}
+use Rattle.wl_plain.specs.ToplevelRequest.{ToplevelRequest}
+use Rattle.wl_plain.specs.ToplevelRequest as toplevel
+use Rattle.wl_plain.specs.WlPointer.{is_no_cursor, pointer_demand, seat_demand}
+use Rattle.wl_plain.specs.WlSubsurface.{beside, demand_by_link, has_subsurface, is_no_subsurface, link_of_subsurface, living, placed_beside, subcompositor_demand, subsurface_at, subsurface_made}
+use Rattle.wl_plain.specs.WlSurface.{rect}
+use Rattle.wl_plain.specs.XdgPopup.{grab_of, popup_asked, positioner_asked, positioner_of, set_if}
 use Rattle.wl_plain.specs.XdgShell.{role_of}
 use Rattle.wl_plain.proofs.Orderly.{HasId, IsAllowed, IsObject, IsOfParent}
-use Rattle.wl_plain.proofs.OrderlyAllowedAsks.{Allows, base-ask-allowed, compositor-allowed, either, found-bare, none-there, own-allowed-so, surface-ask-allowed, toplevel-ask-allowed, xdg-ask-allowed}
-use Rattle.wl_plain.proofs.OrderlyAllowedHeard.{fresh-first, heard-at, judged-hears, named-second}
+use Rattle.wl_plain.proofs.OrderlyAllowedAsks.{Allows, ask-either, base-allowed, compositor-allowed, either, none-there, own-allowed-so, state-allowed, xdg-allowed}
+use Rattle.wl_plain.proofs.OrderlyAllowedHeard.{fresh-first, judged-hears, named-second}
 use Rattle.wl_plain.proofs.OrderlyAllowedOwn.{IsHeardBy}
 use Rattle.wl_plain.proofs.OwningKeys.{found-passes, some-same}
 use Rattle.wl_plain.proofs.Stacks.{or-left, or-right}
@@ -39,18 +45,18 @@ committed-allowed r (Some x) object Stays = tt
 committed-allowed r (Some x) object Maps = tt
 committed-allowed r (Some x) object Unmaps = tt
 
-abbrev Demanded : Interface → Resident → ℕ → ℕ → ℕ → List Field → Type 0
-Demanded interface r object version opcode fields =
-    Allows r (demand_by interface r object version (record { interface = interface; opcode = opcode; fields = fields }))
-
-surface-allowed : (r : Resident) (object version opcode : ℕ) (fields : List Field) → IsHeardBy WlSurface r object opcode fields → Demanded WlSurface r object version opcode fields
-surface-allowed r object version opcode fields heard =
-    either r (opcode == 0) _ _
-    (λ e. either r (is_some (xdg_of object r.owned.shell)) _ _ (λ f. tt) (λ f. (heard.live, none-there (xdg_of object r.owned.shell) f)))
-    (λ e. either r (opcode == 3) _ _
-    (λ e. let h = heard-at r.peer.objects object WlSurface opcode 3 fields heard e in fresh-first r.peer.objects _ [] _ fields h.kinds h.fresh)
-    (λ e. either r (opcode == 6) _ _ (λ f. committed-allowed r (xdg_of object r.owned.shell) object (effect_of_commit r object))
-    (λ f. surface-ask-allowed r object opcode fields)))
+surface-allowed : (r : Resident) (object version opcode : ℕ) (fields : List Field) → IsHeardBy WlSurface r object opcode fields → Allows r (surface_demand r object version (surface_request opcode fields))
+surface-allowed r object version zero fields heard =
+    either r (is_some (xdg_of object r.owned.shell)) _ _ (λ f. tt) (λ f. (heard.live, none-there (xdg_of object r.owned.shell) f))
+surface-allowed r object version (suc zero) fields heard = tt
+surface-allowed r object version (suc (suc zero)) fields heard = tt
+surface-allowed r object version (suc (suc (suc zero))) fields heard = fresh-first r.peer.objects _ [] _ fields heard.kinds heard.fresh
+surface-allowed r object version (suc (suc (suc (suc zero)))) fields heard = tt
+surface-allowed r object version (suc (suc (suc (suc (suc zero))))) fields heard = tt
+surface-allowed r object version (suc (suc (suc (suc (suc (suc zero)))))) fields heard = committed-allowed r (xdg_of object r.owned.shell) object (effect_of_commit r object)
+surface-allowed r object version (suc (suc (suc (suc (suc (suc (suc zero))))))) fields heard =
+    ask-either r (int_le (pos 0) (number_in 0 fields) && int_le (number_in 0 fields) (pos 7)) _ _ (λ l. tt) (λ l. tt)
+surface-allowed r object version (suc (suc (suc (suc (suc (suc (suc (suc opcode)))))))) fields heard = absurd heard.kinds
 
 -- ---- subsurfaces
 
@@ -73,14 +79,11 @@ made-allowed r object version fields heard =
       g,
     ))))
 
-later-one : (opcode : ℕ) (r : Resident) (object : ℕ) (fields : List Field) → IsHeardBy WlSubcompositor r object opcode fields → (opcode == 0) ≡ false → IsHeardBy WlSubcompositor r object 1 fields
-later-one zero r object fields heard e = absurd (cc)
-later-one (suc zero) r object fields heard e = heard
-later-one (suc (suc opcode)) r object fields heard e = absurd heard.kinds
-
-subcompositor-allowed : (r : Resident) (object version opcode : ℕ) (fields : List Field) → IsHeardBy WlSubcompositor r object opcode fields → Demanded WlSubcompositor r object version opcode fields
-subcompositor-allowed r object version opcode fields heard =
-    either r (opcode == 0) _ _ (λ e. heard.live) (λ e. made-allowed r object version fields (later-one opcode r object fields heard e))
+subcompositor-allowed : (r : Resident) (object version opcode : ℕ) (fields : List Field) → IsHeardBy WlSubcompositor r object opcode fields
+    → Allows r (subcompositor_demand r object version (subcompositor_request opcode fields))
+subcompositor-allowed r object version zero fields heard = heard.live
+subcompositor-allowed r object version (suc zero) fields heard = made-allowed r object version fields heard
+subcompositor-allowed r object version (suc (suc opcode)) fields heard = absurd heard.kinds
 
 -- the link of a wl_subsurface lives, by its own number
 lives-on : (r : Resident) (l m : Link) (number : ℕ) → link_at number r.owned.surfaces ≡ Some l → living l ≡ Some m → IsOfParent m.number m.parent r.owned.surfaces
@@ -114,25 +117,31 @@ below-allowed : (r : Resident) (object : ℕ) (l : Link) (o : Option Member) →
 below-allowed r object l None lives = tt
 below-allowed r object l (Some member) lives = lives
 
-link-allowed : (r : Resident) (object opcode : ℕ) (fields : List Field) (o : Option Link) → link_of_subsurface object r ≡ o → Allows r (demand_by_link r object opcode fields o)
-link-allowed r object opcode fields None is = tt
-link-allowed r object opcode fields (Some l) is =
-    either r (opcode == 1) _ _ (λ e. tt)
-    (λ e. either r (opcode == 2) _ _ (λ f. above-allowed r object l (beside r.owned.surfaces l (word_in 0 fields)) (link-lives r object l is))
-    (λ f. either r (opcode == 3) _ _ (λ g. below-allowed r object l (beside r.owned.surfaces l (word_in 0 fields)) (link-lives r object l is)) (λ g. tt)))
-
-subsurface-allowed : (r : Resident) (object version opcode : ℕ) (fields : List Field) → IsHeardBy WlSubsurface r object opcode fields → Demanded WlSubsurface r object version opcode fields
-subsurface-allowed r object version opcode fields heard =
-    either r (opcode == 0) _ _ (λ e. heard.live) (λ e. link-allowed r object opcode fields (link_of_subsurface object r) refl)
+subsurface-allowed : (r : Resident) (object opcode : ℕ) (fields : List Field) (o : Option Link) → link_of_subsurface object r ≡ o → IsHeardBy WlSubsurface r object opcode fields
+    → Allows r (demand_by_link r object o (subsurface_request opcode fields))
+subsurface-allowed r object zero fields o is heard = heard.live
+subsurface-allowed r object (suc zero) fields None is heard = tt
+subsurface-allowed r object (suc zero) fields (Some l) is heard = tt
+subsurface-allowed r object (suc (suc zero)) fields None is heard = tt
+subsurface-allowed r object (suc (suc zero)) fields (Some l) is heard = above-allowed r object l (beside r.owned.surfaces l (word_in 0 fields)) (link-lives r object l is)
+subsurface-allowed r object (suc (suc (suc zero))) fields None is heard = tt
+subsurface-allowed r object (suc (suc (suc zero))) fields (Some l) is heard = below-allowed r object l (beside r.owned.surfaces l (word_in 0 fields)) (link-lives r object l is)
+subsurface-allowed r object (suc (suc (suc (suc zero)))) fields None is heard = tt
+subsurface-allowed r object (suc (suc (suc (suc zero)))) fields (Some l) is heard = tt
+subsurface-allowed r object (suc (suc (suc (suc (suc zero))))) fields None is heard = tt
+subsurface-allowed r object (suc (suc (suc (suc (suc zero))))) fields (Some l) is heard = tt
+subsurface-allowed r object (suc (suc (suc (suc (suc (suc opcode)))))) fields o is heard = absurd heard.kinds
 
 -- ---- the seat
 
-seat-allowed : (r : Resident) (object version opcode : ℕ) (fields : List Field) → IsHeardBy WlSeat r object opcode fields → Demanded WlSeat r object version opcode fields
-seat-allowed r object version opcode fields heard =
-    either r (opcode == 0) _ _ (λ e. let h = heard-at r.peer.objects object WlSeat opcode 0 fields heard e in fresh-first r.peer.objects _ [] _ fields h.kinds h.fresh) (λ e. tt)
+seat-allowed : (r : Resident) (object version opcode : ℕ) (fields : List Field) → IsHeardBy WlSeat r object opcode fields → Allows r (seat_demand object version (seat_request opcode fields))
+seat-allowed r object version zero fields heard = fresh-first r.peer.objects _ [] _ fields heard.kinds heard.fresh
+seat-allowed r object version (suc zero) fields heard = tt
+seat-allowed r object version (suc (suc zero)) fields heard = tt
+seat-allowed r object version (suc (suc (suc opcode))) fields heard = absurd heard.kinds
 
-pointer-allowed : (r : Resident) (object version opcode : ℕ) (fields : List Field) → Demanded WlPointer r object version opcode fields
-pointer-allowed r object version opcode fields =
+pointer-allowed : (r : Resident) (object opcode : ℕ) (fields : List Field) → Allows r (pointer_demand r object (pointer_request opcode fields))
+pointer-allowed r object opcode fields =
     let surface = word_in 1 fields in
     either r (surface == 0) _ _ (λ e. tt)
     (λ e. either r (is_no_cursor (role_of r surface) || is_some (xdg_of surface r.owned.shell)) _ _ (λ f. tt)
@@ -143,48 +152,21 @@ pointer-allowed r object version opcode fields =
 
 -- ---- the shell
 
-base-allowed : (r : Resident) (object version opcode : ℕ) (fields : List Field) → IsHeardBy XdgWmBase r object opcode fields → Demanded XdgWmBase r object version opcode fields
-base-allowed r object version opcode fields heard =
-    either r (opcode == 1) _ _
-    (λ e. let h = heard-at r.peer.objects object XdgWmBase opcode 1 fields heard e in fresh-first r.peer.objects _ [] _ fields h.kinds h.fresh)
-    (λ e. base-ask-allowed r object version opcode fields heard)
-
 set-allowed : (r : Resident) (b : Bool) (object : ℕ) (p : Positioner) → Allows r (set_if b object p)
 set-allowed r true object p = tt
 set-allowed r false object p = tt
 
-positioner-set-allowed : (r : Resident) (object : ℕ) (p : Positioner) (opcode : ℕ) (fields : List Field) → Allows r (positioner_set object p opcode fields)
-positioner-set-allowed r object p opcode fields =
-    either r (opcode == 1) _ _ (λ e. set-allowed r (is_size (number_in 0 fields) (number_in 1 fields)) object _)
-    (λ e. either r (opcode == 2) _ _ (λ f. set-allowed r (is_anchor_rect (rect_in fields)) object _)
-    (λ f. either r (opcode == 3) _ _ (λ g. set-allowed r (nat_le (word_in 0 fields) 8) object _)
-    (λ g. either r (opcode == 4) _ _ (λ h. set-allowed r (nat_le (word_in 0 fields) 8) object _)
-    (λ h. either r (opcode == 5) _ _ (λ i. tt) (λ i. tt)))))
-
-positioner-allowed : (r : Resident) (object version opcode : ℕ) (fields : List Field) → IsHeardBy XdgPositioner r object opcode fields → Demanded XdgPositioner r object version opcode fields
-positioner-allowed r object version opcode fields heard =
-    either r (opcode == 0) _ _ (λ e. heard.live) (λ e. positioner-set-allowed r object (positioner_of (r.positioners object)) opcode fields)
-
-asked-allowed : (r : Resident) (object version : ℕ) (fields : List Field) (o : Option Xdg) → xdg_at object r.owned.shell ≡ o → IsHeardBy XdgSurface r object 2 fields → Allows r (popup_asked r o version fields)
-asked-allowed r object version fields None is heard = tt
-asked-allowed r object version fields (Some x) is heard =
-    let p = positioner_of (r.positioners (word_in 2 fields)) in
-    either r (is_some x.role) _ _ (λ e. tt)
-    (λ e. either r (is_no_popup (role_of r x.surface)) _ _ (λ f. tt)
-    (λ f. either r (may_be_parent (xdg_at (word_in 1 fields) r.owned.shell)) _ _
-    (λ g. either r (is_complete p) _ _
-    (λ h. (
-      fresh-first r.peer.objects _ (AnObject XdgSurface true ∷ AnObject XdgPositioner false ∷ []) _ fields heard.kinds heard.fresh,
-      found-bare r object x is (none-there x.role e),
-    ))
-    (λ h. tt))
-    (λ g. tt)))
-
-xdg-allowed : (r : Resident) (object version opcode : ℕ) (fields : List Field) → IsHeardBy XdgSurface r object opcode fields → Demanded XdgSurface r object version opcode fields
-xdg-allowed r object version opcode fields heard =
-    either r (opcode == 2) _ _
-    (λ e. asked-allowed r object version fields (xdg_at object r.owned.shell) refl (heard-at r.peer.objects object XdgSurface opcode 2 fields heard e))
-    (λ e. xdg-ask-allowed r object version opcode fields (xdg_at object r.owned.shell) refl heard)
+positioner-allowed : (r : Resident) (object : ℕ) (p : Positioner) (opcode : ℕ) (fields : List Field) → IsHeardBy XdgPositioner r object opcode fields
+    → Allows r (positioner_asked object p (positioner_request opcode fields))
+positioner-allowed r object p zero fields heard = heard.live
+positioner-allowed r object p (suc zero) fields heard = set-allowed r (is_size (number_in 0 fields) (number_in 1 fields)) object _
+positioner-allowed r object p (suc (suc zero)) fields heard =
+    set-allowed r (is_anchor_rect (rect (number_in 0 fields) (number_in 1 fields) (number_in 2 fields) (number_in 3 fields))) object _
+positioner-allowed r object p (suc (suc (suc zero))) fields heard = set-allowed r (nat_le (word_in 0 fields) 8) object _
+positioner-allowed r object p (suc (suc (suc (suc zero)))) fields heard = set-allowed r (nat_le (word_in 0 fields) 8) object _
+positioner-allowed r object p (suc (suc (suc (suc (suc zero))))) fields heard = tt
+positioner-allowed r object p (suc (suc (suc (suc (suc (suc zero)))))) fields heard = tt
+positioner-allowed r object p (suc (suc (suc (suc (suc (suc (suc opcode))))))) fields heard = absurd heard.kinds
 
 moved-allowed : (r : Resident) (serial : ℕ) (o : Option Xdg) → Allows r (moved_by_pointer serial o)
 moved-allowed r serial None = tt
@@ -194,37 +176,40 @@ gone-allowed : (r : Resident) (object : ℕ) (o : Option Xdg) → xdg_with objec
 gone-allowed r object None is live = tt
 gone-allowed r object (Some x) is live = (live, subst (λ o. HasId x.id o) (sym is) refl)
 
-toplevel-allowed : (r : Resident) (object version opcode : ℕ) (fields : List Field) → IsHeardBy XdgToplevel r object opcode fields → Demanded XdgToplevel r object version opcode fields
-toplevel-allowed r object version opcode fields heard =
-    either r (opcode == 0) _ _ (λ e. gone-allowed r object (xdg_with object r.owned.shell) refl heard.live)
-    (λ e. either r (opcode == 5) _ _ (λ e. moved-allowed r (word_in 1 fields) (xdg_with object r.owned.shell))
-    (λ e. toplevel-ask-allowed r opcode (xdg_with object r.owned.shell)))
+toplevel-allowed : (r : Resident) (object : ℕ) (o : Option Xdg) → xdg_with object r.owned.shell ≡ o → IsObject XdgToplevel object r → (request : ToplevelRequest) → Allows r (toplevel_asked object o request)
+toplevel-allowed r object o is live toplevel.Destroy = gone-allowed r object o is live
+toplevel-allowed r object o is live (toplevel.Move seat serial) = moved-allowed r serial o
+toplevel-allowed r object o is live toplevel.SetMaximized = state-allowed r o
+toplevel-allowed r object o is live toplevel.UnsetMaximized = state-allowed r o
+toplevel-allowed r object o is live (toplevel.SetFullscreen output) = state-allowed r o
+toplevel-allowed r object o is live toplevel.UnsetFullscreen = state-allowed r o
+toplevel-allowed r object None is live request = tt
+toplevel-allowed r object (Some x) is live request = tt
 
 grab-allowed : (r : Resident) (object serial : ℕ) (x : Xdg) (o : Option Popped) → Allows r (grab_of object serial x o)
 grab-allowed r object serial x None = tt
 grab-allowed r object serial x (Some p) = either r p.popup.is_dismissed _ _ (λ e. tt) (λ e. either r (is_popup_mapped p) _ _ (λ f. tt) (λ f. tt))
 
-popup-at-allowed : (r : Resident) (object opcode : ℕ) (fields : List Field) (o : Option Xdg) → xdg_with object r.owned.shell ≡ o → IsObject XdgPopup object r → Allows r (popup_demand_of r object opcode fields o)
-popup-at-allowed r object opcode fields None is live = tt
-popup-at-allowed r object opcode fields (Some x) is live =
-    either r (opcode == 0) _ _
-    (λ e. either r (is_parent x.id r.owned.shell) _ _ (λ f. tt) (λ f. (live, subst (λ o. HasId x.id o) (sym is) refl)))
-    (λ e. grab-allowed r object (word_in 1 fields) x (popup_at x.id r.owned.shell))
+popup-allowed : (r : Resident) (object : ℕ) (o : Option Xdg) → xdg_with object r.owned.shell ≡ o → IsObject XdgPopup object r → (request : XdgPopupRequest) → Allows r (popup_asked r object o request)
+popup-allowed r object None is live request = tt
+popup-allowed r object (Some x) is live popup.Destroy = either r (is_parent x.id r.owned.shell) _ _ (λ f. tt) (λ f. (live, subst (λ o. HasId x.id o) (sym is) refl))
+popup-allowed r object (Some x) is live (popup.Grab seat serial) = grab-allowed r object serial x (popup_at x.id r.owned.shell)
 
 -- ---- every interface
 
-demanded-allowed : (interface : Interface) (r : Resident) (object version opcode : ℕ) (fields : List Field) → IsHeardBy interface r object opcode fields → Demanded interface r object version opcode fields
+demanded-allowed : (interface : Interface) (r : Resident) (object version opcode : ℕ) (fields : List Field) → IsHeardBy interface r object opcode fields
+    → Allows r (demand_by (request_in interface opcode fields) r object version (record { interface = interface; opcode = opcode; fields = fields }))
 demanded-allowed WlCompositor r object version opcode fields heard = compositor-allowed r object version opcode fields heard
 demanded-allowed WlSurface r object version opcode fields heard = surface-allowed r object version opcode fields heard
 demanded-allowed WlSubcompositor r object version opcode fields heard = subcompositor-allowed r object version opcode fields heard
-demanded-allowed WlSubsurface r object version opcode fields heard = subsurface-allowed r object version opcode fields heard
+demanded-allowed WlSubsurface r object version opcode fields heard = subsurface-allowed r object opcode fields (link_of_subsurface object r) refl heard
 demanded-allowed WlSeat r object version opcode fields heard = seat-allowed r object version opcode fields heard
-demanded-allowed WlPointer r object version opcode fields heard = pointer-allowed r object version opcode fields
+demanded-allowed WlPointer r object version opcode fields heard = pointer-allowed r object opcode fields
 demanded-allowed XdgWmBase r object version opcode fields heard = base-allowed r object version opcode fields heard
-demanded-allowed XdgPositioner r object version opcode fields heard = positioner-allowed r object version opcode fields heard
-demanded-allowed XdgSurface r object version opcode fields heard = xdg-allowed r object version opcode fields heard
-demanded-allowed XdgToplevel r object version opcode fields heard = toplevel-allowed r object version opcode fields heard
-demanded-allowed XdgPopup r object version opcode fields heard = popup-at-allowed r object opcode fields (xdg_with object r.owned.shell) refl heard.live
+demanded-allowed XdgPositioner r object version opcode fields heard = positioner-allowed r object (positioner_of (r.positioners object)) opcode fields heard
+demanded-allowed XdgSurface r object version opcode fields heard = xdg-allowed r object version opcode fields (xdg_at object r.owned.shell) refl heard
+demanded-allowed XdgToplevel r object version opcode fields heard = toplevel-allowed r object (xdg_with object r.owned.shell) refl heard.live (toplevel_request opcode fields)
+demanded-allowed XdgPopup r object version opcode fields heard = popup-allowed r object (xdg_with object r.owned.shell) refl heard.live (popup_request opcode fields)
 demanded-allowed WlDisplay r object version opcode fields heard = own-allowed-so WlDisplay r object version opcode fields heard
 demanded-allowed WlRegistry r object version opcode fields heard = own-allowed-so WlRegistry r object version opcode fields heard
 demanded-allowed WlCallback r object version opcode fields heard = own-allowed-so WlCallback r object version opcode fields heard
@@ -239,4 +224,4 @@ pub allowed : (left : LeftOut) (r : Resident) (object opcode : ℕ) (body : List
 allowed left r object opcode body demand e =
     let heard = judged-hears r.peer.objects r.peer.held object opcode (λ version m. demand_of left r object version m) body demand e in
     let interface = heard.0.interface in
-    subst (λ o. Allows r o) heard.3 (either r (left.requests interface opcode) _ _ (λ f. tt) (λ f. demanded-allowed interface r object heard.0.version opcode heard.1 heard.2))
+    subst (λ o. Allows r o) heard.3 (either r (left.requests (request_in interface opcode heard.1)) _ _ (λ f. tt) (λ f. demanded-allowed interface r object heard.0.version opcode heard.1 heard.2))

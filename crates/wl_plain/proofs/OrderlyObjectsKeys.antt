@@ -10,7 +10,7 @@ use Rattle.wl_plain.specs.Owning.{AreApartBy}
 use Rattle.wl_plain.proofs.Orderly.{AreObjects}
 use Rattle.wl_plain.proofs.OwningKeys.{apart-left, differ, found-any, found-none, found-passes, new-apart, none-first, none-later}
 use Rattle.wl_plain.proofs.Stacks.{and-right, equal-numbers}
-use Rattle.wl_plain.proofs.StandingLists.{any-gone, any-last, none-left}
+use Rattle.wl_plain.proofs.StandingLists.{any-last, none-left}
 
 -- ---- lists
 

@@ -1,6 +1,5 @@
 -- What comes of a message to a client that has no more than toplevels, and what becomes of the desktop where nobody points.
 use Rattle.std.specs.Prelude.{ℕ, ℤ, ◌+◌, ◌≡◌, ◌==◌, ◌&&◌, Bool, true, false, Option, Some, None, Result, Ok, Err, List, [], ◌∷◌, ◌⊎◌}
-use Rattle.wl_proto.specs.Messages.{Message}
 use Rattle.wl_client.specs.declared.refusals.Refusal.{Refusal}
 use Rattle.wl_client.specs.Peer.{Errs, LacksMemory, Peer, Queues, counted}
 use Rattle.wl_client.specs.Told.{Said, id_deleted}
@@ -10,7 +9,7 @@ use Rattle.wl_shell.specs.Shell.{Effect, Stays, Unconfigured, Configures, Maps, 
 use Rattle.wl_scene.specs.Stacking.{with_mapped, without_surface_of}
 use Rattle.wl_plain.specs.Ask.{Ask, Ignore}
 use Rattle.wl_plain.specs.Demand.{Demand, Asks, EndSurface, CommitTree, EndToplevel}
-use Rattle.wl_plain.specs.Demanding.{demand_of, judge_all}
+use Rattle.wl_plain.specs.Demanding.{judge_all}
 use Rattle.wl_plain.specs.Desktop.{Desktop, Resident, become}
 use Rattle.wl_plain.specs.LeftOut.{served_now}
 use Rattle.wl_plain.specs.Step.{after_surface, answers_to, asked_so_far, changed_by, configured, configures_told, removing, surface_of, takes_memory, with_peer, with_surfaces, xdg_changed}

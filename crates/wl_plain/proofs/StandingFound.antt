@@ -3,9 +3,14 @@ use Rattle.std.proofs.Common.{◌≡◌, ℕ, List, Bool, true, false, Option, S
 use Rattle.std.specs.Prelude.{ℤ, pos, ◌==◌, ◌&&◌, ◌||◌, Ok, Err, find, if◌then◌else◌, int_le, int_lt, is_some, length, nat_le}
 use Rattle.std.specs.List.{list_all, list_any}
 use Rattle.std.specs.Option.{option_map_or}
-use Rattle.wl_wire.specs.Wire.{Field}
-use Rattle.wl_proto.specs.declared.interface.Interface.{Interface}
-use Rattle.wl_proto.specs.declared.interface.Interface.TheVariants.{WlDisplay, WlRegistry, WlCallback, WlCompositor, WlRegion, WlSurface, WlShm, WlShmPool, WlBuffer, WlSubcompositor, WlSubsurface, WlOutput, WlSeat, WlPointer, XdgWmBase, XdgPositioner, XdgSurface, XdgToplevel, XdgPopup}
+use Rattle.wl_proto.specs.declared.wl_compositor.WlCompositorRequest.TheVariants as compositor
+use Rattle.wl_proto.specs.declared.wl_seat.WlSeatRequest.TheVariants as seat
+use Rattle.wl_proto.specs.declared.wl_surface.WlSurfaceRequest.{WlSurfaceRequest}
+use Rattle.wl_proto.specs.declared.wl_surface.WlSurfaceRequest.TheVariants as surface
+use Rattle.wl_proto.specs.declared.xdg_surface.XdgSurfaceRequest.{XdgSurfaceRequest}
+use Rattle.wl_proto.specs.declared.xdg_surface.XdgSurfaceRequest.TheVariants as xdg
+use Rattle.wl_proto.specs.declared.xdg_wm_base.XdgWmBaseRequest.{XdgWmBaseRequest}
+use Rattle.wl_proto.specs.declared.xdg_wm_base.XdgWmBaseRequest.TheVariants as base
 use Rattle.wl_proto.specs.Messages.{Message}
 use Rattle.wl_proto.specs.Objects.{new_id_in}
 use Rattle.wl_proto.specs.Objects.{objects_in as objects_named}
@@ -15,7 +20,7 @@ use Rattle.wl_proto.specs.declared.error.ProtoError.{ProtoError}
 use Rattle.wl_client.specs.declared.actions.Action.{Action}
 use Rattle.wl_client.specs.declared.refusals.ErrorCode.TheVariants.{Implementation, InvalidMethod, InvalidObject}
 use Rattle.wl_client.specs.declared.refusals.Refusal.{Refusal}
-use Rattle.wl_client.specs.Judgement.{action_of, after_new_id, is_free, judged, judged_at, number_in, rect_in, word_in}
+use Rattle.wl_client.specs.Judgement.{action_of, after_new_id, is_free, judged, judged_at}
 use Rattle.wl_client.specs.Objects.{Object, Objects, fits}
 use Rattle.wl_client.specs.Peer.{Peer, known_of}
 use Rattle.wl_client.specs.Told.{display_error}
@@ -24,16 +29,19 @@ use Rattle.wl_shell.specs.Shell.{Effect, Stays, Unconfigured, Configures, Maps, 
 use Rattle.wl_shell.specs.Shell.{XdgSurface as Xdg}
 use Rattle.wl_plain.specs.Ask.{Ask, Own, CreateSurface, AskSurface, DestroyBase, GetXdgSurface, DestroyXdgSurface, GetToplevel, Acknowledge, ConfigureAgain, Ignore, owns}
 use Rattle.wl_plain.specs.Demand.{Demand, Asks, EndSurface, CommitTree, EndToplevel, Move}
-use Rattle.wl_plain.specs.Demanding.{base_demand, committed_by, demand_by, demand_of, demands, effect_of_commit, judge_all, moved_by_pointer, surface_demand, surface_destroyed, toplevel_demand, toplevel_destroyed, xdg_demand}
+use Rattle.wl_plain.specs.Demanding.{base_demand, committed_by, demand_by, demand_of, demands, effect_of_commit, judge_all, moved_by_pointer, own_demand, surface_demand, surface_destroyed, toplevel_asked, toplevel_demand, toplevel_destroyed, xdg_asked, xdg_demand}
 use Rattle.wl_plain.specs.LeftOut.{served_now}
-use Rattle.wl_plain.specs.WlPointer.{seat_demand}
+use Rattle.wl_plain.specs.Requests.{Request, ToCompositor, ToSurface, ToSubcompositor, ToSubsurface, ToSeat, ToPointer, ToBase, ToPositioner, ToXdgSurface, ToToplevel, ToPopup, ToOwn, request_of}
+use Rattle.wl_plain.specs.ToplevelRequest.{ToplevelRequest}
+use Rattle.wl_plain.specs.ToplevelRequest as toplevel
+use Rattle.wl_plain.specs.Served.{unserved_now}
 use Rattle.wl_plain.specs.Desktop.{Resident}
 use Rattle.wl_plain.specs.Step.{with_peer}
 use Rattle.wl_plain.proofs.Simply.{Simple, Asking, DestroySurface, CommitSurface, DestroyToplevel, effect_of, judge, simple_of, simply}
-use Rattle.wl_plain.specs.WlSurface.{refuse, refuse_limit, transform_set}
+use Rattle.wl_plain.specs.WlSurface.{rect, refuse, refuse_limit, transform_set}
 use Rattle.wl_client.specs.declared.refusals.ErrorCode.TheVariants as error
 use Rattle.wl_surface.specs.Request.{SetWindowGeometry}
-use Rattle.wl_plain.specs.XdgShell.{base_destroyed, configured_again, has_any, is_foreign, is_no_toplevel, is_state, role_of, toplevel_ask, xdg_ask_of, xdg_surface_made}
+use Rattle.wl_plain.specs.XdgShell.{configured_again, has_any, is_foreign, is_no_toplevel, role_of, state_asked, xdg_surface_made}
 use Rattle.wl_plain.proofs.OwningKeys.{found-by}
 use Rattle.wl_plain.proofs.OwningXdg.{has_role, has_surface, has_xdg, ids-apart, surfaces-apart}
 use Rattle.wl_plain.proofs.StandingClients.{IsFound}
@@ -103,16 +111,15 @@ destroyed-finds r object =
 transform-finds : (r : Resident) (object : ℕ) (z : ℤ) → Accepts (demands (transform_set object z)) r
 transform-finds r object z = asks-either (int_le (pos 0) z && int_le z (pos 7)) _ _ r (λ fits. asked (AskSurface object _) r tt) (λ no_transform. unasked _ r)
 
-surface-finds : (r : Resident) (object version opcode : ℕ) (fields : List Field) → (opcode == 3) ≡ false → Accepts (surface_demand r object version opcode fields) r
-surface-finds r object version opcode fields served =
-    either (opcode == 0) _ _ r (λ e. destroyed-finds r object)
-    (λ e. either (opcode == 3) _ _ r (λ frame. absurd (cc))
-    (λ e. either (opcode == 6) _ _ r (λ e. effect-finds r (xdg_of object r.owned.shell) object (effect_of_commit r object))
-    (λ e. asks-either (opcode == 1) _ _ r (λ e. asked _ r tt)
-    (λ e. asks-either (opcode == 2) _ _ r (λ e. asked _ r tt)
-    (λ e. asks-either (opcode == 4) _ _ r (λ e. asked _ r tt)
-    (λ e. asks-either (opcode == 5) _ _ r (λ e. asked _ r tt)
-    (λ e. transform-finds r object (number_in 0 fields))))))))
+surface-finds : (r : Resident) (object version : ℕ) (request : WlSurfaceRequest) → unserved_now (ToSurface request) ≡ false → Accepts (surface_demand r object version request) r
+surface-finds r object version surface.Destroy served = destroyed-finds r object
+surface-finds r object version (surface.Frame callback) served = absurd (cc)
+surface-finds r object version surface.Commit served = effect-finds r (xdg_of object r.owned.shell) object (effect_of_commit r object)
+surface-finds r object version (surface.SetBufferTransform transform) served = transform-finds r object transform
+surface-finds r object version (surface.Attach buffer x y) served = accepted _ r tt
+surface-finds r object version (surface.Damage x y width height) served = accepted _ r tt
+surface-finds r object version (surface.SetOpaqueRegion region) served = accepted _ r tt
+surface-finds r object version (surface.SetInputRegion region) served = accepted _ r tt
 
 -- ---- the shell
 
@@ -121,12 +128,11 @@ made-finds r object version id surface =
     asks-either (is_foreign (role_of r surface) || is_some (xdg_of surface r.owned.shell)) _ _ r (λ other. unasked _ r)
     (λ free. asks-either (has_any r surface) _ _ r (λ full. unasked _ r) (λ none. asked (GetXdgSurface id version object surface) r tt))
 
-base-finds : (r : Resident) (object version opcode : ℕ) (fields : List Field) → (opcode == 1) ≡ false → Accepts (base_demand r object version opcode fields) r
-base-finds r object version opcode fields served =
-    either (opcode == 1) _ _ r (λ positioner. absurd (cc))
-    (λ e. asks-either (opcode == 0) (base_destroyed r object) (if opcode == 2 then xdg_surface_made r object version (word_in 0 fields) (word_in 1 fields) else Ok Ignore) r
-    (λ e. asks-either (list_any (λ x. x.base == object) r.owned.shell) _ _ r (λ used. unasked _ r) (λ unused. asked (DestroyBase object) r tt))
-    (λ e. asks-either (opcode == 2) _ _ r (λ e. made-finds r object version (word_in 0 fields) (word_in 1 fields)) (λ e. asked Ignore r tt)))
+base-finds : (r : Resident) (object version : ℕ) (request : XdgWmBaseRequest) → unserved_now (ToBase request) ≡ false → Accepts (base_demand r object version request) r
+base-finds r object version base.Destroy served = asks-either (list_any (λ x. x.base == object) r.owned.shell) _ _ r (λ used. unasked _ r) (λ unused. asked (DestroyBase object) r tt)
+base-finds r object version (base.CreatePositioner id) served = absurd (cc)
+base-finds r object version (base.GetXdgSurface id surface) served = made-finds r object version id surface
+base-finds r object version (base.Pong serial) served = accepted (Asks Ignore) r tt
 
 -- one that is found by any test is found by its id and by its surface
 pub found-so : (r : Resident) (p : Xdg → Bool) (x : Xdg) → AreApart r.owned.shell → find p r.owned.shell ≡ Some x → IsFound x r.owned.shell
@@ -140,25 +146,27 @@ bare : (o : Option RoleObject) → is_some o ≡ false → o ≡ None
 bare None e = refl
 bare (Some object) e = absurd (cc)
 
-xdg-finds : (r : Resident) (object version opcode : ℕ) (fields : List Field) → (opcode == 2) ≡ false → AreApart r.owned.shell → Accepts (xdg_demand r object version opcode fields) r
-xdg-finds r object version opcode fields served apart =
-    either (opcode == 2) _ _ r (λ popup. absurd (cc)) (λ e. at (xdg_at object r.owned.shell) refl)
-  where
-    some : (x : Xdg) → IsFound x r.owned.shell → Accepts (demands (xdg_ask_of r (Some x) version opcode fields)) r
-    some x is =
-        asks-either (opcode == 0) _ _ r (λ e. asks-either (is_some x.role) _ _ r (λ there. unasked _ r) (λ none. asked (DestroyXdgSurface x.id) r (x, refl, is, bare x.role none)))
-        (λ e. asks-either (opcode == 1) _ _ r
-        (λ e. asks-either (is_some x.role) _ _ r (λ there. unasked _ r) (λ none. asks-either (is_no_toplevel (role_of r x.surface)) (refuse x.base error.Role) (Ok (GetToplevel (word_in 0 fields) version x.id)) r
-        (λ other. unasked _ r) (λ fits. asked (GetToplevel (word_in 0 fields) version x.id) r (x, refl, is, bare x.role none))))
-        (λ e. asks-either (opcode == 3) _ _ r
-        (λ e. asks-either (is_some x.role) _ _ r (λ there. asks-either (int_lt (pos 0) (rect_in fields).w && int_lt (pos 0) (rect_in fields).h) (Ok (AskSurface x.surface (SetWindowGeometry (rect_in fields)))) (refuse x.id error.InvalidSize) r
-        (λ fits. asked (AskSurface x.surface (SetWindowGeometry (rect_in fields))) r tt) (λ no_size. unasked _ r)) (λ none. unasked _ r))
-        (λ e. asks-either (is_some x.role) _ _ r (λ there. asks-either (is_waiting (word_in 0 fields) x.serials) (Ok (Acknowledge x.id (word_in 0 fields))) (refuse x.id error.InvalidSerial) r
-        (λ waits. asked (Acknowledge x.id (word_in 0 fields)) r tt) (λ unknown. unasked _ r)) (λ none. unasked _ r))))
+some-finds : (r : Resident) (x : Xdg) (version : ℕ) (request : XdgSurfaceRequest) → unserved_now (ToXdgSurface request) ≡ false → IsFound x r.owned.shell → Accepts (xdg_asked r (Some x) version request) r
+some-finds r x version xdg.Destroy served is = asks-either (is_some x.role) _ _ r (λ there. unasked _ r) (λ none. asked (DestroyXdgSurface x.id) r (x, refl, is, bare x.role none))
+some-finds r x version (xdg.GetToplevel id) served is =
+    asks-either (is_some x.role) _ _ r (λ there. unasked _ r) (λ none. asks-either (is_no_toplevel (role_of r x.surface)) (refuse x.base error.Role) (Ok (GetToplevel id version x.id)) r
+    (λ other. unasked _ r) (λ fits. asked (GetToplevel id version x.id) r (x, refl, is, bare x.role none)))
+some-finds r x version (xdg.GetPopup id parent positioner) served is = absurd (cc)
+some-finds r x version (xdg.SetWindowGeometry a b width height) served is =
+    asks-either (is_some x.role) _ _ r
+    (λ there. asks-either (int_lt (pos 0) width && int_lt (pos 0) height) (Ok (AskSurface x.surface (SetWindowGeometry (rect a b width height)))) (refuse x.id error.InvalidSize) r
+    (λ fits. asked (AskSurface x.surface (SetWindowGeometry (rect a b width height))) r tt) (λ no_size. unasked _ r)) (λ none. unasked _ r)
+some-finds r x version (xdg.AckConfigure serial) served is =
+    asks-either (is_some x.role) _ _ r
+    (λ there. asks-either (is_waiting serial x.serials) (Ok (Acknowledge x.id serial)) (refuse x.id error.InvalidSerial) r
+    (λ waits. asked (Acknowledge x.id serial) r tt) (λ unknown. unasked _ r)) (λ none. unasked _ r)
 
-    at : (o : Option Xdg) → xdg_at object r.owned.shell ≡ o → Accepts (demands (xdg_ask_of r o version opcode fields)) r
-    at None found = unasked (display_error Implementation) r
-    at (Some x) found = some x (found-so r (has_xdg object) x apart found)
+xdg-finds : (r : Resident) (object version : ℕ) (request : XdgSurfaceRequest) → unserved_now (ToXdgSurface request) ≡ false → AreApart r.owned.shell → Accepts (xdg_demand r object version request) r
+xdg-finds r object version request served apart = at (xdg_at object r.owned.shell) refl
+  where
+    at : (o : Option Xdg) → xdg_at object r.owned.shell ≡ o → Accepts (xdg_asked r o version request) r
+    at None found = refused (display_error Implementation) r
+    at (Some x) found = some-finds r x version request served (found-so r (has_xdg object) x apart found)
 
 again-finds : (r : Resident) (x : Xdg) → Accepts (demands (configured_again x)) r
 again-finds r x =
@@ -166,56 +174,57 @@ again-finds r x =
     (λ answers. asks-either (is_full x.serials) _ _ r (λ full. unasked _ r) (λ room. asked (ConfigureAgain x.id) r tt))
     (λ none. asked Ignore r tt)
 
-toplevel-finds : (r : Resident) (object opcode : ℕ) (fields : List Field) → AreApart r.owned.shell → Accepts (toplevel_demand r object opcode fields) r
-toplevel-finds r object opcode fields apart =
-    either (opcode == 0) _ _ r (λ e. gone (xdg_with object r.owned.shell) refl)
-    (λ e. either (opcode == 5) _ _ r (λ e. moved (xdg_with object r.owned.shell)) (λ e. others (xdg_with object r.owned.shell)))
+toplevel-finds : (r : Resident) (object : ℕ) (request : ToplevelRequest) → AreApart r.owned.shell → Accepts (toplevel_demand r object request) r
+toplevel-finds r object request apart = at (xdg_with object r.owned.shell) refl request
   where
+    state : (o : Option Xdg) → Accepts (demands (state_asked o)) r
+    state None = unasked (display_error Implementation) r
+    state (Some x) = again-finds r x
+
     gone : (o : Option Xdg) → xdg_with object r.owned.shell ≡ o → Accepts (toplevel_destroyed object o) r
     gone None found = refused (display_error Implementation) r
     gone (Some x) found = accepted (EndToplevel object x.id) r (x, refl, found-so r (has_role object) x apart found)
 
-    moved : (o : Option Xdg) → Accepts (moved_by_pointer (word_in 1 fields) o) r
-    moved None = refused (display_error Implementation) r
-    moved (Some x) = accepted (Move x.surface (word_in 1 fields)) r tt
+    moved : (serial : ℕ) (o : Option Xdg) → Accepts (moved_by_pointer serial o) r
+    moved serial None = refused (display_error Implementation) r
+    moved serial (Some x) = accepted (Move x.surface serial) r tt
 
-    others : (o : Option Xdg) → Accepts (demands (toplevel_ask o opcode)) r
-    others None = unasked (display_error Implementation) r
-    others (Some x) = asks-either (is_state opcode) (configured_again x) (Ok Ignore) r (λ state. again-finds r x) (λ other. asked Ignore r tt)
+    at : (o : Option Xdg) → xdg_with object r.owned.shell ≡ o → (request : ToplevelRequest) → Accepts (toplevel_asked object o request) r
+    at o found toplevel.Destroy = gone o found
+    at o found (toplevel.Move seat serial) = moved serial o
+    at o found toplevel.SetMaximized = state o
+    at o found toplevel.UnsetMaximized = state o
+    at o found (toplevel.SetFullscreen output) = state o
+    at o found toplevel.UnsetFullscreen = state o
+    at None found request = refused (display_error Implementation) r
+    at (Some x) found request = accepted (Asks Ignore) r tt
 
 -- ---- every request
 
-seat-finds : (r : Resident) (object version opcode : ℕ) (fields : List Field) → (opcode == 0) ≡ false → Accepts (seat_demand object version opcode fields) r
-seat-finds r object version opcode fields served = either (opcode == 0) _ _ r (λ pointer. absurd (cc)) (λ e. refused _ r)
+own-finds : (r : Resident) (object version : ℕ) (m : Message) → Accepts (own_demand r object version m) r
+own-finds r object version m = owned-finds (action_of (known_of r.peer) object version m.interface m.opcode m.fields) r
 
-interface-finds : (interface : Interface) (r : Resident) (object version opcode : ℕ) (fields : List Field) → AreApart r.owned.shell → served_now.requests interface opcode ≡ false
-    → Accepts (demand_by interface r object version (record { interface = interface; opcode = opcode; fields = fields })) r
-interface-finds WlCompositor r object version opcode fields apart served =
-    either (opcode == 0) _ _ r
-    (λ e. asks-either (nat_le 256 (length r.owned.surfaces.surfaces)) refuse_limit (Ok (CreateSurface (word_in 0 fields) version)) r (λ full. unasked _ r) (λ room. asked (CreateSurface (word_in 0 fields) version) r tt))
-    (λ e. owned-finds (action_of (known_of r.peer) object version WlCompositor opcode fields) r)
-interface-finds WlSurface r object version opcode fields apart served = surface-finds r object version opcode fields served
-interface-finds WlSubcompositor r object version opcode fields apart served = absurd (cc)
-interface-finds WlSubsurface r object version opcode fields apart served = absurd (cc)
-interface-finds WlSeat r object version opcode fields apart served = seat-finds r object version opcode fields served
-interface-finds WlPointer r object version opcode fields apart served = absurd (cc)
-interface-finds XdgWmBase r object version opcode fields apart served = base-finds r object version opcode fields served
-interface-finds XdgPositioner r object version opcode fields apart served = absurd (cc)
-interface-finds XdgSurface r object version opcode fields apart served = xdg-finds r object version opcode fields served apart
-interface-finds XdgToplevel r object version opcode fields apart served = toplevel-finds r object opcode fields apart
-interface-finds XdgPopup r object version opcode fields apart served = absurd (cc)
-interface-finds WlDisplay r object version opcode fields apart served = owned-finds (action_of (known_of r.peer) object version WlDisplay opcode fields) r
-interface-finds WlRegistry r object version opcode fields apart served = owned-finds (action_of (known_of r.peer) object version WlRegistry opcode fields) r
-interface-finds WlCallback r object version opcode fields apart served = owned-finds (action_of (known_of r.peer) object version WlCallback opcode fields) r
-interface-finds WlRegion r object version opcode fields apart served = owned-finds (action_of (known_of r.peer) object version WlRegion opcode fields) r
-interface-finds WlShm r object version opcode fields apart served = owned-finds (action_of (known_of r.peer) object version WlShm opcode fields) r
-interface-finds WlShmPool r object version opcode fields apart served = owned-finds (action_of (known_of r.peer) object version WlShmPool opcode fields) r
-interface-finds WlBuffer r object version opcode fields apart served = owned-finds (action_of (known_of r.peer) object version WlBuffer opcode fields) r
-interface-finds WlOutput r object version opcode fields apart served = owned-finds (action_of (known_of r.peer) object version WlOutput opcode fields) r
+request-finds : (request : Request) (r : Resident) (object version : ℕ) (m : Message) → AreApart r.owned.shell → unserved_now request ≡ false → Accepts (demand_by request r object version m) r
+request-finds (ToCompositor (compositor.CreateSurface id)) r object version m apart served =
+    asks-either (nat_le 256 (length r.owned.surfaces.surfaces)) refuse_limit (Ok (CreateSurface id version)) r (λ full. unasked _ r) (λ room. asked (CreateSurface id version) r tt)
+request-finds (ToCompositor (compositor.CreateRegion id)) r object version m apart served = own-finds r object version m
+request-finds (ToSurface request) r object version m apart served = surface-finds r object version request served
+request-finds (ToSeat (seat.GetPointer id)) r object version m apart served = absurd (cc)
+request-finds (ToSeat (seat.GetKeyboard id)) r object version m apart served = refused _ r
+request-finds (ToSeat (seat.GetTouch id)) r object version m apart served = refused _ r
+request-finds (ToBase request) r object version m apart served = base-finds r object version request served
+request-finds (ToXdgSurface request) r object version m apart served = xdg-finds r object version request served apart
+request-finds (ToToplevel request) r object version m apart served = toplevel-finds r object request apart
+request-finds ToOwn r object version m apart served = own-finds r object version m
+request-finds (ToSubcompositor request) r object version m apart served = absurd (cc)
+request-finds (ToSubsurface request) r object version m apart served = absurd (cc)
+request-finds (ToPointer request) r object version m apart served = absurd (cc)
+request-finds (ToPositioner request) r object version m apart served = absurd (cc)
+request-finds (ToPopup request) r object version m apart served = absurd (cc)
 
 demand-finds : (r : Resident) (object version : ℕ) (m : Message) → AreApart r.owned.shell → Accepts (demand_of served_now r object version m) r
 demand-finds r object version m apart =
-    either (served_now.requests m.interface m.opcode) _ _ r (λ left_out. refused _ r) (λ served. interface-finds m.interface r object version m.opcode m.fields apart served)
+    either (unserved_now (request_of m)) _ _ r (λ left_out. refused _ r) (λ served. request-finds (request_of m) r object version m apart served)
 
 -- ---- every message
 

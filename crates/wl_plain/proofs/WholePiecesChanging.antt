@@ -1,13 +1,24 @@
 -- More bytes of a client's stream behind the others change neither what a message asks, where every request is served, nor what is done.
 use Rattle.std.proofs.Common.{◌≡◌, ℕ, List, [], ◌∷◌, ◌++◌, Bool, true, false, Option, Some, None, Result, refl, ap, ◌∙◌}
-use Rattle.std.specs.Prelude.{Ok, Err, ◌==◌, ◌&&◌, fold, if◌then◌else◌, map, not}
+use Rattle.std.specs.Prelude.{Ok, Err, ◌&&◌, fold, if◌then◌else◌, map, not}
 use Rattle.std.specs.List.{list_all}
 use Rattle.std.specs.Option.{option_and_then}
-use Rattle.wl_wire.specs.Wire.{Field}
 use Rattle.wl_proto.specs.declared.error.ProtoError.{ProtoError}
-use Rattle.wl_proto.specs.declared.interface.Interface.{Interface}
-use Rattle.wl_proto.specs.declared.interface.Interface.TheVariants.{WlDisplay, WlRegistry, WlCallback, WlCompositor, WlRegion, WlSurface, WlShm, WlShmPool, WlBuffer, WlSubcompositor, WlSubsurface, WlOutput, WlSeat, WlPointer, XdgWmBase, XdgPositioner, XdgSurface, XdgToplevel, XdgPopup}
+use Rattle.wl_proto.specs.declared.wl_compositor.WlCompositorRequest.TheVariants as compositor
+use Rattle.wl_proto.specs.declared.wl_pointer.WlPointerRequest.TheVariants as pointer
+use Rattle.wl_proto.specs.declared.wl_subcompositor.WlSubcompositorRequest.TheVariants as subcompositor
+use Rattle.wl_proto.specs.declared.wl_subsurface.WlSubsurfaceRequest.{WlSubsurfaceRequest}
+use Rattle.wl_proto.specs.declared.wl_subsurface.WlSubsurfaceRequest.TheVariants as subsurface
+use Rattle.wl_proto.specs.declared.wl_surface.WlSurfaceRequest.{WlSurfaceRequest}
+use Rattle.wl_proto.specs.declared.wl_surface.WlSurfaceRequest.TheVariants as surface
+use Rattle.wl_proto.specs.declared.xdg_popup.XdgPopupRequest.{XdgPopupRequest}
+use Rattle.wl_proto.specs.declared.xdg_popup.XdgPopupRequest.TheVariants as popup
+use Rattle.wl_proto.specs.declared.xdg_surface.XdgSurfaceRequest.{XdgSurfaceRequest}
+use Rattle.wl_proto.specs.declared.xdg_surface.XdgSurfaceRequest.TheVariants as xdg
+use Rattle.wl_proto.specs.declared.xdg_wm_base.XdgWmBaseRequest.{XdgWmBaseRequest}
+use Rattle.wl_proto.specs.declared.xdg_wm_base.XdgWmBaseRequest.TheVariants as base
 use Rattle.wl_proto.specs.Messages.{Message}
+use Rattle.wl_proto.specs.declared.interface.Interface.TheVariants.{WlPointer, XdgPopup}
 use Rattle.wl_proto.specs.Objects.{objects_in as objects_named, new_id_in}
 use Rattle.wl_proto.specs.Spelling.{decoded}
 use Rattle.wl_client.specs.declared.refusals.ErrorCode.TheVariants.{InvalidMethod}
@@ -22,72 +33,86 @@ use Rattle.wl_shell.specs.Popups.{is_toplevel, parent_allows, parent_of, popup_a
 use Rattle.wl_shell.specs.Positioner.{Positioner}
 use Rattle.wl_shell.specs.Shell.{Effect, Stays, Unconfigured, Configures, Maps, Unmaps, Kind, Toplevel, IsPopup, RoleObject, XdgSurface as Xdg, xdg_at, xdg_of, xdg_with}
 use Rattle.wl_scene.specs.Windows.{Window}
-use Rattle.wl_plain.specs.Ask.{Ask}
 use Rattle.wl_plain.specs.Changing.{after_all, callbacks_of, changed_for, drawing, effect_done, grab_allowed, grabbed, has_focus, in_rising_order, is_held_elsewhere, is_latest, mode_set, popup_given_to, stacked_by, stacked_for, tree_committed, with_kept_move, without_callbacks, without_child}
 use Rattle.wl_plain.specs.Demand.{Demand, Asks, EndSurface, AskFrame, CommitTree, EndObject, GetSubsurface, EndSubsurface, SetMode, GetPointer, MakeCursor, CreatePositioner, EndPositioner, SetPositioner, GetPopup, Grab, EndPopup, EndToplevel, Move}
-use Rattle.wl_plain.specs.Demanding.{demand_by, demand_of, demands, effect_of_commit, judge_all}
+use Rattle.wl_plain.specs.Demanding.{base_demand, demand_by, demand_of, effect_of_commit, judge_all, surface_demand, xdg_asked}
 use Rattle.wl_plain.specs.Desktop.{Callback, Desktop, Resident}
 use Rattle.wl_plain.specs.LeftOut.{LeftOut}
+use Rattle.wl_plain.specs.Requests.{Request, ToCompositor, ToSurface, ToSubcompositor, ToSubsurface, ToSeat, ToPointer, ToBase, ToPositioner, ToXdgSurface, ToToplevel, ToPopup, ToOwn, request_of}
 use Rattle.wl_plain.specs.Replies.{commit_told, configure_told, new_pointer_told, own_answers, popups_done, releases_unless, replies, role_told}
 use Rattle.wl_plain.specs.Stacked.{all_windows}
 use Rattle.wl_plain.specs.Step.{making, removing, with_peer, with_surfaces, xdg_configured}
 use Rattle.wl_plain.specs.Whole.{done_for}
 use Rattle.wl_plain.specs.WlSubsurface.{demand_by_link, link_of_subsurface, past_limit}
-use Rattle.wl_plain.specs.XdgPopup.{popup_asked, popup_demand_of}
-use Rattle.wl_plain.specs.XdgShell.{xdg_ask, xdg_ask_of}
+use Rattle.wl_plain.specs.XdgPopup.{popup_asked}
 use Rattle.wl_plain.proofs.Behind.{answers-behind, changed-behind, with_behind}
 use Rattle.wl_plain.proofs.WholePiecesPlaces.{holder-longer, longer_in, windows-longer}
 use Rattle.wl_plain.proofs.Simply.{Asking}
 
 -- ---- what a message asks
 
-xdg-asks : (x : Option Xdg) (r : Resident) (version opcode : ℕ) (fields : List Field) (rest : List ℕ) → xdg_ask_of (with_behind rest r) x version opcode fields ≡ xdg_ask_of r x version opcode fields
-xdg-asks None r version opcode fields rest = refl
-xdg-asks (Some x) r version opcode fields rest = refl
+xdg-asks : (x : Option Xdg) (r : Resident) (version : ℕ) (request : XdgSurfaceRequest) (rest : List ℕ) → xdg_asked (with_behind rest r) x version request ≡ xdg_asked r x version request
+xdg-asks None r version request rest = refl
+xdg-asks (Some x) r version xdg.Destroy rest = refl
+xdg-asks (Some x) r version (xdg.GetToplevel id) rest = refl
+xdg-asks (Some x) r version (xdg.GetPopup id parent positioner) rest = refl
+xdg-asks (Some x) r version (xdg.SetWindowGeometry a b width height) rest = refl
+xdg-asks (Some x) r version (xdg.AckConfigure serial) rest = refl
 
-link-asks : (l : Option Link) (r : Resident) (object opcode : ℕ) (fields : List Field) (rest : List ℕ)
-    → demand_by_link (with_behind rest r) object opcode fields l ≡ demand_by_link r object opcode fields l
-link-asks None r object opcode fields rest = refl
-link-asks (Some l) r object opcode fields rest = refl
+link-asks : (l : Option Link) (r : Resident) (object : ℕ) (request : WlSubsurfaceRequest) (rest : List ℕ) → demand_by_link (with_behind rest r) object l request ≡ demand_by_link r object l request
+link-asks l r object subsurface.Destroy rest = refl
+link-asks None r object (subsurface.SetPosition x y) rest = refl
+link-asks None r object (subsurface.PlaceAbove sibling) rest = refl
+link-asks None r object (subsurface.PlaceBelow sibling) rest = refl
+link-asks None r object subsurface.SetSync rest = refl
+link-asks None r object subsurface.SetDesync rest = refl
+link-asks (Some l) r object (subsurface.SetPosition x y) rest = refl
+link-asks (Some l) r object (subsurface.PlaceAbove sibling) rest = refl
+link-asks (Some l) r object (subsurface.PlaceBelow sibling) rest = refl
+link-asks (Some l) r object subsurface.SetSync rest = refl
+link-asks (Some l) r object subsurface.SetDesync rest = refl
 
-popup-asked : (x : Option Xdg) (r : Resident) (version : ℕ) (fields : List Field) (rest : List ℕ) → popup_asked (with_behind rest r) x version fields ≡ popup_asked r x version fields
-popup-asked None r version fields rest = refl
-popup-asked (Some x) r version fields rest = refl
+popup-asks : (x : Option Xdg) (r : Resident) (object : ℕ) (request : XdgPopupRequest) (rest : List ℕ) → popup_asked (with_behind rest r) object x request ≡ popup_asked r object x request
+popup-asks None r object request rest = refl
+popup-asks (Some x) r object popup.Destroy rest = refl
+popup-asks (Some x) r object (popup.Grab seat serial) rest = refl
 
-popup-asks : (x : Option Xdg) (r : Resident) (object opcode : ℕ) (fields : List Field) (rest : List ℕ)
-    → popup_demand_of (with_behind rest r) object opcode fields x ≡ popup_demand_of r object opcode fields x
-popup-asks None r object opcode fields rest = refl
-popup-asks (Some x) r object opcode fields rest = refl
+surface-asks : (r : Resident) (object version : ℕ) (request : WlSurfaceRequest) (rest : List ℕ) → surface_demand (with_behind rest r) object version request ≡ surface_demand r object version request
+surface-asks r object version surface.Destroy rest = refl
+surface-asks r object version (surface.Attach buffer x y) rest = refl
+surface-asks r object version (surface.Damage x y width height) rest = refl
+surface-asks r object version (surface.Frame callback) rest = refl
+surface-asks r object version (surface.SetOpaqueRegion region) rest = refl
+surface-asks r object version (surface.SetInputRegion region) rest = refl
+surface-asks r object version surface.Commit rest = refl
+surface-asks r object version (surface.SetBufferTransform transform) rest = refl
 
-demand-by : (interface : Interface) (r : Resident) (object version : ℕ) (m : Message) (rest : List ℕ)
-    → demand_by interface (with_behind rest r) object version m ≡ demand_by interface r object version m
-demand-by WlDisplay r object version m rest = refl
-demand-by WlRegistry r object version m rest = refl
-demand-by WlCallback r object version m rest = refl
-demand-by WlCompositor r object version m rest = refl
-demand-by WlRegion r object version m rest = refl
-demand-by WlSurface r object version m rest = refl
-demand-by WlShm r object version m rest = refl
-demand-by WlShmPool r object version m rest = refl
-demand-by WlBuffer r object version m rest = refl
-demand-by WlSubcompositor r object version m rest = refl
-demand-by WlSubsurface r object version m rest =
-    ap (λ (asked : Result Demand Refusal). if m.opcode == 0 then Ok (EndSubsurface object) else asked) (link-asks (link_of_subsurface object r) r object m.opcode m.fields rest)
-demand-by WlOutput r object version m rest = refl
-demand-by WlSeat r object version m rest = refl
-demand-by WlPointer r object version m rest = refl
-demand-by XdgWmBase r object version m rest = refl
-demand-by XdgPositioner r object version m rest = refl
-demand-by XdgSurface r object version m rest =
-    ap (λ (asked : Result Demand Refusal). if m.opcode == 2 then asked else demands (xdg_ask (with_behind rest r) object version m.opcode m.fields)) (popup-asked (xdg_at object r.owned.shell) r version m.fields rest)
-    ∙ ap (λ (asked : Result Ask Refusal). if m.opcode == 2 then popup_asked r (xdg_at object r.owned.shell) version m.fields else demands asked) (xdg-asks (xdg_at object r.owned.shell) r version m.opcode m.fields rest)
-demand-by XdgToplevel r object version m rest = refl
-demand-by XdgPopup r object version m rest = popup-asks (xdg_with object r.owned.shell) r object m.opcode m.fields rest
+base-asks : (r : Resident) (object version : ℕ) (request : XdgWmBaseRequest) (rest : List ℕ) → base_demand (with_behind rest r) object version request ≡ base_demand r object version request
+base-asks r object version base.Destroy rest = refl
+base-asks r object version (base.CreatePositioner id) rest = refl
+base-asks r object version (base.GetXdgSurface id surface) rest = refl
+base-asks r object version (base.Pong serial) rest = refl
+
+demand-by : (request : Request) (r : Resident) (object version : ℕ) (m : Message) (rest : List ℕ) → demand_by request (with_behind rest r) object version m ≡ demand_by request r object version m
+demand-by (ToCompositor (compositor.CreateSurface id)) r object version m rest = refl
+demand-by (ToCompositor (compositor.CreateRegion id)) r object version m rest = refl
+demand-by (ToSurface request) r object version m rest = surface-asks r object version request rest
+demand-by (ToSubcompositor subcompositor.Destroy) r object version m rest = refl
+demand-by (ToSubcompositor (subcompositor.GetSubsurface id child parent)) r object version m rest = refl
+demand-by (ToSubsurface request) r object version m rest = link-asks (link_of_subsurface object r) r object request rest
+demand-by (ToSeat request) r object version m rest = refl
+demand-by (ToPointer (pointer.SetCursor serial surface x y)) r object version m rest = refl
+demand-by (ToBase request) r object version m rest = base-asks r object version request rest
+demand-by (ToPositioner request) r object version m rest = refl
+demand-by (ToXdgSurface request) r object version m rest = xdg-asks (xdg_at object r.owned.shell) r version request rest
+demand-by (ToToplevel request) r object version m rest = refl
+demand-by (ToPopup request) r object version m rest = popup-asks (xdg_with object r.owned.shell) r object request rest
+demand-by ToOwn r object version m rest = refl
 
 module _ (left : LeftOut) where
   demand-of : (r : Resident) (object version : ℕ) (m : Message) (rest : List ℕ) → demand_of left (with_behind rest r) object version m ≡ demand_of left r object version m
   demand-of r object version m rest =
-      ap (λ (asked : Result Demand Refusal). if left.requests m.interface m.opcode then past_limit else asked) (demand-by m.interface r object version m rest)
+      ap (λ (asked : Result Demand Refusal). if left.requests (request_of m) then past_limit else asked) (demand-by (request_of m) r object version m rest)
 
   judged-same : (objects : Objects) (held : ℕ) (ask other : Message → Result Demand Refusal) (request : Result Message ProtoError) → ((m : Message) → ask m ≡ other m)
       → judged objects held ask request ≡ judged objects held other request

@@ -12,7 +12,7 @@ use Rattle.wl_surface.specs.Request.{Frame}
 use Rattle.wl_surface.specs.Surfaces.{Surfaces, buffers_of, history_in, with_change as with_surface_change, with_role}
 use Rattle.wl_surface.specs.Trees.{committed_in, desynchronised_in, destroyed_in, linked, synchronised_in, unlinked}
 use Rattle.wl_surface.specs.declared.role.Role.TheVariants.{Popup as AsPopup, Cursor as AsCursor}
-use Rattle.wl_shell.specs.Popups.{dismissing, is_parent_of, is_toplevel, new_popup, orphaning, parent_allows, parent_of, placing, popup_at, popup_changed, popups_of, with_grab, without_grab, Popped, popped_of}
+use Rattle.wl_shell.specs.Popups.{dismissing, is_parent_of, is_toplevel, new_popup, orphaning, parent_allows, parent_of, placing, popup_at, popup_changed, popups_of, with_grab, without_grab}
 use Rattle.wl_shell.specs.Positioner.{Placed, Positioner, first_positioner, place}
 use Rattle.wl_shell.specs.Shell.{Effect, Stays, Unconfigured, Configures, Maps, Unmaps, Waiting, Mapped, Popup, XdgSurface, in_stage, next_serial, unmapping, with_change, without_role, xdg_at, xdg_of}
 use Rattle.wl_scene.specs.Pointer.{Pointer, Target}

@@ -1,24 +1,33 @@
 -- What a message asks where every request is served, or the first error that it has.
-use Rattle.std.specs.Prelude.{ℕ, ◌==◌, Bool, false, if◌then◌else◌, is_some, Option, Some, None, Result, Ok, Err, List, [], ◌∷◌}
-use Rattle.wl_proto.specs.declared.interface.Interface.{Interface}
-use Rattle.wl_proto.specs.declared.interface.Interface.TheVariants.{WlCompositor, WlSurface, WlSubcompositor, WlSubsurface, WlSeat, WlPointer, XdgWmBase, XdgPositioner, XdgSurface, XdgToplevel, XdgPopup}
-use Rattle.wl_wire.specs.Wire.{Field}
+use Rattle.std.specs.Prelude.{ℕ, Bool, false, if◌then◌else◌, is_some, Option, Some, None, Result, Ok, Err, List, [], ◌∷◌}
+use Rattle.wl_proto.specs.declared.wl_compositor.WlCompositorRequest.{WlCompositorRequest}
+use Rattle.wl_proto.specs.declared.wl_compositor.WlCompositorRequest.TheVariants as compositor
+use Rattle.wl_proto.specs.declared.wl_surface.WlSurfaceRequest.{WlSurfaceRequest}
+use Rattle.wl_proto.specs.declared.wl_surface.WlSurfaceRequest.TheVariants as surface
+use Rattle.wl_proto.specs.declared.xdg_surface.XdgSurfaceRequest.{XdgSurfaceRequest}
+use Rattle.wl_proto.specs.declared.xdg_surface.XdgSurfaceRequest.TheVariants as xdg
+use Rattle.wl_proto.specs.declared.xdg_wm_base.XdgWmBaseRequest.{XdgWmBaseRequest}
+use Rattle.wl_proto.specs.declared.xdg_wm_base.XdgWmBaseRequest.TheVariants as base
 use Rattle.wl_proto.specs.Messages.{Message}
 use Rattle.wl_client.specs.declared.refusals.ErrorCode.TheVariants.{SurfaceHasRoleObject, UnconfiguredBuffer as unconfigured}
 use Rattle.wl_client.specs.declared.refusals.Refusal.{Refusal}
-use Rattle.wl_client.specs.Judgement.{action_of, judged_at, word_in}
+use Rattle.wl_client.specs.Judgement.{action_of, judged_at}
 use Rattle.wl_client.specs.Peer.{known_of}
+use Rattle.wl_surface.specs.Request.{Attach, Damage, SetOpaqueRegion, SetInputRegion}
 use Rattle.wl_shell.specs.Popups.{Popped, popped_of}
 use Rattle.wl_shell.specs.Shell.{Effect, Stays, Unconfigured, Configures, XdgSurface as Xdg, is_full, on_commit, stage_of, xdg_at, xdg_of, xdg_with}
-use Rattle.wl_plain.specs.Ask.{Ask, owns}
+use Rattle.wl_plain.specs.Ask.{Ask, AskSurface, Ignore, owns}
 use Rattle.wl_plain.specs.Demand.{Demand, Asks, EndSurface, AskFrame, CommitTree, CreatePositioner, EndToplevel, Move}
 use Rattle.wl_plain.specs.Desktop.{Resident}
 use Rattle.wl_plain.specs.LeftOut.{LeftOut}
+use Rattle.wl_plain.specs.Requests.{Request, ToCompositor, ToSurface, ToSubcompositor, ToSubsurface, ToSeat, ToPointer, ToBase, ToPositioner, ToXdgSurface, ToToplevel, ToPopup, ToOwn, request_of}
+use Rattle.wl_plain.specs.ToplevelRequest.{ToplevelRequest}
+use Rattle.wl_plain.specs.ToplevelRequest as toplevel
 use Rattle.wl_plain.specs.WlPointer.{pointer_demand, seat_demand}
 use Rattle.wl_plain.specs.WlSubsurface.{past_limit, refuses, subcompositor_demand, subsurface_demand}
-use Rattle.wl_plain.specs.WlSurface.{surface_ask, surface_created, will_show}
-use Rattle.wl_plain.specs.XdgPopup.{popup_asked, popup_demand, positioner_demand}
-use Rattle.wl_plain.specs.XdgShell.{base_ask, toplevel_ask, xdg_ask}
+use Rattle.wl_plain.specs.WlSurface.{buffer_named, rect, region_named, surface_created, transform_set, will_show}
+use Rattle.wl_plain.specs.XdgPopup.{popup_demand, popup_made, positioner_demand, positioner_of}
+use Rattle.wl_plain.specs.XdgShell.{acknowledged_by, base_destroyed, geometry_set, state_asked, toplevel_made, xdg_surface_destroyed, xdg_surface_made}
 
 abbrev pub demands : Result Ask Refusal → Result Demand Refusal
 demands (Ok ask) = Ok (Asks ask)
@@ -28,9 +37,10 @@ demands (Err refusal) = Err refusal
 abbrev pub own_demand : Resident → ℕ → ℕ → Message → Result Demand Refusal
 own_demand r object version m = demands (owns (action_of (known_of r.peer) object version m.interface m.opcode m.fields))
 
--- wl_compositor.create_surface
-abbrev pub compositor_demand : Resident → ℕ → ℕ → Message → Result Demand Refusal
-compositor_demand r object version m = if m.opcode == 0 then demands (surface_created r (word_in 0 m.fields) version) else own_demand r object version m
+-- wl_compositor
+abbrev pub compositor_demand : Resident → ℕ → ℕ → Message → WlCompositorRequest → Result Demand Refusal
+compositor_demand r object version m (compositor.CreateSurface id) = demands (surface_created r id version)
+compositor_demand r object version m (compositor.CreateRegion id) = own_demand r object version m
 
 -- A commit by the stage of the role object, and whether the state that it would give has a buffer. The table isn't used for a popup that was
 -- dismissed.
@@ -62,21 +72,35 @@ commit_demand r object = committed_by (xdg_of object r.owned.shell) object (effe
 abbrev pub surface_destroyed : Resident → ℕ → Result Demand Refusal
 surface_destroyed r object = if is_some (xdg_of object r.owned.shell) then refuses object SurfaceHasRoleObject else Ok (EndSurface object)
 
-abbrev pub surface_demand : Resident → ℕ → ℕ → ℕ → List Field → Result Demand Refusal
-surface_demand r object version opcode fields =
-    if opcode == 0 then surface_destroyed r object else (
-    if opcode == 3 then Ok (AskFrame (word_in 0 fields) version object) else (
-    if opcode == 6 then commit_demand r object else demands (surface_ask r object opcode fields)))
+-- wl_surface
+abbrev pub surface_demand : Resident → ℕ → ℕ → WlSurfaceRequest → Result Demand Refusal
+surface_demand r object version surface.Destroy = surface_destroyed r object
+surface_demand r object version (surface.Attach buffer x y) = Ok (Asks (AskSurface object (Attach (buffer_named r buffer) x y)))
+surface_demand r object version (surface.Damage x y width height) = Ok (Asks (AskSurface object (Damage (rect x y width height))))
+surface_demand r object version (surface.Frame callback) = Ok (AskFrame callback version object)
+surface_demand r object version (surface.SetOpaqueRegion region) = Ok (Asks (AskSurface object (SetOpaqueRegion (region_named r region))))
+surface_demand r object version (surface.SetInputRegion region) = Ok (Asks (AskSurface object (SetInputRegion (region_named r region))))
+surface_demand r object version surface.Commit = commit_demand r object
+surface_demand r object version (surface.SetBufferTransform transform) = demands (transform_set object transform)
 
 -- xdg_wm_base
-abbrev pub base_demand : Resident → ℕ → ℕ → ℕ → List Field → Result Demand Refusal
-base_demand r object version opcode fields =
-    if opcode == 1 then Ok (CreatePositioner (word_in 0 fields) version) else demands (base_ask r object version opcode fields)
+abbrev pub base_demand : Resident → ℕ → ℕ → XdgWmBaseRequest → Result Demand Refusal
+base_demand r object version base.Destroy = demands (base_destroyed r object)
+base_demand r object version (base.CreatePositioner id) = Ok (CreatePositioner id version)
+base_demand r object version (base.GetXdgSurface id surface) = demands (xdg_surface_made r object version id surface)
+base_demand r object version (base.Pong serial) = Ok (Asks Ignore)
 
 -- xdg_surface
-abbrev pub xdg_demand : Resident → ℕ → ℕ → ℕ → List Field → Result Demand Refusal
-xdg_demand r object version opcode fields =
-    if opcode == 2 then popup_asked r (xdg_at object r.owned.shell) version fields else demands (xdg_ask r object version opcode fields)
+abbrev pub xdg_asked : Resident → Option Xdg → ℕ → XdgSurfaceRequest → Result Demand Refusal
+xdg_asked r None version request = past_limit
+xdg_asked r (Some x) version xdg.Destroy = demands (xdg_surface_destroyed x)
+xdg_asked r (Some x) version (xdg.GetToplevel id) = demands (toplevel_made r x version id)
+xdg_asked r (Some x) version (xdg.GetPopup id parent positioner) = popup_made r x version id parent (positioner_of (r.positioners positioner))
+xdg_asked r (Some x) version (xdg.SetWindowGeometry a b width height) = demands (geometry_set x (rect a b width height))
+xdg_asked r (Some x) version (xdg.AckConfigure serial) = demands (acknowledged_by x serial)
+
+abbrev pub xdg_demand : Resident → ℕ → ℕ → XdgSurfaceRequest → Result Demand Refusal
+xdg_demand r object version request = xdg_asked r (xdg_at object r.owned.shell) version request
 
 -- xdg_toplevel.destroy
 abbrev pub toplevel_destroyed : ℕ → Option Xdg → Result Demand Refusal
@@ -88,28 +112,37 @@ abbrev pub moved_by_pointer : ℕ → Option Xdg → Result Demand Refusal
 moved_by_pointer serial None = past_limit
 moved_by_pointer serial (Some x) = Ok (Move x.surface serial)
 
-abbrev pub toplevel_demand : Resident → ℕ → ℕ → List Field → Result Demand Refusal
-toplevel_demand r object opcode fields =
-    if opcode == 0 then toplevel_destroyed object (xdg_with object r.owned.shell) else (
-    if opcode == 5 then moved_by_pointer (word_in 1 fields) (xdg_with object r.owned.shell) else demands (toplevel_ask (xdg_with object r.owned.shell) opcode))
+-- xdg_toplevel: but for these requests none has an effect
+abbrev pub toplevel_asked : ℕ → Option Xdg → ToplevelRequest → Result Demand Refusal
+toplevel_asked object x toplevel.Destroy = toplevel_destroyed object x
+toplevel_asked object x (toplevel.Move by serial) = moved_by_pointer serial x
+toplevel_asked object x toplevel.SetMaximized = demands (state_asked x)
+toplevel_asked object x toplevel.UnsetMaximized = demands (state_asked x)
+toplevel_asked object x (toplevel.SetFullscreen output) = demands (state_asked x)
+toplevel_asked object x toplevel.UnsetFullscreen = demands (state_asked x)
+toplevel_asked object None request = past_limit
+toplevel_asked object (Some x) request = Ok (Asks Ignore)
 
-abbrev pub demand_by : Interface → Resident → ℕ → ℕ → Message → Result Demand Refusal
-demand_by WlCompositor r object version m = compositor_demand r object version m
-demand_by WlSurface r object version m = surface_demand r object version m.opcode m.fields
-demand_by WlSubcompositor r object version m = subcompositor_demand r object version m.opcode m.fields
-demand_by WlSubsurface r object version m = subsurface_demand r object m.opcode m.fields
-demand_by WlSeat r object version m = seat_demand object version m.opcode m.fields
-demand_by WlPointer r object version m = pointer_demand r object m.fields
-demand_by XdgWmBase r object version m = base_demand r object version m.opcode m.fields
-demand_by XdgPositioner r object version m = positioner_demand r object m.opcode m.fields
-demand_by XdgSurface r object version m = xdg_demand r object version m.opcode m.fields
-demand_by XdgToplevel r object version m = toplevel_demand r object m.opcode m.fields
-demand_by XdgPopup r object version m = popup_demand r object m.opcode m.fields
-demand_by interface r object version m = own_demand r object version m
+abbrev pub toplevel_demand : Resident → ℕ → ToplevelRequest → Result Demand Refusal
+toplevel_demand r object request = toplevel_asked object (xdg_with object r.owned.shell) request
+
+abbrev pub demand_by : Request → Resident → ℕ → ℕ → Message → Result Demand Refusal
+demand_by (ToCompositor request) r object version m = compositor_demand r object version m request
+demand_by (ToSurface request) r object version m = surface_demand r object version request
+demand_by (ToSubcompositor request) r object version m = subcompositor_demand r object version request
+demand_by (ToSubsurface request) r object version m = subsurface_demand r object request
+demand_by (ToSeat request) r object version m = seat_demand object version request
+demand_by (ToPointer request) r object version m = pointer_demand r object request
+demand_by (ToBase request) r object version m = base_demand r object version request
+demand_by (ToPositioner request) r object version m = positioner_demand r object request
+demand_by (ToXdgSurface request) r object version m = xdg_demand r object version request
+demand_by (ToToplevel request) r object version m = toplevel_demand r object request
+demand_by (ToPopup request) r object version m = popup_demand r object request
+demand_by ToOwn r object version m = own_demand r object version m
 
 -- a request that is left out is refused as a limit would be
 abbrev pub demand_of : LeftOut → Resident → ℕ → ℕ → Message → Result Demand Refusal
-demand_of left r object version m = if left.requests m.interface m.opcode then past_limit else demand_by m.interface r object version m
+demand_of left r object version m = if left.requests (request_of m) then past_limit else demand_by (request_of m) r object version m
 
 -- what a message to an object asks, or the first error that it has
 abbrev pub judge_all : LeftOut → Resident → ℕ → ℕ → List ℕ → Result Demand Refusal

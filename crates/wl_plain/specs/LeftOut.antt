@@ -8,7 +8,7 @@ pub record LeftOut : Type 0 where
   pub releases : Bool
 
 abbrev pub nothing_left_out : LeftOut
-nothing_left_out = record { requests = λ interface opcode. false; releases = false }
+nothing_left_out = record { requests = λ request. false; releases = false }
 
 -- what is left out now
 abbrev pub served_now : LeftOut

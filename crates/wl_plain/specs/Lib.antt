@@ -14,6 +14,7 @@ pub mod Pointing
 pub mod Popups
 pub mod Releases
 pub mod Replies
+pub mod Requests
 pub mod Scratch
 pub mod Served
 pub mod Settling
@@ -22,6 +23,7 @@ pub mod Soundness
 pub mod Standing
 pub mod Step
 pub mod Steps
+pub mod ToplevelRequest
 pub mod Touching
 pub mod Whole
 pub mod WholeLaws

@@ -1,9 +1,11 @@
 -- What is asked of the seat and of wl_pointers (wayland.xml, wl_seat and wl_pointer).
-use Rattle.std.specs.Prelude.{ℕ, ◌==◌, ◌||◌, Bool, true, false, if◌then◌else◌, Option, Some, None, Result, Ok, List, is_some}
-use Rattle.wl_wire.specs.Wire.{Field}
+use Rattle.std.specs.Prelude.{ℕ, ◌==◌, ◌||◌, Bool, true, false, if◌then◌else◌, Option, Some, None, Result, Ok, is_some}
+use Rattle.wl_proto.specs.declared.wl_pointer.WlPointerRequest.{WlPointerRequest}
+use Rattle.wl_proto.specs.declared.wl_pointer.WlPointerRequest.TheVariants as pointer
+use Rattle.wl_proto.specs.declared.wl_seat.WlSeatRequest.{WlSeatRequest}
+use Rattle.wl_proto.specs.declared.wl_seat.WlSeatRequest.TheVariants as seat
 use Rattle.wl_client.specs.declared.refusals.ErrorCode.TheVariants.{MissingCapability, Role as HasAnotherRole}
 use Rattle.wl_client.specs.declared.refusals.Refusal.{Refusal}
-use Rattle.wl_client.specs.Judgement.{word_in}
 use Rattle.wl_surface.specs.declared.role.Role.{Role}
 use Rattle.wl_surface.specs.declared.role.Role.TheVariants.{Toplevel as AsToplevel, Popup as AsPopup, Subsurface as AsSubsurface, Cursor as AsCursor}
 use Rattle.wl_shell.specs.Shell.{xdg_of}
@@ -14,8 +16,10 @@ use Rattle.wl_plain.specs.WlSubsurface.{refuses}
 use Rattle.wl_plain.specs.XdgShell.{role_of}
 
 -- the seat has a pointer, and no keyboard and no touch
-abbrev pub seat_demand : ℕ → ℕ → ℕ → List Field → Result Demand Refusal
-seat_demand object version opcode fields = if opcode == 0 then Ok (GetPointer (word_in 0 fields) version) else refuses object MissingCapability
+abbrev pub seat_demand : ℕ → ℕ → WlSeatRequest → Result Demand Refusal
+seat_demand object version (seat.GetPointer id) = Ok (GetPointer id version)
+seat_demand object version (seat.GetKeyboard id) = refuses object MissingCapability
+seat_demand object version (seat.GetTouch id) = refuses object MissingCapability
 
 -- the surface has a role that isn't a cursor's
 abbrev pub is_no_cursor : Option Role → Bool
@@ -30,5 +34,6 @@ abbrev pub cursor_set : Resident → ℕ → ℕ → Result Demand Refusal
 cursor_set r object surface =
     if is_no_cursor (role_of r surface) || is_some (xdg_of surface r.owned.shell) then refuses object HasAnotherRole else Ok (MakeCursor surface)
 
-abbrev pub pointer_demand : Resident → ℕ → List Field → Result Demand Refusal
-pointer_demand r object fields = if word_in 1 fields == 0 then Ok (Asks Ignore) else cursor_set r object (word_in 1 fields)
+-- null takes the cursor away
+abbrev pub pointer_demand : Resident → ℕ → WlPointerRequest → Result Demand Refusal
+pointer_demand r object (pointer.SetCursor serial surface x y) = if surface == 0 then Ok (Asks Ignore) else cursor_set r object surface

@@ -1,12 +1,14 @@
 -- What is asked of subsurfaces (wayland.xml, wl_subcompositor and wl_subsurface).
-use Rattle.std.specs.Prelude.{ℕ, ◌==◌, ◌&&◌, ◌||◌, not, Bool, true, false, if◌then◌else◌, Option, Some, None, Result, Ok, Err, List, find, is_some}
+use Rattle.std.specs.Prelude.{ℕ, ◌==◌, ◌&&◌, ◌||◌, not, Bool, true, false, if◌then◌else◌, Option, Some, None, Result, Ok, Err, find, is_some}
 use Rattle.std.specs.List.{list_any}
 use Rattle.std.specs.Option.{option_and_then}
-use Rattle.wl_wire.specs.Wire.{Field}
+use Rattle.wl_proto.specs.declared.wl_subcompositor.WlSubcompositorRequest.{WlSubcompositorRequest}
+use Rattle.wl_proto.specs.declared.wl_subcompositor.WlSubcompositorRequest.TheVariants as subcompositor
+use Rattle.wl_proto.specs.declared.wl_subsurface.WlSubsurfaceRequest.{WlSubsurfaceRequest}
+use Rattle.wl_proto.specs.declared.wl_subsurface.WlSubsurfaceRequest.TheVariants as subsurface
 use Rattle.wl_client.specs.declared.refusals.ErrorCode.{ErrorCode}
 use Rattle.wl_client.specs.declared.refusals.ErrorCode.TheVariants.{BadSurface, BadParent, Implementation}
 use Rattle.wl_client.specs.declared.refusals.Refusal.{Refusal}
-use Rattle.wl_client.specs.Judgement.{number_in, word_in}
 use Rattle.wl_client.specs.Told.{display_error}
 use Rattle.wl_surface.specs.Request.{Request, Member, Itself, Child, SetPosition, PlaceAbove, PlaceBelow}
 use Rattle.wl_surface.specs.Surfaces.{Link, Surfaces, link_at}
@@ -48,9 +50,9 @@ subsurface_made r object version id child parent =
     if is_no_subsurface (role_of r child) || (has_subsurface child r || is_some (xdg_of child r.owned.shell)) then refuses object BadSurface else (
     if is_bad_parent r.owned.surfaces child parent then refuses object BadParent else Ok (GetSubsurface id version child parent)))
 
-abbrev pub subcompositor_demand : Resident → ℕ → ℕ → ℕ → List Field → Result Demand Refusal
-subcompositor_demand r object version opcode fields =
-    if opcode == 0 then Ok (EndObject object) else subsurface_made r object version (word_in 0 fields) (word_in 1 fields) (word_in 2 fields)
+abbrev pub subcompositor_demand : Resident → ℕ → ℕ → WlSubcompositorRequest → Result Demand Refusal
+subcompositor_demand r object version subcompositor.Destroy = Ok (EndObject object)
+subcompositor_demand r object version (subcompositor.GetSubsurface id child parent) = subsurface_made r object version id child parent
 
 -- the wl_subsurface of this id, and its link while that hasn't ended
 abbrev pub subsurface_at : ℕ → Resident → Option Subsurface
@@ -74,19 +76,15 @@ abbrev pub placed_beside : ℕ → ℕ → (Member → Request) → Option Membe
 placed_beside object parent request None = refuses object BadSurface
 placed_beside object parent request (Some member) = Ok (Asks (AskSurface parent (request member)))
 
--- what is asked of a wl_subsurface whose link hasn't ended
-abbrev pub link_demand : Resident → ℕ → Link → ℕ → List Field → Result Demand Refusal
-link_demand r object l opcode fields =
-    if opcode == 1 then Ok (Asks (AskSurface l.parent (SetPosition l.number (number_in 0 fields) (number_in 1 fields)))) else (
-    if opcode == 2 then placed_beside object l.parent (PlaceAbove l.number) (beside r.owned.surfaces l (word_in 0 fields)) else (
-    if opcode == 3 then placed_beside object l.parent (PlaceBelow l.number) (beside r.owned.surfaces l (word_in 0 fields)) else
-    Ok (SetMode l.number (opcode == 4))))
+-- An inert wl_subsurface, whose link has ended, does nothing but go.
+abbrev pub demand_by_link : Resident → ℕ → Option Link → WlSubsurfaceRequest → Result Demand Refusal
+demand_by_link r object l subsurface.Destroy = Ok (EndSubsurface object)
+demand_by_link r object None request = Ok (Asks Ignore)
+demand_by_link r object (Some l) (subsurface.SetPosition x y) = Ok (Asks (AskSurface l.parent (SetPosition l.number x y)))
+demand_by_link r object (Some l) (subsurface.PlaceAbove sibling) = placed_beside object l.parent (PlaceAbove l.number) (beside r.owned.surfaces l sibling)
+demand_by_link r object (Some l) (subsurface.PlaceBelow sibling) = placed_beside object l.parent (PlaceBelow l.number) (beside r.owned.surfaces l sibling)
+demand_by_link r object (Some l) subsurface.SetSync = Ok (SetMode l.number true)
+demand_by_link r object (Some l) subsurface.SetDesync = Ok (SetMode l.number false)
 
--- an inert wl_subsurface does nothing
-abbrev pub demand_by_link : Resident → ℕ → ℕ → List Field → Option Link → Result Demand Refusal
-demand_by_link r object opcode fields None = Ok (Asks Ignore)
-demand_by_link r object opcode fields (Some l) = link_demand r object l opcode fields
-
-abbrev pub subsurface_demand : Resident → ℕ → ℕ → List Field → Result Demand Refusal
-subsurface_demand r object opcode fields =
-    if opcode == 0 then Ok (EndSubsurface object) else demand_by_link r object opcode fields (link_of_subsurface object r)
+abbrev pub subsurface_demand : Resident → ℕ → WlSubsurfaceRequest → Result Demand Refusal
+subsurface_demand r object request = demand_by_link r object (link_of_subsurface object r) request

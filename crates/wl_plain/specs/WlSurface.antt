@@ -1,15 +1,14 @@
 -- What is asked of a surface (wayland.xml, wl_compositor.create_surface and wl_surface).
-use Rattle.std.specs.Prelude.{ℕ, ℤ, pos, ◌==◌, ◌&&◌, nat_le, int_le, unsigned_abs, Bool, if◌then◌else◌, Option, Result, Ok, Err, List, length}
+use Rattle.std.specs.Prelude.{ℕ, ℤ, pos, ◌&&◌, nat_le, int_le, unsigned_abs, Bool, if◌then◌else◌, Option, Result, Ok, Err, List, length}
 use Rattle.std.specs.Option.{option_and_then, option_map}
-use Rattle.wl_wire.specs.Wire.{Field}
+use Rattle.wl_geom.specs.declared.rect.Rect.{Rect}
 use Rattle.wl_geom.specs.Region.{Change}
 use Rattle.wl_client.specs.declared.refusals.ErrorCode.{ErrorCode}
 use Rattle.wl_client.specs.declared.refusals.ErrorCode.TheVariants.{Implementation, InvalidTransform}
 use Rattle.wl_client.specs.declared.refusals.Refusal.{Refusal}
 use Rattle.wl_client.specs.Buffers.{Buffer as Made}
-use Rattle.wl_client.specs.Judgement.{number_in, rect_in, word_in}
 use Rattle.wl_client.specs.Told.{display_error}
-use Rattle.wl_surface.specs.Request.{Buffer, Attach, Damage, SetOpaqueRegion, SetInputRegion, SetBufferTransform}
+use Rattle.wl_surface.specs.Request.{Buffer, SetBufferTransform}
 use Rattle.wl_surface.specs.State.{pending}
 use Rattle.wl_surface.specs.Surfaces.{history_in, is_there}
 use Rattle.wl_plain.specs.Ask.{Ask, CreateSurface, AskSurface}
@@ -24,6 +23,9 @@ refuse_limit = Err (display_error Implementation)
 -- wl_compositor.create_surface: a client has at most 256 surfaces
 abbrev pub surface_created : Resident → ℕ → ℕ → Result Ask Refusal
 surface_created r id version = if nat_le 256 (length r.owned.surfaces.surfaces) then refuse_limit else Ok (CreateSurface id version)
+
+abbrev pub rect : ℤ → ℤ → ℤ → ℤ → Rect
+rect x y w h = record { x = x; y = y; w = w; h = h }
 
 -- the buffer of a wl_buffer
 abbrev pub buffer_of : ℕ → Made → Buffer
@@ -55,11 +57,3 @@ transform_set object z =
 -- the state that a commit would give has a buffer
 abbrev pub will_show : Resident → ℕ → Bool
 will_show r surface = is_there (option_and_then (λ h. (pending h).buffer) (history_in surface r.owned.surfaces))
-
--- All but destroy, frame and commit: 1 is attach, 2 damage, 4 set_opaque_region, 5 set_input_region and 7 set_buffer_transform.
-abbrev pub surface_ask : Resident → ℕ → ℕ → List Field → Result Ask Refusal
-surface_ask r object opcode fields =
-    if opcode == 1 then Ok (AskSurface object (Attach (buffer_named r (word_in 0 fields)) (number_in 1 fields) (number_in 2 fields))) else (
-    if opcode == 2 then Ok (AskSurface object (Damage (rect_in fields))) else (
-    if opcode == 4 then Ok (AskSurface object (SetOpaqueRegion (region_named r (word_in 0 fields)))) else (
-    if opcode == 5 then Ok (AskSurface object (SetInputRegion (region_named r (word_in 0 fields)))) else transform_set object (number_in 0 fields))))

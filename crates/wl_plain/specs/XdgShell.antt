@@ -1,17 +1,15 @@
 -- What is asked of the shell (xdg-shell.xml, xdg_wm_base, xdg_surface and xdg_toplevel).
-use Rattle.std.specs.Prelude.{ℕ, pos, ◌==◌, ◌&&◌, ◌||◌, nat_le, int_lt, Bool, true, false, if◌then◌else◌, Option, Some, None, Result, Ok, List, is_some}
+use Rattle.std.specs.Prelude.{ℕ, pos, ◌==◌, ◌&&◌, ◌||◌, int_lt, Bool, true, false, if◌then◌else◌, Option, Some, None, Result, Ok, is_some}
 use Rattle.std.specs.List.{list_any}
 use Rattle.std.specs.Option.{option_and_then, option_map_or}
-use Rattle.wl_wire.specs.Wire.{Field}
 use Rattle.wl_geom.specs.declared.rect.Rect.{Rect}
 use Rattle.wl_client.specs.declared.refusals.ErrorCode.TheVariants as error
 use Rattle.wl_client.specs.declared.refusals.Refusal.{Refusal}
-use Rattle.wl_client.specs.Judgement.{rect_in, word_in}
 use Rattle.wl_surface.specs.Request.{SetWindowGeometry}
 use Rattle.wl_surface.specs.Surfaces.{has_content, history_in, surface_at}
 use Rattle.wl_surface.specs.declared.role.Role.{Role}
 use Rattle.wl_surface.specs.declared.role.Role.TheVariants.{Toplevel as AsToplevel, Popup as AsPopup, Subsurface as AsSubsurface, Cursor as AsCursor}
-use Rattle.wl_shell.specs.Shell.{XdgSurface, answers_states, is_full, is_waiting, stage_of, xdg_at, xdg_of}
+use Rattle.wl_shell.specs.Shell.{XdgSurface, answers_states, is_full, is_waiting, stage_of, xdg_of}
 use Rattle.wl_plain.specs.Ask.{Ask, AskSurface, DestroyBase, GetXdgSurface, DestroyXdgSurface, GetToplevel, Acknowledge, ConfigureAgain, Ignore}
 use Rattle.wl_plain.specs.Desktop.{Resident}
 use Rattle.wl_plain.specs.WlSurface.{refuse, refuse_limit}
@@ -40,12 +38,6 @@ xdg_surface_made r object version id surface =
     if is_foreign (role_of r surface) || is_some (xdg_of surface r.owned.shell)
     then refuse object error.Role
     else (if has_any r surface then refuse object error.InvalidSurfaceState else Ok (GetXdgSurface id version object surface))
-
--- All but create_positioner: 0 is destroy, 2 get_xdg_surface and 3 pong.
-abbrev pub base_ask : Resident → ℕ → ℕ → ℕ → List Field → Result Ask Refusal
-base_ask r object version opcode fields =
-    if opcode == 0 then base_destroyed r object else (
-    if opcode == 2 then xdg_surface_made r object version (word_in 0 fields) (word_in 1 fields) else Ok Ignore)
 
 -- xdg_surface.destroy: its role object must be gone
 abbrev pub xdg_surface_destroyed : XdgSurface → Result Ask Refusal
@@ -80,30 +72,14 @@ acknowledged_by x serial =
     then (if is_waiting serial x.serials then Ok (Acknowledge x.id serial) else refuse x.id error.InvalidSerial)
     else refuse x.id error.NotConstructed
 
--- All but get_popup: 0 is destroy, 1 get_toplevel, 3 set_window_geometry and 4 ack_configure.
-abbrev pub xdg_ask_of : Resident → Option XdgSurface → ℕ → ℕ → List Field → Result Ask Refusal
-xdg_ask_of r None version opcode fields = refuse_limit
-xdg_ask_of r (Some x) version opcode fields =
-    if opcode == 0 then xdg_surface_destroyed x else (
-    if opcode == 1 then toplevel_made r x version (word_in 0 fields) else (
-    if opcode == 3 then geometry_set x (rect_in fields) else acknowledged_by x (word_in 0 fields)))
-
-abbrev pub xdg_ask : Resident → ℕ → ℕ → ℕ → List Field → Result Ask Refusal
-xdg_ask r object version opcode fields = xdg_ask_of r (xdg_at object r.owned.shell) version opcode fields
-
--- A request for another state is answered where the toplevel was configured before. An xdg_surface has at most 64 configures that weren't
--- acknowledged.
+-- A request for another state (set_maximized, unset_maximized, set_fullscreen and unset_fullscreen) is answered where the toplevel was
+-- configured before. An xdg_surface has at most 64 configures that weren't acknowledged.
 abbrev pub configured_again : XdgSurface → Result Ask Refusal
 configured_again x =
     if option_map_or answers_states (stage_of x) false
     then (if is_full x.serials then refuse_limit else Ok (ConfigureAgain x.id))
     else Ok Ignore
 
--- set_maximized, unset_maximized, set_fullscreen and unset_fullscreen
-abbrev pub is_state : ℕ → Bool
-is_state opcode = nat_le 9 opcode && nat_le opcode 12
-
--- All but destroy and move: no other than these four have an effect.
-abbrev pub toplevel_ask : Option XdgSurface → ℕ → Result Ask Refusal
-toplevel_ask None opcode = refuse_limit
-toplevel_ask (Some x) opcode = if is_state opcode then configured_again x else Ok Ignore
+abbrev pub state_asked : Option XdgSurface → Result Ask Refusal
+state_asked None = refuse_limit
+state_asked (Some x) = configured_again x

@@ -1,0 +1,136 @@
+-- What a message asks, by the names of the requests (wayland.xml, xdg-shell.xml): the one of its opcode, with its arguments in their order.
+use Rattle.std.specs.Prelude.{ℕ, ◌==◌, if◌then◌else◌, List}
+use Rattle.wl_wire.specs.Wire.{Field}
+use Rattle.wl_proto.specs.declared.interface.Interface.{Interface}
+use Rattle.wl_proto.specs.declared.interface.Interface.TheVariants.{WlCompositor, WlSurface, WlSubcompositor, WlSubsurface, WlSeat, WlPointer, XdgWmBase, XdgPositioner, XdgSurface, XdgToplevel, XdgPopup}
+use Rattle.wl_proto.specs.declared.wl_compositor.WlCompositorRequest.{WlCompositorRequest}
+use Rattle.wl_proto.specs.declared.wl_compositor.WlCompositorRequest.TheVariants as compositor
+use Rattle.wl_proto.specs.declared.wl_pointer.WlPointerRequest.{WlPointerRequest}
+use Rattle.wl_proto.specs.declared.wl_pointer.WlPointerRequest.TheVariants as pointer
+use Rattle.wl_proto.specs.declared.wl_seat.WlSeatRequest.{WlSeatRequest}
+use Rattle.wl_proto.specs.declared.wl_seat.WlSeatRequest.TheVariants as seat
+use Rattle.wl_proto.specs.declared.wl_subcompositor.WlSubcompositorRequest.{WlSubcompositorRequest}
+use Rattle.wl_proto.specs.declared.wl_subcompositor.WlSubcompositorRequest.TheVariants as subcompositor
+use Rattle.wl_proto.specs.declared.wl_subsurface.WlSubsurfaceRequest.{WlSubsurfaceRequest}
+use Rattle.wl_proto.specs.declared.wl_subsurface.WlSubsurfaceRequest.TheVariants as subsurface
+use Rattle.wl_proto.specs.declared.wl_surface.WlSurfaceRequest.{WlSurfaceRequest}
+use Rattle.wl_proto.specs.declared.wl_surface.WlSurfaceRequest.TheVariants as surface
+use Rattle.wl_proto.specs.declared.xdg_popup.XdgPopupRequest.{XdgPopupRequest}
+use Rattle.wl_proto.specs.declared.xdg_popup.XdgPopupRequest.TheVariants as popup
+use Rattle.wl_proto.specs.declared.xdg_positioner.XdgPositionerRequest.{XdgPositionerRequest}
+use Rattle.wl_proto.specs.declared.xdg_positioner.XdgPositionerRequest.TheVariants as positioner
+use Rattle.wl_proto.specs.declared.xdg_surface.XdgSurfaceRequest.{XdgSurfaceRequest}
+use Rattle.wl_proto.specs.declared.xdg_surface.XdgSurfaceRequest.TheVariants as xdg
+use Rattle.wl_proto.specs.declared.xdg_wm_base.XdgWmBaseRequest.{XdgWmBaseRequest}
+use Rattle.wl_proto.specs.declared.xdg_wm_base.XdgWmBaseRequest.TheVariants as base
+use Rattle.wl_proto.specs.Messages.{Message}
+use Rattle.wl_client.specs.Judgement.{number_in, text_in, word_in}
+use Rattle.wl_plain.specs.ToplevelRequest.{ToplevelRequest}
+use Rattle.wl_plain.specs.ToplevelRequest as toplevel
+
+-- A request, by the interface of the object that it is sent to. Those to a client's own interfaces are told apart by the client's definition.
+pub data Request : Type 0 where
+  ToCompositor : WlCompositorRequest → Request
+  ToSurface : WlSurfaceRequest → Request
+  ToSubcompositor : WlSubcompositorRequest → Request
+  ToSubsurface : WlSubsurfaceRequest → Request
+  ToSeat : WlSeatRequest → Request
+  ToPointer : WlPointerRequest → Request
+  ToBase : XdgWmBaseRequest → Request
+  ToPositioner : XdgPositionerRequest → Request
+  ToXdgSurface : XdgSurfaceRequest → Request
+  ToToplevel : ToplevelRequest → Request
+  ToPopup : XdgPopupRequest → Request
+  ToOwn : Request
+
+abbrev pub compositor_request : ℕ → List Field → WlCompositorRequest
+compositor_request opcode fields = if opcode == 0 then compositor.CreateSurface (word_in 0 fields) else compositor.CreateRegion (word_in 0 fields)
+
+abbrev pub surface_request : ℕ → List Field → WlSurfaceRequest
+surface_request opcode fields =
+    if opcode == 0 then surface.Destroy else (
+    if opcode == 1 then surface.Attach (word_in 0 fields) (number_in 1 fields) (number_in 2 fields) else (
+    if opcode == 2 then surface.Damage (number_in 0 fields) (number_in 1 fields) (number_in 2 fields) (number_in 3 fields) else (
+    if opcode == 3 then surface.Frame (word_in 0 fields) else (
+    if opcode == 4 then surface.SetOpaqueRegion (word_in 0 fields) else (
+    if opcode == 5 then surface.SetInputRegion (word_in 0 fields) else (
+    if opcode == 6 then surface.Commit else surface.SetBufferTransform (number_in 0 fields)))))))
+
+abbrev pub subcompositor_request : ℕ → List Field → WlSubcompositorRequest
+subcompositor_request opcode fields =
+    if opcode == 0 then subcompositor.Destroy else subcompositor.GetSubsurface (word_in 0 fields) (word_in 1 fields) (word_in 2 fields)
+
+abbrev pub subsurface_request : ℕ → List Field → WlSubsurfaceRequest
+subsurface_request opcode fields =
+    if opcode == 0 then subsurface.Destroy else (
+    if opcode == 1 then subsurface.SetPosition (number_in 0 fields) (number_in 1 fields) else (
+    if opcode == 2 then subsurface.PlaceAbove (word_in 0 fields) else (
+    if opcode == 3 then subsurface.PlaceBelow (word_in 0 fields) else (
+    if opcode == 4 then subsurface.SetSync else subsurface.SetDesync))))
+
+abbrev pub seat_request : ℕ → List Field → WlSeatRequest
+seat_request opcode fields =
+    if opcode == 0 then seat.GetPointer (word_in 0 fields) else (
+    if opcode == 1 then seat.GetKeyboard (word_in 0 fields) else seat.GetTouch (word_in 0 fields))
+
+abbrev pub pointer_request : ℕ → List Field → WlPointerRequest
+pointer_request opcode fields = pointer.SetCursor (word_in 0 fields) (word_in 1 fields) (number_in 2 fields) (number_in 3 fields)
+
+abbrev pub base_request : ℕ → List Field → XdgWmBaseRequest
+base_request opcode fields =
+    if opcode == 0 then base.Destroy else (
+    if opcode == 1 then base.CreatePositioner (word_in 0 fields) else (
+    if opcode == 2 then base.GetXdgSurface (word_in 0 fields) (word_in 1 fields) else base.Pong (word_in 0 fields)))
+
+abbrev pub positioner_request : ℕ → List Field → XdgPositionerRequest
+positioner_request opcode fields =
+    if opcode == 0 then positioner.Destroy else (
+    if opcode == 1 then positioner.SetSize (number_in 0 fields) (number_in 1 fields) else (
+    if opcode == 2 then positioner.SetAnchorRect (number_in 0 fields) (number_in 1 fields) (number_in 2 fields) (number_in 3 fields) else (
+    if opcode == 3 then positioner.SetAnchor (word_in 0 fields) else (
+    if opcode == 4 then positioner.SetGravity (word_in 0 fields) else (
+    if opcode == 5 then positioner.SetConstraintAdjustment (word_in 0 fields) else positioner.SetOffset (number_in 0 fields) (number_in 1 fields))))))
+
+abbrev pub xdg_request : ℕ → List Field → XdgSurfaceRequest
+xdg_request opcode fields =
+    if opcode == 0 then xdg.Destroy else (
+    if opcode == 1 then xdg.GetToplevel (word_in 0 fields) else (
+    if opcode == 2 then xdg.GetPopup (word_in 0 fields) (word_in 1 fields) (word_in 2 fields) else (
+    if opcode == 3 then xdg.SetWindowGeometry (number_in 0 fields) (number_in 1 fields) (number_in 2 fields) (number_in 3 fields) else
+    xdg.AckConfigure (word_in 0 fields))))
+
+abbrev pub toplevel_request : ℕ → List Field → ToplevelRequest
+toplevel_request opcode fields =
+    if opcode == 0 then toplevel.Destroy else (
+    if opcode == 1 then toplevel.SetParent (word_in 0 fields) else (
+    if opcode == 2 then toplevel.SetTitle (text_in 0 fields) else (
+    if opcode == 3 then toplevel.SetAppId (text_in 0 fields) else (
+    if opcode == 4 then toplevel.ShowWindowMenu (word_in 0 fields) (word_in 1 fields) (number_in 2 fields) (number_in 3 fields) else (
+    if opcode == 5 then toplevel.Move (word_in 0 fields) (word_in 1 fields) else (
+    if opcode == 6 then toplevel.Resize (word_in 0 fields) (word_in 1 fields) (word_in 2 fields) else (
+    if opcode == 7 then toplevel.SetMaxSize (number_in 0 fields) (number_in 1 fields) else (
+    if opcode == 8 then toplevel.SetMinSize (number_in 0 fields) (number_in 1 fields) else (
+    if opcode == 9 then toplevel.SetMaximized else (
+    if opcode == 10 then toplevel.UnsetMaximized else (
+    if opcode == 11 then toplevel.SetFullscreen (word_in 0 fields) else (
+    if opcode == 12 then toplevel.UnsetFullscreen else toplevel.SetMinimized))))))))))))
+
+abbrev pub popup_request : ℕ → List Field → XdgPopupRequest
+popup_request opcode fields = if opcode == 0 then popup.Destroy else popup.Grab (word_in 0 fields) (word_in 1 fields)
+
+abbrev pub request_in : Interface → ℕ → List Field → Request
+request_in WlCompositor opcode fields = ToCompositor (compositor_request opcode fields)
+request_in WlSurface opcode fields = ToSurface (surface_request opcode fields)
+request_in WlSubcompositor opcode fields = ToSubcompositor (subcompositor_request opcode fields)
+request_in WlSubsurface opcode fields = ToSubsurface (subsurface_request opcode fields)
+request_in WlSeat opcode fields = ToSeat (seat_request opcode fields)
+request_in WlPointer opcode fields = ToPointer (pointer_request opcode fields)
+request_in XdgWmBase opcode fields = ToBase (base_request opcode fields)
+request_in XdgPositioner opcode fields = ToPositioner (positioner_request opcode fields)
+request_in XdgSurface opcode fields = ToXdgSurface (xdg_request opcode fields)
+request_in XdgToplevel opcode fields = ToToplevel (toplevel_request opcode fields)
+request_in XdgPopup opcode fields = ToPopup (popup_request opcode fields)
+request_in interface opcode fields = ToOwn
+
+abbrev pub request_of : Message → Request
+request_of m = request_in m.interface m.opcode m.fields
