@@ -9,12 +9,10 @@ use Rattle.std.proofs.lemmas.List.Folds.{list_any-append}
 use Rattle.wl_wire.specs.Wire.{Field, split_of}
 use Rattle.wl_wire.specs.declared.header.Split.{Split}
 use Rattle.wl_wire.specs.declared.header.Split.TheVariants.{Message as Whole, More, Bad}
-use Rattle.wl_proto.specs.Messages.{Message, wl_compositor_request, wl_seat_request, wl_surface_request, xdg_surface_request, xdg_wm_base_request}
+use Rattle.wl_proto.specs.Messages.{Message}
 use Rattle.wl_proto.specs.declared.interface.Interface.{Interface}
-use Rattle.wl_proto.specs.declared.interface.Interface.TheVariants.{WlDisplay, WlRegistry, WlCallback, WlCompositor, WlRegion, WlSurface, WlShm, WlShmPool, WlBuffer, WlSubcompositor, WlSubsurface, WlOutput, WlSeat, WlPointer, XdgWmBase, XdgPositioner, XdgSurface, XdgToplevel, XdgPopup}
-use Rattle.wl_proto.specs.declared.wl_compositor.WlCompositorRequest.{WlCompositorRequest}
+use Rattle.wl_proto.specs.declared.interface.Interface.TheVariants.{WlSurface, XdgToplevel}
 use Rattle.wl_proto.specs.declared.wl_compositor.WlCompositorRequest.TheVariants as compositor
-use Rattle.wl_proto.specs.declared.wl_seat.WlSeatRequest.{WlSeatRequest}
 use Rattle.wl_proto.specs.declared.wl_seat.WlSeatRequest.TheVariants as seat
 use Rattle.wl_proto.specs.declared.wl_surface.WlSurfaceRequest.{WlSurfaceRequest}
 use Rattle.wl_proto.specs.declared.wl_surface.WlSurfaceRequest.TheVariants as surface
@@ -24,7 +22,7 @@ use Rattle.wl_proto.specs.declared.xdg_wm_base.XdgWmBaseRequest.{XdgWmBaseReques
 use Rattle.wl_proto.specs.declared.xdg_wm_base.XdgWmBaseRequest.TheVariants as base
 use Rattle.wl_client.specs.Agreement.{IsPeer}
 use Rattle.wl_client.specs.First.{IsRefused, Passes}
-use Rattle.wl_client.specs.Judgement.{action_of, word_in}
+use Rattle.wl_client.specs.Judgement.{action_of}
 use Rattle.wl_client.specs.Objects.{ById}
 use Rattle.wl_client.specs.Peer.{Peer, counted, with_rest, known_of}
 use Rattle.wl_client.specs.Serving.{is_own}
@@ -43,9 +41,9 @@ use Rattle.wl_shell.specs.Shell.{XdgSurface as Xdg}
 use Rattle.wl_scene.specs.Stacking.{Owned, Stack, Standing, root_of, windows_on}
 use Rattle.wl_scene.specs.Windows.{Owner, Place, Window, contains, moved, owner_of, window_with}
 use Rattle.wl_resident.specs.Agreement.{IsStack}
-use Rattle.wl_plain.specs.Ask.{Ask, owns}
+use Rattle.wl_plain.specs.Ask.{Ask, Ignore, owns}
 use Rattle.wl_plain.specs.Demand.{Demand, Asks, EndSurface, AskFrame, CommitTree, EndToplevel, Move}
-use Rattle.wl_plain.specs.Demanding.{committed_by, demand_by, demand_of, demands, effect_of_commit, judge_all, moved_by_pointer, surface_demand, toplevel_demand, toplevel_destroyed}
+use Rattle.wl_plain.specs.Demanding.{base_demand, committed_by, demand_by, demand_of, demands, effect_of_commit, judge_all, moved_by_pointer, own_demand, surface_demand, toplevel_asked, toplevel_demand, toplevel_destroyed, xdg_asked}
 use Rattle.wl_plain.proofs.BridgeJudged.{simple-peer, simply-ok}
 use Rattle.wl_plain.specs.Desktop.{Desktop, Resident, client_in, owned_in, owned_of, place}
 use Rattle.wl_plain.specs.Laws.{status_in, status_of}
@@ -62,8 +60,13 @@ use Rattle.wl_plain.specs.Whole.{Serves}
 use Rattle.wl_plain.specs.Step.{surface_of, with_peer}
 use Rattle.wl_plain.proofs.Simply.{Simple, changed_simply, judge, simple_of, simply, touched}
 use Rattle.wl_plain.specs.Touching.{any_window_at, has_window_at, is_window_at}
-use Rattle.wl_plain.specs.WlSurface.{surface_ask, surface_created}
-use Rattle.wl_plain.specs.XdgShell.{base_ask, toplevel_ask, xdg_ask}
+use Rattle.wl_plain.specs.Requests.{Request as AnyRequest, ToCompositor, ToSurface, ToSubcompositor, ToSubsurface, ToSeat, ToPointer, ToBase, ToPositioner, ToXdgSurface, ToToplevel, ToPopup, ToOwn, request_in, request_of, toplevel_request}
+use Rattle.wl_plain.specs.Served.{unserved_now}
+use Rattle.wl_plain.specs.ToplevelRequest.{ToplevelRequest}
+use Rattle.wl_plain.specs.ToplevelRequest as toplevel
+use Rattle.wl_plain.specs.WlSurface.{rect, surface_created, transform_set}
+use Rattle.wl_plain.specs.XdgShell.{acknowledged_by, base_destroyed, geometry_set, state_asked, toplevel_made, xdg_surface_destroyed, xdg_surface_made}
+use Rattle.wl_plain.proofs.Requests.{of-wl_compositor, of-wl_seat, of-wl_surface, of-xdg_surface, of-xdg_wm_base}
 use Rattle.wl_resident.specs.declared.messages.Asked.{Asked}
 use Rattle.wl_resident.specs.declared.messages.Asked.TheVariants as asked
 use Rattle.wl_resident.specs.declared.messages.Kind.{Kind}
@@ -164,130 +167,119 @@ module _ (r : Resident) (P : ℕ → Type 0) where
   commit-touches object there (Some x) Maps = one (CommitTree object) object refl there
   commit-touches object there (Some x) Unmaps = one (CommitTree object) object refl there
 
-  surface-touches : (object version opcode : ℕ) (fields : List Field) → (opcode ≡ 6 → P object) → TouchesSo r P (surface_demand r object version opcode fields)
-  surface-touches object version opcode fields commits =
-      either (opcode == 0) _ _ (λ e. either (is_some (xdg_of object r.owned.shell)) _ _ (λ there. refused _) (λ free. none (EndSurface object) refl))
-      (λ e. either (opcode == 3) _ _ (λ e. none (AskFrame _ version object) refl)
-      (λ e. either (opcode == 6) _ _ (λ e. commit-touches object (commits (eqb-true opcode 6 e)) (xdg_of object r.owned.shell) (effect_of_commit r object))
-      (λ e. asks-touch-none (surface_ask r object opcode fields))))
+  surface-touches : (object version : ℕ) (request : WlSurfaceRequest) → (request ≡ surface.Commit → P object) → TouchesSo r P (surface_demand r object version request)
+  surface-touches object version surface.Destroy commits = either (is_some (xdg_of object r.owned.shell)) _ _ (λ there. refused _) (λ free. none (EndSurface object) refl)
+  surface-touches object version (surface.Attach buffer x y) commits = none (Asks _) refl
+  surface-touches object version (surface.Damage x y width height) commits = none (Asks _) refl
+  surface-touches object version (surface.Frame callback) commits = none (AskFrame callback version object) refl
+  surface-touches object version (surface.SetOpaqueRegion region) commits = none (Asks _) refl
+  surface-touches object version (surface.SetInputRegion region) commits = none (Asks _) refl
+  surface-touches object version surface.Commit commits = commit-touches object (commits refl) (xdg_of object r.owned.shell) (effect_of_commit r object)
+  surface-touches object version (surface.SetBufferTransform transform) commits = asks-touch-none (transform_set object transform)
+
+  base-touches : (object version : ℕ) (request : XdgWmBaseRequest) → unserved_now (ToBase request) ≡ false → TouchesSo r P (base_demand r object version request)
+  base-touches object version base.Destroy served = asks-touch-none (base_destroyed r object)
+  base-touches object version (base.CreatePositioner id) served = absurd (cc)
+  base-touches object version (base.GetXdgSurface id surface) served = asks-touch-none (xdg_surface_made r object version id surface)
+  base-touches object version (base.Pong serial) served = none (Asks Ignore) refl
+
+  xdg-touches : (o : Option Xdg) (version : ℕ) (request : XdgSurfaceRequest) → unserved_now (ToXdgSurface request) ≡ false → TouchesSo r P (xdg_asked r o version request)
+  xdg-touches None version request served = refused _
+  xdg-touches (Some x) version xdg.Destroy served = asks-touch-none (xdg_surface_destroyed x)
+  xdg-touches (Some x) version (xdg.GetToplevel id) served = asks-touch-none (toplevel_made r x version id)
+  xdg-touches (Some x) version (xdg.GetPopup id parent positioner) served = absurd (cc)
+  xdg-touches (Some x) version (xdg.SetWindowGeometry a b width height) served = asks-touch-none (geometry_set x (rect a b width height))
+  xdg-touches (Some x) version (xdg.AckConfigure serial) served = asks-touch-none (acknowledged_by x serial)
 
   -- the surface of the toplevel with this id
   abbrev Destroys : ℕ → Type 0
   Destroys object = (x : Xdg) → xdg_with object r.owned.shell ≡ Some x → P (surface_of (xdg_at x.id r.owned.shell))
 
-  toplevel-touches : (object opcode : ℕ) (fields : List Field) → (opcode ≡ 0 → Destroys object) → TouchesSo r P (toplevel_demand r object opcode fields)
-  toplevel-touches object opcode fields destroys =
-      either (opcode == 0) _ _ (λ e. goes (destroys (eqb-true opcode 0 e)) (xdg_with object r.owned.shell) refl)
-      (λ e. either (opcode == 5) _ _ (λ e. moves (xdg_with object r.owned.shell)) (λ e. asks-touch-none (toplevel_ask (xdg_with object r.owned.shell) opcode)))
+  toplevel-touches : (object : ℕ) (request : ToplevelRequest) → (request ≡ toplevel.Destroy → Destroys object) → TouchesSo r P (toplevel_demand r object request)
+  toplevel-touches object request destroys = at (xdg_with object r.owned.shell) refl request destroys
     where
       goes : Destroys object → (o : Option Xdg) → xdg_with object r.owned.shell ≡ o → TouchesSo r P (toplevel_destroyed object o)
       goes destroyed None found = refused _
       goes destroyed (Some x) found = one (EndToplevel object x.id) (surface_of (xdg_at x.id r.owned.shell)) refl (destroyed x found)
 
-      moves : (o : Option Xdg) → TouchesSo r P (moved_by_pointer (word_in 1 fields) o)
-      moves None = refused _
-      moves (Some x) = none (Move x.surface (word_in 1 fields)) refl
+      moves : (serial : ℕ) (o : Option Xdg) → TouchesSo r P (moved_by_pointer serial o)
+      moves serial None = refused _
+      moves serial (Some x) = none (Move x.surface serial) refl
 
-  interface-touches : (interface : Interface) (object version opcode : ℕ) (fields : List Field) → served_now.requests interface opcode ≡ false → (interface ≡ WlSurface → opcode ≡ 6 → P object) → (interface ≡ XdgToplevel → opcode ≡ 0 → Destroys object)
-      → TouchesSo r P (demand_by interface r object version (record { interface = interface; opcode = opcode; fields = fields }))
-  interface-touches WlCompositor object version opcode fields served commits destroys =
-      either (opcode == 0) _ _ (λ e. asks-touch-none (surface_created r (word_in 0 fields) version)) (λ e. asks-touch-none (owns (action_of (known_of r.peer) object version WlCompositor opcode fields)))
-  interface-touches WlSurface object version opcode fields served commits destroys = surface-touches object version opcode fields (commits refl)
-  interface-touches WlSubcompositor object version opcode fields served commits destroys = absurd (cc)
-  interface-touches WlSubsurface object version opcode fields served commits destroys = absurd (cc)
-  interface-touches WlSeat object version opcode fields served commits destroys = either (opcode == 0) _ _ (λ pointer. absurd (cc)) (λ e. refused _)
-  interface-touches WlPointer object version opcode fields served commits destroys = absurd (cc)
-  interface-touches XdgWmBase object version opcode fields served commits destroys = either (opcode == 1) _ _ (λ positioner. absurd (cc)) (λ e. asks-touch-none (base_ask r object version opcode fields))
-  interface-touches XdgPositioner object version opcode fields served commits destroys = absurd (cc)
-  interface-touches XdgSurface object version opcode fields served commits destroys = either (opcode == 2) _ _ (λ popup. absurd (cc)) (λ e. asks-touch-none (xdg_ask r object version opcode fields))
-  interface-touches XdgToplevel object version opcode fields served commits destroys = toplevel-touches object opcode fields (destroys refl)
-  interface-touches XdgPopup object version opcode fields served commits destroys = absurd (cc)
-  interface-touches WlDisplay object version opcode fields served commits destroys = asks-touch-none (owns (action_of (known_of r.peer) object version WlDisplay opcode fields))
-  interface-touches WlRegistry object version opcode fields served commits destroys = asks-touch-none (owns (action_of (known_of r.peer) object version WlRegistry opcode fields))
-  interface-touches WlCallback object version opcode fields served commits destroys = asks-touch-none (owns (action_of (known_of r.peer) object version WlCallback opcode fields))
-  interface-touches WlRegion object version opcode fields served commits destroys = asks-touch-none (owns (action_of (known_of r.peer) object version WlRegion opcode fields))
-  interface-touches WlShm object version opcode fields served commits destroys = asks-touch-none (owns (action_of (known_of r.peer) object version WlShm opcode fields))
-  interface-touches WlShmPool object version opcode fields served commits destroys = asks-touch-none (owns (action_of (known_of r.peer) object version WlShmPool opcode fields))
-  interface-touches WlBuffer object version opcode fields served commits destroys = asks-touch-none (owns (action_of (known_of r.peer) object version WlBuffer opcode fields))
-  interface-touches WlOutput object version opcode fields served commits destroys = asks-touch-none (owns (action_of (known_of r.peer) object version WlOutput opcode fields))
+      at : (o : Option Xdg) → xdg_with object r.owned.shell ≡ o → (request : ToplevelRequest) → (request ≡ toplevel.Destroy → Destroys object) → TouchesSo r P (toplevel_asked object o request)
+      at o found toplevel.Destroy destroys = goes (destroys refl) o found
+      at o found (toplevel.Move seat serial) destroys = moves serial o
+      at o found toplevel.SetMaximized destroys = asks-touch-none (state_asked o)
+      at o found toplevel.UnsetMaximized destroys = asks-touch-none (state_asked o)
+      at o found (toplevel.SetFullscreen output) destroys = asks-touch-none (state_asked o)
+      at o found toplevel.UnsetFullscreen destroys = asks-touch-none (state_asked o)
+      at None found request destroys = refused _
+      at (Some x) found request destroys = none (Asks Ignore) refl
 
-  pub demand-touches : (object version : ℕ) (m : Message) → (m.interface ≡ WlSurface → m.opcode ≡ 6 → P object) → (m.interface ≡ XdgToplevel → m.opcode ≡ 0 → Destroys object) → TouchesSo r P (demand_of served_now r object version m)
+  own-touches : (object version : ℕ) (m : Message) → TouchesSo r P (own_demand r object version m)
+  own-touches object version m = asks-touch-none (owns (action_of (known_of r.peer) object version m.interface m.opcode m.fields))
+
+  request-touches : (request : AnyRequest) (object version : ℕ) (m : Message) → unserved_now request ≡ false → (request ≡ ToSurface surface.Commit → P object) → (request ≡ ToToplevel toplevel.Destroy → Destroys object)
+      → TouchesSo r P (demand_by request r object version m)
+  request-touches (ToCompositor (compositor.CreateSurface id)) object version m served commits destroys = asks-touch-none (surface_created r id version)
+  request-touches (ToCompositor (compositor.CreateRegion id)) object version m served commits destroys = own-touches object version m
+  request-touches (ToSurface request) object version m served commits destroys = surface-touches object version request (λ is. commits (ap (λ (q : WlSurfaceRequest). ToSurface q) is))
+  request-touches (ToSeat (seat.GetPointer id)) object version m served commits destroys = absurd (cc)
+  request-touches (ToSeat (seat.GetKeyboard id)) object version m served commits destroys = refused _
+  request-touches (ToSeat (seat.GetTouch id)) object version m served commits destroys = refused _
+  request-touches (ToBase request) object version m served commits destroys = base-touches object version request served
+  request-touches (ToXdgSurface request) object version m served commits destroys = xdg-touches (xdg_at object r.owned.shell) version request served
+  request-touches (ToToplevel request) object version m served commits destroys = toplevel-touches object request (λ is. destroys (ap (λ (q : ToplevelRequest). ToToplevel q) is))
+  request-touches ToOwn object version m served commits destroys = own-touches object version m
+  request-touches (ToSubcompositor request) object version m served commits destroys = absurd (cc)
+  request-touches (ToSubsurface request) object version m served commits destroys = absurd (cc)
+  request-touches (ToPointer request) object version m served commits destroys = absurd (cc)
+  request-touches (ToPositioner request) object version m served commits destroys = absurd (cc)
+  request-touches (ToPopup request) object version m served commits destroys = absurd (cc)
+
+  pub demand-touches : (object version : ℕ) (m : Message) → (request_of m ≡ ToSurface surface.Commit → P object) → (request_of m ≡ ToToplevel toplevel.Destroy → Destroys object) → TouchesSo r P (demand_of served_now r object version m)
   demand-touches object version m commits destroys =
-      either (served_now.requests m.interface m.opcode) _ _ (λ left_out. refused _) (λ served. interface-touches m.interface object version m.opcode m.fields served commits destroys)
+      either (unserved_now (request_of m)) _ _ (λ left_out. refused _) (λ served. request-touches (request_of m) object version m served commits destroys)
 
 -- ---- and then the desk marks
 
--- a request of such an interface may touch a surface
-abbrev may_touch : Interface → Bool
-may_touch WlSurface = true
-may_touch XdgToplevel = true
-may_touch interface = false
+to-surface : (interface : Interface) (opcode : ℕ) (fields : List Field) (request : WlSurfaceRequest) → request_in interface opcode fields ≡ ToSurface request → interface ≡ WlSurface
+to-surface WlSurface opcode fields request e = refl
+to-surface interface opcode fields request e = absurd (cc)
 
-compositor-idle : (request : WlCompositorRequest) → may_touch (wl_compositor_request request).interface ≡ false
-compositor-idle (compositor.CreateSurface id) = refl
-compositor-idle (compositor.CreateRegion id) = refl
+to-toplevel : (interface : Interface) (opcode : ℕ) (fields : List Field) (request : ToplevelRequest) → request_in interface opcode fields ≡ ToToplevel request → interface ≡ XdgToplevel
+to-toplevel XdgToplevel opcode fields request e = refl
+to-toplevel interface opcode fields request e = absurd (cc)
 
-seat-idle : (request : WlSeatRequest) → may_touch (wl_seat_request request).interface ≡ false
-seat-idle (seat.GetPointer id) = refl
-seat-idle (seat.GetKeyboard id) = refl
-seat-idle (seat.GetTouch id) = refl
+-- what a message of this kind asks
+asks-of : (m told : Message) (request other : AnyRequest) → m ≡ told → request_of told ≡ request → request_of m ≡ other → request ≡ other
+asks-of m told request other is asks o = sym (ap (λ (n : Message). request_of n) is ∙ asks) ∙ o
 
-base-idle : (request : XdgWmBaseRequest) → may_touch (xdg_wm_base_request request).interface ≡ false
-base-idle base.Destroy = refl
-base-idle (base.CreatePositioner id) = refl
-base-idle (base.GetXdgSurface id surface) = refl
-base-idle (base.Pong serial) = refl
+toplevel-asks : (m : Message) (other : AnyRequest) → m.interface ≡ XdgToplevel → request_of m ≡ other → ToToplevel (toplevel_request m.opcode m.fields) ≡ other
+toplevel-asks m other is o = sym (ap (λ (n : Interface). request_in n m.opcode m.fields) is) ∙ o
 
-xdg-idle : (request : XdgSurfaceRequest) → may_touch (xdg_surface_request request).interface ≡ false
-xdg-idle xdg.Destroy = refl
-xdg-idle (xdg.GetToplevel id) = refl
-xdg-idle (xdg.GetPopup id parent positioner) = refl
-xdg-idle (xdg.SetWindowGeometry x y width height) = refl
-xdg-idle (xdg.AckConfigure serial) = refl
+commit-marks : (k : Kind) (m : Message) (target : ℕ) → IsKind k m → request_of m ≡ ToSurface surface.Commit → marked_in k target ≡ Some target
+commit-marks (kind.Compositor request) m target is o = absurd (let both = asks-of m _ _ _ is (of-wl_compositor request) o in cc)
+commit-marks (kind.Surface request) m target is o =
+    let both = asks-of m _ _ _ is (of-wl_surface request) o in
+    let same : request ≡ surface.Commit = cc in ap (λ (q : WlSurfaceRequest). marked_in (kind.Surface q) target) same
+commit-marks (kind.Seat request) m target is o = absurd (let both = asks-of m _ _ _ is (of-wl_seat request) o in cc)
+commit-marks (kind.Base request) m target is o = absurd (let both = asks-of m _ _ _ is (of-xdg_wm_base request) o in cc)
+commit-marks (kind.XdgSurface request) m target is o = absurd (let both = asks-of m _ _ _ is (of-xdg_surface request) o in cc)
+commit-marks (kind.Toplevel asked) m target is o = absurd (let both = toplevel-asks m _ is.0 o in cc)
+commit-marks kind.Unserved m target is o = absurd (differ (sym (ap unserved_now o) ∙ is))
 
-surface-interface : (request : WlSurfaceRequest) → (wl_surface_request request).interface ≡ WlSurface
-surface-interface surface.Destroy = refl
-surface-interface (surface.Attach buffer x y) = refl
-surface-interface (surface.Damage x y width height) = refl
-surface-interface (surface.Frame callback) = refl
-surface-interface (surface.SetOpaqueRegion region) = refl
-surface-interface (surface.SetInputRegion region) = refl
-surface-interface surface.Commit = refl
-surface-interface (surface.SetBufferTransform transform) = refl
-
-surface-marks : (request : WlSurfaceRequest) (target : ℕ) → (wl_surface_request request).opcode ≡ 6 → marked_in (kind.Surface request) target ≡ Some target
-surface-marks surface.Commit target e = refl
-surface-marks surface.Destroy target e = absurd (eqb-false 0 6 refl e)
-surface-marks (surface.Attach buffer x y) target e = absurd (eqb-false 1 6 refl e)
-surface-marks (surface.Damage x y width height) target e = absurd (eqb-false 2 6 refl e)
-surface-marks (surface.Frame callback) target e = absurd (eqb-false 3 6 refl e)
-surface-marks (surface.SetOpaqueRegion region) target e = absurd (eqb-false 4 6 refl e)
-surface-marks (surface.SetInputRegion region) target e = absurd (eqb-false 5 6 refl e)
-surface-marks (surface.SetBufferTransform transform) target e = absurd (eqb-false 7 6 refl e)
-
--- a message of an interface that touches nothing is no such message
-idle : (m told : Message) → m ≡ told → may_touch told.interface ≡ false → may_touch m.interface ≡ true → ⊥
-idle m told is none some = differ (sym (ap (λ (n : Message). may_touch n.interface) is ∙ none) ∙ some)
-
-commit-marks : (k : Kind) (m : Message) (target : ℕ) → IsKind k m → m.interface ≡ WlSurface → m.opcode ≡ 6 → marked_in k target ≡ Some target
-commit-marks (kind.Compositor request) m target is i o = absurd (idle m _ is (compositor-idle request) (ap may_touch i))
-commit-marks (kind.Surface request) m target is i o = surface-marks request target (ap (λ (n : Message). n.opcode) (sym is) ∙ o)
-commit-marks (kind.Seat request) m target is i o = absurd (idle m _ is (seat-idle request) (ap may_touch i))
-commit-marks (kind.Base request) m target is i o = absurd (idle m _ is (base-idle request) (ap may_touch i))
-commit-marks (kind.XdgSurface request) m target is i o = absurd (idle m _ is (xdg-idle request) (ap may_touch i))
-commit-marks (kind.Toplevel toplevel) m target is i o = absurd (let both = sym is.0 ∙ i in cc)
-commit-marks kind.Unserved m target is i o =
-    absurd (differ (sym (ap (λ (n : Interface). served_now.requests n m.opcode) i ∙ ap (λ n. n == 3) o) ∙ is))
-
-destroy-marks : (k : Kind) (m : Message) (target : ℕ) → IsKind k m → m.interface ≡ XdgToplevel → m.opcode ≡ 0 → marked_in k target ≡ Some target
-destroy-marks (kind.Compositor request) m target is i o = absurd (idle m _ is (compositor-idle request) (ap may_touch i))
-destroy-marks (kind.Surface request) m target is i o = absurd (let both = sym (ap (λ (n : Message). n.interface) is ∙ surface-interface request) ∙ i in cc)
-destroy-marks (kind.Seat request) m target is i o = absurd (idle m _ is (seat-idle request) (ap may_touch i))
-destroy-marks (kind.Base request) m target is i o = absurd (idle m _ is (base-idle request) (ap may_touch i))
-destroy-marks (kind.XdgSurface request) m target is i o = absurd (idle m _ is (xdg-idle request) (ap may_touch i))
-destroy-marks (kind.Toplevel toplevel) m target is i o = ap (λ t. marked_in (kind.Toplevel t) target) (is.1 ∙ ap (λ n. asked_by n) o)
-destroy-marks kind.Unserved m target is i o =
-    absurd (differ (sym (ap (λ (n : Interface). served_now.requests n m.opcode) i) ∙ is))
+destroy-marks : (k : Kind) (m : Message) (target : ℕ) → IsKind k m → request_of m ≡ ToToplevel toplevel.Destroy → marked_in k target ≡ Some target
+destroy-marks (kind.Compositor request) m target is o = absurd (let both = asks-of m _ _ _ is (of-wl_compositor request) o in cc)
+destroy-marks (kind.Surface request) m target is o = absurd (let both = asks-of m _ _ _ is (of-wl_surface request) o in cc)
+destroy-marks (kind.Seat request) m target is o = absurd (let both = asks-of m _ _ _ is (of-wl_seat request) o in cc)
+destroy-marks (kind.Base request) m target is o = absurd (let both = asks-of m _ _ _ is (of-xdg_wm_base request) o in cc)
+destroy-marks (kind.XdgSurface request) m target is o = absurd (let both = asks-of m _ _ _ is (of-xdg_surface request) o in cc)
+destroy-marks (kind.Toplevel asked) m target is o =
+    let both = toplevel-asks m _ is.0 o in
+    let same : toplevel_request m.opcode m.fields ≡ toplevel.Destroy = cc in
+    ap (λ t. marked_in (kind.Toplevel t) target) (is.1 ∙ ap asked_by same)
+destroy-marks kind.Unserved m target is o = absurd (differ (sym (ap unserved_now o) ∙ is))
 
 -- what the desk takes a message for has this number, and so has the surface that it touches
 abbrev pub IsMarkedBy : {A : Type 0} → Kept A → Asked → ℕ → Type 0
@@ -295,8 +287,8 @@ IsMarkedBy v asked id = (number : ℕ) × (marked_by asked ≡ Some number) × (
 
 module _ {A : Type 0} (v : Kept A) (r : Resident) (is : IsResident v r) where
   -- a message that passes
-  passed-touches : (P : ℕ → Type 0) (object version size target : ℕ) (m : Message) → Passes v.client object version size target m → (m.interface ≡ WlSurface → m.opcode ≡ 6 → P object)
-      → (m.interface ≡ XdgToplevel → m.opcode ≡ 0 → Destroys r P object) → (ask : Simple) (id : ℕ) → AsksBy r (split_of r.peer.rest) ask → touched ask r ≡ Some id → P id
+  passed-touches : (P : ℕ → Type 0) (object version size target : ℕ) (m : Message) → Passes v.client object version size target m → (request_of m ≡ ToSurface surface.Commit → P object)
+      → (request_of m ≡ ToToplevel toplevel.Destroy → Destroys r P object) → (ask : Simple) (id : ℕ) → AsksBy r (split_of r.peer.rest) ask → touched ask r ≡ Some id → P id
   passed-touches P object version size target m passes commits destroys ask id asks t =
       let left = with_peer (with_rest (drop size r.peer.rest) r.peer) r in
       let whole : AsksBy r (Whole object m.opcode size) ask = subst (λ (s : Split). AsksBy r s ask) (whole-first v r object version size target m passes is) asks in
@@ -308,8 +300,8 @@ module _ {A : Type 0} (v : Kept A) (r : Resident) (is : IsResident v r) where
       → (ask : Simple) (id : ℕ) → AsksBy r (split_of r.peer.rest) ask → touched ask r ≡ Some id → IsMarkedBy v (asked.Request object version size target k) id
   request-marks object version size target k m passes told =
       passed-touches (IsMarkedBy v (asked.Request object version size target k)) object version size target m passes
-      (λ i o. (target, commit-marks k m target told i o, named-by v.client.objects object target _ passes.entry i refl))
-      (λ i o x found. (target, destroy-marks k m target told i o, toplevel-number i x found))
+      (λ o. (target, commit-marks k m target told o, named-by v.client.objects object target _ passes.entry (to-surface m.interface m.opcode m.fields surface.Commit o) refl))
+      (λ o x found. (target, destroy-marks k m target told o, toplevel-number (to-toplevel m.interface m.opcode m.fields toplevel.Destroy o) x found))
     where
       named : m.interface ≡ XdgToplevel → targets_in XdgToplevel v.client.objects object ≡ Some target
       named i =
@@ -340,7 +332,9 @@ module _ {A : Type 0} (v : Kept A) (r : Resident) (is : IsResident v r) where
   asked-marks (asked.Refused refusal) why ask id asks t =
       absurd (refused-asks (split_of v.client.rest) refusal ask why (subst (λ (rest : List ℕ). AsksBy r (split_of rest) ask) (sym is.peer.rest) asks))
   asked-marks asked.Own (object, version, size, target, m, passes, own) ask id asks t =
-      passed-touches (IsMarkedBy v asked.Own) object version size target m passes (λ i o. absurd (differ (sym (ap is_own i) ∙ own))) (λ i o. absurd (differ (sym (ap is_own i) ∙ own))) ask id asks t
+      passed-touches (IsMarkedBy v asked.Own) object version size target m passes
+      (λ o. absurd (differ (sym (ap is_own (to-surface m.interface m.opcode m.fields surface.Commit o)) ∙ own)))
+      (λ o. absurd (differ (sym (ap is_own (to-toplevel m.interface m.opcode m.fields toplevel.Destroy o)) ∙ own))) ask id asks t
   asked-marks (asked.Request object version size target k) (m, passes, told) ask id asks t = request-marks object version size target k m passes told ask id asks t
 
 -- ---- surfaces keep their numbers through a message

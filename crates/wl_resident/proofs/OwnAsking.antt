@@ -29,7 +29,7 @@ use Rattle.wl_resident.specs.declared.residents.Resident.{Resident as Kept}
 use Rattle.wl_resident.specs.declared.residents.Stacking.TheVariants.{Stays}
 use Rattle.wl_plain.specs.Ask.{owns}
 use Rattle.wl_plain.specs.Demand.{Demand}
-use Rattle.wl_plain.specs.Demanding.{demand_by, demand_of, demands, judge_all}
+use Rattle.wl_plain.specs.Demanding.{demand_of, demands, judge_all}
 use Rattle.wl_plain.specs.Desktop.{Desktop, Resident}
 use Rattle.wl_plain.specs.LeftOut.{served_now}
 use Rattle.wl_plain.specs.NoMore.{OwnsToplevelsOnly}
@@ -113,17 +113,17 @@ names-kept old new keeps =
 
 -- one of the client's own interfaces
 own-asked : (interface : Interface) (r : Resident) (object version : ℕ) (m : Message) → is_own interface ≡ true
-    → (served_now.requests interface m.opcode ≡ false) × (m.interface ≡ interface → demand_by interface r object version m ≡ demands (owns (action_of (known_of r.peer) object version m.interface m.opcode m.fields)))
-own-asked WlDisplay r object version m own = (refl, λ is. rw is refl)
-own-asked WlRegistry r object version m own = (refl, λ is. rw is refl)
-own-asked WlRegion r object version m own = (refl, λ is. rw is refl)
-own-asked WlShm r object version m own = (refl, λ is. rw is refl)
-own-asked WlShmPool r object version m own = (refl, λ is. rw is refl)
-own-asked WlBuffer r object version m own = (refl, λ is. rw is refl)
-own-asked interface r object version m own = absurd (cc)
+    → m.interface ≡ interface → demand_of served_now r object version m ≡ demands (owns (action_of (known_of r.peer) object version m.interface m.opcode m.fields))
+own-asked WlDisplay r object version m own is = rw is refl
+own-asked WlRegistry r object version m own is = rw is refl
+own-asked WlRegion r object version m own is = rw is refl
+own-asked WlShm r object version m own is = rw is refl
+own-asked WlShmPool r object version m own is = rw is refl
+own-asked WlBuffer r object version m own is = rw is refl
+own-asked interface r object version m own is = absurd (cc)
 
 own-demand-of : (r : Resident) (object version : ℕ) (m : Message) → is_own m.interface ≡ true → demand_of served_now r object version m ≡ demands (owns (action_of (known_of r.peer) object version m.interface m.opcode m.fields))
-own-demand-of r object version m own = let asked = own-asked m.interface r object version m own in rw asked.0 (asked.1 refl)
+own-demand-of r object version m own = own-asked m.interface r object version m own refl
 
 -- what it leaves
 own-left : {A : Type 0} (old new : Kept A) (r then : Resident) (q : Peer) → IsResident old r → then.owned ≡ r.owned → new.owned ≡ old.owned → (new.client.ended ≡ None → KeepsSurfaces old.client.objects new.client.objects) → IsPeer new.client q → IsLeft old new then q

@@ -1,5 +1,5 @@
 -- What the requests of the shell lead to.
-use Rattle.std.proofs.Common.{◌≡◌, ℕ, List, Bool, true, false, Option, Some, None, Result, cond, refl, ap, sym, subst, ◌∙◌, inl, inr}
+use Rattle.std.proofs.Common.{◌≡◌, ℕ, Bool, true, false, Option, Some, None, Result, cond, refl, ap, sym, subst, ◌∙◌, inl, inr}
 use Rattle.std.specs.Prelude.{◌&&◌, not, nat_le, IfSome, ◌==◌, ◌≢◌, ◌↔◌, ◌||◌, [], ◌∷◌, if◌then◌else◌, is_some, IsOkUnless, MatchOption, IsErr, OnOk, Ok, Err}
 use Rattle.std.specs.Option.{option_map, option_and_then}
 use Rattle.std.proofs.Math.Path.{fun_ext}
@@ -10,7 +10,6 @@ use Rattle.wl_proto.specs.Messages.{Message}
 use Rattle.wl_proto.specs.Objects.{new_id_in}
 use Rattle.wl_proto.specs.declared.argument.NewId.{NewId}
 use Rattle.wl_client.specs.Judgement.{is_free}
-use Rattle.wl_wire.specs.Wire.{Field}
 use Rattle.wl_table.specs.Objects.{Held, HoldsAt, entry_of}
 use Rattle.wl_table.specs.declared.entry.Entry.{Entry}
 use Rattle.wl_client.specs.Agreement.{IsPeer}
@@ -33,14 +32,16 @@ use Rattle.wl_shell.specs.declared.error.ShellError.TheVariants as failed
 use Rattle.wl_scene.specs.Stacking.{Owned}
 use Rattle.wl_scene.specs.declared.owned.Owned.{Owned as Lent}
 use Rattle.wl_resident.specs.declared.residents.Resident.{Resident as Kept}
-use Rattle.wl_plain.specs.Ask.{Ask, AskSurface, GetToplevel, Ignore}
+use Rattle.wl_plain.specs.Ask.{Ask, AskSurface, GetToplevel}
 use Rattle.wl_plain.specs.Demand.{Demand}
 use Rattle.wl_plain.specs.Desktop.{Desktop, Resident}
 use Rattle.wl_plain.specs.NoMore.{OwnsToplevelsOnly}
 use Rattle.wl_plain.specs.Owning.{AreKept, IsOwned, IsXdg, Names, asks_by, by_number, configuring_if, kept_base, names_in, names_surface, shell_refusal, target_as, targets_in, with_surface, with_toplevel, with_xdg}
 use Rattle.wl_resident.specs.Residents.{ActsFor, AnswersSo as AnswersWhole, Does, IsFree, NewIsFree, IsResident, IsToplevel, IsXdgSurface, Meets, MeetsSo}
 use Rattle.wl_plain.specs.Step.{changed_by, configures_told, role_configured, toplevel_configured, toplevel_given, with_peer, xdg_configured}
-use Rattle.wl_plain.specs.XdgShell.{configured_again, is_no_toplevel, is_state, role_of, toplevel_ask, xdg_ask, xdg_ask_of}
+use Rattle.wl_plain.specs.Demanding.{xdg_asked, xdg_demand}
+use Rattle.wl_plain.specs.XdgShell.{configured_again, is_no_toplevel, role_of}
+use Rattle.wl_proto.specs.declared.xdg_surface.XdgSurfaceRequest.{XdgSurfaceRequest}
 use Rattle.wl_resident.proofs.Doing.{cut-bounds}
 use Rattle.wl_plain.proofs.Letting.{asked-keeps}
 use Rattle.wl_plain.proofs.BridgeServes.{only-peer}
@@ -135,12 +136,12 @@ pub accepted : {A : Type 0} {old : Kept A} (new : Kept A) (r : Resident) (judged
 accepted {A} {old} new r judged ask e answers = subst (λ (j : Result Ask Refusal). AnswersSo j r old new) (sym e) answers
 
 -- the object is an xdg_surface
-pub xdg-answered : {A : Type 0} (old new : Kept A) (object number version opcode : ℕ) (fields : List Field) (r : Resident) → IsResident old r → IsXdgSurface old object number
-    → ((k : KeptXdg) (x : Xdg) (h : History) → IsXdg (names_in old.client.objects) (kept_of old.owned.shell) r.owned number k x h → x.id ≡ object → AnswersSo (xdg_ask_of r (Some x) version opcode fields) r old new)
-    → AnswersSo (xdg_ask r object version opcode fields) r old new
-xdg-answered old new object number version opcode fields r is named answers =
+pub xdg-answered : {A : Type 0} (old new : Kept A) (object number version : ℕ) (request : XdgSurfaceRequest) (c : ℕ) (d : Desktop) (r : Resident) → IsResident old r → IsXdgSurface old object number
+    → ((k : KeptXdg) (x : Xdg) (h : History) → IsXdg (names_in old.client.objects) (kept_of old.owned.shell) r.owned number k x h → x.id ≡ object → AnswersWhole (xdg_asked r (Some x) version request) c r d old new)
+    → AnswersWhole (xdg_demand r object version request) c r d old new
+xdg-answered old new object number version request c d r is named answers =
     let one = xdg-named (names_in old.client.objects) old.owned.surfaces (kept_of old.owned.shell) r.owned is.owns object number named in
-    subst (λ (o : Option Xdg). AnswersSo (xdg_ask_of r o version opcode fields) r old new) (sym one.4) (answers one.0 one.1 one.2 one.3 one.5)
+    subst (λ (o : Option Xdg). AnswersWhole (xdg_asked r o version request) c r d old new) (sym one.4) (answers one.0 one.1 one.2 one.3 one.5)
 
 -- the object is a toplevel
 pub toplevel-answered : {A : Type 0} (old new : Kept A) (object number : ℕ) (judged : Option Xdg → Result Simple Refusal) (r : Resident) → IsResident old r → IsToplevel old object number
@@ -238,17 +239,14 @@ making-err (Some e) told error refuses err other = let same : e ≡ error = cc i
 
 -- ---- a toplevel that is configured again
 
-asked-again : (opcode : ℕ) (x : Xdg) → is_state opcode ≡ true → toplevel_ask (Some x) opcode ≡ configured_again x
-asked-again opcode x state = ap (λ b. if b then configured_again x else Ok Ignore) state
+pub told-again : (x : Xdg) (refusal : ShellError → Refusal) (answer told : Result Bool ShellError) (sent b : Bool) → configured_again x ≡ asks_by (λ sent. configuring_if sent x.id) refusal answer → told ≡ answer → told ≡ Ok sent → sent ≡ b
+    → configured_again x ≡ Ok (configuring_if b x.id)
+told-again x refusal answer told sent b e same ok is =
+    e ∙ ap (asks_by (λ sent. configuring_if sent x.id) refusal) (sym same ∙ ok) ∙ ap (λ c. Ok (configuring_if c x.id)) is
 
-pub told-again : (opcode : ℕ) (x : Xdg) (refusal : ShellError → Refusal) (answer told : Result Bool ShellError) (sent b : Bool) → is_state opcode ≡ true → configured_again x ≡ asks_by (λ sent. configuring_if sent x.id) refusal answer → told ≡ answer → told ≡ Ok sent → sent ≡ b
-    → toplevel_ask (Some x) opcode ≡ Ok (configuring_if b x.id)
-told-again opcode x refusal answer told sent b state e same ok is =
-    asked-again opcode x state ∙ e ∙ ap (asks_by (λ sent. configuring_if sent x.id) refusal) (sym same ∙ ok) ∙ ap (λ c. Ok (configuring_if c x.id)) is
-
-pub refused-again : (opcode : ℕ) (x : Xdg) (refusal : ShellError → Refusal) (answer told : Result Bool ShellError) (error : ShellError) → is_state opcode ≡ true → configured_again x ≡ asks_by (λ sent. configuring_if sent x.id) refusal answer → told ≡ answer → told ≡ Err error
-    → toplevel_ask (Some x) opcode ≡ Err (refusal error)
-refused-again opcode x refusal answer told error state e same err = asked-again opcode x state ∙ told-err _ _ refusal answer told error e same err
+pub refused-again : (x : Xdg) (refusal : ShellError → Refusal) (answer told : Result Bool ShellError) (error : ShellError) → configured_again x ≡ asks_by (λ sent. configuring_if sent x.id) refusal answer → told ≡ answer → told ≡ Err error
+    → configured_again x ≡ Err (refusal error)
+refused-again x refusal answer told error e same err = told-err _ _ refusal answer told error e same err
 
 -- its serial is drawn
 pub drawn : (v w : ClientView) (p : Peer) → IsPeer v p → w ≡ record v { serial = next_serial v.serial } → IsPeer w (record p { serial = next_serial p.serial })

@@ -1,34 +1,35 @@
 -- What requests do to the stack of toplevels.
-use Rattle.std.proofs.Common.{◌≡◌, ℕ, List, [], Bool, true, false, Option, Some, None, Result, refl, ap, sym, subst, ◌∙◌}
-use Rattle.std.specs.Prelude.{◌==◌, if◌then◌else◌, Ok}
-use Rattle.std.proofs.lemmas.Bool.{eqb-true}
-use Rattle.wl_wire.specs.Wire.{Field}
+use Rattle.std.proofs.Common.{◌≡◌, ℕ, false, Option, Some, None, Result, refl, ap, sym, subst, ◌∙◌}
+use Rattle.std.specs.Prelude.{Ok}
 use Rattle.wl_proto.specs.Messages.{Message, xdg_surface_request, xdg_wm_base_request}
 use Rattle.wl_proto.specs.declared.xdg_wm_base.XdgWmBaseRequest.{XdgWmBaseRequest}
 use Rattle.wl_proto.specs.declared.xdg_wm_base.XdgWmBaseRequest.TheVariants as base
 use Rattle.wl_proto.specs.declared.xdg_surface.XdgSurfaceRequest.{XdgSurfaceRequest}
 use Rattle.wl_proto.specs.declared.xdg_surface.XdgSurfaceRequest.TheVariants as requests
 use Rattle.wl_proto.specs.declared.interface.Interface.TheVariants.{WlSurface, XdgToplevel}
-use Rattle.wl_client.specs.Judgement.{word_in}
 use Rattle.wl_client.specs.declared.refusals.Refusal.{Refusal}
 use Rattle.wl_shell.specs.Kept.{kept_of}
-use Rattle.wl_shell.specs.Shell.{Effect, XdgSurface as Xdg, xdg_with}
+use Rattle.wl_shell.specs.Shell.{Effect, XdgSurface as Xdg, xdg_at, xdg_with}
 use Rattle.wl_shell.specs.declared.acts.ShellAct.{ShellAct}
 use Rattle.wl_shell.specs.declared.acts.ShellAct.TheVariants.{Configure, Map, Unmap, Nothing}
 use Rattle.wl_plain.specs.Ask.{Ignore}
 use Rattle.wl_plain.specs.Demand.{Demand, CommitTree}
-use Rattle.wl_plain.specs.Demanding.{demand_of, demands, effect_of_commit, moved_by_pointer, toplevel_demand, toplevel_destroyed}
+use Rattle.wl_plain.specs.Demanding.{demand_of, demands, effect_of_commit, moved_by_pointer, toplevel_asked, toplevel_demand, toplevel_destroyed, xdg_asked}
 use Rattle.wl_plain.specs.Desktop.{Resident}
 use Rattle.wl_plain.specs.LeftOut.{served_now}
 use Rattle.wl_plain.specs.Owning.{effect_by, names_in, targets_in}
 use Rattle.wl_plain.specs.Step.{surface_of}
-use Rattle.wl_plain.specs.XdgShell.{configured_again, is_state, toplevel_ask, xdg_ask}
+use Rattle.wl_plain.specs.Requests.{ToXdgSurface, toplevel_request}
+use Rattle.wl_plain.specs.Served.{unserved_now}
+use Rattle.wl_plain.specs.ToplevelRequest.{ToplevelRequest}
+use Rattle.wl_plain.specs.ToplevelRequest as toplevel
+use Rattle.wl_plain.specs.WlSurface.{rect}
+use Rattle.wl_plain.specs.XdgShell.{acknowledged_by, geometry_set, state_asked, toplevel_made, xdg_surface_destroyed}
 use Rattle.wl_plain.proofs.OwningXdg.{toplevel-named}
-use Rattle.wl_plain.proofs.Simply.{Asking, Simple, simply}
+use Rattle.wl_plain.proofs.Simply.{Asking, simply}
 use Rattle.wl_resident.specs.declared.residents.Resident.{Resident as Kept}
 use Rattle.wl_resident.specs.declared.residents.Stacking.{Stacking}
 use Rattle.wl_resident.specs.declared.residents.Stacking.TheVariants.{Stays, Out}
-use Rattle.wl_resident.specs.declared.xdg_toplevel.ToplevelAsked.{ToplevelAsked}
 use Rattle.wl_resident.specs.declared.xdg_toplevel.ToplevelAsked.TheVariants.{Destruction, Configure as AskedConfigure, Nothing as AskedNothing}
 use Rattle.wl_resident.specs.Residents.{IsResident, IsSurface, IsToplevel, StacksBy, StacksSo, asked_by, stacking_by}
 use Rattle.wl_resident.proofs.Simply.{asks-stay}
@@ -58,81 +59,61 @@ moved-stays : {A : Type 0} (old : Kept A) (r : Resident) (serial : ℕ) (o : Opt
 moved-stays old r serial None = tt
 moved-stays old r serial (Some x) = refl
 
+state-stays : {A : Type 0} (old : Kept A) (r : Resident) (o : Option Xdg) → StacksSo old r (demands (state_asked o)) Stays
+state-stays old r o = asks-stay old r (state_asked o)
+
 -- any other request of a toplevel
-pub toplevel-stays : {A : Type 0} (old : Kept A) (r : Resident) (object opcode : ℕ) (fields : List Field) → (opcode == 0) ≡ false → StacksSo old r (toplevel_demand r object opcode fields) Stays
-toplevel-stays old r object opcode fields other = rw other (at (opcode == 5))
-  where
-    at : (b : Bool) → StacksSo old r (if b then moved_by_pointer (word_in 1 fields) (xdg_with object r.owned.shell) else demands (toplevel_ask (xdg_with object r.owned.shell) opcode)) Stays
-    at true = moved-stays old r (word_in 1 fields) (xdg_with object r.owned.shell)
-    at false = asks-stay old r (toplevel_ask (xdg_with object r.owned.shell) opcode)
+pub toplevel-stays : {A : Type 0} (old : Kept A) (r : Resident) (object : ℕ) (o : Option Xdg) (request : ToplevelRequest) → (asked_by request ≡ Destruction → ⊥) → StacksSo old r (toplevel_asked object o request) Stays
+toplevel-stays old r object o toplevel.Destroy other = absurd (other refl)
+toplevel-stays old r object o (toplevel.Move seat serial) other = moved-stays old r serial o
+toplevel-stays old r object o toplevel.SetMaximized other = state-stays old r o
+toplevel-stays old r object o toplevel.UnsetMaximized other = state-stays old r o
+toplevel-stays old r object o (toplevel.SetFullscreen output) other = state-stays old r o
+toplevel-stays old r object o toplevel.UnsetFullscreen other = state-stays old r o
+toplevel-stays old r object None request other = tt
+toplevel-stays old r object (Some x) request other = refl
 
 -- which of the three a request comes to
-destruction-so : (opcode : ℕ) → asked_by opcode ≡ Destruction → opcode ≡ 0
-destruction-so opcode is = at (opcode == 0) refl is
-  where
-    at : (b : Bool) → (opcode == 0) ≡ b → (if b then Destruction else (if is_state opcode then AskedConfigure else AskedNothing)) ≡ Destruction → opcode ≡ 0
-    at true e is = eqb-true opcode 0 e
-    at false e is = absurd (by (is_state opcode) is)
-      where
-        by : (c : Bool) → (if c then AskedConfigure else AskedNothing) ≡ Destruction → ⊥
-        by true is = cc
-        by false is = cc
+pub toplevel-destroy : (request : ToplevelRequest) → asked_by request ≡ Destruction → request ≡ toplevel.Destroy
+toplevel-destroy toplevel.Destroy is = refl
+toplevel-destroy request is = absurd (cc)
 
-pub destruction-opcode : (asked : ToplevelAsked) (opcode : ℕ) → asked ≡ asked_by opcode → asked ≡ Destruction → opcode ≡ 0
-destruction-opcode asked opcode e is = destruction-so opcode (sym e ∙ is)
-
-pub other-opcode : (asked : ToplevelAsked) (opcode : ℕ) → asked ≡ asked_by opcode → (asked ≡ Destruction → ⊥) → (opcode == 0) ≡ false
-other-opcode asked opcode e other = at (opcode == 0) refl
-  where
-    at : (b : Bool) → (opcode == 0) ≡ b → (opcode == 0) ≡ false
-    at true is = absurd (other (e ∙ ap (λ (b : Bool). if b then Destruction else (if is_state opcode then AskedConfigure else AskedNothing)) is))
-    at false is = is
-
-pub state-opcode : (asked : ToplevelAsked) (opcode : ℕ) → asked ≡ asked_by opcode → asked ≡ AskedConfigure → is_state opcode ≡ true
-state-opcode asked opcode e is = at (opcode == 0) (is_state opcode) refl (sym e ∙ is)
-  where
-    at : (b c : Bool) → is_state opcode ≡ c → (if b then Destruction else (if c then AskedConfigure else AskedNothing)) ≡ AskedConfigure → is_state opcode ≡ true
-    at b true state is = state
-    at true false state is = absurd (cc)
-    at false false state is = absurd (cc)
+pub toplevel-state : (object : ℕ) (o : Option Xdg) (request : ToplevelRequest) → asked_by request ≡ AskedConfigure → toplevel_asked object o request ≡ demands (state_asked o)
+toplevel-state object o toplevel.SetMaximized is = refl
+toplevel-state object o toplevel.UnsetMaximized is = refl
+toplevel-state object o (toplevel.SetFullscreen output) is = refl
+toplevel-state object o toplevel.UnsetFullscreen is = refl
+toplevel-state object o request is = absurd (cc)
 
 -- what is demanded of a toplevel
-pub toplevel-of : (r : Resident) (object version : ℕ) (m : Message) → m.interface ≡ XdgToplevel → demand_of served_now r object version m ≡ toplevel_demand r object m.opcode m.fields
+pub toplevel-of : (r : Resident) (object version : ℕ) (m : Message) → m.interface ≡ XdgToplevel → demand_of served_now r object version m ≡ toplevel_demand r object (toplevel_request m.opcode m.fields)
 toplevel-of r object version m is = rw is refl
 
-pub toplevel-state : (r : Resident) (object opcode : ℕ) (fields : List Field) → is_state opcode ≡ true → toplevel_demand r object opcode fields ≡ demands (toplevel_ask (xdg_with object r.owned.shell) opcode)
-toplevel-state r object opcode fields state = at (opcode == 0) (opcode == 5) refl refl
-  where
-    at : (b c : Bool) → (opcode == 0) ≡ b → (opcode == 5) ≡ c
-        → (if b then toplevel_destroyed object (xdg_with object r.owned.shell) else (if c then moved_by_pointer (word_in 1 fields) (xdg_with object r.owned.shell) else demands (toplevel_ask (xdg_with object r.owned.shell) opcode)))
-        ≡ demands (toplevel_ask (xdg_with object r.owned.shell) opcode)
-    at true c e f = absurd (let zero = subst (λ o. is_state o ≡ true) (eqb-true opcode 0 e) state in cc)
-    at false true e f = absurd (let five = subst (λ o. is_state o ≡ true) (eqb-true opcode 5 f) state in cc)
-    at false false e f = refl
-
--- by the xdg_surface that has it
-abbrev pub simple-toplevel : Resident → ℕ → ℕ → List Field → Option Xdg → Result Simple Refusal
-simple-toplevel r object opcode fields o =
-    simply r (if opcode == 0 then toplevel_destroyed object o else (if opcode == 5 then moved_by_pointer (word_in 1 fields) o else demands (toplevel_ask o opcode)))
-
 -- one that isn't destroyed and asks for no other state: no pointer moves it yet
-pub toplevel-ignored : (r : Resident) (object opcode : ℕ) (fields : List Field) (x : Xdg) (asked : ToplevelAsked) → asked ≡ asked_by opcode → asked ≡ AskedNothing → simple-toplevel r object opcode fields (Some x) ≡ Ok (Asking Ignore)
-toplevel-ignored r object opcode fields x asked e is = at (opcode == 0) (is_state opcode) (opcode == 5) (sym e ∙ is)
-  where
-    at : (b c d : Bool) → (if b then Destruction else (if c then AskedConfigure else AskedNothing)) ≡ AskedNothing
-        → simply r (if b then toplevel_destroyed object (Some x) else (if d then moved_by_pointer (word_in 1 fields) (Some x) else demands (if c then configured_again x else Ok Ignore))) ≡ Ok (Asking Ignore)
-    at false false true is = refl
-    at false false false is = refl
-    at true c d is = absurd (cc)
-    at false true d is = absurd (cc)
+pub toplevel-ignored : (r : Resident) (object : ℕ) (x : Xdg) (request : ToplevelRequest) → asked_by request ≡ AskedNothing → simply r (toplevel_asked object (Some x) request) ≡ Ok (Asking Ignore)
+toplevel-ignored r object x toplevel.Destroy is = absurd (cc)
+toplevel-ignored r object x toplevel.SetMaximized is = absurd (cc)
+toplevel-ignored r object x toplevel.UnsetMaximized is = absurd (cc)
+toplevel-ignored r object x (toplevel.SetFullscreen output) is = absurd (cc)
+toplevel-ignored r object x toplevel.UnsetFullscreen is = absurd (cc)
+toplevel-ignored r object x (toplevel.Move seat serial) is = refl
+toplevel-ignored r object x request is = refl
 
 -- a request of an xdg_surface
+xdg-asked-stays : {A : Type 0} (old : Kept A) (r : Resident) (o : Option Xdg) (version : ℕ) (request : XdgSurfaceRequest) → unserved_now (ToXdgSurface request) ≡ false → StacksSo old r (xdg_asked r o version request) Stays
+xdg-asked-stays old r None version request served = tt
+xdg-asked-stays old r (Some x) version requests.Destroy served = asks-stay old r (xdg_surface_destroyed x)
+xdg-asked-stays old r (Some x) version (requests.GetToplevel id) served = asks-stay old r (toplevel_made r x version id)
+xdg-asked-stays old r (Some x) version (requests.GetPopup id parent positioner) served = absurd (cc)
+xdg-asked-stays old r (Some x) version (requests.SetWindowGeometry a b width height) served = asks-stay old r (geometry_set x (rect a b width height))
+xdg-asked-stays old r (Some x) version (requests.AckConfigure serial) served = asks-stay old r (acknowledged_by x serial)
+
 pub xdg-stays : {A : Type 0} (old : Kept A) (r : Resident) (object version : ℕ) (request : XdgSurfaceRequest) → StacksSo old r (demand_of served_now r object version (xdg_surface_request request)) Stays
-xdg-stays old r object version requests.Destroy = asks-stay old r (xdg_ask r object version 0 [])
-xdg-stays old r object version (requests.GetToplevel id) = asks-stay old r _
 xdg-stays old r object version (requests.GetPopup id parent positioner) = tt
-xdg-stays old r object version (requests.SetWindowGeometry a b width height) = asks-stay old r _
-xdg-stays old r object version (requests.AckConfigure serial) = asks-stay old r _
+xdg-stays old r object version requests.Destroy = xdg-asked-stays old r (xdg_at object r.owned.shell) version requests.Destroy refl
+xdg-stays old r object version (requests.GetToplevel id) = xdg-asked-stays old r (xdg_at object r.owned.shell) version (requests.GetToplevel id) refl
+xdg-stays old r object version (requests.SetWindowGeometry a b width height) = xdg-asked-stays old r (xdg_at object r.owned.shell) version (requests.SetWindowGeometry a b width height) refl
+xdg-stays old r object version (requests.AckConfigure serial) = xdg-asked-stays old r (xdg_at object r.owned.shell) version (requests.AckConfigure serial) refl
 
 -- a request of an xdg_wm_base
 pub base-stays : {A : Type 0} (old : Kept A) (r : Resident) (object version : ℕ) (request : XdgWmBaseRequest) → StacksSo old r (demand_of served_now r object version (xdg_wm_base_request request)) Stays

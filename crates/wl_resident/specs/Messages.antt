@@ -13,6 +13,7 @@ use Rattle.wl_resident.specs.declared.messages.Kind.{Kind}
 use Rattle.wl_resident.specs.declared.messages.Kind.TheVariants as kind
 use Rattle.wl_resident.specs.Residents.{asked_by}
 use Rattle.wl_plain.specs.LeftOut.{served_now}
+use Rattle.wl_plain.specs.Requests.{request_of, toplevel_request}
 
 -- the message is this request
 abbrev pub IsKind : Kind → Message → Type 0
@@ -21,8 +22,8 @@ IsKind (kind.Surface request) m = m ≡ wl_surface_request request
 IsKind (kind.Seat request) m = m ≡ wl_seat_request request
 IsKind (kind.Base request) m = m ≡ xdg_wm_base_request request
 IsKind (kind.XdgSurface request) m = m ≡ xdg_surface_request request
-IsKind (kind.Toplevel toplevel) m = (m.interface ≡ XdgToplevel) × (toplevel ≡ asked_by m.opcode)
-IsKind kind.Unserved m = served_now.requests m.interface m.opcode ≡ true
+IsKind (kind.Toplevel toplevel) m = (m.interface ≡ XdgToplevel) × (toplevel ≡ asked_by (toplevel_request m.opcode m.fields))
+IsKind kind.Unserved m = served_now.requests (request_of m) ≡ true
 
 abbrev pub IsAsked : ClientView → Asked → Type 0
 IsAsked v asked.More = split_of v.rest ≡ More

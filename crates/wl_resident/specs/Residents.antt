@@ -1,6 +1,6 @@
 -- What the desk keeps of a client agrees with a client of the plain desktop, and what a request makes of both.
 use Rattle.std.specs.List.{list_all}
-use Rattle.std.specs.Prelude.{ℕ, ◌≡◌, ◌-◌, ◌==◌, if◌then◌else◌, IfSome, None, Some, Result, Ok, Err, true, Option, List, [], take, drop}
+use Rattle.std.specs.Prelude.{ℕ, ◌≡◌, ◌-◌, IfSome, None, Some, Result, Ok, Err, true, Option, List, [], take, drop}
 use Rattle.wl_wire.specs.Wire.{split_of}
 use Rattle.wl_wire.specs.declared.header.Split.{Split}
 use Rattle.wl_wire.specs.declared.header.Split.TheVariants.{Message as Whole, More, Bad}
@@ -28,13 +28,14 @@ use Rattle.wl_plain.specs.Ask.{Ask}
 use Rattle.wl_plain.specs.Changing.{changed_for}
 use Rattle.wl_plain.specs.Demand.{Demand, CommitTree, EndToplevel}
 use Rattle.wl_plain.specs.Demanding.{effect_of_commit, judge_all}
+use Rattle.wl_plain.specs.ToplevelRequest.{ToplevelRequest}
+use Rattle.wl_plain.specs.ToplevelRequest as toplevel
 use Rattle.wl_plain.specs.Desktop.{Desktop, Resident}
 use Rattle.wl_plain.specs.LeftOut.{served_now}
 use Rattle.wl_plain.specs.NoMore.{OwnsToplevelsOnly}
 use Rattle.wl_plain.specs.Owning.{IsOwned, names_in, targets_in}
 use Rattle.wl_plain.specs.Replies.{replies}
 use Rattle.wl_plain.specs.Stacked.{all_windows}
-use Rattle.wl_plain.specs.XdgShell.{is_state}
 use Rattle.wl_plain.specs.Step.{answers_to, changed_by, role_configured, surface_of, takes_memory, with_peer}
 use Rattle.wl_plain.specs.Whole.{wants_memory}
 
@@ -170,6 +171,11 @@ abbrev pub Takes : {A : Type 0} → Kept A → Kept A → Stacking → Type 0
 Takes old new stacking =
     (c : ℕ) (r : Resident) (d : Desktop) → IsResident old r → OwnsToplevelsOnly r → TakesSo (split_of r.peer.rest) c r d old new stacking
 
--- what a toplevel's request with this opcode comes to
-abbrev pub asked_by : ℕ → ToplevelAsked
-asked_by opcode = if opcode == 0 then Destruction else (if is_state opcode then AskedConfigure else AskedNothing)
+-- what a toplevel's request comes to
+abbrev pub asked_by : ToplevelRequest → ToplevelAsked
+asked_by toplevel.Destroy = Destruction
+asked_by toplevel.SetMaximized = AskedConfigure
+asked_by toplevel.UnsetMaximized = AskedConfigure
+asked_by (toplevel.SetFullscreen output) = AskedConfigure
+asked_by toplevel.UnsetFullscreen = AskedConfigure
+asked_by request = AskedNothing

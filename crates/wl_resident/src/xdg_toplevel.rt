@@ -1,6 +1,6 @@
 //! The requests of xdg_toplevel.
 
-ghost use Rattle.std.specs.Prelude.{◌≡◌, ◌∷◌, ℕ, [], None, true, ◌≤◌, length};
+ghost use Rattle.std.specs.Prelude.{◌≡◌, ◌∷◌, ℕ, [], None, ◌≤◌, length};
 ghost use Rattle.std.specs.Option.{option_and_then, option_map};
 ghost use Rattle.wl_client.specs.Agreement.{IsPeer};
 ghost use Rattle.wl_client.specs.Peer.{Peer, Queues};
@@ -12,7 +12,8 @@ ghost use Rattle.wl_plain.specs.Demanding.{demand_of, demands, toplevel_destroye
 ghost use Rattle.wl_plain.specs.LeftOut.{served_now};
 ghost use Rattle.wl_resident.specs.Residents.{Answers, IsToplevel, Stacks, asked_by, drawn_by, told_by};
 ghost use Rattle.wl_plain.specs.Step.{toplevel_configured, xdg_configured};
-ghost use Rattle.wl_plain.specs.XdgShell.{is_state, toplevel_ask};
+ghost use Rattle.wl_plain.specs.Requests.{toplevel_request};
+ghost use Rattle.wl_plain.specs.XdgShell.{state_asked};
 
 use crate::residents::{Resident, Stacking};
 use std::alloc::Allocator;
@@ -36,7 +37,7 @@ pub(crate) enum ToplevelAsked {
 
 /// What a request comes to.
 pub(crate) fn asked_of(request: &XdgToplevelRequest) -> ToplevelAsked
-    ensures { result ≡ asked_by (xdg_toplevel_request request.now).opcode }
+    ensures { result ≡ asked_by (toplevel_request (xdg_toplevel_request request.now).opcode (xdg_toplevel_request request.now).fields) }
 {
     match request {
         XdgToplevelRequest::Destroy => ToplevelAsked::Destruction,
@@ -120,7 +121,7 @@ impl<A: Allocator + Copy> Resident<A> {
 
     /// A request for another state, as xdg_toplevel.set_maximized: the toplevel is configured again, if it was configured before.
     fn configure_again(&mut self, object: u32, surface: SurfaceNo)
-        ensures answers { IsToplevel self.old object surface → (opcode : ℕ) → is_state opcode ≡ true → Answers (λ r. demands (toplevel_ask (xdg_with object r.owned.shell) opcode)) self.old self.new }
+        ensures answers { IsToplevel self.old object surface → Answers (λ r. demands (state_asked (xdg_with object r.owned.shell))) self.old self.new }
         ensures rest { length self.new.client.rest ≤ length self.old.client.rest }
     {
         let xdg_surface = self.xdg_surface_of(surface);
@@ -143,9 +144,9 @@ impl<A: Allocator + Copy> Resident<A> {
         surface: SurfaceNo,
         asked: ToplevelAsked,
     ) -> Stacking
-        ensures answers { IsToplevel self.old object surface → (version : ℕ) (m : Message) → m.interface ≡ XdgToplevel → asked ≡ asked_by m.opcode
+        ensures answers { IsToplevel self.old object surface → (version : ℕ) (m : Message) → m.interface ≡ XdgToplevel → asked ≡ asked_by (toplevel_request m.opcode m.fields)
             → Answers (λ r. demand_of served_now r object version m) self.old self.new }
-        ensures stacks { IsToplevel self.old object surface → (version : ℕ) (m : Message) → m.interface ≡ XdgToplevel → asked ≡ asked_by m.opcode
+        ensures stacks { IsToplevel self.old object surface → (version : ℕ) (m : Message) → m.interface ≡ XdgToplevel → asked ≡ asked_by (toplevel_request m.opcode m.fields)
             → Stacks (λ r. demand_of served_now r object version m) self.old result }
         ensures rest { length self.new.client.rest ≤ length self.old.client.rest }
     {

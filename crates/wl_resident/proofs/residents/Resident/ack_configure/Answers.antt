@@ -1,6 +1,5 @@
-use Rattle.wl_plain.specs.XdgShell.{xdg_ask}
-use Rattle.std.proofs.Common.{[], ◌∷◌, ap, inr, refl, subst, sym}
-use Rattle.wl_wire.specs.Wire.{Word}
+use Rattle.wl_proto.specs.declared.xdg_surface.XdgSurfaceRequest.TheVariants as xdg
+use Rattle.std.proofs.Common.{ap, inr, refl, subst, sym}
 use Rattle.wl_client.specs.Peer.{counted}
 use Rattle.wl_shell.specs.Kept.{acknowledgement_answer, kept_of}
 use Rattle.wl_plain.specs.Ask.{Acknowledge}
@@ -16,13 +15,12 @@ use Rattle.wl_resident.proofs.residents.Resident.ack_configure.Goals as goal
 
 pub returns-in-Ok-clause-answers : goal.returns-in-Ok-clause-answers
 returns-in-Ok-clause-answers g c = λ named client r on is only.
-    simply _ _ client on r only (xdg_ask r c.args.object c.args.version 4 (Word c.args.serial ∷ [])) (
     let v = c.args.self.now in
     let names = names_in v.client.objects in
     let kept = kept_of v.owned.shell in
     let serial = c.args.serial in
-    xdg-answered v _ c.args.object c.args.surface c.args.version 4 (Word serial ∷ []) r is named
-    (λ k x h one same.
+    xdg-answered v _ c.args.object c.args.surface c.args.version (xdg.AckConfigure c.args.serial) client on r is named
+    (λ k x h one same. simply _ _ client on r only (acknowledged_by x c.args.serial) (
     let judged = acknowledged-by names kept r c.args.surface k x h one c.args.object serial in
     accepted _ r (acknowledged_by x serial) (Acknowledge x.id serial)
     (told-ok _ _ (shell_refusal x.base x.id c.args.object) (acknowledgement_answer serial (kept c.args.surface)) c.ack.result judged c.ack.ensures.answer c.in-Ok.is) (
@@ -38,12 +36,11 @@ returns-in-Ok-clause-answers g c = λ named client r on is only.
 
 pub returns-in-Err-clause-answers : goal.returns-in-Err-clause-answers
 returns-in-Err-clause-answers g c = λ named client r on is only.
-    simply _ _ client on r only (xdg_ask r c.args.object c.args.version 4 (Word c.args.serial ∷ [])) (
     let v = c.args.self.now in
     let kept = kept_of v.owned.shell in
     let serial = c.args.serial in
-    xdg-answered v _ c.args.object c.args.surface c.args.version 4 (Word serial ∷ []) r is named
-    (λ k x h one same.
+    xdg-answered v _ c.args.object c.args.surface c.args.version (xdg.AckConfigure c.args.serial) client on r is named
+    (λ k x h one same. simply _ _ client on r only (acknowledged_by x c.args.serial) (
     let judged = acknowledged-by (names_in v.client.objects) kept r c.args.surface k x h one c.args.object serial in
     xdg-refused v _ (kept_of c.ack.new.self) r c.args.object c.args.surface k x h c.in-Err.error (acknowledged_by x serial) one same
     (told-err _ _ (shell_refusal x.base x.id c.args.object) (acknowledgement_answer serial (kept c.args.surface)) c.ack.result c.in-Err.error judged c.ack.ensures.answer c.in-Err.is)

@@ -1,4 +1,4 @@
-use Rattle.wl_plain.specs.XdgShell.{toplevel_ask}
+use Rattle.wl_plain.specs.XdgShell.{state_asked}
 use Rattle.std.proofs.Common.{◌≡◌, List, ap, inr, refl, subst, sym, ◌∙◌}
 use Rattle.std.specs.Prelude.{Some, true, false, ℕ, Option}
 use Rattle.wl_client.specs.Peer.{Queues, counted}
@@ -17,22 +17,22 @@ use Rattle.wl_resident.proofs.Simply.{simply}
 use Rattle.wl_resident.proofs.residents.Resident.configure_again.Goals as goal
 
 pub returns-in-Ok-true-clause-answers : goal.returns-in-Ok-true-clause-answers
-returns-in-Ok-true-clause-answers g c = λ named opcode state client r on is only.
-    simply _ _ client on r only (toplevel_ask (xdg_with c.args.object r.owned.shell) opcode) (
+returns-in-Ok-true-clause-answers g c = λ named client r on is only.
+    simply _ _ client on r only (state_asked (xdg_with c.args.object r.owned.shell)) (
     let v = c.args.self.now in
     let names = names_in v.client.objects in
     let kept = kept_of v.owned.shell in
     let object = c.args.object in
     let number = c.args.surface in
     let new = c.tell_configure.new.self in
-    toplevel-answered v _ object number (λ o. asks_simply (toplevel_ask o opcode)) r is named
+    toplevel-answered v _ object number (λ o. asks_simply (state_asked o)) r is named
     (λ k x h one its.
     let id : c.xdg_surface_of-xdg_surface.result ≡ x.id = c.xdg_surface_of-xdg_surface.ensures ∙ ap kept_id one.here ∙ one.stands.id in
     let serial : c.serial-serial.result ≡ r.peer.serial = c.serial-serial.ensures ∙ is.peer.serial in
     let peer = drawn c.count.new.self c.draw_serial.new.self (counted r.peer) (c.count.ensures.counts r.peer is.peer) c.draw_serial.ensures in
     let told = c.tell_configure.ensures.queues (record (counted r.peer) { serial = next_serial r.peer.serial }) peer in
-    accepted new r (toplevel_ask (Some x) opcode) (ConfigureAgain x.id)
-    (told-again opcode x (shell_refusal x.base x.id x.id) (configure_answer (kept number)) c.configure.result c.in-Ok-true.field-0 true state (configured-by names kept r number k x h one x.id) c.configure.ensures.answer c.in-Ok-true.is c.in-Ok-true.field-0-test) (
+    accepted new r (state_asked (Some x)) (ConfigureAgain x.id)
+    (told-again x (shell_refusal x.base x.id x.id) (configure_answer (kept number)) c.configure.result c.in-Ok-true.field-0 true (configured-by names kept r number k x h one x.id) c.configure.ensures.answer c.in-Ok-true.is c.in-Ok-true.field-0-test) (
       told.0,
       inr (subst (λ (es : List Said). Queues es (record (counted r.peer) { serial = next_serial r.peer.serial }) told.0) (events-told object r.peer.serial _ _ x r.owned.shell one.at_id its id serial) told.1),
       record {
@@ -45,18 +45,18 @@ returns-in-Ok-true-clause-answers g c = λ named opcode state client r on is onl
     )))
 
 pub returns-in-Ok-false-clause-answers : goal.returns-in-Ok-false-clause-answers
-returns-in-Ok-false-clause-answers g c = λ named opcode state client r on is only.
-    simply _ _ client on r only (toplevel_ask (xdg_with c.args.object r.owned.shell) opcode) (
+returns-in-Ok-false-clause-answers g c = λ named client r on is only.
+    simply _ _ client on r only (state_asked (xdg_with c.args.object r.owned.shell)) (
     let v = c.args.self.now in
     let names = names_in v.client.objects in
     let kept = kept_of v.owned.shell in
     let object = c.args.object in
     let number = c.args.surface in
     let count = c.count-in-Ok-false in
-    toplevel-answered v _ object number (λ o. asks_simply (toplevel_ask o opcode)) r is named
+    toplevel-answered v _ object number (λ o. asks_simply (state_asked o)) r is named
     (λ k x h one its.
-    accepted _ r (toplevel_ask (Some x) opcode) Ignore
-    (told-again opcode x (shell_refusal x.base x.id x.id) (configure_answer (kept number)) c.configure.result c.in-Ok-false.field-0 false state (configured-by names kept r number k x h one x.id) c.configure.ensures.answer c.in-Ok-false.is c.in-Ok-false.field-0-test) (
+    accepted _ r (state_asked (Some x)) Ignore
+    (told-again x (shell_refusal x.base x.id x.id) (configure_answer (kept number)) c.configure.result c.in-Ok-false.field-0 false (configured-by names kept r number k x h one x.id) c.configure.ensures.answer c.in-Ok-false.is c.in-Ok-false.field-0-test) (
       counted r.peer,
       refl,
       record {
@@ -69,18 +69,18 @@ returns-in-Ok-false-clause-answers g c = λ named opcode state client r on is on
     )))
 
 pub returns-in-Err-clause-answers : goal.returns-in-Err-clause-answers
-returns-in-Err-clause-answers g c = λ named opcode state client r on is only.
-    simply _ _ client on r only (toplevel_ask (xdg_with c.args.object r.owned.shell) opcode) (
+returns-in-Err-clause-answers g c = λ named client r on is only.
+    simply _ _ client on r only (state_asked (xdg_with c.args.object r.owned.shell)) (
     let v = c.args.self.now in
     let names = names_in v.client.objects in
     let kept = kept_of v.owned.shell in
     let object = c.args.object in
     let number = c.args.surface in
-    toplevel-answered v _ object number (λ o. asks_simply (toplevel_ask o opcode)) r is named
+    toplevel-answered v _ object number (λ o. asks_simply (state_asked o)) r is named
     (λ k x h one its.
     let id : c.xdg_surface_of-xdg_surface.result ≡ x.id = c.xdg_surface_of-xdg_surface.ensures ∙ ap kept_id one.here ∙ one.stands.id in
-    xdg-refused v _ (kept_of c.configure.new.self) r c.xdg_surface_of-xdg_surface.result number k x h c.in-Err.error (toplevel_ask (Some x) opcode) one (sym id)
-    (refused-again opcode x (shell_refusal x.base x.id c.xdg_surface_of-xdg_surface.result) (configure_answer (kept number)) c.configure.result c.in-Err.error state (configured-by names kept r number k x h one c.xdg_surface_of-xdg_surface.result) c.configure.ensures.answer c.in-Err.is)
+    xdg-refused v _ (kept_of c.configure.new.self) r c.xdg_surface_of-xdg_surface.result number k x h c.in-Err.error (state_asked (Some x)) one (sym id)
+    (refused-again x (shell_refusal x.base x.id c.xdg_surface_of-xdg_surface.result) (configure_answer (kept number)) c.configure.result c.in-Err.error (configured-by names kept r number k x h one c.xdg_surface_of-xdg_surface.result) c.configure.ensures.answer c.in-Err.is)
     (ap kept_of c.in-Err.ensures.err)
     c.refuse_xdg_surface.ensures.ended
     (c.refuse_xdg_surface.ensures.errs r.peer is.peer)))

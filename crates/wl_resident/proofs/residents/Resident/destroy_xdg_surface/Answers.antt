@@ -1,5 +1,5 @@
-use Rattle.wl_plain.specs.XdgShell.{xdg_ask}
-use Rattle.std.proofs.Common.{[], ◌≡◌, ap, inr, subst, sym, ◌∙◌}
+use Rattle.wl_proto.specs.declared.xdg_surface.XdgSurfaceRequest.TheVariants as xdg
+use Rattle.std.proofs.Common.{◌≡◌, ap, inr, subst, sym, ◌∙◌}
 use Rattle.std.specs.Prelude.{Ok, None}
 use Rattle.wl_client.specs.Peer.{counted}
 use Rattle.wl_shell.specs.Kept.{destruction_answer, kept_of}
@@ -16,7 +16,6 @@ use Rattle.wl_resident.proofs.residents.Resident.destroy_xdg_surface.Goals as go
 
 pub returns-in-Ok-clause-answers : goal.returns-in-Ok-clause-answers
 returns-in-Ok-clause-answers g c = λ named client r on is only.
-    simply _ _ client on r only (xdg_ask r c.args.object c.args.version 0 []) (
     let v = c.args.self.now in
     let names = names_in v.client.objects in
     let kept = kept_of v.owned.shell in
@@ -25,8 +24,8 @@ returns-in-Ok-clause-answers g c = λ named client r on is only.
     let left = names_in c.remove.new.self.objects in
     let after = kept_of c.destroy_xdg_surface.new.self in
     let gone = c.remove.ensures.removes (counted r.peer) (c.count.ensures.counts r.peer is.peer) in
-    xdg-answered v _ object number c.args.version 0 [] r is named
-    (λ k x h one same.
+    xdg-answered v _ object number c.args.version xdg.Destroy client on r is named
+    (λ k x h one same. simply _ _ client on r only (xdg_surface_destroyed x) (
     let judged = xdg-destroyed-by names kept r number k x h one object in
     let bare = bare-destroyed names kept r number k x h one object (sym c.destroy_xdg_surface.ensures.answer ∙ c.in-Ok.is) in
     accepted _ r (xdg_surface_destroyed x) (DestroyXdgSurface object)
@@ -45,11 +44,10 @@ returns-in-Ok-clause-answers g c = λ named client r on is only.
 
 pub returns-in-Err-clause-answers : goal.returns-in-Err-clause-answers
 returns-in-Err-clause-answers g c = λ named client r on is only.
-    simply _ _ client on r only (xdg_ask r c.args.object c.args.version 0 []) (
     let v = c.args.self.now in
     let kept = kept_of v.owned.shell in
-    xdg-answered v _ c.args.object c.args.surface c.args.version 0 [] r is named
-    (λ k x h one same.
+    xdg-answered v _ c.args.object c.args.surface c.args.version xdg.Destroy client on r is named
+    (λ k x h one same. simply _ _ client on r only (xdg_surface_destroyed x) (
     let judged = xdg-destroyed-by (names_in v.client.objects) kept r c.args.surface k x h one c.args.object in
     xdg-refused v _ (kept_of c.destroy_xdg_surface.new.self) r c.args.object c.args.surface k x h c.in-Err.error (xdg_surface_destroyed x) one same
     (told-err _ _ (shell_refusal x.base x.id c.args.object) (destruction_answer (kept c.args.surface)) c.destroy_xdg_surface.result c.in-Err.error judged c.destroy_xdg_surface.ensures.answer c.in-Err.is)

@@ -1,8 +1,7 @@
-use Rattle.wl_plain.specs.XdgShell.{xdg_ask}
-use Rattle.std.proofs.Common.{[], ◌∷◌, ◌≡◌, ap, refl, sym, ◌∙◌}
+use Rattle.wl_proto.specs.declared.xdg_surface.XdgSurfaceRequest.TheVariants as xdg
+use Rattle.std.proofs.Common.{◌≡◌, ap, refl, sym, ◌∙◌}
 use Rattle.std.specs.Prelude.{Some}
 use Rattle.wl_proto.specs.declared.interface.Interface.TheVariants.{XdgToplevel}
-use Rattle.wl_wire.specs.Wire.{Word}
 use Rattle.wl_client.specs.Peer.{counted}
 use Rattle.wl_shell.specs.Kept.{kept_of, toplevel_answer}
 use Rattle.wl_plain.specs.Ask.{GetToplevel}
@@ -19,7 +18,6 @@ use Rattle.wl_resident.proofs.residents.Resident.get_toplevel.Goals as goal
 
 pub returns-in-Ok-clause-answers : goal.returns-in-Ok-clause-answers
 returns-in-Ok-clause-answers g c = λ named free client r on is only.
-    simply _ _ client on r only (xdg_ask r c.args.object c.args.version 1 (Word c.args.id ∷ [])) (
     let v = c.args.self.now in
     let names = names_in v.client.objects in
     let kept = kept_of v.owned.shell in
@@ -27,8 +25,8 @@ returns-in-Ok-clause-answers g c = λ named free client r on is only.
     let id = c.args.id in
     let version = c.args.version in
     let made = c.add.ensures.makes (counted r.peer) (c.count.ensures.counts r.peer is.peer) in
-    xdg-answered v _ c.args.object number version 1 (Word id ∷ []) r is named
-    (λ k x h one same.
+    xdg-answered v _ c.args.object number c.args.version (xdg.GetToplevel c.args.id) client on r is named
+    (λ k x h one same. simply _ _ client on r only (toplevel_made r x c.args.version c.args.id) (
     let other : c.is_other_role-has_other_role.result ≡ is_no_toplevel (role_of r x.surface) =
     c.is_other_role-has_other_role.ensures ∙ ap is_no_toplevel (role-read names v.owned.surfaces kept r is.owns x.surface number c.role.result one.surface c.role.ensures) in
     let answer : c.get_toplevel.result ≡ toplevel_answer (is_no_toplevel (role_of r x.surface)) (kept number) = c.get_toplevel.ensures.answer ∙ ap (λ b. toplevel_answer b (kept number)) other in
@@ -53,13 +51,12 @@ returns-in-Ok-clause-answers g c = λ named free client r on is only.
 
 pub returns-in-Err-clause-answers : goal.returns-in-Err-clause-answers
 returns-in-Err-clause-answers g c = λ named free client r on is only.
-    simply _ _ client on r only (xdg_ask r c.args.object c.args.version 1 (Word c.args.id ∷ [])) (
     let v = c.args.self.now in
     let names = names_in v.client.objects in
     let kept = kept_of v.owned.shell in
     let number = c.args.surface in
-    xdg-answered v _ c.args.object number c.args.version 1 (Word c.args.id ∷ []) r is named
-    (λ k x h one same.
+    xdg-answered v _ c.args.object number c.args.version (xdg.GetToplevel c.args.id) client on r is named
+    (λ k x h one same. simply _ _ client on r only (toplevel_made r x c.args.version c.args.id) (
     let other : c.is_other_role-has_other_role.result ≡ is_no_toplevel (role_of r x.surface) =
     c.is_other_role-has_other_role.ensures ∙ ap is_no_toplevel (role-read names v.owned.surfaces kept r is.owns x.surface number c.role.result one.surface c.role.ensures) in
     xdg-refused v _ (kept_of c.get_toplevel.new.self) r c.args.object number k x h c.in-Err.error (toplevel_made r x c.args.version c.args.id) one same

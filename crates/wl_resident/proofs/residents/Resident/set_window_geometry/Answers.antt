@@ -1,6 +1,5 @@
-use Rattle.wl_plain.specs.XdgShell.{xdg_ask}
-use Rattle.std.proofs.Common.{[], ◌∷◌, ap, inr, subst, sym}
-use Rattle.wl_wire.specs.Wire.{Number}
+use Rattle.wl_proto.specs.declared.xdg_surface.XdgSurfaceRequest.TheVariants as xdg
+use Rattle.std.proofs.Common.{ap, inr, subst, sym}
 use Rattle.wl_client.specs.Peer.{counted}
 use Rattle.wl_surface.specs.Request.{SetWindowGeometry}
 use Rattle.wl_shell.specs.Kept.{geometry_answer, kept_of}
@@ -17,13 +16,12 @@ use Rattle.wl_resident.proofs.residents.Resident.set_window_geometry.Goals as go
 
 pub returns-in-Ok-clause-answers : goal.returns-in-Ok-clause-answers
 returns-in-Ok-clause-answers g c = λ named client r on is only.
-    simply _ _ client on r only (xdg_ask r c.args.object c.args.version 3 (Number c.args.rect.x ∷ Number c.args.rect.y ∷ Number c.args.rect.w ∷ Number c.args.rect.h ∷ [])) (
     let v = c.args.self.now in
     let names = names_in v.client.objects in
     let kept = kept_of v.owned.shell in
     let rect = c.args.rect in
-    xdg-answered v _ c.args.object c.args.surface c.args.version 3 (Number rect.x ∷ Number rect.y ∷ Number rect.w ∷ Number rect.h ∷ []) r is named
-    (λ k x h one same.
+    xdg-answered v _ c.args.object c.args.surface c.args.version (xdg.SetWindowGeometry c.args.rect.x c.args.rect.y c.args.rect.w c.args.rect.h) client on r is named
+    (λ k x h one same. simply _ _ client on r only (geometry_set x c.args.rect) (
     let judged = geometry-set-by names kept r c.args.surface k x h one c.args.object rect in
     accepted _ r (geometry_set x rect) (AskSurface x.surface (SetWindowGeometry rect))
     (told-ok _ _ (shell_refusal x.base x.id c.args.object) (geometry_answer rect (kept c.args.surface)) c.geometry.result judged c.geometry.ensures.answer c.in-Ok.is) (
@@ -39,12 +37,11 @@ returns-in-Ok-clause-answers g c = λ named client r on is only.
 
 pub returns-in-Err-clause-answers : goal.returns-in-Err-clause-answers
 returns-in-Err-clause-answers g c = λ named client r on is only.
-    simply _ _ client on r only (xdg_ask r c.args.object c.args.version 3 (Number c.args.rect.x ∷ Number c.args.rect.y ∷ Number c.args.rect.w ∷ Number c.args.rect.h ∷ [])) (
     let v = c.args.self.now in
     let kept = kept_of v.owned.shell in
     let rect = c.args.rect in
-    xdg-answered v _ c.args.object c.args.surface c.args.version 3 (Number rect.x ∷ Number rect.y ∷ Number rect.w ∷ Number rect.h ∷ []) r is named
-    (λ k x h one same.
+    xdg-answered v _ c.args.object c.args.surface c.args.version (xdg.SetWindowGeometry c.args.rect.x c.args.rect.y c.args.rect.w c.args.rect.h) client on r is named
+    (λ k x h one same. simply _ _ client on r only (geometry_set x c.args.rect) (
     let judged = geometry-set-by (names_in v.client.objects) kept r c.args.surface k x h one c.args.object rect in
     xdg-refused v _ (kept_of c.geometry.new.self) r c.args.object c.args.surface k x h c.in-Err.error (geometry_set x rect) one same
     (told-err _ _ (shell_refusal x.base x.id c.args.object) (geometry_answer rect (kept c.args.surface)) c.geometry.result c.in-Err.error judged c.geometry.ensures.answer c.in-Err.is)
