@@ -18,7 +18,8 @@ use Rattle.wl_resident.specs.Seats.{IsBare, IsChangedSo, IsSeated, ended_by, has
 use Rattle.wl_plain.specs.LeftOut.{served_now}
 use Rattle.wl_plain.specs.Whole.{Serves}
 use Rattle.wl_plain.proofs.Altering.{Changes, ChangesAt, left_so}
-use Rattle.wl_plain.specs.Steps.{ConnectsAt, IsClosed, closed_by, lowest, next_of, peer_at, peer_of}
+use Rattle.wl_plain.specs.Steps.{IsClosed, closed_by, lowest, next_of, peer_at, peer_of}
+use Rattle.wl_plain.proofs.Forms.{ConnectsAt}
 use Rattle.wl_resident.specs.View.{DeskView, OwnedView, owned_view}
 use Rattle.wl_plain.specs.declared.answers.ConnectError.TheVariants.{Full, Memory}
 use Rattle.wl_plain.specs.declared.answers.Done.{Done}

@@ -17,7 +17,8 @@ use Rattle.wl_plain.specs.Replies.{popups_done}
 use Rattle.wl_plain.specs.Settling.{QueuesTo, leave_drawn, told_drawn}
 use Rattle.wl_plain.specs.Stacked.{all_windows}
 use Rattle.wl_plain.specs.Step.{with_shell}
-use Rattle.wl_plain.specs.Whole.{Buttons, MovesTo, PressesIf, ReleasesIf, callbacks_due, frames_told, hit_now, noted_if, number_of, point_in, pointed, raised_by, without_grabs}
+use Rattle.wl_plain.specs.Whole.{callbacks_due, frames_told, hit_now, noted_if, number_of, point_in, pointed, raised_by, without_grabs}
+use Rattle.wl_plain.proofs.Forms.{Buttons, MovesTo, PressesIf, ReleasesIf}
 use Rattle.wl_plain.proofs.BridgeChanged.{none-dismissed}
 use Rattle.wl_plain.proofs.BridgeServes.{living, none-done}
 use Rattle.wl_plain.proofs.OwningKeys.{none-some}

@@ -24,7 +24,8 @@ use Rattle.wl_plain.specs.Stacked.{all_windows}
 use Rattle.wl_plain.specs.Step.{toplevel_given, with_peer}
 use Rattle.wl_plain.proofs.Simply.{Answers, Asking, Becomes, CommitSurface, DestroySurface, DestroyToplevel, Simple, WantsOr, changed_simply, effect_on, stacked_simply, told_simply, wants_simply}
 use Rattle.wl_plain.specs.NoMore.{AreToplevels, IsToplevel, OwnsToplevelsBy, OwnsToplevelsOnly}
-use Rattle.wl_plain.specs.Whole.{after_why, done_for, Answers as WholeAnswers, Becomes as WholeBecomes, Does, WantsOr as WholeWantsOr}
+use Rattle.wl_plain.specs.Whole.{done_for}
+use Rattle.wl_plain.proofs.Forms.{after_why, Answers as WholeAnswers, Becomes as WholeBecomes, Does, WantsOr as WholeWantsOr}
 use Rattle.wl_plain.proofs.Behind.{changed-status}
 use Rattle.wl_plain.proofs.BridgeBuffers.{nothing-after}
 use Rattle.wl_plain.proofs.BridgeChanged.{answers-same, changed-same, no-popups, stacked-same, stage-top, wants-same}

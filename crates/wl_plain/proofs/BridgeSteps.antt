@@ -17,7 +17,8 @@ use Rattle.wl_plain.specs.Settling.{TellsAt, becomes, unstruck}
 use Rattle.wl_plain.specs.Step.{with_peer}
 use Rattle.wl_plain.specs.Steps.{IsClosed, IsLeft, IsSent, IsStored, Act, Connect, Feed, Store, Leave, Tick, Send, Close, Motion, Button, closed_by}
 use Rattle.wl_plain.specs.NoMore.{NoMore, OwnsToplevelsAt, OwnsToplevelsBy}
-use Rattle.wl_plain.specs.Whole.{ChangesAt as WholeChangesAt, LeavesAt, Shows, TellsFrames, callbacks_due, frames_told, Happens}
+use Rattle.wl_plain.specs.Whole.{TellsFrames, callbacks_due, frames_told, Happens}
+use Rattle.wl_plain.proofs.Forms.{ChangesAt as WholeChangesAt, LeavesAt, Shows}
 use Rattle.wl_plain.proofs.Altering.{Alters, ChangesAt, left_so}
 use Rattle.wl_plain.proofs.BridgeServes.{becomes-same, living, settles-to}
 use Rattle.wl_plain.proofs.OwningKeys.{none-some}

@@ -31,8 +31,10 @@ use Rattle.wl_plain.specs.Settling.{EndsAndSettles, EndsFirst, Enters, Leaves, M
 use Rattle.wl_plain.specs.Stacked.{all_windows}
 use Rattle.wl_plain.specs.Step.{with_peer}
 use Rattle.wl_plain.proofs.Idling.{IsTaken, all-taken}
-use Rattle.wl_plain.specs.Steps.{Act, Connect, Feed, Store, Leave, Tick, Send, Close, Motion, Button, ConnectsAt, IsClosed, IsSent, IsStored, closed_by, fed_of, lowest, stored_of}
-use Rattle.wl_plain.specs.Whole.{Answers, Becomes, Buttons, ChangesAt, Dismisses, DismissesUnless, Does, FeedsAt, Happens, IsFedAt, LeavesAt, MotionSettles, MovesTo, PressesIf, Reaches, ReleasesIf, ServesAt, Shows, StopsAt, Takes, TellsButton, TellsFrames, TellsMotion, WantsOr, after_why, done_for, hit_now, is_hit_of, point_in, pointed, raised_by, wants_memory, with_press, with_release}
+use Rattle.wl_plain.specs.Steps.{Act, Connect, Feed, Store, Leave, Tick, Send, Close, Motion, Button, IsClosed, IsSent, IsStored, closed_by, fed_of, lowest, stored_of}
+use Rattle.wl_plain.proofs.Forms.{ConnectsAt}
+use Rattle.wl_plain.specs.Whole.{Dismisses, DismissesUnless, FeedsAt, Happens, IsFedAt, MotionSettles, Reaches, StopsAt, TellsButton, TellsFrames, TellsMotion, done_for, hit_now, is_hit_of, point_in, pointed, raised_by, wants_memory, with_press, with_release}
+use Rattle.wl_plain.proofs.Forms.{Answers, Becomes, Buttons, ChangesAt, Does, LeavesAt, MovesTo, PressesIf, ReleasesIf, ServesAt, Shows, Takes, WantsOr, after_why}
 
 -- ---- events
 

@@ -23,7 +23,8 @@ use Rattle.wl_plain.specs.Demanding.{effect_of_commit, judge_all}
 use Rattle.wl_plain.specs.Desktop.{Callback, Desktop, Resident, become_by, client_at, client_in, place, resident_of, with_client, with_number, with_place}
 use Rattle.wl_plain.specs.LeftOut.{LeftOut}
 use Rattle.wl_plain.specs.Replies.{replies}
-use Rattle.wl_plain.specs.Whole.{after_why, done_for}
+use Rattle.wl_plain.specs.Whole.{done_for}
+use Rattle.wl_plain.proofs.Forms.{after_why}
 use Rattle.wl_plain.specs.Settling.{Moving, Strike, after_status, becomes, ended_at, is_settled, is_struck, leave_drawn, target_now, told_drawn, unstruck}
 use Rattle.wl_plain.specs.Stacked.{all_windows}
 use Rattle.wl_plain.specs.Step.{with_peer}

@@ -1,3 +1,4 @@
+pub mod Forms
 pub mod Bounds
 pub mod Rows
 pub mod Toplevels

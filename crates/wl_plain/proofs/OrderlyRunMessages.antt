@@ -23,7 +23,8 @@ use Rattle.wl_plain.specs.Replies.{replies}
 use Rattle.wl_plain.specs.Settling.{Moving, becomes, unstruck}
 use Rattle.wl_plain.specs.Stacked.{all_windows}
 use Rattle.wl_plain.specs.Step.{with_peer}
-use Rattle.wl_plain.specs.Whole.{AnswersThen, BecomesThen, DoesThen, FeedsAt, IsFedAt, Reaches, ServesAt, ServesThen, StopsAt, TakesThen, WantsOrThen, changed_so, done_for, settling, wants_memory}
+use Rattle.wl_plain.specs.Whole.{AnswersThen, BecomesThen, DoesThen, FeedsAt, IsFedAt, Reaches, ServesThen, StopsAt, TakesThen, WantsOrThen, changed_so, done_for, settling, wants_memory}
+use Rattle.wl_plain.proofs.Forms.{ServesAt}
 use Rattle.wl_plain.proofs.Orderly.{IsOrderly, IsOrderlyAt, IsOrderlyBy}
 use Rattle.wl_plain.proofs.OrderlyRunSteady.{changed-steady}
 use Rattle.wl_plain.proofs.OrderlyRunTold.{Frames, Known, alike, becomes-ended, known-same, known-so, queued-orderly, settled, settling-known}

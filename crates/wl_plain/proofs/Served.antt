@@ -26,7 +26,8 @@ use Rattle.wl_plain.specs.NoMore.{AreToplevels}
 use Rattle.wl_plain.specs.Replies.{popups_done, replies}
 use Rattle.wl_plain.specs.Settling.{becomes}
 use Rattle.wl_plain.specs.Stacked.{all_windows}
-use Rattle.wl_plain.specs.Whole.{Does, FeedsAt, Reaches, Serves, ServesAt, StopsAt, Answers as WholeAnswers, Becomes as WholeBecomes, Takes as WholeTakes, WantsOr as WholeWantsOr}
+use Rattle.wl_plain.specs.Whole.{FeedsAt, Reaches, Serves, StopsAt}
+use Rattle.wl_plain.proofs.Forms.{Does, ServesAt, Answers as WholeAnswers, Becomes as WholeBecomes, Takes as WholeTakes, WantsOr as WholeWantsOr}
 use Rattle.wl_plain.specs.Step.{own_changed, with_peer}
 use Rattle.wl_client.specs.Serving.{has_used, keeps_store}
 use Rattle.wl_surface.specs.Surfaces.{is_used}

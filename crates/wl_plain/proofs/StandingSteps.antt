@@ -18,7 +18,8 @@ use Rattle.wl_plain.specs.Whole.{Serves}
 use Rattle.wl_plain.proofs.BridgeBack.{AsksBy, message-by}
 use Rattle.wl_plain.specs.Standing.{AreMapped, MappedStand}
 use Rattle.wl_plain.specs.Step.{with_peer}
-use Rattle.wl_plain.specs.Steps.{ConnectsAt, lowest, next_of}
+use Rattle.wl_plain.specs.Steps.{lowest, next_of}
+use Rattle.wl_plain.proofs.Forms.{ConnectsAt}
 use Rattle.wl_plain.proofs.OwningKeys.{some-same}
 use Rattle.wl_plain.proofs.Places.{number-other}
 use Rattle.wl_plain.proofs.StandingAsks.{StandAfter, stand-after}

@@ -15,7 +15,8 @@ use Rattle.wl_plain.specs.Desktop.{Desktop, Resident, client_at}
 use Rattle.wl_plain.specs.LeftOut.{LeftOut}
 use Rattle.wl_plain.specs.Settling.{EndsFirst, Moving, SettlesAll, Strike, becomes, ended_all, ended_by, unstruck}
 use Rattle.wl_plain.specs.Step.{with_peer}
-use Rattle.wl_plain.specs.Steps.{Act, Connect, Feed, Store, Leave, Tick, Send, Close, Motion, Button, ConnectsAt, lowest}
+use Rattle.wl_plain.specs.Steps.{Act, Connect, Feed, Store, Leave, Tick, Send, Close, Motion, Button, lowest}
+use Rattle.wl_plain.proofs.Forms.{ConnectsAt}
 use Rattle.wl_plain.specs.Through.{EndsFirstThrough, HappensLeadsThrough, IsSingle, MessagesLeadThrough, SettlesAllThrough, ending_through, ends_through, settling_through}
 use Rattle.wl_plain.specs.Whole.{AnswersThen, BecomesThen, ChangesThen, ConnectsThen, DoesThen, Happens, HappensThen, LeavesThen, PressesThen, ReleasesThen, ServesThen, TakesThen, WantsOrThen, changed_so, ending, settling, wants_memory}
 

@@ -12,8 +12,10 @@ use Rattle.wl_plain.specs.Laws.{status_in}
 use Rattle.wl_plain.specs.LeftOut.{LeftOut}
 use Rattle.wl_plain.specs.Settling.{EndsAndSettles, becomes, unstruck}
 use Rattle.wl_plain.specs.Step.{with_peer}
-use Rattle.wl_plain.specs.Steps.{Act, Connect, Feed, Store, Leave, Tick, Send, Close, Motion, Button, ConnectsAt, IsClosed, IsSent, IsStored, fed_of, lowest}
-use Rattle.wl_plain.specs.Whole.{Buttons, ChangesAt, FeedsAt, Happens, IsFedAt, LeavesAt, MovesTo, Shows, point_in, pointed}
+use Rattle.wl_plain.specs.Steps.{Act, Connect, Feed, Store, Leave, Tick, Send, Close, Motion, Button, IsClosed, IsSent, IsStored, fed_of, lowest}
+use Rattle.wl_plain.proofs.Forms.{ConnectsAt}
+use Rattle.wl_plain.specs.Whole.{FeedsAt, Happens, IsFedAt, point_in, pointed}
+use Rattle.wl_plain.proofs.Forms.{Buttons, ChangesAt, LeavesAt, MovesTo, Shows}
 use Rattle.wl_plain.specs.WholeLaws.{HadMemory, WholeOneRun}
 use Rattle.wl_plain.proofs.WholeOneRunFates.{Lives, lasting, lasting-within, number-long, still}
 use Rattle.wl_plain.proofs.WholeOneRunLeads.{After, Leads, Spares, from, only}

@@ -10,7 +10,8 @@ use Rattle.wl_plain.specs.Pointing.{button_told, has_pointers, motion_told}
 use Rattle.wl_plain.specs.Replies.{focus_window, popups_done}
 use Rattle.wl_plain.specs.Settling.{EndsAndSettles, Moving, Settles, SettlesEnds, is_settled, unstruck}
 use Rattle.wl_plain.specs.Stacked.{all_windows}
-use Rattle.wl_plain.specs.Whole.{Buttons, Dismisses, DismissesUnless, MotionSettles, MovesTo, PressedSo, PressesIf, ReleasedSo, ReleasesIf, Shows, TellsButton, TellsFrames, TellsMotion, callbacks_due, frames_told, hit_now, is_hit_of, noted, noted_if, number_of, raised_by, with_press, with_release, without_grabs}
+use Rattle.wl_plain.specs.Whole.{Dismisses, DismissesUnless, MotionSettles, TellsButton, TellsFrames, TellsMotion, callbacks_due, frames_told, hit_now, is_hit_of, noted, noted_if, number_of, raised_by, with_press, with_release, without_grabs}
+use Rattle.wl_plain.proofs.Forms.{Buttons, MovesTo, PressedSo, PressesIf, ReleasedSo, ReleasesIf, Shows}
 use Rattle.wl_plain.proofs.WholeOneRunEnds.{drawn-status, end_all-leads, ends-leads, settles-leads, tells-leads}
 use Rattle.wl_plain.proofs.WholeOneRunFates.{Follows, lasting, still}
 use Rattle.wl_plain.proofs.WholeOneRunLeads.{Leads, Sound, chained, from, moving, only, worded}

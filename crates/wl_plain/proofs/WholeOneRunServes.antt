@@ -24,7 +24,8 @@ use Rattle.wl_plain.specs.Replies.{replies}
 use Rattle.wl_plain.specs.Settling.{EndsAndSettles, QueuesTo, after_status, becomes, ended_at, unstruck}
 use Rattle.wl_plain.specs.Stacked.{all_windows}
 use Rattle.wl_plain.specs.Step.{with_peer}
-use Rattle.wl_plain.specs.Whole.{Answers, Becomes, Does, FeedsAt, Reaches, Serves, ServesAt, StopsAt, Takes, WantsOr, after_why, done_for, wants_memory}
+use Rattle.wl_plain.specs.Whole.{FeedsAt, Reaches, Serves, StopsAt, done_for, wants_memory}
+use Rattle.wl_plain.proofs.Forms.{Answers, Becomes, Does, ServesAt, Takes, WantsOr, after_why}
 use Rattle.wl_plain.proofs.Places.{left_by, number-same, number-twice}
 use Rattle.wl_plain.proofs.OwningKeys.{none-some}
 use Rattle.wl_plain.proofs.WholeOneRunEnds.{end_all-leads, queues-once, same-pair}

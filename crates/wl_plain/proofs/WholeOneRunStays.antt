@@ -9,8 +9,9 @@ use Rattle.wl_plain.specs.declared.answers.Done.{Done}
 use Rattle.wl_plain.specs.Desktop.{Desktop, Resident, arrival, client_at, client_in, place, with_client, with_number, with_place}
 use Rattle.wl_plain.specs.Laws.{status_in, status_of}
 use Rattle.wl_plain.specs.Step.{with_peer}
-use Rattle.wl_plain.specs.Steps.{Connect, Feed, Store, Leave, Tick, Send, Close, Motion, Button, ConnectsAt, IsClosed, IsSent, IsStored, lowest, next_of}
-use Rattle.wl_plain.specs.Whole.{ChangesAt}
+use Rattle.wl_plain.specs.Steps.{Connect, Feed, Store, Leave, Tick, Send, Close, Motion, Button, IsClosed, IsSent, IsStored, lowest, next_of}
+use Rattle.wl_plain.proofs.Forms.{ConnectsAt}
+use Rattle.wl_plain.proofs.Forms.{ChangesAt}
 use Rattle.wl_plain.specs.WholeLaws.{EndsStay}
 use Rattle.wl_plain.proofs.OwningKeys.{none-some, some-same}
 use Rattle.wl_plain.proofs.Places.{number-other, number-same}

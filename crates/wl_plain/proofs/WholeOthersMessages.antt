@@ -21,7 +21,8 @@ use Rattle.wl_plain.specs.LeftOut.{LeftOut}
 use Rattle.wl_plain.specs.Settling.{Moving, after_status, becomes, unstruck}
 use Rattle.wl_plain.specs.Stacked.{all_windows}
 use Rattle.wl_plain.specs.Step.{surface_of, with_peer}
-use Rattle.wl_plain.specs.Whole.{AnswersThen, BecomesThen, ChangesAt, DoesThen, FeedsAt, IsFedAt, LeavesAt, Reaches, ServesAt, ServesThen, StopsAt, TakesThen, WantsOrThen, changed_so, done_for, settling, wants_memory}
+use Rattle.wl_plain.specs.Whole.{AnswersThen, BecomesThen, DoesThen, FeedsAt, IsFedAt, Reaches, ServesThen, StopsAt, TakesThen, WantsOrThen, changed_so, done_for, settling, wants_memory}
+use Rattle.wl_plain.proofs.Forms.{ChangesAt, LeavesAt, ServesAt}
 use Rattle.wl_plain.proofs.Others.{IsLeft, become-left, left_out, on_top, one_surface, same-left, left-then}
 use Rattle.wl_plain.proofs.Places.{number-other}
 use Rattle.wl_plain.proofs.WholeOthersSettling.{IsIn, IsWithin, Stays as Keeps, settling-in, struck-so}

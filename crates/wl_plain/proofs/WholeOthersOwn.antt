@@ -18,8 +18,10 @@ use Rattle.wl_plain.specs.Pointing.{button_told, has_pointers, motion_told, move
 use Rattle.wl_plain.specs.Replies.{focus_window, popups_done}
 use Rattle.wl_plain.specs.Settling.{Moving, SettlesEnds, Settles, is_settled, unstruck}
 use Rattle.wl_plain.specs.Stacked.{all_windows}
-use Rattle.wl_plain.specs.Steps.{Act, Connect, Feed, Store, Leave, Tick, Send, Close, Motion, Button, ConnectsAt, lowest}
-use Rattle.wl_plain.specs.Whole.{Dismisses, DismissesUnless, Happens, MotionSettles, MovesThen, MovesTo, PressedSo, PressedThen, PressesIf, ReleasedSo, ReleasedThen, ReleasesIf, Shows, ShowsThen, TellsButton, TellsFrames, TellsMotion, callbacks_due, ending, frames_told, hit_now, is_hit_of, noted_if, number_of, point_in, pointed, raised_by, settling, with_press, with_release, without_grabs}
+use Rattle.wl_plain.specs.Steps.{Act, Connect, Feed, Store, Leave, Tick, Send, Close, Motion, Button, lowest}
+use Rattle.wl_plain.proofs.Forms.{ConnectsAt}
+use Rattle.wl_plain.specs.Whole.{Dismisses, DismissesUnless, Happens, MotionSettles, MovesThen, PressedThen, ReleasedThen, ShowsThen, TellsButton, TellsFrames, TellsMotion, callbacks_due, ending, frames_told, hit_now, is_hit_of, noted_if, number_of, point_in, pointed, raised_by, settling, with_press, with_release, without_grabs}
+use Rattle.wl_plain.proofs.Forms.{MovesTo, PressedSo, PressesIf, ReleasedSo, ReleasesIf, Shows}
 use Rattle.wl_plain.specs.WholeOthers.{IsLeftAlone, IsLeftBy, IsLeftSo, IsNotQueued, IsToldTimes, client_of, told_once}
 use Rattle.wl_plain.specs.WholeOwn.{HasEndedLate, HasItsOwn, KeepsItsOwn, KeepsItsOwnBy, KeepsItsOwnSo, LivesOrEnds, StandTheSame, WholeOwnStays}
 use Rattle.wl_plain.proofs.OwningKeys.{some-same}

@@ -17,7 +17,8 @@ use Rattle.wl_plain.specs.Laws.{toplevels_of}
 use Rattle.wl_plain.specs.LeftOut.{LeftOut}
 use Rattle.wl_plain.specs.Settling.{after_status, becomes}
 use Rattle.wl_plain.specs.Step.{with_peer}
-use Rattle.wl_plain.specs.Whole.{Answers, Becomes, Reaches, ServesAt, StopsAt, Takes}
+use Rattle.wl_plain.specs.Whole.{Reaches, StopsAt}
+use Rattle.wl_plain.proofs.Forms.{Answers, Becomes, ServesAt, Takes}
 use Rattle.wl_plain.specs.WholeOthers.{HasErred, IsTheLast, RefusedAlone, refusal_of, refused_for}
 use Rattle.wl_plain.proofs.OwningKeys.{some-same}
 use Rattle.wl_plain.proofs.Places.{number-same}

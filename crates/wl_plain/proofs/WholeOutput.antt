@@ -22,8 +22,10 @@ use Rattle.wl_plain.specs.LeftOut.{LeftOut}
 use Rattle.wl_plain.specs.Settling.{EndsAndSettles, EndsFirst, Enters, Leaves, MovesUnless, Moving, Settles, SettlesAll, SettlesEnds, Strike, Tells, TellsAt, TellsUnless, after_status, becomes, ended_all, ended_at, ended_by, is_settled, target_now, unstruck}
 use Rattle.wl_plain.specs.Stacked.{all_windows}
 use Rattle.wl_plain.specs.Step.{with_peer}
-use Rattle.wl_plain.specs.Steps.{Act, Connect, Feed, Store, Leave, Tick, Send, Close, Motion, Button, ConnectsAt, lowest}
-use Rattle.wl_plain.specs.Whole.{Answers, Becomes, ChangesAt, Dismisses, DismissesUnless, Does, FeedsAt, Happens, IsFedAt, LeavesAt, MotionSettles, PressedSo, PressesIf, Reaches, ReleasesIf, ServesAt, StopsAt, Takes, TellsButton, TellsFrames, TellsMotion, WantsOr, after_why, done_for, hit_now, is_hit_of, point_in, pointed, raised_by, wants_memory, with_press}
+use Rattle.wl_plain.specs.Steps.{Act, Connect, Feed, Store, Leave, Tick, Send, Close, Motion, Button, lowest}
+use Rattle.wl_plain.proofs.Forms.{ConnectsAt}
+use Rattle.wl_plain.specs.Whole.{Dismisses, DismissesUnless, FeedsAt, Happens, IsFedAt, MotionSettles, Reaches, StopsAt, TellsButton, TellsFrames, TellsMotion, done_for, hit_now, is_hit_of, point_in, pointed, raised_by, wants_memory, with_press}
+use Rattle.wl_plain.proofs.Forms.{Answers, Becomes, ChangesAt, Does, LeavesAt, PressedSo, PressesIf, ReleasesIf, ServesAt, Takes, WantsOr, after_why}
 
 -- ---- what a step is made of
 

@@ -23,7 +23,8 @@ use Rattle.wl_plain.specs.Replies.{replies}
 use Rattle.wl_plain.specs.Settling.{EndsAndSettles, QueuesTo, after_status, becomes, pointer_without, unstruck}
 use Rattle.wl_plain.specs.Stacked.{all_windows}
 use Rattle.wl_plain.specs.Step.{with_peer}
-use Rattle.wl_plain.specs.Whole.{Answers, Becomes, Does, Reaches, Serves, ServesAt, Takes, WantsOr, after_why, done_for, wants_memory}
+use Rattle.wl_plain.specs.Whole.{Reaches, Serves, done_for, wants_memory}
+use Rattle.wl_plain.proofs.Forms.{Answers, Becomes, Does, ServesAt, Takes, WantsOr, after_why}
 use Rattle.wl_plain.proofs.Behind.{with_behind}
 use Rattle.wl_plain.proofs.Idling.{change-quiet}
 use Rattle.wl_plain.proofs.WholeOneRunServes.{done-clients_stay}

@@ -1,6 +1,6 @@
 -- What may happen to the plain desktop, and what a step does to the client that it is of.
 use Rattle.std.specs.Option.{option_map}
-use Rattle.std.specs.Prelude.{ℕ, ℤ, ◌≡◌, ◌+◌, List, [], ◌∷◌, length, nat_le, Bool, Option, Some, None, Ok, Err, ◌⊎◌, is_none, is_some}
+use Rattle.std.specs.Prelude.{ℕ, ℤ, ◌≡◌, ◌+◌, List, [], ◌∷◌, length, nat_le, Bool, Option, Some, None, is_none, is_some}
 use Rattle.wl_store.specs.Stores.{store_at, write_refusal}
 use Rattle.wl_store.specs.declared.stores.StoreError.{StoreError}
 use Rattle.wl_store.specs.declared.stores.StoreError.TheVariants as refused
@@ -11,9 +11,8 @@ use Rattle.wl_plain.specs.declared.answers.Stored.{Stored}
 use Rattle.wl_plain.specs.declared.answers.Stored.TheVariants as stored
 use Rattle.wl_plain.specs.declared.answers.Done.{Done}
 use Rattle.wl_plain.specs.declared.answers.Done.TheVariants as gave
-use Rattle.wl_plain.specs.declared.answers.ConnectError.TheVariants.{Full, Memory}
 use Rattle.wl_client.specs.Peer.{Peer, left_by, sent_by, stored_at}
-use Rattle.wl_plain.specs.Desktop.{Desktop, Resident, arrival, client_at, with_client}
+use Rattle.wl_plain.specs.Desktop.{Desktop, Resident, client_at}
 
 -- what may happen, most of it to the client with a number
 pub data Act : Type 0 where
@@ -77,12 +76,6 @@ abbrev pub lowest : {X : Type 0} → List (Option X) → Option ℕ
 lowest [] = None
 lowest (None ∷ xs) = Some 0
 lowest (Some x ∷ xs) = next_of (lowest xs)
-
--- The lowest free number is taken. Only want of memory may stop that.
-abbrev pub ConnectsAt : Option ℕ → Desktop → Done → Desktop → Type 0
-ConnectsAt None d done new = (done ≡ gave.Connect (Err Full)) × (new ≡ d)
-ConnectsAt (Some k) d done new =
-    ((done ≡ gave.Connect (Err Memory)) × (new ≡ d)) ⊎ ((done ≡ gave.Connect (Ok (k + 1))) × (new ≡ with_client (k + 1) (Some (arrival d.output)) d))
 
 -- the client with this number, without what it owns
 abbrev pub peer_of : Option Resident → Option Peer

@@ -30,10 +30,10 @@ use Rattle.wl_plain.specs.Laws.{status_in}
 use Rattle.wl_plain.specs.LeftOut.{LeftOut}
 use Rattle.wl_plain.specs.Pointing.{button_told, has_pointers, motion_told, moved_with}
 use Rattle.wl_plain.specs.Replies.{focus_window, popups_done, replies}
-use Rattle.wl_plain.specs.Settling.{EndsAndSettles, Moving, QueuesTo, Settles, SettlesEnds, Tells, becomes, ended_all, is_settled, struck_by, told_drawn, unstruck}
+use Rattle.wl_plain.specs.Settling.{EndsAndSettles, Moving, QueuesTo, Settles, SettlesEnds, Tells, becomes, is_settled, struck_by, told_drawn, unstruck}
 use Rattle.wl_plain.specs.Stacked.{all_windows}
 use Rattle.wl_plain.specs.Step.{takes_memory, with_peer, with_shell}
-use Rattle.wl_plain.specs.Steps.{Act, Connect, Feed, Store, Leave, Tick, Send, Close, Motion, Button, ConnectsAt, IsClosed, IsSent, IsStored, fed_of, lowest}
+use Rattle.wl_plain.specs.Steps.{Act, Connect, Feed, Store, Leave, Tick, Send, Close, Motion, Button, IsClosed, IsSent, IsStored, fed_of, lowest}
 
 -- ---- one message
 
@@ -88,34 +88,12 @@ ServesThen left c (Some r) d Next = (r.peer.status ≡ None) × TakesThen left (
 
 -- ---- then those end that are to, and the focus is settled
 
--- the client ends where an event of its wasn't queued
-abbrev pub after_why : Option Cause → ℕ → Desktop → Desktop
-after_why why c d = ended_all (struck_by c why []) d
-
 abbrev pub settling : Desktop → Moving → Type 0
 settling new mid = EndsAndSettles mid new
 
-abbrev pub Becomes : (Peer → Type 0) → ℕ → Resident → Desktop → Desktop → Type 0
-Becomes Q c r d new = BecomesThen Q c r d (settling new)
-
-abbrev pub Does : LeftOut → ℕ → Demand → Resident → Desktop → Desktop → Type 0
-Does left c demand r d new = DoesThen left c demand r d (settling new)
-
-abbrev pub WantsOr : Bool → Type 0 → ℕ → Resident → Desktop → Desktop → Type 0
-WantsOr b Later c r d new = WantsOrThen b Later c r d (settling new)
-
-abbrev pub Answers : LeftOut → Result Demand Refusal → ℕ → Resident → Desktop → Desktop → Type 0
-Answers left judged c r d new = AnswersThen left judged c r d (settling new)
-
-abbrev pub Takes : LeftOut → Split → ℕ → Resident → Desktop → Desktop → Type 0
-Takes left split c r d new = TakesThen left split c r d (settling new)
-
-abbrev pub ServesAt : LeftOut → ℕ → Option Resident → Desktop → Desktop → Type 0
-ServesAt left c r d new = ServesThen left c r d (settling new)
-
 -- One message of a client.
 abbrev pub Serves : LeftOut → ℕ → Desktop → Desktop → Type 0
-Serves left c d new = ServesAt left c (client_at c d) d new
+Serves left c d new = ServesThen left c (client_at c d) d (settling new)
 
 -- ---- a piece
 
@@ -169,12 +147,6 @@ ChangesThen R absent c (Some r) d done Settled = (q : Option Peer) × R r.peer d
 abbrev pub ending : Desktop → Moving → Type 0
 ending new mid = SettlesEnds mid new
 
-abbrev pub LeavesAt : ℕ → Option Resident → Desktop → Done → Desktop → Type 0
-LeavesAt c r d done new = LeavesThen c r d done (settling new) (ending new)
-
-abbrev pub ChangesAt : (Peer → Done → Option Peer → Type 0) → Done → ℕ → Option Resident → Desktop → Done → Desktop → Type 0
-ChangesAt R absent c r d done new = ChangesThen R absent c r d done (ending new)
-
 -- ---- a frame is shown
 
 abbrev pub is_counting : List ℕ → Callback → Bool
@@ -198,9 +170,6 @@ TellsFrames time (suc n) c old new =
 -- the clients in rising number
 abbrev pub ShowsThen : ℕ → Desktop → (Moving → Type 0) → Type 0
 ShowsThen time d Next = (told : Moving) × TellsFrames time 32 1 (unstruck d) told × Next told
-
-abbrev pub Shows : ℕ → Desktop → Desktop → Type 0
-Shows time d new = ShowsThen time d (settling new)
 
 -- ---- the pointer moves
 
@@ -228,9 +197,6 @@ MotionSettles false time old new = Settles old new
 
 abbrev pub MovesThen : ℕ → Desktop → (Moving → Type 0) → Type 0
 MovesThen time d Settled = (told : Moving) × MotionSettles (is_settled d) time (unstruck d) told × Settled told
-
-abbrev pub MovesTo : ℕ → Desktop → Desktop → Type 0
-MovesTo time d new = MovesThen time d (ending new)
 
 -- ---- a button
 
@@ -328,21 +294,6 @@ abbrev pub ButtonsThen : Bool → ℕ → ℕ → Desktop → (Moving → Type 0
 ButtonsThen true time button d Settled = PressesThen (is_press button d.pointer.buttons) time button d Settled
 ButtonsThen false time button d Settled = ReleasesThen (is_down button d.pointer.buttons) time button d Settled
 
-abbrev pub PressedSo : ℕ → ℕ → Desktop → Desktop → Type 0
-PressedSo time button d new = PressedThen time button d (ending new)
-
-abbrev pub ReleasedSo : ℕ → ℕ → Desktop → Desktop → Type 0
-ReleasedSo time button d new = ReleasedThen time button d (ending new)
-
-abbrev pub PressesIf : Bool → ℕ → ℕ → Desktop → Desktop → Type 0
-PressesIf is_new time button d new = PressesThen is_new time button d (ending new)
-
-abbrev pub ReleasesIf : Bool → ℕ → ℕ → Desktop → Desktop → Type 0
-ReleasesIf is_held time button d new = ReleasesThen is_held time button d (ending new)
-
-abbrev pub Buttons : Bool → ℕ → ℕ → Desktop → Desktop → Type 0
-Buttons pressed time button d new = ButtonsThen pressed time button d (ending new)
-
 -- ---- all of them
 
 -- What happens but a piece, which is the messages that it completes: by itself it leads to the middle of a step; what comes then is said of
@@ -361,12 +312,5 @@ HappensThen left (Button time button pressed) done d Next Settled = (done ≡ ga
 
 -- What may happen to the plain desktop, with its answer. Want of memory is the only choice.
 abbrev pub Happens : LeftOut → Act → Done → Desktop → Desktop → Type 0
-Happens left Connect done d new = ConnectsAt (lowest d.clients) d done new
 Happens left (Feed c piece) done d new = IsFedAt left c piece (client_at c d) d done new
-Happens left (Store c store at bytes) done d new = ChangesAt (IsStored store at bytes) (gave.Store stored.NoClient) c (client_at c d) d done new
-Happens left (Leave c) done d new = LeavesAt c (client_at c d) d done new
-Happens left (Tick time) done d new = (done ≡ gave.Tick) × Shows time d new
-Happens left (Send c n) done d new = ChangesAt (IsSent n) (gave.Sent false) c (client_at c d) d done new
-Happens left (Close c) done d new = ChangesAt IsClosed (gave.Close false) c (client_at c d) d done new
-Happens left (Motion time x y) done d new = (done ≡ gave.Motion) × MovesTo time (pointed (point_in d.output x y) d) new
-Happens left (Button time button pressed) done d new = (done ≡ gave.Button) × Buttons pressed time button d new
+Happens left act done d new = HappensThen left act done d (settling new) (ending new)

@@ -25,7 +25,8 @@ use Rattle.wl_plain.specs.declared.answers.Done.TheVariants as gave
 use Rattle.wl_plain.specs.declared.answers.Fed.{Fed}
 use Rattle.wl_plain.specs.LeftOut.{served_now}
 use Rattle.wl_plain.specs.NoMore.{NoMore}
-use Rattle.wl_plain.specs.Whole.{FeedsAt, IsFedAt, Reaches, Serves, ServesAt as WholeServesAt, StopsAt}
+use Rattle.wl_plain.specs.Whole.{FeedsAt, IsFedAt, Reaches, Serves, StopsAt}
+use Rattle.wl_plain.proofs.Forms.{ServesAt as WholeServesAt}
 use Rattle.wl_plain.proofs.BridgeBack.{message-by}
 use Rattle.wl_plain.proofs.BridgeLasts.{reaches-has}
 use Rattle.wl_plain.proofs.BridgeServes.{becomes-same, settles-to}

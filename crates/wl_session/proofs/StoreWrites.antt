@@ -22,7 +22,7 @@ use Rattle.wl_scene.specs.Stacking.{nothing_owned}
 use Rattle.wl_plain.specs.Desktop.{Desktop, Resident, Showing, client_at, owned_in, owned_of, with_client}
 use Rattle.wl_plain.specs.Stacked.{all_windows}
 use Rattle.wl_plain.specs.Step.{with_peer}
-use Rattle.wl_plain.specs.Whole.{ChangesAt}
+use Rattle.wl_plain.proofs.Forms.{ChangesAt}
 use Rattle.wl_plain.specs.Scratch.{bytes_now, color_in, pixel_at}
 use Rattle.wl_plain.proofs.Places.{number-other, number-same}
 use Rattle.wl_plain.proofs.Stacks.{Each, Fields, and-left, and-right, differ, each-map, fields, or-left, or-right, unless}
