@@ -16,9 +16,9 @@ use Rattle.wl_resident.specs.Agreement.{Matches, IsPlace, IsScene, IsSlot, numbe
 use Rattle.wl_plain.specs.Desktop.{Desktop, Resident, arrival, become, become_by, client_at, empty, place, with_client, with_number}
 use Rattle.wl_resident.specs.Seats.{IsBare, IsChangedSo, IsSeated, ended_by, has_ended_in}
 use Rattle.wl_plain.specs.LeftOut.{served_now}
-use Rattle.wl_plain.specs.Whole.{Serves}
+use Rattle.wl_plain.specs.Happens.{Serves}
 use Rattle.wl_plain.proofs.Altering.{Changes, ChangesAt, left_so}
-use Rattle.wl_plain.specs.Steps.{IsClosed, closed_by, lowest, next_of, peer_at, peer_of}
+use Rattle.wl_plain.specs.Acts.{IsClosed, closed_by, lowest, next_of, peer_at, peer_of}
 use Rattle.wl_plain.proofs.Forms.{ConnectsAt}
 use Rattle.wl_resident.specs.View.{DeskView, OwnedView, owned_view}
 use Rattle.wl_plain.specs.declared.answers.ConnectError.TheVariants.{Full, Memory}

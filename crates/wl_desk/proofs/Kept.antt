@@ -16,13 +16,13 @@ use Rattle.wl_scene.specs.declared.owned.Owned.{Owned}
 use Rattle.wl_resident.specs.Agreement.{Matches, IsPlace, IsSeat, numbers_in}
 use Rattle.wl_plain.specs.Desktop.{Desktop, Resident, become, become_by, client_at, client_in, resident_of, with_number}
 use Rattle.wl_desk.specs.Feeding.{IsIdleIn, IsIdleOf, kept_at, kept_by, kept_in, kept_of, kept_while, rest_in, served_as, served_by, served_of}
-use Rattle.wl_resident.specs.Marking.{AreUnlinked, Marks}
+use Rattle.wl_resident.specs.Marking.{AreUnlinked, MarksAtLeast}
 use Rattle.wl_resident.specs.Seats.{IsSeated, ended_by}
 use Rattle.wl_plain.specs.Step.{with_peer}
 use Rattle.wl_plain.specs.LeftOut.{served_now}
 use Rattle.wl_plain.specs.NoMore.{NoMore}
-use Rattle.wl_plain.specs.Steps.{fed_of, peer_at, status_of}
-use Rattle.wl_plain.specs.Whole.{Serves}
+use Rattle.wl_plain.specs.Acts.{fed_of, peer_at, status_of}
+use Rattle.wl_plain.specs.Happens.{Serves}
 use Rattle.wl_plain.proofs.BridgeBack.{message-by}
 use Rattle.wl_resident.specs.View.{DeskView, OwnedView, owned_view}
 use Rattle.wl_resident.specs.declared.residents.Resident.{Resident as Kept}
@@ -129,8 +129,8 @@ module _ {A : Type 0} (output : Output) (us : List (Option ClientView)) (os : Li
       )
 
   pub serves-marks : (v new : Kept A) (x x2 : Option ClientView) (y y2 : Option (Owned A)) (now : Stack) (e : Desktop) (before after : Damaged) → x ≡ get_or us k x → y ≡ get_or os k y → (x ≡ Some v.client) × (y ≡ Some v.owned) → NoMore d
-      → ((r : Resident) → AreUnlinked d → IsSeated c (numbers_in us) d v stack d r → NoMore d → (e : Desktop) (q : Resident) → Serves served_now c d e → IsSeated c (numbers_in us) d new now e q → Marks d e before after)
-      → Serves served_now c d e → Matches (put-back new x2 y2 now) e → Marks d e before after
+      → ((r : Resident) → AreUnlinked d → IsSeated c (numbers_in us) d v stack d r → NoMore d → (e : Desktop) (q : Resident) → Serves served_now c d e → IsSeated c (numbers_in us) d new now e q → MarksAtLeast d e before after)
+      → Serves served_now c d e → Matches (put-back new x2 y2 now) e → MarksAtLeast d e before after
   serves-marks v new x x2 y y2 now e before after f g taken more marks serves b =
       let s = out output us os stack c k is d a v x y f g taken in
       let n = seated-new new x2 y2 now e s.0 s.1 more serves b in

@@ -19,7 +19,7 @@ use Rattle.wl_resident.specs.Marking.{AreUnlinked, MarksEnd, stands_any}
 use Rattle.wl_resident.specs.Seats.{IsChangedSo, IsSeated, ended_by, has_ended_in}
 use Rattle.wl_plain.specs.Standing.{AreMapped}
 use Rattle.wl_plain.proofs.Altering.{Changes, ChangesAt, left_so}
-use Rattle.wl_plain.specs.Steps.{IsClosed, closed_by, lowest}
+use Rattle.wl_plain.specs.Acts.{IsClosed, closed_by, lowest}
 use Rattle.wl_plain.proofs.Forms.{ConnectsAt}
 use Rattle.wl_plain.specs.Touching.{any_window_at, has_window_at}
 use Rattle.wl_resident.specs.View.{DeskView, OwnedView, owned_view}

@@ -5,7 +5,7 @@ use Rattle.wl_client.specs.Told.{Output as Shown}
 use Rattle.wl_client.specs.declared.clients.Cause.{Cause}
 use Rattle.wl_paint.specs.Damage.{Damaged}
 use Rattle.wl_resident.specs.Agreement.{Matches}
-use Rattle.wl_resident.specs.Marking.{Marks}
+use Rattle.wl_resident.specs.Marking.{MarksAtLeast}
 use Rattle.wl_resident.specs.Seats.{ended_by}
 use Rattle.wl_resident.specs.View.{DeskView}
 use Rattle.wl_plain.specs.declared.answers.Done.{Done}
@@ -15,8 +15,8 @@ use Rattle.wl_plain.specs.LeftOut.{served_now}
 use Rattle.wl_plain.specs.NoMore.{NoMore, OwnsToplevelsAt}
 use Rattle.wl_plain.specs.Settling.{EndsAndSettles, becomes, unstruck}
 use Rattle.wl_plain.specs.Step.{with_peer}
-use Rattle.wl_plain.specs.Steps.{Act}
-use Rattle.wl_plain.specs.Whole.{Happens, Serves}
+use Rattle.wl_plain.specs.Acts.{Act}
+use Rattle.wl_plain.specs.Happens.{Happens, Serves}
 use Rattle.wl_desk.specs.Agreeing.{Agrees, TakesStep}
 use Rattle.wl_desk.specs.Feeding.{Ends, EndsBy, EndsOf, IsIdleIn, kept_at, kept_by, kept_of}
 use Rattle.wl_desk.proofs.Calls.{ended_at, ended_of}
@@ -40,7 +40,7 @@ steps-whole act done old new small = λ d a.
     (h.0, alters-whole act d h.0 done a.no_more h.1, record { matches = h.2; no_more = alters-has act d h.0 done a.no_more h.1 })
 
 pub steps-marked : (act : Act) → IsCall act → (done : Done) (v : DeskView) (before after : Damaged) → ((d e : Desktop) → Matches v d → Alters act done d e → MarksToplevels d e before after)
-    → (d e : Desktop) → Agrees v d → Happens served_now act done d e → Marks d e before after
+    → (d e : Desktop) → Agrees v d → Happens served_now act done d e → MarksAtLeast d e before after
 steps-marked act call done v before after small d e a step =
     let altered = alters-back act call d e done a.no_more step in
     marks-all d e before after a.no_more (alters-has act d e done a.no_more altered) (small d e a.matches altered)
@@ -135,9 +135,9 @@ ends-whole c cause old new small d a =
     (ended_at c cause d, has.1, record { matches = small d a.matches; no_more = has.0 })
 
 pub ends-marked : (c : ℕ) (cause : Cause) (old : DeskView) (before after : Damaged) → ((d : Desktop) → Matches old d → MarksToplevels d (ended_at c cause d) before after)
-    → (d e : Desktop) → Agrees old d → Ends c cause d e → Marks d e before after
+    → (d e : Desktop) → Agrees old d → Ends c cause d e → MarksAtLeast d e before after
 ends-marked c cause old before after small d e a ends =
-    subst (λ e. Marks d e before after) (sym (ended-once c cause d a.no_more e ends))
+    subst (λ e. MarksAtLeast d e before after) (sym (ended-once c cause d a.no_more e ends))
     (marks-all d (ended_at c cause d) before after a.no_more (ended-has c cause d a.no_more).0 (small d a.matches))
 
 -- ---- nobody is there at first

@@ -3,10 +3,10 @@ use Rattle.wl_plain.specs.declared.answers.Done.{Done}
 use Rattle.wl_plain.specs.Desktop.{Desktop}
 use Rattle.wl_plain.specs.LeftOut.{served_now}
 use Rattle.wl_plain.specs.NoMore.{NoMore}
-use Rattle.wl_plain.specs.Steps.{Act}
-use Rattle.wl_plain.specs.Whole.{Happens}
+use Rattle.wl_plain.specs.Acts.{Act}
+use Rattle.wl_plain.specs.Happens.{Happens}
 use Rattle.wl_resident.specs.Agreement.{Matches}
-use Rattle.wl_resident.specs.Marking.{Marks}
+use Rattle.wl_resident.specs.Marking.{MarksAtLeast}
 use Rattle.wl_resident.specs.View.{DeskView, MarkedDesk}
 
 -- What is kept is what the desktop has, and nothing that isn't served has left a trace there.
@@ -20,4 +20,4 @@ TakesStep act done old new = (d : Desktop) → Agrees old d → (e : Desktop) ×
 
 -- A step marks what it has to.
 abbrev pub MarksStep : Act → Done → MarkedDesk → MarkedDesk → Type 0
-MarksStep act done old new = (d e : Desktop) → Agrees old.desk d → Happens served_now act done d e → Marks d e old.damage new.damage
+MarksStep act done old new = (d e : Desktop) → Agrees old.desk d → Happens served_now act done d e → MarksAtLeast d e old.damage new.damage

@@ -7,17 +7,17 @@ ghost use Rattle.wl_client.specs.Peer.{Peer};
 ghost use Rattle.wl_paint.specs.Damage.{has};
 ghost use Rattle.wl_paint.specs.Frame.{color_at, is_side};
 ghost use Rattle.wl_plain.specs.Desktop.{Desktop, empty};
-ghost use Rattle.wl_plain.specs.Steps.{Connect, Feed, Store, Leave, Send, Close, lowest, peer_at, unsent_of, status_of, store_size_of};
+ghost use Rattle.wl_plain.specs.Acts.{Connect, Feed, Store, Leave, Send, Close, lowest, peer_at, unsent_of, status_of, store_size_of};
 ghost use Rattle.wl_resident.specs.Agreement.{IsSlot};
 ghost use Rattle.wl_desk.specs.Agreeing.{Agrees, MarksStep, TakesStep};
-ghost use Rattle.wl_resident.specs.Marking.{Marks};
+ghost use Rattle.wl_resident.specs.Marking.{MarksAtLeast};
 ghost use Rattle.wl_desk.specs.Feeding.{Ends, IsIdleIn, kept_at, kept_in, rest_in, served_as, served_of};
 ghost use Rattle.wl_resident.specs.Marking.{IsAsLarge};
 ghost use Rattle.wl_desk.specs.Painting.{IsOpaqueAsSaid};
 ghost use Rattle.wl_plain.specs.Scratch.{scratch};
 ghost use Rattle.wl_resident.specs.Seats.{has_ended_in};
 ghost use Rattle.wl_plain.specs.LeftOut.{served_now};
-ghost use Rattle.wl_plain.specs.Whole.{Serves};
+ghost use Rattle.wl_plain.specs.Happens.{Serves};
 
 use crate::windows::Lent;
 use std::alloc::{AllocError, Allocator};
@@ -141,7 +141,7 @@ impl<A: Allocator + Copy> Desk<A> {
         ensures serves { result ≢ Served.More → (d : Desktop) → Agrees self.old.desk d → (e : Desktop) × Serves served_now client d e × Agrees self.new.desk e }
         ensures told { result ≢ Served.More → (d : Desktop) → Agrees self.new.desk d → result ≡ served_of (status_of (peer_at client d)) }
         ensures marks { result ≢ Served.More → (d e : Desktop) → Agrees self.old.desk d → Serves served_now client d e → Agrees self.new.desk e
-            → Marks d e self.old.damage self.new.damage }
+            → MarksAtLeast d e self.old.damage self.new.damage }
         ensures more { result ≡ Served.More → (d : Desktop) → Agrees self.old.desk d → Agrees self.new.desk d × IsIdleIn client d }
         ensures rests { result ≡ Served.More → self.new.damage ≡ self.old.damage }
         ensures less { result ≢ Served.More → length (rest_in client self.new.desk) < length (rest_in client self.old.desk) }
@@ -163,7 +163,7 @@ impl<A: Allocator + Copy> Desk<A> {
     /// A client ends by this, where it lives. It is told nothing.
     pub fn end(&mut self, client: ClientNo, cause: Cause)
         ensures ends { (d : Desktop) → Agrees self.old.desk d → (e : Desktop) × Ends client cause d e × Agrees self.new.desk e }
-        ensures marks { (d e : Desktop) → Agrees self.old.desk d → Ends client cause d e → Marks d e self.old.damage self.new.damage }
+        ensures marks { (d e : Desktop) → Agrees self.old.desk d → Ends client cause d e → MarksAtLeast d e self.old.damage self.new.damage }
         ensures output { self.new.desk.output ≡ self.old.desk.output }
     {
         let Some(k) = place_of(&self.clients, client) else {

@@ -21,13 +21,13 @@ use Rattle.wl_plain.specs.Laws.{toplevels_of}
 use Rattle.wl_plain.specs.LeftOut.{served_now}
 use Rattle.wl_plain.specs.NoMore.{NoMore, OwnsToplevelsAt, OwnsToplevelsBy, OwnsToplevelsOnly}
 use Rattle.wl_plain.specs.Replies.{replies}
-use Rattle.wl_plain.specs.Settling.{EndsAndSettles, EndsFirst, Moving, QueuesFirst, QueuesTo, SettlesAll, TellsAt, becomes, struck_by, unstruck}
+use Rattle.wl_plain.specs.Settling.{EndsAndSettles, EndsFirst, Midstep, QueuesFirst, QueuesTo, SettlesAll, TellsAt, becomes, struck_by, unstruck}
 use Rattle.wl_plain.specs.Stacked.{all_windows}
 use Rattle.wl_plain.specs.Step.{with_peer}
 use Rattle.wl_plain.proofs.Simply.{Becomes, Simple, changed_simply, judge, stacked_simply, told_simply}
-use Rattle.wl_plain.specs.Steps.{IsClosed, IsLeft, IsSent, IsStored, Act, Connect, Feed, Store, Leave, Tick, Send, Close, Motion, Button}
-use Rattle.wl_plain.specs.Whole.{Happens, callbacks_due, done_for, frames_told, Serves as WholeServes, TellsFrames, wants_memory}
-use Rattle.wl_plain.proofs.Forms.{after_why, Answers as WholeAnswers, Becomes as WholeBecomes, ChangesAt as WholeChangesAt, Does, LeavesAt, ServesAt as WholeServesAt, Shows, Takes as WholeTakes, WantsOr as WholeWantsOr}
+use Rattle.wl_plain.specs.Acts.{IsClosed, IsLeft, IsSent, IsStored, Act, Connect, Feed, Store, Leave, Tick, Send, Close, Motion, Button}
+use Rattle.wl_plain.specs.Happens.{Happens, callbacks_due, done_for, frames_told, Serves as StepServes, TellsFrames, wants_memory}
+use Rattle.wl_plain.proofs.Forms.{after_why, Answers as StepAnswers, Becomes as StepBecomes, ChangesAt as StepChangesAt, Does, LeavesAt, ServesAt as StepServesAt, Shows, Takes as StepTakes, WantsOr as StepWantsOr}
 use Rattle.wl_plain.proofs.Altering.{Alters, ChangesAt, IsCall}
 use Rattle.wl_plain.proofs.Behind.{changed-status}
 use Rattle.wl_plain.proofs.BridgeChanged.{changed-same}
@@ -36,21 +36,21 @@ use Rattle.wl_plain.proofs.BridgeServes.{IsDone, after-same, becomes-same, by-po
 use Rattle.wl_plain.proofs.BridgeSteps.{Leaves, closed-leaves, left-held, sent-leaves, stays-by, stored-leaves}
 use Rattle.wl_plain.proofs.OwningKeys.{none-some}
 use Rattle.wl_plain.proofs.Places.{client-kept, stacked-clients}
-use Rattle.wl_plain.proofs.WholeOneRun.{held}
+use Rattle.wl_plain.proofs.OneRun.{held}
 
 -- ---- the pointer isn't anywhere, so nothing is settled
 
 settled-plain : (d new : Desktop) → EndsAndSettles (unstruck (record d { pointer = first_pointer })) new → new ≡ record d { pointer = first_pointer }
 settled-plain d new h = by h.0 h.1 h.2
   where
-    by : (mid : Moving) → mid ≡ unstruck (record d { pointer = first_pointer }) → EndsFirst (SettlesAll 32) mid.struck mid.desktop new → new ≡ record d { pointer = first_pointer }
-    by mid e k = subst (λ (m : Moving). EndsFirst (SettlesAll 32) m.struck m.desktop new) e k
+    by : (mid : Midstep) → mid ≡ unstruck (record d { pointer = first_pointer }) → EndsFirst (SettlesAll 32) mid.struck mid.desktop new → new ≡ record d { pointer = first_pointer }
+    by mid e k = subst (λ (m : Midstep). EndsFirst (SettlesAll 32) m.struck m.desktop new) e k
 
 pub settled-back : (y new : Desktop) → y.pointer ≡ first_pointer → EndsAndSettles (unstruck y) new → new ≡ y
 settled-back y new still h =
     subst (λ p. EndsAndSettles (unstruck (record y { pointer = p })) new → new ≡ record y { pointer = p }) (sym still) (settled-plain y new) h
 
-becomes-back : (Q : Peer → Type 0) (c : ℕ) (r : Resident) (d new : Desktop) → d.pointer ≡ first_pointer → WholeBecomes Q c r d new → Becomes Q c r d new
+becomes-back : (Q : Peer → Type 0) (c : ℕ) (r : Resident) (d new : Desktop) → d.pointer ≡ first_pointer → StepBecomes Q c r d new → Becomes Q c r d new
 becomes-back Q c r d new still h =
     let same = becomes-same c r h.0 d still in
     (h.0, h.1, settled-back (becomes c r h.0 d) new (ap (λ (e : Desktop). e.pointer) same ∙ by-pointer h.0.status c r h.0 d ∙ still) h.2 ∙ same)
@@ -118,7 +118,7 @@ AsksBy r More ask = ⊥
 -- Where no client has more than toplevels, a message leads to a desktop on which its client was told something and has ended, or to one on
 -- which what it asks is done.
 module _ (c : ℕ) (there : Resident) (d new : Desktop) (is : client_at c d ≡ Some there) (more : NoMore d) (P : Desktop → Type 0) (told : (p q : Peer) → (q.status ≡ None → ⊥) → P (become c (with_peer p there) q d)) (done : (ask : Simple) → AsksBy there (split_of there.peer.rest) ask → (p q : Peer) → p.objects ≡ there.peer.objects → Queues (told_simply ask (with_peer p there)) (changed_simply ask (with_peer p there)).peer q → P (become c (changed_simply ask (with_peer p there)) q (stacked_simply c ask (with_peer p there) d))) where
-  becomes-by : (Q : Peer → Type 0) → ((q : Peer) → Q q → q.status ≡ None → ⊥) → (p : Peer) → WholeBecomes Q c (with_peer p there) d new → P new
+  becomes-by : (Q : Peer → Type 0) → ((q : Peer) → Q q → q.status ≡ None → ⊥) → (p : Peer) → StepBecomes Q c (with_peer p there) d new → P new
   becomes-by Q never p h =
       let k = becomes-back Q c (with_peer p there) d new more.pointer h in
       subst P (sym k.2) (told p k.0 (never k.0 k.1))
@@ -129,20 +129,20 @@ module _ (c : ℕ) (there : Resident) (d new : Desktop) (is : client_at c d ≡ 
       let k = does-back c ask demand (with_peer p there) there d new is more.pointer alive (only-peer there p objects only) same h in
       subst P (sym k.2) (done ask asks p k.0 objects k.1)
 
-  wants-by : (b : Bool) (p : Peer) (Later : Type 0) → (Later → P new) → WholeWantsOr b Later c (with_peer p there) d new → P new
+  wants-by : (b : Bool) (p : Peer) (Later : Type 0) → (Later → P new) → StepWantsOr b Later c (with_peer p there) d new → P new
   wants-by false p Later next h = next h
   wants-by true p Later next (inl h) = becomes-by (LacksMemory p) (lacking p) p h
   wants-by true p Later next (inr h) = next h
 
   answers-by : (judged : Result Simple Refusal) (demanded : Result Demand Refusal) (p : Peer) → p.status ≡ None → p.objects ≡ there.peer.objects → OwnsToplevelsOnly there → ((ask : Simple) → judged ≡ Ok ask → AsksBy there (split_of there.peer.rest) ask)
-      → Pairs there judged demanded → WholeAnswers served_now demanded c (with_peer p there) d new → P new
+      → Pairs there judged demanded → StepAnswers served_now demanded c (with_peer p there) d new → P new
   answers-by (Ok ask) (Ok demand) p alive objects only asks same h =
       wants-by (wants_memory demand) (counted p) _ (λ k. does-by ask demand (counted p) alive objects only (asks ask refl) (same-peer there (counted p) ask demand same) k) h
   answers-by (Err refusal) (Err other) p alive objects only asks same h = becomes-by (Errs other p) (erred other p) p h
   answers-by (Ok ask) (Err other) p alive objects only asks same h = absurd same
   answers-by (Err refusal) (Ok demand) p alive objects only asks same h = absurd same
 
-  takes-by : (split : Split) → split_of there.peer.rest ≡ split → there.peer.status ≡ None → OwnsToplevelsOnly there → WholeTakes served_now split c there d new → P new
+  takes-by : (split : Split) → split_of there.peer.rest ≡ split → there.peer.status ≡ None → OwnsToplevelsOnly there → StepTakes served_now split c there d new → P new
   takes-by (Message object opcode size) e alive only h =
       let body = take (size - 8) (drop 8 there.peer.rest) in
       answers-by (judge there object opcode body) (judge_all served_now there object opcode body) (with_rest (drop size there.peer.rest) there.peer) alive refl only
@@ -150,19 +150,19 @@ module _ (c : ℕ) (there : Resident) (d new : Desktop) (is : client_at c d ≡ 
   takes-by Bad e alive only h = becomes-by (Errs (display_error InvalidMethod) there.peer) (erred (display_error InvalidMethod) there.peer) there.peer h
   takes-by More e alive only h = absurd h
 
-  pub message-by : WholeServes served_now c d new → P new
+  pub message-by : StepServes served_now c d new → P new
   message-by h =
-      let served : WholeServesAt served_now c (Some there) d new = subst (λ o. WholeServesAt served_now c o d new) is h in
+      let served : StepServesAt served_now c (Some there) d new = subst (λ o. StepServesAt served_now c o d new) is h in
       let owns = subst (λ o. OwnsToplevelsAt o (toplevels_of c d)) is (more.each c) in
       takes-by (split_of there.peer.rest) refl served.0 (living there.peer.status there (toplevels_of c d) served.0 owns) served.1
 
 -- ---- a client is written to, sent to or closed, or goes
 
-held-back : (R : Peer → Done → Option Peer → Type 0) (absent done : Done) (c : ℕ) (r : Resident) (d new : Desktop) → WholeChangesAt R absent c (Some r) d done new → (q : Option Peer) × R r.peer done q × (new ≡ held q c r d)
+held-back : (R : Peer → Done → Option Peer → Type 0) (absent done : Done) (c : ℕ) (r : Resident) (d new : Desktop) → StepChangesAt R absent c (Some r) d done new → (q : Option Peer) × R r.peer done q × (new ≡ held q c r d)
 held-back R absent done c r d new (None, h, e) = (None, h, e)
 held-back R absent done c r d new (Some q, h, e) = (Some q, h, e)
 
-changes-back : (R : Peer → Done → Option Peer → Type 0) → Leaves R → (absent done : Done) (c : ℕ) (o : Option Resident) (d new : Desktop) → OwnsToplevelsAt o (toplevels_of c d) → WholeChangesAt R absent c o d done new → ChangesAt R absent c o d done new
+changes-back : (R : Peer → Done → Option Peer → Type 0) → Leaves R → (absent done : Done) (c : ℕ) (o : Option Resident) (d new : Desktop) → OwnsToplevelsAt o (toplevels_of c d) → StepChangesAt R absent c o d done new → ChangesAt R absent c o d done new
 unfolding Leaves
 changes-back R leaves absent done c None d new owns h = h
 changes-back R leaves absent done c (Some r) d new owns h =
@@ -187,7 +187,7 @@ leaves-back c (Some r) d new done still is owns h = (Some (left_by r.peer.status
 
 -- ---- a frame
 
-told-none : (time c : ℕ) (o : Option Resident) (d : Desktop) (new : Moving) → client_at c d ≡ o → OwnsToplevelsAt o (toplevels_of c d) → TellsAt (λ r. without_callbacks (callbacks_due r) r) (frames_told time) c o (unstruck d) new → new ≡ unstruck d
+told-none : (time c : ℕ) (o : Option Resident) (d : Desktop) (new : Midstep) → client_at c d ≡ o → OwnsToplevelsAt o (toplevels_of c d) → TellsAt (λ r. without_callbacks (callbacks_due r) r) (frames_told time) c o (unstruck d) new → new ≡ unstruck d
 told-none time c None d new is owns h = h
 told-none time c (Some r) d new is owns h = by r.peer.status refl
   where
@@ -208,15 +208,15 @@ told-none time c (Some r) d new is owns h = by r.peer.status refl
         sym (ap (λ cs. record r { callbacks = cs }) only.callbacks ∙ ap (λ t. record r { peer = record r.peer { status = t }; callbacks = [] }) e) in
         told (subst (λ q. TellsAt (λ r. without_callbacks (callbacks_due r) r) (frames_told time) c (Some q) (unstruck d) new) (sym whole) h) whole
 
-frames-back : (time n c : ℕ) (d : Desktop) (new : Moving) → NoMore d → TellsFrames time n c (unstruck d) new → new ≡ unstruck d
+frames-back : (time n c : ℕ) (d : Desktop) (new : Midstep) → NoMore d → TellsFrames time n c (unstruck d) new → new ≡ unstruck d
 frames-back time zero c d new only h = h
 frames-back time (suc n) c d new only h =
     let same : h.0 ≡ unstruck d = told-none time c (client_at c d) d h.0 refl (only.each c) h.1 in
-    frames-back time n (suc c) d new only (subst (λ (m : Moving). TellsFrames time n (suc c) m new) same h.2)
+    frames-back time n (suc c) d new only (subst (λ (m : Midstep). TellsFrames time n (suc c) m new) same h.2)
 
 pub shows-back : (time : ℕ) (d new : Desktop) → NoMore d → Shows time d new → new ≡ d
 shows-back time d new only h =
-    settled-back d new only.pointer (subst (λ (m : Moving). EndsAndSettles m new) (frames-back time 32 1 d h.0 only h.1) h.2)
+    settled-back d new only.pointer (subst (λ (m : Midstep). EndsAndSettles m new) (frames-back time 32 1 d h.0 only h.1) h.2)
 
 -- ---- a call
 

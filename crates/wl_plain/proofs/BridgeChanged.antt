@@ -19,7 +19,7 @@ use Rattle.wl_plain.specs.Desktop.{Callback, Desktop, Resident, Subsurface}
 use Rattle.wl_plain.specs.Replies.{commit_told, configure_told, own_answers}
 use Rattle.wl_plain.specs.Step.{after_surface, asked_so_far, configured, configures_told, removing, role_configured, with_shell, with_surfaces}
 use Rattle.wl_plain.specs.NoMore.{AreToplevels, IsToplevel, OwnsToplevelsOnly}
-use Rattle.wl_plain.specs.Whole.{wants_memory}
+use Rattle.wl_plain.specs.Happens.{wants_memory}
 use Rattle.wl_plain.specs.WlSurface.{will_show}
 use Rattle.wl_plain.proofs.BridgeBuffers.{changed-after, gone-after}
 use Rattle.wl_plain.proofs.BridgeJudged.{IsToplevelAt, Same, asks, commit, effect-same, ends, found-toplevel, goes, move, none-popped}

@@ -13,7 +13,7 @@ use Rattle.wl_plain.specs.Step.{with_peer}
 use Rattle.wl_plain.proofs.BridgeServes.{by-pointer}
 use Rattle.wl_plain.proofs.Others.{become-left, stacked-left}
 use Rattle.wl_plain.proofs.Places.{client-become}
-use Rattle.wl_plain.proofs.WholeOthersSettling.{none_of}
+use Rattle.wl_plain.proofs.OthersSettling.{none_of}
 use Rattle.wl_plain.proofs.Simply.{Simple, stacked_simply}
 
 -- the others have no more than toplevels

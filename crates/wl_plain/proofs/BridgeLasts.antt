@@ -15,11 +15,11 @@ use Rattle.wl_plain.specs.Laws.{toplevels_of}
 use Rattle.wl_plain.specs.LeftOut.{served_now}
 use Rattle.wl_plain.specs.Settling.{becomes}
 use Rattle.wl_plain.specs.Step.{with_peer}
-use Rattle.wl_plain.specs.Steps.{IsClosed, IsLeft, IsSent, IsStored, Act, Connect, Feed, Store, Leave, Tick, Send, Close, Motion, Button, closed_by, lowest}
+use Rattle.wl_plain.specs.Acts.{IsClosed, IsLeft, IsSent, IsStored, Act, Connect, Feed, Store, Leave, Tick, Send, Close, Motion, Button, closed_by, lowest}
 use Rattle.wl_plain.proofs.Forms.{ConnectsAt}
 use Rattle.wl_plain.specs.NoMore.{NoMore, OwnsToplevelsAt, OwnsToplevelsBy, OwnsToplevelsOnly}
 use Rattle.wl_plain.specs.NoMoreLaws.{LeavesPointer}
-use Rattle.wl_plain.specs.Whole.{Happens, FeedsAt, IsFedAt, Reaches, StopsAt}
+use Rattle.wl_plain.specs.Happens.{Happens, FeedsAt, IsFedAt, Reaches, StopsAt}
 use Rattle.wl_plain.proofs.Altering.{Alters, ChangesAt, left_so}
 use Rattle.wl_plain.proofs.BridgeBack.{alters-back, settled-back, shows-back}
 use Rattle.wl_plain.proofs.BridgeDesks.{become-has}
@@ -30,7 +30,7 @@ use Rattle.wl_plain.proofs.BridgeTouches.{touches_apart}
 use Rattle.wl_plain.proofs.OwningKeys.{none-some, some-same}
 use Rattle.wl_plain.proofs.Others.{left_out, one_client}
 use Rattle.wl_plain.proofs.Places.{number-other}
-use Rattle.wl_plain.proofs.WholeOneRunStays.{sent-status, stored-status}
+use Rattle.wl_plain.proofs.OneRunStays.{sent-status, stored-status}
 
 -- ---- a client comes or goes
 

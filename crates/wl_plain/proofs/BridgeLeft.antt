@@ -8,15 +8,15 @@ use Rattle.wl_plain.specs.Desktop.{Desktop, Resident, client_at}
 use Rattle.wl_plain.specs.Laws.{toplevels_of}
 use Rattle.wl_plain.specs.LeftOut.{served_now}
 use Rattle.wl_plain.specs.NoMore.{NoMore, OwnsToplevelsAt, OwnsToplevelsBy}
-use Rattle.wl_plain.specs.Steps.{Act, Connect, Feed, Store, Leave, Tick, Send, Close, Motion, Button, lowest}
+use Rattle.wl_plain.specs.Acts.{Act, Connect, Feed, Store, Leave, Tick, Send, Close, Motion, Button, lowest}
 use Rattle.wl_plain.proofs.Forms.{ConnectsAt}
-use Rattle.wl_plain.specs.Whole.{Happens}
-use Rattle.wl_plain.specs.WholeOthers.{HasEndedUntold, IsLeftAlone, IsLeftBy, IsLeftLiving, IsLeftSo, client_of}
+use Rattle.wl_plain.specs.Happens.{Happens}
+use Rattle.wl_plain.specs.Others.{HasEndedUntold, IsLeftAlone, IsLeftBy, IsLeftLiving, IsLeftSo, client_of}
 use Rattle.wl_plain.proofs.BridgeBack.{shows-back}
 use Rattle.wl_plain.proofs.BridgePointer.{buttons-same, moves-same}
 use Rattle.wl_plain.proofs.OwningKeys.{none-some}
-use Rattle.wl_plain.proofs.WholeOthers.{whole_others_stay}
-use Rattle.wl_plain.proofs.WholeOthersTold.{told-nothing}
+use Rattle.wl_plain.proofs.OthersAlone.{others_are_left_alone}
+use Rattle.wl_plain.proofs.OthersTold.{told-nothing}
 
 -- ---- one client
 
@@ -74,5 +74,5 @@ pub others-same : (act : Act) (old new : Desktop) (done : Done) (other : ℕ) �
 others-same act old new done other more h differ = at (client_of act done) refl
   where
     at : (o : Option ℕ) → client_of act done ≡ o → (client_at other new ≡ client_at other old) × (toplevels_of other new ≡ toplevels_of other old)
-    at (Some c) e = alone-same other old new more (whole_others_stay served_now act done c other old new e h (λ same. differ (e ∙ ap Some same)))
+    at (Some c) e = alone-same other old new more (others_are_left_alone served_now act done c other old new e h (λ same. differ (e ∙ ap Some same)))
     at None e = no-client act old new done other more e h

@@ -10,7 +10,7 @@ use Rattle.wl_client.specs.Told.{Said}
 use Rattle.wl_plain.specs.Desktop.{Desktop, Resident, become, client_at, client_in}
 use Rattle.wl_plain.specs.Laws.{toplevels_of}
 use Rattle.wl_plain.specs.LeftOut.{served_now}
-use Rattle.wl_plain.specs.Whole.{Serves}
+use Rattle.wl_plain.specs.Happens.{Serves}
 use Rattle.wl_plain.proofs.Forms.{ServesAt}
 use Rattle.wl_plain.proofs.BridgeBack.{AsksBy, message-by}
 use Rattle.wl_client.specs.Objects.{Objects}

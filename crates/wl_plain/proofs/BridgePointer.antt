@@ -17,16 +17,16 @@ use Rattle.wl_plain.specs.Replies.{popups_done}
 use Rattle.wl_plain.specs.Settling.{QueuesTo, leave_drawn, told_drawn}
 use Rattle.wl_plain.specs.Stacked.{all_windows}
 use Rattle.wl_plain.specs.Step.{with_shell}
-use Rattle.wl_plain.specs.Whole.{callbacks_due, frames_told, hit_now, noted_if, number_of, point_in, pointed, raised_by, without_grabs}
+use Rattle.wl_plain.specs.Happens.{callbacks_due, frames_told, hit_now, noted_if, number_of, point_in, pointed, raised_by, without_grabs}
 use Rattle.wl_plain.proofs.Forms.{Buttons, MovesTo, PressesIf, ReleasesIf}
 use Rattle.wl_plain.proofs.BridgeChanged.{none-dismissed}
 use Rattle.wl_plain.proofs.BridgeServes.{living, none-done}
 use Rattle.wl_plain.proofs.OwningKeys.{none-some}
-use Rattle.wl_plain.proofs.WholeOthers.{Is, Never}
-use Rattle.wl_plain.proofs.WholeOthersKept.{TellsAll}
-use Rattle.wl_plain.proofs.WholeOthersOwn.{moves, pressed-so, raised-client, released-so}
-use Rattle.wl_plain.proofs.WholeOthersSettling.{Stays}
-use Rattle.wl_plain.proofs.WholeOthersTold.{TellsBy}
+use Rattle.wl_plain.proofs.OthersAlone.{Is, Never}
+use Rattle.wl_plain.proofs.OthersKept.{TellsAll}
+use Rattle.wl_plain.proofs.OthersOwn.{moves, pressed-so, raised-client, released-so}
+use Rattle.wl_plain.proofs.OthersSettling.{Stays}
+use Rattle.wl_plain.proofs.OthersTold.{TellsBy}
 
 -- ---- what a client is told
 

@@ -24,14 +24,14 @@ use Rattle.wl_plain.specs.Stacked.{all_windows}
 use Rattle.wl_plain.specs.Step.{toplevel_given, with_peer}
 use Rattle.wl_plain.proofs.Simply.{Answers, Asking, Becomes, CommitSurface, DestroySurface, DestroyToplevel, Simple, WantsOr, changed_simply, effect_on, stacked_simply, told_simply, wants_simply}
 use Rattle.wl_plain.specs.NoMore.{AreToplevels, IsToplevel, OwnsToplevelsBy, OwnsToplevelsOnly}
-use Rattle.wl_plain.specs.Whole.{done_for}
-use Rattle.wl_plain.proofs.Forms.{after_why, Answers as WholeAnswers, Becomes as WholeBecomes, Does, WantsOr as WholeWantsOr}
+use Rattle.wl_plain.specs.Happens.{done_for}
+use Rattle.wl_plain.proofs.Forms.{after_why, Answers as StepAnswers, Becomes as StepBecomes, Does, WantsOr as StepWantsOr}
 use Rattle.wl_plain.proofs.Behind.{changed-status}
 use Rattle.wl_plain.proofs.BridgeBuffers.{nothing-after}
 use Rattle.wl_plain.proofs.BridgeChanged.{answers-same, changed-same, no-popups, stacked-same, stage-top, wants-same}
 use Rattle.wl_plain.proofs.BridgeJudged.{Pairs, Same, asks, commit, ends, goes, move}
 use Rattle.wl_plain.proofs.Places.{number-same, number-twice, stacked-clients}
-use Rattle.wl_plain.proofs.WholeOneRunEnds.{queues-status}
+use Rattle.wl_plain.proofs.OneRunEnds.{queues-status}
 
 -- ---- the role objects stay toplevels
 
@@ -115,7 +115,7 @@ pub becomes-same : (c : ℕ) (r : Resident) (q : Peer) (d : Desktop) → d.point
 becomes-same c r q d still = after-still q.status c (become c r q d) (by-pointer q.status c r q d ∙ still)
 
 -- what a client becomes is settled
-pub becomes-whole : (Q : Peer → Type 0) (c : ℕ) (r : Resident) (d new : Desktop) → d.pointer ≡ first_pointer → Becomes Q c r d new → WholeBecomes Q c r d new
+pub becomes-whole : (Q : Peer → Type 0) (c : ℕ) (r : Resident) (d new : Desktop) → d.pointer ≡ first_pointer → Becomes Q c r d new → StepBecomes Q c r d new
 becomes-whole Q c r d new still h =
     (h.0, h.1, settles-to (becomes c r h.0 d) (become c r h.0 d) new (becomes-same c r h.0 d still) h.2 (by-pointer h.0.status c r h.0 d ∙ still))
 
@@ -237,19 +237,19 @@ pairs-peer r p (Ok ask) (Err other) same = absurd same
 pairs-peer r p (Err refusal) (Ok demand) same = absurd same
 
 module _ (c : ℕ) (there : Resident) (d new : Desktop) (is : client_at c d ≡ Some there) (still : d.pointer ≡ first_pointer) where
-  wants-whole : (b : Bool) (r : Resident) (Later Then : Type 0) → (Later → Then) → WantsOr b Later c r d new → WholeWantsOr b Then c r d new
+  wants-whole : (b : Bool) (r : Resident) (Later Then : Type 0) → (Later → Then) → WantsOr b Later c r d new → StepWantsOr b Then c r d new
   wants-whole false r Later Then next h = next h
   wants-whole true r Later Then next (inl h) = inl (becomes-whole (LacksMemory r.peer) c r d new still h)
   wants-whole true r Later Then next (inr h) = inr (next h)
 
-  pub answers-whole : (judged : Result Simple Refusal) (demanded : Result Demand Refusal) (r : Resident) → r.peer.status ≡ None → OwnsToplevelsOnly r → Pairs r judged demanded → Answers judged c r d new → WholeAnswers served_now demanded c r d new
+  pub answers-whole : (judged : Result Simple Refusal) (demanded : Result Demand Refusal) (r : Resident) → r.peer.status ≡ None → OwnsToplevelsOnly r → Pairs r judged demanded → Answers judged c r d new → StepAnswers served_now demanded c r d new
   answers-whole (Ok ask) (Ok demand) r alive only same h =
       let now : Resident = with_peer (counted r.peer) r in
       let same_now : Same now ask demand = same-peer r (counted r.peer) ask demand same in
-      subst (λ b. WholeWantsOr b (Does served_now c demand now d new) c now d new) (sym (wants-same ask demand now same_now))
+      subst (λ b. StepWantsOr b (Does served_now c demand now d new) c now d new) (sym (wants-same ask demand now same_now))
       (wants-whole (wants_simply ask) now _ _ (λ k. does-whole c ask demand now there d new is still alive (only-peer r (counted r.peer) refl only) same_now k) h)
   answers-whole (Err refusal) (Err other) r alive only same h =
-      subst (λ e. WholeAnswers served_now (Err e) c r d new) same (becomes-whole _ c r d new still h)
+      subst (λ e. StepAnswers served_now (Err e) c r d new) same (becomes-whole _ c r d new still h)
   answers-whole (Ok ask) (Err other) r alive only same h = absurd same
   answers-whole (Err refusal) (Ok demand) r alive only same h = absurd same
 

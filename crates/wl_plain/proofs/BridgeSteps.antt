@@ -15,16 +15,16 @@ use Rattle.wl_plain.specs.Laws.{toplevels_of}
 use Rattle.wl_plain.specs.LeftOut.{served_now}
 use Rattle.wl_plain.specs.Settling.{TellsAt, becomes, unstruck}
 use Rattle.wl_plain.specs.Step.{with_peer}
-use Rattle.wl_plain.specs.Steps.{IsClosed, IsLeft, IsSent, IsStored, Act, Connect, Feed, Store, Leave, Tick, Send, Close, Motion, Button, closed_by}
+use Rattle.wl_plain.specs.Acts.{IsClosed, IsLeft, IsSent, IsStored, Act, Connect, Feed, Store, Leave, Tick, Send, Close, Motion, Button, closed_by}
 use Rattle.wl_plain.specs.NoMore.{NoMore, OwnsToplevelsAt, OwnsToplevelsBy}
-use Rattle.wl_plain.specs.Whole.{TellsFrames, callbacks_due, frames_told, Happens}
-use Rattle.wl_plain.proofs.Forms.{ChangesAt as WholeChangesAt, LeavesAt, Shows}
+use Rattle.wl_plain.specs.Happens.{TellsFrames, callbacks_due, frames_told, Happens}
+use Rattle.wl_plain.proofs.Forms.{ChangesAt as StepChangesAt, LeavesAt, Shows}
 use Rattle.wl_plain.proofs.Altering.{Alters, ChangesAt, left_so}
 use Rattle.wl_plain.proofs.BridgeServes.{becomes-same, living, settles-to}
 use Rattle.wl_plain.proofs.OwningKeys.{none-some}
 use Rattle.wl_plain.proofs.Places.{client-kept, number-other, number-same}
-use Rattle.wl_plain.proofs.WholeOneRun.{held}
-use Rattle.wl_plain.proofs.WholeOneRunStays.{sent-status, stored-status}
+use Rattle.wl_plain.proofs.OneRun.{held}
+use Rattle.wl_plain.proofs.OneRunStays.{sent-status, stored-status}
 
 -- ---- a client that ended
 
@@ -57,7 +57,7 @@ module _ (c : ℕ) (r : Resident) (d : Desktop) (owns : OwnsToplevelsBy r.peer.s
       (none-taken c d.standing (ended-owns r.peer.status why.0 r (toplevels_of c d) why.1 owns).1)
   left-held (Some x) keeps gone = ap (λ s. become_by s c r x d) (keeps x refl) ∙ stays-by r.peer.status x refl
 
-held-changed : (R : Peer → Done → Option Peer → Type 0) (absent done : Done) (c : ℕ) (r : Resident) (d new : Desktop) (q : Option Peer) → R r.peer done q → new ≡ held q c r d → WholeChangesAt R absent c (Some r) d done new
+held-changed : (R : Peer → Done → Option Peer → Type 0) (absent done : Done) (c : ℕ) (r : Resident) (d new : Desktop) (q : Option Peer) → R r.peer done q → new ≡ held q c r d → StepChangesAt R absent c (Some r) d done new
 held-changed R absent done c r d new None h e = (None, h, e)
 held-changed R absent done c r d new (Some q) h e = (Some q, h, e)
 
@@ -67,7 +67,7 @@ Leaves R =
     (p : Peer) (done : Done) (q : Option Peer) → R p done q
     → ((x : Peer) → q ≡ Some x → x.status ≡ p.status) × (q ≡ None → (cause : Cause) × (p.status ≡ Some cause))
 
-pub changes-whole : (R : Peer → Done → Option Peer → Type 0) → Leaves R → (absent done : Done) (c : ℕ) (o : Option Resident) (d new : Desktop) → OwnsToplevelsAt o (toplevels_of c d) → ChangesAt R absent c o d done new → WholeChangesAt R absent c o d done new
+pub changes-whole : (R : Peer → Done → Option Peer → Type 0) → Leaves R → (absent done : Done) (c : ℕ) (o : Option Resident) (d new : Desktop) → OwnsToplevelsAt o (toplevels_of c d) → ChangesAt R absent c o d done new → StepChangesAt R absent c o d done new
 unfolding Leaves
 changes-whole R leaves absent done c None d new owns h = h
 changes-whole R leaves absent done c (Some r) d new owns h =

@@ -9,12 +9,12 @@ use Rattle.wl_scene.specs.Stacking.{nothing_owned}
 use Rattle.wl_scene.specs.Windows.{Window}
 use Rattle.wl_plain.specs.Changing.{drawing}
 use Rattle.wl_plain.specs.Desktop.{Desktop, Resident, client_at, owned_in, owned_of, resident_of, with_client}
-use Rattle.wl_plain.specs.Settling.{Enters, Leaves, MovesUnless, Moving, Settles, Strike, Tells, TellsAt, TellsUnless, ended_all, ended_at, ended_by, is_settled, target_now, unstruck}
+use Rattle.wl_plain.specs.Settling.{Enters, Leaves, MovesUnless, Midstep, Settles, Strike, Tells, TellsAt, TellsUnless, ended_all, ended_at, ended_by, is_settled, target_now, unstruck}
 use Rattle.wl_plain.specs.Stacked.{all_windows}
 use Rattle.wl_plain.specs.Through.{EndsFirstThrough, SettlesAllThrough, ending_through, ends_through, settling_through}
 use Rattle.wl_plain.proofs.Places.{number-other, number-same}
-use Rattle.wl_plain.proofs.WholeOneRunFates.{same-or}
-use Rattle.wl_plain.proofs.WholeOutput.{ended-same, settles-still}
+use Rattle.wl_plain.proofs.OneRunFates.{same-or}
+use Rattle.wl_plain.proofs.Output.{ended-same, settles-still}
 
 -- a client owns what it owned, or nothing any more
 abbrev pub Owns : ℕ → Desktop → Desktop → Type 0
@@ -38,38 +38,38 @@ drawing-owned true r = refl
 drawing-owned false r = refl
 
 -- each client owns after it what it owned before
-abbrev AllOwn : Moving → Moving → Type 0
+abbrev AllOwn : Midstep → Midstep → Type 0
 AllOwn old new = (k : ℕ) → owned_in new.desktop k ≡ owned_in old.desktop k
 
-same-own : (old new : Moving) → new ≡ old → AllOwn old new
-same-own old new e k = ap (λ (m : Moving). owned_in m.desktop k) e
+same-own : (old new : Midstep) → new ≡ old → AllOwn old new
+same-own old new e k = ap (λ (m : Midstep). owned_in m.desktop k) e
 
-tells-owned : (change : Resident → Resident) (events : Resident → List Said) → ((r : Resident) → (change r).owned ≡ r.owned) → (c : ℕ) (old new : Moving) → Tells change events c old new → AllOwn old new
+tells-owned : (change : Resident → Resident) (events : Resident → List Said) → ((r : Resident) → (change r).owned ≡ r.owned) → (c : ℕ) (old new : Midstep) → Tells change events c old new → AllOwn old new
 tells-owned change events same c old new h = at (client_at c old.desktop) refl h
   where
     unless : (b : Bool) (r : Resident) → client_at c old.desktop ≡ Some r → TellsUnless b change events c r old new → AllOwn old new
     unless true r there h = same-own old new h
-    unless false r there h = λ k. ap (λ (m : Moving). owned_in m.desktop k) h.3 ∙ put-owned c k r (record (change r) { peer = h.0 }) old.desktop there (same r)
+    unless false r there h = λ k. ap (λ (m : Midstep). owned_in m.desktop k) h.3 ∙ put-owned c k r (record (change r) { peer = h.0 }) old.desktop there (same r)
 
     at : (o : Option Resident) → client_at c old.desktop ≡ o → TellsAt change events c o old new → AllOwn old new
     at None there h = same-own old new h
     at (Some r) there h = unless _ r there h
 
-leaves-owned : (t : Option Target) (old new : Moving) → Leaves t old new → AllOwn old new
+leaves-owned : (t : Option Target) (old new : Midstep) → Leaves t old new → AllOwn old new
 leaves-owned None old new h = same-own old new h
 leaves-owned (Some t) old new h = tells-owned _ _ (λ r. drawing-owned _ r) t.client old new h
 
-enters-owned : (t : Option Target) (windows : List Window) (old new : Moving) → Enters t windows old new → AllOwn old new
+enters-owned : (t : Option Target) (windows : List Window) (old new : Midstep) → Enters t windows old new → AllOwn old new
 enters-owned None windows old new h = same-own old new h
 enters-owned (Some t) windows old new h = tells-owned _ _ (λ r. drawing-owned _ r) t.client old new h
 
-settles-owned : (old new : Moving) → Settles old new → AllOwn old new
+settles-owned : (old new : Midstep) → Settles old new → AllOwn old new
 settles-owned old new h = at (is_settled old.desktop) h
   where
     at : (b : Bool) → MovesUnless b (target_now old.desktop) old new → AllOwn old new
     at true h = same-own old new h
     at false h = λ k.
-        ap (λ (m : Moving). owned_in m.desktop k) h.4
+        ap (λ (m : Midstep). owned_in m.desktop k) h.4
         ∙ enters-owned (target_now old.desktop) (all_windows old.desktop) h.0 h.2 h.3 k
         ∙ leaves-owned old.desktop.pointer.focus old h.0 h.1 k
 
@@ -101,7 +101,7 @@ along-ends (s ∷ ss) d later new k = (
   along-ends ss (ended_by s d) later new k,
 )
 
-along-first : (Next : Moving → List Desktop → Desktop → Type 0) → ((m : Moving) (path : List Desktop) (new : Desktop) → Next m path new → Along m.desktop path new) → (ss : List Strike) (d : Desktop) (path : List Desktop) (new : Desktop) → EndsFirstThrough Next ss d path new → Along d path new
+along-first : (Next : Midstep → List Desktop → Desktop → Type 0) → ((m : Midstep) (path : List Desktop) (new : Desktop) → Next m path new → Along m.desktop path new) → (ss : List Strike) (d : Desktop) (path : List Desktop) (new : Desktop) → EndsFirstThrough Next ss d path new → Along d path new
 along-first Next next [] d path new h = subst (λ (p : List Desktop). Along d p new) (sym h.0) h.1
 along-first Next next (s ∷ ss) d path new h =
     let it : Along d (ended_by s d ∷ h.0) new = (
@@ -111,7 +111,7 @@ along-first Next next (s ∷ ss) d path new h =
     ) in
     subst (λ (p : List Desktop). Along d p new) (sym h.1) it
 
-along-settles : (n : ℕ) (old : Moving) (path : List Desktop) (new : Desktop) → SettlesAllThrough n old path new → Along old.desktop path new
+along-settles : (n : ℕ) (old : Midstep) (path : List Desktop) (new : Desktop) → SettlesAllThrough n old path new → Along old.desktop path new
 along-settles zero old path new h = subst (λ (p : List Desktop). Along old.desktop p new) (sym h.0) h.1
 along-settles (suc n) old path new h =
     let it : Along old.desktop (h.0.desktop ∷ h.2) new = (
@@ -125,7 +125,7 @@ along-settles (suc n) old path new h =
 abbrev pub Follow : List Desktop → Desktop → Type 0
 Follow path new = (first : Desktop) × (later : List Desktop) × (path ≡ first ∷ later) × Along first later new
 
-pub settling-follows : (path : List Desktop) (new : Desktop) (mid : Moving) → settling_through path new mid → Follow path new
+pub settling-follows : (path : List Desktop) (new : Desktop) (mid : Midstep) → settling_through path new mid → Follow path new
 settling-follows path new mid h = (
   mid.desktop,
   ends_through mid.struck mid.desktop ++ h.0,
@@ -133,5 +133,5 @@ settling-follows path new mid h = (
   along-ends mid.struck mid.desktop h.0 new (along-settles 33 (unstruck (ended_all mid.struck mid.desktop)) h.0 new h.2),
 )
 
-pub ending-follows : (path : List Desktop) (new : Desktop) (mid : Moving) → ending_through path new mid → Follow path new
+pub ending-follows : (path : List Desktop) (new : Desktop) (mid : Midstep) → ending_through path new mid → Follow path new
 ending-follows path new mid h = (mid.desktop, h.0, h.1, along-first (SettlesAllThrough 32) (along-settles 32) mid.struck mid.desktop h.0 new h.2)

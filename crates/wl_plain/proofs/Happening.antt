@@ -27,13 +27,13 @@ use Rattle.wl_plain.specs.Desktop.{Desktop, Resident, client_at, with_client}
 use Rattle.wl_plain.specs.Laws.{status_in}
 use Rattle.wl_plain.specs.LeftOut.{LeftOut}
 use Rattle.wl_plain.specs.Replies.{replies}
-use Rattle.wl_plain.specs.Settling.{EndsAndSettles, EndsFirst, Enters, Leaves, MovesUnless, Moving, QueuesFirst, QueuesTo, Settles, SettlesAll, SettlesEnds, Strike, Tells, TellsAt, TellsUnless, becomes, ended_all, is_settled, is_struck, target_now, unstruck}
+use Rattle.wl_plain.specs.Settling.{EndsAndSettles, EndsFirst, Enters, Leaves, MovesUnless, Midstep, QueuesFirst, QueuesTo, Settles, SettlesAll, SettlesEnds, Strike, Tells, TellsAt, TellsUnless, becomes, ended_all, is_settled, is_struck, target_now, unstruck}
 use Rattle.wl_plain.specs.Stacked.{all_windows}
 use Rattle.wl_plain.specs.Step.{with_peer}
 use Rattle.wl_plain.proofs.Idling.{IsTaken, all-taken}
-use Rattle.wl_plain.specs.Steps.{Act, Connect, Feed, Store, Leave, Tick, Send, Close, Motion, Button, IsClosed, IsSent, IsStored, closed_by, fed_of, lowest, stored_of}
+use Rattle.wl_plain.specs.Acts.{Act, Connect, Feed, Store, Leave, Tick, Send, Close, Motion, Button, IsClosed, IsSent, IsStored, closed_by, fed_of, lowest, stored_of}
 use Rattle.wl_plain.proofs.Forms.{ConnectsAt}
-use Rattle.wl_plain.specs.Whole.{Dismisses, DismissesUnless, FeedsAt, Happens, IsFedAt, MotionSettles, Reaches, StopsAt, TellsButton, TellsFrames, TellsMotion, done_for, hit_now, is_hit_of, point_in, pointed, raised_by, wants_memory, with_press, with_release}
+use Rattle.wl_plain.specs.Happens.{Dismisses, DismissesUnless, FeedsAt, Happens, IsFedAt, MotionSettles, Reaches, StopsAt, TellsButton, TellsFrames, TellsMotion, done_for, hit_now, is_hit_of, point_in, pointed, raised_by, wants_memory, with_press, with_release}
 use Rattle.wl_plain.proofs.Forms.{Answers, Becomes, Buttons, ChangesAt, Does, LeavesAt, MovesTo, PressesIf, ReleasesIf, ServesAt, Shows, Takes, WantsOr, after_why}
 
 -- ---- events
@@ -46,50 +46,50 @@ queues : (events : List Said) (p : Peer) → QueuesTo events p (queued_to events
 queues [] p = (refl, refl)
 queues (event ∷ events) p = queues-first (has_room p.unsent event) events (queued event p) p (queues events (queued event p))
 
-tells-unless : (b : Bool) (change : Resident → Resident) (events : Resident → List Said) (c : ℕ) (r : Resident) (m : Moving) → TellsUnless b change events c r m (tells_unless b change events c r m)
+tells-unless : (b : Bool) (change : Resident → Resident) (events : Resident → List Said) (c : ℕ) (r : Resident) (m : Midstep) → TellsUnless b change events c r m (tells_unless b change events c r m)
 tells-unless true change events c r m = refl
 tells-unless false change events c r m =
     ((queued_to (events r) (change r).peer).0, (queued_to (events r) (change r).peer).1, queues (events r) (change r).peer, refl)
 
-tells-at : (change : Resident → Resident) (events : Resident → List Said) (c : ℕ) (o : Option Resident) (m : Moving) → TellsAt change events c o m (tells_at change events c o m)
+tells-at : (change : Resident → Resident) (events : Resident → List Said) (c : ℕ) (o : Option Resident) (m : Midstep) → TellsAt change events c o m (tells_at change events c o m)
 tells-at change events c None m = refl
 tells-at change events c (Some r) m = tells-unless (is_some r.peer.status || is_struck c m.struck) change events c r m
 
-tells-so : (change : Resident → Resident) (events : Resident → List Said) (c : ℕ) (m : Moving) → Tells change events c m (tells change events c m)
+tells-so : (change : Resident → Resident) (events : Resident → List Said) (c : ℕ) (m : Midstep) → Tells change events c m (tells change events c m)
 tells-so change events c m = tells-at change events c (client_at c m.desktop) m
 
 -- ---- the focus, and ends
 
-leaves-so : (t : Option Target) (m : Moving) → Leaves t m (leaves t m)
+leaves-so : (t : Option Target) (m : Midstep) → Leaves t m (leaves t m)
 leaves-so None m = refl
 leaves-so (Some t) m = tells-so _ _ t.client m
 
-enters-so : (t : Option Target) (windows : List Window) (m : Moving) → Enters t windows m (enters t windows m)
+enters-so : (t : Option Target) (windows : List Window) (m : Midstep) → Enters t windows m (enters t windows m)
 enters-so None windows m = refl
 enters-so (Some t) windows m = tells-so _ _ t.client m
 
-moves-unless : (b : Bool) (t : Option Target) (m : Moving) → MovesUnless b t m (moves_unless b t m)
+moves-unless : (b : Bool) (t : Option Target) (m : Midstep) → MovesUnless b t m (moves_unless b t m)
 moves-unless true t m = refl
 moves-unless false t m =
-    let left : Moving = leaves m.desktop.pointer.focus m in
+    let left : Midstep = leaves m.desktop.pointer.focus m in
     (left, leaves-so m.desktop.pointer.focus m, enters t (all_windows m.desktop) left, enters-so t (all_windows m.desktop) left, refl)
 
-settles-so : (m : Moving) → Settles m (settles m)
+settles-so : (m : Midstep) → Settles m (settles m)
 settles-so m = moves-unless (is_settled m.desktop) (target_now m.desktop) m
 
-ends-first : (Next : Moving → Desktop → Type 0) (next : Moving → Desktop) → ((m : Moving) → Next m (next m)) → (ss : List Strike) (d : Desktop) → EndsFirst Next ss d (ends_first next ss d)
+ends-first : (Next : Midstep → Desktop → Type 0) (next : Midstep → Desktop) → ((m : Midstep) → Next m (next m)) → (ss : List Strike) (d : Desktop) → EndsFirst Next ss d (ends_first next ss d)
 ends-first Next next so [] d = refl
 ends-first Next next so (s ∷ ss) d = so _
 
-settles-all : (n : ℕ) (m : Moving) → SettlesAll n m (settles_all n m)
+settles-all : (n : ℕ) (m : Midstep) → SettlesAll n m (settles_all n m)
 settles-all zero m = refl
 settles-all (suc n) m =
     (settles m, settles-so m, ends-first (SettlesAll n) (λ mid. settles_all n mid) (λ mid. settles-all n mid) (settles m).struck (settles m).desktop)
 
-settles-ends : (mid : Moving) → SettlesEnds mid (settles_ends mid)
+settles-ends : (mid : Midstep) → SettlesEnds mid (settles_ends mid)
 settles-ends mid = ends-first (SettlesAll 32) (λ m. settles_all 32 m) (λ m. settles-all 32 m) mid.struck mid.desktop
 
-ends-and-settles : (mid : Moving) → EndsAndSettles mid (ends_and_settles mid)
+ends-and-settles : (mid : Midstep) → EndsAndSettles mid (ends_and_settles mid)
 ends-and-settles mid = settles-all 33 (unstruck (ended_all mid.struck mid.desktop))
 
 -- ---- messages
@@ -216,30 +216,30 @@ module _ (out : LeftOut) where
 
   -- ---- the pointer
 
-  motion-for : (time : ℕ) (moves t : Option Target) (m : Moving) → TellsMotion time moves t m (motion_for time moves t m)
+  motion-for : (time : ℕ) (moves t : Option Target) (m : Midstep) → TellsMotion time moves t m (motion_for time moves t m)
   motion-for time None None m = refl
   motion-for time (Some moved) None m = refl
   motion-for time None (Some t) m = tells-so _ _ t.client m
   motion-for time (Some moved) (Some t) m = refl
 
-  motion-settles : (b : Bool) (time : ℕ) (m : Moving) → MotionSettles b time m (motion_settles b time m)
+  motion-settles : (b : Bool) (time : ℕ) (m : Midstep) → MotionSettles b time m (motion_settles b time m)
   motion-settles true time m = motion-for time m.desktop.pointer.move m.desktop.pointer.focus m
   motion-settles false time m = settles-so m
 
   moves-so : (time : ℕ) (d : Desktop) → MovesTo time d (moved_to time d)
   moves-so time d =
-      let told : Moving = motion_settles (is_settled d) time (unstruck d) in
+      let told : Midstep = motion_settles (is_settled d) time (unstruck d) in
       (told, motion-settles (is_settled d) time (unstruck d), settles-ends told)
 
-  dismisses-unless : (b : Bool) (c : ℕ) (m : Moving) → DismissesUnless b c m (dismisses_unless b c m)
+  dismisses-unless : (b : Bool) (c : ℕ) (m : Midstep) → DismissesUnless b c m (dismisses_unless b c m)
   dismisses-unless true c m = refl
   dismisses-unless false c m = tells-so _ _ c m
 
-  dismisses-so : (o : Option ℕ) (w : Option Window) (m : Moving) → Dismisses o w m (dismisses o w m)
+  dismisses-so : (o : Option ℕ) (w : Option Window) (m : Midstep) → Dismisses o w m (dismisses o w m)
   dismisses-so None w m = refl
   dismisses-so (Some holder) w m = dismisses-unless (is_hit_of holder w) holder m
 
-  button-so : (time button : ℕ) (pressed : Bool) (t : Option Target) (m : Moving) → TellsButton time button pressed t m (tells_button time button pressed t m)
+  button-so : (time button : ℕ) (pressed : Bool) (t : Option Target) (m : Midstep) → TellsButton time button pressed t m (tells_button time button pressed t m)
   button-so time button pressed None m = refl
   button-so time button pressed (Some t) m = tells-so _ _ t.client m
 
@@ -247,16 +247,16 @@ module _ (out : LeftOut) where
   pressed-so false time button d = refl
   pressed-so true time button d =
       let w : Option Window = hit_now d.pointer.place (all_windows d) in
-      let first : Moving = unstruck (with_press button (raised_by w d)) in
-      let dismissed : Moving = dismisses (grab_holder d) w first in
-      let told : Moving = tells_button time button true d.pointer.focus dismissed in
+      let first : Midstep = unstruck (with_press button (raised_by w d)) in
+      let dismissed : Midstep = dismisses (grab_holder d) w first in
+      let told : Midstep = tells_button time button true d.pointer.focus dismissed in
       (dismissed, dismisses-so (grab_holder d) w first, told, button-so time button true d.pointer.focus dismissed, settles told, settles-so told, settles-ends (settles told))
 
   released-so : (b : Bool) (time button : ℕ) (d : Desktop) → ReleasesIf b time button d (released_if b time button d)
   released-so false time button d = refl
   released-so true time button d =
-      let first : Moving = unstruck (with_release button d) in
-      let told : Moving = tells_button time button false d.pointer.focus first in
+      let first : Midstep = unstruck (with_release button d) in
+      let told : Midstep = tells_button time button false d.pointer.focus first in
       (told, button-so time button false d.pointer.focus first, settles told, settles-so told, settles-ends (settles told))
 
   buttons-so : (pressed : Bool) (time button : ℕ) (d : Desktop) → Buttons pressed time button d (buttons pressed time button d)

@@ -9,7 +9,7 @@ use Rattle.wl_plain.specs.Happenings.{Happening, HappeningsAreSound, LeadsAll, M
 use Rattle.wl_plain.specs.LeftOut.{LeftOut}
 use Rattle.wl_plain.specs.Settling.{becomes, unstruck}
 use Rattle.wl_plain.specs.Step.{with_peer}
-use Rattle.wl_plain.specs.Whole.{FeedsAt, IsFedAt, Reaches, StopsAt}
+use Rattle.wl_plain.specs.Happens.{FeedsAt, IsFedAt, Reaches, StopsAt}
 use Rattle.wl_plain.proofs.Orderly.{AreOrderly}
 use Rattle.wl_plain.proofs.OrderlyRun.{empty-orderly}
 use Rattle.wl_plain.proofs.RunSound.{orderly-is-sound}

@@ -23,9 +23,9 @@ use Rattle.wl_plain.specs.Demanding.{effect_of_commit, judge_all}
 use Rattle.wl_plain.specs.Desktop.{Callback, Desktop, Resident, become_by, client_at, client_in, place, resident_of, with_client, with_number, with_place}
 use Rattle.wl_plain.specs.LeftOut.{LeftOut}
 use Rattle.wl_plain.specs.Replies.{replies}
-use Rattle.wl_plain.specs.Whole.{done_for}
+use Rattle.wl_plain.specs.Happens.{done_for}
 use Rattle.wl_plain.proofs.Forms.{after_why}
-use Rattle.wl_plain.specs.Settling.{Moving, Strike, after_status, becomes, ended_at, is_settled, is_struck, leave_drawn, target_now, told_drawn, unstruck}
+use Rattle.wl_plain.specs.Settling.{Midstep, Strike, after_status, becomes, ended_at, is_settled, is_struck, leave_drawn, target_now, told_drawn, unstruck}
 use Rattle.wl_plain.specs.Stacked.{all_windows}
 use Rattle.wl_plain.specs.Step.{with_peer}
 use Rattle.wl_plain.proofs.Simply.{Asking}
@@ -75,7 +75,7 @@ IsQuiet change = (r : Resident) → ((change r).peer.status ≡ r.peer.status) �
 moved-leaves : (rest : List ℕ) (s t : Option Cause) (a b : List ℕ) → t ≡ s → b ≡ a → LeavesBy rest s a → LeavesBy rest t b
 moved-leaves rest s t a b e f h = subst (λ (t : Option Cause). LeavesBy rest t b) (sym e) (subst (λ (b : List ℕ). LeavesBy rest s b) (sym f) h)
 
-tells-leaves-by : (rest : List ℕ) (b : Bool) (change : Resident → Resident) (events : Resident → List Said) (k c : ℕ) (r : Resident) (m : Moving) → IsQuiet change → client_at k m.desktop ≡ Some r → Leaves rest c m.desktop → Leaves rest c (tells_unless b change events k r m).desktop
+tells-leaves-by : (rest : List ℕ) (b : Bool) (change : Resident → Resident) (events : Resident → List Said) (k c : ℕ) (r : Resident) (m : Midstep) → IsQuiet change → client_at k m.desktop ≡ Some r → Leaves rest c m.desktop → Leaves rest c (tells_unless b change events k r m).desktop
 tells-leaves-by rest true change events k c r m quiet e h = h
 tells-leaves-by rest false change events k c r m quiet e h =
     number-leaves rest m.desktop.clients k c _ h
@@ -83,11 +83,11 @@ tells-leaves-by rest false change events k c r m quiet e h =
     (moved-leaves rest r.peer.status (change r).peer.status r.peer.rest (change r).peer.rest (quiet r).0 (quiet r).1
     (subst (λ (o : Option Resident). LeavesAt rest o) e (subst (λ (n : ℕ). Leaves rest n m.desktop) (sym same) h))))
 
-tells-leaves-at : (rest : List ℕ) (change : Resident → Resident) (events : Resident → List Said) (k c : ℕ) (o : Option Resident) (m : Moving) → IsQuiet change → client_at k m.desktop ≡ o → Leaves rest c m.desktop → Leaves rest c (tells_at change events k o m).desktop
+tells-leaves-at : (rest : List ℕ) (change : Resident → Resident) (events : Resident → List Said) (k c : ℕ) (o : Option Resident) (m : Midstep) → IsQuiet change → client_at k m.desktop ≡ o → Leaves rest c m.desktop → Leaves rest c (tells_at change events k o m).desktop
 tells-leaves-at rest change events k c None m quiet e h = h
 tells-leaves-at rest change events k c (Some r) m quiet e h = tells-leaves-by rest (is_some r.peer.status || is_struck k m.struck) change events k c r m quiet e h
 
-tells-leaves : (rest : List ℕ) (change : Resident → Resident) (events : Resident → List Said) (k c : ℕ) (m : Moving) → IsQuiet change → Leaves rest c m.desktop → Leaves rest c (tells change events k m).desktop
+tells-leaves : (rest : List ℕ) (change : Resident → Resident) (events : Resident → List Said) (k c : ℕ) (m : Midstep) → IsQuiet change → Leaves rest c m.desktop → Leaves rest c (tells change events k m).desktop
 tells-leaves rest change events k c m quiet h = tells-leaves-at rest change events k c (client_at k m.desktop) m quiet refl h
 
 -- ---- the focus, and ends
@@ -96,15 +96,15 @@ drawing-quiet : (b : Bool) (r : Resident) → ((drawing b r).peer.status ≡ r.p
 drawing-quiet true r = (refl, refl)
 drawing-quiet false r = (refl, refl)
 
-left-leaves : (rest : List ℕ) (c : ℕ) (t : Option Target) (m : Moving) → Leaves rest c m.desktop → Leaves rest c (leaves t m).desktop
+left-leaves : (rest : List ℕ) (c : ℕ) (t : Option Target) (m : Midstep) → Leaves rest c m.desktop → Leaves rest c (leaves t m).desktop
 left-leaves rest c None m h = h
 left-leaves rest c (Some t) m h = tells-leaves rest (leave_drawn t.surface) _ t.client c m (λ r. drawing-quiet _ r) h
 
-entered-leaves : (rest : List ℕ) (c : ℕ) (t : Option Target) (windows : List Window) (m : Moving) → Leaves rest c m.desktop → Leaves rest c (enters t windows m).desktop
+entered-leaves : (rest : List ℕ) (c : ℕ) (t : Option Target) (windows : List Window) (m : Midstep) → Leaves rest c m.desktop → Leaves rest c (enters t windows m).desktop
 entered-leaves rest c None windows m h = h
 entered-leaves rest c (Some t) windows m h = tells-leaves rest told_drawn _ t.client c m (λ r. drawing-quiet _ r) h
 
-moves-leaves : (rest : List ℕ) (c : ℕ) (b : Bool) (t : Option Target) (m : Moving) → Leaves rest c m.desktop → Leaves rest c (moves_unless b t m).desktop
+moves-leaves : (rest : List ℕ) (c : ℕ) (b : Bool) (t : Option Target) (m : Midstep) → Leaves rest c m.desktop → Leaves rest c (moves_unless b t m).desktop
 moves-leaves rest c true t m h = h
 moves-leaves rest c false t m h = entered-leaves rest c t (all_windows m.desktop) (leaves m.desktop.pointer.focus m) (left-leaves rest c m.desktop.pointer.focus m h)
 
@@ -116,11 +116,11 @@ ended-leaves-at : (rest : List ℕ) (why : Cause) (k c : ℕ) (o : Option Reside
 ended-leaves-at rest why k c None d h = h
 ended-leaves-at rest why k c (Some r) d h = become-leaves rest (Some why) k c r (ended why r.peer) d (λ same. tt) h
 
-first-leaves : (rest : List ℕ) (c : ℕ) (next : Moving → Desktop) → ((m : Moving) → Leaves rest c m.desktop → Leaves rest c (next m)) → (ss : List Strike) (d : Desktop) → Leaves rest c d → Leaves rest c (ends_first next ss d)
+first-leaves : (rest : List ℕ) (c : ℕ) (next : Midstep → Desktop) → ((m : Midstep) → Leaves rest c m.desktop → Leaves rest c (next m)) → (ss : List Strike) (d : Desktop) → Leaves rest c d → Leaves rest c (ends_first next ss d)
 first-leaves rest c next keeps [] d h = h
 first-leaves rest c next keeps (s ∷ ss) d h = keeps _ (ended-leaves-at rest s.cause s.client c (client_at s.client d) d h)
 
-settles-leaves : (rest : List ℕ) (c n : ℕ) (m : Moving) → Leaves rest c m.desktop → Leaves rest c (settles_all n m)
+settles-leaves : (rest : List ℕ) (c n : ℕ) (m : Midstep) → Leaves rest c m.desktop → Leaves rest c (settles_all n m)
 settles-leaves rest c zero m h = h
 settles-leaves rest c (suc n) m h =
     first-leaves rest c (λ mid. settles_all n mid) (λ mid. settles-leaves rest c n mid) (settles m).struck (settles m).desktop

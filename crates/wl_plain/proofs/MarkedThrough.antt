@@ -11,7 +11,7 @@ use Rattle.wl_plain.specs.Happenings.{Happening, Leads, MarkedThrough, Message, 
 use Rattle.wl_plain.specs.LeftOut.{LeftOut}
 use Rattle.wl_plain.specs.Marks.{AreDistinct, at_least}
 use Rattle.wl_plain.specs.Moments.{applied_between, history_of, is_applied_by, marks_at_least_of, marks_at_least_through}
-use Rattle.wl_plain.specs.Settling.{Moving, becomes, unstruck}
+use Rattle.wl_plain.specs.Settling.{Midstep, becomes, unstruck}
 use Rattle.wl_plain.specs.Stacked.{all_windows}
 use Rattle.wl_plain.specs.Through.{ending_through, settling_through}
 use Rattle.wl_plain.proofs.Following.{Along, Follow, Owns, ending-follows, settling-follows}
@@ -21,7 +21,7 @@ use Rattle.wl_plain.proofs.ShownWindows.{IsShown, all-shown}
 use Rattle.wl_plain.proofs.Stacks.{each-map, or-left, or-right}
 use Rattle.wl_plain.proofs.Through.{happened, happens_leads_through, messages_lead_through, served}
 use Rattle.wl_plain.proofs.Together.{unmarked-together}
-use Rattle.wl_plain.proofs.WholeOutput.{happens-output, serves-same, stops-same}
+use Rattle.wl_plain.proofs.Output.{happens-output, serves-same, stops-same}
 
 -- ---- the desktops of a happening
 
@@ -33,7 +33,7 @@ leads-follow left (Receive c piece) d path new h = at (client_at c d) h
     at None h = absurd h
     at (Some r) h = (new, [], h.2, refl)
 leads-follow left (Message c) d path new h =
-    (served (settling_through path new) (settling_through path new) (λ (p : Follow path new). λ (mid : Moving). Unit {0}) (λ (p : Follow path new). λ (mid : Moving). Unit {0})
+    (served (settling_through path new) (settling_through path new) (λ (p : Follow path new). λ (mid : Midstep). Unit {0}) (λ (p : Follow path new). λ (mid : Midstep). Unit {0})
     (λ mid k. (settling-follows path new mid k, tt)) (λ mid k. (settling-follows path new mid k, tt)) left c (client_at c d) d h).0
 leads-follow left (Starve c) d path new h = at (client_at c d) h
   where
@@ -41,7 +41,7 @@ leads-follow left (Starve c) d path new h = at (client_at c d) h
     at None h = absurd h
     at (Some r) h = settling-follows path new (unstruck (becomes c r (ended Memory r.peer) d)) h.1
 leads-follow left (Single act done) d path new h =
-    (happened (settling_through path new) (ending_through path new) (λ (p : Follow path new). λ (mid : Moving). Unit {0}) (λ (p : Follow path new). λ (mid : Moving). Unit {0})
+    (happened (settling_through path new) (ending_through path new) (λ (p : Follow path new). λ (mid : Midstep). Unit {0}) (λ (p : Follow path new). λ (mid : Midstep). Unit {0})
     (λ mid k. (settling-follows path new mid k, tt)) (λ mid k. (ending-follows path new mid k, tt)) left act done d h).0
 
 pub leads-output : (left : LeftOut) (h : Happening) (d : Desktop) (path : List Desktop) (new : Desktop) → Leads left h d path new → new.output ≡ d.output

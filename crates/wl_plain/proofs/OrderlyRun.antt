@@ -15,11 +15,11 @@ use Rattle.wl_plain.specs.declared.answers.Done.{Done}
 use Rattle.wl_plain.specs.Desktop.{Desktop, Resident, arrival, client_at, client_in, empty, place, with_client, with_number, with_place}
 use Rattle.wl_plain.specs.Laws.{toplevels_of}
 use Rattle.wl_plain.specs.LeftOut.{LeftOut}
-use Rattle.wl_plain.specs.Settling.{Moving, becomes, ended_at, unstruck}
+use Rattle.wl_plain.specs.Settling.{Midstep, becomes, ended_at, unstruck}
 use Rattle.wl_plain.specs.Stacked.{all_windows}
 use Rattle.wl_plain.specs.Step.{with_peer}
-use Rattle.wl_plain.specs.Steps.{Act, Connect, Feed, Store, Leave, Tick, Send, Close, Motion, Button, IsClosed, IsSent, IsStored, closed_by, lowest, next_of}
-use Rattle.wl_plain.specs.Whole.{ChangesThen, ConnectsThen, Happens, HappensThen, LeavesThen, PressesThen, ReleasesThen, ending, hit_now, point_in, pointed, settling}
+use Rattle.wl_plain.specs.Acts.{Act, Connect, Feed, Store, Leave, Tick, Send, Close, Motion, Button, IsClosed, IsSent, IsStored, closed_by, lowest, next_of}
+use Rattle.wl_plain.specs.Happens.{ChangesThen, ConnectsThen, Happens, HappensThen, LeavesThen, PressesThen, ReleasesThen, ending, hit_now, point_in, pointed, settling}
 use Rattle.wl_plain.proofs.Orderly.{AreOrderly, IsOrderlyAt, IsOrderlyBy}
 use Rattle.wl_plain.proofs.OrderlyRunMessages.{MessageKeeps, fed-known}
 use Rattle.wl_plain.proofs.OrderlyRunTold.{Anyhow, Frames, IsAlike, Known, ToldOrderly, alike, ended-by-known, ending-known, known-so, left-orderly, nothing-orderly, orderly-all, orderly-stays, settling-known}
@@ -27,9 +27,9 @@ use Rattle.wl_plain.proofs.OrderlyRunTops.{pointed-known, raised-known}
 use Rattle.wl_plain.proofs.OwningKeys.{none-some, some-same}
 use Rattle.wl_plain.proofs.Places.{number-other, number-same}
 use Rattle.wl_plain.proofs.Through.{connects-with}
-use Rattle.wl_plain.proofs.WholeOneRunFates.{same-or}
-use Rattle.wl_plain.proofs.WholeOthers.{whole_others_stay}
-use Rattle.wl_plain.proofs.WholeOthersOwn.{moves-then, pressed-then, released-then, shown-then}
+use Rattle.wl_plain.proofs.OneRunFates.{same-or}
+use Rattle.wl_plain.proofs.OthersAlone.{others_are_left_alone}
+use Rattle.wl_plain.proofs.OthersOwn.{moves-then, pressed-then, released-then, shown-then}
 
 -- ---- a desktop without clients
 
@@ -156,8 +156,8 @@ module _ (frames : Frames) where
       subst (λ (o : Option Resident). Known c (ended_at a cause o d)) found (ended-by-known frames c (record { client = a; cause = cause }) d known)
 
   -- What follows for a client from the middle of a step, where it is orderly, with what comes then, follows from the step.
-  module _ (c : ℕ) (X : Type 0) (Next Settled : Moving → Type 0)
-      (next : (mid : Moving) → Known c mid.desktop → Next mid → X) (last : (mid : Moving) → Known c mid.desktop → Settled mid → X) where
+  module _ (c : ℕ) (X : Type 0) (Next Settled : Midstep → Type 0)
+      (next : (mid : Midstep) → Known c mid.desktop → Next mid → X) (last : (mid : Midstep) → Known c mid.desktop → Settled mid → X) where
     -- a client connects
     connects-known : (k : Option ℕ) (d : Desktop) (done : Done) → lowest d.clients ≡ k → Known c d → ConnectsThen k d done Settled → X
     connects-known None d done free known h = last (unstruck d) known h.1
@@ -183,7 +183,7 @@ module _ (frames : Frames) where
         at : (s : Option Cause) → r.peer.status ≡ s → X
         at (Some cause) e = let k : Settled (unstruck d) = rw e at h.1 in last (unstruck d) known k
         at None e =
-            let gone : Moving = unstruck (becomes a r (ended Gone r.peer) d) in
+            let gone : Midstep = unstruck (becomes a r (ended Gone r.peer) d) in
             let k : Next gone = rw e at h.1 in
             next gone (gone-known c a Gone r d found known) k
 
@@ -232,7 +232,7 @@ module _ (frames : Frames) where
       where
         at : (a ≡ c) ⊎ (a ≢ c) → Known c e
         at (inl same) = subst (λ (n : ℕ). Known n e) same (fed-known frames message left a piece (client_at a d) d done e refl (orderly a) h)
-        at (inr differ) = left-orderly frames c d e (whole_others_stay left (Feed a piece) done a c d e refl h differ) (orderly c)
+        at (inr differ) = left-orderly frames c d e (others_are_left_alone left (Feed a piece) done a c d e refl h differ) (orderly c)
 
     pub happens-orderly : (left : LeftOut) (act : Act) (done : Done) (d e : Desktop) → AreOrderly d → Happens left act done d e → AreOrderly e
     happens-orderly left Connect done d e orderly h c =

@@ -20,16 +20,16 @@ use Rattle.wl_plain.specs.Desktop.{Desktop, Resident, client_at, client_in, with
 use Rattle.wl_plain.specs.Laws.{toplevels_of}
 use Rattle.wl_plain.specs.LeftOut.{LeftOut}
 use Rattle.wl_plain.specs.Replies.{replies}
-use Rattle.wl_plain.specs.Settling.{Moving, becomes, unstruck}
+use Rattle.wl_plain.specs.Settling.{Midstep, becomes, unstruck}
 use Rattle.wl_plain.specs.Stacked.{all_windows}
 use Rattle.wl_plain.specs.Step.{with_peer}
-use Rattle.wl_plain.specs.Whole.{AnswersThen, BecomesThen, DoesThen, FeedsAt, IsFedAt, Reaches, ServesThen, StopsAt, TakesThen, WantsOrThen, changed_so, done_for, settling, wants_memory}
+use Rattle.wl_plain.specs.Happens.{AnswersThen, BecomesThen, DoesThen, FeedsAt, IsFedAt, Reaches, ServesThen, StopsAt, TakesThen, WantsOrThen, changed_so, done_for, settling, wants_memory}
 use Rattle.wl_plain.proofs.Forms.{ServesAt}
 use Rattle.wl_plain.proofs.Orderly.{IsOrderly, IsOrderlyAt, IsOrderlyBy}
 use Rattle.wl_plain.proofs.OrderlyRunSteady.{changed-steady}
 use Rattle.wl_plain.proofs.OrderlyRunTold.{Frames, Known, alike, becomes-ended, known-same, known-so, queued-orderly, settled, settling-known}
 use Rattle.wl_plain.proofs.Places.{number-same}
-use Rattle.wl_plain.proofs.WholeOneRunServes.{done-clients_stay}
+use Rattle.wl_plain.proofs.OneRunServes.{done-clients_stay}
 
 -- An accepted message leaves its client orderly.
 abbrev pub MessageKeeps : Type 0
@@ -65,7 +65,7 @@ module _ (frames : Frames) (message : MessageKeeps) (left : LeftOut) (c : ℕ) w
   -- ---- a message
 
   -- what follows from the middle of a step, with what comes then, follows from the message
-  module _ (X : Type 0) (Next : Moving → Type 0) (next : (mid : Moving) → Known c mid.desktop → Next mid → X) where
+  module _ (X : Type 0) (Next : Midstep → Type 0) (next : (mid : Midstep) → Known c mid.desktop → Next mid → X) where
     -- its client ends
     becomes-known : (Q : Peer → Type 0) → ((q : Peer) → Q q → HasEnded q) → (r there : Resident) (d : Desktop)
         → client_at c d ≡ Some there → BecomesThen Q c r d Next → X

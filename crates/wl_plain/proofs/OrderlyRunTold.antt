@@ -16,19 +16,19 @@ use Rattle.wl_plain.specs.Desktop.{Callback, Desktop, Resident, client_at, resid
 use Rattle.wl_plain.specs.Laws.{toplevels_of}
 use Rattle.wl_plain.specs.Pointing.{button_told, entered_surface, has_pointers, left_surface, motion_told}
 use Rattle.wl_plain.specs.Replies.{popups_done}
-use Rattle.wl_plain.specs.Settling.{EndsAndSettles, Moving, QueuesTo, Settles, Strike, becomes, ended_by, leave_drawn, told_drawn, unstruck}
+use Rattle.wl_plain.specs.Settling.{EndsAndSettles, Midstep, QueuesTo, Settles, Strike, becomes, ended_by, leave_drawn, told_drawn, unstruck}
 use Rattle.wl_plain.specs.Soundness.{IsLive}
 use Rattle.wl_plain.specs.Step.{with_peer, with_shell}
-use Rattle.wl_plain.specs.Whole.{callbacks_due, ending, frames_told, is_counting, noted, noted_if, number_of, settling, without_grabs}
-use Rattle.wl_plain.specs.WholeOthers.{IsLeftAlone, IsLeftBy, IsLeftLiving, IsLeftSo, IsToldTimes, told_once}
+use Rattle.wl_plain.specs.Happens.{callbacks_due, ending, frames_told, is_counting, noted, noted_if, number_of, settling, without_grabs}
+use Rattle.wl_plain.specs.Others.{IsLeftAlone, IsLeftBy, IsLeftLiving, IsLeftSo, IsToldTimes, told_once}
 use Rattle.wl_plain.proofs.Orderly.{HasObjects, HasRoles, IsForest, IsOrderly, IsOrderlyAt, IsOrderlyBy, StandsSo}
 use Rattle.wl_plain.proofs.OwningKeys.{none-some}
 use Rattle.wl_plain.proofs.OrderlyRunSteady.{callbacks-steady}
 use Rattle.wl_plain.proofs.Places.{number-same}
 use Rattle.wl_plain.proofs.Stacks.{differ}
-use Rattle.wl_plain.proofs.WholeOthersKept.{TellsAll, has-more}
-use Rattle.wl_plain.proofs.WholeOthersSettling.{AreIn, Stays, ended-in, ending-in, none_of, settled-in, settles-in, settling-in}
-use Rattle.wl_plain.proofs.WholeOthersTold.{TellsBy, ToldSo}
+use Rattle.wl_plain.proofs.OthersKept.{TellsAll, has-more}
+use Rattle.wl_plain.proofs.OthersSettling.{AreIn, Stays, ended-in, ending-in, none_of, settled-in, settles-in, settling-in}
+use Rattle.wl_plain.proofs.OthersTold.{TellsBy, ToldSo}
 
 -- What changes a client between its messages leaves what is known of its objects and roles, and of what stands.
 pub record Frames : Type 0 where
@@ -236,19 +236,19 @@ module _ (frames : Frames) where
       (ended-in c ToldOrderly orderly-all.focus IsOrderlyAt Anyhow orderly-stays s.client s.cause [] d known those.0 tt).0
 
   -- the focus is settled once
-  pub settles-known : (c : ℕ) (old new : Moving) → Known c old.desktop → Settles old new → Known c new.desktop
+  pub settles-known : (c : ℕ) (old new : Midstep) → Known c old.desktop → Settles old new → Known c new.desktop
   settles-known c old new known h =
       let those = strikes-known c (client_at c old.desktop) old.struck in
       (settles-in c ToldOrderly orderly-all.focus IsOrderlyAt Anyhow orderly-stays old new (known, those) h).0
 
   -- what comes after a step's own change leaves it orderly
-  pub settling-known : (c : ℕ) (new : Desktop) (mid : Moving) → Known c mid.desktop → settling new mid → Known c new
+  pub settling-known : (c : ℕ) (new : Desktop) (mid : Midstep) → Known c mid.desktop → settling new mid → Known c new
   settling-known c new mid known h =
       let those = strikes-known c (client_at c mid.desktop) mid.struck in
       settling-in c ToldOrderly orderly-all.focus IsOrderlyAt Anyhow orderly-stays mid new (known, those) h
 
   -- where the focus was settled already, too
-  pub ending-known : (c : ℕ) (new : Desktop) (mid : Moving) → Known c mid.desktop → ending new mid → Known c new
+  pub ending-known : (c : ℕ) (new : Desktop) (mid : Midstep) → Known c mid.desktop → ending new mid → Known c new
   ending-known c new mid known h =
       let those = strikes-known c (client_at c mid.desktop) mid.struck in
       ending-in c ToldOrderly orderly-all.focus IsOrderlyAt Anyhow orderly-stays mid new (known, those) h

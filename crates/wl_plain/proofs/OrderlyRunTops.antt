@@ -9,13 +9,13 @@ use Rattle.wl_scene.specs.Windows.{Place, Window}
 use Rattle.wl_plain.specs.Desktop.{Desktop, Resident, client_at}
 use Rattle.wl_plain.specs.Laws.{AreApart, toplevels_of}
 use Rattle.wl_plain.specs.Pointing.{moved_with}
-use Rattle.wl_plain.specs.Whole.{pointed, raised_by}
-use Rattle.wl_plain.specs.WholeOwn.{StandTheSame}
+use Rattle.wl_plain.specs.Happens.{pointed, raised_by}
+use Rattle.wl_plain.specs.Own.{StandTheSame}
 use Rattle.wl_plain.proofs.Orderly.{IsOrderly, IsOrderlyAt, IsOrderlyBy}
 use Rattle.wl_plain.proofs.OrderlyRunTold.{Known}
 use Rattle.wl_plain.proofs.Stacks.{differ, equal-numbers}
 use Rattle.wl_plain.proofs.StandingLists.{apart-last}
-use Rattle.wl_plain.proofs.WholeOthersOwn.{any-kept, any-moved, any-raised, raised-client, stand-moved, stand-raised, stand-same}
+use Rattle.wl_plain.proofs.OthersOwn.{any-kept, any-moved, any-raised, raised-client, stand-moved, stand-raised, stand-same}
 
 -- those of a client
 abbrev of : ℕ → List Standing → List Standing

@@ -17,7 +17,7 @@ use Rattle.wl_plain.proofs.Orderly.{AreOrderly, IsForest, IsMapped, IsMappedRole
 use Rattle.wl_plain.proofs.SoundFirst.{no-trees}
 use Rattle.wl_plain.proofs.Stacks.{differ, equal-numbers, or-left, or-right, unless}
 use Rattle.wl_plain.proofs.StandingLists.{any-left, of-client}
-use Rattle.wl_plain.proofs.WholeOthersOwn.{any-kept}
+use Rattle.wl_plain.proofs.OthersOwn.{any-kept}
 
 -- ---- lists
 

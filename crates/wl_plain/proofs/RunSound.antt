@@ -4,9 +4,9 @@ use Rattle.wl_plain.specs.declared.answers.Done.{Done}
 use Rattle.wl_plain.specs.Desktop.{Desktop, empty}
 use Rattle.wl_plain.specs.LeftOut.{LeftOut}
 use Rattle.wl_plain.specs.Soundness.{IsSound, RunIsSound}
-use Rattle.wl_plain.specs.Steps.{Act}
-use Rattle.wl_plain.specs.Whole.{Happens}
-use Rattle.wl_plain.specs.WholeLaws.{Lasts}
+use Rattle.wl_plain.specs.Acts.{Act}
+use Rattle.wl_plain.specs.Happens.{Happens}
+use Rattle.wl_plain.specs.RunLaws.{Lasts}
 use Rattle.wl_plain.proofs.Orderly.{AreOrderly}
 use Rattle.wl_plain.proofs.OrderlyLinked.{forest-trees}
 use Rattle.wl_plain.proofs.OrderlyMessage.{message-keeps}

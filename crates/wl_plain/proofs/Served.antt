@@ -26,8 +26,8 @@ use Rattle.wl_plain.specs.NoMore.{AreToplevels}
 use Rattle.wl_plain.specs.Replies.{popups_done, replies}
 use Rattle.wl_plain.specs.Settling.{becomes}
 use Rattle.wl_plain.specs.Stacked.{all_windows}
-use Rattle.wl_plain.specs.Whole.{FeedsAt, Reaches, Serves, StopsAt}
-use Rattle.wl_plain.proofs.Forms.{Does, ServesAt, Answers as WholeAnswers, Becomes as WholeBecomes, Takes as WholeTakes, WantsOr as WholeWantsOr}
+use Rattle.wl_plain.specs.Happens.{FeedsAt, Reaches, Serves, StopsAt}
+use Rattle.wl_plain.proofs.Forms.{Does, ServesAt, Answers as StepAnswers, Becomes as StepBecomes, Takes as StepTakes, WantsOr as StepWantsOr}
 use Rattle.wl_plain.specs.Step.{own_changed, with_peer}
 use Rattle.wl_client.specs.Serving.{has_used, keeps_store}
 use Rattle.wl_surface.specs.Surfaces.{is_used}
@@ -142,16 +142,16 @@ module _ (c : ℕ) (there : Resident) (d : Desktop) (is : client_at c d ≡ Some
       subst (λ events. IsDone events c made d new) (sym (own-replies c action r made d (owned-alone action r alone))) first in
       subst (λ e. IsDone (replies own_only c (Asks (Own action)) r made (all_windows d) d) c made e new) (sym (kept-still d still)) second
 
-  told-alone : (Q : Peer → Type 0) (r : Resident) (q : Peer) → Q q → WholeBecomes Q c r d (become c r q d)
+  told-alone : (Q : Peer → Type 0) (r : Resident) (q : Peer) → Q q → StepBecomes Q c r d (become c r q d)
   told-alone Q r q w = becomes-whole Q c r d (become c r q d) still (q, w, refl)
 
   wants-alone : (b : Bool) (Later : Type 0) (r made : Resident) (q : Peer) (Then : Desktop → Type 0) → OwnsNothing r → OwnsNothing made → (Later → Then (become c made q d)) → WantsOrAlone b Later r.peer q
-      → (new : Desktop) × WholeWantsOr b (Then new) c r d new × IsServed c q d new
+      → (new : Desktop) × StepWantsOr b (Then new) c r d new × IsServed c q d new
   wants-alone false Later r made q Then alone so next w = (become c made q d, next w, becomes-alone c made q d there is so)
   wants-alone true Later r made q Then alone so next (inl w) = (become c r q d, inl (told-alone (LacksMemory r.peer) r q w), becomes-alone c r q d there is alone)
   wants-alone true Later r made q Then alone so next (inr w) = (become c made q d, inr (next w), becomes-alone c made q d there is so)
 
-  answers-alone : (judged : Result Action Refusal) (r : Resident) (q : Peer) → r.peer.status ≡ None → OwnsNothing r → AnswersAlone judged r.peer q → (new : Desktop) × WholeAnswers own_only (as_own judged) c r d new × IsServed c q d new
+  answers-alone : (judged : Result Action Refusal) (r : Resident) (q : Peer) → r.peer.status ≡ None → OwnsNothing r → AnswersAlone judged r.peer q → (new : Desktop) × StepAnswers own_only (as_own judged) c r d new × IsServed c q d new
   answers-alone (Ok action) r q alive alone answers =
       let counting : Resident = with_peer (counted r.peer) r in
       let so = owns-on (counted r.peer) r alone in
@@ -159,11 +159,11 @@ module _ (c : ℕ) (there : Resident) (d : Desktop) (is : client_at c d ≡ Some
       (λ queues. does-alone action counting q alive so (subst (λ (x : Peer). Queues (own_answers counting.peer.output action) x q) (sym (changed-alone action counting so)) queues)) answers
   answers-alone (Err refusal) r q alive alone answers = (become c r q d, told-alone (Errs refusal r.peer) r q answers, becomes-alone c r q d there is alone)
 
-  takes-alone : (s : Split) (q : Peer) → there.peer.status ≡ None → OwnsNothing there → TakesAlone s there.peer q → (new : Desktop) × WholeTakes own_only s c there d new × IsServed c q d new
+  takes-alone : (s : Split) (q : Peer) → there.peer.status ≡ None → OwnsNothing there → TakesAlone s there.peer q → (new : Desktop) × StepTakes own_only s c there d new × IsServed c q d new
   takes-alone (Whole object opcode size) q alive alone takes =
       let body = take (size - 8) (drop 8 there.peer.rest) in
       let left : Resident = with_peer (with_rest (drop size there.peer.rest) there.peer) there in
-      subst (λ (judged : Result Demand Refusal). (new : Desktop) × WholeAnswers own_only judged c left d new × IsServed c q d new) (sym (judge-owns there object opcode body))
+      subst (λ (judged : Result Demand Refusal). (new : Desktop) × StepAnswers own_only judged c left d new × IsServed c q d new) (sym (judge-owns there object opcode body))
       (answers-alone (judge_alone (known_of there.peer) object opcode body) left q alive (owns-on left.peer there alone) takes)
   takes-alone Bad q alive alone takes = (become c there q d, told-alone _ there q takes, becomes-alone c there q d there is alone)
   takes-alone More q alive alone takes = absurd takes

@@ -6,7 +6,7 @@ use Rattle.wl_client.specs.Peer.{ended, with_rest}
 use Rattle.wl_plain.specs.Desktop.{Desktop, Resident, client_at, with_client}
 use Rattle.wl_plain.specs.Happenings.{AreSound, Happening, Leads, Message, Receive, ReceivesAt, Single, Starve, StarvesAt}
 use Rattle.wl_plain.specs.LeftOut.{LeftOut}
-use Rattle.wl_plain.specs.Settling.{Moving, Strike, becomes, ended_all, ended_by, unstruck}
+use Rattle.wl_plain.specs.Settling.{Midstep, Strike, becomes, ended_all, ended_by, unstruck}
 use Rattle.wl_plain.specs.Step.{with_peer}
 use Rattle.wl_plain.specs.Through.{EndsFirstThrough, ServesThrough, SettlesAllThrough, ending_through, ends_through, settling_through}
 use Rattle.wl_plain.proofs.Orderly.{AreOrderly, IsOrderlyAt}
@@ -15,8 +15,8 @@ use Rattle.wl_plain.proofs.OrderlyRun.{gone-known, happens-known, put-known}
 use Rattle.wl_plain.proofs.OrderlyRunMessages.{serves-so}
 use Rattle.wl_plain.proofs.OrderlyRunTold.{Anyhow, IsAlike, Known, alike, ended-by-known, focus-stays, known-same, settles-known}
 use Rattle.wl_plain.proofs.RunSound.{frames, orderly-is-sound}
-use Rattle.wl_plain.proofs.WholeOneRunFates.{same-or}
-use Rattle.wl_plain.proofs.WholeOthersMessages.{serves-then}
+use Rattle.wl_plain.proofs.OneRunFates.{same-or}
+use Rattle.wl_plain.proofs.OthersMessages.{serves-then}
 
 -- a client is orderly in each of these, and in the last
 abbrev pub AllKnown : ℕ → List Desktop → Desktop → Type 0
@@ -35,8 +35,8 @@ module _ (c : ℕ) where
       (it, all-ends ss (ended_by s d) later new it go)
 
   -- after the first that is to end did, and what comes then
-  all-first : (Next : Moving → List Desktop → Desktop → Type 0)
-      → ((m : Moving) (path : List Desktop) (new : Desktop) → Known c m.desktop → Next m path new → AllKnown c path new)
+  all-first : (Next : Midstep → List Desktop → Desktop → Type 0)
+      → ((m : Midstep) (path : List Desktop) (new : Desktop) → Known c m.desktop → Next m path new → AllKnown c path new)
       → (ss : List Strike) (d : Desktop) (path : List Desktop) (new : Desktop) → Known c d → EndsFirstThrough Next ss d path new
       → AllKnown c path new
   all-first Next next [] d path new known h = subst (λ (p : List Desktop). AllKnown c p new) (sym h.0) (known-same c d new h.1 known)
@@ -46,7 +46,7 @@ module _ (c : ℕ) where
       subst (λ (p : List Desktop). AllKnown c p new) (sym h.1) all
 
   -- after each settling of the focus
-  all-settles : (n : ℕ) (old : Moving) (path : List Desktop) (new : Desktop)
+  all-settles : (n : ℕ) (old : Midstep) (path : List Desktop) (new : Desktop)
       → Known c old.desktop → SettlesAllThrough n old path new → AllKnown c path new
   all-settles zero old path new known h = subst (λ (p : List Desktop). AllKnown c p new) (sym h.0) (known-same c old.desktop new h.1 known)
   all-settles (suc n) old path new known h =
@@ -55,7 +55,7 @@ module _ (c : ℕ) where
       subst (λ (p : List Desktop). AllKnown c p new) (sym h.3) all
 
   -- from the desktop of a step's own change on
-  all-settling : (path : List Desktop) (new : Desktop) (mid : Moving) → Known c mid.desktop → settling_through path new mid → AllKnown c path new
+  all-settling : (path : List Desktop) (new : Desktop) (mid : Midstep) → Known c mid.desktop → settling_through path new mid → AllKnown c path new
   all-settling path new mid known h =
       let go = λ (it : Known c (ended_all mid.struck mid.desktop)). all-settles 33 (unstruck (ended_all mid.struck mid.desktop)) h.0 new it h.2 in
       let later : AllKnown c (ends_through mid.struck mid.desktop ++ h.0) new = all-ends mid.struck mid.desktop h.0 new known go in
@@ -63,7 +63,7 @@ module _ (c : ℕ) where
       subst (λ (p : List Desktop). AllKnown c p new) (sym h.1) all
 
   -- where the focus was settled already
-  all-ending : (path : List Desktop) (new : Desktop) (mid : Moving) → Known c mid.desktop → ending_through path new mid → AllKnown c path new
+  all-ending : (path : List Desktop) (new : Desktop) (mid : Midstep) → Known c mid.desktop → ending_through path new mid → AllKnown c path new
   all-ending path new mid known h =
       let later : AllKnown c h.0 new = all-first (SettlesAllThrough 32) (all-settles 32) mid.struck mid.desktop h.0 new known h.2 in
       let all : AllKnown c (mid.desktop ∷ h.0) new = (known, later) in

@@ -14,11 +14,11 @@ use Rattle.wl_plain.specs.Desktop.{Desktop, Resident, arrival, client_at, client
 use Rattle.wl_plain.specs.Owning.{IsOwned, Names}
 use Rattle.wl_plain.specs.LeftOut.{served_now}
 use Rattle.wl_plain.specs.NoMore.{NoMore}
-use Rattle.wl_plain.specs.Whole.{Serves}
+use Rattle.wl_plain.specs.Happens.{Serves}
 use Rattle.wl_plain.proofs.BridgeBack.{AsksBy, message-by}
 use Rattle.wl_plain.specs.Standing.{AreMapped, MappedStand}
 use Rattle.wl_plain.specs.Step.{with_peer}
-use Rattle.wl_plain.specs.Steps.{lowest, next_of}
+use Rattle.wl_plain.specs.Acts.{lowest, next_of}
 use Rattle.wl_plain.proofs.Forms.{ConnectsAt}
 use Rattle.wl_plain.proofs.OwningKeys.{some-same}
 use Rattle.wl_plain.proofs.Places.{number-other}

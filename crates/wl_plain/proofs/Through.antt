@@ -13,16 +13,16 @@ use Rattle.wl_plain.specs.declared.answers.Done.{Done}
 use Rattle.wl_plain.specs.Demand.{Demand}
 use Rattle.wl_plain.specs.Desktop.{Desktop, Resident, client_at}
 use Rattle.wl_plain.specs.LeftOut.{LeftOut}
-use Rattle.wl_plain.specs.Settling.{EndsFirst, Moving, SettlesAll, Strike, becomes, ended_all, ended_by, unstruck}
+use Rattle.wl_plain.specs.Settling.{EndsFirst, Midstep, SettlesAll, Strike, becomes, ended_all, ended_by, unstruck}
 use Rattle.wl_plain.specs.Step.{with_peer}
-use Rattle.wl_plain.specs.Steps.{Act, Connect, Feed, Store, Leave, Tick, Send, Close, Motion, Button, lowest}
+use Rattle.wl_plain.specs.Acts.{Act, Connect, Feed, Store, Leave, Tick, Send, Close, Motion, Button, lowest}
 use Rattle.wl_plain.proofs.Forms.{ConnectsAt}
 use Rattle.wl_plain.specs.Through.{EndsFirstThrough, HappensLeadsThrough, IsSingle, MessagesLeadThrough, SettlesAllThrough, ending_through, ends_through, settling_through}
-use Rattle.wl_plain.specs.Whole.{AnswersThen, BecomesThen, ChangesThen, ConnectsThen, DoesThen, Happens, HappensThen, LeavesThen, PressesThen, ReleasesThen, ServesThen, TakesThen, WantsOrThen, changed_so, ending, settling, wants_memory}
+use Rattle.wl_plain.specs.Happens.{AnswersThen, BecomesThen, ChangesThen, ConnectsThen, DoesThen, Happens, HappensThen, LeavesThen, PressesThen, ReleasesThen, ServesThen, TakesThen, WantsOrThen, changed_so, ending, settling, wants_memory}
 
 -- ---- a step's own change leads to one desktop in its middle, whatever comes then
 
-module _ {P : Type 0} (N S : Moving → Type 0) (T U : P → Moving → Type 0) (next : (mid : Moving) → N mid → (p : P) × T p mid) (last : (mid : Moving) → S mid → (p : P) × U p mid) where
+module _ {P : Type 0} (N S : Midstep → Type 0) (T U : P → Midstep → Type 0) (next : (mid : Midstep) → N mid → (p : P) × T p mid) (last : (mid : Midstep) → S mid → (p : P) × U p mid) where
   became : (Q : Peer → Type 0) (c : ℕ) (r : Resident) (d : Desktop) → BecomesThen Q c r d N → (p : P) × BecomesThen Q c r d (T p)
   became Q c r d h = let k = next (unstruck (becomes c r h.0 d)) h.2 in (k.0, (h.0, h.1, k.1))
 
@@ -64,7 +64,7 @@ module _ {P : Type 0} (N S : Moving → Type 0) (T U : P → Moving → Type 0) 
           let k = last (unstruck d) there in
           (k.0, (h.0, rw e k.1))
       by None e =
-          let gone : Moving = unstruck (becomes c r (ended Gone r.peer) d) in
+          let gone : Midstep = unstruck (becomes c r (ended Gone r.peer) d) in
           let there : N gone = rw e at h.1 in
           let k = next gone there in
           (k.0, (h.0, rw e k.1))
@@ -96,37 +96,37 @@ module _ {P : Type 0} (N S : Moving → Type 0) (T U : P → Moving → Type 0) 
 
 -- ---- the ends and settlings with the desktops on the way, and without
 
-module _ (N : Moving → List Desktop → Desktop → Type 0) (M : Moving → Desktop → Type 0) where
-  first-without : ((m : Moving) (path : List Desktop) (new : Desktop) → N m path new → M m new) → (ss : List Strike) (d : Desktop) (path : List Desktop) (new : Desktop) → EndsFirstThrough N ss d path new → EndsFirst M ss d new
+module _ (N : Midstep → List Desktop → Desktop → Type 0) (M : Midstep → Desktop → Type 0) where
+  first-without : ((m : Midstep) (path : List Desktop) (new : Desktop) → N m path new → M m new) → (ss : List Strike) (d : Desktop) (path : List Desktop) (new : Desktop) → EndsFirstThrough N ss d path new → EndsFirst M ss d new
   first-without go [] d path new h = h.1
   first-without go (s ∷ ss) d path new h = go (record { desktop = ended_by s d; struck = ss }) h.0 new h.2
 
-  first-with : ((m : Moving) (new : Desktop) → M m new → (path : List Desktop) × N m path new) → (ss : List Strike) (d new : Desktop) → EndsFirst M ss d new → (path : List Desktop) × EndsFirstThrough N ss d path new
+  first-with : ((m : Midstep) (new : Desktop) → M m new → (path : List Desktop) × N m path new) → (ss : List Strike) (d new : Desktop) → EndsFirst M ss d new → (path : List Desktop) × EndsFirstThrough N ss d path new
   first-with go [] d new h = ([], (refl, h))
   first-with go (s ∷ ss) d new h = let k = go (record { desktop = ended_by s d; struck = ss }) new h in (ended_by s d ∷ k.0, (k.0, refl, k.1))
 
-all-without : (n : ℕ) (old : Moving) (path : List Desktop) (new : Desktop) → SettlesAllThrough n old path new → SettlesAll n old new
+all-without : (n : ℕ) (old : Midstep) (path : List Desktop) (new : Desktop) → SettlesAllThrough n old path new → SettlesAll n old new
 all-without zero old path new h = h.1
 all-without (suc n) old path new h = (h.0, h.1, first-without (SettlesAllThrough n) (SettlesAll n) (all-without n) h.0.struck h.0.desktop h.2 new h.4)
 
-all-with : (n : ℕ) (old : Moving) (new : Desktop) → SettlesAll n old new → (path : List Desktop) × SettlesAllThrough n old path new
+all-with : (n : ℕ) (old : Midstep) (new : Desktop) → SettlesAll n old new → (path : List Desktop) × SettlesAllThrough n old path new
 all-with zero old new h = ([], (refl, h))
 all-with (suc n) old new h =
     let k = first-with (SettlesAllThrough n) (SettlesAll n) (all-with n) h.0.struck h.0.desktop new h.2 in
     (h.0.desktop ∷ k.0, (h.0, h.1, k.0, refl, k.1))
 
-pub settling-without : (path : List Desktop) (new : Desktop) (mid : Moving) → settling_through path new mid → settling new mid
+pub settling-without : (path : List Desktop) (new : Desktop) (mid : Midstep) → settling_through path new mid → settling new mid
 settling-without path new mid h = all-without 33 (unstruck (ended_all mid.struck mid.desktop)) h.0 new h.2
 
-pub settling-with : (new : Desktop) (mid : Moving) → settling new mid → (path : List Desktop) × settling_through path new mid
+pub settling-with : (new : Desktop) (mid : Midstep) → settling new mid → (path : List Desktop) × settling_through path new mid
 settling-with new mid h =
     let k = all-with 33 (unstruck (ended_all mid.struck mid.desktop)) new h in
     (mid.desktop ∷ ends_through mid.struck mid.desktop ++ k.0, (k.0, refl, k.1))
 
-pub ending-without : (path : List Desktop) (new : Desktop) (mid : Moving) → ending_through path new mid → ending new mid
+pub ending-without : (path : List Desktop) (new : Desktop) (mid : Midstep) → ending_through path new mid → ending new mid
 ending-without path new mid h = first-without (SettlesAllThrough 32) (SettlesAll 32) (all-without 32) mid.struck mid.desktop h.0 new h.2
 
-ending-with : (new : Desktop) (mid : Moving) → ending new mid → (path : List Desktop) × ending_through path new mid
+ending-with : (new : Desktop) (mid : Midstep) → ending new mid → (path : List Desktop) × ending_through path new mid
 ending-with new mid h =
     let k = first-with (SettlesAllThrough 32) (SettlesAll 32) (all-with 32) mid.struck mid.desktop new h in
     (mid.desktop ∷ k.0, (k.0, refl, k.1))

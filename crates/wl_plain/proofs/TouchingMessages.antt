@@ -13,7 +13,7 @@ use Rattle.wl_plain.specs.Laws.{status_in}
 use Rattle.wl_plain.specs.Owning.{IsOwned, Names}
 use Rattle.wl_plain.specs.LeftOut.{served_now}
 use Rattle.wl_plain.specs.NoMore.{NoMore}
-use Rattle.wl_plain.specs.Whole.{Serves}
+use Rattle.wl_plain.specs.Happens.{Serves}
 use Rattle.wl_plain.proofs.BridgeBack.{AsksBy, message-by}
 use Rattle.wl_plain.specs.Standing.{AreMapped, MappedStand}
 use Rattle.wl_plain.specs.Step.{with_peer}

@@ -7,7 +7,7 @@ use Rattle.wl_scene.specs.Stacking.{without_client}
 use Rattle.wl_plain.specs.Desktop.{Desktop, Resident, client_at, with_client}
 use Rattle.wl_plain.specs.Laws.{OwnsNothing}
 use Rattle.wl_plain.specs.LeftOut.{own_only}
-use Rattle.wl_plain.specs.Whole.{FeedsAt}
+use Rattle.wl_plain.specs.Happens.{FeedsAt}
 
 -- the client there is this one, and owns nothing
 abbrev pub IsAlone : Peer → Option Resident → Type 0

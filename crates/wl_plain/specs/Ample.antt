@@ -19,11 +19,11 @@ use Rattle.wl_plain.specs.Desktop.{Desktop, Resident, arrival, client_at, with_c
 use Rattle.wl_plain.specs.Pointing.{button_told, entered_surface, has_pointers, left_surface, motion_told}
 use Rattle.wl_plain.specs.LeftOut.{LeftOut}
 use Rattle.wl_plain.specs.Replies.{focus_window, popups_done, replies}
-use Rattle.wl_plain.specs.Settling.{Moving, Strike, becomes, ended_all, ended_by, is_settled, is_struck, leave_drawn, struck_by, target_now, told_drawn, unstruck, with_focus}
+use Rattle.wl_plain.specs.Settling.{Midstep, Strike, becomes, ended_all, ended_by, is_settled, is_struck, leave_drawn, struck_by, target_now, told_drawn, unstruck, with_focus}
 use Rattle.wl_plain.specs.Stacked.{all_windows}
 use Rattle.wl_plain.specs.Step.{with_peer}
-use Rattle.wl_plain.specs.Steps.{Act, Connect, Feed, Store, Leave, Tick, Send, Close, Motion, Button, closed_by, lowest}
-use Rattle.wl_plain.specs.Whole.{callbacks_due, changed_so, frames_told, hit_now, is_hit_of, noted_if, number_of, point_in, pointed, raised_by, with_press, with_release, without_grabs}
+use Rattle.wl_plain.specs.Acts.{Act, Connect, Feed, Store, Leave, Tick, Send, Close, Motion, Button, closed_by, lowest}
+use Rattle.wl_plain.specs.Happens.{callbacks_due, changed_so, frames_told, hit_now, is_hit_of, noted_if, number_of, point_in, pointed, raised_by, with_press, with_release, without_grabs}
 
 -- ---- events
 
@@ -36,52 +36,52 @@ abbrev pub queued_to : List Said → Peer → Peer × Option Cause
 queued_to [] p = (p, None)
 queued_to (event ∷ events) p = or_slow (has_room p.unsent event) (queued_to events (queued event p)) p
 
-abbrev pub told_so : Resident → Peer × Option Cause → ℕ → Moving → Moving
+abbrev pub told_so : Resident → Peer × Option Cause → ℕ → Midstep → Midstep
 told_so r told c m = record { desktop = with_client c (Some (record r { peer = told.0 })) m.desktop; struck = struck_by c told.1 m.struck }
 
-abbrev pub tells_unless : Bool → (Resident → Resident) → (Resident → List Said) → ℕ → Resident → Moving → Moving
+abbrev pub tells_unless : Bool → (Resident → Resident) → (Resident → List Said) → ℕ → Resident → Midstep → Midstep
 tells_unless true change events c r m = m
 tells_unless false change events c r m = told_so (change r) (queued_to (events r) (change r).peer) c m
 
-abbrev pub tells_at : (Resident → Resident) → (Resident → List Said) → ℕ → Option Resident → Moving → Moving
+abbrev pub tells_at : (Resident → Resident) → (Resident → List Said) → ℕ → Option Resident → Midstep → Midstep
 tells_at change events c None m = m
 tells_at change events c (Some r) m = tells_unless (is_some r.peer.status || is_struck c m.struck) change events c r m
 
-abbrev pub tells : (Resident → Resident) → (Resident → List Said) → ℕ → Moving → Moving
+abbrev pub tells : (Resident → Resident) → (Resident → List Said) → ℕ → Midstep → Midstep
 tells change events c m = tells_at change events c (client_at c m.desktop) m
 
 -- ---- the focus, and ends
 
-abbrev pub leaves : Option Target → Moving → Moving
+abbrev pub leaves : Option Target → Midstep → Midstep
 leaves None m = m
 leaves (Some t) m = tells (leave_drawn t.surface) (left_surface t.surface) t.client m
 
-abbrev pub enters : Option Target → List Window → Moving → Moving
+abbrev pub enters : Option Target → List Window → Midstep → Midstep
 enters None windows m = m
 enters (Some t) windows m = tells told_drawn (entered_surface m.desktop.pointer.place (focus_window (Some t) windows)) t.client m
 
-abbrev pub moves_unless : Bool → Option Target → Moving → Moving
+abbrev pub moves_unless : Bool → Option Target → Midstep → Midstep
 moves_unless true t m = m
 moves_unless false t m = with_focus t (enters t (all_windows m.desktop) (leaves m.desktop.pointer.focus m))
 
-abbrev pub settles : Moving → Moving
+abbrev pub settles : Midstep → Midstep
 settles m = moves_unless (is_settled m.desktop) (target_now m.desktop) m
 
-abbrev pub ends_first : (Moving → Desktop) → List Strike → Desktop → Desktop
+abbrev pub ends_first : (Midstep → Desktop) → List Strike → Desktop → Desktop
 ends_first next [] d = d
 ends_first next (s ∷ ss) d = next (record { desktop = ended_by s d; struck = ss })
 
-abbrev pub then_ends : (Moving → Desktop) → Moving → Desktop
+abbrev pub then_ends : (Midstep → Desktop) → Midstep → Desktop
 then_ends next mid = ends_first next mid.struck mid.desktop
 
-abbrev pub settles_all : ℕ → Moving → Desktop
+abbrev pub settles_all : ℕ → Midstep → Desktop
 settles_all zero m = m.desktop
 settles_all (suc n) m = then_ends (λ mid. settles_all n mid) (settles m)
 
-abbrev pub settles_ends : Moving → Desktop
+abbrev pub settles_ends : Midstep → Desktop
 settles_ends mid = then_ends (λ m. settles_all 32 m) mid
 
-abbrev pub ends_and_settles : Moving → Desktop
+abbrev pub ends_and_settles : Midstep → Desktop
 ends_and_settles mid = settles_all 33 (unstruck (ended_all mid.struck mid.desktop))
 
 -- ---- messages
@@ -158,7 +158,7 @@ changes_at change c None d = d
 changes_at change c (Some r) d = held_so c r (change r.peer) d
 
 -- the clients up to the n-th, in rising number
-abbrev pub frames_to : ℕ → ℕ → Moving → Moving
+abbrev pub frames_to : ℕ → ℕ → Midstep → Midstep
 frames_to time zero m = m
 frames_to time (suc n) m = tells (λ r. without_callbacks (callbacks_due r) r) (frames_told time) (suc n) (frames_to time n m)
 
@@ -167,27 +167,27 @@ shown time d = ends_and_settles (frames_to time 32 (unstruck d))
 
 -- ---- the pointer
 
-abbrev pub motion_for : ℕ → Option Target → Option Target → Moving → Moving
+abbrev pub motion_for : ℕ → Option Target → Option Target → Midstep → Midstep
 motion_for time moves None m = m
 motion_for time None (Some t) m = tells (λ r. r) (motion_told time m.desktop.pointer.place (focus_window (Some t) (all_windows m.desktop))) t.client m
 motion_for time (Some moved) (Some t) m = m
 
-abbrev pub motion_settles : Bool → ℕ → Moving → Moving
+abbrev pub motion_settles : Bool → ℕ → Midstep → Midstep
 motion_settles true time m = motion_for time m.desktop.pointer.move m.desktop.pointer.focus m
 motion_settles false time m = settles m
 
 abbrev pub moved_to : ℕ → Desktop → Desktop
 moved_to time d = settles_ends (motion_settles (is_settled d) time (unstruck d))
 
-abbrev pub dismisses_unless : Bool → ℕ → Moving → Moving
+abbrev pub dismisses_unless : Bool → ℕ → Midstep → Midstep
 dismisses_unless true c m = m
 dismisses_unless false c m = tells without_grabs (λ r. popups_done r (without_grabs r)) c m
 
-abbrev pub dismisses : Option ℕ → Option Window → Moving → Moving
+abbrev pub dismisses : Option ℕ → Option Window → Midstep → Midstep
 dismisses None w m = m
 dismisses (Some holder) w m = dismisses_unless (is_hit_of holder w) holder m
 
-abbrev pub tells_button : ℕ → ℕ → Bool → Option Target → Moving → Moving
+abbrev pub tells_button : ℕ → ℕ → Bool → Option Target → Midstep → Midstep
 tells_button time button pressed None m = m
 tells_button time button pressed (Some t) m =
     tells (λ r. noted_if (has_pointers r) pressed r) (button_told time button (number_of pressed)) t.client m

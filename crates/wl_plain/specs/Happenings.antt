@@ -12,9 +12,9 @@ use Rattle.wl_plain.specs.Settling.{becomes, unstruck}
 use Rattle.wl_plain.specs.Soundness.{IsSound}
 use Rattle.wl_plain.specs.Stacked.{all_windows}
 use Rattle.wl_plain.specs.Step.{with_peer}
-use Rattle.wl_plain.specs.Steps.{Act, Feed}
+use Rattle.wl_plain.specs.Acts.{Act, Feed}
 use Rattle.wl_plain.specs.Through.{HappensThrough, ServesThrough, settling_through}
-use Rattle.wl_plain.specs.Whole.{Happens}
+use Rattle.wl_plain.specs.Happens.{Happens}
 
 pub data Happening : Type 0 where
   -- bytes of a client that lives come, and are kept

@@ -20,11 +20,11 @@ pub record Strike : Type 0 where
   pub cause : Cause
 
 -- a desktop in the middle of a step, with the clients that are to end, in rising number
-pub record Moving : Type 0 where
+pub record Midstep : Type 0 where
   pub desktop : Desktop
   pub struck : List Strike
 
-abbrev pub unstruck : Desktop → Moving
+abbrev pub unstruck : Desktop → Midstep
 unstruck d = record { desktop = d; struck = [] }
 
 -- ---- events
@@ -51,22 +51,22 @@ abbrev pub is_struck : ℕ → List Strike → Bool
 is_struck c strikes = list_any (λ s. s.client == c) strikes
 
 -- a client changes, and is told this of the change
-abbrev pub TellsResident : (Resident → Resident) → (Resident → List Said) → ℕ → Resident → Moving → Moving → Type 0
+abbrev pub TellsResident : (Resident → Resident) → (Resident → List Said) → ℕ → Resident → Midstep → Midstep → Type 0
 TellsResident change events c r old new =
     (q : Peer) × (why : Option Cause) × QueuesTo (events r) (change r).peer q why
     × (new ≡ record { desktop = with_client c (Some (record (change r) { peer = q })) old.desktop; struck = struck_by c why old.struck })
 
 -- nothing is told to a client that ended or is to end
-abbrev pub TellsUnless : Bool → (Resident → Resident) → (Resident → List Said) → ℕ → Resident → Moving → Moving → Type 0
+abbrev pub TellsUnless : Bool → (Resident → Resident) → (Resident → List Said) → ℕ → Resident → Midstep → Midstep → Type 0
 TellsUnless true change events c r old new = new ≡ old
 TellsUnless false change events c r old new = TellsResident change events c r old new
 
-abbrev pub TellsAt : (Resident → Resident) → (Resident → List Said) → ℕ → Option Resident → Moving → Moving → Type 0
+abbrev pub TellsAt : (Resident → Resident) → (Resident → List Said) → ℕ → Option Resident → Midstep → Midstep → Type 0
 TellsAt change events c None old new = new ≡ old
 TellsAt change events c (Some r) old new = TellsUnless (is_some r.peer.status || is_struck c old.struck) change events c r old new
 
 -- The client with this number, if it is there, changes so and is told so.
-abbrev pub Tells : (Resident → Resident) → (Resident → List Said) → ℕ → Moving → Moving → Type 0
+abbrev pub Tells : (Resident → Resident) → (Resident → List Said) → ℕ → Midstep → Midstep → Type 0
 Tells change events c old new = TellsAt change events c (client_at c old.desktop) old new
 
 -- ---- ends
@@ -103,25 +103,25 @@ leave_drawn surface r = drawing (is_some (history_in surface r.owned.surfaces) &
 abbrev pub told_drawn : Resident → Resident
 told_drawn r = drawing (has_pointers r) r
 
-abbrev pub Leaves : Option Target → Moving → Moving → Type 0
+abbrev pub Leaves : Option Target → Midstep → Midstep → Type 0
 Leaves None old new = new ≡ old
 Leaves (Some t) old new = Tells (leave_drawn t.surface) (left_surface t.surface) t.client old new
 
-abbrev pub Enters : Option Target → List Window → Moving → Moving → Type 0
+abbrev pub Enters : Option Target → List Window → Midstep → Midstep → Type 0
 Enters None windows old new = new ≡ old
 Enters (Some t) windows old new =
     Tells told_drawn (entered_surface old.desktop.pointer.place (focus_window (Some t) windows)) t.client old new
 
-abbrev pub with_focus : Option Target → Moving → Moving
+abbrev pub with_focus : Option Target → Midstep → Midstep
 with_focus t m = record m { desktop = record m.desktop { pointer = record m.desktop.pointer { focus = t } } }
 
 -- the old surface is left, and the new one is entered
-abbrev pub MovesFocus : Option Target → Moving → Moving → Type 0
+abbrev pub MovesFocus : Option Target → Midstep → Midstep → Type 0
 MovesFocus t old new =
-    (left : Moving) × Leaves old.desktop.pointer.focus old left
-    × (entered : Moving) × Enters t (all_windows old.desktop) left entered × (new ≡ with_focus t entered)
+    (left : Midstep) × Leaves old.desktop.pointer.focus old left
+    × (entered : Midstep) × Enters t (all_windows old.desktop) left entered × (new ≡ with_focus t entered)
 
-abbrev pub MovesUnless : Bool → Option Target → Moving → Moving → Type 0
+abbrev pub MovesUnless : Bool → Option Target → Midstep → Midstep → Type 0
 MovesUnless true t old new = new ≡ old
 MovesUnless false t old new = MovesFocus t old new
 
@@ -133,26 +133,26 @@ abbrev pub is_settled : Desktop → Bool
 is_settled d = is_same d.pointer.focus (target_now d)
 
 -- The focus is settled once.
-abbrev pub Settles : Moving → Moving → Type 0
+abbrev pub Settles : Midstep → Midstep → Type 0
 Settles old new = MovesUnless (is_settled old.desktop) (target_now old.desktop) old new
 
 -- One client that is to end does, the least number first, and what comes then; where none is, the step is over.
-abbrev pub EndsFirst : (Moving → Desktop → Type 0) → List Strike → Desktop → Desktop → Type 0
+abbrev pub EndsFirst : (Midstep → Desktop → Type 0) → List Strike → Desktop → Desktop → Type 0
 EndsFirst Next [] d new = new ≡ d
 EndsFirst Next (s ∷ ss) d new = Next (record { desktop = ended_by s d; struck = ss }) new
 
 -- After each end the focus is settled again, at most n times.
-abbrev pub SettlesAll : ℕ → Moving → Desktop → Type 0
+abbrev pub SettlesAll : ℕ → Midstep → Desktop → Type 0
 SettlesAll zero old new = new ≡ old.desktop
-SettlesAll (suc n) old new = (mid : Moving) × Settles old mid × EndsFirst (SettlesAll n) mid.struck mid.desktop new
+SettlesAll (suc n) old new = (mid : Midstep) × Settles old mid × EndsFirst (SettlesAll n) mid.struck mid.desktop new
 
 -- each end takes a client away, and there are 32 at most
-abbrev pub SettlesEnds : Moving → Desktop → Type 0
+abbrev pub SettlesEnds : Midstep → Desktop → Type 0
 SettlesEnds mid new = EndsFirst (SettlesAll 32) mid.struck mid.desktop new
 
 -- the clients that a step's own change struck end first, and then the focus is settled
 abbrev pub ended_all : List Strike → Desktop → Desktop
 ended_all strikes d = fold (λ d s. ended_by s d) d strikes
 
-abbrev pub EndsAndSettles : Moving → Desktop → Type 0
+abbrev pub EndsAndSettles : Midstep → Desktop → Type 0
 EndsAndSettles mid new = SettlesAll 33 (unstruck (ended_all mid.struck mid.desktop)) new

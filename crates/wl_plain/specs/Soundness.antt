@@ -14,8 +14,8 @@ use Rattle.wl_plain.specs.LeftOut.{LeftOut}
 use Rattle.wl_plain.specs.Marks.{AreDistinct}
 use Rattle.wl_plain.specs.Popups.{stacked_popups}
 use Rattle.wl_plain.specs.Stacked.{all_windows}
-use Rattle.wl_plain.specs.Steps.{Act}
-use Rattle.wl_plain.specs.WholeLaws.{Lasts}
+use Rattle.wl_plain.specs.Acts.{Act}
+use Rattle.wl_plain.specs.RunLaws.{Lasts}
 
 -- none of these is there twice
 abbrev pub AreOnce : {X : Type 0} → (X → X → Bool) → List X → Type 0

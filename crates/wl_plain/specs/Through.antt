@@ -5,10 +5,10 @@ use Rattle.wl_scene.specs.Stacking.{Standing, is_of}
 use Rattle.wl_scene.specs.Windows.{Window}
 use Rattle.wl_plain.specs.Desktop.{Desktop, client_at}
 use Rattle.wl_plain.specs.LeftOut.{LeftOut}
-use Rattle.wl_plain.specs.Settling.{Moving, Settles, Strike, ended_all, ended_by, unstruck}
+use Rattle.wl_plain.specs.Settling.{Midstep, Settles, Strike, ended_all, ended_by, unstruck}
 use Rattle.wl_plain.specs.Stacked.{all_windows}
-use Rattle.wl_plain.specs.Whole.{Happens, HappensThen, Serves, ServesThen, hit_now}
-use Rattle.wl_plain.specs.Steps.{Act, Button, Feed}
+use Rattle.wl_plain.specs.Happens.{Happens, HappensThen, Serves, ServesThen, hit_now}
+use Rattle.wl_plain.specs.Acts.{Act, Button, Feed}
 use Rattle.wl_plain.specs.declared.answers.Done.{Done}
 
 -- one after each end of these, where they end one after another
@@ -17,26 +17,26 @@ ends_through [] d = []
 ends_through (s ∷ ss) d = ended_by s d ∷ ends_through ss (ended_by s d)
 
 -- the first that is to end does, and what comes then
-abbrev pub EndsFirstThrough : (Moving → List Desktop → Desktop → Type 0) → List Strike → Desktop → List Desktop → Desktop → Type 0
+abbrev pub EndsFirstThrough : (Midstep → List Desktop → Desktop → Type 0) → List Strike → Desktop → List Desktop → Desktop → Type 0
 EndsFirstThrough Next [] d path new = (path ≡ []) × (new ≡ d)
 EndsFirstThrough Next (s ∷ ss) d path new =
     (later : List Desktop) × (path ≡ ended_by s d ∷ later) × Next (record { desktop = ended_by s d; struck = ss }) later new
 
 -- after each end the focus is settled again, at most n times
-abbrev pub SettlesAllThrough : ℕ → Moving → List Desktop → Desktop → Type 0
+abbrev pub SettlesAllThrough : ℕ → Midstep → List Desktop → Desktop → Type 0
 SettlesAllThrough zero old path new = (path ≡ []) × (new ≡ old.desktop)
 SettlesAllThrough (suc n) old path new =
-    (mid : Moving) × Settles old mid
+    (mid : Midstep) × Settles old mid
     × (later : List Desktop) × (path ≡ mid.desktop ∷ later) × EndsFirstThrough (SettlesAllThrough n) mid.struck mid.desktop later new
 
 -- what comes after a step's own change, which led to the first of these desktops: all that are to end do, and the focus is settled; or it
 -- was settled already
-abbrev pub settling_through : List Desktop → Desktop → Moving → Type 0
+abbrev pub settling_through : List Desktop → Desktop → Midstep → Type 0
 settling_through path new mid =
     (later : List Desktop) × (path ≡ mid.desktop ∷ ends_through mid.struck mid.desktop ++ later)
     × SettlesAllThrough 33 (unstruck (ended_all mid.struck mid.desktop)) later new
 
-abbrev pub ending_through : List Desktop → Desktop → Moving → Type 0
+abbrev pub ending_through : List Desktop → Desktop → Midstep → Type 0
 ending_through path new mid =
     (later : List Desktop) × (path ≡ mid.desktop ∷ later) × EndsFirstThrough (SettlesAllThrough 32) mid.struck mid.desktop later new
 

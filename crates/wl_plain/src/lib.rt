@@ -12,9 +12,9 @@ ghost use Rattle.wl_plain.specs.Laws.{LeastIsMost, ScratchStays, WindowsAreDisti
 ghost use Rattle.wl_plain.specs.Soundness.{EmptyIsSound, RunIsSound, SoundIsDistinct};
 ghost use Rattle.wl_plain.specs.NoMoreLaws.{EmptyHasNoMore, NoMoreStays};
 ghost use Rattle.wl_plain.specs.Through.{HappensLeadsThrough, MessagesLeadThrough};
-ghost use Rattle.wl_plain.specs.WholeLaws.{EndsStay, WholeHappens, WholeOneRun, WholeOnlyRun};
-ghost use Rattle.wl_plain.specs.WholeOthers.{RefusedAlone, WholeOthersStay};
-ghost use Rattle.wl_plain.specs.WholeOwn.{WholeOwnStays};
+ghost use Rattle.wl_plain.specs.RunLaws.{EndsStay, MayHappen, OneRun, OnlyRun};
+ghost use Rattle.wl_plain.specs.Others.{RefusedAlone, OthersAreLeftAlone};
+ghost use Rattle.wl_plain.specs.Own.{OwnStays};
 
 pub use answers::{ClientNo, ConnectError, Done, Fed, Stored};
 
@@ -50,8 +50,8 @@ pub fn scratch_stays()
 {}
 
 /// Whatever is left out, a step of a client's leaves every other client as it was, but for what that is told of the pointer's focus.
-pub fn whole_others_stay()
-    ensures { WholeOthersStay }
+pub fn others_are_left_alone()
+    ensures { OthersAreLeftAlone }
 {}
 
 /// A message that is refused ends its client with that error, is the last that is taken of that client, and leaves every other client alone.
@@ -61,8 +61,8 @@ pub fn refused_alone()
 
 /// Whatever happens that isn't a step of a client's, a tick and what the pointer does too, leaves it what it has, or ends it for an event that
 /// wasn't queued.
-pub fn whole_own_stays()
-    ensures { WholeOwnStays }
+pub fn own_stays()
+    ensures { OwnStays }
 {}
 
 /// Where no more is served than a client's own interfaces, a piece makes of the desktop's client what it makes of the client by itself.
@@ -71,18 +71,18 @@ pub fn served_alone()
 {}
 
 /// Whatever is asked of a desktop may happen, with some answer; where memory is there, by a function.
-pub fn whole_happens()
-    ensures { WholeHappens }
+pub fn may_happen()
+    ensures { MayHappen }
 {}
 
 /// Whatever is left out, what happens is determined with its answer, but for want of memory.
-pub fn whole_one_run()
-    ensures { WholeOneRun }
+pub fn one_run()
+    ensures { OneRun }
 {}
 
 /// A list of acts has at most one run that meets no want of memory, with its answers.
-pub fn whole_only_run()
-    ensures { WholeOnlyRun }
+pub fn only_run()
+    ensures { OnlyRun }
 {}
 
 /// A client's stream may be cut into any pieces: two pieces lead where they lead as one, whatever is left out.

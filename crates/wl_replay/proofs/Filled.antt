@@ -1,7 +1,7 @@
 -- A store that is filled from a file, read by read.
 use Rattle.std.proofs.Common.{◌≡◌, ◌<◌, ◌≤◌, ◌+◌, ℕ, List, [], ◌∷◌, length, sym, subst, inr, arith}
 use Rattle.wl_session.specs.Agreeing.{Agrees, TakesStep}
-use Rattle.wl_plain.specs.Steps as act
+use Rattle.wl_plain.specs.Acts as act
 use Rattle.wl_plain.specs.declared.answers.Done.{Done}
 use Rattle.wl_plain.specs.Desktop.{Desktop}
 use Rattle.wl_resident.specs.View.{DeskView}

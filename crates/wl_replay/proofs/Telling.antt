@@ -2,8 +2,8 @@
 use Rattle.std.proofs.Common.{◌≡◌, ℕ, suc, ◌+◌, List, [], ◌∷◌, ◌++◌, Option, Some, length, refl, sym, subst, add-one}
 use Rattle.wl_plain.specs.declared.answers.Done.{Done}
 use Rattle.wl_plain.specs.LeftOut.{served_now}
-use Rattle.wl_plain.specs.Steps.{Send}
-use Rattle.wl_plain.specs.Whole.{Happens}
+use Rattle.wl_plain.specs.Acts.{Send}
+use Rattle.wl_plain.specs.Happens.{Happens}
 use Rattle.wl_plain.specs.Desktop.{Desktop}
 use Rattle.wl_replay.specs.Clients.{Sends, TellsClient, TellsFirst}
 use Rattle.wl_recording.specs.Text.{to_line}

@@ -8,9 +8,9 @@ use Rattle.wl_plain.specs.Desktop.{Desktop}
 use Rattle.wl_session.specs.Image.{image_of}
 use Rattle.wl_session.specs.Run.{IsNextFrame}
 use Rattle.wl_plain.specs.LeftOut.{served_now}
-use Rattle.wl_plain.specs.Steps as act
-use Rattle.wl_plain.specs.Steps.{peer_at, status_of}
-use Rattle.wl_plain.specs.Whole.{Happens}
+use Rattle.wl_plain.specs.Acts as act
+use Rattle.wl_plain.specs.Acts.{peer_at, status_of}
+use Rattle.wl_plain.specs.Happens.{Happens}
 use Rattle.wl_plain.specs.declared.answers.ConnectError.{ConnectError}
 use Rattle.wl_plain.specs.declared.answers.ConnectError.TheVariants.{Full, Memory}
 use Rattle.wl_plain.specs.declared.answers.Done.{Done}

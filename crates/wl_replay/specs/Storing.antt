@@ -4,9 +4,9 @@ use Rattle.wl_session.specs.Agreeing.{TakesStep}
 use Rattle.wl_resident.specs.View.{DeskView}
 use Rattle.wl_plain.specs.Desktop.{Desktop}
 use Rattle.wl_plain.specs.LeftOut.{served_now}
-use Rattle.wl_plain.specs.Steps as act
-use Rattle.wl_plain.specs.Steps.{peer_at, status_of, store_size_of}
-use Rattle.wl_plain.specs.Whole.{Happens}
+use Rattle.wl_plain.specs.Acts as act
+use Rattle.wl_plain.specs.Acts.{peer_at, status_of, store_size_of}
+use Rattle.wl_plain.specs.Happens.{Happens}
 use Rattle.wl_plain.specs.declared.answers.Done.{Done}
 use Rattle.wl_plain.specs.declared.answers.Done.TheVariants as gave
 use Rattle.wl_plain.specs.declared.answers.Fed.{Fed}

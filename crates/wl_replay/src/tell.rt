@@ -4,7 +4,7 @@ ghost use Rattle.std.specs.Prelude.{◌≡◌, ◌≤◌, ◌+◌, ◌*◌, ℕ,
 ghost use Rattle.std.specs.Io.KnownBytes.{Appends};
 ghost use Rattle.wl_session.specs.Agreeing.{Agrees};
 ghost use Rattle.wl_plain.specs.Desktop.{Desktop};
-ghost use Rattle.wl_plain.specs.Steps.{peer_at, status_of, unsent_of};
+ghost use Rattle.wl_plain.specs.Acts.{peer_at, status_of, unsent_of};
 ghost use Rattle.wl_replay.specs.Clients.{Closes, Sends, TellsClient, TellsFirst};
 
 use std::alloc::Allocator;

@@ -43,10 +43,10 @@ use Rattle.wl_resident.specs.Marking.{marked_by}
 use Rattle.wl_resident.specs.Messages.{IsAsked}
 use Rattle.wl_resident.specs.declared.messages.Asked.{Asked}
 use Rattle.wl_resident.specs.declared.messages.Asked.TheVariants as asks
-use Rattle.wl_resident.specs.Residents.{Answers, AnswersSo, IsResident, NewIsFree, ObjectsFit, Stacks, StacksBy, StacksFor, StacksSo, StacksTo, TakesSo}
+use Rattle.wl_resident.specs.Residents.{AnswersDemand, AnswersSo, IsResident, NewIsFree, ObjectsFit, Stacks, StacksBy, StacksFor, StacksSo, StacksTo, TakesSo}
 use Rattle.wl_plain.specs.Step.{surface_of, with_peer}
 use Rattle.wl_plain.proofs.BridgeServes.{only-peer}
-use Rattle.wl_plain.proofs.WholePiecesChanging.{judged-behind}
+use Rattle.wl_plain.proofs.PiecesChanging.{judged-behind}
 use Rattle.wl_resident.proofs.Numbers.{left-from}
 use Rattle.wl_resident.proofs.Shelling.{new-free, refused-whole}
 
@@ -160,7 +160,7 @@ module _ {A : Type 0} (old : Kept A) (r : Resident) (object version size target 
   pub whole-first : split_of r.peer.rest ≡ Whole object m.opcode size
   whole-first = ap split_of (sym is.peer.rest) ∙ passes.first
 
-  pub first-taken : (mid new : Kept A) (stacking : Stacking) → mid ≡ record old { client = record old.client { rest = drop size old.client.rest } } → Answers (λ r. demand_of served_now r object version m) mid new
+  pub first-taken : (mid new : Kept A) (stacking : Stacking) → mid ≡ record old { client = record old.client { rest = drop size old.client.rest } } → AnswersDemand (λ r. demand_of served_now r object version m) mid new
       → Stacks (λ r. demand_of served_now r object version m) mid stacking → (c : ℕ) (d : Desktop) → OwnsToplevelsOnly r → TakesSo (split_of r.peer.rest) c r d old new stacking
   first-taken mid new stacking same answers stacks c d only =
       let there = dropped old mid r size same is in

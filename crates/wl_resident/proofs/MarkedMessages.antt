@@ -56,7 +56,7 @@ use Rattle.wl_resident.proofs.Simply.{AnswersSimply, TakesSo}
 use Rattle.wl_resident.specs.Seats.{IsClearedBy, IsRestacked, IsSeated, IsSettledBy}
 use Rattle.wl_plain.specs.LeftOut.{served_now}
 use Rattle.wl_plain.specs.NoMore.{NoMore}
-use Rattle.wl_plain.specs.Whole.{Serves}
+use Rattle.wl_plain.specs.Happens.{Serves}
 use Rattle.wl_plain.specs.Step.{surface_of, with_peer}
 use Rattle.wl_plain.proofs.Simply.{Simple, changed_simply, judge, simple_of, simply, touched}
 use Rattle.wl_plain.specs.Touching.{any_window_at, has_window_at, is_window_at}

@@ -33,7 +33,7 @@ use Rattle.wl_resident.specs.Seats.{IsBased, IsClearedBy, IsRestacked, IsSeated,
 use Rattle.wl_plain.specs.Demanding.{judge_all}
 use Rattle.wl_plain.specs.LeftOut.{served_now}
 use Rattle.wl_plain.specs.NoMore.{NoMore, OwnsToplevelsOnly}
-use Rattle.wl_plain.specs.Whole.{Serves}
+use Rattle.wl_plain.specs.Happens.{Serves}
 use Rattle.wl_plain.proofs.Forms.{ServesAt, Takes}
 use Rattle.wl_plain.specs.Step.{after_surface, surface_of, with_peer}
 use Rattle.wl_plain.proofs.Simply.{Acts, Answers, Asking, Becomes, CommitSurface, DestroySurface, DestroyToplevel, Simple, WantsOr, changed_simply, committed_on, effect_on, judge, stacked_simply, told_simply, wants_simply}

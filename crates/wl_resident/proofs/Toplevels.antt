@@ -4,7 +4,7 @@ use Rattle.wl_paint.specs.Damage.{Damaged, has}
 use Rattle.wl_plain.specs.Desktop.{Desktop}
 use Rattle.wl_plain.specs.NoMore.{NoMore}
 use Rattle.wl_plain.proofs.BridgeWindows.{marks-same}
-use Rattle.wl_resident.specs.Marking.{Marks}
+use Rattle.wl_resident.specs.Marking.{MarksAtLeast}
 use Rattle.wl_plain.proofs.ToplevelWindows.{marks_of_toplevels}
 
 -- what is to be painted stays so, and what a step marks at least of the toplevels is to be painted too
@@ -12,7 +12,7 @@ abbrev pub MarksToplevels : Desktop → Desktop → Damaged → Damaged → Type
 MarksToplevels d e old new =
     (x y : ℕ) → x < old.width → y < old.height → has new x y ≡ false → (has old x y ≡ false) × (marks_of_toplevels d e (pos x) (pos y) ≡ false)
 
-pub marks-all : (d e : Desktop) (old new : Damaged) → NoMore d → NoMore e → MarksToplevels d e old new → Marks d e old new
+pub marks-all : (d e : Desktop) (old new : Damaged) → NoMore d → NoMore e → MarksToplevels d e old new → MarksAtLeast d e old new
 marks-all d e old new more later marks = λ x y wide high clean.
     let both = marks x y wide high clean in
     (both.0, marks-same d e (pos x) (pos y) more later ∙ both.1)

@@ -23,8 +23,8 @@ abbrev pub AreUnlinked : Desktop → Type 0
 AreUnlinked d = (c : ℕ) → (owned_in d c).surfaces.links ≡ []
 
 -- what is to be painted stays so, and what a step from one desktop to the other marks at least is to be painted too
-abbrev pub Marks : Desktop → Desktop → Damaged → Damaged → Type 0
-Marks d e old new =
+abbrev pub MarksAtLeast : Desktop → Desktop → Damaged → Damaged → Type 0
+MarksAtLeast d e old new =
     (x y : ℕ) → x < old.width → y < old.height → has new x y ≡ false → (has old x y ≡ false) × (marks_at_least d e (pos x) (pos y) ≡ false)
 
 -- a toplevel of the client stands

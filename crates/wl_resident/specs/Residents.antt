@@ -37,7 +37,7 @@ use Rattle.wl_plain.specs.Owning.{IsOwned, names_in, targets_in}
 use Rattle.wl_plain.specs.Replies.{replies}
 use Rattle.wl_plain.specs.Stacked.{all_windows}
 use Rattle.wl_plain.specs.Step.{answers_to, changed_by, role_configured, surface_of, takes_memory, with_peer}
-use Rattle.wl_plain.specs.Whole.{wants_memory}
+use Rattle.wl_plain.specs.Happens.{wants_memory}
 
 -- what is kept of the surfaces and of the shell stands for what the client owns
 abbrev pub Owns : {A : Type 0} → Kept A → Resident → Type 0
@@ -85,8 +85,8 @@ abbrev pub AnswersSo : {A : Type 0} → Result Demand Refusal → ℕ → Reside
 AnswersSo (Ok demand) c r d old new = MeetsSo c demand (with_peer (counted r.peer) r) d old new
 AnswersSo (Err refusal) c r d old new = (q : Peer) × Errs refusal r.peer q × IsLeft old new r q
 
-abbrev pub Answers : {A : Type 0} → (Resident → Result Demand Refusal) → Kept A → Kept A → Type 0
-Answers judged old new = (c : ℕ) (r : Resident) (d : Desktop) → IsResident old r → OwnsToplevelsOnly r → AnswersSo (judged r) c r d old new
+abbrev pub AnswersDemand : {A : Type 0} → (Resident → Result Demand Refusal) → Kept A → Kept A → Type 0
+AnswersDemand judged old new = (c : ℕ) (r : Resident) (d : Desktop) → IsResident old r → OwnsToplevelsOnly r → AnswersSo (judged r) c r d old new
 
 -- the wl_surface with this id has the surface of this number
 abbrev pub IsSurface : {A : Type 0} → Kept A → ℕ → ℕ → Type 0
@@ -167,8 +167,8 @@ TakesSo (Whole object opcode size) c r d old new stacking =
 TakesSo Bad c r d old new stacking = AnswersSo (Err (display_error InvalidMethod)) c r d old new
 TakesSo More c r d old new stacking = ⊥
 
-abbrev pub Takes : {A : Type 0} → Kept A → Kept A → Stacking → Type 0
-Takes old new stacking =
+abbrev pub TakesMessage : {A : Type 0} → Kept A → Kept A → Stacking → Type 0
+TakesMessage old new stacking =
     (c : ℕ) (r : Resident) (d : Desktop) → IsResident old r → OwnsToplevelsOnly r → TakesSo (split_of r.peer.rest) c r d old new stacking
 
 -- what a toplevel's request comes to

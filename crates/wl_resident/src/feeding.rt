@@ -3,7 +3,7 @@
 ghost use Rattle.std.specs.Prelude.{ℕ, ◌≡◌, ◌<◌, ◌≤◌, ◌||◌, None, Some, length, pos, true, false};
 ghost use Rattle.wl_proto.specs.declared.interface.Interface.TheVariants.{WlSurface};
 ghost use Rattle.wl_paint.specs.Damage.{has};
-ghost use Rattle.wl_resident.specs.Marking.{AreUnlinked, IsAsLarge, Marks, MarksEnd, stands_any};
+ghost use Rattle.wl_resident.specs.Marking.{AreUnlinked, IsAsLarge, MarksAtLeast, MarksEnd, stands_any};
 ghost use Rattle.wl_plain.specs.Owning.{targets_in};
 ghost use Rattle.wl_plain.specs.Touching.{is_window_at};
 ghost use Rattle.wl_client.specs.Objects.{ById};
@@ -14,8 +14,8 @@ ghost use Rattle.wl_plain.specs.Desktop.{Desktop, Resident as Plain, become};
 ghost use Rattle.wl_resident.specs.Seats.{IsBare, IsChangedSo, IsClearedBy, IsRestacked, IsSeated, IsSettledBy, ended_by};
 ghost use Rattle.wl_plain.specs.LeftOut.{served_now};
 ghost use Rattle.wl_plain.specs.NoMore.{NoMore};
-ghost use Rattle.wl_plain.specs.Whole.{Serves};
-ghost use Rattle.wl_plain.specs.Steps.{IsLeft, IsSent, IsStored, stored_of};
+ghost use Rattle.wl_plain.specs.Happens.{Serves};
+ghost use Rattle.wl_plain.specs.Acts.{IsLeft, IsSent, IsStored, stored_of};
 
 use crate::marking::{mark_everywhere, touched_by};
 use crate::residents::{Resident, Stacking};
@@ -127,7 +127,7 @@ impl<A: Allocator + Copy> Resident<A> {
             → (e : Desktop) × (q : Plain) × Serves served_now client d e × IsSeated client others base self.new scene.new e q }
         ensures marks { result ≡ true → (others : ℕ → ById ℕ) (base d : Desktop) (r : Plain) → AreUnlinked base → IsSeated client others base self.old scene.old d r → NoMore d
             → (e : Desktop) (q : Plain) → Serves served_now client d e → IsSeated client others base self.new scene.new e q
-            → Marks d e damage.old damage.new }
+            → MarksAtLeast d e damage.old damage.new }
         ensures idle { result ≡ false → (self.new ≡ self.old) × (scene.new ≡ scene.old) × (damage.new ≡ damage.old) × IsIdleAt self.old.client.ended self.old.client.rest }
         ensures sides { IsAsLarge damage.old damage.new }
         ensures less { result ≡ true → length self.new.client.rest < length self.old.client.rest }

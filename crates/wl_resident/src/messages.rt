@@ -6,7 +6,7 @@ ghost use Rattle.wl_proto.specs.Messages.{Message, request_message};
 ghost use Rattle.wl_client.specs.Peer.{IsIdleAt};
 ghost use Rattle.wl_client.specs.Serving.{is_own};
 ghost use Rattle.wl_resident.specs.Messages.{IsAsked, IsKind};
-ghost use Rattle.wl_resident.specs.Residents.{Answers, NewIsFree, ObjectsFit, Stacks, Takes};
+ghost use Rattle.wl_resident.specs.Residents.{AnswersDemand, NewIsFree, ObjectsFit, Stacks, TakesMessage};
 ghost use Rattle.wl_plain.specs.LeftOut.{served_now};
 ghost use Rattle.wl_plain.specs.Demanding.{demand_of};
 
@@ -107,7 +107,7 @@ impl<A: Allocator + Copy> Resident<A> {
     /// Answers a request to an object, which has this version and target.
     fn answer(&mut self, object: u32, version: u32, target: usize, kind: Kind) -> Stacking
         ensures answers { (m : Message) → IsKind kind m → entry_of self.old.client.objects object ≡ Some (record { interface = m.interface; version = version; target = target })
-            → NewIsFree self.old m → ObjectsFit self.old m → Answers (λ r. demand_of served_now r object version m) self.old self.new }
+            → NewIsFree self.old m → ObjectsFit self.old m → AnswersDemand (λ r. demand_of served_now r object version m) self.old self.new }
         ensures stacks { (m : Message) → IsKind kind m → entry_of self.old.client.objects object ≡ Some (record { interface = m.interface; version = version; target = target })
             → Stacks (λ r. demand_of served_now r object version m) self.old result }
         ensures rest { length self.new.client.rest ≤ length self.old.client.rest }
@@ -143,7 +143,7 @@ impl<A: Allocator + Copy> Resident<A> {
     pub(crate) fn serve(&mut self, asked: Asked) -> Option<Stacking>
         requires { IsAsked self.old.client asked }
         ensures lives { IfSome result (λ s. self.old.client.ended ≡ None) }
-        ensures takes { IfSome result (λ s. Takes self.old self.new s) }
+        ensures takes { IfSome result (λ s. TakesMessage self.old self.new s) }
         ensures idle { IfNone result ((self.new ≡ self.old) × IsIdleAt self.old.client.ended self.old.client.rest) }
         ensures less { IfSome result (λ s. length self.new.client.rest < length self.old.client.rest) }
     {

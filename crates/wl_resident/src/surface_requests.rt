@@ -18,7 +18,7 @@ ghost use Rattle.wl_plain.specs.NoMore.{OwnsToplevelsOnly};
 ghost use Rattle.wl_plain.specs.Owning.{AreKept, IsOwned, Names, effect_by, names_in};
 ghost use Rattle.wl_plain.specs.LeftOut.{served_now};
 ghost use Rattle.wl_plain.specs.Releases.{let_if, same_number};
-ghost use Rattle.wl_resident.specs.Residents.{Answers, Does, IsSurface, Meets, MeetsSo, Stacks, stacking_by};
+ghost use Rattle.wl_resident.specs.Residents.{AnswersDemand, Does, IsSurface, Meets, MeetsSo, Stacks, stacking_by};
 ghost use Rattle.wl_plain.specs.Step.{buffers_had, is_number, is_over, letting_go};
 ghost use Rattle.wl_plain.specs.Demanding.{demand_of, effect_of_commit};
 ghost use Rattle.wl_surface.specs.Surfaces.{Surface, listed};
@@ -213,7 +213,7 @@ impl<A: Allocator + Copy> Resident<A> {
 
     /// wl_surface.commit: what is pending counts, and the shell says what that comes to.
     fn commit(&mut self, object: u32, version: u32, surface: SurfaceNo) -> Stacking
-        ensures answers { IsSurface self.old object surface → Answers (λ r. demand_of served_now r object version (wl_surface_request Commit)) self.old self.new }
+        ensures answers { IsSurface self.old object surface → AnswersDemand (λ r. demand_of served_now r object version (wl_surface_request Commit)) self.old self.new }
         ensures stacks { IsSurface self.old object surface
             → Stacks (λ r. demand_of served_now r object version (wl_surface_request Commit)) self.old result }
         ensures rest { length self.new.client.rest ≤ length self.old.client.rest }
@@ -283,7 +283,7 @@ impl<A: Allocator + Copy> Resident<A> {
 
     /// wl_surface.destroy: the xdg_surface of the surface must be gone.
     fn destroy(&mut self, object: u32, version: u32, surface: SurfaceNo)
-        ensures answers { IsSurface self.old object surface → Answers (λ r. demand_of served_now r object version (wl_surface_request Destroy)) self.old self.new }
+        ensures answers { IsSurface self.old object surface → AnswersDemand (λ r. demand_of served_now r object version (wl_surface_request Destroy)) self.old self.new }
         ensures rest { length self.new.client.rest ≤ length self.old.client.rest }
     {
         if self.has_xdg_surface(surface) {
@@ -298,7 +298,7 @@ impl<A: Allocator + Copy> Resident<A> {
     /// wl_surface.set_buffer_transform, of one of the eight.
     fn transform(&mut self, object: u32, version: u32, surface: SurfaceNo, transform: i32)
         ensures answers { IsSurface self.old object surface
-            → Answers (λ r. demand_of served_now r object version (wl_surface_request (TransformAsked transform))) self.old self.new }
+            → AnswersDemand (λ r. demand_of served_now r object version (wl_surface_request (TransformAsked transform))) self.old self.new }
         ensures rest { length self.new.client.rest ≤ length self.old.client.rest }
     {
         if !is_valid(transform) {
@@ -319,7 +319,7 @@ impl<A: Allocator + Copy> Resident<A> {
         request: &WlSurfaceRequest,
     ) -> Stacking
         ensures answers { IsSurface self.old object surface
-            → Answers (λ r. demand_of served_now r object version (wl_surface_request request.now)) self.old self.new }
+            → AnswersDemand (λ r. demand_of served_now r object version (wl_surface_request request.now)) self.old self.new }
         ensures stacks { IsSurface self.old object surface
             → Stacks (λ r. demand_of served_now r object version (wl_surface_request request.now)) self.old result }
         ensures rest { length self.new.client.rest ≤ length self.old.client.rest }

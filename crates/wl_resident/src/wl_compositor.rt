@@ -7,7 +7,7 @@ ghost use Rattle.wl_plain.specs.Ask.{Own};
 ghost use Rattle.wl_plain.specs.Demand.{Asks};
 ghost use Rattle.wl_plain.specs.LeftOut.{served_now};
 ghost use Rattle.wl_plain.specs.Demanding.{demand_of, demands};
-ghost use Rattle.wl_resident.specs.Residents.{Answers, IsFree, NewIsFree};
+ghost use Rattle.wl_resident.specs.Residents.{AnswersDemand, IsFree, NewIsFree};
 ghost use Rattle.wl_plain.specs.WlSurface.{surface_created};
 
 use crate::residents::Resident;
@@ -26,7 +26,7 @@ fn is_too_many(error: SurfaceError) -> bool
 impl<A: Allocator + Copy> Resident<A> {
     /// wl_compositor.create_surface: a new surface under a free id. A client may have 256 surfaces.
     fn create_surface(&mut self, version: u32, id: u32)
-        ensures answers { IsFree self.old id → Answers (λ r. demands (surface_created r id version)) self.old self.new }
+        ensures answers { IsFree self.old id → AnswersDemand (λ r. demands (surface_created r id version)) self.old self.new }
         ensures rest { length self.new.client.rest ≤ length self.old.client.rest }
     {
         match self.owned.surfaces.create() {
@@ -52,7 +52,7 @@ impl<A: Allocator + Copy> Resident<A> {
 
     /// wl_compositor.create_region: a new region, which is empty, under a free id.
     fn create_region(&mut self, version: u32, id: u32)
-        ensures answers { IsFree self.old id → Answers (λ r. Ok (Asks (Own (CreateRegion id version)))) self.old self.new }
+        ensures answers { IsFree self.old id → AnswersDemand (λ r. Ok (Asks (Own (CreateRegion id version)))) self.old self.new }
         ensures rest { length self.new.client.rest ≤ length self.old.client.rest }
     {
         self.client.count();
@@ -62,7 +62,7 @@ impl<A: Allocator + Copy> Resident<A> {
     /// A request of a wl_compositor whose new id is free.
     pub(crate) fn wl_compositor(&mut self, object: u32, version: u32, request: &WlCompositorRequest)
         ensures answers { NewIsFree self.old (wl_compositor_request request.now)
-            → Answers (λ r. demand_of served_now r object version (wl_compositor_request request.now)) self.old self.new }
+            → AnswersDemand (λ r. demand_of served_now r object version (wl_compositor_request request.now)) self.old self.new }
         ensures rest { length self.new.client.rest ≤ length self.old.client.rest }
     {
         match *request {

@@ -10,7 +10,7 @@ ghost use Rattle.wl_shell.specs.Kept.{kept_of};
 ghost use Rattle.wl_shell.specs.Shell.{xdg_with};
 ghost use Rattle.wl_plain.specs.Demanding.{demand_of, demands, toplevel_destroyed};
 ghost use Rattle.wl_plain.specs.LeftOut.{served_now};
-ghost use Rattle.wl_resident.specs.Residents.{Answers, IsToplevel, Stacks, asked_by, drawn_by, told_by};
+ghost use Rattle.wl_resident.specs.Residents.{AnswersDemand, IsToplevel, Stacks, asked_by, drawn_by, told_by};
 ghost use Rattle.wl_plain.specs.Step.{toplevel_configured, xdg_configured};
 ghost use Rattle.wl_plain.specs.Requests.{toplevel_request};
 ghost use Rattle.wl_plain.specs.XdgShell.{state_asked};
@@ -60,7 +60,7 @@ pub(crate) fn asked_of(request: &XdgToplevelRequest) -> ToplevelAsked
 impl<A: Allocator + Copy> Resident<A> {
     /// xdg_toplevel.destroy: its id is given back.
     fn destroy_toplevel(&mut self, object: u32, surface: SurfaceNo)
-        ensures answers { IsToplevel self.old object surface → Answers (λ r. toplevel_destroyed object (xdg_with object r.owned.shell)) self.old self.new }
+        ensures answers { IsToplevel self.old object surface → AnswersDemand (λ r. toplevel_destroyed object (xdg_with object r.owned.shell)) self.old self.new }
         ensures rest { length self.new.client.rest ≤ length self.old.client.rest }
     {
         self.client.count();
@@ -121,7 +121,7 @@ impl<A: Allocator + Copy> Resident<A> {
 
     /// A request for another state, as xdg_toplevel.set_maximized: the toplevel is configured again, if it was configured before.
     fn configure_again(&mut self, object: u32, surface: SurfaceNo)
-        ensures answers { IsToplevel self.old object surface → Answers (λ r. demands (state_asked (xdg_with object r.owned.shell))) self.old self.new }
+        ensures answers { IsToplevel self.old object surface → AnswersDemand (λ r. demands (state_asked (xdg_with object r.owned.shell))) self.old self.new }
         ensures rest { length self.new.client.rest ≤ length self.old.client.rest }
     {
         let xdg_surface = self.xdg_surface_of(surface);
@@ -145,7 +145,7 @@ impl<A: Allocator + Copy> Resident<A> {
         asked: ToplevelAsked,
     ) -> Stacking
         ensures answers { IsToplevel self.old object surface → (version : ℕ) (m : Message) → m.interface ≡ XdgToplevel → asked ≡ asked_by (toplevel_request m.opcode m.fields)
-            → Answers (λ r. demand_of served_now r object version m) self.old self.new }
+            → AnswersDemand (λ r. demand_of served_now r object version m) self.old self.new }
         ensures stacks { IsToplevel self.old object surface → (version : ℕ) (m : Message) → m.interface ≡ XdgToplevel → asked ≡ asked_by (toplevel_request m.opcode m.fields)
             → Stacks (λ r. demand_of served_now r object version m) self.old result }
         ensures rest { length self.new.client.rest ≤ length self.old.client.rest }

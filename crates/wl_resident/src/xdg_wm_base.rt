@@ -7,7 +7,7 @@ ghost use Rattle.wl_proto.specs.declared.xdg_wm_base.XdgWmBaseRequest.TheVariant
 ghost use Rattle.wl_plain.specs.Ask.{DestroyBase, Ignore};
 ghost use Rattle.wl_plain.specs.Demand.{Asks};
 ghost use Rattle.wl_plain.specs.Owning.{targets_in};
-ghost use Rattle.wl_resident.specs.Residents.{Answers, Does, IsBase, IsFree, IsSurface, NewIsFree, ObjectsFit};
+ghost use Rattle.wl_resident.specs.Residents.{AnswersDemand, Does, IsBase, IsFree, IsSurface, NewIsFree, ObjectsFit};
 ghost use Rattle.wl_plain.specs.LeftOut.{served_now};
 ghost use Rattle.wl_plain.specs.Demanding.{demand_of};
 ghost use Rattle.wl_plain.specs.WlSubsurface.{past_limit};
@@ -42,7 +42,7 @@ fn is_memory(error: ShellError) -> bool
 impl<A: Allocator + Copy> Resident<A> {
     /// A request that has no effect is counted.
     pub(crate) fn ignore(&mut self)
-        ensures answers { Answers (λ r. Ok (Asks Ignore)) self.old self.new }
+        ensures answers { AnswersDemand (λ r. Ok (Asks Ignore)) self.old self.new }
         ensures rest { length self.new.client.rest ≤ length self.old.client.rest }
     {
         self.client.count();
@@ -50,7 +50,7 @@ impl<A: Allocator + Copy> Resident<A> {
 
     /// A request that isn't served is refused as a limit would be.
     pub(crate) fn refuse_unserved(&mut self)
-        ensures answers { Answers (λ r. past_limit) self.old self.new }
+        ensures answers { AnswersDemand (λ r. past_limit) self.old self.new }
         ensures rest { length self.new.client.rest ≤ length self.old.client.rest }
     {
         self.client
@@ -78,7 +78,7 @@ impl<A: Allocator + Copy> Resident<A> {
 
     /// xdg_wm_base.destroy: its id is given back.
     fn destroy_base(&mut self, object: u32, version: u32)
-        ensures answers { IsBase self.old object → Answers (λ r. demand_of served_now r object version (xdg_wm_base_request Destroy)) self.old self.new }
+        ensures answers { IsBase self.old object → AnswersDemand (λ r. demand_of served_now r object version (xdg_wm_base_request Destroy)) self.old self.new }
         ensures rest { length self.new.client.rest ≤ length self.old.client.rest }
     {
         match self.owned.shell.check_base(object) {
@@ -102,7 +102,7 @@ impl<A: Allocator + Copy> Resident<A> {
         number: SurfaceNo,
     )
         ensures answers { IsFree self.old id → IsSurface self.old surface number
-            → Answers (λ r. demand_of served_now r object version (xdg_wm_base_request (GetXdgSurface id surface))) self.old self.new }
+            → AnswersDemand (λ r. demand_of served_now r object version (xdg_wm_base_request (GetXdgSurface id surface))) self.old self.new }
         ensures rest { length self.new.client.rest ≤ length self.old.client.rest }
     {
         let has_other_role = is_foreign_role(self.owned.surfaces.role(number));
@@ -135,7 +135,7 @@ impl<A: Allocator + Copy> Resident<A> {
     /// A request of an xdg_wm_base whose new id is free and whose wl_surface is there.
     pub(crate) fn xdg_wm_base(&mut self, object: u32, version: u32, request: &XdgWmBaseRequest)
         ensures answers { IsBase self.old object → NewIsFree self.old (xdg_wm_base_request request.now) → ObjectsFit self.old (xdg_wm_base_request request.now)
-            → Answers (λ r. demand_of served_now r object version (xdg_wm_base_request request.now)) self.old self.new }
+            → AnswersDemand (λ r. demand_of served_now r object version (xdg_wm_base_request request.now)) self.old self.new }
         ensures rest { length self.new.client.rest ≤ length self.old.client.rest }
     {
         match *request {

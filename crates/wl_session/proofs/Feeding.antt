@@ -19,14 +19,14 @@ use Rattle.wl_plain.specs.Laws.{status_of as ended_in}
 use Rattle.wl_resident.specs.Seats.{ended_by}
 use Rattle.wl_plain.specs.Settling.{becomes}
 use Rattle.wl_plain.specs.Step.{with_peer}
-use Rattle.wl_plain.specs.Steps.{fed_of, peer_at, peer_of, status_of}
+use Rattle.wl_plain.specs.Acts.{fed_of, peer_at, peer_of, status_of}
 use Rattle.wl_resident.specs.View.{DeskView, OwnedView}
 use Rattle.wl_plain.specs.declared.answers.Done.TheVariants as gave
 use Rattle.wl_plain.specs.declared.answers.Fed.{Fed}
 use Rattle.wl_plain.specs.LeftOut.{served_now}
 use Rattle.wl_plain.specs.NoMore.{NoMore}
-use Rattle.wl_plain.specs.Whole.{FeedsAt, IsFedAt, Reaches, Serves, StopsAt}
-use Rattle.wl_plain.proofs.Forms.{ServesAt as WholeServesAt}
+use Rattle.wl_plain.specs.Happens.{FeedsAt, IsFedAt, Reaches, Serves, StopsAt}
+use Rattle.wl_plain.proofs.Forms.{ServesAt as StepServesAt}
 use Rattle.wl_plain.proofs.BridgeBack.{message-by}
 use Rattle.wl_plain.proofs.BridgeLasts.{reaches-has}
 use Rattle.wl_plain.proofs.BridgeServes.{becomes-same, settles-to}
@@ -46,7 +46,7 @@ stacked-there c ask r d there = (there.0, ap (λ (clients : List (Option Residen
 serves-there : (c : ℕ) (d new : Desktop) → NoMore d → Serves served_now c d new → IsThere c new
 serves-there c d new more h = at (client_at c d) refl h
   where
-    at : (o : Option Resident) → client_at c d ≡ o → WholeServesAt served_now c o d new → IsThere c new
+    at : (o : Option Resident) → client_at c d ≡ o → StepServesAt served_now c o d new → IsThere c new
     at None is served = absurd served
     at (Some r) is served =
         message-by c r d new is more (λ e. IsThere c e) (λ p q never. (_, client-become q.status c (with_peer p r) q d r is))
@@ -65,13 +65,13 @@ reaches-there c (suc n) d new more there h =
 reaches-none : (c n : ℕ) (d new : Desktop) → client_at c d ≡ None → Reaches served_now c n d new → new ≡ d
 reaches-none c zero d new none h = h
 reaches-none c (suc n) d new none h =
-    absurd (subst (λ (o : Option Resident). WholeServesAt served_now c o h.0 new) (ap (λ (x : Desktop). client_at c x) (reaches-none c n d h.0 none h.1) ∙ none) h.2)
+    absurd (subst (λ (o : Option Resident). StepServesAt served_now c o h.0 new) (ap (λ (x : Desktop). client_at c x) (reaches-none c n d h.0 none h.1) ∙ none) h.2)
 
 -- the client ended
 reaches-ended : (c n : ℕ) (s : Cause) (r : Resident) (d new : Desktop) → client_at c d ≡ Some r → r.peer.status ≡ Some s → Reaches served_now c n d new → new ≡ d
 reaches-ended c zero s r d new is over h = h
 reaches-ended c (suc n) s r d new is over h =
-    let served : WholeServesAt served_now c (Some r) h.0 new = subst (λ (o : Option Resident). WholeServesAt served_now c o h.0 new) (ap (λ (x : Desktop). client_at c x) (reaches-ended c n s r d h.0 is over h.1) ∙ is) h.2 in
+    let served : StepServesAt served_now c (Some r) h.0 new = subst (λ (o : Option Resident). StepServesAt served_now c o h.0 new) (ap (λ (x : Desktop). client_at c x) (reaches-ended c n s r d h.0 is over h.1) ∙ is) h.2 in
     let clash : Some s ≡ None = sym over ∙ served.0 in
     absurd (cc)
 

@@ -4,9 +4,9 @@ use Rattle.std.specs.Prelude.{pos}
 use Rattle.wl_wire.specs.Wire.{Word, Number}
 use Rattle.wl_plain.specs.Desktop.{Desktop}
 use Rattle.wl_plain.specs.Stacked.{all_windows}
-use Rattle.wl_plain.proofs.WholeRows.{sent}
-use Rattle.wl_plain.proofs.WholeRowsSubsurfaces.{first}
-use Rattle.wl_plain.proofs.WholeRowsThrough.{made_again, shown_again, without_child, without_link}
+use Rattle.wl_plain.proofs.RowSteps.{sent}
+use Rattle.wl_plain.proofs.RowsSubsurfaces.{first}
+use Rattle.wl_plain.proofs.RowsThrough.{made_again, shown_again, without_child, without_link}
 use Rattle.wl_plain.proofs.Toplevels.{asks, attach, black, commit, green, one, red, rewritten, stores, three, three_ready, two}
 use Rattle.wl_surface.specs.Trees.{applied_tree, behaves_synchronised, depth, descends_from, height}
 use Rattle.wl_scene.specs.Windows.{tree}

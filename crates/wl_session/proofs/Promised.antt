@@ -13,17 +13,17 @@ use Rattle.wl_plain.specs.LeftOut.{LeftOut}
 use Rattle.wl_plain.specs.Scratch.{pixel_at}
 use Rattle.wl_plain.specs.Stacked.{all_windows}
 use Rattle.wl_plain.specs.Step.{with_peer}
-use Rattle.wl_plain.specs.Steps.{Act, Connect, Feed, Leave, Send, Close, Store, Tick, Motion, Button}
-use Rattle.wl_plain.specs.Whole.{Happens}
-use Rattle.wl_plain.specs.WholeOthers.{client_of}
-use Rattle.wl_plain.specs.WholeOwn.{KeepsItsOwn, KeepsItsOwnBy, KeepsItsOwnSo, LivesOrEnds}
+use Rattle.wl_plain.specs.Acts.{Act, Connect, Feed, Leave, Send, Close, Store, Tick, Motion, Button}
+use Rattle.wl_plain.specs.Happens.{Happens}
+use Rattle.wl_plain.specs.Others.{client_of}
+use Rattle.wl_plain.specs.Own.{KeepsItsOwn, KeepsItsOwnBy, KeepsItsOwnSo, LivesOrEnds}
 use Rattle.wl_plain.proofs.OwningKeys.{none-some}
 use Rattle.wl_plain.proofs.Stacks.{Each, and-both, same-number}
 use Rattle.wl_plain.proofs.Places.{number-other, number-same}
 use Rattle.wl_plain.proofs.ShownWindows.{all-shown}
 use Rattle.wl_plain.proofs.Through.{happens_leads_through}
-use Rattle.wl_plain.proofs.WholeOneRunFates.{same-or}
-use Rattle.wl_plain.proofs.WholeOthersOwn.{whole_own_stays}
+use Rattle.wl_plain.proofs.OneRunFates.{same-or}
+use Rattle.wl_plain.proofs.OthersOwn.{own_stays}
 use Rattle.wl_session.specs.Promises.{KeepBut, KeepsBuffers, KeepsDamage, busy_in, bytes_by, bytes_in, is_rewritten_at, is_same_color}
 use Rattle.wl_session.specs.StoreWrites.{PromisesAreEnough}
 use Rattle.wl_session.specs.Unmarked.{AllDamageBut}
@@ -90,7 +90,7 @@ own-kept c old new h = at (client_at c old) refl h
 user-hides-nothing : (left : LeftOut) (act : Act) (done : Done) (old new : Desktop) (c : ℕ) → client_of act done ≡ None → Happens left act done old new → KeepsDamage all_windows old new c
 user-hides-nothing left act done old new c user h =
     hides-nothing all_windows old new c (all-shown old) (all-shown new)
-    (own-kept c old new (whole_own_stays left act done c old new (λ e. none-some c (sym user ∙ e)) h))
+    (own-kept c old new (own_stays left act done c old new (λ e. none-some c (sym user ∙ e)) h))
 
 -- what is asked of the others is what is wanted
 enough : (left : LeftOut) (liars : ℕ → Bool) (act : Act) (done : Done) (old new : Desktop) → Happens left act done old new → KeepBut all_windows liars (Single act done) old new → AllDamageBut all_windows liars old new

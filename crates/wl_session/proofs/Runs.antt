@@ -9,8 +9,8 @@ use Rattle.wl_plain.specs.declared.answers.Done.{Done}
 use Rattle.wl_session.specs.declared.steps.Step.{Step}
 use Rattle.wl_plain.specs.Desktop.{Desktop}
 use Rattle.wl_plain.specs.LeftOut.{LeftOut}
-use Rattle.wl_plain.specs.Steps.{Act, Connect, Feed, Store, Leave, Tick, Send, Close, Motion, Button}
-use Rattle.wl_plain.specs.Whole.{Happens}
+use Rattle.wl_plain.specs.Acts.{Act, Connect, Feed, Store, Leave, Tick, Send, Close, Motion, Button}
+use Rattle.wl_plain.specs.Happens.{Happens}
 use Rattle.wl_session.specs.Step.{act_of}
 use Rattle.wl_session.specs.Run.{Film, IsNextFrame, IsShownBy, Leads, MayStopAt, Runs, Shows, in_runs, takes_memory}
 use Rattle.wl_desk.specs.Agreeing.{Agrees, TakesStep}

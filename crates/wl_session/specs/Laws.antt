@@ -5,9 +5,9 @@ use Rattle.wl_plain.specs.Laws.{toplevels_of}
 use Rattle.wl_plain.specs.LeftOut.{LeftOut, served_now}
 use Rattle.wl_plain.specs.NoMore.{NoMore}
 use Rattle.wl_plain.specs.declared.answers.Done.{Done}
-use Rattle.wl_plain.specs.Steps.{Act}
-use Rattle.wl_plain.specs.Whole.{Happens}
-use Rattle.wl_plain.specs.WholeOthers.{client_of}
+use Rattle.wl_plain.specs.Acts.{Act}
+use Rattle.wl_plain.specs.Happens.{Happens}
+use Rattle.wl_plain.specs.Others.{client_of}
 
 -- Whatever happens leaves each client that it isn't a step of as it was: its status, requests, objects, serials, unsent bytes and rest, what
 -- it owns, and the places and the order of its toplevels; where what isn't served has left no trace.

@@ -8,14 +8,14 @@ use Rattle.wl_plain.specs.LeftOut.{LeftOut}
 use Rattle.wl_plain.specs.Scratch.{scratch_of}
 use Rattle.wl_plain.specs.Stacked.{all_windows}
 use Rattle.wl_session.specs.Promises.{KeepBut}
-use Rattle.wl_session.specs.Unmarked.{Event, Marks, Moment, Shown, Stepped, after, in_output_of, is_covered, undamaged}
+use Rattle.wl_session.specs.Unmarked.{Event, MarksShown, Moment, Shown, Stepped, after, in_output_of, is_covered, undamaged}
 
 -- Something happens, in which each client but these keeps its promises, and what it has to from its first desktop to its last is marked (what is
 -- marked along the desktops on the way holds that: `marked_through` of wl_plain); or a frame is shown.
 abbrev pub IsDone : LeftOut → (ℕ → Bool) → Moment → Event → Type 0
 IsDone left liars m (Stepped new damage) =
     (happening : Happening) × (path : List Desktop) × Leads left happening m.desktop path new
-    × KeepBut all_windows liars happening m.desktop new × Marks all_windows m.desktop new m.damage damage
+    × KeepBut all_windows liars happening m.desktop new × MarksShown all_windows m.desktop new m.damage damage
 IsDone left liars m Shown = Unit {0}
 
 abbrev pub AreDone : LeftOut → (ℕ → Bool) → Rgb → Moment → List Event → Type 0

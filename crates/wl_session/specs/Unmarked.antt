@@ -54,8 +54,8 @@ IsRight shown liars background image damage d =
     (x y : ℤ) → in_output_of d x y ≡ true → damage x y ≡ false → is_covered shown liars d x y ≡ false → image x y ≡ scratch_of shown background d x y
 
 -- A step takes no damage away and marks at least what it has to.
-abbrev pub Marks : Showing → Desktop → Desktop → Damage → Damage → Type 0
-Marks shown old new before after = (x y : ℤ) → after x y ≡ false → (before x y ≡ false) × (marks_at_least_of shown old new x y ≡ false)
+abbrev pub MarksShown : Showing → Desktop → Desktop → Damage → Damage → Type 0
+MarksShown shown old new before after = (x y : ℤ) → after x y ≡ false → (before x y ≡ false) × (marks_at_least_of shown old new x y ≡ false)
 
 -- So it stays right over a step of an output of the same size, with the same image.
 abbrev pub StaysRight : Type 0
@@ -64,7 +64,7 @@ StaysRight =
     → new.output ≡ old.output
     → BothDistinct shown old new
     → AllDamageBut shown liars old new
-    → Marks shown old new before after
+    → MarksShown shown old new before after
     → IsRight shown liars background image before old
     → IsRight shown liars background image after new
 
@@ -119,7 +119,7 @@ after shown background m Shown =
 -- a step in which each client but these damages what it changes, and which marks what it has to
 abbrev pub IsHonest : Showing → (ℕ → Bool) → Moment → Event → Type 0
 IsHonest shown liars m (Stepped new damage) =
-    (new.output ≡ m.desktop.output) × BothDistinct shown m.desktop new × AllDamageBut shown liars m.desktop new × Marks shown m.desktop new m.damage damage
+    (new.output ≡ m.desktop.output) × BothDistinct shown m.desktop new × AllDamageBut shown liars m.desktop new × MarksShown shown m.desktop new m.damage damage
 IsHonest shown liars m Shown = Unit {0}
 
 abbrev pub AreHonest : Showing → (ℕ → Bool) → Rgb → Moment → List Event → Type 0

@@ -1,4 +1,4 @@
-use Rattle.wl_plain.proofs.WholeOneRunStays.{ends_stay}
+use Rattle.wl_plain.proofs.OneRunStays.{ends_stay}
 use Rattle.wl_plain.proofs.ends_stay.Goals as goal
 
 pub returns : goal.returns

@@ -1,6 +1,6 @@
 use Rattle.std.proofs.Common.{◌≡◌, refl, ap, ◌∙◌}
 use Rattle.std.proofs.lemmas.Result.{on_ok_weaker}
-use Rattle.wl_plain.specs.Steps.{peer_at, status_of}
+use Rattle.wl_plain.specs.Acts.{peer_at, status_of}
 use Rattle.wl_replay.specs.Report.{absent_text}
 use Rattle.wl_replay.specs.Told.{words}
 use Rattle.wl_replay.proofs.step.feed.Goals as goal

@@ -1,4 +1,4 @@
-use Rattle.wl_plain.specs.Steps.{peer_at, unsent_of}
+use Rattle.wl_plain.specs.Acts.{peer_at, unsent_of}
 use Rattle.wl_recording.specs.Text.{to_line}
 use Rattle.wl_replay.proofs.Telling.{sends-so}
 use Rattle.wl_replay.proofs.tell.send.Goals as goal

@@ -1,6 +1,6 @@
 use Rattle.std.proofs.Common.{false, true, ap, sym, ◌∙◌}
 use Rattle.std.proofs.lemmas.List.{length-set}
-use Rattle.wl_plain.specs.Steps.{Close, IsClosed}
+use Rattle.wl_plain.specs.Acts.{Close, IsClosed}
 use Rattle.wl_plain.specs.declared.answers.Done.TheVariants as gave
 use Rattle.wl_desk.proofs.Calls.{Changes-none, closed, found, unclosed}
 use Rattle.wl_desk.proofs.MarkedCalls.{closed-marks, past-marks, unclosed-marks}

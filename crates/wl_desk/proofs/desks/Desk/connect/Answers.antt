@@ -2,7 +2,7 @@ use Rattle.std.proofs.Common.{ap, refl, ◌∙◌, ◌+◌}
 use Rattle.std.proofs.lemmas.List.{length-set}
 use Rattle.wl_desk.proofs.Calls.{Connects-full, Connects-new, Connects-refused, found}
 use Rattle.wl_desk.proofs.MarkedCalls.{connects-marks}
-use Rattle.wl_plain.specs.Steps.{Connect}
+use Rattle.wl_plain.specs.Acts.{Connect}
 use Rattle.wl_desk.proofs.NoMore.{steps-marked, steps-whole}
 use Rattle.wl_desk.proofs.desks.Desk.connect.Goals as goal
 

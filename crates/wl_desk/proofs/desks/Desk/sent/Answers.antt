@@ -1,6 +1,6 @@
 use Rattle.std.proofs.Common.{false, ap, refl, sym, ◌∙◌}
 use Rattle.std.proofs.lemmas.List.{length-set}
-use Rattle.wl_plain.specs.Steps.{Send, IsSent}
+use Rattle.wl_plain.specs.Acts.{Send, IsSent}
 use Rattle.wl_plain.specs.declared.answers.Done.TheVariants as gave
 use Rattle.wl_desk.proofs.Calls.{Changes-none, changes, changes-untaken, found}
 use Rattle.wl_desk.proofs.MarkedCalls.{changes-marks, past-marks, untaken-marks}

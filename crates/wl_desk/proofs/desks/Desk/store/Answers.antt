@@ -1,6 +1,6 @@
 use Rattle.std.proofs.Common.{ap, refl, sym, ◌∙◌}
 use Rattle.std.proofs.lemmas.List.{length-set}
-use Rattle.wl_plain.specs.Steps.{Store, IsStored}
+use Rattle.wl_plain.specs.Acts.{Store, IsStored}
 use Rattle.wl_plain.specs.declared.answers.Done.TheVariants as gave
 use Rattle.wl_plain.specs.declared.answers.Stored.TheVariants as stored
 use Rattle.wl_desk.proofs.Calls.{Changes-none, changes, changes-untaken, found}

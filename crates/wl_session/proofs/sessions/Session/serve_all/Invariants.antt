@@ -3,7 +3,7 @@ use Rattle.wl_desk.specs.Agreeing.{Agrees}
 use Rattle.wl_plain.specs.Desktop.{Desktop}
 use Rattle.wl_desk.specs.Feeding.{rest_in}
 use Rattle.wl_plain.specs.LeftOut.{served_now}
-use Rattle.wl_plain.specs.Whole.{Reaches}
+use Rattle.wl_plain.specs.Happens.{Reaches}
 use Rattle.wl_session.proofs.sessions.Session.serve_all.Given as goal
 
 -- so many messages were taken

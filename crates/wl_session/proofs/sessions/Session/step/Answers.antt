@@ -1,7 +1,7 @@
 use Rattle.std.proofs.Common.{sym, subst}
 use Rattle.wl_paint.specs.Damage.{has}
 use Rattle.wl_paint.specs.Frame.{Image}
-use Rattle.wl_plain.specs.Steps.{Tick}
+use Rattle.wl_plain.specs.Acts.{Tick}
 use Rattle.wl_session.specs.Run.{IsShownBy}
 use Rattle.wl_session.proofs.Runs.{Shows-tick}
 use Rattle.wl_session.proofs.sessions.Session.step.Goals as goal

@@ -1,7 +1,7 @@
 use Rattle.std.proofs.Common.{◌≡◌, false, refl, ap, sym, [], inl, inr}
 use Rattle.std.proofs.lemmas.List.{append-nil}
 use Rattle.wl_plain.specs.declared.answers.Done.TheVariants as gave
-use Rattle.wl_plain.specs.Steps.{Connect}
+use Rattle.wl_plain.specs.Acts.{Connect}
 use Rattle.wl_session.specs.Step.{act_of}
 use Rattle.wl_session.specs.Run.{takes_memory}
 use Rattle.wl_session.proofs.Runs.{Leads-none, Leads-quiet}
