@@ -69,7 +69,7 @@ changed-stream (Asking (GetToplevel id version xdg)) r s rest =
     ap (λ (q : Resident). making XdgToplevel id version q) (toplevel-stream id xdg (xdg_at xdg r.owned.shell) r s rest)
 changed-stream (Asking (Acknowledge xdg serial)) r s rest = refl
 changed-stream (Asking (ConfigureAgain xdg)) r s rest = refl
-changed-stream (DestroyToplevel id xdg) r s rest = refl
+changed-stream (DestroyToplevel id xdg top) r s rest = refl
 changed-stream (Asking Ignore) r s rest = refl
 
 -- what is done is neither whether the client lives nor what came from it

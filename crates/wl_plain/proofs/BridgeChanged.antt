@@ -150,8 +150,8 @@ commit-same c id effect r d only e =
 
 -- ---- the end of a toplevel
 
-toplevel-same : (id xdg : ℕ) (r : Resident) → OwnsToplevelsOnly r → toplevel_ended id xdg r ≡ changed_simply (DestroyToplevel id xdg) r
-toplevel-same id xdg r only =
+toplevel-same : (id xdg top : ℕ) (r : Resident) → OwnsToplevelsOnly r → toplevel_ended id xdg r ≡ changed_simply (DestroyToplevel id xdg top) r
+toplevel-same id xdg top r only =
     ap (λ shell. removing id (with_shell (with_change xdg without_role (orphaning xdg shell)) r)) (none-dismissed (λ p. is_parent_of xdg p.popup) r.owned.shell only.roles)
     ∙ ap (λ shell. removing id (with_shell (with_change xdg without_role shell) r)) (all-still (orphan xdg) r.owned.shell only.roles)
 
@@ -161,7 +161,7 @@ pub changed-same : (c : ℕ) (ask : Simple) (demand : Demand) (r : Resident) (d 
 changed-same c ask demand r d only (asks other) = refl
 changed-same c ask demand r d only (ends id) = ended-same id r only
 changed-same c ask demand r d only (commit id effect e) = commit-same c id effect r d only e
-changed-same c ask demand r d only (goes id xdg) = toplevel-same id xdg r only
+changed-same c ask demand r d only (goes id xdg top) = toplevel-same id xdg top r only
 changed-same c ask demand r d only (move id serial) = refl
 
 configures-same : (c serial xdg : ℕ) (r : Resident) (d : Desktop) (o : Option RoleObject) → r.peer.serial ≡ serial → IsToplevel o → configure_told c r d xdg o ≡ role_configured serial xdg o
@@ -184,7 +184,7 @@ answers-same c ask demand r windows d only (ends id) =
 answers-same c ask demand r windows d only (commit id effect e) =
     ap (λ f. commit_told c f (xdg_of id r.owned.shell) (tree_committed id r) d) (effect-same r id only.roles ∙ e)
     ∙ commit-answers c id effect (xdg_of id r.owned.shell) r (tree_committed id r) d refl refl (found-toplevel (λ x. x.surface == id) r.owned.shell only.roles)
-answers-same c ask demand r windows d only (goes id xdg) = refl
+answers-same c ask demand r windows d only (goes id xdg surface) = refl
 answers-same c ask demand r windows d only (move id serial) = refl
 
 -- ---- the stack
@@ -224,7 +224,7 @@ pub stacked-same : (c : ℕ) (ask : Simple) (demand : Demand) (r : Resident) (wi
 stacked-same c ask demand r windows d still only (asks other) = refl
 stacked-same c ask demand r windows d still only (ends id) = refl
 stacked-same c ask demand r windows d still only (commit id effect e) = stacked-commit c id effect r d only.roles e
-stacked-same c ask demand r windows d still only (goes id xdg) = refl
+stacked-same c ask demand r windows d still only (goes id xdg surface) = refl
 stacked-same c ask demand r windows d still only (move id serial) =
     subst (λ p. stacked_for c (Move id serial) r windows (record d { pointer = p }) ≡ record d { pointer = p }) (sym still) (moved-plain c id serial r windows d)
 
@@ -232,5 +232,5 @@ pub wants-same : (ask : Simple) (demand : Demand) (r : Resident) → Same r ask 
 wants-same ask demand r (asks other) = refl
 wants-same ask demand r (ends id) = refl
 wants-same ask demand r (commit id effect e) = refl
-wants-same ask demand r (goes id xdg) = refl
+wants-same ask demand r (goes id xdg surface) = refl
 wants-same ask demand r (move id serial) = refl

@@ -41,7 +41,7 @@ pub data Same (r : Resident) : Simple → Demand → Type 0 where
   asks : (ask : Ask) → Same r (Asking ask) (Asks ask)
   ends : (id : ℕ) → Same r (DestroySurface id) (EndSurface id)
   commit : (id : ℕ) (effect : Effect) → effect_of r id ≡ effect → Same r (CommitSurface id effect) (CommitTree id)
-  goes : (id xdg : ℕ) → Same r (DestroyToplevel id xdg) (EndToplevel id xdg)
+  goes : (id xdg top : ℕ) → Same r (DestroyToplevel id xdg top) (EndToplevel id xdg top)
   move : (id serial : ℕ) → Same r (Asking Ignore) (Move id serial)
 
 -- the same is asked, or refused
@@ -65,7 +65,7 @@ pub simple-peer : (p : Peer) (r : Resident) (demand : Demand) → simple_of (wit
 simple-peer p r (Asks ask) = refl
 simple-peer p r (EndSurface id) = refl
 simple-peer p r (CommitTree id) = refl
-simple-peer p r (EndToplevel id xdg) = refl
+simple-peer p r (EndToplevel id xdg top) = refl
 simple-peer p r demand = refl
 
 -- ---- a commit
@@ -148,7 +148,7 @@ xdg-simple r (Some x) version (xdg.AckConfigure serial) served = demands-simple 
 
 pub gone-simple : (r : Resident) (object : ℕ) (o : Option Xdg) → IsSimple r (toplevel_destroyed object o)
 gone-simple r object None = refl
-gone-simple r object (Some x) = goes object x.id
+gone-simple r object (Some x) = goes object x.id x.surface
 
 moved-simple : (r : Resident) (serial : ℕ) (o : Option Xdg) → IsSimple r (moved_by_pointer serial o)
 moved-simple r serial None = refl

@@ -56,7 +56,7 @@ touches (Asking (DestroyBase id)) = Some id
 touches (Asking (GetXdgSurface id version base surface)) = Some id
 touches (Asking (DestroyXdgSurface id)) = Some id
 touches (Asking (GetToplevel id version xdg)) = Some id
-touches (DestroyToplevel id xdg) = Some id
+touches (DestroyToplevel id xdg top) = Some id
 touches ask = None
 
 -- it isn't a wl_surface, or isn't there yet
@@ -239,5 +239,5 @@ asked-owns (Asking (DestroyXdgSurface id)) r other only = same-owns (Asking (Des
 asked-owns (Asking (GetToplevel id version xdg)) r other only = given-owns id version xdg (xdg_at xdg r.owned.shell) r other only
 asked-owns (Asking (Acknowledge xdg serial)) r other only = same-owns (Asking (Acknowledge xdg serial)) r refl only.known refl refl refl only
 asked-owns (Asking (ConfigureAgain xdg)) r other only = same-owns (Asking (ConfigureAgain xdg)) r refl only.known refl refl refl only
-asked-owns (DestroyToplevel id xdg) r other only = same-owns (DestroyToplevel id xdg) r refl (known-at r.owned.surfaces r.peer.objects id None other only.known) refl refl refl only
+asked-owns (DestroyToplevel id xdg top) r other only = same-owns (DestroyToplevel id xdg top) r refl (known-at r.owned.surfaces r.peer.objects id None other only.known) refl refl refl only
 asked-owns (Asking Ignore) r other only = only

@@ -87,7 +87,7 @@ tops-kept (Asking (DestroyXdgSurface id)) r top = top-without id r.owned.shell t
 tops-kept (Asking (GetToplevel id version xdg)) r top = top-given id xdg (xdg_at xdg r.owned.shell) r top
 tops-kept (Asking (Acknowledge xdg serial)) r top = top-change xdg (acknowledging serial) (λ y is. top-acknowledged serial y y.role refl is) r.owned.shell top
 tops-kept (Asking (ConfigureAgain xdg)) r top = top-change xdg (configuring r.peer.serial) (λ y is. is) r.owned.shell top
-tops-kept (DestroyToplevel id xdg) r top = top-change xdg without_role (λ y is. tt) r.owned.shell top
+tops-kept (DestroyToplevel id xdg surface) r top = top-change xdg without_role (λ y is. tt) r.owned.shell top
 tops-kept (Asking Ignore) r top = top
 
 -- ---- the pointer isn't anywhere
@@ -170,7 +170,7 @@ stacked-pointer c (CommitSurface id Unconfigured) r d = refl
 stacked-pointer c (CommitSurface id Configures) r d = refl
 stacked-pointer c (CommitSurface id Maps) r d = refl
 stacked-pointer c (CommitSurface id Unmaps) r d = refl
-stacked-pointer c (DestroyToplevel id xdg) r d = refl
+stacked-pointer c (DestroyToplevel id xdg top) r d = refl
 stacked-pointer c ask r d = refl
 
 pub kept-still : (d : Desktop) → d.pointer ≡ first_pointer → with_kept_move d ≡ d
@@ -227,7 +227,7 @@ pub same-peer : (r : Resident) (p : Peer) (ask : Simple) (demand : Demand) → S
 same-peer r p ask demand (asks other) = asks other
 same-peer r p ask demand (ends id) = ends id
 same-peer r p ask demand (commit id effect e) = commit id effect e
-same-peer r p ask demand (goes id xdg) = goes id xdg
+same-peer r p ask demand (goes id xdg surface) = goes id xdg surface
 same-peer r p ask demand (move id serial) = move id serial
 
 pub pairs-peer : (r : Resident) (p : Peer) (judged : Result Simple Refusal) (demanded : Result Demand Refusal) → Pairs r judged demanded → Pairs (with_peer p r) judged demanded

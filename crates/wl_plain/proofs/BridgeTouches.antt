@@ -51,7 +51,7 @@ same-apart : (r : Resident) (ask : Simple) (demand : Demand) → Same r ask dema
 same-apart r ask demand (asks other) allows = ask-apart r other allows
 same-apart r ask demand (ends id) allows = tt
 same-apart r ask demand (commit id effect e) allows = tt
-same-apart r ask demand (goes id xdg) allows = other-object XdgToplevel refl (r.peer.objects id) allows.0
+same-apart r ask demand (goes id xdg surface) allows = other-object XdgToplevel refl (r.peer.objects id) allows.0
 same-apart r ask demand (move id serial) allows = tt
 
 pub touches_apart : TouchesApart

@@ -173,7 +173,7 @@ change-quiet c (SetPositioner id p) d r = (refl, refl)
 change-quiet c (GetPopup id version xdg parent p) d r = popup-quiet id xdg parent p (xdg_at xdg r.owned.shell) r
 change-quiet c (Grab xdg serial) d r = grab-quiet (grab_allowed c xdg serial r d) xdg r
 change-quiet c (EndPopup id xdg) d r = (refl, refl)
-change-quiet c (EndToplevel id xdg) d r = (refl, refl)
+change-quiet c (EndToplevel id xdg top) d r = (refl, refl)
 change-quiet c (Move surface serial) d r = (refl, refl)
 
 -- the clients aren't among what the stack and the pointer are
@@ -203,7 +203,7 @@ stacked-for c (SetPositioner id p) r windows d = refl
 stacked-for c (GetPopup id version xdg parent p) r windows d = refl
 stacked-for c (Grab xdg serial) r windows d = refl
 stacked-for c (EndPopup id xdg) r windows d = refl
-stacked-for c (EndToplevel id xdg) r windows d = refl
+stacked-for c (EndToplevel id xdg top) r windows d = refl
 stacked-for c (Move surface serial) r windows d = refl
 
 -- ---- one message

@@ -156,7 +156,7 @@ demand-clients c (SetPositioner id p) r windows d = refl
 demand-clients c (GetPopup id version xdg parent p) r windows d = refl
 demand-clients c (Grab xdg serial) r windows d = refl
 demand-clients c (EndPopup id xdg) r windows d = refl
-demand-clients c (EndToplevel id xdg) r windows d = refl
+demand-clients c (EndToplevel id xdg top) r windows d = refl
 demand-clients c (Move surface serial) r windows d = refl
 
 -- what is done to the stack and to the pointer leaves the clients

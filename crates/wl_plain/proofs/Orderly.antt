@@ -141,6 +141,11 @@ abbrev pub HasId : ℕ → Option Xdg → Type 0
 HasId xdg None = ⊥
 HasId xdg (Some x) = x.id ≡ xdg
 
+-- and it is that of this surface
+abbrev pub IsOn : ℕ → Option Xdg → Type 0
+IsOn surface None = ⊥
+IsOn surface (Some x) = x.surface ≡ surface
+
 abbrev pub IsObject : Interface → ℕ → Resident → Type 0
 IsObject interface id r = is_of interface (r.peer.objects id) ≡ true
 
@@ -197,7 +202,7 @@ IsAllowed r (SetPositioner id p) = Unit {0}
 IsAllowed r (GetPopup id version xdg parent p) = IsNew id r × HasNoRole (xdg_at xdg r.owned.shell)
 IsAllowed r (Grab xdg serial) = Unit {0}
 IsAllowed r (EndPopup id xdg) = IsObject XdgPopup id r × HasId xdg (xdg_with id r.owned.shell)
-IsAllowed r (EndToplevel id xdg) = IsObject XdgToplevel id r × HasId xdg (xdg_with id r.owned.shell)
+IsAllowed r (EndToplevel id xdg top) = IsObject XdgToplevel id r × HasId xdg (xdg_with id r.owned.shell) × IsOn top (xdg_with id r.owned.shell)
 IsAllowed r (Move surface serial) = Unit {0}
 
 -- ---- what is done to surfaces

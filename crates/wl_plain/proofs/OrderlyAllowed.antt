@@ -28,7 +28,7 @@ use Rattle.wl_plain.specs.WlSubsurface.{beside, demand_by_link, has_subsurface, 
 use Rattle.wl_plain.specs.WlSurface.{rect}
 use Rattle.wl_plain.specs.XdgPopup.{grab_of, popup_asked, positioner_asked, positioner_of, set_if}
 use Rattle.wl_plain.specs.XdgShell.{role_of}
-use Rattle.wl_plain.proofs.Orderly.{HasId, IsAllowed, IsObject, IsOfParent}
+use Rattle.wl_plain.proofs.Orderly.{HasId, IsAllowed, IsOn, IsObject, IsOfParent}
 use Rattle.wl_plain.proofs.OrderlyAllowedAsks.{Allows, ask-either, base-allowed, compositor-allowed, either, none-there, own-allowed-so, state-allowed, xdg-allowed}
 use Rattle.wl_plain.proofs.OrderlyAllowedHeard.{fresh-first, judged-hears, named-second}
 use Rattle.wl_plain.proofs.OrderlyAllowedOwn.{IsHeardBy}
@@ -174,7 +174,7 @@ moved-allowed r serial (Some x) = tt
 
 gone-allowed : (r : Resident) (object : ℕ) (o : Option Xdg) → xdg_with object r.owned.shell ≡ o → IsObject XdgToplevel object r → Allows r (toplevel_destroyed object o)
 gone-allowed r object None is live = tt
-gone-allowed r object (Some x) is live = (live, subst (λ o. HasId x.id o) (sym is) refl)
+gone-allowed r object (Some x) is live = (live, subst (λ o. HasId x.id o) (sym is) refl, subst (λ o. IsOn x.surface o) (sym is) refl)
 
 toplevel-allowed : (r : Resident) (object : ℕ) (o : Option Xdg) → xdg_with object r.owned.shell ≡ o → IsObject XdgToplevel object r → (request : ToplevelRequest) → Allows r (toplevel_asked object o request)
 toplevel-allowed r object o is live toplevel.Destroy = gone-allowed r object o is live

@@ -75,7 +75,7 @@ module _ (r : Resident) (rest : List ℕ) where
   allowed-counted (GetPopup id version xdg parent p) h = h
   allowed-counted (Grab xdg serial) h = h
   allowed-counted (EndPopup id xdg) h = h
-  allowed-counted (EndToplevel id xdg) h = h
+  allowed-counted (EndToplevel id xdg top) h = h
   allowed-counted (Move surface serial) h = h
 
 -- ---- the links make trees
@@ -157,7 +157,7 @@ forest-kept c (GetPopup id version xdg parent p) r d ok roles forest = popup-for
 forest-kept c (Grab xdg serial) r d ok roles forest =
     by-same r.peer.requests r.owned.surfaces _ (grab-surfaces (grab_allowed c xdg serial r d) xdg r) forest
 forest-kept c (EndPopup id xdg) r d ok roles forest = next r.peer.requests r.owned.surfaces forest
-forest-kept c (EndToplevel id xdg) r d ok roles forest = next r.peer.requests r.owned.surfaces forest
+forest-kept c (EndToplevel id xdg top) r d ok roles forest = next r.peer.requests r.owned.surfaces forest
 forest-kept c (Move surface serial) r d ok roles forest = next r.peer.requests r.owned.surfaces forest
 
 -- ---- all of it

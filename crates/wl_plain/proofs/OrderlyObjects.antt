@@ -169,8 +169,8 @@ popup-ended id xdg r ok h =
     has-popup-gone r.peer.objects r.owned.surfaces r.subsurfaces r.owned.shell r.callbacks h id xdg ok.0
     (only-popup r.peer.objects r.owned.surfaces r.subsurfaces r.owned.shell r.callbacks h id xdg ok.0 ok.1)
 
-toplevel-gone : (id xdg : ℕ) (r : Resident) → IsAllowed r (EndToplevel id xdg) → HasOf r → HasOf (toplevel_ended id xdg r)
-toplevel-gone id xdg r ok h =
+toplevel-gone : (id xdg top : ℕ) (r : Resident) → IsAllowed r (EndToplevel id xdg top) → HasOf r → HasOf (toplevel_ended id xdg r)
+toplevel-gone id xdg top r ok h =
     let ids = dismissed_with (λ p. is_parent_of xdg p.popup) r.owned.shell in
     let dismissed = dismissing (λ p. is_parent_of xdg p.popup) r.owned.shell in
     let only = only-toplevel r.peer.objects r.owned.surfaces r.subsurfaces r.owned.shell r.callbacks h id xdg ok.0 ok.1 in
@@ -235,7 +235,7 @@ changed-has c (SetPositioner id p) r d ok h = h
 changed-has c (GetPopup id version xdg parent p) r d ok h = popup-made id version xdg parent p r (xdg_at xdg r.owned.shell) ok.0 refl h
 changed-has c (Grab xdg serial) r d ok h = grabbed-has (grab_allowed c xdg serial r d) xdg r h
 changed-has c (EndPopup id xdg) r d ok h = popup-ended id xdg r ok h
-changed-has c (EndToplevel id xdg) r d ok h = toplevel-gone id xdg r ok h
+changed-has c (EndToplevel id xdg top) r d ok h = toplevel-gone id xdg top r ok h
 changed-has c (Move surface serial) r d ok h = h
 
 -- whatever an accepted message does

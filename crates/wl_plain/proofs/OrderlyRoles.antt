@@ -417,5 +417,5 @@ roles-kept c (GetPopup id version xdg parent p) r d is objects forest has =
     roles-same (popup_given_to id xdg parent p (xdg_at xdg r.owned.shell) r) (popup_given id version xdg parent p r) refl refl (roles-popup id xdg parent p r has)
 roles-kept c (Grab xdg serial) r d is objects forest has = roles-grabbed (grab_allowed c xdg serial r d) xdg r has
 roles-kept c (EndPopup id xdg) r d is objects forest has = roles-same (xdg_changed xdg without_role r) (changed_for c (EndPopup id xdg) r d) refl refl (roles-changed xdg without_role r (λ x. refl) has)
-roles-kept c (EndToplevel id xdg) r d is objects forest has = roles-ended id xdg r has
+roles-kept c (EndToplevel id xdg top) r d is objects forest has = roles-ended id xdg r has
 roles-kept c (Move surface serial) r d is objects forest has = has

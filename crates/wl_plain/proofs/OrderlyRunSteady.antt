@@ -98,5 +98,5 @@ changed-steady c (SetPositioner id p) d r = (refl, refl)
 changed-steady c (GetPopup id version xdg parent p) d r = popup-steady id xdg parent p (xdg_at xdg r.owned.shell) r
 changed-steady c (Grab xdg serial) d r = grab-steady (grab_allowed c xdg serial r d) xdg r
 changed-steady c (EndPopup id xdg) d r = (refl, refl)
-changed-steady c (EndToplevel id xdg) d r = (refl, refl)
+changed-steady c (EndToplevel id xdg top) d r = (refl, refl)
 changed-steady c (Move surface serial) d r = (refl, refl)

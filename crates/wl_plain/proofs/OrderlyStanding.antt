@@ -10,17 +10,17 @@ use Rattle.wl_shell.specs.declared.stage.Stage.{Stage}
 use Rattle.wl_shell.specs.Shell.{Configures, Effect, IsPopup, Kind, Mapped, Maps, Popup, RoleObject, Shell, Stays, Toplevel, Unconfigured, Unmaps, XdgSurface, at_stage, in_stage, on_commit, with_change, with_new, without_xdg, xdg_at, xdg_of, configuring, unmapping, acknowledged, acknowledging, is_role, new_toplevel, role_acknowledged, without_role, xdg_with}
 use Rattle.wl_scene.specs.Stacking.{Standing, is_of, with_mapped, without_surface_of, Owned}
 use Rattle.wl_scene.specs.Windows.{mapping_place, Window}
-use Rattle.wl_plain.specs.Changing.{commit_done, effect_done, stacked_by, tree_committed, grabbed, popup_given_to, changed_for, drawing, grab_allowed, has_focus, in_rising_order, stacked_for}
+use Rattle.wl_plain.specs.Changing.{commit_done, effect_done, stacked_by, tree_committed, grabbed, popup_given_to, changed_for, drawing, grab_allowed, has_focus, in_rising_order, stacked_for, toplevel_ended}
 use Rattle.wl_plain.specs.Demanding.{effect_for_xdg, is_dismissed, effect_of_commit, effect_on_xdg}
 use Rattle.wl_plain.specs.Laws.{AreApart, toplevels_of}
 use Rattle.wl_plain.specs.Owning.{AreApartBy}
-use Rattle.wl_plain.proofs.Orderly.{HasNoRole, IsMapped, IsMappedRole, StandsSo, HasId, HasObjects, IsAsked, is_toplevel_at, HasRoles, IsAllowed}
+use Rattle.wl_plain.proofs.Orderly.{IsOn, HasNoRole, IsMapped, IsMappedRole, StandsSo, HasId, HasObjects, IsAsked, is_toplevel_at, HasRoles, IsAllowed}
 use Rattle.wl_plain.proofs.OwningKeys.{differ, found-by, found-map, found-passes, some-same, apart-map, found-any}
 use Rattle.wl_plain.proofs.StandingLists.{any-last, apart-left, mapped-apart, none-left, without-here}
 use Rattle.wl_plain.proofs.Stacks.{and-both, and-right, any-more, equal-numbers, unless}
 use Rattle.wl_plain.specs.Desktop.{Desktop, Resident}
 use Rattle.wl_plain.specs.WlSurface.{will_show}
-use Rattle.wl_plain.specs.Step.{asked_so_far, changed_by, surface_of, toplevel_given}
+use Rattle.wl_plain.specs.Step.{asked_so_far, changed_by, toplevel_given}
 use Rattle.wl_shell.specs.Positioner.{Positioner}
 use Rattle.wl_client.specs.Objects.{Object, interface_number, is_of as is_object_of}
 use Rattle.wl_proto.specs.declared.interface.Interface.TheVariants.{XdgPopup, XdgToplevel}
@@ -397,6 +397,10 @@ dismissed-ids : (x : XdgSurface) (b : Bool) → (cond b (popup_changed dismiss x
 dismissed-ids x true = refl
 dismissed-ids x false = refl
 
+-- the surface of an xdg_surface that is there
+abbrev surface_of : Option XdgSurface → ℕ
+surface_of x = option_map_or (λ x. x.surface) x 0
+
 surface-kept : (xdg : ℕ) (f : XdgSurface → XdgSurface) (shell : Shell) → KeepsIds f → surface_of (xdg_at xdg (map f shell)) ≡ surface_of (xdg_at xdg shell)
 surface-kept xdg f shell keeps = ap surface_of (found-map (λ x. x.id == xdg) f shell (λ x. ap (λ n. n == xdg) (keeps x).0)) ∙ at (xdg_at xdg shell)
   where
@@ -433,6 +437,14 @@ standing-toplevel-ended c xdg is shell ss apart stands =
 
     keeps : KeepsIds dismissed
     keeps x = (dismissed-ids x (is_among x.id (dismissed_with is shell)), dismissed-surface (dismissed_with is shell) x (is_among x.id (dismissed_with is shell)))
+
+-- the surface that the toplevel's xdg_surface is of
+top-of : (id xdg top : ℕ) (shell : Shell) → AreApartBy (λ id x. x.id == id) shell → HasId xdg (xdg_with id shell) → IsOn top (xdg_with id shell) → surface_of (xdg_at xdg shell) ≡ top
+top-of id xdg top shell apart has on = at (xdg_with id shell) refl has on
+  where
+    at : (o : Option XdgSurface) → xdg_with id shell ≡ o → HasId xdg o → IsOn top o → surface_of (xdg_at xdg shell) ≡ top
+    at None found has on = absurd has
+    at (Some x) found has on = ap surface_of (found-by (λ id x. x.id == id) (λ x. is_role id x.role) xdg shell x apart found (equal-numbers x.id xdg has)) ∙ on
 
 -- ---- all messages
 
@@ -492,5 +504,7 @@ standing-kept c (SetPositioner id p) r windows d is has roles stands = stands
 standing-kept c (GetPopup id version xdg parent p) r windows d is has roles stands = standing-popup-given id xdg parent p r (toplevels_of c d) has.shell.0 is.1 stands
 standing-kept c (Grab xdg serial) r windows d is has roles stands = standing-grabbed (grab_allowed c xdg serial r d) xdg r (toplevels_of c d) stands
 standing-kept c (EndPopup id xdg) r windows d is has roles stands = standing-popup-ended id xdg r (toplevels_of c d) has is.0 is.1 stands
-standing-kept c (EndToplevel id xdg) r windows d is has roles stands = standing-toplevel-ended c xdg (λ p. is_parent_of xdg p.popup) r.owned.shell d.standing has.shell.0 stands
+standing-kept c (EndToplevel id xdg top) r windows d is has roles stands =
+    subst (λ surface. StandsSo (toplevel_ended id xdg r).owned.shell (of_client c (without_surface_of c surface d.standing))) (top-of id xdg top r.owned.shell has.shell.0 is.1 is.2)
+    (standing-toplevel-ended c xdg (λ p. is_parent_of xdg p.popup) r.owned.shell d.standing has.shell.0 stands)
 standing-kept c (Move surface serial) r windows d is has roles stands = stands

@@ -63,7 +63,7 @@ stacked-others : (c other : ℕ) (ask : Simple) (r : Resident) (d : Desktop) →
 stacked-others c other (Asking ask) r d differ = refl
 stacked-others c other (DestroySurface id) r d differ = refl
 stacked-others c other (CommitSurface id effect) r d differ = effect-others c other id effect r d differ
-stacked-others c other (DestroyToplevel id xdg) r d differ = left_out (λ s. not (is_of c _ s)) other (one_surface c other _ differ) d.standing
+stacked-others c other (DestroyToplevel id xdg top) r d differ = left_out (λ s. not (is_of c _ s)) other (one_surface c other _ differ) d.standing
 
 become-others-by : (s : Option Cause) (c other : ℕ) (r : Resident) (q : Peer) (d : Desktop) → c ≢ other → toplevels_of other (become_by s c r q d) ≡ toplevels_of other d
 become-others-by None c other r q d differ = refl
@@ -102,4 +102,4 @@ pub stacked-keeps : (c : ℕ) (ask : Simple) (r : Resident) (d : Desktop) → Ke
 stacked-keeps c (Asking ask) r d = refl
 stacked-keeps c (DestroySurface id) r d = refl
 stacked-keeps c (CommitSurface id effect) r d = effect-keeps c id effect r d
-stacked-keeps c (DestroyToplevel id xdg) r d = refl
+stacked-keeps c (DestroyToplevel id xdg top) r d = refl

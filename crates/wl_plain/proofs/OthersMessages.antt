@@ -20,7 +20,7 @@ use Rattle.wl_plain.specs.Desktop.{Desktop, Resident, become, client_at, with_cl
 use Rattle.wl_plain.specs.LeftOut.{LeftOut}
 use Rattle.wl_plain.specs.Settling.{Midstep, after_status, becomes, unstruck}
 use Rattle.wl_plain.specs.Stacked.{all_windows}
-use Rattle.wl_plain.specs.Step.{surface_of, with_peer}
+use Rattle.wl_plain.specs.Step.{with_peer}
 use Rattle.wl_plain.specs.Happens.{AnswersThen, BecomesThen, DoesThen, FeedsAt, IsFedAt, Reaches, ServesThen, StopsAt, TakesThen, WantsOrThen, changed_so, done_for, settling, wants_memory}
 use Rattle.wl_plain.proofs.Forms.{ChangesAt, LeavesAt, ServesAt}
 use Rattle.wl_plain.proofs.Others.{IsLeft, become-left, left_out, on_top, one_surface, same-left, left-then}
@@ -54,8 +54,8 @@ stacked_for-left : (c other : ℕ) (demand : Demand) (r : Resident) (windows : L
 stacked_for-left c other (Asks ask) r windows d differ = (refl, refl)
 stacked_for-left c other (CommitTree surface) r windows d differ =
     commit-left (effect_of_commit r surface) (is_toplevel (xdg_of surface r.owned.shell)) c other surface d differ
-stacked_for-left c other (EndToplevel id xdg) r windows d differ =
-    (refl, left_out (λ s. not (is_of c _ s)) other (one_surface c other (surface_of (xdg_at xdg r.owned.shell)) differ) d.standing)
+stacked_for-left c other (EndToplevel id xdg top) r windows d differ =
+    (refl, left_out (λ s. not (is_of c _ s)) other (one_surface c other top differ) d.standing)
 stacked_for-left c other (EndSurface id) r windows d differ = (refl, refl)
 stacked_for-left c other (AskFrame id version surface) r windows d differ = (refl, refl)
 stacked_for-left c other (EndObject id) r windows d differ = (refl, refl)

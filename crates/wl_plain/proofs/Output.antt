@@ -119,7 +119,7 @@ commit-same Configures toplevel c surface d = refl
 stacked-same : (c : ℕ) (demand : Demand) (r : Resident) (windows : List Window) (d : Desktop) → Same d (stacked_for c demand r windows d)
 stacked-same c (Asks ask) r windows d = refl
 stacked-same c (CommitTree surface) r windows d = commit-same (effect_of_commit r surface) (is_toplevel (xdg_of surface r.owned.shell)) c surface d
-stacked-same c (EndToplevel id xdg) r windows d = refl
+stacked-same c (EndToplevel id xdg top) r windows d = refl
 stacked-same c (EndSurface id) r windows d = refl
 stacked-same c (AskFrame id version surface) r windows d = refl
 stacked-same c (EndObject id) r windows d = refl

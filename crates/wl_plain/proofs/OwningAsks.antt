@@ -182,10 +182,10 @@ module _ (names : Names) (slots : Slots) (kept : ℕ → Option Kept) (r : Resid
         (stepped-still (kept_configuring r.peer.serial) (configuring r.peer.serial) (configuring-keeps r.peer.serial) (changes_stand.configure r.peer.serial k x h one.stands))
 
     pub owned-toplevel-gone : (id : ℕ) (after : ℕ → Option Kept) (now : Names) → is_role id x.role ≡ true → after ≡ changing number kept_without_role kept → now ≡ with_toplevel id None names
-        → IsOwned now slots after (changed_simply (DestroyToplevel id x.id) r).owned
+        → IsOwned now slots after (changed_simply (DestroyToplevel id x.id x.surface) r).owned
     owned-toplevel-gone id after now its keeps same =
-        subst (λ (n : Names). IsOwned n slots after (changed_simply (DestroyToplevel id x.id) r).owned) (sym same)
-        (subst (λ (ks : ℕ → Option Kept). IsOwned (with_toplevel id None names) slots ks (changed_simply (DestroyToplevel id x.id) r).owned) (sym keeps)
+        subst (λ (n : Names). IsOwned n slots after (changed_simply (DestroyToplevel id x.id x.surface) r).owned) (sym same)
+        (subst (λ (ks : ℕ → Option Kept). IsOwned (with_toplevel id None names) slots ks (changed_simply (DestroyToplevel id x.id x.surface) r).owned) (sym keeps)
         (IsOwned-untoplevel names slots kept r.owned is number k x h one id kept_without_role without_role h slots r.owned.surfaces (λ y. refl) (λ y. refl) its refl is.surfaces
         (sym (histories-same x.surface (Some h) (λ other. history_in other r.owned.surfaces) one.history)) (changes_stand.destruction k x h one.stands)))
 

@@ -192,7 +192,7 @@ module _ (c : ℕ) (more : List ℕ) where
   done-behind (Grab xdg serial) r d rest =
       ap (λ (b : Bool). grabbed b xdg (with_behind rest r)) (allowed-behind xdg serial r d rest) ∙ grab-behind (grab_allowed c xdg serial r d) xdg r rest
   done-behind (EndPopup id xdg) r d rest = refl
-  done-behind (EndToplevel id xdg) r d rest = refl
+  done-behind (EndToplevel id xdg top) r d rest = refl
   done-behind (Move surface serial) r d rest = refl
 
   -- ---- what it is answered with
@@ -235,7 +235,7 @@ module _ (c : ℕ) (more : List ℕ) where
   own-behind (GetPopup id version xdg parent p) r windows d rest = refl
   own-behind (Grab xdg serial) r windows d rest = refl
   own-behind (EndPopup id xdg) r windows d rest = refl
-  own-behind (EndToplevel id xdg) r windows d rest = refl
+  own-behind (EndToplevel id xdg top) r windows d rest = refl
   own-behind (Move surface serial) r windows d rest = refl
 
   releases-behind : (b : Bool) (old new : Resident) (rest : List ℕ) → releases_unless b (with_behind rest old) (with_behind rest new) ≡ releases_unless b old new
@@ -279,7 +279,7 @@ module _ (c : ℕ) (more : List ℕ) where
   stacks (GetPopup id version xdg parent p) r windows d rest = refl
   stacks (Grab xdg serial) r windows d rest = refl
   stacks (EndPopup id xdg) r windows d rest = refl
-  stacks (EndToplevel id xdg) r windows d rest = refl
+  stacks (EndToplevel id xdg top) r windows d rest = refl
   stacks (Move surface serial) r windows d rest = refl
 
   pub stands-behind : (demand : Demand) (r : Resident) (d : Desktop) (rest : List ℕ) → done_for c demand (with_behind rest r) (longer_in c more d) ≡ longer_in c more (done_for c demand r d)

@@ -91,4 +91,4 @@ pub stacked-clients : (c : ℕ) (ask : Simple) (r : Resident) (d : Desktop) → 
 stacked-clients c (Asking ask) r d = refl
 stacked-clients c (DestroySurface id) r d = refl
 stacked-clients c (CommitSurface id effect) r d = effect-clients c id effect r d
-stacked-clients c (DestroyToplevel id xdg) r d = refl
+stacked-clients c (DestroyToplevel id xdg top) r d = refl

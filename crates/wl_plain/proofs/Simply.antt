@@ -12,7 +12,7 @@ use Rattle.wl_plain.specs.Demand.{Demand, Asks, EndSurface, CommitTree, EndTople
 use Rattle.wl_plain.specs.Demanding.{judge_all}
 use Rattle.wl_plain.specs.Desktop.{Desktop, Resident, become}
 use Rattle.wl_plain.specs.LeftOut.{served_now}
-use Rattle.wl_plain.specs.Step.{after_surface, answers_to, asked_so_far, changed_by, configured, configures_told, removing, surface_of, takes_memory, with_peer, with_surfaces, xdg_changed}
+use Rattle.wl_plain.specs.Step.{after_surface, answers_to, asked_so_far, changed_by, configured, configures_told, removing, takes_memory, with_peer, with_surfaces, xdg_changed}
 use Rattle.wl_plain.specs.Touching.{is_window_at}
 use Rattle.wl_plain.specs.WlSurface.{will_show}
 
@@ -23,7 +23,7 @@ pub data Simple : Type 0 where
   -- a commit, with what it comes to for the shell
   CommitSurface : ℕ → Effect → Simple
   -- a toplevel, and its xdg_surface
-  DestroyToplevel : ℕ → ℕ → Simple
+  DestroyToplevel : ℕ → ℕ → ℕ → Simple
 
 -- what a commit comes to for the shell: nothing of a surface without xdg_surface
 abbrev pub effect_for : Bool → Option Xdg → Effect
@@ -37,7 +37,7 @@ abbrev pub simple_of : Resident → Demand → Simple
 simple_of r (Asks ask) = Asking ask
 simple_of r (EndSurface id) = DestroySurface id
 simple_of r (CommitTree id) = CommitSurface id (effect_of r id)
-simple_of r (EndToplevel id xdg) = DestroyToplevel id xdg
+simple_of r (EndToplevel id xdg top) = DestroyToplevel id xdg top
 simple_of r demand = Asking Ignore
 
 abbrev pub simply : Resident → Result Demand Refusal → Result Simple Refusal
@@ -69,14 +69,14 @@ abbrev pub changed_simply : Simple → Resident → Resident
 changed_simply (Asking ask) r = changed_by ask r
 changed_simply (DestroySurface id) r = removing id (after_surface id r (with_surfaces (without_surface id r.owned.surfaces) r))
 changed_simply (CommitSurface id effect) r = effect_on id effect (xdg_of id r.owned.shell) (after_surface id r (committed_on id r))
-changed_simply (DestroyToplevel id xdg) r = removing id (xdg_changed xdg without_role r)
+changed_simply (DestroyToplevel id xdg top) r = removing id (xdg_changed xdg without_role r)
 
 -- ---- what it does to the stack of toplevels: one that is mapped stands on top; one that is unmapped or goes is taken out
 
 abbrev pub stacked_simply : ℕ → Simple → Resident → Desktop → Desktop
 stacked_simply c (CommitSurface id Maps) r d = record d { standing = with_mapped d.mappings c id d.standing; mappings = d.mappings + 1 }
 stacked_simply c (CommitSurface id Unmaps) r d = record d { standing = without_surface_of c id d.standing }
-stacked_simply c (DestroyToplevel id xdg) r d = record d { standing = without_surface_of c (surface_of (xdg_at xdg r.owned.shell)) d.standing }
+stacked_simply c (DestroyToplevel id xdg top) r d = record d { standing = without_surface_of c top d.standing }
 stacked_simply c ask r d = d
 
 -- ---- what it is answered with
@@ -86,7 +86,7 @@ told_simply (Asking ask) r = answers_to ask r
 told_simply (DestroySurface id) r = id_deleted id ∷ []
 told_simply (CommitSurface id Configures) r = configures_told r.peer.serial (xdg_of id r.owned.shell)
 told_simply (CommitSurface id effect) r = []
-told_simply (DestroyToplevel id xdg) r = id_deleted id ∷ []
+told_simply (DestroyToplevel id xdg top) r = id_deleted id ∷ []
 
 abbrev pub wants_simply : Simple → Bool
 wants_simply (Asking ask) = takes_memory ask
@@ -98,7 +98,7 @@ wants_simply ask = true
 -- xdg_toplevel.destroy)
 abbrev pub touched : Simple → Resident → Option ℕ
 touched (CommitSurface id effect) r = Some id
-touched (DestroyToplevel id xdg) r = Some (surface_of (xdg_at xdg r.owned.shell))
+touched (DestroyToplevel id xdg top) r = Some top
 touched ask r = None
 
 -- the surface of client c that this may be

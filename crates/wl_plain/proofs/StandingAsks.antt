@@ -21,12 +21,12 @@ use Rattle.wl_plain.specs.Desktop.{Desktop, Resident}
 use Rattle.wl_plain.specs.Laws.{AreApart}
 use Rattle.wl_plain.specs.Owning.{AllCounts}
 use Rattle.wl_plain.specs.Standing.{AreMapped, is_mapped, is_mapped_at}
-use Rattle.wl_plain.specs.Step.{after_surface, asked_so_far, own_changed, surface_of, toplevel_given}
+use Rattle.wl_plain.specs.Step.{after_surface, asked_so_far, own_changed, toplevel_given}
 use Rattle.wl_plain.specs.WlSurface.{will_show}
 use Rattle.wl_plain.proofs.OwningKeys.{found-passes}
 use Rattle.wl_plain.proofs.OwningXdg.{has_surface}
 use Rattle.wl_plain.proofs.StandingClients.{IsAt, IsFound, acknowledging-same, fresh-unmapped, left-else, left-none, mapped-at, mapped-but, mapped-kept, new-unmapped, ready-mapped, stepped-else, stepped-here, stepped-same, unmapped-at, waiting-unmapped}
-use Rattle.wl_plain.proofs.StandingFound.{Finds, FindsBare, FindsXdg, found-so}
+use Rattle.wl_plain.proofs.StandingFound.{Finds, FindsBare, FindsTop, found-so}
 use Rattle.wl_plain.proofs.StandingLists.{apart-left, mapped-another, mapped-apart, mapped-here, without-another, without-here}
 use Rattle.wl_plain.proofs.StandingSurfaces.{committing, history-else, history-left, shown-asked, shown-committed, shown-made, shown-role}
 use Rattle.wl_plain.proofs.Simply.{Asking, CommitSurface, DestroySurface, DestroyToplevel, Simple, changed_simply, committed_on, effect_for, effect_of, effect_on, stacked_simply}
@@ -216,17 +216,17 @@ module _ (c : ℕ) (r : Resident) (d : Desktop) (is : AreMapped c r.owned d.stan
         shows = λ was shows. ap shows_buffer (shown-role x.surface surface AsToplevel r.owned.surfaces) ∙ shows;
       })))
 
-  abbrev Without : ℕ → Option XdgSurface → Type 0
-  Without xdg o =
-      AreMapped c (with_xdgs (with_xdg_change xdg without_role r.owned.shell)) (without_surface_of c (surface_of o) d.standing)
+  abbrev Without : ℕ → ℕ → Type 0
+  Without xdg surface =
+      AreMapped c (with_xdgs (with_xdg_change xdg without_role r.owned.shell)) (without_surface_of c surface d.standing)
 
-  toplevel-destroyed : (xdg : ℕ) → FindsXdg xdg r → Without xdg (xdg_at xdg r.owned.shell)
-  toplevel-destroyed xdg finds =
+  toplevel-destroyed : (xdg top : ℕ) → FindsTop xdg top r → Without xdg top
+  toplevel-destroyed xdg top finds =
       let x = finds.0 in
       let shell = with_xdg_change x.id without_role r.owned.shell in
       let new = without_surface_of c x.surface d.standing in
-      subst (λ n. Without n (xdg_at n r.owned.shell)) finds.1
-      (subst (λ o. Without x.id o) (sym finds.2.at_id)
+      subst (λ n. Without n top) finds.1
+      (subst (λ s. Without x.id s) finds.3
       (mapped-but c x.surface r.owned (with_xdgs shell) d.standing new is
       (unmapped-at c x.surface (with_xdgs shell) new (without-here c x.surface d.standing) (ap is_mapped (stepped-here x without_role r.owned.shell finds.2 (λ y. refl))))
       (λ surface other. record {
@@ -252,5 +252,5 @@ stand-after c (Asking (Acknowledge xdg serial)) r d told counts is apart finds =
     (shell-kept c r d is apart (with_xdg_change xdg (acknowledging serial) r.owned.shell) (λ surface. stepped-same xdg surface (acknowledging serial) r.owned.shell (λ y. refl) (acknowledging-same serial)), apart)
 stand-after c (Asking (ConfigureAgain xdg)) r d told counts is apart finds =
     (shell-kept c r d is apart (with_xdg_change xdg (configuring r.peer.serial) r.owned.shell) (λ surface. stepped-same xdg surface (configuring r.peer.serial) r.owned.shell (λ y. refl) (λ y. refl)), apart)
-stand-after c (DestroyToplevel id xdg) r d told counts is apart finds = (toplevel-destroyed c r d is apart xdg finds, apart-left _ d.standing apart)
+stand-after c (DestroyToplevel id xdg top) r d told counts is apart finds = (toplevel-destroyed c r d is apart xdg top finds, apart-left _ d.standing apart)
 stand-after c (Asking Ignore) r d told counts is apart finds = (is, apart)

@@ -33,7 +33,7 @@ effect-other c other surface id Unmaps r d apart = without-other c id other surf
 -- a request takes no other client's toplevel away, and brings none
 pub stacked-other : (c other surface : ℕ) (ask : Simple) (r : Resident) (d : Desktop) → c ≢ other → list_any (is_of other surface) (stacked_simply c ask r d).standing ≡ list_any (is_of other surface) d.standing
 stacked-other c other surface (CommitSurface id effect) r d apart = effect-other c other surface id effect r d apart
-stacked-other c other surface (DestroyToplevel id xdg) r d apart = without-other c _ other surface d.standing apart
+stacked-other c other surface (DestroyToplevel id xdg top) r d apart = without-other c _ other surface d.standing apart
 stacked-other c other surface ask r d apart = refl
 
 -- one that owns nothing has none

@@ -46,12 +46,12 @@ use Rattle.wl_plain.proofs.OwningKeys.{found-by}
 use Rattle.wl_plain.proofs.OwningXdg.{has_role, has_surface, has_xdg, ids-apart, surfaces-apart}
 use Rattle.wl_plain.proofs.StandingClients.{IsFound}
 
--- the xdg_surface of this id, with no role object, or with any
+-- the xdg_surface of this id, with no role object, or that of this surface
 abbrev pub FindsBare : ℕ → Resident → Type 0
 FindsBare id r = (x : Xdg) × (x.id ≡ id) × IsFound x r.owned.shell × (x.role ≡ None)
 
-abbrev pub FindsXdg : ℕ → Resident → Type 0
-FindsXdg id r = (x : Xdg) × (x.id ≡ id) × IsFound x r.owned.shell
+abbrev pub FindsTop : ℕ → ℕ → Resident → Type 0
+FindsTop id surface r = (x : Xdg) × (x.id ≡ id) × IsFound x r.owned.shell × (x.surface ≡ surface)
 
 -- A surface goes without an xdg_surface, and an xdg_surface without a role object; a commit comes to what the stage says.
 abbrev pub Finds : Simple → Resident → Type 0
@@ -59,7 +59,7 @@ Finds (DestroySurface id) r = xdg_of id r.owned.shell ≡ None
 Finds (CommitSurface id effect) r = effect_of r id ≡ effect
 Finds (Asking (DestroyXdgSurface id)) r = FindsBare id r
 Finds (Asking (GetToplevel id version xdg)) r = FindsBare xdg r
-Finds (DestroyToplevel id xdg) r = FindsXdg xdg r
+Finds (DestroyToplevel id xdg top) r = FindsTop xdg top r
 Finds ask r = Unit {0}
 
 -- what is judged leads to a demand that finds this
@@ -183,7 +183,7 @@ toplevel-finds r object request apart = at (xdg_with object r.owned.shell) refl 
 
     gone : (o : Option Xdg) → xdg_with object r.owned.shell ≡ o → Accepts (toplevel_destroyed object o) r
     gone None found = refused (display_error Implementation) r
-    gone (Some x) found = accepted (EndToplevel object x.id) r (x, refl, found-so r (has_role object) x apart found)
+    gone (Some x) found = accepted (EndToplevel object x.id x.surface) r (x, refl, found-so r (has_role object) x apart found, refl)
 
     moved : (serial : ℕ) (o : Option Xdg) → Accepts (moved_by_pointer serial o) r
     moved serial None = refused (display_error Implementation) r
@@ -263,5 +263,5 @@ finds-peer (DestroySurface id) p r finds = finds
 finds-peer (CommitSurface id effect) p r finds = finds
 finds-peer (Asking (DestroyXdgSurface id)) p r finds = finds
 finds-peer (Asking (GetToplevel id version xdg)) p r finds = finds
-finds-peer (DestroyToplevel id xdg) p r finds = finds
+finds-peer (DestroyToplevel id xdg top) p r finds = finds
 finds-peer ask p r finds = tt

@@ -16,7 +16,7 @@ use Rattle.wl_plain.specs.Ask.{Own, CreateSurface, AskSurface, DestroyBase, GetX
 use Rattle.wl_plain.specs.Desktop.{Desktop, Resident}
 use Rattle.wl_plain.specs.Owning.{AllCounts}
 use Rattle.wl_plain.specs.Standing.{AreMapped, is_mapped}
-use Rattle.wl_plain.specs.Step.{surface_of, toplevel_given}
+use Rattle.wl_plain.specs.Step.{toplevel_given}
 use Rattle.wl_plain.proofs.Stacks.{and-both}
 use Rattle.wl_plain.proofs.StandingFound.{Finds}
 use Rattle.wl_plain.proofs.StandingSurfaces.{committing, history-else, history-left, shown-role}
@@ -56,7 +56,7 @@ asked-links (Asking (DestroyXdgSurface id)) r = refl
 asked-links (Asking (GetToplevel id version xdg)) r = given-links id xdg (xdg_at xdg r.owned.shell) r
 asked-links (Asking (Acknowledge xdg serial)) r = refl
 asked-links (Asking (ConfigureAgain xdg)) r = refl
-asked-links (DestroyToplevel id xdg) r = refl
+asked-links (DestroyToplevel id xdg top) r = refl
 asked-links (Asking Ignore) r = refl
 
 module _ (c : ℕ) (r : Resident) (standing : List Standing) (is : AreMapped c r.owned standing) (counts : (s : ℕ) (h : History) → history_in s r.owned.surfaces ≡ Some h → AllCounts h) where
@@ -103,7 +103,7 @@ module _ (c : ℕ) (r : Resident) (standing : List Standing) (is : AreMapped c r
       same-in surface (toplevel_given id xdg (xdg_at xdg r.owned.shell) r).owned.surfaces (given-history id xdg surface (xdg_at xdg r.owned.shell) r)
   asked-surfaces-stay (Asking (Acknowledge xdg serial)) surface finds other = same-in surface r.owned.surfaces refl
   asked-surfaces-stay (Asking (ConfigureAgain xdg)) surface finds other = same-in surface r.owned.surfaces refl
-  asked-surfaces-stay (DestroyToplevel id xdg) surface finds other = same-in surface r.owned.surfaces refl
+  asked-surfaces-stay (DestroyToplevel id xdg top) surface finds other = same-in surface r.owned.surfaces refl
   asked-surfaces-stay (Asking Ignore) surface finds other = same-in surface r.owned.surfaces refl
 
 -- ---- the stack of toplevels
@@ -141,7 +141,7 @@ effect-others c id Unmaps r d = sym (left-twice (stands_else (is_touched c (Some
 -- the other toplevels stand in the same order
 pub asked-others-stay : (c : ℕ) (ask : Simple) (r : Resident) (d : Desktop) → OthersStay c ask r d
 asked-others-stay c (CommitSurface id effect) r d = effect-others c id effect r d
-asked-others-stay c (DestroyToplevel id xdg) r d = sym (left-twice (stands_else (is_touched c (touched (DestroyToplevel id xdg) r))) d.standing)
+asked-others-stay c (DestroyToplevel id xdg top) r d = sym (left-twice (stands_else (is_touched c (touched (DestroyToplevel id xdg top) r))) d.standing)
 asked-others-stay c ask r d = refl
 
 -- ---- where the client ends
@@ -172,7 +172,6 @@ effect-clients-stay c id Unmaps r d = sym (left-within (λ s. not (is_of c id s)
 -- the toplevels of other clients stand in the same order
 pub asked-clients-stay : (c : ℕ) (ask : Simple) (r : Resident) (d : Desktop) → ClientsStay c ask r d
 asked-clients-stay c (CommitSurface id effect) r d = effect-clients-stay c id effect r d
-asked-clients-stay c (DestroyToplevel id xdg) r d =
-    let surface = surface_of (xdg_at xdg r.owned.shell) in
-    sym (left-within (λ s. not (is_of c surface s)) (of_others c) (not-others c surface) d.standing)
+asked-clients-stay c (DestroyToplevel id xdg top) r d =
+    sym (left-within (λ s. not (is_of c top s)) (of_others c) (not-others c top) d.standing)
 asked-clients-stay c ask r d = refl

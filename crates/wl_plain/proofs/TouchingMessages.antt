@@ -35,7 +35,7 @@ MarkedBy c r x y old new =
 -- what a message touches doesn't hang on what is told to its client
 pub touched-peer : (ask : Simple) (p : Peer) (r : Resident) → touched ask (with_peer p r) ≡ touched ask r
 touched-peer (CommitSurface id effect) p r = refl
-touched-peer (DestroyToplevel id xdg) p r = refl
+touched-peer (DestroyToplevel id xdg top) p r = refl
 touched-peer ask p r = refl
 
 module _ (c : ℕ) (there : Resident) (d : Desktop) (is : client_at c d ≡ Some there) (names : Names) (slots : Slots) (kept : ℕ → Option Kept) (owned : IsOwned names slots kept there.owned) (stand : MappedStand d)

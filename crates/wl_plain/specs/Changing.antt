@@ -22,7 +22,7 @@ use Rattle.wl_plain.specs.Demand.{Demand, Asks, EndSurface, AskFrame, CommitTree
 use Rattle.wl_plain.specs.Demanding.{effect_of_commit}
 use Rattle.wl_plain.specs.Desktop.{Callback, Desktop, Resident, Subsurface}
 use Rattle.wl_plain.specs.Popups.{parent_corner}
-use Rattle.wl_plain.specs.Step.{asked_of, asked_so_far, changed_by, configured, letting_go, making, removing, surface_of, with_peer, with_shell, with_surfaces, xdg_changed}
+use Rattle.wl_plain.specs.Step.{asked_of, asked_so_far, changed_by, configured, letting_go, making, removing, with_peer, with_shell, with_surfaces, xdg_changed}
 
 -- ---- surfaces
 
@@ -202,7 +202,7 @@ changed_for c (SetPositioner id p) r d = record r { positioners = with_id id (So
 changed_for c (GetPopup id version xdg parent p) r d = popup_given id version xdg parent p r
 changed_for c (Grab xdg serial) r d = grabbed (grab_allowed c xdg serial r d) xdg r
 changed_for c (EndPopup id xdg) r d = removing id (xdg_changed xdg without_role r)
-changed_for c (EndToplevel id xdg) r d = toplevel_ended id xdg r
+changed_for c (EndToplevel id xdg surface) r d = toplevel_ended id xdg r
 changed_for c (Move surface serial) r d = r
 
 -- a toplevel that a commit maps stands on top; one that it unmaps is taken out
@@ -223,7 +223,7 @@ moving_from c surface serial windows p =
 
 abbrev pub stacked_for : ℕ → Demand → Resident → List Window → Desktop → Desktop
 stacked_for c (CommitTree surface) r windows d = stacked_by (effect_of_commit r surface) (is_toplevel (xdg_of surface r.owned.shell)) c surface d
-stacked_for c (EndToplevel id xdg) r windows d = record d { standing = without_surface_of c (surface_of (xdg_at xdg r.owned.shell)) d.standing }
+stacked_for c (EndToplevel id xdg surface) r windows d = record d { standing = without_surface_of c surface d.standing }
 stacked_for c (Move surface serial) r windows d = record d { pointer = moving_from c surface serial windows d.pointer }
 stacked_for c demand r windows d = d
 

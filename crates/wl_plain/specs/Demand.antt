@@ -33,7 +33,7 @@ pub data Demand : Type 0 where
   Grab : ℕ → ℕ → Demand
   -- a popup, and its xdg_surface
   EndPopup : ℕ → ℕ → Demand
-  -- a toplevel, and its xdg_surface
-  EndToplevel : ℕ → ℕ → Demand
+  -- a toplevel, its xdg_surface, and its surface
+  EndToplevel : ℕ → ℕ → ℕ → Demand
   -- the toplevel of a surface is to be moved, with a serial
   Move : ℕ → ℕ → Demand

@@ -105,7 +105,7 @@ xdg_demand r object version request = xdg_asked r (xdg_at object r.owned.shell) 
 -- xdg_toplevel.destroy
 abbrev pub toplevel_destroyed : ℕ → Option Xdg → Result Demand Refusal
 toplevel_destroyed object None = past_limit
-toplevel_destroyed object (Some x) = Ok (EndToplevel object x.id)
+toplevel_destroyed object (Some x) = Ok (EndToplevel object x.id x.surface)
 
 -- xdg_toplevel.move
 abbrev pub moved_by_pointer : ℕ → Option Xdg → Result Demand Refusal

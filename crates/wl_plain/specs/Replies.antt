@@ -74,7 +74,7 @@ own_answers c (EndSubsurface id) r windows d = id_deleted id ∷ []
 own_answers c (GetPointer id version) r windows d = new_pointer_told (has_focus c d.pointer.focus) id r.peer.serial windows d
 own_answers c (EndPositioner id) r windows d = id_deleted id ∷ []
 own_answers c (EndPopup id xdg) r windows d = id_deleted id ∷ []
-own_answers c (EndToplevel id xdg) r windows d = id_deleted id ∷ []
+own_answers c (EndToplevel id xdg surface) r windows d = id_deleted id ∷ []
 own_answers c demand r windows d = []
 
 -- ---- releases

@@ -102,10 +102,6 @@ changed_by (Acknowledge xdg serial) r = xdg_changed xdg (acknowledging serial) r
 changed_by (ConfigureAgain xdg) r = configured xdg r
 changed_by Ignore r = r
 
--- the surface of an xdg_surface that is there
-abbrev pub surface_of : Option Xdg → ℕ
-surface_of x = option_map_or (λ x. x.surface) x 0
-
 -- ---- what it is answered with
 
 -- xdg_toplevel.configure: of no size of the compositor's, and activated

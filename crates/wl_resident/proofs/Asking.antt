@@ -44,7 +44,7 @@ use Rattle.wl_resident.specs.Messages.{IsAsked}
 use Rattle.wl_resident.specs.declared.messages.Asked.{Asked}
 use Rattle.wl_resident.specs.declared.messages.Asked.TheVariants as asks
 use Rattle.wl_resident.specs.Residents.{AnswersDemand, AnswersSo, IsResident, NewIsFree, ObjectsFit, Stacks, StacksBy, StacksFor, StacksSo, StacksTo, TakesSo}
-use Rattle.wl_plain.specs.Step.{surface_of, with_peer}
+use Rattle.wl_plain.specs.Step.{with_peer}
 use Rattle.wl_plain.proofs.BridgeServes.{only-peer}
 use Rattle.wl_plain.proofs.PiecesChanging.{judged-behind}
 use Rattle.wl_resident.proofs.Numbers.{left-from}
@@ -129,7 +129,7 @@ stacks-by-from old mid id effect stacking same h = h
 
 stacks-for-from : {A : Type 0} (old mid : Kept A) (r : Resident) (rest : List ℕ) (demand : Demand) (stacking : Stacking) → mid.client.objects ≡ old.client.objects → StacksFor mid (with_peer (with_rest rest r.peer) r) demand stacking → StacksFor old r demand stacking
 stacks-for-from old mid r rest (CommitTree id) stacking same h = stacks-by-from old mid id (effect_of_commit r id) stacking same h
-stacks-for-from old mid r rest (EndToplevel id xdg) stacking same h = stacks-to-from old mid (surface_of (xdg_at xdg r.owned.shell)) on.Out stacking same h
+stacks-for-from old mid r rest (EndToplevel id xdg top) stacking same h = stacks-to-from old mid top on.Out stacking same h
 stacks-for-from old mid r rest demand stacking same h = h
 
 stacks-from : {A : Type 0} (old mid : Kept A) (r : Resident) (rest : List ℕ) (judged : Result Demand Refusal) (stacking : Stacking) → mid.client.objects ≡ old.client.objects → StacksSo mid (with_peer (with_rest rest r.peer) r) judged stacking → StacksSo old r judged stacking

@@ -57,7 +57,7 @@ use Rattle.wl_resident.specs.Seats.{IsClearedBy, IsRestacked, IsSeated, IsSettle
 use Rattle.wl_plain.specs.LeftOut.{served_now}
 use Rattle.wl_plain.specs.NoMore.{NoMore}
 use Rattle.wl_plain.specs.Happens.{Serves}
-use Rattle.wl_plain.specs.Step.{surface_of, with_peer}
+use Rattle.wl_plain.specs.Step.{with_peer}
 use Rattle.wl_plain.proofs.Simply.{Simple, changed_simply, judge, simple_of, simply, touched}
 use Rattle.wl_plain.specs.Touching.{any_window_at, has_window_at, is_window_at}
 use Rattle.wl_plain.specs.Requests.{Request as AnyRequest, ToCompositor, ToSurface, ToSubcompositor, ToSubsurface, ToSeat, ToPointer, ToBase, ToPositioner, ToXdgSurface, ToToplevel, ToPopup, ToOwn, request_in, request_of, toplevel_request}
@@ -193,14 +193,14 @@ module _ (r : Resident) (P : ℕ → Type 0) where
 
   -- the surface of the toplevel with this id
   abbrev Destroys : ℕ → Type 0
-  Destroys object = (x : Xdg) → xdg_with object r.owned.shell ≡ Some x → P (surface_of (xdg_at x.id r.owned.shell))
+  Destroys object = (x : Xdg) → xdg_with object r.owned.shell ≡ Some x → P x.surface
 
   toplevel-touches : (object : ℕ) (request : ToplevelRequest) → (request ≡ toplevel.Destroy → Destroys object) → TouchesSo r P (toplevel_demand r object request)
   toplevel-touches object request destroys = at (xdg_with object r.owned.shell) refl request destroys
     where
       goes : Destroys object → (o : Option Xdg) → xdg_with object r.owned.shell ≡ o → TouchesSo r P (toplevel_destroyed object o)
       goes destroyed None found = refused _
-      goes destroyed (Some x) found = one (EndToplevel object x.id) (surface_of (xdg_at x.id r.owned.shell)) refl (destroyed x found)
+      goes destroyed (Some x) found = one (EndToplevel object x.id x.surface) x.surface refl (destroyed x found)
 
       moves : (serial : ℕ) (o : Option Xdg) → TouchesSo r P (moved_by_pointer serial o)
       moves serial None = refused _
@@ -308,13 +308,12 @@ module _ {A : Type 0} (v : Kept A) (r : Resident) (is : IsResident v r) where
           ap (option_and_then (target_as XdgToplevel)) passes.entry
           ∙ ap (λ (n : Interface). target_as XdgToplevel (record { interface = n; version = version; target = target })) i
 
-      toplevel-number : m.interface ≡ XdgToplevel → (x : Xdg) → xdg_with object r.owned.shell ≡ Some x → targets_in WlSurface v.client.objects (surface_of (xdg_at x.id r.owned.shell)) ≡ Some target
+      toplevel-number : m.interface ≡ XdgToplevel → (x : Xdg) → xdg_with object r.owned.shell ≡ Some x → targets_in WlSurface v.client.objects x.surface ≡ Some target
       toplevel-number i x found =
           let there = toplevel-named (names_in v.client.objects) v.owned.surfaces (kept_of v.owned.shell) r.owned is.owns object target (named i) in
           let both = sym there.4 ∙ found in
           let same : there.1 ≡ x = cc in
-          subst (λ (z : Xdg). targets_in WlSurface v.client.objects (surface_of (xdg_at z.id r.owned.shell)) ≡ Some target) same
-          (ap (λ (o : Option Xdg). targets_in WlSurface v.client.objects (surface_of o)) there.3.at_id ∙ there.3.surface)
+          subst (λ (z : Xdg). targets_in WlSurface v.client.objects z.surface ≡ Some target) same there.3.surface
 
   refused-asks : (s : Split) (refusal : Refusal) (ask : Simple) → IsRefused s v.client refusal → AsksBy r s ask → ⊥
   refused-asks (Whole object opcode size) refusal ask why asks =

@@ -25,7 +25,7 @@ use Rattle.wl_plain.specs.NoMore.{AreToplevels, NoMore, OwnsToplevelsAt, OwnsTop
 use Rattle.wl_plain.specs.Laws.{toplevels_of}
 use Rattle.wl_plain.specs.Replies.{replies}
 use Rattle.wl_plain.specs.Stacked.{all_windows}
-use Rattle.wl_plain.specs.Step.{surface_of, with_peer}
+use Rattle.wl_plain.specs.Step.{with_peer}
 use Rattle.wl_plain.proofs.Simply.{Simple, CommitSurface, DestroyToplevel, asks_simply, changed_simply, judge, told_simply, wants_simply}
 use Rattle.wl_plain.proofs.BridgeChanged.{changed-same, wants-same}
 use Rattle.wl_plain.proofs.BridgeJudged.{Pairs, Same, asks, commit, demands-pair, effect-same, ends, goes, judge-pair, move}
@@ -45,7 +45,7 @@ AnswersSo judged r old new = AnswersSimply (asks_simply judged) r old new
 
 abbrev pub StacksOne : {A : Type 0} → Kept A → Resident → Simple → Stacking → Type 0
 StacksOne old r (CommitSurface id effect) stacking = StacksBy old id effect stacking
-StacksOne old r (DestroyToplevel id xdg) stacking = StacksTo old (surface_of (xdg_at xdg r.owned.shell)) Out stacking
+StacksOne old r (DestroyToplevel id xdg top) stacking = StacksTo old top Out stacking
 StacksOne old r ask stacking = stacking ≡ Stays
 
 abbrev pub StacksSimply : {A : Type 0} → Kept A → Resident → Result Simple Refusal → Stacking → Type 0
@@ -117,7 +117,7 @@ for-stacks old ask demand r stacking top (asks other) h = h
 for-stacks old ask demand r stacking top (ends id) h = h
 for-stacks old ask demand r stacking top (commit id effect e) h =
     subst (λ f. StacksBy old id f stacking) (effect-same r id top ∙ e) h
-for-stacks old ask demand r stacking top (goes id xdg) h = h
+for-stacks old ask demand r stacking top (goes id xdg surface) h = h
 for-stacks old ask demand r stacking top (move id serial) h = h
 
 pub simply-stacks : {A : Type 0} (old : Kept A) (judged : Result Simple Refusal) (demanded : Result Demand Refusal) (r : Resident) (stacking : Stacking) → AreToplevels r.owned.shell → Pairs r judged demanded → StacksWhole old r demanded stacking → StacksSimply old r judged stacking

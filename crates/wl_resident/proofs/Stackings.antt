@@ -18,7 +18,7 @@ use Rattle.wl_plain.specs.Demanding.{demand_of, demands, effect_of_commit, moved
 use Rattle.wl_plain.specs.Desktop.{Resident}
 use Rattle.wl_plain.specs.LeftOut.{served_now}
 use Rattle.wl_plain.specs.Owning.{effect_by, names_in, targets_in}
-use Rattle.wl_plain.specs.Step.{surface_of}
+
 use Rattle.wl_plain.specs.Requests.{ToXdgSurface, toplevel_request}
 use Rattle.wl_plain.specs.Served.{unserved_now}
 use Rattle.wl_plain.specs.ToplevelRequest.{ToplevelRequest}
@@ -53,7 +53,7 @@ pub toplevel-out : {A : Type 0} (old : Kept A) (r : Resident) (object number : �
 toplevel-out old r object number is named =
     let one = toplevel-named (names_in old.client.objects) old.owned.surfaces (kept_of old.owned.shell) r.owned is.owns object number named in
     subst (λ (o : Option Xdg). StacksSo old r (toplevel_destroyed object o) (Out number)) (sym one.4)
-    (number, ap (λ (o : Option Xdg). targets_in WlSurface old.client.objects (surface_of o)) one.3.at_id ∙ one.3.surface, refl)
+    (number, one.3.surface, refl)
 
 moved-stays : {A : Type 0} (old : Kept A) (r : Resident) (serial : ℕ) (o : Option Xdg) → StacksSo old r (moved_by_pointer serial o) Stays
 moved-stays old r serial None = tt

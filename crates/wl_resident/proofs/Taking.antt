@@ -35,7 +35,7 @@ use Rattle.wl_plain.specs.LeftOut.{served_now}
 use Rattle.wl_plain.specs.NoMore.{NoMore, OwnsToplevelsOnly}
 use Rattle.wl_plain.specs.Happens.{Serves}
 use Rattle.wl_plain.proofs.Forms.{ServesAt, Takes}
-use Rattle.wl_plain.specs.Step.{after_surface, surface_of, with_peer}
+use Rattle.wl_plain.specs.Step.{after_surface, with_peer}
 use Rattle.wl_plain.proofs.Simply.{Acts, Answers, Asking, Becomes, CommitSurface, DestroySurface, DestroyToplevel, Simple, WantsOr, changed_simply, committed_on, effect_on, judge, stacked_simply, told_simply, wants_simply}
 use Rattle.wl_plain.specs.Standing.{MappedStand, is_mapped}
 use Rattle.wl_resident.specs.View.{owned_view}
@@ -163,7 +163,7 @@ stacks-so : {A : Type 0} (c : ℕ) (ask : Simple) (old : Kept A) (r : Resident) 
 stacks-so c (Asking ask) old r p d stacking h = inl (h, refl)
 stacks-so c (DestroySurface id) old r p d stacking h = inl (h, refl)
 stacks-so c (CommitSurface id effect) old r p d stacking h = commit-stacks c id effect old r p d stacking h
-stacks-so c (DestroyToplevel id xdg) old r p d stacking h = inr (inl (surface_of (xdg_at xdg r.owned.shell), h.0, h.1, h.2, refl))
+stacks-so c (DestroyToplevel id xdg top) old r p d stacking h = inr (inl (top, h.0, h.1, h.2, refl))
 
 -- a mapping leaves of a peer all but its stores
 mapped-peer : (id : ℕ) (r : Resident) → (changed_simply (CommitSurface id Maps) r).peer ≡ record r.peer { stores = (after_surface id r (committed_on id r)).peer.stores }

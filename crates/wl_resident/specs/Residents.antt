@@ -36,7 +36,7 @@ use Rattle.wl_plain.specs.NoMore.{OwnsToplevelsOnly}
 use Rattle.wl_plain.specs.Owning.{IsOwned, names_in, targets_in}
 use Rattle.wl_plain.specs.Replies.{replies}
 use Rattle.wl_plain.specs.Stacked.{all_windows}
-use Rattle.wl_plain.specs.Step.{answers_to, changed_by, role_configured, surface_of, takes_memory, with_peer}
+use Rattle.wl_plain.specs.Step.{answers_to, changed_by, role_configured, takes_memory, with_peer}
 use Rattle.wl_plain.specs.Happens.{wants_memory}
 
 -- what is kept of the surfaces and of the shell stands for what the client owns
@@ -147,7 +147,7 @@ stacking_by act number = Stays
 
 abbrev pub StacksFor : {A : Type 0} → Kept A → Resident → Demand → Stacking → Type 0
 StacksFor old r (CommitTree id) stacking = StacksBy old id (effect_of_commit r id) stacking
-StacksFor old r (EndToplevel id xdg) stacking = StacksTo old (surface_of (xdg_at xdg r.owned.shell)) Out stacking
+StacksFor old r (EndToplevel id xdg surface) stacking = StacksTo old surface Out stacking
 StacksFor old r demand stacking = stacking ≡ Stays
 
 -- a refusal ends the client, and with it its toplevels
