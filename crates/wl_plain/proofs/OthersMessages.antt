@@ -9,7 +9,7 @@ use Rattle.wl_client.specs.declared.clients.Cause.TheVariants.{Gone, Memory}
 use Rattle.wl_client.specs.declared.refusals.Refusal.{Refusal}
 use Rattle.wl_client.specs.Peer.{Peer, LacksMemory, counted, ended, with_rest}
 use Rattle.wl_shell.specs.Popups.{is_toplevel}
-use Rattle.wl_shell.specs.Shell.{Effect, Stays, Unconfigured, Configures, Maps, Unmaps, xdg_at, xdg_of}
+use Rattle.wl_shell.specs.Shell.{Effect, Stays, Unconfigured, Configures, Maps, Unmaps, xdg_of}
 use Rattle.wl_scene.specs.Stacking.{Standing, is_of}
 use Rattle.wl_scene.specs.Windows.{Window}
 use Rattle.wl_plain.specs.declared.answers.Done.{Done}

@@ -20,7 +20,7 @@ use Rattle.wl_client.specs.Judgement.{is_free, judged_at}
 use Rattle.wl_client.specs.Told.{code_number, display_error, error_told}
 use Rattle.wl_client.specs.declared.clients.Cause.{Cause}
 use Rattle.wl_client.specs.declared.clients.Cause.TheVariants.{Protocol}
-use Rattle.wl_shell.specs.Shell.{Effect, Maps, Unmaps, xdg_at}
+use Rattle.wl_shell.specs.Shell.{Effect, Maps, Unmaps}
 use Rattle.wl_table.specs.Objects.{Held}
 use Rattle.wl_proto.specs.declared.interface.Interface.TheVariants.{WlSurface}
 use Rattle.wl_plain.specs.Owning.{targets_in}

@@ -15,7 +15,6 @@ use Rattle.wl_resident.specs.Residents.{AnswersSo as AnswersWhole, IsLeft, Meets
 use Rattle.wl_resident.specs.Seats.{IsSeated}
 use Rattle.wl_scene.specs.Stacking.{Stack}
 use Rattle.wl_plain.specs.Ask.{Ask}
-use Rattle.wl_shell.specs.Shell.{xdg_at}
 use Rattle.wl_plain.specs.Demand.{Demand}
 use Rattle.wl_plain.specs.Demanding.{demands, judge_all}
 use Rattle.wl_plain.specs.Changing.{changed_for}

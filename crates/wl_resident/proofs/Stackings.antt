@@ -1,12 +1,12 @@
 -- What requests do to the stack of toplevels.
-use Rattle.std.proofs.Common.{◌≡◌, ℕ, false, Option, Some, None, Result, refl, ap, sym, subst, ◌∙◌}
+use Rattle.std.proofs.Common.{◌≡◌, ℕ, false, Option, Some, None, Result, refl, sym, subst}
 use Rattle.std.specs.Prelude.{Ok}
 use Rattle.wl_proto.specs.Messages.{Message, xdg_surface_request, xdg_wm_base_request}
 use Rattle.wl_proto.specs.declared.xdg_wm_base.XdgWmBaseRequest.{XdgWmBaseRequest}
 use Rattle.wl_proto.specs.declared.xdg_wm_base.XdgWmBaseRequest.TheVariants as base
 use Rattle.wl_proto.specs.declared.xdg_surface.XdgSurfaceRequest.{XdgSurfaceRequest}
 use Rattle.wl_proto.specs.declared.xdg_surface.XdgSurfaceRequest.TheVariants as requests
-use Rattle.wl_proto.specs.declared.interface.Interface.TheVariants.{WlSurface, XdgToplevel}
+use Rattle.wl_proto.specs.declared.interface.Interface.TheVariants.{XdgToplevel}
 use Rattle.wl_client.specs.declared.refusals.Refusal.{Refusal}
 use Rattle.wl_shell.specs.Kept.{kept_of}
 use Rattle.wl_shell.specs.Shell.{Effect, XdgSurface as Xdg, xdg_at, xdg_with}
@@ -17,8 +17,7 @@ use Rattle.wl_plain.specs.Demand.{Demand, CommitTree}
 use Rattle.wl_plain.specs.Demanding.{demand_of, demands, effect_of_commit, moved_by_pointer, toplevel_asked, toplevel_demand, toplevel_destroyed, xdg_asked}
 use Rattle.wl_plain.specs.Desktop.{Resident}
 use Rattle.wl_plain.specs.LeftOut.{served_now}
-use Rattle.wl_plain.specs.Owning.{effect_by, names_in, targets_in}
-
+use Rattle.wl_plain.specs.Owning.{effect_by, names_in}
 use Rattle.wl_plain.specs.Requests.{ToXdgSurface, toplevel_request}
 use Rattle.wl_plain.specs.Served.{unserved_now}
 use Rattle.wl_plain.specs.ToplevelRequest.{ToplevelRequest}

@@ -19,7 +19,7 @@ use Rattle.wl_shell.specs.Kept.{kept_of}
 use Rattle.wl_client.specs.View.{ClientView}
 use Rattle.wl_client.specs.declared.clients.Cause.{Cause}
 use Rattle.wl_client.specs.declared.refusals.Refusal.{Refusal}
-use Rattle.wl_shell.specs.Shell.{Effect, Stays, Unconfigured, Configures, Maps, Unmaps, xdg_at, xdg_of}
+use Rattle.wl_shell.specs.Shell.{Effect, Stays, Unconfigured, Configures, Maps, Unmaps, xdg_of}
 use Rattle.wl_shell.specs.Shell.{XdgSurface as Xdg}
 use Rattle.wl_scene.specs.Stacking.{Owned, Stack, Standing, mapped_on, without_client, without_surface_of}
 use Rattle.wl_resident.specs.Agreement.{IsScene, IsSeat, IsStack, with_numbers}

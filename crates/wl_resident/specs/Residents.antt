@@ -16,7 +16,7 @@ use Rattle.wl_client.specs.declared.refusals.Refusal.{Refusal}
 use Rattle.wl_client.specs.declared.refusals.ErrorCode.TheVariants.{InvalidMethod}
 use Rattle.wl_client.specs.Told.{Said, display_error}
 use Rattle.wl_shell.specs.Kept.{Kept as KeptXdg, kept_of}
-use Rattle.wl_shell.specs.Shell.{Effect, Maps, Unmaps, next_serial, xdg_at}
+use Rattle.wl_shell.specs.Shell.{Effect, Maps, Unmaps, next_serial}
 use Rattle.wl_shell.specs.declared.acts.ShellAct.{ShellAct}
 use Rattle.wl_shell.specs.declared.acts.ShellAct.TheVariants.{Configure, Map, Unmap}
 use Rattle.wl_resident.specs.declared.residents.Resident.{Resident as Kept}
