@@ -4,5 +4,6 @@ pub mod Peers
 pub mod Pieces
 pub mod Rows
 pub mod Tables
+pub mod Requests
 pub mod Taking
 pub mod Unique

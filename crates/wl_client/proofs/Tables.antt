@@ -4,7 +4,6 @@ use Rattle.std.specs.List.{list_all}
 use Rattle.std.specs.Option.{option_map}
 use Rattle.std.specs.Prelude.{Ok, Err, IfSome, find, if◌then◌else◌, is_some, nat_le, not, ◌&&◌, ◌==◌}
 use Rattle.std.proofs.lemmas.Bool.{eqb-true}
-use Rattle.wl_wire.specs.Wire.{Field, Number}
 use Rattle.wl_proto.specs.declared.interface.Interface.{Interface}
 use Rattle.wl_proto.specs.declared.interface.Interface.TheVariants.{WlRegistry, WlShmPool, WlBuffer, WlCompositor, WlSurface, WlSubcompositor, WlSubsurface, WlSeat, WlPointer, XdgWmBase, XdgPositioner, XdgSurface, XdgToplevel, XdgPopup}
 use Rattle.wl_proto.specs.declared.request.Request.{Request}
@@ -12,6 +11,7 @@ use Rattle.wl_proto.specs.declared.request.Request.TheVariants as requests
 use Rattle.wl_proto.specs.declared.wl_display.WlDisplayRequest.{WlDisplayRequest}
 use Rattle.wl_proto.specs.declared.wl_display.WlDisplayRequest.TheVariants as displays
 use Rattle.wl_proto.specs.declared.wl_registry.WlRegistryRequest.TheVariants as registries
+use Rattle.wl_proto.specs.declared.wl_region.WlRegionRequest.{WlRegionRequest}
 use Rattle.wl_proto.specs.declared.wl_region.WlRegionRequest.TheVariants as regions
 use Rattle.wl_proto.specs.declared.wl_shm.WlShmRequest.TheVariants as shms
 use Rattle.wl_proto.specs.declared.wl_shm_pool.WlShmPoolRequest.{WlShmPoolRequest}
@@ -54,7 +54,8 @@ use Rattle.wl_client.specs.declared.refusals.Refusal.{Refusal}
 use Rattle.wl_client.specs.declared.refusals.ErrorCode.TheVariants.{Implementation}
 use Rattle.wl_client.specs.Told.{display_error}
 use Rattle.wl_client.specs.Buffers.{Buffer, Laid, buffer_asked}
-use Rattle.wl_client.specs.Judgement.{Known, action_of, binds, buffer_destroyed, buffer_laid, changed_unless_full, display_action, is_free, pool_action, pool_created, pool_resized, rect_in, region_action}
+use Rattle.wl_client.specs.Judgement.{Known, action_of, binds, buffer_destroyed, buffer_laid, display_action, is_free, pool_action, pool_created, pool_resized, region_action}
+use Rattle.wl_client.specs.Requests.{rect, request_of}
 use Rattle.wl_client.specs.Objects.{Global, KeepsSurfaces, bound_interface, entry_at_version, globals, is_bound, is_of_surface, object_of, objects_in, of_surface}
 use Rattle.wl_client.specs.Serving.{ChangesTable, is_own}
 use Rattle.wl_client.proofs.Peers.{differ}
@@ -123,18 +124,15 @@ keeps-changed : (old new : Held) (action change : Action) (full : Bool) → (Cha
 keeps-changed old new action change true keeps is changes = absurd (cc)
 keeps-changed old new action change false keeps is changes = keeps (asked action change old new (same-action action change is) changes)
 
-keeps-region : (old new : Held) (action : Action) (object opcode : ℕ) (fields : List Field) (o : Option ℕ) (was : Entry) → entry_of old object ≡ Some was → of_surface (Some was) ≡ None → Ok action ≡ region_action object o opcode fields → ChangesTable action old new → KeepsSurfaces old new
-keeps-region old new action object opcode fields None was there another is changes = absurd (cc)
-keeps-region old new action object opcode fields (Some count) was there another is changes = either (opcode == 0) (opcode == 1) is
-  where
-    change : (adds : Bool) → ChangesTable (if adds then AddToRegion object (rect_in fields) else SubtractFromRegion object (rect_in fields)) old new → KeepsSurfaces old new
-    change true same = keeps-same old new same
-    change false same = keeps-same old new same
-
-    either : (goes adds : Bool) → Ok action ≡ (if goes then Ok (DestroyRegion object) else changed_unless_full count (if adds then AddToRegion object (rect_in fields) else SubtractFromRegion object (rect_in fields))) → KeepsSurfaces old new
-    either true adds h = keeps-removed old new object was there another (asked action (DestroyRegion object) old new (same-action action (DestroyRegion object) h) changes)
-    either false adds h =
-        keeps-changed old new action (if adds then AddToRegion object (rect_in fields) else SubtractFromRegion object (rect_in fields)) (nat_le 512 count) (change adds) h changes
+keeps-region : (old new : Held) (action : Action) (object : ℕ) (o : Option ℕ) (was : Entry) (request : WlRegionRequest) → entry_of old object ≡ Some was → of_surface (Some was) ≡ None
+    → Ok action ≡ region_action object o request → ChangesTable action old new → KeepsSurfaces old new
+keeps-region old new action object None was request there another is changes = absurd (cc)
+keeps-region old new action object (Some count) was regions.Destroy there another is changes =
+    keeps-removed old new object was there another (asked action (DestroyRegion object) old new (same-action action (DestroyRegion object) is) changes)
+keeps-region old new action object (Some count) was (regions.Add x y width height) there another is changes =
+    keeps-changed old new action (AddToRegion object (rect x y width height)) (nat_le 512 count) (λ same. keeps-same old new same) is changes
+keeps-region old new action object (Some count) was (regions.Subtract x y width height) there another is changes =
+    keeps-changed old new action (SubtractFromRegion object (rect x y width height)) (nat_le 512 count) (λ same. keeps-same old new same) is changes
 
 keeps-pool_created : (old new : Held) (action : Action) (object version id : ℕ) (size : ℤ) (o : Option StoreError) → is_free (objects_in old) id ≡ true → Ok action ≡ pool_created object version id size o → ChangesTable action old new → KeepsSurfaces old new
 keeps-pool_created old new action object version id size None free is changes =
@@ -164,12 +162,12 @@ keeps-buffer_destroyed old new action object (Some buffer) was there another is 
 
 -- ---- by requests
 
-keeps-display : (old new : Held) (action : Action) (request : WlDisplayRequest) → IfSome (new_id_in (wl_display_request request)) (λ n. is_free (objects_in old) n.id ≡ true) → accepted action ≡ accepted (display_action (wl_display_request request).opcode (wl_display_request request).fields) → ChangesTable action old new → KeepsSurfaces old new
+keeps-display : (old new : Held) (action : Action) (request : WlDisplayRequest) → IfSome (new_id_in (wl_display_request request)) (λ n. is_free (objects_in old) n.id ≡ true) → accepted action ≡ accepted (display_action request) → ChangesTable action old new → KeepsSurfaces old new
 keeps-display old new action (displays.Sync callback) free is changes = keeps-same old new (asked action (Sync callback) old new (same-action action (Sync callback) is) changes)
 keeps-display old new action (displays.GetRegistry registry) free is changes =
     keeps-made old new registry WlRegistry 1 free refl (asked action (GetRegistry registry) old new (same-action action (GetRegistry registry) is) changes)
 
-keeps-pool : (old new : Held) (action : Action) (object version : ℕ) (stores : Stock) (o : Option ℕ) (was : Entry) (request : WlShmPoolRequest) → entry_of old object ≡ Some was → of_surface (Some was) ≡ None → IfSome (new_id_in (wl_shm_pool_request request)) (λ n. is_free (objects_in old) n.id ≡ true) → Ok action ≡ pool_action object version stores o (wl_shm_pool_request request).opcode (wl_shm_pool_request request).fields → ChangesTable action old new → KeepsSurfaces old new
+keeps-pool : (old new : Held) (action : Action) (object version : ℕ) (stores : Stock) (o : Option ℕ) (was : Entry) (request : WlShmPoolRequest) → entry_of old object ≡ Some was → of_surface (Some was) ≡ None → IfSome (new_id_in (wl_shm_pool_request request)) (λ n. is_free (objects_in old) n.id ≡ true) → Ok action ≡ pool_action object version stores o request → ChangesTable action old new → KeepsSurfaces old new
 keeps-pool old new action object version stores None was request there another free is changes = absurd (cc)
 keeps-pool old new action object version stores (Some store) was (pools.CreateBuffer id offset width height stride format) there another free is changes =
     keeps-buffer_created old new action object version id (buffer_asked store offset width height stride format) (layout_refusal (size_of store stores) offset width height stride format) (can_hold store stores) free is changes
@@ -259,7 +257,7 @@ of-xdg_popup xdg_popup_requests.Destroy = refl
 of-xdg_popup (xdg_popup_requests.Grab seat serial) = refl
 
 -- an accepted request of one of a client's own interfaces
-pub keeps-surfaces : (old new : Held) (known : Known) (object version target : ℕ) (action : Action) (request : Request) → entry_of old object ≡ Some (record { interface = (request_message request).interface; version = version; target = target }) → IfSome (new_id_in (request_message request)) (λ n. is_free (objects_in old) n.id ≡ true) → is_own (request_message request).interface ≡ true → Ok action ≡ action_of known object version (request_message request).interface (request_message request).opcode (request_message request).fields → ChangesTable action old new → KeepsSurfaces old new
+pub keeps-surfaces : (old new : Held) (known : Known) (object version target : ℕ) (action : Action) (request : Request) → entry_of old object ≡ Some (record { interface = (request_message request).interface; version = version; target = target }) → IfSome (new_id_in (request_message request)) (λ n. is_free (objects_in old) n.id ≡ true) → is_own (request_message request).interface ≡ true → Ok action ≡ action_of known object version (request_of (request_message request)) → ChangesTable action old new → KeepsSurfaces old new
 keeps-surfaces old new known object version target action (requests.WlDisplay (displays.Sync callback)) there free own is changes =
     keeps-display old new action (displays.Sync callback) free is changes
 keeps-surfaces old new known object version target action (requests.WlDisplay (displays.GetRegistry registry)) there free own is changes =
@@ -267,11 +265,11 @@ keeps-surfaces old new known object version target action (requests.WlDisplay (d
 keeps-surfaces old new known object version target action (requests.WlRegistry (registries.Bind name interface bound id)) there free own is changes =
     keeps-bound old new action id bound (bound_interface name interface.now bound) (none-bound (is_bound name interface.now bound) globals refl) free is changes
 keeps-surfaces old new known object version target action (requests.WlRegion regions.Destroy) there free own is changes =
-    keeps-region old new action object 0 [] (known.changes object) _ there refl is changes
+    keeps-region old new action object (known.changes object) _ regions.Destroy there refl is changes
 keeps-surfaces old new known object version target action (requests.WlRegion (regions.Add x y width height)) there free own is changes =
-    keeps-region old new action object 1 (Number x ∷ Number y ∷ Number width ∷ Number height ∷ []) (known.changes object) _ there refl is changes
+    keeps-region old new action object (known.changes object) _ (regions.Add x y width height) there refl is changes
 keeps-surfaces old new known object version target action (requests.WlRegion (regions.Subtract x y width height)) there free own is changes =
-    keeps-region old new action object 2 (Number x ∷ Number y ∷ Number width ∷ Number height ∷ []) (known.changes object) _ there refl is changes
+    keeps-region old new action object (known.changes object) _ (regions.Subtract x y width height) there refl is changes
 keeps-surfaces old new known object version target action (requests.WlShm (shms.CreatePool id size)) there free own is changes =
     keeps-pool_created old new action object version id size (create_refusal size known.stores) free is changes
 keeps-surfaces old new known object version target action (requests.WlShmPool (pools.CreateBuffer id offset width height stride format)) there free own is changes =

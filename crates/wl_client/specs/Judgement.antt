@@ -1,15 +1,27 @@
 -- The order of refusals: what a message asks, or the first error that it has.
 use Rattle.std.specs.List.{list_all}
-use Rattle.std.specs.Prelude.{ℕ, ℤ, pos, List, Bool, ◌&&◌, ◌==◌, not, nat_le, if◌then◌else◌, is_some, Option, Some, None, Result, Ok, Err, slice_index_or, []}
-use Rattle.wl_wire.specs.Wire.{Field, Word, Number, Text, Block}
+use Rattle.std.specs.Prelude.{ℕ, ℤ, List, Bool, ◌&&◌, not, nat_le, if◌then◌else◌, is_some, Option, Some, None, Result, Ok, Err}
+use Rattle.wl_proto.specs.declared.wl_compositor.WlCompositorRequest.{WlCompositorRequest}
+use Rattle.wl_proto.specs.declared.wl_compositor.WlCompositorRequest.TheVariants as compositor
+use Rattle.wl_proto.specs.declared.wl_display.WlDisplayRequest.{WlDisplayRequest}
+use Rattle.wl_proto.specs.declared.wl_display.WlDisplayRequest.TheVariants as display
+use Rattle.wl_proto.specs.declared.wl_region.WlRegionRequest.{WlRegionRequest}
+use Rattle.wl_proto.specs.declared.wl_region.WlRegionRequest.TheVariants as region
+use Rattle.wl_proto.specs.declared.wl_registry.WlRegistryRequest.{WlRegistryRequest}
+use Rattle.wl_proto.specs.declared.wl_registry.WlRegistryRequest.TheVariants as registry
+use Rattle.wl_proto.specs.declared.wl_seat.WlSeatRequest.{WlSeatRequest}
+use Rattle.wl_proto.specs.declared.wl_seat.WlSeatRequest.TheVariants as seat
+use Rattle.wl_proto.specs.declared.wl_shm.WlShmRequest.{WlShmRequest}
+use Rattle.wl_proto.specs.declared.wl_shm.WlShmRequest.TheVariants as shm
+use Rattle.wl_proto.specs.declared.wl_shm_pool.WlShmPoolRequest.{WlShmPoolRequest}
+use Rattle.wl_proto.specs.declared.wl_shm_pool.WlShmPoolRequest.TheVariants as pool
+use Rattle.wl_client.specs.Requests.{Request, ToDisplay, ToRegistry, ToCompositor, ToRegion, ToShm, ToPool, ToBuffer, ToSeat, rect, request_of}
 use Rattle.wl_proto.specs.declared.interface.Interface.{Interface}
-use Rattle.wl_proto.specs.declared.interface.Interface.TheVariants.{WlDisplay, WlRegistry, WlCompositor, WlRegion, WlShm, WlShmPool, WlBuffer, WlSeat}
 use Rattle.wl_proto.specs.declared.error.ProtoError.{ProtoError}
 use Rattle.wl_proto.specs.declared.argument.NewId.{NewId}
 use Rattle.wl_proto.specs.Messages.{Message}
 use Rattle.wl_proto.specs.Objects.{objects_in as objects_named, new_id_in}
 use Rattle.wl_proto.specs.Spelling.{decoded}
-use Rattle.wl_geom.specs.declared.rect.Rect.{Rect}
 use Rattle.wl_store.specs.Layout.{layout_refusal}
 use Rattle.wl_store.specs.Stores.{Stock, can_hold, create_refusal, resize_refusal, size_of}
 use Rattle.wl_store.specs.declared.place.LayoutError.{LayoutError}
@@ -41,63 +53,36 @@ pub record Known : Type 0 where
 abbrev pub is_free : Objects → ℕ → Bool
 is_free objects id = nat_le 1 id && (nat_le id 4278190079 && not (is_some (objects id)))
 
-abbrev pub word_of_field : Field → ℕ
-word_of_field (Word n) = n
-word_of_field (Number z) = 0
-word_of_field (Text text) = 0
-word_of_field (Block block) = 0
-
-abbrev pub number_of_field : Field → ℤ
-number_of_field (Number z) = z
-number_of_field (Word n) = pos 0
-number_of_field (Text text) = pos 0
-number_of_field (Block block) = pos 0
-
-abbrev pub text_of_field : Field → List ℕ
-text_of_field (Text text) = text
-text_of_field (Word n) = []
-text_of_field (Number z) = []
-text_of_field (Block block) = []
-
-abbrev pub word_in : ℕ → List Field → ℕ
-word_in k fields = word_of_field (slice_index_or fields k (Word 0))
-
-abbrev pub number_in : ℕ → List Field → ℤ
-number_in k fields = number_of_field (slice_index_or fields k (Word 0))
-
-abbrev pub text_in : ℕ → List Field → List ℕ
-text_in k fields = text_of_field (slice_index_or fields k (Word 0))
-
 -- wl_display
-abbrev pub display_action : ℕ → List Field → Action
-display_action opcode fields = if opcode == 0 then Sync (word_in 0 fields) else GetRegistry (word_in 0 fields)
+abbrev pub display_action : WlDisplayRequest → Action
+display_action (display.Sync callback) = Sync callback
+display_action (display.GetRegistry id) = GetRegistry id
 
 -- wl_registry.bind: one of the globals' versions
 abbrev pub binds : ℕ → ℕ → Option Interface → Result Action Refusal
 binds id version None = Err (display_error InvalidObject)
 binds id version (Some interface) = Ok (Bind id interface version)
 
-abbrev pub registry_action : List Field → Result Action Refusal
-registry_action fields = binds (word_in 3 fields) (word_in 2 fields) (bound_interface (word_in 0 fields) (text_in 1 fields) (word_in 2 fields))
+abbrev pub bind_action : ℕ → List ℕ → ℕ → ℕ → Result Action Refusal
+bind_action name interface version id = binds id version (bound_interface name interface version)
+
+abbrev pub registry_action : WlRegistryRequest → Result Action Refusal
+registry_action (registry.Bind name interface version id) = bind_action name interface.now version id
 
 -- wl_compositor: by itself a client's definition leaves create_surface out; the desk serves it
-abbrev pub compositor_action : ℕ → ℕ → List Field → Result Action Refusal
-compositor_action version opcode fields =
-    if opcode == 1 then Ok (CreateRegion (word_in 0 fields) version) else Err (display_error Implementation)
+abbrev pub compositor_action : ℕ → WlCompositorRequest → Result Action Refusal
+compositor_action version (compositor.CreateRegion id) = Ok (CreateRegion id version)
+compositor_action version (compositor.CreateSurface id) = Err (display_error Implementation)
 
 -- wl_region: a region takes 512 changes
-abbrev pub rect_in : List Field → Rect
-rect_in fields = record { x = number_in 0 fields; y = number_in 1 fields; w = number_in 2 fields; h = number_in 3 fields }
-
 abbrev pub changed_unless_full : ℕ → Action → Result Action Refusal
 changed_unless_full changes change = if nat_le 512 changes then Err (display_error Implementation) else Ok change
 
-abbrev pub region_action : ℕ → Option ℕ → ℕ → List Field → Result Action Refusal
-region_action object None opcode fields = Err (display_error Implementation)
-region_action object (Some changes) opcode fields =
-    if opcode == 0
-    then Ok (DestroyRegion object)
-    else changed_unless_full changes (if opcode == 1 then AddToRegion object (rect_in fields) else SubtractFromRegion object (rect_in fields))
+abbrev pub region_action : ℕ → Option ℕ → WlRegionRequest → Result Action Refusal
+region_action object None request = Err (display_error Implementation)
+region_action object (Some changes) region.Destroy = Ok (DestroyRegion object)
+region_action object (Some changes) (region.Add x y width height) = changed_unless_full changes (AddToRegion object (rect x y width height))
+region_action object (Some changes) (region.Subtract x y width height) = changed_unless_full changes (SubtractFromRegion object (rect x y width height))
 
 -- wl_shm.create_pool: the limits on stores come first
 abbrev pub pool_created : ℕ → ℕ → ℕ → ℤ → Option StoreError → Result Action Refusal
@@ -105,9 +90,8 @@ pool_created object version id size None = Ok (CreatePool id version size)
 pool_created object version id size (Some BadSize) = Err (record { object = object; code = InvalidStride })
 pool_created object version id size (Some error) = Err (display_error Implementation)
 
-abbrev pub shm_action : ℕ → ℕ → Stock → List Field → Result Action Refusal
-shm_action object version stores fields =
-    pool_created object version (word_in 0 fields) (number_in 1 fields) (create_refusal (number_in 1 fields) stores)
+abbrev pub shm_action : ℕ → ℕ → Stock → WlShmRequest → Result Action Refusal
+shm_action object version stores (shm.CreatePool id size) = pool_created object version id size (create_refusal size stores)
 
 -- wl_shm_pool.create_buffer
 abbrev pub layout_refused : ℕ → LayoutError → Refusal
@@ -131,12 +115,12 @@ pool_resized object store size None = Ok (ResizePool store size)
 pool_resized object store size (Some Shrinks) = Err (record { object = object; code = InvalidFd })
 pool_resized object store size (Some error) = Err (display_error Implementation)
 
-abbrev pub pool_action : ℕ → ℕ → Stock → Option ℕ → ℕ → List Field → Result Action Refusal
-pool_action object version stores None opcode fields = Err (display_error Implementation)
-pool_action object version stores (Some store) opcode fields =
-    if opcode == 0
-    then buffer_created object version store stores (word_in 0 fields) (number_in 1 fields) (number_in 2 fields) (number_in 3 fields) (number_in 4 fields) (word_in 5 fields)
-    else (if opcode == 1 then Ok (DestroyPool object store) else pool_resized object store (number_in 0 fields) (resize_refusal store (number_in 0 fields) stores))
+abbrev pub pool_action : ℕ → ℕ → Stock → Option ℕ → WlShmPoolRequest → Result Action Refusal
+pool_action object version stores None request = Err (display_error Implementation)
+pool_action object version stores (Some store) (pool.CreateBuffer id offset width height stride format) =
+    buffer_created object version store stores id offset width height stride format
+pool_action object version stores (Some store) pool.Destroy = Ok (DestroyPool object store)
+pool_action object version stores (Some store) (pool.Resize size) = pool_resized object store size (resize_refusal store size stores)
 
 -- wl_buffer.destroy
 abbrev pub buffer_destroyed : ℕ → Option Buffer → Result Action Refusal
@@ -144,20 +128,22 @@ buffer_destroyed object None = Err (display_error Implementation)
 buffer_destroyed object (Some buffer) = Ok (DestroyBuffer object buffer.laid.store)
 
 -- wl_seat has a pointer, which isn't served yet, and no keyboard and no touch
-abbrev pub seat_refusal : ℕ → ℕ → Refusal
-seat_refusal object opcode = if opcode == 0 then display_error Implementation else record { object = object; code = MissingCapability }
+abbrev pub seat_refusal : ℕ → WlSeatRequest → Refusal
+seat_refusal object (seat.GetPointer id) = display_error Implementation
+seat_refusal object (seat.GetKeyboard id) = record { object = object; code = MissingCapability }
+seat_refusal object (seat.GetTouch id) = record { object = object; code = MissingCapability }
 
 -- The request's own errors, and what it asks. What the definition of a client by itself leaves out is refused as a limit would be.
-abbrev pub action_of : Known → ℕ → ℕ → Interface → ℕ → List Field → Result Action Refusal
-action_of known object version WlDisplay opcode fields = Ok (display_action opcode fields)
-action_of known object version WlRegistry opcode fields = registry_action fields
-action_of known object version WlCompositor opcode fields = compositor_action version opcode fields
-action_of known object version WlRegion opcode fields = region_action object (known.changes object) opcode fields
-action_of known object version WlShm opcode fields = shm_action object version known.stores fields
-action_of known object version WlShmPool opcode fields = pool_action object version known.stores (known.pools object) opcode fields
-action_of known object version WlBuffer opcode fields = buffer_destroyed object (known.buffers object)
-action_of known object version WlSeat opcode fields = Err (seat_refusal object opcode)
-action_of known object version interface opcode fields = Err (display_error Implementation)
+abbrev pub action_of : Known → ℕ → ℕ → Request → Result Action Refusal
+action_of known object version (ToDisplay request) = Ok (display_action request)
+action_of known object version (ToRegistry name interface bound id) = bind_action name interface bound id
+action_of known object version (ToCompositor request) = compositor_action version request
+action_of known object version (ToRegion request) = region_action object (known.changes object) request
+action_of known object version (ToShm request) = shm_action object version known.stores request
+action_of known object version (ToPool request) = pool_action object version known.stores (known.pools object) request
+action_of known object version (ToBuffer request) = buffer_destroyed object (known.buffers object)
+action_of known object version (ToSeat request) = Err (seat_refusal object request)
+action_of known object version request = Err (display_error Implementation)
 
 -- A new id must be free, and no client has more than 8,192 objects.
 abbrev pub after_new_id : {X : Type 0} → Objects → ℕ → Option NewId → Result X Refusal → Result X Refusal
@@ -182,5 +168,5 @@ judged_at objects held asks opcode body (Some o) = judged objects held (asks o.v
 -- what a message to an object asks, or the first error that it has
 abbrev pub judge : Known → ℕ → ℕ → List ℕ → Result Action Refusal
 judge known object opcode body =
-    judged_at known.objects known.held (λ version request. action_of known object version request.interface request.opcode request.fields) opcode body
+    judged_at known.objects known.held (λ version m. action_of known object version (request_of m)) opcode body
     (known.objects object)

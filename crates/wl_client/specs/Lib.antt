@@ -6,7 +6,9 @@ pub mod Objects
 pub mod Peer
 pub mod Plain
 pub mod Said
+pub mod Requests
 pub mod Serving
 pub mod Told
+pub mod ToplevelRequest
 pub mod View
 pub use Rattle.wl_wire.specs.Wire

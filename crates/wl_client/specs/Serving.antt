@@ -24,6 +24,7 @@ use Rattle.wl_client.specs.declared.served.Served.TheVariants as answers
 use Rattle.wl_client.specs.Agreement.{known_in}
 use Rattle.wl_client.specs.First.{IsRefused, Passes}
 use Rattle.wl_client.specs.Judgement.{action_of, judge}
+use Rattle.wl_client.specs.Requests.{request_of}
 use Rattle.wl_client.specs.Objects.{entry_at_version}
 use Rattle.wl_client.specs.Peer.{Peer, Errs, Queues, WantsOr, answers_to, changed, counted, known_of, takes_memory, with_rest}
 use Rattle.wl_client.specs.Told.{code_number, display_error}
@@ -98,7 +99,7 @@ pub record IsOwnMessage (v : ClientView) (size : ℕ) (judged : Result Action Re
   pub request : Request
   pub passes : Passes v object version size target (request_message request)
   pub own : is_own (request_message request).interface ≡ true
-  pub is_judged : judged ≡ action_of (known_in v) object version (request_message request).interface (request_message request).opcode (request_message request).fields
+  pub is_judged : judged ≡ action_of (known_in v) object version (request_of (request_message request))
 
 abbrev pub IsNext : ClientView → Next → Type 0
 IsNext v nexts.More = split_of v.rest ≡ More

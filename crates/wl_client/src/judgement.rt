@@ -3,6 +3,7 @@
 ghost use Rattle.std.specs.Prelude.{◌≡◌, false, true, IfNone, IfSome};
 ghost use Rattle.wl_proto.specs.Messages.{request_message};
 ghost use Rattle.wl_client.specs.Judgement.{action_of};
+ghost use Rattle.wl_client.specs.Requests.{request_of};
 ghost use Rattle.wl_client.specs.Agreement.{known_in};
 ghost use Rattle.wl_client.specs.Serving.{is_own};
 
@@ -22,7 +23,7 @@ impl<A: Allocator + Copy> Client<A> {
         request: &Request,
     ) -> Option<Result<Action, Refusal>>
         ensures own { IfSome result (λ judged. is_own (request_message request.now).interface ≡ true) }
-        ensures judged { IfSome result (λ judged. judged ≡ action_of (known_in self.now) object version (request_message request.now).interface (request_message request.now).opcode (request_message request.now).fields) }
+        ensures judged { IfSome result (λ judged. judged ≡ action_of (known_in self.now) object version (request_of (request_message request.now))) }
         ensures other { IfNone result (is_own (request_message request.now).interface ≡ false) }
     {
         match request {

@@ -1,7 +1,6 @@
 //! The requests of wl_display.
 
 ghost use Rattle.std.specs.Prelude.{◌≡◌, ◌≤◌, length};
-ghost use Rattle.wl_proto.specs.Messages.{wl_display_request};
 ghost use Rattle.wl_client.specs.Judgement.{display_action};
 
 use crate::actions::Action;
@@ -13,7 +12,7 @@ use wl_proto::{Interface, WlDisplayRequest};
 
 /// What a request of wl_display asks.
 pub(crate) fn action(request: &WlDisplayRequest) -> Action
-    ensures { result ≡ display_action (wl_display_request request.now).opcode (wl_display_request request.now).fields }
+    ensures { result ≡ display_action request.now }
 {
     match *request {
         WlDisplayRequest::Sync { callback } => Action::Sync(callback),

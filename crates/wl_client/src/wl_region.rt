@@ -2,7 +2,6 @@
 
 ghost use Rattle.std.specs.Prelude.{◌≡◌, ◌≤◌, length};
 ghost use Rattle.std.specs.Option.{option_map};
-ghost use Rattle.wl_proto.specs.Messages.{wl_region_request};
 ghost use Rattle.wl_client.specs.Judgement.{changed_unless_full, region_action};
 ghost use Rattle.wl_client.specs.Objects.{held_at};
 
@@ -20,7 +19,7 @@ pub(crate) fn action<A: Allocator>(
     object: u32,
     request: &WlRegionRequest,
 ) -> Result<Action, Refusal>
-    ensures { result ≡ region_action object (option_map (λ area. area.changes) (held_at regions.now.entries object)) (wl_region_request request.now).opcode (wl_region_request request.now).fields }
+    ensures { result ≡ region_action object (option_map (λ area. area.changes) (held_at regions.now.entries object)) request.now }
 {
     let Some(region) = regions.get(&object) else {
         return Err(Refusal::of_display(ErrorCode::Implementation));

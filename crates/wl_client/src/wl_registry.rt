@@ -1,7 +1,6 @@
 //! The requests of wl_registry.
 
 ghost use Rattle.std.specs.Prelude.{◌≡◌, ◌≤◌, length};
-ghost use Rattle.wl_proto.specs.Messages.{wl_registry_request};
 ghost use Rattle.wl_client.specs.Judgement.{registry_action};
 
 use crate::actions::Action;
@@ -14,7 +13,7 @@ use wl_proto::{Interface, WlRegistryRequest};
 
 /// What a bind asks, where it is of one of the globals' versions.
 pub(crate) fn action(request: &WlRegistryRequest) -> Result<Action, Refusal>
-    ensures { result ≡ registry_action (wl_registry_request request.now).fields }
+    ensures { result ≡ registry_action request.now }
 {
     match request {
         WlRegistryRequest::Bind {

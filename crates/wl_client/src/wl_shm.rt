@@ -1,7 +1,6 @@
 //! The requests of wl_shm.
 
 ghost use Rattle.std.specs.Prelude.{◌≡◌, ◌≤◌, length};
-ghost use Rattle.wl_proto.specs.Messages.{wl_shm_request};
 ghost use Rattle.wl_client.specs.Judgement.{shm_action};
 
 use crate::actions::Action;
@@ -18,7 +17,7 @@ pub(crate) fn action<A: Allocator>(
     version: u32,
     request: &WlShmRequest,
 ) -> Result<Action, Refusal>
-    ensures { result ≡ shm_action object version stores.now (wl_shm_request request.now).fields }
+    ensures { result ≡ shm_action object version stores.now request.now }
 {
     match *request {
         WlShmRequest::CreatePool { id, size } => match stores.create_refusal(size) {

@@ -1,7 +1,6 @@
 //! The requests of wl_shm_pool.
 
 ghost use Rattle.std.specs.Prelude.{◌≡◌, ◌≤◌, length};
-ghost use Rattle.wl_proto.specs.Messages.{wl_shm_pool_request};
 ghost use Rattle.wl_client.specs.Judgement.{buffer_created, layout_refused, pool_action, pool_resized};
 ghost use Rattle.wl_client.specs.Objects.{held_at};
 ghost use Rattle.wl_store.specs.Stores.{resize_refusal};
@@ -23,7 +22,7 @@ pub(crate) fn action<A: Allocator>(
     version: u32,
     request: &WlShmPoolRequest,
 ) -> Result<Action, Refusal>
-    ensures { result ≡ pool_action object version stores.now (held_at pools.now.entries object) (wl_shm_pool_request request.now).opcode (wl_shm_pool_request request.now).fields }
+    ensures { result ≡ pool_action object version stores.now (held_at pools.now.entries object) request.now }
 {
     let Some(&store) = pools.get(&object) else {
         return Err(Refusal::of_display(ErrorCode::Implementation));

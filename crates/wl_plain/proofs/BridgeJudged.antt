@@ -25,15 +25,16 @@ use Rattle.wl_plain.specs.Demand.{Demand, Asks, EndSurface, CommitTree, EndTople
 use Rattle.wl_plain.specs.Demanding.{base_demand, committed_by, demand_by, demand_of, demands, effect_of_commit, effect_on_xdg, is_dismissed, judge_all, moved_by_pointer, own_demand, surface_demand, toplevel_asked, toplevel_destroyed, xdg_asked}
 use Rattle.wl_plain.specs.Desktop.{Resident}
 use Rattle.wl_plain.specs.LeftOut.{served_now}
-use Rattle.wl_plain.specs.Requests.{Request, ToCompositor, ToSurface, ToSubcompositor, ToSubsurface, ToSeat, ToPointer, ToBase, ToPositioner, ToXdgSurface, ToToplevel, ToPopup, ToOwn, request_of}
-use Rattle.wl_plain.specs.ToplevelRequest.{ToplevelRequest}
-use Rattle.wl_plain.specs.ToplevelRequest as toplevel
+use Rattle.wl_client.specs.Requests.{Request, ToCompositor, ToSurface, ToSubcompositor, ToSubsurface, ToSeat, ToPointer, ToBase, ToPositioner, ToXdgSurface, ToToplevel, ToPopup, request_of}
+use Rattle.wl_client.specs.ToplevelRequest.{ToplevelRequest}
+use Rattle.wl_client.specs.ToplevelRequest as toplevel
 use Rattle.wl_plain.specs.Served.{unserved_now}
 use Rattle.wl_client.specs.Peer.{Peer, known_of}
 use Rattle.wl_plain.specs.Step.{with_peer}
 use Rattle.wl_plain.proofs.Simply.{Simple, Asking, DestroySurface, CommitSurface, DestroyToplevel, asks_simply, effect_for, effect_of, judge, simple_of, simply}
 use Rattle.wl_plain.specs.NoMore.{AreToplevels, IsToplevel}
-use Rattle.wl_plain.specs.WlSurface.{rect, surface_created, transform_set, will_show}
+use Rattle.wl_plain.specs.WlSurface.{surface_created, transform_set, will_show}
+use Rattle.wl_client.specs.Requests.{rect}
 use Rattle.wl_plain.specs.XdgShell.{acknowledged_by, base_destroyed, geometry_set, state_asked, toplevel_made, xdg_surface_destroyed, xdg_surface_made}
 
 -- what is asked is the same
@@ -164,29 +165,29 @@ toplevel-simple r object o toplevel.UnsetFullscreen = demands-simple r (state_as
 toplevel-simple r object None request = refl
 toplevel-simple r object (Some x) request = asks Ignore
 
-own-simple : (r : Resident) (object version : ℕ) (m : Message) → IsSimple r (own_demand r object version m)
-own-simple r object version m = demands-simple r (owns (action_of (known_of r.peer) object version m.interface m.opcode m.fields))
+own-simple : (r : Resident) (object version : ℕ) (request : Request) → IsSimple r (own_demand r object version request)
+own-simple r object version request = demands-simple r (owns (action_of (known_of r.peer) object version request))
 
-interface-simple : (request : Request) (r : Resident) (object version : ℕ) (m : Message) → unserved_now request ≡ false → IsSimple r (demand_by request r object version m)
-interface-simple (ToCompositor (compositor.CreateSurface id)) r object version m served = demands-simple r (surface_created r id version)
-interface-simple (ToCompositor (compositor.CreateRegion id)) r object version m served = own-simple r object version m
-interface-simple (ToSurface request) r object version m served = surface-simple r object version request served
-interface-simple (ToSeat (seat.GetPointer id)) r object version m served = absurd (cc)
-interface-simple (ToSeat (seat.GetKeyboard id)) r object version m served = refl
-interface-simple (ToSeat (seat.GetTouch id)) r object version m served = refl
-interface-simple (ToBase request) r object version m served = base-simple r object version request served
-interface-simple (ToXdgSurface request) r object version m served = xdg-simple r (xdg_at object r.owned.shell) version request served
-interface-simple (ToToplevel request) r object version m served = toplevel-simple r object (xdg_with object r.owned.shell) request
-interface-simple ToOwn r object version m served = own-simple r object version m
-interface-simple (ToSubcompositor request) r object version m served = absurd (cc)
-interface-simple (ToSubsurface request) r object version m served = absurd (cc)
-interface-simple (ToPointer request) r object version m served = absurd (cc)
-interface-simple (ToPositioner request) r object version m served = absurd (cc)
-interface-simple (ToPopup request) r object version m served = absurd (cc)
+interface-simple : (request : Request) (r : Resident) (object version : ℕ) → unserved_now request ≡ false → IsSimple r (demand_by request r object version)
+interface-simple (ToCompositor (compositor.CreateSurface id)) r object version served = demands-simple r (surface_created r id version)
+interface-simple (ToCompositor (compositor.CreateRegion id)) r object version served = own-simple r object version (ToCompositor (compositor.CreateRegion id))
+interface-simple (ToSurface request) r object version served = surface-simple r object version request served
+interface-simple (ToSeat (seat.GetPointer id)) r object version served = absurd (cc)
+interface-simple (ToSeat (seat.GetKeyboard id)) r object version served = refl
+interface-simple (ToSeat (seat.GetTouch id)) r object version served = refl
+interface-simple (ToBase request) r object version served = base-simple r object version request served
+interface-simple (ToXdgSurface request) r object version served = xdg-simple r (xdg_at object r.owned.shell) version request served
+interface-simple (ToToplevel request) r object version served = toplevel-simple r object (xdg_with object r.owned.shell) request
+interface-simple (ToSubcompositor request) r object version served = absurd (cc)
+interface-simple (ToSubsurface request) r object version served = absurd (cc)
+interface-simple (ToPointer request) r object version served = absurd (cc)
+interface-simple (ToPositioner request) r object version served = absurd (cc)
+interface-simple (ToPopup request) r object version served = absurd (cc)
+interface-simple request r object version served = own-simple r object version request
 
 pub demand-simple : (r : Resident) (object version : ℕ) (m : Message) → IsSimple r (demand_of served_now r object version m)
 demand-simple r object version m =
-    if-simple r (unserved_now (request_of m)) _ _ (λ left. refl) (λ served. interface-simple (request_of m) r object version m served)
+    if-simple r (unserved_now (request_of m)) _ _ (λ left. refl) (λ served. interface-simple (request_of m) r object version served)
 
 -- ---- the judgement
 

@@ -108,7 +108,6 @@ pub mod OrderlyRunTops
 pub mod OrderlyRunMessages
 pub mod OrderlyRun
 pub mod OrderlyMessage
-pub mod Requests
 pub mod RunSound
 pub mod RowsConnect
 pub mod RowsDamage

@@ -9,7 +9,7 @@ use Rattle.wl_proto.specs.declared.interface.Interface.TheVariants.{WlDisplay, W
 use Rattle.wl_proto.specs.Table.{AnObject}
 use Rattle.wl_proto.specs.declared.xdg_popup.XdgPopupRequest.{XdgPopupRequest}
 use Rattle.wl_proto.specs.declared.xdg_popup.XdgPopupRequest.TheVariants as popup
-use Rattle.wl_client.specs.Judgement.{number_in, word_in}
+use Rattle.wl_client.specs.Requests.{number_in, word_in}
 use Rattle.wl_surface.specs.Request.{Member, PlaceAbove, PlaceBelow}
 use Rattle.wl_surface.specs.Surfaces.{Link, link_at}
 use Rattle.wl_surface.specs.Trees.{is_bad_parent, is_too_deep}
@@ -20,12 +20,12 @@ use Rattle.wl_plain.specs.Demand.{Demand}
 use Rattle.wl_plain.specs.Demanding.{committed_by, demand_by, demand_of, effect_of_commit, judge_all, moved_by_pointer, surface_demand, toplevel_asked, toplevel_destroyed}
 use Rattle.wl_plain.specs.Desktop.{Resident, Subsurface}
 use Rattle.wl_plain.specs.LeftOut.{LeftOut}
-use Rattle.wl_plain.specs.Requests.{pointer_request, popup_request, positioner_request, request_in, seat_request, subcompositor_request, subsurface_request, surface_request, toplevel_request}
-use Rattle.wl_plain.specs.ToplevelRequest.{ToplevelRequest}
-use Rattle.wl_plain.specs.ToplevelRequest as toplevel
+use Rattle.wl_client.specs.Requests.{pointer_request, popup_request, positioner_request, request_in, seat_request, subcompositor_request, subsurface_request, surface_request, toplevel_request}
+use Rattle.wl_client.specs.ToplevelRequest.{ToplevelRequest}
+use Rattle.wl_client.specs.ToplevelRequest as toplevel
 use Rattle.wl_plain.specs.WlPointer.{is_no_cursor, pointer_demand, seat_demand}
 use Rattle.wl_plain.specs.WlSubsurface.{beside, demand_by_link, has_subsurface, is_no_subsurface, link_of_subsurface, living, placed_beside, subcompositor_demand, subsurface_at, subsurface_made}
-use Rattle.wl_plain.specs.WlSurface.{rect}
+use Rattle.wl_client.specs.Requests.{rect}
 use Rattle.wl_plain.specs.XdgPopup.{grab_of, popup_asked, positioner_asked, positioner_of, set_if}
 use Rattle.wl_plain.specs.XdgShell.{role_of}
 use Rattle.wl_plain.proofs.Orderly.{HasId, IsAllowed, IsOn, IsObject, IsOfParent}
@@ -198,7 +198,7 @@ popup-allowed r object (Some x) is live (popup.Grab seat serial) = grab-allowed 
 -- ---- every interface
 
 demanded-allowed : (interface : Interface) (r : Resident) (object version opcode : ℕ) (fields : List Field) → IsHeardBy interface r object opcode fields
-    → Allows r (demand_by (request_in interface opcode fields) r object version (record { interface = interface; opcode = opcode; fields = fields }))
+    → Allows r (demand_by (request_in interface opcode fields) r object version)
 demanded-allowed WlCompositor r object version opcode fields heard = compositor-allowed r object version opcode fields heard
 demanded-allowed WlSurface r object version opcode fields heard = surface-allowed r object version opcode fields heard
 demanded-allowed WlSubcompositor r object version opcode fields heard = subcompositor-allowed r object version opcode fields heard

@@ -11,7 +11,8 @@ use Rattle.wl_proto.specs.declared.interface.Interface.TheVariants.{WlCompositor
 use Rattle.wl_proto.specs.Table.{AnObject}
 use Rattle.wl_client.specs.declared.actions.Action.{Action}
 use Rattle.wl_client.specs.declared.refusals.Refusal.{Refusal}
-use Rattle.wl_client.specs.Judgement.{action_of, number_in, word_in}
+use Rattle.wl_client.specs.Judgement.{action_of}
+use Rattle.wl_client.specs.Requests.{number_in, word_in}
 use Rattle.wl_client.specs.Peer.{known_of}
 use Rattle.wl_shell.specs.Positioner.{is_complete}
 use Rattle.wl_shell.specs.Shell.{XdgSurface as Xdg, answers_states, is_full, is_waiting, stage_of, xdg_at, xdg_of}
@@ -19,8 +20,8 @@ use Rattle.wl_plain.specs.Ask.{Ask, owns}
 use Rattle.wl_plain.specs.Demand.{Demand}
 use Rattle.wl_plain.specs.Demanding.{base_demand, compositor_demand, demands, own_demand, xdg_asked}
 use Rattle.wl_plain.specs.Desktop.{Resident}
-use Rattle.wl_plain.specs.Requests.{base_request, compositor_request, xdg_request}
-use Rattle.wl_plain.specs.WlSurface.{rect}
+use Rattle.wl_client.specs.Requests.{base_request, compositor_request, request_in, xdg_request}
+use Rattle.wl_client.specs.Requests.{rect}
 use Rattle.wl_plain.specs.XdgPopup.{is_no_popup, may_be_parent, positioner_of}
 use Rattle.wl_plain.specs.XdgShell.{acknowledged_by, configured_again, geometry_set, has_any, is_foreign, is_no_toplevel, role_of, state_asked}
 use Rattle.wl_plain.proofs.Orderly.{HasNoRole, IsAllowed, IsObject}
@@ -54,12 +55,12 @@ own-asked : (r : Resident) (judged : Result Action Refusal) → AllowsOwn r judg
 own-asked r (Ok action) own = own
 own-asked r (Err refusal) own = tt
 
-pub own-allowed-so : (interface : Interface) (r : Resident) (object version opcode : ℕ) (fields : List Field) → IsHeardBy interface r object opcode fields → Allows r (own_demand r object version (record { interface = interface; opcode = opcode; fields = fields }))
+pub own-allowed-so : (interface : Interface) (r : Resident) (object version opcode : ℕ) (fields : List Field) → IsHeardBy interface r object opcode fields → Allows r (own_demand r object version (request_in interface opcode fields))
 own-allowed-so interface r object version opcode fields heard =
-    own-asked r (action_of (known_of r.peer) object version interface opcode fields) (own-allowed interface r object opcode fields heard (known_of r.peer) version)
+    own-asked r (action_of (known_of r.peer) object version (request_in interface opcode fields)) (own-allowed interface r object opcode fields heard (known_of r.peer) version)
 
 pub compositor-allowed : (r : Resident) (object version opcode : ℕ) (fields : List Field) → IsHeardBy WlCompositor r object opcode fields
-    → Allows r (compositor_demand r object version (record { interface = WlCompositor; opcode = opcode; fields = fields }) (compositor_request opcode fields))
+    → Allows r (compositor_demand r object version (compositor_request opcode fields))
 compositor-allowed r object version zero fields heard =
     ask-either r (nat_le 256 (length r.owned.surfaces.surfaces)) _ _ (λ f. tt) (λ f. fresh-first r.peer.objects _ [] _ fields heard.kinds heard.fresh)
 compositor-allowed r object version (suc zero) fields heard = own-allowed-so WlCompositor r object version 1 fields heard

@@ -16,7 +16,8 @@ use Rattle.wl_proto.specs.Spelling.{arguments_in, as_arguments, as_message, deco
 use Rattle.wl_proto.specs.Table.{Argument, AUint, AnObject, ANewId, ANewObject, Signature, is_in_version, if_in_version, kinds_of, requests_of}
 use Rattle.wl_client.specs.declared.refusals.ErrorCode.TheVariants.{Implementation, InvalidObject}
 use Rattle.wl_client.specs.declared.refusals.Refusal.{Refusal}
-use Rattle.wl_client.specs.Judgement.{after_new_id, is_free, judged, judged_at, word_in}
+use Rattle.wl_client.specs.Judgement.{after_new_id, is_free, judged, judged_at}
+use Rattle.wl_client.specs.Requests.{word_in}
 use Rattle.wl_client.specs.Objects.{Object, Objects, fits, interface_number, is_of}
 use Rattle.wl_client.specs.Told.{display_error}
 use Rattle.wl_plain.proofs.BridgeFinds.{fields-kinds}

@@ -1,6 +1,6 @@
 -- What is known of an accepted message to one of a client's own interfaces.
 use Rattle.std.proofs.Common.{◌≡◌, ℕ, zero, suc, ℤ, List, [], ◌∷◌, Bool, true, false, Option, Some, None, Result, refl}
-use Rattle.std.specs.Prelude.{Ok, Err, ◌==◌, if◌then◌else◌, cond, find, nat_le}
+use Rattle.std.specs.Prelude.{Ok, Err, if◌then◌else◌, cond, find, nat_le}
 use Rattle.std.specs.Option.{option_map}
 use Rattle.wl_wire.specs.Wire.{Field}
 use Rattle.wl_proto.specs.declared.interface.Interface.{Interface}
@@ -11,14 +11,16 @@ use Rattle.wl_store.specs.declared.stores.StoreError.{StoreError}
 use Rattle.wl_store.specs.declared.stores.StoreError.TheVariants.{BadSize, Shrinks}
 use Rattle.wl_store.specs.Stores.{Stock, can_hold, create_refusal}
 use Rattle.wl_client.specs.declared.actions.Action.{Action}
-use Rattle.wl_client.specs.declared.actions.Action.TheVariants.{AddToRegion, SubtractFromRegion}
 use Rattle.wl_client.specs.declared.refusals.Refusal.{Refusal}
 use Rattle.wl_client.specs.Buffers.{Buffer, Laid}
-use Rattle.wl_client.specs.Judgement.{Known, action_of, binds, buffer_destroyed, buffer_laid, changed_unless_full, number_in, pool_action, pool_created, pool_resized, rect_in, region_action, text_in, word_in}
+use Rattle.wl_client.specs.Judgement.{Known, action_of, binds, buffer_destroyed, buffer_laid, changed_unless_full, pool_action, pool_created, pool_resized, region_action}
+use Rattle.wl_proto.specs.declared.wl_region.WlRegionRequest.{WlRegionRequest}
+use Rattle.wl_proto.specs.declared.wl_region.WlRegionRequest.TheVariants as region
+use Rattle.wl_client.specs.Requests.{pool_request, region_request, request_in, number_in, text_in, word_in}
 use Rattle.wl_client.specs.Objects.{Global, bound_interface, globals, is_bound}
 use Rattle.wl_plain.specs.Desktop.{Resident}
 use Rattle.wl_plain.proofs.Orderly.{IsNew, IsObject, IsOwn, is_no_surface}
-use Rattle.wl_plain.proofs.OrderlyAllowedHeard.{IsHeard, fresh-bound, fresh-first, heard-at}
+use Rattle.wl_plain.proofs.OrderlyAllowedHeard.{IsHeard, fresh-bound, fresh-first}
 
 -- what an action that is accepted asks is allowed
 abbrev pub AllowsOwn : Resident → Result Action Refusal → Type 0
@@ -54,7 +56,7 @@ bind-allowed : (r : Resident) (id version : ℕ) (o : Option Interface) → IsNe
 bind-allowed r id version None new none = tt
 bind-allowed r id version (Some interface) new none = (new, none)
 
-registry-allowed : (r : Resident) (object opcode : ℕ) (fields : List Field) → IsHeardBy WlRegistry r object opcode fields → (known : Known) (version : ℕ) → AllowsOwn r (action_of known object version WlRegistry opcode fields)
+registry-allowed : (r : Resident) (object opcode : ℕ) (fields : List Field) → IsHeardBy WlRegistry r object opcode fields → (known : Known) (version : ℕ) → AllowsOwn r (action_of known object version (request_in WlRegistry opcode fields))
 registry-allowed r object zero fields heard known version =
     bind-allowed r (word_in 3 fields) (word_in 2 fields) (bound_interface (word_in 0 fields) (text_in 1 fields) (word_in 2 fields)) (fresh-bound r.peer.objects fields heard.kinds heard.fresh)
     (found-global (is_bound (word_in 0 fields) (text_in 1 fields) (word_in 2 fields)) globals (refl, (refl, (refl, (refl, (refl, (refl, tt)))))))
@@ -62,32 +64,31 @@ registry-allowed r object (suc opcode) fields heard known version = absurd heard
 
 -- ---- the others
 
-display-allowed : (r : Resident) (object opcode : ℕ) (fields : List Field) → IsHeardBy WlDisplay r object opcode fields → (known : Known) (version : ℕ) → AllowsOwn r (action_of known object version WlDisplay opcode fields)
+display-allowed : (r : Resident) (object opcode : ℕ) (fields : List Field) → IsHeardBy WlDisplay r object opcode fields → (known : Known) (version : ℕ) → AllowsOwn r (action_of known object version (request_in WlDisplay opcode fields))
 display-allowed r object zero fields heard known version = tt
 display-allowed r object (suc zero) fields heard known version = fresh-first r.peer.objects _ [] [] fields heard.kinds heard.fresh
 display-allowed r object (suc (suc opcode)) fields heard known version = absurd heard.kinds
 
-compositor-allowed : (r : Resident) (object opcode : ℕ) (fields : List Field) → IsHeardBy WlCompositor r object opcode fields → (known : Known) (version : ℕ) → AllowsOwn r (action_of known object version WlCompositor opcode fields)
-compositor-allowed r object opcode fields heard known version =
-    own-either r (opcode == 1) _ _ (λ e. let h = heard-at r.peer.objects object WlCompositor opcode 1 fields heard e in fresh-first r.peer.objects _ [] [] fields h.kinds h.fresh) (λ e. tt)
+compositor-allowed : (r : Resident) (object opcode : ℕ) (fields : List Field) → IsHeardBy WlCompositor r object opcode fields → (known : Known) (version : ℕ) → AllowsOwn r (action_of known object version (request_in WlCompositor opcode fields))
+compositor-allowed r object zero fields heard known version = tt
+compositor-allowed r object (suc zero) fields heard known version = fresh-first r.peer.objects _ [] [] fields heard.kinds heard.fresh
+compositor-allowed r object (suc (suc opcode)) fields heard known version = absurd heard.kinds
 
 full-allowed : (r : Resident) (changes : ℕ) (action : Action) → IsOwn r action → AllowsOwn r (changed_unless_full changes action)
 full-allowed r changes action own = own-either r (nat_le 512 changes) _ _ (λ e. tt) (λ e. own)
 
-changed-allowed : (r : Resident) (changes object : ℕ) (b : Bool) (fields : List Field) → AllowsOwn r (changed_unless_full changes (if b then AddToRegion object (rect_in fields) else SubtractFromRegion object (rect_in fields)))
-changed-allowed r changes object true fields = full-allowed r changes _ tt
-changed-allowed r changes object false fields = full-allowed r changes _ tt
-
-region-allowed : (r : Resident) (object opcode : ℕ) (fields : List Field) (changes : Option ℕ) → IsObject WlRegion object r → AllowsOwn r (region_action object changes opcode fields)
-region-allowed r object opcode fields None live = tt
-region-allowed r object opcode fields (Some changes) live = own-either r (opcode == 0) _ _ (λ e. live) (λ e. changed-allowed r changes object (opcode == 1) fields)
+region-allowed : (r : Resident) (object : ℕ) (changes : Option ℕ) (request : WlRegionRequest) → IsObject WlRegion object r → AllowsOwn r (region_action object changes request)
+region-allowed r object None request live = tt
+region-allowed r object (Some changes) region.Destroy live = live
+region-allowed r object (Some changes) (region.Add x y width height) live = full-allowed r changes _ tt
+region-allowed r object (Some changes) (region.Subtract x y width height) live = full-allowed r changes _ tt
 
 created-allowed : (r : Resident) (object version id : ℕ) (size : ℤ) (o : Option StoreError) → IsNew id r → AllowsOwn r (pool_created object version id size o)
 created-allowed r object version id size None new = new
 created-allowed r object version id size (Some BadSize) new = tt
 created-allowed r object version id size (Some error) new = tt
 
-shm-allowed : (r : Resident) (object opcode : ℕ) (fields : List Field) → IsHeardBy WlShm r object opcode fields → (known : Known) (version : ℕ) → AllowsOwn r (action_of known object version WlShm opcode fields)
+shm-allowed : (r : Resident) (object opcode : ℕ) (fields : List Field) → IsHeardBy WlShm r object opcode fields → (known : Known) (version : ℕ) → AllowsOwn r (action_of known object version (request_in WlShm opcode fields))
 shm-allowed r object zero fields heard known version =
     created-allowed r object version (word_in 0 fields) (number_in 1 fields) (create_refusal (number_in 1 fields) known.stores) (fresh-first r.peer.objects _ (AnInt ∷ []) _ fields heard.kinds heard.fresh)
 shm-allowed r object (suc opcode) fields heard known version = absurd heard.kinds
@@ -101,25 +102,25 @@ resized-allowed r object store size None = tt
 resized-allowed r object store size (Some Shrinks) = tt
 resized-allowed r object store size (Some error) = tt
 
-pool-allowed : (r : Resident) (object opcode : ℕ) (fields : List Field) → IsHeardBy WlShmPool r object opcode fields → (version : ℕ) (stores : Stock) (o : Option ℕ) → AllowsOwn r (pool_action object version stores o opcode fields)
+pool-allowed : (r : Resident) (object opcode : ℕ) (fields : List Field) → IsHeardBy WlShmPool r object opcode fields → (version : ℕ) (stores : Stock) (o : Option ℕ)
+    → AllowsOwn r (pool_action object version stores o (pool_request opcode fields))
 pool-allowed r object opcode fields heard version stores None = tt
-pool-allowed r object opcode fields heard version stores (Some store) =
-    own-either r (opcode == 0) _ _
-    (λ e.
-    let h = heard-at r.peer.objects object WlShmPool opcode 0 fields heard e in
-    own-either r (can_hold store stores) _ _ (λ f. laid-allowed r object version (word_in 0 fields) _ _ (fresh-first r.peer.objects _ (AnInt ∷ AnInt ∷ AnInt ∷ AnInt ∷ AUint ∷ []) _ fields h.kinds h.fresh)) (λ f. tt))
-    (λ e. own-either r (opcode == 1) _ _ (λ f. heard.live) (λ f. resized-allowed r object store (number_in 0 fields) _))
+pool-allowed r object zero fields heard version stores (Some store) =
+    own-either r (can_hold store stores) _ _ (λ f. laid-allowed r object version (word_in 0 fields) _ _ (fresh-first r.peer.objects _ (AnInt ∷ AnInt ∷ AnInt ∷ AnInt ∷ AUint ∷ []) _ fields heard.kinds heard.fresh)) (λ f. tt)
+pool-allowed r object (suc zero) fields heard version stores (Some store) = heard.live
+pool-allowed r object (suc (suc zero)) fields heard version stores (Some store) = resized-allowed r object store (number_in 0 fields) _
+pool-allowed r object (suc (suc (suc opcode))) fields heard version stores (Some store) = absurd heard.kinds
 
 buffer-allowed : (r : Resident) (object : ℕ) (o : Option Buffer) → IsObject WlBuffer object r → AllowsOwn r (buffer_destroyed object o)
 buffer-allowed r object None live = tt
 buffer-allowed r object (Some buffer) live = live
 
 -- what a client's own interfaces accept
-pub own-allowed : (interface : Interface) (r : Resident) (object opcode : ℕ) (fields : List Field) → IsHeardBy interface r object opcode fields → (known : Known) (version : ℕ) → AllowsOwn r (action_of known object version interface opcode fields)
+pub own-allowed : (interface : Interface) (r : Resident) (object opcode : ℕ) (fields : List Field) → IsHeardBy interface r object opcode fields → (known : Known) (version : ℕ) → AllowsOwn r (action_of known object version (request_in interface opcode fields))
 own-allowed WlDisplay r object opcode fields heard known version = display-allowed r object opcode fields heard known version
 own-allowed WlRegistry r object opcode fields heard known version = registry-allowed r object opcode fields heard known version
 own-allowed WlCompositor r object opcode fields heard known version = compositor-allowed r object opcode fields heard known version
-own-allowed WlRegion r object opcode fields heard known version = region-allowed r object opcode fields (known.changes object) heard.live
+own-allowed WlRegion r object opcode fields heard known version = region-allowed r object (known.changes object) (region_request opcode fields) heard.live
 own-allowed WlShm r object opcode fields heard known version = shm-allowed r object opcode fields heard known version
 own-allowed WlShmPool r object opcode fields heard known version = pool-allowed r object opcode fields heard version known.stores (known.pools object)
 own-allowed WlBuffer r object opcode fields heard known version = buffer-allowed r object (known.buffers object) heard.live

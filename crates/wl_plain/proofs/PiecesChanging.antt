@@ -38,7 +38,7 @@ use Rattle.wl_plain.specs.Demand.{Demand, Asks, EndSurface, AskFrame, CommitTree
 use Rattle.wl_plain.specs.Demanding.{base_demand, demand_by, demand_of, effect_of_commit, judge_all, surface_demand, xdg_asked}
 use Rattle.wl_plain.specs.Desktop.{Callback, Desktop, Resident}
 use Rattle.wl_plain.specs.LeftOut.{LeftOut}
-use Rattle.wl_plain.specs.Requests.{Request, ToCompositor, ToSurface, ToSubcompositor, ToSubsurface, ToSeat, ToPointer, ToBase, ToPositioner, ToXdgSurface, ToToplevel, ToPopup, ToOwn, request_of}
+use Rattle.wl_client.specs.Requests.{Request, ToCompositor, ToSurface, ToSubcompositor, ToSubsurface, ToSeat, ToPointer, ToBase, ToPositioner, ToXdgSurface, ToToplevel, ToPopup, request_of}
 use Rattle.wl_plain.specs.Replies.{commit_told, configure_told, new_pointer_told, own_answers, popups_done, releases_unless, replies, role_told}
 use Rattle.wl_plain.specs.Stacked.{all_windows}
 use Rattle.wl_plain.specs.Step.{making, removing, with_peer, with_surfaces, xdg_configured}
@@ -93,26 +93,26 @@ base-asks r object version (base.CreatePositioner id) rest = refl
 base-asks r object version (base.GetXdgSurface id surface) rest = refl
 base-asks r object version (base.Pong serial) rest = refl
 
-demand-by : (request : Request) (r : Resident) (object version : ℕ) (m : Message) (rest : List ℕ) → demand_by request (with_behind rest r) object version m ≡ demand_by request r object version m
-demand-by (ToCompositor (compositor.CreateSurface id)) r object version m rest = refl
-demand-by (ToCompositor (compositor.CreateRegion id)) r object version m rest = refl
-demand-by (ToSurface request) r object version m rest = surface-asks r object version request rest
-demand-by (ToSubcompositor subcompositor.Destroy) r object version m rest = refl
-demand-by (ToSubcompositor (subcompositor.GetSubsurface id child parent)) r object version m rest = refl
-demand-by (ToSubsurface request) r object version m rest = link-asks (link_of_subsurface object r) r object request rest
-demand-by (ToSeat request) r object version m rest = refl
-demand-by (ToPointer (pointer.SetCursor serial surface x y)) r object version m rest = refl
-demand-by (ToBase request) r object version m rest = base-asks r object version request rest
-demand-by (ToPositioner request) r object version m rest = refl
-demand-by (ToXdgSurface request) r object version m rest = xdg-asks (xdg_at object r.owned.shell) r version request rest
-demand-by (ToToplevel request) r object version m rest = refl
-demand-by (ToPopup request) r object version m rest = popup-asks (xdg_with object r.owned.shell) r object request rest
-demand-by ToOwn r object version m rest = refl
+demand-by : (request : Request) (r : Resident) (object version : ℕ) (rest : List ℕ) → demand_by request (with_behind rest r) object version ≡ demand_by request r object version
+demand-by (ToCompositor (compositor.CreateSurface id)) r object version rest = refl
+demand-by (ToCompositor (compositor.CreateRegion id)) r object version rest = refl
+demand-by (ToSurface request) r object version rest = surface-asks r object version request rest
+demand-by (ToSubcompositor subcompositor.Destroy) r object version rest = refl
+demand-by (ToSubcompositor (subcompositor.GetSubsurface id child parent)) r object version rest = refl
+demand-by (ToSubsurface request) r object version rest = link-asks (link_of_subsurface object r) r object request rest
+demand-by (ToSeat request) r object version rest = refl
+demand-by (ToPointer (pointer.SetCursor serial surface x y)) r object version rest = refl
+demand-by (ToBase request) r object version rest = base-asks r object version request rest
+demand-by (ToPositioner request) r object version rest = refl
+demand-by (ToXdgSurface request) r object version rest = xdg-asks (xdg_at object r.owned.shell) r version request rest
+demand-by (ToToplevel request) r object version rest = refl
+demand-by (ToPopup request) r object version rest = popup-asks (xdg_with object r.owned.shell) r object request rest
+demand-by request r object version rest = refl
 
 module _ (left : LeftOut) where
   demand-of : (r : Resident) (object version : ℕ) (m : Message) (rest : List ℕ) → demand_of left (with_behind rest r) object version m ≡ demand_of left r object version m
   demand-of r object version m rest =
-      ap (λ (asked : Result Demand Refusal). if left.requests (request_of m) then past_limit else asked) (demand-by (request_of m) r object version m rest)
+      ap (λ (asked : Result Demand Refusal). if left.requests (request_of m) then past_limit else asked) (demand-by (request_of m) r object version rest)
 
   judged-same : (objects : Objects) (held : ℕ) (ask other : Message → Result Demand Refusal) (request : Result Message ProtoError) → ((m : Message) → ask m ≡ other m)
       → judged objects held ask request ≡ judged objects held other request

@@ -31,14 +31,15 @@ use Rattle.wl_plain.specs.Ask.{Ask, Own, CreateSurface, AskSurface, DestroyBase,
 use Rattle.wl_plain.specs.Demand.{Demand, Asks, EndSurface, CommitTree, EndToplevel, Move}
 use Rattle.wl_plain.specs.Demanding.{base_demand, committed_by, demand_by, demand_of, demands, effect_of_commit, judge_all, moved_by_pointer, own_demand, surface_demand, surface_destroyed, toplevel_asked, toplevel_demand, toplevel_destroyed, xdg_asked, xdg_demand}
 use Rattle.wl_plain.specs.LeftOut.{served_now}
-use Rattle.wl_plain.specs.Requests.{Request, ToCompositor, ToSurface, ToSubcompositor, ToSubsurface, ToSeat, ToPointer, ToBase, ToPositioner, ToXdgSurface, ToToplevel, ToPopup, ToOwn, request_of}
-use Rattle.wl_plain.specs.ToplevelRequest.{ToplevelRequest}
-use Rattle.wl_plain.specs.ToplevelRequest as toplevel
+use Rattle.wl_client.specs.Requests.{Request, ToCompositor, ToSurface, ToSubcompositor, ToSubsurface, ToSeat, ToPointer, ToBase, ToPositioner, ToXdgSurface, ToToplevel, ToPopup, request_of}
+use Rattle.wl_client.specs.ToplevelRequest.{ToplevelRequest}
+use Rattle.wl_client.specs.ToplevelRequest as toplevel
 use Rattle.wl_plain.specs.Served.{unserved_now}
 use Rattle.wl_plain.specs.Desktop.{Resident}
 use Rattle.wl_plain.specs.Step.{with_peer}
 use Rattle.wl_plain.proofs.Simply.{Simple, Asking, DestroySurface, CommitSurface, DestroyToplevel, effect_of, judge, simple_of, simply}
-use Rattle.wl_plain.specs.WlSurface.{rect, refuse, refuse_limit, transform_set}
+use Rattle.wl_plain.specs.WlSurface.{refuse, refuse_limit, transform_set}
+use Rattle.wl_client.specs.Requests.{rect}
 use Rattle.wl_client.specs.declared.refusals.ErrorCode.TheVariants as error
 use Rattle.wl_surface.specs.Request.{SetWindowGeometry}
 use Rattle.wl_plain.specs.XdgShell.{configured_again, has_any, is_foreign, is_no_toplevel, role_of, state_asked, xdg_surface_made}
@@ -201,30 +202,30 @@ toplevel-finds r object request apart = at (xdg_with object r.owned.shell) refl 
 
 -- ---- every request
 
-own-finds : (r : Resident) (object version : ℕ) (m : Message) → Accepts (own_demand r object version m) r
-own-finds r object version m = owned-finds (action_of (known_of r.peer) object version m.interface m.opcode m.fields) r
+own-finds : (r : Resident) (object version : ℕ) (request : Request) → Accepts (own_demand r object version request) r
+own-finds r object version request = owned-finds (action_of (known_of r.peer) object version request) r
 
-request-finds : (request : Request) (r : Resident) (object version : ℕ) (m : Message) → AreApart r.owned.shell → unserved_now request ≡ false → Accepts (demand_by request r object version m) r
-request-finds (ToCompositor (compositor.CreateSurface id)) r object version m apart served =
+request-finds : (request : Request) (r : Resident) (object version : ℕ) → AreApart r.owned.shell → unserved_now request ≡ false → Accepts (demand_by request r object version) r
+request-finds (ToCompositor (compositor.CreateSurface id)) r object version apart served =
     asks-either (nat_le 256 (length r.owned.surfaces.surfaces)) refuse_limit (Ok (CreateSurface id version)) r (λ full. unasked _ r) (λ room. asked (CreateSurface id version) r tt)
-request-finds (ToCompositor (compositor.CreateRegion id)) r object version m apart served = own-finds r object version m
-request-finds (ToSurface request) r object version m apart served = surface-finds r object version request served
-request-finds (ToSeat (seat.GetPointer id)) r object version m apart served = absurd (cc)
-request-finds (ToSeat (seat.GetKeyboard id)) r object version m apart served = refused _ r
-request-finds (ToSeat (seat.GetTouch id)) r object version m apart served = refused _ r
-request-finds (ToBase request) r object version m apart served = base-finds r object version request served
-request-finds (ToXdgSurface request) r object version m apart served = xdg-finds r object version request served apart
-request-finds (ToToplevel request) r object version m apart served = toplevel-finds r object request apart
-request-finds ToOwn r object version m apart served = own-finds r object version m
-request-finds (ToSubcompositor request) r object version m apart served = absurd (cc)
-request-finds (ToSubsurface request) r object version m apart served = absurd (cc)
-request-finds (ToPointer request) r object version m apart served = absurd (cc)
-request-finds (ToPositioner request) r object version m apart served = absurd (cc)
-request-finds (ToPopup request) r object version m apart served = absurd (cc)
+request-finds (ToCompositor (compositor.CreateRegion id)) r object version apart served = own-finds r object version (ToCompositor (compositor.CreateRegion id))
+request-finds (ToSurface request) r object version apart served = surface-finds r object version request served
+request-finds (ToSeat (seat.GetPointer id)) r object version apart served = absurd (cc)
+request-finds (ToSeat (seat.GetKeyboard id)) r object version apart served = refused _ r
+request-finds (ToSeat (seat.GetTouch id)) r object version apart served = refused _ r
+request-finds (ToBase request) r object version apart served = base-finds r object version request served
+request-finds (ToXdgSurface request) r object version apart served = xdg-finds r object version request served apart
+request-finds (ToToplevel request) r object version apart served = toplevel-finds r object request apart
+request-finds (ToSubcompositor request) r object version apart served = absurd (cc)
+request-finds (ToSubsurface request) r object version apart served = absurd (cc)
+request-finds (ToPointer request) r object version apart served = absurd (cc)
+request-finds (ToPositioner request) r object version apart served = absurd (cc)
+request-finds (ToPopup request) r object version apart served = absurd (cc)
+request-finds request r object version apart served = own-finds r object version request
 
 demand-finds : (r : Resident) (object version : ℕ) (m : Message) → AreApart r.owned.shell → Accepts (demand_of served_now r object version m) r
 demand-finds r object version m apart =
-    either (unserved_now (request_of m)) _ _ r (λ left_out. refused _ r) (λ served. request-finds (request_of m) r object version m apart served)
+    either (unserved_now (request_of m)) _ _ r (λ left_out. refused _ r) (λ served. request-finds (request_of m) r object version apart served)
 
 -- ---- every message
 

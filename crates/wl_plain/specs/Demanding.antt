@@ -20,12 +20,13 @@ use Rattle.wl_plain.specs.Ask.{Ask, AskSurface, Ignore, owns}
 use Rattle.wl_plain.specs.Demand.{Demand, Asks, EndSurface, AskFrame, CommitTree, CreatePositioner, EndToplevel, Move}
 use Rattle.wl_plain.specs.Desktop.{Resident}
 use Rattle.wl_plain.specs.LeftOut.{LeftOut}
-use Rattle.wl_plain.specs.Requests.{Request, ToCompositor, ToSurface, ToSubcompositor, ToSubsurface, ToSeat, ToPointer, ToBase, ToPositioner, ToXdgSurface, ToToplevel, ToPopup, ToOwn, request_of}
-use Rattle.wl_plain.specs.ToplevelRequest.{ToplevelRequest}
-use Rattle.wl_plain.specs.ToplevelRequest as toplevel
+use Rattle.wl_client.specs.Requests.{Request, ToCompositor, ToSurface, ToSubcompositor, ToSubsurface, ToSeat, ToPointer, ToBase, ToPositioner, ToXdgSurface, ToToplevel, ToPopup, request_of}
+use Rattle.wl_client.specs.ToplevelRequest.{ToplevelRequest}
+use Rattle.wl_client.specs.ToplevelRequest as toplevel
 use Rattle.wl_plain.specs.WlPointer.{pointer_demand, seat_demand}
 use Rattle.wl_plain.specs.WlSubsurface.{past_limit, refuses, subcompositor_demand, subsurface_demand}
-use Rattle.wl_plain.specs.WlSurface.{buffer_named, rect, region_named, surface_created, transform_set, will_show}
+use Rattle.wl_plain.specs.WlSurface.{buffer_named, region_named, surface_created, transform_set, will_show}
+use Rattle.wl_client.specs.Requests.{rect}
 use Rattle.wl_plain.specs.XdgPopup.{popup_demand, popup_made, positioner_demand, positioner_of}
 use Rattle.wl_plain.specs.XdgShell.{acknowledged_by, base_destroyed, geometry_set, state_asked, toplevel_made, xdg_surface_destroyed, xdg_surface_made}
 
@@ -34,13 +35,13 @@ demands (Ok ask) = Ok (Asks ask)
 demands (Err refusal) = Err refusal
 
 -- the request's own errors, and what it asks of the client's own interfaces
-abbrev pub own_demand : Resident → ℕ → ℕ → Message → Result Demand Refusal
-own_demand r object version m = demands (owns (action_of (known_of r.peer) object version m.interface m.opcode m.fields))
+abbrev pub own_demand : Resident → ℕ → ℕ → Request → Result Demand Refusal
+own_demand r object version request = demands (owns (action_of (known_of r.peer) object version request))
 
 -- wl_compositor
-abbrev pub compositor_demand : Resident → ℕ → ℕ → Message → WlCompositorRequest → Result Demand Refusal
-compositor_demand r object version m (compositor.CreateSurface id) = demands (surface_created r id version)
-compositor_demand r object version m (compositor.CreateRegion id) = own_demand r object version m
+abbrev pub compositor_demand : Resident → ℕ → ℕ → WlCompositorRequest → Result Demand Refusal
+compositor_demand r object version (compositor.CreateSurface id) = demands (surface_created r id version)
+compositor_demand r object version (compositor.CreateRegion id) = own_demand r object version (ToCompositor (compositor.CreateRegion id))
 
 -- A commit by the stage of the role object, and whether the state that it would give has a buffer. The table isn't used for a popup that was
 -- dismissed.
@@ -126,23 +127,23 @@ toplevel_asked object (Some x) request = Ok (Asks Ignore)
 abbrev pub toplevel_demand : Resident → ℕ → ToplevelRequest → Result Demand Refusal
 toplevel_demand r object request = toplevel_asked object (xdg_with object r.owned.shell) request
 
-abbrev pub demand_by : Request → Resident → ℕ → ℕ → Message → Result Demand Refusal
-demand_by (ToCompositor request) r object version m = compositor_demand r object version m request
-demand_by (ToSurface request) r object version m = surface_demand r object version request
-demand_by (ToSubcompositor request) r object version m = subcompositor_demand r object version request
-demand_by (ToSubsurface request) r object version m = subsurface_demand r object request
-demand_by (ToSeat request) r object version m = seat_demand object version request
-demand_by (ToPointer request) r object version m = pointer_demand r object request
-demand_by (ToBase request) r object version m = base_demand r object version request
-demand_by (ToPositioner request) r object version m = positioner_demand r object request
-demand_by (ToXdgSurface request) r object version m = xdg_demand r object version request
-demand_by (ToToplevel request) r object version m = toplevel_demand r object request
-demand_by (ToPopup request) r object version m = popup_demand r object request
-demand_by ToOwn r object version m = own_demand r object version m
+abbrev pub demand_by : Request → Resident → ℕ → ℕ → Result Demand Refusal
+demand_by (ToCompositor request) r object version = compositor_demand r object version request
+demand_by (ToSurface request) r object version = surface_demand r object version request
+demand_by (ToSubcompositor request) r object version = subcompositor_demand r object version request
+demand_by (ToSubsurface request) r object version = subsurface_demand r object request
+demand_by (ToSeat request) r object version = seat_demand object version request
+demand_by (ToPointer request) r object version = pointer_demand r object request
+demand_by (ToBase request) r object version = base_demand r object version request
+demand_by (ToPositioner request) r object version = positioner_demand r object request
+demand_by (ToXdgSurface request) r object version = xdg_demand r object version request
+demand_by (ToToplevel request) r object version = toplevel_demand r object request
+demand_by (ToPopup request) r object version = popup_demand r object request
+demand_by request r object version = own_demand r object version request
 
 -- a request that is left out is refused as a limit would be
 abbrev pub demand_of : LeftOut → Resident → ℕ → ℕ → Message → Result Demand Refusal
-demand_of left r object version m = if left.requests (request_of m) then past_limit else demand_by (request_of m) r object version m
+demand_of left r object version m = if left.requests (request_of m) then past_limit else demand_by (request_of m) r object version
 
 -- what a message to an object asks, or the first error that it has
 abbrev pub judge_all : LeftOut → Resident → ℕ → ℕ → List ℕ → Result Demand Refusal

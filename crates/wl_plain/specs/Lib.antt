@@ -14,7 +14,6 @@ pub mod Pointing
 pub mod Popups
 pub mod Releases
 pub mod Replies
-pub mod Requests
 pub mod Scratch
 pub mod Served
 pub mod Settling
@@ -23,7 +22,6 @@ pub mod Soundness
 pub mod Standing
 pub mod Step
 pub mod Acts
-pub mod ToplevelRequest
 pub mod Touching
 pub mod Happens
 pub mod RunLaws

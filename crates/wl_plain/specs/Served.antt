@@ -5,7 +5,7 @@ use Rattle.wl_proto.specs.declared.wl_seat.WlSeatRequest.TheVariants as seat
 use Rattle.wl_proto.specs.declared.wl_surface.WlSurfaceRequest.TheVariants as surface
 use Rattle.wl_proto.specs.declared.xdg_surface.XdgSurfaceRequest.TheVariants as xdg
 use Rattle.wl_proto.specs.declared.xdg_wm_base.XdgWmBaseRequest.TheVariants as base
-use Rattle.wl_plain.specs.Requests.{Request, ToCompositor, ToSurface, ToSubcompositor, ToSubsurface, ToSeat, ToPointer, ToBase, ToPositioner, ToXdgSurface, ToPopup, ToOwn}
+use Rattle.wl_client.specs.Requests.{Request, ToDisplay, ToRegistry, ToCompositor, ToRegion, ToShm, ToPool, ToBuffer, ToSurface, ToSubcompositor, ToSubsurface, ToSeat, ToPointer, ToBase, ToPositioner, ToXdgSurface, ToPopup, ToNothing}
 
 -- Which requests aren't served: they are refused as a limit would be.
 abbrev pub Unserved : Type 0
@@ -26,7 +26,13 @@ unserved_now request = false
 
 -- which are left out where a client's own interfaces are served, and no surfaces, shell and pointers
 abbrev pub beyond_clients : Unserved
-beyond_clients ToOwn = false
+beyond_clients (ToDisplay request) = false
+beyond_clients (ToRegistry name interface version id) = false
+beyond_clients (ToRegion request) = false
+beyond_clients (ToShm request) = false
+beyond_clients (ToPool request) = false
+beyond_clients (ToBuffer request) = false
+beyond_clients ToNothing = false
 beyond_clients (ToCompositor (compositor.CreateRegion id)) = false
 beyond_clients (ToSeat (seat.GetKeyboard id)) = false
 beyond_clients (ToSeat (seat.GetTouch id)) = false

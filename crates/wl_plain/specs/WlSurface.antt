@@ -1,7 +1,6 @@
 -- What is asked of a surface (wayland.xml, wl_compositor.create_surface and wl_surface).
 use Rattle.std.specs.Prelude.{ℕ, ℤ, pos, ◌&&◌, nat_le, int_le, unsigned_abs, Bool, if◌then◌else◌, Option, Result, Ok, Err, List, length}
 use Rattle.std.specs.Option.{option_and_then, option_map}
-use Rattle.wl_geom.specs.declared.rect.Rect.{Rect}
 use Rattle.wl_geom.specs.Region.{Change}
 use Rattle.wl_client.specs.declared.refusals.ErrorCode.{ErrorCode}
 use Rattle.wl_client.specs.declared.refusals.ErrorCode.TheVariants.{Implementation, InvalidTransform}
@@ -23,9 +22,6 @@ refuse_limit = Err (display_error Implementation)
 -- wl_compositor.create_surface: a client has at most 256 surfaces
 abbrev pub surface_created : Resident → ℕ → ℕ → Result Ask Refusal
 surface_created r id version = if nat_le 256 (length r.owned.surfaces.surfaces) then refuse_limit else Ok (CreateSurface id version)
-
-abbrev pub rect : ℤ → ℤ → ℤ → ℤ → Rect
-rect x y w h = record { x = x; y = y; w = w; h = h }
 
 -- the buffer of a wl_buffer
 abbrev pub buffer_of : ℕ → Made → Buffer

@@ -15,7 +15,7 @@ use Rattle.wl_plain.specs.Ask.{Ignore}
 use Rattle.wl_plain.specs.Demand.{Demand, Asks, EndPositioner, SetPositioner, GetPopup, Grab, EndPopup}
 use Rattle.wl_plain.specs.Desktop.{Resident}
 use Rattle.wl_plain.specs.WlSubsurface.{past_limit, refuses}
-use Rattle.wl_plain.specs.WlSurface.{rect}
+use Rattle.wl_client.specs.Requests.{rect}
 use Rattle.wl_plain.specs.XdgShell.{role_of}
 
 -- ---- xdg_positioner

@@ -60,13 +60,14 @@ use Rattle.wl_plain.specs.Happens.{Serves}
 use Rattle.wl_plain.specs.Step.{with_peer}
 use Rattle.wl_plain.proofs.Simply.{Simple, changed_simply, judge, simple_of, simply, touched}
 use Rattle.wl_plain.specs.Touching.{any_window_at, has_window_at, is_window_at}
-use Rattle.wl_plain.specs.Requests.{Request as AnyRequest, ToCompositor, ToSurface, ToSubcompositor, ToSubsurface, ToSeat, ToPointer, ToBase, ToPositioner, ToXdgSurface, ToToplevel, ToPopup, ToOwn, request_in, request_of, toplevel_request}
+use Rattle.wl_client.specs.Requests.{Request as AnyRequest, ToCompositor, ToSurface, ToSubcompositor, ToSubsurface, ToSeat, ToPointer, ToBase, ToPositioner, ToXdgSurface, ToToplevel, ToPopup, request_in, request_of, toplevel_request}
 use Rattle.wl_plain.specs.Served.{unserved_now}
-use Rattle.wl_plain.specs.ToplevelRequest.{ToplevelRequest}
-use Rattle.wl_plain.specs.ToplevelRequest as toplevel
-use Rattle.wl_plain.specs.WlSurface.{rect, surface_created, transform_set}
+use Rattle.wl_client.specs.ToplevelRequest.{ToplevelRequest}
+use Rattle.wl_client.specs.ToplevelRequest as toplevel
+use Rattle.wl_plain.specs.WlSurface.{surface_created, transform_set}
+use Rattle.wl_client.specs.Requests.{rect}
 use Rattle.wl_plain.specs.XdgShell.{acknowledged_by, base_destroyed, geometry_set, state_asked, toplevel_made, xdg_surface_destroyed, xdg_surface_made}
-use Rattle.wl_plain.proofs.Requests.{of-wl_compositor, of-wl_seat, of-wl_surface, of-xdg_surface, of-xdg_wm_base}
+use Rattle.wl_client.proofs.Requests.{of-wl_compositor, of-wl_seat, of-wl_surface, of-xdg_surface, of-xdg_wm_base}
 use Rattle.wl_resident.specs.declared.messages.Asked.{Asked}
 use Rattle.wl_resident.specs.declared.messages.Asked.TheVariants as asked
 use Rattle.wl_resident.specs.declared.messages.Kind.{Kind}
@@ -216,30 +217,30 @@ module _ (r : Resident) (P : ℕ → Type 0) where
       at None found request destroys = refused _
       at (Some x) found request destroys = none (Asks Ignore) refl
 
-  own-touches : (object version : ℕ) (m : Message) → TouchesSo r P (own_demand r object version m)
-  own-touches object version m = asks-touch-none (owns (action_of (known_of r.peer) object version m.interface m.opcode m.fields))
+  own-touches : (object version : ℕ) (request : AnyRequest) → TouchesSo r P (own_demand r object version request)
+  own-touches object version request = asks-touch-none (owns (action_of (known_of r.peer) object version request))
 
-  request-touches : (request : AnyRequest) (object version : ℕ) (m : Message) → unserved_now request ≡ false → (request ≡ ToSurface surface.Commit → P object) → (request ≡ ToToplevel toplevel.Destroy → Destroys object)
-      → TouchesSo r P (demand_by request r object version m)
-  request-touches (ToCompositor (compositor.CreateSurface id)) object version m served commits destroys = asks-touch-none (surface_created r id version)
-  request-touches (ToCompositor (compositor.CreateRegion id)) object version m served commits destroys = own-touches object version m
-  request-touches (ToSurface request) object version m served commits destroys = surface-touches object version request (λ is. commits (ap (λ (q : WlSurfaceRequest). ToSurface q) is))
-  request-touches (ToSeat (seat.GetPointer id)) object version m served commits destroys = absurd (cc)
-  request-touches (ToSeat (seat.GetKeyboard id)) object version m served commits destroys = refused _
-  request-touches (ToSeat (seat.GetTouch id)) object version m served commits destroys = refused _
-  request-touches (ToBase request) object version m served commits destroys = base-touches object version request served
-  request-touches (ToXdgSurface request) object version m served commits destroys = xdg-touches (xdg_at object r.owned.shell) version request served
-  request-touches (ToToplevel request) object version m served commits destroys = toplevel-touches object request (λ is. destroys (ap (λ (q : ToplevelRequest). ToToplevel q) is))
-  request-touches ToOwn object version m served commits destroys = own-touches object version m
-  request-touches (ToSubcompositor request) object version m served commits destroys = absurd (cc)
-  request-touches (ToSubsurface request) object version m served commits destroys = absurd (cc)
-  request-touches (ToPointer request) object version m served commits destroys = absurd (cc)
-  request-touches (ToPositioner request) object version m served commits destroys = absurd (cc)
-  request-touches (ToPopup request) object version m served commits destroys = absurd (cc)
+  request-touches : (request : AnyRequest) (object version : ℕ) → unserved_now request ≡ false → (request ≡ ToSurface surface.Commit → P object) → (request ≡ ToToplevel toplevel.Destroy → Destroys object)
+      → TouchesSo r P (demand_by request r object version)
+  request-touches (ToCompositor (compositor.CreateSurface id)) object version served commits destroys = asks-touch-none (surface_created r id version)
+  request-touches (ToCompositor (compositor.CreateRegion id)) object version served commits destroys = own-touches object version (ToCompositor (compositor.CreateRegion id))
+  request-touches (ToSurface request) object version served commits destroys = surface-touches object version request (λ is. commits (ap (λ (q : WlSurfaceRequest). ToSurface q) is))
+  request-touches (ToSeat (seat.GetPointer id)) object version served commits destroys = absurd (cc)
+  request-touches (ToSeat (seat.GetKeyboard id)) object version served commits destroys = refused _
+  request-touches (ToSeat (seat.GetTouch id)) object version served commits destroys = refused _
+  request-touches (ToBase request) object version served commits destroys = base-touches object version request served
+  request-touches (ToXdgSurface request) object version served commits destroys = xdg-touches (xdg_at object r.owned.shell) version request served
+  request-touches (ToToplevel request) object version served commits destroys = toplevel-touches object request (λ is. destroys (ap (λ (q : ToplevelRequest). ToToplevel q) is))
+  request-touches (ToSubcompositor request) object version served commits destroys = absurd (cc)
+  request-touches (ToSubsurface request) object version served commits destroys = absurd (cc)
+  request-touches (ToPointer request) object version served commits destroys = absurd (cc)
+  request-touches (ToPositioner request) object version served commits destroys = absurd (cc)
+  request-touches (ToPopup request) object version served commits destroys = absurd (cc)
+  request-touches request object version served commits destroys = own-touches object version request
 
   pub demand-touches : (object version : ℕ) (m : Message) → (request_of m ≡ ToSurface surface.Commit → P object) → (request_of m ≡ ToToplevel toplevel.Destroy → Destroys object) → TouchesSo r P (demand_of served_now r object version m)
   demand-touches object version m commits destroys =
-      either (unserved_now (request_of m)) _ _ (λ left_out. refused _) (λ served. request-touches (request_of m) object version m served commits destroys)
+      either (unserved_now (request_of m)) _ _ (λ left_out. refused _) (λ served. request-touches (request_of m) object version served commits destroys)
 
 -- ---- and then the desk marks
 

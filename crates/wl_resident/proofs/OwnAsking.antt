@@ -12,6 +12,7 @@ use Rattle.wl_proto.specs.Messages.{Message}
 use Rattle.wl_client.specs.Agreement.{IsPeer}
 use Rattle.wl_client.specs.First.{passing_in}
 use Rattle.wl_client.specs.Judgement.{action_of}
+use Rattle.wl_client.specs.Requests.{request_of}
 use Rattle.wl_client.specs.Judgement.{judge as judge_own}
 use Rattle.wl_client.specs.Objects.{KeepsSurfaces, of_surface}
 use Rattle.wl_client.specs.Peer.{IsIdleAt, Peer, known_of, with_rest}
@@ -113,7 +114,7 @@ names-kept old new keeps =
 
 -- one of the client's own interfaces
 own-asked : (interface : Interface) (r : Resident) (object version : ℕ) (m : Message) → is_own interface ≡ true
-    → m.interface ≡ interface → demand_of served_now r object version m ≡ demands (owns (action_of (known_of r.peer) object version m.interface m.opcode m.fields))
+    → m.interface ≡ interface → demand_of served_now r object version m ≡ demands (owns (action_of (known_of r.peer) object version (request_of m)))
 own-asked WlDisplay r object version m own is = rw is refl
 own-asked WlRegistry r object version m own is = rw is refl
 own-asked WlRegion r object version m own is = rw is refl
@@ -122,7 +123,7 @@ own-asked WlShmPool r object version m own is = rw is refl
 own-asked WlBuffer r object version m own is = rw is refl
 own-asked interface r object version m own is = absurd (cc)
 
-own-demand-of : (r : Resident) (object version : ℕ) (m : Message) → is_own m.interface ≡ true → demand_of served_now r object version m ≡ demands (owns (action_of (known_of r.peer) object version m.interface m.opcode m.fields))
+own-demand-of : (r : Resident) (object version : ℕ) (m : Message) → is_own m.interface ≡ true → demand_of served_now r object version m ≡ demands (owns (action_of (known_of r.peer) object version (request_of m)))
 own-demand-of r object version m own = own-asked m.interface r object version m own refl
 
 -- what it leaves
@@ -151,10 +152,10 @@ own-served old new r q is (object, version, size, target, m, passes, own) same k
     let whole = whole-first old r object version size target m passes is in
     let body = take (size - 8) (drop 8 r.peer.rest) in
     let left : Resident = with_peer (with_rest (drop size r.peer.rest) r.peer) r in
-    let action : Result Action Refusal = action_of (known_of r.peer) object version m.interface m.opcode m.fields in
+    let action : Result Action Refusal = action_of (known_of r.peer) object version (request_of m) in
     let used : ℕ → Bool = λ number. is_used number r.owned.surfaces in
     let judged : judge_all served_now r object m.opcode body ≡ demands (owns action) = demanded-first old r object version size target m passes is ∙ own-demand-of left object version m own in
-    let judged_own : judge_own (known_of r.peer) object m.opcode body ≡ action = judged-by old r object version size target m passes is (λ version m. action_of (known_of r.peer) object version m.interface m.opcode m.fields) in
+    let judged_own : judge_own (known_of r.peer) object m.opcode body ≡ action = judged-by old r object version size target m passes is (λ version m. action_of (known_of r.peer) object version (request_of m)) in
     let taken : TakesWith used (Whole object m.opcode size) r.peer q = subst (λ (s : Split). TakesWith used s r.peer q) whole serves.1 in
     let answers : AnswersWith used action left.peer q = subst (λ (j : Result Action Refusal). AnswersWith used j left.peer q) judged_own taken in
     subst (λ (s : Split). TakesSo s c r d old new Stays) (sym whole) (

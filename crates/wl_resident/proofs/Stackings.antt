@@ -18,11 +18,11 @@ use Rattle.wl_plain.specs.Demanding.{demand_of, demands, effect_of_commit, moved
 use Rattle.wl_plain.specs.Desktop.{Resident}
 use Rattle.wl_plain.specs.LeftOut.{served_now}
 use Rattle.wl_plain.specs.Owning.{effect_by, names_in}
-use Rattle.wl_plain.specs.Requests.{ToXdgSurface, toplevel_request}
+use Rattle.wl_client.specs.Requests.{ToXdgSurface, toplevel_request}
 use Rattle.wl_plain.specs.Served.{unserved_now}
-use Rattle.wl_plain.specs.ToplevelRequest.{ToplevelRequest}
-use Rattle.wl_plain.specs.ToplevelRequest as toplevel
-use Rattle.wl_plain.specs.WlSurface.{rect}
+use Rattle.wl_client.specs.ToplevelRequest.{ToplevelRequest}
+use Rattle.wl_client.specs.ToplevelRequest as toplevel
+use Rattle.wl_client.specs.Requests.{rect}
 use Rattle.wl_plain.specs.XdgShell.{acknowledged_by, geometry_set, state_asked, toplevel_made, xdg_surface_destroyed}
 use Rattle.wl_plain.proofs.OwningXdg.{toplevel-named}
 use Rattle.wl_plain.proofs.Simply.{Asking, simply}

@@ -13,7 +13,7 @@ use Rattle.wl_resident.specs.declared.messages.Kind.{Kind}
 use Rattle.wl_resident.specs.declared.messages.Kind.TheVariants as kind
 use Rattle.wl_resident.specs.Residents.{asked_by}
 use Rattle.wl_plain.specs.LeftOut.{served_now}
-use Rattle.wl_plain.specs.Requests.{request_of, toplevel_request}
+use Rattle.wl_client.specs.Requests.{request_of, toplevel_request}
 
 -- the message is this request
 abbrev pub IsKind : Kind → Message → Type 0

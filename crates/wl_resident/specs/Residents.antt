@@ -28,8 +28,8 @@ use Rattle.wl_plain.specs.Ask.{Ask}
 use Rattle.wl_plain.specs.Changing.{changed_for}
 use Rattle.wl_plain.specs.Demand.{Demand, CommitTree, EndToplevel}
 use Rattle.wl_plain.specs.Demanding.{effect_of_commit, judge_all}
-use Rattle.wl_plain.specs.ToplevelRequest.{ToplevelRequest}
-use Rattle.wl_plain.specs.ToplevelRequest as toplevel
+use Rattle.wl_client.specs.ToplevelRequest.{ToplevelRequest}
+use Rattle.wl_client.specs.ToplevelRequest as toplevel
 use Rattle.wl_plain.specs.Desktop.{Desktop, Resident}
 use Rattle.wl_plain.specs.LeftOut.{served_now}
 use Rattle.wl_plain.specs.NoMore.{OwnsToplevelsOnly}

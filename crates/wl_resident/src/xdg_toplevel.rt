@@ -12,7 +12,7 @@ ghost use Rattle.wl_plain.specs.Demanding.{demand_of, demands, toplevel_destroye
 ghost use Rattle.wl_plain.specs.LeftOut.{served_now};
 ghost use Rattle.wl_resident.specs.Residents.{AnswersDemand, IsToplevel, Stacks, asked_by, drawn_by, told_by};
 ghost use Rattle.wl_plain.specs.Step.{toplevel_configured, xdg_configured};
-ghost use Rattle.wl_plain.specs.Requests.{toplevel_request};
+ghost use Rattle.wl_client.specs.Requests.{toplevel_request};
 ghost use Rattle.wl_plain.specs.XdgShell.{state_asked};
 
 use crate::residents::{Resident, Stacking};

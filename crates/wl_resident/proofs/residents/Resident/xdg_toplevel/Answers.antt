@@ -5,8 +5,8 @@ use Rattle.wl_shell.specs.Shell.{xdg_with}
 use Rattle.wl_resident.specs.declared.residents.Stacking.TheVariants.{Out, Stays}
 use Rattle.wl_plain.specs.Ask.{Ignore}
 use Rattle.wl_plain.specs.Demanding.{toplevel_asked, toplevel_demand}
-use Rattle.wl_plain.specs.Requests.{toplevel_request}
-use Rattle.wl_plain.specs.ToplevelRequest.{ToplevelRequest}
+use Rattle.wl_client.specs.Requests.{toplevel_request}
+use Rattle.wl_client.specs.ToplevelRequest.{ToplevelRequest}
 use Rattle.wl_plain.specs.Demand.{Demand, Asks}
 use Rattle.wl_resident.specs.Residents.{AnswersSo, StacksSo}
 use Rattle.wl_plain.proofs.BridgeJudged.{asks, toplevel-simple}

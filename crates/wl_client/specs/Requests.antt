@@ -1,10 +1,21 @@
 -- What a message asks, by the names of the requests (wayland.xml, xdg-shell.xml): the one of its opcode, with its arguments in their order.
-use Rattle.std.specs.Prelude.{ℕ, ◌==◌, if◌then◌else◌, List}
-use Rattle.wl_wire.specs.Wire.{Field}
+use Rattle.std.specs.Prelude.{ℕ, ℤ, pos, ◌==◌, if◌then◌else◌, List, [], slice_index_or}
+use Rattle.wl_geom.specs.declared.rect.Rect.{Rect}
+use Rattle.wl_wire.specs.Wire.{Field, Word, Number, Text, Block}
 use Rattle.wl_proto.specs.declared.interface.Interface.{Interface}
-use Rattle.wl_proto.specs.declared.interface.Interface.TheVariants.{WlCompositor, WlSurface, WlSubcompositor, WlSubsurface, WlSeat, WlPointer, XdgWmBase, XdgPositioner, XdgSurface, XdgToplevel, XdgPopup}
+use Rattle.wl_proto.specs.declared.interface.Interface.TheVariants.{WlDisplay, WlRegistry, WlCompositor, WlRegion, WlSurface, WlShm, WlShmPool, WlBuffer, WlSubcompositor, WlSubsurface, WlSeat, WlPointer, XdgWmBase, XdgPositioner, XdgSurface, XdgToplevel, XdgPopup}
 use Rattle.wl_proto.specs.declared.wl_compositor.WlCompositorRequest.{WlCompositorRequest}
 use Rattle.wl_proto.specs.declared.wl_compositor.WlCompositorRequest.TheVariants as compositor
+use Rattle.wl_proto.specs.declared.wl_buffer.WlBufferRequest.{WlBufferRequest}
+use Rattle.wl_proto.specs.declared.wl_buffer.WlBufferRequest.TheVariants as buffer
+use Rattle.wl_proto.specs.declared.wl_display.WlDisplayRequest.{WlDisplayRequest}
+use Rattle.wl_proto.specs.declared.wl_display.WlDisplayRequest.TheVariants as display
+use Rattle.wl_proto.specs.declared.wl_region.WlRegionRequest.{WlRegionRequest}
+use Rattle.wl_proto.specs.declared.wl_region.WlRegionRequest.TheVariants as region
+use Rattle.wl_proto.specs.declared.wl_shm.WlShmRequest.{WlShmRequest}
+use Rattle.wl_proto.specs.declared.wl_shm.WlShmRequest.TheVariants as shm
+use Rattle.wl_proto.specs.declared.wl_shm_pool.WlShmPoolRequest.{WlShmPoolRequest}
+use Rattle.wl_proto.specs.declared.wl_shm_pool.WlShmPoolRequest.TheVariants as pool
 use Rattle.wl_proto.specs.declared.wl_pointer.WlPointerRequest.{WlPointerRequest}
 use Rattle.wl_proto.specs.declared.wl_pointer.WlPointerRequest.TheVariants as pointer
 use Rattle.wl_proto.specs.declared.wl_seat.WlSeatRequest.{WlSeatRequest}
@@ -24,14 +35,54 @@ use Rattle.wl_proto.specs.declared.xdg_surface.XdgSurfaceRequest.TheVariants as 
 use Rattle.wl_proto.specs.declared.xdg_wm_base.XdgWmBaseRequest.{XdgWmBaseRequest}
 use Rattle.wl_proto.specs.declared.xdg_wm_base.XdgWmBaseRequest.TheVariants as base
 use Rattle.wl_proto.specs.Messages.{Message}
-use Rattle.wl_client.specs.Judgement.{number_in, text_in, word_in}
-use Rattle.wl_plain.specs.ToplevelRequest.{ToplevelRequest}
-use Rattle.wl_plain.specs.ToplevelRequest as toplevel
+use Rattle.wl_client.specs.ToplevelRequest.{ToplevelRequest}
+use Rattle.wl_client.specs.ToplevelRequest as toplevel
 
--- A request, by the interface of the object that it is sent to. Those to a client's own interfaces are told apart by the client's definition.
+-- ---- the arguments of a message
+
+abbrev pub word_of_field : Field → ℕ
+word_of_field (Word n) = n
+word_of_field (Number z) = 0
+word_of_field (Text text) = 0
+word_of_field (Block block) = 0
+
+abbrev pub number_of_field : Field → ℤ
+number_of_field (Number z) = z
+number_of_field (Word n) = pos 0
+number_of_field (Text text) = pos 0
+number_of_field (Block block) = pos 0
+
+abbrev pub text_of_field : Field → List ℕ
+text_of_field (Text text) = text
+text_of_field (Word n) = []
+text_of_field (Number z) = []
+text_of_field (Block block) = []
+
+abbrev pub word_in : ℕ → List Field → ℕ
+word_in k fields = word_of_field (slice_index_or fields k (Word 0))
+
+abbrev pub number_in : ℕ → List Field → ℤ
+number_in k fields = number_of_field (slice_index_or fields k (Word 0))
+
+abbrev pub text_in : ℕ → List Field → List ℕ
+text_in k fields = text_of_field (slice_index_or fields k (Word 0))
+
+abbrev pub rect : ℤ → ℤ → ℤ → ℤ → Rect
+rect x y w h = record { x = x; y = y; w = w; h = h }
+
+-- ---- requests
+
+-- A request, by the interface of the object that it is sent to; wl_registry's is bind, of a global's name, its interface's name, a version and a
+-- new id. A wl_callback and a wl_output take none.
 pub data Request : Type 0 where
+  ToDisplay : WlDisplayRequest → Request
+  ToRegistry : ℕ → List ℕ → ℕ → ℕ → Request
   ToCompositor : WlCompositorRequest → Request
+  ToRegion : WlRegionRequest → Request
   ToSurface : WlSurfaceRequest → Request
+  ToShm : WlShmRequest → Request
+  ToPool : WlShmPoolRequest → Request
+  ToBuffer : WlBufferRequest → Request
   ToSubcompositor : WlSubcompositorRequest → Request
   ToSubsurface : WlSubsurfaceRequest → Request
   ToSeat : WlSeatRequest → Request
@@ -41,7 +92,21 @@ pub data Request : Type 0 where
   ToXdgSurface : XdgSurfaceRequest → Request
   ToToplevel : ToplevelRequest → Request
   ToPopup : XdgPopupRequest → Request
-  ToOwn : Request
+  ToNothing : Request
+
+abbrev pub display_request : ℕ → List Field → WlDisplayRequest
+display_request opcode fields = if opcode == 0 then display.Sync (word_in 0 fields) else display.GetRegistry (word_in 0 fields)
+
+abbrev pub region_request : ℕ → List Field → WlRegionRequest
+region_request opcode fields =
+    if opcode == 0 then region.Destroy else (
+    if opcode == 1 then region.Add (number_in 0 fields) (number_in 1 fields) (number_in 2 fields) (number_in 3 fields) else
+    region.Subtract (number_in 0 fields) (number_in 1 fields) (number_in 2 fields) (number_in 3 fields))
+
+abbrev pub pool_request : ℕ → List Field → WlShmPoolRequest
+pool_request opcode fields =
+    if opcode == 0 then pool.CreateBuffer (word_in 0 fields) (number_in 1 fields) (number_in 2 fields) (number_in 3 fields) (number_in 4 fields) (word_in 5 fields) else (
+    if opcode == 1 then pool.Destroy else pool.Resize (number_in 0 fields))
 
 abbrev pub compositor_request : ℕ → List Field → WlCompositorRequest
 compositor_request opcode fields = if opcode == 0 then compositor.CreateSurface (word_in 0 fields) else compositor.CreateRegion (word_in 0 fields)
@@ -119,8 +184,14 @@ abbrev pub popup_request : ℕ → List Field → XdgPopupRequest
 popup_request opcode fields = if opcode == 0 then popup.Destroy else popup.Grab (word_in 0 fields) (word_in 1 fields)
 
 abbrev pub request_in : Interface → ℕ → List Field → Request
+request_in WlDisplay opcode fields = ToDisplay (display_request opcode fields)
+request_in WlRegistry opcode fields = ToRegistry (word_in 0 fields) (text_in 1 fields) (word_in 2 fields) (word_in 3 fields)
 request_in WlCompositor opcode fields = ToCompositor (compositor_request opcode fields)
+request_in WlRegion opcode fields = ToRegion (region_request opcode fields)
 request_in WlSurface opcode fields = ToSurface (surface_request opcode fields)
+request_in WlShm opcode fields = ToShm (shm.CreatePool (word_in 0 fields) (number_in 1 fields))
+request_in WlShmPool opcode fields = ToPool (pool_request opcode fields)
+request_in WlBuffer opcode fields = ToBuffer buffer.Destroy
 request_in WlSubcompositor opcode fields = ToSubcompositor (subcompositor_request opcode fields)
 request_in WlSubsurface opcode fields = ToSubsurface (subsurface_request opcode fields)
 request_in WlSeat opcode fields = ToSeat (seat_request opcode fields)
@@ -130,7 +201,7 @@ request_in XdgPositioner opcode fields = ToPositioner (positioner_request opcode
 request_in XdgSurface opcode fields = ToXdgSurface (xdg_request opcode fields)
 request_in XdgToplevel opcode fields = ToToplevel (toplevel_request opcode fields)
 request_in XdgPopup opcode fields = ToPopup (popup_request opcode fields)
-request_in interface opcode fields = ToOwn
+request_in interface opcode fields = ToNothing
 
 abbrev pub request_of : Message → Request
 request_of m = request_in m.interface m.opcode m.fields

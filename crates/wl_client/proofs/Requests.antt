@@ -1,5 +1,17 @@
 -- What a request says on the wire is read as that request.
 use Rattle.std.proofs.Common.{◌≡◌, refl}
+use Rattle.wl_proto.specs.declared.wl_display.WlDisplayRequest.{WlDisplayRequest}
+use Rattle.wl_proto.specs.declared.wl_display.WlDisplayRequest.TheVariants as display
+use Rattle.wl_proto.specs.declared.wl_region.WlRegionRequest.{WlRegionRequest}
+use Rattle.wl_proto.specs.declared.wl_region.WlRegionRequest.TheVariants as region
+use Rattle.wl_proto.specs.declared.wl_shm.WlShmRequest.{WlShmRequest}
+use Rattle.wl_proto.specs.declared.wl_shm.WlShmRequest.TheVariants as shm
+use Rattle.wl_proto.specs.declared.wl_shm_pool.WlShmPoolRequest.{WlShmPoolRequest}
+use Rattle.wl_proto.specs.declared.wl_shm_pool.WlShmPoolRequest.TheVariants as pool
+use Rattle.wl_proto.specs.declared.wl_buffer.WlBufferRequest.{WlBufferRequest}
+use Rattle.wl_proto.specs.declared.wl_buffer.WlBufferRequest.TheVariants as buffer
+use Rattle.wl_proto.specs.declared.wl_registry.WlRegistryRequest.{WlRegistryRequest}
+use Rattle.wl_proto.specs.declared.wl_registry.WlRegistryRequest.TheVariants as registry
 use Rattle.wl_proto.specs.declared.wl_compositor.WlCompositorRequest.{WlCompositorRequest}
 use Rattle.wl_proto.specs.declared.wl_compositor.WlCompositorRequest.TheVariants as compositor
 use Rattle.wl_proto.specs.declared.wl_surface.WlSurfaceRequest.{WlSurfaceRequest}
@@ -22,10 +34,37 @@ use Rattle.wl_proto.specs.declared.xdg_popup.XdgPopupRequest.{XdgPopupRequest}
 use Rattle.wl_proto.specs.declared.xdg_popup.XdgPopupRequest.TheVariants as popup
 use Rattle.wl_proto.specs.declared.xdg_toplevel.XdgToplevelRequest.{XdgToplevelRequest}
 use Rattle.wl_proto.specs.declared.xdg_toplevel.XdgToplevelRequest.TheVariants as xdg_toplevel
-use Rattle.wl_proto.specs.Messages.{wl_compositor_request, wl_pointer_request, wl_seat_request, wl_subcompositor_request, wl_subsurface_request, wl_surface_request, xdg_popup_request, xdg_positioner_request, xdg_surface_request, xdg_toplevel_request, xdg_wm_base_request}
-use Rattle.wl_plain.specs.Requests.{ToCompositor, ToSurface, ToSubcompositor, ToSubsurface, ToSeat, ToPointer, ToBase, ToPositioner, ToXdgSurface, ToToplevel, ToPopup, request_of}
-use Rattle.wl_plain.specs.ToplevelRequest.{ToplevelRequest}
-use Rattle.wl_plain.specs.ToplevelRequest as toplevel
+use Rattle.wl_proto.specs.Messages.{wl_buffer_request, wl_display_request, wl_region_request, wl_registry_request, wl_shm_request, wl_shm_pool_request, wl_compositor_request, wl_pointer_request, wl_seat_request, wl_subcompositor_request, wl_subsurface_request, wl_surface_request, xdg_popup_request, xdg_positioner_request, xdg_surface_request, xdg_toplevel_request, xdg_wm_base_request}
+use Rattle.wl_client.specs.Requests.{Request, ToDisplay, ToRegistry, ToRegion, ToShm, ToPool, ToBuffer, ToCompositor, ToSurface, ToSubcompositor, ToSubsurface, ToSeat, ToPointer, ToBase, ToPositioner, ToXdgSurface, ToToplevel, ToPopup, request_of}
+use Rattle.wl_client.specs.ToplevelRequest.{ToplevelRequest}
+use Rattle.wl_client.specs.ToplevelRequest as toplevel
+
+pub of-wl_display : (request : WlDisplayRequest) → request_of (wl_display_request request) ≡ ToDisplay request
+of-wl_display (display.Sync callback) = refl
+of-wl_display (display.GetRegistry id) = refl
+
+pub of-wl_region : (request : WlRegionRequest) → request_of (wl_region_request request) ≡ ToRegion request
+of-wl_region region.Destroy = refl
+of-wl_region (region.Add x y width height) = refl
+of-wl_region (region.Subtract x y width height) = refl
+
+pub of-wl_shm : (request : WlShmRequest) → request_of (wl_shm_request request) ≡ ToShm request
+of-wl_shm (shm.CreatePool id size) = refl
+
+pub of-wl_shm_pool : (request : WlShmPoolRequest) → request_of (wl_shm_pool_request request) ≡ ToPool request
+of-wl_shm_pool (pool.CreateBuffer id offset width height stride format) = refl
+of-wl_shm_pool pool.Destroy = refl
+of-wl_shm_pool (pool.Resize size) = refl
+
+pub of-wl_buffer : (request : WlBufferRequest) → request_of (wl_buffer_request request) ≡ ToBuffer request
+of-wl_buffer buffer.Destroy = refl
+
+-- a bind by the bytes of its interface's name
+abbrev pub bound : WlRegistryRequest → Request
+bound (registry.Bind name interface version id) = ToRegistry name interface.now version id
+
+pub of-wl_registry : (request : WlRegistryRequest) → request_of (wl_registry_request request) ≡ bound request
+of-wl_registry (registry.Bind name interface version id) = refl
 
 pub of-wl_compositor : (request : WlCompositorRequest) → request_of (wl_compositor_request request) ≡ ToCompositor request
 of-wl_compositor (compositor.CreateSurface id) = refl
