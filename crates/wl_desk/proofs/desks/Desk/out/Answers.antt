@@ -1,5 +1,5 @@
 use Rattle.std.proofs.Common.{ap, sym, ◌∙◌}
-use Rattle.wl_plain.specs.Steps.{peer_at, unsent_of}
+use Rattle.wl_plain.specs.Acts.{peer_at, unsent_of}
 use Rattle.wl_desk.proofs.Calls.{found, peer_at-none, slot-here}
 use Rattle.wl_desk.proofs.desks.Desk.out.Goals as goal
 
