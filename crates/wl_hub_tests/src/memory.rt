@@ -24,6 +24,9 @@ impl<'a, A: Allocator> Client<'a, A> {
     }
 }
 
+/// The number of a call that isn't made.
+pub(crate) const NEVER: u64 = u64::MAX;
+
 /// A hub for one client, whose reads and writes move at most `largest` bytes a call. Calls of either kind are counted from 0.
 #[derive(Drop)]
 pub(crate) struct MemoryHub<'a, A: Allocator> {
@@ -36,13 +39,17 @@ pub(crate) struct MemoryHub<'a, A: Allocator> {
 }
 
 impl<'a, A: Allocator> MemoryHub<'a, A> {
-    /// No call blocks or fails.
-    pub(crate) fn new(waiting: Client<'a, A>, largest: usize) -> MemoryHub<'a, A> {
+    pub(crate) fn new(
+        waiting: Client<'a, A>,
+        largest: usize,
+        blocks_at: u64,
+        fails_at: u64,
+    ) -> MemoryHub<'a, A> {
         MemoryHub {
             waiting: Some(waiting),
             largest,
-            blocks_at: u64::MAX,
-            fails_at: u64::MAX,
+            blocks_at,
+            fails_at,
             calls: 0,
             faults: 0,
         }
@@ -121,5 +128,17 @@ impl<'a, A: Allocator> Hub for MemoryHub<'a, A> {
 
     fn faults(&self) -> u64 {
         self.faults
+    }
+}
+
+/// A hub whose clients keep what they take.
+pub(crate) trait Kept: Hub {
+    /// Whether a client took just these bytes.
+    fn has_taken(client: &Self::Conn, bytes: &[u8]) -> bool;
+}
+
+impl<'a, A: Allocator> Kept for MemoryHub<'a, A> {
+    fn has_taken(client: &Client<'a, A>, bytes: &[u8]) -> bool {
+        client.taken.as_slice() == bytes
     }
 }
