@@ -1,7 +1,7 @@
 -- A piece is kept of a client of the desk, one of its messages is taken, and it ends.
 use Rattle.std.proofs.Common.{◌≡◌, ℕ, ◌<◌, List, ◌++◌, Bool, true, false, length, map, Option, Some, None, Result, get_or, set, refl, subst, sym, ◌∙◌, ap, ◌⊎◌, inl, inr}
 use Rattle.std.specs.Option.{option_map}
-use Rattle.std.specs.Prelude.{Ok, Err, OnErr, OnOk, ◌≢◌}
+use Rattle.std.specs.Prelude.{Ok, Err, OnErr, OnOk, ◌≢◌, is_none}
 use Rattle.std.proofs.lemmas.List.{set-get_or}
 use Rattle.wl_client.specs.Peer.{IsIdleAt, Peer}
 use Rattle.wl_client.specs.View.{ClientView}
@@ -13,11 +13,13 @@ use Rattle.wl_client.specs.declared.served.Served.TheVariants as served
 use Rattle.wl_paint.specs.Damage.{Damaged}
 use Rattle.wl_scene.specs.Stacking.{Stack}
 use Rattle.wl_scene.specs.declared.owned.Owned.{Owned}
-use Rattle.wl_resident.specs.Agreement.{Matches, IsPlace, IsSeat, numbers_in}
+use Rattle.wl_resident.specs.Agreement.{Matches, IsPlace, IsSeat, IsSlot, numbers_in}
 use Rattle.wl_plain.specs.Desktop.{Desktop, Resident, become, become_by, client_at, client_in, resident_of, with_number}
-use Rattle.wl_desk.specs.Feeding.{IsIdleIn, IsIdleOf, kept_at, kept_by, kept_in, kept_of, kept_while, rest_in, served_as, served_by, served_of}
+use Rattle.wl_desk.specs.Feeding.{IsIdleIn, IsIdleOf, kept_at, kept_by, kept_in, kept_of, kept_while, lives_in, rest_in, served_as, served_by, served_of}
 use Rattle.wl_resident.specs.Marking.{AreUnlinked, MarksAtLeast}
 use Rattle.wl_resident.specs.Seats.{IsSeated, ended_by}
+use Rattle.wl_plain.specs.declared.answers.Fed.TheVariants as fed
+use Rattle.wl_plain.proofs.OwningKeys.{differ}
 use Rattle.wl_plain.specs.Step.{with_peer}
 use Rattle.wl_plain.specs.LeftOut.{served_now}
 use Rattle.wl_plain.specs.NoMore.{NoMore}
@@ -216,6 +218,17 @@ module _ {A : Type 0} (output : Output) (us : List (Option ClientView)) (os : Li
           subst (λ r. Matches (view_of output (set us k z) os stack) (kept_of c piece r d)) (sym nobody.1) (stays None z f same)
       by (Some v) None f g same = let nobody = place-none (Some v) None (client_at c d) (place-here output us os stack c k is d a (Some v) None f g) (inr refl) in absurd (cc (nobody.0))
       by (Some v) (Some o) f g same = there v o v.ended refl f g same
+
+-- ---- one that lives
+
+pub lives-there : (x : Option ClientView) (o : Option Peer) → IsSlot x o → lives_in x ≡ true → status_of o ≡ fed.Alive
+lives-there None o is lives = absurd (differ (sym lives))
+lives-there (Some v) None is lives = absurd is
+lives-there (Some v) (Some p) is lives = by v.ended p.status is.status lives
+  where
+    by : (s t : Option Cause) → s ≡ t → is_none s ≡ true → fed_of t ≡ fed.Alive
+    by None t e lives = sym (ap (λ z. fed_of z) e)
+    by (Some cause) t e lives = absurd (differ (sym lives))
 
 -- ---- what is left to be taken is less
 

@@ -1,3 +1,4 @@
+pub mod Agreed
 pub mod Desktops
 pub mod Calls
 pub mod Lends

@@ -2,8 +2,10 @@
 use Rattle.std.proofs.Common.{◌≡◌, ℕ, ◌+◌, suc, zero, ◌<◌, List, [], ◌∷◌, Bool, true, false, length, map, Option, Some, None, get_or, refl, subst, sym, ◌∙◌, ap, arith, ◌⊎◌, inl, inr}
 use Rattle.std.specs.List.{list_any}
 use Rattle.std.specs.Option.{option_map}
-use Rattle.std.specs.Prelude.{ℤ, pos, ◌==◌, ◌&&◌, ◌||◌, filter, is_some, not}
-use Rattle.wl_client.specs.Peer.{Peer}
+use Rattle.std.specs.Prelude.{ℤ, pos, ◌==◌, ◌&&◌, ◌||◌, cond, drop, filter, is_some, nat_le, not}
+use Rattle.wl_client.specs.Peer.{Peer, stored_at, stored_by}
+use Rattle.wl_store.specs.Stores.{write_refusal}
+use Rattle.wl_store.specs.declared.stores.StoreError.{StoreError}
 use Rattle.wl_client.specs.View.{ClientView}
 use Rattle.wl_client.specs.declared.clients.Cause.{Cause}
 use Rattle.wl_client.specs.declared.outputs.Output.{Output}
@@ -19,7 +21,7 @@ use Rattle.wl_resident.specs.Marking.{AreUnlinked, MarksEnd, stands_any}
 use Rattle.wl_resident.specs.Seats.{IsChangedSo, IsSeated, ended_by, has_ended_in}
 use Rattle.wl_plain.specs.Standing.{AreMapped}
 use Rattle.wl_plain.proofs.Altering.{Changes, ChangesAt, left_so}
-use Rattle.wl_plain.specs.Acts.{IsClosed, closed_by, lowest}
+use Rattle.wl_plain.specs.Acts.{IsClosed, IsSent, IsStored, closed_by, lowest}
 use Rattle.wl_plain.proofs.Forms.{ConnectsAt}
 use Rattle.wl_plain.specs.Touching.{any_window_at, has_window_at}
 use Rattle.wl_resident.specs.View.{DeskView, OwnedView, owned_view}
@@ -110,7 +112,7 @@ window-stands c d links x y none =
 -- ---- what leaves the windows as they are
 
 -- where the same stand and the same is owned, nothing is marked
-same-marks-nothing : (w : DeskView) (d e : Desktop) → Matches w d → e.standing ≡ d.standing → ((c : ℕ) → owned_in e c ≡ owned_in d c) → (x y : ℤ) → marks_of_toplevels d e x y ≡ false
+pub same-marks-nothing : (w : DeskView) (d e : Desktop) → Matches w d → e.standing ≡ d.standing → ((c : ℕ) → owned_in e c ≡ owned_in d c) → (x y : ℤ) → marks_of_toplevels d e x y ≡ false
 same-marks-nothing w d e a standing owned x y =
     unless (marks_of_toplevels d e x y)
     (λ marked. differ (sym (rw (none-there x y (windows_in d), none-there x y (windows_in e)) refl)
@@ -128,7 +130,7 @@ owned-places (r ∷ rs) zero (suc j) x same = refl
 owned-places (r ∷ rs) (suc k) zero x same = refl
 owned-places (r ∷ rs) (suc k) (suc j) x same = owned-places rs k j x same
 
-owned-numbers : (rs : List (Option Resident)) (c other : ℕ) (x : Option Resident) → owned_of x ≡ owned_of (client_in rs c) → owned_of (client_in (with_number c x rs) other) ≡ owned_of (client_in rs other)
+pub owned-numbers : (rs : List (Option Resident)) (c other : ℕ) (x : Option Resident) → owned_of x ≡ owned_of (client_in rs c) → owned_of (client_in (with_number c x rs) other) ≡ owned_of (client_in rs other)
 owned-numbers rs zero other x same = refl
 owned-numbers rs (suc k) zero x same = refl
 owned-numbers rs (suc k) (suc j) x same = owned-places rs k j x same
@@ -156,6 +158,32 @@ connects-marks w d e done damage a connects = by (lowest d.clients) refl connect
         nobody =
             let next : suc k ≡ k + 1 = omega arith in
             subst (λ n. client_at n d ≡ None) next (place-is d.clients k ∙ lowest-at d.clients k found)
+
+-- ---- neither a store write nor a taking of bytes ends anyone
+
+status-then : Option Peer → Option Cause
+status-then None = None
+status-then (Some q) = q.status
+
+sent-so : (n : ℕ) (p : Peer) (b : Bool) → (cond b (record p { unsent = drop n p.unsent }) p).status ≡ p.status
+sent-so n p true = refl
+sent-so n p false = refl
+
+pub sent-status : (n : ℕ) (done : Done) (p q : Peer) → IsSent n p done (Some q) → q.status ≡ p.status
+unfolding status-then
+sent-status n done p q h = ap (λ o. status-then o) h.0 ∙ sent-so n p (nat_le n (length p.unsent))
+
+stored-so : (store from : ℕ) (bytes : List ℕ) (p : Peer) (e : Option StoreError) → (stored_by store from bytes e p).status ≡ p.status
+stored-so store from bytes p None = refl
+stored-so store from bytes p (Some error) = refl
+
+stored-by : (store from : ℕ) (bytes : List ℕ) (p : Peer) (s : Option Cause) → (stored_at s store from bytes p).status ≡ p.status
+stored-by store from bytes p None = stored-so store from bytes p (write_refusal store from (length bytes) p.stores)
+stored-by store from bytes p (Some cause) = refl
+
+pub stored-status : (store from : ℕ) (bytes : List ℕ) (done : Done) (p q : Peer) → IsStored store from bytes p done (Some q) → q.status ≡ p.status
+unfolding status-then
+stored-status store from bytes done p q h = ap (λ o. status-then o) h.0 ∙ stored-by store from bytes p p.status
 
 -- ---- a client is told something
 
@@ -208,6 +236,29 @@ module _ {A : Type 0} (output : Output) (us : List (Option ClientView)) (os : Li
       let step : ChangesAt R absent c (Some s.0) d done e = subst (λ (o : Option Resident). ChangesAt R absent c o d done e) s.1 changes in
       subst (λ (e : Desktop). MarksToplevels d e before after) (sym (step.2 ∙ ap (λ q. left_so c s.0 q d) (once s.0.peer step.0 (Some n.0) step.1 n.2)))
       (told-marks c s.0 old-view d n.0 new.client.ended before after s.1 a (seated-status s.0 n.0 new now n.1 s.1 n.3) marks)
+
+  -- a client that ended has no toplevel on the stack
+  none-stands : (r : Resident) → client_at c d ≡ Some r → (is_some r.peer.status ≡ true → OwnsNothing r) → (is_some r.peer.status && stands_any c stack) ≡ false
+  none-stands r there nothing = by (is_some r.peer.status) refl
+    where
+      by : (b : Bool) → is_some r.peer.status ≡ b → (b && stands_any c stack) ≡ false
+      by false e = refl
+      by true e =
+          let bare : owned_in d c ≡ nothing_owned = ap owned_of there ∙ ap (λ (r : Resident). r.owned) (nothing e) in
+          any-standing c _ stack.standing d.standing a.scene.standing
+          ∙ none-standing c d.standing (λ surface. (subst (λ o. AreMapped c o d.standing) bare (a.mapped.each c)).stands surface)
+
+  -- a client that lives after it as before, or ended before: nothing is marked
+  pub changes-nothing : (R : Peer → Done → Option Peer → Type 0) (done : Done) (v new : Kept A) (x : Option ClientView) (y : Option (Owned A)) (now : Stack) (before after : Damaged) → x ≡ get_or us k x → y ≡ get_or os k y
+      → (x ≡ Some v.client) × (y ≡ Some v.owned) → IsChangedSo c R done v new stack now → ((p q : Peer) → R p done (Some q) → q.status ≡ p.status) → MarksEnd new.client.ended c stack before after
+      → (i j : ℕ) → i < before.width → j < before.height → has after i j ≡ has before i j
+  changes-nothing R done v new x y now before after f g taken changed kept marks i j wide high =
+      let s = out output us os stack c k is d a v x y f g taken in
+      let n = changed (numbers_in us) d d s.0 s.2 in
+      let same : new.client.ended ≡ s.0.peer.status = sym (seated-status s.0 n.0 new now n.1 s.1 n.3) ∙ kept s.0.peer n.0 n.2 in
+      marks.1 i j wide high
+      ∙ (ap (λ b. has before i j || b) (ap (λ (z : Option Cause). is_some z && stands_any c stack) same ∙ none-stands s.0 s.1 s.2.seat.ended)
+      ∙ sym (or-none (has before i j)))
 
   -- a client ends
   pub ends-untaken-marks : (cause : Cause) (x x2 : Option ClientView) (y y2 : Option (Owned A)) (damage : Damaged) → x ≡ get_or us k x → y ≡ get_or os k y → (x ≡ None) ⊎ (y ≡ None) → (x2 ≡ None) × (y2 ≡ None) → MarksToplevels d (ended_at c cause d) damage damage

@@ -1,4 +1,6 @@
 -- A desk agrees with a desktop, and what its calls make of both.
+use Rattle.std.specs.Prelude.{ℕ, ◌≡◌, ◌<◌}
+use Rattle.wl_paint.specs.Damage.{has}
 use Rattle.wl_plain.specs.declared.answers.Done.{Done}
 use Rattle.wl_plain.specs.Desktop.{Desktop}
 use Rattle.wl_plain.specs.LeftOut.{served_now}
@@ -21,3 +23,8 @@ TakesStep act done old new = (d : Desktop) → Agrees old d → (e : Desktop) ×
 -- A step marks what it has to.
 abbrev pub MarksStep : Act → Done → MarkedDesk → MarkedDesk → Type 0
 MarksStep act done old new = (d e : Desktop) → Agrees old.desk d → Happens served_now act done d e → MarksAtLeast d e old.damage new.damage
+
+-- A call marks nothing: the same points are to be painted again.
+abbrev pub MarksNothing : MarkedDesk → MarkedDesk → Type 0
+MarksNothing old new =
+    (d : Desktop) → Agrees old.desk d → (x y : ℕ) → x < old.damage.width → y < old.damage.height → has new.damage x y ≡ has old.damage x y

@@ -9,9 +9,9 @@ ghost use Rattle.wl_paint.specs.Frame.{color_at, is_side};
 ghost use Rattle.wl_plain.specs.Desktop.{Desktop, empty};
 ghost use Rattle.wl_plain.specs.Acts.{Connect, Feed, Store, Leave, Send, Close, lowest, peer_at, unsent_of, status_of, store_size_of};
 ghost use Rattle.wl_resident.specs.Agreement.{IsSlot};
-ghost use Rattle.wl_desk.specs.Agreeing.{Agrees, MarksStep, TakesStep};
+ghost use Rattle.wl_desk.specs.Agreeing.{Agrees, MarksNothing, MarksStep, TakesStep};
 ghost use Rattle.wl_resident.specs.Marking.{MarksAtLeast};
-ghost use Rattle.wl_desk.specs.Feeding.{Ends, IsIdleIn, kept_at, kept_in, rest_in, served_as, served_of};
+ghost use Rattle.wl_desk.specs.Feeding.{Ends, IsIdleIn, kept_at, kept_in, lives_in, rest_in, served_as, served_of};
 ghost use Rattle.wl_resident.specs.Marking.{IsAsLarge};
 ghost use Rattle.wl_desk.specs.Painting.{IsOpaqueAsSaid};
 ghost use Rattle.wl_plain.specs.Scratch.{scratch};
@@ -26,7 +26,7 @@ use wl_client::{Cause, Client, Output, Served, StoreNo};
 use wl_geom::Region;
 use wl_paint::{Damage, FrameError, Framebuffer, MAX_SIDE};
 use wl_plain::{ClientNo, ConnectError, Done, Fed, Stored};
-use wl_resident::{Resident, bare, mark_everywhere, stands_any};
+use wl_resident::{Resident, bare};
 use wl_scene::{Owned, Scene};
 
 /// How many clients there may be at once.
@@ -105,6 +105,8 @@ impl<A: Allocator + Copy> Desk<A> {
     pub fn connect(&mut self) -> Result<ClientNo, ConnectError>
         ensures step { TakesStep Connect (Done.Connect result) self.old.desk self.new.desk }
         ensures marks { MarksStep Connect (Done.Connect result) self.old self.new }
+        ensures unchanged { OnErr result (self.new ≡ self.old) }
+        ensures nothing { MarksNothing self.old self.new }
         ensures output { self.new.desk.output ≡ self.old.desk.output }
     {
         let Some(k) = free_place(&self.clients) else {
@@ -123,10 +125,10 @@ impl<A: Allocator + Copy> Desk<A> {
     }
 
     /// A piece of a client's stream comes. It is kept behind what came before, and no message is taken. Nothing is kept for a client that
-    /// ended. An `Err` changes nothing.
+    /// ended. An `Err` changes nothing, and is for a client that lives.
     pub fn keep(&mut self, client: ClientNo, piece: &[u8]) -> Result<(), AllocError>
         ensures ok { OnOk result ((d : Desktop) → Agrees self.old.desk d → Agrees self.new.desk (kept_at client piece.now d)) }
-        ensures err { OnErr result ((d : Desktop) → Agrees self.old.desk d → Agrees self.new.desk d) }
+        ensures err { OnErr result ((d : Desktop) → Agrees self.old.desk d → Agrees self.new.desk d × (status_of (peer_at client d) ≡ Fed.Alive)) }
         ensures damage { self.new.damage ≡ self.old.damage }
         ensures output { self.new.desk.output ≡ self.old.desk.output }
     {
@@ -181,6 +183,7 @@ impl<A: Allocator + Copy> Desk<A> {
     pub fn store(&mut self, client: ClientNo, store: StoreNo, at: u32, bytes: &[u8]) -> Stored
         ensures step { TakesStep (Store client store at bytes.now) (Done.Store result) self.old.desk self.new.desk }
         ensures marks { MarksStep (Store client store at bytes.now) (Done.Store result) self.old self.new }
+        ensures nothing { MarksNothing self.old self.new }
         ensures output { self.new.desk.output ≡ self.old.desk.output }
     {
         let Some(k) = place_of(&self.clients, client) else {
@@ -236,6 +239,7 @@ impl<A: Allocator + Copy> Desk<A> {
     pub fn sent(&mut self, client: ClientNo, count: usize) -> bool
         ensures step { TakesStep (Send client count) (Done.Sent result) self.old.desk self.new.desk }
         ensures marks { MarksStep (Send client count) (Done.Sent result) self.old self.new }
+        ensures nothing { MarksNothing self.old self.new }
         ensures output { self.new.desk.output ≡ self.old.desk.output }
     {
         let Some(k) = place_of(&self.clients, client) else {
@@ -254,6 +258,7 @@ impl<A: Allocator + Copy> Desk<A> {
     pub fn close(&mut self, client: ClientNo) -> bool
         ensures step { TakesStep (Close client) (Done.Close result) self.old.desk self.new.desk }
         ensures marks { MarksStep (Close client) (Done.Close result) self.old self.new }
+        ensures nothing { MarksNothing self.old self.new }
         ensures output { self.new.desk.output ≡ self.old.desk.output }
     {
         let Some(k) = place_of(&self.clients, client) else {
@@ -262,7 +267,6 @@ impl<A: Allocator + Copy> Desk<A> {
         if !has_ended(&self.clients[k]) {
             return false;
         }
-        mark_if(&mut self.damage, stands_any(&self.scene, client));
         self.clients[k] = None;
         self.owned[k] = None;
         self.scene.unmap_all(client);
@@ -347,23 +351,13 @@ fn is_side(side: u32) -> bool
     1 <= side && side <= MAX_SIDE
 }
 
-/// Everything is marked, if this is so.
-fn mark_if<A: Allocator>(damage: &mut Damage<A>, stands: bool)
-    ensures marks { (x y : ℕ) → x < damage.old.width → y < damage.old.height → has damage.new x y ≡ (has damage.old x y || stands) }
-    ensures sides { IsAsLarge damage.old damage.new }
-{
-    if stands {
-        mark_everywhere(damage);
-    }
-}
-
 /// A piece is kept of a client that is there and lives.
 fn keep_in<A: Allocator + Copy>(
     slot: &mut Option<Client<A>>,
     piece: &[u8],
 ) -> Result<(), AllocError>
     ensures ok { OnOk result (slot.new ≡ kept_in piece.now slot.old) }
-    ensures err { OnErr result (slot.new ≡ slot.old) }
+    ensures err { OnErr result ((slot.new ≡ slot.old) × (lives_in slot.old ≡ true)) }
 {
     match slot {
         None => Ok(()),

@@ -1,10 +1,12 @@
 -- Runs of damaged pixels as they are reported.
-use Rattle.std.proofs.Common.{◌≡◌, ℕ, zero, suc, subst, ◌+◌, ◌<◌, ◌≤◌, List, [], ◌∷◌, ◌++◌, Bool, true, false, refl, ap, sym, ◌∙◌, arith, inl, inr}
-use Rattle.std.specs.Prelude.{◌==◌, ◌&&◌, ◌||◌, nat_le, nat_lt}
-use Rattle.std.proofs.Math.Bool.{and-false, and-true, or-false}
+use Rattle.std.proofs.Common.{◌≡◌, ℕ, subst, ◌+◌, ◌<◌, ◌≤◌, List, [], ◌∷◌, ◌++◌, Bool, true, false, refl, ap, sym, ◌∙◌, arith, inl, inr}
+use Rattle.std.specs.Prelude.{◌==◌, ◌&&◌, ◌||◌, ◌⊎◌, nat_le, nat_lt}
+use Rattle.std.proofs.Math.Bool.{and-false, or-false}
 use Rattle.std.proofs.lemmas.Bool.{cases_lt, eq-eqb, le-leb, le-ltb, lt-leb, lt-ltb}
+use Rattle.wl_paint.specs.Damage.{IsFirstRun}
 use Rattle.wl_plain.proofs.StandingLists.{any-last}
-use Rattle.wl_session.specs.Run.{in_runs}
+use Rattle.wl_plain.proofs.Stacks.{differ}
+use Rattle.wl_session.specs.Run.{AllLieIn, AreInOrder, AreRuns, IsBefore, IsBeforeAll, LiesIn, in_runs}
 use Rattle.wl_session.specs.declared.shots.Run.{Run}
 
 before : (a b : ℕ) → a < b → (a == b) ≡ false
@@ -13,103 +15,151 @@ before a b h = grind (arith)
 after : (a b : ℕ) → b < a → (a == b) ≡ false
 after a b h = grind (arith)
 
--- a test of one row more
-by-row : (was row first second whole : Bool) → (first || second) ≡ whole → ((was || (row && first)) || (row && second)) ≡ (was || (row && whole))
-by-row true row first second whole e = refl
-by-row false true first second whole e = e
-by-row false false first second whole e = refl
+-- the point is one of the run's
+abbrev is_in : ℕ → ℕ → Run → Bool
+is_in x z run = (run.y == z) && (nat_le run.x x && nat_lt x (run.x + run.w))
 
--- the runs of a row, up to this column
-abbrev pub AreRunsTo : List Run → List Run → (ℕ → Bool) → ℕ → ℕ → ℕ → Type 0
-AreRunsTo was now p width y from = (x z : ℕ) → x < width → in_runs now x z ≡ (in_runs was x z || ((y == z) && (nat_lt x from && p x)))
+row-else : (x z : ℕ) (run : Run) → (run.y == z) ≡ false → is_in x z run ≡ false
+row-else x z run e = rw e refl
+
+past-end : (x z : ℕ) (run : Run) → run.x + run.w ≤ x → is_in x z run ≡ false
+past-end x z run h = rw (le-ltb x (run.x + run.w) h, and-false (nat_le run.x x), and-false (run.y == z)) refl
+
+past-start : (x z : ℕ) (run : Run) → x < run.x → is_in x z run ≡ false
+past-start x z run h = rw (lt-leb run.x x h, and-false (run.y == z)) refl
+
+within : (x : ℕ) (run : Run) → run.x ≤ x → x < run.x + run.w → is_in x run.y run ≡ true
+within x run h l = rw (le-leb run.x x h, lt-ltb x (run.x + run.w) l, eq-eqb run.y run.y refl) refl
+
+-- each run is in a row above this one, or ends before this column
+abbrev EndsBy : ℕ → ℕ → List Run → Type 0
+EndsBy y from [] = Unit {0}
+EndsBy y from (r ∷ rs) = ((r.y < y) ⊎ ((r.y ≡ y) × (r.x + r.w ≤ from))) × EndsBy y from rs
+
+ends-above : (width y : ℕ) (runs : List Run) → AllLieIn width y runs → EndsBy y 0 runs
+ends-above width y [] all = tt
+ends-above width y (r ∷ rs) all = (inl all.0.high, ends-above width y rs all.1)
+
+ends-more : (y from to : ℕ) (runs : List Run) → from ≤ to → EndsBy y from runs → EndsBy y to runs
+ends-more y from to [] h ends = tt
+ends-more y from to (r ∷ rs) h ends = (by ends.0, ends-more y from to rs h ends.1)
+  where
+    by : (r.y < y) ⊎ ((r.y ≡ y) × (r.x + r.w ≤ from)) → (r.y < y) ⊎ ((r.y ≡ y) × (r.x + r.w ≤ to))
+    by (inl above) = inl above
+    by (inr here) = inr (here.0, omega (arith, here.1, h))
+
+ends-last : (y from : ℕ) (runs : List Run) (run : Run) → EndsBy y from runs → run.y ≡ y → run.x + run.w ≤ from → EndsBy y from (runs ++ run ∷ [])
+ends-last y from [] run ends is h = (inr (is, h), tt)
+ends-last y from (r ∷ rs) run ends is h = (ends.0, ends-last y from rs run ends.1 is h)
+
+-- none of them holds a point beyond
+none-beyond : (y from x : ℕ) (runs : List Run) → EndsBy y from runs → from ≤ x → in_runs runs x y ≡ false
+none-beyond y from x [] ends h = refl
+none-beyond y from x (r ∷ rs) ends h = rw (by ends.0, none-beyond y from x rs ends.1 h) refl
+  where
+    by : (r.y < y) ⊎ ((r.y ≡ y) × (r.x + r.w ≤ from)) → is_in x y r ≡ false
+    by (inl above) = row-else x y r (before r.y y above)
+    by (inr here) = past-end x y r (omega (arith, here.1, h))
+
+-- each is before a run that begins beyond
+before-last : (width height y from : ℕ) (runs : List Run) (run : Run) → run.y ≡ y → AllLieIn width height runs → (0 < from → from < run.x) → EndsBy y from runs → AreInOrder runs → AreInOrder (runs ++ run ∷ [])
+before-last width height y from [] run is all begins ends order = (tt, tt)
+before-last width height y from (r ∷ rs) run is all begins ends order =
+    (at rs order.0, before-last width height y from rs run is all.1 begins ends.1 order.1)
+  where
+    here : (r.y < y) ⊎ ((r.y ≡ y) × (r.x + r.w ≤ from)) → IsBefore r run
+    here (inl above) = inl (omega (arith, above, is))
+    here (inr h) =
+        let some : 0 < from = omega (arith, all.0.some, h.1) in
+        let far = begins some in
+        inr (h.0 ∙ sym is, omega (arith, h.1, far))
+
+    at : (ss : List Run) → IsBeforeAll r ss → IsBeforeAll r (ss ++ run ∷ [])
+    at [] b = (here ends.0, tt)
+    at (s ∷ ss) b = (b.0, at ss b.1)
+
+lie-more : (width y to : ℕ) (runs : List Run) → y ≤ to → AllLieIn width y runs → AllLieIn width to runs
+lie-more width y to [] h all = tt
+lie-more width y to (r ∷ rs) h all = (record { some = all.0.some; wide = all.0.wide; high = omega (arith, all.0.high, h) }, lie-more width y to rs h all.1)
+
+lie-last : (width height : ℕ) (runs : List Run) (run : Run) → AllLieIn width height runs → LiesIn width height run → AllLieIn width height (runs ++ run ∷ [])
+lie-last width height [] run all is = (is, tt)
+lie-last width height (r ∷ rs) run all is = (all.0, lie-last width height rs run all.1 is)
+
+-- ---- the runs of a row, up to this column
+
+pub record RowTo (now : List Run) (p : ℕ → ℕ → Bool) (width y from : ℕ) : Type 0 where
+  pub above : (x z : ℕ) → x < width → z < y → in_runs now x z ≡ p x z
+  pub here : (x : ℕ) → x < width → x < from → in_runs now x y ≡ p x y
+  pub ends : EndsBy y from now
+  pub order : AreInOrder now
+  pub inside : AllLieIn width (y + 1) now
+  pub gap : 0 < from → from < width → p from y ≡ false
 
 -- none yet
-pub runs-none : (was : List Run) (p : ℕ → Bool) (width y : ℕ) → AreRunsTo was was p width y 0
-runs-none was p width y = λ x z h. sym (rw (le-ltb x 0 (omega arith), and-false (y == z)) (or-false (in_runs was x z)))
+pub row-none : (runs : List Run) (p : ℕ → ℕ → Bool) (width y : ℕ) → AreRuns width y p runs → RowTo runs p width y 0
+row-none runs p width y are = record {
+  above = λ x z w h. are.points x z w h;
+  here = λ x w h. absurd (omega (arith, h));
+  ends = ends-above width y runs are.within;
+  order = are.order;
+  inside = lie-more width y (y + 1) runs (omega arith) are.within;
+  gap = λ some wide. absurd (omega (arith, some));
+}
 
--- where no other follows, they are those of the whole row
-pub runs-all : (was now : List Run) (p : ℕ → Bool) (width y from : ℕ) → ((k : ℕ) → from ≤ k → k < width → p k ≡ false) → AreRunsTo was now p width y from
-    → (x z : ℕ) → x < width → in_runs now x z ≡ (in_runs was x z || ((y == z) && p x))
-runs-all was now p width y from none so = λ x z h. so x z h ∙ ap (λ (b : Bool). in_runs was x z || ((y == z) && b)) (whole x h)
+-- one more
+pub row-more : (now : List Run) (p : ℕ → ℕ → Bool) (width y from x w : ℕ) → IsFirstRun (λ k. p k y) width from (x, w) → RowTo now p width y from → RowTo (now ++ record { x = x; y = y; w = w } ∷ []) p width y (x + w)
+row-more now p width y from x w first to = record {
+  above = λ k z wide h.
+      any-last (is_in k z) now run ∙ (ap (λ b. in_runs now k z || b) (row-else k z run (after y z h)) ∙ (or-false (in_runs now k z) ∙ to.above k z wide h));
+  here = λ k wide h. any-last (is_in k y) now run ∙ point k wide h;
+  ends = ends-last y (x + w) now run (ends-more y from (x + w) now (omega (arith, first.starts)) to.ends) refl (omega arith);
+  order = before-last width (y + 1) y from now run refl to.inside begins to.ends to.order;
+  inside = lie-last width (y + 1) now run to.inside (record { some = omega (arith, first.some); wide = first.within; high = omega arith });
+  gap = λ some wide. first.after wide;
+}
   where
-    whole : (x : ℕ) → x < width → (nat_lt x from && p x) ≡ p x
-    whole x h = elim (cases_lt x from) [
-      | inl l ↦ rw (lt-ltb x from l) refl
-      | inr g ↦ rw (none x g h, and-false (nat_lt x from)) refl
+    run : Run
+    run = record { x = x; y = y; w = w }
+
+    begins : 0 < from → from < x
+    begins some = elim (cases_lt from x) [
+      | inl l ↦ l
+      | inr g ↦
+          let same : from ≡ x = omega (arith, g, first.starts) in
+          let wide : from < width = omega (arith, first.within, first.some, g) in
+          absurd (differ (sym (to.gap some wide) ∙ first.inside from (omega (arith, g)) (omega (arith, first.some, first.starts, g))))
     ]
 
--- one row more
-pub rows-more : (h : ℕ → Bool) (y z : ℕ) → ((nat_lt z y && h z) || ((y == z) && h y)) ≡ (nat_lt z (y + 1) && h z)
-rows-more h y z = elim (cases_lt z y) [
-  | inl l ↦ rw (lt-ltb z y l, after y z l, lt-ltb z (y + 1) (omega arith)) (or-false (h z))
-  | inr g ↦ elim (cases_lt y z) [
-    | inl l ↦ rw (le-ltb z y g, before y z l, le-ltb z (y + 1) (omega arith)) refl
-    | inr e ↦
-        let is : y ≡ z = omega arith in
-        rw (le-ltb z y g, eq-eqb y z is, lt-ltb z (y + 1) (omega arith), is) refl
-  ]
-]
+    point : (k : ℕ) → k < width → k < x + w → (in_runs now k y || is_in k y run) ≡ p k y
+    point k wide h = elim (cases_lt k from) [
+      | inl l ↦
+          ap (λ b. in_runs now k y || b) (past-start k y run (omega (arith, l, first.starts))) ∙ (or-false (in_runs now k y) ∙ to.here k wide l)
+      | inr g ↦ elim (cases_lt k x) [
+        | inl l ↦
+            ap (λ b. b || is_in k y run) (none-beyond y from k now to.ends g) ∙ (past-start k y run l ∙ sym (first.before k g l))
+        | inr at ↦
+            ap (λ b. b || is_in k y run) (none-beyond y from k now to.ends g) ∙ (within k run at h ∙ sym (first.inside k at h))
+      ]
+    ]
 
--- all rows
-pub rows-all : (b : Bool) (y height : ℕ) → y < height → (nat_lt y height && b) ≡ b
-rows-all b y height h = rw (lt-ltb y height h) refl
+-- where no other follows, they are those of the whole row
+pub row-all : (now : List Run) (p : ℕ → ℕ → Bool) (width y from : ℕ) → ((k : ℕ) → from ≤ k → k < width → p k y ≡ false) → RowTo now p width y from → AreRuns width (y + 1) p now
+row-all now p width y from none to = record {
+  points = λ x z wide high. elim (cases_lt z y) [
+    | inl l ↦ to.above x z wide l
+    | inr g ↦ let same : y ≡ z = omega (arith, g, high) in subst (λ j. in_runs now x j ≡ p x j) same (whole x wide)
+  ];
+  order = to.order;
+  within = to.inside;
+}
+  where
+    whole : (x : ℕ) → x < width → in_runs now x y ≡ p x y
+    whole x wide = elim (cases_lt x from) [
+      | inl l ↦ to.here x wide l
+      | inr g ↦ none-beyond y from x now to.ends g ∙ sym (none x g wide)
+    ]
 
 -- no row
-pub rows-none : (b : Bool) (z : ℕ) → false ≡ (nat_lt z 0 && b)
-rows-none b z = rw (le-ltb z 0 (omega arith)) refl
-
--- ---- runs of single points
-
-abbrev point_if : Bool → ℕ → ℕ → List Run → List Run
-point_if false x y runs = runs
-point_if true x y runs = runs ++ record { x = x; y = y; w = 1 } ∷ []
-
--- those of a row, up to this column
-abbrev row_points : (ℕ → Bool) → ℕ → ℕ → List Run → List Run
-row_points p y zero runs = runs
-row_points p y (suc n) runs = point_if (p n) n y (row_points p y n runs)
-
--- those of all rows above this one
-abbrev pub each_point : (ℕ → ℕ → Bool) → ℕ → ℕ → List Run
-each_point damaged width zero = []
-each_point damaged width (suc k) = row_points (λ x. damaged x k) k width (each_point damaged width k)
-
-at-point : (n x : ℕ) → ((nat_le n x && nat_lt x (n + 1)) ≡ (n == x))
-at-point n x = elim (cases_lt x n) [
-  | inl l ↦ rw (lt-leb n x l, after n x l) refl
-  | inr g ↦ elim (cases_lt n x) [
-    | inl l ↦ rw (le-leb n x g, le-ltb x (n + 1) (omega arith), before n x l) refl
-    | inr e ↦ rw (le-leb n x g, lt-ltb x (n + 1) (omega arith), eq-eqb n x (omega arith)) refl
-  ]
-]
-
-one-point : (was now : List Run) (p : ℕ → Bool) (width y n : ℕ) (b : Bool) → p n ≡ b → AreRunsTo was now p width y n → AreRunsTo was (point_if b n y now) p width y (n + 1)
-one-point was now p width y n true is so = λ x z h.
-    any-last (λ (r : Run). (r.y == z) && (nat_le r.x x && nat_lt x (r.x + r.w))) now (record { x = n; y = y; w = 1 })
-    ∙ (ap (λ (b : Bool). b || ((y == z) && (nat_le n x && nat_lt x (n + 1)))) (so x z h)
-    ∙ by-row (in_runs was x z) (y == z) (nat_lt x n && p x) (nat_le n x && nat_lt x (n + 1)) (nat_lt x (n + 1) && p x) (ap (λ (b : Bool). (nat_lt x n && p x) || b) (at-point n x ∙ sym (here x)) ∙ rows-more p n x))
-  where
-    here : (x : ℕ) → ((n == x) && p n) ≡ (n == x)
-    here x = rw (is, and-true (n == x)) refl
-one-point was now p width y n false is so = λ x z h. so x z h ∙ ap (λ (b : Bool). in_runs was x z || ((y == z) && b)) (none x)
-  where
-    none : (x : ℕ) → (nat_lt x n && p x) ≡ (nat_lt x (n + 1) && p x)
-    none x = rw (is, and-false (n == x), or-false (nat_lt x n && p x)) at (rows-more p n x)
-
-in-row : (was : List Run) (p : ℕ → Bool) (width y n : ℕ) → AreRunsTo was (row_points p y n was) p width y n
-in-row was p width y zero = runs-none was p width y
-in-row was p width y (suc n) =
-    let next : n + 1 ≡ suc n = omega arith in
-    subst (λ (k : ℕ). AreRunsTo was (row_points p y (suc n) was) p width y k) next (one-point was (row_points p y n was) p width y n (p n) refl (in-row was p width y n))
-
-in-rows : (damaged : ℕ → ℕ → Bool) (width k x z : ℕ) → x < width → in_runs (each_point damaged width k) x z ≡ (nat_lt z k && damaged x z)
-in-rows damaged width zero x z h = rows-none (damaged x z) z
-in-rows damaged width (suc k) x z h =
-    let next : k + 1 ≡ suc k = omega arith in
-    runs-all (each_point damaged width k) (each_point damaged width (suc k)) (λ x. damaged x k) width k width (λ j g l. absurd (omega (arith, g, l))) (in-row (each_point damaged width k) (λ x. damaged x k) width k width) x z h
-    ∙ (ap (λ (b : Bool). b || ((k == z) && damaged x k)) (in-rows damaged width k x z h)
-    ∙ (rows-more (λ y. damaged x y) k z ∙ ap (λ (j : ℕ). nat_lt z j && damaged x z) next))
-
--- they are the runs of what is damaged
-pub in-points : (damaged : ℕ → ℕ → Bool) (width height x y : ℕ) → x < width → y < height → in_runs (each_point damaged width height) x y ≡ damaged x y
-in-points damaged width height x y w h = in-rows damaged width height x y w ∙ rows-all (damaged x y) y height h
+pub no-rows : (p : ℕ → ℕ → Bool) (width : ℕ) → AreRuns width 0 p []
+no-rows p width = record { points = λ x y wide high. absurd (omega (arith, high)); order = tt; within = tt }

@@ -1,44 +1,166 @@
--- Whatever happens from a desktop without clients on, a viewer that copies only what each frame painted sees it as it is.
-use Rattle.std.proofs.Common.{ℕ, Bool, List, [], ◌∷◌, refl}
+-- A viewer that copies only what each frame reports sees the desktop painted from nothing.
+use Rattle.std.proofs.Common.{◌≡◌, ◌<◌, ◌≤◌, ℕ, zero, suc, Bool, true, false, List, [], ◌∷◌, ◌++◌, refl, ap, sym, subst, ◌∙◌, arith, length, take}
+use Rattle.std.specs.Prelude.{ℤ, pos, ◌+◌, ◌*◌, ◌||◌, cond, filter, fold}
+use Rattle.wl_blend.specs.Blend.{color_of}
 use Rattle.wl_blend.specs.declared.color.Rgb.{Rgb}
-use Rattle.wl_client.specs.Told.{Output}
+use Rattle.wl_paint.specs.Damage.{has}
+use Rattle.wl_paint.specs.Frame.{Image, color_at}
+use Rattle.wl_plain.specs.Desktop.{Desktop}
+use Rattle.wl_plain.specs.Happenings.{Happening, Message, Receive, Single, Starve}
+use Rattle.wl_plain.specs.Acts.{Act, Connect, Feed, Store, Leave, Tick, Send, Close, Motion, Button}
 use Rattle.wl_plain.specs.LeftOut.{LeftOut}
+use Rattle.wl_plain.specs.Marks.{AreDistinct}
+use Rattle.wl_plain.specs.Scratch.{scratch}
 use Rattle.wl_plain.specs.Stacked.{all_windows}
 use Rattle.wl_plain.proofs.SoundWithin.{leads-orderly}
-use Rattle.wl_plain.proofs.MarkedThrough.{leads-output}
 use Rattle.wl_plain.proofs.Orderly.{AreOrderly}
 use Rattle.wl_plain.proofs.OrderlyRun.{empty-orderly}
 use Rattle.wl_plain.proofs.RunSound.{orderly-is-sound}
 use Rattle.wl_plain.proofs.SoundWindows.{sound_is_distinct}
-use Rattle.wl_session.specs.Seen.{AreDone, IsDone, SeenIsScratch, first_moment}
-use Rattle.wl_session.specs.Unmarked.{AreHonest, Event, Holds, IsHonest, Moment, Shown, Stepped, after}
-use Rattle.wl_session.proofs.Promised.{promises_are_enough}
-use Rattle.wl_session.proofs.Unmarked.{viewer_sees_scratch}
+use Rattle.wl_plain.proofs.Stacks.{differ}
+use Rattle.wl_session.specs.Events.{AreApart, AreEvents, Event, IsEvent, IsMarked, IsShown, Moment, PaintsIf, frames_of, is_frame}
+use Rattle.wl_session.specs.Liars.{AreLiars, HoldsLiars, IsRightBut, gives_back}
+use Rattle.wl_session.specs.Run.{Film, in_runs}
+use Rattle.wl_session.specs.Seen.{AreShots, Holds, IsShot, SeenIsScratch, SeesScratch}
+use Rattle.wl_session.specs.Unmarked.{is_covered}
+use Rattle.wl_session.specs.Viewer.{Sight, copied}
+use Rattle.wl_session.proofs.Stays.{both, covers-less, event-right, frame-right, keeps-opaque}
 
--- what happens is honest, and leaves the desktop orderly
-module _ (left : LeftOut) (liars : ℕ → Bool) (background : Rgb) where
-  honest : (m : Moment) (e : Event) → AreOrderly m.desktop → IsDone left liars m e → IsHonest all_windows liars m e
-  honest m (Stepped new damage) known h =
-      let later : AreOrderly new = leads-orderly left h.0 m.desktop h.1 new known h.2 in (
-        leads-output left h.0 m.desktop h.1 new h.2,
-        (sound_is_distinct m.desktop (orderly-is-sound m.desktop known), sound_is_distinct new (orderly-is-sound new later)),
-        promises_are_enough left liars h.0 m.desktop h.1 new h.2 h.3,
-        h.4,
-      )
-  honest m Shown known h = tt
+-- ---- no surface has two windows in what happens from a desktop without clients on
 
-  stays : (m : Moment) (e : Event) → AreOrderly m.desktop → IsDone left liars m e → AreOrderly (after all_windows background m e).desktop
-  stays m (Stepped new damage) known h = leads-orderly left h.0 m.desktop h.1 new known h.2
-  stays m Shown known h = known
+events-apart : (left : LeftOut) (from to : Moment) (events : List Event) → AreOrderly from.desktop → AreEvents left from events to → AreApart events
+events-apart left from to [] known leads = tt
+events-apart left from to (e ∷ es) known leads =
+    let began : AreOrderly e.before.desktop = subst (λ (m : Moment). AreOrderly m.desktop) (sym leads.0) known in
+    let later : AreOrderly e.after.desktop = leads-orderly left e.happening e.before.desktop e.path e.after.desktop began leads.1.leads in (
+      sound_is_distinct e.before.desktop (orderly-is-sound e.before.desktop began),
+      sound_is_distinct e.after.desktop (orderly-is-sound e.after.desktop later),
+      events-apart left e.after to es later leads.2,
+    )
 
-  all-honest : (m : Moment) (events : List Event) → AreOrderly m.desktop → AreDone left liars background m events → AreHonest all_windows liars background m events
-  all-honest m [] known h = tt
-  all-honest m (e ∷ es) known h = (honest m e known h.0, all-honest (after all_windows background m e) es (stays m e known h.0) h.1)
+-- ---- a tick gives no number back
 
-first-holds : (liars : ℕ → Bool) (output : Output) (background : Rgb) → Holds all_windows liars background (first_moment output background)
-first-holds liars output background = (λ x y inside undamaged clear. refl, λ x y. refl)
+no-number : (h : Happening) (c : ℕ) → is_frame h ≡ true → gives_back h c ≡ true → ⊥
+no-number (Receive client piece) c e f = differ (sym e)
+no-number (Message client) c e f = differ (sym e)
+no-number (Starve client) c e f = differ (sym e)
+no-number (Single Connect done) c e f = differ (sym e)
+no-number (Single (Feed client piece) done) c e f = differ (sym e)
+no-number (Single (Store client store at bytes) done) c e f = differ (sym e)
+no-number (Single (Leave client) done) c e f = differ (sym e)
+no-number (Single (Tick time) done) c e f = differ (sym f)
+no-number (Single (Send client count) done) c e f = differ (sym e)
+no-number (Single (Close client) done) c e f = differ (sym e)
+no-number (Single (Motion time x y) done) c e f = differ (sym e)
+no-number (Single (Button time button pressed) done) c e f = differ (sym e)
+
+-- so its liars are still some
+still-liars : (e : Event) (liars next : ℕ → Bool) → is_frame e.happening ≡ true → HoldsLiars e liars next → (c : ℕ) → next c ≡ false → (liars c || next c) ≡ false
+still-liars e liars next tick broke c honest = by (liars c) refl
+  where
+    by : (b : Bool) → liars c ≡ b → (b || next c) ≡ false
+    by true f = absurd (no-number e.happening c tick ((broke c honest).1 f))
+    by false f = honest
+
+-- ---- one frame is copied
+
+-- what is copied of a report is what the frame has
+copied-holds : (e : Event) (film : Film) (sight : Sight) → IsShown e.before e.after → IsShot e film → Holds sight e.before.frame → Holds (copied e.before.frame.width sight film) e.after.frame
+copied-holds e film sight shown shot held x y w h = at (in_runs film.runs x y) refl
+  where
+    wide : x < e.before.frame.width
+    wide = rw (← shown.frame.large.width) w
+
+    high : y < e.before.frame.height
+    high = rw (← shown.frame.large.height) h
+
+    at : (b : Bool) → in_runs film.runs x y ≡ b → cond b (color_of film.pixels (y * e.before.frame.width + x)) (sight x y) ≡ color_at e.after.frame x y
+    at true is = rw (shot.pixels, shown.frame.large.width) refl
+    at false is = held x y wide high ∙ sym (shown.frame.kept x y wide high (sym (shot.runs.points x y wide high) ∙ is))
+
+-- ---- many events
+
+module _ (left : LeftOut) (width height : ℕ) (background : Rgb) (to : Moment) where
+  -- the frame of a moment is of this kind
+  record IsOf (image : Image) : Type 0 where
+    wide : image.width ≡ width
+    high : image.height ≡ height
+    over : image.background ≡ background
+
+  of-next : (e : Event) → IsOf e.before.frame → (b : Bool) → PaintsIf b e.happening e.before e.after → IsOf e.after.frame
+  of-next e is true shown = record {
+    wide = shown.frame.large.width ∙ is.wide;
+    high = shown.frame.large.height ∙ is.high;
+    over = shown.frame.large.background ∙ is.over;
+  }
+  of-next e is false marked = record {
+    wide = ap (λ (i : Image). i.width) marked.frame ∙ is.wide;
+    high = ap (λ (i : Image). i.height) marked.frame ∙ is.high;
+    over = ap (λ (i : Image). i.background) marked.frame ∙ is.over;
+  }
+
+  -- What a viewer holds after a frame, where it held the one before and what is right but for some clients was so.
+  sees-frame : (frame : Event) (later : List Event) (films : List Film) (liars broke : ℕ → Bool) (sight : Sight) (x y : ℕ) → IsEvent left frame
+      → AreDistinct (all_windows frame.before.desktop) × AreDistinct (all_windows frame.after.desktop) → is_frame frame.happening ≡ true
+      → AreShots (frame ∷ frames_of later) films → HoldsLiars frame liars broke → IsRightBut liars frame.before → Holds sight frame.before.frame → IsOf frame.before.frame
+      → x < width → y < height → is_covered all_windows broke frame.before.desktop (pos x) (pos y) ≡ false
+      → fold (copied width) sight (take 1 films) x y ≡ scratch background frame.before.desktop (pos x) (pos y)
+  sees-frame frame later [] liars broke sight x y is apart tick shots holds right held kind w h clear = absurd shots
+  sees-frame frame later (film ∷ films) liars broke sight x y is apart tick shots holds right held kind w h clear =
+      let shown : IsShown frame.before frame.after = subst (λ b. PaintsIf b frame.happening frame.before frame.after) tick is.paints in
+      let copies = copied-holds frame film sight shown shots.0 held x y (rw (shown.frame.large.width, kind.wide) w) (rw (shown.frame.large.height, kind.high) h) in
+      let right_there = frame-right left frame liars broke is.leads apart holds right
+      (λ c honest. keeps-opaque frame.happening frame.before.desktop frame.after.desktop c tick (holds c honest).0) shown x y
+      (rw (← right.wide, kind.wide) w) (rw (← right.high, kind.high) h)
+      (covers-less (both liars broke) broke (pos x) (pos y) (all_windows frame.before.desktop) (still-liars frame liars broke tick holds) clear) in
+      ap (λ n. copied n sight film x y) (sym kind.wide) ∙ (copies ∙ (right_there ∙ ap (λ (b : Rgb). scratch b frame.before.desktop (pos x) (pos y)) kind.over))
+
+  -- the same of each frame, after what came before it
+  sees-each : (before : List Event) (frame : Event) (later : List Event) (from : Moment) (films : List Film) (liars broke : ℕ → Bool) (sight : Sight) (x y : ℕ)
+      → AreEvents left from (before ++ frame ∷ later) to → AreApart (before ++ frame ∷ later) → is_frame frame.happening ≡ true
+      → AreShots (frames_of (before ++ frame ∷ later)) films → AreLiars liars (before ++ frame ∷ []) broke → IsRightBut liars from → Holds sight from.frame → IsOf from.frame
+      → x < width → y < height → is_covered all_windows broke frame.before.desktop (pos x) (pos y) ≡ false
+      → fold (copied width) sight (take (length (frames_of (before ++ frame ∷ []))) films) x y ≡ scratch background frame.before.desktop (pos x) (pos y)
+  sees-each [] frame later from films liars broke sight x y leads apart tick shots holds right held kind w h clear =
+      let began : Moment → Type 0 = λ m. IsRightBut liars m × Holds sight m.frame × IsOf m.frame in
+      let at : IsRightBut liars frame.before × Holds sight frame.before.frame × IsOf frame.before.frame = subst began (sym leads.0) (right, held, kind) in
+      let more : (c : ℕ) → broke c ≡ false → holds.0 c ≡ false = holds.2 in
+      let those : HoldsLiars frame liars broke = λ c honest. holds.1 c (more c honest) in
+      let all : AreShots (frame ∷ frames_of later) films = rw tick at shots in
+      rw tick (sees-frame frame later films liars broke sight x y leads.1 (apart.0, apart.1) tick all those at.0 at.1 at.2 w h clear)
+  sees-each (e ∷ es) frame later from films liars broke sight x y leads apart tick shots holds right held kind w h clear =
+      by (is_frame e.happening) refl films shots
+    where
+      began : IsRightBut liars e.before × Holds sight e.before.frame × IsOf e.before.frame
+      began = subst (λ (m : Moment). IsRightBut liars m × Holds sight m.frame × IsOf m.frame) (sym leads.0) (right, held, kind)
+
+      after : IsRightBut holds.0 e.after
+      after = event-right left e liars holds.0 leads.1 (apart.0, apart.1) holds.1 began.0
+
+      kind_after : IsOf e.after.frame
+      kind_after = of-next e began.2 (is_frame e.happening) leads.1.paints
+
+      rest : (films : List Film) (sight : Sight) → Holds sight e.after.frame → AreShots (frames_of (es ++ frame ∷ later)) films
+          → fold (copied width) sight (take (length (frames_of (es ++ frame ∷ []))) films) x y ≡ scratch background frame.before.desktop (pos x) (pos y)
+      rest films sight held shots = sees-each es frame later e.after films holds.0 broke sight x y leads.2 apart.2 tick shots holds.2 after held kind_after w h clear
+
+      by : (b : Bool) → is_frame e.happening ≡ b → (films : List Film) → AreShots (cond b (e ∷ frames_of (es ++ frame ∷ later)) (frames_of (es ++ frame ∷ later))) films
+          → fold (copied width) sight (take (length (cond b (e ∷ frames_of (es ++ frame ∷ [])) (frames_of (es ++ frame ∷ [])))) films) x y ≡ scratch background frame.before.desktop (pos x) (pos y)
+      by true is [] shots = absurd shots
+      by true is (film ∷ films) shots =
+          let shown : IsShown e.before e.after = subst (λ b. PaintsIf b e.happening e.before e.after) is leads.1.paints in
+          rest films (copied width sight film) (subst (λ n. Holds (copied n sight film) e.after.frame) began.2.wide (copied-holds e film sight shown shots.0 began.1)) shots.1
+      by false is films shots =
+          let marked : IsMarked e.happening e.before e.after = subst (λ b. PaintsIf b e.happening e.before e.after) is leads.1.paints in
+          rest films sight (subst (λ (i : Image). Holds sight i) (sym marked.frame) began.1) shots
+
+pub sees-scratch : (left : LeftOut) (from to : Moment) (events : List Event) (films : List Film) (liars : ℕ → Bool) (sight : Sight) → AreApart events → AreEvents left from events to → AreShots (frames_of events) films
+    → IsRightBut liars from → Holds sight from.frame → SeesScratch liars sight from.frame events films
+sees-scratch left from to events films liars sight apart leads shots right held before frame later broke x y same tick holds w h clear =
+    sees-each left from.frame.width from.frame.height from.frame.background to before frame later from films liars broke sight x y
+    (subst (λ es. AreEvents left from es to) same leads) (subst AreApart same apart) tick (subst (λ es. AreShots (frames_of es) films) same shots) holds right held
+    (record { wide = refl; high = refl; over = refl }) w h clear
 
 pub seen_is_scratch : SeenIsScratch
-seen_is_scratch left liars output background events x y done inside clear =
-    let first : Moment = first_moment output background in
-    viewer_sees_scratch all_windows liars background events first x y (all-honest left liars background first events (empty-orderly output) done) (first-holds liars output background) inside clear
+seen_is_scratch left output from to events films liars sight first leads shots right held =
+    sees-scratch left from to events films liars sight (events-apart left from to events (subst AreOrderly (sym first) (empty-orderly output)) leads) leads shots right held

@@ -15,7 +15,7 @@ use Rattle.wl_plain.specs.Scratch.{color_in, scratch_of}
 use Rattle.wl_plain.proofs.Painted.{contains-same, marked-none, scratch_stays}
 use Rattle.wl_plain.proofs.Stacks.{and-both, and-left, and-right, any-each, any-more, differ, each-false, equal-numbers, fields, or-left, or-right, same-number, unless}
 use Rattle.wl_session.specs.Promises.{is_hidden_in, is_same_color, windows_by}
-use Rattle.wl_session.specs.Unmarked.{AllDamageBut, Event, Holds, IncrementalIsFromScratch, IsHonest, Moment, Shown, Stepped, ViewerSeesScratch, after, RepaintedIsRight, StaysRight, UnmarkedStays, ViewerHolds, covers_at, in_output_of, is_covered}
+use Rattle.wl_session.specs.Unmarked.{AllDamageBut, UnmarkedStays, covers_at, in_output_of, is_covered}
 
 -- ---- lists
 
@@ -27,7 +27,7 @@ value-or : {X : Type 0} → X → Option X → X
 value-or d None = d
 value-or d (Some x) = x
 
-none-at : {X : Type 0} (p : X → Bool) (xs : List X) (i : ℕ) (x : X) → slice_get xs i ≡ Some x → list_any p xs ≡ false → p x ≡ false
+pub none-at : {X : Type 0} (p : X → Bool) (xs : List X) (i : ℕ) (x : X) → slice_get xs i ≡ Some x → list_any p xs ≡ false → p x ≡ false
 unfolding at-option
 none-at p [] i x is e = absurd (cc)
 none-at {X} p (z ∷ zs) zero x is e = subst (λ (o : Option X). at-option p o ≡ false) is (or-left (p z) (list_any p zs) e)
@@ -42,7 +42,7 @@ rest-kept : {X : Type 0} (p : X → Bool) (z : X) (zs : List X) (b : Bool) → l
 rest-kept p z zs true e = or-right (p z) (list_any p zs) e
 rest-kept p z zs false e = e
 
-none-kept : {X : Type 0} (c p : X → Bool) (xs : List X) (i : ℕ) (x : X) → slice_get xs i ≡ Some x → c x ≡ true → list_any p (filter c xs) ≡ false → p x ≡ false
+pub none-kept : {X : Type 0} (c p : X → Bool) (xs : List X) (i : ℕ) (x : X) → slice_get xs i ≡ Some x → c x ≡ true → list_any p (filter c xs) ≡ false → p x ≡ false
 unfolding value-or
 none-kept c p [] i x is there e = absurd (cc)
 none-kept {X} c p (z ∷ zs) zero x is there e =
@@ -87,10 +87,10 @@ pub unmarked_stays : UnmarkedStays
 unmarked_stays shown liars background old new x y apart keep inside unmarked clear clear' =
     scratch_stays shown background old new x y apart.0 apart.1 inside unmarked (colors-stay shown liars old new x y keep clear')
 
--- ---- images
+-- ---- what is covered
 
 -- what such a window covered is covered still, or marked
-covered-still : (shown : Showing) (liars : ℕ → Bool) (old new : Desktop) (x y : ℤ) → in_output_of old x y ≡ true → marks_at_least_of shown old new x y ≡ false → is_covered shown liars new x y ≡ false → is_covered shown liars old x y ≡ false
+pub covered-still : (shown : Showing) (liars : ℕ → Bool) (old new : Desktop) (x y : ℤ) → in_output_of old x y ≡ true → marks_at_least_of shown old new x y ≡ false → is_covered shown liars new x y ≡ false → is_covered shown liars old x y ≡ false
 covered-still shown liars old new x y inside unmarked clear =
     let all = marked-none (in_output_of old x y) _ unmarked inside in
     let changed = or-left (list_any (is_changed_at (shown new) x y) (shown old) || list_any (is_changed_at (shown old) x y) (shown new)) _ all in
@@ -101,41 +101,3 @@ covered-still shown liars old new x y inside unmarked clear =
     (ap not (unless (is_kept_in (shown new) w) (λ kept. differ (sym clear ∙ any-more (has_same_record w) (covers_at liars x y)
     (λ v same. and-both (liars v.owner.client) (contains v x y) (sym (ap liars (fields w v same).client) ∙ and-left (liars w.owner.client) (contains w x y) e) (sym (contains-same x y w v same) ∙ and-right (liars w.owner.client) (contains w x y) e))
     (shown new) kept))))))
-
-pub stays_right : StaysRight
-stays_right shown liars background image before after old new sized apart keep marks right = λ x y inside undamaged clear.
-    let within : in_output_of old x y ≡ true = subst (λ (o : Output). in_output o.width o.height x y ≡ true) sized inside in
-    let unmarked = (marks x y undamaged).1 in
-    let was = covered-still shown liars old new x y within unmarked clear in
-    right x y within (marks x y undamaged).0 was ∙ unmarked_stays shown liars background old new x y apart keep within unmarked was clear
-
-pub repainted_is_right : RepaintedIsRight
-repainted_is_right shown liars background image damage d right = λ x y inside none clear. go x y inside clear (damage x y) refl where
-  go : (x y : ℤ) → in_output_of d x y ≡ true → is_covered shown liars d x y ≡ false → (b : Bool) → damage x y ≡ b → cond b (scratch_of shown background d x y) (image x y) ≡ scratch_of shown background d x y
-  go x y inside clear true is = refl
-  go x y inside clear false is = right x y inside is clear
-
-pub viewer_holds : ViewerHolds
-viewer_holds shown background image sight damage d same = λ x y. go x y (damage x y) where
-  go : (x y : ℤ) → (b : Bool) → cond b (cond b (scratch_of shown background d x y) (image x y)) (sight x y) ≡ cond b (scratch_of shown background d x y) (image x y)
-  go x y true = refl
-  go x y false = same x y
-
--- ---- many steps and frames
-
-holds-after : (shown : Showing) (liars : ℕ → Bool) (background : Rgb) (m : Moment) (e : Event) → IsHonest shown liars m e → Holds shown liars background m → Holds shown liars background (after shown background m e)
-holds-after shown liars background m (Stepped new damage) honest holds =
-    (stays_right shown liars background m.image m.damage damage m.desktop new honest.0 honest.1 honest.2 honest.3 holds.0, holds.1)
-holds-after shown liars background m Shown honest holds =
-    (repainted_is_right shown liars background m.image m.damage m.desktop holds.0, viewer_holds shown background m.image m.sight m.damage m.desktop holds.1)
-
-pub incremental_is_from_scratch : IncrementalIsFromScratch
-incremental_is_from_scratch shown liars background [] m honest holds = holds
-incremental_is_from_scratch shown liars background (e ∷ es) m honest holds =
-    incremental_is_from_scratch shown liars background es (after shown background m e) honest.1 (holds-after shown liars background m e honest.0 holds)
-
-pub viewer_sees_scratch : ViewerSeesScratch
-viewer_sees_scratch shown liars background events m x y honest holds inside clear =
-    let end = fold (after shown background) m events in
-    let frame = holds-after shown liars background end Shown tt (incremental_is_from_scratch shown liars background events m honest holds) in
-    frame.1 x y ∙ frame.0 x y inside refl clear

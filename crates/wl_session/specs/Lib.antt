@@ -1,4 +1,7 @@
+pub mod Course
+pub mod Events
 pub mod Laws
+pub mod Liars
 pub mod Promises
 pub mod Run
 pub mod Step

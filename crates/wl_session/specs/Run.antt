@@ -1,17 +1,12 @@
--- Runs of a session: the frames of its ticks, and whole lists of steps.
+-- Frames and their reports, and why a run of steps stops.
 use Rattle.std.specs.List.{list_any}
-use Rattle.std.specs.Prelude.{ℕ, ◌≡◌, ◌+◌, ◌<◌, pos, List, [], ◌∷◌, ◌++◌, slice_get, Bool, true, false, ◌&&◌, ◌==◌, nat_le, nat_lt, IsTrue, IsSomeAnd}
+use Rattle.std.specs.Prelude.{ℕ, ◌≡◌, ◌+◌, ◌<◌, ◌≤◌, ◌⊎◌, pos, List, [], ◌∷◌, slice_get, Bool, true, false, ◌&&◌, ◌==◌, nat_le, nat_lt, IsTrue, IsSomeAnd}
 use Rattle.wl_paint.specs.Frame.{Image, color_at}
 use Rattle.wl_plain.specs.Desktop.{Desktop}
 use Rattle.wl_desk.specs.Painting.{IsOpaqueAsSaid}
 use Rattle.wl_plain.specs.Scratch.{scratch}
-use Rattle.wl_plain.specs.LeftOut.{LeftOut, served_now}
 use Rattle.wl_plain.specs.Acts.{Act, Connect, Feed, Store, Leave, Tick, Send, Close, Motion, Button}
-use Rattle.wl_plain.specs.Happens.{Happens}
 use Rattle.wl_session.specs.Step.{act_of}
-use Rattle.wl_desk.specs.Agreeing.{Agrees}
-use Rattle.wl_session.specs.View.{SessionView}
-use Rattle.wl_plain.specs.declared.answers.Done.{Done}
 use Rattle.wl_session.specs.declared.steps.Step.{Step}
 use Rattle.wl_session.specs.declared.steps.RunError.{RunError}
 use Rattle.wl_session.specs.declared.steps.RunError.TheVariants.{Memory}
@@ -44,49 +39,35 @@ film_of shot = record { time = shot.time; runs = shot.runs.items; pixels = shot.
 abbrev pub in_runs : List Run → ℕ → ℕ → Bool
 in_runs runs x y = list_any (λ run. (run.y == y) && (nat_le run.x x && nat_lt x (run.x + run.w))) runs
 
--- the frame of a tick at this time, and its report
-pub record IsFilm (time : ℕ) (d : Desktop) (before : Image) (film : Film) (after : Image) : Type 0 where
-  pub shown : film.time ≡ time
-  pub pixels : film.pixels ≡ after.pixels
-  pub next : IsNextFrame d before after (in_runs film.runs)
+-- a run ends before another begins, in reading order, and they don't touch
+abbrev pub IsBefore : Run → Run → Type 0
+IsBefore r s = (r.y < s.y) ⊎ ((r.y ≡ s.y) × (r.x + r.w < s.x))
 
--- a tick of a desktop shows one frame, and another step none
-abbrev pub Shows : Act → Desktop → Image → List Film → Image → Type 0
-Shows (Tick time) d before films after = (film : Film) × (films ≡ film ∷ []) × IsFilm time d before film after
-Shows Connect d before films after = (films ≡ []) × (after ≡ before)
-Shows (Feed c piece) d before films after = (films ≡ []) × (after ≡ before)
-Shows (Store c store at bytes) d before films after = (films ≡ []) × (after ≡ before)
-Shows (Leave c) d before films after = (films ≡ []) × (after ≡ before)
-Shows (Send c n) d before films after = (films ≡ []) × (after ≡ before)
-Shows (Close c) d before films after = (films ≡ []) × (after ≡ before)
-Shows (Motion time x y) d before films after = (films ≡ []) × (after ≡ before)
-Shows (Button time button pressed) d before films after = (films ≡ []) × (after ≡ before)
+-- Each is before all that follow it.
+abbrev pub IsBeforeAll : Run → List Run → Type 0
+IsBeforeAll r [] = Unit {0}
+IsBeforeAll r (s ∷ ss) = IsBefore r s × IsBeforeAll r ss
 
--- what one step leaves of the last frame: a tick shows another
-abbrev pub IsShownBy : Act → Desktop → Image → Image → Type 0
-IsShownBy act d before after = (films : List Film) × Shows act d before films after
+abbrev pub AreInOrder : List Run → Type 0
+AreInOrder [] = Unit {0}
+AreInOrder (r ∷ rs) = IsBeforeAll r rs × AreInOrder rs
 
--- one step leads a session from old to new, and shows these frames
-abbrev pub Leads : Act → List Film → SessionView → SessionView → Type 0
-Leads act films old new =
-    (d : Desktop) → Agrees old.desk d → (e : Desktop) × (done : Done) × Happens served_now act done d e × Shows act d old.frame films new.frame × Agrees new.desk e
+-- a run of so large an output, which has points
+pub record LiesIn (width height : ℕ) (run : Run) : Type 0 where
+  pub some : 0 < run.w
+  pub wide : run.x + run.w ≤ width
+  pub high : run.y < height
 
--- a session stands for every desktop that it stood for, and shows the same frame
-abbrev pub Stays : SessionView → SessionView → Type 0
-Stays old new = ((d : Desktop) → Agrees old.desk d → Agrees new.desk d) × (new.frame ≡ old.frame)
+abbrev pub AllLieIn : ℕ → ℕ → List Run → Type 0
+AllLieIn width height [] = Unit {0}
+AllLieIn width height (r ∷ rs) = LiesIn width height r × AllLieIn width height rs
 
--- A whole run: these steps lead from the first desktop to the second, and these are the frames of their ticks.
-abbrev pub Runs : LeftOut → Image → Desktop → List Act → List Film → Image → Desktop → Type 0
-Runs left before old [] films after new = (films ≡ []) × (after ≡ before) × (new ≡ old)
-Runs left before old (act ∷ acts) films after new =
-    (mid : Desktop) × (done : Done) × (image : Image) × (first : List Film) × (later : List Film)
-    × Happens left act done old mid × Shows act old before first image × (films ≡ first ++ later) × Runs left image mid acts later after new
-
--- These steps lead a session from old to new: whatever desktop agrees before, there is a run with these frames from it
--- to one that agrees after.
-abbrev pub TakesSteps : List Act → List Film → SessionView → SessionView → Type 0
-TakesSteps acts films old new =
-    (d : Desktop) → Agrees old.desk d → (e : Desktop) × Runs served_now old.frame d acts films new.frame e × Agrees new.desk e
+-- The runs of a set of points: they are disjoint, in reading order, within the output and as long as they can be, and hold those points and no
+-- others.
+pub record AreRuns (width height : ℕ) (damaged : ℕ → ℕ → Bool) (runs : List Run) : Type 0 where
+  pub points : (x y : ℕ) → x < width → y < height → in_runs runs x y ≡ damaged x y
+  pub order : AreInOrder runs
+  pub within : AllLieIn width height runs
 
 -- how many steps were taken before a run stopped
 abbrev pub taken_by : RunError → ℕ

@@ -1,42 +1,64 @@
--- Incremental equals from scratch, of whatever happens from a desktop without clients on, one message at a time, whatever is left out.
-use Rattle.std.specs.Prelude.{ℕ, ℤ, ◌≡◌, Bool, true, false, fold, List, [], ◌∷◌}
-use Rattle.wl_blend.specs.declared.color.Rgb.{Rgb}
+-- Incremental equals from scratch: what a viewer holds that copies only what each frame reports as damaged.
+use Rattle.std.specs.Prelude.{ℕ, ◌≡◌, ◌<◌, ◌+◌, pos, Bool, true, false, fold, length, take, List, [], ◌∷◌, ◌++◌}
 use Rattle.wl_client.specs.Told.{Output}
-use Rattle.wl_plain.specs.Desktop.{Desktop, empty}
-use Rattle.wl_plain.specs.Happenings.{Happening, Leads}
+use Rattle.wl_paint.specs.Damage.{has}
+use Rattle.wl_paint.specs.Frame.{Image, color_at}
+use Rattle.wl_plain.specs.Acts.{Tick}
+use Rattle.wl_plain.specs.Desktop.{empty}
+use Rattle.wl_plain.specs.Happenings.{Single}
 use Rattle.wl_plain.specs.LeftOut.{LeftOut}
-use Rattle.wl_plain.specs.Scratch.{scratch_of}
+use Rattle.wl_plain.specs.Scratch.{scratch}
 use Rattle.wl_plain.specs.Stacked.{all_windows}
-use Rattle.wl_session.specs.Promises.{KeepBut}
-use Rattle.wl_session.specs.Unmarked.{Event, MarksShown, Moment, Shown, Stepped, after, in_output_of, is_covered, undamaged}
+use Rattle.wl_plain.specs.declared.answers.Done.TheVariants as gave
+use Rattle.wl_session.specs.Events.{AreApart, AreEvents, Event, Moment, frames_of, is_frame}
+use Rattle.wl_session.specs.Liars.{AreLiars, IsRightBut}
+use Rattle.wl_session.specs.Run.{AreRuns, Film}
+use Rattle.wl_session.specs.Unmarked.{is_covered}
+use Rattle.wl_session.specs.Viewer.{Sight, copied}
 
--- Something happens, in which each client but these keeps its promises, and what it has to from its first desktop to its last is marked (what is
--- marked along the desktops on the way holds that: `marked_through` of wl_plain); or a frame is shown.
-abbrev pub IsDone : LeftOut → (ℕ → Bool) → Moment → Event → Type 0
-IsDone left liars m (Stepped new damage) =
-    (happening : Happening) × (path : List Desktop) × Leads left happening m.desktop path new
-    × KeepBut all_windows liars happening m.desktop new × MarksShown all_windows m.desktop new m.damage damage
-IsDone left liars m Shown = Unit {0}
+-- A report of a frame: its time, the runs of exactly what was painted for it, and its pixels.
+pub record IsShot (e : Event) (film : Film) : Type 0 where
+  pub time : e.happening ≡ Single (Tick film.time) gave.Tick
+  pub runs : AreRuns e.before.frame.width e.before.frame.height (has e.before.damage) film.runs
+  pub pixels : film.pixels ≡ e.after.frame.pixels
 
-abbrev pub AreDone : LeftOut → (ℕ → Bool) → Rgb → Moment → List Event → Type 0
-AreDone left liars background m [] = Unit {0}
-AreDone left liars background m (e ∷ es) = IsDone left liars m e × AreDone left liars background (after all_windows background m e) es
+-- one of each frame, in their order
+abbrev pub AreShots : List Event → List Film → Type 0
+AreShots [] [] = Unit {0}
+AreShots (e ∷ es) (film ∷ films) = IsShot e film × AreShots es films
+AreShots [] (film ∷ films) = ⊥
+AreShots (e ∷ es) [] = ⊥
 
--- at first there is no client, and the image and what the viewer holds are the background
-abbrev pub first_moment : Output → Rgb → Moment
-first_moment output background =
-    record { image = λ x y. background; damage = undamaged; sight = λ x y. background; desktop = empty output }
+-- a viewer holds this image
+abbrev pub Holds : Sight → Image → Type 0
+Holds sight image = (x y : ℕ) → x < image.width → y < image.height → sight x y ≡ color_at image x y
 
-abbrev pub moment_after : Output → Rgb → List Event → Moment
-moment_after output background events = fold (after all_windows background) (first_moment output background) events
+-- what a viewer holds that held this, and then copied the runs of the frames in these events
+abbrev pub seen_after : Image → Sight → List Event → List Film → Sight
+seen_after first sight events films = fold (copied first.width) sight (take (length (frames_of events)) films)
 
--- At each frame a viewer that copies only what was painted again holds every window painted from nothing in stacking order, subsurfaces and
--- popups too, at each point of the output that no window of a client that broke its promises covers.
+-- At each frame among these events a viewer that copied only the runs of each report, up to that frame's own, holds every window painted from
+-- nothing in stacking order, subsurfaces and popups too, of the desktop as the frame began: at each point of the output that no window covers
+-- of a client that broke its promises since it connected.
+abbrev pub SeesScratch : (ℕ → Bool) → Sight → Image → List Event → List Film → Type 0
+SeesScratch liars sight first events films =
+    (before : List Event) (frame : Event) (later : List Event) (broke : ℕ → Bool) (x y : ℕ)
+    → events ≡ before ++ frame ∷ later → is_frame frame.happening ≡ true → AreLiars liars (before ++ frame ∷ []) broke
+    → x < first.width → y < first.height → is_covered all_windows broke frame.before.desktop (pos x) (pos y) ≡ false
+    → seen_after first sight (before ++ frame ∷ []) films x y ≡ scratch first.background frame.before.desktop (pos x) (pos y)
+
+-- ---- laws, whatever is left out
+
+-- What is right but for some clients stays so but for them and those that break a promise, where no surface has two windows.
+abbrev pub StaysRight : Type 0
+StaysRight =
+    (left : LeftOut) (from to : Moment) (events : List Event) (liars last : ℕ → Bool)
+    → AreApart events → AreEvents left from events to → AreLiars liars events last → IsRightBut liars from → IsRightBut last to
+
+-- Whatever happens from a desktop without clients on, a viewer sees each frame painted from nothing.
 abbrev pub SeenIsScratch : Type 0
 SeenIsScratch =
-    (left : LeftOut) (liars : ℕ → Bool) (output : Output) (background : Rgb) (events : List Event) (x y : ℤ)
-    → AreDone left liars background (first_moment output background) events
-    → in_output_of (moment_after output background events).desktop x y ≡ true
-    → is_covered all_windows liars (moment_after output background events).desktop x y ≡ false
-    → (after all_windows background (moment_after output background events) Shown).sight x y
-    ≡ scratch_of all_windows background (moment_after output background events).desktop x y
+    (left : LeftOut) (output : Output) (from to : Moment) (events : List Event) (films : List Film) (liars : ℕ → Bool) (sight : Sight)
+    → from.desktop ≡ empty output → AreEvents left from events to → AreShots (frames_of events) films
+    → IsRightBut liars from → Holds sight from.frame
+    → SeesScratch liars sight from.frame events films

@@ -2,8 +2,8 @@
 
 ghost use Rattle.wl_session.specs.Laws.{OthersStay, OutputStays};
 ghost use Rattle.wl_session.specs.StoreWrites.{PromisesAreEnough, WriteHidesNothing};
-ghost use Rattle.wl_session.specs.Seen.{SeenIsScratch};
-ghost use Rattle.wl_session.specs.Unmarked.{IncrementalIsFromScratch, UnmarkedStays, ViewerSeesScratch};
+ghost use Rattle.wl_session.specs.Seen.{SeenIsScratch, StaysRight};
+ghost use Rattle.wl_session.specs.Unmarked.{UnmarkedStays};
 
 /// Whatever happens leaves each client that it isn't a step of as it was, with the places and the order of its toplevels.
 pub fn others_stay()
@@ -32,22 +32,15 @@ pub fn write_hides_nothing()
     ensures { WriteHidesNothing }
 {}
 
-/// Over any list of steps that mark what they have to, and of frames that paint what is marked, each point of the output is marked, or
-/// covered by a window of a client that hid a change, or right; and a viewer that copies only what each frame painted holds the image;
-/// whichever windows are shown.
-pub fn incremental_is_from_scratch()
-    ensures { IncrementalIsFromScratch }
+/// What is right of a session but for some clients stays so but for them and those that break a promise: each point of the output is to be
+/// painted again, or covered by a window of such a client, or in the last frame as the desktop painted from nothing.
+pub fn stays_right()
+    ensures { StaysRight }
 {}
 
-/// At each frame such a viewer holds the desktop painted from nothing, but where a window of a client that hid a change covers it, whichever
-/// windows are shown.
-pub fn viewer_sees_scratch()
-    ensures { ViewerSeesScratch }
-{}
-
-/// Whatever happens from a desktop without clients on, one message at a time and whatever is left out, with frames between: at each frame such
-/// a viewer holds every window, subsurfaces and popups too, painted from nothing in stacking order, but where a window of a client that broke
-/// its promises covers it.
+/// Whatever happens from a desktop without clients on, one event at a time and whatever is left out: at each frame a viewer that copied only what
+/// each frame reported holds every window, subsurfaces and popups too, painted from nothing in stacking order, but where a window of a client
+/// that broke its promises covers it.
 pub fn seen_is_scratch()
     ensures { SeenIsScratch }
 {}

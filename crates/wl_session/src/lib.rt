@@ -7,8 +7,8 @@ mod shots;
 mod steps;
 
 pub use laws::{
-    incremental_is_from_scratch, others_stay, output_stays, promises_are_enough, unmarked_stays,
-    viewer_sees_scratch, write_hides_nothing,
+    others_stay, output_stays, promises_are_enough, seen_is_scratch, stays_right, unmarked_stays,
+    write_hides_nothing,
 };
 pub use sessions::{Config, Session};
 pub use shots::{Frame, Run, Shot};

@@ -10,11 +10,10 @@ ghost use Rattle.wl_plain.specs.Desktop.{Desktop, empty};
 ghost use Rattle.wl_paint.specs.Frame.{color_at, filled, is_side};
 ghost use Rattle.wl_plain.specs.Acts.{Connect, Feed, Store, Leave, Tick, Send, Close, peer_at, unsent_of, status_of, store_size_of};
 ghost use Rattle.wl_desk.specs.Feeding.{IsIdleIn};
-ghost use Rattle.wl_plain.specs.LeftOut.{served_now};
-ghost use Rattle.wl_plain.specs.Happens.{Reaches};
-ghost use Rattle.wl_session.specs.Run.{in_runs};
+ghost use Rattle.wl_session.specs.Run.{AreRuns};
 ghost use Rattle.wl_session.specs.Step.{act_of};
 ghost use Rattle.wl_desk.specs.Agreeing.{Agrees, TakesStep};
+ghost use Rattle.wl_session.specs.Course.{Served};
 
 use crate::shots::{Frame, Run, Shot};
 use crate::steps::{RunError, Step};
@@ -60,7 +59,9 @@ impl<A: Allocator> Model for Session<A> {
 
 impl<A: Allocator + Copy> Session<A> {
     ghost use Rattle.wl_session.specs.contracts.sessions.Session.{the_row};
-    ghost use Rattle.wl_session.specs.Run.{Film, IsAsLarge, IsFilm, IsNextFrame, IsShownBy, Leads, MayStopAt, Stays, TakesSteps, film_of, taken_by, takes_memory};
+    ghost use Rattle.wl_session.specs.Course.{IsSeen, LeadsTo, TakesCourse, TakesSteps, moment};
+    ghost use Rattle.wl_session.specs.Liars.{IsRightBut, nobody};
+    ghost use Rattle.wl_session.specs.Run.{Film, IsAsLarge, IsNextFrame, MayStopAt, film_of, taken_by, takes_memory};
     ghost use Rattle.std.specs.Prelude.{List, [], ◌∷◌, IsTrue};
 
     /// A session without clients, whose frame is the background.
@@ -71,6 +72,7 @@ impl<A: Allocator + Copy> Session<A> {
         ensures background { IfOk result (λ s. s.frame.background ≡ config.background) }
         ensures pixels { IfOk result (λ s. s.frame.pixels ≡ filled (config.width * config.height) config.background) }
         ensures colors { IfOk result (λ s. (x y : ℕ) → x < config.width → y < config.height → color_at s.frame x y ≡ config.background) }
+        ensures right { IfOk result (λ s. IsRightBut nobody (moment (empty (record { width = config.width; height = config.height })) s)) }
         ensures bad { IsErrOf result FrameError.BadSize ↔ ((is_side config.width && is_side config.height) ≡ false) }
     {
         let framebuffer = Framebuffer::new(alloc, config.width, config.height, config.background)?;
@@ -93,6 +95,8 @@ impl<A: Allocator + Copy> Session<A> {
     /// A client connects. It gets the lowest free number.
     pub fn connect(&mut self) -> Result<ClientNo, ConnectError>
         ensures step { TakesStep Connect (Done.Connect result) self.old.desk self.new.desk }
+        ensures course { TakesCourse Connect (Done.Connect result) self.old self.new }
+        ensures unchanged { OnErr result (self.new ≡ self.old) }
         ensures frame { self.new.frame ≡ self.old.frame }
     {
         self.desk.connect()
@@ -102,6 +106,7 @@ impl<A: Allocator + Copy> Session<A> {
     /// is there. After an end the rest of the piece is dropped, and a piece for an ended client does nothing.
     pub fn feed(&mut self, client: ClientNo, piece: &[u8]) -> Fed
         ensures step { TakesStep (Feed client piece.now) (Done.Feed result) self.old.desk self.new.desk }
+        ensures course { TakesCourse (Feed client piece.now) (Done.Feed result) self.old self.new }
         ensures frame { self.new.frame ≡ self.old.frame }
     {
         match self.desk.keep(client, piece) {
@@ -113,8 +118,7 @@ impl<A: Allocator + Copy> Session<A> {
 
     /// Takes each whole message of what came from a client, until one ends it.
     fn serve_all(&mut self, client: ClientNo)
-        ensures serves { (d : Desktop) → Agrees self.old.desk d
-            → (n : ℕ) × (mid : Desktop) × Reaches served_now client n d mid × IsIdleIn client mid × Agrees self.new.desk mid }
+        ensures serves { (d : Desktop) → Agrees self.old.desk d → (served : Served client self.old self.new d) × IsIdleIn client served.desktop }
         ensures frame { self.new.frame ≡ self.old.frame }
     {
         while self.desk.serve(client) != Served::More {}
@@ -124,6 +128,7 @@ impl<A: Allocator + Copy> Session<A> {
     /// `NoStore`, then `OutOfRange` where they pass the store's end; nothing is changed then.
     pub fn store(&mut self, client: ClientNo, store: StoreNo, at: u32, bytes: &[u8]) -> Stored
         ensures step { TakesStep (Store client store at bytes.now) (Done.Store result) self.old.desk self.new.desk }
+        ensures course { TakesCourse (Store client store at bytes.now) (Done.Store result) self.old self.new }
         ensures frame { self.new.frame ≡ self.old.frame }
     {
         self.desk.store(client, store, at, bytes)
@@ -139,6 +144,7 @@ impl<A: Allocator + Copy> Session<A> {
     /// A client goes. True where it was alive.
     pub fn gone(&mut self, client: ClientNo) -> bool
         ensures step { TakesStep (Leave client) (Done.Gone result) self.old.desk self.new.desk }
+        ensures course { TakesCourse (Leave client) (Done.Gone result) self.old self.new }
         ensures frame { self.new.frame ≡ self.old.frame }
     {
         self.desk.gone(client)
@@ -147,6 +153,7 @@ impl<A: Allocator + Copy> Session<A> {
     /// So many of a client's unsent bytes were sent. False and unchanged where there are fewer.
     pub fn sent(&mut self, client: ClientNo, count: usize) -> bool
         ensures step { TakesStep (Send client count) (Done.Sent result) self.old.desk self.new.desk }
+        ensures course { TakesCourse (Send client count) (Done.Sent result) self.old self.new }
         ensures frame { self.new.frame ≡ self.old.frame }
     {
         self.desk.sent(client, count)
@@ -155,6 +162,7 @@ impl<A: Allocator + Copy> Session<A> {
     /// Gives back the number of a client that ended, with its unsent bytes. True where it had ended.
     pub fn close(&mut self, client: ClientNo) -> bool
         ensures step { TakesStep (Close client) (Done.Close result) self.old.desk self.new.desk }
+        ensures course { TakesCourse (Close client) (Done.Close result) self.old self.new }
         ensures frame { self.new.frame ≡ self.old.frame }
     {
         self.desk.close(client)
@@ -177,7 +185,7 @@ impl<A: Allocator + Copy> Session<A> {
     /// A frame is shown. What was damaged since the last one is painted from nothing, and is the frame's damage; every other pixel is as in the
     /// frame before. Where a window isn't opaque at a point that its opaque region holds, it is free what a damaged pixel gets.
     pub fn tick(&mut self, time: u32) -> Frame<'_, A>
-        ensures* after { sem 𝓛 (Rests (the_row A.row A.Allocator) self.entry (λ v. TakesStep (Tick time) Done.Tick self.old.desk v.desk × (v.frame ≡ result.pixels.now))) }
+        ensures* after { sem 𝓛 (Rests (the_row A.row A.Allocator) self.entry (λ v. TakesStep (Tick time) Done.Tick self.old.desk v.desk × (v.frame ≡ result.pixels.now) × TakesCourse (Tick time) Done.Tick self.old v)) }
         ensures frame { (d : Desktop) → Agrees self.old.desk d → IsNextFrame d self.old.frame result.pixels.now (has result.damage.now) }
         ensures large { IsAsLarge self.old.frame result.pixels.now }
         ensures damage { result.damage.now ≡ self.old.damage }
@@ -204,7 +212,7 @@ impl<A: Allocator + Copy> Session<A> {
     /// Any one step. A tick's frame isn't given back.
     pub fn step(&mut self, step: &Step) -> Done
         ensures step { TakesStep (act_of step.now) result self.old.desk self.new.desk }
-        ensures frame { (d : Desktop) → Agrees self.old.desk d → IsShownBy (act_of step.now) d self.old.frame self.new.frame }
+        ensures course { TakesCourse (act_of step.now) result self.old self.new }
     {
         match *step {
             Step::Connect => Done::Connect(self.connect()),
@@ -228,10 +236,16 @@ impl<A: Allocator + Copy> Session<A> {
     /// Steps in order, with a copy of each tick's frame. A copy has its memory before its tick is taken.
     ///
     /// An `Err` says how many steps were taken; the next found no memory, and nothing of it was taken.
+    ///
+    /// A viewer that held the frame before and then copied only the runs of each shot holds, at each tick, every window painted from nothing in
+    /// stacking order, at each point that no window covers of a client that broke a promise since it connected (`seen`): to damage what it
+    /// changes, to leave a buffer that is shown as it is, and to call only opaque pixels opaque (wayland.xml, wl_surface.damage, wl_buffer.release,
+    /// wl_surface.set_opaque_region).
     pub fn run(&mut self, steps: &[Step]) -> Result<Vec<Shot<A>, A>, RunError>
         ensures ok { IfOk result (λ shots. TakesSteps (map act_of steps.now) (map film_of shots.items) self.old self.new) }
         ensures err { IfErr result (λ e. (films : List Film) × TakesSteps (map act_of (take (taken_by e) steps.now)) films self.old self.new) }
         ensures stopped { IfErr result (λ e. MayStopAt steps.now (taken_by e)) }
+        ensures seen { IfOk result (λ shots. IsSeen (map act_of steps.now) (map film_of shots.items) self.old self.new) }
     {
         let mut shots = Vec::new(self.alloc);
         for (n, step) in steps.iter().enumerate() {
@@ -244,8 +258,8 @@ impl<A: Allocator + Copy> Session<A> {
 
     /// Takes one step of a run. False where it found no memory; then nothing of it was taken.
     fn take_step(&mut self, step: &Step, shots: &mut Vec<Shot<A>, A>) -> bool
-        ensures taken { result ≡ true → (films : List Film) × (map film_of shots.new.items ≡ map film_of shots.old.items ++ films) × Leads (act_of step.now) films self.old self.new }
-        ensures refused { result ≡ false → Stays self.old self.new × IsTrue (takes_memory (act_of step.now)) }
+        ensures taken { result ≡ true → (films : List Film) × (map film_of shots.new.items ≡ map film_of shots.old.items ++ films) × LeadsTo (act_of step.now) films self.old self.new }
+        ensures refused { result ≡ false → (self.new ≡ self.old) × IsTrue (takes_memory (act_of step.now)) }
         ensures shots { result ≡ false → map film_of shots.new.items ≡ map film_of shots.old.items }
     {
         match *step {
@@ -267,8 +281,8 @@ impl<A: Allocator + Copy> Session<A> {
 
     /// Takes a tick of a run. False where its shot found no memory; then nothing of it was taken.
     fn take_tick(&mut self, time: u32, shots: &mut Vec<Shot<A>, A>) -> bool
-        ensures taken { result ≡ true → (films : List Film) × (map film_of shots.new.items ≡ map film_of shots.old.items ++ films) × Leads (Tick time) films self.old self.new }
-        ensures refused { result ≡ false → Stays self.old self.new }
+        ensures taken { result ≡ true → (films : List Film) × (map film_of shots.new.items ≡ map film_of shots.old.items ++ films) × LeadsTo (Tick time) films self.old self.new }
+        ensures refused { result ≡ false → self.new ≡ self.old }
         ensures shots { result ≡ false → map film_of shots.new.items ≡ map film_of shots.old.items }
     {
         match self.shoot(time, shots) {
@@ -280,8 +294,7 @@ impl<A: Allocator + Copy> Session<A> {
     /// A tick with a copy of its frame. An `Err` changes nothing.
     fn shoot(&mut self, time: u32, shots: &mut Vec<Shot<A>, A>) -> Result<(), AllocError>
         ensures ok { OnOk result ((film : Film) × (map film_of shots.new.items ≡ map film_of shots.old.items ++ film ∷ [])
-            × ((d : Desktop) → Agrees self.old.desk d → IsFilm time d self.old.frame film self.new.frame)) }
-        ensures step { OnOk result (TakesStep (Tick time) Done.Tick self.old.desk self.new.desk) }
+            × LeadsTo (Tick time) (film ∷ []) self.old self.new) }
         ensures err { OnErr result ((self.new ≡ self.old) × (shots.new.items ≡ shots.old.items)) }
     {
         let alloc = self.alloc;
@@ -303,7 +316,7 @@ fn runs_of<A: Allocator>(
 ) -> Result<Vec<Run, A>, AllocError>
     requires high { damage.now.height ≡ height }
     requires narrow { damage.now.width ≤ 4096 }
-    ensures { IfOk result (λ runs. (x y : ℕ) → x < damage.now.width → y < height → in_runs runs.items x y ≡ has damage.now x y) }
+    ensures { IfOk result (λ runs. AreRuns damage.now.width height (has damage.now) runs.items) }
 {
     let mut runs = Vec::new(alloc);
     for y in 0..height {
@@ -320,7 +333,7 @@ fn append_runs<A: Allocator>(
 ) -> Result<(), AllocError>
     requires row { y < damage.now.height }
     requires narrow { damage.now.width ≤ 4096 }
-    ensures { OnOk result ((x z : ℕ) → x < damage.now.width → in_runs runs.new.items x z ≡ (in_runs runs.old.items x z || ((y == z) && has damage.now x y))) }
+    ensures { OnOk result (AreRuns damage.now.width y (has damage.now) runs.old.items → AreRuns damage.now.width (y + 1) (has damage.now) runs.new.items) }
 {
     let mut from = 0;
     while let Some((x, w)) = damage.next_run(y, from) {

@@ -3,7 +3,8 @@ use Rattle.std.proofs.lemmas.List.{length-set}
 use Rattle.wl_plain.specs.Acts.{Close, IsClosed}
 use Rattle.wl_plain.specs.declared.answers.Done.TheVariants as gave
 use Rattle.wl_desk.proofs.Calls.{Changes-none, closed, found, unclosed}
-use Rattle.wl_desk.proofs.MarkedCalls.{closed-marks, past-marks, unclosed-marks}
+use Rattle.wl_paint.specs.Damage.{has}
+use Rattle.wl_desk.proofs.MarkedCalls.{closed-marks, or-none, past-marks, unclosed-marks}
 use Rattle.wl_desk.proofs.NoMore.{steps-marked, steps-whole}
 use Rattle.wl_desk.proofs.desks.Desk.close.Goals as goal
 
@@ -30,12 +31,9 @@ returns-then-not-has_ended-clause-marks g c = steps-marked (Close c.args.client)
     _ (gave.Close false) e c.self.inside.damage c.index.ensures (sym c.has_ended.ensures ∙ c.if-not-has_ended.true) steps))
 
 pub returns-clause-marks : goal.returns-clause-marks
-returns-clause-marks g c = steps-marked (Close c.args.client) tt _ c.args.self.now.desk c.args.self.now.damage c.mark_if.new.damage (λ d e a steps.
+returns-clause-marks g c = steps-marked (Close c.args.client) tt _ c.args.self.now.desk c.args.self.now.damage c.self.inside.damage (λ d e a steps.
     rw (← c.self.view_is) (closed-marks c.self.inside.output c.self.inside.clients.items c.self.inside.owned.items c.self.inside.scene c.args.client c.in-Some.k (found _ _ _ _ _ c.deref.ensures.value c.in-Some.ensures.some c.self.invariant.0) d (rw (← c.self.view_is) at a)
-    _ (gave.Close true) e c.stands_any.result c.self.inside.damage c.mark_if.new.damage c.index.ensures (sym c.has_ended.ensures ∙ c.if-not-has_ended.false) c.mark_if.ensures.marks steps))
+    _ (gave.Close true) e false c.self.inside.damage c.self.inside.damage c.index.ensures (sym c.has_ended.ensures ∙ c.if-not-has_ended.false) (λ i j wide high. or-none (has c.self.inside.damage i j)) steps))
 
 pub invariant_of-self : goal.invariant_of-self
-invariant_of-self g c = (
-  (length-set _ _ _ ∙ c.self.invariant.0.0, length-set _ _ _ ∙ c.self.invariant.0.1),
-  (c.mark_if.ensures.sides.width ∙ c.self.invariant.1.0, c.mark_if.ensures.sides.height ∙ c.self.invariant.1.1),
-)
+invariant_of-self g c = ((length-set _ _ _ ∙ c.self.invariant.0.0, length-set _ _ _ ∙ c.self.invariant.0.1), c.self.invariant.1)

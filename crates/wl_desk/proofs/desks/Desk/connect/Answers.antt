@@ -4,6 +4,8 @@ use Rattle.wl_desk.proofs.Calls.{Connects-full, Connects-new, Connects-refused, 
 use Rattle.wl_desk.proofs.MarkedCalls.{connects-marks}
 use Rattle.wl_plain.specs.Acts.{Connect}
 use Rattle.wl_desk.proofs.NoMore.{steps-marked, steps-whole}
+use Rattle.wl_paint.specs.Damage.{has}
+use Rattle.wl_resident.specs.View.{MarkedDesk}
 use Rattle.wl_desk.proofs.desks.Desk.connect.Goals as goal
 
 pub returns-in_default-clause-step : goal.returns-in_default-clause-step
@@ -44,3 +46,6 @@ returns-in_default-new-clause-output g c = refl
 
 pub returns-clause-output : goal.returns-clause-output
 returns-clause-output g c = ap (λ w. w.desk.output) c.self.view_is
+
+pub returns-clause-nothing : goal.returns-clause-nothing
+returns-clause-nothing g c = λ d a x y w h. ap (λ (m : MarkedDesk). has m.damage x y) c.self.view_is

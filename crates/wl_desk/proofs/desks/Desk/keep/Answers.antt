@@ -1,7 +1,8 @@
 use Rattle.std.proofs.Common.{ap, ◌∙◌}
 use Rattle.std.proofs.lemmas.List.{length-set}
-use Rattle.wl_desk.proofs.Calls.{found}
-use Rattle.wl_desk.proofs.Kept.{Kept-none, err-then, keeps, ok-then, stays}
+use Rattle.wl_plain.specs.Acts.{peer_at}
+use Rattle.wl_desk.proofs.Calls.{found, slot-here}
+use Rattle.wl_desk.proofs.Kept.{Kept-none, err-then, keeps, lives-there, ok-then, stays}
 use Rattle.wl_desk.proofs.NoMore.{keeps-whole, stays-whole}
 use Rattle.wl_desk.proofs.desks.Desk.keep.Goals as goal
 
@@ -17,8 +18,13 @@ returns-clause-ok g c =
 pub returns-clause-err : goal.returns-clause-err
 returns-clause-err g c =
     err-then c.keep_in.result
-    (λ same. stays-whole _ _ (λ d a. stays c.self.inside.output c.self.inside.clients.items c.self.inside.owned.items c.self.inside.scene c.args.client c.in-Some.k (found _ _ _ _ _ c.deref.ensures.value c.in-Some.ensures.some c.self.invariant.0) d (rw (← c.self.view_is) at a)
-    c.index_mut.result.now c.keep_in.new.slot c.index_mut.ensures.value same)) c.keep_in.ensures.err
+    (λ kept. λ d a. (
+      stays-whole _ _ (λ d a. stays c.self.inside.output c.self.inside.clients.items c.self.inside.owned.items c.self.inside.scene c.args.client c.in-Some.k (found _ _ _ _ _ c.deref.ensures.value c.in-Some.ensures.some c.self.invariant.0) d (rw (← c.self.view_is) at a)
+          c.index_mut.result.now c.keep_in.new.slot c.index_mut.ensures.value kept.0) d a,
+      lives-there c.index_mut.result.now (peer_at c.args.client d)
+          (slot-here c.self.inside.output c.self.inside.clients.items c.self.inside.owned.items c.self.inside.scene c.args.client c.in-Some.k (found _ _ _ _ _ c.deref.ensures.value c.in-Some.ensures.some c.self.invariant.0) d (rw (← c.self.view_is) at a.matches)
+          _ c.index_mut.ensures.value) kept.1,
+    )) c.keep_in.ensures.err
 
 pub index_mut-requires : goal.index_mut-requires
 index_mut-requires g c = rw c.self.inside.clients.ok.0 (found _ _ _ _ _ c.deref.ensures.value c.in-Some.ensures.some c.self.invariant.0).client

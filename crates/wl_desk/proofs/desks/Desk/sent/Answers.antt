@@ -3,7 +3,7 @@ use Rattle.std.proofs.lemmas.List.{length-set}
 use Rattle.wl_plain.specs.Acts.{Send, IsSent}
 use Rattle.wl_plain.specs.declared.answers.Done.TheVariants as gave
 use Rattle.wl_desk.proofs.Calls.{Changes-none, changes, changes-untaken, found}
-use Rattle.wl_desk.proofs.MarkedCalls.{changes-marks, past-marks, untaken-marks}
+use Rattle.wl_desk.proofs.MarkedCalls.{changes-marks, changes-nothing, past-marks, sent-status, untaken-marks}
 use Rattle.wl_desk.proofs.NoMore.{steps-marked, steps-whole}
 use Rattle.wl_desk.proofs.desks.Desk.sent.Goals as goal
 
@@ -62,3 +62,8 @@ returns-in_default-take_out-clause-output g c = ap (λ w. w.desk.output) c.self.
 
 pub returns-clause-output : goal.returns-clause-output
 returns-clause-output g c = ap (λ w. w.desk.output) c.self.view_is
+
+pub returns-clause-nothing : goal.returns-clause-nothing
+returns-clause-nothing g c = λ d a.
+    rw (← c.self.view_is) (changes-nothing c.self.inside.output c.self.inside.clients.items c.self.inside.owned.items c.self.inside.scene c.args.client c.in-Some.k (found _ _ _ _ _ c.deref.ensures.value c.in-Some.ensures.some c.self.invariant.0) d (rw (← c.self.view_is) at a.matches)
+    (IsSent c.args.count) (gave.Sent c.sent-sent.result) c.in-Some-take_out.resident c.sent-sent.new.self _ _ c.sent-sent.new.scene c.self.inside.damage c.sent-sent.new.damage c.index_mut.ensures.value c.index_mut-2.ensures.value c.in-Some-take_out.ensures.some c.sent-sent.ensures.changes (sent-status c.args.count (gave.Sent c.sent-sent.result)) c.sent-sent.ensures.marks)
