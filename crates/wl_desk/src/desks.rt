@@ -65,6 +65,7 @@ impl<A: Allocator + Copy> Desk<A> {
         ensures desk { IfOk result (λ v. Agrees v.desk (empty (output_of output))) }
         ensures output { IfOk result (λ v. v.desk.output ≡ output) }
         ensures damage { IfOk result (λ v. (x y : ℕ) → has v.damage x y ≡ false) }
+        ensures sides { IfOk result (λ v. (v.damage.width ≡ output.width) × (v.damage.height ≡ output.height)) }
         ensures bad { IsErrOf result FrameError.BadSize ↔ ((is_side output.width && is_side output.height) ≡ false) }
     {
         if !is_side(output.width) || !is_side(output.height) {
@@ -83,6 +84,7 @@ impl<A: Allocator + Copy> Desk<A> {
         ensures desk { IfOk result (λ v. Agrees v.desk (empty (output_of output))) }
         ensures output { IfOk result (λ v. v.desk.output ≡ output) }
         ensures damage { IfOk result (λ v. (x y : ℕ) → has v.damage x y ≡ false) }
+        ensures sides { IfOk result (λ v. (v.damage.width ≡ output.width) × (v.damage.height ≡ output.height)) }
     {
         let damage = Damage::new(alloc, output.width, output.height)?;
         let mut clients = Vec::with_capacity(alloc, CLIENT_LIMIT)?;
@@ -106,6 +108,7 @@ impl<A: Allocator + Copy> Desk<A> {
         ensures step { TakesStep Connect (Done.Connect result) self.old.desk self.new.desk }
         ensures marks { MarksStep Connect (Done.Connect result) self.old self.new }
         ensures unchanged { OnErr result (self.new ≡ self.old) }
+        ensures sides { IsAsLarge self.old.damage self.new.damage }
         ensures nothing { MarksNothing self.old self.new }
         ensures output { self.new.desk.output ≡ self.old.desk.output }
     {
@@ -146,6 +149,7 @@ impl<A: Allocator + Copy> Desk<A> {
             → MarksAtLeast d e self.old.damage self.new.damage }
         ensures more { result ≡ Served.More → (d : Desktop) → Agrees self.old.desk d → Agrees self.new.desk d × IsIdleIn client d }
         ensures rests { result ≡ Served.More → self.new.damage ≡ self.old.damage }
+        ensures sides { IsAsLarge self.old.damage self.new.damage }
         ensures less { result ≢ Served.More → length (rest_in client self.new.desk) < length (rest_in client self.old.desk) }
         ensures output { self.new.desk.output ≡ self.old.desk.output }
     {
@@ -166,6 +170,7 @@ impl<A: Allocator + Copy> Desk<A> {
     pub fn end(&mut self, client: ClientNo, cause: Cause)
         ensures ends { (d : Desktop) → Agrees self.old.desk d → (e : Desktop) × Ends client cause d e × Agrees self.new.desk e }
         ensures marks { (d e : Desktop) → Agrees self.old.desk d → Ends client cause d e → MarksAtLeast d e self.old.damage self.new.damage }
+        ensures sides { IsAsLarge self.old.damage self.new.damage }
         ensures output { self.new.desk.output ≡ self.old.desk.output }
     {
         let Some(k) = place_of(&self.clients, client) else {
@@ -183,6 +188,7 @@ impl<A: Allocator + Copy> Desk<A> {
     pub fn store(&mut self, client: ClientNo, store: StoreNo, at: u32, bytes: &[u8]) -> Stored
         ensures step { TakesStep (Store client store at bytes.now) (Done.Store result) self.old.desk self.new.desk }
         ensures marks { MarksStep (Store client store at bytes.now) (Done.Store result) self.old self.new }
+        ensures sides { IsAsLarge self.old.damage self.new.damage }
         ensures nothing { MarksNothing self.old self.new }
         ensures output { self.new.desk.output ≡ self.old.desk.output }
     {
@@ -221,6 +227,7 @@ impl<A: Allocator + Copy> Desk<A> {
     pub fn gone(&mut self, client: ClientNo) -> bool
         ensures step { TakesStep (Leave client) (Done.Gone result) self.old.desk self.new.desk }
         ensures marks { MarksStep (Leave client) (Done.Gone result) self.old self.new }
+        ensures sides { IsAsLarge self.old.damage self.new.damage }
         ensures output { self.new.desk.output ≡ self.old.desk.output }
     {
         let Some(k) = place_of(&self.clients, client) else {
@@ -239,6 +246,7 @@ impl<A: Allocator + Copy> Desk<A> {
     pub fn sent(&mut self, client: ClientNo, count: usize) -> bool
         ensures step { TakesStep (Send client count) (Done.Sent result) self.old.desk self.new.desk }
         ensures marks { MarksStep (Send client count) (Done.Sent result) self.old self.new }
+        ensures sides { IsAsLarge self.old.damage self.new.damage }
         ensures nothing { MarksNothing self.old self.new }
         ensures output { self.new.desk.output ≡ self.old.desk.output }
     {
@@ -258,6 +266,7 @@ impl<A: Allocator + Copy> Desk<A> {
     pub fn close(&mut self, client: ClientNo) -> bool
         ensures step { TakesStep (Close client) (Done.Close result) self.old.desk self.new.desk }
         ensures marks { MarksStep (Close client) (Done.Close result) self.old self.new }
+        ensures sides { IsAsLarge self.old.damage self.new.damage }
         ensures nothing { MarksNothing self.old self.new }
         ensures output { self.new.desk.output ≡ self.old.desk.output }
     {
@@ -310,6 +319,7 @@ impl<A: Allocator + Copy> Desk<A> {
         requires high { painted.old.height ≡ self.old.desk.output.height }
         ensures taken { painted.new ≡ self.old.damage }
         ensures none { (x y : ℕ) → has self.new.damage x y ≡ false }
+        ensures sides { IsAsLarge self.old.damage self.new.damage }
         ensures desk { self.new.desk ≡ self.old.desk }
         ensures width { painted.new.width ≡ self.old.desk.output.width }
         ensures height { painted.new.height ≡ self.old.desk.output.height }

@@ -1,21 +1,19 @@
 -- The events that a session's steps are.
-use Rattle.std.proofs.Common.{◌≡◌, ◌<◌, ℕ, zero, suc, Bool, true, false, List, [], ◌∷◌, ◌++◌, Option, Some, None, refl, ap, sym, subst, ◌∙◌, inl, inr, map}
-use Rattle.std.specs.Prelude.{pos, filter, replicate}
+use Rattle.std.proofs.Common.{◌≡◌, ℕ, zero, suc, Bool, true, false, List, [], ◌∷◌, ◌++◌, Option, Some, None, refl, ap, sym, subst, ◌∙◌, inl, inr}
+use Rattle.std.specs.Prelude.{replicate}
 use Rattle.std.proofs.lemmas.List.{map-append}
 use Rattle.wl_client.specs.declared.clients.Cause.{Cause}
 use Rattle.wl_client.specs.declared.clients.Cause.TheVariants as cause
 use Rattle.wl_client.specs.Peer.{ended, with_rest}
 use Rattle.wl_paint.specs.Damage.{Damaged, has}
 use Rattle.wl_paint.specs.Frame.{Image}
-use Rattle.wl_plain.specs.Acts.{Act, Connect, Feed, Store, Leave, Tick, Send, Close, Motion, Button, peer_at, peer_of, status_of, fed_of}
+use Rattle.wl_plain.specs.Acts.{Act, Feed, Tick, peer_at, peer_of, status_of, fed_of}
 use Rattle.wl_plain.specs.declared.answers.Done.{Done}
-use Rattle.wl_plain.specs.declared.answers.Fed.{Fed}
 use Rattle.wl_plain.specs.declared.answers.Fed.TheVariants as fed
 use Rattle.wl_plain.specs.Desktop.{Desktop, Resident, client_at, with_client}
-use Rattle.wl_plain.specs.Happenings.{Happening, Leads, Message, Receive, Single, Starve, StarvesAt}
+use Rattle.wl_plain.specs.Happenings.{Leads, Message, Receive, ReceivesAt, Single, Starve, StarvesAt}
 use Rattle.wl_plain.specs.Happens.{Happens, Reaches, Serves, ServesThen}
 use Rattle.wl_plain.specs.LeftOut.{served_now}
-use Rattle.wl_plain.specs.Moments.{marks_at_least}
 use Rattle.wl_plain.specs.Settling.{EndsAndSettles, becomes, unstruck}
 use Rattle.wl_plain.specs.Step.{with_peer}
 use Rattle.wl_plain.specs.Through.{IsSingle}
@@ -23,15 +21,14 @@ use Rattle.wl_plain.proofs.OwningKeys.{differ}
 use Rattle.wl_plain.proofs.Through.{happens_leads_through, messages_lead_through, settling-with}
 use Rattle.wl_resident.specs.Marking.{MarksAtLeast}
 use Rattle.wl_resident.specs.Marking.{IsAsLarge as HasItsSides}
-use Rattle.wl_resident.specs.View.{DeskView, MarkedDesk}
+use Rattle.wl_resident.specs.View.{MarkedDesk}
 use Rattle.wl_desk.specs.Agreeing.{Agrees, MarksNothing, MarksStep, TakesStep}
-use Rattle.wl_desk.specs.Feeding.{Ends, EndsBy, EndsOf, IsIdleIn, kept_at, kept_by, kept_of}
+use Rattle.wl_desk.specs.Feeding.{Ends, EndsBy, EndsOf, kept_at, kept_by, kept_of}
 use Rattle.wl_desk.proofs.Agreed.{agrees-apart, kept-unmarked, still-unmarked}
-use Rattle.wl_session.specs.Course.{AreParts, Course, LeadsTo, Ran, Runs, Served, TakesCourse, happenings, moment}
-use Rattle.wl_session.specs.Events.{AreApart, AreEvents, Event, IsAsDamaged, IsEvent, IsMarked, IsShown, Moment, PaintsIf, frames_of, is_frame, is_quiet_act, is_tick}
+use Rattle.wl_session.specs.Course.{AreParts, Course, TakesCourse, Took, happenings, moment}
+use Rattle.wl_session.specs.Events.{AreApart, AreEvents, Event, IsMarked, Moment, PaintsIf, is_quiet_act, is_tick}
 use Rattle.wl_session.specs.Liars.{AreLiars, IsRightBut}
-use Rattle.wl_session.specs.Run.{Film, IsNextFrame}
-use Rattle.wl_session.specs.Seen.{AreShots}
+use Rattle.wl_session.specs.Run.{IsNextFrame}
 use Rattle.wl_session.specs.View.{SessionView}
 use Rattle.wl_session.proofs.Stays.{stays_right}
 
@@ -97,12 +94,12 @@ replicate-more zero x = refl
 replicate-more (suc n) x = ap (λ xs. x ∷ xs) (replicate-more n x)
 
 -- none yet
-pub served-none : (client : ℕ) (v : SessionView) (d : Desktop) → Agrees v.desk d → Served client v v d
+pub served-none : (client : ℕ) (v : SessionView) (d : Desktop) → Agrees v.desk d → Took client v v d
 served-none client v d a = record { count = zero; desktop = d; events = []; reaches = refl; parts = refl; leads = refl; apart = tt; agrees = a }
 
 -- one more
-pub served-more : (client : ℕ) (old mid new : SessionView) (d e : Desktop) → (s : Served client old mid d) → new.frame ≡ mid.frame → HasItsSides mid.damage new.damage → Serves served_now client s.desktop e → Agrees new.desk e
-    → MarksAtLeast s.desktop e mid.damage new.damage → Served client old new d
+pub served-more : (client : ℕ) (old mid new : SessionView) (d e : Desktop) → (s : Took client old mid d) → new.frame ≡ mid.frame → HasItsSides mid.damage new.damage → Serves served_now client s.desktop e → Agrees new.desk e
+    → MarksAtLeast s.desktop e mid.damage new.damage → Took client old new d
 served-more client old mid new d e s frame sides serves agrees marks =
     let through = (messages_lead_through served_now client s.desktop e).1 serves in
     let event : Event = record { happening = Message client; before = moment s.desktop mid; path = through.0; after = moment e new } in
@@ -118,6 +115,24 @@ served-more client old mid new d e s frame sides serves agrees marks =
       apart = apart-then s.events (event ∷ []) s.apart (agrees-apart mid.desk s.desktop s.agrees, agrees-apart new.desk e agrees, tt);
       agrees = agrees;
     }
+
+-- the same, where what is kept besides changed
+pub took-then : (client : ℕ) (old mid new : SessionView) (d : Desktop) → (s : Took client old mid d) → new.damage ≡ mid.damage → new.frame ≡ mid.frame → Agrees new.desk s.desktop → (t : Took client old new d) × (t.desktop ≡ s.desktop)
+took-then client old mid new d s damage frame agrees =
+    let same : moment s.desktop mid ≡ moment s.desktop new =
+    ap (λ (m : Damaged). record { desktop = s.desktop; damage = m; frame = mid.frame }) (sym damage) ∙ ap (λ (i : Image). record { desktop = s.desktop; damage = new.damage; frame = i }) (sym frame) in (
+      record {
+        count = s.count;
+        desktop = s.desktop;
+        events = s.events;
+        reaches = s.reaches;
+        parts = s.parts;
+        leads = subst (λ m. AreEvents served_now (moment d old) s.events m) same s.leads;
+        apart = s.apart;
+        agrees = agrees;
+      },
+      refl,
+    )
 
 -- ---- a piece
 
@@ -138,7 +153,7 @@ no-message-ended c (suc n) s r d new there over h =
     absurd (cc)
 
 -- a piece that was kept, and then so many messages
-pub fed-course : (client : ℕ) (piece : List ℕ) (done : Done) (old kept new : SessionView) (d : Desktop) → kept.frame ≡ old.frame → kept.damage ≡ old.damage → Agrees old.desk d → (s : Served client kept new (kept_at client piece d))
+pub fed-course : (client : ℕ) (piece : List ℕ) (done : Done) (old kept new : SessionView) (d : Desktop) → kept.frame ≡ old.frame → kept.damage ≡ old.damage → Agrees old.desk d → (s : Took client kept new (kept_at client piece d))
     → Happens served_now (Feed client piece) done d s.desktop → Agrees kept.desk (kept_at client piece d) → Course (Feed client piece) done old new d
 fed-course client piece done old kept new d frame damage a s happens b = at (client_at client d) refl
   where
@@ -165,7 +180,7 @@ fed-course client piece done old kept new d frame damage a s happens b = at (cli
         let same : kept_at client piece d ≡ with_client client (Some come) d = ap (λ o. kept_of client piece o d) there ∙ ap (λ t. kept_by client piece t r d) alive in
         let event : Event = record { happening = Receive client piece; before = moment d old; path = kept_at client piece d ∷ []; after = moment (kept_at client piece d) kept } in
         let received : Leads served_now (Receive client piece) d (kept_at client piece d ∷ []) (kept_at client piece d) =
-        rw there (alive, same, refl) in
+        subst (λ o. ReceivesAt client piece o d (kept_at client piece d ∷ []) (kept_at client piece d)) (sym there) (alive, same, refl) in
         let marks : IsMarked (Receive client piece) (moment d old) (moment (kept_at client piece d) kept) = record {
           frame = frame;
           sides = record { width = ap (λ (m : Damaged). m.width) damage; height = ap (λ (m : Damaged). m.height) damage };

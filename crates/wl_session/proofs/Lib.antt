@@ -6,3 +6,5 @@ pub mod Unmarked
 pub mod StoreWrites
 pub mod Seen
 pub mod Promised
+pub mod Courses
+pub mod Stays

@@ -1,90 +1,169 @@
 -- Runs of a session, step by step.
-use Rattle.std.proofs.Common.{◌≡◌, ℕ, ◌+◌, ◌<◌, List, [], ◌∷◌, ◌++◌, length, take, map, get_or, refl, sym, subst, ◌∙◌, ap, append_assoc}
-use Rattle.std.specs.Prelude.{Bool, IsTrue, false}
+use Rattle.std.proofs.Common.{◌≡◌, ℕ, zero, suc, ◌+◌, ◌<◌, Bool, true, false, List, [], ◌∷◌, ◌++◌, length, take, map, get_or, refl, sym, subst, ◌∙◌, ap, append_assoc, inl, inr}
+use Rattle.std.specs.List.{list_any}
+use Rattle.std.specs.Prelude.{IsTrue, ◌||◌, cond, replicate}
 use Rattle.std.proofs.lemmas.List.{map-append, take_more, append-nil}
 use Rattle.std.proofs.lemmas.Option.{slice_get-get_or}
-use Rattle.wl_paint.specs.Frame.{Image}
-use Rattle.wl_session.specs.View.{SessionView}
+use Rattle.wl_paint.specs.Damage.{has}
 use Rattle.wl_plain.specs.declared.answers.Done.{Done}
-use Rattle.wl_session.specs.declared.steps.Step.{Step}
-use Rattle.wl_plain.specs.Desktop.{Desktop}
-use Rattle.wl_plain.specs.LeftOut.{LeftOut}
+use Rattle.wl_plain.specs.declared.answers.Done.TheVariants as gave
 use Rattle.wl_plain.specs.Acts.{Act, Connect, Feed, Store, Leave, Tick, Send, Close, Motion, Button}
+use Rattle.wl_plain.specs.Desktop.{Desktop}
+use Rattle.wl_plain.specs.Happenings.{Happening, Message, Single}
 use Rattle.wl_plain.specs.Happens.{Happens}
+use Rattle.wl_plain.specs.LeftOut.{LeftOut, served_now}
+use Rattle.wl_desk.specs.Agreeing.{Agrees}
+use Rattle.wl_session.specs.Course.{AreParts, IsSeen, LeadsTo, Ran, Runs, TakesCourse, TakesSteps, happenings, moment}
+use Rattle.wl_session.specs.Events.{AreEvents, Event, Moment, frames_of, is_frame, is_tick}
+use Rattle.wl_session.specs.Run.{AreRuns, Film, MayStopAt, takes_memory}
+use Rattle.wl_session.specs.Seen.{AreShots, IsShot}
 use Rattle.wl_session.specs.Step.{act_of}
-use Rattle.wl_session.specs.Run.{Film, IsNextFrame, IsShownBy, Leads, MayStopAt, Runs, Shows, in_runs, takes_memory}
-use Rattle.wl_desk.specs.Agreeing.{Agrees, TakesStep}
-use Rattle.wl_session.proofs.Reported.{each_point, in-points}
+use Rattle.wl_session.specs.View.{SessionView}
+use Rattle.wl_session.specs.declared.steps.Step.{Step}
+use Rattle.wl_session.proofs.Courses.{apart-then, events-then}
+use Rattle.wl_session.proofs.Seen.{sees-scratch}
+use Rattle.wl_session.proofs.Stays.{stays_right}
 
-Runs-snoc : (left : LeftOut) (acts : List Act) (act : Act) (before image after : Image) (old mid new : Desktop) (films first : List Film) (done : Done) → Runs left before old acts films image mid → Happens left act done mid new → Shows act mid image first after → Runs left before old (acts ++ act ∷ []) (films ++ first) after new
-Runs-snoc left [] act before image after old mid new films first done run step shows = (
-  new,
+-- ---- steps one after another
+
+runs-last : (left : LeftOut) (acts : List Act) (act : Act) (from mid to : Moment) (events last : List Event) (done : Done) → Runs left from acts events mid → Happens left act done mid.desktop to.desktop
+    → AreParts act done (happenings last) → AreEvents left mid last to → Runs left from (acts ++ act ∷ []) (events ++ last) to
+runs-last left [] act from mid to events last done run happens parts leads = (
+  to,
   done,
-  after,
-  first,
+  last,
   [],
-  subst (λ (x : Desktop). Happens left act done x new) run.2 step,
-  subst (λ (x : Image). Shows act old x first after) run.1 (subst (λ (x : Desktop). Shows act x image first after) run.2 shows),
-  rw run.0 (sym (append-nil first)),
-  (refl, refl, refl),
+  subst (λ (m : Moment). Happens left act done m.desktop to.desktop) run.1 happens,
+  parts,
+  subst (λ (m : Moment). AreEvents left m last to) run.1 leads,
+  ap (λ es. es ++ last) run.0 ∙ sym (append-nil last),
+  (refl, refl),
 )
-Runs-snoc left (a ∷ acts) act before image after old mid new films first done run step shows = (
+runs-last left (a ∷ acts) act from mid to events last done run happens parts leads = (
   run.0,
   run.1,
   run.2,
-  run.3,
-  run.4 ++ first,
+  run.3 ++ last,
+  run.4,
   run.5,
   run.6,
-  ap (λ (fs : List Film). fs ++ first) run.7 ∙ append_assoc run.3 run.4 first,
-  Runs-snoc left acts act run.2 image after run.0 mid new run.4 first done run.8 step shows,
+  ap (λ es. es ++ last) run.7 ∙ append_assoc run.2 run.3 last,
+  runs-last left acts act run.0 mid to run.3 last done run.8 happens parts leads,
 )
 
+-- they are events one after another
+pub runs-events : (acts : List Act) (from to : Moment) (events : List Event) → Runs served_now from acts events to → AreEvents served_now from events to
+runs-events [] from to events run = subst (λ es. AreEvents served_now from es to) (sym run.0) run.1
+runs-events (act ∷ acts) from to events run =
+    subst (λ es. AreEvents served_now from es to) (sym run.7) (events-then from run.0 to run.2 run.3 run.6 (runs-events acts run.0 to run.3 run.8))
+
+-- ---- frames
+
+frames-then : (first later : List Event) → frames_of (first ++ later) ≡ frames_of first ++ frames_of later
+frames-then [] later = refl
+frames-then (e ∷ es) later = by (is_frame e.happening) (frames-then es later)
+  where
+    by : (b : Bool) → frames_of (es ++ later) ≡ frames_of es ++ frames_of later
+        → cond b (e ∷ frames_of (es ++ later)) (frames_of (es ++ later)) ≡ cond b (e ∷ frames_of es) (frames_of es) ++ frames_of later
+    by true same = ap (λ xs. e ∷ xs) same
+    by false same = same
+
+shots-then : (first later : List Event) (films more : List Film) → AreShots first films → AreShots later more → AreShots (first ++ later) (films ++ more)
+shots-then [] later [] more a b = b
+shots-then [] later (film ∷ films) more a b = absurd a
+shots-then (e ∷ es) later [] more a b = absurd a
+shots-then (e ∷ es) later (film ∷ films) more a b = (a.0, shots-then es later films more a.1 b)
+
+-- what is no tick shows no frame
+no-frames : (events : List Event) → list_any is_frame (happenings events) ≡ false → frames_of events ≡ []
+no-frames [] none = refl
+no-frames (e ∷ es) none = by (is_frame e.happening) none (no-frames es)
+  where
+    by : (b : Bool) → (b || list_any is_frame (happenings es)) ≡ false → (list_any is_frame (happenings es) ≡ false → frames_of es ≡ []) → cond b (e ∷ frames_of es) (frames_of es) ≡ []
+    by true none rest = absurd (cc)
+    by false none rest = rest none
+
+messages-quiet : (n client : ℕ) → list_any is_frame (replicate n (Message client)) ≡ false
+messages-quiet zero client = refl
+messages-quiet (suc n) client = messages-quiet n client
+
+quiet-parts : (act : Act) (done : Done) (parts : List Happening) → is_tick act ≡ false → AreParts act done parts → list_any is_frame parts ≡ false
+quiet-parts Connect done parts quiet are = ap (λ hs. list_any is_frame hs) are
+quiet-parts (Feed client piece) done parts quiet (inl are) = ap (λ hs. list_any is_frame hs) are
+quiet-parts (Feed client piece) done parts quiet (inr (inl are)) = ap (λ hs. list_any is_frame hs) are
+quiet-parts (Feed client piece) done parts quiet (inr (inr are)) = ap (λ hs. list_any is_frame hs) are.1 ∙ messages-quiet are.0 client
+quiet-parts (Store client store at bytes) done parts quiet are = ap (λ hs. list_any is_frame hs) are
+quiet-parts (Leave client) done parts quiet are = ap (λ hs. list_any is_frame hs) are
+quiet-parts (Tick time) done parts quiet are = absurd (cc)
+quiet-parts (Send client count) done parts quiet are = ap (λ hs. list_any is_frame hs) are
+quiet-parts (Close client) done parts quiet are = ap (λ hs. list_any is_frame hs) are
+quiet-parts (Motion time x y) done parts quiet are = ap (λ hs. list_any is_frame hs) are
+quiet-parts (Button time button pressed) done parts quiet are = ap (λ hs. list_any is_frame hs) are
+
+pub quiet-leads : (act : Act) (done : Done) (old new : SessionView) → is_tick act ≡ false → TakesCourse act done old new → LeadsTo act [] old new
+quiet-leads act done old new quiet takes = λ d a.
+    let course = takes d a in
+    (done, course, subst (λ es. AreShots es []) (sym (no-frames course.events (quiet-parts act done (happenings course.events) quiet course.parts))) tt)
+
+head : Happening → List Happening → Happening
+head other [] = other
+head other (h ∷ hs) = h
+
+first : (time : ℕ) (h : Happening) → h ∷ [] ≡ Single (Tick time) gave.Tick ∷ [] → h ≡ Single (Tick time) gave.Tick
+unfolding head
+first time h same = ap (λ hs. head h hs) same
+
+-- the frame of a tick
+tick-shown : (time : ℕ) (from to : Moment) (events : List Event) (film : Film) → happenings events ≡ Single (Tick time) gave.Tick ∷ [] → AreEvents served_now from events to → film.time ≡ time
+    → AreRuns from.frame.width from.frame.height (has from.damage) film.runs → film.pixels ≡ to.frame.pixels → AreShots (frames_of events) (film ∷ [])
+tick-shown time from to [] film parts leads shown runs pixels = absurd (cc)
+tick-shown time from to (e ∷ (f ∷ fs)) film parts leads shown runs pixels = absurd (cc)
+tick-shown time from to (e ∷ []) film parts leads shown runs pixels =
+    let is : e.happening ≡ Single (Tick time) gave.Tick = first time e.happening parts in
+    let shot : IsShot e film = record {
+      time = is ∙ ap (λ t. Single (Tick t) gave.Tick) (sym shown);
+      runs = subst (λ (m : Moment). AreRuns m.frame.width m.frame.height (has m.damage) film.runs) (sym leads.0) runs;
+      pixels = pixels ∙ ap (λ (m : Moment). m.frame.pixels) leads.2;
+    } in
+    rw (ap is_frame is) (shot, tt)
+
+pub tick-leads : (time : ℕ) (old new : SessionView) (film : Film) → TakesCourse (Tick time) gave.Tick old new → film.time ≡ time → AreRuns old.frame.width old.frame.height (has old.damage) film.runs → film.pixels ≡ new.frame.pixels
+    → LeadsTo (Tick time) (film ∷ []) old new
+tick-leads time old new film takes shown runs pixels = λ d a.
+    let course = takes d a in
+    (gave.Tick, course, tick-shown time (moment d old) (moment course.desktop new) course.events film course.parts course.leads shown runs pixels)
+
+-- ---- a run
+
+pub ran-none : (v : SessionView) (d : Desktop) → Agrees v.desk d → Ran [] [] v v d
+ran-none v d a = record { desktop = d; events = []; runs = (refl, refl); apart = tt; shots = tt; agrees = a }
+
 -- a run goes on by one more step
-pub Runs-more : (left : LeftOut) (steps : List Step) (i : ℕ) (x : Step) (before image after : Image) (old mid new : Desktop) (films first : List Film) (done : Done) → i < length steps → Runs left before old (map act_of (take i steps)) films image mid → Happens left (act_of (get_or steps i x)) done mid new → Shows (act_of (get_or steps i x)) mid image first after → Runs left before old (map act_of (take (i + 1) steps)) (films ++ first) after new
-Runs-more left steps i x before image after old mid new films first done h run step shows =
-    let e : map act_of (take (i + 1) steps) ≡ map act_of (take i steps) ++ act_of (get_or steps i x) ∷ [] =
+pub ran-more : (steps : List Step) (i : ℕ) (x : Step) (old mid new : SessionView) (films first : List Film) (d : Desktop) → i < length steps → Ran (map act_of (take i steps)) films old mid d
+    → LeadsTo (act_of (get_or steps i x)) first mid new → Ran (map act_of (take (i + 1) steps)) (films ++ first) old new d
+ran-more steps i x old mid new films first d h ran leads =
+    let next = leads ran.desktop ran.agrees in
+    let course = next.1 in
+    let acts : map act_of (take (i + 1) steps) ≡ map act_of (take i steps) ++ act_of (get_or steps i x) ∷ [] =
     ap (λ (ss : List Step). map act_of ss) (take_more steps i x h) ∙ map-append act_of (take i steps) (get_or steps i x ∷ []) in
-    subst (λ (acts : List Act). Runs left before old acts (films ++ first) after new) (sym e) (Runs-snoc left (map act_of (take i steps)) (act_of (get_or steps i x)) before image after old mid new films first done run step shows)
+    record {
+      desktop = course.desktop;
+      events = ran.events ++ course.events;
+      runs = subst (λ acts. Runs served_now (moment d old) acts (ran.events ++ course.events) (moment course.desktop new)) (sym acts)
+          (runs-last served_now (map act_of (take i steps)) (act_of (get_or steps i x)) (moment d old) (moment ran.desktop mid) (moment course.desktop new) ran.events course.events next.0 ran.runs course.happens course.parts course.leads);
+      apart = apart-then ran.events course.events ran.apart course.apart;
+      shots = subst (λ es. AreShots es (films ++ first)) (sym (frames-then ran.events course.events)) (shots-then (frames_of ran.events) (frames_of course.events) films first ran.shots next.2);
+      agrees = course.agrees;
+    }
 
--- a frame that was painted where these points are was painted where those are that are the same on it
-pub IsNextFrame-by : (d : Desktop) (before after : Image) (damaged reported : ℕ → ℕ → Bool) → ((x y : ℕ) → x < before.width → y < before.height → reported x y ≡ damaged x y) → IsNextFrame d before after damaged → IsNextFrame d before after reported
-IsNextFrame-by d before after damaged reported same next = record {
-  large = next.large;
-  painted = λ x y w h here opaque. next.painted x y w h (sym (same x y w h) ∙ here) opaque;
-  kept = λ x y w h none. next.kept x y w h (sym (same x y w h) ∙ none);
-}
-
--- the frame of a tick, where no report of it is made
-pub Shows-tick : (time : ℕ) (d : Desktop) (before after : Image) (damaged : ℕ → ℕ → Bool) → IsNextFrame d before after damaged → IsShownBy (Tick time) d before after
-Shows-tick time d before after damaged next =
-    let runs = each_point damaged before.width before.height in
-    let film : Film = record { time = time; runs = runs; pixels = after.pixels } in (
-      film ∷ [],
-      (film, refl, record { shown = refl; pixels = refl; next = IsNextFrame-by d before after damaged (in_runs runs) (in-points damaged before.width before.height) next }),
+pub ran-seen : (acts : List Act) (films : List Film) (old new : SessionView) → TakesSteps acts films old new → IsSeen acts films old new
+ran-seen acts films old new takes = λ d a.
+    let ran = takes d a in
+    let leads = runs-events acts (moment d old) (moment ran.desktop new) ran.events ran.runs in (
+      ran,
+      (λ liars sight right held. sees-scratch served_now (moment d old) (moment ran.desktop new) ran.events films liars sight ran.apart leads ran.shots right held),
+      (λ liars last broke right. stays_right served_now (moment d old) (moment ran.desktop new) ran.events liars last ran.apart leads broke right),
     )
-
--- what takes no memory shows no frame
-Shows-quiet : (act : Act) (d : Desktop) (before after : Image) (films : List Film) → takes_memory act ≡ false → Shows act d before films after → Shows act d before [] after
-Shows-quiet Connect d before after films quiet shows = absurd (cc)
-Shows-quiet (Feed c piece) d before after films quiet shows = (refl, shows.1)
-Shows-quiet (Store c store at bytes) d before after films quiet shows = (refl, shows.1)
-Shows-quiet (Leave c) d before after films quiet shows = (refl, shows.1)
-Shows-quiet (Tick time) d before after films quiet shows = absurd (cc)
-Shows-quiet (Send c n) d before after films quiet shows = (refl, shows.1)
-Shows-quiet (Close c) d before after films quiet shows = (refl, shows.1)
-Shows-quiet (Motion time x y) d before after films quiet shows = (refl, shows.1)
-Shows-quiet (Button time button pressed) d before after films quiet shows = (refl, shows.1)
-
-pub Leads-quiet : (act : Act) (done : Done) (old new : SessionView) → takes_memory act ≡ false → TakesStep act done old.desk new.desk → ((d : Desktop) → Agrees old.desk d → IsShownBy act d old.frame new.frame) → Leads act [] old new
-Leads-quiet act done old new quiet step shows = λ d a.
-    let e = step d a in
-    let s = shows d a in
-    (e.0, done, e.1, Shows-quiet act d old.frame new.frame s.0 quiet s.1, e.2)
-
--- a step that shows no frame leads on
-pub Leads-none : (act : Act) (done : Done) (old new : SessionView) → TakesStep act done old.desk new.desk → ((d : Desktop) → Shows act d old.frame [] new.frame) → Leads act [] old new
-Leads-none act done old new step shows = λ d a. let e = step d a in (e.0, done, e.1, shows d, e.2)
 
 -- the step at a place may want memory
 pub MayStopAt-here : (steps : List Step) (n : ℕ) (x : Step) → n < length steps → IsTrue (takes_memory (act_of (get_or steps n x))) → MayStopAt steps n

@@ -1,13 +1,11 @@
 -- A viewer that copies only what each frame reports sees the desktop painted from nothing.
-use Rattle.std.proofs.Common.{◌≡◌, ◌<◌, ◌≤◌, ℕ, zero, suc, Bool, true, false, List, [], ◌∷◌, ◌++◌, refl, ap, sym, subst, ◌∙◌, arith, length, take}
-use Rattle.std.specs.Prelude.{ℤ, pos, ◌+◌, ◌*◌, ◌||◌, cond, filter, fold}
+use Rattle.std.proofs.Common.{◌≡◌, ◌<◌, ℕ, Bool, true, false, List, [], ◌∷◌, ◌++◌, refl, ap, sym, subst, ◌∙◌, length, take}
+use Rattle.std.specs.Prelude.{pos, ◌+◌, ◌*◌, ◌||◌, cond, fold}
 use Rattle.wl_blend.specs.Blend.{color_of}
 use Rattle.wl_blend.specs.declared.color.Rgb.{Rgb}
-use Rattle.wl_paint.specs.Damage.{has}
 use Rattle.wl_paint.specs.Frame.{Image, color_at}
-use Rattle.wl_plain.specs.Desktop.{Desktop}
 use Rattle.wl_plain.specs.Happenings.{Happening, Message, Receive, Single, Starve}
-use Rattle.wl_plain.specs.Acts.{Act, Connect, Feed, Store, Leave, Tick, Send, Close, Motion, Button}
+use Rattle.wl_plain.specs.Acts.{Connect, Feed, Store, Leave, Tick, Send, Close, Motion, Button}
 use Rattle.wl_plain.specs.LeftOut.{LeftOut}
 use Rattle.wl_plain.specs.Marks.{AreDistinct}
 use Rattle.wl_plain.specs.Scratch.{scratch}
@@ -41,18 +39,18 @@ events-apart left from to (e ∷ es) known leads =
 -- ---- a tick gives no number back
 
 no-number : (h : Happening) (c : ℕ) → is_frame h ≡ true → gives_back h c ≡ true → ⊥
-no-number (Receive client piece) c e f = differ (sym e)
-no-number (Message client) c e f = differ (sym e)
-no-number (Starve client) c e f = differ (sym e)
-no-number (Single Connect done) c e f = differ (sym e)
-no-number (Single (Feed client piece) done) c e f = differ (sym e)
-no-number (Single (Store client store at bytes) done) c e f = differ (sym e)
-no-number (Single (Leave client) done) c e f = differ (sym e)
-no-number (Single (Tick time) done) c e f = differ (sym f)
-no-number (Single (Send client count) done) c e f = differ (sym e)
-no-number (Single (Close client) done) c e f = differ (sym e)
-no-number (Single (Motion time x y) done) c e f = differ (sym e)
-no-number (Single (Button time button pressed) done) c e f = differ (sym e)
+no-number (Receive client piece) c e f = differ e
+no-number (Message client) c e f = differ e
+no-number (Starve client) c e f = differ e
+no-number (Single Connect done) c e f = differ e
+no-number (Single (Feed client piece) done) c e f = differ e
+no-number (Single (Store client store at bytes) done) c e f = differ e
+no-number (Single (Leave client) done) c e f = differ e
+no-number (Single (Tick time) done) c e f = differ f
+no-number (Single (Send client count) done) c e f = differ e
+no-number (Single (Close client) done) c e f = differ e
+no-number (Single (Motion time x y) done) c e f = differ e
+no-number (Single (Button time button pressed) done) c e f = differ e
 
 -- so its liars are still some
 still-liars : (e : Event) (liars next : ℕ → Bool) → is_frame e.happening ≡ true → HoldsLiars e liars next → (c : ℕ) → next c ≡ false → (liars c || next c) ≡ false
@@ -129,28 +127,24 @@ module _ (left : LeftOut) (width height : ℕ) (background : Rgb) (to : Moment) 
       let all : AreShots (frame ∷ frames_of later) films = rw tick at shots in
       rw tick (sees-frame frame later films liars broke sight x y leads.1 (apart.0, apart.1) tick all those at.0 at.1 at.2 w h clear)
   sees-each (e ∷ es) frame later from films liars broke sight x y leads apart tick shots holds right held kind w h clear =
-      by (is_frame e.happening) refl films shots
+      let began : IsRightBut liars e.before × Holds sight e.before.frame × IsOf e.before.frame =
+      subst (λ (m : Moment). IsRightBut liars m × Holds sight m.frame × IsOf m.frame) (sym leads.0) (right, held, kind) in
+      let after : IsRightBut holds.0 e.after = event-right left e liars holds.0 leads.1 (apart.0, apart.1) holds.1 began.0 in
+      let kind_after : IsOf e.after.frame = of-next e began.2 (is_frame e.happening) leads.1.paints in
+      by began
+      (λ films sight held shots. sees-each es frame later e.after films holds.0 broke sight x y leads.2 apart.2 tick shots holds.2 after held kind_after w h clear)
+      (is_frame e.happening) refl films shots
     where
-      began : IsRightBut liars e.before × Holds sight e.before.frame × IsOf e.before.frame
-      began = subst (λ (m : Moment). IsRightBut liars m × Holds sight m.frame × IsOf m.frame) (sym leads.0) (right, held, kind)
-
-      after : IsRightBut holds.0 e.after
-      after = event-right left e liars holds.0 leads.1 (apart.0, apart.1) holds.1 began.0
-
-      kind_after : IsOf e.after.frame
-      kind_after = of-next e began.2 (is_frame e.happening) leads.1.paints
-
-      rest : (films : List Film) (sight : Sight) → Holds sight e.after.frame → AreShots (frames_of (es ++ frame ∷ later)) films
-          → fold (copied width) sight (take (length (frames_of (es ++ frame ∷ []))) films) x y ≡ scratch background frame.before.desktop (pos x) (pos y)
-      rest films sight held shots = sees-each es frame later e.after films holds.0 broke sight x y leads.2 apart.2 tick shots holds.2 after held kind_after w h clear
-
-      by : (b : Bool) → is_frame e.happening ≡ b → (films : List Film) → AreShots (cond b (e ∷ frames_of (es ++ frame ∷ later)) (frames_of (es ++ frame ∷ later))) films
+      by : IsRightBut liars e.before × Holds sight e.before.frame × IsOf e.before.frame
+          → ((films : List Film) (sight : Sight) → Holds sight e.after.frame → AreShots (frames_of (es ++ frame ∷ later)) films
+          → fold (copied width) sight (take (length (frames_of (es ++ frame ∷ []))) films) x y ≡ scratch background frame.before.desktop (pos x) (pos y))
+          → (b : Bool) → is_frame e.happening ≡ b → (films : List Film) → AreShots (cond b (e ∷ frames_of (es ++ frame ∷ later)) (frames_of (es ++ frame ∷ later))) films
           → fold (copied width) sight (take (length (cond b (e ∷ frames_of (es ++ frame ∷ [])) (frames_of (es ++ frame ∷ [])))) films) x y ≡ scratch background frame.before.desktop (pos x) (pos y)
-      by true is [] shots = absurd shots
-      by true is (film ∷ films) shots =
+      by began rest true is [] shots = absurd shots
+      by began rest true is (film ∷ films) shots =
           let shown : IsShown e.before e.after = subst (λ b. PaintsIf b e.happening e.before e.after) is leads.1.paints in
           rest films (copied width sight film) (subst (λ n. Holds (copied n sight film) e.after.frame) began.2.wide (copied-holds e film sight shown shots.0 began.1)) shots.1
-      by false is films shots =
+      by began rest false is films shots =
           let marked : IsMarked e.happening e.before e.after = subst (λ b. PaintsIf b e.happening e.before e.after) is leads.1.paints in
           rest films sight (subst (λ (i : Image). Holds sight i) (sym marked.frame) began.1) shots
 

@@ -1,13 +1,12 @@
 -- What is right but for some clients stays so, one event at a time.
-use Rattle.std.proofs.Common.{◌≡◌, ◌<◌, ℕ, Bool, true, false, List, [], ◌∷◌, ◌++◌, Option, Some, None, refl, ap, sym, subst, ◌∙◌, arith, get_or, length}
+use Rattle.std.proofs.Common.{◌≡◌, ◌<◌, ℕ, Bool, true, false, List, [], ◌∷◌, Option, Some, None, refl, ap, sym, subst, ◌∙◌, arith, get_or}
 use Rattle.std.specs.Prelude.{ℤ, pos, ◌-ℤ◌, ◌==◌, ◌&&◌, ◌||◌, not, is_some, slice_get}
 use Rattle.std.specs.List.{list_any}
-use Rattle.std.proofs.lemmas.Bool.{eqb-true, le-leb, lt-ltb}
+use Rattle.std.proofs.lemmas.Bool.{eqb-true}
 use Rattle.std.proofs.lemmas.Int.{ints}
 use Rattle.std.proofs.lemmas.Option.{slice_get-get_or}
 use Rattle.wl_blend.specs.declared.color.Rgb.{Rgb}
 use Rattle.wl_client.specs.declared.clients.Cause.{Cause}
-use Rattle.wl_client.specs.Peer.{Peer}
 use Rattle.wl_client.specs.Told.{Output}
 use Rattle.wl_geom.specs.Region.{holds}
 use Rattle.wl_paint.specs.Damage.{has}
@@ -19,7 +18,7 @@ use Rattle.wl_desk.specs.Painting.{IsOpaqueAsSaid}
 use Rattle.wl_plain.specs.Acts.{Act, Connect, Feed, Store, Leave, Tick, Send, Close, Motion, Button, IsClosed, closed_by}
 use Rattle.wl_plain.specs.declared.answers.Done.{Done}
 use Rattle.wl_plain.specs.declared.answers.Done.TheVariants as gave
-use Rattle.wl_plain.specs.Desktop.{Desktop, Resident, client_at, owned_in, owned_of, with_client}
+use Rattle.wl_plain.specs.Desktop.{Desktop, Resident, client_at, owned_in, owned_of}
 use Rattle.wl_plain.specs.Happenings.{Happening, Leads, Message, Receive, Single, Starve}
 use Rattle.wl_plain.specs.Happens.{ChangesThen}
 use Rattle.wl_plain.specs.LeftOut.{LeftOut}
@@ -32,10 +31,10 @@ use Rattle.wl_plain.proofs.MarkedThrough.{leads-output}
 use Rattle.wl_plain.proofs.OwningKeys.{none-some}
 use Rattle.wl_plain.proofs.Places.{number-same}
 use Rattle.wl_plain.proofs.ShownWindows.{IsShown as ShowsBuffer, all-shown}
-use Rattle.wl_plain.proofs.Stacks.{Each, and-both, and-left, and-right, differ, each-map, or-left, or-right, same-number, unless}
-use Rattle.wl_session.specs.Events.{AreApart, AreEvents, Event, IsEvent, IsMarked, IsShown, Moment, PaintsIf, is_frame}
-use Rattle.wl_session.specs.Liars.{AreLiars, HoldsLiars, IsRightBut, closes, gives_back, was_closed}
-use Rattle.wl_session.specs.Promises.{KeepsIn, KeepsOpaque, is_clear_in, windows_by}
+use Rattle.wl_plain.proofs.Stacks.{and-left, and-right, differ, each-map, or-left, or-right, same-number, unless}
+use Rattle.wl_session.specs.Events.{Event, IsEvent, IsMarked, IsShown, Moment, PaintsIf, is_frame}
+use Rattle.wl_session.specs.Liars.{HoldsLiars, IsRightBut, closes, gives_back, was_closed}
+use Rattle.wl_session.specs.Promises.{KeepsIn, KeepsOpaque, is_clear_in}
 use Rattle.wl_session.specs.Seen.{StaysRight}
 use Rattle.wl_session.specs.Unmarked.{covers_at, is_covered}
 use Rattle.wl_session.proofs.Promised.{promises_are_enough}
@@ -64,37 +63,37 @@ no-window c d gone =
 
 module _ (k : ℕ) (d : Desktop) (path : List Desktop) (new : Desktop) (done : Done) (over : was_closed done ≡ true) where
   ended-goes : (o : Option Resident) → client_at k d ≡ o → ChangesThen IsClosed (gave.Close false) k o d done (ending_through path new) → client_at k new ≡ None
-  ended-goes None there h = absurd (differ (sym over ∙ ap was_closed h.0))
+  ended-goes None there h = absurd (differ (sym (ap was_closed h.0) ∙ over))
   ended-goes (Some r) there (Some q, is, later) = absurd (by r.peer.status is.0 is.1)
     where
       by : (s : Option Cause) → Some q ≡ closed_by s r.peer → done ≡ gave.Close (is_some s) → ⊥
-      by None f g = differ (sym over ∙ ap was_closed g)
+      by None f g = differ (sym (ap was_closed g) ∙ over)
       by (Some cause) f g = absurd (cc)
   ended-goes (Some r) there (None, is, later) =
       ap (λ (x : Desktop). client_at k x) later.2.1 ∙ number-same d.clients k None r there
 
 closing : (left : LeftOut) (act : Act) (done : Done) (c : ℕ) (d : Desktop) (path : List Desktop) (new : Desktop) → Leads left (Single act done) d path new → closes act done c ≡ true → client_at c new ≡ None
-closing left Connect done c d path new h e = absurd (differ (sym e))
-closing left (Feed client piece) done c d path new h e = absurd (differ (sym e))
-closing left (Store client store at bytes) done c d path new h e = absurd (differ (sym e))
-closing left (Leave client) done c d path new h e = absurd (differ (sym e))
-closing left (Tick time) done c d path new h e = absurd (differ (sym e))
-closing left (Send client count) done c d path new h e = absurd (differ (sym e))
+closing left Connect done c d path new h e = absurd (differ e)
+closing left (Feed client piece) done c d path new h e = absurd (differ e)
+closing left (Store client store at bytes) done c d path new h e = absurd (differ e)
+closing left (Leave client) done c d path new h e = absurd (differ e)
+closing left (Tick time) done c d path new h e = absurd (differ e)
+closing left (Send client count) done c d path new h e = absurd (differ e)
 closing left (Close client) done c d path new h e =
     subst (λ n. client_at n new ≡ None) (eqb-true client c (and-right (was_closed done) (client == c) e))
     (ended-goes client d path new done (and-left (was_closed done) (client == c) e) (client_at client d) refl h)
-closing left (Motion time x y) done c d path new h e = absurd (differ (sym e))
-closing left (Button time button pressed) done c d path new h e = absurd (differ (sym e))
+closing left (Motion time x y) done c d path new h e = absurd (differ e)
+closing left (Button time button pressed) done c d path new h e = absurd (differ e)
 
 pub given-back : (left : LeftOut) (h : Happening) (c : ℕ) (d : Desktop) (path : List Desktop) (new : Desktop) → Leads left h d path new → gives_back h c ≡ true → client_at c new ≡ None
-given-back left (Receive client piece) c d path new leads e = absurd (differ (sym e))
-given-back left (Message client) c d path new leads e = absurd (differ (sym e))
-given-back left (Starve client) c d path new leads e = absurd (differ (sym e))
+given-back left (Receive client piece) c d path new leads e = absurd (differ e)
+given-back left (Message client) c d path new leads e = absurd (differ e)
+given-back left (Starve client) c d path new leads e = absurd (differ e)
 given-back left (Single act done) c d path new leads e = closing left act done c d path new leads e
 
 -- ---- what is covered
 
-abbrev both : (ℕ → Bool) → (ℕ → Bool) → ℕ → Bool
+abbrev pub both : (ℕ → Bool) → (ℕ → Bool) → ℕ → Bool
 both before after c = before c || after c
 
 head-clear : (b a k : Bool) → (a && k) ≡ false → (b ≡ true → a ≡ false → ⊥) → ((b || a) && k) ≡ false
@@ -263,18 +262,18 @@ module _ (left : LeftOut) (e : Event) (liars next : ℕ → Bool) (leads : Leads
 
 -- in a tick those that keep their promises call only opaque pixels opaque
 pub keeps-opaque : (h : Happening) (old new : Desktop) (c : ℕ) → is_frame h ≡ true → KeepsIn all_windows h old new c → KeepsOpaque all_windows old c
-keeps-opaque (Receive client piece) old new c e keeps = absurd (differ (sym e))
-keeps-opaque (Message client) old new c e keeps = absurd (differ (sym e))
-keeps-opaque (Starve client) old new c e keeps = absurd (differ (sym e))
-keeps-opaque (Single Connect done) old new c e keeps = absurd (differ (sym e))
-keeps-opaque (Single (Feed client piece) done) old new c e keeps = absurd (differ (sym e))
-keeps-opaque (Single (Store client store at bytes) done) old new c e keeps = absurd (differ (sym e))
-keeps-opaque (Single (Leave client) done) old new c e keeps = absurd (differ (sym e))
+keeps-opaque (Receive client piece) old new c e keeps = absurd (differ e)
+keeps-opaque (Message client) old new c e keeps = absurd (differ e)
+keeps-opaque (Starve client) old new c e keeps = absurd (differ e)
+keeps-opaque (Single Connect done) old new c e keeps = absurd (differ e)
+keeps-opaque (Single (Feed client piece) done) old new c e keeps = absurd (differ e)
+keeps-opaque (Single (Store client store at bytes) done) old new c e keeps = absurd (differ e)
+keeps-opaque (Single (Leave client) done) old new c e keeps = absurd (differ e)
 keeps-opaque (Single (Tick time) done) old new c e keeps = keeps.1
-keeps-opaque (Single (Send client count) done) old new c e keeps = absurd (differ (sym e))
-keeps-opaque (Single (Close client) done) old new c e keeps = absurd (differ (sym e))
-keeps-opaque (Single (Motion time x y) done) old new c e keeps = absurd (differ (sym e))
-keeps-opaque (Single (Button time button pressed) done) old new c e keeps = absurd (differ (sym e))
+keeps-opaque (Single (Send client count) done) old new c e keeps = absurd (differ e)
+keeps-opaque (Single (Close client) done) old new c e keeps = absurd (differ e)
+keeps-opaque (Single (Motion time x y) done) old new c e keeps = absurd (differ e)
+keeps-opaque (Single (Button time button pressed) done) old new c e keeps = absurd (differ e)
 
 pub event-right : (left : LeftOut) (e : Event) (liars next : ℕ → Bool) → IsEvent left e → AreDistinct (all_windows e.before.desktop) × AreDistinct (all_windows e.after.desktop) → HoldsLiars e liars next
     → IsRightBut liars e.before → IsRightBut next e.after

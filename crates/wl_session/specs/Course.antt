@@ -51,7 +51,7 @@ abbrev pub TakesCourse : Act → Done → SessionView → SessionView → Type 0
 TakesCourse act done old new = (d : Desktop) → Agrees old.desk d → Course act done old new d
 
 -- So many messages of a client were taken, one event after another.
-pub record Served (client : ℕ) (old new : SessionView) (d : Desktop) : Type 0 where
+pub record Took (client : ℕ) (old new : SessionView) (d : Desktop) : Type 0 where
   pub count : ℕ
   pub desktop : Desktop
   pub events : List Event

@@ -1,5 +1,5 @@
 -- Incremental equals from scratch: what a viewer holds that copies only what each frame reports as damaged.
-use Rattle.std.specs.Prelude.{ℕ, ◌≡◌, ◌<◌, ◌+◌, pos, Bool, true, false, fold, length, take, List, [], ◌∷◌, ◌++◌}
+use Rattle.std.specs.Prelude.{ℕ, ◌≡◌, ◌<◌, pos, Bool, true, false, fold, length, take, List, [], ◌∷◌, ◌++◌}
 use Rattle.wl_client.specs.Told.{Output}
 use Rattle.wl_paint.specs.Damage.{has}
 use Rattle.wl_paint.specs.Frame.{Image, color_at}

@@ -1,6 +1,6 @@
 -- What stays right at points that aren't marked, for clients that keep their promises. These laws name no request, and hold whichever windows
 -- are `shown` of a desktop, as `all_windows`.
-use Rattle.std.specs.Prelude.{ℕ, ℤ, ◌≡◌, ◌&&◌, Bool, true, false, cond, fold, List, [], ◌∷◌}
+use Rattle.std.specs.Prelude.{ℕ, ℤ, ◌≡◌, ◌&&◌, Bool, true, false}
 use Rattle.std.specs.List.{list_any}
 use Rattle.wl_blend.specs.declared.color.Rgb.{Rgb}
 use Rattle.wl_scene.specs.Windows.{Window, contains}

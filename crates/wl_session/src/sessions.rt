@@ -13,7 +13,7 @@ ghost use Rattle.wl_desk.specs.Feeding.{IsIdleIn};
 ghost use Rattle.wl_session.specs.Run.{AreRuns};
 ghost use Rattle.wl_session.specs.Step.{act_of};
 ghost use Rattle.wl_desk.specs.Agreeing.{Agrees, TakesStep};
-ghost use Rattle.wl_session.specs.Course.{Served};
+ghost use Rattle.wl_session.specs.Course.{Took};
 
 use crate::shots::{Frame, Run, Shot};
 use crate::steps::{RunError, Step};
@@ -118,7 +118,7 @@ impl<A: Allocator + Copy> Session<A> {
 
     /// Takes each whole message of what came from a client, until one ends it.
     fn serve_all(&mut self, client: ClientNo)
-        ensures serves { (d : Desktop) → Agrees self.old.desk d → (served : Served client self.old self.new d) × IsIdleIn client served.desktop }
+        ensures serves { (d : Desktop) → Agrees self.old.desk d → (served : Took client self.old self.new d) × IsIdleIn client served.desktop }
         ensures frame { self.new.frame ≡ self.old.frame }
     {
         while self.desk.serve(client) != Served::More {}

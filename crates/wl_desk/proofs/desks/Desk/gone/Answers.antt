@@ -62,3 +62,6 @@ returns-in_default-take_out-clause-output g c = ap (λ w. w.desk.output) c.self.
 
 pub returns-clause-output : goal.returns-clause-output
 returns-clause-output g c = ap (λ w. w.desk.output) c.self.view_is
+
+pub returns-clause-sides : goal.returns-clause-sides
+returns-clause-sides g c = rw (← c.self.view_is) c.gone-lived.ensures.marks.0

@@ -67,3 +67,6 @@ pub returns-clause-nothing : goal.returns-clause-nothing
 returns-clause-nothing g c = λ d a.
     rw (← c.self.view_is) (changes-nothing c.self.inside.output c.self.inside.clients.items c.self.inside.owned.items c.self.inside.scene c.args.client c.in-Some.k (found _ _ _ _ _ c.deref.ensures.value c.in-Some.ensures.some c.self.invariant.0) d (rw (← c.self.view_is) at a.matches)
     (IsSent c.args.count) (gave.Sent c.sent-sent.result) c.in-Some-take_out.resident c.sent-sent.new.self _ _ c.sent-sent.new.scene c.self.inside.damage c.sent-sent.new.damage c.index_mut.ensures.value c.index_mut-2.ensures.value c.in-Some-take_out.ensures.some c.sent-sent.ensures.changes (sent-status c.args.count (gave.Sent c.sent-sent.result)) c.sent-sent.ensures.marks)
+
+pub returns-clause-sides : goal.returns-clause-sides
+returns-clause-sides g c = rw (← c.self.view_is) c.sent-sent.ensures.marks.0

@@ -105,3 +105,6 @@ returns-in_default-clause-rests g c = λ more. refl
 
 pub returns-in_default-take_out-clause-rests : goal.returns-in_default-take_out-clause-rests
 returns-in_default-take_out-clause-rests g c = λ more. ap (λ w. w.damage) c.self.view_is
+
+pub returns-clause-sides : goal.returns-clause-sides
+returns-clause-sides g c = rw (← c.self.view_is) c.serve_on-taken.ensures.sides

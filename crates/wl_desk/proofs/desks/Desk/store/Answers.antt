@@ -68,3 +68,6 @@ pub returns-clause-nothing : goal.returns-clause-nothing
 returns-clause-nothing g c = λ d a.
     rw (← c.self.view_is) (changes-nothing c.self.inside.output c.self.inside.clients.items c.self.inside.owned.items c.self.inside.scene c.args.client c.in-Some.k (found _ _ _ _ _ c.deref.ensures.value c.in-Some.ensures.some c.self.invariant.0) d (rw (← c.self.view_is) at a.matches)
     (IsStored c.args.store c.args.at c.args.bytes.now) (gave.Store c.store-stored.result) c.in-Some-take_out.resident c.store-stored.new.self _ _ c.store-stored.new.scene c.self.inside.damage c.store-stored.new.damage c.index_mut.ensures.value c.index_mut-2.ensures.value c.in-Some-take_out.ensures.some c.store-stored.ensures.changes (stored-status c.args.store c.args.at c.args.bytes.now (gave.Store c.store-stored.result)) c.store-stored.ensures.marks)
+
+pub returns-clause-sides : goal.returns-clause-sides
+returns-clause-sides g c = rw (← c.self.view_is) c.store-stored.ensures.marks.0

@@ -1,5 +1,12 @@
-use Rattle.std.proofs.Common.{rules}
+use Rattle.std.proofs.Common.{refl, rules}
+use Rattle.wl_plain.specs.Acts.{Leave}
+use Rattle.wl_plain.specs.declared.answers.Done.TheVariants as gave
+use Rattle.wl_session.proofs.Courses.{marked-course}
 use Rattle.wl_session.proofs.sessions.Session.gone.Goals as goal
 
 pub returns-clause-step : goal.returns-clause-step
 returns-clause-step g c = search rules
+
+pub returns-clause-course : goal.returns-clause-course
+returns-clause-course g c =
+    rw (← c.self.view_is) (marked-course (Leave c.args.client) (gave.Gone c.gone.result) _ _ refl (λ client piece e. absurd (cc)) refl refl c.gone.ensures.sides c.gone.ensures.step c.gone.ensures.marks (λ e. absurd (cc)))

@@ -1,6 +1,7 @@
 use Rattle.std.proofs.Common.{map, take}
+use Rattle.wl_session.specs.Course.{TakesSteps}
+use Rattle.wl_session.specs.Run.{film_of}
 use Rattle.wl_session.specs.Step.{act_of}
-use Rattle.wl_session.specs.Run.{TakesSteps, film_of}
 use Rattle.wl_session.proofs.sessions.Session.run.Given as goal
 
 -- the steps so far were taken

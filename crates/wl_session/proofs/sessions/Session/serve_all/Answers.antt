@@ -1,8 +1,9 @@
-use Rattle.std.proofs.Common.{suc, ◌∙◌, ◌≢◌, sym, ap, rules}
+use Rattle.std.proofs.Common.{refl, ◌∙◌, ◌≡◌, ◌≢◌, sym, ap, rules}
 use Rattle.wl_client.specs.declared.served.Served.TheVariants as served
 use Rattle.wl_client.specs.declared.outputs.Output.{Output}
 use Rattle.wl_paint.specs.Damage.{Damaged}
 use Rattle.wl_paint.specs.Frame.{Image}
+use Rattle.wl_session.proofs.Courses.{served-more, served-none, took-then}
 use Rattle.wl_session.proofs.sessions.Session.serve_all.Goals as goal
 
 pub loop-self-preserved : goal.loop-self-preserved
@@ -11,12 +12,23 @@ loop-self-preserved g c =
     record {
       taken = λ d a.
           let m = c.loop-self.invariant.taken d a in
-          let next = c.serve.ensures.serves other m.1 m.3 in
-          (suc m.0, next.0, (m.1, m.2, next.1), next.2);
+          let next = c.serve.ensures.serves other m.desktop m.agrees in
+          served-more c.args.client _ _ _ d next.0 m refl c.serve.ensures.sides next.1 next.2 (c.serve.ensures.marks other m.desktop next.0 m.agrees next.1 next.2);
       frame = c.loop-self.invariant.frame;
       output = c.serve.ensures.output ∙ c.loop-self.invariant.output;
       painted = c.loop-self.invariant.painted;
     }
+
+pub loop-self-init : goal.loop-self-init
+loop-self-init g c = record { taken = λ d a. rw (← c.self.view_is) (served-none c.args.client _ d (rw (← c.self.view_is) at a)); frame = refl; output = refl; painted = refl }
+
+pub returns-clause-serves : goal.returns-clause-serves
+returns-clause-serves g c = λ d a.
+    let done : c.serve.result ≡ served.More = search rules in
+    let m = c.loop-self.invariant.taken d a in
+    let last = c.serve.ensures.more done m.desktop m.agrees in
+    let t = took-then c.args.client _ _ _ d m (c.serve.ensures.rests done) refl last.0 in
+    (t.0, rw t.1 last.1)
 
 pub invariant_of-self : goal.invariant_of-self
 invariant_of-self g c =

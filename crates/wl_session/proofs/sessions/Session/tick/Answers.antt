@@ -7,6 +7,10 @@ use Rattle.wl_resident.specs.View.{DeskView}
 use Rattle.wl_session.specs.Run.{IsNextFrame}
 use Rattle.wl_session.specs.View.{SessionView}
 use Rattle.wl_plain.proofs.BridgeSteps.{shows-whole}
+use Rattle.wl_plain.specs.Acts.{Tick}
+use Rattle.wl_plain.specs.declared.answers.Done.TheVariants as gave
+use Rattle.wl_session.specs.Course.{TakesCourse}
+use Rattle.wl_session.proofs.Courses.{tick-course}
 use Rattle.wl_session.proofs.sessions.Session.tick.Goals as goal
 
 pub invariant_of-self : goal.invariant_of-self
@@ -25,8 +29,16 @@ returns g c =
       large = record { width = c.paint.ensures.width; height = c.paint.ensures.height; background = c.paint.ensures.background };
       painted = λ x y w h here opaque. c.paint.ensures.painted d a x y w h (sym (ap (λ (m : Damaged). has m x y) c.take_damage.ensures.taken) ∙ here) opaque;
       kept = λ x y w h none. c.paint.ensures.kept x y w h (sym (ap (λ (m : Damaged). has m x y) c.take_damage.ensures.taken) ∙ none);
-    }) in (
-      (refl, (λ s. tt), ((λ d a. (d, (refl, shows-whole c.args.time d d a.no_more refl), rw (c.take_damage.ensures.desk) (rw (← c.self.view_is) at a))), sym c.frame.ensures.pixels)),
+    }) in
+    let course : TakesCourse (Tick c.args.time) gave.Tick c.args.self.now (record { desk = c.take_damage.new.self.desk; damage = c.take_damage.new.self.damage; frame = c.paint.new.framebuffer; painted = c.take_damage.new.painted }) =
+    rw (← c.self.view_is) (tick-course c.args.time gave.Tick _ _ c.take_damage.ensures.sides (λ d a. (refl, shows-whole c.args.time d d a.no_more refl)) (λ d a. rw c.take_damage.ensures.desk a)
+    (λ d a. record {
+      large = record { width = c.paint.ensures.width; height = c.paint.ensures.height; background = c.paint.ensures.background };
+      painted = λ x y w h here opaque. c.paint.ensures.painted d a x y w h here opaque;
+      kept = λ x y w h none. c.paint.ensures.kept x y w h none;
+    })
+    c.take_damage.ensures.none) in (
+      (refl, (λ s. tt), ((λ d a. (d, (refl, shows-whole c.args.time d d a.no_more refl), rw (c.take_damage.ensures.desk) (rw (← c.self.view_is) at a))), sym c.frame.ensures.pixels, course)),
       record {
         after = tt;
         frame = next;
