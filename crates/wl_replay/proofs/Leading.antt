@@ -2,8 +2,6 @@
 use Rattle.std.proofs.Common.{◌≡◌, ℕ, List, [], Option, refl, sym, subst, ◌∙◌, add-zero, append-nil}
 use Rattle.std.specs.Io.KnownBytes.{Appends}
 use Rattle.std.proofs.KnownBytes.{Appends-nil, Appends-trans}
-use Rattle.wl_session.specs.Agreeing.{Agrees}
-use Rattle.wl_plain.specs.Desktop.{Desktop}
 use Rattle.wl_session.specs.View.{SessionView}
 use Rattle.wl_recording.specs.declared.line.Line.{Line}
 use Rattle.wl_recording.specs.declared.line.Line.TheVariants as line
@@ -11,7 +9,7 @@ use Rattle.wl_recording.specs.Line.{Asked, meaning}
 use Rattle.wl_replay.specs.Clients.{TellsFirst}
 use Rattle.wl_replay.specs.Report.{TellsAll, TellsLine, TellsNothing, TellsStep}
 use Rattle.wl_recording.specs.Side.{Files}
-use Rattle.wl_replay.specs.Told.{Counts, IsSilent, Leads, Stage, Told, and_then, words}
+use Rattle.wl_replay.specs.Told.{Counts, IsSilent, Leads, Stage, Stands, Told, and_then, words}
 
 pub Leads-weaker : (R S : Stage → Told → Stage → Type 0) (before after : SessionView) (report reported : Option (List ℕ)) (P Q : Told → Type 0)
     → ((old new : Stage) (told : Told) → R old told new → S old told new) → ((told : Told) → P told → Q told)
@@ -32,15 +30,15 @@ Counts-words images imaged frames clients own text h =
 -- a step, and then each client is told of
 pub Leads-all : {S : Type 0} (files : Files S) (from to : S) (asked : Asked) (before mid after : SessionView) (report wrote reported images imaged : Option (List ℕ)) (frames clients : ℕ)
     → Leads (TellsStep files asked from to) before mid report wrote (Counts images imaged frames clients)
-    → ((d : Desktop) → Agrees mid.desk d → (e : Desktop) × (text : List ℕ) × TellsFirst 32 d text e × Agrees after.desk e × Appends wrote reported text)
-    → after.frame ≡ mid.frame → Leads (TellsAll files asked from to) before after report reported (Counts images imaged frames clients)
-Leads-all files from to asked before mid after report wrote reported images imaged frames clients leads tells same = λ old stands.
+    → ((old : Stage) → Stands mid old → (new : Stage) × (text : List ℕ) × TellsFirst 32 old text new × Stands after new × Appends wrote reported text)
+    → Leads (TellsAll files asked from to) before after report reported (Counts images imaged frames clients)
+Leads-all files from to asked before mid after report wrote reported images imaged frames clients leads tells = λ old stands.
     let m = leads old stands in
-    let n = tells m.0.desktop m.3.desk in (
-      record { desktop = n.0; frame = m.0.frame },
+    let n = tells m.0 m.3 in (
+      n.0,
       and_then m.1 (words n.1),
-      (m.0, m.1, n.1, m.2, n.2, refl, refl),
-      record { desk = n.3; frame = same ∙ m.3.frame },
+      (m.0, m.1, n.1, m.2, n.2, refl),
+      n.3,
       Appends-trans _ _ _ m.1.text n.1 m.4 n.4,
       Counts-words images imaged frames clients m.1 n.1 m.5,
     )

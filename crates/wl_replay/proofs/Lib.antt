@@ -3,3 +3,4 @@ pub mod Outcomes
 pub mod Leading
 pub mod Playing
 pub mod Filled
+pub mod Stages

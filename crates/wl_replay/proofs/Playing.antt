@@ -1,11 +1,10 @@
 -- A recording that was played up to a line.
-use Rattle.std.proofs.Common.{◌≡◌, ◌<◌, ℕ, ◌+◌, ◌*◌, List, [], ◌∷◌, ◌++◌, Option, Result, length, refl, ap, sym, ◌∙◌, inl, inr, arith}
+use Rattle.std.proofs.Common.{◌≡◌, ◌<◌, ℕ, ◌+◌, List, [], ◌∷◌, ◌++◌, Option, Result, length, refl, ap, sym, ◌∙◌, inl, inr, arith}
 use Rattle.std.specs.Prelude.{IfErr, IfOk, Ok, Err}
 use Rattle.std.specs.Io.KnownBytes.{IsAtEnd}
 use Rattle.std.proofs.KnownBytes.{Appends-nil, Appends-trans}
 use Rattle.std.proofs.lemmas.List.{length_push}
-use Rattle.wl_plain.specs.Desktop.{Desktop, empty}
-use Rattle.wl_session.specs.Frame.{Image, filled}
+use Rattle.wl_plain.specs.Desktop.{Desktop}
 use Rattle.wl_session.specs.View.{SessionView}
 use Rattle.wl_session.specs.declared.sessions.Config.{Config}
 use Rattle.wl_recording.specs.declared.error.Summary.{Summary}
@@ -14,7 +13,7 @@ use Rattle.wl_recording.specs.declared.error.ReplayError.TheVariants as error
 use Rattle.wl_session.specs.Agreeing.{Agrees}
 use Rattle.wl_replay.specs.Report.{FailsAt, IsLackingLine, IsPlayed, Reported, StopsAs, TakesOne, more, none}
 use Rattle.wl_recording.specs.Side.{Files}
-use Rattle.wl_replay.specs.Told.{Counts, Stage, Stands, and_then, first_stage, words}
+use Rattle.wl_replay.specs.Told.{Counts, IsFirst, Stage, Stands, and_then, words}
 
 -- so many lines were played, with so many frames and clients, and the session stands for the last stage
 pub record PlayedTo {S : Type 0} (files : Files S) (first : Stage) (from to : S) (session : SessionView) (read left report reported images imaged : Option (List ℕ)) (lines frames clients : ℕ) : Type 0 where
@@ -90,7 +89,7 @@ StopsAs-line files error.Write first from between to session read left report wr
 StopsAs-line files (error.BadLine n) first from between to session read left report wrote reported images showed imaged lines frames clients IsQuiet IsLacking p same lacks fails =
     let e = same fails.2 in rw (e.0, e.1, e.2) (left, p.run, fails.0 ∙ ap (λ (k : ℕ). k + 1) (sym p.lines_told), inr fails.1)
 StopsAs-line files (error.Side n) first from between to session read left report wrote reported images showed imaged lines frames clients IsQuiet IsLacking p same lacks fails =
-    let e = lacks fails.1 in rw (e.0, e.1) (left, between, p.run, fails.0 ∙ ap (λ (k : ℕ). k + 1) (sym p.lines_told), e.2 p.run.last.desktop p.stands.desk)
+    let e = lacks fails.1 in rw (e.0, e.1) (left, between, p.run, fails.0 ∙ ap (λ (k : ℕ). k + 1) (sym p.lines_told), e.2 p.run.last.now.desktop p.stands.desk)
 StopsAs-line files error.Memory first from between to session read left report wrote reported images showed imaged lines frames clients IsQuiet IsLacking p same lacks fails = tt
 
 -- the line past the greatest number of lines
@@ -100,19 +99,12 @@ StopsAs-past files first from to session read left report reported images imaged
     (left, p.run, ap (λ (k : ℕ). k + 1) (sym p.lines_told), inl p.lines_told)
 
 -- what an answer says of every stage that the session stands for, it says of the first
-pub IfErr-at : (r : Result Summary ReplayError) (P : ReplayError → Stage → Type 0) (session : SessionView) (first : Stage) → Stands session first
-    → IfErr r (λ e. (x : Stage) → Stands session x → P e x) → IfErr r (λ e. P e first)
-IfErr-at (Ok t) P session first stands h = h
-IfErr-at (Err e) P session first stands h = h first stands
+pub IfErr-at : (r : Result Summary ReplayError) (P : ReplayError → Stage → Type 0) (config : Config) (session : SessionView) (first : Stage) → IsFirst config first → Stands session first
+    → IfErr r (λ e. (x : Stage) → Stands session x → P e x) → IfErr r (λ e. (x : Stage) × IsFirst config x × P e x)
+IfErr-at (Ok t) P config session first is stands h = h
+IfErr-at (Err e) P config session first is stands h = (first, is, h first stands)
 
-pub IfOk-at : (r : Result Summary ReplayError) (P : Summary → Stage → Type 0) (session : SessionView) (first : Stage) → Stands session first
-    → IfOk r (λ t. (x : Stage) → Stands session x → P t x) → IfOk r (λ t. P t first)
-IfOk-at (Ok t) P session first stands h = h first stands
-IfOk-at (Err e) P session first stands h = h
-
-image_is : (i : Image) (config : Config) (pixels : List ℕ) → i.width ≡ config.width → i.height ≡ config.height → i.background ≡ config.background → i.pixels ≡ pixels → i ≡ record { width = config.width; height = config.height; background = config.background; pixels = pixels }
-image_is i config pixels a b c d = rw (← a, ← b, ← c, ← d) refl
-
--- a session that was just made stands for the first stage
-pub Stands-first : (s : SessionView) (config : Config) → Agrees s.desk (empty (record { width = config.width; height = config.height })) → s.frame.width ≡ config.width → s.frame.height ≡ config.height → s.frame.background ≡ config.background → s.frame.pixels ≡ filled (config.width * config.height) config.background → Stands s (first_stage config)
-Stands-first s config agrees a b c d = record { desk = agrees; frame = image_is s.frame config _ a b c d }
+pub IfOk-at : (r : Result Summary ReplayError) (P : Summary → Stage → Type 0) (config : Config) (session : SessionView) (first : Stage) → IsFirst config first → Stands session first
+    → IfOk r (λ t. (x : Stage) → Stands session x → P t x) → IfOk r (λ t. (x : Stage) × IsFirst config x × P t x)
+IfOk-at (Ok t) P config session first is stands h = (first, is, h first stands)
+IfOk-at (Err e) P config session first is stands h = h

@@ -3,14 +3,11 @@ use Rattle.std.specs.Prelude.{◌≡◌, ◌+◌, ℕ, Option, Some, None, Resul
 use Rattle.std.specs.Io.KnownBytes.{Appends, IsAtEnd}
 use Rattle.std.specs.Option.{option_and_then}
 use Rattle.wl_session.specs.View.{SessionView}
-use Rattle.wl_session.specs.Damage.{Damaged, count_points, has}
+use Rattle.wl_session.specs.Damage.{count_points, has}
 use Rattle.wl_plain.specs.Desktop.{Desktop}
 use Rattle.wl_session.specs.Image.{image_of}
-use Rattle.wl_session.specs.Run.{IsNextFrame}
-use Rattle.wl_plain.specs.LeftOut.{served_now}
 use Rattle.wl_plain.specs.Acts as act
 use Rattle.wl_plain.specs.Acts.{peer_at, status_of}
-use Rattle.wl_plain.specs.Happens.{Happens}
 use Rattle.wl_plain.specs.declared.answers.ConnectError.{ConnectError}
 use Rattle.wl_plain.specs.declared.answers.ConnectError.TheVariants.{Full, Memory}
 use Rattle.wl_plain.specs.declared.answers.Done.{Done}
@@ -26,7 +23,7 @@ use Rattle.wl_recording.specs.Lines.{IsTooLong, TakesLine}
 use Rattle.wl_recording.specs.Side.{Files}
 use Rattle.wl_replay.specs.Storing.{LacksFile, TellsFile, TellsStore}
 use Rattle.wl_recording.specs.Text.{client_line, frame_line, full_line, none_line}
-use Rattle.wl_replay.specs.Told.{Leads, Stage, Told, and_then, words}
+use Rattle.wl_replay.specs.Told.{IsSeenAt, Leads, Stage, Steps, Told, and_then, words}
 
 -- what a connect tells, unless it wanted memory
 abbrev pub connect_told : Result ℕ ConnectError → Option Told
@@ -43,25 +40,26 @@ absent_text client (Ended cause) = []
 -- The step that each kind of line asks, and what is told of it.
 abbrev pub TellsConnect : Stage → Told → Stage → Type 0
 TellsConnect old told new =
-    (answer : Result ℕ ConnectError) × Happens served_now act.Connect (gave.Connect answer) old.desktop new.desktop × (new.frame ≡ old.frame)
+    (answer : Result ℕ ConnectError) × Steps act.Connect (gave.Connect answer) old new
     × (connect_told answer ≡ Some told)
 
 abbrev pub TellsBytes : ℕ → List ℕ → Stage → Told → Stage → Type 0
 TellsBytes client piece old told new =
-    (done : Done) × Happens served_now (act.Feed client piece) done old.desktop new.desktop × (new.frame ≡ old.frame)
-    × (told ≡ words (absent_text client (status_of (peer_at client old.desktop))))
+    (done : Done) × Steps (act.Feed client piece) done old new
+    × (told ≡ words (absent_text client (status_of (peer_at client old.now.desktop))))
 
 abbrev pub TellsGone : ℕ → Stage → Told → Stage → Type 0
 TellsGone client old told new =
-    (done : Done) × Happens served_now (act.Leave client) done old.desktop new.desktop × (new.frame ≡ old.frame)
-    × (told ≡ words (absent_text client (status_of (peer_at client old.desktop))))
+    (done : Done) × Steps (act.Leave client) done old new
+    × (told ≡ words (absent_text client (status_of (peer_at client old.now.desktop))))
 
+-- A frame: `n` is how many points were to be painted, and the image is the frame's, which is the desktop painted from nothing.
 abbrev pub TellsTick : ℕ → Stage → Told → Stage → Type 0
 TellsTick time old told new =
-    (damage : Damaged) × Happens served_now (act.Tick time) gave.Tick old.desktop new.desktop × IsNextFrame old.desktop old.frame new.frame (has damage)
+    Steps (act.Tick time) gave.Tick old new × IsSeenAt old new
     × (told ≡ record {
-      text = frame_line time (count_points damage.width damage.height (has damage));
-      images = image_of new.frame.width new.frame.height new.frame.pixels;
+      text = frame_line time (count_points old.now.damage.width old.now.damage.height (has old.now.damage));
+      images = image_of new.now.frame.width new.now.frame.height new.now.frame.pixels;
       frames = 1;
       clients = 0;
     })
@@ -82,8 +80,8 @@ TellsStep files Nothing from to old told new = TellsNothing old told new × (to 
 -- A step, and then what each of the clients 1 to 32 is sent and whether it ended.
 abbrev pub TellsAll : {S : Type 0} → Files S → Asked → S → S → Stage → Told → Stage → Type 0
 TellsAll files asked from to old told new =
-    (mid : Stage) × (own : Told) × (rest : List ℕ) × TellsStep files asked from to old own mid × TellsFirst 32 mid.desktop rest new.desktop
-    × (new.frame ≡ mid.frame) × (told ≡ and_then own (words rest))
+    (mid : Stage) × (own : Told) × (rest : List ℕ) × TellsStep files asked from to old own mid × TellsFirst 32 mid rest new
+    × (told ≡ and_then own (words rest))
 
 -- A line leads from old to new, and this is told of it. A line that asks nothing is passed over.
 abbrev pub TellsLine : {S : Type 0} → Files S → Asked → S → S → Stage → Told → Stage → Type 0
@@ -178,5 +176,5 @@ StopsAs {S} files (error.BadLine n) first from to read report reported images im
     × ((length r.lines ≡ 1000000) ⊎ IsBadLine left)
 StopsAs {S} files (error.Side n) first from to read report reported images imaged =
     (left : Option (List ℕ)) × (between : S) × (r : Reported files first from between read left report reported images imaged)
-    × (n ≡ length r.lines + 1) × IsLackingLine files left r.last.desktop between to
+    × (n ≡ length r.lines + 1) × IsLackingLine files left r.last.now.desktop between to
 StopsAs {S} files error.Memory first from to read report reported images imaged = ⊤

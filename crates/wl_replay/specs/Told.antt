@@ -1,10 +1,21 @@
 -- What is told, and the stages between which it is told.
-use Rattle.std.specs.Prelude.{◌≡◌, ◌+◌, ◌*◌, ℕ, List, [], ◌++◌, Option}
+use Rattle.std.specs.Prelude.{◌≡◌, ◌+◌, ◌*◌, ◌<◌, ℕ, pos, Bool, false, List, [], ◌++◌, Option}
 use Rattle.std.specs.Io.KnownBytes.{Appends}
 use Rattle.wl_session.specs.Agreeing.{Agrees}
 use Rattle.wl_session.specs.View.{SessionView}
-use Rattle.wl_plain.specs.Desktop.{Desktop, empty}
-use Rattle.wl_session.specs.Frame.{Image, filled}
+use Rattle.wl_plain.specs.Acts.{Act}
+use Rattle.wl_plain.specs.Desktop.{empty}
+use Rattle.wl_plain.specs.Happens.{Happens}
+use Rattle.wl_plain.specs.LeftOut.{served_now}
+use Rattle.wl_plain.specs.Scratch.{scratch}
+use Rattle.wl_plain.specs.Stacked.{all_windows}
+use Rattle.wl_plain.specs.declared.answers.Done.{Done}
+use Rattle.wl_session.specs.Course.{AreParts, happenings}
+use Rattle.wl_session.specs.Damage.{has}
+use Rattle.wl_session.specs.Events.{AreApart, AreEvents, Event, Moment}
+use Rattle.wl_session.specs.Frame.{color_at, filled}
+use Rattle.wl_session.specs.Liars.{AreLiars, IsRightBut, nobody}
+use Rattle.wl_session.specs.Unmarked.{is_covered}
 use Rattle.wl_session.specs.declared.sessions.Config.{Config}
 
 -- what is told: the report, the images of the frames, how many frames there were, and how many clients connected
@@ -22,28 +33,47 @@ abbrev pub and_then : Told → Told → Told
 and_then a b =
     record { text = a.text ++ b.text; images = a.images ++ b.images; frames = a.frames + b.frames; clients = a.clients + b.clients }
 
--- the plain desktop with the last frame that was shown of it
+-- What has happened so far: all events from the first moment on, and the moment now.
 pub record Stage : Type 0 where
-  pub desktop : Desktop
-  pub frame : Image
+  pub first : Moment
+  pub events : List Event
+  pub now : Moment
 
--- a session stands for a stage
+-- A session stands for a stage: its events led from the first moment, at which the image was the desktop painted from nothing, to now.
 pub record Stands (session : SessionView) (stage : Stage) : Type 0 where
-  pub desk : Agrees session.desk stage.desktop
-  pub frame : session.frame ≡ stage.frame
+  pub desk : Agrees session.desk stage.now.desktop
+  pub damage : session.damage ≡ stage.now.damage
+  pub frame : session.frame ≡ stage.now.frame
+  pub right : IsRightBut nobody stage.first
+  pub led : AreEvents served_now stage.first stage.events stage.now
+  pub apart : AreApart stage.events
 
--- no client, and the background
-abbrev pub first_stage : Config → Stage
-first_stage config =
-    record {
-      desktop = empty (record { width = config.width; height = config.height });
-      frame = record {
-        width = config.width;
-        height = config.height;
-        background = config.background;
-        pixels = filled (config.width * config.height) config.background;
-      };
-    }
+-- At first nothing has happened: there is no client, the image is the background, and nothing is to be painted.
+pub record IsFirst (config : Config) (stage : Stage) : Type 0 where
+  pub events : stage.events ≡ []
+  pub now : stage.now ≡ stage.first
+  pub desktop : stage.now.desktop ≡ empty (record { width = config.width; height = config.height })
+  pub frame :
+      stage.now.frame
+      ≡ record { width = config.width; height = config.height; background = config.background; pixels = filled (config.width * config.height) config.background }
+  pub damage : (x y : ℕ) → has stage.now.damage x y ≡ false
+
+-- A step leads from one stage to another: it happens, and its events are the next ones.
+pub record Steps (act : Act) (done : Done) (old new : Stage) : Type 0 where
+  pub happens : Happens served_now act done old.now.desktop new.now.desktop
+  pub events : List Event
+  pub parts : AreParts act done (happenings events)
+  pub leads : AreEvents served_now old.now events new.now
+  pub later : new.events ≡ old.events ++ events
+  pub first : new.first ≡ old.first
+
+-- The frame of a tick is the desktop as the tick began, painted from nothing, at each point that no window covers of a client that broke a
+-- promise since it connected.
+abbrev pub IsSeenAt : Stage → Stage → Type 0
+IsSeenAt old new =
+    (broke : ℕ → Bool) (x y : ℕ) → AreLiars nobody new.events broke → x < old.now.frame.width → y < old.now.frame.height
+    → is_covered all_windows broke old.now.desktop (pos x) (pos y) ≡ false
+    → color_at new.now.frame x y ≡ scratch old.now.frame.background old.now.desktop (pos x) (pos y)
 
 -- A session goes from before to after by R: whatever stage it stands for before, it stands for one that R gives after. What is
 -- told of it was written, and P holds of it.

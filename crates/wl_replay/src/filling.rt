@@ -5,7 +5,7 @@ ghost use Rattle.wl_session.specs.Agreeing.{Agrees};
 ghost use Rattle.wl_plain.specs.Desktop.{Desktop};
 ghost use Rattle.wl_recording.specs.Side.{CountsFault, files_of};
 ghost use Rattle.wl_replay.specs.Storing.{FillsAll, LacksFile, Puts, TellsFile, room_in};
-ghost use Rattle.wl_replay.specs.Told.{IsSilent, Leads};
+ghost use Rattle.wl_replay.specs.Told.{IsSilent, Leads, Stage, Stands};
 
 use crate::error::StepError;
 use crate::storing::write_stored;
@@ -67,10 +67,9 @@ fn load<A: Allocator + Copy, S: SideFiles>(
     side: &mut S,
 ) -> Result<bool, SideFault>
     requires { place.at ≤ size }
-    ensures filled { result ≡ Ok true → (opened : S) × S.opens side.old name.now true opened × ((d : Desktop) → Agrees session.old.desk d
-        → (e : Desktop) × FillsAll (files_of S.opens S.gives S.fault_count) place size d opened e side.new × Agrees session.new.desk e) }
+    ensures filled { result ≡ Ok true → (opened : S) × S.opens side.old name.now true opened × ((old : Stage) → Stands session.old old
+        → (new : Stage) × FillsAll (files_of S.opens S.gives S.fault_count) place size old opened new side.new × Stands session.new new) }
     ensures missing { result ≡ Ok false → S.opens side.old name.now false side.new }
-    ensures frame { session.new.frame ≡ session.old.frame }
     ensures faults { CountsFault (S.fault_count side.old) (S.fault_count side.new) result }
 {
     if !side.open(name)? {
@@ -88,9 +87,8 @@ fn fill<A: Allocator + Copy, S: SideFiles>(
     side: &mut S,
 ) -> Result<(), SideFault>
     requires { place.at ≤ size }
-    ensures filled { OnOk result ((d : Desktop) → Agrees session.old.desk d
-        → (e : Desktop) × FillsAll (files_of S.opens S.gives S.fault_count) place size d side.old e side.new × Agrees session.new.desk e) }
-    ensures frame { session.new.frame ≡ session.old.frame }
+    ensures filled { OnOk result ((old : Stage) → Stands session.old old
+        → (new : Stage) × FillsAll (files_of S.opens S.gives S.fault_count) place size old side.old new side.new × Stands session.new new) }
     ensures faults { CountsFault (S.fault_count side.old) (S.fault_count side.new) result }
 {
     let mut buf = [0; PIECE];
@@ -115,9 +113,8 @@ fn write_piece<A: Allocator + Copy, S: SideFiles>(
 ) -> Result<u32, SideFault>
     requires { length buf.old ≤ PIECE }
     ensures wrote { IfOk result (λ count. (bytes : List ℕ) × (length bytes ≡ count) × S.gives side.old bytes side.new
-        × Puts place bytes session.old.desk session.new.desk) }
+        × Puts place bytes session.old session.new) }
     ensures within { IfOk result (λ count. count ≤ length buf.old) }
-    ensures frame { session.new.frame ≡ session.old.frame }
     ensures faults { CountsFault (S.fault_count side.old) (S.fault_count side.new) result }
 {
     let count = side.read(buf)?;

@@ -8,7 +8,7 @@ ghost use Rattle.wl_plain.specs.Desktop.{Desktop};
 ghost use Rattle.wl_recording.specs.Lines.{TakesLine};
 ghost use Rattle.wl_replay.specs.Report.{FailsAt, IsLackingLine, IsPlayed, StopsAs, TakesOne, images_in};
 ghost use Rattle.wl_recording.specs.Side.{files_of};
-ghost use Rattle.wl_replay.specs.Told.{Counts, Stage, Stands, first_stage};
+ghost use Rattle.wl_replay.specs.Told.{Counts, IsFirst, Stage, Stands};
 
 use crate::error::StepError;
 use crate::step::{Shown, take_line};
@@ -23,6 +23,9 @@ pub const MAX_LINES: u32 = 1_000_000;
 /// Plays a recording, and writes a report of what the clients are sent and of the frames that are shown. `ppm` gets an image
 /// for each frame, where there is one. The output's sides are 1 to 4,096 pixels.
 ///
+/// Each image is the desktop as its tick began, painted from nothing in stacking order, at each point that no window covers of a client that broke a
+/// promise since it connected: to damage what it changes, to leave a buffer that is shown as it is, and to call only opaque pixels opaque.
+///
 /// `BadLine` is decided before anything of its line is done. `Side` is answered only where a side file that is asked for isn't
 /// there, or a call on the side files failed. After both the report tells of the lines before.
 pub fn replay<A: Allocator + Copy, R: BufRead, W: Write, P: Write, S: SideFiles>(
@@ -35,9 +38,9 @@ pub fn replay<A: Allocator + Copy, R: BufRead, W: Write, P: Write, S: SideFiles>
 ) -> Result<Summary, ReplayError>
     requires width { is_side config.width ≡ true }
     requires height { is_side config.height ≡ true }
-    ensures played { IfOk result (λ summary. IsPlayed (files_of S.opens S.gives S.fault_count) (first_stage config) side.old side.new summary (R.remaining reader.old) (W.contents writer.old) (W.contents writer.new)
+    ensures played { IfOk result (λ summary. (first : Stage) × IsFirst config first × IsPlayed (files_of S.opens S.gives S.fault_count) first side.old side.new summary (R.remaining reader.old) (W.contents writer.old) (W.contents writer.new)
         (images_in P.contents ppm.old) (images_in P.contents ppm.new)) }
-    ensures stopped { IfErr result (λ error. StopsAs (files_of S.opens S.gives S.fault_count) error (first_stage config) side.old side.new (R.remaining reader.old) (W.contents writer.old) (W.contents writer.new)
+    ensures stopped { IfErr result (λ error. (first : Stage) × IsFirst config first × StopsAs (files_of S.opens S.gives S.fault_count) error first side.old side.new (R.remaining reader.old) (W.contents writer.old) (W.contents writer.new)
         (images_in P.contents ppm.old) (images_in P.contents ppm.new)) }
 {
     match Session::new(alloc, config) {

@@ -2,10 +2,9 @@
 
 ghost use Rattle.std.specs.Prelude.{◌≡◌, ◌≤◌, ◌+◌, ◌*◌, ℕ, List, OnOk, IfOk, Ok, Err};
 ghost use Rattle.std.specs.Io.KnownBytes.{Appends};
-ghost use Rattle.wl_session.specs.Agreeing.{Agrees};
-ghost use Rattle.wl_plain.specs.Desktop.{Desktop};
 ghost use Rattle.wl_plain.specs.Acts.{peer_at, status_of, unsent_of};
 ghost use Rattle.wl_replay.specs.Clients.{Closes, Sends, TellsClient, TellsFirst};
+ghost use Rattle.wl_replay.specs.Told.{Stage, Stands};
 
 use std::alloc::Allocator;
 use std::io;
@@ -21,9 +20,8 @@ pub(crate) fn tell_clients<A: Allocator + Copy, W: Write>(
     session: &mut Session<A>,
     writer: &mut W,
 ) -> io::Result<()>
-    ensures told { OnOk result ((d : Desktop) → Agrees session.old.desk d → (e : Desktop) × (text : List ℕ) × TellsFirst 32 d text e
-        × Agrees session.new.desk e × Appends (W.contents writer.old) (W.contents writer.new) text) }
-    ensures frame { session.new.frame ≡ session.old.frame }
+    ensures { OnOk result ((old : Stage) → Stands session.old old → (new : Stage) × (text : List ℕ) × TellsFirst 32 old text new
+        × Stands session.new new × Appends (W.contents writer.old) (W.contents writer.new) text) }
 {
     for before in 0..CLIENTS {
         tell_client(session, before + 1, writer)?;
@@ -36,9 +34,8 @@ fn tell_client<A: Allocator + Copy, W: Write>(
     client: u32,
     writer: &mut W,
 ) -> io::Result<()>
-    ensures told { OnOk result ((d : Desktop) → Agrees session.old.desk d → (e : Desktop) × (text : List ℕ) × TellsClient client d text e
-        × Agrees session.new.desk e × Appends (W.contents writer.old) (W.contents writer.new) text) }
-    ensures frame { session.new.frame ≡ session.old.frame }
+    ensures { OnOk result ((old : Stage) → Stands session.old old → (new : Stage) × (text : List ℕ) × TellsClient client old text new
+        × Stands session.new new × Appends (W.contents writer.old) (W.contents writer.new) text) }
 {
     send(session, client, writer)?;
     close(session, client, writer)
@@ -50,9 +47,8 @@ fn send<A: Allocator + Copy, W: Write>(
     client: u32,
     writer: &mut W,
 ) -> io::Result<()>
-    ensures told { OnOk result ((d : Desktop) → Agrees session.old.desk d → (e : Desktop) × (text : List ℕ)
-        × Sends client (unsent_of (peer_at client d)) d text e × Agrees session.new.desk e × Appends (W.contents writer.old) (W.contents writer.new) text) }
-    ensures frame { session.new.frame ≡ session.old.frame }
+    ensures { OnOk result ((old : Stage) → Stands session.old old → (new : Stage) × (text : List ℕ)
+        × Sends client (unsent_of (peer_at client old.now.desktop)) old text new × Stands session.new new × Appends (W.contents writer.old) (W.contents writer.new) text) }
 {
     let Some(bytes) = session.out(client) else {
         return Ok(());
@@ -72,9 +68,8 @@ fn close<A: Allocator + Copy, W: Write>(
     client: u32,
     writer: &mut W,
 ) -> io::Result<()>
-    ensures told { OnOk result ((d : Desktop) → Agrees session.old.desk d → (e : Desktop) × (text : List ℕ)
-        × Closes client (status_of (peer_at client d)) d text e × Agrees session.new.desk e × Appends (W.contents writer.old) (W.contents writer.new) text) }
-    ensures frame { session.new.frame ≡ session.old.frame }
+    ensures { OnOk result ((old : Stage) → Stands session.old old → (new : Stage) × (text : List ℕ)
+        × Closes client (status_of (peer_at client old.now.desktop)) old text new × Stands session.new new × Appends (W.contents writer.old) (W.contents writer.new) text) }
 {
     if let Fed::Ended(cause) = session.status(client) {
         write_end(client, cause, writer)?;

@@ -1,7 +1,7 @@
 -- Runs of a session, step by step.
 use Rattle.std.proofs.Common.{◌≡◌, ℕ, zero, suc, ◌+◌, ◌<◌, Bool, true, false, List, [], ◌∷◌, ◌++◌, length, take, map, get_or, refl, sym, subst, ◌∙◌, ap, append_assoc, inl, inr}
 use Rattle.std.specs.List.{list_any}
-use Rattle.std.specs.Prelude.{IsTrue, ◌||◌, cond, replicate}
+use Rattle.std.specs.Prelude.{IsTrue, pos, ◌||◌, cond, replicate}
 use Rattle.std.proofs.lemmas.List.{map-append, take_more, append-nil}
 use Rattle.std.proofs.lemmas.Option.{slice_get-get_or}
 use Rattle.wl_paint.specs.Damage.{has}
@@ -14,14 +14,19 @@ use Rattle.wl_plain.specs.Happens.{Happens}
 use Rattle.wl_plain.specs.LeftOut.{LeftOut, served_now}
 use Rattle.wl_desk.specs.Agreeing.{Agrees}
 use Rattle.wl_session.specs.Course.{AreParts, IsSeen, LeadsTo, Ran, Runs, TakesCourse, TakesSteps, happenings, moment}
-use Rattle.wl_session.specs.Events.{AreEvents, Event, Moment, frames_of, is_frame, is_tick}
+use Rattle.wl_session.specs.Events.{AreApart, AreEvents, Event, Moment, frames_of, is_frame, is_tick}
+use Rattle.wl_paint.specs.Frame.{color_at}
+use Rattle.wl_plain.specs.Scratch.{scratch}
+use Rattle.wl_plain.specs.Stacked.{all_windows}
+use Rattle.wl_session.specs.Liars.{AreLiars, IsRightBut}
+use Rattle.wl_session.specs.Unmarked.{is_covered}
 use Rattle.wl_session.specs.Run.{AreRuns, Film, MayStopAt, takes_memory}
 use Rattle.wl_session.specs.Seen.{AreShots, IsShot}
 use Rattle.wl_session.specs.Step.{act_of}
 use Rattle.wl_session.specs.View.{SessionView}
 use Rattle.wl_session.specs.declared.steps.Step.{Step}
 use Rattle.wl_session.proofs.Courses.{apart-then, events-then}
-use Rattle.wl_session.proofs.Seen.{sees-scratch}
+use Rattle.wl_session.proofs.Seen.{frame-scratch, sees-scratch}
 use Rattle.wl_session.proofs.Stays.{stays_right}
 
 -- ---- steps one after another
@@ -132,6 +137,19 @@ pub tick-leads : (time : ℕ) (old new : SessionView) (film : Film) → TakesCou
 tick-leads time old new film takes shown runs pixels = λ d a.
     let course = takes d a in
     (gave.Tick, course, tick-shown time (moment d old) (moment course.desktop new) course.events film course.parts course.leads shown runs pixels)
+
+-- what it shows, after whatever came before it
+pub tick-scratch : (time : ℕ) (first from to : Moment) (past more : List Event) (liars broke : ℕ → Bool) → IsRightBut liars first → AreEvents served_now first (past ++ more) to → AreApart (past ++ more)
+    → happenings more ≡ Single (Tick time) gave.Tick ∷ [] → AreEvents served_now from more to → AreLiars liars (past ++ more) broke → (x y : ℕ) → x < from.frame.width → y < from.frame.height
+    → is_covered all_windows broke from.desktop (pos x) (pos y) ≡ false → color_at to.frame x y ≡ scratch from.frame.background from.desktop (pos x) (pos y)
+tick-scratch time begun from to past [] liars broke right all apart parts leads holds x y w h clear = absurd (cc)
+tick-scratch time begun from to past (e ∷ (f ∷ fs)) liars broke right all apart parts leads holds x y w h clear = absurd (cc)
+tick-scratch time begun from to past (e ∷ []) liars broke right all apart parts leads holds x y w h clear =
+    let is : e.happening ≡ Single (Tick time) gave.Tick = first time e.happening parts in
+    let shows : (m : Moment) → e.before ≡ m → x < m.frame.width → y < m.frame.height → is_covered all_windows broke m.desktop (pos x) (pos y) ≡ false → color_at e.after.frame x y ≡ scratch m.frame.background m.desktop (pos x) (pos y) =
+    λ m same. subst (λ (n : Moment). x < n.frame.width → y < n.frame.height → is_covered all_windows broke n.desktop (pos x) (pos y) ≡ false → color_at e.after.frame x y ≡ scratch n.frame.background n.desktop (pos x) (pos y)) same
+    (frame-scratch served_now past e begun to liars broke all apart (ap is_frame is) holds right x y) in
+    ap (λ (m : Moment). color_at m.frame x y) leads.2 ∙ shows from leads.0 w h clear
 
 -- ---- a run
 

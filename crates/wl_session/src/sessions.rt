@@ -72,6 +72,7 @@ impl<A: Allocator + Copy> Session<A> {
         ensures background { IfOk result (λ s. s.frame.background ≡ config.background) }
         ensures pixels { IfOk result (λ s. s.frame.pixels ≡ filled (config.width * config.height) config.background) }
         ensures colors { IfOk result (λ s. (x y : ℕ) → x < config.width → y < config.height → color_at s.frame x y ≡ config.background) }
+        ensures damage { IfOk result (λ s. (x y : ℕ) → has s.damage x y ≡ false) }
         ensures right { IfOk result (λ s. IsRightBut nobody (moment (empty (record { width = config.width; height = config.height })) s)) }
         ensures bad { IsErrOf result FrameError.BadSize ↔ ((is_side config.width && is_side config.height) ≡ false) }
     {

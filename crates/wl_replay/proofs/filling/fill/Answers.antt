@@ -6,7 +6,7 @@ use Rattle.wl_replay.proofs.filling.fill.Goals as goal
 
 pub loop-at-init : goal.loop-at-init
 loop-at-init g c =
-    record { within = c.requires; filled = λ d agrees. (d, none, agrees); frame = refl; calm = refl }
+    record { within = c.requires; filled = λ d agrees. (d, none, agrees); calm = refl }
 
 pub loop-at-preserved : goal.loop-at-preserved
 loop-at-preserved g c =
@@ -20,7 +20,6 @@ loop-at-preserved g c =
           let f = m.filled d agrees in
           Fills-more _ c.args.place c.args.size d c.args.side.now c.loop-at.at c.in_ok-count.count f.0 c.loop-at.side c.write_piece.new.side put.wrote.0 _ _ f.1 f.2 put.wrote.1
           c.if-count-eq0.false (omega (arith, few)) (omega (arith, few)) put.wrote.2 put.wrote.3;
-      frame = put.frame ∙ m.frame;
       calm = put.faults ∙ m.calm;
     }
 

@@ -12,7 +12,7 @@ returns-clause-wrote g c =
     elim c.if-count-gt0.branch [
       | then-count-gt0 w ↦
           (let some : 0 < length bytes = omega (arith, long, w.if-count-gt0) in
-          (bytes, long, c.in_ok-count.ensures.bytes, rw w.session-is (Puts-some c.args.place bytes _ _ _ some w.store.ensures.step)))
+          (bytes, long, c.in_ok-count.ensures.bytes, rw w.session-is (Puts-some c.args.place bytes _ _ _ some w.store.ensures.course)))
       | else-count-gt0 w ↦
           (let none : length bytes ≡ 0 = omega (arith, long, w.if-count-gt0) in
           (bytes, long, c.in_ok-count.ensures.bytes, rw w.session-is (Puts-none c.args.place bytes _ _ none refl)))

@@ -1,20 +1,22 @@
-use Rattle.std.proofs.Common.{◌≡◌, refl, ap, ◌∙◌}
+use Rattle.std.proofs.Common.{◌≡◌, refl, ap}
 use Rattle.std.proofs.lemmas.Result.{on_ok_weaker}
-use Rattle.wl_plain.specs.Acts.{peer_at, status_of}
+use Rattle.wl_plain.specs.Acts.{Feed, peer_at, status_of}
+use Rattle.wl_plain.specs.declared.answers.Done.TheVariants as gave
 use Rattle.wl_replay.specs.Report.{absent_text}
 use Rattle.wl_replay.specs.Told.{words}
+use Rattle.wl_replay.proofs.Stages.{after, stands-on, steps-on}
 use Rattle.wl_replay.proofs.step.feed.Goals as goal
 
 pub returns-clause-told : goal.returns-clause-told
 returns-clause-told g c =
     on_ok_weaker c.write_absent.result
     (λ wrote. λ old stands.
-    let step = c.feed.ensures.step old.desktop stands.desk in
-    let before : c.status-before.result ≡ status_of (peer_at c.args.client old.desktop) = c.status-before.ensures old.desktop stands.desk in (
-      record { desktop = step.0; frame = old.frame },
+    let course = c.feed.ensures.course old.now.desktop stands.desk in
+    let before : c.status-before.result ≡ status_of (peer_at c.args.client old.now.desktop) = c.status-before.ensures old.now.desktop stands.desk in (
+      after (Feed c.args.client c.args.piece.now) (gave.Feed c.feed.result) _ _ old course,
       words (absent_text c.args.client c.status-before.result),
-      (_, step.1, refl, ap (λ fed. words (absent_text c.args.client fed)) before),
-      record { desk = step.2; frame = c.feed.ensures.frame ∙ stands.frame },
+      (_, steps-on (Feed c.args.client c.args.piece.now) (gave.Feed c.feed.result) _ _ old stands course, ap (λ fed. words (absent_text c.args.client fed)) before),
+      stands-on (Feed c.args.client c.args.piece.now) (gave.Feed c.feed.result) _ _ old stands course,
       wrote,
       (refl, refl, refl),
     ))

@@ -18,10 +18,10 @@ returns-clause-told g c =
     let asked = meaning c.args.piece.now c.args.line in
     let shown = c.in_ok-shown.shown in
     let counts = Counts (images_in g.P.Write.contents c.args.ppm.now) (images_in g.P.Write.contents c.take_step.new.ppm) shown.frames shown.clients in
-    let tells = ok_kept c.tell_clients.result c.map_err.result _ _ c.tell_clients.ensures.told c.map_err.ensures.variant c.in_ok-map_err.was in
+    let tells = ok_kept c.tell_clients.result c.map_err.result _ _ c.tell_clients.ensures c.map_err.ensures.variant c.in_ok-map_err.was in
     let report = g.W.Write.contents c.args.writer.now in
     let wrote = g.W.Write.contents c.take_step.new.writer in
     let reported = g.W.Write.contents c.tell_clients.new.writer in
     Leads-weaker (TellsAll files asked from to) (TellsLine files asked from to) c.args.session.now c.tell_clients.new.session report reported counts counts
     (TellsLine-all files from to c.args.line c.args.piece.now c.in_default.not-Nothing) (λ told h. h)
-    (Leads-all files from to asked c.args.session.now c.take_step.new.session c.tell_clients.new.session report wrote reported _ _ shown.frames shown.clients c.in_ok-shown.ensures.told tells c.tell_clients.ensures.frame)
+    (Leads-all files from to asked c.args.session.now c.take_step.new.session c.tell_clients.new.session report wrote reported _ _ shown.frames shown.clients c.in_ok-shown.ensures.told tells)

@@ -1,16 +1,19 @@
-use Rattle.wl_plain.specs.Acts.{peer_at, unsent_of}
+use Rattle.wl_plain.specs.Acts.{Send, peer_at, unsent_of}
+use Rattle.wl_plain.specs.declared.answers.Done.TheVariants as gave
+use Rattle.std.proofs.Common.{length}
 use Rattle.wl_recording.specs.Text.{to_line}
+use Rattle.wl_replay.proofs.Stages.{after, stands-on, steps-on}
 use Rattle.wl_replay.proofs.Telling.{sends-so}
 use Rattle.wl_replay.proofs.tell.send.Goals as goal
 
-pub returns-clause-told : goal.returns-clause-told
-returns-clause-told g c = λ d a.
+pub returns : goal.returns
+returns g c = λ d a.
     let bytes = c.in-Some.bytes.now in
-    let step = c.sent.ensures.step d a in
-    let waits = rw c.in-Some.is at c.out.ensures d a in (
-      step.0,
+    let course = c.sent.ensures.course d.now.desktop a.desk in
+    let waits = rw c.in-Some.is at c.out.ensures d.now.desktop a.desk in (
+      after (Send c.args.client (length bytes)) (gave.Sent c.sent.result) _ _ d course,
       to_line c.args.client bytes,
-      sends-so c.args.client d step.0 bytes (unsent_of (peer_at c.args.client d)) _ waits c.if-count-eq0.false step.1,
-      step.2,
+      sends-so c.args.client d _ bytes (unsent_of (peer_at c.args.client d.now.desktop)) _ waits c.if-count-eq0.false (steps-on (Send c.args.client (length bytes)) (gave.Sent c.sent.result) _ _ d a course),
+      stands-on (Send c.args.client (length bytes)) (gave.Sent c.sent.result) _ _ d a course,
       c.in_ok-write_to.ensures,
     )
