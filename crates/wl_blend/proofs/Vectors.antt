@@ -1,5 +1,5 @@
 -- Vectors of sixteen lanes, lane by lane.
-use Rattle.std.proofs.Common.{◌≡◌, ℕ, zero, suc, ◌+◌, ◌-◌, ◌*◌, ◌/◌, ◌%◌, ◌^◌, ◌<◌, ◌≤◌, min, List, [], ◌∷◌, ◌++◌, map, length, get_or, Bool, true, false, not, cond, refl, ap, sym, ◌∙◌, eq-eqb, arith, w16, bit_or}
+use Rattle.std.proofs.Common.{◌≡◌, ℕ, zero, suc, ◌+◌, ◌-◌, ◌*◌, ◌/◌, ◌%◌, ◌^◌, ◌<◌, ◌≤◌, min, List, [], ◌∷◌, ◌++◌, map, length, get_or, Bool, true, false, not, cond, refl, ap, sym, ◌∙◌, eq-eqb, arith, w8, bit_or}
 use Rattle.std.specs.Prelude.{slice_index, replicate, nat_eq, IsTrue, ◌↔◌}
 use Rattle.std.specs.Simd.Lanes.{zip2, pick_l, sel_l, top}
 use Rattle.std.proofs.lemmas.Bool.{eqb-true, agree_below_at}
@@ -32,12 +32,12 @@ product-le x y p q = mul-le x y 255 255 (omega arith) (omega arith)
 
 -- the lesser of two lanes, as `simd_min` picks it
 abbrev pub least : List ℕ → List ℕ → List ℕ
-least xs ys = sel_l (map (top 15) (zip2 (λ a b. cond (ltb a b) (2 ^ 16 - 1) 0) xs ys)) xs ys
+least xs ys = sel_l (map (top 7) (zip2 (λ a b. cond (ltb a b) (2 ^ 8 - 1) 0) xs ys)) xs ys
 
 pub count-least : (xs ys : List ℕ) → length xs ≡ 16 → length ys ≡ 16 → length (least xs ys) ≡ 16
 count-least xs ys p q =
     let n : length (zip2 ltb xs ys) ≡ 16 = omega (arith, length-zip2 ltb xs ys (omega arith)) in
-    rw (tops_compared w16 ltb xs ys) (omega (arith, length-sel_l (zip2 ltb xs ys) xs ys (omega arith) (omega arith)))
+    rw (tops_compared w8 ltb xs ys) (omega (arith, length-sel_l (zip2 ltb xs ys) xs ys (omega arith) (omega arith)))
 
 min_is : (x y : ℕ) → cond (ltb x y) x y ≡ min x y
 min_is x y = grind arith
@@ -47,7 +47,7 @@ pub lane-least : (xs ys : List ℕ) (k : ℕ) → length xs ≡ 16 → length ys
 lane-least xs ys k p q h =
     let n : length (zip2 ltb xs ys) ≡ 16 = omega (arith, length-zip2 ltb xs ys (omega arith)) in
     rw (
-      tops_compared w16 ltb xs ys,
+      tops_compared w8 ltb xs ys,
       get_or-sel_l (zip2 ltb xs ys) xs ys k 0 (omega arith) (omega arith) (omega arith),
       get_or-zip2 ltb xs ys k 0 0 false (omega arith) (omega arith),
     ) (min_is (slice_index xs k) (slice_index ys k))

@@ -23,13 +23,13 @@ fn narrowed(lanes: u16x16) -> u8x16
     lanes.cast::<u8>()
 }
 
-/// What each alpha lets through, of 255.
-fn let_through(alpha: u16x16) -> u16x16
-    requires { IsBelow 256 alpha }
-    ensures lanes { (k : ℕ) → k < 16 → slice_index result k ≡ 255 - slice_index alpha k }
-    ensures below { IsBelow 256 result }
+/// What each byte lacks to 255.
+fn lacking(bytes: u8x16) -> u8x16
+    requires { AreBytes bytes }
+    ensures lanes { (k : ℕ) → k < 16 → slice_index result k ≡ 255 - slice_index bytes k }
+    ensures bytes { AreBytes result }
 {
-    u16x16::splat(255) - alpha
+    u8x16::splat(255) - bytes
 }
 
 /// The products, and 128 more, which makes the division round to the nearest.
@@ -51,14 +51,14 @@ fn divided(raised: u16x16) -> u16x16
     (raised + (raised >> 8)) >> 8
 }
 
-/// The sums, held at 255.
-fn held_sums(over: u16x16, shown: u16x16) -> u16x16
-    requires over { IsBelow 256 over }
-    requires shown { IsBelow 256 shown }
+/// The sums, held at 255: of what is shown, as much is added as there is room for.
+fn held_sums(over: u8x16, shown: u8x16) -> u8x16
+    requires over { AreBytes over }
+    requires shown { AreBytes shown }
     ensures lanes { (k : ℕ) → k < 16 → slice_index result k ≡ min 255 (slice_index over k + slice_index shown k) }
-    ensures below { IsBelow 256 result }
+    ensures bytes { AreBytes result }
 {
-    (over + shown).simd_min(u16x16::splat(255))
+    over + shown.simd_min(lacking(over))
 }
 
 /// Each byte laid over the one below it, by the alpha at its place.
@@ -69,8 +69,8 @@ fn blended_lanes(under: u8x16, over: u8x16, alpha: u8x16) -> u8x16
     ensures lanes { (k : ℕ) → k < 16 → slice_index result k ≡ blended_channel (slice_index under k) (slice_index over k) (slice_index alpha k) }
     ensures bytes { AreBytes result }
 {
-    let raised = raised_products(widened(under), let_through(widened(alpha)));
-    narrowed(held_sums(widened(over), divided(raised)))
+    let raised = raised_products(widened(under), widened(lacking(alpha)));
+    held_sums(over, narrowed(divided(raised)))
 }
 
 /// At each byte the fourth byte of its pixel.
