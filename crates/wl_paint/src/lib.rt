@@ -7,6 +7,7 @@
 
 mod damage;
 mod framebuffer;
+mod layer;
 mod painting;
 mod pixel;
 mod ppm;
