@@ -1,5 +1,5 @@
 -- Spans that are cut to an output.
-use Rattle.std.proofs.Common.{◌≡◌, ℕ, ◌≤◌, ◌+◌, Bool, ◌||◌, ◌&&◌, ◌≢◌, ◌<◌, ◌-◌, true, false, arith, refl, sym, ◌∙◌, inl, inr, pos, ℤ, ◌+ℤ◌, ◌-ℤ◌, max}
+use Rattle.std.proofs.Common.{◌≡◌, ℕ, ◌≤◌, ◌+◌, Bool, ◌||◌, ◌&&◌, ◌≢◌, ◌<◌, ◌-◌, true, false, arith, refl, sym, ◌∙◌, inl, inr, pos, ℤ, ◌+ℤ◌, ◌-ℤ◌, max, min, ◌*◌, ◌/◌, ◌%◌}
 use Rattle.std.specs.Prelude.{int_lt, nat_lt, unsigned_abs, ◌⊎◌}
 use Rattle.std.proofs.lemmas.Bool.{cases_lt}
 use Rattle.std.proofs.lemmas.Int.{ints}
@@ -87,3 +87,8 @@ part_offset start len x i first end count same is inside k h from to =
 pub offset_within : (start : ℤ) (len a i k : ℕ) → in_span start (pos len) (pos a) ≡ true → i ≡ unsigned_abs (pos a -ℤ start) → i + k < len
     → (in_span start (pos len) (pos (a + k)) ≡ true) × (unsigned_abs (pos (a + k) -ℤ start) ≡ i + k)
 offset_within start len a i k here is small = (grind (arith, ints, nat_tests), grind (arith, ints, nat_tests))
+
+-- the part of a span that lies in one word of 64 places
+pub between_in_word : (first end k x low high : ℕ) → x / 64 ≡ k → low ≡ max first (64 * k) - 64 * k → high ≡ min end (64 * k + 64) - 64 * k
+    → is_between low high (x % 64) ≡ is_between first end x
+between_in_word first end k x low high h l u = grind (arith, nat_tests)

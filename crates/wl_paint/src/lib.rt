@@ -14,6 +14,7 @@ mod ppm;
 mod row;
 mod span;
 mod windows;
+mod words;
 
 pub use damage::Damage;
 pub use framebuffer::{FrameError, Framebuffer, MAX_SIDE};

@@ -1,4 +1,4 @@
-use Rattle.std.proofs.Common.{◌≡◌, ◌+◌, ◌<◌, arith, rules, w32, FitsSigned}
+use Rattle.std.proofs.Common.{◌+◌, ◌<◌, arith, rules, w32, FitsSigned}
 use Rattle.std.proofs.lemmas.Int.{to_z-of_z}
 use Rattle.wl_store.specs.Picture.{surface_width}
 use Rattle.wl_paint.specs.Painting.{pixel_of, window_of}

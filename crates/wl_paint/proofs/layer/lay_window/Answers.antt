@@ -1,4 +1,4 @@
-use Rattle.std.proofs.Common.{◌≡◌, ℕ, ◌+◌, ◌-◌, ◌*◌, ◌<◌, ◌/◌, true, pos, length, arith, rules, w32, FitsSigned}
+use Rattle.std.proofs.Common.{◌+◌, ◌/◌, pos, length, arith, rules, w32, FitsSigned}
 use Rattle.std.proofs.lemmas.Int.{to_z-of_z}
 use Rattle.wl_geom.specs.Rect.{in_span}
 use Rattle.wl_store.specs.Picture.{surface_width}
