@@ -82,12 +82,7 @@ fn argb(bytes: &[u8], k: usize, format: Format) -> Argb
         Format::Argb8888 => bytes[4 * k + 3],
         Format::Xrgb8888 => 255,
     };
-    over(
-        a,
-        bytes[4 * k + 2],
-        bytes[4 * k + 1],
-        bytes[4 * k],
-    )
+    over(a, bytes[4 * k + 2], bytes[4 * k + 1], bytes[4 * k])
 }
 
 /// Blends a run of `count` of 33 pixels, and each of them by itself. What follows the run stays.
