@@ -1,9 +1,10 @@
 /* Compares the proved blend_run with pixman's OVER, pixel by pixel, and measures it beside the same
-   formula in C and beside pixman, in one run.
+   formula in C, pixman and memcpy, in one run: the medians of the processor time of some turns, in which each has
+   its turn after the other.
 
    The pixels that are compared are random bytes: a source's channels may be above its alpha, so that
-   sums are held at 255. Both those and premultiplied pixels are measured. A framebuffer's pixel is blue, green, red and 255, which pixman calls a8r8g8b8 on a machine
-   whose least byte comes first. */
+   sums are held at 255. Those are measured, premultiplied, opaque and transparent pixels. A framebuffer's pixel is blue, green, red and 255, which
+   pixman calls a8r8g8b8 on a machine whose least byte comes first; what is measured is its OVER to x8r8g8b8, as a compositor has it. */
 #include <pixman.h>
 #include <stdint.h>
 #include <stdio.h>
@@ -13,12 +14,12 @@
 
 void bench_blend_run(uint8_t *dst, size_t dst_len, const uint8_t *src, size_t src_len);
 
-enum { WIDTH = 1000, HEIGHT = 1000, PIXELS = WIDTH * HEIGHT, BYTES = 4 * PIXELS, TURNS = 20 };
+enum { WIDTH = 1920, HEIGHT = 1080, PIXELS = WIDTH * HEIGHT, BYTES = 4 * PIXELS, TURNS = 31, LOOPS = 4 };
 
 static double seconds(void)
 {
     struct timespec now;
-    clock_gettime(CLOCK_MONOTONIC, &now);
+    clock_gettime(CLOCK_PROCESS_CPUTIME_ID, &now);
     return (double)now.tv_sec + (double)now.tv_nsec / 1e9;
 }
 
@@ -52,11 +53,10 @@ static void c_blend_run(uint8_t *dst, size_t dst_len, const uint8_t *src, size_t
     }
 }
 
-static void pixman_blend_run(uint8_t *dst, size_t dst_len, const uint8_t *src, size_t src_len)
+static void pixman_over(pixman_format_code_t format, uint8_t *dst, size_t dst_len, const uint8_t *src)
 {
     int height = (int)(dst_len / 4 / WIDTH);
-    (void)src_len;
-    pixman_image_t *under = pixman_image_create_bits(PIXMAN_a8r8g8b8, WIDTH, height, (uint32_t *)(void *)dst, 4 * WIDTH);
+    pixman_image_t *under = pixman_image_create_bits(format, WIDTH, height, (uint32_t *)(void *)dst, 4 * WIDTH);
     pixman_image_t *over = pixman_image_create_bits(PIXMAN_a8r8g8b8, WIDTH, height, (uint32_t *)(void *)src, 4 * WIDTH);
     if (under == NULL || over == NULL) {
         fprintf(stderr, "pixman: out of memory\n");
@@ -67,21 +67,34 @@ static void pixman_blend_run(uint8_t *dst, size_t dst_len, const uint8_t *src, s
     pixman_image_unref(under);
 }
 
+static void pixman_blend_run(uint8_t *dst, size_t dst_len, const uint8_t *src, size_t src_len)
+{
+    (void)src_len;
+    pixman_over(PIXMAN_x8r8g8b8, dst, dst_len, src);
+}
+
+static void copy_run(uint8_t *dst, size_t dst_len, const uint8_t *src, size_t src_len)
+{
+    (void)src_len;
+    memcpy(dst, src, dst_len);
+}
+
 typedef void (*blend_loop)(uint8_t *, size_t, const uint8_t *, size_t);
 
-/* The best of some turns, in MB/s of what is written. */
-static double rate(blend_loop blend, uint8_t *dst, const uint8_t *before, const uint8_t *src)
+static const struct {
+    const char *name;
+    blend_loop blend;
+} loops[LOOPS] = {
+    {"blend_run", bench_blend_run},
+    {"the formula in C at -O2", c_blend_run},
+    {"pixman", pixman_blend_run},
+    {"memcpy", copy_run},
+};
+
+static int compare(const void *one, const void *other)
 {
-    double best = 0;
-    for (int turn = 0; turn < TURNS; turn++) {
-        memcpy(dst, before, BYTES);
-        double start = seconds();
-        blend(dst, BYTES, src, BYTES);
-        double took = seconds() - start;
-        if (BYTES / 1e6 / took > best)
-            best = BYTES / 1e6 / took;
-    }
-    return best;
+    double a = *(const double *)one, b = *(const double *)other;
+    return (a > b) - (a < b);
 }
 
 static size_t differences(const uint8_t *one, const uint8_t *other)
@@ -94,10 +107,22 @@ static size_t differences(const uint8_t *one, const uint8_t *other)
 
 static void measure(const char *name, uint8_t *dst, const uint8_t *before, const uint8_t *src)
 {
-    double ours = rate(bench_blend_run, dst, before, src);
-    double c = rate(c_blend_run, dst, before, src);
-    double pixman = rate(pixman_blend_run, dst, before, src);
-    printf("%s: blend_run %.0f MB/s, the formula in C at -O2 %.0f MB/s, pixman %.0f MB/s\n", name, ours, c, pixman);
+    static double took[LOOPS][TURNS];
+    for (int turn = 0; turn < TURNS; turn++) {
+        for (int k = 0; k < LOOPS; k++) {
+            memcpy(dst, before, BYTES);
+            double start = seconds();
+            loops[k].blend(dst, BYTES, src, BYTES);
+            took[k][turn] = seconds() - start;
+        }
+    }
+    printf("%s:", name);
+    for (int k = 0; k < LOOPS; k++) {
+        qsort(took[k], TURNS, sizeof(double), compare);
+        printf("%s %s %.0f MB/s (%.2f)", k == 0 ? "" : ",", loops[k].name, BYTES / 1e6 / took[k][TURNS / 2],
+            took[k][TURNS / 2] / took[0][TURNS / 2]);
+    }
+    printf("\n");
 }
 
 int main(void)
@@ -112,7 +137,7 @@ int main(void)
         src[k] = random_byte();
         before[k] = k % 4 == 3 ? 255 : random_byte();
     }
-    pixman_blend_run(memcpy(peer, before, BYTES), BYTES, src, BYTES);
+    pixman_over(PIXMAN_a8r8g8b8, memcpy(peer, before, BYTES), BYTES, src);
     bench_blend_run(memcpy(proved, before, BYTES), BYTES, src, BYTES);
     size_t found = differences(proved, peer);
     c_blend_run(memcpy(peer, before, BYTES), BYTES, src, BYTES);
@@ -123,5 +148,10 @@ int main(void)
     for (size_t k = 0; k < BYTES; k++)
         src[k] = k % 4 == 3 ? src[k] : (uint8_t)(src[k] * src[k | 3] / 255);
     measure("premultiplied", proved, before, src);
+    for (size_t k = 3; k < BYTES; k += 4)
+        src[k] = 255;
+    measure("opaque", proved, before, src);
+    memset(src, 0, BYTES);
+    measure("transparent", proved, before, src);
     return found != 0;
 }

@@ -1,4 +1,7 @@
-use std::alloc::AllocError;
+ghost use Rattle.std.specs.Prelude.{◌≤◌};
+
+use std::alloc::{AllocError, Global};
+use std::process::Abort;
 use std::test::Fail;
 use test_support::Refusing;
 use wl_geom::Rect;
@@ -28,6 +31,35 @@ fn runs_and_counts(rt: HostRuntime) -> Result<(), Fail> {
     assert_eq!(rt; damage.count(), 0);
     assert!(rt; !damage.has(60, 0));
     Ok(())
+}
+
+/// The last column of a row, and then the whole of it.
+fn check_width(rt: &impl Abort, alloc: Global, width: u32) -> Result<(), Fail>
+    requires some { 1 ≤ width }
+    requires wide { width ≤ 4096 }
+{
+    let mut damage = Damage::new(alloc, width, 1)?;
+    damage.add(rect(width as i32 - 1, 0, 1, 1));
+    assert_eq!(rt; damage.next_run(0, 0), Some((width - 1, 1)));
+    assert_eq!(rt; damage.count(), 1);
+    assert!(rt; damage.has(width - 1, 0) && !damage.has(width, 0));
+    damage.add(rect(-1, -1, 4098, 2));
+    assert_eq!(rt; damage.next_run(0, 0), Some((0, width)));
+    assert_eq!(rt; damage.next_run(0, width - 1), Some((width - 1, 1)));
+    assert_eq!(rt; damage.next_run(0, width), None);
+    assert_eq!(rt; damage.count(), width);
+    damage.clear();
+    assert_eq!(rt; damage.next_run(0, 0), None);
+    Ok(())
+}
+
+#[test]
+fn widths_about_a_word(rt: HostRuntime) -> Result<(), Fail> {
+    check_width(&rt, rt.alloc(), 1)?;
+    check_width(&rt, rt.alloc(), 63)?;
+    check_width(&rt, rt.alloc(), 64)?;
+    check_width(&rt, rt.alloc(), 65)?;
+    check_width(&rt, rt.alloc(), 4096)
 }
 
 // What lies outside the output marks nothing, however far its edges are.

@@ -55,3 +55,36 @@ fn two_windows(rt: HostRuntime) -> Result<(), Fail> {
     assert_eq!(rt; frame.pixels(), whole.as_slice());
     Ok(())
 }
+
+// A row of black in more pixels than are painted at a time, from its second column on twice.
+#[test]
+fn a_long_row(rt: HostRuntime) -> Result<(), Fail> {
+    let alloc = rt.alloc();
+    let mut stores = Stores::new(alloc);
+    let store = stores.create(4120)?;
+    let opaque = Region::new(alloc);
+    let windows = Two {
+        stores: &stores,
+        store,
+        lower: layout(4120, 0, 1030, 1, 4120, 1)?,
+        upper: layout(4120, 0, 1030, 1, 4120, 1)?,
+        opaque: &opaque,
+    };
+    let mut frame = Framebuffer::new(alloc, 1032, 1, WHITE)?;
+    let mut damage = Damage::new(alloc, 1032, 1)?;
+    damage.add(Rect {
+        x: 0,
+        y: 0,
+        w: 1032,
+        h: 1,
+    });
+    frame.paint(&damage, &windows);
+    let pixels = frame.pixels();
+    assert_eq!(rt; pixels.len(), 4128);
+    for k in 0..1032_usize {
+        let value = if k < 1031 { 0 } else { 255 };
+        assert_eq!(rt; pixels[4 * k], value);
+        assert_eq!(rt; pixels[4 * k + 3], 255);
+    }
+    Ok(())
+}

@@ -3,6 +3,8 @@
 
 mod color;
 mod formula;
+mod four;
+mod lanes;
 mod run;
 
 pub use color::Rgb;

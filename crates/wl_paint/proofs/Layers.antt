@@ -1,13 +1,69 @@
--- One window more is painted.
-use Rattle.std.proofs.Common.{◌≡◌, ℕ, ◌+◌, ℤ, List, take, ◌∙◌, ap}
-use Rattle.std.specs.Prelude.{slice_get, Some}
+-- Windows laid over a run, one after the other.
+use Rattle.std.proofs.Common.{◌≡◌, ℕ, ◌+◌, ◌-◌, ◌*◌, ◌<◌, ◌≤◌, ℤ, pos, ◌-ℤ◌, true, false, List, take, refl, sym, ◌∙◌, ap, arith, inl, inr}
+use Rattle.std.specs.Prelude.{slice_get, slice_index, Some, unsigned_abs, ◌⊎◌}
+use Rattle.std.proofs.lemmas.Bool.{cases_lt}
 use Rattle.std.proofs.lemmas.Option.{slice_get_within, get_or_from_slice_get}
 use Rattle.std.proofs.lemmas.List.Sums.{fold_more}
 use Rattle.wl_blend.specs.declared.color.Rgb.{Rgb}
+use Rattle.wl_blend.specs.Blend.{blended, color_of}
+use Rattle.wl_geom.specs.Rect.{in_span}
+use Rattle.wl_store.specs.Picture.{color_at, surface_height, surface_width}
+use Rattle.wl_paint.specs.Damage.{is_between}
+use Rattle.wl_paint.specs.Painting.{opaque, pixel_of}
 use Rattle.wl_paint.specs.Window.{Window, over, scratch}
+use Rattle.wl_paint.proofs.Clips.{between_none, offset_within, part_offset}
 
 pub scratch-more : (background : Rgb) (windows : List Window) (k : ℕ) (w : Window) (x y : ℤ) → slice_get windows k ≡ Some w
     → scratch background (take (k + 1) windows) x y ≡ over x y (scratch background (take k windows) x y) w
 scratch-more background windows k w x y e =
     fold_more (over x y) background windows k w (slice_get_within windows k w e)
     ∙ ap (over x y (scratch background (take k windows) x y)) (get_or_from_slice_get windows k w w e)
+
+-- a pixel that stays has its colour still
+pub kept_pixel : (run : List ℕ) (i : ℕ) (color : Rgb) → slice_index run (4 * i + 3) ≡ 255 → color ≡ color_of run i → pixel_of run i ≡ opaque color
+kept_pixel run i color fourth same = rw (fourth, same) refl
+
+-- a window lets be what is beside it
+pub over-beside : (x y : ℤ) (under : Rgb) (w : Window) → in_span w.x (pos (surface_width w.picture.transform w.picture.layout)) x ≡ false → over x y under w ≡ under
+over-beside x y under w e = rw e refl
+
+over-inside : (x y : ℤ) (under : Rgb) (w : Window) (i j : ℕ) → in_span w.x (pos (surface_width w.picture.transform w.picture.layout)) x ≡ true
+    → in_span w.y (pos (surface_height w.picture.transform w.picture.layout)) y ≡ true → unsigned_abs (x -ℤ w.x) ≡ i → unsigned_abs (y -ℤ w.y) ≡ j
+    → over x y under w ≡ blended under (color_at w.picture i j)
+over-inside x y under w i j column row right down = rw (column, row, right, down) refl
+
+-- a run over which the window is laid, of which the pixels from `first` up to `end` lie in the window
+pub laid_pixel : (run now : List ℕ) (w : Window) (x y first end count i j : ℕ)
+    → ((k : ℕ) → k < count → in_span w.x (pos (surface_width w.picture.transform w.picture.layout)) (pos (x + k)) ≡ is_between first end k)
+    → first ≤ end → i ≡ unsigned_abs (pos (x + first) -ℤ w.x)
+    → in_span w.x (pos (surface_width w.picture.transform w.picture.layout)) (pos (x + first)) ≡ true
+    → in_span w.y (pos (surface_height w.picture.transform w.picture.layout)) (pos y) ≡ true → j ≡ unsigned_abs (pos y -ℤ w.y)
+    → ((k : ℕ) → k < end - first → pixel_of now (first + k) ≡ opaque (blended (color_of run (first + k)) (color_at w.picture (i + k) j)))
+    → ((k : ℕ) → (k < first) ⊎ (first + (end - first) ≤ k) → pixel_of now k ≡ pixel_of run k)
+    → (k : ℕ) → k < count → slice_index run (4 * k + 3) ≡ 255 → pixel_of now k ≡ opaque (over (pos (x + k)) (pos y) (color_of run k) w)
+laid_pixel run now w x y first end count i j same order is column row down inside outside k h fourth =
+    let beside : (k < first) ⊎ (end ≤ k) → pixel_of now k ≡ opaque (over (pos (x + k)) (pos y) (color_of run k) w) = λ out.
+    outside k (elim out [ inl l ↦ inl l | inr g ↦ inr (omega arith) ])
+    ∙ kept_pixel run k _ fourth (over-beside (pos (x + k)) (pos y) (color_of run k) w (same k h ∙ between_none first end k out)) in
+    elim (cases_lt k first) [
+      | inl l ↦ beside (inl l)
+      | inr g ↦ elim (cases_lt k end) [
+        | inl to ↦ (
+            let at : first + (k - first) ≡ k = omega arith in
+            let place = part_offset w.x (surface_width w.picture.transform w.picture.layout) x i first end count same is column k h g to in
+            let shown = over-inside (pos (x + k)) (pos y) (color_of run k) w (i + (k - first)) j place.0 row place.1 (sym down) in
+            let e = inside (k - first) (omega arith) in
+            (rw at at e) ∙ ap opaque (sym shown))
+        | inr past ↦ beside (inr past)
+      ]
+    ]
+
+-- a pixel that shows the window's point whatever is below it
+pub hidden_pixel : (pixel : Rgb × ℕ) (w : Window) (x y i j k : ℕ) (under : Rgb)
+    → in_span w.x (pos (surface_width w.picture.transform w.picture.layout)) (pos x) ≡ true → i ≡ unsigned_abs (pos x -ℤ w.x)
+    → in_span w.y (pos (surface_height w.picture.transform w.picture.layout)) (pos y) ≡ true → j ≡ unsigned_abs (pos y -ℤ w.y)
+    → i + k < surface_width w.picture.transform w.picture.layout
+    → pixel ≡ opaque (blended under (color_at w.picture (i + k) j)) → pixel ≡ opaque (over (pos (x + k)) (pos y) under w)
+hidden_pixel pixel w x y i j k under column is row down small e =
+    let place = offset_within w.x (surface_width w.picture.transform w.picture.layout) x i k column is small in
+    e ∙ ap opaque (sym (over-inside (pos (x + k)) (pos y) under w (i + k) j place.0 row place.1 (sym down)))

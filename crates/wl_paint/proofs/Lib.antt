@@ -1,8 +1,10 @@
+pub mod Bits
 pub mod Clips
 pub mod Colors
 pub mod Images
 pub mod Layers
 pub mod MarkedRows
+pub mod MarkedWords
 pub mod Marks
 pub mod PaintedRows
 pub mod PaintedRuns

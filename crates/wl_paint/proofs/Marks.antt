@@ -59,7 +59,7 @@ count_points-empty width (suc height) p h =
     omega (arith, count_below-empty width (λ x. p x height) (λ x. h x height), count_points-empty width height p h)
 
 -- the same test of each number, the same count
-count_below-same : (n : ℕ) (p q : ℕ → Bool) → ((k : ℕ) → k < n → q k ≡ p k) → count_below n q ≡ count_below n p
+pub count_below-same : (n : ℕ) (p q : ℕ → Bool) → ((k : ℕ) → k < n → q k ≡ p k) → count_below n q ≡ count_below n p
 count_below-same zero p q h = refl
 count_below-same (suc n) p q h =
     let first : ◌≡◌ {A = ℕ} (if q n then 1 else 0) (if p n then 1 else 0) = ap (λ (b : Bool). if b then 1 else 0) (h n (omega arith)) in
@@ -80,3 +80,22 @@ count_below-more (suc n) x p q l was now others =
           let none : ◌≡◌ {A = ℕ} (if p n then 1 else 0) 0 = one-false (p n) (rw same was) in
           omega (arith, one, none, count_below-same n p q (λ k h. others k (omega arith))))
     ]
+
+-- what passes the one test passes the other
+pub count_below-grow : (n : ℕ) (p q : ℕ → Bool) → ((k : ℕ) → k < n → p k ≡ true → q k ≡ true) → count_below n p ≤ count_below n q
+count_below-grow zero p q h = omega arith
+count_below-grow (suc n) p q h =
+    let rest = count_below-grow n p q (λ k l. h k (omega arith)) in
+    elim (cases_Bool (p n)) [
+      | inl e ↦ omega (arith, one-true (p n) e, one-true (q n) (h n (omega arith) e), rest)
+      | inr e ↦ omega (arith, one-false (p n) e, rest)
+    ]
+
+-- the first n numbers, and then m more
+pub count_below-add : (n m : ℕ) (p : ℕ → Bool) → count_below (n + m) p ≡ count_below m (λ i. p (n + i)) + count_below n p
+count_below-add n zero p =
+    let e : n + 0 ≡ n = omega arith in
+    rw e (omega arith)
+count_below-add n (suc m) p =
+    let e : n + suc m ≡ suc (n + m) = omega arith in
+    rw (e, count_below-add n m p) (omega arith)

@@ -14,14 +14,14 @@ pub record IsPaintedTo (was now : ℕ → Rgb × ℕ) (paint : ℕ → Rgb) (dam
   pub after : (x : ℕ) → from ≤ x → now (base + x) ≡ was (base + x)
   pub outside : (k : ℕ) → (k < base) ⊎ (base + width ≤ k) → now k ≡ was k
 
--- one run more
-pub IsPaintedTo-run : (was now next : ℕ → Rgb × ℕ) (paint : ℕ → Rgb) (damaged : ℕ → Bool) (base width from start count : ℕ)
-    → IsFirstRun damaged width from (start, count) → IsPaintedTo was now paint damaged base width from
+-- the front of one run more
+pub IsPaintedTo-run : (was now next : ℕ → Rgb × ℕ) (paint : ℕ → Rgb) (damaged : ℕ → Bool) (base width from start len count : ℕ)
+    → IsFirstRun damaged width from (start, len) → count ≤ len → IsPaintedTo was now paint damaged base width from
     → ((i : ℕ) → i < count → next (base + start + i) ≡ opaque (paint (start + i)))
     → ((k : ℕ) → (k < base + start) ⊎ (base + start + count ≤ k) → next k ≡ now k)
     → IsPaintedTo was next paint damaged base width (start + count)
-IsPaintedTo-run was now next paint damaged base width from start count run p inside outside = record {
-  bound = run.within;
+IsPaintedTo-run was now next paint damaged base width from start len count run order p inside outside = record {
+  bound = omega (arith, run.within);
   painted = λ x h d. elim (cases_lt x from) [
     | inl l ↦ outside (base + x) (inl (omega (arith, run.starts))) ∙ p.painted x l d
     | inr g ↦ elim (cases_lt x start) [
@@ -36,7 +36,7 @@ IsPaintedTo-run was now next paint damaged base width from start count run p ins
     | inl l ↦ outside (base + x) (inl (omega (arith, run.starts))) ∙ p.kept x l d
     | inr g ↦ elim (cases_lt x start) [
       | inl l ↦ outside (base + x) (inl (omega arith)) ∙ p.after x g
-      | inr s ↦ absurd (both_ways (damaged x) d (run.inside x s h))
+      | inr s ↦ absurd (both_ways (damaged x) d (run.inside x s (omega arith)))
     ]
   ];
   after = λ x h. outside (base + x) (inr (omega arith)) ∙ p.after x (omega (arith, run.starts));

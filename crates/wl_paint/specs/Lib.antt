@@ -3,6 +3,7 @@ pub mod Frame
 pub mod Image
 pub mod Painting
 pub mod Window
+pub mod Words
 pub use Rattle.wl_blend.specs.Blend
 pub use Rattle.wl_geom.specs.Rect
 pub use Rattle.wl_geom.specs.Region

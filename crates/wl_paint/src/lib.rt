@@ -7,12 +7,14 @@
 
 mod damage;
 mod framebuffer;
+mod layer;
 mod painting;
 mod pixel;
 mod ppm;
 mod row;
 mod span;
 mod windows;
+mod words;
 
 pub use damage::Damage;
 pub use framebuffer::{FrameError, Framebuffer, MAX_SIDE};

@@ -1,50 +1,14 @@
-ghost use Rattle.std.specs.Prelude.{◌≡◌, ◌<◌, ◌≤◌, ◌+◌, ◌*◌, ◌%◌, ◌^◌, ◌⊎◌, ℕ, length, pos, true, false};
-ghost use Rattle.wl_blend.specs.Blend.{color_of};
+ghost use Rattle.std.specs.Prelude.{◌≡◌, ◌<◌, ◌≤◌, ◌+◌, ◌*◌, ◌%◌, ◌^◌, ◌⊎◌, ℕ, length, take, pos, true, false};
 ghost use Rattle.wl_paint.specs.Damage.{has};
-ghost use Rattle.wl_paint.specs.Painting.{IsPaintedAbove, OffsetIn, opaque, pixel_of, window_of};
-ghost use Rattle.wl_paint.specs.Window.{over, scratch};
+ghost use Rattle.wl_paint.specs.Painting.{IsPaintedAbove, opaque, pixel_of};
+ghost use Rattle.wl_paint.specs.Window.{scratch};
 
 use crate::damage::Damage;
-use crate::pixel::{color_of, write_color};
-use crate::windows::{Painted, Windows};
+use crate::layer::{STRETCH, hide, lay_window};
+use crate::pixel::write_color;
+use crate::windows::Windows;
 use std::alloc::Allocator;
-use wl_blend::{Rgb, blend};
-
-/// How far the place is from the start, where it is one of the `len` places from there on.
-fn offset_in(start: i32, len: u32, place: u32) -> Option<u32>
-    ensures { OffsetIn start len place result }
-{
-    let offset = i64::from(place) - i64::from(start);
-    if offset < 0 || offset >= i64::from(len) {
-        return None;
-    }
-    Some(offset as u32)
-}
-
-/// The colour at the point (x, y) with the window laid over it.
-fn over_at<A: Allocator>(under: Rgb, x: u32, y: u32, window: &Painted<'_, A>) -> Rgb
-    ensures { result ≡ over (pos x) (pos y) under (window_of window.now) }
-{
-    let Some(i) = offset_in(window.x, window.picture.width(), x) else {
-        return under;
-    };
-    let Some(j) = offset_in(window.y, window.picture.height(), y) else {
-        return under;
-    };
-    blend(under, window.picture.pixel(i, j))
-}
-
-/// Lays the window over a run of pixels that starts at (x, y).
-fn paint_window<A: Allocator>(run: &mut [u8], x: u32, y: u32, window: &Painted<'_, A>)
-    requires whole { length run.old % 4 ≡ 0 }
-    requires fits { x + length run.old < 2 ^ 32 }
-    ensures { (i : ℕ) → 4 * i < length run.old → pixel_of run.new i ≡ opaque (over (pos (x + i)) (pos y) (color_of run.old i) (window_of window.now)) }
-{
-    for i in 0..run.len() / 4 {
-        let color = over_at(color_of(run, i), x + i as u32, y, window);
-        write_color(run, i, color);
-    }
-}
+use wl_blend::Rgb;
 
 /// Fills a run of pixels with one colour.
 fn fill_run(run: &mut [u8], color: Rgb)
@@ -56,15 +20,35 @@ fn fill_run(run: &mut [u8], color: Rgb)
     }
 }
 
+/// Paints a run of pixels that starts at (x, y) by the windows up to the highest that hides all below it there, or
+/// by the background where none does. The answer is how many windows that is.
+fn paint_lowest<W: Windows>(run: &mut [u8], x: u32, y: u32, windows: &W, background: Rgb) -> usize
+    requires whole { length run.old % 4 ≡ 0 }
+    requires fits { x + length run.old < 2 ^ 32 }
+    ensures within { result ≤ length (W.windows windows.now) }
+    ensures pixels { (i : ℕ) → 4 * i < length run.old → pixel_of run.new i ≡ opaque (scratch background (take result (W.windows windows.now)) (pos (x + i)) (pos y)) }
+{
+    let len = windows.len();
+    for above in 0..len {
+        let k = len - 1 - above;
+        if hide(run, x, y, &windows.window(k)) {
+            return k + 1;
+        }
+    }
+    fill_run(run, background);
+    0
+}
+
 /// Paints a run of pixels that starts at (x, y) from nothing.
 fn paint_run<W: Windows>(run: &mut [u8], x: u32, y: u32, windows: &W, background: Rgb)
     requires whole { length run.old % 4 ≡ 0 }
     requires fits { x + length run.old < 2 ^ 32 }
+    requires short { length run.old ≤ 4 * STRETCH }
     ensures { (i : ℕ) → 4 * i < length run.old → pixel_of run.new i ≡ opaque (scratch background (W.windows windows.now) (pos (x + i)) (pos y)) }
 {
-    fill_run(run, background);
-    for k in 0..windows.len() {
-        paint_window(run, x, y, &windows.window(k));
+    let lowest = paint_lowest(run, x, y, windows, background);
+    for k in lowest..windows.len() {
+        lay_window(run, x, y, &windows.window(k));
     }
 }
 
@@ -80,6 +64,7 @@ fn paint_part<W: Windows>(
 )
     requires within { 4 * (first + count) ≤ length pixels.old }
     requires fits { x + 4 * count < 2 ^ 32 }
+    requires short { count ≤ STRETCH }
     ensures inside { (i : ℕ) → i < count → pixel_of pixels.new (first + i) ≡ opaque (scratch background (W.windows windows.now) (pos (x + i)) (pos y)) }
     ensures outside { (k : ℕ) → (k < first) ⊎ (first + count ≤ k) → pixel_of pixels.new k ≡ pixel_of pixels.old k }
 {
@@ -104,7 +89,8 @@ fn paint_row<A: Allocator, W: Windows>(
     ensures outside { (k : ℕ) → (k < base) ⊎ (base + damage.now.width ≤ k) → pixel_of pixels.new k ≡ pixel_of pixels.old k }
 {
     let mut from = 0;
-    while let Some((start, count)) = damage.next_run(y, from) {
+    while let Some((start, len)) = damage.next_run(y, from) {
+        let count = len.min(STRETCH as u32);
         paint_part(
             pixels,
             base + start as usize,

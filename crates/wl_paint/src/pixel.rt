@@ -1,20 +1,10 @@
 ghost use Rattle.std.specs.Prelude.{◌≡◌, ℕ, ◌+◌, ◌*◌, ◌<◌, ◌≢◌, length};
-ghost use Rattle.wl_blend.specs.Blend.{color_of};
+ghost use Rattle.wl_store.specs.declared.color.Format.TheVariants.{Argb8888};
+ghost use Rattle.wl_blend.specs.Blend.{argb_of};
 ghost use Rattle.wl_paint.specs.Painting.{opaque, pixel_of};
 
 use wl_blend::Rgb;
-
-/// The colour of pixel `k`.
-pub(crate) fn color_of(pixels: &[u8], k: usize) -> Rgb
-    requires { 4 * k + 3 < length pixels.now }
-    ensures { result ≡ color_of pixels.now k }
-{
-    Rgb {
-        r: pixels[4 * k + 2],
-        g: pixels[4 * k + 1],
-        b: pixels[4 * k],
-    }
-}
+use wl_store::Argb;
 
 /// Writes pixel `k`, and no other.
 pub(crate) fn write_color(pixels: &mut [u8], k: usize, color: Rgb)
@@ -26,4 +16,16 @@ pub(crate) fn write_color(pixels: &mut [u8], k: usize, color: Rgb)
     pixels[4 * k + 1] = color.g;
     pixels[4 * k + 2] = color.r;
     pixels[4 * k + 3] = 255;
+}
+
+/// Writes pixel `k` of pixels of argb8888, and no other.
+pub(crate) fn write_argb(pixels: &mut [u8], k: usize, color: Argb)
+    requires { 4 * k + 3 < length pixels.old }
+    ensures written { argb_of Argb8888 pixels.new k ≡ color }
+    ensures others { (i : ℕ) → i ≢ k → argb_of Argb8888 pixels.new i ≡ argb_of Argb8888 pixels.old i }
+{
+    pixels[4 * k] = color.b;
+    pixels[4 * k + 1] = color.g;
+    pixels[4 * k + 2] = color.r;
+    pixels[4 * k + 3] = color.a;
 }

@@ -11,6 +11,6 @@ loop-k-preserved g c i h =
     let w = window_of c.window.result in
     let x = pos (c.args.x + i) in
     let y = pos c.args.y in
-    c.paint_window.ensures i short
+    c.lay_window.ensures i short
     ∙ (ap (λ (p : Rgb × ℕ). opaque (over x y p.0 w)) (c.loop-k.invariant i short)
     ∙ ap opaque (sym (scratch-more c.args.background (g.W.Windows.windows c.args.windows.now) c.loop-k.k w x y c.window.ensures)))

@@ -1,11 +1,20 @@
-use Rattle.std.proofs.Common.{sym, ◌≡◌, ◌∙◌, arith}
-use Rattle.wl_paint.proofs.Marks.{count_below-empty, marked-none}
+use Rattle.std.proofs.Common.{sym, ◌∙◌, arith}
+use Rattle.wl_paint.proofs.MarkedWords.{IsRow-empty, length-marks_from, marked-row_words, none_marked}
 use Rattle.wl_paint.proofs.row.Row.clear.Goals as goal
 
 pub invariant_of-self : goal.invariant_of-self
-invariant_of-self g c = sym (count_below-empty _ _ c.unmark.ensures.empty)
+invariant_of-self g c =
+    IsRow-empty c.unmark.new.words.items c.self.inside.width (omega (arith, c.unmark.ensures.len, c.self.invariant.sized)) (omega (arith, c.unmark.ensures.len, c.self.invariant.tight))
+    c.unmark.ensures.empty
+
+pub returns-then-self-gt0-clause-empty : goal.returns-then-self-gt0-clause-empty
+returns-then-self-gt0-clause-empty g c x =
+    marked-row_words c.unmark.new.words.items c.self.inside.width x (λ k h. c.unmark.ensures.empty k) ∙ c.unmark.ensures.empty x
+
+pub returns-then-self-gt0-clause-width : goal.returns-then-self-gt0-clause-width
+returns-then-self-gt0-clause-width g c =
+    rw (← c.self.view_is) (length-marks_from c.unmark.new.words.items 0 c.self.inside.width ∙ sym (length-marks_from c.self.inside.words.items 0 c.self.inside.width))
 
 pub returns-else-self-gt0-clause-empty : goal.returns-else-self-gt0-clause-empty
 returns-else-self-gt0-clause-empty g c =
-    let none : c.self.inside.count ≡ 0 = omega arith in
-    rw (← c.self.view_is) (marked-none c.self.inside.marks.items (sym c.self.invariant ∙ none))
+    rw (← c.self.view_is) (none_marked c.self.inside.words.items c.self.inside.width c.self.inside.count c.self.invariant (omega arith))

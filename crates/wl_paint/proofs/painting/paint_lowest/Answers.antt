@@ -1,0 +1,15 @@
+use Rattle.std.proofs.Common.{◌+◌, ◌-◌, ◌*◌, ◌<◌, pos, length, take, arith, ap, sym, ◌∙◌}
+use Rattle.wl_paint.specs.Painting.{opaque, window_of}
+use Rattle.wl_paint.specs.Window.{scratch}
+use Rattle.wl_paint.proofs.Layers.{scratch-more}
+use Rattle.wl_paint.proofs.painting.paint_lowest.Goals as goal
+
+pub returns-then-hide-clause-pixels : goal.returns-then-hide-clause-pixels
+returns-then-hide-clause-pixels g c i h =
+    let windows = g.W.Windows.windows c.args.windows.now in
+    let k = c.len-len.result - 1 - c.loop-above.above in
+    let short : 4 * i < length c.loop-above.run = omega arith in
+    let x = pos (c.args.x + i) in
+    let y = pos c.args.y in
+    c.hide.ensures c.if-hide.true i short (scratch c.args.background (take k windows) x y)
+    ∙ ap opaque (sym (scratch-more c.args.background windows k (window_of c.window.result) x y c.window.ensures))
