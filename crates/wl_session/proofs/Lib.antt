@@ -8,3 +8,4 @@ pub mod Seen
 pub mod Promised
 pub mod Courses
 pub mod Stays
+pub mod Rows
