@@ -1,12 +1,12 @@
 -- What a session's calls make of a stage.
-use Rattle.std.proofs.Common.{◌≡◌, ◌++◌, ◌*◌, ◌<◌, ℕ, Bool, false, List, [], ap, refl, sym, subst, ◌∙◌}
+use Rattle.std.proofs.Common.{◌≡◌, ◌++◌, ◌*◌, ℕ, false, List, [], ap, refl, subst, ◌∙◌}
 use Rattle.wl_plain.specs.Acts.{Act, Tick}
-use Rattle.wl_plain.specs.Desktop.{Desktop, empty}
+use Rattle.wl_plain.specs.Desktop.{empty}
 use Rattle.wl_plain.specs.LeftOut.{served_now}
 use Rattle.wl_plain.specs.declared.answers.Done.{Done}
 use Rattle.wl_plain.specs.declared.answers.Done.TheVariants as gave
 use Rattle.wl_session.specs.Agreeing.{Agrees}
-use Rattle.wl_session.specs.Course.{Course, TakesCourse, moment}
+use Rattle.wl_session.specs.Course.{Course, moment}
 use Rattle.wl_session.specs.Damage.{Damaged, has}
 use Rattle.wl_session.specs.Events.{AreEvents, Moment}
 use Rattle.wl_session.specs.Frame.{Image, filled}
@@ -69,3 +69,15 @@ module _ (s : SessionView) (config : Config) (agrees : Agrees s.desk (empty (rec
   pub is-first : s.frame.width ≡ config.width → s.frame.height ≡ config.height → s.frame.background ≡ config.background → s.frame.pixels ≡ filled (config.width * config.height) config.background
       → ((x y : ℕ) → has s.damage x y ≡ false) → IsFirst config (begun config s)
   is-first a b c d none = record { events = refl; now = refl; desktop = refl; frame = image_is s.frame config _ a b c d; damage = none }
+
+-- there is such a stage, whatever session there is
+pub some-first : (config : Config) → (stage : Stage) × IsFirst config stage
+some-first config =
+    let first : Moment = record {
+      desktop = empty (record { width = config.width; height = config.height });
+      damage = record { width = config.width; height = config.height; rows = [] };
+      frame = record { width = config.width; height = config.height; background = config.background; pixels = filled (config.width * config.height) config.background };
+    } in (
+      record { first = first; events = []; now = first },
+      record { events = refl; now = refl; desktop = refl; frame = refl; damage = λ x y. refl },
+    )

@@ -7,6 +7,8 @@ use Rattle.wl_session.specs.Damage.{Damaged, count_points, has}
 use Rattle.wl_session.specs.Frame.{Image}
 use Rattle.wl_session.specs.Image.{image_of}
 use Rattle.wl_recording.specs.Text.{frame_line}
+use Rattle.wl_replay.specs.Report.{images_in}
+use Rattle.wl_replay.specs.Told.{Stage}
 use Rattle.wl_replay.proofs.Outcomes.{ok_kept}
 use Rattle.wl_replay.proofs.Stages.{after, seen-on, stands-on, steps-on}
 use Rattle.wl_replay.proofs.step.tick.Goals as goal
@@ -18,11 +20,12 @@ returns-clause-told g c =
     on_ok_weaker c.write_image.result
     (λ shown. λ old stands.
     let course = next.2 old.now.desktop stands.desk in
-    let damage : c.tick-frame.result.damage.now ≡ old.now.damage = c.tick-frame.ensures.damage ∙ stands.damage in (
-      after (Tick c.args.time) gave.Tick _ _ old course,
+    let damage : c.tick-frame.result.damage.now ≡ old.now.damage = c.tick-frame.ensures.damage ∙ stands.damage in
+    let new : Stage = after (Tick c.args.time) gave.Tick _ _ old course in (
+      new,
       record {
         text = frame_line c.args.time (count_points old.now.damage.width old.now.damage.height (has old.now.damage));
-        images = image_of c.tick-frame.new.self.frame.width c.tick-frame.new.self.frame.height c.tick-frame.new.self.frame.pixels;
+        images = image_of new.now.frame.width new.now.frame.height new.now.frame.pixels;
         frames = 1;
         clients = 0;
       },
@@ -30,6 +33,6 @@ returns-clause-told g c =
       stands-on (Tick c.args.time) gave.Tick _ _ old stands course,
       subst (λ (n : ℕ). Appends (g.W.Write.contents c.args.writer.now) (g.W.Write.contents c.write_frame.new.writer) (frame_line c.args.time n))
           (c.count-count.ensures ∙ ap (λ (m : Damaged). count_points m.width m.height (has m)) damage) wrote,
-      (subst (λ (i : Image). Appends _ _ (image_of i.width i.height i.pixels)) (sym next.1) shown, refl, refl),
+      (subst (λ (i : Image). Appends (images_in g.P.Write.contents c.args.ppm.now) (images_in g.P.Write.contents c.write_image.new.ppm) (image_of i.width i.height i.pixels)) (sym next.1) shown, refl, refl),
     ))
     c.write_image.ensures.told

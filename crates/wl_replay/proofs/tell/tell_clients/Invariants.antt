@@ -1,4 +1,4 @@
-use Rattle.std.proofs.Common.{◌≡◌, ℕ, List}
+use Rattle.std.proofs.Common.{ℕ, List}
 use Rattle.std.specs.Io.KnownBytes.{Appends}
 use Rattle.wl_replay.specs.Clients.{TellsFirst}
 use Rattle.wl_replay.specs.Told.{Stage, Stands}
