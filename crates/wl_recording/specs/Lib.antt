@@ -1,4 +1,5 @@
 pub mod Line
 pub mod Lines
+pub mod Pointer
 pub mod Side
 pub mod Text

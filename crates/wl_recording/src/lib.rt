@@ -8,6 +8,7 @@ mod lines;
 mod name;
 mod numbers;
 mod place;
+mod pointer;
 mod report;
 mod side;
 mod word;
@@ -17,6 +18,7 @@ pub use line::{Line, parse};
 pub use lines::{LINE_LIMIT, LineError, read_line};
 pub use numbers::number;
 pub use place::Place;
+pub use pointer::{PointerLine, pointer_line};
 pub use report::{
     write_client, write_end, write_frame, write_full, write_none, write_nostore, write_outside,
     write_to,

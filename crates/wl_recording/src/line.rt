@@ -42,7 +42,7 @@ pub fn parse<'a, A: Allocator>(
     parse_words(word, rest, piece)
 }
 
-fn is_comment(text: &[u8]) -> bool
+pub(crate) fn is_comment(text: &[u8]) -> bool
     ensures { result ≡ is_comment text.now }
 {
     !text.is_empty() && text[0] == b'#'

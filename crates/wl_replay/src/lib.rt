@@ -9,5 +9,7 @@ mod storing;
 mod tell;
 
 pub use player::{MAX_LINES, replay};
-pub use wl_recording::{LINE_LIMIT, ReplayError, SideFault, SideFiles, Summary, number};
+pub use wl_recording::{
+    LINE_LIMIT, PointerLine, ReplayError, SideFault, SideFiles, Summary, number, pointer_line,
+};
 pub use wl_session::{Config, Rgb};

@@ -1,0 +1,8 @@
+use Rattle.wl_server.specs.Acting.{InTurn, Takes}
+use Rattle.wl_server.specs.Phases.{Fills}
+use Rattle.wl_server.proofs.filling.fill_all.Given as goal
+
+-- the clients up to this one got their side files
+abbrev pub invariant-loop-k : goal.invariant-loop-k
+invariant-loop-k g l =
+    Takes (InTurn Fills l.k) l.fn.session.desk l.session.desk

@@ -1,0 +1,14 @@
+use Rattle.std.proofs.Common.{◌≤◌, ◌-◌}
+use Rattle.wl_server.specs.Acting.{Takes}
+use Rattle.wl_server.proofs.Pieces.{PutTo}
+use Rattle.wl_server.proofs.filling.put_file.Given as goal
+
+-- the store was filled up to this byte
+abbrev pub invariant-loop-at : goal.invariant-loop-at
+invariant-loop-at g l = record {
+  within : l.at ≤ l.size;
+  steps : Takes (PutTo l.client l.store l.at) l.fn.session.desk l.session.desk;
+}
+
+abbrev pub decreases-loop-at : goal.decreases-loop-at
+decreases-loop-at g l = l.size - l.at

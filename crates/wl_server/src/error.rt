@@ -1,0 +1,20 @@
+//! Why a turn isn't told of.
+
+ghost use Rattle.std.specs.Prelude.{◌≡◌};
+
+use std::io;
+use thiserror::Error;
+
+/// A turn wasn't told of.
+#[derive(Clone, Copy, Debug, PartialEq, Eq, Error)]
+pub enum TurnError {
+    /// The writer of the report or of the images failed.
+    #[error("write failed")]
+    Write,
+}
+
+pub(crate) fn write_failed(_error: io::Error) -> TurnError
+    ensures { result ≡ TurnError.Write }
+{
+    TurnError::Write
+}

@@ -1,0 +1,19 @@
+//! The server: turns of a session whose clients are connections of a hub.
+//!
+//! [`Service`] keeps what lasts from turn to turn, and [`turn`] takes one turn.
+#![tactic(auto)]
+
+mod accepting;
+mod closing;
+mod error;
+mod filling;
+mod pools;
+mod reading;
+mod seat;
+mod service;
+mod showing;
+mod waiting;
+mod writing;
+
+pub use error::TurnError;
+pub use service::{Service, turn};

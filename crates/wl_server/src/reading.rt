@@ -1,0 +1,93 @@
+//! What clients sent is read.
+
+ghost use Rattle.std.specs.Prelude.{◌≡◌, length};
+ghost use Rattle.wl_server.specs.Acting.{InTurn, Takes};
+ghost use Rattle.wl_server.specs.Phases.{Reads, ReadsOnce};
+
+use crate::seat::Seat;
+use std::alloc::Allocator;
+use wl_hub::{Hub, Received, receive};
+use wl_session::{ClientNo, Session};
+
+/// The most reads of a client in a turn.
+const READS: usize = 16;
+
+/// The most bytes of a read.
+const PIECE: usize = 4096;
+
+/// Reads each client until it would block.
+pub(crate) fn read_all<A: Allocator + Copy, H: Hub>(
+    hub: &mut H,
+    session: &mut Session<A>,
+    seats: &mut [Option<Seat<H::Conn>>],
+)
+    requires { length seats.old ≡ 32 }
+    ensures { Takes (InTurn Reads 32) session.old.desk session.new.desk }
+{
+    let mut buf = [0; PIECE];
+    for k in 0..seats.len() {
+        read_seat(hub, session, k as u32 + 1, &mut seats[k], &mut buf);
+    }
+}
+
+/// Reads a client, if there is one.
+fn read_seat<A: Allocator + Copy, H: Hub>(
+    hub: &mut H,
+    session: &mut Session<A>,
+    client: ClientNo,
+    seat: &mut Option<Seat<H::Conn>>,
+    buf: &mut [u8],
+)
+    requires { length buf.old ≡ 4096 }
+    ensures { Takes (Reads client) session.old.desk session.new.desk }
+{
+    if let Some(seat) = seat {
+        read_client(hub, session, client, seat, buf);
+    }
+}
+
+/// Reads a client until it would block, but at most so often.
+fn read_client<A: Allocator + Copy, H: Hub>(
+    hub: &mut H,
+    session: &mut Session<A>,
+    client: ClientNo,
+    seat: &mut Seat<H::Conn>,
+    buf: &mut [u8],
+)
+    requires { length buf.old ≡ 4096 }
+    ensures { Takes (Reads client) session.old.desk session.new.desk }
+{
+    seat.has_sent = false;
+    for before in 0..READS {
+        if !read_once(hub, session, client, seat, buf) {
+            return;
+        }
+    }
+}
+
+/// Reads once. False where no more is to be read: it would block, or the client is gone.
+fn read_once<A: Allocator + Copy, H: Hub>(
+    hub: &mut H,
+    session: &mut Session<A>,
+    client: ClientNo,
+    seat: &mut Seat<H::Conn>,
+    buf: &mut [u8],
+) -> bool
+    requires { length buf.old ≡ 4096 }
+    ensures { Takes (ReadsOnce client result) session.old.desk session.new.desk }
+{
+    match receive(hub, &mut seat.conn, buf) {
+        Received::Bytes(count) => {
+            let piece = &buf[..count];
+            seat.has_sent = true;
+            seat.pools.watch(piece);
+            session.feed(client, piece);
+            true
+        }
+        Received::Later => false,
+        Received::Gone => {
+            session.gone(client);
+            false
+        }
+    }
+}

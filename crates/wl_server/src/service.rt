@@ -1,0 +1,130 @@
+//! What lasts from turn to turn, and the turn.
+
+ghost use Rattle.std.specs.Prelude.{◌≡◌, OnOk, length};
+ghost use Rattle.wl_server.specs.Acting.{Takes};
+ghost use Rattle.wl_server.specs.Phases.{IsTurn, StartsTurn};
+
+use crate::accepting::accept_all;
+use crate::closing::close_all;
+use crate::error::TurnError;
+use crate::filling::fill_all;
+use crate::reading::read_all;
+use crate::seat::{Connections, Seat};
+use crate::showing::show;
+use crate::waiting::Waiting;
+use crate::writing::write_all;
+use std::alloc::Allocator;
+use std::io::Write;
+use wl_hub::Hub;
+use wl_recording::{PointerLine, SideFiles};
+use wl_session::Session;
+
+/// A session that is served, with its clients' connections, the pointer lines that weren't taken yet, and what it is told to.
+#[derive(Drop)]
+pub struct Service<A: Allocator, C: Drop, W: Drop, P: Drop> {
+    /// The clients, and the frame.
+    pub session: Session<A>,
+    /// What the lines of the report are written to.
+    pub report: W,
+    /// What the images are written to, if there is to be any.
+    pub ppm: Option<P>,
+    connections: Connections<C>,
+    waiting: Waiting<A>,
+}
+
+impl<A: Allocator, C: Drop, W: Drop, P: Drop> Service<A, C, W, P> {
+    /// No connection was accepted. It takes no memory. Of the pointer lines those that are skipped or bad are passed over.
+    pub fn new(
+        session: Session<A>,
+        lines: Vec<PointerLine, A>,
+        report: W,
+        ppm: Option<P>,
+    ) -> Service<A, C, W, P>
+        ensures session { result.session ≡ session }
+        ensures report { result.report ≡ report }
+        ensures ppm { result.ppm ≡ ppm }
+    {
+        Service {
+            session,
+            report,
+            ppm,
+            connections: Connections::new(),
+            waiting: Waiting::new(lines),
+        }
+    }
+}
+
+/// Takes one turn at this time, which is its number, from 1: pointer lines that are due are taken, which have no effect yet; connections
+/// that wait are accepted; clients are read, one after another; those that sent bytes get their side files; a frame is shown; clients are
+/// written to, one after another; and those that ended are closed.
+///
+/// What fails of a connection ends its client, and is never answered. `Write` is answered where the report or the images couldn't be
+/// written; the steps that were taken stand.
+pub fn turn<A: Allocator + Copy, H: Hub, W: Write + Drop, P: Write + Drop, S: SideFiles>(
+    hub: &mut H,
+    service: &mut Service<A, H::Conn, W, P>,
+    side: &mut S,
+    time: u32,
+) -> Result<(), TurnError>
+    ensures taken { OnOk result (Takes (IsTurn time) service.old.session.desk service.new.session.desk) }
+    ensures begun { Takes (StartsTurn time) service.old.session.desk service.new.session.desk }
+{
+    service.waiting.take(time);
+    take_turn(
+        hub,
+        &mut service.session,
+        &mut service.connections,
+        &mut service.report,
+        &mut service.ppm,
+        side,
+        time,
+    )
+}
+
+/// Takes one turn but its pointer lines.
+fn take_turn<A: Allocator + Copy, H: Hub, W: Write, P: Write, S: SideFiles>(
+    hub: &mut H,
+    session: &mut Session<A>,
+    connections: &mut Connections<H::Conn>,
+    report: &mut W,
+    ppm: &mut Option<P>,
+    side: &mut S,
+    time: u32,
+) -> Result<(), TurnError>
+    ensures taken { OnOk result (Takes (IsTurn time) session.old.desk session.new.desk) }
+    ensures begun { Takes (StartsTurn time) session.old.desk session.new.desk }
+{
+    take_phases(
+        hub,
+        session,
+        &mut connections.seats,
+        &mut connections.accepted,
+        report,
+        ppm,
+        side,
+        time,
+    )
+}
+
+/// The phases of a turn.
+fn take_phases<A: Allocator + Copy, H: Hub, W: Write, P: Write, S: SideFiles>(
+    hub: &mut H,
+    session: &mut Session<A>,
+    seats: &mut [Option<Seat<H::Conn>>],
+    accepted: &mut u32,
+    report: &mut W,
+    ppm: &mut Option<P>,
+    side: &mut S,
+    time: u32,
+) -> Result<(), TurnError>
+    requires { length seats.old ≡ 32 }
+    ensures taken { OnOk result (Takes (IsTurn time) session.old.desk session.new.desk) }
+    ensures begun { Takes (StartsTurn time) session.old.desk session.new.desk }
+{
+    accept_all(hub, session, seats, accepted, report)?;
+    read_all(hub, session, seats);
+    fill_all(session, seats, side);
+    show(session, time, report, ppm)?;
+    write_all(hub, session, seats);
+    close_all(hub, session, seats, report)
+}

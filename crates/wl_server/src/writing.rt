@@ -1,0 +1,58 @@
+//! Clients are sent what waits for them.
+
+ghost use Rattle.std.specs.Prelude.{◌≡◌, length};
+ghost use Rattle.wl_server.specs.Acting.{InTurn, Takes};
+ghost use Rattle.wl_server.specs.Phases.{Writes};
+
+use crate::seat::Seat;
+use std::alloc::Allocator;
+use wl_hub::{Hub, deliver};
+use wl_session::{ClientNo, Session};
+
+/// Writes to each client until it would block.
+pub(crate) fn write_all<A: Allocator + Copy, H: Hub>(
+    hub: &mut H,
+    session: &mut Session<A>,
+    seats: &mut [Option<Seat<H::Conn>>],
+)
+    requires { length seats.old ≡ 32 }
+    ensures { Takes (InTurn Writes 32) session.old.desk session.new.desk }
+{
+    for k in 0..seats.len() {
+        write_seat(hub, session, k as u32 + 1, &mut seats[k]);
+    }
+}
+
+/// Writes to a client, if there is one.
+fn write_seat<A: Allocator + Copy, H: Hub>(
+    hub: &mut H,
+    session: &mut Session<A>,
+    client: ClientNo,
+    seat: &mut Option<Seat<H::Conn>>,
+)
+    ensures { Takes (Writes client) session.old.desk session.new.desk }
+{
+    if let Some(seat) = seat {
+        write_client(hub, session, client, seat);
+    }
+}
+
+/// Writes to a client until it would block. Where a write fails, the client is gone.
+fn write_client<A: Allocator + Copy, H: Hub>(
+    hub: &mut H,
+    session: &mut Session<A>,
+    client: ClientNo,
+    seat: &mut Seat<H::Conn>,
+)
+    ensures { Takes (Writes client) session.old.desk session.new.desk }
+{
+    let Some(bytes) = session.out(client) else {
+        return;
+    };
+    let delivered = deliver(hub, &mut seat.conn, bytes);
+    session.sent(client, delivered.bytes);
+    if delivered.is_gone {
+        seat.has_failed = true;
+        session.gone(client);
+    }
+}
