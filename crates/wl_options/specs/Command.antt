@@ -124,6 +124,7 @@ IsRefused words (refused.Fault fault.Memory) = ⊤
 IsRefused words (refused.Fault fault.Read) = ⊥
 IsRefused words (refused.Fault fault.Write) = ⊥
 IsRefused words (refused.Fault (fault.Side line)) = ⊥
+IsRefused words (refused.Fault fault.Bind) = ⊥
 IsRefused words (refused.Fault (fault.BadLine line)) = ⊥
 
 -- Which error clap's is: want of memory is a fault, and all else is of usage.
