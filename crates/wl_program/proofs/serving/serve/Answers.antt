@@ -16,9 +16,3 @@ returns-in_err-lines-clause-failed g c =
 
 pub returns-clause-failed : goal.returns-clause-failed
 returns-clause-failed g c = write-fails c.serve_turns.result c.args.serve _ _ c.serve_turns.ensures.failed
-
-pub new-service-requires : goal.new-service-requires
-new-service-requires g c = ?
-
-pub serve_turns-requires : goal.serve_turns-requires
-serve_turns-requires g c = ?
