@@ -21,10 +21,7 @@ pub(crate) fn create<F: Files + AllocGlobal>(
     }
 }
 
-fn create_file<F: Files + AllocGlobal>(
-    files: &F,
-    path: &str,
-) -> Result<BufWriter<F::File>, Fault>
+fn create_file<F: Files + AllocGlobal>(files: &F, path: &str) -> Result<BufWriter<F::File>, Fault>
     ensures { IfErr result (λ fault. (fault ≡ Fault.Write) ⊎ (fault ≡ Fault.Memory)) }
 {
     let file = fs::create(files, path).map_err(opening_failed)?;
