@@ -7,9 +7,12 @@ use Rattle.clap.specs.declared.error.Error.{Error}
 use Rattle.clap.specs.declared.parser.matches.ArgMatches.{ArgMatches}
 use Rattle.clap.specs.declared.parser.matches.Found.{Found}
 use Rattle.clap.proofs.WalkLemmas.{first_value-rows}
-use Rattle.wl_options.specs.Command.{Asks, IsGiven, IsRefused, IsToldAs, asked_size, entered, given, program, refusals}
+use Rattle.wl_options.specs.Command.{AreTurns, Asks, IsAskedBy, IsGiven, IsRefused, IsServed, IsToldAs, asked_size, entered, given, named, program, refusals}
 use Rattle.wl_options.specs.Size.{size_of}
+use Rattle.wl_options.specs.declared.command.Asked.{Asked}
+use Rattle.wl_options.specs.declared.command.Asked.TheVariants as asked
 use Rattle.wl_options.specs.declared.command.Replay.{Replay}
+use Rattle.wl_options.specs.declared.command.Serve.{Serve}
 use Rattle.wl_options.specs.declared.command.CommandError.{CommandError}
 use Rattle.wl_options.specs.declared.command.CommandError.TheVariants as refused
 use Rattle.wl_options.specs.declared.fault.Fault.{Fault}
@@ -69,18 +72,38 @@ given-found words name found e = go (entered words) e ∙ sym (first_value-rows 
     go None e = cc
     go (Some p) e = let same : p.1 ≡ rows_of found = cc in ap (first_of name) same
 
+-- the name of the subcommand that was entered
+pub named-found : (words : List Text) (name : Text) → option_map (λ p. p.0) (entered words) ≡ Some name → named words ≡ name
+named-found words name e = ap (λ found. unwrap_or found []) e
+
+-- the replay that is asked by the values that the getters find is asked by the words
+given-by : (words : List Text) (found : Found) (replay : Replay) → ((name : Text) → given words name ≡ first_value found name) → IsGiven (first_value found) replay
+    → IsGiven (given words) replay
+given-by words found replay same asked = record {
+  size = ap (option_and_then size_of) (same (codes "size")) ∙ asked.size;
+  dir = asked.dir ∙ ap (λ value. unwrap_or value (codes ".")) (sym (same (codes "dir")));
+  ppm = asked.ppm ∙ sym (same (codes "ppm"));
+}
+
+served-by : (words : List Text) (found : Found) (serve : Serve) → ((name : Text) → given words name ≡ first_value found name) → IsServed (first_value found) serve
+    → IsServed (given words) serve
+served-by words found serve same asked = record {
+  socket = asked.socket ∙ ap (λ value. unwrap_or value []) (sym (same (codes "socket")));
+  few = asked.few;
+  turns = subst (λ (value : Option Text). AreTurns value serve.turns) (sym (same (codes "turns"))) asked.turns;
+  size = ap (option_and_then size_of) (same (codes "size")) ∙ asked.size;
+  dir = asked.dir ∙ ap (λ value. unwrap_or value (codes ".")) (sym (same (codes "dir")));
+  ppm = asked.ppm ∙ sym (same (codes "ppm"));
+  pointer = asked.pointer ∙ sym (same (codes "pointer"));
+}
+
 -- what is asked by the values that the getters find is asked by the words
-pub asked-by : (words : List Text) (found : Found) (answer : Result Replay CommandError) → refusals words ≡ []
-    → option_map (λ p. p.1) (entered words) ≡ Some (rows_of found) → IfOk answer (IsGiven (first_value found))
+pub asked-by : (words : List Text) (name : Text) (found : Found) (answer : Result Asked CommandError) → refusals words ≡ [] → named words ≡ name
+    → option_map (λ p. p.1) (entered words) ≡ Some (rows_of found) → IfOk answer (IsAskedBy name (first_value found))
     → IfErr answer (λ e. (e ≡ refused.Fault fault.Size) × (asked_size (first_value found) ≡ None)) → MatchResult answer (Asks words) (IsRefused words)
-asked-by words found (Ok replay) accepted rows asked no_size =
-    let same : (name : Text) → given words name ≡ first_value found name = λ name. given-found words name found rows in (
-      accepted,
-      record {
-        size = ap (option_and_then size_of) (same (codes "size")) ∙ asked.size;
-        dir = asked.dir ∙ ap (λ value. unwrap_or value (codes ".")) (sym (same (codes "dir")));
-        ppm = asked.ppm ∙ sym (same (codes "ppm"));
-      },
-    )
-asked-by words found (Err e) accepted rows asked no_size =
+asked-by words name found (Ok (asked.Replay replay)) accepted is rows asked no_size =
+    (accepted, (rw is asked.0, given-by words found replay (λ name. given-found words name found rows) asked.1))
+asked-by words name found (Ok (asked.Serve serve)) accepted is rows asked no_size =
+    (accepted, (rw is asked.0, served-by words found serve (λ name. given-found words name found rows) asked.1))
+asked-by words name found (Err e) accepted is rows asked no_size =
     subst (IsRefused words) (sym no_size.0) (accepted, ap (option_and_then size_of) (given-found words (codes "size") found rows) ∙ no_size.1)

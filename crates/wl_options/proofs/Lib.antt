@@ -1,2 +1,3 @@
 mod Accepted
+pub mod Locals
 mod Rows

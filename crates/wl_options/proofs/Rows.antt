@@ -1,7 +1,7 @@
 -- Worked command lines, computed on the definitions.
 use Rattle.std.proofs.Common.{◌≡◌, refl, codes, List, [], ◌∷◌, Some, None}
 use Rattle.clap.specs.Words.{Text}
-use Rattle.clap.specs.declared.error.kind.ErrorKind.TheVariants.{DisplayHelp, DisplayHelpOnMissingArgumentOrSubcommand, UnknownArgument}
+use Rattle.clap.specs.declared.error.kind.ErrorKind.TheVariants.{DisplayHelp, DisplayHelpOnMissingArgumentOrSubcommand, MissingRequiredArgument, UnknownArgument, ValueValidation}
 use Rattle.clap.proofs.OnLiterals.{clap_on_literals}
 use Rattle.wl_options.specs.Command.{asked_size, entered, given, program, refusals}
 
@@ -54,3 +54,19 @@ bare-refusals = refl
 extra-refusals : refusals (replay (codes "extra" ∷ [])) ≡ UnknownArgument ∷ []
 unfolding clap_on_literals refusals program
 extra-refusals = refl
+
+-- `serve` needs its socket and its number of turns, which is 1 to 1,000,000
+abbrev serve : List Text → List Text
+serve words = codes "wlframe" ∷ codes "serve" ∷ words
+
+served-accepted : refusals (serve (codes "--socket" ∷ codes "here" ∷ codes "--turns" ∷ codes "1000000" ∷ [])) ≡ []
+unfolding clap_on_literals refusals program
+served-accepted = refl
+
+socketless-refusals : refusals (serve (codes "--turns" ∷ codes "1" ∷ [])) ≡ MissingRequiredArgument ∷ []
+unfolding clap_on_literals refusals program
+socketless-refusals = refl
+
+restless-refusals : refusals (serve (codes "--socket" ∷ codes "here" ∷ codes "--turns" ∷ codes "1000001" ∷ [])) ≡ ValueValidation ∷ []
+unfolding clap_on_literals refusals program
+restless-refusals = refl

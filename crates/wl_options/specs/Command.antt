@@ -1,12 +1,18 @@
 -- What the words of a command line ask. Their grammar is clap's: its definitions say, for a command and words, what each option
 -- is given and by which kinds of error the words are refused.
-use Rattle.std.specs.Prelude.{◌≡◌, ◌≢◌, ⊤, ℕ, true, List, [], ◌∷◌, Option, Some, None, unwrap_or, codes, option_map}
+use Rattle.std.specs.Prelude.{◌≡◌, ◌≢◌, ◌≤◌, ⊤, ℕ, true, false, List, [], ◌∷◌, Option, Some, None, unwrap_or, codes, option_map}
 use Rattle.std.specs.Option.{option_and_then}
+use Rattle.std.specs.Str.{bytes_eq}
 use Rattle.clap.specs.Words.{App, IsAmong, Row, Rule, Text, fault_of, first_of, kind_of, new_app, new_rule, subcommand_of, with_rule, with_subcommand}
 use Rattle.clap.specs.Kinds.{Kinds}
 use Rattle.clap.specs.declared.error.Error.{Error}
 use Rattle.clap.specs.declared.error.kind.ErrorKind.TheVariants.{OutOfMemory}
+use Rattle.clap.specs.declared.builder.value_parser.ValueParser.TheVariants.{Unsigned}
+use Rattle.wl_recording.specs.Line.{number_of}
 use Rattle.wl_options.specs.Size.{size_of}
+use Rattle.wl_options.specs.declared.command.Asked.{Asked}
+use Rattle.wl_options.specs.declared.command.Asked.TheVariants as asked
+use Rattle.wl_options.specs.declared.command.Serve.{Serve}
 use Rattle.wl_options.specs.declared.command.Replay.{Replay}
 use Rattle.wl_options.specs.declared.command.CommandError.{CommandError}
 use Rattle.wl_options.specs.declared.command.CommandError.TheVariants as refused
@@ -25,9 +31,28 @@ ppm_option = option_named (codes "ppm")
 abbrev pub dir_option : Rule
 dir_option = record (option_named (codes "dir")) { defaults = codes "." ∷ [] }
 
+abbrev pub required : Rule → Rule
+required option = record option { required = true }
+
+abbrev pub socket_option : Rule
+socket_option = required (option_named (codes "socket"))
+
+-- a number from 1 to 1,000,000
+abbrev pub turns_option : Rule
+turns_option = required (record (option_named (codes "turns")) { parser = Some (Unsigned 1 1000000) })
+
+abbrev pub pointer_option : Rule
+pointer_option = option_named (codes "pointer")
+
 -- `replay [--size WxH] [--ppm FILE] [--dir DIR]`
 abbrev pub replay_command : App
 replay_command = with_rule (with_rule (with_rule (new_app (codes "replay")) size_option) ppm_option) dir_option
+
+-- `serve --socket PATH --turns N [--size WxH] [--ppm FILE] [--dir DIR] [--pointer FILE]`
+abbrev pub serve_command : App
+serve_command =
+    with_rule (with_rule (with_rule (with_rule (with_rule (with_rule (new_app (codes "serve")) socket_option) turns_option) size_option) ppm_option) dir_option)
+    pointer_option
 
 -- a command that does nothing but by a subcommand
 abbrev pub with_required_subcommand : App → App
@@ -35,7 +60,7 @@ with_required_subcommand a = record a { top = record a.top { subcommand_required
 
 -- `wlframe COMMAND`
 unfoldable pub program : App
-program = with_subcommand (with_required_subcommand (new_app (codes "wlframe"))) replay_command.top
+program = with_subcommand (with_subcommand (with_required_subcommand (new_app (codes "wlframe"))) replay_command.top) serve_command.top
 
 -- The kinds of error by which the words are refused. There is none where they are accepted.
 unfoldable pub refusals : List Text → Kinds
@@ -59,9 +84,33 @@ pub record IsGiven (value : Text → Option Text) (replay : Replay) : Type 0 whe
   pub dir : replay.dir.now ≡ unwrap_or (value (codes "dir")) (codes ".")
   pub ppm : option_map (λ path. path.now) replay.ppm ≡ value (codes "ppm")
 
--- The words are accepted, and ask this replay.
-abbrev pub Asks : List Text → Replay → Type 0
-Asks words replay = (refusals words ≡ []) × IsGiven (given words) replay
+-- a word that is a number from 1 to 1,000,000 is that many turns
+abbrev pub AreTurns : Option Text → ℕ → Type 0
+AreTurns None turns = ⊤
+AreTurns (Some word) turns = (n : ℕ) → number_of word ≡ Some n → 1 ≤ n → n ≤ 1000000 → turns ≡ n
+
+-- what is to be served by the values of the options
+pub record IsServed (value : Text → Option Text) (serve : Serve) : Type 0 where
+  pub socket : serve.socket.now ≡ unwrap_or (value (codes "socket")) []
+  pub few : (1 ≤ serve.turns) × (serve.turns ≤ 1000000)
+  pub turns : AreTurns (value (codes "turns")) serve.turns
+  pub size : asked_size value ≡ Some (serve.size.width, serve.size.height)
+  pub dir : serve.dir.now ≡ unwrap_or (value (codes "dir")) (codes ".")
+  pub ppm : option_map (λ path. path.now) serve.ppm ≡ value (codes "ppm")
+  pub pointer : option_map (λ path. path.now) serve.pointer ≡ value (codes "pointer")
+
+-- the subcommand `serve` asks to serve, and the other to replay
+abbrev pub IsAskedBy : Text → (Text → Option Text) → Asked → Type 0
+IsAskedBy name value (asked.Replay replay) = (bytes_eq name (codes "serve") ≡ false) × IsGiven value replay
+IsAskedBy name value (asked.Serve serve) = (bytes_eq name (codes "serve") ≡ true) × IsServed value serve
+
+-- the name of the subcommand
+abbrev pub named : List Text → Text
+named words = unwrap_or (option_map (λ subcommand. subcommand.0) (entered words)) []
+
+-- The words are accepted, and ask this.
+abbrev pub Asks : List Text → Asked → Type 0
+Asks words asked = (refusals words ≡ []) × IsAskedBy (named words) (given words) asked
 
 -- The words are accepted, but the size is none.
 abbrev pub HasNoSize : List Text → Type 0
@@ -75,6 +124,7 @@ IsRefused words (refused.Fault fault.Memory) = ⊤
 IsRefused words (refused.Fault fault.Read) = ⊥
 IsRefused words (refused.Fault fault.Write) = ⊥
 IsRefused words (refused.Fault (fault.Side line)) = ⊥
+IsRefused words (refused.Fault fault.Bind) = ⊥
 IsRefused words (refused.Fault (fault.BadLine line)) = ⊥
 
 -- Which error clap's is: want of memory is a fault, and all else is of usage.

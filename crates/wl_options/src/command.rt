@@ -1,16 +1,31 @@
 //! The command line.
 
-ghost use Rattle.std.specs.Prelude.{◌≡◌, IfErr, IfOk, MatchResult, None, false, map, string_bytes};
+ghost use Rattle.std.specs.Prelude.{◌≡◌, ◌≤◌, ℕ, IfErr, IfOk, MatchResult, Some, None, false, map, string_bytes};
 ghost use Rattle.clap.specs.Words.{app_of, first_value, found_of, rule_of};
-ghost use Rattle.wl_options.specs.Command.{Asks, IsGiven, IsRefused, IsToldAs, asked_size, dir_option, ppm_option, program, size_option};
+ghost use Rattle.wl_recording.specs.Line.{number_of};
+ghost use Rattle.wl_options.specs.Command.{Asks, IsAskedBy, IsGiven, IsRefused, IsServed, IsToldAs, asked_size, dir_option, pointer_option, ppm_option, program, replay_command, serve_command, size_option, socket_option, turns_option};
 
 use crate::fault::Fault;
 use crate::size::Size;
+use clap::builder::ValueParser;
 use clap::error::ErrorKind;
 use clap::{Arg, ArgMatches, Command};
 use std::alloc::{AllocError, Global};
+use wl_recording::number;
 
-/// What is asked: a recording is to be played.
+/// The greatest number of turns.
+const MAX_TURNS: u32 = 1_000_000;
+
+/// What is asked.
+#[derive(Clone, Copy, Debug, PartialEq, Eq)]
+pub enum Asked<'a> {
+    /// A recording is to be played.
+    Replay(Replay<'a>),
+    /// Clients are to be served.
+    Serve(Serve<'a>),
+}
+
+/// A recording is to be played.
 #[derive(Clone, Copy, Debug, PartialEq, Eq)]
 pub struct Replay<'a> {
     pub size: Size,
@@ -18,6 +33,22 @@ pub struct Replay<'a> {
     pub dir: &'a str,
     /// The file that gets an image for each frame.
     pub ppm: Option<&'a str>,
+}
+
+/// Clients are to be served.
+#[derive(Clone, Copy, Debug, PartialEq, Eq)]
+pub struct Serve<'a> {
+    /// The path of the socket that clients connect to.
+    pub socket: &'a str,
+    /// How many turns are taken, 1 to 1,000,000.
+    pub turns: u32,
+    pub size: Size,
+    /// The folder of the side files.
+    pub dir: &'a str,
+    /// The file that gets an image for each frame.
+    pub ppm: Option<&'a str>,
+    /// The file of the pointer's lines.
+    pub pointer: Option<&'a str>,
 }
 
 /// Why nothing is to be done.
@@ -54,13 +85,13 @@ impl From<clap::Error> for CommandError {
 ///
 /// `Usage` is clap's answer where it refuses the words or shows its help; `Fault::Size` is for a size that is none, and
 /// `Fault::Memory` for want of memory.
-pub fn parse<'a>(alloc: Global, words: &'a [String]) -> Result<Replay<'a>, CommandError>
+pub fn parse<'a>(alloc: Global, words: &'a [String]) -> Result<Asked<'a>, CommandError>
     ensures { MatchResult result (Asks (map string_bytes words.entry.now)) (IsRefused (map string_bytes words.entry.now)) }
 {
     let command = command(alloc)?;
     let matches = command.try_get_matches_from(words)?;
     match matches.subcommand() {
-        Some((_, matches)) => replay_of(matches),
+        Some((name, matches)) => asked_of(name, matches),
         None => Err(CommandError::Fault(Fault::Size)),
     }
 }
@@ -68,16 +99,71 @@ pub fn parse<'a>(alloc: Global, words: &'a [String]) -> Result<Replay<'a>, Comma
 fn command<'a>(alloc: Global) -> Result<Command<'a>, AllocError>
     ensures { IfOk result (λ command. app_of command ≡ program) }
 {
-    let replay = Command::new(alloc, "replay")
-        .about("Plays a recording from standard input")
-        .arg(size_option(alloc))?
-        .arg(ppm_option(alloc))?
-        .arg(dir_option(alloc))?;
+    let replay = replay_command(alloc)?;
+    let serve = serve_command(alloc)?;
     Command::new(alloc, "wlframe")
         .about("A Wayland compositor without a screen")
+        .after_help(PROGRAM_EXAMPLE)
         .subcommand_required(true)
         .arg_required_else_help(true)
-        .subcommand(replay)
+        .subcommand(replay)?
+        .subcommand(serve)
+}
+
+const PROGRAM_EXAMPLE: &str = "Example: wlframe replay --size 2x1 < examples/sync.rec";
+
+const REPLAY_EXAMPLE: &str =
+    "Example: wlframe replay --size 112x96 --ppm frames.ppm < examples/two_windows.rec";
+
+const SERVE_EXAMPLE: &str =
+    "Example: wlframe serve --socket wlframe.sock --turns 1000 --ppm frames.ppm";
+
+fn replay_command<'a>(alloc: Global) -> Result<Command<'a>, AllocError>
+    ensures { IfOk result (λ command. app_of command ≡ replay_command) }
+{
+    Command::new(alloc, "replay")
+        .about("Plays a recording from standard input")
+        .after_help(REPLAY_EXAMPLE)
+        .arg(size_option(alloc))?
+        .arg(ppm_option(alloc))?
+        .arg(dir_option(alloc))
+}
+
+fn serve_command<'a>(alloc: Global) -> Result<Command<'a>, AllocError>
+    ensures { IfOk result (λ command. app_of command ≡ serve_command) }
+{
+    Command::new(alloc, "serve")
+        .about("Serves clients over a Unix socket")
+        .after_help(SERVE_EXAMPLE)
+        .arg(socket_option(alloc))?
+        .arg(turns_option(alloc))?
+        .arg(size_option(alloc))?
+        .arg(ppm_option(alloc))?
+        .arg(dir_option(alloc))?
+        .arg(pointer_option(alloc))
+}
+
+fn socket_option<'a>(alloc: Global) -> Arg<'a>
+    ensures rule { rule_of result ≡ socket_option }
+    ensures own { result.global ≡ false }
+{
+    Arg::new(alloc, "socket")
+        .long("socket")
+        .value_name("PATH")
+        .help("The socket that clients connect to, which is made there")
+        .required(true)
+}
+
+fn turns_option<'a>(alloc: Global) -> Arg<'a>
+    ensures rule { rule_of result ≡ turns_option }
+    ensures own { result.global ≡ false }
+{
+    Arg::new(alloc, "turns")
+        .long("turns")
+        .value_name("N")
+        .help("How many turns are taken, 1 to 1000000")
+        .required(true)
+        .value_parser(ValueParser::unsigned(1, u64::from(MAX_TURNS)))
 }
 
 fn size_option<'a>(alloc: Global) -> Arg<'a>
@@ -108,8 +194,30 @@ fn dir_option<'a>(alloc: Global) -> Arg<'a>
     Arg::new(alloc, "dir")
         .long("dir")
         .value_name("DIR")
-        .help("The folder of the files that a recording names")
+        .help("The folder of the side files")
         .default_value(".")
+}
+
+fn pointer_option<'a>(alloc: Global) -> Arg<'a>
+    ensures rule { rule_of result ≡ pointer_option }
+    ensures own { result.global ≡ false }
+{
+    Arg::new(alloc, "pointer")
+        .long("pointer")
+        .value_name("FILE")
+        .help("Reads what the pointer does from this file")
+}
+
+/// What these matches of the subcommand of this name ask.
+fn asked_of<'a>(name: &str, matches: &ArgMatches<'a>) -> Result<Asked<'a>, CommandError>
+    ensures asked { IfOk result (IsAskedBy name.now (first_value (found_of matches.now))) }
+    ensures no_size { IfErr result (λ e. (e ≡ CommandError.Fault Fault.Size) × (asked_size (first_value (found_of matches.now)) ≡ None)) }
+{
+    if name == "serve" {
+        Ok(Asked::Serve(serve_of(matches)?))
+    } else {
+        Ok(Asked::Replay(replay_of(matches)?))
+    }
 }
 
 /// The replay that these matches ask.
@@ -125,4 +233,38 @@ fn replay_of<'a>(matches: &ArgMatches<'a>) -> Result<Replay<'a>, CommandError>
         dir: matches.get_str("dir").unwrap_or("."),
         ppm: matches.get_str("ppm"),
     })
+}
+
+/// What these matches ask to be served.
+fn serve_of<'a>(matches: &ArgMatches<'a>) -> Result<Serve<'a>, CommandError>
+    ensures asked { IfOk result (IsServed (first_value (found_of matches.now))) }
+    ensures no_size { IfErr result (λ e. (e ≡ CommandError.Fault Fault.Size) × (asked_size (first_value (found_of matches.now)) ≡ None)) }
+{
+    let Replay { size, dir, ppm } = replay_of(matches)?;
+    Ok(Serve {
+        socket: matches.get_str("socket").unwrap_or(""),
+        turns: turns_of(matches.get_str("turns").unwrap_or("")),
+        size,
+        dir,
+        ppm,
+        pointer: matches.get_str("pointer"),
+    })
+}
+
+/// The number of turns that a word spells, which clap let pass. It may begin with a `+`.
+fn turns_of(word: &str) -> u32
+    ensures within { (1 ≤ result) × (result ≤ 1000000) }
+    ensures spelt { (n : ℕ) → number_of word.now ≡ Some n → 1 ≤ n → n ≤ 1000000 → result ≡ n }
+{
+    let turns = match number(word.as_bytes()) {
+        Some(turns) => turns,
+        None => unsigned(word),
+    };
+    turns.clamp(1, MAX_TURNS)
+}
+
+/// The number behind the `+` of a word.
+fn unsigned(word: &str) -> u32 {
+    let digits = word.strip_prefix('+').unwrap_or(word);
+    number(digits.as_bytes()).unwrap_or(1)
 }

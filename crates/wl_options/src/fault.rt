@@ -25,6 +25,8 @@ pub enum Fault {
     Write,
     #[error("side file failed at line {0}")]
     Side(u32),
+    #[error("bind failed")]
+    Bind,
     #[error("bad size")]
     Size,
     #[error("bad line {0}")]
@@ -39,7 +41,7 @@ impl Fault {
         ensures { result ≡ status_of self }
     {
         match self {
-            Fault::Read | Fault::Write | Fault::Side(_) => Status::Failed,
+            Fault::Read | Fault::Write | Fault::Side(_) | Fault::Bind => Status::Failed,
             Fault::Size => Status::Usage,
             Fault::BadLine(_) => Status::BadLine,
             Fault::Memory => Status::Memory,

@@ -6,7 +6,7 @@ mod fault;
 mod folder;
 mod size;
 
-pub use command::{CommandError, Replay, parse};
+pub use command::{Asked, CommandError, Replay, Serve, parse};
 pub use fault::{Fault, Status};
 pub use folder::Folder;
 pub use size::Size;

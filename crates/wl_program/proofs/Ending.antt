@@ -6,17 +6,19 @@ use Rattle.clap.specs.Words.{IsAmong, Text}
 use Rattle.clap.specs.declared.error.kind.ErrorKind.{ErrorKind}
 use Rattle.wl_replay.specs.Report.{IsPlayed, Reported, StopsAs}
 use Rattle.wl_recording.specs.Side.{Files}
-use Rattle.wl_replay.specs.Told.{Stage}
+use Rattle.wl_replay.specs.Told.{IsFirst, Stage}
 use Rattle.wl_recording.specs.declared.error.ReplayError.{ReplayError}
 use Rattle.wl_recording.specs.declared.error.ReplayError.TheVariants as stopped
 use Rattle.wl_recording.specs.declared.error.Summary.{Summary}
 use Rattle.wl_options.specs.Command.{Asks, refusals}
 use Rattle.wl_options.specs.Folder.{FolderView, folder_files}
-use Rattle.wl_program.specs.Run.{Ends, Fails, IsReported, IsToldBy, folder_of, stage_of}
+use Rattle.wl_program.specs.Run.{Ends, Fails, FailsServing, IsReported, IsToldBy, config_of, folder_of}
 use Rattle.wl_options.specs.Status.{fault_by, status_of}
+use Rattle.wl_options.specs.declared.command.Asked.TheVariants as asked
 use Rattle.wl_options.specs.declared.command.Replay.{Replay}
+use Rattle.wl_options.specs.declared.command.Serve.{Serve}
 use Rattle.wl_options.specs.declared.fault.Fault.{Fault}
-use Rattle.wl_options.specs.declared.fault.Fault.TheVariants.{Read, Write, Side, Size, BadLine, Memory}
+use Rattle.wl_options.specs.declared.fault.Fault.TheVariants.{Read, Write, Side, Bind, Size, BadLine, Memory}
 use Rattle.wl_options.specs.declared.fault.Status.{Status}
 use Rattle.wl_options.specs.declared.fault.Status.TheVariants as status
 
@@ -48,37 +50,52 @@ on_ok (Err e) p = tt
 
 -- a recording that was played is reported once the report is flushed
 pub played-kept : (replay : Replay) (summary : Summary) (from side : FolderView) (read report mid reported images imaged : Option (List ℕ)) → from ≡ folder_of replay
-    → IsPlayed folder_files (stage_of replay) from side summary read report mid images imaged → Keeps mid reported → IsReported replay read report reported
+    → (first : Stage) × IsFirst (config_of replay) first × IsPlayed folder_files first from side summary read report mid images imaged → Keeps mid reported → IsReported replay read report reported
 unfolding reported-kept
 played-kept replay summary from side read report mid reported images imaged is played keeps =
-    rw (← is) (summary, images, imaged, side, (played.0, reported-kept _ _ _ _ read played.0 report mid reported images imaged played.1 keeps, played.2, played.3))
+    let p = played.2 in
+    rw (← is) (summary, images, imaged, side, played.0, played.1, (p.0, reported-kept _ _ _ _ read p.0 report mid reported images imaged p.1 keeps, p.2, p.3))
 
 -- and one that was stopped is told of as far
 pub stops-kept : (replay : Replay) (error : ReplayError) (from side : FolderView) (read report mid reported images imaged : Option (List ℕ)) → from ≡ folder_of replay
-    → StopsAs folder_files error (stage_of replay) from side read report mid images imaged → Keeps mid reported → Fails (fault_by error) replay read report reported
+    → (first : Stage) × IsFirst (config_of replay) first × StopsAs folder_files error first from side read report mid images imaged → Keeps mid reported → Fails (fault_by error) replay read report reported
 unfolding reported-kept
 stops-kept replay stopped.Read from side read report mid reported images imaged is stops keeps = tt
 stops-kept replay stopped.Write from side read report mid reported images imaged is stops keeps = tt
 stops-kept replay (stopped.BadLine line) from side read report mid reported images imaged is stops keeps =
-    rw (← is) (images, imaged, side, (stops.0, reported-kept _ _ _ _ read stops.0 report mid reported images imaged stops.1 keeps, stops.2, stops.3))
+    let s = stops.2 in
+    rw (← is) (images, imaged, side, stops.0, stops.1, (s.0, reported-kept _ _ _ _ read s.0 report mid reported images imaged s.1 keeps, s.2, s.3))
 stops-kept replay (stopped.Side line) from side read report mid reported images imaged is stops keeps =
-    rw (← is) (images, imaged, side, (stops.0, stops.1, reported-kept _ _ _ _ read stops.0 report mid reported images imaged stops.2 keeps, stops.3, stops.4))
+    let s = stops.2 in
+    rw (← is) (images, imaged, side, stops.0, stops.1, (s.0, s.1, reported-kept _ _ _ _ read s.0 report mid reported images imaged s.2 keeps, s.3, s.4))
 stops-kept replay stopped.Memory from side read report mid reported images imaged is stops keeps = tt
 
 -- a replay that fails ends the program by its fault's status
-pub fails-ends : (words : List Text) (replay : Replay) (fault : Fault) (read report reported : Option (List ℕ)) → Asks words replay
+pub fails-ends : (words : List Text) (replay : Replay) (fault : Fault) (read report reported : Option (List ℕ)) → Asks words (asked.Replay replay)
     → Fails fault replay read report reported → Ends words (status_of fault) read report reported
 fails-ends words replay Read read report reported asks fails = tt
 fails-ends words replay Write read report reported asks fails = tt
 fails-ends words replay (Side line) read report reported asks fails = tt
+fails-ends words replay Bind read report reported asks fails = absurd fails
 fails-ends words replay Size read report reported asks fails = absurd fails
-fails-ends words replay (BadLine line) read report reported asks fails = (replay, line, asks, fails)
+fails-ends words replay (BadLine line) read report reported asks fails = inl (replay, line, asks, fails)
 fails-ends words replay Memory read report reported asks fails = tt
+
+-- and so does serving that fails
+pub serving-ends : (words : List Text) (serve : Serve) (fault : Fault) (read report reported : Option (List ℕ)) → Asks words (asked.Serve serve)
+    → FailsServing fault serve report reported → Ends words (status_of fault) read report reported
+serving-ends words serve Read read report reported asks fails = tt
+serving-ends words serve Write read report reported asks fails = tt
+serving-ends words serve (Side line) read report reported asks fails = absurd fails
+serving-ends words serve Bind read report reported asks fails = tt
+serving-ends words serve Size read report reported asks fails = absurd fails
+serving-ends words serve (BadLine line) read report reported asks fails = inr (serve, asks, fails)
+serving-ends words serve Memory read report reported asks fails = tt
 
 -- what is shown of the usage ends the program, and nothing is reported
 pub shown-ends : (words : List Text) (kind : ErrorKind) (how : Status) (read report : Option (List ℕ)) → IsAmong kind (refusals words)
     → IsToldBy kind how → Ends words how read report report
-shown-ends words kind status.Done read report among told = inr ((kind, among, told), refl)
+shown-ends words kind status.Done read report among told = inr (inl ((kind, among, told), refl))
 shown-ends words kind status.Failed read report among told = tt
 shown-ends words kind status.Usage read report among told = (inl (kind, among, told), refl)
 shown-ends words kind status.BadLine read report among told = absurd told

@@ -1,4 +1,5 @@
 pub mod Run
+pub mod Serving
 pub use Rattle.wl_options.specs.Command
 pub use Rattle.wl_options.specs.Folder
 pub use Rattle.wl_options.specs.Size
@@ -9,3 +10,5 @@ pub use Rattle.wl_recording.specs.Side
 pub use Rattle.wl_replay.specs.Report
 pub use Rattle.wl_replay.specs.Storing
 pub use Rattle.wl_replay.specs.Told
+pub use Rattle.wl_server.specs.Acting
+pub use Rattle.wl_server.specs.Phases

@@ -1,25 +1,29 @@
 -- How a run of the program ends, and what it writes.
-use Rattle.std.specs.Prelude.{◌≡◌, ◌≢◌, ⊤, ◌⊎◌, ℕ, List, Option}
+use Rattle.std.specs.Prelude.{◌≡◌, ◌≢◌, ⊤, ◌⊎◌, ℕ, true, List, Option, is_some}
 use Rattle.clap.specs.Words.{IsAmong, Text}
 use Rattle.clap.specs.declared.error.kind.ErrorKind.{ErrorKind}
 use Rattle.clap.specs.declared.error.kind.ErrorKind.TheVariants.{DisplayHelp, DisplayVersion}
 use Rattle.wl_replay.specs.Report.{IsPlayed, StopsAs}
-use Rattle.wl_replay.specs.Told.{Stage, first_stage}
+use Rattle.wl_replay.specs.Told.{IsFirst, Stage}
+use Rattle.wl_session.specs.declared.sessions.Config.{Config}
 use Rattle.wl_recording.specs.declared.error.ReplayError.{ReplayError}
 use Rattle.wl_recording.specs.declared.error.ReplayError.TheVariants as stopped
 use Rattle.wl_recording.specs.declared.error.Summary.{Summary}
 use Rattle.wl_options.specs.Command.{Asks, HasNoSize, refusals}
 use Rattle.wl_options.specs.Folder.{FolderView, folder_files, new_folder}
+use Rattle.wl_options.specs.declared.command.Asked.TheVariants as asked
 use Rattle.wl_options.specs.declared.command.Replay.{Replay}
+use Rattle.wl_options.specs.declared.command.Serve.{Serve}
 use Rattle.wl_options.specs.declared.fault.Fault.{Fault}
-use Rattle.wl_options.specs.declared.fault.Fault.TheVariants.{Read, Write, Side, Size, BadLine, Memory}
+use Rattle.wl_options.specs.declared.fault.Fault.TheVariants.{Read, Write, Side, Bind, Size, BadLine, Memory}
 use Rattle.wl_options.specs.declared.fault.Status.{Status}
 use Rattle.wl_options.specs.declared.fault.Status.TheVariants as status
+use Rattle.wl_program.specs.Serving.{TakesTurns}
 
--- a desktop without clients on an output of the replay's size, which shows black
-abbrev pub stage_of : Replay → Stage
-stage_of replay =
-    first_stage (record { width = replay.size.width; height = replay.size.height; background = record { r = 0; g = 0; b = 0 } })
+-- an output of the replay's size, whose background is black
+abbrev pub config_of : Replay → Config
+config_of replay =
+    record { width = replay.size.width; height = replay.size.height; background = record { r = 0; g = 0; b = 0 } }
 
 -- the side files are those of the replay's folder
 abbrev pub folder_of : Replay → FolderView
@@ -29,22 +33,39 @@ folder_of replay = new_folder replay.dir.now
 abbrev pub IsReported : Replay → Option (List ℕ) → Option (List ℕ) → Option (List ℕ) → Type 0
 IsReported replay read report reported =
     (summary : Summary) × (images : Option (List ℕ)) × (imaged : Option (List ℕ)) × (side : FolderView)
-    × IsPlayed folder_files (stage_of replay) (folder_of replay) side summary read report reported images imaged
+    × (first : Stage) × IsFirst (config_of replay) first
+    × IsPlayed folder_files first (folder_of replay) side summary read report reported images imaged
 
 -- The recording was told of up to the line by whose fault it stopped.
 abbrev pub IsReportedTo : ReplayError → Replay → Option (List ℕ) → Option (List ℕ) → Option (List ℕ) → Type 0
 IsReportedTo error replay read report reported =
     (images : Option (List ℕ)) × (imaged : Option (List ℕ)) × (side : FolderView)
-    × StopsAs folder_files error (stage_of replay) (folder_of replay) side read report reported images imaged
+    × (first : Stage) × IsFirst (config_of replay) first
+    × StopsAs folder_files error first (folder_of replay) side read report reported images imaged
 
 -- How a replay fails. Nothing is said of what was told where a stream failed or memory was wanted.
 abbrev pub Fails : Fault → Replay → Option (List ℕ) → Option (List ℕ) → Option (List ℕ) → Type 0
 Fails (BadLine line) replay read report reported = IsReportedTo (stopped.BadLine line) replay read report reported
 Fails (Side line) replay read report reported = IsReportedTo (stopped.Side line) replay read report reported
+Fails Bind replay read report reported = ⊥
 Fails Size replay read report reported = ⊥
 Fails Read replay read report reported = ⊤
 Fails Write replay read report reported = ⊤
 Fails Memory replay read report reported = ⊤
+
+-- a pointer's file was asked for, and nothing was told
+abbrev pub IsUntold : Serve → Option (List ℕ) → Option (List ℕ) → Type 0
+IsUntold serve report reported = (is_some serve.pointer ≡ true) × (reported ≡ report)
+
+-- How serving fails. Nothing is said of what was told where a stream failed or memory was wanted.
+abbrev pub FailsServing : Fault → Serve → Option (List ℕ) → Option (List ℕ) → Type 0
+FailsServing (BadLine line) serve report reported = IsUntold serve report reported
+FailsServing (Side line) serve report reported = ⊥
+FailsServing Size serve report reported = ⊥
+FailsServing Bind serve report reported = ⊤
+FailsServing Read serve report reported = ⊤
+FailsServing Write serve report reported = ⊤
+FailsServing Memory serve report reported = ⊤
 
 -- help or the version was asked for
 abbrev pub IsShown : ErrorKind → Type 0
@@ -61,16 +82,19 @@ IsToldBy kind status.Failed = ⊤
 IsToldBy kind status.BadLine = ⊥
 IsToldBy kind status.Memory = ⊥
 
--- Done: the recording was played, or help was shown. Usage: the words are refused, or the size is none. BadLine: the recording
--- was played up to a line. With Failed a stream or a side file failed, and with Memory memory was wanted: nothing is said of them.
+-- Done: the recording was played, or as many turns as were asked for were taken, or help was shown. Usage: the words are refused, or the
+-- size is none. BadLine: the recording was played up to a line, or a pointer's file was asked for and nothing told. With Failed a stream,
+-- a side file or the socket failed, and with Memory memory was wanted: nothing is said of them.
 abbrev pub Ends : List Text → Status → Option (List ℕ) → Option (List ℕ) → Option (List ℕ) → Type 0
 Ends words status.Done read report reported =
-    ((replay : Replay) × Asks words replay × IsReported replay read report reported)
-    ⊎ (((kind : ErrorKind) × IsAmong kind (refusals words) × IsShown kind) × (reported ≡ report))
+    ((replay : Replay) × Asks words (asked.Replay replay) × IsReported replay read report reported)
+    ⊎ ((((kind : ErrorKind) × IsAmong kind (refusals words) × IsShown kind) × (reported ≡ report))
+    ⊎ ((serve : Serve) × Asks words (asked.Serve serve) × TakesTurns serve))
 Ends words status.Usage read report reported =
     (((kind : ErrorKind) × IsAmong kind (refusals words) × IsMisuse kind) ⊎ HasNoSize words)
     × (reported ≡ report)
 Ends words status.BadLine read report reported =
-    (replay : Replay) × (line : ℕ) × Asks words replay × IsReportedTo (stopped.BadLine line) replay read report reported
+    ((replay : Replay) × (line : ℕ) × Asks words (asked.Replay replay) × IsReportedTo (stopped.BadLine line) replay read report reported)
+    ⊎ ((serve : Serve) × Asks words (asked.Serve serve) × IsUntold serve report reported)
 Ends words status.Failed read report reported = ⊤
 Ends words status.Memory read report reported = ⊤

@@ -29,7 +29,10 @@ const USES: &[(&str, Status)] = &[
     ("wlframe replay --help", Status::Done),
     ("wlframe", Status::Usage),
     ("wlframe replay extra", Status::Usage),
-    ("wlframe serve --socket here --turns 1", Status::Usage),
+    ("wlframe serve --help", Status::Done),
+    ("wlframe serve --turns 1", Status::Usage),
+    ("wlframe serve --socket here", Status::Usage),
+    ("wlframe serve --socket here --turns 0", Status::Usage),
 ];
 
 const BAD_SIZES: &[&str] = &[

@@ -1,4 +1,4 @@
-//! The program wlframe: a Wayland compositor that plays recordings.
+//! The program wlframe: a Wayland compositor that plays recordings and serves clients.
 #![tactic(auto)]
 
 use std::io::{BufReader, BufWriter};

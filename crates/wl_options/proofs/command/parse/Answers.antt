@@ -1,8 +1,9 @@
 -- clap's clauses hold at the program's command.
-use Rattle.std.proofs.Common.{◌∙◌, sym, ap, option_map}
-use Rattle.clap.specs.Words.{found_of}
+use Rattle.std.proofs.Common.{◌≡◌, ◌∙◌, sym, ap, option_map}
+use Rattle.clap.specs.Words.{found_of, subcommand_name_of, subcommand_rows_of}
 use Rattle.std.proofs.lemmas.Result.{err_from_is_err_and}
-use Rattle.wl_options.proofs.Accepted.{accepted-of, asked-by, entered-of, not-entered, refused-of, told-refused}
+use Rattle.wl_options.proofs.Accepted.{accepted-of, asked-by, entered-of, named-found, not-entered, refused-of, told-refused}
+use Rattle.wl_options.proofs.Locals.{map-first}
 use Rattle.wl_options.proofs.command.parse.Goals as goal
 
 pub returns-in_err-matches : goal.returns-in_err-matches
@@ -15,7 +16,9 @@ pub returns-in-Some : goal.returns-in-Some
 returns-in-Some c =
     let accepted = accepted-of _ _ c.in_ok-matches.matches c.in_ok-command.ensures c.in_ok-matches.ensures.kinds in
     let entered = entered-of _ _ c.in_ok-matches.matches c.in_ok-command.ensures c.in_ok-matches.ensures.matches in
-    asked-by _ (found_of c.in-Some.matches.now) c.replay_of.result accepted (ap (option_map (λ p. p.1)) (sym entered) ∙ sym c.in-Some.ensures.rows) c.replay_of.ensures.asked c.replay_of.ensures.no_size
+    let first : option_map (λ p. p.0) (subcommand_rows_of c.in_ok-matches.matches) ≡ subcommand_name_of c.in_ok-matches.matches = map-first _ _ _ in
+    let name = named-found _ c.in-Some.name.now (ap (option_map (λ p. p.0)) (sym entered) ∙ first ∙ sym c.in-Some.ensures.name) in
+    asked-by _ c.in-Some.name.now (found_of c.in-Some.matches.now) c.asked_of.result accepted name (ap (option_map (λ p. p.1)) (sym entered) ∙ sym c.in-Some.ensures.rows) c.asked_of.ensures.asked c.asked_of.ensures.no_size
 
 pub returns : goal.returns
 returns c =

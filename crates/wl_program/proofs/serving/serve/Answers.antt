@@ -1,0 +1,18 @@
+-- The turns of a new session are those that were asked.
+use Rattle.std.proofs.Common.{ap}
+use Rattle.std.proofs.lemmas.Result.{err_from_is_err_and}
+use Rattle.wl_session.specs.View.{SessionView}
+use Rattle.wl_program.proofs.Served.{pointer-fails, turns-ok, write-fails}
+use Rattle.wl_program.proofs.serving.serve.Goals as goal
+
+pub returns-clause-served : goal.returns-clause-served
+returns-clause-served g c =
+    turns-ok c.serve_turns.result c.args.serve _ _ _ (ap (λ (s : SessionView). s.desk) c.new-service.ensures.session) c.in_ok-session.ensures.desk c.serve_turns.ensures.taken
+
+pub returns-in_err-lines-clause-failed : goal.returns-in_err-lines-clause-failed
+returns-in_err-lines-clause-failed g c =
+    let p = err_from_is_err_and c.from_residual-in_err-lines.result c.from_residual-in_err-lines.ensures.1 in
+    rw (p.1, p.2) (pointer-fails c.args.serve _ _ c.in_err-lines.ensures)
+
+pub returns-clause-failed : goal.returns-clause-failed
+returns-clause-failed g c = write-fails c.serve_turns.result c.args.serve _ _ c.serve_turns.ensures.failed

@@ -1,0 +1,94 @@
+//! The pointer's file.
+
+ghost use Rattle.std.specs.Prelude.{◌≡◌, ◌⊎◌, IfErr, is_some, true};
+ghost use Rattle.wl_program.specs.Serving.{IsOfPointer};
+
+use std::alloc::Allocator;
+use std::io::{BufRead, BufReader, ErrorKind};
+use std::rt::Files;
+use std::{fs, io};
+use wl_options::Fault;
+use wl_recording::{LineError, PointerLine, pointer_line, read_line};
+
+/// Reads the lines of the pointer's file, where there is one.
+///
+/// `Read` is answered where it can't be opened or read, `BadLine` for the first line that is none of such a file, and `Memory` for want of
+/// memory.
+pub(crate) fn read_pointer<F: Files + AllocGlobal, A: Allocator + Copy>(
+    files: &F,
+    alloc: A,
+    path: Option<&str>,
+) -> Result<Vec<PointerLine, A>, Fault>
+    ensures { IfErr result (IsOfPointer (is_some path.entry)) }
+{
+    match path {
+        Some(path) => read_file(files, alloc, path),
+        None => Ok(Vec::new(alloc)),
+    }
+}
+
+fn read_file<F: Files + AllocGlobal, A: Allocator + Copy>(
+    files: &F,
+    alloc: A,
+    path: &str,
+) -> Result<Vec<PointerLine, A>, Fault>
+    ensures { IfErr result (IsOfPointer true) }
+{
+    let file = fs::open(files, path).map_err(opening_failed)?;
+    let mut reader = BufReader::new(files.alloc(), file).map_err(opening_failed)?;
+    read_lines(alloc, &mut reader)
+}
+
+fn opening_failed(error: io::Error) -> Fault
+    ensures { (result ≡ Fault.Read) ⊎ (result ≡ Fault.Memory) }
+{
+    match error.kind() {
+        ErrorKind::OutOfMemory => Fault::Memory,
+        _ => Fault::Read,
+    }
+}
+
+/// Reads all lines. More than can be numbered are want of memory.
+fn read_lines<A: Allocator + Copy, R: BufRead>(
+    alloc: A,
+    reader: &mut R,
+) -> Result<Vec<PointerLine, A>, Fault>
+    ensures { IfErr result (IsOfPointer true) }
+{
+    let mut lines = Vec::new(alloc);
+    let mut text = Vec::new(alloc);
+    for before in 0..u32::MAX {
+        match next_line(before + 1, reader, &mut text)? {
+            Some(line) => lines.push(line).map_err(|_| Fault::Memory)?,
+            None => return Ok(lines),
+        }
+    }
+    Err(Fault::Memory)
+}
+
+/// Reads the next line, which has this number. None at the end.
+fn next_line<A: Allocator, R: BufRead>(
+    number: u32,
+    reader: &mut R,
+    text: &mut Vec<u8, A>,
+) -> Result<Option<PointerLine>, Fault>
+    ensures { IfErr result (IsOfPointer true) }
+{
+    if !read_line(reader, text).map_err(|error| reading_failed(error, number))? {
+        return Ok(None);
+    }
+    match pointer_line(text) {
+        PointerLine::Bad => Err(Fault::BadLine(number)),
+        line => Ok(Some(line)),
+    }
+}
+
+fn reading_failed(error: LineError, number: u32) -> Fault
+    ensures { IsOfPointer true result }
+{
+    match error {
+        LineError::Read => Fault::Read,
+        LineError::TooLong => Fault::BadLine(number),
+        LineError::Memory => Fault::Memory,
+    }
+}

@@ -1,0 +1,104 @@
+//! Clients are served.
+
+ghost use Rattle.std.specs.Prelude.{◌≡◌, ◌⊎◌, IfErr, IfOk, OnOk};
+ghost use Rattle.wl_plain.specs.Desktop.{empty};
+ghost use Rattle.wl_session.specs.Agreeing.{Agrees};
+ghost use Rattle.wl_server.specs.Acting.{InTurn, Takes};
+ghost use Rattle.wl_server.specs.Phases.{IsTurn};
+ghost use Rattle.wl_program.specs.Run.{FailsServing};
+ghost use Rattle.wl_program.specs.Serving.{TakesTurns};
+
+use crate::pointing::read_pointer;
+use crate::run::BLACK;
+use crate::streams::{create, flush};
+use std::alloc::Allocator;
+use std::io::{self, ErrorKind, Write};
+use std::net::Net;
+use std::rt::Files;
+use wl_hub::{Hub, SocketHub};
+use wl_options::{Fault, Folder, Serve, Size};
+use wl_recording::SideFiles;
+use wl_server::{Service, TurnError, turn};
+use wl_session::{Config, Session};
+
+/// Serves the clients that connect to a socket, which is made at its path and stays there.
+pub(crate) fn serve<'a, F: Files + Net + AllocGlobal, A: Allocator + Copy, W: Write>(
+    files: &'a F,
+    alloc: A,
+    serve: Serve<'a>,
+    output: &mut W,
+) -> Result<(), Fault>
+    ensures served { OnOk result (TakesTurns serve.entry) }
+    ensures failed { IfErr result (λ fault. FailsServing fault serve.entry (W.contents output.old) (W.contents output.new)) }
+{
+    let mut ppm = create(files, serve.ppm)?;
+    let heap = &alloc;
+    let lines = read_pointer(files, heap, serve.pointer)?;
+    let mut hub = SocketHub::bind(files, serve.socket).map_err(bind_failed)?;
+    let mut side = Folder::new(files, serve.dir);
+    let session = session_of(heap, serve.size)?;
+    let mut service = Service::new(session, lines, &mut *output, ppm.as_mut());
+    serve_turns(&mut hub, &mut service, &mut side, serve.turns)
+}
+
+fn bind_failed(error: io::Error) -> Fault
+    ensures { (result ≡ Fault.Bind) ⊎ (result ≡ Fault.Memory) }
+{
+    match error.kind() {
+        ErrorKind::OutOfMemory => Fault::Memory,
+        _ => Fault::Bind,
+    }
+}
+
+/// A session without clients, whose output has this size.
+fn session_of<A: Allocator + Copy>(alloc: A, size: Size) -> Result<Session<A>, Fault>
+    ensures desk { IfOk result (λ session. Agrees session.desk (empty (record { width = size.width; height = size.height }))) }
+    ensures failed { IfErr result (λ fault. fault ≡ Fault.Memory) }
+{
+    let config = Config {
+        width: size.width,
+        height: size.height,
+        background: BLACK,
+    };
+    match Session::new(alloc, config) {
+        Ok(session) => Ok(session),
+        Err(_) => Err(Fault::Memory),
+    }
+}
+
+/// Takes the turns 1 to this many, and writes what is still to be written.
+fn serve_turns<A: Allocator + Copy, H: Hub, W: Write + Drop, P: Write + Drop, S: SideFiles>(
+    hub: &mut H,
+    service: &mut Service<A, H::Conn, W, P>,
+    side: &mut S,
+    turns: u32,
+) -> Result<(), Fault>
+    ensures taken { OnOk result (Takes (InTurn IsTurn turns) service.old.session.desk service.new.session.desk) }
+    ensures failed { IfErr result (λ fault. fault ≡ Fault.Write) }
+{
+    let taken = take_turns(hub, service, side, turns);
+    let flushed = flush(&mut service.report, &mut service.ppm);
+    match taken {
+        Ok(()) => flushed,
+        Err(fault) => Err(fault),
+    }
+}
+
+/// Takes the turns 1 to this many, one after another.
+fn take_turns<A: Allocator + Copy, H: Hub, W: Write + Drop, P: Write + Drop, S: SideFiles>(
+    hub: &mut H,
+    service: &mut Service<A, H::Conn, W, P>,
+    side: &mut S,
+    turns: u32,
+) -> Result<(), Fault>
+    ensures taken { OnOk result (Takes (InTurn IsTurn turns) service.old.session.desk service.new.session.desk) }
+    ensures failed { IfErr result (λ fault. fault ≡ Fault.Write) }
+{
+    for before in 0..turns {
+        match turn(hub, service, side, before + 1) {
+            Ok(()) => {}
+            Err(TurnError::Write) => return Err(Fault::Write),
+        }
+    }
+    Ok(())
+}
