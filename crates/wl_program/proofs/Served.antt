@@ -1,5 +1,5 @@
 -- What is served, by what its parts answer.
-use Rattle.std.proofs.Common.{◌≡◌, refl, subst, sym, ℕ, Bool, true, List, Option, Result, Ok, Err}
+use Rattle.std.proofs.Common.{◌≡◌, refl, subst, sym, ℕ, List, Option, Result, Ok, Err}
 use Rattle.std.specs.Prelude.{is_some}
 use Rattle.std.specs.Result.{IfErr, OnOk}
 use Rattle.wl_plain.specs.Desktop.{empty}

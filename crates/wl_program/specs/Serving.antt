@@ -1,5 +1,5 @@
 -- What is served: turns of the plain desktop, one after another.
-use Rattle.std.specs.Prelude.{◌≡◌, ⊤, ℕ, Bool, true, List}
+use Rattle.std.specs.Prelude.{◌≡◌, ⊤, Bool, true, List}
 use Rattle.wl_options.specs.declared.command.Serve.{Serve}
 use Rattle.wl_options.specs.declared.fault.Fault.{Fault}
 use Rattle.wl_options.specs.declared.fault.Fault.TheVariants.{Read, Write, Side, Bind, Size, BadLine, Memory}
