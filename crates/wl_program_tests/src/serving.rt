@@ -12,9 +12,9 @@ fn path(rt: &HostRuntime, ending: &str) -> Option<String> {
 /// How the program ends that takes three turns without clients, with these options more. None where it told something.
 fn serves(rt: &HostRuntime, ending: &str, options: &str) -> Option<Status> {
     let socket = path(rt, ending)?;
-    let text =
-        format!(in rt.alloc(); "wlframe serve --turns 3 --size 2x1 --socket {socket}{options}")
-            .ok()?;
+    let text = format!(in rt.alloc();
+        "wlframe serve --turns 3 --size 2x1 --socket {socket}{options}"
+    ).ok()?;
     let status = plays(rt, text.as_str(), b"", "", b"");
     fs::remove_file(rt, socket.as_str()).ok()?;
     status
@@ -24,8 +24,7 @@ fn serves(rt: &HostRuntime, ending: &str, options: &str) -> Option<Status> {
 /// fault, or reported something.
 fn fails(rt: &HostRuntime, options: &str, fault: &str) -> Option<Status> {
     let socket = "/no/such/folder/socket";
-    let text =
-        format!(in rt.alloc(); "wlframe serve --turns 1 --socket {socket}{options}").ok()?;
+    let text = format!(in rt.alloc(); "wlframe serve --turns 1 --socket {socket}{options}").ok()?;
     plays(rt, text.as_str(), b"", fault, b"")
 }
 
