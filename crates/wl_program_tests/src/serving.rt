@@ -42,9 +42,9 @@ fn tells_faults_of_serving(rt: HostRuntime) {
     let unmade = " --pointer /no/such/file --ppm /no/such/folder/a.ppm";
     let unmade = fails(&rt, unmade, "wlframe: write failed\n");
     assert_eq!(rt; unmade, Some(Status::Failed));
-    let unsized = " --size 0x1 --ppm /no/such/folder/a.ppm";
-    let unsized = fails(&rt, unsized, "wlframe: bad size\n");
-    assert_eq!(rt; unsized, Some(Status::Usage));
+    let bad_size = " --size 0x1 --ppm /no/such/folder/a.ppm";
+    let bad_size = fails(&rt, bad_size, "wlframe: bad size\n");
+    assert_eq!(rt; bad_size, Some(Status::Usage));
 }
 
 /// How the program ends that has a bad line in the pointer's file, and how once the line is mended.
