@@ -38,7 +38,7 @@ pub(crate) fn serve<'a, F: Files + Net + AllocGlobal, A: Allocator + Copy, W: Wr
     let mut side = Folder::new(files, serve.dir);
     let session = session_of(heap, serve.size)?;
     let mut service = Service::new(session, lines, &mut *output, ppm.as_mut());
-    serve_turns(&mut hub, &mut service, &mut side, serve.turns)
+    take_turns(&mut hub, &mut service, &mut side, serve.turns)
 }
 
 fn bind_failed(error: io::Error) -> Fault
@@ -66,21 +66,21 @@ fn session_of<A: Allocator + Copy>(alloc: A, size: Size) -> Result<Session<A>, F
     }
 }
 
-/// Takes the turns 1 to this many, and writes what is still to be written.
-fn serve_turns<A: Allocator + Copy, H: Hub, W: Write + Drop, P: Write + Drop, S: SideFiles>(
+/// Takes a turn, and writes what it reports, so that whoever reads along sees it before the next one.
+fn take_turn<A: Allocator + Copy, H: Hub, W: Write + Drop, P: Write + Drop, S: SideFiles>(
     hub: &mut H,
     service: &mut Service<A, H::Conn, W, P>,
     side: &mut S,
-    turns: u32,
+    number: u32,
 ) -> Result<(), Fault>
-    ensures taken { OnOk result (Takes (InTurn IsTurn turns) service.old.session.desk service.new.session.desk) }
+    ensures taken { OnOk result (Takes (IsTurn number) service.old.session.desk service.new.session.desk) }
     ensures failed { IfErr result (λ fault. fault ≡ Fault.Write) }
 {
-    let taken = take_turns(hub, service, side, turns);
+    let taken = turn(hub, service, side, number);
     let flushed = flush(&mut service.report, &mut service.ppm);
     match taken {
         Ok(()) => flushed,
-        Err(fault) => Err(fault),
+        Err(TurnError::Write) => Err(Fault::Write),
     }
 }
 
@@ -95,10 +95,7 @@ fn take_turns<A: Allocator + Copy, H: Hub, W: Write + Drop, P: Write + Drop, S: 
     ensures failed { IfErr result (λ fault. fault ≡ Fault.Write) }
 {
     for before in 0..turns {
-        match turn(hub, service, side, before + 1) {
-            Ok(()) => {}
-            Err(TurnError::Write) => return Err(Fault::Write),
-        }
+        take_turn(hub, service, side, before + 1)?;
     }
     Ok(())
 }

@@ -7,7 +7,7 @@ use Rattle.wl_program.proofs.serving.serve.Goals as goal
 
 pub returns-clause-served : goal.returns-clause-served
 returns-clause-served g c =
-    turns-ok c.serve_turns.result c.args.serve _ _ _ (ap (λ (s : SessionView). s.desk) c.new-service.ensures.session) c.in_ok-session.ensures.desk c.serve_turns.ensures.taken
+    turns-ok c.take_turns.result c.args.serve _ _ _ (ap (λ (s : SessionView). s.desk) c.new-service.ensures.session) c.in_ok-session.ensures.desk c.take_turns.ensures.taken
 
 pub returns-in_err-lines-clause-failed : goal.returns-in_err-lines-clause-failed
 returns-in_err-lines-clause-failed g c =
@@ -15,4 +15,4 @@ returns-in_err-lines-clause-failed g c =
     rw (p.1, p.2) (pointer-fails c.args.serve _ _ c.in_err-lines.ensures)
 
 pub returns-clause-failed : goal.returns-clause-failed
-returns-clause-failed g c = write-fails c.serve_turns.result c.args.serve _ _ c.serve_turns.ensures.failed
+returns-clause-failed g c = write-fails c.take_turns.result c.args.serve _ _ c.take_turns.ensures.failed

@@ -11,7 +11,7 @@ loop-before-init g c = Takes-none (InTurn IsTurn 0) _ _ refl (InTurn-zero IsTurn
 pub loop-before-preserved : goal.loop-before-preserved
 loop-before-preserved g c =
     let n = c.loop-before.before in
-    Takes-then (InTurn IsTurn n) (IsTurn (n + 1)) (InTurn IsTurn (n + 1)) _ _ _ c.loop-before.invariant c.in-Ok.ensures.taken (InTurn-more IsTurn n)
+    Takes-then (InTurn IsTurn n) (IsTurn (n + 1)) (InTurn IsTurn (n + 1)) _ _ _ c.loop-before.invariant c.in_ok-take_turn.ensures.taken (InTurn-more IsTurn n)
 
 pub returns-clause-taken : goal.returns-clause-taken
 returns-clause-taken g c =

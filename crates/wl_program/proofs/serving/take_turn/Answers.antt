@@ -1,6 +1,6 @@
 -- The flush leaves the session.
 use Rattle.wl_program.proofs.Ending.{on_ok}
-use Rattle.wl_program.proofs.serving.serve_turns.Goals as goal
+use Rattle.wl_program.proofs.serving.take_turn.Goals as goal
 
 pub returns-in-Ok-clause-taken : goal.returns-in-Ok-clause-taken
 returns-in-Ok-clause-taken g c = on_ok c.flush-flushed.result c.in-Ok.ensures.taken

@@ -1,0 +1,126 @@
+#!/usr/bin/env python3
+"""What `wlframe serve` costs: round trips over its socket, and turns with clients that do nothing.
+
+    bench/server.py [--seconds S] [--turns N]
+
+Round trips: 1 and 31 clients that each send wl_display.sync and read its two events before they send the next, and one that sends 1,000 of
+them at once and then reads all 2,000 events. Turns: how long N turns take with 0, 1 and 32 connections that send nothing. The program has to be
+built before (`./wlframe --help` builds it).
+"""
+import argparse
+import pathlib
+import resource
+import selectors
+import socket
+import struct
+import subprocess
+import tempfile
+import time
+
+PROGRAM = pathlib.Path(__file__).resolve().parent.parent / "crates" / "wlframe" / "out" / "wlframe"
+SYNC = struct.pack("=III", 1, 12 << 16, 2)  # wl_display.sync of the new id 2, which delete_id gives back
+ANSWER = 24  # bytes of wl_callback.done and wl_display.delete_id
+FOREVER = 1_000_000
+BATCH = 1000
+
+
+class Server:
+    """A server in a folder of its own, which takes so many turns."""
+
+    def __init__(self, turns):
+        self.turns = turns
+
+    def __enter__(self):
+        self.room = tempfile.TemporaryDirectory()
+        self.path = pathlib.Path(self.room.name) / "socket"
+        words = [PROGRAM, "serve", "--socket", self.path, "--turns", str(self.turns), "--dir", self.room.name, "--size", "64x64"]
+        self.process = subprocess.Popen(words, stdout=subprocess.DEVNULL)
+        return self
+
+    def connect(self):
+        """A connection, once the server listens."""
+        while True:
+            client = socket.socket(socket.AF_UNIX)
+            try:
+                client.connect(str(self.path))
+                return client
+            except (FileNotFoundError, ConnectionRefusedError):
+                client.close()
+                if self.process.poll() is not None:
+                    raise
+                time.sleep(0.001)
+
+    def __exit__(self, *_):
+        self.process.kill()
+        self.process.wait()
+        self.room.cleanup()
+
+
+def read(client, size):
+    while size > 0:
+        data = client.recv(size)
+        if not data:
+            raise ConnectionError("the server ended the client")
+        size -= len(data)
+
+
+def one_at_a_time(count, seconds):
+    """Round trips a second of so many clients together."""
+    with Server(FOREVER) as server, selectors.DefaultSelector() as ready:
+        for _ in range(count):
+            client = server.connect()
+            client.sendall(SYNC)
+            ready.register(client, selectors.EVENT_READ)
+        begun, done = time.monotonic(), 0
+        while (passed := time.monotonic() - begun) < seconds:
+            for key, _ in ready.select():
+                read(key.fileobj, ANSWER)
+                done += 1
+                key.fileobj.sendall(SYNC)
+        return done / passed
+
+
+def batches(seconds):
+    """Requests a second of a client that sends them by the thousand. Their ids differ, since each is given back only once it is answered."""
+    requests = b"".join(struct.pack("=III", 1, 12 << 16, 2 + number) for number in range(BATCH))
+    with Server(FOREVER) as server:
+        client = server.connect()
+        begun, done = time.monotonic(), 0
+        while (passed := time.monotonic() - begun) < seconds:
+            client.sendall(requests)
+            read(client, ANSWER * BATCH)
+            done += BATCH
+        return done / passed
+
+
+def turns(count, number):
+    """The wall and processor microseconds of a turn with so many connections that send nothing."""
+    before = resource.getrusage(resource.RUSAGE_CHILDREN)
+    with Server(number) as server:
+        clients = [server.connect() for _ in range(count)]
+        begun = time.monotonic()
+        if server.process.wait() != 0:
+            raise RuntimeError("the server failed")
+        wall = time.monotonic() - begun
+        for client in clients:
+            client.close()
+    after = resource.getrusage(resource.RUSAGE_CHILDREN)
+    spent = after.ru_utime + after.ru_stime - before.ru_utime - before.ru_stime
+    return wall / number * 1e6, spent / number * 1e6
+
+
+def main():
+    parser = argparse.ArgumentParser(description="What wlframe serve costs.")
+    parser.add_argument("--seconds", type=float, default=3.0)
+    parser.add_argument("--turns", type=int, default=100_000)
+    asked = parser.parse_args()
+    for count in (1, 31):
+        print(f"{count:2} clients, one request at a time each: {one_at_a_time(count, asked.seconds):10,.0f} round trips/s")
+    print(f" 1 client, {BATCH:,} requests at a time:      {batches(asked.seconds):10,.0f} requests/s")
+    for count in (0, 1, 32):
+        wall, spent = turns(count, asked.turns)
+        print(f"{count:2} idle clients: {wall:7.2f} us a turn, {spent:7.2f} us of processor time")
+
+
+if __name__ == "__main__":
+    main()
