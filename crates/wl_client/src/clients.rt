@@ -3,14 +3,16 @@
 ghost use Rattle.std.specs.Option.{option_copied, option_map};
 ghost use Rattle.std.specs.Prelude.{◌≡◌, ◌++◌, [], length, ◌≤◌, ◌∷◌, ◌==◌, ◌+◌, if◌then◌else◌, OnOk, OnErr, IfOk, IfErr, IsTrue, MatchBool, Some, None, true, false, is_some, is_none, map, nat_le};
 ghost use Rattle.wl_client.specs.Agreement.{output_of};
-ghost use Rattle.wl_client.specs.Told.{id_deleted, said_bytes};
+ghost use Rattle.wl_client.specs.Told.{id_deleted, said, said_bytes};
+ghost use Rattle.wl_proto.specs.Messages.{says};
+ghost use Rattle.wl_proto.specs.declared.interface.Interface.TheVariants.{WlBuffer};
 ghost use Rattle.wl_client.specs.Peer.{IsUnqueuedFor, has_room, object_at_version};
 ghost use Rattle.wl_client.specs.Said.{said_of};
 
 use crate::actions::Action;
 use crate::backlog::Backlog;
 use crate::buffers::ShmBuffer;
-use crate::events::{deletion_event, error_event};
+use crate::events::{deletion_event, error_event, release_event};
 use crate::outputs::Output;
 use crate::refusals::{ErrorCode, Refusal};
 use std::alloc::{AllocError, Allocator};
@@ -232,6 +234,17 @@ impl<A: Allocator + Copy> Client<A> {
     {
         let _removed = self.objects.remove(id);
         self.queue_all(&[deletion_event(id)]);
+    }
+
+    /// Removes an object, whose id is given back, and tells that a buffer is released.
+    pub fn remove_and_release(&mut self, id: u32, buffer: u32)
+        ensures table { self.new.ended ≡ None → HoldsAt self.old.objects self.new.objects id None }
+        ensures removes { (p : Peer) → IsPeer self.old p
+            → (q : Peer) × Queues (id_deleted id ∷ said buffer (says WlBuffer 0 []) ∷ []) (removed id p) q × IsPeer self.new q }
+        ensures rest { length self.new.rest ≤ length self.old.rest }
+    {
+        let _removed = self.objects.remove(id);
+        self.queue_all(&[deletion_event(id), release_event(buffer)]);
     }
 
     /// A request more is counted, as long as its number has 64 bits.

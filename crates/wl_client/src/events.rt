@@ -1,15 +1,17 @@
 //! The events that clients are told.
 
 ghost use Rattle.std.specs.Prelude.{◌≡◌, map, [], ◌∷◌};
-ghost use Rattle.wl_client.specs.Told.{callback_done, id_deleted, error_told, format_told, geometry_told, mode_told, bind_told, Output as Shown};
+ghost use Rattle.wl_client.specs.Told.{callback_done, id_deleted, error_told, format_told, geometry_told, mode_told, bind_told, said, Output as Shown};
 ghost use Rattle.wl_client.specs.Agreement.{output_of};
 ghost use Rattle.wl_client.specs.Said.{said_of};
-ghost use Rattle.wl_proto.specs.declared.interface.Interface.TheVariants.{WlShm, WlSeat, WlOutput};
+ghost use Rattle.wl_proto.specs.Messages.{says};
+ghost use Rattle.wl_proto.specs.declared.interface.Interface.TheVariants.{WlBuffer, WlShm, WlSeat, WlOutput};
 
 use crate::outputs::Output;
 use crate::refusals::Refusal;
 use wl_proto::{
-    Event, EventBody, WlCallbackEvent, WlDisplayEvent, WlOutputEvent, WlSeatEvent, WlShmEvent,
+    Event, EventBody, WlBufferEvent, WlCallbackEvent, WlDisplayEvent, WlOutputEvent, WlSeatEvent,
+    WlShmEvent,
 };
 
 /// wl_display.error.
@@ -43,6 +45,16 @@ pub fn deletion_event(id: u32) -> Event<'static>
     Event {
         object: 1,
         body: EventBody::WlDisplay(WlDisplayEvent::DeleteId { id }),
+    }
+}
+
+/// wl_buffer.release: the compositor reads the buffer no more (wayland.xml, wl_buffer.release).
+pub fn release_event(buffer: u32) -> Event<'static>
+    ensures { said_of result ≡ said buffer (says WlBuffer 0 []) }
+{
+    Event {
+        object: buffer,
+        body: EventBody::WlBuffer(WlBufferEvent::Release),
     }
 }
 

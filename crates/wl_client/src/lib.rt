@@ -24,6 +24,7 @@ mod wl_shm_pool;
 pub use actions::Action;
 pub use buffers::{Place, ShmBuffer};
 pub use clients::{Cause, Client};
+pub use events::release_event;
 pub use first_message::First;
 pub use outputs::Output;
 pub use refusals::{ErrorCode, Refusal};

@@ -32,7 +32,7 @@ use Rattle.wl_plain.proofs.Altering.{Alters, ChangesAt, IsCall}
 use Rattle.wl_plain.proofs.Behind.{changed-status}
 use Rattle.wl_plain.proofs.BridgeChanged.{changed-same}
 use Rattle.wl_plain.proofs.BridgeJudged.{Pairs, Same, judge-pair}
-use Rattle.wl_plain.proofs.BridgeServes.{IsDone, after-same, becomes-same, by-pointer, done-same, ended_why, living, only-peer, replies-same, same-peer, stacked-pointer, tops-kept}
+use Rattle.wl_plain.proofs.BridgeServes.{IsDone, after-same, becomes-same, by-pointer, done-same, ended_why, living, only-peer, replies-same, same-peer, stacked-pointer}
 use Rattle.wl_plain.proofs.BridgeSteps.{Leaves, closed-leaves, left-held, sent-leaves, stays-by, stored-leaves}
 use Rattle.wl_plain.proofs.OwningKeys.{none-some}
 use Rattle.wl_plain.proofs.Places.{client-kept, stacked-clients}
@@ -88,7 +88,7 @@ does-back c ask demand r there d new is still alive only same h =
     let second : IsDone (replies served_now c demand r made (all_windows d) d) c made on new =
     subst (λ e. IsDone (replies served_now c demand r made (all_windows d) d) c made e new) (done-same c ask demand r d still only same) third in
     let first : IsDone (told_simply ask r) c made on new =
-    subst (λ events. IsDone events c made on new) (replies-same c ask demand r made d only (tops-kept ask r only.roles) same) second in
+    subst (λ events. IsDone events c made on new) (replies-same c ask demand r d only same) second in
     done-back (told_simply ask r) c made there on new found (stacked-pointer c ask r d ∙ still) (changed-status ask r ∙ alive) first
 
 -- ---- a message

@@ -23,7 +23,7 @@ use Rattle.wl_plain.specs.Happens.{wants_memory}
 use Rattle.wl_plain.specs.WlSurface.{will_show}
 use Rattle.wl_plain.proofs.BridgeBuffers.{changed-after, gone-after}
 use Rattle.wl_plain.proofs.BridgeJudged.{IsToplevelAt, Same, asks, commit, effect-same, ends, found-toplevel, goes, move, none-popped}
-use Rattle.wl_plain.proofs.Simply.{CommitSurface, DestroySurface, DestroyToplevel, Simple, changed_simply, committed_on, effect_for, effect_of, effect_on, stacked_simply, told_simply, wants_simply}
+use Rattle.wl_plain.proofs.Simply.{CommitSurface, DestroySurface, DestroyToplevel, Simple, changed_simply, committed_on, effect_for, effect_of, effect_on, stacked_simply, answers_simply, wants_simply}
 
 -- ---- popups, where there are none
 
@@ -169,7 +169,7 @@ configures-same c serial xdg r d None e top = refl
 configures-same c serial xdg r d (Some object) e top =
     ap (λ k. configure_told c r d xdg (Some (record object { kind = k }))) top ∙ ap (λ n. role_configured n xdg (Some object)) e
 
-commit-answers : (c id : ℕ) (effect : Effect) (o : Option Xdg) (r now : Resident) (d : Desktop) → now.peer.serial ≡ r.peer.serial → xdg_of id r.owned.shell ≡ o → IsToplevelAt o → commit_told c effect o now d ≡ told_simply (CommitSurface id effect) r
+commit-answers : (c id : ℕ) (effect : Effect) (o : Option Xdg) (r now : Resident) (d : Desktop) → now.peer.serial ≡ r.peer.serial → xdg_of id r.owned.shell ≡ o → IsToplevelAt o → commit_told c effect o now d ≡ answers_simply (CommitSurface id effect) r
 commit-answers c id Stays o r now d e is top = refl
 commit-answers c id Unconfigured o r now d e is top = refl
 commit-answers c id Maps o r now d e is top = refl
@@ -177,7 +177,7 @@ commit-answers c id Unmaps o r now d e is top = refl
 commit-answers c id Configures None r now d e is top = sym (ap (configures_told r.peer.serial) is)
 commit-answers c id Configures (Some x) r now d e is top = configures-same c r.peer.serial x.id now d x.role e top ∙ sym (ap (configures_told r.peer.serial) is)
 
-pub answers-same : (c : ℕ) (ask : Simple) (demand : Demand) (r : Resident) (windows : List Window) (d : Desktop) → OwnsToplevelsOnly r → Same r ask demand → own_answers c demand r windows d ≡ told_simply ask r
+pub answers-same : (c : ℕ) (ask : Simple) (demand : Demand) (r : Resident) (windows : List Window) (d : Desktop) → OwnsToplevelsOnly r → Same r ask demand → own_answers c demand r windows d ≡ answers_simply ask r
 answers-same c ask demand r windows d only (asks other) = refl
 answers-same c ask demand r windows d only (ends id) =
     ap (λ (cs : List Callback). id_deleted id ∷ map (λ (callback : Callback). id_deleted callback.id) (filter (is_asked (frames_asked (history_in id r.owned.surfaces))) cs)) only.callbacks

@@ -18,17 +18,18 @@ use Rattle.wl_plain.specs.Changing.{with_kept_move}
 use Rattle.wl_plain.specs.Demand.{Demand}
 use Rattle.wl_plain.specs.Desktop.{Desktop, Resident, become, become_by, client_at, client_in, resident_of, with_client}
 use Rattle.wl_plain.specs.LeftOut.{served_now}
-use Rattle.wl_plain.specs.Replies.{dismissed_in, newest_first, own_answers, popups_done, replies}
+use Rattle.wl_plain.specs.Replies.{dismissed_in, newest_first, own_answers, popups_done, releases, replies}
 use Rattle.wl_plain.specs.Settling.{EndsAndSettles, QueuesTo, after_status, becomes, ended_at, pointer_without, unstruck}
 use Rattle.wl_plain.specs.Stacked.{all_windows}
 use Rattle.wl_plain.specs.Step.{toplevel_given, with_peer}
-use Rattle.wl_plain.proofs.Simply.{Answers, Asking, Becomes, CommitSurface, DestroySurface, DestroyToplevel, Simple, WantsOr, changed_simply, effect_on, stacked_simply, told_simply, wants_simply}
+use Rattle.wl_plain.proofs.Simply.{Answers, Asking, Becomes, CommitSurface, DestroySurface, DestroyToplevel, Simple, WantsOr, answers_simply, changed_simply, effect_on, stacked_simply, told_simply, wants_simply}
 use Rattle.wl_plain.specs.NoMore.{AreToplevels, IsToplevel, OwnsToplevelsBy, OwnsToplevelsOnly}
 use Rattle.wl_plain.specs.Happens.{done_for}
 use Rattle.wl_plain.proofs.Forms.{after_why, Answers as StepAnswers, Becomes as StepBecomes, Does, WantsOr as StepWantsOr}
 use Rattle.wl_plain.proofs.Behind.{changed-status}
 use Rattle.wl_plain.proofs.BridgeBuffers.{nothing-after}
 use Rattle.wl_plain.proofs.BridgeChanged.{answers-same, changed-same, no-popups, stacked-same, stage-top, wants-same}
+use Rattle.wl_plain.proofs.BridgeReleases.{asked-told, ended-told}
 use Rattle.wl_plain.proofs.BridgeJudged.{Pairs, Same, asks, commit, ends, goes, move}
 use Rattle.wl_plain.proofs.Places.{number-same, number-twice, stacked-clients}
 use Rattle.wl_plain.proofs.OneRunEnds.{queues-status}
@@ -189,11 +190,20 @@ pub nothing-between : (xs ys : List Said) → xs ++ [] ++ ys ≡ xs ++ ys
 nothing-between [] ys = refl
 nothing-between (x ∷ xs) ys = ap (λ zs. x ∷ zs) (nothing-between xs ys)
 
-pub replies-same : (c : ℕ) (ask : Simple) (demand : Demand) (r made : Resident) (d : Desktop) → OwnsToplevelsOnly r → AreToplevels made.owned.shell → Same r ask demand → replies served_now c demand r made (all_windows d) d ≡ told_simply ask r
-replies-same c ask demand r made d only top same =
-    nothing-between (own_answers c demand r (all_windows d) d) (popups_done r made)
-    ∙ ap (λ more. own_answers c demand r (all_windows d) d ++ more) (none-done r made top) ∙ nothing-after (own_answers c demand r (all_windows d) d)
-    ∙ answers-same c ask demand r (all_windows d) d only same
+-- the releases come after the answer
+released-told : (ask : Simple) (r : Resident) → OwnsToplevelsOnly r → answers_simply ask r ++ releases r (changed_simply ask r) ≡ told_simply ask r
+released-told (Asking ask) r only = asked-told ask r only.apart
+released-told (DestroySurface id) r only = refl
+released-told (CommitSurface id effect) r only = refl
+released-told (DestroyToplevel id xdg surface) r only = ended-told id xdg surface r
+
+pub replies-same : (c : ℕ) (ask : Simple) (demand : Demand) (r : Resident) (d : Desktop) → OwnsToplevelsOnly r → Same r ask demand → replies served_now c demand r (changed_simply ask r) (all_windows d) d ≡ told_simply ask r
+replies-same c ask demand r d only same =
+    let made : Resident = changed_simply ask r in
+    ap (λ more. own_answers c demand r (all_windows d) d ++ releases r made ++ more) (none-done r made (tops-kept ask r only.roles))
+    ∙ nothing-after (own_answers c demand r (all_windows d) d ++ releases r made)
+    ∙ ap (λ told. told ++ releases r made) (answers-same c ask demand r (all_windows d) d only same)
+    ∙ released-told ask r only
 
 does-whole : (c : ℕ) (ask : Simple) (demand : Demand) (r there : Resident) (d new : Desktop) → client_at c d ≡ Some there → d.pointer ≡ first_pointer → r.peer.status ≡ None → OwnsToplevelsOnly r → Same r ask demand
     → Becomes (Queues (told_simply ask r) (changed_simply ask r).peer) c (changed_simply ask r) (stacked_simply c ask r d) new → Does served_now c demand r d new
@@ -204,7 +214,7 @@ does-whole c ask demand r there d new is still alive only same h =
     let first : IsDone (told_simply ask r) c made on new =
     is-done (told_simply ask r) c made there on new found (stacked-pointer c ask r d ∙ still) (changed-status ask r ∙ alive) h in
     let second : IsDone (replies served_now c demand r made (all_windows d) d) c made on new =
-    subst (λ events. IsDone events c made on new) (sym (replies-same c ask demand r made d only (tops-kept ask r only.roles) same)) first in
+    subst (λ events. IsDone events c made on new) (sym (replies-same c ask demand r d only same)) first in
     let third : IsDone (replies served_now c demand r made (all_windows d) d) c made (done_for c demand r d) new =
     subst (λ e. IsDone (replies served_now c demand r made (all_windows d) d) c made e new) (sym (done-same c ask demand r d still only same)) second in
     subst (λ m. IsDone (replies served_now c demand r m (all_windows d) d) c m (done_for c demand r d) new) (sym (changed-same c ask demand r d only same)) third

@@ -14,7 +14,7 @@ use Rattle.std.specs.Option.{option_map}
 use Rattle.wl_plain.proofs.OwningKeys.{found-any, found-map, found-passes}
 use Rattle.wl_plain.proofs.Stacks.{Each, each-map}
 
-each-more : {X : Type 0} (P : X → Type 0) (xs ys : List X) → Each P xs → Each P ys → Each P (xs ++ ys)
+pub each-more : {X : Type 0} (P : X → Type 0) (xs ys : List X) → Each P xs → Each P ys → Each P (xs ++ ys)
 each-more P [] ys a b = b
 each-more P (x ∷ xs) ys a b = (a.0, each-more P xs ys a.1 b)
 
@@ -26,11 +26,11 @@ each-left : {X : Type 0} (P : X → Type 0) (q : X → Bool) (xs : List X) → E
 each-left P q [] a = a
 each-left P q (x ∷ xs) a = left-if P (q x) x (filter q xs) a.0 (each-left P q xs a.1)
 
-each-once : (P : Buffer → Type 0) (bs : List Buffer) → Each P bs → Each P (each_once bs)
+pub each-once : (P : Buffer → Type 0) (bs : List Buffer) → Each P bs → Each P (each_once bs)
 each-once P [] a = a
 each-once P (b ∷ bs) a = (a.0, each-left P (λ c. not (c.number == b.number)) (each_once bs) (each-once P bs a.1))
 
-none-left : {X : Type 0} (q : X → Bool) (xs : List X) → Each (λ x. q x ≡ false) xs → filter q xs ≡ []
+pub none-left : {X : Type 0} (q : X → Bool) (xs : List X) → Each (λ x. q x ≡ false) xs → filter q xs ≡ []
 none-left q [] a = refl
 none-left q (x ∷ xs) a = ap (λ b. cond b (x ∷ filter q xs) (filter q xs)) a.0 ∙ none-left q xs a.1
 
@@ -44,7 +44,7 @@ and-false : (b : Bool) → (b && false) ≡ false
 and-false true = refl
 and-false false = refl
 
-or-any : (b : Bool) → (b || true) ≡ true
+pub or-any : (b : Bool) → (b || true) ≡ true
 or-any true = refl
 or-any false = refl
 
@@ -56,10 +56,10 @@ used-stays r b used =
 
 -- ---- the buffers of a surface
 
-named-so : (b : Buffer) → names b.number (Some b) ≡ true
+pub named-so : (b : Buffer) → names b.number (Some b) ≡ true
 named-so b = eq-eqb b.number b.number refl
 
-listed-each : (P : Buffer → Type 0) (o : Option Buffer) → ((b : Buffer) → o ≡ Some b → P b) → Each P (listed o)
+pub listed-each : (P : Buffer → Type 0) (o : Option Buffer) → ((b : Buffer) → o ≡ Some b → P b) → Each P (listed o)
 listed-each P None p = tt
 listed-each P (Some b) p = (p b refl, tt)
 

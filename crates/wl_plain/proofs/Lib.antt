@@ -26,6 +26,7 @@ pub mod StandingLists
 pub mod StandingClients
 pub mod StandingSurfaces
 pub mod StandingFound
+pub mod StandingBare
 pub mod StandingAsks
 pub mod StandingDesks
 pub mod StandingSteps
@@ -67,6 +68,7 @@ pub mod SoundTrees
 pub mod SoundWindows
 pub mod SoundFirst
 pub mod BridgeBuffers
+pub mod BridgeReleases
 pub mod BridgeChanged
 pub mod BridgeDesks
 pub mod BridgeJudged

@@ -1,5 +1,5 @@
 -- What comes of a message to a client that has no more than toplevels, and what becomes of the desktop where nobody points.
-use Rattle.std.specs.Prelude.{ℕ, ℤ, ◌+◌, ◌≡◌, ◌==◌, ◌&&◌, Bool, true, false, Option, Some, None, Result, Ok, Err, List, [], ◌∷◌, ◌⊎◌}
+use Rattle.std.specs.Prelude.{ℕ, ℤ, ◌+◌, ◌≡◌, ◌==◌, ◌&&◌, Bool, true, false, Option, Some, None, Result, Ok, Err, List, [], ◌∷◌, ◌++◌, ◌⊎◌}
 use Rattle.wl_client.specs.declared.refusals.Refusal.{Refusal}
 use Rattle.wl_client.specs.Peer.{Errs, LacksMemory, Peer, Queues, counted}
 use Rattle.wl_client.specs.Told.{Said, id_deleted}
@@ -7,11 +7,12 @@ use Rattle.wl_surface.specs.Request.{Commit}
 use Rattle.wl_surface.specs.Surfaces.{applying, asking, with_change, without_surface}
 use Rattle.wl_shell.specs.Shell.{Effect, Stays, Unconfigured, Configures, Maps, Unmaps, Waiting, Mapped, XdgSurface as Xdg, in_stage, on_commit, stage_of, unmapping, without_role, xdg_of}
 use Rattle.wl_scene.specs.Stacking.{with_mapped, without_surface_of}
-use Rattle.wl_plain.specs.Ask.{Ask, Ignore}
+use Rattle.wl_plain.specs.Ask.{Ask, AskSurface, Ignore}
 use Rattle.wl_plain.specs.Demand.{Demand, Asks, EndSurface, CommitTree, EndToplevel}
 use Rattle.wl_plain.specs.Demanding.{judge_all}
 use Rattle.wl_plain.specs.Desktop.{Desktop, Resident, become}
 use Rattle.wl_plain.specs.LeftOut.{served_now}
+use Rattle.wl_plain.specs.Replies.{releases}
 use Rattle.wl_plain.specs.Step.{after_surface, answers_to, asked_so_far, changed_by, configured, configures_told, removing, takes_memory, with_peer, with_surfaces, xdg_changed}
 use Rattle.wl_plain.specs.Touching.{is_window_at}
 use Rattle.wl_plain.specs.WlSurface.{will_show}
@@ -81,11 +82,19 @@ stacked_simply c ask r d = d
 
 -- ---- what it is answered with
 
+abbrev pub answers_simply : Simple → Resident → List Said
+answers_simply (Asking ask) r = answers_to ask r
+answers_simply (DestroySurface id) r = id_deleted id ∷ []
+answers_simply (CommitSurface id Configures) r = configures_told r.peer.serial (xdg_of id r.owned.shell)
+answers_simply (CommitSurface id effect) r = []
+answers_simply (DestroyToplevel id xdg top) r = id_deleted id ∷ []
+
+-- and then with the releases of buffers: only what is asked of a surface changes which are busy
 abbrev pub told_simply : Simple → Resident → List Said
+told_simply (Asking (AskSurface id request)) r = releases r (changed_simply (Asking (AskSurface id request)) r)
 told_simply (Asking ask) r = answers_to ask r
-told_simply (DestroySurface id) r = id_deleted id ∷ []
-told_simply (CommitSurface id Configures) r = configures_told r.peer.serial (xdg_of id r.owned.shell)
-told_simply (CommitSurface id effect) r = []
+told_simply (DestroySurface id) r = answers_simply (DestroySurface id) r ++ releases r (changed_simply (DestroySurface id) r)
+told_simply (CommitSurface id effect) r = answers_simply (CommitSurface id effect) r ++ releases r (changed_simply (CommitSurface id effect) r)
 told_simply (DestroyToplevel id xdg top) r = id_deleted id ∷ []
 
 abbrev pub wants_simply : Simple → Bool

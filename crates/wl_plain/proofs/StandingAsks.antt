@@ -19,13 +19,15 @@ use Rattle.wl_scene.specs.Stacking.{Owned, Standing, is_of, with_mapped, without
 use Rattle.wl_plain.specs.Ask.{Own, CreateSurface, AskSurface, DestroyBase, GetXdgSurface, DestroyXdgSurface, GetToplevel, Acknowledge, ConfigureAgain, Ignore}
 use Rattle.wl_plain.specs.Desktop.{Desktop, Resident}
 use Rattle.wl_plain.specs.Laws.{AreApart}
+use Rattle.wl_plain.specs.NoMore.{AreToplevels}
 use Rattle.wl_plain.specs.Owning.{AllCounts}
 use Rattle.wl_plain.specs.Standing.{AreMapped, is_mapped, is_mapped_at}
 use Rattle.wl_plain.specs.Step.{after_surface, asked_so_far, own_changed, toplevel_given}
 use Rattle.wl_plain.specs.WlSurface.{will_show}
 use Rattle.wl_plain.proofs.OwningKeys.{found-passes}
 use Rattle.wl_plain.proofs.OwningXdg.{has_surface}
-use Rattle.wl_plain.proofs.StandingClients.{IsAt, IsFound, acknowledging-same, fresh-unmapped, left-else, left-none, mapped-at, mapped-but, mapped-kept, new-unmapped, ready-mapped, stepped-else, stepped-here, stepped-same, unmapped-at, waiting-unmapped}
+use Rattle.wl_plain.proofs.StandingBare.{bare-after}
+use Rattle.wl_plain.proofs.StandingClients.{AreShown, IsAt, IsFound, acknowledging-same, fresh-unmapped, left-else, left-none, mapped-at, mapped-but, mapped-kept, new-unmapped, ready-mapped, stepped-else, stepped-here, stepped-same, unmapped-at, waiting-unmapped}
 use Rattle.wl_plain.proofs.StandingFound.{Finds, FindsBare, FindsTop, found-so}
 use Rattle.wl_plain.proofs.StandingLists.{apart-left, mapped-another, mapped-apart, mapped-here, without-another, without-here}
 use Rattle.wl_plain.proofs.StandingSurfaces.{committing, history-else, history-left, shown-asked, shown-committed, shown-made, shown-role}
@@ -34,6 +36,9 @@ use Rattle.wl_plain.proofs.Simply.{Asking, CommitSurface, DestroySurface, Destro
 -- the mapped toplevels stand after what is asked, each once
 abbrev pub StandAfter : ℕ → Simple → Resident → Desktop → Type 0
 StandAfter c ask r d = AreMapped c (changed_simply ask r).owned (stacked_simply c ask r d).standing × AreApart (stacked_simply c ask r d).standing
+
+abbrev ShownAfter : ℕ → Simple → Resident → Desktop → Type 0
+ShownAfter c ask r d = AreShown c (changed_simply ask r).owned (stacked_simply c ask r d).standing × AreApart (stacked_simply c ask r d).standing
 
 own-owned : (action : Action) (r : Resident) → (own_changed action r).owned ≡ r.owned
 own-owned (DestroyBuffer id store) r = refl
@@ -46,7 +51,7 @@ bare_xdg id base surface = record { id = id; base = base; surface = surface; rol
 bare-unmapped : (x : XdgSurface) → x.role ≡ None → is_mapped (Some x) ≡ false
 bare-unmapped x none = ap (λ (role : Option RoleObject). is_mapped_at (option_map (λ (object : RoleObject). object.stage) role)) none
 
-module _ (c : ℕ) (r : Resident) (d : Desktop) (is : AreMapped c r.owned d.standing) (apart : AreApart d.standing) where
+module _ (c : ℕ) (r : Resident) (d : Desktop) (is : AreShown c r.owned d.standing) (apart : AreApart d.standing) where
   -- ---- a commit
 
   module _ (x : XdgSurface) (found : IsFound x r.owned.shell) where
@@ -55,7 +60,7 @@ module _ (c : ℕ) (r : Resident) (d : Desktop) (is : AreMapped c r.owned d.stan
 
     -- other surfaces stay
     finished : (shell : Shell) (new : List Standing) → ((surface : ℕ) → x.surface ≢ surface → list_any (is_of c surface) new ≡ list_any (is_of c surface) d.standing)
-        → ((surface : ℕ) → x.surface ≢ surface → is_mapped (xdg_of surface shell) ≡ is_mapped (xdg_of surface r.owned.shell)) → IsAt c x.surface (done shell) new → AreMapped c (done shell) new
+        → ((surface : ℕ) → x.surface ≢ surface → is_mapped (xdg_of surface shell) ≡ is_mapped (xdg_of surface r.owned.shell)) → IsAt c x.surface (done shell) new → AreShown c (done shell) new
     finished shell new stands mapped here =
         mapped-but c x.surface r.owned (done shell) d.standing new is here (λ surface other. record {
           stands = stands surface other;
@@ -67,12 +72,12 @@ module _ (c : ℕ) (r : Resident) (d : Desktop) (is : AreMapped c r.owned d.stan
     stands-now = is.stands x.surface ∙ ap is_mapped found.of_surface
 
     -- an xdg_surface that isn't mapped stays as it is
-    still-unmapped : is_mapped (Some x) ≡ false → AreMapped c (done r.owned.shell) d.standing
+    still-unmapped : is_mapped (Some x) ≡ false → AreShown c (done r.owned.shell) d.standing
     still-unmapped not_mapped =
         finished r.owned.shell d.standing (λ surface other. refl) (λ surface other. refl)
         (unmapped-at c x.surface (done r.owned.shell) d.standing (stands-now ∙ not_mapped) (ap is_mapped found.of_surface ∙ not_mapped))
 
-    still-mapped : is_mapped (Some x) ≡ true → will_show r x.surface ≡ true → AreMapped c (done r.owned.shell) d.standing
+    still-mapped : is_mapped (Some x) ≡ true → will_show r x.surface ≡ true → AreShown c (done r.owned.shell) d.standing
     still-mapped mapped shows =
         finished r.owned.shell d.standing (λ surface other. refl) (λ surface other. refl)
         (mapped-at c x.surface (done r.owned.shell) d.standing (stands-now ∙ mapped) (ap is_mapped found.of_surface ∙ mapped) (shown-committed x.surface r.owned.surfaces ∙ shows))
@@ -81,7 +86,7 @@ module _ (c : ℕ) (r : Resident) (d : Desktop) (is : AreMapped c r.owned d.stan
     stepped step = with_xdg_change x.id step r.owned.shell
 
     -- one that is configured first isn't mapped
-    now-configured : (serial : ℕ) → is_mapped (Some x) ≡ false → AreMapped c (done (with_xdg_change x.id (configuring serial) (with_xdg_change x.id (in_stage stage.Waiting) r.owned.shell))) d.standing
+    now-configured : (serial : ℕ) → is_mapped (Some x) ≡ false → AreShown c (done (with_xdg_change x.id (configuring serial) (with_xdg_change x.id (in_stage stage.Waiting) r.owned.shell))) d.standing
     now-configured serial not_mapped =
         let waiting = with_xdg_change x.id (in_stage stage.Waiting) r.owned.shell in
         let same : (surface : ℕ) → is_mapped (xdg_of surface (with_xdg_change x.id (configuring serial) waiting)) ≡ is_mapped (xdg_of surface waiting) =
@@ -92,7 +97,7 @@ module _ (c : ℕ) (r : Resident) (d : Desktop) (is : AreMapped c r.owned d.stan
         (same x.surface ∙ ap is_mapped (stepped-here x (in_stage stage.Waiting) r.owned.shell found (λ y. refl)) ∙ waiting-unmapped x))
 
     now-mapped : (s : Stage) → stage_of x ≡ Some s → is_mapped (Some x) ≡ false → will_show r x.surface ≡ true
-        → AreMapped c (done (with_xdg_change x.id (in_stage stage.Mapped) r.owned.shell)) (with_mapped d.mappings c x.surface d.standing) × AreApart (with_mapped d.mappings c x.surface d.standing)
+        → AreShown c (done (with_xdg_change x.id (in_stage stage.Mapped) r.owned.shell)) (with_mapped d.mappings c x.surface d.standing) × AreApart (with_mapped d.mappings c x.surface d.standing)
     now-mapped s at not_mapped shows =
         let shell = with_xdg_change x.id (in_stage stage.Mapped) r.owned.shell in
         let new = with_mapped d.mappings c x.surface d.standing in (
@@ -103,7 +108,7 @@ module _ (c : ℕ) (r : Resident) (d : Desktop) (is : AreMapped c r.owned d.stan
           mapped-apart d.mappings c x.surface d.standing apart (stands-now ∙ not_mapped),
         )
 
-    now-unmapped : (since : ℕ) → AreMapped c (done (with_xdg_change x.id (unmapping since) r.owned.shell)) (without_surface_of c x.surface d.standing)
+    now-unmapped : (since : ℕ) → AreShown c (done (with_xdg_change x.id (unmapping since) r.owned.shell)) (without_surface_of c x.surface d.standing)
     now-unmapped since =
         let shell = with_xdg_change x.id (unmapping since) r.owned.shell in
         let new = without_surface_of c x.surface d.standing in
@@ -115,7 +120,7 @@ module _ (c : ℕ) (r : Resident) (d : Desktop) (is : AreMapped c r.owned d.stan
     gone_on = after_surface x.surface r (committed_on x.surface r)
 
     abbrev Commits : Effect → Type 0
-    Commits effect = AreMapped c (effect_on x.surface effect (Some x) gone_on).owned (stacked_simply c (CommitSurface x.surface effect) r d).standing × AreApart (stacked_simply c (CommitSurface x.surface effect) r d).standing
+    Commits effect = AreShown c (effect_on x.surface effect (Some x) gone_on).owned (stacked_simply c (CommitSurface x.surface effect) r d).standing × AreApart (stacked_simply c (CommitSurface x.surface effect) r d).standing
 
     without-apart : AreApart (without_surface_of c x.surface d.standing)
     without-apart = apart-left _ d.standing apart
@@ -133,7 +138,7 @@ module _ (c : ℕ) (r : Resident) (d : Desktop) (is : AreMapped c r.owned d.stan
     by-stage (Some stage.Mapped) true at shows = (still-mapped (ap is_mapped_at at) shows, apart)
 
   abbrev After : ℕ → Effect → Option XdgSurface → Type 0
-  After id effect o = AreMapped c (effect_on id effect o (after_surface id r (committed_on id r))).owned (stacked_simply c (CommitSurface id effect) r d).standing × AreApart (stacked_simply c (CommitSurface id effect) r d).standing
+  After id effect o = AreShown c (effect_on id effect o (after_surface id r (committed_on id r))).owned (stacked_simply c (CommitSurface id effect) r d).standing × AreApart (stacked_simply c (CommitSurface id effect) r d).standing
 
   -- a surface without xdg_surface doesn't stand
   committed-none : (id : ℕ) → xdg_of id r.owned.shell ≡ None → After id Stays None
@@ -153,7 +158,7 @@ module _ (c : ℕ) (r : Resident) (d : Desktop) (is : AreMapped c r.owned d.stan
       subst (λ n. After n (on_commit (stage_of x) (will_show r n)) (Some x)) same
       (by-stage x (found-so r (has_surface id) x told e) (stage_of x) (will_show r x.surface) refl refl)
 
-  committed-after : (id : ℕ) (effect : Effect) → AreToldApart r.owned.shell → effect_of r id ≡ effect → StandAfter c (CommitSurface id effect) r d
+  committed-after : (id : ℕ) (effect : Effect) → AreToldApart r.owned.shell → effect_of r id ≡ effect → ShownAfter c (CommitSurface id effect) r d
   committed-after id effect told e = at (xdg_of id r.owned.shell) refl
     where
       at : (o : Option XdgSurface) → xdg_of id r.owned.shell ≡ o → After id effect o
@@ -162,24 +167,24 @@ module _ (c : ℕ) (r : Resident) (d : Desktop) (is : AreMapped c r.owned d.stan
 
   -- ---- surfaces
 
-  unchanged : (o : Owned) → o ≡ r.owned → AreMapped c o d.standing
-  unchanged o same = subst (λ p. AreMapped c p d.standing) (sym same) is
+  unchanged : (o : Owned) → o ≡ r.owned → AreShown c o d.standing
+  unchanged o same = subst (λ p. AreShown c p d.standing) (sym same) is
 
   abbrev with_all : Surfaces → Owned
   with_all all = record { surfaces = all; shell = r.owned.shell }
 
-  created : (id : ℕ) → AreMapped c (with_all (with_new id r.owned.surfaces)) d.standing
+  created : (id : ℕ) → AreShown c (with_all (with_new id r.owned.surfaces)) d.standing
   created id =
       mapped-kept c r.owned (with_all (with_new id r.owned.surfaces)) d.standing d.standing is
       (λ surface. record { stands = refl; mapped = refl; shows = λ was shows. shown-made id surface r.owned.surfaces shows })
 
-  destroyed : (id : ℕ) → xdg_of id r.owned.shell ≡ None → AreMapped c (with_all (without_surface id r.owned.surfaces)) d.standing
+  destroyed : (id : ℕ) → xdg_of id r.owned.shell ≡ None → AreShown c (with_all (without_surface id r.owned.surfaces)) d.standing
   destroyed id none =
       let now = with_all (without_surface id r.owned.surfaces) in
       mapped-but c id r.owned now d.standing d.standing is (unmapped-at c id now d.standing (is.stands id ∙ ap is_mapped none) (ap is_mapped none))
       (λ surface other. record { stands = refl; mapped = refl; shows = λ was shows. ap shows_buffer (history-left id surface r.owned.surfaces other) ∙ shows })
 
-  asked : (id : ℕ) (request : Request) → ((s : ℕ) (h : History) → history_in s r.owned.surfaces ≡ Some h → AllCounts h) → AreMapped c (with_all (with_change id (asking request) r.owned.surfaces)) d.standing
+  asked : (id : ℕ) (request : Request) → ((s : ℕ) (h : History) → history_in s r.owned.surfaces ≡ Some h → AllCounts h) → AreShown c (with_all (with_change id (asking request) r.owned.surfaces)) d.standing
   asked id request counts =
       mapped-kept c r.owned (with_all (with_change id (asking request) r.owned.surfaces)) d.standing d.standing is
       (λ surface. record { stands = refl; mapped = refl; shows = λ was shows. shown-asked id surface request r.owned.surfaces counts ∙ shows })
@@ -189,25 +194,25 @@ module _ (c : ℕ) (r : Resident) (d : Desktop) (is : AreMapped c r.owned d.stan
   abbrev with_xdgs : Shell → Owned
   with_xdgs shell = record { surfaces = r.owned.surfaces; shell = shell }
 
-  shell-kept : (shell : Shell) → ((surface : ℕ) → is_mapped (xdg_of surface shell) ≡ is_mapped (xdg_of surface r.owned.shell)) → AreMapped c (with_xdgs shell) d.standing
+  shell-kept : (shell : Shell) → ((surface : ℕ) → is_mapped (xdg_of surface shell) ≡ is_mapped (xdg_of surface r.owned.shell)) → AreShown c (with_xdgs shell) d.standing
   shell-kept shell same = mapped-kept c r.owned (with_xdgs shell) d.standing d.standing is (λ surface. record { stands = refl; mapped = same surface; shows = λ was shows. shows })
 
-  xdg-destroyed : (id : ℕ) → FindsBare id r → AreMapped c (with_xdgs (without_xdg id r.owned.shell)) d.standing
+  xdg-destroyed : (id : ℕ) → FindsBare id r → AreShown c (with_xdgs (without_xdg id r.owned.shell)) d.standing
   xdg-destroyed id finds =
       let x = finds.0 in
       let shell = without_xdg x.id r.owned.shell in
-      subst (λ n. AreMapped c (with_xdgs (without_xdg n r.owned.shell)) d.standing) finds.1
+      subst (λ n. AreShown c (with_xdgs (without_xdg n r.owned.shell)) d.standing) finds.1
       (mapped-but c x.surface r.owned (with_xdgs shell) d.standing d.standing is
       (unmapped-at c x.surface (with_xdgs shell) d.standing (stands-now x finds.2 ∙ bare-unmapped x finds.3) (ap is_mapped (left-none x r.owned.shell finds.2)))
       (λ surface other. record { stands = refl; mapped = ap is_mapped (left-else x surface r.owned.shell finds.2 other); shows = λ was shows. shows }))
 
-  toplevel-made : (id version xdg : ℕ) → FindsBare xdg r → AreMapped c (toplevel_given id xdg (xdg_at xdg r.owned.shell) r).owned d.standing
+  toplevel-made : (id version xdg : ℕ) → FindsBare xdg r → AreShown c (toplevel_given id xdg (xdg_at xdg r.owned.shell) r).owned d.standing
   toplevel-made id version xdg finds =
       let x = finds.0 in
       let shell = with_xdg_change x.id (new_toplevel id (asked_so_far x.surface r)) r.owned.shell in
       let now : Owned = record { surfaces = with_change x.surface (with_role AsToplevel) r.owned.surfaces; shell = shell } in
-      subst (λ n. AreMapped c (toplevel_given id n (xdg_at n r.owned.shell) r).owned d.standing) finds.1
-      (subst (λ o. AreMapped c (toplevel_given id x.id o r).owned d.standing) (sym finds.2.at_id)
+      subst (λ n. AreShown c (toplevel_given id n (xdg_at n r.owned.shell) r).owned d.standing) finds.1
+      (subst (λ o. AreShown c (toplevel_given id x.id o r).owned d.standing) (sym finds.2.at_id)
       (mapped-but c x.surface r.owned now d.standing d.standing is
       (unmapped-at c x.surface now d.standing (stands-now x finds.2 ∙ bare-unmapped x finds.3) (ap is_mapped (stepped-here x (new_toplevel id (asked_so_far x.surface r)) r.owned.shell finds.2 (λ y. refl))))
       (λ surface other. record {
@@ -218,7 +223,7 @@ module _ (c : ℕ) (r : Resident) (d : Desktop) (is : AreMapped c r.owned d.stan
 
   abbrev Without : ℕ → ℕ → Type 0
   Without xdg surface =
-      AreMapped c (with_xdgs (with_xdg_change xdg without_role r.owned.shell)) (without_surface_of c surface d.standing)
+      AreShown c (with_xdgs (with_xdg_change xdg without_role r.owned.shell)) (without_surface_of c surface d.standing)
 
   toplevel-destroyed : (xdg top : ℕ) → FindsTop xdg top r → Without xdg top
   toplevel-destroyed xdg top finds =
@@ -235,22 +240,29 @@ module _ (c : ℕ) (r : Resident) (d : Desktop) (is : AreMapped c r.owned d.stan
         shows = λ was shows. shows;
       })))
 
--- What is asked leaves the mapped toplevels of the client standing, where its xdg_surfaces are told apart and all that was committed counts.
-pub stand-after : (c : ℕ) (ask : Simple) (r : Resident) (d : Desktop) → AreToldApart r.owned.shell → ((s : ℕ) (h : History) → history_in s r.owned.surfaces ≡ Some h → AllCounts h)
-    → AreMapped c r.owned d.standing → AreApart d.standing → Finds ask r → StandAfter c ask r d
-stand-after c (Asking (Own action)) r d told counts is apart finds = (unchanged c r d is apart (own_changed action r).owned (own-owned action r), apart)
-stand-after c (Asking (CreateSurface id version)) r d told counts is apart finds = (created c r d is apart id, apart)
-stand-after c (DestroySurface id) r d told counts is apart finds = (destroyed c r d is apart id finds, apart)
-stand-after c (Asking (AskSurface id request)) r d told counts is apart finds = (asked c r d is apart id request counts, apart)
-stand-after c (CommitSurface id effect) r d told counts is apart finds = committed-after c r d is apart id effect told finds
-stand-after c (Asking (DestroyBase id)) r d told counts is apart finds = (is, apart)
-stand-after c (Asking (GetXdgSurface id version base surface)) r d told counts is apart finds =
+-- what is asked leaves the mapped toplevels of the client standing, where its xdg_surfaces are told apart and all that was committed counts
+shown-after : (c : ℕ) (ask : Simple) (r : Resident) (d : Desktop) → AreToldApart r.owned.shell → ((s : ℕ) (h : History) → history_in s r.owned.surfaces ≡ Some h → AllCounts h)
+    → AreShown c r.owned d.standing → AreApart d.standing → Finds ask r → ShownAfter c ask r d
+shown-after c (Asking (Own action)) r d told counts is apart finds = (unchanged c r d is apart (own_changed action r).owned (own-owned action r), apart)
+shown-after c (Asking (CreateSurface id version)) r d told counts is apart finds = (created c r d is apart id, apart)
+shown-after c (DestroySurface id) r d told counts is apart finds = (destroyed c r d is apart id finds, apart)
+shown-after c (Asking (AskSurface id request)) r d told counts is apart finds = (asked c r d is apart id request counts, apart)
+shown-after c (CommitSurface id effect) r d told counts is apart finds = committed-after c r d is apart id effect told finds.0
+shown-after c (Asking (DestroyBase id)) r d told counts is apart finds = (is, apart)
+shown-after c (Asking (GetXdgSurface id version base surface)) r d told counts is apart finds =
     (shell-kept c r d is apart (with_new_xdg id base surface r.owned.shell) (λ other. new-unmapped (bare_xdg id base surface) other r.owned.shell refl), apart)
-stand-after c (Asking (DestroyXdgSurface id)) r d told counts is apart finds = (xdg-destroyed c r d is apart id finds, apart)
-stand-after c (Asking (GetToplevel id version xdg)) r d told counts is apart finds = (toplevel-made c r d is apart id version xdg finds, apart)
-stand-after c (Asking (Acknowledge xdg serial)) r d told counts is apart finds =
+shown-after c (Asking (DestroyXdgSurface id)) r d told counts is apart finds = (xdg-destroyed c r d is apart id finds, apart)
+shown-after c (Asking (GetToplevel id version xdg)) r d told counts is apart finds = (toplevel-made c r d is apart id version xdg finds, apart)
+shown-after c (Asking (Acknowledge xdg serial)) r d told counts is apart finds =
     (shell-kept c r d is apart (with_xdg_change xdg (acknowledging serial) r.owned.shell) (λ surface. stepped-same xdg surface (acknowledging serial) r.owned.shell (λ y. refl) (acknowledging-same serial)), apart)
-stand-after c (Asking (ConfigureAgain xdg)) r d told counts is apart finds =
+shown-after c (Asking (ConfigureAgain xdg)) r d told counts is apart finds =
     (shell-kept c r d is apart (with_xdg_change xdg (configuring r.peer.serial) r.owned.shell) (λ surface. stepped-same xdg surface (configuring r.peer.serial) r.owned.shell (λ y. refl) (λ y. refl)), apart)
-stand-after c (DestroyToplevel id xdg top) r d told counts is apart finds = (toplevel-destroyed c r d is apart xdg top finds, apart-left _ d.standing apart)
-stand-after c (Asking Ignore) r d told counts is apart finds = (is, apart)
+shown-after c (DestroyToplevel id xdg top) r d told counts is apart finds = (toplevel-destroyed c r d is apart xdg top finds, apart-left _ d.standing apart)
+shown-after c (Asking Ignore) r d told counts is apart finds = (is, apart)
+
+-- What is asked leaves the mapped toplevels of the client standing, and those that wait bare.
+pub stand-after : (c : ℕ) (ask : Simple) (r : Resident) (d : Desktop) → AreToldApart r.owned.shell → ((s : ℕ) (h : History) → history_in s r.owned.surfaces ≡ Some h → AllCounts h) → AreToplevels r.owned.shell
+    → AreMapped c r.owned d.standing → AreApart d.standing → Finds ask r → StandAfter c ask r d
+stand-after c ask r d told counts top is apart finds =
+    let s = shown-after c ask r d told counts (record { stands = is.stands; shows = is.shows }) apart finds in
+    (record { stands = s.0.stands; shows = s.0.shows; bare = bare-after ask r told counts top is.bare finds }, s.1)

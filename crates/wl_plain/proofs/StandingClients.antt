@@ -12,7 +12,7 @@ use Rattle.wl_shell.specs.declared.stage.Stage.{Stage}
 use Rattle.wl_shell.specs.declared.stage.Stage.TheVariants as stage
 use Rattle.wl_scene.specs.Lent.{shows_buffer}
 use Rattle.wl_scene.specs.Stacking.{Owned, Standing, is_of}
-use Rattle.wl_plain.specs.Standing.{AreMapped, is_mapped, is_mapped_at}
+use Rattle.wl_plain.specs.Standing.{is_mapped, is_mapped_at}
 use Rattle.wl_plain.proofs.OwningKeys.{changed-elsewhere, differ, found-map, left-elsewhere, left-here}
 use Rattle.wl_plain.proofs.OwningXdg.{has_surface, has_xdg, ids-apart, surfaces-apart}
 
@@ -23,26 +23,31 @@ abbrev pub IsAt : ℕ → ℕ → Owned → List Standing → Type 0
 IsAt c surface o standing =
     (list_any (is_of c surface) standing ≡ is_mapped (xdg_of surface o.shell)) × (is_mapped (xdg_of surface o.shell) ≡ true → shows_buffer (history_in surface o.surfaces) ≡ true)
 
+-- of a client's surfaces just those stand that are mapped, and each of them shows a buffer
+pub record AreShown (c : ℕ) (o : Owned) (standing : List Standing) : Type 0 where
+  pub stands : (surface : ℕ) → list_any (is_of c surface) standing ≡ is_mapped (xdg_of surface o.shell)
+  pub shows : (surface : ℕ) → is_mapped (xdg_of surface o.shell) ≡ true → shows_buffer (history_in surface o.surfaces) ≡ true
+
 -- of this surface nothing changed that counts
 pub record IsAsBefore (c surface : ℕ) (o p : Owned) (old new : List Standing) : Type 0 where
   pub stands : list_any (is_of c surface) new ≡ list_any (is_of c surface) old
   pub mapped : is_mapped (xdg_of surface p.shell) ≡ is_mapped (xdg_of surface o.shell)
   pub shows : is_mapped (xdg_of surface o.shell) ≡ true → shows_buffer (history_in surface o.surfaces) ≡ true → shows_buffer (history_in surface p.surfaces) ≡ true
 
-stays-at : (c surface : ℕ) (o p : Owned) (old new : List Standing) → AreMapped c o old → IsAsBefore c surface o p old new → IsAt c surface p new
+stays-at : (c surface : ℕ) (o p : Owned) (old new : List Standing) → AreShown c o old → IsAsBefore c surface o p old new → IsAt c surface p new
 stays-at c surface o p old new is stays = (
   stays.stands ∙ is.stands surface ∙ sym stays.mapped,
   λ here. let was = sym stays.mapped ∙ here in stays.shows was (is.shows surface was),
 )
 
-pub mapped-kept : (c : ℕ) (o p : Owned) (old new : List Standing) → AreMapped c o old → ((surface : ℕ) → IsAsBefore c surface o p old new) → AreMapped c p new
+pub mapped-kept : (c : ℕ) (o p : Owned) (old new : List Standing) → AreShown c o old → ((surface : ℕ) → IsAsBefore c surface o p old new) → AreShown c p new
 mapped-kept c o p old new is stays = record {
   stands = λ surface. (stays-at c surface o p old new is (stays surface)).0;
   shows = λ surface. (stays-at c surface o p old new is (stays surface)).1;
 }
 
 -- all but one surface stay so
-pub mapped-but : (c id : ℕ) (o p : Owned) (old new : List Standing) → AreMapped c o old → IsAt c id p new → ((surface : ℕ) → id ≢ surface → IsAsBefore c surface o p old new) → AreMapped c p new
+pub mapped-but : (c id : ℕ) (o p : Owned) (old new : List Standing) → AreShown c o old → IsAt c id p new → ((surface : ℕ) → id ≢ surface → IsAsBefore c surface o p old new) → AreShown c p new
 mapped-but c id o p old new is here stays = record { stands = λ surface. (all surface).0; shows = λ surface. (all surface).1 }
   where
     at : (surface : ℕ) (b : Bool) → (id == surface) ≡ b → IsAt c surface p new
@@ -61,14 +66,14 @@ mapped-at c surface o standing stands mapped shows = (stands ∙ sym mapped, λ 
 
 -- ---- xdg_surfaces
 
-abbrev one_stepped : ℕ → (XdgSurface → XdgSurface) → XdgSurface → XdgSurface
+abbrev pub one_stepped : ℕ → (XdgSurface → XdgSurface) → XdgSurface → XdgSurface
 one_stepped id step x = cond (x.id == id) (step x) x
 
 one-surface : (id : ℕ) (step : XdgSurface → XdgSurface) → ((y : XdgSurface) → (step y).surface ≡ y.surface) → (x : XdgSurface) (b : Bool) → (cond b (step x) x).surface ≡ x.surface
 one-surface id step keeps x true = keeps x
 one-surface id step keeps x false = refl
 
-stepped-found : (id surface : ℕ) (step : XdgSurface → XdgSurface) (shell : Shell) → ((y : XdgSurface) → (step y).surface ≡ y.surface) → xdg_of surface (with_xdg_change id step shell) ≡ option_map (one_stepped id step) (xdg_of surface shell)
+pub stepped-found : (id surface : ℕ) (step : XdgSurface → XdgSurface) (shell : Shell) → ((y : XdgSurface) → (step y).surface ≡ y.surface) → xdg_of surface (with_xdg_change id step shell) ≡ option_map (one_stepped id step) (xdg_of surface shell)
 stepped-found id surface step shell keeps = found-map (has_surface surface) (one_stepped id step) shell (λ x. ap (λ n. n == surface) (one-surface id step keeps x (x.id == id)))
 
 -- a step that maps and unmaps none

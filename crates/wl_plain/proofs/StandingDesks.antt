@@ -21,7 +21,7 @@ use Rattle.wl_plain.proofs.Simply.{CommitSurface, DestroyToplevel, Simple, chang
 -- ---- one client, where others' toplevels come and go
 
 pub mapped-same : (c : ℕ) (o : Owned) (old new : List Standing) → ((surface : ℕ) → list_any (is_of c surface) new ≡ list_any (is_of c surface) old) → AreMapped c o old → AreMapped c o new
-mapped-same c o old new same is = record { stands = λ surface. same surface ∙ is.stands surface; shows = is.shows }
+mapped-same c o old new same is = record { stands = λ surface. same surface ∙ is.stands surface; shows = is.shows; bare = is.bare }
 
 effect-other : (c other surface id : ℕ) (effect : Effect) (r : Resident) (d : Desktop) → c ≢ other → list_any (is_of other surface) (stacked_simply c (CommitSurface id effect) r d).standing ≡ list_any (is_of other surface) d.standing
 effect-other c other surface id Stays r d apart = refl
@@ -38,7 +38,7 @@ stacked-other c other surface ask r d apart = refl
 
 -- one that owns nothing has none
 pub nothing-mapped : (c : ℕ) (standing : List Standing) → ((surface : ℕ) → list_any (is_of c surface) standing ≡ false) → AreMapped c nothing_owned standing
-nothing-mapped c standing none = record { stands = none; shows = λ surface is. absurd (differ (sym is)) }
+nothing-mapped c standing none = record { stands = none; shows = λ surface is. absurd (differ (sym is)); bare = λ surface is. absurd (differ (sym is)) }
 
 -- a client ends: its toplevels go
 pub ended-mapped : (c : ℕ) (standing : List Standing) → AreMapped c nothing_owned (without_client c standing)

@@ -1,5 +1,5 @@
 -- What a request finds of the shell where it is accepted.
-use Rattle.std.proofs.Common.{◌≡◌, ℕ, List, Bool, true, false, Option, Some, None, Result, refl, subst, eq-eqb}
+use Rattle.std.proofs.Common.{◌≡◌, ℕ, List, Bool, true, false, Option, Some, None, Result, refl, ap, sym, subst, ◌∙◌, eq-eqb}
 use Rattle.std.specs.Prelude.{ℤ, pos, ◌==◌, ◌&&◌, ◌||◌, Ok, Err, find, if◌then◌else◌, int_le, int_lt, is_some, length, nat_le}
 use Rattle.std.specs.List.{list_all, list_any}
 use Rattle.std.specs.Option.{option_map_or}
@@ -37,12 +37,14 @@ use Rattle.wl_client.specs.ToplevelRequest as toplevel
 use Rattle.wl_plain.specs.Served.{unserved_now}
 use Rattle.wl_plain.specs.Desktop.{Resident}
 use Rattle.wl_plain.specs.Step.{with_peer}
-use Rattle.wl_plain.proofs.Simply.{Simple, Asking, DestroySurface, CommitSurface, DestroyToplevel, effect_of, judge, simple_of, simply}
-use Rattle.wl_plain.specs.WlSurface.{refuse, refuse_limit, transform_set}
+use Rattle.wl_plain.proofs.Simply.{Simple, Asking, DestroySurface, CommitSurface, DestroyToplevel, effect_for, effect_of, judge, simple_of, simply}
+use Rattle.wl_plain.specs.NoMore.{AreToplevels}
+use Rattle.wl_plain.specs.WlSurface.{refuse, refuse_limit, transform_set, will_show}
 use Rattle.wl_client.specs.Requests.{rect}
 use Rattle.wl_client.specs.declared.refusals.ErrorCode.TheVariants as error
 use Rattle.wl_surface.specs.Request.{SetWindowGeometry}
 use Rattle.wl_plain.specs.XdgShell.{configured_again, has_any, is_foreign, is_no_toplevel, role_of, state_asked, xdg_surface_made}
+use Rattle.wl_plain.proofs.BridgeJudged.{effect-same}
 use Rattle.wl_plain.proofs.OwningKeys.{found-by}
 use Rattle.wl_plain.proofs.OwningXdg.{has_role, has_surface, has_xdg, ids-apart, surfaces-apart}
 use Rattle.wl_plain.proofs.StandingClients.{IsFound}
@@ -57,7 +59,7 @@ FindsTop id surface r = (x : Xdg) × (x.id ≡ id) × IsFound x r.owned.shell ×
 -- A surface goes without an xdg_surface, and an xdg_surface without a role object; a commit comes to what the stage says.
 abbrev pub Finds : Simple → Resident → Type 0
 Finds (DestroySurface id) r = xdg_of id r.owned.shell ≡ None
-Finds (CommitSurface id effect) r = effect_of r id ≡ effect
+Finds (CommitSurface id effect) r = (effect_of r id ≡ effect) × (AreToplevels r.owned.shell → effect ≡ Unconfigured → ⊥)
 Finds (Asking (DestroyXdgSurface id)) r = FindsBare id r
 Finds (Asking (GetToplevel id version xdg)) r = FindsBare xdg r
 Finds (DestroyToplevel id xdg top) r = FindsTop xdg top r
@@ -97,13 +99,25 @@ none-there : (o : Option Xdg) → is_some o ≡ false → o ≡ None
 none-there None e = refl
 none-there (Some x) e = absurd (cc)
 
-effect-finds : (r : Resident) (o : Option Xdg) (object : ℕ) (effect : Effect) → Accepts (committed_by o object effect) r
-effect-finds r None object effect = accepted (CommitTree object) r refl
-effect-finds r (Some x) object Stays = accepted (CommitTree object) r refl
-effect-finds r (Some x) object Unconfigured = refused _ r
-effect-finds r (Some x) object Configures = either (is_full x.serials) _ _ r (λ full. refused _ r) (λ room. accepted (CommitTree object) r refl)
-effect-finds r (Some x) object Maps = accepted (CommitTree object) r refl
-effect-finds r (Some x) object Unmaps = accepted (CommitTree object) r refl
+-- a commit that is accepted isn't that of a buffer before a configure was acknowledged
+module _ (r : Resident) (object : ℕ) where
+  some-effect : (effect : Effect) → effect_of_commit r object ≡ effect → (effect ≡ Unconfigured → ⊥) → Finds (CommitSurface object (effect_of r object)) r
+  some-effect effect comes other = (refl, λ top u. other (sym comes ∙ effect-same r object top ∙ u))
+
+  none-effect : xdg_of object r.owned.shell ≡ None → Finds (CommitSurface object (effect_of r object)) r
+  none-effect none = (refl, λ top u. stays (sym (ap (effect_for (will_show r object)) none) ∙ u))
+    where
+      stays : Effect.Stays ≡ Effect.Unconfigured → ⊥
+      stays e = cc
+
+effect-finds : (r : Resident) (o : Option Xdg) (object : ℕ) (effect : Effect) → xdg_of object r.owned.shell ≡ o → effect_of_commit r object ≡ effect → Accepts (committed_by o object effect) r
+effect-finds r None object effect here comes = accepted (CommitTree object) r (none-effect r object here)
+effect-finds r (Some x) object Stays here comes = accepted (CommitTree object) r (some-effect r object Stays comes (λ e. cc))
+effect-finds r (Some x) object Unconfigured here comes = refused _ r
+effect-finds r (Some x) object Configures here comes =
+    either (is_full x.serials) _ _ r (λ full. refused _ r) (λ room. accepted (CommitTree object) r (some-effect r object Configures comes (λ e. cc)))
+effect-finds r (Some x) object Maps here comes = accepted (CommitTree object) r (some-effect r object Maps comes (λ e. cc))
+effect-finds r (Some x) object Unmaps here comes = accepted (CommitTree object) r (some-effect r object Unmaps comes (λ e. cc))
 
 destroyed-finds : (r : Resident) (object : ℕ) → Accepts (surface_destroyed r object) r
 destroyed-finds r object =
@@ -115,7 +129,7 @@ transform-finds r object z = asks-either (int_le (pos 0) z && int_le z (pos 7)) 
 surface-finds : (r : Resident) (object version : ℕ) (request : WlSurfaceRequest) → unserved_now (ToSurface request) ≡ false → Accepts (surface_demand r object version request) r
 surface-finds r object version surface.Destroy served = destroyed-finds r object
 surface-finds r object version (surface.Frame callback) served = absurd (cc)
-surface-finds r object version surface.Commit served = effect-finds r (xdg_of object r.owned.shell) object (effect_of_commit r object)
+surface-finds r object version surface.Commit served = effect-finds r (xdg_of object r.owned.shell) object (effect_of_commit r object) refl refl
 surface-finds r object version (surface.SetBufferTransform transform) served = transform-finds r object transform
 surface-finds r object version (surface.Attach buffer x y) served = accepted _ r tt
 surface-finds r object version (surface.Damage x y width height) served = accepted _ r tt

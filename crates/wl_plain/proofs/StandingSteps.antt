@@ -13,13 +13,15 @@ use Rattle.wl_plain.specs.declared.answers.Done.{Done}
 use Rattle.wl_plain.specs.Desktop.{Desktop, Resident, arrival, client_at, client_in, empty, owned_in, owned_of, place, with_client, with_number}
 use Rattle.wl_plain.specs.Owning.{IsOwned, Names}
 use Rattle.wl_plain.specs.LeftOut.{served_now}
-use Rattle.wl_plain.specs.NoMore.{NoMore}
+use Rattle.wl_plain.specs.NoMore.{AreToplevels, NoMore, OwnsToplevelsAt}
 use Rattle.wl_plain.specs.Happens.{Serves}
+use Rattle.wl_plain.specs.Laws.{toplevels_of}
 use Rattle.wl_plain.proofs.BridgeBack.{AsksBy, message-by}
+use Rattle.wl_plain.proofs.BridgeServes.{living}
 use Rattle.wl_plain.specs.Standing.{AreMapped, MappedStand}
 use Rattle.wl_plain.specs.Step.{with_peer}
 use Rattle.wl_plain.specs.Acts.{lowest, next_of}
-use Rattle.wl_plain.proofs.Forms.{ConnectsAt}
+use Rattle.wl_plain.proofs.Forms.{ConnectsAt, ServesAt}
 use Rattle.wl_plain.proofs.OwningKeys.{some-same}
 use Rattle.wl_plain.proofs.Places.{number-other}
 use Rattle.wl_plain.proofs.StandingAsks.{StandAfter, stand-after}
@@ -36,16 +38,19 @@ module _ (c : ℕ) (there : Resident) (d : Desktop) (is : client_at c d ≡ Some
   asks-find More ask p asks = absurd asks
 
   -- an accepted request is done
-  asked-stand : (ask : Simple) (p : Peer) → AsksBy there (split_of there.peer.rest) ask → StandAfter c ask (with_peer p there) d
-  asked-stand ask p asks =
-      stand-after c ask (with_peer p there) d owned.shell.apart owned.surfaces.counts (subst (λ o. AreMapped c o d.standing) (ap owned_of is) (stand.each c)) stand.apart
+  asked-stand : AreToplevels there.owned.shell → (ask : Simple) (p : Peer) → AsksBy there (split_of there.peer.rest) ask → StandAfter c ask (with_peer p there) d
+  asked-stand top ask p asks =
+      stand-after c ask (with_peer p there) d owned.shell.apart owned.surfaces.counts top (subst (λ o. AreMapped c o d.standing) (ap owned_of is) (stand.each c)) stand.apart
       (asks-find (split_of there.peer.rest) ask p asks)
 
   -- a message of the client is taken
   pub serves-stand : (new : Desktop) → NoMore d → Serves served_now c d new → MappedStand new
   serves-stand new more h =
+      let served : ServesAt served_now c (Some there) d new = subst (λ o. ServesAt served_now c o d new) is h in
+      let owns = subst (λ o. OwnsToplevelsAt o (toplevels_of c d)) is (more.each c) in
+      let only = living there.peer.status there (toplevels_of c d) served.0 owns in
       message-by c there d new is more MappedStand (λ p q never. become-stand c (with_peer p there) there q d is refl stand)
-      (λ ask asks p q objects told. done-stand c ask (with_peer p there) there q d is (asked-stand ask p asks) stand) h
+      (λ ask asks p q objects told. done-stand c ask (with_peer p there) there q d is (asked-stand only.roles ask p asks) stand) h
 
 -- ---- clients come and go
 

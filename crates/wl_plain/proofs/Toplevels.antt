@@ -78,6 +78,10 @@ toplevel_configure = 8 ∷ 0 ∷ 0 ∷ 0 ∷ 0 ∷ 0 ∷ 24 ∷ 0 ∷ 0 ∷ 0 �
 abbrev xdg_configure : ℕ → List ℕ
 xdg_configure serial = 7 ∷ 0 ∷ 0 ∷ 0 ∷ 0 ∷ 0 ∷ 12 ∷ 0 ∷ serial ∷ 0 ∷ 0 ∷ 0 ∷ []
 
+-- wl_buffer.release of the buffer 10
+abbrev buffer_release : List ℕ
+buffer_release = 10 ∷ 0 ∷ 0 ∷ 0 ∷ 0 ∷ 0 ∷ 8 ∷ 0 ∷ []
+
 pub row_first_commit : unsent 1 (configured 1 start) ≡ toplevel_configure ++ xdg_configure 1
 unfolding tree applied_tree behaves_synchronised depth descends_from height
 row_first_commit = refl
@@ -370,7 +374,7 @@ pub row_unmapped-marks-beside : marks_at_least one unmapped (pos 40) (pos 0) ≡
 unfolding tree applied_tree behaves_synchronised depth descends_from height
 row_unmapped-marks-beside = refl
 
-pub row_unmapped-configure : unsent 1 (commit 1 unmapped) ≡ toplevel_configure ++ xdg_configure 2
+pub row_unmapped-configure : unsent 1 (commit 1 unmapped) ≡ buffer_release ++ toplevel_configure ++ xdg_configure 2
 unfolding tree applied_tree behaves_synchronised depth descends_from height
 row_unmapped-configure = refl
 
@@ -450,7 +454,7 @@ pub row_base_kept : status 1 (asks 1 5 0 [] one) ≡ Some (Protocol 5 1)
 unfolding tree applied_tree behaves_synchronised depth descends_from height
 row_base_kept = refl
 
-pub row_all_gone : unsent 1 (asks 1 5 0 [] (asks 1 6 0 [] (asks 1 7 0 [] (sent 1 without_toplevel)))) ≡ delete_id 7 ++ delete_id 6 ++ delete_id 5
+pub row_all_gone : unsent 1 (asks 1 5 0 [] (asks 1 6 0 [] (asks 1 7 0 [] (sent 1 without_toplevel)))) ≡ delete_id 7 ++ delete_id 6 ++ buffer_release ++ delete_id 5
 unfolding tree applied_tree behaves_synchronised depth descends_from height
 row_all_gone = refl
 

@@ -12,7 +12,7 @@ nothing_left_out = record { requests = λ request. false; releases = false }
 
 -- what is left out now
 abbrev pub served_now : LeftOut
-served_now = record { requests = unserved_now; releases = true }
+served_now = record { requests = unserved_now; releases = false }
 
 -- what is left out where no more is served than a client's own interfaces
 abbrev pub own_only : LeftOut

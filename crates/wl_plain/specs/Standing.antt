@@ -23,10 +23,28 @@ abbrev pub is_mapped : Option XdgSurface → Bool
 is_mapped None = false
 is_mapped (Some x) = is_mapped_at (stage_of x)
 
--- Of a client's surfaces just those stand that are mapped, and each of them shows a buffer.
+-- this is the stage of a role object that was configured and whose surface isn't mapped yet
+abbrev pub waits_at : Option Stage → Bool
+waits_at None = false
+waits_at (Some stage.Fresh) = false
+waits_at (Some stage.Waiting) = true
+waits_at (Some stage.Ready) = true
+waits_at (Some stage.Mapped) = false
+
+-- the xdg_surface is there, was configured, and its surface isn't mapped yet
+abbrev pub waits : Option XdgSurface → Bool
+waits None = false
+waits (Some x) = waits_at (stage_of x)
+
+-- a surface whose xdg_surface was configured and that isn't mapped yet shows no buffer
+abbrev pub AreBare : Owned → Type 0
+AreBare o = (surface : ℕ) → waits (xdg_of surface o.shell) ≡ true → shows_buffer (history_in surface o.surfaces) ≡ false
+
+-- Of a client's surfaces just those stand that are mapped, and each of them shows a buffer; one that waits to be mapped shows none.
 pub record AreMapped (c : ℕ) (o : Owned) (standing : List Standing) : Type 0 where
   pub stands : (surface : ℕ) → list_any (is_of c surface) standing ≡ is_mapped (xdg_of surface o.shell)
   pub shows : (surface : ℕ) → is_mapped (xdg_of surface o.shell) ≡ true → shows_buffer (history_in surface o.surfaces) ≡ true
+  pub bare : AreBare o
 
 -- No toplevel stands twice, and of each client those stand that are mapped. A number without a client has none.
 pub record MappedStand (d : Desktop) : Type 0 where

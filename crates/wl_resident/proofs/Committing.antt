@@ -2,6 +2,7 @@
 use Rattle.std.proofs.Common.{◌≡◌, ℕ, [], ◌∷◌, Bool, Option, Some, None, refl, ap, sym, ◌∙◌, eq-eqb}
 use Rattle.std.specs.Prelude.{if◌then◌else◌, Ok}
 use Rattle.std.specs.Option.{option_and_then, option_map}
+use Rattle.wl_client.specs.Peer.{Peer}
 use Rattle.wl_surface.specs.Kept.{Slots}
 use Rattle.wl_shell.specs.Kept.{Kept, changing, commit_answer, kept_after}
 use Rattle.wl_shell.specs.Shell.{Stays, Configures, Maps, Unmaps, RoleObject, XdgSurface, Waiting, at_stage, xdg_of}
@@ -14,7 +15,7 @@ use Rattle.wl_resident.specs.Residents.{drawn_by, told_by, told_of}
 use Rattle.wl_plain.specs.Step.{after_surface, configures_told, role_configured, toplevel_configured, xdg_configured}
 use Rattle.wl_plain.proofs.OwningReads.{configures-read}
 use Rattle.wl_plain.proofs.OwningXdg.{xdg-of}
-use Rattle.wl_plain.proofs.Simply.{CommitSurface, changed_simply, committed_on, effect_on, told_simply}
+use Rattle.wl_plain.proofs.Simply.{CommitSurface, answers_simply, changed_simply, committed_on, effect_on}
 
 -- only a configure changes more of a client than its xdg_surface
 mapped-peer : (id : ℕ) (o : Option XdgSurface) (r : Resident) → (effect_on id Maps o r).peer ≡ r.peer
@@ -49,7 +50,7 @@ module _ (names : Names) (slots : Slots) (kept : ℕ → Option Kept) (r : Resid
   commit-peer Unmap answer = unmapped-peer id (xdg_of id r.owned.shell) (after_surface id r (committed_on id r))
   commit-peer Nothing answer = still-peer id (xdg_of id r.owned.shell) (after_surface id r (committed_on id r))
 
-  pub commit-told : (act : ShellAct) (serial : ℕ) → commit_answer shows (kept number) ≡ Ok act → serial ≡ r.peer.serial → told_by act serial (changing number (kept_after serial act) kept number) ≡ told_simply (CommitSurface id (effect_by act)) r
+  pub commit-told : (act : ShellAct) (serial : ℕ) → commit_answer shows (kept number) ≡ Ok act → serial ≡ r.peer.serial → told_by act serial (changing number (kept_after serial act) kept number) ≡ answers_simply (CommitSurface id (effect_by act)) r
   commit-told (Configure placed) serial answer same =
       let k = unconfigured shows (kept number) placed answer in
       let xdg = xdg-of names slots kept r.owned is id number k.0 named k.1 in
@@ -84,3 +85,10 @@ told-none serial (Some k) e = at k.role e
     at : (o : Option RoleObject) → None ≡ option_map (λ (object : RoleObject). object.id) o → role_configured serial k.id o ≡ []
     at None e = refl
     at (Some object) e = absurd (cc)
+
+-- a commit that configures nothing tells nothing, and draws no serial
+pub told-still : (act : ShellAct) (serial : ℕ) (k : Option Kept) (p : Peer) → ((placed : Option Placed) → act ≡ Configure placed → ⊥) → (told_by act serial k ≡ []) × (drawn_by act p ≡ p)
+told-still (Configure placed) serial k p other = absurd (other placed refl)
+told-still Map serial k p other = (refl, refl)
+told-still Unmap serial k p other = (refl, refl)
+told-still Nothing serial k p other = (refl, refl)

@@ -1,5 +1,5 @@
 -- What the requests of the shell lead to.
-use Rattle.std.proofs.Common.{◌≡◌, ℕ, Bool, true, false, Option, Some, None, Result, cond, refl, ap, sym, subst, ◌∙◌, inl, inr}
+use Rattle.std.proofs.Common.{◌≡◌, ℕ, List, Bool, true, false, Option, Some, None, Result, cond, refl, ap, sym, subst, ◌∙◌, inl, inr}
 use Rattle.std.specs.Prelude.{◌&&◌, not, nat_le, IfSome, ◌==◌, ◌≢◌, ◌↔◌, ◌||◌, [], ◌∷◌, if◌then◌else◌, is_some, IsOkUnless, MatchOption, IsErr, OnOk, Ok, Err}
 use Rattle.std.specs.Option.{option_map, option_and_then}
 use Rattle.std.proofs.Math.Path.{fun_ext}
@@ -15,12 +15,13 @@ use Rattle.wl_table.specs.declared.entry.Entry.{Entry}
 use Rattle.wl_client.specs.Agreement.{IsPeer}
 use Rattle.wl_client.specs.Objects.{ById, interface_number, is_of, object_of, objects_in}
 use Rattle.wl_client.specs.Peer.{Errs, Peer, Queues, WantsOr, counted, made, object_at_version}
+use Rattle.wl_client.specs.Told.{Said}
 use Rattle.wl_client.specs.View.{ClientView}
 use Rattle.wl_client.specs.declared.refusals.Refusal.{Refusal}
 use Rattle.wl_geom.specs.declared.rect.Rect.{Rect}
 use Rattle.wl_surface.specs.Kept.{Changes, Numbered, Slots, StandForAll, StandsAt, kept_at, role_at}
-use Rattle.wl_surface.specs.Request.{SetWindowGeometry}
-use Rattle.wl_surface.specs.State.{History}
+use Rattle.wl_surface.specs.Request.{Request, SetWindowGeometry}
+use Rattle.wl_surface.specs.State.{History, is_commit}
 use Rattle.wl_surface.specs.Surfaces.{Surface, with_role}
 use Rattle.wl_surface.specs.declared.role.Role.{Role}
 use Rattle.wl_surface.specs.declared.role.Role.TheVariants.{Toplevel as AsToplevel}
@@ -38,7 +39,7 @@ use Rattle.wl_plain.specs.Desktop.{Desktop, Resident}
 use Rattle.wl_plain.specs.NoMore.{OwnsToplevelsOnly}
 use Rattle.wl_plain.specs.Owning.{AreKept, IsOwned, IsXdg, Names, asks_by, by_number, configuring_if, kept_base, names_in, names_surface, shell_refusal, target_as, targets_in, with_surface, with_toplevel, with_xdg}
 use Rattle.wl_resident.specs.Residents.{ActsFor, AnswersSo as AnswersWhole, Does, IsFree, NewIsFree, IsResident, IsToplevel, IsXdgSurface, Meets, MeetsSo}
-use Rattle.wl_plain.specs.Step.{changed_by, configures_told, role_configured, toplevel_configured, toplevel_given, with_peer, xdg_configured}
+use Rattle.wl_plain.specs.Step.{answers_to, changed_by, configures_told, role_configured, takes_memory, toplevel_configured, toplevel_given, with_peer, xdg_configured}
 use Rattle.wl_plain.specs.Demanding.{xdg_asked, xdg_demand}
 use Rattle.wl_plain.specs.XdgShell.{configured_again, is_no_toplevel, role_of}
 use Rattle.wl_proto.specs.declared.xdg_surface.XdgSurfaceRequest.{XdgSurfaceRequest}
@@ -47,7 +48,8 @@ use Rattle.wl_plain.proofs.Letting.{asked-keeps}
 use Rattle.wl_plain.proofs.BridgeServes.{only-peer}
 use Rattle.wl_resident.proofs.Numbers.{left-from}
 use Rattle.wl_resident.proofs.Simply.{AnswersSimply, AnswersSo}
-use Rattle.wl_plain.proofs.Simply.{Simple}
+use Rattle.wl_plain.proofs.Simply.{Simple, Asking, told_simply}
+use Rattle.wl_plain.proofs.BridgeReleases.{requested-still}
 use Rattle.wl_plain.proofs.OwningSurfaces.{surface-named, surface-read}
 use Rattle.wl_plain.proofs.OwningNames.{names-other-gone, names-surface-gone, names-toplevel-gone, names-xdg-gone}
 use Rattle.wl_plain.proofs.OwningReads.{role-fits, role-read}
@@ -336,12 +338,27 @@ surface-gone old new id number named holds =
     let entry = entry-named WlSurface old id number named in
     names-surface-gone old new id entry.0 entry.1 (number-surface entry.0.interface entry.2) holds
 
+-- the same is told
+pub wants-told : (b : Bool) (told answers : List Said) (p after q : Peer) → told ≡ answers → WantsOr b (Queues answers after q) p q → WantsOr b (Queues told after q) p q
+wants-told b told answers p after q same h = subst (λ (es : List Said). WantsOr b (Queues es after q) p q) (sym same) h
+
+-- a request of a surface that is no commit releases nothing
+pub asked-releases : (numbers : ById ℕ) (slots : Slots) (r : Resident) (id number : ℕ) (request : Request) → is_commit request ≡ false → AreKept numbers slots r.owned.surfaces → numbers id ≡ Some number
+    → told_simply (Asking (AskSurface id request)) r ≡ answers_to (AskSurface id request) r
+asked-releases numbers slots r id number request plain kept named =
+    let there = surface-named numbers slots r.owned.surfaces kept id number named in
+    let read = surface-read numbers slots r.owned.surfaces kept id number named ∙ there.1 in
+    let bounds = cut-bounds (kept_at slots number) there.0 (subst (λ (o : Option Surface). StandsAt (kept_at slots number) o) read (kept.stand number)) in
+    requested-still id request plain r there.0 kept.apart there.1 bounds.0 bounds.1
+
 -- the request is counted, and done
 pub counted-does : {A : Type 0} (old mid new : Kept A) (r : Resident) (ask : Resident → Ask) → IsResident old r → mid.client ≡ record old.client { requests = mid.client.requests } → mid.owned ≡ old.owned → IsPeer mid.client (counted r.peer)
+    → told_simply (Asking (ask (with_peer (counted r.peer) r))) (with_peer (counted r.peer) r) ≡ answers_to (ask (with_peer (counted r.peer) r)) (with_peer (counted r.peer) r)
     → Does ask mid new → AnswersSo (Ok (ask (with_peer (counted r.peer) r))) r old new
-counted-does old mid new r ask is only same peer does =
-    let done = does (with_peer (counted r.peer) r) (counted-on old mid r is only same peer) in
-    (done.0, done.1, left-from old mid new _ done.0 (objects-counted old.client mid.client only) done.2)
+counted-does old mid new r ask is only same peer told does =
+    let one_more : Resident = with_peer (counted r.peer) r in
+    let done = does one_more (counted-on old mid r is only same peer) in
+    (done.0, wants-told (takes_memory (ask one_more)) _ _ one_more.peer _ done.0 told done.1, left-from old mid new _ done.0 (objects-counted old.client mid.client only) done.2)
 
 pub counted-meets : {A : Type 0} (old mid new : Kept A) (c : ℕ) (r : Resident) (d : Desktop) (demand : Resident → Demand) → IsResident old r → OwnsToplevelsOnly r → mid.client ≡ record old.client { requests = mid.client.requests } → mid.owned ≡ old.owned
     → IsPeer mid.client (counted r.peer) → Meets demand mid new → MeetsSo c (demand (with_peer (counted r.peer) r)) (with_peer (counted r.peer) r) d old new

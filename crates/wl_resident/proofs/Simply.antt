@@ -28,7 +28,7 @@ use Rattle.wl_plain.specs.Step.{with_peer}
 use Rattle.wl_plain.proofs.Simply.{Simple, CommitSurface, DestroyToplevel, asks_simply, changed_simply, judge, told_simply, wants_simply}
 use Rattle.wl_plain.proofs.BridgeChanged.{changed-same, wants-same}
 use Rattle.wl_plain.proofs.BridgeJudged.{Pairs, Same, asks, commit, demands-pair, effect-same, ends, goes, judge-pair, move}
-use Rattle.wl_plain.proofs.BridgeServes.{living, only-peer, pairs-peer, replies-same, same-peer, tops-kept}
+use Rattle.wl_plain.proofs.BridgeServes.{living, only-peer, pairs-peer, replies-same, same-peer}
 
 -- ---- simply
 
@@ -69,7 +69,7 @@ module _ {A : Type 0} (old new : Kept A) (c : ℕ) (d : Desktop) where
     meets-simply h =
         let made : Resident = changed_simply ask r in
         let told : WantsOr (wants_simply ask) (Queues (replies served_now c demand r made (all_windows d) d) made.peer h.0) r.peer h.0 =
-        subst (λ (events : List Said). WantsOr (wants_simply ask) (Queues events made.peer h.0) r.peer h.0) (sym (replies-same c ask demand r made d only (tops-kept ask r only.roles) same)) h.1 in
+        subst (λ (events : List Said). WantsOr (wants_simply ask) (Queues events made.peer h.0) r.peer h.0) (sym (replies-same c ask demand r d only same)) h.1 in
         let here = changed-same c ask demand r d only same in (
           h.0,
           subst (λ (b : Bool). WantsOr b (Told h.0) r.peer h.0) (sym (wants-same ask demand r same))
@@ -85,7 +85,7 @@ module _ {A : Type 0} (old new : Kept A) (c : ℕ) (d : Desktop) where
         subst (λ (m : Resident). WantsOr (wants_simply ask) (Queues (replies served_now c demand r m (all_windows d) d) m.peer h.0) r.peer h.0) here
         (subst (λ (b : Bool). WantsOr b (Told h.0) r.peer h.0) (wants-same ask demand r same) h.1) in (
           h.0,
-          subst (λ (events : List Said). WantsOr (wants_simply ask) (Queues events made.peer h.0) r.peer h.0) (replies-same c ask demand r made d only (tops-kept ask r only.roles) same) wants,
+          subst (λ (events : List Said). WantsOr (wants_simply ask) (Queues events made.peer h.0) r.peer h.0) (replies-same c ask demand r d only same) wants,
           subst (λ (m : Resident). IsLeft old new m h.0) here h.2,
         )
 

@@ -10,7 +10,7 @@ use Rattle.wl_client.specs.Agreement.{IsPeer}
 use Rattle.wl_client.specs.Objects.{ById}
 use Rattle.wl_client.specs.Peer.{Errs, LacksMemory, Peer, Queues, counted, with_rest}
 use Rattle.wl_client.specs.Peer.{WantsOr as WantsOrAlone}
-use Rattle.wl_client.specs.Told.{display_error}
+use Rattle.wl_client.specs.Told.{Said, display_error}
 use Rattle.wl_client.specs.declared.refusals.ErrorCode.TheVariants.{InvalidMethod}
 use Rattle.std.specs.Option.{option_and_then}
 use Rattle.wl_surface.specs.Surfaces.{history_in}
@@ -36,8 +36,10 @@ use Rattle.wl_plain.specs.NoMore.{NoMore, OwnsToplevelsOnly}
 use Rattle.wl_plain.specs.Happens.{Serves}
 use Rattle.wl_plain.proofs.Forms.{ServesAt, Takes}
 use Rattle.wl_plain.specs.Step.{after_surface, with_peer}
+use Rattle.wl_plain.proofs.StandingFound.{judge-finds}
+use Rattle.wl_resident.proofs.Releasing.{maps-quiet}
 use Rattle.wl_plain.proofs.Simply.{Acts, Answers, Asking, Becomes, CommitSurface, DestroySurface, DestroyToplevel, Simple, WantsOr, changed_simply, committed_on, effect_on, judge, stacked_simply, told_simply, wants_simply}
-use Rattle.wl_plain.specs.Standing.{MappedStand, is_mapped}
+use Rattle.wl_plain.specs.Standing.{AreMapped, MappedStand, is_mapped}
 use Rattle.wl_resident.specs.View.{owned_view}
 use Rattle.wl_resident.specs.declared.residents.Resident.{Resident as Kept}
 use Rattle.wl_resident.specs.declared.residents.Stacking.{Stacking}
@@ -210,6 +212,7 @@ pub record Asked {A : Type 0} (c : ℕ) (others : ℕ → ById ℕ) (base d : De
   pub acts : WantsOrAlone (wants_simply ask) (Queues (told_simply ask (with_peer p r)) (changed_simply ask (with_peer p r)).peer q) p q
   pub left : IsLeft old mid (changed_simply ask (with_peer p r)) q
   pub stacks : Stacks c (numbers old) ask (with_peer p r) d stacking
+  pub quiet : (id : ℕ) → ask ≡ CommitSurface id Maps → told_simply (CommitSurface id Maps) (with_peer p r) ≡ []
 
 -- so the desktop has it done, and the desk agrees
 abbrev pub Acted : {A : Type 0} → ℕ → (ℕ → ById ℕ) → Desktop → Desktop → Resident → Peer → Simple → Kept A → Stack → Type 0
@@ -270,7 +273,8 @@ module _ {A : Type 0} (c : ℕ) (others : ℕ → ById ℕ) (base d : Desktop) (
 
   -- a mapping tells nothing that might end it
   maps-lives : (id : ℕ) → ask ≡ CommitSurface id Maps → Queues (told_simply ask (with_peer p r)) changed.peer q → q.status ≡ None
-  maps-lives id e h = ap (λ (x : Peer). x.status) (subst (λ (a : Simple). Queues (told_simply a (with_peer p r)) changed.peer q) e h) ∙ changed-lives
+  maps-lives id e h =
+      ap (λ (x : Peer). x.status) (subst (λ (es : List Said). Queues es changed.peer q) (ap (λ (a : Simple). told_simply a (with_peer p r)) e ∙ is.quiet id e) h) ∙ changed-lives
 
   same-after : (s : Cause) → q.status ≡ Some s → Queues (told_simply ask (with_peer p r)) changed.peer q → IsSameBut c d after
   same-after s ended h = at is.stacks
@@ -324,7 +328,8 @@ module _ {A : Type 0} (c : ℕ) (others : ℕ → ById ℕ) (base d : Desktop) (
       let gone = lacks q is.left.peer in
       let over = lacks-over q gone.0 gone.1 in
       let cause : gone.0.status ≡ Some over.0 = ap (λ (x : Peer). x.status) over.2 in
-      let queues = subst (λ (a : Simple). Queues (told_simply a (with_peer p r)) (changed_simply a (with_peer p r)).peer q) e (queues-at (wants_simply ask) _ p q is.acts told) in
+      let queues = subst (λ (es : List Said). Queues es (changed_simply (CommitSurface id Maps) (with_peer p r)).peer q) (is.quiet id e)
+      (subst (λ (a : Simple). Queues (told_simply a (with_peer p r)) (changed_simply a (with_peer p r)).peer q) e (queues-at (wants_simply ask) _ p q is.acts told)) in
       let before = lacks-before p q gone.0 _ (queues ∙ mapped-peer id (with_peer p r)) gone.1 in (
         become c (with_peer p r) gone.0 d,
         left_by gone.0.status (with_peer p r) gone.0,
@@ -381,13 +386,14 @@ module _ {A : Type 0} (c : ℕ) (others : ℕ → ById ℕ) (base d : Desktop) (
 
 module _ {A : Type 0} (c : ℕ) (others : ℕ → ById ℕ) (base d : Desktop) (r : Resident) (stacking : Stacking) (old mid new : Kept A) (was now : Stack) (based : IsBased c base d r) (once : AreOnce (numbers old)) (scene : IsScene (with_numbers c (numbers old) others) was d) (settled : IsSettledBy mid.client.ended c stacking mid new was now) where
   -- what is judged of it is answered
-  answered : (judged : Result Simple Refusal) (p : Peer) → p.status ≡ None → AnswersSimply judged (with_peer p r) old mid → StacksSimply old r judged stacking
+  answered : (judged : Result Simple Refusal) (p : Peer) → p.status ≡ None → ((id : ℕ) → judged ≡ Ok (CommitSurface id Maps) → told_simply (CommitSurface id Maps) (with_peer (counted p) r) ≡ [])
+      → AnswersSimply judged (with_peer p r) old mid → StacksSimply old r judged stacking
       → (e : Desktop) × (s : Resident) × Answers judged c (with_peer p r) d e × Sits c others base new now e s
-  answered (Ok ask) p lives answers stacks =
+  answered (Ok ask) p lives quiet answers stacks =
       acted c others base d r (counted p) ask answers.0 stacking old mid was
-      (record { based = based; once = once; scene = scene; lives = lives; acts = answers.1; left = answers.2; stacks = stacks-so c ask old r (counted p) d stacking stacks })
+      (record { based = based; once = once; scene = scene; lives = lives; acts = answers.1; left = answers.2; stacks = stacks-so c ask old r (counted p) d stacking stacks; quiet = λ id e. quiet id (ap (λ (a : Simple). Ok a) e) })
       new now settled
-  answered (Err refusal) p lives answers stacks =
+  answered (Err refusal) p lives quiet answers stacks =
       let q = answers.0 in
       let over = errs-over refusal p q answers.1 in
       let cause : q.status ≡ Some over.0 = ap (λ (x : Peer). x.status) over.2 in (
@@ -399,22 +405,23 @@ module _ {A : Type 0} (c : ℕ) (others : ℕ → ById ℕ) (base d : Desktop) (
             (subst (λ (o : Option Cause). IsSettledBy o c stacking mid new was now) (answers.2.peer.status ∙ cause) settled)),
       )
 
-  taken : (split : Split) → client_at c d ≡ Some r → NoMore d → OwnsToplevelsOnly r → r.peer.status ≡ None → TakesSo split r old mid stacking
+  taken : (split : Split) → client_at c d ≡ Some r → NoMore d → OwnsToplevelsOnly r → r.peer.status ≡ None
+      → ((id object opcode : ℕ) (body : List ℕ) (p : Peer) → judge r object opcode body ≡ Ok (CommitSurface id Maps) → told_simply (CommitSurface id Maps) (with_peer p r) ≡ []) → TakesSo split r old mid stacking
       → (e : Desktop) × (s : Resident) × Takes served_now split c r d e × Sits c others base new now e s
-  taken (Whole object opcode size) there more only lives takes =
+  taken (Whole object opcode size) there more only lives quiet takes =
       let body = take (size - 8) (drop 8 r.peer.rest) in
       let left : Resident = with_peer (with_rest (drop size r.peer.rest) r.peer) r in
-      let a = answered (judge r object opcode body) left.peer lives takes.0 takes.1 in (
+      let a = answered (judge r object opcode body) left.peer lives (λ id e. quiet id object opcode body (counted left.peer) e) takes.0 takes.1 in (
         a.0,
         a.1,
         answers-whole c r d a.0 there more.pointer (judge r object opcode body) (judge_all served_now r object opcode body) left lives (only-peer r left.peer refl only)
             (pairs-peer r left.peer (judge r object opcode body) (judge_all served_now r object opcode body) (judge-pair r object opcode body)) a.2,
         a.3,
       )
-  taken Bad there more only lives takes =
-      let a = answered (Err (display_error InvalidMethod)) r.peer lives takes tt in
+  taken Bad there more only lives quiet takes =
+      let a = answered (Err (display_error InvalidMethod)) r.peer lives (λ id e. absurd (cc)) takes tt in
       (a.0, a.1, becomes-whole (Errs (display_error InvalidMethod) r.peer) c r d a.0 more.pointer a.2, a.3)
-  taken More there more only lives takes = absurd takes
+  taken More there more only lives quiet takes = absurd takes
 
 -- a surface that is mapped has a number
 known-by : {N : Type 0} (kept : ℕ → Option N) (n : Option ℕ) (x : Option Xdg) (is_kept : Option N → Option Xdg → Type 0) → is_kept (option_and_then kept n) x → ((y : Xdg) → is_kept None (Some y) → ⊥) → is_mapped x ≡ true → is_some n ≡ true
@@ -437,6 +444,10 @@ pub served : {A : Type 0} (c : ℕ) (others : ℕ → ById ℕ) (base d : Deskto
 served c others base d r stacking old mid new was now is lives more takes settled =
     let alive : r.peer.status ≡ None = sym is.seat.peer.status ∙ lives in
     let only = seated-only c others base d old was r is lives more in
-    let t = taken c others base d r stacking old mid new was now is.based is.seat.owns.surfaces.once is.scene settled (split_of r.peer.rest) is.based.there more only alive takes in
+    let owns = is.seat.owns in
+    let bare = (subst (λ (o : Owned). AreMapped c o d.standing) (ap owned_of is.based.there) (is.mapped.each c)).bare in
+    let quiet : (id object opcode : ℕ) (body : List ℕ) (p : Peer) → judge r object opcode body ≡ Ok (CommitSurface id Maps) → told_simply (CommitSurface id Maps) (with_peer p r) ≡ [] =
+    λ id object opcode body p e. maps-quiet _ _ r id p owns.surfaces bare (judge-finds r object opcode body owns.shell.apart (CommitSurface id Maps) e).0 in
+    let t = taken c others base d r stacking old mid new was now is.based is.seat.owns.surfaces.once is.scene settled (split_of r.peer.rest) is.based.there more only alive quiet takes in
     let serves : Serves served_now c d t.0 = subst (λ (o : Option Resident). ServesAt served_now c o d t.0) (sym is.based.there) (alive, t.2) in
     (t.0, t.1, serves, sits-seated c others base new now t.0 t.1 t.3 (serves-stand c r d is.based.there _ _ _ is.seat.owns is.mapped t.0 more serves))

@@ -5,6 +5,7 @@
 mod feeding;
 mod marking;
 mod messages;
+mod releases;
 mod residents;
 mod surface_requests;
 mod wl_compositor;

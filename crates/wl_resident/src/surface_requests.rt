@@ -90,7 +90,7 @@ impl<A: Allocator + Copy> Resident<A> {
     }
 
     /// Whether the wl_buffer of a buffer is still there.
-    fn is_named(&self, buffer: Attached) -> bool
+    pub(crate) fn is_named(&self, buffer: Attached) -> bool
         ensures { (p : Peer) → IsPeer self.now.client p → result ≡ is_number buffer.number (option_map (λ (made : Made). made.number) (p.buffers buffer.object)) }
     {
         match self.client.buffer(buffer.object) {
@@ -161,8 +161,9 @@ impl<A: Allocator + Copy> Resident<A> {
                 return;
             }
         }
+        let released = self.released(had);
         self.let_go_of(had);
-        self.client.remove(object);
+        self.remove_surface(object, released);
     }
 
     /// wl_surface.attach of the buffer with this id, or of none for null, at this offset in pixels.
@@ -255,8 +256,9 @@ impl<A: Allocator + Copy> Resident<A> {
                 return;
             }
         }
+        let released = self.released(had);
         self.let_go_of(had);
-        self.tell_act(surface, act, serial);
+        self.tell_act(surface, act, serial, released);
     }
 
     /// wl_surface.set_buffer_transform to one of the eight.

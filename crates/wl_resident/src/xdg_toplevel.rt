@@ -1,15 +1,17 @@
 //! The requests of xdg_toplevel.
 
-ghost use Rattle.std.specs.Prelude.{◌≡◌, ◌∷◌, ℕ, [], None, ◌≤◌, length};
+ghost use Rattle.std.specs.Prelude.{◌≡◌, ◌∷◌, ◌++◌, ℕ, [], None, ◌≤◌, length};
 ghost use Rattle.std.specs.Option.{option_and_then, option_map};
 ghost use Rattle.wl_client.specs.Agreement.{IsPeer};
 ghost use Rattle.wl_client.specs.Peer.{Peer, Queues};
+ghost use Rattle.wl_client.specs.Said.{said_of};
 ghost use Rattle.wl_proto.specs.declared.interface.Interface.TheVariants.{XdgToplevel};
 ghost use Rattle.wl_proto.specs.Messages.{Message, xdg_toplevel_request};
 ghost use Rattle.wl_shell.specs.Kept.{kept_of};
 ghost use Rattle.wl_shell.specs.Shell.{xdg_with};
 ghost use Rattle.wl_plain.specs.Demanding.{demand_of, demands, toplevel_destroyed};
 ghost use Rattle.wl_plain.specs.LeftOut.{served_now};
+ghost use Rattle.wl_plain.specs.Releases.{release_told};
 ghost use Rattle.wl_resident.specs.Residents.{AnswersDemand, IsToplevel, Stacks, asked_by, drawn_by, told_by};
 ghost use Rattle.wl_plain.specs.Step.{toplevel_configured, xdg_configured};
 ghost use Rattle.wl_client.specs.Requests.{toplevel_request};
@@ -17,6 +19,7 @@ ghost use Rattle.wl_plain.specs.XdgShell.{state_asked};
 
 use crate::residents::{Resident, Stacking};
 use std::alloc::Allocator;
+use wl_client::release_event;
 use wl_proto::{Event, EventBody, XdgSurfaceEvent, XdgToplevelEvent, XdgToplevelRequest};
 use wl_shell::ShellAct;
 use wl_surface::SurfaceNo;
@@ -57,6 +60,31 @@ pub(crate) fn asked_of(request: &XdgToplevelRequest) -> ToplevelAsked
     }
 }
 
+/// xdg_toplevel.configure, of no size of the compositor's.
+fn toplevel_event(toplevel: u32) -> Event<'static>
+    ensures { said_of result ≡ toplevel_configured toplevel }
+{
+    let configure = XdgToplevelEvent::Configure {
+        width: 0,
+        height: 0,
+        states: &ACTIVATED,
+    };
+    Event {
+        object: toplevel,
+        body: EventBody::XdgToplevel(configure),
+    }
+}
+
+/// xdg_surface.configure.
+fn xdg_surface_event(xdg_surface: u32, serial: u32) -> Event<'static>
+    ensures { said_of result ≡ xdg_configured xdg_surface serial }
+{
+    Event {
+        object: xdg_surface,
+        body: EventBody::XdgSurface(XdgSurfaceEvent::Configure { serial }),
+    }
+}
+
 impl<A: Allocator + Copy> Resident<A> {
     /// xdg_toplevel.destroy: its id is given back.
     fn destroy_toplevel(&mut self, object: u32, surface: SurfaceNo)
@@ -68,29 +96,29 @@ impl<A: Allocator + Copy> Resident<A> {
         self.client.remove(object);
     }
 
-    /// Configures a toplevel: xdg_toplevel.configure, of no size of the compositor's, and xdg_surface.configure.
-    fn tell_configure(&mut self, toplevel: u32, xdg_surface: u32, serial: u32)
+    /// Configures a toplevel: xdg_toplevel.configure, of no size of the compositor's, and xdg_surface.configure. Then it is told of the buffer
+    /// that is released, if there is one.
+    fn tell_configure(
+        &mut self,
+        toplevel: u32,
+        xdg_surface: u32,
+        serial: u32,
+        released: Option<u32>,
+    )
         ensures table { self.new.client.ended ≡ None → self.new.client.objects ≡ self.old.client.objects }
         ensures queues { (p : Peer) → IsPeer self.old.client p
-            → (q : Peer) × Queues (toplevel_configured toplevel ∷ xdg_configured xdg_surface serial ∷ []) p q × IsPeer self.new.client q }
+            → (q : Peer) × Queues (toplevel_configured toplevel ∷ xdg_configured xdg_surface serial ∷ release_told released) p q × IsPeer self.new.client q }
         ensures owned { self.new.owned ≡ self.old.owned }
         ensures rest { length self.new.client.rest ≤ length self.old.client.rest }
     {
-        let configure = XdgToplevelEvent::Configure {
-            width: 0,
-            height: 0,
-            states: &ACTIVATED,
-        };
-        self.client.queue_all(&[
-            Event {
-                object: toplevel,
-                body: EventBody::XdgToplevel(configure),
-            },
-            Event {
-                object: xdg_surface,
-                body: EventBody::XdgSurface(XdgSurfaceEvent::Configure { serial }),
-            },
-        ]);
+        let first = toplevel_event(toplevel);
+        let second = xdg_surface_event(xdg_surface, serial);
+        match released {
+            Some(buffer) => self
+                .client
+                .queue_all(&[first, second, release_event(buffer)]),
+            None => self.client.queue_all(&[first, second]),
+        }
     }
 
     /// The id of the toplevel of a surface, if it has one.
@@ -101,21 +129,31 @@ impl<A: Allocator + Copy> Resident<A> {
         Some(toplevel.id)
     }
 
-    /// Where a commit came to a configure, its serial is drawn, and the toplevel of the surface is configured with it.
-    pub(crate) fn tell_act(&mut self, surface: SurfaceNo, act: ShellAct, serial: u32)
+    /// Where a commit came to a configure, its serial is drawn, and the toplevel of the surface is configured with it. Then the client is told
+    /// of the buffer that is released, if there is one.
+    pub(crate) fn tell_act(
+        &mut self,
+        surface: SurfaceNo,
+        act: ShellAct,
+        serial: u32,
+        released: Option<u32>,
+    )
         ensures table { self.new.client.ended ≡ None → self.new.client.objects ≡ self.old.client.objects }
         ensures told { (p : Peer) → IsPeer self.old.client p
-            → (q : Peer) × Queues (told_by act serial (kept_of self.old.owned.shell surface)) (drawn_by act p) q × IsPeer self.new.client q }
+            → (q : Peer) × Queues (told_by act serial (kept_of self.old.owned.shell surface) ++ release_told released) (drawn_by act p) q × IsPeer self.new.client q }
         ensures owned { self.new.owned ≡ self.old.owned }
         ensures rest { length self.new.client.rest ≤ length self.old.client.rest }
     {
         let ShellAct::Configure(_) = act else {
+            self.tell_release(released);
             return;
         };
         self.client.draw_serial();
         if let Some(toplevel) = self.toplevel_of(surface) {
             let xdg_surface = self.xdg_surface_of(surface);
-            self.tell_configure(toplevel, xdg_surface, serial);
+            self.tell_configure(toplevel, xdg_surface, serial, released);
+        } else {
+            self.tell_release(released);
         }
     }
 
@@ -130,7 +168,7 @@ impl<A: Allocator + Copy> Resident<A> {
             Ok(true) => {
                 self.client.count();
                 self.client.draw_serial();
-                self.tell_configure(object, xdg_surface, serial);
+                self.tell_configure(object, xdg_surface, serial, None);
             }
             Ok(false) => self.client.count(),
             Err(error) => self.refuse_xdg_surface(xdg_surface, surface, error),

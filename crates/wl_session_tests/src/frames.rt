@@ -23,6 +23,9 @@ const HALF_RED: &[u8] = &[0, 0, 128, 128];
 /// wl_surface.attach of the buffer 11.
 const ATTACH_11: Message = Message(6, 1, &[Arg::Object(11), Arg::Int(0), Arg::Int(0)]);
 
+/// wl_buffer.release of the buffer 10, which is no longer shown.
+const RELEASED_10: Message = Message(10, 0, &[]);
+
 /// The buffer 10 is all red before it is shown.
 const RED_10: &[Row] = &[Row::Fills(1, 1, 0, 1600, RED)];
 
@@ -83,6 +86,8 @@ const MOVES: &[Row] = &[
     Row::Fills(1, 1, 6400, 1600, GREEN),
     Row::Sends(Message(6, 1, &[Arg::Object(11), Arg::Int(3), Arg::Int(0)])),
     Row::Sends(COMMIT),
+    Row::Told(&[RELEASED_10]),
+    Row::Takes,
     Row::Shows(
         1720,
         1720,
@@ -100,6 +105,8 @@ const MOVES: &[Row] = &[
 const MAPPED_AGAIN: &[Row] = &[
     Row::Sends(ATTACH_NONE),
     Row::Sends(COMMIT),
+    Row::Told(&[RELEASED_10]),
+    Row::Takes,
     Row::Shows(1600, 1600, &[Pixel(0, 0, 0, 0, 0), Pixel(39, 39, 0, 0, 0)]),
     Row::Sends(COMMIT),
     Row::Told(&[CONFIGURED, Message(7, 0, &[Arg::Uint(2)])]),

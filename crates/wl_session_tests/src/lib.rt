@@ -14,6 +14,8 @@ mod regions;
 #[cfg(test)]
 mod registry;
 #[cfg(test)]
+mod releases;
+#[cfg(test)]
 mod support;
 #[cfg(test)]
 mod toplevels;

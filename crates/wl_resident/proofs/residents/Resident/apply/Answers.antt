@@ -1,4 +1,4 @@
-use Rattle.std.proofs.Common.{◌≡◌, ℕ, List, Option, ap, refl, inl, inr, subst, sym, ◌∙◌}
+use Rattle.std.proofs.Common.{◌≡◌, ℕ, List, ◌++◌, Option, ap, refl, inl, inr, subst, sym, ◌∙◌}
 use Rattle.wl_client.specs.Peer.{Peer, Queues}
 use Rattle.wl_client.specs.Told.{Said}
 use Rattle.wl_client.specs.View.{ClientView}
@@ -18,7 +18,9 @@ use Rattle.wl_plain.proofs.OwningSurfaces.{AreKept-changed}
 use Rattle.wl_resident.proofs.Shelling.{owns-told}
 use Rattle.wl_resident.proofs.Numbers.{keeps-same}
 use Rattle.wl_resident.proofs.residents.Resident.apply.Goals as goal
-use Rattle.wl_plain.proofs.Simply.{CommitSurface, changed_simply, committed_on}
+use Rattle.wl_plain.specs.Releases.{release_told}
+use Rattle.wl_plain.proofs.BridgeReleases.{committed-released}
+use Rattle.wl_plain.proofs.Simply.{CommitSurface, answers_simply, changed_simply, committed_on, told_simply}
 
 pub returns-clause-applies : goal.returns-clause-applies
 returns-clause-applies g c = λ client r on names object kept shows only comes is owned names_are named answer serial shell.
@@ -35,10 +37,14 @@ returns-clause-applies g c = λ client r on names object kept shows only comes i
     let told = c.tell_act.ensures.told after.peer peer in
     let same : kept_of c.let_go_of.new.self.owned.shell number ≡ changing number (kept_after c.args.serial act) kept number =
     ap (λ o. kept_of o.shell number) c.let_go_of.ensures.owned ∙ ap (λ (k : ℕ → Option Kept). k number) (shell ∙ ap (λ n. changing number (kept_after n act) kept) (sym serial)) in
-    let events = ap (told_by act c.args.serial) same ∙ commit-told names v.owned.surfaces kept r owned object number named shows act c.args.serial answer serial in
+    let released = c.released-released.ensures then names.surfaces is are (surface_at object r.owned.surfaces) had in
+    let telling = release_told c.released-released.result in
+    let events : told_by act c.args.serial (kept_of c.let_go_of.new.self.owned.shell number) ++ telling ≡ told_simply ask r =
+    ap (λ (es : List Said). es ++ telling) (ap (told_by act c.args.serial) same ∙ commit-told names v.owned.surfaces kept r owned object number named shows act c.args.serial answer serial)
+    ∙ ap (λ (es : List Said). answers_simply ask r ++ es) (ap release_told released ∙ sym (committed-released object (effect_by act) r owned.surfaces.apart (owned.surfaces.counts object))) in
     let left = commit-peer names v.owned.surfaces kept r owned object number named shows act answer in (
       told.0,
-      inr (subst (λ (es : List Said). Queues es (changed_simply ask r).peer told.0) events (subst (λ (p : Peer). Queues (told_by act c.args.serial (kept_of c.let_go_of.new.self.owned.shell number)) p told.0) (sym left) told.1)),
+      inr (subst (λ (es : List Said). Queues es (changed_simply ask r).peer told.0) events (subst (λ (p : Peer). Queues (told_by act c.args.serial (kept_of c.let_go_of.new.self.owned.shell number) ++ telling) p told.0) (sym left) told.1)),
       record {
         peer = told.2;
         numbers = λ alive. keeps-same v.client.objects c.tell_act.new.self.client.objects (c.tell_act.ensures.table alive ∙ ap (λ (w : ClientView). w.objects) c.let_go_of.ensures.only);

@@ -1,5 +1,5 @@
 use Rattle.wl_proto.specs.declared.xdg_surface.XdgSurfaceRequest.TheVariants as xdg
-use Rattle.std.proofs.Common.{ap, inr, subst, sym}
+use Rattle.std.proofs.Common.{ap, inr, refl, subst, sym, true}
 use Rattle.wl_client.specs.Peer.{counted}
 use Rattle.wl_surface.specs.Request.{SetWindowGeometry}
 use Rattle.wl_shell.specs.Kept.{geometry_answer, kept_of}
@@ -9,7 +9,7 @@ use Rattle.wl_plain.specs.Step.{changed_by, with_peer}
 use Rattle.wl_plain.specs.XdgShell.{geometry_set}
 use Rattle.wl_plain.proofs.OwningAsks.{owned-geometry}
 use Rattle.wl_plain.proofs.OwningReads.{geometry-set-by}
-use Rattle.wl_resident.proofs.Shelling.{accepted, geometry-keeps, names-counted, told-err, told-ok, xdg-answered, xdg-refused}
+use Rattle.wl_resident.proofs.Shelling.{accepted, asked-releases, geometry-keeps, names-counted, told-err, told-ok, wants-told, xdg-answered, xdg-refused}
 use Rattle.wl_resident.proofs.Numbers.{keeps-names}
 use Rattle.wl_resident.proofs.Simply.{simply}
 use Rattle.wl_resident.proofs.residents.Resident.set_window_geometry.Goals as goal
@@ -26,7 +26,9 @@ returns-in-Ok-clause-answers g c = λ named client r on is only.
     accepted _ r (geometry_set x rect) (AskSurface x.surface (SetWindowGeometry rect))
     (told-ok _ _ (shell_refusal x.base x.id c.args.object) (geometry_answer rect (kept c.args.surface)) c.geometry.result judged c.geometry.ensures.answer c.in-Ok.is) (
       counted r.peer,
-      inr (sym (geometry-keeps names.surfaces v.owned.surfaces (with_peer (counted r.peer) r) x.surface c.args.surface rect is.owns.surfaces one.surface)),
+      wants-told true _ _ (counted r.peer) (changed_by (AskSurface x.surface (SetWindowGeometry rect)) (with_peer (counted r.peer) r)).peer (counted r.peer)
+          (asked-releases names.surfaces v.owned.surfaces (with_peer (counted r.peer) r) x.surface c.args.surface (SetWindowGeometry rect) refl is.owns.surfaces one.surface)
+          (inr (sym (geometry-keeps names.surfaces v.owned.surfaces (with_peer (counted r.peer) r) x.surface c.args.surface rect is.owns.surfaces one.surface))),
       record {
         peer = c.count.ensures.counts r.peer is.peer;
         numbers = λ alive. keeps-names v.client.objects c.count.new.self.objects (names-counted v.client c.count.new.self c.count.ensures.only);

@@ -2,11 +2,14 @@ use Rattle.std.proofs.Common.{Bool, ap, sym, refl, ◌∙◌, w32}
 use Rattle.std.specs.Prelude.{Ok, if◌then◌else◌, unsigned_abs}
 use Rattle.std.proofs.lemmas.Int.{to_z-of_z}
 use Rattle.wl_client.specs.declared.refusals.ErrorCode.TheVariants.{InvalidTransform}
+use Rattle.wl_client.specs.Peer.{counted}
 use Rattle.wl_surface.specs.Request.{SetBufferTransform}
 use Rattle.wl_plain.specs.Ask.{AskSurface}
 use Rattle.wl_plain.specs.Desktop.{Resident}
+use Rattle.wl_plain.specs.Owning.{names_in}
+use Rattle.wl_plain.specs.Step.{with_peer}
 use Rattle.wl_plain.specs.WlSurface.{refuse, transform_set}
-use Rattle.wl_resident.proofs.Shelling.{accepted, counted-does, refused-so, surface-counted}
+use Rattle.wl_resident.proofs.Shelling.{accepted, asked-releases, counted-does, refused-so, surface-counted}
 use Rattle.wl_resident.proofs.Simply.{simply}
 use Rattle.wl_resident.proofs.residents.Resident.transform.Goals as goal
 
@@ -31,4 +34,5 @@ returns-clause-answers g c = λ named client r on is only.
     let does = simp (to_z-of_z w32 z c.ranges.transform) at c.set_buffer_transform.ensures.does in
     accepted _ r (transform_set id z) ask judged
     (counted-does v (record { client = c.count.new.self; owned = v.owned }) c.set_buffer_transform.new.self r (λ (q : Resident). ask) is c.count.ensures.only refl (c.count.ensures.counts r.peer is.peer)
+    (asked-releases (names_in v.client.objects).surfaces v.owned.surfaces (with_peer (counted r.peer) r) id c.args.surface (SetBufferTransform (unsigned_abs z)) refl is.owns.surfaces named)
     (does valid (surface-counted v.client c.count.new.self id c.args.surface c.count.ensures.only named))))
