@@ -36,6 +36,12 @@ pub mod Touching
 pub mod TouchingAsks
 pub mod TouchingSteps
 pub mod TouchingMessages
+pub mod SameStacks
+pub mod FoundWindows
+pub mod CommitDamage
+pub mod TouchingChanges
+pub mod TouchingCommits
+pub mod TouchingDamage
 pub mod OneRunFates
 pub mod OneRunLeads
 pub mod OneRunEnds

@@ -26,7 +26,7 @@ use Rattle.wl_plain.proofs.Simply.{Asking, CommitSurface, DestroySurface, Destro
 
 -- ---- what a client owns
 
-effect-surfaces : (surface : ℕ) (effect : Effect) (x : Option Xdg) (r : Resident) → (effect_on surface effect x r).owned.surfaces ≡ r.owned.surfaces
+pub effect-surfaces : (surface : ℕ) (effect : Effect) (x : Option Xdg) (r : Resident) → (effect_on surface effect x r).owned.surfaces ≡ r.owned.surfaces
 effect-surfaces surface effect None r = refl
 effect-surfaces surface Stays (Some x) r = refl
 effect-surfaces surface Unconfigured (Some x) r = refl

@@ -43,7 +43,7 @@ before-there w v (x ∷ xs) e = at (is_same_surface w x) e (before-there w v xs)
     at false f later = or_right (is_same_surface v x) (list_any (is_same_surface v) xs) (later f)
 
 -- of two windows that are told apart one stands before the other
-one-before : (w v : Window) (xs : List Window) → AreDistinct xs → is_before w v xs ≡ true → is_before v w xs ≡ true → ⊥
+pub one-before : (w v : Window) (xs : List Window) → AreDistinct xs → is_before w v xs ≡ true → is_before v w xs ≡ true → ⊥
 one-before w v [] apart e f = differ e
 one-before w v (x ∷ xs) apart e f = at (is_same_surface w x) (is_same_surface v x) refl refl e f (one-before w v xs apart.1)
   where

@@ -40,16 +40,16 @@ touched-peer ask p r = refl
 
 module _ (c : ℕ) (there : Resident) (d : Desktop) (is : client_at c d ≡ Some there) (names : Names) (slots : Slots) (kept : ℕ → Option Kept) (owned : IsOwned names slots kept there.owned) (stand : MappedStand d)
     (unlinked : (c : ℕ) → (owned_in d c).surfaces.links ≡ []) where
-  here-mapped : AreMapped c there.owned d.standing
+  pub here-mapped : AreMapped c there.owned d.standing
   here-mapped = subst (λ o. AreMapped c o d.standing) (ap owned_of is) (stand.each c)
 
-  done-status : (ask : Simple) (p q : Peer) → status_in c (become c (changed_simply ask (with_peer p there)) q (stacked_simply c ask (with_peer p there) d)) ≡ q.status
+  pub done-status : (ask : Simple) (p q : Peer) → status_in c (become c (changed_simply ask (with_peer p there)) q (stacked_simply c ask (with_peer p there) d)) ≡ q.status
   done-status ask p q =
       status-become c (changed_simply ask (with_peer p there)) q (stacked_simply c ask (with_peer p there) d) there
       (ap (λ rs. client_in rs c) (stacked-clients c ask (with_peer p there) d) ∙ is)
 
   -- what is asked finds what it needs
-  asks-find : (split : Split) (ask : Simple) (p : Peer) → AsksBy there split ask → Finds ask (with_peer p there)
+  pub asks-find : (split : Split) (ask : Simple) (p : Peer) → AsksBy there split ask → Finds ask (with_peer p there)
   asks-find (Whole object opcode size) ask p asks = finds-peer ask p there (judge-finds there object opcode _ owned.shell.apart ask asks)
   asks-find Bad ask p asks = absurd asks
   asks-find More ask p asks = absurd asks

@@ -43,26 +43,26 @@ module _ (c : ℕ) (there : Resident) (d : Desktop) (at_c : client_at c d ≡ So
   module _ (is : ℕ → ℕ → Bool) (r : Resident) (q : Peer) (e : Desktop) (clients : e.clients ≡ d.clients) (links : r.owned.surfaces.links ≡ [])
       (stack : filter (stands_else is) d.standing ≡ filter (stands_else is) e.standing)
       (stays : (surface : ℕ) → is c surface ≡ false → StaysAt (list_any (is_of c surface) d.standing) (history_in surface there.owned.surfaces) (history_in surface r.owned.surfaces)) where
-    abbrev after : Desktop
+    abbrev pub after : Desktop
     after = with_client c (Some (record r { peer = q })) e
 
-    owned-here : owned_in after c ≡ r.owned
+    pub owned-here : owned_in after c ≡ r.owned
     owned-here = ap owned_of (number-same e.clients c (Some (record r { peer = q })) there (ap (λ rs. client_in rs c) clients ∙ at_c))
 
     owned-else : (other : ℕ) → c ≢ other → owned_in after other ≡ owned_in d other
     owned-else other differ = ap owned_of (number-other e.clients c other (Some (record r { peer = q })) differ ∙ ap (λ rs. client_in rs other) clients)
 
-    still-unlinked : (other : ℕ) → (owned_in after other).surfaces.links ≡ []
+    pub still-unlinked : (other : ℕ) → (owned_in after other).surfaces.links ≡ []
     still-unlinked other = by (c == other) refl
       where
         by : (b : Bool) → (c == other) ≡ b → (owned_in after other).surfaces.links ≡ []
         by true f = subst (λ n. (owned_in after n).surfaces.links ≡ []) (eqb-true c other f) (ap (λ (o : Owned). o.surfaces.links) owned-here ∙ links)
         by false f = ap (λ (o : Owned). o.surfaces.links) (owned-else other (eqb-false c other f)) ∙ unlinked other
 
-    abbrev Stays : ℕ → ℕ → Type 0
+    abbrev pub Stays : ℕ → ℕ → Type 0
     Stays client surface = StaysAt (list_any (is_of client surface) d.standing) (history_in surface (owned_in d client).surfaces) (history_in surface (owned_in after client).surfaces)
 
-    all-stay : (client surface : ℕ) → is client surface ≡ false → Stays client surface
+    pub all-stay : (client surface : ℕ) → is client surface ≡ false → Stays client surface
     all-stay client surface other = by (c == client) refl
       where
         here : is c surface ≡ false → Stays c surface
