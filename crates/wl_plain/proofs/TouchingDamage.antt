@@ -84,8 +84,12 @@ module _ (c : ℕ) (there : Resident) (d : Desktop) (is : client_at c d ≡ Some
       lives alive None none f =
           absurd (differ (sym (untouched-marks-nothing c there d is unlinked stand.apart ask (with_peer p there) q refl alive x y (here-mapped c there d is names slots kept owned stand unlinked) owned.surfaces.counts (asks-find c there d is names slots kept owned stand unlinked (split_of there.peer.rest) ask p asks) none) ∙ f))
       lives alive (Some id) t f =
-          inr (done-status c there d is names slots kept owned stand unlinked ask p q ∙ alive, ask, asks,
-          (id, sym (touched-peer ask p there) ∙ t, λ rects applied. done-exactly c there d is unlinked stand.apart ask (with_peer p there) q refl alive (here-mapped c there d is names slots kept owned stand unlinked) owned.surfaces.counts (asks-find c there d is names slots kept owned stand unlinked (split_of there.peer.rest) ask p asks) id t rects applied x y f))
+          inr (
+            done-status c there d is names slots kept owned stand unlinked ask p q ∙ alive,
+            ask,
+            asks,
+            (id, sym (touched-peer ask p there) ∙ t, λ rects applied. done-exactly c there d is unlinked stand.apart ask (with_peer p there) q refl alive (here-mapped c there d is names slots kept owned stand unlinked) owned.surfaces.counts (asks-find c there d is names slots kept owned stand unlinked (split_of there.peer.rest) ask p asks) id t rects applied x y f),
+          )
 
       at : (s : Option Cause) → q.status ≡ s → IsMarkedSo (done ask p q)
       at None alive = lives alive (touched ask (with_peer p there)) refl
