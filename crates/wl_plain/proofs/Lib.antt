@@ -27,6 +27,7 @@ pub mod StandingClients
 pub mod StandingSurfaces
 pub mod StandingFound
 pub mod StandingBare
+pub mod StandingTurned
 pub mod StandingAsks
 pub mod StandingDesks
 pub mod StandingSteps

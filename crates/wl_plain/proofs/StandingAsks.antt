@@ -31,6 +31,7 @@ use Rattle.wl_plain.proofs.StandingClients.{AreShown, IsAt, IsFound, acknowledgi
 use Rattle.wl_plain.proofs.StandingFound.{Finds, FindsBare, FindsTop, found-so}
 use Rattle.wl_plain.proofs.StandingLists.{apart-left, mapped-another, mapped-apart, mapped-here, without-another, without-here}
 use Rattle.wl_plain.proofs.StandingSurfaces.{committing, history-else, history-left, shown-asked, shown-committed, shown-made, shown-role}
+use Rattle.wl_plain.proofs.StandingTurned.{turned-after}
 use Rattle.wl_plain.proofs.Simply.{Asking, CommitSurface, DestroySurface, DestroyToplevel, Simple, changed_simply, committed_on, effect_for, effect_of, effect_on, stacked_simply}
 
 -- the mapped toplevels stand after what is asked, each once
@@ -260,9 +261,9 @@ shown-after c (Asking (ConfigureAgain xdg)) r d told counts is apart finds =
 shown-after c (DestroyToplevel id xdg top) r d told counts is apart finds = (toplevel-destroyed c r d is apart xdg top finds, apart-left _ d.standing apart)
 shown-after c (Asking Ignore) r d told counts is apart finds = (is, apart)
 
--- What is asked leaves the mapped toplevels of the client standing, and those that wait bare.
+-- What is asked leaves the mapped toplevels of the client standing, those that wait bare, and each transform one of the eight.
 pub stand-after : (c : ℕ) (ask : Simple) (r : Resident) (d : Desktop) → AreToldApart r.owned.shell → ((s : ℕ) (h : History) → history_in s r.owned.surfaces ≡ Some h → AllCounts h) → AreToplevels r.owned.shell
     → AreMapped c r.owned d.standing → AreApart d.standing → Finds ask r → StandAfter c ask r d
 stand-after c ask r d told counts top is apart finds =
     let s = shown-after c ask r d told counts (record { stands = is.stands; shows = is.shows }) apart finds in
-    (record { stands = s.0.stands; shows = s.0.shows; bare = bare-after ask r told counts top is.bare finds }, s.1)
+    (record { stands = s.0.stands; shows = s.0.shows; bare = bare-after ask r told counts top is.bare finds; turned = turned-after ask r is.turned finds }, s.1)

@@ -12,7 +12,7 @@ use Rattle.wl_scene.specs.Stacking.{Owned, Standing, is_of, nothing_owned, witho
 use Rattle.wl_plain.specs.Desktop.{Desktop, Resident, become, become_by, client_at, client_in, owned_in, owned_of, resident_of, with_number}
 use Rattle.wl_plain.specs.Laws.{AreApart}
 use Rattle.wl_plain.specs.Standing.{AreMapped, MappedStand}
-use Rattle.wl_plain.proofs.OwningKeys.{differ}
+use Rattle.wl_plain.proofs.OwningKeys.{differ, none-some}
 use Rattle.wl_plain.proofs.Places.{client-become, left_by, number-other, stacked-clients}
 use Rattle.wl_plain.proofs.StandingAsks.{StandAfter}
 use Rattle.wl_plain.proofs.StandingLists.{apart-left, ended-here, ended-other, mapped-other, of-it, without-other}
@@ -21,7 +21,7 @@ use Rattle.wl_plain.proofs.Simply.{CommitSurface, DestroyToplevel, Simple, chang
 -- ---- one client, where others' toplevels come and go
 
 pub mapped-same : (c : ℕ) (o : Owned) (old new : List Standing) → ((surface : ℕ) → list_any (is_of c surface) new ≡ list_any (is_of c surface) old) → AreMapped c o old → AreMapped c o new
-mapped-same c o old new same is = record { stands = λ surface. same surface ∙ is.stands surface; shows = is.shows; bare = is.bare }
+mapped-same c o old new same is = record { stands = λ surface. same surface ∙ is.stands surface; shows = is.shows; bare = is.bare; turned = is.turned }
 
 effect-other : (c other surface id : ℕ) (effect : Effect) (r : Resident) (d : Desktop) → c ≢ other → list_any (is_of other surface) (stacked_simply c (CommitSurface id effect) r d).standing ≡ list_any (is_of other surface) d.standing
 effect-other c other surface id Stays r d apart = refl
@@ -38,7 +38,12 @@ stacked-other c other surface ask r d apart = refl
 
 -- one that owns nothing has none
 pub nothing-mapped : (c : ℕ) (standing : List Standing) → ((surface : ℕ) → list_any (is_of c surface) standing ≡ false) → AreMapped c nothing_owned standing
-nothing-mapped c standing none = record { stands = none; shows = λ surface is. absurd (differ (sym is)); bare = λ surface is. absurd (differ (sym is)) }
+nothing-mapped c standing none = record {
+  stands = none;
+  shows = λ surface is. absurd (differ (sym is));
+  bare = λ surface is. absurd (differ (sym is));
+  turned = λ surface h is. absurd (none-some h is);
+}
 
 -- a client ends: its toplevels go
 pub ended-mapped : (c : ℕ) (standing : List Standing) → AreMapped c nothing_owned (without_client c standing)

@@ -1,8 +1,9 @@
--- What a request finds of the shell where it is accepted.
-use Rattle.std.proofs.Common.{◌≡◌, ℕ, List, Bool, true, false, Option, Some, None, Result, refl, ap, sym, subst, ◌∙◌, eq-eqb}
-use Rattle.std.specs.Prelude.{ℤ, pos, ◌==◌, ◌&&◌, ◌||◌, Ok, Err, find, if◌then◌else◌, int_le, int_lt, is_some, length, nat_le}
+-- What a request finds of the shell where it is accepted, and which transform it asks for.
+use Rattle.std.proofs.Common.{◌≡◌, ℕ, List, Bool, true, false, Option, Some, None, Result, refl, ap, sym, subst, ◌∙◌, arith, eq-eqb, leb-true, lt-ltb}
+use Rattle.std.specs.Prelude.{ℤ, pos, negsuc, ◌==◌, ◌&&◌, ◌||◌, Ok, Err, find, if◌then◌else◌, int_le, int_lt, is_some, length, nat_le, nat_lt, unsigned_abs}
 use Rattle.std.specs.List.{list_all, list_any}
 use Rattle.std.specs.Option.{option_map_or}
+use Rattle.std.proofs.lemmas.Bool.{and_parts}
 use Rattle.wl_proto.specs.declared.wl_compositor.WlCompositorRequest.TheVariants as compositor
 use Rattle.wl_proto.specs.declared.wl_seat.WlSeatRequest.TheVariants as seat
 use Rattle.wl_proto.specs.declared.wl_surface.WlSurfaceRequest.{WlSurfaceRequest}
@@ -39,10 +40,11 @@ use Rattle.wl_plain.specs.Desktop.{Resident}
 use Rattle.wl_plain.specs.Step.{with_peer}
 use Rattle.wl_plain.proofs.Simply.{Simple, Asking, DestroySurface, CommitSurface, DestroyToplevel, effect_for, effect_of, judge, simple_of, simply}
 use Rattle.wl_plain.specs.NoMore.{AreToplevels}
+use Rattle.wl_plain.specs.Standing.{turns_well}
 use Rattle.wl_plain.specs.WlSurface.{refuse, refuse_limit, transform_set, will_show}
 use Rattle.wl_client.specs.Requests.{rect}
 use Rattle.wl_client.specs.declared.refusals.ErrorCode.TheVariants as error
-use Rattle.wl_surface.specs.Request.{SetWindowGeometry}
+use Rattle.wl_surface.specs.Request.{SetBufferTransform, SetWindowGeometry}
 use Rattle.wl_plain.specs.XdgShell.{configured_again, has_any, is_foreign, is_no_toplevel, role_of, state_asked, xdg_surface_made}
 use Rattle.wl_plain.proofs.BridgeJudged.{effect-same}
 use Rattle.wl_plain.proofs.OwningKeys.{found-by}
@@ -56,10 +58,12 @@ FindsBare id r = (x : Xdg) × (x.id ≡ id) × IsFound x r.owned.shell × (x.rol
 abbrev pub FindsTop : ℕ → ℕ → Resident → Type 0
 FindsTop id surface r = (x : Xdg) × (x.id ≡ id) × IsFound x r.owned.shell × (x.surface ≡ surface)
 
--- A surface goes without an xdg_surface, and an xdg_surface without a role object; a commit comes to what the stage says.
+-- A surface goes without an xdg_surface, and an xdg_surface without a role object; a commit comes to what the stage says; a transform that is
+-- asked of a surface is one of the eight.
 abbrev pub Finds : Simple → Resident → Type 0
 Finds (DestroySurface id) r = xdg_of id r.owned.shell ≡ None
 Finds (CommitSurface id effect) r = (effect_of r id ≡ effect) × (AreToplevels r.owned.shell → effect ≡ Unconfigured → ⊥)
+Finds (Asking (AskSurface id request)) r = turns_well request ≡ true
 Finds (Asking (DestroyXdgSurface id)) r = FindsBare id r
 Finds (Asking (GetToplevel id version xdg)) r = FindsBare xdg r
 Finds (DestroyToplevel id xdg top) r = FindsTop xdg top r
@@ -123,18 +127,24 @@ destroyed-finds : (r : Resident) (object : ℕ) → Accepts (surface_destroyed r
 destroyed-finds r object =
     either (is_some (xdg_of object r.owned.shell)) _ _ r (λ there. refused _ r) (λ none. accepted (EndSurface object) r (none-there (xdg_of object r.owned.shell) none))
 
+-- what is 0 to 7 is one of the eight
+below-eight : (z : ℤ) → (int_le (pos 0) z && int_le z (pos 7)) ≡ true → nat_lt (unsigned_abs z) 8 ≡ true
+below-eight (pos n) fits = let most = leb-true n 7 (and_parts (int_le (pos 0) (pos n)) (int_le (pos n) (pos 7)) fits).1 in lt-ltb n 8 (omega (arith, most))
+below-eight (negsuc n) fits = absurd (cc)
+
 transform-finds : (r : Resident) (object : ℕ) (z : ℤ) → Accepts (demands (transform_set object z)) r
-transform-finds r object z = asks-either (int_le (pos 0) z && int_le z (pos 7)) _ _ r (λ fits. asked (AskSurface object _) r tt) (λ no_transform. unasked _ r)
+transform-finds r object z =
+    asks-either (int_le (pos 0) z && int_le z (pos 7)) _ _ r (λ fits. asked (AskSurface object (SetBufferTransform (unsigned_abs z))) r (below-eight z fits)) (λ no_transform. unasked _ r)
 
 surface-finds : (r : Resident) (object version : ℕ) (request : WlSurfaceRequest) → unserved_now (ToSurface request) ≡ false → Accepts (surface_demand r object version request) r
 surface-finds r object version surface.Destroy served = destroyed-finds r object
 surface-finds r object version (surface.Frame callback) served = absurd (cc)
 surface-finds r object version surface.Commit served = effect-finds r (xdg_of object r.owned.shell) object (effect_of_commit r object) refl refl
 surface-finds r object version (surface.SetBufferTransform transform) served = transform-finds r object transform
-surface-finds r object version (surface.Attach buffer x y) served = accepted _ r tt
-surface-finds r object version (surface.Damage x y width height) served = accepted _ r tt
-surface-finds r object version (surface.SetOpaqueRegion region) served = accepted _ r tt
-surface-finds r object version (surface.SetInputRegion region) served = accepted _ r tt
+surface-finds r object version (surface.Attach buffer x y) served = accepted _ r refl
+surface-finds r object version (surface.Damage x y width height) served = accepted _ r refl
+surface-finds r object version (surface.SetOpaqueRegion region) served = accepted _ r refl
+surface-finds r object version (surface.SetInputRegion region) served = accepted _ r refl
 
 -- ---- the shell
 
@@ -170,7 +180,7 @@ some-finds r x version (xdg.GetPopup id parent positioner) served is = absurd (c
 some-finds r x version (xdg.SetWindowGeometry a b width height) served is =
     asks-either (is_some x.role) _ _ r
     (λ there. asks-either (int_lt (pos 0) width && int_lt (pos 0) height) (Ok (AskSurface x.surface (SetWindowGeometry (rect a b width height)))) (refuse x.id error.InvalidSize) r
-    (λ fits. asked (AskSurface x.surface (SetWindowGeometry (rect a b width height))) r tt) (λ no_size. unasked _ r)) (λ none. unasked _ r)
+    (λ fits. asked (AskSurface x.surface (SetWindowGeometry (rect a b width height))) r refl) (λ no_size. unasked _ r)) (λ none. unasked _ r)
 some-finds r x version (xdg.AckConfigure serial) served is =
     asks-either (is_some x.role) _ _ r
     (λ there. asks-either (is_waiting serial x.serials) (Ok (Acknowledge x.id serial)) (refuse x.id error.InvalidSerial) r
@@ -276,6 +286,7 @@ judge-finds r object opcode body apart ask e = simply-finds r (judge_all served_
 pub finds-peer : (ask : Simple) (p : Peer) (r : Resident) → Finds ask r → Finds ask (with_peer p r)
 finds-peer (DestroySurface id) p r finds = finds
 finds-peer (CommitSurface id effect) p r finds = finds
+finds-peer (Asking (AskSurface id request)) p r finds = finds
 finds-peer (Asking (DestroyXdgSurface id)) p r finds = finds
 finds-peer (Asking (GetToplevel id version xdg)) p r finds = finds
 finds-peer (DestroyToplevel id xdg top) p r finds = finds

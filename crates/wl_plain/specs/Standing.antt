@@ -1,7 +1,9 @@
 -- Which toplevels stand: those that are mapped (xdg-shell.xml, xdg_surface: the initial commit, and mapping).
-use Rattle.std.specs.Prelude.{ℕ, ◌≡◌, Bool, true, false, Option, Some, None, List}
-use Rattle.std.specs.List.{list_any}
-use Rattle.wl_surface.specs.Surfaces.{history_in}
+use Rattle.std.specs.Prelude.{ℕ, ◌≡◌, Bool, true, false, Option, Some, None, List, nat_lt}
+use Rattle.std.specs.List.{list_all, list_any}
+use Rattle.wl_surface.specs.Request.{Request, SetBufferTransform}
+use Rattle.wl_surface.specs.State.{History}
+use Rattle.wl_surface.specs.Surfaces.{Surfaces, history_in}
 use Rattle.wl_shell.specs.declared.stage.Stage.{Stage}
 use Rattle.wl_shell.specs.declared.stage.Stage.TheVariants as stage
 use Rattle.wl_shell.specs.Shell.{XdgSurface, stage_of, xdg_of}
@@ -40,11 +42,22 @@ waits (Some x) = waits_at (stage_of x)
 abbrev pub AreBare : Owned → Type 0
 AreBare o = (surface : ℕ) → waits (xdg_of surface o.shell) ≡ true → shows_buffer (history_in surface o.surfaces) ≡ false
 
--- Of a client's surfaces just those stand that are mapped, and each of them shows a buffer; one that waits to be mapped shows none.
+-- a request asks for no transform, or for one of the eight (wayland.xml, wl_output.transform)
+abbrev pub turns_well : Request → Bool
+turns_well (SetBufferTransform number) = nat_lt number 8
+turns_well request = true
+
+-- each transform that was asked of these surfaces is one of the eight
+abbrev pub AreTurned : Surfaces → Type 0
+AreTurned all = (surface : ℕ) (h : History) → history_in surface all ≡ Some h → list_all turns_well h.requests ≡ true
+
+-- Of a client's surfaces just those stand that are mapped, and each of them shows a buffer; one that waits to be mapped shows none. Each
+-- transform that was asked of a surface is one of the eight.
 pub record AreMapped (c : ℕ) (o : Owned) (standing : List Standing) : Type 0 where
   pub stands : (surface : ℕ) → list_any (is_of c surface) standing ≡ is_mapped (xdg_of surface o.shell)
   pub shows : (surface : ℕ) → is_mapped (xdg_of surface o.shell) ≡ true → shows_buffer (history_in surface o.surfaces) ≡ true
   pub bare : AreBare o
+  pub turned : AreTurned o.surfaces
 
 -- No toplevel stands twice, and of each client those stand that are mapped. A number without a client has none.
 pub record MappedStand (d : Desktop) : Type 0 where
