@@ -4,8 +4,8 @@
     bench/frames.py [--ticks N] [--rounds N]
 
 It writes recordings of clients with a window each, whose every tick is preceded by a commit of all of them, and plays them by the built
-program: one client with a window of the whole output; one with 8 by 8 points; 8 and 32 clients with 8 by 8 points; and ticks for
-which nobody committed. Each is played with few and with many ticks, one right after the other, and the difference is divided by the ticks
+program: one client with a window of the whole output that damages all of it, 8 by 8 points, or one; one with a window of 8 by 8 points; 8 and
+32 clients with such windows; and ticks for which nobody committed. Each is played with few and with many ticks, one right after the other, and the difference is divided by the ticks
 between them, so that starting the program, making the image and mapping the windows aren't counted.
 
 Times are processor time, the program's own and the system's for it: the median of the rounds, with the least and the greatest. Pictures
@@ -57,17 +57,17 @@ def mapped(width, height):
 
 
 def committed(width, height):
-    """A commit of the whole window."""
+    """A commit that damages this much of the window, from its corner on."""
     return message(6, 1, 10, 0, 0) + message(6, 2, 0, 0, width, height) + message(6, 6)
 
 
-def recording(clients, width, height, ticks, idle):
-    """So many ticks, each after a commit of every client unless they are idle."""
+def recording(clients, size, damage, ticks):
+    """So many ticks of clients with windows of this size, each tick after a commit of every client, unless they damage nothing."""
     lines = []
     for client in range(1, clients + 1):
-        lines += ["connect", f"bytes {client} {mapped(width, height).hex()}"]
+        lines += ["connect", f"bytes {client} {mapped(*size).hex()}"]
     lines.append("tick 0")
-    commits = [] if idle else [f"bytes {client} {committed(width, height).hex()}" for client in range(1, clients + 1)]
+    commits = [f"bytes {client} {committed(*damage).hex()}" for client in range(1, clients + 1)] if damage else []
     for tick in range(ticks):
         lines += commits
         lines.append(f"tick {tick + 1}")
@@ -87,10 +87,10 @@ def seconds(text):
     return used.ru_utime + used.ru_stime
 
 
-def measure(name, ticks, rounds, clients, width, height, idle=False):
+def measure(name, ticks, rounds, clients, size, damage):
     """Prints milliseconds a tick."""
-    few = recording(clients, width, height, 1, idle)
-    many = recording(clients, width, height, 1 + ticks, idle)
+    few = recording(clients, size, damage, 1)
+    many = recording(clients, size, damage, 1 + ticks)
     samples = [(seconds(many) - seconds(few)) / ticks * 1e3 for _ in range(rounds)]
     print(f"{name}: {statistics.median(samples):.3f} ms a tick ({min(samples):.3f} to {max(samples):.3f}, {rounds} rounds of {ticks} ticks)")
 
@@ -104,11 +104,13 @@ def main():
         sys.exit("build the program first: ./wlframe --help")
     small = 50 * words.ticks
     print(f"load {os.getloadavg()[0]:.1f}")
-    measure("1 client, the whole output", words.ticks, words.rounds, 1, WIDTH, HEIGHT)
-    measure("1 client, 8 by 8", small, words.rounds, 1, 8, 8)
-    measure("8 clients, 8 by 8", small, words.rounds, 8, 8, 8)
-    measure("32 clients, 8 by 8", small, words.rounds, 32, 8, 8)
-    measure("1 client, nothing committed", small, words.rounds, 1, 8, 8, idle=True)
+    whole = WIDTH, HEIGHT
+    measure("1 client, the whole output", words.ticks, words.rounds, 1, whole, whole)
+    measure("1 client with the whole output, 8 by 8 of it", small, words.rounds, 1, whole, (8, 8))
+    measure("1 client with the whole output, one pixel of it", small, words.rounds, 1, whole, (1, 1))
+    for clients in 1, 8, 32:
+        measure(f"{clients} client{'s' * (clients > 1)}, 8 by 8", small, words.rounds, clients, (8, 8), (8, 8))
+    measure("1 client, nothing committed", small, words.rounds, 1, (8, 8), None)
 
 
 if __name__ == "__main__":

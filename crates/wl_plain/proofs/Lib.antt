@@ -135,3 +135,4 @@ pub mod ShownWindows
 pub mod Following
 pub mod MarkedThrough
 pub mod Altering
+pub mod TouchingKeeps

@@ -15,3 +15,4 @@ pub mod Releasing
 pub mod MarkedMessages
 pub mod Marked
 pub mod Toplevels
+pub mod Spans

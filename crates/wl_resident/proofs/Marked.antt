@@ -1,39 +1,36 @@
--- The window of a surface in a desktop lies where what is kept of it says.
-use Rattle.std.proofs.Common.{◌≡◌, ℕ, zero, suc, ◌+◌, ◌-◌, ◌^◌, ◌<◌, List, [], ◌∷◌, ◌++◌, Bool, true, false, cond, Option, Some, None, map, length, take, get_or, refl, ap, sym, subst, ◌∙◌, arith, ℤ, pos}
-use Rattle.std.specs.Prelude.{◌+ℤ◌, ◌==◌, ◌&&◌, ◌||◌, flat_map, min, not}
+-- The window of a surface in a desktop has the record that what is kept of it says.
+use Rattle.std.proofs.Common.{◌≡◌, ℕ, zero, suc, ◌+◌, ◌<◌, List, [], ◌∷◌, ◌++◌, Bool, true, false, cond, Option, Some, None, map, refl, ap, sym, subst, ◌∙◌, arith, eq-eqb, ℤ}
+use Rattle.std.specs.Prelude.{◌+ℤ◌, ◌==◌, ◌&&◌, ◌||◌, find, flat_map, nat_lt, not}
 use Rattle.std.specs.List.{list_any}
 use Rattle.std.specs.Option.{option_map}
-use Rattle.std.proofs.Math.Bool.{or-false, or_assoc}
-use Rattle.std.proofs.lemmas.Bool.{and_left, and_right, cond_both, eqb-true}
+use Rattle.std.proofs.Math.Bool.{or-false}
+use Rattle.std.proofs.lemmas.Bool.{and_from, and_left, and_right, eqb-true}
 use Rattle.std.proofs.lemmas.List.{append-nil}
-use Rattle.std.proofs.lemmas.List.Folds.{list_any-append, list_any_more}
+use Rattle.std.proofs.lemmas.List.Folds.{list_any-append}
 use Rattle.wl_proto.specs.declared.interface.Interface.TheVariants.{WlSurface}
-use Rattle.wl_geom.specs.Rect.{in_span}
-use Rattle.wl_store.specs.Transform.{is_turned, transform_of}
 use Rattle.wl_client.specs.Objects.{ById}
-use Rattle.wl_surface.specs.Kept.{IsCurrent, IsCurrentAt, Numbered, StandForAll, buffer_of}
+use Rattle.wl_surface.specs.Kept.{IsCurrent, IsCurrentAt, Numbered, StandForAll}
 use Rattle.wl_surface.specs.Request.{Buffer, Member, Itself, Child}
 use Rattle.wl_surface.specs.State.{History, Values, applied, counting, height_of, order, position, width_of, within_bounds}
 use Rattle.wl_surface.specs.Surfaces.{Link, Surface, Surfaces, history_in, is_there, link_at, surface_at}
-use Rattle.wl_surface.specs.declared.content.Attached.{Attached}
-use Rattle.wl_surface.specs.declared.content.Offset.{Offset}
 use Rattle.wl_surface.specs.declared.surface.Current.{Current}
 use Rattle.wl_scene.specs.Lent.{AllShow, Shows, shows_buffer}
 use Rattle.wl_scene.specs.Stacking.{Owned, Stack, Standing, is_of, root_of, standing_of, windows_on}
 use Rattle.wl_scene.specs.declared.scene.Toplevel.{Toplevel}
-use Rattle.wl_paint.specs.Damage.{Damaged, has}
-use Rattle.wl_scene.specs.Windows.{Owner, Place, Window, child_windows, contains, corner_at, member_windows, owner_of, shown_windows, surface_windows, tree, window_of, window_showing, window_with}
-use Rattle.wl_resident.specs.Agreement.{IsStack, IsStanding, with_numbers}
+use Rattle.wl_scene.specs.Windows.{Owner, Place, Window, child_windows, corner_at, member_windows, owner_of, shown_windows, surface_windows, tree, window_of, window_showing, window_with}
 use Rattle.wl_plain.specs.Desktop.{Desktop, Resident, owned_in, owned_of}
-use Rattle.wl_resident.specs.Marking.{IsAsLarge}
 use Rattle.wl_plain.specs.Owning.{AreKept, by_number, targets_in}
+use Rattle.wl_plain.specs.Touching.{is_window_of, window_at}
+use Rattle.wl_resident.specs.Agreement.{IsStack, IsStanding, with_numbers}
+use Rattle.wl_resident.specs.Marking.{IsRecordOf, record_showing}
 use Rattle.wl_resident.specs.Seats.{IsSeated}
-use Rattle.wl_plain.specs.Touching.{is_window_at}
+use Rattle.wl_resident.specs.declared.marking.WindowRecord.{WindowRecord}
 use Rattle.wl_resident.specs.declared.residents.Resident.{Resident as Kept}
 use Rattle.wl_plain.proofs.OwningSurfaces.{surface-named, surface-read}
 use Rattle.wl_plain.proofs.OneWindow.{one-window, window_list}
-use Rattle.wl_resident.proofs.Scenes.{AreOnce, numbers-same, stack-out}
 use Rattle.wl_plain.proofs.StandingDesks.{all-show}
+use Rattle.wl_plain.proofs.StandingTurned.{desk-turned}
+use Rattle.wl_resident.proofs.Scenes.{AreOnce, numbers-same, stack-out}
 
 -- ---- windows of others
 
@@ -86,109 +83,115 @@ number-is numbers c id number k s once named one = by (is_of c number k) (is_of 
     by true false both = absurd both
     by false true both = absurd both
 
--- the point lies in what a surface with this offset and these sides shows, where it was mapped
-abbrev pub lies_in : Offset → ℕ → ℕ → ℤ → ℤ → Place → Bool
-lies_in by w h x y place = in_span (within_bounds (place.x +ℤ by.x)) (pos w) x && in_span (within_bounds (place.y +ℤ by.y)) (pos h) y
+-- the first that passes, where none of the first part does
+find-later : {X : Type 0} (p : X → Bool) (xs ys : List X) → list_any p xs ≡ false → find p (xs ++ ys) ≡ find p ys
+find-later p [] ys none = refl
+find-later p (x ∷ xs) ys none = at (p x) none (find-later p xs ys)
+  where
+    at : (b : Bool) → (b || list_any p xs) ≡ false → (list_any p xs ≡ false → find p (xs ++ ys) ≡ find p ys) → cond b (Some x) (find p (xs ++ ys)) ≡ find p ys
+    at true none later = absurd (cc)
+    at false none later = later none
 
--- so it does for a toplevel of this surface
-abbrev pub is_shown_at : ℕ → ℕ → Offset → ℕ → ℕ → ℤ → ℤ → Standing → Bool
-is_shown_at c number by w h x y k = is_of c number k && lies_in by w h x y k.place
+find-first : {X : Type 0} (p : X → Bool) (x : X) (xs : List X) → p x ≡ true → find p (x ∷ xs) ≡ Some x
+find-first p x xs passes = ap (λ (b : Bool). cond b (Some x) (find p xs)) passes
 
--- the test of is_window_at
-abbrev pub is_at : ℕ → ℕ → ℤ → ℤ → Window → Bool
-is_at c id x y w = ((w.owner.client == c) && (w.surface == id)) && contains w x y
-
-module _ {A : Type 0} (c id number : ℕ) (current : Current A) (h : History) (is : IsCurrent current h) (x y : ℤ) (owned : ℕ → Owned) (links : (owned c).surfaces.links ≡ []) (found : history_in id (owned c).surfaces ≡ Some h)
+module _ {A : Type 0} (c id number : ℕ) (current : Current A) (h : History) (is : IsCurrent current h) (turned : nat_lt (applied h).transform 8 ≡ true) (owned : ℕ → Owned) (links : (owned c).surfaces.links ≡ []) (found : history_in id (owned c).surfaces ≡ Some h)
     (numbers : ℕ → ById ℕ) (once : AreOnce (numbers c)) (named : numbers c id ≡ Some number) where
+  abbrev owner_at : Standing → Owner
+  owner_at s = owner_of (root_of owned s)
+
+  abbrev tree_at : Standing → List Window
+  tree_at s = tree 17 (owner_at s) (owned s.client).surfaces s.surface s.place
+
+  -- the record of a standing toplevel, if there is one
+  abbrev recorded_at : Option Standing → Option WindowRecord
+  recorded_at k = option_map (record_showing current) k
+
+  abbrev Found : Option Standing → List Window → Type 0
+  Found k ws = IsRecordOf (recorded_at k) (find (is_window_of c id) ws)
+
   -- what its surface shows
-  window-here : (k s : Standing) → IsStanding numbers k s → shows_buffer (Some h) ≡ true
-      → list_any (is_at c id x y) (window_of (owner_of (root_of owned s)) s.surface (corner_at s.place h) h) ≡ is_shown_at c number current.offset current.w current.h x y k
-  window-here k s one shows = by (applied h).buffer refl shows
+  window-here : (k s : Standing) → IsStanding numbers k s → s.client ≡ c → s.surface ≡ id → shows_buffer (Some h) ≡ true → (rest : List Window)
+      → Found (Some k) (window_of (owner_at s) s.surface (corner_at s.place h) h ++ rest)
+  window-here k s one client surface shows rest = by (applied h).buffer refl shows
     where
-      by : (buffer : Option Buffer) → (applied h).buffer ≡ buffer → is_there buffer ≡ true
-          → list_any (is_at c id x y) (window_with (owner_of (root_of owned s)) s.surface (corner_at s.place h) (applied h) buffer) ≡ is_shown_at c number current.offset current.w current.h x y k
+      by : (buffer : Option Buffer) → (applied h).buffer ≡ buffer → is_there buffer ≡ true → Found (Some k) (window_with (owner_at s) s.surface (corner_at s.place h) (applied h) buffer ++ rest)
       by None e there = absurd (cc)
       by (Some b) e there =
-          or-false (is_at c id x y (window_showing (owner_of (root_of owned s)) s.surface (corner_at s.place h) (applied h) b)) ∙ rw (number-is numbers c id number k s once named one, one.place, is.width, is.height, e, is.offset.0, is.offset.1) refl
+          let w : Window = window_showing (owner_at s) s.surface (corner_at s.place h) (applied h) b in
+          let passes : is_window_of c id w ≡ true = and_from (s.client == c) (s.surface == id) (eq-eqb s.client c client) (eq-eqb s.surface id surface) in
+          subst (λ o. IsRecordOf (recorded_at (Some k)) o) (sym (find-first (is_window_of c id) w rest passes)) (
+            (
+              ap (λ (p : Place). within_bounds (p.x +ℤ current.offset.x)) one.place ∙ ap (λ (z : ℤ). within_bounds (s.place.x +ℤ z)) is.offset.0,
+              ap (λ (p : Place). within_bounds (p.y +ℤ current.offset.y)) one.place ∙ ap (λ (z : ℤ). within_bounds (s.place.y +ℤ z)) is.offset.1,
+            ),
+            (
+              is.width ∙ ap (λ (o : Option Buffer). width_of o (applied h).transform) e,
+              is.height ∙ ap (λ (o : Option Buffer). height_of o (applied h).transform) e,
+            ),
+            is.transform,
+            turned,
+          )
 
-  -- that of a toplevel, whichever it is
-  window-first : (k s : Standing) → IsStanding numbers k s → Shows owned s
-      → list_any (is_at c id x y) (tree 17 (owner_of (root_of owned s)) (owned s.client).surfaces s.surface s.place) ≡ is_shown_at c number current.offset current.w current.h x y k
-  window-first k s one shows = at (s.client == c) refl
+  -- where a toplevel is of the surface or not
+  abbrev FoundFirst : Standing → Standing → Option Standing → List Window → Bool → Type 0
+  FoundFirst k s later rest b = Found (cond b (Some k) later) (tree_at s ++ rest)
+
+  -- what the first of the toplevels brings
+  first-found : (k s : Standing) → IsStanding numbers k s → Shows owned s → (later : Option Standing) (rest : List Window) → Found later rest → Found (cond (is_of c number k) (Some k) later) (tree_at s ++ rest)
+  first-found k s one shows later rest after = at (s.client == c) refl
     where
       same : is_of c number k ≡ is_of c id s
       same = number-is numbers c id number k s once named one
 
-      own : s.client ≡ c → tree 17 (owner_of (root_of owned s)) (owned s.client).surfaces s.surface s.place ≡ window_list (owner_of (root_of owned s)) s.surface s.place (history_in s.surface (owned s.client).surfaces)
-      own e = one-window 16 (owner_of (root_of owned s)) (owned s.client).surfaces s.surface s.place (ap (λ (n : ℕ). (owned n).surfaces.links) e ∙ links) shows
+      own : s.client ≡ c → tree_at s ≡ window_list (owner_at s) s.surface s.place (history_in s.surface (owned s.client).surfaces)
+      own e = one-window 16 (owner_at s) (owned s.client).surfaces s.surface s.place (ap (λ (n : ℕ). (owned n).surfaces.links) e ∙ links) shows
 
-      other-surface : (o : Option History) → (s.surface == id) ≡ false → list_any (is_at c id x y) (window_list (owner_of (root_of owned s)) s.surface s.place o) ≡ false
+      other-surface : (o : Option History) → (s.surface == id) ≡ false → list_any (is_window_of c id) (window_list (owner_at s) s.surface s.place o) ≡ false
       other-surface None f = refl
       other-surface (Some g) f = other-window (applied g).buffer
         where
-          other-window : (buffer : Option Buffer) → list_any (is_at c id x y) (window_with (owner_of (root_of owned s)) s.surface (corner_at s.place g) (applied g) buffer) ≡ false
+          other-window : (buffer : Option Buffer) → list_any (is_window_of c id) (window_with (owner_at s) s.surface (corner_at s.place g) (applied g) buffer) ≡ false
           other-window None = refl
-          other-window (Some b) = or-false (is_at c id x y (window_showing (owner_of (root_of owned s)) s.surface (corner_at s.place g) (applied g) b))
-              ∙ and_left ((s.client == c) && (s.surface == id)) (contains (window_showing (owner_of (root_of owned s)) s.surface (corner_at s.place g) (applied g) b) x y) (and_right (s.client == c) (s.surface == id) f)
+          other-window (Some b) = or-false ((s.client == c) && (s.surface == id)) ∙ and_right (s.client == c) (s.surface == id) f
 
       here : s.client ≡ c → s.surface ≡ id → history_in s.surface (owned s.client).surfaces ≡ Some h
       here e f = ap (λ (n : ℕ). history_in s.surface (owned n).surfaces) e ∙ (ap (λ (n : ℕ). history_in n (owned c).surfaces) f ∙ found)
 
-      by : s.client ≡ c → (b : Bool) → (s.surface == id) ≡ b
-          → list_any (is_at c id x y) (tree 17 (owner_of (root_of owned s)) (owned s.client).surfaces s.surface s.place) ≡ is_shown_at c number current.offset current.w current.h x y k
-      by e true f =
-          let there = here e (eqb-true s.surface id f) in
-          ap (λ (ws : List Window). list_any (is_at c id x y) ws) (own e ∙ ap (λ (o : Option History). window_list (owner_of (root_of owned s)) s.surface s.place o) there)
-          ∙ window-here k s one (sym (ap shows_buffer there) ∙ shows)
-      by e false f =
-          ap (λ (ws : List Window). list_any (is_at c id x y) ws) (own e) ∙ other-surface (history_in s.surface (owned s.client).surfaces) f
-          ∙ sym (and_left (is_of c number k) (lies_in current.offset current.w current.h x y k.place) (same ∙ and_right (s.client == c) (s.surface == id) f))
+      -- none of these is of the surface
+      passed : is_of c id s ≡ false → list_any (is_window_of c id) (tree_at s) ≡ false → FoundFirst k s later rest (is_of c number k)
+      passed other none =
+          subst (FoundFirst k s later rest) (sym (same ∙ other))
+          (subst (λ o. IsRecordOf (recorded_at later) o) (sym (find-later (is_window_of c id) (tree_at s) rest none)) after)
 
-      at : (b : Bool) → (s.client == c) ≡ b
-          → list_any (is_at c id x y) (tree 17 (owner_of (root_of owned s)) (owned s.client).surfaces s.surface s.place) ≡ is_shown_at c number current.offset current.w current.h x y k
-      at true e = by (eqb-true s.client c e) (s.surface == id) refl
+      by : (s.client == c) ≡ true → (b : Bool) → (s.surface == id) ≡ b → FoundFirst k s later rest (is_of c number k)
+      by e true f =
+          let client = eqb-true s.client c e in
+          let surface = eqb-true s.surface id f in
+          let there = here client surface in
+          subst (FoundFirst k s later rest) (sym (same ∙ and_from (s.client == c) (s.surface == id) e f))
+          (subst (λ (ws : List Window). Found (Some k) (ws ++ rest)) (sym (own client ∙ ap (λ (o : Option History). window_list (owner_at s) s.surface s.place o) there))
+          (window-here k s one client surface (sym (ap shows_buffer there) ∙ shows) rest))
+      by e false f =
+          passed (and_right (s.client == c) (s.surface == id) f)
+          (ap (λ (ws : List Window). list_any (is_window_of c id) ws) (own (eqb-true s.client c e)) ∙ other-surface (history_in s.surface (owned s.client).surfaces) f)
+
+      at : (b : Bool) → (s.client == c) ≡ b → FoundFirst k s later rest (is_of c number k)
+      at true e = by e (s.surface == id) refl
       at false e =
-          none-tree (is_at c id x y) (owner_of (root_of owned s)) (λ w f. and_left ((w.owner.client == c) && (w.surface == id)) (contains w x y) (and_left (w.owner.client == c) (w.surface == id) (ap (λ (o : Owner). o.client == c) f ∙ e))) 17 (owned s.client).surfaces s.surface s.place
-          ∙ sym (and_left (is_of c number k) (lies_in current.offset current.w current.h x y k.place) (same ∙ and_left (s.client == c) (s.surface == id) e))
+          passed (and_left (s.client == c) (s.surface == id) e)
+          (none-tree (is_window_of c id) (owner_at s) (λ w f. and_left (w.owner.client == c) (w.surface == id) (ap (λ (o : Owner). o.client == c) f ∙ e)) 17 (owned s.client).surfaces s.surface s.place)
 
   -- those of all toplevels
-  pub windows-shown : (ks ss : List Standing) → IsStack numbers ks ss → AllShow owned ss → list_any (is_at c id x y) (windows_on owned ss) ≡ list_any (is_shown_at c number current.offset current.w current.h x y) ks
-  windows-shown [] [] are show = refl
-  windows-shown [] (s ∷ ss) are show = absurd are
-  windows-shown (k ∷ ks) [] are show = absurd are
-  windows-shown (k ∷ ks) (s ∷ ss) are show =
-      let tree-here = tree 17 (owner_of (root_of owned s)) (owned s.client).surfaces s.surface s.place in
-      list_any-append (is_at c id x y) (tree-here ++ []) (windows_on owned ss)
-      ∙ ap (λ (ws : List Window). list_any (is_at c id x y) ws || list_any (is_at c id x y) (windows_on owned ss)) (append-nil tree-here)
-      ∙ rw (window-first k s are.0 (show 0 s (omega arith)), windows-shown ks ss are.1 (λ i e less. show (suc i) e (omega (arith, less)))) refl
+  pub windows-found : (ks ss : List Standing) → IsStack numbers ks ss → AllShow owned ss → Found (find (is_of c number) ks) (windows_on owned ss)
+  windows-found [] [] are show = tt
+  windows-found [] (s ∷ ss) are show = absurd are
+  windows-found (k ∷ ks) [] are show = absurd are
+  windows-found (k ∷ ks) (s ∷ ss) are show =
+      subst (λ (ws : List Window). Found (find (is_of c number) (k ∷ ks)) (ws ++ windows_on owned ss)) (sym (append-nil (tree_at s)))
+      (first-found k s are.0 (show 0 s (omega arith)) (find (is_of c number) ks) (windows_on owned ss) (windows-found ks ss are.1 (λ i e less. show (suc i) e (omega (arith, less)))))
 
 -- ---- a desk's
-
--- no side is as long as 2 ^ 31
-abbrev pub side : ℕ → ℕ
-side n = min n (2 ^ 31 - 1)
-
-small-side : (n : ℕ) → n < 2 ^ 31 → side n ≡ n
-small-side n small = omega (arith, small)
-
-narrow : (a : Attached) → a.layout.w < 2 ^ 31
-narrow a = omega (arith, a.layout.wide_rows, a.layout.stride_fits)
-
-small-width : (o : Option Attached) (transform : ℕ) → width_of (option_map buffer_of o) transform < 2 ^ 31
-small-width None transform = omega (arith)
-small-width (Some a) transform = cond_both (is_turned (transform_of transform)) a.layout.h a.layout.w (λ n. n < 2 ^ 31) (λ e. a.layout.height_fits) (λ e. narrow a)
-
-small-height : (o : Option Attached) (transform : ℕ) → height_of (option_map buffer_of o) transform < 2 ^ 31
-small-height None transform = omega (arith)
-small-height (Some a) transform = cond_both (is_turned (transform_of transform)) a.layout.w a.layout.h (λ n. n < 2 ^ 31) (λ e. narrow a) (λ e. a.layout.height_fits)
-
-width-kept : {A : Type 0} (current : Current A) (h : History) → IsCurrent current h → side current.w ≡ current.w
-width-kept current h is =
-    small-side current.w (subst (λ (n : ℕ). n < 2 ^ 31) (ap (λ (b : Option Buffer). width_of b (applied h).transform) is.buffer ∙ sym is.width) (small-width current.buffer (applied h).transform))
-
-height-kept : {A : Type 0} (current : Current A) (h : History) → IsCurrent current h → side current.h ≡ current.h
-height-kept current h is =
-    small-side current.h (subst (λ (n : ℕ). n < 2 ^ 31) (ap (λ (b : Option Buffer). height_of b (applied h).transform) is.buffer ∙ sym is.height) (small-height current.buffer (applied h).transform))
 
 -- what counts of the surface of this number is told
 abbrev pub IsTold : {A : Type 0} → Kept A → ℕ → Option (Current A) → Type 0
@@ -213,41 +216,30 @@ module _ {A : Type 0} (c : ℕ) (others : ℕ → ById ℕ) (base d : Desktop) (
   owned-is : owned_in d c ≡ r.owned
   owned-is = ap owned_of seated.based.there
 
-  -- the toplevels that are kept lie where the windows of their surface do
-  pub seated-shown : (current : Current A) → IsTold v number (Some current) → (x y : ℤ)
-      → list_any (is_shown_at c number current.offset (side current.w) (side current.h) x y) stack.standing ≡ is_window_at c id x y d
-  seated-shown current is x y =
-      let stands : IsCurrent current there.0.history = told-there (Some current) is in
-      rw (width-kept current there.0.history stands, height-kept current there.0.history stands)
-      (sym (windows-shown c id number current there.0.history stands x y (owned_in d) (ap (λ (o : Owned). o.surfaces.links) owned-is ∙ kept.links)
-      (ap (λ (o : Owned). history_in id o.surfaces) owned-is ∙ ap (option_map (λ (s : Surface). s.history)) there.1)
+  history-is : history_in id (owned_in d c).surfaces ≡ Some there.0.history
+  history-is = ap (λ (o : Owned). history_in id o.surfaces) owned-is ∙ ap (option_map (λ (s : Surface). s.history)) there.1
+
+  -- the record of the toplevel that is kept is that of the window
+  pub seated-found : (current : Current A) → IsTold v number (Some current) → IsRecordOf (option_map (record_showing current) (find (is_of c number) stack.standing)) (window_at c id d)
+  seated-found current is =
+      windows-found c id number current there.0.history (told-there (Some current) is) (desk-turned d seated.mapped c id there.0.history history-is) (owned_in d) (ap (λ (o : Owned). o.surfaces.links) owned-is ∙ kept.links)
+      history-is
       (with_numbers c (targets_in WlSurface v.client.objects) others) (subst AreOnce (sym (numbers-same c (targets_in WlSurface v.client.objects) others)) kept.once)
       (ap (λ (numbers : ById ℕ). numbers id) (numbers-same c (targets_in WlSurface v.client.objects) others) ∙ named)
-      stack.standing d.standing seated.scene.standing (all-show d seated.mapped)))
+      stack.standing d.standing seated.scene.standing (all-show d seated.mapped)
 
--- What is damaged is what was, and what a test says of one of these toplevels. The output is as large.
-pub record IsMarkedBy (p : ℕ → ℕ → Standing → Bool) (toplevels : List Toplevel) (old new : Damaged) : Type 0 where
-  pub points : (x y : ℕ) → x < old.width → y < old.height → has new x y ≡ (has old x y || list_any (λ t. p x y (standing_of t)) toplevels)
-  pub sides : IsAsLarge old new
+  -- so it is of the toplevel that was found, if one was
+  pub seated-record : (current : Current A) → IsTold v number (Some current) → (toplevel : Option Toplevel) → option_map standing_of toplevel ≡ find (is_of c number) stack.standing
+      → IsRecordOf (option_map (λ t. record_showing current (standing_of t)) toplevel) (window_at c id d)
+  seated-record current is None found = subst (λ k. IsRecordOf (option_map (record_showing current) k) (window_at c id d)) (sym found) (seated-found current is)
+  seated-record current is (Some t) found = subst (λ k. IsRecordOf (option_map (record_showing current) k) (window_at c id d)) (sym found) (seated-found current is)
 
-any-standing : (p : Standing → Bool) (ts : List Toplevel) → list_any (λ t. p (standing_of t)) ts ≡ list_any p (map standing_of ts)
-any-standing p [] = refl
-any-standing p (t ∷ ts) = ap (λ (b : Bool). p (standing_of t) || b) (any-standing p ts)
-
--- the toplevels of a scene
-pub scene-marked : (p : ℕ → ℕ → Standing → Bool) (toplevels : List Toplevel) (standing : List Standing) (old new : Damaged) → map standing_of toplevels ≡ standing → IsMarkedBy p toplevels old new
-    → (x y : ℕ) → x < old.width → y < old.height → has new x y ≡ (has old x y || list_any (p x y) standing)
-scene-marked p toplevels standing old new same is x y wide high =
-    is.points x y wide high ∙ ap (λ (b : Bool). has old x y || b) (any-standing (p x y) toplevels ∙ ap (λ (ss : List Standing). list_any (p x y) ss) same)
-
--- one more of them
-pub marked-more : (p : ℕ → ℕ → Standing → Bool) (toplevels : List Toplevel) (k : ℕ) (t : Toplevel) (old was new : Damaged) → k < length toplevels → IsMarkedBy p (take k toplevels) old was
-    → ((x y : ℕ) → x < was.width → y < was.height → has new x y ≡ (has was x y || p x y (standing_of (get_or toplevels k t)))) → IsAsLarge was new → IsMarkedBy p (take (k + 1) toplevels) old new
-marked-more p toplevels k t old was new less is more sides = record {
-  points = λ x y wide high.
-      more x y (rw is.sides.width wide) (rw is.sides.height high)
-      ∙ (ap (λ (b : Bool). b || p x y (standing_of (get_or toplevels k t))) (is.points x y wide high)
-      ∙ (or_assoc (has old x y) (list_any (λ t. p x y (standing_of t)) (take k toplevels)) (p x y (standing_of (get_or toplevels k t)))
-      ∙ ap (λ (b : Bool). has old x y || b) (sym (list_any_more (λ t. p x y (standing_of t)) toplevels k t less))));
-  sides = record { width = sides.width ∙ is.sides.width; height = sides.height ∙ is.sides.height };
-}
+-- the toplevel of a scene that passes
+pub find-standing : (p : Standing → Bool) (ts : List Toplevel) → option_map standing_of (find (λ t. p (standing_of t)) ts) ≡ find p (map standing_of ts)
+find-standing p [] = refl
+find-standing p (t ∷ ts) = at (p (standing_of t)) (find-standing p ts)
+  where
+    at : (b : Bool) → option_map standing_of (find (λ t. p (standing_of t)) ts) ≡ find p (map standing_of ts)
+        → option_map standing_of (cond b (Some t) (find (λ t. p (standing_of t)) ts)) ≡ cond b (Some (standing_of t)) (find p (map standing_of ts))
+    at true later = refl
+    at false later = later

@@ -1,9 +1,9 @@
--- A message of a client marks to be painted again what the desk marks: the window of the surface that it touches, before it and after it, and
--- everything where its client ends and a toplevel of its stood.
+-- What a message of a client marks to be painted again the desk marks: what it changes of the window of the surface that it touches, and everything
+-- where its client ends and a toplevel of its stood.
 use Rattle.std.proofs.Common.{◌≡◌, ℕ, ◌<◌, ◌-◌, List, [], ◌∷◌, ◌++◌, Bool, true, false, Option, Some, None, Result, refl, ap, sym, subst, ◌∙◌, inl, inr, ◌⊎◌}
-use Rattle.std.specs.Prelude.{ℤ, pos, ◌==◌, ◌&&◌, ◌||◌, Ok, Err, drop, if◌then◌else◌, is_some, take}
+use Rattle.std.specs.Prelude.{ℤ, pos, ◌==◌, ◌&&◌, ◌||◌, Ok, Err, cond, drop, find, if◌then◌else◌, is_some, take}
 use Rattle.std.specs.List.{list_any}
-use Rattle.std.specs.Option.{option_and_then}
+use Rattle.std.specs.Option.{option_and_then, option_map}
 use Rattle.std.proofs.lemmas.Bool.{eqb-false, eqb-true, or_left, or_right}
 use Rattle.std.proofs.lemmas.List.Folds.{list_any-append}
 use Rattle.wl_wire.specs.Wire.{Field, split_of}
@@ -20,6 +20,8 @@ use Rattle.wl_proto.specs.declared.xdg_surface.XdgSurfaceRequest.{XdgSurfaceRequ
 use Rattle.wl_proto.specs.declared.xdg_surface.XdgSurfaceRequest.TheVariants as xdg
 use Rattle.wl_proto.specs.declared.xdg_wm_base.XdgWmBaseRequest.{XdgWmBaseRequest}
 use Rattle.wl_proto.specs.declared.xdg_wm_base.XdgWmBaseRequest.TheVariants as base
+use Rattle.wl_geom.specs.declared.rect.Rect.{Rect}
+use Rattle.wl_store.specs.Transform.{transform_of}
 use Rattle.wl_client.specs.Agreement.{IsPeer}
 use Rattle.wl_client.specs.First.{IsRefused, Passes}
 use Rattle.wl_client.specs.Judgement.{action_of}
@@ -32,9 +34,12 @@ use Rattle.wl_client.specs.declared.refusals.ErrorCode.TheVariants.{InvalidMetho
 use Rattle.wl_client.specs.declared.refusals.Refusal.{Refusal}
 use Rattle.wl_client.proofs.Passing.{judged-refused}
 use Rattle.wl_paint.specs.Damage.{Damaged, has}
+use Rattle.wl_surface.specs.Applied.{AreChanges, newly_damaged}
+use Rattle.wl_surface.specs.Kept.{Numbered, StandForAll}
 use Rattle.wl_surface.specs.Request.{Buffer, Request}
-use Rattle.wl_surface.specs.State.{offset, values}
-use Rattle.wl_surface.specs.Surfaces.{history_in}
+use Rattle.wl_surface.specs.State.{History, offset, values}
+use Rattle.wl_surface.specs.Surfaces.{Surface, history_in, surface_at}
+use Rattle.wl_surface.specs.declared.applied.Applied.{Applied}
 use Rattle.wl_shell.specs.Kept.{kept_of}
 use Rattle.wl_shell.specs.Shell.{Effect, Stays, Unconfigured, Configures, Maps, Unmaps, is_full, xdg_at, xdg_of, xdg_with}
 use Rattle.wl_shell.specs.Shell.{XdgSurface as Xdg}
@@ -48,9 +53,12 @@ use Rattle.wl_plain.proofs.BridgeJudged.{simple-peer, simply-ok}
 use Rattle.wl_plain.specs.Desktop.{Desktop, Resident, client_in, owned_in, owned_of, place}
 use Rattle.wl_plain.specs.Laws.{status_in, status_of}
 use Rattle.wl_resident.proofs.Toplevels.{MarksToplevels}
-use Rattle.wl_resident.specs.Marking.{AreUnlinked, IsAsLarge, MarksEnd, marked_by, marked_in, stands_any}
+use Rattle.wl_resident.specs.Marking.{AddsPoints, AreUnlinked, IsRecordOf, MarksChange, MarksEnd, TellsChange, any_record_has, commit_by, commit_in, is_record_damaged, marked_by, marked_in, record_has, rects_applied, rects_changed, stands_any}
+use Rattle.wl_resident.specs.declared.marking.WindowRecord.{WindowRecord}
 use Rattle.wl_resident.specs.Messages.{IsAsked, IsKind}
-use Rattle.wl_plain.specs.Owning.{names_in, target_as, targets_in}
+use Rattle.wl_plain.specs.Owning.{by_number, names_in, target_as, targets_in}
+use Rattle.wl_plain.specs.Marks.{has_same_record}
+use Rattle.wl_plain.specs.Moments.{history_of}
 use Rattle.wl_resident.specs.Residents.{IsLeft, IsResident, KeepsNumbers, asked_by}
 use Rattle.wl_resident.proofs.Simply.{AnswersSimply, TakesSo}
 use Rattle.wl_resident.specs.Seats.{IsClearedBy, IsRestacked, IsSeated, IsSettledBy}
@@ -58,8 +66,8 @@ use Rattle.wl_plain.specs.LeftOut.{served_now}
 use Rattle.wl_plain.specs.NoMore.{NoMore}
 use Rattle.wl_plain.specs.Happens.{Serves}
 use Rattle.wl_plain.specs.Step.{with_peer}
-use Rattle.wl_plain.proofs.Simply.{Simple, changed_simply, judge, simple_of, simply, touched}
-use Rattle.wl_plain.specs.Touching.{any_window_at, has_window_at, is_window_at}
+use Rattle.wl_plain.proofs.Simply.{Simple, Asking, CommitSurface, DestroySurface, DestroyToplevel, changed_simply, effect_of, judge, simple_of, simply, touched}
+use Rattle.wl_plain.specs.Touching.{any_window_at, changes_at, has_window_at, is_window_damaged, is_window_of, window_at}
 use Rattle.wl_client.specs.Requests.{Request as AnyRequest, ToCompositor, ToSurface, ToSubcompositor, ToSubsurface, ToSeat, ToPointer, ToBase, ToPositioner, ToXdgSurface, ToToplevel, ToPopup, request_in, request_of, toplevel_request}
 use Rattle.wl_plain.specs.Served.{unserved_now}
 use Rattle.wl_client.specs.ToplevelRequest.{ToplevelRequest}
@@ -80,11 +88,15 @@ use Rattle.wl_resident.proofs.Doing.{named-by}
 use Rattle.wl_resident.proofs.Ends.{lacks-over, over-ended}
 use Rattle.wl_plain.proofs.BridgeBack.{AsksBy}
 use Rattle.wl_plain.proofs.OwningXdg.{toplevel-named}
+use Rattle.wl_plain.proofs.OwningSurfaces.{surface-named, surface-read}
 use Rattle.wl_plain.proofs.Places.{number-other}
-use Rattle.wl_plain.proofs.Stacks.{and-both, and-left, differ, or-left, or-right, unless}
-use Rattle.wl_resident.proofs.Taking.{known-mapped, none-is, numbers}
+use Rattle.wl_plain.proofs.Stacks.{and-both, and-left, and-right, differ, fields, or-left, or-right, recorded, unless}
+use Rattle.wl_plain.proofs.StandingTurned.{same-turned}
+use Rattle.wl_resident.proofs.Taking.{none-is}
 use Rattle.wl_plain.proofs.TouchingMarks.{either-of}
-use Rattle.wl_plain.proofs.TouchingMessages.{MarkedBy, serves-point, touched-peer}
+use Rattle.wl_plain.proofs.TouchingDamage.{IsAppliedBy, MarkedExactlyBy, serves-exactly}
+use Rattle.wl_plain.proofs.TouchingKeeps.{serves-keeps}
+use Rattle.wl_plain.proofs.TouchingMessages.{touched-peer}
 use Rattle.wl_plain.proofs.TouchingWindows.{counted as counted_of, lone, window_by, windows-first}
 use Rattle.wl_plain.proofs.ToplevelWindows.{marks_of_toplevels}
 
@@ -135,16 +147,16 @@ seated-unlinked c others base d v stack r is unlinked other = by (c == other) re
 
 -- ---- what touches a surface is a commit, or the destruction of a toplevel
 
--- where what is judged touches a surface, this holds of it
-abbrev pub TouchesSo : Resident → (ℕ → Type 0) → Result Demand Refusal → Type 0
-TouchesSo r P judged = (demand : Demand) (id : ℕ) → judged ≡ Ok demand → touched (simple_of r demand) r ≡ Some id → P id
+-- where what is judged touches a surface, this holds of both
+abbrev pub TouchesSo : Resident → (Simple → ℕ → Type 0) → Result Demand Refusal → Type 0
+TouchesSo r P judged = (demand : Demand) (id : ℕ) → judged ≡ Ok demand → touched (simple_of r demand) r ≡ Some id → P (simple_of r demand) id
 
-module _ (r : Resident) (P : ℕ → Type 0) where
-  by-demand : (a : Demand) → ((id : ℕ) → touched (simple_of r a) r ≡ Some id → P id) → TouchesSo r P (Ok a)
-  by-demand a f demand id e t = let same : a ≡ demand = cc in f id (ap (λ b. touched (simple_of r b) r) same ∙ t)
+module _ (r : Resident) (P : Simple → ℕ → Type 0) where
+  by-demand : (a : Demand) → ((id : ℕ) → touched (simple_of r a) r ≡ Some id → P (simple_of r a) id) → TouchesSo r P (Ok a)
+  by-demand a f demand id e t = let same : a ≡ demand = cc in subst (λ b. P (simple_of r b) id) same (f id (ap (λ b. touched (simple_of r b) r) same ∙ t))
 
-  one : (a : Demand) (surface : ℕ) → touched (simple_of r a) r ≡ Some surface → P surface → TouchesSo r P (Ok a)
-  one a surface is there = by-demand a (λ id t. let both = sym is ∙ t in let same : surface ≡ id = cc in subst P same there)
+  one : (a : Demand) (surface : ℕ) → touched (simple_of r a) r ≡ Some surface → P (simple_of r a) surface → TouchesSo r P (Ok a)
+  one a surface is there = by-demand a (λ id t. let both = sym is ∙ t in let same : surface ≡ id = cc in subst (λ n. P (simple_of r a) n) same there)
 
   none : (a : Demand) → touched (simple_of r a) r ≡ None → TouchesSo r P (Ok a)
   none a is = by-demand a (λ id t. absurd (let both = sym is ∙ t in cc))
@@ -160,15 +172,19 @@ module _ (r : Resident) (P : ℕ → Type 0) where
   asks-touch-none (Ok ask) = none (Asks ask) refl
   asks-touch-none (Err refusal) = refused refusal
 
-  commit-touches : (object : ℕ) → P object → (x : Option Xdg) (effect : Effect) → TouchesSo r P (committed_by x object effect)
-  commit-touches object there None effect = one (CommitTree object) object refl there
-  commit-touches object there (Some x) Stays = one (CommitTree object) object refl there
-  commit-touches object there (Some x) Unconfigured = refused _
-  commit-touches object there (Some x) Configures = either (is_full x.serials) _ _ (λ full. refused _) (λ room. one (CommitTree object) object refl there)
-  commit-touches object there (Some x) Maps = one (CommitTree object) object refl there
-  commit-touches object there (Some x) Unmaps = one (CommitTree object) object refl there
+  -- of whatever a commit of this surface comes to for the shell
+  abbrev Commits : ℕ → Type 0
+  Commits object = (effect : Effect) → P (CommitSurface object effect) object
 
-  surface-touches : (object version : ℕ) (request : WlSurfaceRequest) → (request ≡ surface.Commit → P object) → TouchesSo r P (surface_demand r object version request)
+  commit-touches : (object : ℕ) → Commits object → (x : Option Xdg) (effect : Effect) → TouchesSo r P (committed_by x object effect)
+  commit-touches object there None effect = one (CommitTree object) object refl (there (effect_of r object))
+  commit-touches object there (Some x) Stays = one (CommitTree object) object refl (there (effect_of r object))
+  commit-touches object there (Some x) Unconfigured = refused _
+  commit-touches object there (Some x) Configures = either (is_full x.serials) _ _ (λ full. refused _) (λ room. one (CommitTree object) object refl (there (effect_of r object)))
+  commit-touches object there (Some x) Maps = one (CommitTree object) object refl (there (effect_of r object))
+  commit-touches object there (Some x) Unmaps = one (CommitTree object) object refl (there (effect_of r object))
+
+  surface-touches : (object version : ℕ) (request : WlSurfaceRequest) → (request ≡ surface.Commit → Commits object) → TouchesSo r P (surface_demand r object version request)
   surface-touches object version surface.Destroy commits = either (is_some (xdg_of object r.owned.shell)) _ _ (λ there. refused _) (λ free. none (EndSurface object) refl)
   surface-touches object version (surface.Attach buffer x y) commits = none (Asks _) refl
   surface-touches object version (surface.Damage x y width height) commits = none (Asks _) refl
@@ -192,9 +208,9 @@ module _ (r : Resident) (P : ℕ → Type 0) where
   xdg-touches (Some x) version (xdg.SetWindowGeometry a b width height) served = asks-touch-none (geometry_set x (rect a b width height))
   xdg-touches (Some x) version (xdg.AckConfigure serial) served = asks-touch-none (acknowledged_by x serial)
 
-  -- the surface of the toplevel with this id
+  -- of the surface of the toplevel with this id
   abbrev Destroys : ℕ → Type 0
-  Destroys object = (x : Xdg) → xdg_with object r.owned.shell ≡ Some x → P x.surface
+  Destroys object = (x : Xdg) → xdg_with object r.owned.shell ≡ Some x → P (DestroyToplevel object x.id x.surface) x.surface
 
   toplevel-touches : (object : ℕ) (request : ToplevelRequest) → (request ≡ toplevel.Destroy → Destroys object) → TouchesSo r P (toplevel_demand r object request)
   toplevel-touches object request destroys = at (xdg_with object r.owned.shell) refl request destroys
@@ -220,7 +236,7 @@ module _ (r : Resident) (P : ℕ → Type 0) where
   own-touches : (object version : ℕ) (request : AnyRequest) → TouchesSo r P (own_demand r object version request)
   own-touches object version request = asks-touch-none (owns (action_of (known_of r.peer) object version request))
 
-  request-touches : (request : AnyRequest) (object version : ℕ) → unserved_now request ≡ false → (request ≡ ToSurface surface.Commit → P object) → (request ≡ ToToplevel toplevel.Destroy → Destroys object)
+  request-touches : (request : AnyRequest) (object version : ℕ) → unserved_now request ≡ false → (request ≡ ToSurface surface.Commit → Commits object) → (request ≡ ToToplevel toplevel.Destroy → Destroys object)
       → TouchesSo r P (demand_by request r object version)
   request-touches (ToCompositor (compositor.CreateSurface id)) object version served commits destroys = asks-touch-none (surface_created r id version)
   request-touches (ToCompositor (compositor.CreateRegion id)) object version served commits destroys = own-touches object version (ToCompositor (compositor.CreateRegion id))
@@ -238,7 +254,7 @@ module _ (r : Resident) (P : ℕ → Type 0) where
   request-touches (ToPopup request) object version served commits destroys = absurd (cc)
   request-touches request object version served commits destroys = own-touches object version request
 
-  pub demand-touches : (object version : ℕ) (m : Message) → (request_of m ≡ ToSurface surface.Commit → P object) → (request_of m ≡ ToToplevel toplevel.Destroy → Destroys object) → TouchesSo r P (demand_of served_now r object version m)
+  pub demand-touches : (object version : ℕ) (m : Message) → (request_of m ≡ ToSurface surface.Commit → Commits object) → (request_of m ≡ ToToplevel toplevel.Destroy → Destroys object) → TouchesSo r P (demand_of served_now r object version m)
   demand-touches object version m commits destroys =
       either (unserved_now (request_of m)) _ _ (λ left_out. refused _) (λ served. request-touches (request_of m) object version served commits destroys)
 
@@ -259,16 +275,16 @@ asks-of m told request other is asks o = sym (ap (λ (n : Message). request_of n
 toplevel-asks : (m : Message) (other : AnyRequest) → m.interface ≡ XdgToplevel → request_of m ≡ other → ToToplevel (toplevel_request m.opcode m.fields) ≡ other
 toplevel-asks m other is o = sym (ap (λ (n : Interface). request_in n m.opcode m.fields) is) ∙ o
 
-commit-marks : (k : Kind) (m : Message) (target : ℕ) → IsKind k m → request_of m ≡ ToSurface surface.Commit → marked_in k target ≡ Some target
-commit-marks (kind.Compositor request) m target is o = absurd (let both = asks-of m _ _ _ is (of-wl_compositor request) o in cc)
-commit-marks (kind.Surface request) m target is o =
+commit-kind : (k : Kind) (m : Message) → IsKind k m → request_of m ≡ ToSurface surface.Commit → k ≡ kind.Surface surface.Commit
+commit-kind (kind.Compositor request) m is o = absurd (let both = asks-of m _ _ _ is (of-wl_compositor request) o in cc)
+commit-kind (kind.Surface request) m is o =
     let both = asks-of m _ _ _ is (of-wl_surface request) o in
-    let same : request ≡ surface.Commit = cc in ap (λ (q : WlSurfaceRequest). marked_in (kind.Surface q) target) same
-commit-marks (kind.Seat request) m target is o = absurd (let both = asks-of m _ _ _ is (of-wl_seat request) o in cc)
-commit-marks (kind.Base request) m target is o = absurd (let both = asks-of m _ _ _ is (of-xdg_wm_base request) o in cc)
-commit-marks (kind.XdgSurface request) m target is o = absurd (let both = asks-of m _ _ _ is (of-xdg_surface request) o in cc)
-commit-marks (kind.Toplevel asked) m target is o = absurd (let both = toplevel-asks m _ is.0 o in cc)
-commit-marks kind.Unserved m target is o = absurd (differ (sym (ap unserved_now o) ∙ is))
+    let same : request ≡ surface.Commit = cc in ap (λ (q : WlSurfaceRequest). kind.Surface q) same
+commit-kind (kind.Seat request) m is o = absurd (let both = asks-of m _ _ _ is (of-wl_seat request) o in cc)
+commit-kind (kind.Base request) m is o = absurd (let both = asks-of m _ _ _ is (of-xdg_wm_base request) o in cc)
+commit-kind (kind.XdgSurface request) m is o = absurd (let both = asks-of m _ _ _ is (of-xdg_surface request) o in cc)
+commit-kind (kind.Toplevel asked) m is o = absurd (let both = toplevel-asks m _ is.0 o in cc)
+commit-kind kind.Unserved m is o = absurd (differ (sym (ap unserved_now o) ∙ is))
 
 destroy-marks : (k : Kind) (m : Message) (target : ℕ) → IsKind k m → request_of m ≡ ToToplevel toplevel.Destroy → marked_in k target ≡ Some target
 destroy-marks (kind.Compositor request) m target is o = absurd (let both = asks-of m _ _ _ is (of-wl_compositor request) o in cc)
@@ -282,27 +298,40 @@ destroy-marks (kind.Toplevel asked) m target is o =
     ap (λ t. marked_in (kind.Toplevel t) target) (is.1 ∙ ap asked_by same)
 destroy-marks kind.Unserved m target is o = absurd (differ (sym (ap unserved_now o) ∙ is))
 
+-- what the desk takes a commit for is one, of the surface with this number
+abbrev IsCommitOf : Asked → Simple → ℕ → Type 0
+IsCommitOf a (CommitSurface id effect) number = commit_by a ≡ Some number
+IsCommitOf a ask number = Unit {0}
+
 -- what the desk takes a message for has this number, and so has the surface that it touches
-abbrev pub IsMarkedBy : {A : Type 0} → Kept A → Asked → ℕ → Type 0
-IsMarkedBy v asked id = (number : ℕ) × (marked_by asked ≡ Some number) × (targets_in WlSurface v.client.objects id ≡ Some number)
+abbrev pub IsMarkedBy : {A : Type 0} → Kept A → Asked → Simple → ℕ → Type 0
+IsMarkedBy v asked ask id = (number : ℕ) × (marked_by asked ≡ Some number) × (targets_in WlSurface v.client.objects id ≡ Some number) × IsCommitOf asked ask number
 
 module _ {A : Type 0} (v : Kept A) (r : Resident) (is : IsResident v r) where
   -- a message that passes
-  passed-touches : (P : ℕ → Type 0) (object version size target : ℕ) (m : Message) → Passes v.client object version size target m → (request_of m ≡ ToSurface surface.Commit → P object)
-      → (request_of m ≡ ToToplevel toplevel.Destroy → Destroys r P object) → (ask : Simple) (id : ℕ) → AsksBy r (split_of r.peer.rest) ask → touched ask r ≡ Some id → P id
+  passed-touches : (P : Simple → ℕ → Type 0) (object version size target : ℕ) (m : Message) → Passes v.client object version size target m → (request_of m ≡ ToSurface surface.Commit → Commits r P object)
+      → (request_of m ≡ ToToplevel toplevel.Destroy → Destroys r P object) → (ask : Simple) (id : ℕ) → AsksBy r (split_of r.peer.rest) ask → touched ask r ≡ Some id → P ask id
   passed-touches P object version size target m passes commits destroys ask id asks t =
       let left = with_peer (with_rest (drop size r.peer.rest) r.peer) r in
       let whole : AsksBy r (Whole object m.opcode size) ask = subst (λ (s : Split). AsksBy r s ask) (whole-first v r object version size target m passes is) asks in
       let judged = simply-ok r (judge_all served_now r object m.opcode (take (size - 8) (drop 8 r.peer.rest))) ask whole in
-      demand-touches left P object version m commits destroys judged.0 id (sym (demanded-first v r object version size target m passes is) ∙ judged.1)
-      (ap (λ (a : Simple). touched a left) (simple-peer (with_rest (drop size r.peer.rest) r.peer) r judged.0 ∙ judged.2) ∙ touched-peer ask (with_rest (drop size r.peer.rest) r.peer) r ∙ t)
+      let same : simple_of left judged.0 ≡ ask = simple-peer (with_rest (drop size r.peer.rest) r.peer) r judged.0 ∙ judged.2 in
+      subst (λ (a : Simple). P a id) same
+      (demand-touches left P object version m commits destroys judged.0 id (sym (demanded-first v r object version size target m passes is) ∙ judged.1)
+      (ap (λ (a : Simple). touched a left) same ∙ touched-peer ask (with_rest (drop size r.peer.rest) r.peer) r ∙ t))
 
   request-marks : (object version size target : ℕ) (k : Kind) (m : Message) → Passes v.client object version size target m → IsKind k m
-      → (ask : Simple) (id : ℕ) → AsksBy r (split_of r.peer.rest) ask → touched ask r ≡ Some id → IsMarkedBy v (asked.Request object version size target k) id
+      → (ask : Simple) (id : ℕ) → AsksBy r (split_of r.peer.rest) ask → touched ask r ≡ Some id → IsMarkedBy v (asked.Request object version size target k) ask id
   request-marks object version size target k m passes told =
       passed-touches (IsMarkedBy v (asked.Request object version size target k)) object version size target m passes
-      (λ o. (target, commit-marks k m target told o, named-by v.client.objects object target _ passes.entry (to-surface m.interface m.opcode m.fields surface.Commit o) refl))
-      (λ o x found. (target, destroy-marks k m target told o, toplevel-number (to-toplevel m.interface m.opcode m.fields toplevel.Destroy o) x found))
+      (λ o effect.
+          let same : k ≡ kind.Surface surface.Commit = commit-kind k m told o in (
+            target,
+            ap (λ (q : Kind). marked_in q target) same,
+            named-by v.client.objects object target _ passes.entry (to-surface m.interface m.opcode m.fields surface.Commit o) refl,
+            ap (λ (q : Kind). commit_in q target) same,
+          ))
+      (λ o x found. (target, destroy-marks k m target told o, toplevel-number (to-toplevel m.interface m.opcode m.fields toplevel.Destroy o) x found, tt))
     where
       named : m.interface ≡ XdgToplevel → targets_in XdgToplevel v.client.objects object ≡ Some target
       named i =
@@ -326,14 +355,14 @@ module _ {A : Type 0} (v : Kept A) (r : Resident) (is : IsResident v r) where
   refused-asks More refusal ask why asks = asks
 
   -- Where a message touches a surface, the desk marks the window of that surface.
-  pub asked-marks : (a : Asked) → IsAsked v.client a → (ask : Simple) (id : ℕ) → AsksBy r (split_of r.peer.rest) ask → touched ask r ≡ Some id → IsMarkedBy v a id
+  pub asked-marks : (a : Asked) → IsAsked v.client a → (ask : Simple) (id : ℕ) → AsksBy r (split_of r.peer.rest) ask → touched ask r ≡ Some id → IsMarkedBy v a ask id
   asked-marks asked.More more ask id asks t =
       absurd (subst (λ (s : Split). AsksBy r s ask) (ap split_of (sym is.peer.rest) ∙ more) asks)
   asked-marks (asked.Refused refusal) why ask id asks t =
       absurd (refused-asks (split_of v.client.rest) refusal ask why (subst (λ (rest : List ℕ). AsksBy r (split_of rest) ask) (sym is.peer.rest) asks))
   asked-marks asked.Own (object, version, size, target, m, passes, own) ask id asks t =
       passed-touches (IsMarkedBy v asked.Own) object version size target m passes
-      (λ o. absurd (differ (sym (ap is_own (to-surface m.interface m.opcode m.fields surface.Commit o)) ∙ own)))
+      (λ o effect. absurd (differ (sym (ap is_own (to-surface m.interface m.opcode m.fields surface.Commit o)) ∙ own)))
       (λ o. absurd (differ (sym (ap is_own (to-toplevel m.interface m.opcode m.fields toplevel.Destroy o)) ∙ own))) ask id asks t
   asked-marks (asked.Request object version size target k) (m, passes, told) ask id asks t = request-marks object version size target k m passes told ask id asks t
 
@@ -380,87 +409,191 @@ keeps-numbers {A} s r c stacking old mid new was now takes settled lives =
     let same : new ≡ mid = settled-lives-on mid.client.ended c stacking mid new was now left.1 refl left.2.peer settled lives in
     subst (λ (k : Kept A). KeepsNumbers old.client.objects k.client.objects) (sym same) (left.2.numbers (ap (λ (k : Kept A). k.client.ended) (sym same) ∙ lives))
 
--- ---- a message
-
--- The window of the surface with this number is marked, if there is one: this is how damage changed.
-pub record MarksTouched {A : Type 0} (c : ℕ) (v : Kept A) (stack : Stack) (surface : Option ℕ) (old new : Damaged) : Type 0 where
-  pub marks : (others : ℕ → ById ℕ) (base d : Desktop) (r : Resident) → IsSeated c others base v stack d r
-      → (id number : ℕ) → surface ≡ Some number → targets_in WlSurface v.client.objects id ≡ Some number
-      → (x y : ℕ) → x < old.width → y < old.height → has new x y ≡ (has old x y || is_window_at c id (pos x) (pos y) d)
-  pub more : (x y : ℕ) → x < old.width → y < old.height → has old x y ≡ true → has new x y ≡ true
-  pub sides : IsAsLarge old new
+-- where it lives after the stack is settled, it lived before
+pub lived-before : {A : Type 0} (s : Split) (r : Resident) (c : ℕ) (stacking : Stacking) (old mid new : Kept A) (was now : Stack) → TakesSo s r old mid stacking → IsSettledBy mid.client.ended c stacking mid new was now
+    → new.client.ended ≡ None → mid.client.ended ≡ None
+lived-before s r c stacking old mid new was now takes settled lives =
+    let left = takes-left s r old mid stacking takes in
+    let same : new ≡ mid = settled-lives-on mid.client.ended c stacking mid new was now left.1 refl left.2.peer settled lives in
+    ap (λ k. k.client.ended) (sym same) ∙ lives
 
 -- a number that is there
 some-number : (o : Option ℕ) → is_some o ≡ true → (number : ℕ) × (o ≡ Some number)
 some-number (Some number) e = (number, refl)
 some-number None e = absurd (differ e)
 
+-- ---- the records of a window before and after
+
+-- a list's first window that is of a surface is of it
+found-of : (c id : ℕ) (ws : List Window) (w : Window) → find (is_window_of c id) ws ≡ Some w → is_window_of c id w ≡ true
+found-of c id [] w e = absurd (cc)
+found-of c id (v ∷ ws) w e = at (is_window_of c id v) refl e
+  where
+    at : (b : Bool) → is_window_of c id v ≡ b → cond b (Some v) (find (is_window_of c id) ws) ≡ Some w → is_window_of c id w ≡ true
+    at true is e = let same : v ≡ w = cc in subst (λ x. is_window_of c id x ≡ true) same is
+    at false is e = found-of c id ws w e
+
+-- two windows of one surface whose records are the same
+module _ (c id : ℕ) (w v : Window) (of_w : is_window_of c id w ≡ true) (of_v : is_window_of c id v ≡ true) (k j : WindowRecord) (first : IsRecordOf (Some k) (Some w)) (second : IsRecordOf (Some j) (Some v)) where
+  record-same : has_same_record w v ≡ true → k ≡ j
+  record-same e =
+      let is = fields w v e in
+      records k j (first.0.0 ∙ is.x ∙ sym second.0.0) (first.0.1 ∙ is.y ∙ sym second.0.1) (first.1.0 ∙ is.width ∙ sym second.1.0) (first.1.1 ∙ is.height ∙ sym second.1.1)
+      (first.2 ∙ ap transform_of is.transform ∙ sym second.2)
+
+  same-record : k ≡ j → has_same_record w v ≡ true
+  same-record e =
+      recorded w v (record {
+        client = eqb-true w.owner.client c (and-left _ _ of_w) ∙ sym (eqb-true v.owner.client c (and-left _ _ of_v));
+        surface = eqb-true w.surface id (and-right (w.owner.client == c) _ of_w) ∙ sym (eqb-true v.surface id (and-right (v.owner.client == c) _ of_v));
+        x = sym first.0.0 ∙ ap (λ (n : WindowRecord). n.x) e ∙ second.0.0;
+        y = sym first.0.1 ∙ ap (λ (n : WindowRecord). n.y) e ∙ second.0.1;
+        width = sym first.1.0 ∙ ap (λ (n : WindowRecord). n.w) e ∙ second.1.0;
+        height = sym first.1.1 ∙ ap (λ (n : WindowRecord). n.h) e ∙ second.1.1;
+        transform = same-turned w.transform v.transform first.3 second.3 (sym first.2 ∙ ap (λ (n : WindowRecord). n.transform) e ∙ second.2);
+      })
+
+-- the records of two windows, and of one
+records : (k j : WindowRecord) → k.x ≡ j.x → k.y ≡ j.y → k.w ≡ j.w → k.h ≡ j.h → k.transform ≡ j.transform → k ≡ j
+records k j x y w h t = cc
+
+-- ---- a message
+
+-- a point that isn't to be painted is none that was added
+none-added : (p : ℤ → ℤ → Bool) (old new : Damaged) → AddsPoints p old new → (x y : ℕ) → x < old.width → y < old.height → has new x y ≡ false → p (pos x) (pos y) ≡ true → ⊥
+none-added p old new adds x y wide high unmarked there = differ (sym (or-right (has old x y) _ (sym (adds x y wide high) ∙ unmarked)) ∙ there)
+
+none-before : (p : ℤ → ℤ → Bool) (old new : Damaged) → AddsPoints p old new → (x y : ℕ) → x < old.width → y < old.height → has new x y ≡ false → has old x y ≡ false
+none-before p old new adds x y wide high unmarked = or-left (has old x y) _ (sym (adds x y wide high) ∙ unmarked)
+
+module _ (c id : ℕ) (d e : Desktop) (was is : Option WindowRecord) (first : IsRecordOf was (window_at c id d)) (second : IsRecordOf is (window_at c id e)) (rects : List Rect) (old new : Damaged) (changes : MarksChange was is rects old new)
+    (x y : ℕ) (wide : x < old.width) (high : y < old.height) (unmarked : has new x y ≡ false) where
+  abbrev Unchanged : Option WindowRecord → Option WindowRecord → Option Window → Option Window → Type 0
+  Unchanged was is w v = changes_at rects (pos x) (pos y) w v ≡ true → ⊥
+
+  came : (w v : Option Window) (k j : Option WindowRecord) → was ≡ k → is ≡ j → (k ≡ j → ⊥) → (any_record_has (pos x) (pos y) k || any_record_has (pos x) (pos y) j) ≡ true → ⊥
+  came w v k j a b other there =
+      none-added _ old new (changes.changed (λ same. other (sym a ∙ same ∙ b))) x y wide high unmarked
+      (ap (λ (n : Option WindowRecord). any_record_has (pos x) (pos y) n || any_record_has (pos x) (pos y) is) a ∙ ap (λ (n : Option WindowRecord). any_record_has (pos x) (pos y) k || any_record_has (pos x) (pos y) n) b ∙ there)
+
+  -- where a window that has this record contains the point, so does the record
+  has-so : (k : WindowRecord) (w : Window) → IsRecordOf (Some k) (Some w) → contains w (pos x) (pos y) ≡ record_has (pos x) (pos y) k
+  has-so k w so = rw (sym so.0.0, sym so.0.1, sym so.1.0, sym so.1.1) refl
+
+  both : (w v : Window) (k j : WindowRecord) → window_at c id d ≡ Some w → window_at c id e ≡ Some v → was ≡ Some k → is ≡ Some j → IsRecordOf (Some k) (Some w) → IsRecordOf (Some j) (Some v) → (b : Bool) → has_same_record w v ≡ b
+      → (if b then is_window_damaged rects (pos x) (pos y) v else contains w (pos x) (pos y) || contains v (pos x) (pos y)) ≡ true → ⊥
+  both w v k j at_d at_e a b so then true same there =
+      let of_w = found-of c id _ w at_d in
+      let of_v = found-of c id _ v at_e in
+      let equal : k ≡ j = record-same c id w v of_w of_v k j so then same in
+      none-added _ old new (changes.stayed j (a ∙ ap (λ (n : WindowRecord). Some n) equal) b) x y wide high unmarked (damaged-so j v then ∙ there)
+    where
+      damaged-so : (j : WindowRecord) (v : Window) → IsRecordOf (Some j) (Some v) → is_record_damaged rects (pos x) (pos y) j ≡ is_window_damaged rects (pos x) (pos y) v
+      damaged-so j v so = rw (so.0.0, so.0.1, so.1.0, so.1.1) refl
+  both w v k j at_d at_e a b so then false other there =
+      let of_w = found-of c id _ w at_d in
+      let of_v = found-of c id _ v at_e in
+      came (Some w) (Some v) (Some k) (Some j) a b
+      (λ same. let equal : k ≡ j = cc in differ (sym other ∙ same-record c id w v of_w of_v k j so then equal))
+      (sym (ap (λ (t : Bool). t || contains v (pos x) (pos y)) (has-so k w so) ∙ ap (λ (t : Bool). record_has (pos x) (pos y) k || t) (has-so j v then)) ∙ there)
+
+  unchanged : (w v : Option Window) (k j : Option WindowRecord) → window_at c id d ≡ w → window_at c id e ≡ v → was ≡ k → is ≡ j → IsRecordOf k w → IsRecordOf j v → changes_at rects (pos x) (pos y) w v ≡ true → ⊥
+  unchanged None None k j at_d at_e a b so then there = differ there
+  unchanged (Some w) None (Some k) None at_d at_e a b so then there =
+      came (Some w) None (Some k) None a b (λ same. absurd (cc)) (or_left (record_has (pos x) (pos y) k) false (sym (has-so k w so) ∙ there))
+  unchanged None (Some v) None (Some j) at_d at_e a b so then there =
+      came None (Some v) None (Some j) a b (λ same. absurd (cc)) (sym (has-so j v then) ∙ there)
+  unchanged (Some w) (Some v) (Some k) (Some j) at_d at_e a b so then there = both w v k j at_d at_e a b so then (has_same_record w v) refl there
+  unchanged (Some w) v None j at_d at_e a b so then there = absurd so
+  unchanged None (Some v) (Some k) j at_d at_e a b so then there = absurd so
+  unchanged (Some w) None k (Some j) at_d at_e a b so then there = absurd then
+  unchanged w (Some v) k None at_d at_e a b so then there = absurd then
+
+  -- what changes there is to be painted
+  pub never-changed : changes_at rects (pos x) (pos y) (window_at c id d) (window_at c id e) ≡ true → ⊥
+  never-changed there = unchanged (window_at c id d) (window_at c id e) was is refl refl refl refl first second there
+
 module _ {A : Type 0} (c : ℕ) (others : ℕ → ById ℕ) (base d e : Desktop) (r q : Resident) (old new : Kept A) (was now : Stack) (before : IsSeated c others base old was d r) (after : IsSeated c others base new now e q)
     (unlinked : AreUnlinked base) (more : NoMore d) (serves : Serves served_now c d e) (a : Asked) (asks : IsAsked old.client a)
-    (keeps : new.client.ended ≡ None → KeepsNumbers old.client.objects new.client.objects) (surface : Option ℕ) (by_asked : surface ≡ marked_by a)
-    (d0 d1 d2 d3 : Damaged) (first : MarksTouched c old was surface d0 d1) (settled : MarksEnd new.client.ended c was d1 d2) (second : MarksTouched c new now surface d2 d3) where
+    (keeps : new.client.ended ≡ None → KeepsNumbers old.client.objects new.client.objects) (surface_number : Option ℕ) (by_asked : surface_number ≡ marked_by a)
+    (record_was record_is : Option WindowRecord) (first : (id number : ℕ) → surface_number ≡ Some number → targets_in WlSurface old.client.objects id ≡ Some number → IsRecordOf record_was (window_at c id d))
+    (second : (id number : ℕ) → surface_number ≡ Some number → targets_in WlSurface new.client.objects id ≡ Some number → IsRecordOf record_is (window_at c id e))
+    (applied : Option (Applied A)) (commits : (number : ℕ) → commit_by a ≡ Some number → TellsChange old new number applied)
+    (d0 d1 d2 : Damaged) (settled : MarksEnd new.client.ended c was d0 d1) (changes : MarksChange record_was record_is (rects_applied applied) d1 d2) where
   status : status_in c e ≡ new.client.ended
   status = ap status_of after.based.there ∙ sym after.seat.peer.status
 
-  module _ (x y : ℕ) (wide : x < d0.width) (high : y < d0.height) (unmarked : has d3 x y ≡ false) where
+  owned-then : owned_in d c ≡ r.owned
+  owned-then = ap owned_of before.based.there
+
+  -- the damage that a commit applied is the one that is told
+  module _ (id number : ℕ) (named : targets_in WlSurface old.client.objects id ≡ Some number) (lives : new.client.ended ≡ None) where
+    numbers_then : ById ℕ
+    numbers_then = targets_in WlSurface old.client.objects
+
+    there : (s : Surface) × (surface_at id r.owned.surfaces ≡ Some s) × (s.id ≡ id)
+    there = surface-named numbers_then old.owned.surfaces r.owned.surfaces before.seat.owns.surfaces id number named
+
+    history-then : history_of d c id ≡ Some there.0.history
+    history-then = ap (λ (o : Owned). history_in id o.surfaces) owned-then ∙ ap (option_map (λ (s : Surface). s.history)) there.1
+
+    told-rects : commit_by a ≡ Some number → rects_applied applied ≡ newly_damaged there.0.history
+    told-rects commit =
+        let told = commits number commit lives (by_number numbers_then r.owned.surfaces) before.seat.owns.surfaces.stand in
+        let change : AreChanges number (Some there.0) told.0.changes.items =
+        subst (λ (o : Option Surface). AreChanges number o told.0.changes.items) (surface-read numbers_then old.owned.surfaces r.owned.surfaces before.seat.owns.surfaces id number named ∙ there.1) told.2 in
+        ap rects_applied told.1 ∙ ap rects_changed change.1 ∙ change.2.rects
+
+    applied-by : (ask : Simple) → IsCommitOf a ask number → IsAppliedBy ask (history_of d c id) (rects_applied applied)
+    applied-by (CommitSurface surface effect) commit =
+        subst (λ (o : Option History). IsAppliedBy (CommitSurface surface effect) o (rects_applied applied)) (sym history-then) (told-rects commit)
+    applied-by (Asking ask) commit = tt
+    applied-by (DestroySurface surface) commit = tt
+    applied-by (DestroyToplevel toplevel xdg top) commit = tt
+
+  -- a surface that is touched is there afterwards, with its number
+  still-named : (ask : Simple) (id number : ℕ) → AsksBy r (split_of r.peer.rest) ask → touched ask r ≡ Some id → targets_in WlSurface old.client.objects id ≡ Some number → new.client.ended ≡ None → targets_in WlSurface new.client.objects id ≡ Some number
+  still-named ask id number told t named lives =
+      let stays : is_some (surface_at id (owned_in e c).surfaces) ≡ true =
+      serves-keeps c r d before.based.there e more serves (status ∙ lives) ask told id t (sym (before.seat.owns.surfaces.numbered id) ∙ ap (λ (o : Option ℕ). is_some o) named) in
+      let here = some-number (targets_in WlSurface new.client.objects id) (after.seat.owns.surfaces.numbered id ∙ ap (λ (o : Option Resident). is_some (surface_at id (owned_of o).surfaces)) (sym after.based.there) ∙ stays) in
+      here.1 ∙ ap (λ n. Some n) (sym (keeps lives id number here.0 named here.1))
+
+  module _ (x y : ℕ) (wide : x < d0.width) (high : y < d0.height) (unmarked : has d2 x y ≡ false) where
     wide1 : x < d1.width
-    wide1 = subst (λ n. x < n) (sym first.sides.width) wide
+    wide1 = subst (λ n. x < n) (sym settled.0.width) wide
 
     high1 : y < d1.height
-    high1 = subst (λ n. y < n) (sym first.sides.height) high
-
-    wide2 : x < d2.width
-    wide2 = subst (λ n. x < n) (sym settled.0.width) wide1
-
-    high2 : y < d2.height
-    high2 = subst (λ n. y < n) (sym settled.0.height) high1
-
-    none2 : has d2 x y ≡ false
-    none2 = unless (has d2 x y) (λ f. differ (sym unmarked ∙ second.more x y wide2 high2 f))
+    high1 = subst (λ n. y < n) (sym settled.0.height) high
 
     none1 : has d1 x y ≡ false
-    none1 = or-left (has d1 x y) _ (sym (settled.1 x y wide1 high1) ∙ none2)
+    none1 = unless (has d1 x y) (λ f. differ (sym unmarked ∙ changes.more x y wide1 high1 f))
 
     none0 : has d0 x y ≡ false
-    none0 = unless (has d0 x y) (λ f. differ (sym none1 ∙ first.more x y wide high f))
+    none0 = or-left (has d0 x y) _ (sym (settled.1 x y wide high) ∙ none1)
 
     -- the client ended, and had a window there
     ended-there : is_some (status_in c e) ≡ true → has_window_at c (pos x) (pos y) d ≡ true → ⊥
     ended-there over there =
         let stood : stands_any c was ≡ true = stack-any _ c was.standing d.standing before.scene.standing
         ∙ windows-stand (λ client surface. client == c) (pos x) (pos y) (owned_in d) d.standing (seated-unlinked c others base d old was r before unlinked) there in
-        differ (sym (or-right (has d1 x y) _ (sym (settled.1 x y wide1 high1) ∙ none2)) ∙ and-both (is_some new.client.ended) (stands_any c was) (ap (λ o. is_some o) (sym status) ∙ over) stood)
+        differ (sym (or-right (has d0 x y) _ (sym (settled.1 x y wide high) ∙ none1)) ∙ and-both (is_some new.client.ended) (stands_any c was) (ap (λ o. is_some o) (sym status) ∙ over) stood)
 
-    -- the surface that it touched had a window there
-    before-there : (id : ℕ) → IsMarkedBy old a id → is_window_at c id (pos x) (pos y) d ≡ true → ⊥
-    before-there id marked there =
-        differ (sym (or-right (has d0 x y) _ (sym (first.marks others base d r before id marked.0 (by_asked ∙ marked.1) marked.2 x y wide high) ∙ none1)) ∙ there)
-
-    -- it has one there
-    after-there : (id : ℕ) → IsMarkedBy old a id → new.client.ended ≡ None → is_window_at c id (pos x) (pos y) e ≡ true → ⊥
-    after-there id marked lives there =
-        let stands = windows-stand (λ client surface. (client == c) && (surface == id)) (pos x) (pos y) (owned_in e) e.standing (seated-unlinked c others base e new now q after unlinked) there in
-        let named = some-number (numbers new id) (known-mapped c new e q after.based.there after.seat after.mapped id stands) in
-        let same : marked.0 ≡ named.0 = keeps lives id marked.0 named.0 marked.2 named.1 in
-        let surface-named : surface ≡ Some named.0 = by_asked ∙ marked.1 ∙ ap (λ n. Some n) same in
-        differ (sym (or-right (has d2 x y) _ (sym (second.marks others base e q after id named.0 surface-named named.1 x y wide2 high2) ∙ unmarked)) ∙ there)
-
-    not-marked : MarkedBy c r (pos x) (pos y) d e → ⊥
+    not-marked : MarkedExactlyBy c r (pos x) (pos y) d e → ⊥
     not-marked (inl (over, there)) = ended-there over there
-    not-marked (inr (lives, ask, told, touches)) = at touches.2
-      where
-        marked : IsMarkedBy old a touches.0
-        marked = asked-marks old r (record { peer = before.seat.peer; owns = before.seat.owns }) a asks ask touches.0 told touches.1
-
-        at : (is_window_at c touches.0 (pos x) (pos y) d ≡ true) ⊎ (is_window_at c touches.0 (pos x) (pos y) e ≡ true) → ⊥
-        at (inl there) = before-there touches.0 marked there
-        at (inr there) = after-there touches.0 marked (sym status ∙ lives) there
+    not-marked (inr (alive, ask, told, id, t, there)) =
+        let lives : new.client.ended ≡ None = sym status ∙ alive in
+        let marked : IsMarkedBy old a ask id = asked-marks old r (record { peer = before.seat.peer; owns = before.seat.owns }) a asks ask id told t in
+        let number : ℕ = marked.0 in
+        let asked_number : surface_number ≡ Some number = by_asked ∙ marked.1 in
+        never-changed c id d e record_was record_is (first id number asked_number marked.2) (second id number asked_number (still-named ask id number told t marked.2 lives))
+        (rects_applied applied) d1 d2 changes x y wide1 high1 unmarked (there (rects_applied applied) (applied-by id number marked.2 lives ask marked.3))
 
     least : marks_of_toplevels d e (pos x) (pos y) ≡ false
     least =
         unless (marks_of_toplevels d e (pos x) (pos y))
-        (λ f. not-marked (serves-point c r d before.based.there _ _ _ before.seat.owns before.mapped (seated-unlinked c others base d old was r before unlinked) (pos x) (pos y) e more serves f))
+        (λ f. not-marked (serves-exactly c r d before.based.there _ _ _ before.seat.owns before.mapped (seated-unlinked c others base d old was r before unlinked) (pos x) (pos y) e more serves f))
 
   -- What a message marks at least is to be painted, as is what was.
-  pub message-marks : MarksToplevels d e d0 d3
+  pub message-marks : MarksToplevels d e d0 d2
   message-marks = λ x y wide high unmarked. (none0 x y wide high unmarked, least x y wide high unmarked)

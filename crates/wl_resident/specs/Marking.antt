@@ -1,16 +1,28 @@
 -- What the desk marks to be painted again.
-use Rattle.std.specs.Prelude.{ℕ, [], ◌≡◌, ◌==◌, ◌<◌, ◌&&◌, ◌||◌, pos, Bool, false, Option, Some, None, is_some}
+use Rattle.std.specs.Prelude.{ℕ, ℤ, List, [], ◌∷◌, ◌≡◌, ◌≢◌, ◌==◌, ◌<◌, ◌+ℤ◌, ◌-ℤ◌, ◌&&◌, ◌||◌, nat_lt, pos, unsigned_abs, Bool, false, true, Option, Some, None, is_some}
 use Rattle.std.specs.List.{list_any}
 use Rattle.wl_proto.specs.declared.wl_surface.WlSurfaceRequest.TheVariants.{Commit}
+use Rattle.wl_geom.specs.declared.rect.Rect.{Rect}
+use Rattle.wl_geom.specs.Rect.{in_span}
+use Rattle.wl_store.specs.Transform.{transform_of}
 use Rattle.wl_client.specs.declared.clients.Cause.{Cause}
+use Rattle.wl_surface.specs.Applied.{AreChanges}
+use Rattle.wl_surface.specs.Kept.{Numbered, StandForAll}
+use Rattle.wl_surface.specs.declared.applied.Applied.{Applied}
+use Rattle.wl_surface.specs.declared.applied.Change.{Change}
+use Rattle.wl_surface.specs.declared.surface.Current.{Current}
+use Rattle.wl_surface.specs.State.{is_damaged, within_bounds}
 use Rattle.wl_paint.specs.Damage.{Damaged, has}
-use Rattle.wl_scene.specs.Stacking.{Stack}
+use Rattle.wl_scene.specs.Stacking.{Stack, Standing}
+use Rattle.wl_scene.specs.Windows.{Window}
 use Rattle.wl_plain.specs.Desktop.{Desktop, owned_in}
 use Rattle.wl_plain.specs.Moments.{marks_at_least}
+use Rattle.wl_resident.specs.declared.marking.WindowRecord.{WindowRecord}
 use Rattle.wl_resident.specs.declared.messages.Asked.{Asked}
 use Rattle.wl_resident.specs.declared.messages.Asked.TheVariants as asked
 use Rattle.wl_resident.specs.declared.messages.Kind.{Kind}
 use Rattle.wl_resident.specs.declared.messages.Kind.TheVariants as kind
+use Rattle.wl_resident.specs.declared.residents.Resident.{Resident as Kept}
 use Rattle.wl_resident.specs.declared.xdg_toplevel.ToplevelAsked.TheVariants.{Destruction}
 
 -- the damage of an output with the same sides
@@ -36,6 +48,59 @@ abbrev pub MarksEnd : Option Cause → ℕ → Stack → Damaged → Damaged →
 MarksEnd ended c stack old new =
     IsAsLarge old new × ((x y : ℕ) → x < old.width → y < old.height → has new x y ≡ (has old x y || (is_some ended && stands_any c stack)))
 
+-- ---- the window of a surface
+
+-- the record of a window of a toplevel that stands there, whose surface shows this
+abbrev pub record_showing : {A : Type 0} → Current A → Standing → WindowRecord
+record_showing current s =
+    record {
+      x = within_bounds (s.place.x +ℤ current.offset.x);
+      y = within_bounds (s.place.y +ℤ current.offset.y);
+      w = current.w;
+      h = current.h;
+      transform = current.transform;
+    }
+
+-- it is the record of this window, whose transform is one of the eight, or of none
+abbrev pub IsRecordOf : Option WindowRecord → Option Window → Type 0
+IsRecordOf None None = Unit {0}
+IsRecordOf (Some k) (Some w) = ((k.x ≡ w.corner.x) × (k.y ≡ w.corner.y)) × ((k.w ≡ w.width) × (k.h ≡ w.height)) × (k.transform ≡ transform_of w.transform) × (nat_lt w.transform 8 ≡ true)
+IsRecordOf k w = ⊥
+
+-- its window contains the point
+abbrev pub record_has : ℤ → ℤ → WindowRecord → Bool
+record_has x y k = in_span k.x (pos k.w) x && in_span k.y (pos k.h) y
+
+abbrev pub any_record_has : ℤ → ℤ → Option WindowRecord → Bool
+any_record_has x y None = false
+any_record_has x y (Some k) = record_has x y k
+
+-- its surface's damage, these rectangles, holds the point (wayland.xml, wl_surface.damage)
+abbrev pub is_record_damaged : List Rect → ℤ → ℤ → WindowRecord → Bool
+is_record_damaged rects x y k = record_has x y k && is_damaged k.w k.h rects (unsigned_abs (x -ℤ k.x)) (unsigned_abs (y -ℤ k.y))
+
+-- the damage that a commit applied to its surface, if there was one
+abbrev pub rects_changed : {A : Type 0} → List (Change A) → List Rect
+rects_changed [] = []
+rects_changed (change ∷ changes) = change.rects.items
+
+abbrev pub rects_applied : {A : Type 0} → Option (Applied A) → List Rect
+rects_applied None = []
+rects_applied (Some applied) = rects_changed applied.changes.items
+
+-- these points are to be painted too, and no others
+abbrev pub AddsPoints : (ℤ → ℤ → Bool) → Damaged → Damaged → Type 0
+AddsPoints p old new = (x y : ℕ) → x < old.width → y < old.height → has new x y ≡ (has old x y || p (pos x) (pos y))
+
+-- What changes of a surface's window is marked, whose record was this and is that: where the record stayed, the applied damage; else all of the
+-- window, as it was and as it is.
+pub record MarksChange (was is : Option WindowRecord) (rects : List Rect) (old new : Damaged) : Type 0 where
+  pub stayed : (k : WindowRecord) → was ≡ Some k → is ≡ Some k → AddsPoints (λ x y. is_record_damaged rects x y k) old new
+  pub changed : was ≢ is → AddsPoints (λ x y. any_record_has x y was || any_record_has x y is) old new
+  pub nothing : was ≡ None → is ≡ None → AddsPoints (λ x y. false) old new
+  pub more : (x y : ℕ) → x < old.width → y < old.height → has old x y ≡ true → has new x y ≡ true
+  pub sides : IsAsLarge old new
+
 -- the number of the surface whose window what is asked may change
 abbrev pub marked_in : Kind → ℕ → Option ℕ
 marked_in (kind.Surface Commit) target = Some target
@@ -45,3 +110,17 @@ marked_in kind target = None
 abbrev pub marked_by : Asked → Option ℕ
 marked_by (asked.Request object version size target kind) = marked_in kind target
 marked_by asked = None
+
+-- the number of the surface that what is asked commits
+abbrev pub commit_in : Kind → ℕ → Option ℕ
+commit_in (kind.Surface Commit) target = Some target
+commit_in kind target = None
+
+abbrev pub commit_by : Asked → Option ℕ
+commit_by (asked.Request object version size target kind) = commit_in kind target
+commit_by asked = None
+
+-- A client that lives on was told this of a commit of the surface with this number.
+abbrev pub TellsChange : {A : Type 0} → Kept A → Kept A → ℕ → Option (Applied A) → Type 0
+TellsChange {A} old new number applied =
+    new.client.ended ≡ None → (all : Numbered) → StandForAll old.owned.surfaces all → (a : Applied A) × (applied ≡ Some a) × AreChanges number (all number) a.changes.items

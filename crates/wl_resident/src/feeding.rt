@@ -1,11 +1,8 @@
 //! One client is served, and its toplevels come to the stack and go.
 
 ghost use Rattle.std.specs.Prelude.{ℕ, ◌≡◌, ◌<◌, ◌≤◌, ◌||◌, None, Some, length, pos, true, false};
-ghost use Rattle.wl_proto.specs.declared.interface.Interface.TheVariants.{WlSurface};
 ghost use Rattle.wl_paint.specs.Damage.{has};
 ghost use Rattle.wl_resident.specs.Marking.{AreUnlinked, IsAsLarge, MarksAtLeast, MarksEnd, stands_any};
-ghost use Rattle.wl_plain.specs.Owning.{targets_in};
-ghost use Rattle.wl_plain.specs.Touching.{is_window_at};
 ghost use Rattle.wl_client.specs.Objects.{ById};
 ghost use Rattle.wl_store.specs.Stores.{write_refusal};
 ghost use Rattle.wl_client.specs.Agreement.{IsPeer};
@@ -17,7 +14,7 @@ ghost use Rattle.wl_plain.specs.NoMore.{NoMore};
 ghost use Rattle.wl_plain.specs.Happens.{Serves};
 ghost use Rattle.wl_plain.specs.Acts.{IsLeft, IsSent, IsStored, stored_of};
 
-use crate::marking::{mark_everywhere, touched_by};
+use crate::marking::{mark_change, mark_everywhere, touched_by};
 use crate::residents::{Resident, Stacking};
 use std::alloc::Allocator;
 use wl_client::{Cause, Client, StoreNo};
@@ -25,7 +22,7 @@ use wl_paint::Damage;
 use wl_plain::{ClientNo, Done, Stored};
 use wl_scene::{Owned, Scene, Surface};
 use wl_shell::Shell;
-use wl_surface::{SurfaceNo, Surfaces};
+use wl_surface::Surfaces;
 
 /// Nothing is owned.
 pub fn bare<A: Allocator + Copy>(alloc: A) -> Owned<A>
@@ -92,30 +89,8 @@ impl<A: Allocator + Copy> Resident<A> {
         self.clear(scene, damage, client, alloc);
     }
 
-    /// The window of a surface that a message touches is marked, if it has one.
-    fn mark_touched(
-        &self,
-        scene: &Scene<A>,
-        damage: &mut Damage<A>,
-        client: ClientNo,
-        touched: Option<SurfaceNo>,
-    )
-        ensures marks { (others : ℕ → ById ℕ) (base d : Desktop) (r : Plain) → IsSeated client others base self.now scene.now d r
-            → (id number : ℕ) → touched ≡ Some number → targets_in WlSurface self.now.client.objects id ≡ Some number
-            → (x y : ℕ) → x < damage.old.width → y < damage.old.height
-            → has damage.new x y ≡ (has damage.old x y || is_window_at client id (pos x) (pos y) d) }
-        ensures more { (x y : ℕ) → x < damage.old.width → y < damage.old.height → has damage.old x y ≡ true → has damage.new x y ≡ true }
-        ensures nothing { touched ≡ None → damage.new ≡ damage.old }
-        ensures sides { IsAsLarge damage.old damage.new }
-    {
-        match touched {
-            Some(surface) => self.mark(scene, damage, client, surface),
-            None => {}
-        }
-    }
-
-    /// Takes the first whole message of a client that lives, and answers whether there was one. What it changes of the windows is marked, as
-    /// they were before and as they are after.
+    /// Takes the first whole message of a client that lives, and answers whether there was one. What it changes of a window is marked: the damage
+    /// that a commit applied, where the window stands as it did; else all of it, as it was before and as it is after.
     pub fn serve_on(
         &mut self,
         scene: &mut Scene<A>,
@@ -137,12 +112,13 @@ impl<A: Allocator + Copy> Resident<A> {
         }
         let asked = self.asked();
         let touched = touched_by(&asked);
-        self.mark_touched(scene, damage, client, touched); // as it was
-        let Some(stacking) = self.serve(asked) else {
+        let was = self.window(scene, client, touched);
+        let Some(outcome) = self.serve(asked) else {
             return false;
         };
-        self.settle(scene, damage, client, stacking, alloc);
-        self.mark_touched(scene, damage, client, touched); // as it is now
+        self.settle(scene, damage, client, outcome.stacking, alloc);
+        let is = self.window(scene, client, touched);
+        mark_change(damage, was, is, &outcome.applied);
         true
     }
 
