@@ -34,7 +34,7 @@ use Rattle.wl_plain.proofs.OwningAsks.{owned-asked}
 use Rattle.wl_plain.proofs.OwningSurfaces.{surface-named, surface-read}
 
 -- what ended isn't there
-gone : {X : Type 0} (o : Option X) → is_some o ≡ true → o ≡ None → ⊥
+pub gone : {X : Type 0} (o : Option X) → is_some o ≡ true → o ≡ None → ⊥
 gone None some none = cc
 gone (Some x) some none = cc
 

@@ -3,6 +3,9 @@ use Rattle.std.specs.Prelude.{ℕ, [], ◌≡◌, ◌==◌, ◌<◌, ◌&&◌, �
 use Rattle.std.specs.List.{list_any}
 use Rattle.wl_proto.specs.declared.wl_surface.WlSurfaceRequest.TheVariants.{Commit}
 use Rattle.wl_client.specs.declared.clients.Cause.{Cause}
+use Rattle.wl_surface.specs.Applied.{AreChanges}
+use Rattle.wl_surface.specs.Kept.{Numbered, StandForAll}
+use Rattle.wl_surface.specs.declared.applied.Applied.{Applied}
 use Rattle.wl_paint.specs.Damage.{Damaged, has}
 use Rattle.wl_scene.specs.Stacking.{Stack}
 use Rattle.wl_plain.specs.Desktop.{Desktop, owned_in}
@@ -11,6 +14,7 @@ use Rattle.wl_resident.specs.declared.messages.Asked.{Asked}
 use Rattle.wl_resident.specs.declared.messages.Asked.TheVariants as asked
 use Rattle.wl_resident.specs.declared.messages.Kind.{Kind}
 use Rattle.wl_resident.specs.declared.messages.Kind.TheVariants as kind
+use Rattle.wl_resident.specs.declared.residents.Resident.{Resident as Kept}
 use Rattle.wl_resident.specs.declared.xdg_toplevel.ToplevelAsked.TheVariants.{Destruction}
 
 -- the damage of an output with the same sides
@@ -45,3 +49,17 @@ marked_in kind target = None
 abbrev pub marked_by : Asked → Option ℕ
 marked_by (asked.Request object version size target kind) = marked_in kind target
 marked_by asked = None
+
+-- the number of the surface that what is asked commits
+abbrev pub commit_in : Kind → ℕ → Option ℕ
+commit_in (kind.Surface Commit) target = Some target
+commit_in kind target = None
+
+abbrev pub commit_by : Asked → Option ℕ
+commit_by (asked.Request object version size target kind) = commit_in kind target
+commit_by asked = None
+
+-- A client that lives on was told this of a commit of the surface with this number.
+abbrev pub TellsChange : {A : Type 0} → Kept A → Kept A → ℕ → Option (Applied A) → Type 0
+TellsChange {A} old new number applied =
+    new.client.ended ≡ None → (all : Numbered) → StandForAll old.owned.surfaces all → (a : Applied A) × (applied ≡ Some a) × AreChanges number (all number) a.changes.items

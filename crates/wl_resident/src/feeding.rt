@@ -138,10 +138,10 @@ impl<A: Allocator + Copy> Resident<A> {
         let asked = self.asked();
         let touched = touched_by(&asked);
         self.mark_touched(scene, damage, client, touched); // as it was
-        let Some(stacking) = self.serve(asked) else {
+        let Some(outcome) = self.serve(asked) else {
             return false;
         };
-        self.settle(scene, damage, client, stacking, alloc);
+        self.settle(scene, damage, client, outcome.stacking, alloc);
         self.mark_touched(scene, damage, client, touched); // as it is now
         true
     }

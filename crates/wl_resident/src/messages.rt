@@ -1,16 +1,18 @@
 //! The messages of one client, one after another.
 
-ghost use Rattle.std.specs.Prelude.{◌≡◌, ◌<◌, ◌≤◌, IfNone, IfSome, None, Some, length, true};
+ghost use Rattle.std.specs.Prelude.{ℕ, ◌≡◌, ◌≢◌, ◌<◌, ◌≤◌, IfNone, IfSome, None, Some, length, true};
 ghost use Rattle.wl_table.specs.Objects.{entry_of};
 ghost use Rattle.wl_proto.specs.Messages.{Message, request_message};
+ghost use Rattle.wl_proto.specs.declared.wl_surface.WlSurfaceRequest.TheVariants.{Commit};
 ghost use Rattle.wl_client.specs.Peer.{IsIdleAt};
 ghost use Rattle.wl_client.specs.Serving.{is_own};
+ghost use Rattle.wl_resident.specs.Marking.{TellsChange, commit_by};
 ghost use Rattle.wl_resident.specs.Messages.{IsAsked, IsKind};
 ghost use Rattle.wl_resident.specs.Residents.{AnswersDemand, NewIsFree, ObjectsFit, Stacks, TakesMessage};
 ghost use Rattle.wl_plain.specs.LeftOut.{served_now};
 ghost use Rattle.wl_plain.specs.Demanding.{demand_of};
 
-use crate::residents::{Resident, Stacking};
+use crate::residents::{Outcome, Resident, Stacking};
 use crate::xdg_toplevel::{ToplevelAsked, asked_of};
 use std::alloc::Allocator;
 use wl_client::{First, Refusal};
@@ -105,45 +107,49 @@ impl<A: Allocator + Copy> Resident<A> {
     }
 
     /// Answers a request to an object, which has this version and target.
-    fn answer(&mut self, object: u32, version: u32, target: usize, kind: Kind) -> Stacking
+    fn answer(&mut self, object: u32, version: u32, target: usize, kind: Kind) -> Outcome<A>
         ensures answers { (m : Message) → IsKind kind m → entry_of self.old.client.objects object ≡ Some (record { interface = m.interface; version = version; target = target })
             → NewIsFree self.old m → ObjectsFit self.old m → AnswersDemand (λ r. demand_of served_now r object version m) self.old self.new }
         ensures stacks { (m : Message) → IsKind kind m → entry_of self.old.client.objects object ≡ Some (record { interface = m.interface; version = version; target = target })
-            → Stacks (λ r. demand_of served_now r object version m) self.old result }
+            → Stacks (λ r. demand_of served_now r object version m) self.old result.stacking }
+        ensures change { kind ≡ Kind.Surface Commit → TellsChange self.old self.new target result.applied }
+        ensures nothing { kind ≢ Kind.Surface Commit → result.applied ≡ None }
         ensures rest { length self.new.client.rest ≤ length self.old.client.rest }
     {
         match kind {
             Kind::Surface(request) => self.wl_surface(object, version, target, &request),
-            Kind::Toplevel(asked) => self.xdg_toplevel(object, target, asked),
+            Kind::Toplevel(asked) => Outcome::of(self.xdg_toplevel(object, target, asked)),
             Kind::Compositor(request) => {
                 self.wl_compositor(object, version, &request);
-                Stacking::Stays
+                Outcome::of(Stacking::Stays)
             }
             Kind::Seat(request) => {
                 self.wl_seat(object, version, &request);
-                Stacking::Stays
+                Outcome::of(Stacking::Stays)
             }
             Kind::Base(request) => {
                 self.xdg_wm_base(object, version, &request);
-                Stacking::Stays
+                Outcome::of(Stacking::Stays)
             }
             Kind::XdgSurface(request) => {
                 self.xdg_surface(object, version, target, &request);
-                Stacking::Stays
+                Outcome::of(Stacking::Stays)
             }
             Kind::Unserved => {
                 self.refuse_unserved();
-                Stacking::Stays
+                Outcome::of(Stacking::Stays)
             }
         }
     }
 
-    /// Takes the first whole message of a client that lives, which asks this, and answers what that does to the stack of toplevels. None where
-    /// there is no whole message; then nothing is changed.
-    pub(crate) fn serve(&mut self, asked: Asked) -> Option<Stacking>
+    /// Takes the first whole message of a client that lives, which asks this, and answers what that did. None where there is no whole message;
+    /// then nothing is changed.
+    pub(crate) fn serve(&mut self, asked: Asked) -> Option<Outcome<A>>
         requires { IsAsked self.old.client asked }
         ensures lives { IfSome result (λ s. self.old.client.ended ≡ None) }
-        ensures takes { IfSome result (λ s. TakesMessage self.old self.new s) }
+        ensures takes { IfSome result (λ s. TakesMessage self.old self.new s.stacking) }
+        ensures change { IfSome result (λ s. (number : ℕ) → commit_by asked ≡ Some number → TellsChange self.old self.new number s.applied) }
+        ensures nothing { IfSome result (λ s. commit_by asked ≡ None → s.applied ≡ None) }
         ensures idle { IfNone result ((self.new ≡ self.old) × IsIdleAt self.old.client.ended self.old.client.rest) }
         ensures less { IfSome result (λ s. length self.new.client.rest < length self.old.client.rest) }
     {
@@ -154,11 +160,11 @@ impl<A: Allocator + Copy> Resident<A> {
             Asked::More => None,
             Asked::Refused(refusal) => {
                 self.client.refuse(refusal);
-                Some(Stacking::Stays)
+                Some(Outcome::of(Stacking::Stays))
             }
             Asked::Own => {
                 let _served = self.client.serve(&self.owned.surfaces);
-                Some(Stacking::Stays)
+                Some(Outcome::of(Stacking::Stays))
             }
             Asked::Request {
                 object,

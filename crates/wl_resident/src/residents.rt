@@ -1,9 +1,11 @@
 //! One client of the desk, with what it owns of the scene.
 
+ghost use Rattle.std.specs.Prelude.{◌≡◌, None};
+
 use std::alloc::Allocator;
 use wl_client::Client;
 use wl_scene::Owned;
-use wl_surface::SurfaceNo;
+use wl_surface::{Applied, SurfaceNo};
 
 /// What a request does to the stack of mapped toplevels, by the number of its toplevel's surface.
 #[derive(Clone, Copy, Debug, PartialEq, Eq)]
@@ -14,6 +16,25 @@ pub enum Stacking {
     ToTop(SurfaceNo),
     /// The toplevel is unmapped, or goes.
     Out(SurfaceNo),
+}
+
+/// What a request did: to the stack of toplevels, and what a commit applied, if it was one (wayland.xml, wl_surface.commit).
+#[derive(Drop)]
+pub(crate) struct Outcome<A: Allocator> {
+    pub(crate) stacking: Stacking,
+    pub(crate) applied: Option<Applied<A>>,
+}
+
+impl<A: Allocator> Outcome<A> {
+    /// What a request did to the stack of toplevels that applied nothing.
+    pub(crate) fn of(stacking: Stacking) -> Self
+        ensures { result ≡ record { stacking = stacking; applied = None } }
+    {
+        Outcome {
+            stacking,
+            applied: None,
+        }
+    }
 }
 
 /// A client, and its surfaces and xdg_surfaces. The table of its objects gives for each wl_surface, xdg_surface and xdg_toplevel the number of

@@ -1,6 +1,6 @@
 //! The requests of wl_surface.
 
-ghost use Rattle.std.specs.Prelude.{◌≡◌, ◌≤◌, length, ◌++◌, ◌||◌, ℕ, Bool, Ok, Option, None, Some, is_some, true, map, unsigned_abs};
+ghost use Rattle.std.specs.Prelude.{◌≡◌, ◌≢◌, ◌≤◌, length, ◌++◌, ◌||◌, ℕ, Bool, Ok, Option, None, Some, is_some, true, map, unsigned_abs};
 ghost use Rattle.std.specs.Option.{option_map};
 ghost use Rattle.wl_client.specs.Agreement.{IsPeer};
 ghost use Rattle.wl_client.specs.Buffers.{Buffer as Made};
@@ -18,19 +18,20 @@ ghost use Rattle.wl_plain.specs.NoMore.{OwnsToplevelsOnly};
 ghost use Rattle.wl_plain.specs.Owning.{AreKept, IsOwned, Names, effect_by, names_in};
 ghost use Rattle.wl_plain.specs.LeftOut.{served_now};
 ghost use Rattle.wl_plain.specs.Releases.{let_if, same_number};
+ghost use Rattle.wl_resident.specs.Marking.{TellsChange};
 ghost use Rattle.wl_resident.specs.Residents.{AnswersDemand, Does, IsSurface, Meets, MeetsSo, Stacks, stacking_by};
 ghost use Rattle.wl_plain.specs.Step.{buffers_had, is_number, is_over, letting_go};
 ghost use Rattle.wl_plain.specs.Demanding.{demand_of, effect_of_commit};
 ghost use Rattle.wl_surface.specs.Surfaces.{Surface, listed};
 ghost use Rattle.wl_plain.specs.WlSurface.{buffer_named, region_named};
 
-use crate::residents::{Resident, Stacking};
+use crate::residents::{Outcome, Resident, Stacking};
 use std::alloc::Allocator;
 use wl_client::{ErrorCode, Refusal};
 use wl_geom::Rect;
 use wl_proto::WlSurfaceRequest;
 use wl_shell::ShellAct;
-use wl_surface::{Attached, SurfaceNo};
+use wl_surface::{Applied, Attached, SurfaceNo};
 
 /// No toplevel is placed within bounds.
 const NO_BOUNDS: Rect = Rect {
@@ -213,10 +214,11 @@ impl<A: Allocator + Copy> Resident<A> {
     }
 
     /// wl_surface.commit: what is pending counts, and the shell says what that comes to.
-    fn commit(&mut self, object: u32, version: u32, surface: SurfaceNo) -> Stacking
+    fn commit(&mut self, object: u32, version: u32, surface: SurfaceNo) -> Outcome<A>
         ensures answers { IsSurface self.old object surface → AnswersDemand (λ r. demand_of served_now r object version (wl_surface_request Commit)) self.old self.new }
         ensures stacks { IsSurface self.old object surface
-            → Stacks (λ r. demand_of served_now r object version (wl_surface_request Commit)) self.old result }
+            → Stacks (λ r. demand_of served_now r object version (wl_surface_request Commit)) self.old result.stacking }
+        ensures change { TellsChange self.old self.new surface result.applied }
         ensures rest { length self.new.client.rest ≤ length self.old.client.rest }
     {
         let has_buffer = self.owned.surfaces.pending_buffer(surface).is_some();
@@ -228,37 +230,39 @@ impl<A: Allocator + Copy> Resident<A> {
         {
             Ok(act) => {
                 self.client.count();
-                self.apply(surface, act, serial);
-                stacking_of(act, surface)
+                let applied = self.apply(surface, act, serial);
+                Outcome {
+                    stacking: stacking_of(act, surface),
+                    applied,
+                }
             }
             Err(error) => {
                 let xdg_surface = self.xdg_surface_of(surface);
                 self.refuse_xdg_surface(xdg_surface, surface, error);
-                Stacking::Stays
+                Outcome::of(Stacking::Stays)
             }
         }
     }
 
-    /// What is pending of a surface counts, and what that came to for the shell is told.
-    fn apply(&mut self, surface: SurfaceNo, act: ShellAct, serial: u32)
+    /// What is pending of a surface counts, and what that came to for the shell is told. Answers what was applied; None without memory for it.
+    fn apply(&mut self, surface: SurfaceNo, act: ShellAct, serial: u32) -> Option<Applied<A>>
         ensures applies { (c : ℕ) (r : Plain) (d : Desktop) (names : Names) (object : ℕ) (kept : ℕ → Option KeptXdg) (shows : Bool) → OwnsToplevelsOnly r
             → effect_of_commit r object ≡ effect_by act → IsPeer self.old.client r.peer → IsOwned names self.old.owned.surfaces kept r.owned
             → names_in self.old.client.objects ≡ names → names.surfaces object ≡ Some surface → commit_answer shows (kept surface) ≡ Ok act → serial ≡ r.peer.serial
             → kept_of self.old.owned.shell ≡ changing surface (kept_after r.peer.serial act) kept
             → MeetsSo c (CommitTree object) r d self.old self.new }
+        ensures change { TellsChange self.old self.new surface result }
         ensures rest { length self.new.client.rest ≤ length self.old.client.rest }
     {
         let had = self.owned.surfaces.buffers(surface);
-        match self.owned.surfaces.commit(surface) {
-            Ok(_) => {}
-            Err(_) => {
-                self.client.lack_memory();
-                return;
-            }
-        }
+        let Ok(applied) = self.owned.surfaces.commit(surface) else {
+            self.client.lack_memory();
+            return None;
+        };
         let released = self.released(had);
         self.let_go_of(had);
         self.tell_act(surface, act, serial, released);
+        Some(applied)
     }
 
     /// wl_surface.set_buffer_transform to one of the eight.
@@ -319,23 +323,25 @@ impl<A: Allocator + Copy> Resident<A> {
         version: u32,
         surface: SurfaceNo,
         request: &WlSurfaceRequest,
-    ) -> Stacking
+    ) -> Outcome<A>
         ensures answers { IsSurface self.old object surface
             → AnswersDemand (λ r. demand_of served_now r object version (wl_surface_request request.now)) self.old self.new }
         ensures stacks { IsSurface self.old object surface
-            → Stacks (λ r. demand_of served_now r object version (wl_surface_request request.now)) self.old result }
+            → Stacks (λ r. demand_of served_now r object version (wl_surface_request request.now)) self.old result.stacking }
+        ensures change { request.now ≡ Commit → TellsChange self.old self.new surface result.applied }
+        ensures nothing { request.now ≢ Commit → result.applied ≡ None }
         ensures rest { length self.new.client.rest ≤ length self.old.client.rest }
     {
         match *request {
             WlSurfaceRequest::Commit => self.commit(object, version, surface),
             WlSurfaceRequest::Destroy => {
                 self.destroy(object, version, surface);
-                Stacking::Stays
+                Outcome::of(Stacking::Stays)
             }
             WlSurfaceRequest::Attach { buffer, x, y } => {
                 self.client.count();
                 self.attach(object, surface, buffer, x, y);
-                Stacking::Stays
+                Outcome::of(Stacking::Stays)
             }
             WlSurfaceRequest::Damage {
                 x,
@@ -345,25 +351,25 @@ impl<A: Allocator + Copy> Resident<A> {
             } => {
                 self.client.count();
                 self.damage(object, surface, Rect { x, y, w, h });
-                Stacking::Stays
+                Outcome::of(Stacking::Stays)
             }
             WlSurfaceRequest::Frame { .. } => {
                 self.refuse_unserved();
-                Stacking::Stays
+                Outcome::of(Stacking::Stays)
             }
             WlSurfaceRequest::SetOpaqueRegion { region } => {
                 self.client.count();
                 self.set_opaque_region(object, surface, region);
-                Stacking::Stays
+                Outcome::of(Stacking::Stays)
             }
             WlSurfaceRequest::SetInputRegion { region } => {
                 self.client.count();
                 self.set_input_region(object, surface, region);
-                Stacking::Stays
+                Outcome::of(Stacking::Stays)
             }
             WlSurfaceRequest::SetBufferTransform { transform } => {
                 self.transform(object, version, surface, transform);
-                Stacking::Stays
+                Outcome::of(Stacking::Stays)
             }
         }
     }

@@ -1,5 +1,7 @@
-use Rattle.std.proofs.Common.{subst, sym, rules}
+use Rattle.std.proofs.Common.{◌≡◌, ap, subst, sym, rules, ◌∙◌}
 use Rattle.wl_proto.specs.Messages.{Message}
+use Rattle.wl_proto.specs.declared.wl_surface.WlSurfaceRequest.TheVariants.{Commit}
+use Rattle.wl_resident.specs.declared.messages.Kind.TheVariants.{Surface}
 use Rattle.wl_resident.specs.declared.residents.Stacking.TheVariants.{Stays}
 use Rattle.wl_resident.specs.Residents.{StacksSo}
 use Rattle.wl_plain.specs.Demanding.{demand_of}
@@ -8,10 +10,10 @@ use Rattle.wl_resident.proofs.Stackings.{base-stays, xdg-stays}
 use Rattle.wl_resident.proofs.residents.Resident.answer.Goals as goal
 
 pub returns-in-XdgSurface-clause-stacks : goal.returns-in-XdgSurface-clause-stacks
-returns-in-XdgSurface-clause-stacks g c = λ m kind entry r is only.
+returns-in-XdgSurface-clause-stacks g c = rw c.of-in-XdgSurface.ensures (λ m kind entry r is only.
     let v = c.args.self.now in
     subst (λ (m : Message). StacksSo v r (demand_of served_now r c.args.object c.args.version m) Stays) (sym (rw c.in-XdgSurface.is at kind))
-    (xdg-stays v r c.args.object c.args.version c.in-XdgSurface.request)
+    (xdg-stays v r c.args.object c.args.version c.in-XdgSurface.request))
 
 pub returns-in-Surface-clause-rest : goal.returns-in-Surface-clause-rest
 returns-in-Surface-clause-rest g c = c.wl_surface.ensures.rest
@@ -44,28 +46,28 @@ pub returns-in-Toplevel-clause-answers : goal.returns-in-Toplevel-clause-answers
 returns-in-Toplevel-clause-answers g c = search rules
 
 pub returns-in-Toplevel-clause-stacks : goal.returns-in-Toplevel-clause-stacks
-returns-in-Toplevel-clause-stacks g c = search rules
+returns-in-Toplevel-clause-stacks g c = rw c.of.ensures (search rules)
 
 pub returns-in-Compositor-clause-answers : goal.returns-in-Compositor-clause-answers
 returns-in-Compositor-clause-answers g c = search rules
 
 pub returns-in-Compositor-clause-stacks : goal.returns-in-Compositor-clause-stacks
-returns-in-Compositor-clause-stacks g c = search rules
+returns-in-Compositor-clause-stacks g c = rw c.of-in-Compositor.ensures (search rules)
 
 pub returns-in-Seat-clause-answers : goal.returns-in-Seat-clause-answers
 returns-in-Seat-clause-answers g c = search rules
 
 pub returns-in-Seat-clause-stacks : goal.returns-in-Seat-clause-stacks
-returns-in-Seat-clause-stacks g c = search rules
+returns-in-Seat-clause-stacks g c = rw c.of-in-Seat.ensures (search rules)
 
 pub returns-in-Base-clause-answers : goal.returns-in-Base-clause-answers
 returns-in-Base-clause-answers g c = search rules
 
 pub returns-in-Base-clause-stacks : goal.returns-in-Base-clause-stacks
-returns-in-Base-clause-stacks g c = λ m kind entry r is only.
+returns-in-Base-clause-stacks g c = rw c.of-in-Base.ensures (λ m kind entry r is only.
     let v = c.args.self.now in
     subst (λ (m : Message). StacksSo v r (demand_of served_now r c.args.object c.args.version m) Stays) (sym (rw c.in-Base.is at kind))
-    (base-stays v r c.args.object c.args.version c.in-Base.request)
+    (base-stays v r c.args.object c.args.version c.in-Base.request))
 
 pub returns-in-XdgSurface-clause-answers : goal.returns-in-XdgSurface-clause-answers
 returns-in-XdgSurface-clause-answers g c = search rules
@@ -74,4 +76,49 @@ pub returns-in-Unserved-clause-answers : goal.returns-in-Unserved-clause-answers
 returns-in-Unserved-clause-answers g c = search rules
 
 pub returns-in-Unserved-clause-stacks : goal.returns-in-Unserved-clause-stacks
-returns-in-Unserved-clause-stacks g c = search rules
+returns-in-Unserved-clause-stacks g c = rw c.of-in-Unserved.ensures (search rules)
+
+pub returns-in-Surface-clause-change : goal.returns-in-Surface-clause-change
+returns-in-Surface-clause-change g c = λ commits.
+    let both = sym c.in-Surface.is ∙ commits in
+    let same : c.in-Surface.request ≡ Commit = cc in
+    c.wl_surface.ensures.change same
+
+pub returns-in-Surface-clause-nothing : goal.returns-in-Surface-clause-nothing
+returns-in-Surface-clause-nothing g c = λ other. c.wl_surface.ensures.nothing (λ commits. other (c.in-Surface.is ∙ ap Surface commits))
+
+pub returns-in-Toplevel-clause-change : goal.returns-in-Toplevel-clause-change
+returns-in-Toplevel-clause-change g c = λ commits. let both = sym commits ∙ c.in-Toplevel.is in absurd (cc)
+
+pub returns-in-Toplevel-clause-nothing : goal.returns-in-Toplevel-clause-nothing
+returns-in-Toplevel-clause-nothing g c = λ other. rw c.of.ensures
+
+pub returns-in-Compositor-clause-change : goal.returns-in-Compositor-clause-change
+returns-in-Compositor-clause-change g c = λ commits. let both = sym commits ∙ c.in-Compositor.is in absurd (cc)
+
+pub returns-in-Compositor-clause-nothing : goal.returns-in-Compositor-clause-nothing
+returns-in-Compositor-clause-nothing g c = λ other. rw c.of-in-Compositor.ensures
+
+pub returns-in-Seat-clause-change : goal.returns-in-Seat-clause-change
+returns-in-Seat-clause-change g c = λ commits. let both = sym commits ∙ c.in-Seat.is in absurd (cc)
+
+pub returns-in-Seat-clause-nothing : goal.returns-in-Seat-clause-nothing
+returns-in-Seat-clause-nothing g c = λ other. rw c.of-in-Seat.ensures
+
+pub returns-in-Base-clause-change : goal.returns-in-Base-clause-change
+returns-in-Base-clause-change g c = λ commits. let both = sym commits ∙ c.in-Base.is in absurd (cc)
+
+pub returns-in-Base-clause-nothing : goal.returns-in-Base-clause-nothing
+returns-in-Base-clause-nothing g c = λ other. rw c.of-in-Base.ensures
+
+pub returns-in-XdgSurface-clause-change : goal.returns-in-XdgSurface-clause-change
+returns-in-XdgSurface-clause-change g c = λ commits. let both = sym commits ∙ c.in-XdgSurface.is in absurd (cc)
+
+pub returns-in-XdgSurface-clause-nothing : goal.returns-in-XdgSurface-clause-nothing
+returns-in-XdgSurface-clause-nothing g c = λ other. rw c.of-in-XdgSurface.ensures
+
+pub returns-in-Unserved-clause-change : goal.returns-in-Unserved-clause-change
+returns-in-Unserved-clause-change g c = λ commits. let both = sym commits ∙ c.in-Unserved.is in absurd (cc)
+
+pub returns-in-Unserved-clause-nothing : goal.returns-in-Unserved-clause-nothing
+returns-in-Unserved-clause-nothing g c = λ other. rw c.of-in-Unserved.ensures

@@ -12,7 +12,7 @@ use Rattle.wl_plain.specs.Step.{after_surface}
 use Rattle.wl_plain.proofs.BridgeJudged.{commit, effect-same}
 use Rattle.wl_resident.proofs.Simply.{meets-simply}
 use Rattle.wl_resident.proofs.Committing.{commit-peer, commit-told}
-use Rattle.wl_resident.proofs.Doing.{had-by, lacked}
+use Rattle.wl_resident.proofs.Doing.{gone, had-by, lacked}
 use Rattle.wl_plain.proofs.OwningAsks.{owned-committed-by}
 use Rattle.wl_plain.proofs.OwningSurfaces.{AreKept-changed}
 use Rattle.wl_resident.proofs.Shelling.{owns-told}
@@ -55,8 +55,14 @@ returns-clause-applies g c = λ client r on names object kept shows only comes i
       },
     ))
 
-pub returns-in-Err-clause-applies : goal.returns-in-Err-clause-applies
-returns-in-Err-clause-applies g c = λ client r on names object kept shows only comes is owned names_are named answer serial shell.
+pub returns-in_default-clause-applies : goal.returns-in_default-clause-applies
+returns-in_default-clause-applies g c = λ client r on names object kept shows only comes is owned names_are named answer serial shell.
     meets-simply _ _ client on (CommitSurface object (effect_by c.args.act)) (CommitTree object) r only (commit object (effect_by c.args.act) (sym (effect-same r object only.roles) ∙ comes)) (
     let lacks = lacked c.args.self.now _ _ r (c.lack_memory.ensures.lacks r.peer is) c.lack_memory.ensures.ended in
     (lacks.0, inl lacks.1, lacks.2))
+
+pub returns-clause-change : goal.returns-clause-change
+returns-clause-change g c = λ alive all stand. (c.in-Ok.applied, refl, c.in-Ok.ensures.changes all stand)
+
+pub returns-in_default-clause-change : goal.returns-in_default-clause-change
+returns-in_default-clause-change g c = λ alive. absurd (gone c.lack_memory.new.self.ended c.lack_memory.ensures.ended alive)

@@ -12,7 +12,7 @@ use Rattle.wl_plain.specs.Demand.{Demand, CommitTree}
 use Rattle.wl_plain.specs.Demanding.{commit_demand}
 use Rattle.wl_resident.specs.Residents.{AnswersSo, StacksSo}
 use Rattle.wl_plain.proofs.BridgeServes.{only-peer}
-use Rattle.wl_resident.specs.declared.residents.Stacking.TheVariants.{Stays}
+use Rattle.wl_resident.proofs.Doing.{gone}
 use Rattle.wl_resident.proofs.Stackings.{commit-stacks}
 use Rattle.wl_resident.proofs.Numbers.{left-from}
 use Rattle.wl_resident.proofs.Shelling.{names-counted, objects-counted, refused-whole, told-err}
@@ -35,8 +35,8 @@ returns-in-Ok-clause-answers g c = λ named client r on is only.
     let serial : c.serial-serial.result ≡ r.peer.serial = c.serial-serial.ensures ∙ is.peer.serial in
     let shell = c.in-Ok.ensures.ok ∙ ap (λ (n : ℕ). changing number (kept_after n act) kept) serial in
     let comes = accepted-effect names v.owned.surfaces kept r is.owns object number act only.roles named (ap (λ (b : Bool). commit_answer b (kept number)) (sym will) ∙ answer) in
-    let applied = c.apply.ensures.applies client (with_peer (counted r.peer) r) on names object kept shows (only-peer r (counted r.peer) refl only) comes (c.count.ensures.counts r.peer is.peer) is.owns (names-counted v.client c.count.new.self c.count.ensures.only) named answer serial shell in
-    subst (λ (j : Result Demand Refusal). AnswersSo j client r on v c.apply.new.self) (sym judged)
+    let applied = c.apply-applied.ensures.applies client (with_peer (counted r.peer) r) on names object kept shows (only-peer r (counted r.peer) refl only) comes (c.count.ensures.counts r.peer is.peer) is.owns (names-counted v.client c.count.new.self c.count.ensures.only) named answer serial shell in
+    subst (λ (j : Result Demand Refusal). AnswersSo j client r on v c.apply-applied.new.self) (sym judged)
     (applied.0, applied.1, left-from v (record { client = c.count.new.self; owned = record v.owned { shell = c.on_commit.new.self } }) _ _ applied.0 (objects-counted v.client c.count.new.self c.count.ensures.only) applied.2)
 
 pub returns-in-Err-clause-answers : goal.returns-in-Err-clause-answers
@@ -73,7 +73,7 @@ returns-in-Ok-clause-stacks g c = λ named r is only.
     commit-stacks v r object number c.in-Ok.act (commit_demand r object) c.stacking_of.result named judged comes c.stacking_of.ensures
 
 pub returns-in-Ok-clause-rest : goal.returns-in-Ok-clause-rest
-returns-in-Ok-clause-rest g c = rw (← c.count.ensures.rest) c.apply.ensures.rest
+returns-in-Ok-clause-rest g c = rw (← c.count.ensures.rest) c.apply-applied.ensures.rest
 
 pub returns-in-Err-clause-rest : goal.returns-in-Err-clause-rest
 returns-in-Err-clause-rest g c = c.refuse_xdg_surface.ensures.rest
@@ -93,4 +93,10 @@ returns-in-Err-clause-stacks g c = λ named r is only.
     let judged = told-err (commit_demand r object) (λ (a : ShellAct). CommitTree object) (shell_refusal base (kept_id (kept number)) xdg) (commit_answer (will_show r object) (kept number)) c.on_commit.result error
     (committed-by names v.owned.surfaces kept r is.owns object number base xdg only.roles named)
     (c.on_commit.ensures.answer ∙ ap (λ (b : Bool). commit_answer b (kept number)) will) c.in-Err.is in
-    subst (λ (j : Result Demand Refusal). StacksSo v r j Stays) (sym judged) tt
+    subst (λ (j : Result Demand Refusal). StacksSo v r j c.of.result.stacking) (sym judged) tt
+
+pub returns-in-Ok-clause-change : goal.returns-in-Ok-clause-change
+returns-in-Ok-clause-change g c = c.apply-applied.ensures.change
+
+pub returns-in-Err-clause-change : goal.returns-in-Err-clause-change
+returns-in-Err-clause-change g c = λ alive. absurd (gone c.refuse_xdg_surface.new.self.client.ended c.refuse_xdg_surface.ensures.ended alive)

@@ -14,8 +14,8 @@ use Rattle.wl_resident.proofs.residents.Resident.serve_on.Goals as goal
 pub returns-clause-serves : goal.returns-clause-serves
 returns-clause-serves g c = λ some others base d r is more.
     let only = seated-only c.args.client others base d _ _ r is c.in-Some.ensures.lives more in
-    let takes = simply-takes (split_of r.peer.rest) c.args.client r d _ _ c.in-Some.stacking only (c.in-Some.ensures.takes c.args.client r d (record { peer = is.seat.peer; owns = is.seat.owns }) only) in
-    let s = served c.args.client others base d r c.in-Some.stacking _ _ _ _ _ is c.in-Some.ensures.lives more takes c.settle.ensures.settles in
+    let takes = simply-takes (split_of r.peer.rest) c.args.client r d _ _ c.in-Some.outcome.stacking only (c.in-Some.ensures.takes c.args.client r d (record { peer = is.seat.peer; owns = is.seat.owns }) only) in
+    let s = served c.args.client others base d r c.in-Some.outcome.stacking _ _ _ _ _ is c.in-Some.ensures.lives more takes c.settle.ensures.settles in
     (s.0, s.1, s.2, s.3)
 
 pub returns-clause-sides : goal.returns-clause-sides
@@ -37,12 +37,12 @@ returns-clause-marks g c = λ some others base d r unlinked before more e q serv
     let was = c.args.scene.now in
     let now = c.settle.new.scene in
     let only = seated-only c.args.client others base d old was r before c.in-Some.ensures.lives more in
-    let takes = simply-takes (split_of r.peer.rest) c.args.client r d old c.serve.new.self c.in-Some.stacking only (c.in-Some.ensures.takes c.args.client r d (record { peer = before.seat.peer; owns = before.seat.owns }) only) in
+    let takes = simply-takes (split_of r.peer.rest) c.args.client r d old c.serve.new.self c.in-Some.outcome.stacking only (c.in-Some.ensures.takes c.args.client r d (record { peer = before.seat.peer; owns = before.seat.owns }) only) in
     let first = c.mark_touched.ensures in
     let second = c.mark_touched-2.ensures in
     marks-all d e c.args.damage.now c.mark_touched-2.new.damage more (serves-has touches_apart c.args.client d e more serves)
     (message-marks c.args.client others base d e r q old new was now before after unlinked more serves c.asked-asked.result c.asked-asked.ensures
-    (keeps-numbers (split_of r.peer.rest) r c.args.client c.in-Some.stacking old c.serve.new.self new was now takes c.settle.ensures.settles)
+    (keeps-numbers (split_of r.peer.rest) r c.args.client c.in-Some.outcome.stacking old c.serve.new.self new was now takes c.settle.ensures.settles)
     c.touched_by-touched.result c.touched_by-touched.ensures c.args.damage.now c.mark_touched.new.damage c.settle.new.damage c.mark_touched-2.new.damage
     (record { marks = first.marks; more = first.more; sides = first.sides })
     c.settle.ensures.marks

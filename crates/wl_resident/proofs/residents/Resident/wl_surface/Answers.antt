@@ -1,4 +1,4 @@
-use Rattle.std.proofs.Common.{refl, rules, w32}
+use Rattle.std.proofs.Common.{refl, rules, sym, w32, ◌∙◌}
 use Rattle.std.specs.Prelude.{FitsSigned, Ok}
 use Rattle.std.proofs.lemmas.Int.{to_z-of_z}
 use Rattle.wl_geom.specs.declared.rect.Rect.{Rect}
@@ -97,25 +97,25 @@ pub returns-in-Commit-clause-stacks : goal.returns-in-Commit-clause-stacks
 returns-in-Commit-clause-stacks g c = search rules
 
 pub returns-in-Destroy-clause-stacks : goal.returns-in-Destroy-clause-stacks
-returns-in-Destroy-clause-stacks g c = search rules
+returns-in-Destroy-clause-stacks g c = rw c.of.ensures (search rules)
 
 pub returns-in-Attach-clause-stacks : goal.returns-in-Attach-clause-stacks
-returns-in-Attach-clause-stacks g c = search rules
+returns-in-Attach-clause-stacks g c = rw c.of-in-Attach.ensures (search rules)
 
 pub returns-in-Damage-clause-stacks : goal.returns-in-Damage-clause-stacks
-returns-in-Damage-clause-stacks g c = search rules
+returns-in-Damage-clause-stacks g c = rw c.of-in-Damage.ensures (search rules)
 
 pub returns-in-Frame-clause-stacks : goal.returns-in-Frame-clause-stacks
-returns-in-Frame-clause-stacks g c = search rules
+returns-in-Frame-clause-stacks g c = rw c.of-in-Frame.ensures (search rules)
 
 pub returns-in-SetOpaqueRegion-clause-stacks : goal.returns-in-SetOpaqueRegion-clause-stacks
-returns-in-SetOpaqueRegion-clause-stacks g c = search rules
+returns-in-SetOpaqueRegion-clause-stacks g c = rw c.of-in-SetOpaqueRegion.ensures (search rules)
 
 pub returns-in-SetInputRegion-clause-stacks : goal.returns-in-SetInputRegion-clause-stacks
-returns-in-SetInputRegion-clause-stacks g c = search rules
+returns-in-SetInputRegion-clause-stacks g c = rw c.of-in-SetInputRegion.ensures (search rules)
 
 pub returns-in-SetBufferTransform-clause-stacks : goal.returns-in-SetBufferTransform-clause-stacks
-returns-in-SetBufferTransform-clause-stacks g c = search rules
+returns-in-SetBufferTransform-clause-stacks g c = rw c.of-in-SetBufferTransform.ensures (search rules)
 
 pub returns-in-Commit-clause-answers : goal.returns-in-Commit-clause-answers
 returns-in-Commit-clause-answers g c = search rules
@@ -132,3 +132,51 @@ returns-in-SetBufferTransform-clause-answers g c = λ named.
     let fits : FitsSigned w32 z = search rules in
     let answers = simp (to_z-of_z w32 z fits) at c.transform.ensures.answers in
     rw c.in-SetBufferTransform.is (answers named)
+
+pub returns-in-Commit-clause-change : goal.returns-in-Commit-clause-change
+returns-in-Commit-clause-change g c = λ commits. c.commit.ensures.change
+
+pub returns-in-Commit-clause-nothing : goal.returns-in-Commit-clause-nothing
+returns-in-Commit-clause-nothing g c = λ other. absurd (other c.in-Commit.is)
+
+pub returns-in-Destroy-clause-change : goal.returns-in-Destroy-clause-change
+returns-in-Destroy-clause-change g c = λ commits. let both = sym commits ∙ c.in-Destroy.is in absurd (cc)
+
+pub returns-in-Destroy-clause-nothing : goal.returns-in-Destroy-clause-nothing
+returns-in-Destroy-clause-nothing g c = λ other. rw c.of.ensures
+
+pub returns-in-Attach-clause-change : goal.returns-in-Attach-clause-change
+returns-in-Attach-clause-change g c = λ commits. let both = sym commits ∙ c.in-Attach.is in absurd (cc)
+
+pub returns-in-Attach-clause-nothing : goal.returns-in-Attach-clause-nothing
+returns-in-Attach-clause-nothing g c = λ other. rw c.of-in-Attach.ensures
+
+pub returns-in-Damage-clause-change : goal.returns-in-Damage-clause-change
+returns-in-Damage-clause-change g c = λ commits. let both = sym commits ∙ c.in-Damage.is in absurd (cc)
+
+pub returns-in-Damage-clause-nothing : goal.returns-in-Damage-clause-nothing
+returns-in-Damage-clause-nothing g c = λ other. rw c.of-in-Damage.ensures
+
+pub returns-in-Frame-clause-change : goal.returns-in-Frame-clause-change
+returns-in-Frame-clause-change g c = λ commits. let both = sym commits ∙ c.in-Frame.is in absurd (cc)
+
+pub returns-in-Frame-clause-nothing : goal.returns-in-Frame-clause-nothing
+returns-in-Frame-clause-nothing g c = λ other. rw c.of-in-Frame.ensures
+
+pub returns-in-SetOpaqueRegion-clause-change : goal.returns-in-SetOpaqueRegion-clause-change
+returns-in-SetOpaqueRegion-clause-change g c = λ commits. let both = sym commits ∙ c.in-SetOpaqueRegion.is in absurd (cc)
+
+pub returns-in-SetOpaqueRegion-clause-nothing : goal.returns-in-SetOpaqueRegion-clause-nothing
+returns-in-SetOpaqueRegion-clause-nothing g c = λ other. rw c.of-in-SetOpaqueRegion.ensures
+
+pub returns-in-SetInputRegion-clause-change : goal.returns-in-SetInputRegion-clause-change
+returns-in-SetInputRegion-clause-change g c = λ commits. let both = sym commits ∙ c.in-SetInputRegion.is in absurd (cc)
+
+pub returns-in-SetInputRegion-clause-nothing : goal.returns-in-SetInputRegion-clause-nothing
+returns-in-SetInputRegion-clause-nothing g c = λ other. rw c.of-in-SetInputRegion.ensures
+
+pub returns-in-SetBufferTransform-clause-change : goal.returns-in-SetBufferTransform-clause-change
+returns-in-SetBufferTransform-clause-change g c = λ commits. let both = sym commits ∙ c.in-SetBufferTransform.is in absurd (cc)
+
+pub returns-in-SetBufferTransform-clause-nothing : goal.returns-in-SetBufferTransform-clause-nothing
+returns-in-SetBufferTransform-clause-nothing g c = λ other. rw c.of-in-SetBufferTransform.ensures
