@@ -22,6 +22,7 @@ use Rattle.wl_proto.specs.declared.xdg_wm_base.XdgWmBaseRequest.{XdgWmBaseReques
 use Rattle.wl_proto.specs.declared.xdg_wm_base.XdgWmBaseRequest.TheVariants as base
 use Rattle.wl_geom.specs.declared.rect.Rect.{Rect}
 use Rattle.wl_store.specs.Transform.{transform_of}
+use Rattle.wl_store.specs.declared.transform.Transform.{Transform}
 use Rattle.wl_client.specs.Agreement.{IsPeer}
 use Rattle.wl_client.specs.First.{IsRefused, Passes}
 use Rattle.wl_client.specs.Judgement.{action_of}
@@ -325,12 +326,12 @@ module _ {A : Type 0} (v : Kept A) (r : Resident) (is : IsResident v r) where
   request-marks object version size target k m passes told =
       passed-touches (IsMarkedBy v (asked.Request object version size target k)) object version size target m passes
       (λ o effect.
-          let same : k ≡ kind.Surface surface.Commit = commit-kind k m told o in (
-            target,
-            ap (λ (q : Kind). marked_in q target) same,
-            named-by v.client.objects object target _ passes.entry (to-surface m.interface m.opcode m.fields surface.Commit o) refl,
-            ap (λ (q : Kind). commit_in q target) same,
-          ))
+      let same : k ≡ kind.Surface surface.Commit = commit-kind k m told o in (
+        target,
+        ap (λ (q : Kind). marked_in q target) same,
+        named-by v.client.objects object target _ passes.entry (to-surface m.interface m.opcode m.fields surface.Commit o) refl,
+        ap (λ (q : Kind). commit_in q target) same,
+      ))
       (λ o x found. (target, destroy-marks k m target told o, toplevel-number (to-toplevel m.interface m.opcode m.fields toplevel.Destroy o) x found, tt))
     where
       named : m.interface ≡ XdgToplevel → targets_in XdgToplevel v.client.objects object ≡ Some target
@@ -427,11 +428,21 @@ some-number None e = absurd (differ e)
 -- a list's first window that is of a surface is of it
 found-of : (c id : ℕ) (ws : List Window) (w : Window) → find (is_window_of c id) ws ≡ Some w → is_window_of c id w ≡ true
 found-of c id [] w e = absurd (cc)
-found-of c id (v ∷ ws) w e = at (is_window_of c id v) refl e
+found-of c id (v ∷ ws) w e = at (is_window_of c id v) refl e (found-of c id ws w)
   where
-    at : (b : Bool) → is_window_of c id v ≡ b → cond b (Some v) (find (is_window_of c id) ws) ≡ Some w → is_window_of c id w ≡ true
-    at true is e = let same : v ≡ w = cc in subst (λ x. is_window_of c id x ≡ true) same is
-    at false is e = found-of c id ws w e
+    at : (b : Bool) → is_window_of c id v ≡ b → cond b (Some v) (find (is_window_of c id) ws) ≡ Some w → (find (is_window_of c id) ws ≡ Some w → is_window_of c id w ≡ true) → is_window_of c id w ≡ true
+    at true is e later = let same : v ≡ w = cc in subst (λ x. is_window_of c id x ≡ true) same is
+    at false is e later = later e
+
+record_with : ℤ → ℤ → ℕ → ℕ → Transform → WindowRecord
+record_with x y w h transform = record { x = x; y = y; w = w; h = h; transform = transform }
+
+-- records with the same parts
+records : (k j : WindowRecord) → k.x ≡ j.x → k.y ≡ j.y → k.w ≡ j.w → k.h ≡ j.h → k.transform ≡ j.transform → k ≡ j
+unfolding record_with
+records k j x y w h t =
+    ap (λ a. record_with a k.y k.w k.h k.transform) x ∙ ap (λ b. record_with j.x b k.w k.h k.transform) y ∙ ap (λ m. record_with j.x j.y m k.h k.transform) w
+    ∙ ap (λ n. record_with j.x j.y j.w n k.transform) h ∙ ap (λ m. record_with j.x j.y j.w j.h m) t
 
 -- two windows of one surface whose records are the same
 module _ (c id : ℕ) (w v : Window) (of_w : is_window_of c id w ≡ true) (of_v : is_window_of c id v ≡ true) (k j : WindowRecord) (first : IsRecordOf (Some k) (Some w)) (second : IsRecordOf (Some j) (Some v)) where
@@ -453,10 +464,6 @@ module _ (c id : ℕ) (w v : Window) (of_w : is_window_of c id w ≡ true) (of_v
         transform = same-turned w.transform v.transform first.3 second.3 (sym first.2 ∙ ap (λ (n : WindowRecord). n.transform) e ∙ second.2);
       })
 
--- the records of two windows, and of one
-records : (k j : WindowRecord) → k.x ≡ j.x → k.y ≡ j.y → k.w ≡ j.w → k.h ≡ j.h → k.transform ≡ j.transform → k ≡ j
-records k j x y w h t = cc
-
 -- ---- a message
 
 -- a point that isn't to be painted is none that was added
@@ -473,7 +480,7 @@ module _ (c id : ℕ) (d e : Desktop) (was is : Option WindowRecord) (first : Is
 
   came : (w v : Option Window) (k j : Option WindowRecord) → was ≡ k → is ≡ j → (k ≡ j → ⊥) → (any_record_has (pos x) (pos y) k || any_record_has (pos x) (pos y) j) ≡ true → ⊥
   came w v k j a b other there =
-      none-added _ old new (changes.changed (λ same. other (sym a ∙ same ∙ b))) x y wide high unmarked
+      none-added (λ x y. any_record_has x y was || any_record_has x y is) old new (changes.changed (λ same. other (sym a ∙ same ∙ b))) x y wide high unmarked
       (ap (λ (n : Option WindowRecord). any_record_has (pos x) (pos y) n || any_record_has (pos x) (pos y) is) a ∙ ap (λ (n : Option WindowRecord). any_record_has (pos x) (pos y) k || any_record_has (pos x) (pos y) n) b ∙ there)
 
   -- where a window that has this record contains the point, so does the record
@@ -482,32 +489,32 @@ module _ (c id : ℕ) (d e : Desktop) (was is : Option WindowRecord) (first : Is
 
   both : (w v : Window) (k j : WindowRecord) → window_at c id d ≡ Some w → window_at c id e ≡ Some v → was ≡ Some k → is ≡ Some j → IsRecordOf (Some k) (Some w) → IsRecordOf (Some j) (Some v) → (b : Bool) → has_same_record w v ≡ b
       → (if b then is_window_damaged rects (pos x) (pos y) v else contains w (pos x) (pos y) || contains v (pos x) (pos y)) ≡ true → ⊥
-  both w v k j at_d at_e a b so then true same there =
+  both w v k j at_d at_e a b so after true same there =
       let of_w = found-of c id _ w at_d in
       let of_v = found-of c id _ v at_e in
-      let equal : k ≡ j = record-same c id w v of_w of_v k j so then same in
-      none-added _ old new (changes.stayed j (a ∙ ap (λ (n : WindowRecord). Some n) equal) b) x y wide high unmarked (damaged-so j v then ∙ there)
+      let equal : k ≡ j = record-same c id w v of_w of_v k j so after same in
+      none-added (λ x y. is_record_damaged rects x y j) old new (changes.stayed j (a ∙ ap (λ (n : WindowRecord). Some n) equal) b) x y wide high unmarked (damaged-so j v after ∙ there)
     where
       damaged-so : (j : WindowRecord) (v : Window) → IsRecordOf (Some j) (Some v) → is_record_damaged rects (pos x) (pos y) j ≡ is_window_damaged rects (pos x) (pos y) v
       damaged-so j v so = rw (so.0.0, so.0.1, so.1.0, so.1.1) refl
-  both w v k j at_d at_e a b so then false other there =
+  both w v k j at_d at_e a b so after false other there =
       let of_w = found-of c id _ w at_d in
       let of_v = found-of c id _ v at_e in
       came (Some w) (Some v) (Some k) (Some j) a b
-      (λ same. let equal : k ≡ j = cc in differ (sym other ∙ same-record c id w v of_w of_v k j so then equal))
-      (sym (ap (λ (t : Bool). t || contains v (pos x) (pos y)) (has-so k w so) ∙ ap (λ (t : Bool). record_has (pos x) (pos y) k || t) (has-so j v then)) ∙ there)
+      (λ same. let equal : k ≡ j = cc in differ (sym other ∙ same-record c id w v of_w of_v k j so after equal))
+      (sym (ap (λ (t : Bool). t || contains v (pos x) (pos y)) (has-so k w so) ∙ ap (λ (t : Bool). record_has (pos x) (pos y) k || t) (has-so j v after)) ∙ there)
 
   unchanged : (w v : Option Window) (k j : Option WindowRecord) → window_at c id d ≡ w → window_at c id e ≡ v → was ≡ k → is ≡ j → IsRecordOf k w → IsRecordOf j v → changes_at rects (pos x) (pos y) w v ≡ true → ⊥
-  unchanged None None k j at_d at_e a b so then there = differ there
-  unchanged (Some w) None (Some k) None at_d at_e a b so then there =
+  unchanged None None k j at_d at_e a b so after there = differ there
+  unchanged (Some w) None (Some k) None at_d at_e a b so after there =
       came (Some w) None (Some k) None a b (λ same. absurd (cc)) (or_left (record_has (pos x) (pos y) k) false (sym (has-so k w so) ∙ there))
-  unchanged None (Some v) None (Some j) at_d at_e a b so then there =
-      came None (Some v) None (Some j) a b (λ same. absurd (cc)) (sym (has-so j v then) ∙ there)
-  unchanged (Some w) (Some v) (Some k) (Some j) at_d at_e a b so then there = both w v k j at_d at_e a b so then (has_same_record w v) refl there
-  unchanged (Some w) v None j at_d at_e a b so then there = absurd so
-  unchanged None (Some v) (Some k) j at_d at_e a b so then there = absurd so
-  unchanged (Some w) None k (Some j) at_d at_e a b so then there = absurd then
-  unchanged w (Some v) k None at_d at_e a b so then there = absurd then
+  unchanged None (Some v) None (Some j) at_d at_e a b so after there =
+      came None (Some v) None (Some j) a b (λ same. absurd (cc)) (sym (has-so j v after) ∙ there)
+  unchanged (Some w) (Some v) (Some k) (Some j) at_d at_e a b so after there = both w v k j at_d at_e a b so after (has_same_record w v) refl there
+  unchanged (Some w) v None j at_d at_e a b so after there = absurd so
+  unchanged None (Some v) (Some k) j at_d at_e a b so after there = absurd so
+  unchanged (Some w) None k (Some j) at_d at_e a b so after there = absurd after
+  unchanged w (Some v) k None at_d at_e a b so after there = absurd after
 
   -- what changes there is to be painted
   pub never-changed : changes_at rects (pos x) (pos y) (window_at c id d) (window_at c id e) ≡ true → ⊥
@@ -528,7 +535,7 @@ module _ {A : Type 0} (c : ℕ) (others : ℕ → ById ℕ) (base d e : Desktop)
 
   -- the damage that a commit applied is the one that is told
   module _ (id number : ℕ) (named : targets_in WlSurface old.client.objects id ≡ Some number) (lives : new.client.ended ≡ None) where
-    numbers_then : ById ℕ
+    abbrev numbers_then : ById ℕ
     numbers_then = targets_in WlSurface old.client.objects
 
     there : (s : Surface) × (surface_at id r.owned.surfaces ≡ Some s) × (s.id ≡ id)
@@ -581,13 +588,15 @@ module _ {A : Type 0} (c : ℕ) (others : ℕ → ById ℕ) (base d e : Desktop)
 
     not-marked : MarkedExactlyBy c r (pos x) (pos y) d e → ⊥
     not-marked (inl (over, there)) = ended-there over there
-    not-marked (inr (alive, ask, told, id, t, there)) =
+    not-marked (inr (alive, ask, told, there)) =
+        let id : ℕ = there.0 in
+        let t : touched ask r ≡ Some id = there.1 in
         let lives : new.client.ended ≡ None = sym status ∙ alive in
         let marked : IsMarkedBy old a ask id = asked-marks old r (record { peer = before.seat.peer; owns = before.seat.owns }) a asks ask id told t in
         let number : ℕ = marked.0 in
         let asked_number : surface_number ≡ Some number = by_asked ∙ marked.1 in
         never-changed c id d e record_was record_is (first id number asked_number marked.2) (second id number asked_number (still-named ask id number told t marked.2 lives))
-        (rects_applied applied) d1 d2 changes x y wide1 high1 unmarked (there (rects_applied applied) (applied-by id number marked.2 lives ask marked.3))
+        (rects_applied applied) d1 d2 changes x y wide1 high1 unmarked (there.2 (rects_applied applied) (applied-by id number marked.2 lives ask marked.3))
 
     least : marks_of_toplevels d e (pos x) (pos y) ≡ false
     least =
