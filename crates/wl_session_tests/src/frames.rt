@@ -78,7 +78,77 @@ const WRITTEN_LATER: &[Row] = &[
     Row::Shows(0, 0, &[Pixel(0, 0, 255, 0, 0)]),
     Row::Sends(Message(6, 2, &[Arg::Int(0), Arg::Int(0), Arg::Int(1), Arg::Int(1)])),
     Row::Sends(COMMIT),
-    Row::Shows(1, 1600, &[Pixel(0, 0, 0, 255, 0), Pixel(1, 0, 255, 0, 0)]),
+    Row::Shows(1, 1, &[Pixel(0, 0, 0, 255, 0), Pixel(1, 0, 255, 0, 0)]),
+];
+
+/// wl_surface.damage of one pixel.
+const ONE_PIXEL: Message = Message(6, 2, &[Arg::Int(0), Arg::Int(0), Arg::Int(1), Arg::Int(1)]);
+
+/// 1,024 rectangles count one by one, and one more means the whole surface.
+const MANY_RECTANGLES: &[Row] = &[
+    Row::Changes(512, ONE_PIXEL, ONE_PIXEL),
+    Row::Sends(COMMIT),
+    Row::Shows(1, 1, &[]),
+    Row::Changes(512, ONE_PIXEL, ONE_PIXEL),
+    Row::Sends(ONE_PIXEL),
+    Row::Sends(COMMIT),
+    Row::Shows(1600, 1600, &[]),
+    Row::Sends(COMMIT),
+    Row::Shows(0, 0, &[]),
+];
+
+/// Damage is cut to the surface, however far it reaches.
+const BEYOND_THE_SURFACE: &[Row] = &[
+    Row::Sends(Message(
+        6,
+        2,
+        &[
+            Arg::Int(-2147483648),
+            Arg::Int(0),
+            Arg::Int(2147483647),
+            Arg::Int(2147483647),
+        ],
+    )),
+    Row::Sends(COMMIT),
+    Row::Shows(0, 0, &[]),
+    Row::Sends(Message(
+        6,
+        2,
+        &[Arg::Int(0), Arg::Int(0), Arg::Int(2147483647), Arg::Int(1)],
+    )),
+    Row::Sends(COMMIT),
+    Row::Shows(40, 40, &[]),
+    Row::Sends(Message(
+        6,
+        2,
+        &[Arg::Int(-5), Arg::Int(38), Arg::Int(10), Arg::Int(10)],
+    )),
+    Row::Sends(COMMIT),
+    Row::Shows(10, 10, &[]),
+];
+
+/// A window that is turned is painted again as a whole.
+const TURNS: &[Row] = &[
+    Row::Sends(Message(6, 7, &[Arg::Int(1)])),
+    Row::Sends(COMMIT),
+    Row::Shows(1600, 1600, &[]),
+];
+
+/// The client 2 damages two pixels of its window at (32, 32), of which one lies beyond the output, and what a window hides is painted too.
+const MOVED_TO_THE_CORNER: &[Row] = &[
+    Row::From(
+        2,
+        Message(6, 2, &[Arg::Int(31), Arg::Int(3), Arg::Int(2), Arg::Int(1)]),
+    ),
+    Row::From(2, COMMIT),
+    Row::Shows(1, 1, &[]),
+    Row::Sends(Message(
+        6,
+        2,
+        &[Arg::Int(31), Arg::Int(33), Arg::Int(3), Arg::Int(3)],
+    )),
+    Row::Sends(COMMIT),
+    Row::Shows(9, 9, &[]),
 ];
 
 /// The window moves 3 to the right: what it left is painted again, and where it is now.
@@ -262,6 +332,11 @@ const SHOWS_WHITE: &[Row] = &[Row::Shows(1600, 1600, &[Pixel(39, 39, 255, 255, 2
 /// The client below commits again: its window is painted below the other.
 const BELOW: &[Row] = &[
     Row::Sends(ATTACH_11),
+    Row::Sends(Message(
+        6,
+        2,
+        &[Arg::Int(0), Arg::Int(0), Arg::Int(40), Arg::Int(40)],
+    )),
     Row::Sends(COMMIT),
     Row::Shows(
         1600,
@@ -323,6 +398,18 @@ const CASES: &[Case] = &[
         &[RED_10, MAPS, SHOWS_RED, WRITTEN_LATER],
     ),
     (
+        "1,025 rectangles of damage mean the whole surface",
+        &[RED_10, MAPS, SHOWS_RED, MANY_RECTANGLES],
+    ),
+    (
+        "damage is cut to the surface",
+        &[RED_10, MAPS, SHOWS_RED, BEYOND_THE_SURFACE],
+    ),
+    (
+        "a window that is turned is painted as a whole",
+        &[RED_10, MAPS, SHOWS_RED, TURNS],
+    ),
+    (
         "a window that moves leaves its old place",
         &[RED_10, MAPS, SHOWS_RED, MOVES],
     ),
@@ -367,6 +454,8 @@ const TWO: &[&[Row]] = &[
 
 const COMMITTED_BELOW: &[&[Row]] = &[BELOW];
 
+const BOTH_DAMAGED: &[&[Row]] = &[MOVED_TO_THE_CORNER];
+
 const FIRST_ENDED: &[&[Row]] = &[OTHER_STAYS];
 
 /// Plays parts after both windows are there.
@@ -393,6 +482,7 @@ const SECOND_ALONE: &[&[Row]] = &[REGISTRY, GLOBALS, MADE, CONFIGURES, BUFFERS];
 #[test]
 fn windows_of_two_clients(rt: HostRuntime) {
     assert_eq!(rt; play_two(rt.alloc(), COMMITTED_BELOW), Ok(()));
+    assert_eq!(rt; play_two(rt.alloc(), BOTH_DAMAGED), Ok(()));
     assert_eq!(rt; play_two(rt.alloc(), FIRST_ENDED), Ok(()));
     let parts: &[&[Row]] = &[SECOND, SECOND_BUFFER, SHOWS_SECOND_ALONE, UNCONFIGURED];
     assert_eq!(rt; play_after(rt.alloc(), SECOND_ALONE, parts), Ok(()));
