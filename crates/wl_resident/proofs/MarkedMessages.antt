@@ -1,6 +1,6 @@
 -- What a message of a client marks to be painted again the desk marks: what it changes of the window of the surface that it touches, and everything
 -- where its client ends and a toplevel of its stood.
-use Rattle.std.proofs.Common.{◌≡◌, ℕ, ◌<◌, ◌-◌, List, [], ◌∷◌, ◌++◌, Bool, true, false, Option, Some, None, Result, refl, ap, sym, subst, ◌∙◌, inl, inr, ◌⊎◌}
+use Rattle.std.proofs.Common.{◌≡◌, ℕ, ◌<◌, ◌-◌, List, [], ◌∷◌, ◌++◌, Bool, true, false, Option, Some, None, Result, refl, ap, sym, subst, ◌∙◌, inl, inr}
 use Rattle.std.specs.Prelude.{ℤ, pos, ◌==◌, ◌&&◌, ◌||◌, Ok, Err, cond, drop, find, if◌then◌else◌, is_some, take}
 use Rattle.std.specs.List.{list_any}
 use Rattle.std.specs.Option.{option_and_then, option_map}
@@ -36,7 +36,6 @@ use Rattle.wl_client.specs.declared.refusals.Refusal.{Refusal}
 use Rattle.wl_client.proofs.Passing.{judged-refused}
 use Rattle.wl_paint.specs.Damage.{Damaged, has}
 use Rattle.wl_surface.specs.Applied.{AreChanges, newly_damaged}
-use Rattle.wl_surface.specs.Kept.{Numbered, StandForAll}
 use Rattle.wl_surface.specs.Request.{Buffer, Request}
 use Rattle.wl_surface.specs.State.{History, offset, values}
 use Rattle.wl_surface.specs.Surfaces.{Surface, history_in, surface_at}

@@ -1,9 +1,7 @@
-use Rattle.std.proofs.Common.{refl, sym, ◌∙◌, ◌≡◌, rules}
+use Rattle.std.proofs.Common.{refl, rules}
 use Rattle.wl_wire.specs.Wire.{split_of}
-use Rattle.wl_wire.specs.declared.header.Split.TheVariants.{More}
 use Rattle.wl_plain.proofs.BridgeMessages.{serves-has}
 use Rattle.wl_plain.proofs.BridgeTouches.{touches_apart}
-use Rattle.wl_resident.proofs.Asking.{idle-more}
 use Rattle.wl_resident.proofs.Seats.{large-then}
 use Rattle.wl_resident.proofs.MarkedMessages.{keeps-numbers, lived-before, message-marks}
 use Rattle.wl_resident.proofs.Simply.{seated-only, simply-takes}

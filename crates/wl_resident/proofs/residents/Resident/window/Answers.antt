@@ -1,6 +1,6 @@
-use Rattle.std.proofs.Common.{◌≡◌, ◌∙◌, ℕ, Option, Some, None, ap, sym, subst, rules}
+use Rattle.std.proofs.Common.{◌≡◌, ◌∙◌, Option, Some, None, ap, sym, subst, rules}
 use Rattle.wl_scene.specs.declared.scene.Toplevel.{Toplevel}
-use Rattle.wl_scene.specs.Stacking.{Standing, is_of, standing_of}
+use Rattle.wl_scene.specs.Stacking.{is_of, standing_of}
 use Rattle.std.specs.Prelude.{find}
 use Rattle.std.specs.Option.{option_map}
 use Rattle.wl_plain.specs.Touching.{window_at}
