@@ -1,5 +1,5 @@
 -- The window of a surface in a desktop has the record that what is kept of it says.
-use Rattle.std.proofs.Common.{◌≡◌, ℕ, zero, suc, ◌+◌, ◌<◌, List, [], ◌∷◌, ◌++◌, Bool, true, false, cond, Option, Some, None, map, refl, ap, sym, subst, ◌∙◌, arith, eq-eqb, ℤ}
+use Rattle.std.proofs.Common.{◌≡◌, ℕ, zero, suc, List, [], ◌∷◌, ◌++◌, Bool, true, false, cond, Option, Some, None, map, refl, ap, sym, subst, ◌∙◌, arith, eq-eqb, ℤ}
 use Rattle.std.specs.Prelude.{◌+ℤ◌, ◌==◌, ◌&&◌, ◌||◌, find, flat_map, nat_lt, not}
 use Rattle.std.specs.List.{list_any}
 use Rattle.std.specs.Option.{option_map}

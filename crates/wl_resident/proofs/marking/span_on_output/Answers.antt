@@ -1,4 +1,4 @@
-use Rattle.std.proofs.Common.{ℕ, ℤ, pos, ◌≡◌, ◌∙◌, ◌+ℤ◌, w32, w64, to_z, of_z, subst, true, arith}
+use Rattle.std.proofs.Common.{ℤ, pos, ◌≡◌, ◌∙◌, ◌+ℤ◌, w32, to_z, of_z, subst, true, arith}
 use Rattle.std.specs.Prelude.{◌&&◌, int_le, int_lt}
 use Rattle.std.proofs.lemmas.Int.{ints}
 use Rattle.wl_resident.proofs.Spans.{span-cut}

@@ -1,4 +1,4 @@
-use Rattle.std.proofs.Common.{ℤ, pos, ◌≡◌, ◌∙◌, w32, to_z, of_z, ap, rules, arith}
+use Rattle.std.proofs.Common.{pos, ◌≡◌, ◌∙◌, w32, to_z, of_z, ap, rules, arith}
 use Rattle.std.specs.Prelude.{◌-ℤ◌, ◌&&◌}
 use Rattle.std.proofs.lemmas.Int.{ints}
 use Rattle.wl_geom.specs.Rect.{in_span}
