@@ -4,6 +4,7 @@ use Rattle.std.specs.Option.{option_map}
 use Rattle.std.specs.Prelude.{Ok, Err, OnErr, OnOk, ◌≢◌, is_none}
 use Rattle.std.proofs.lemmas.List.{set-get_or}
 use Rattle.wl_client.specs.Peer.{IsIdleAt, Peer}
+use Rattle.wl_client.specs.Told.{Output as Shown}
 use Rattle.wl_client.specs.View.{ClientView}
 use Rattle.wl_client.specs.declared.clients.Cause.{Cause}
 use Rattle.wl_client.specs.declared.clients.Cause.TheVariants as cause
@@ -16,7 +17,7 @@ use Rattle.wl_scene.specs.declared.owned.Owned.{Owned}
 use Rattle.wl_resident.specs.Agreement.{Matches, IsPlace, IsSeat, IsSlot, numbers_in}
 use Rattle.wl_plain.specs.Desktop.{Desktop, Resident, become, become_by, client_at, client_in, resident_of, with_number}
 use Rattle.wl_desk.specs.Feeding.{IsIdleIn, IsIdleOf, kept_at, kept_by, kept_in, kept_of, kept_while, lives_in, rest_in, served_as, served_by, served_of}
-use Rattle.wl_resident.specs.Marking.{AreUnlinked, MarksAtLeast}
+use Rattle.wl_resident.specs.Marking.{AreUnlinked, MarksAtLeast, MarksAtMost}
 use Rattle.wl_resident.specs.Seats.{IsSeated, ended_by}
 use Rattle.wl_plain.specs.declared.answers.Fed.TheVariants as fed
 use Rattle.wl_plain.proofs.OwningKeys.{differ}
@@ -137,6 +138,15 @@ module _ {A : Type 0} (output : Output) (us : List (Option ClientView)) (os : Li
       let s = out output us os stack c k is d a v x y f g taken in
       let n = seated-new new x2 y2 now e s.0 s.1 more serves b in
       marks s.0 (unlinked (view_of output us os stack) d a) s.2 more e n.0 serves n.1
+
+  pub serves-within : (v new : Kept A) (x x2 : Option ClientView) (y y2 : Option (Owned A)) (now : Stack) (e : Desktop) (before after : Damaged) → x ≡ get_or us k x → y ≡ get_or os k y → (x ≡ Some v.client) × (y ≡ Some v.owned) → NoMore d
+      → ((r : Resident) → before.width ≡ d.output.width → before.height ≡ d.output.height → AreUnlinked d → IsSeated c (numbers_in us) d v stack d r → NoMore d → (e : Desktop) (q : Resident) → Serves served_now c d e → IsSeated c (numbers_in us) d new now e q
+      → MarksAtMost c d e before after)
+      → (before.width ≡ output.width) × (before.height ≡ output.height) → Serves served_now c d e → Matches (put-back new x2 y2 now) e → MarksAtMost c d e before after
+  serves-within v new x x2 y y2 now e before after f g taken more marks sides serves b =
+      let s = out output us os stack c k is d a v x y f g taken in
+      let n = seated-new new x2 y2 now e s.0 s.1 more serves b in
+      marks s.0 (sides.0 ∙ ap (λ (o : Shown). o.width) a.output) (sides.1 ∙ ap (λ (o : Shown). o.height) a.output) (unlinked (view_of output us os stack) d a) s.2 more e n.0 serves n.1
 
   -- there was no message
   pub idles : (v new : Kept A) (x x2 : Option ClientView) (y y2 : Option (Owned A)) (now : Stack) → x ≡ get_or us k x → y ≡ get_or os k y → (x ≡ Some v.client) × (y ≡ Some v.owned)

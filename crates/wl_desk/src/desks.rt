@@ -10,7 +10,7 @@ ghost use Rattle.wl_plain.specs.Desktop.{Desktop, empty};
 ghost use Rattle.wl_plain.specs.Acts.{Connect, Feed, Store, Leave, Send, Close, lowest, peer_at, unsent_of, status_of, store_size_of};
 ghost use Rattle.wl_resident.specs.Agreement.{IsSlot};
 ghost use Rattle.wl_desk.specs.Agreeing.{Agrees, MarksNothing, MarksStep, TakesStep};
-ghost use Rattle.wl_resident.specs.Marking.{MarksAtLeast};
+ghost use Rattle.wl_resident.specs.Marking.{MarksAtLeast, MarksAtMost};
 ghost use Rattle.wl_desk.specs.Feeding.{Ends, IsIdleIn, kept_at, kept_in, lives_in, rest_in, served_as, served_of};
 ghost use Rattle.wl_resident.specs.Marking.{IsAsLarge};
 ghost use Rattle.wl_desk.specs.Painting.{IsOpaqueAsSaid};
@@ -147,6 +147,8 @@ impl<A: Allocator + Copy> Desk<A> {
         ensures told { result ≢ Served.More → (d : Desktop) → Agrees self.new.desk d → result ≡ served_of (status_of (peer_at client d)) }
         ensures marks { result ≢ Served.More → (d e : Desktop) → Agrees self.old.desk d → Serves served_now client d e → Agrees self.new.desk e
             → MarksAtLeast d e self.old.damage self.new.damage }
+        ensures within { result ≢ Served.More → (d e : Desktop) → Agrees self.old.desk d → Serves served_now client d e → Agrees self.new.desk e
+            → MarksAtMost client d e self.old.damage self.new.damage }
         ensures more { result ≡ Served.More → (d : Desktop) → Agrees self.old.desk d → Agrees self.new.desk d × IsIdleIn client d }
         ensures rests { result ≡ Served.More → self.new.damage ≡ self.old.damage }
         ensures sides { IsAsLarge self.old.damage self.new.damage }

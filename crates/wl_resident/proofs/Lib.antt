@@ -13,6 +13,7 @@ pub mod Asking
 pub mod OwnAsking
 pub mod Releasing
 pub mod MarkedMessages
+pub mod Within
 pub mod Marked
 pub mod Toplevels
 pub mod Spans

@@ -425,7 +425,7 @@ some-number None e = absurd (differ e)
 -- ---- the records of a window before and after
 
 -- a list's first window that is of a surface is of it
-found-of : (c id : ℕ) (ws : List Window) (w : Window) → find (is_window_of c id) ws ≡ Some w → is_window_of c id w ≡ true
+pub found-of : (c id : ℕ) (ws : List Window) (w : Window) → find (is_window_of c id) ws ≡ Some w → is_window_of c id w ≡ true
 found-of c id [] w e = absurd (cc)
 found-of c id (v ∷ ws) w e = at (is_window_of c id v) refl e (found-of c id ws w)
   where
@@ -445,13 +445,13 @@ records k j x y w h t =
 
 -- two windows of one surface whose records are the same
 module _ (c id : ℕ) (w v : Window) (of_w : is_window_of c id w ≡ true) (of_v : is_window_of c id v ≡ true) (k j : WindowRecord) (first : IsRecordOf (Some k) (Some w)) (second : IsRecordOf (Some j) (Some v)) where
-  record-same : has_same_record w v ≡ true → k ≡ j
+  pub record-same : has_same_record w v ≡ true → k ≡ j
   record-same e =
       let is = fields w v e in
       records k j (first.0.0 ∙ is.x ∙ sym second.0.0) (first.0.1 ∙ is.y ∙ sym second.0.1) (first.1.0 ∙ is.width ∙ sym second.1.0) (first.1.1 ∙ is.height ∙ sym second.1.1)
       (first.2 ∙ ap transform_of is.transform ∙ sym second.2)
 
-  same-record : k ≡ j → has_same_record w v ≡ true
+  pub same-record : k ≡ j → has_same_record w v ≡ true
   same-record e =
       recorded w v (record {
         client = eqb-true w.owner.client c (and-left _ _ of_w) ∙ sym (eqb-true v.owner.client c (and-left _ _ of_v));
@@ -472,6 +472,14 @@ none-added p old new adds x y wide high unmarked there = differ (sym (or-right (
 none-before : (p : ℤ → ℤ → Bool) (old new : Damaged) → AddsPoints p old new → (x y : ℕ) → x < old.width → y < old.height → has new x y ≡ false → has old x y ≡ false
 none-before p old new adds x y wide high unmarked = or-left (has old x y) _ (sym (adds x y wide high) ∙ unmarked)
 
+-- where a window that has this record contains the point, so does the record
+pub has-so : (x y : ℤ) (k : WindowRecord) (w : Window) → IsRecordOf (Some k) (Some w) → contains w x y ≡ record_has x y k
+has-so x y k w so = rw (sym so.0.0, sym so.0.1, sym so.1.0, sym so.1.1) refl
+
+-- and where its damage holds the point, so does the record's
+pub damaged-so : (rects : List Rect) (x y : ℤ) (j : WindowRecord) (v : Window) → IsRecordOf (Some j) (Some v) → is_record_damaged rects x y j ≡ is_window_damaged rects x y v
+damaged-so rects x y j v so = rw (so.0.0, so.0.1, so.1.0, so.1.1) refl
+
 module _ (c id : ℕ) (d e : Desktop) (was is : Option WindowRecord) (first : IsRecordOf was (window_at c id d)) (second : IsRecordOf is (window_at c id e)) (rects : List Rect) (old new : Damaged) (changes : MarksChange was is rects old new)
     (x y : ℕ) (wide : x < old.width) (high : y < old.height) (unmarked : has new x y ≡ false) where
   abbrev Unchanged : Option WindowRecord → Option WindowRecord → Option Window → Option Window → Type 0
@@ -482,33 +490,26 @@ module _ (c id : ℕ) (d e : Desktop) (was is : Option WindowRecord) (first : Is
       none-added (λ x y. any_record_has x y was || any_record_has x y is) old new (changes.changed (λ same. other (sym a ∙ same ∙ b))) x y wide high unmarked
       (ap (λ (n : Option WindowRecord). any_record_has (pos x) (pos y) n || any_record_has (pos x) (pos y) is) a ∙ ap (λ (n : Option WindowRecord). any_record_has (pos x) (pos y) k || any_record_has (pos x) (pos y) n) b ∙ there)
 
-  -- where a window that has this record contains the point, so does the record
-  has-so : (k : WindowRecord) (w : Window) → IsRecordOf (Some k) (Some w) → contains w (pos x) (pos y) ≡ record_has (pos x) (pos y) k
-  has-so k w so = rw (sym so.0.0, sym so.0.1, sym so.1.0, sym so.1.1) refl
-
   both : (w v : Window) (k j : WindowRecord) → window_at c id d ≡ Some w → window_at c id e ≡ Some v → was ≡ Some k → is ≡ Some j → IsRecordOf (Some k) (Some w) → IsRecordOf (Some j) (Some v) → (b : Bool) → has_same_record w v ≡ b
       → (if b then is_window_damaged rects (pos x) (pos y) v else contains w (pos x) (pos y) || contains v (pos x) (pos y)) ≡ true → ⊥
   both w v k j at_d at_e a b so after true same there =
       let of_w = found-of c id _ w at_d in
       let of_v = found-of c id _ v at_e in
       let equal : k ≡ j = record-same c id w v of_w of_v k j so after same in
-      none-added (λ x y. is_record_damaged rects x y j) old new (changes.stayed j (a ∙ ap (λ (n : WindowRecord). Some n) equal) b) x y wide high unmarked (damaged-so j v after ∙ there)
-    where
-      damaged-so : (j : WindowRecord) (v : Window) → IsRecordOf (Some j) (Some v) → is_record_damaged rects (pos x) (pos y) j ≡ is_window_damaged rects (pos x) (pos y) v
-      damaged-so j v so = rw (so.0.0, so.0.1, so.1.0, so.1.1) refl
+      none-added (λ x y. is_record_damaged rects x y j) old new (changes.stayed j (a ∙ ap (λ (n : WindowRecord). Some n) equal) b) x y wide high unmarked (damaged-so rects (pos x) (pos y) j v after ∙ there)
   both w v k j at_d at_e a b so after false other there =
       let of_w = found-of c id _ w at_d in
       let of_v = found-of c id _ v at_e in
       came (Some w) (Some v) (Some k) (Some j) a b
       (λ same. let equal : k ≡ j = cc in differ (sym other ∙ same-record c id w v of_w of_v k j so after equal))
-      (sym (ap (λ (t : Bool). t || contains v (pos x) (pos y)) (has-so k w so) ∙ ap (λ (t : Bool). record_has (pos x) (pos y) k || t) (has-so j v after)) ∙ there)
+      (sym (ap (λ (t : Bool). t || contains v (pos x) (pos y)) (has-so (pos x) (pos y) k w so) ∙ ap (λ (t : Bool). record_has (pos x) (pos y) k || t) (has-so (pos x) (pos y) j v after)) ∙ there)
 
   unchanged : (w v : Option Window) (k j : Option WindowRecord) → window_at c id d ≡ w → window_at c id e ≡ v → was ≡ k → is ≡ j → IsRecordOf k w → IsRecordOf j v → changes_at rects (pos x) (pos y) w v ≡ true → ⊥
   unchanged None None k j at_d at_e a b so after there = differ there
   unchanged (Some w) None (Some k) None at_d at_e a b so after there =
-      came (Some w) None (Some k) None a b (λ same. absurd (cc)) (or_left (record_has (pos x) (pos y) k) false (sym (has-so k w so) ∙ there))
+      came (Some w) None (Some k) None a b (λ same. absurd (cc)) (or_left (record_has (pos x) (pos y) k) false (sym (has-so (pos x) (pos y) k w so) ∙ there))
   unchanged None (Some v) None (Some j) at_d at_e a b so after there =
-      came None (Some v) None (Some j) a b (λ same. absurd (cc)) (sym (has-so j v after) ∙ there)
+      came None (Some v) None (Some j) a b (λ same. absurd (cc)) (sym (has-so (pos x) (pos y) j v after) ∙ there)
   unchanged (Some w) (Some v) (Some k) (Some j) at_d at_e a b so after there = both w v k j at_d at_e a b so after (has_same_record w v) refl there
   unchanged (Some w) v None j at_d at_e a b so after there = absurd so
   unchanged None (Some v) (Some k) j at_d at_e a b so after there = absurd so
@@ -519,21 +520,15 @@ module _ (c id : ℕ) (d e : Desktop) (was is : Option WindowRecord) (first : Is
   pub never-changed : changes_at rects (pos x) (pos y) (window_at c id d) (window_at c id e) ≡ true → ⊥
   never-changed there = unchanged (window_at c id d) (window_at c id e) was is refl refl refl refl first second there
 
-module _ {A : Type 0} (c : ℕ) (others : ℕ → ById ℕ) (base d e : Desktop) (r q : Resident) (old new : Kept A) (was now : Stack) (before : IsSeated c others base old was d r) (after : IsSeated c others base new now e q)
-    (unlinked : AreUnlinked base) (more : NoMore d) (serves : Serves served_now c d e) (a : Asked) (asks : IsAsked old.client a)
-    (keeps : new.client.ended ≡ None → KeepsNumbers old.client.objects new.client.objects) (surface_number : Option ℕ) (by_asked : surface_number ≡ marked_by a)
-    (record_was record_is : Option WindowRecord) (first : (id number : ℕ) → surface_number ≡ Some number → targets_in WlSurface old.client.objects id ≡ Some number → IsRecordOf record_was (window_at c id d))
-    (second : (id number : ℕ) → surface_number ≡ Some number → targets_in WlSurface new.client.objects id ≡ Some number → IsRecordOf record_is (window_at c id e))
-    (applied : Option (Applied A)) (commits : (number : ℕ) → commit_by a ≡ Some number → TellsChange old new number applied)
-    (d0 d1 d2 : Damaged) (settled : MarksEnd new.client.ended c was d0 d1) (changes : MarksChange record_was record_is (rects_applied applied) d1 d2) where
-  status : status_in c e ≡ new.client.ended
+module _ {A : Type 0} (c : ℕ) (others : ℕ → ById ℕ) (base d e : Desktop) (r q : Resident) (old new : Kept A) (was now : Stack) (before : IsSeated c others base old was d r) (after : IsSeated c others base new now e q) where
+  pub status : status_in c e ≡ new.client.ended
   status = ap status_of after.based.there ∙ sym after.seat.peer.status
 
   owned-then : owned_in d c ≡ r.owned
   owned-then = ap owned_of before.based.there
 
   -- the damage that a commit applied is the one that is told
-  module _ (id number : ℕ) (named : targets_in WlSurface old.client.objects id ≡ Some number) (lives : new.client.ended ≡ None) where
+  module _ (a : Asked) (applied : Option (Applied A)) (commits : (number : ℕ) → commit_by a ≡ Some number → TellsChange old new number applied) (id number : ℕ) (named : targets_in WlSurface old.client.objects id ≡ Some number) (lives : new.client.ended ≡ None) where
     abbrev numbers_then : ById ℕ
     numbers_then = targets_in WlSurface old.client.objects
 
@@ -550,7 +545,7 @@ module _ {A : Type 0} (c : ℕ) (others : ℕ → ById ℕ) (base d e : Desktop)
         subst (λ (o : Option Surface). AreChanges number o told.0.changes.items) (surface-read numbers_then old.owned.surfaces r.owned.surfaces before.seat.owns.surfaces id number named ∙ there.1) told.2 in
         ap rects_applied told.1 ∙ ap rects_changed change.1 ∙ change.2.rects
 
-    applied-by : (ask : Simple) → IsCommitOf a ask number → IsAppliedBy ask (history_of d c id) (rects_applied applied)
+    pub applied-by : (ask : Simple) → IsCommitOf a ask number → IsAppliedBy ask (history_of d c id) (rects_applied applied)
     applied-by (CommitSurface surface effect) commit =
         subst (λ (o : Option History). IsAppliedBy (CommitSurface surface effect) o (rects_applied applied)) (sym history-then) (told-rects commit)
     applied-by (Asking ask) commit = tt
@@ -558,50 +553,56 @@ module _ {A : Type 0} (c : ℕ) (others : ℕ → ById ℕ) (base d e : Desktop)
     applied-by (DestroyToplevel toplevel xdg top) commit = tt
 
   -- a surface that is touched is there afterwards, with its number
-  still-named : (ask : Simple) (id number : ℕ) → AsksBy r (split_of r.peer.rest) ask → touched ask r ≡ Some id → targets_in WlSurface old.client.objects id ≡ Some number → new.client.ended ≡ None → targets_in WlSurface new.client.objects id ≡ Some number
-  still-named ask id number told t named lives =
+  pub still-named : (more : NoMore d) → Serves served_now c d e → (new.client.ended ≡ None → KeepsNumbers old.client.objects new.client.objects) → (ask : Simple) (id number : ℕ) → AsksBy r (split_of r.peer.rest) ask → touched ask r ≡ Some id → targets_in WlSurface old.client.objects id ≡ Some number → new.client.ended ≡ None → targets_in WlSurface new.client.objects id ≡ Some number
+  still-named more serves keeps ask id number told t named lives =
       let stays : is_some (surface_at id (owned_in e c).surfaces) ≡ true =
       serves-keeps c r d before.based.there e more serves (status ∙ lives) ask told id t (sym (before.seat.owns.surfaces.numbered id) ∙ ap (λ (o : Option ℕ). is_some o) named) in
       let here = some-number (targets_in WlSurface new.client.objects id) (after.seat.owns.surfaces.numbered id ∙ ap (λ (o : Option Resident). is_some (surface_at id (owned_of o).surfaces)) (sym after.based.there) ∙ stays) in
       here.1 ∙ ap (λ n. Some n) (sym (keeps lives id number here.0 named here.1))
 
-  module _ (x y : ℕ) (wide : x < d0.width) (high : y < d0.height) (unmarked : has d2 x y ≡ false) where
-    wide1 : x < d1.width
-    wide1 = subst (λ n. x < n) (sym settled.0.width) wide
+  module _ (unlinked : AreUnlinked base) (more : NoMore d) (serves : Serves served_now c d e) (a : Asked) (asks : IsAsked old.client a)
+      (keeps : new.client.ended ≡ None → KeepsNumbers old.client.objects new.client.objects) (surface_number : Option ℕ) (by_asked : surface_number ≡ marked_by a)
+      (record_was record_is : Option WindowRecord) (first : (id number : ℕ) → surface_number ≡ Some number → targets_in WlSurface old.client.objects id ≡ Some number → IsRecordOf record_was (window_at c id d))
+      (second : (id number : ℕ) → surface_number ≡ Some number → targets_in WlSurface new.client.objects id ≡ Some number → IsRecordOf record_is (window_at c id e))
+      (applied : Option (Applied A)) (commits : (number : ℕ) → commit_by a ≡ Some number → TellsChange old new number applied)
+      (d0 d1 d2 : Damaged) (settled : MarksEnd new.client.ended c was d0 d1) (changes : MarksChange record_was record_is (rects_applied applied) d1 d2) where
+    module _ (x y : ℕ) (wide : x < d0.width) (high : y < d0.height) (unmarked : has d2 x y ≡ false) where
+      wide1 : x < d1.width
+      wide1 = subst (λ n. x < n) (sym settled.0.width) wide
 
-    high1 : y < d1.height
-    high1 = subst (λ n. y < n) (sym settled.0.height) high
+      high1 : y < d1.height
+      high1 = subst (λ n. y < n) (sym settled.0.height) high
 
-    none1 : has d1 x y ≡ false
-    none1 = unless (has d1 x y) (λ f. differ (sym unmarked ∙ changes.more x y wide1 high1 f))
+      none1 : has d1 x y ≡ false
+      none1 = unless (has d1 x y) (λ f. differ (sym unmarked ∙ changes.more x y wide1 high1 f))
 
-    none0 : has d0 x y ≡ false
-    none0 = or-left (has d0 x y) _ (sym (settled.1 x y wide high) ∙ none1)
+      none0 : has d0 x y ≡ false
+      none0 = or-left (has d0 x y) _ (sym (settled.1 x y wide high) ∙ none1)
 
-    -- the client ended, and had a window there
-    ended-there : is_some (status_in c e) ≡ true → has_window_at c (pos x) (pos y) d ≡ true → ⊥
-    ended-there over there =
-        let stood : stands_any c was ≡ true = stack-any _ c was.standing d.standing before.scene.standing
-        ∙ windows-stand (λ client surface. client == c) (pos x) (pos y) (owned_in d) d.standing (seated-unlinked c others base d old was r before unlinked) there in
-        differ (sym (or-right (has d0 x y) _ (sym (settled.1 x y wide high) ∙ none1)) ∙ and-both (is_some new.client.ended) (stands_any c was) (ap (λ o. is_some o) (sym status) ∙ over) stood)
+      -- the client ended, and had a window there
+      ended-there : is_some (status_in c e) ≡ true → has_window_at c (pos x) (pos y) d ≡ true → ⊥
+      ended-there over there =
+          let stood : stands_any c was ≡ true = stack-any _ c was.standing d.standing before.scene.standing
+          ∙ windows-stand (λ client surface. client == c) (pos x) (pos y) (owned_in d) d.standing (seated-unlinked c others base d old was r before unlinked) there in
+          differ (sym (or-right (has d0 x y) _ (sym (settled.1 x y wide high) ∙ none1)) ∙ and-both (is_some new.client.ended) (stands_any c was) (ap (λ o. is_some o) (sym status) ∙ over) stood)
 
-    not-marked : MarkedExactlyBy c r (pos x) (pos y) d e → ⊥
-    not-marked (inl (over, there)) = ended-there over there
-    not-marked (inr (alive, ask, told, there)) =
-        let id : ℕ = there.0 in
-        let t : touched ask r ≡ Some id = there.1 in
-        let lives : new.client.ended ≡ None = sym status ∙ alive in
-        let marked : IsMarkedBy old a ask id = asked-marks old r (record { peer = before.seat.peer; owns = before.seat.owns }) a asks ask id told t in
-        let number : ℕ = marked.0 in
-        let asked_number : surface_number ≡ Some number = by_asked ∙ marked.1 in
-        never-changed c id d e record_was record_is (first id number asked_number marked.2) (second id number asked_number (still-named ask id number told t marked.2 lives))
-        (rects_applied applied) d1 d2 changes x y wide1 high1 unmarked (there.2 (rects_applied applied) (applied-by id number marked.2 lives ask marked.3))
+      not-marked : MarkedExactlyBy c r (pos x) (pos y) d e → ⊥
+      not-marked (inl (over, there)) = ended-there over there
+      not-marked (inr (alive, ask, told, there)) =
+          let id : ℕ = there.0 in
+          let t : touched ask r ≡ Some id = there.1 in
+          let lives : new.client.ended ≡ None = sym status ∙ alive in
+          let marked : IsMarkedBy old a ask id = asked-marks old r (record { peer = before.seat.peer; owns = before.seat.owns }) a asks ask id told t in
+          let number : ℕ = marked.0 in
+          let asked_number : surface_number ≡ Some number = by_asked ∙ marked.1 in
+          never-changed c id d e record_was record_is (first id number asked_number marked.2) (second id number asked_number (still-named more serves keeps ask id number told t marked.2 lives))
+          (rects_applied applied) d1 d2 changes x y wide1 high1 unmarked (there.2 (rects_applied applied) (applied-by a applied commits id number marked.2 lives ask marked.3))
 
-    least : marks_of_toplevels d e (pos x) (pos y) ≡ false
-    least =
-        unless (marks_of_toplevels d e (pos x) (pos y))
-        (λ f. not-marked (serves-exactly c r d before.based.there _ _ _ before.seat.owns before.mapped (seated-unlinked c others base d old was r before unlinked) (pos x) (pos y) e more serves f))
+      least : marks_of_toplevels d e (pos x) (pos y) ≡ false
+      least =
+          unless (marks_of_toplevels d e (pos x) (pos y))
+          (λ f. not-marked (serves-exactly c r d before.based.there _ _ _ before.seat.owns before.mapped (seated-unlinked c others base d old was r before unlinked) (pos x) (pos y) e more serves f))
 
-  -- What a message marks at least is to be painted, as is what was.
-  pub message-marks : MarksToplevels d e d0 d2
-  message-marks = λ x y wide high unmarked. (none0 x y wide high unmarked, least x y wide high unmarked)
+    -- What a message marks at least is to be painted, as is what was.
+    pub message-marks : MarksToplevels d e d0 d2
+    message-marks = λ x y wide high unmarked. (none0 x y wide high unmarked, least x y wide high unmarked)

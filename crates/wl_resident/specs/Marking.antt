@@ -16,7 +16,8 @@ use Rattle.wl_paint.specs.Damage.{Damaged, has}
 use Rattle.wl_scene.specs.Stacking.{Stack, Standing}
 use Rattle.wl_scene.specs.Windows.{Window}
 use Rattle.wl_plain.specs.Desktop.{Desktop, owned_in}
-use Rattle.wl_plain.specs.Moments.{marks_at_least}
+use Rattle.wl_plain.specs.Laws.{status_in}
+use Rattle.wl_plain.specs.Moments.{marks_at_least, marks_at_most}
 use Rattle.wl_resident.specs.declared.marking.WindowRecord.{WindowRecord}
 use Rattle.wl_resident.specs.declared.messages.Asked.{Asked}
 use Rattle.wl_resident.specs.declared.messages.Asked.TheVariants as asked
@@ -38,6 +39,11 @@ AreUnlinked d = (c : ℕ) → (owned_in d c).surfaces.links ≡ []
 abbrev pub MarksAtLeast : Desktop → Desktop → Damaged → Damaged → Type 0
 MarksAtLeast d e old new =
     (x y : ℕ) → x < old.width → y < old.height → has new x y ≡ false → (has old x y ≡ false) × (marks_at_least d e (pos x) (pos y) ≡ false)
+
+-- A step after which its client lives marks no more than it may: what is to be painted was before, or is among what the step marks at most.
+abbrev pub MarksAtMost : ℕ → Desktop → Desktop → Damaged → Damaged → Type 0
+MarksAtMost c d e old new =
+    status_in c e ≡ None → (x y : ℕ) → x < old.width → y < old.height → has new x y ≡ true → (has old x y || marks_at_most d e None (pos x) (pos y)) ≡ true
 
 -- a toplevel of the client stands
 abbrev pub stands_any : ℕ → Stack → Bool

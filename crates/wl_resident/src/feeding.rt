@@ -2,7 +2,7 @@
 
 ghost use Rattle.std.specs.Prelude.{ℕ, ◌≡◌, ◌<◌, ◌≤◌, ◌||◌, None, Some, length, pos, true, false};
 ghost use Rattle.wl_paint.specs.Damage.{has};
-ghost use Rattle.wl_resident.specs.Marking.{AreUnlinked, IsAsLarge, MarksAtLeast, MarksEnd, stands_any};
+ghost use Rattle.wl_resident.specs.Marking.{AreUnlinked, IsAsLarge, MarksAtLeast, MarksAtMost, MarksEnd, stands_any};
 ghost use Rattle.wl_client.specs.Objects.{ById};
 ghost use Rattle.wl_store.specs.Stores.{write_refusal};
 ghost use Rattle.wl_client.specs.Agreement.{IsPeer};
@@ -103,6 +103,10 @@ impl<A: Allocator + Copy> Resident<A> {
         ensures marks { result ≡ true → (others : ℕ → ById ℕ) (base d : Desktop) (r : Plain) → AreUnlinked base → IsSeated client others base self.old scene.old d r → NoMore d
             → (e : Desktop) (q : Plain) → Serves served_now client d e → IsSeated client others base self.new scene.new e q
             → MarksAtLeast d e damage.old damage.new }
+        ensures within { result ≡ true → (others : ℕ → ById ℕ) (base d : Desktop) (r : Plain) → damage.old.width ≡ d.output.width → damage.old.height ≡ d.output.height → AreUnlinked base
+            → IsSeated client others base self.old scene.old d r → NoMore d
+            → (e : Desktop) (q : Plain) → Serves served_now client d e → IsSeated client others base self.new scene.new e q
+            → MarksAtMost client d e damage.old damage.new }
         ensures idle { result ≡ false → (self.new ≡ self.old) × (scene.new ≡ scene.old) × (damage.new ≡ damage.old) × IsIdleAt self.old.client.ended self.old.client.rest }
         ensures sides { IsAsLarge damage.old damage.new }
         ensures less { result ≡ true → length self.new.client.rest < length self.old.client.rest }

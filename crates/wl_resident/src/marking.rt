@@ -1,6 +1,6 @@
 //! What of the output a message marks to be painted again.
 
-ghost use Rattle.std.specs.Prelude.{ℕ, ℤ, ◌≡◌, ◌↔◌, ◌<◌, ◌+ℤ◌, ◌-ℤ◌, ◌&&◌, ◌||◌, IfNone, IfSome, Some, find, int_le, int_lt, pos, true};
+ghost use Rattle.std.specs.Prelude.{ℕ, ℤ, ◌≡◌, ◌↔◌, ◌<◌, ◌+ℤ◌, ◌-ℤ◌, ◌&&◌, ◌||◌, IfNone, IfSome, None, Some, find, int_le, int_lt, pos, true};
 ghost use Rattle.std.specs.Option.{option_map};
 ghost use Rattle.wl_proto.specs.declared.interface.Interface.TheVariants.{WlSurface};
 ghost use Rattle.wl_client.specs.Objects.{ById};
@@ -284,7 +284,8 @@ impl<A: Allocator + Copy> Resident<A> {
         client: ClientNo,
         surface: Option<SurfaceNo>,
     ) -> Option<WindowRecord>
-        ensures { (others : ℕ → ById ℕ) (base d : Desktop) (r : Plain) → IsSeated client others base self.now scene.now d r
+        ensures none { surface ≡ None → result ≡ None }
+        ensures window { (others : ℕ → ById ℕ) (base d : Desktop) (r : Plain) → IsSeated client others base self.now scene.now d r
             → (id number : ℕ) → surface ≡ Some number → targets_in WlSurface self.now.client.objects id ≡ Some number
             → IsRecordOf result (window_at client id d) }
     {

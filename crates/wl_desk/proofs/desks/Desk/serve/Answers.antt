@@ -3,7 +3,7 @@ use Rattle.std.proofs.lemmas.List.{length-set}
 use Rattle.wl_resident.specs.Agreement.{numbers_in}
 use Rattle.wl_desk.specs.Feeding.{served_as}
 use Rattle.wl_desk.proofs.Calls.{found, serves}
-use Rattle.wl_desk.proofs.Kept.{Idle-none, idles, idles-untaken, rest-less, served-answer, served-idle, served-took, serves-marks, serves-told}
+use Rattle.wl_desk.proofs.Kept.{Idle-none, idles, idles-untaken, rest-less, served-answer, served-idle, served-took, serves-marks, serves-told, serves-within}
 use Rattle.wl_desk.proofs.NoMore.{idles-whole, message-whole}
 use Rattle.wl_desk.proofs.desks.Desk.serve.Goals as goal
 
@@ -34,6 +34,13 @@ returns-clause-marks g c = λ some d e a step b.
     rw (← c.self.view_is) (serves-marks c.self.inside.output c.self.inside.clients.items c.self.inside.owned.items c.self.inside.scene c.args.client c.in-Some.k (found _ _ _ _ _ c.deref.ensures.value c.in-Some.ensures.some c.self.invariant.0) d (rw (← c.self.view_is) at a.matches)
     c.in-Some-take_out.resident c.serve_on-taken.new.self _ _ _ _ c.serve_on-taken.new.scene e c.self.inside.damage c.serve_on-taken.new.damage c.index_mut.ensures.value c.index_mut-2.ensures.value c.in-Some-take_out.ensures.some a.no_more
     (c.serve_on-taken.ensures.marks (served-took _ _ _ c.served_of-served.ensures some) (numbers_in c.self.inside.clients.items) d d) step (rw (c.put_back.ensures.client, c.put_back.ensures.owned) at b.matches))
+
+pub returns-clause-within : goal.returns-clause-within
+returns-clause-within g c = λ some d e a step b.
+    rw (← c.self.view_is) (serves-within c.self.inside.output c.self.inside.clients.items c.self.inside.owned.items c.self.inside.scene c.args.client c.in-Some.k (found _ _ _ _ _ c.deref.ensures.value c.in-Some.ensures.some c.self.invariant.0) d (rw (← c.self.view_is) at a.matches)
+    c.in-Some-take_out.resident c.serve_on-taken.new.self _ _ _ _ c.serve_on-taken.new.scene e c.self.inside.damage c.serve_on-taken.new.damage c.index_mut.ensures.value c.index_mut-2.ensures.value c.in-Some-take_out.ensures.some a.no_more
+    (λ r width height. c.serve_on-taken.ensures.within (served-took _ _ _ c.served_of-served.ensures some) (numbers_in c.self.inside.clients.items) d d r width height)
+    c.self.invariant.1 step (rw (c.put_back.ensures.client, c.put_back.ensures.owned) at b.matches))
 
 pub returns-clause-more : goal.returns-clause-more
 returns-clause-more g c = λ more. idles-whole c.args.client _ _ (λ d a.
@@ -85,6 +92,9 @@ returns-in_default-clause-told g c = λ some. absurd (some refl)
 pub returns-in_default-clause-marks : goal.returns-in_default-clause-marks
 returns-in_default-clause-marks g c = λ some. absurd (some refl)
 
+pub returns-in_default-clause-within : goal.returns-in_default-clause-within
+returns-in_default-clause-within g c = λ some. absurd (some refl)
+
 pub returns-in_default-clause-less : goal.returns-in_default-clause-less
 returns-in_default-clause-less g c = λ some. absurd (some refl)
 
@@ -96,6 +106,9 @@ returns-in_default-take_out-clause-told g c = λ some. absurd (some refl)
 
 pub returns-in_default-take_out-clause-marks : goal.returns-in_default-take_out-clause-marks
 returns-in_default-take_out-clause-marks g c = λ some. absurd (some refl)
+
+pub returns-in_default-take_out-clause-within : goal.returns-in_default-take_out-clause-within
+returns-in_default-take_out-clause-within g c = λ some. absurd (some refl)
 
 pub returns-in_default-take_out-clause-less : goal.returns-in_default-take_out-clause-less
 returns-in_default-take_out-clause-less g c = λ some. absurd (some refl)

@@ -7,6 +7,7 @@ use Rattle.wl_resident.proofs.MarkedMessages.{keeps-numbers, lived-before, messa
 use Rattle.wl_resident.proofs.Simply.{seated-only, simply-takes}
 use Rattle.wl_resident.proofs.Taking.{served}
 use Rattle.wl_resident.proofs.Toplevels.{marks-all}
+use Rattle.wl_resident.proofs.Within.{message-within}
 use Rattle.wl_resident.proofs.residents.Resident.serve_on.Goals as goal
 
 pub returns-clause-serves : goal.returns-clause-serves
@@ -37,11 +38,31 @@ returns-clause-marks g c = λ some others base d r unlinked before more e q serv
     (message-marks c.args.client others base d e r q old new was now before after unlinked more serves c.asked-asked.result c.asked-asked.ensures
     (keeps-numbers s r c.args.client stacking old mid new was now takes c.settle.ensures.settles)
     c.touched_by-touched.result c.touched_by-touched.ensures c.window-was.result c.window-is.result
-    (λ id number surface named. c.window-was.ensures others base d r before id number surface named)
-    (λ id number surface named. c.window-is.ensures others base e q after id number surface named)
+    (λ id number surface named. c.window-was.ensures.window others base d r before id number surface named)
+    (λ id number surface named. c.window-is.ensures.window others base e q after id number surface named)
     c.in-Some.outcome.applied
     (λ number commit lives all stand. c.in-Some.ensures.change number commit (lived-before s r c.args.client stacking old mid new was now takes c.settle.ensures.settles lives) all stand)
     c.args.damage.now c.settle.new.damage c.mark_change.new.damage c.settle.ensures.marks c.mark_change.ensures)
+
+pub returns-clause-within : goal.returns-clause-within
+returns-clause-within g c = λ some others base d r width height unlinked before more e q serves after.
+    let old = c.args.self.now in
+    let mid = c.serve.new.self in
+    let new = c.settle.new.self in
+    let was = c.args.scene.now in
+    let now = c.settle.new.scene in
+    let s = split_of r.peer.rest in
+    let stacking = c.in-Some.outcome.stacking in
+    let only = seated-only c.args.client others base d old was r before c.in-Some.ensures.lives more in
+    let takes = simply-takes s c.args.client r d old mid stacking only (c.in-Some.ensures.takes c.args.client r d (record { peer = before.seat.peer; owns = before.seat.owns }) only) in
+    message-within c.args.client others base d e r q old new was now before after unlinked more serves c.asked-asked.result c.asked-asked.ensures
+    (keeps-numbers s r c.args.client stacking old mid new was now takes c.settle.ensures.settles)
+    c.touched_by-touched.result c.touched_by-touched.ensures c.window-was.result c.window-is.result c.window-was.ensures.none c.window-is.ensures.none
+    (λ id number surface named. c.window-was.ensures.window others base d r before id number surface named)
+    (λ id number surface named. c.window-is.ensures.window others base e q after id number surface named)
+    c.in-Some.outcome.applied
+    (λ number commit lives all stand. c.in-Some.ensures.change number commit (lived-before s r c.args.client stacking old mid new was now takes c.settle.ensures.settles lives) all stand)
+    c.args.damage.now c.settle.new.damage c.mark_change.new.damage c.settle.ensures.marks c.mark_change.ensures width height
 
 pub returns-clause-less : goal.returns-clause-less
 returns-clause-less g c = search rules
