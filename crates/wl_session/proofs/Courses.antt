@@ -19,7 +19,7 @@ use Rattle.wl_plain.specs.Step.{with_peer}
 use Rattle.wl_plain.specs.Through.{IsSingle}
 use Rattle.wl_plain.proofs.OwningKeys.{differ}
 use Rattle.wl_plain.proofs.Through.{happens_leads_through, messages_lead_through, settling-with}
-use Rattle.wl_resident.specs.Marking.{MarksAtLeast}
+use Rattle.wl_resident.specs.Marking.{MarksAtLeast, MarksAtMost}
 use Rattle.wl_resident.specs.Marking.{IsAsLarge as HasItsSides}
 use Rattle.wl_resident.specs.View.{MarkedDesk}
 use Rattle.wl_desk.specs.Agreeing.{Agrees, MarksNothing, MarksStep, TakesStep}
@@ -66,7 +66,7 @@ pub marked-course : (act : Act) (done : Done) (old new : SessionView) → is_tic
 marked-course act done old new tick single parts frame sides step marks quiet = λ d a.
     let e = step d a in
     let paints : PaintsIf false (Single act done) (moment d old) (moment e.0 new) =
-    record { frame = frame; sides = sides; marks = marks d e.0 a e.1; quiet = λ is. quiet is d a } in
+    record { frame = frame; sides = sides; marks = marks d e.0 a e.1; most = tt; quiet = λ is. quiet is d a } in
     course-of act done old new d e.0 single parts a e.1 e.2 (subst (λ b. PaintsIf b (Single act done) (moment d old) (moment e.0 new)) (sym tick) paints)
 
 -- a frame
@@ -99,12 +99,12 @@ served-none client v d a = record { count = zero; desktop = d; events = []; reac
 
 -- one more
 pub served-more : (client : ℕ) (old mid new : SessionView) (d e : Desktop) → (s : Took client old mid d) → new.frame ≡ mid.frame → HasItsSides mid.damage new.damage → Serves served_now client s.desktop e → Agrees new.desk e
-    → MarksAtLeast s.desktop e mid.damage new.damage → Took client old new d
-served-more client old mid new d e s frame sides serves agrees marks =
+    → MarksAtLeast s.desktop e mid.damage new.damage → MarksAtMost client s.desktop e mid.damage new.damage → Took client old new d
+served-more client old mid new d e s frame sides serves agrees marks most =
     let through = (messages_lead_through served_now client s.desktop e).1 serves in
     let event : Event = record { happening = Message client; before = moment s.desktop mid; path = through.0; after = moment e new } in
     let last : AreEvents served_now (moment s.desktop mid) (event ∷ []) (moment e new) =
-    (refl, record { leads = through.1; paints = record { frame = frame; sides = sides; marks = marks; quiet = λ no. absurd (differ (sym no)) } }, refl) in
+    (refl, record { leads = through.1; paints = record { frame = frame; sides = sides; marks = marks; most = most; quiet = λ no. absurd (differ (sym no)) } }, refl) in
     record {
       count = suc s.count;
       desktop = e;
@@ -185,6 +185,7 @@ fed-course client piece done old kept new d frame damage a s happens b = at (cli
           frame = frame;
           sides = record { width = ap (λ (m : Damaged). m.width) damage; height = ap (λ (m : Damaged). m.height) damage };
           marks = λ x y w h clean. (ap (λ (m : Damaged). has m x y) (sym damage) ∙ clean, kept-unmarked old.desk client piece d a x y);
+          most = tt;
           quiet = λ _ x y w h. ap (λ (m : Damaged). has m x y) damage;
         } in
         let leads : AreEvents served_now (moment d old) (event ∷ s.events) (moment s.desktop new) = (refl, record { leads = received; paints = marks }, s.leads) in
@@ -220,7 +221,7 @@ lacking-course client piece done old new d e frame sides a alive ends marks happ
         let through = settling-with e (unstruck (becomes client r (ended cause.Memory r.peer) d)) over in
         let event : Event = record { happening = Starve client; before = moment d old; path = through.0; after = moment e new } in
         let starves : Leads served_now (Starve client) d through.0 e = subst (λ o. StarvesAt client o d through.0 e) (sym there) (lives, through.1) in
-        let marked : IsMarked (Starve client) (moment d old) (moment e new) = record { frame = frame; sides = sides; marks = marks; quiet = λ no. absurd (differ (sym no)) } in
+        let marked : IsMarked (Starve client) (moment d old) (moment e new) = record { frame = frame; sides = sides; marks = marks; most = tt; quiet = λ no. absurd (differ (sym no)) } in
         let leads : AreEvents served_now (moment d old) (event ∷ []) (moment e new) = (refl, record { leads = starves; paints = marked }, refl) in
         let apart : AreApart (event ∷ []) = (agrees-apart old.desk d a, agrees-apart new.desk e b, tt) in
         record {

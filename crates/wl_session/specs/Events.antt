@@ -9,7 +9,7 @@ use Rattle.wl_plain.specs.LeftOut.{LeftOut}
 use Rattle.wl_plain.specs.Marks.{AreDistinct}
 use Rattle.wl_plain.specs.Moments.{marks_at_least}
 use Rattle.wl_plain.specs.Stacked.{all_windows}
-use Rattle.wl_resident.specs.Marking.{MarksAtLeast}
+use Rattle.wl_resident.specs.Marking.{MarksAtLeast, MarksAtMost}
 use Rattle.wl_resident.specs.Marking.{IsAsLarge as HasItsSides}
 use Rattle.wl_session.specs.Run.{IsNextFrame}
 
@@ -51,12 +51,18 @@ is_quiet (Message client) = false
 is_quiet (Starve client) = false
 is_quiet (Single act done) = is_quiet_act act
 
+-- A message after which its client lives on marks nothing but what it marks at most.
+abbrev pub IsMost : Happening → Moment → Moment → Type 0
+IsMost (Message client) before after = MarksAtMost client before.desktop after.desktop before.damage after.damage
+IsMost happening before after = Unit {0}
+
 -- Whatever happens but a frame leaves the last frame. What was to be painted again still is, and so is what has to be marked; nothing else is
--- where nothing new is shown.
+-- where nothing new is shown, and no more than a message may mark.
 pub record IsMarked (happening : Happening) (before after : Moment) : Type 0 where
   pub frame : after.frame ≡ before.frame
   pub sides : HasItsSides before.damage after.damage
   pub marks : MarksAtLeast before.desktop after.desktop before.damage after.damage
+  pub most : IsMost happening before after
   pub quiet : is_quiet happening ≡ true → IsAsDamaged before.damage after.damage
 
 -- A frame is shown of the desktop as it was: what was to be painted again is painted, and nothing else. Then nothing is to be painted but what
