@@ -2,7 +2,7 @@
 use Rattle.std.proofs.Common.{◌≡◌, ℕ, ◌+◌, suc, zero, ◌<◌, List, [], ◌∷◌, Bool, true, false, length, map, Option, Some, None, get_or, refl, subst, sym, ◌∙◌, ap, arith, ◌⊎◌, inl, inr}
 use Rattle.std.specs.List.{list_any}
 use Rattle.std.specs.Option.{option_map}
-use Rattle.std.specs.Prelude.{ℤ, pos, ◌==◌, ◌&&◌, ◌||◌, cond, drop, filter, is_some, nat_le, not}
+use Rattle.std.specs.Prelude.{ℤ, pos, ◌==◌, ◌&&◌, ◌||◌, cond, drop, filter, is_none, is_some, nat_le, not}
 use Rattle.wl_client.specs.Peer.{Peer, stored_at, stored_by}
 use Rattle.wl_store.specs.Stores.{write_refusal}
 use Rattle.wl_store.specs.declared.stores.StoreError.{StoreError}
@@ -17,7 +17,7 @@ use Rattle.wl_scene.specs.declared.owned.Owned.{Owned}
 use Rattle.wl_resident.specs.Agreement.{Matches, IsPlace, IsStack, numbers_in}
 use Rattle.wl_plain.specs.Desktop.{Desktop, Resident, arrival, become, client_at, client_in, owned_in, owned_of, place, with_number, with_place}
 use Rattle.wl_plain.specs.Laws.{OwnsNothing, status_of}
-use Rattle.wl_resident.specs.Marking.{AreUnlinked, MarksEnd, stands_any}
+use Rattle.wl_resident.specs.Marking.{AreUnlinked, MarksEnd, MarksOwn, stands_any}
 use Rattle.wl_resident.specs.Seats.{IsChangedSo, IsSeated, ended_by, has_ended_in}
 use Rattle.wl_plain.specs.Standing.{AreMapped}
 use Rattle.wl_plain.proofs.Altering.{Changes, ChangesAt, left_so}
@@ -201,6 +201,19 @@ told-marks c there w d q (Some cause) old new at_c a status marks = λ x y wide 
           ∙ end-touches c there d at_c (unlinked w d a) a.mapped.apart there q cause status (pos x) (pos y) marked)),
     )
 
+-- What a client's own windows hold is marked, and no more: that is enough, whatever it is told.
+pub own-marks : (c : ℕ) (there : Resident) (w : DeskView) (d : Desktop) (q : Peer) (old new : Damaged) → client_at c d ≡ Some there → Matches w d
+    → ((x y : ℕ) → x < old.width → y < old.height → has new x y ≡ (has old x y || has_window_at c (pos x) (pos y) d)) → MarksToplevels d (become c there q d) old new
+own-marks c there w d q old new at_c a marks = λ x y wide high clean.
+    let both = neither (has old x y) (has_window_at c (pos x) (pos y) d) (sym (marks x y wide high) ∙ clean) in (
+      both.0,
+      unless (marks_of_toplevels d (become c there q d) (pos x) (pos y)) (λ marked. differ (sym both.1 ∙ touched (pos x) (pos y) marked q.status refl)),
+    )
+  where
+    touched : (x y : ℤ) → marks_of_toplevels d (become c there q d) x y ≡ true → (o : Option Cause) → q.status ≡ o → has_window_at c x y d ≡ true
+    touched x y marked None status = absurd (differ (sym (told-marks-nothing c there d at_c (unlinked w d a) a.mapped.apart there q refl status x y) ∙ marked))
+    touched x y marked (Some cause) status = end-touches c there d at_c (unlinked w d a) a.mapped.apart there q cause status x y marked
+
 -- nobody is there
 pub none-marks : (R : Peer → Done → Option Peer → Type 0) (absent done : Done) (c : ℕ) (w : DeskView) (d e : Desktop) (damage : Damaged) → client_at c d ≡ None → Matches w d → Changes c R absent d done e → MarksToplevels d e damage damage
 none-marks R absent done c w d e damage nobody a changes = still-marks w d e damage a (subst (λ (o : Option Resident). ChangesAt R absent c o d done e) nobody changes).1
@@ -248,6 +261,39 @@ module _ {A : Type 0} (output : Output) (us : List (Option ClientView)) (os : Li
           any-standing c _ stack.standing d.standing a.scene.standing
           ∙ none-standing c d.standing (λ surface. (subst (λ o. AreMapped c o d.standing) bare (a.mapped.each c)).stands surface)
 
+  -- its own windows are marked, whether it lived or not: one that ended has none
+  own-points : (v : Kept A) (r : Resident) (before after : Damaged) → client_at c d ≡ Some r → IsSeated c (numbers_in us) d v stack d r → MarksOwn v.client.ended c v stack before after
+      → (i j : ℕ) → i < before.width → j < before.height → has after i j ≡ (has before i j || has_window_at c (pos i) (pos j) d)
+  own-points v r before after there seated marks i j wide high =
+      marks.1 (numbers_in us) d d r seated i j wide high ∙ ap (λ b. has before i j || b) (own v.client.ended seated.seat.peer.status)
+    where
+      no-window : is_some r.peer.status ≡ true → has_window_at c (pos i) (pos j) d ≡ false
+      no-window over =
+          window-stands c d (unlinked old-view d a) (pos i) (pos j)
+          (sym (any-standing c _ stack.standing d.standing a.scene.standing) ∙ (sym (ap (λ b. b && stands_any c stack) over) ∙ none-stands r there seated.seat.ended))
+
+      own : (o : Option Cause) → o ≡ r.peer.status → (is_none o && has_window_at c (pos i) (pos j) d) ≡ has_window_at c (pos i) (pos j) d
+      own None e = refl
+      own (Some cause) e = sym (no-window (ap (λ (z : Option Cause). is_some z) (sym e)))
+
+  -- no more than those is marked
+  pub own-within : (v : Kept A) (x : Option ClientView) (y : Option (Owned A)) (before after : Damaged) → x ≡ get_or us k x → y ≡ get_or os k y → (x ≡ Some v.client) × (y ≡ Some v.owned) → MarksOwn v.client.ended c v stack before after
+      → (i j : ℕ) → i < before.width → j < before.height → has after i j ≡ true → (has before i j || has_window_at c (pos i) (pos j) d) ≡ true
+  own-within v x y before after f g taken marks i j wide high marked =
+      let s = out output us os stack c k is d a v x y f g taken in
+      sym (own-points v s.0 before after s.1 s.2 marks i j wide high) ∙ marked
+
+  -- a client goes, which leads to one client only
+  pub goes-marks : (R : Peer → Done → Option Peer → Type 0) (absent done : Done) (v new : Kept A) (x : Option ClientView) (y : Option (Owned A)) (now : Stack) (e : Desktop) (before after : Damaged) → x ≡ get_or us k x → y ≡ get_or os k y
+      → (x ≡ Some v.client) × (y ≡ Some v.owned) → IsChangedSo c R done v new stack now → ((p : Peer) (q r : Option Peer) → R p done q → R p done r → q ≡ r) → MarksOwn v.client.ended c v stack before after
+      → Changes c R absent d done e → MarksToplevels d e before after
+  goes-marks R absent done v new x y now e before after f g taken changed once marks changes =
+      let s = out output us os stack c k is d a v x y f g taken in
+      let n = changed (numbers_in us) d d s.0 s.2 in
+      let step : ChangesAt R absent c (Some s.0) d done e = subst (λ (o : Option Resident). ChangesAt R absent c o d done e) s.1 changes in
+      subst (λ (e : Desktop). MarksToplevels d e before after) (sym (step.2 ∙ ap (λ q. left_so c s.0 q d) (once s.0.peer step.0 (Some n.0) step.1 n.2)))
+      (own-marks c s.0 old-view d n.0 before after s.1 a (own-points v s.0 before after s.1 s.2 marks))
+
   -- a client that lives after it as before, or ended before: nothing is marked
   pub changes-nothing : (R : Peer → Done → Option Peer → Type 0) (done : Done) (v new : Kept A) (x : Option ClientView) (y : Option (Owned A)) (now : Stack) (before after : Damaged) → x ≡ get_or us k x → y ≡ get_or os k y
       → (x ≡ Some v.client) × (y ≡ Some v.owned) → IsChangedSo c R done v new stack now → ((p q : Peer) → R p done (Some q) → q.status ≡ p.status) → MarksEnd new.client.ended c stack before after
@@ -265,14 +311,12 @@ module _ {A : Type 0} (output : Output) (us : List (Option ClientView)) (os : Li
   ends-untaken-marks cause x x2 y y2 damage f g none left =
       still-marks old-view d (ended_at c cause d) damage a (ap (λ o. ended_of c cause o d) (untaken output us os stack c k is d a x x2 y y2 f g none left).0)
 
-  pub ends-marks : (cause : Cause) (v new : Kept A) (x : Option ClientView) (y : Option (Owned A)) (now : Stack) (before after : Damaged) → x ≡ get_or us k x → y ≡ get_or os k y → (x ≡ Some v.client) × (y ≡ Some v.owned)
-      → ((r : Resident) → IsSeated c (numbers_in us) d v stack d r → (q : Resident) × IsSeated c (numbers_in us) d new now (become c r (ended_by r.peer.status cause r.peer) d) q)
-      → MarksEnd new.client.ended c stack before after → MarksToplevels d (ended_at c cause d) before after
-  ends-marks cause v new x y now before after f g taken end marks =
+  pub ends-marks : (cause : Cause) (v : Kept A) (x : Option ClientView) (y : Option (Owned A)) (before after : Damaged) → x ≡ get_or us k x → y ≡ get_or os k y → (x ≡ Some v.client) × (y ≡ Some v.owned)
+      → MarksOwn v.client.ended c v stack before after → MarksToplevels d (ended_at c cause d) before after
+  ends-marks cause v x y before after f g taken marks =
       let s = out output us os stack c k is d a v x y f g taken in
-      let n = end s.0 s.2 in
-      let over = ended_by s.0.peer.status cause s.0.peer in
-      subst (λ o. MarksToplevels d (ended_of c cause o d) before after) (sym s.1) (told-marks c s.0 old-view d over new.client.ended before after s.1 a (seated-status s.0 over new now n.0 s.1 n.1) marks)
+      subst (λ o. MarksToplevels d (ended_of c cause o d) before after) (sym s.1)
+      (own-marks c s.0 old-view d (ended_by s.0.peer.status cause s.0.peer) before after s.1 a (own-points v s.0 before after s.1 s.2 marks))
 
   -- ---- a number is given back
 

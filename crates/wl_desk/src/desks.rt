@@ -18,6 +18,7 @@ ghost use Rattle.wl_plain.specs.Scratch.{scratch};
 ghost use Rattle.wl_resident.specs.Seats.{has_ended_in};
 ghost use Rattle.wl_plain.specs.LeftOut.{served_now};
 ghost use Rattle.wl_plain.specs.Happens.{Serves};
+ghost use Rattle.wl_plain.specs.Touching.{has_window_at};
 
 use crate::windows::Lent;
 use std::alloc::{AllocError, Allocator};
@@ -168,10 +169,12 @@ impl<A: Allocator + Copy> Desk<A> {
         served
     }
 
-    /// A client ends by this, where it lives. It is told nothing.
+    /// A client ends by this, where it lives. It is told nothing. No more than its own windows is marked.
     pub fn end(&mut self, client: ClientNo, cause: Cause)
         ensures ends { (d : Desktop) → Agrees self.old.desk d → (e : Desktop) × Ends client cause d e × Agrees self.new.desk e }
         ensures marks { (d e : Desktop) → Agrees self.old.desk d → Ends client cause d e → MarksAtLeast d e self.old.damage self.new.damage }
+        ensures within { (d : Desktop) → Agrees self.old.desk d → (x y : ℕ) → x < self.old.damage.width → y < self.old.damage.height
+            → has self.new.damage x y ≡ true → (has self.old.damage x y || has_window_at client (pos x) (pos y) d) ≡ true }
         ensures sides { IsAsLarge self.old.damage self.new.damage }
         ensures output { self.new.desk.output ≡ self.old.desk.output }
     {
@@ -225,10 +228,12 @@ impl<A: Allocator + Copy> Desk<A> {
         store_size_in(slot, store)
     }
 
-    /// A client goes. True where it was alive.
+    /// A client goes. True where it was alive. No more than its own windows is marked.
     pub fn gone(&mut self, client: ClientNo) -> bool
         ensures step { TakesStep (Leave client) (Done.Gone result) self.old.desk self.new.desk }
         ensures marks { MarksStep (Leave client) (Done.Gone result) self.old self.new }
+        ensures within { (d : Desktop) → Agrees self.old.desk d → (x y : ℕ) → x < self.old.damage.width → y < self.old.damage.height
+            → has self.new.damage x y ≡ true → (has self.old.damage x y || has_window_at client (pos x) (pos y) d) ≡ true }
         ensures sides { IsAsLarge self.old.damage self.new.damage }
         ensures output { self.new.desk.output ≡ self.old.desk.output }
     {

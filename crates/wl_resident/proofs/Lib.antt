@@ -11,6 +11,7 @@ pub mod Committing
 pub mod Stackings
 pub mod Asking
 pub mod OwnAsking
+pub mod OwnWindows
 pub mod Releasing
 pub mod MarkedMessages
 pub mod Within

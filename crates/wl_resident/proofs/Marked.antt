@@ -65,7 +65,7 @@ module _ (p : Window → Bool) (owner : Owner) (fails : (w : Window) → w.owner
     none-surface surfaces surface place None = refl
     none-surface surfaces surface place (Some h) = none-shown surfaces surface h (corner_at place h) (applied h).buffer
 
-  none-tree : (levels : ℕ) (surfaces : Surfaces) (surface : ℕ) (place : Place) → list_any p (tree levels owner surfaces surface place) ≡ false
+  pub none-tree : (levels : ℕ) (surfaces : Surfaces) (surface : ℕ) (place : Place) → list_any p (tree levels owner surfaces surface place) ≡ false
   unfolding tree
   none-tree zero surfaces surface place = refl
   none-tree (suc levels) surfaces surface place =

@@ -1,9 +1,8 @@
 -- What is told to a client, and what a message does to the toplevels, at the desk.
-use Rattle.std.proofs.Common.{◌≡◌, ◌<◌, ◌||◌, ◌&&◌, ℕ, Bool, true, false, List, [], ◌∷◌, Option, Some, None, ap, inl, inr, refl, subst, sym, ◌∙◌}
+use Rattle.std.proofs.Common.{◌≡◌, ◌||◌, ℕ, Bool, true, false, List, [], ◌∷◌, Option, Some, None, ap, inl, inr, refl, subst, sym, ◌∙◌}
 use Rattle.std.specs.List.{list_any}
 use Rattle.std.specs.Prelude.{is_some, map}
-use Rattle.std.proofs.Math.Bool.{or-false, or-true}
-use Rattle.std.proofs.lemmas.Bool.{and_left, and_right}
+use Rattle.std.proofs.lemmas.Bool.{and_left}
 use Rattle.wl_client.specs.declared.clients.Cause.{Cause}
 use Rattle.wl_paint.specs.Damage.{Damaged, has}
 use Rattle.wl_scene.specs.Stacking.{Stack, without_client}
@@ -13,7 +12,6 @@ use Rattle.wl_resident.specs.declared.residents.Resident.{Resident as Kept}
 use Rattle.wl_resident.specs.declared.residents.Stacking.{Stacking}
 use Rattle.wl_resident.specs.declared.residents.Stacking.TheVariants.{Stays, ToTop, Out}
 use Rattle.wl_plain.proofs.OwningKeys.{differ}
-use Rattle.wl_plain.proofs.Stacks.{and-both}
 
 -- ---- the steps of the code
 
@@ -41,23 +39,8 @@ any-map f p (x ∷ xs) = ap (λ b. p (f x) || b) (any-map f p xs)
 pub any-mapped : {X Y : Type 0} (f : X → Y) (p : Y → Bool) (xs : List X) (ys : List Y) (b : Bool) → b ≡ list_any (λ x. p (f x)) xs → map f xs ≡ ys → b ≡ list_any p ys
 any-mapped f p xs ys b is seen = is ∙ (sym (any-map f p xs) ∙ ap (λ zs. list_any p zs) seen)
 
-same-large : (old new : Damaged) → new ≡ old → IsAsLarge old new
-same-large old new same = record { width = ap (λ (d : Damaged). d.width) same; height = ap (λ (d : Damaged). d.height) same }
-
 pub large-then : (old mid new : Damaged) → IsAsLarge old mid → IsAsLarge mid new → IsAsLarge old new
 large-then old mid new before after = record { width = after.width ∙ before.width; height = after.height ∙ before.height }
-
-pub marks-all : (o : Option Cause) (c : ℕ) (stack : Stack) (old new : Damaged) → is_some o ≡ true → stands_any c stack ≡ true → ((x y : ℕ) → x < old.width → y < old.height → has new x y ≡ true) → IsAsLarge old new → MarksEnd o c stack old new
-marks-all o c stack old new ended stands everywhere large =
-    (large, λ x y in_width in_height. everywhere x y in_width in_height ∙ sym (ap (λ b. has old x y || b) (and-both (is_some o) (stands_any c stack) ended stands) ∙ or-true (has old x y)))
-
-marks-no : (o : Option Cause) (c : ℕ) (stack : Stack) (old new : Damaged) → (is_some o && stands_any c stack) ≡ false → new ≡ old → MarksEnd o c stack old new
-marks-no o c stack old new none same =
-    (same-large old new same, λ x y in_width in_height. ap (λ (d : Damaged). has d x y) same ∙ sym (ap (λ b. has old x y || b) none ∙ or-false (has old x y)))
-
--- none of its toplevels stood
-pub marks-none : (o : Option Cause) (c : ℕ) (stack : Stack) (old new : Damaged) → stands_any c stack ≡ false → new ≡ old → MarksEnd o c stack old new
-marks-none o c stack old new none same = marks-no o c stack old new (and_right (is_some o) (stands_any c stack) none) same
 
 -- where it lives, the stack doesn't matter
 marks-lives : (o : Option Cause) (c : ℕ) (was is : Stack) (old new : Damaged) → is_some o ≡ false → MarksEnd o c is old new → MarksEnd o c was old new

@@ -1,5 +1,5 @@
 -- What the desk marks to be painted again.
-use Rattle.std.specs.Prelude.{ℕ, ℤ, List, [], ◌∷◌, ◌≡◌, ◌≢◌, ◌==◌, ◌<◌, ◌+ℤ◌, ◌-ℤ◌, ◌&&◌, ◌||◌, nat_lt, pos, unsigned_abs, Bool, false, true, Option, Some, None, is_some}
+use Rattle.std.specs.Prelude.{ℕ, ℤ, List, [], ◌∷◌, ◌≡◌, ◌≢◌, ◌==◌, ◌<◌, ◌+ℤ◌, ◌-ℤ◌, ◌&&◌, ◌||◌, nat_lt, pos, unsigned_abs, Bool, false, true, Option, Some, None, is_none, is_some}
 use Rattle.std.specs.List.{list_any}
 use Rattle.wl_proto.specs.declared.wl_surface.WlSurfaceRequest.TheVariants.{Commit}
 use Rattle.wl_geom.specs.declared.rect.Rect.{Rect}
@@ -11,11 +11,16 @@ use Rattle.wl_surface.specs.Kept.{Numbered, StandForAll}
 use Rattle.wl_surface.specs.declared.applied.Applied.{Applied}
 use Rattle.wl_surface.specs.declared.applied.Change.{Change}
 use Rattle.wl_surface.specs.declared.surface.Current.{Current}
-use Rattle.wl_surface.specs.State.{is_damaged, within_bounds}
+use Rattle.wl_surface.specs.State.{History, applied, height_of, is_damaged, width_of, within_bounds}
+use Rattle.wl_surface.specs.Surfaces.{Surface}
+use Rattle.std.specs.Option.{option_map}
 use Rattle.wl_paint.specs.Damage.{Damaged, has}
 use Rattle.wl_scene.specs.Stacking.{Stack, Standing}
-use Rattle.wl_scene.specs.Windows.{Window}
-use Rattle.wl_plain.specs.Desktop.{Desktop, owned_in}
+use Rattle.wl_scene.specs.Windows.{Place, Window, corner_at}
+use Rattle.wl_plain.specs.Desktop.{Desktop, Resident, owned_in}
+use Rattle.wl_plain.specs.Touching.{has_window_at}
+use Rattle.wl_resident.specs.Seats.{IsSeated}
+use Rattle.wl_client.specs.Objects.{ById}
 use Rattle.wl_plain.specs.Laws.{status_in}
 use Rattle.wl_plain.specs.Moments.{marks_at_least, marks_at_most}
 use Rattle.wl_resident.specs.declared.marking.WindowRecord.{WindowRecord}
@@ -54,6 +59,13 @@ abbrev pub MarksEnd : Option Cause → ℕ → Stack → Damaged → Damaged →
 MarksEnd ended c stack old new =
     IsAsLarge old new × ((x y : ℕ) → x < old.width → y < old.height → has new x y ≡ (has old x y || (is_some ended && stands_any c stack)))
 
+-- Where a client that lived has ended, its own windows are to be painted, and no more; where it had ended before, nothing more is.
+abbrev pub MarksOwn : {A : Type 0} → Option Cause → ℕ → Kept A → Stack → Damaged → Damaged → Type 0
+MarksOwn ended c kept stack old new =
+    IsAsLarge old new
+    × ((others : ℕ → ById ℕ) (base d : Desktop) (r : Resident) → IsSeated c others base kept stack d r
+    → (x y : ℕ) → x < old.width → y < old.height → has new x y ≡ (has old x y || (is_none ended && has_window_at c (pos x) (pos y) d)))
+
 -- ---- the window of a surface
 
 -- the record of a window of a toplevel that stands there, whose surface shows this
@@ -80,6 +92,17 @@ record_has x y k = in_span k.x (pos k.w) x && in_span k.y (pos k.h) y
 abbrev pub any_record_has : ℤ → ℤ → Option WindowRecord → Bool
 any_record_has x y None = false
 any_record_has x y (Some k) = record_has x y k
+
+-- a surface that was mapped there shows the point
+abbrev pub shows_point : ℤ → ℤ → Place → Option History → Bool
+shows_point x y place None = false
+shows_point x y place (Some h) =
+    in_span (corner_at place h).x (pos (width_of (applied h).buffer (applied h).transform)) x
+    && in_span (corner_at place h).y (pos (height_of (applied h).buffer (applied h).transform)) y
+
+-- a toplevel of the client, whose surfaces are these by their numbers, shows the point
+abbrev pub is_shown_by : ℕ → Numbered → ℤ → ℤ → Standing → Bool
+is_shown_by c all x y k = (k.client == c) && shows_point x y k.place (option_map (λ (s : Surface). s.history) (all k.surface))
 
 -- its surface's damage, these rectangles, holds the point (wayland.xml, wl_surface.damage)
 abbrev pub is_record_damaged : List Rect → ℤ → ℤ → WindowRecord → Bool

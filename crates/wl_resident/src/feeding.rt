@@ -2,7 +2,7 @@
 
 ghost use Rattle.std.specs.Prelude.{ℕ, ◌≡◌, ◌<◌, ◌≤◌, ◌||◌, None, Some, length, pos, true, false};
 ghost use Rattle.wl_paint.specs.Damage.{has};
-ghost use Rattle.wl_resident.specs.Marking.{AreUnlinked, IsAsLarge, MarksAtLeast, MarksAtMost, MarksEnd, stands_any};
+ghost use Rattle.wl_resident.specs.Marking.{AreUnlinked, IsAsLarge, MarksAtLeast, MarksAtMost, MarksEnd, MarksOwn, stands_any};
 ghost use Rattle.wl_client.specs.Objects.{ById};
 ghost use Rattle.wl_store.specs.Stores.{write_refusal};
 ghost use Rattle.wl_client.specs.Agreement.{IsPeer};
@@ -50,6 +50,16 @@ impl<A: Allocator + Copy> Resident<A> {
         }
     }
 
+    /// Where the client ended, nothing is left of what it owned.
+    fn empty(&mut self, scene: &mut Scene<A>, client: ClientNo, alloc: A)
+        ensures clears { IsClearedBy self.old.client.ended client self.old self.new scene.old scene.new }
+    {
+        if self.client.has_ended() {
+            self.owned = bare(alloc);
+            scene.unmap_all(client);
+        }
+    }
+
     /// Where the client ended, nothing is left of what it owned. If a toplevel of its stood, everything is marked.
     pub fn clear(
         &mut self,
@@ -65,9 +75,8 @@ impl<A: Allocator + Copy> Resident<A> {
             if stands_any(scene, client) {
                 mark_everywhere(damage);
             }
-            self.owned = bare(alloc);
-            scene.unmap_all(client);
         }
+        self.empty(scene, client, alloc);
     }
 
     /// What a message that was taken does to the stack of toplevels.
@@ -126,7 +135,7 @@ impl<A: Allocator + Copy> Resident<A> {
         true
     }
 
-    /// The client ends by this, where it lives.
+    /// The client ends by this, where it lives. Its windows are marked, and no more.
     pub fn end(
         &mut self,
         scene: &mut Scene<A>,
@@ -137,12 +146,13 @@ impl<A: Allocator + Copy> Resident<A> {
     )
         ensures ends { (others : ℕ → ById ℕ) (base d : Desktop) (r : Plain) → IsSeated client others base self.old scene.old d r
             → (q : Plain) × IsSeated client others base self.new scene.new (become client r (ended_by r.peer.status cause r.peer) d) q }
-        ensures marks { MarksEnd self.new.client.ended client scene.old damage.old damage.new }
+        ensures marks { MarksOwn self.old.client.ended client self.old scene.old damage.old damage.new }
     {
         if !self.client.has_ended() {
+            self.mark_windows(scene, damage, client);
             self.client.end(cause);
         }
-        self.clear(scene, damage, client, alloc);
+        self.empty(scene, client, alloc);
     }
 
     /// Bytes are put into a store of a client that lives.
@@ -164,7 +174,7 @@ impl<A: Allocator + Copy> Resident<A> {
         stored
     }
 
-    /// The client goes. True where it was alive.
+    /// The client goes. True where it was alive. Its windows are marked then, and no more.
     pub fn gone(
         &mut self,
         scene: &mut Scene<A>,
@@ -173,10 +183,13 @@ impl<A: Allocator + Copy> Resident<A> {
         alloc: A,
     ) -> bool
         ensures changes { IsChangedSo client IsLeft (Done.Gone result) self.old self.new scene.old scene.new }
-        ensures marks { MarksEnd self.new.client.ended client scene.old damage.old damage.new }
+        ensures marks { MarksOwn self.old.client.ended client self.old scene.old damage.old damage.new }
     {
+        if !self.client.has_ended() {
+            self.mark_windows(scene, damage, client);
+        }
         let lived = self.client.gone();
-        self.clear(scene, damage, client, alloc);
+        self.empty(scene, client, alloc);
         lived
     }
 

@@ -9,11 +9,12 @@ ghost use Rattle.wl_surface.specs.State.{within_bounds};
 ghost use Rattle.wl_paint.specs.Damage.{has};
 ghost use Rattle.wl_scene.specs.Stacking.{is_of, standing_of};
 ghost use Rattle.wl_plain.specs.Desktop.{Desktop, Resident as Plain};
-ghost use Rattle.wl_resident.specs.Marking.{IsAsLarge, IsRecordOf, MarksChange, any_record_has, is_record_damaged, marked_by, record_has, record_showing, rects_applied};
+ghost use Rattle.wl_resident.specs.Marking.{IsAsLarge, IsRecordOf, MarksChange, any_record_has, is_record_damaged, is_shown_by, marked_by, record_has, record_showing, rects_applied};
 ghost use Rattle.wl_plain.specs.Owning.{targets_in};
 ghost use Rattle.wl_resident.specs.Seats.{IsSeated};
 ghost use Rattle.wl_resident.specs.declared.marking.WindowRecord.{WindowRecord as WindowAsKept};
-ghost use Rattle.wl_plain.specs.Touching.{window_at};
+ghost use Rattle.wl_plain.specs.Touching.{has_window_at, window_at};
+ghost use Rattle.wl_surface.specs.Kept.{Numbered, StandForAll};
 
 use crate::messages::{Asked, Kind};
 use crate::residents::Resident;
@@ -293,5 +294,30 @@ impl<A: Allocator + Copy> Resident<A> {
         let current = self.owned.surfaces.current(surface)?;
         let toplevel = toplevel_of(scene, Surface { client, surface })?;
         Some(record_of(&toplevel, &current))
+    }
+
+    /// The window of a toplevel is marked, if it is the client's.
+    fn mark_toplevel(&self, damage: &mut Damage<A>, client: ClientNo, toplevel: &Toplevel)
+        ensures points { (all : Numbered) → StandForAll self.now.owned.surfaces all → (x y : ℕ) → x < damage.old.width → y < damage.old.height
+            → has damage.new x y ≡ (has damage.old x y || is_shown_by client all (pos x) (pos y) (standing_of toplevel.now)) }
+        ensures sides { IsAsLarge damage.old damage.new }
+    {
+        if toplevel.surface.client == client {
+            if let Some(current) = self.owned.surfaces.current(toplevel.surface.surface) {
+                mark_window(damage, Some(record_of(toplevel, &current)));
+            }
+        }
+    }
+
+    /// The windows of the client's toplevels are marked.
+    pub(crate) fn mark_windows(&self, scene: &Scene<A>, damage: &mut Damage<A>, client: ClientNo)
+        ensures marks { (others : ℕ → ById ℕ) (base d : Desktop) (r : Plain) → IsSeated client others base self.now scene.now d r
+            → (x y : ℕ) → x < damage.old.width → y < damage.old.height
+            → has damage.new x y ≡ (has damage.old x y || has_window_at client (pos x) (pos y) d) }
+        ensures sides { IsAsLarge damage.old damage.new }
+    {
+        for toplevel in scene.toplevels() {
+            self.mark_toplevel(damage, client, toplevel);
+        }
     }
 }

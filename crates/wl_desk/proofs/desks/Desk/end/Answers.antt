@@ -1,9 +1,11 @@
-use Rattle.std.proofs.Common.{ap, refl, ◌∙◌}
+use Rattle.std.proofs.Common.{ap, refl, ◌∙◌, pos}
+use Rattle.std.specs.Prelude.{◌||◌}
+use Rattle.wl_plain.specs.Touching.{has_window_at}
 use Rattle.std.proofs.lemmas.List.{length-set}
 use Rattle.wl_resident.specs.Agreement.{numbers_in}
 use Rattle.wl_desk.proofs.Calls.{found}
 use Rattle.wl_desk.proofs.Kept.{Ended-none, ends, ends-untaken}
-use Rattle.wl_desk.proofs.MarkedCalls.{ends-marks, ends-none-marks, ends-untaken-marks}
+use Rattle.wl_desk.proofs.MarkedCalls.{ends-marks, ends-none-marks, ends-untaken-marks, own-within}
 use Rattle.wl_desk.proofs.NoMore.{ends-marked, ends-whole}
 use Rattle.wl_desk.proofs.desks.Desk.end.Goals as goal
 
@@ -34,7 +36,18 @@ returns-clause-ends g c = ends-whole c.args.client c.args.cause _ _ (λ d a.
 pub returns-clause-marks : goal.returns-clause-marks
 returns-clause-marks g c = ends-marked c.args.client c.args.cause c.args.self.now.desk c.args.self.now.damage c.end.new.damage (λ d a.
     rw (← c.self.view_is) (ends-marks c.self.inside.output c.self.inside.clients.items c.self.inside.owned.items c.self.inside.scene c.args.client c.in-Some.k (found _ _ _ _ _ c.deref.ensures.value c.in-Some.ensures.some c.self.invariant.0) d (rw (← c.self.view_is) at a)
-    c.args.cause c.in-Some-take_out.resident c.end.new.self _ _ c.end.new.scene c.self.inside.damage c.end.new.damage c.index_mut.ensures.value c.index_mut-2.ensures.value c.in-Some-take_out.ensures.some (c.end.ensures.ends (numbers_in c.self.inside.clients.items) d d) c.end.ensures.marks))
+    c.args.cause c.in-Some-take_out.resident _ _ c.self.inside.damage c.end.new.damage c.index_mut.ensures.value c.index_mut-2.ensures.value c.in-Some-take_out.ensures.some c.end.ensures.marks))
+
+pub returns-in_default-clause-within : goal.returns-in_default-clause-within
+returns-in_default-clause-within g c = λ d a x y wide high marked. ap (λ b. b || has_window_at c.args.client (pos x) (pos y) d) marked
+
+pub returns-in_default-take_out-clause-within : goal.returns-in_default-take_out-clause-within
+returns-in_default-take_out-clause-within g c = λ d a x y wide high marked. rw (← c.self.view_is) (ap (λ b. b || has_window_at c.args.client (pos x) (pos y) d) marked)
+
+pub returns-clause-within : goal.returns-clause-within
+returns-clause-within g c = λ d a.
+    rw (← c.self.view_is) (own-within c.self.inside.output c.self.inside.clients.items c.self.inside.owned.items c.self.inside.scene c.args.client c.in-Some.k (found _ _ _ _ _ c.deref.ensures.value c.in-Some.ensures.some c.self.invariant.0) d (rw (← c.self.view_is) at a.matches)
+    c.in-Some-take_out.resident _ _ c.self.inside.damage c.end.new.damage c.index_mut.ensures.value c.index_mut-2.ensures.value c.in-Some-take_out.ensures.some c.end.ensures.marks)
 
 pub invariant_of-self-2 : goal.invariant_of-self-2
 invariant_of-self-2 g c = (

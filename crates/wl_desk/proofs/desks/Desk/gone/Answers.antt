@@ -1,9 +1,11 @@
-use Rattle.std.proofs.Common.{false, ap, refl, sym, ◌∙◌}
+use Rattle.std.proofs.Common.{false, ap, refl, sym, ◌∙◌, pos}
+use Rattle.std.specs.Prelude.{◌||◌}
+use Rattle.wl_plain.specs.Touching.{has_window_at}
 use Rattle.std.proofs.lemmas.List.{length-set}
 use Rattle.wl_plain.specs.Acts.{Leave, IsLeft}
 use Rattle.wl_plain.specs.declared.answers.Done.TheVariants as gave
 use Rattle.wl_desk.proofs.Calls.{Changes-none, changes, changes-untaken, found}
-use Rattle.wl_desk.proofs.MarkedCalls.{changes-marks, past-marks, untaken-marks}
+use Rattle.wl_desk.proofs.MarkedCalls.{goes-marks, own-within, past-marks, untaken-marks}
 use Rattle.wl_desk.proofs.NoMore.{steps-marked, steps-whole}
 use Rattle.wl_desk.proofs.desks.Desk.gone.Goals as goal
 
@@ -33,8 +35,19 @@ returns-in_default-take_out-clause-marks g c = steps-marked (Leave c.args.client
 
 pub returns-clause-marks : goal.returns-clause-marks
 returns-clause-marks g c = steps-marked (Leave c.args.client) tt _ c.args.self.now.desk c.args.self.now.damage c.gone-lived.new.damage (λ d e a steps.
-    rw (← c.self.view_is) (changes-marks c.self.inside.output c.self.inside.clients.items c.self.inside.owned.items c.self.inside.scene c.args.client c.in-Some.k (found _ _ _ _ _ c.deref.ensures.value c.in-Some.ensures.some c.self.invariant.0) d (rw (← c.self.view_is) at a)
+    rw (← c.self.view_is) (goes-marks c.self.inside.output c.self.inside.clients.items c.self.inside.owned.items c.self.inside.scene c.args.client c.in-Some.k (found _ _ _ _ _ c.deref.ensures.value c.in-Some.ensures.some c.self.invariant.0) d (rw (← c.self.view_is) at a)
     IsLeft (gave.Gone false) (gave.Gone c.gone-lived.result) c.in-Some-take_out.resident c.gone-lived.new.self _ _ c.gone-lived.new.scene e c.self.inside.damage c.gone-lived.new.damage c.index_mut.ensures.value c.index_mut-2.ensures.value c.in-Some-take_out.ensures.some c.gone-lived.ensures.changes (λ p q r h k. h.0 ∙ sym k.0) c.gone-lived.ensures.marks steps))
+
+pub returns-in_default-clause-within : goal.returns-in_default-clause-within
+returns-in_default-clause-within g c = λ d a x y wide high marked. ap (λ b. b || has_window_at c.args.client (pos x) (pos y) d) marked
+
+pub returns-in_default-take_out-clause-within : goal.returns-in_default-take_out-clause-within
+returns-in_default-take_out-clause-within g c = λ d a x y wide high marked. rw (← c.self.view_is) (ap (λ b. b || has_window_at c.args.client (pos x) (pos y) d) marked)
+
+pub returns-clause-within : goal.returns-clause-within
+returns-clause-within g c = λ d a.
+    rw (← c.self.view_is) (own-within c.self.inside.output c.self.inside.clients.items c.self.inside.owned.items c.self.inside.scene c.args.client c.in-Some.k (found _ _ _ _ _ c.deref.ensures.value c.in-Some.ensures.some c.self.invariant.0) d (rw (← c.self.view_is) at a.matches)
+    c.in-Some-take_out.resident _ _ c.self.inside.damage c.gone-lived.new.damage c.index_mut.ensures.value c.index_mut-2.ensures.value c.in-Some-take_out.ensures.some c.gone-lived.ensures.marks)
 
 pub invariant_of-self-2 : goal.invariant_of-self-2
 invariant_of-self-2 g c = (

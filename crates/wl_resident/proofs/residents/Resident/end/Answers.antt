@@ -1,7 +1,6 @@
 use Rattle.std.proofs.Common.{refl, sym, ◌∙◌, ◌≡◌}
 use Rattle.wl_client.specs.Agreement.{IsPeer}
 use Rattle.wl_resident.specs.Seats.{ended_by}
-use Rattle.wl_resident.proofs.Seats.{marks-left}
 use Rattle.wl_resident.proofs.Telling.{ends-ended, ends-lives, told-ended, told-seated}
 use Rattle.wl_resident.proofs.residents.Resident.end.Goals as goal
 use Rattle.wl_resident.proofs.residents.Resident.end.Goals.{then-not-has_ended, else-not-has_ended}
@@ -19,9 +18,4 @@ returns-clause-ends g c = λ others base d r is.
       | else-not-has_ended w ↦ rw w.self-is refl
     ] in
     let told = told-ended c.args.cause c.args.self.now mid r peer owned in
-    (_, told-seated _ others base d r c.args.self.now mid c.clear.new.self c.args.scene.now c.clear.new.scene is _ told c.clear.ensures.clears)
-
-pub returns-clause-marks : goal.returns-clause-marks
-returns-clause-marks g c =
-    let mid = c.if-not-has_ended.self in
-    marks-left mid.client.ended c.args.client mid c.clear.new.self c.args.scene.now c.clear.new.scene c.args.scene.now c.args.damage.now c.clear.new.damage c.clear.ensures.clears c.clear.ensures.marks
+    (_, told-seated _ others base d r c.args.self.now mid c.empty.new.self c.args.scene.now c.empty.new.scene is _ told c.empty.ensures.clears)
