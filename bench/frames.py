@@ -5,7 +5,8 @@
 
 It writes recordings of clients with a window each, whose every tick is preceded by a commit of all of them, and plays them by the built
 program: one client with a window of the whole output that damages all of it, 8 by 8 points, or one; one with a window of 8 by 8 points; 8 and
-32 clients with such windows; and ticks for which nobody committed. Each is played with few and with many ticks, one right after the other, and the difference is divided by the ticks
+32 clients with such windows; ticks for which nobody committed; and ticks before each of which the last of 1, 8 or 32 clients with such windows
+went and came again. Each is played with few and with many ticks, one right after the other, and the difference is divided by the ticks
 between them, so that starting the program, making the image and mapping the windows aren't counted.
 
 Times are processor time, the program's own and the system's for it: the median of the rounds, with the least and the greatest. Pictures
@@ -74,6 +75,17 @@ def recording(clients, size, damage, ticks):
     return "\n".join(lines).encode() + b"\n"
 
 
+def ends(clients, size, ticks):
+    """So many ticks of clients with windows of this size, each tick after the last of them went and came again."""
+    lines = []
+    for client in range(1, clients + 1):
+        lines += ["connect", f"bytes {client} {mapped(*size).hex()}"]
+    lines.append("tick 0")
+    for tick in range(ticks):
+        lines += [f"gone {clients}", f"close {clients}", "connect", f"bytes {clients} {mapped(*size).hex()}", f"tick {tick + 1}"]
+    return "\n".join(lines).encode() + b"\n"
+
+
 def seconds(text):
     """The processor time of a run."""
     with tempfile.TemporaryFile() as stream:
@@ -87,10 +99,10 @@ def seconds(text):
     return used.ru_utime + used.ru_stime
 
 
-def measure(name, ticks, rounds, clients, size, damage):
-    """Prints milliseconds a tick."""
-    few = recording(clients, size, damage, 1)
-    many = recording(clients, size, damage, 1 + ticks)
+def measure(name, ticks, rounds, recorded):
+    """Prints milliseconds a tick of what is recorded for a number of ticks."""
+    few = recorded(1)
+    many = recorded(1 + ticks)
     samples = [(seconds(many) - seconds(few)) / ticks * 1e3 for _ in range(rounds)]
     print(f"{name}: {statistics.median(samples):.3f} ms a tick ({min(samples):.3f} to {max(samples):.3f}, {rounds} rounds of {ticks} ticks)")
 
@@ -105,12 +117,18 @@ def main():
     small = 50 * words.ticks
     print(f"load {os.getloadavg()[0]:.1f}")
     whole = WIDTH, HEIGHT
-    measure("1 client, the whole output", words.ticks, words.rounds, 1, whole, whole)
-    measure("1 client with the whole output, 8 by 8 of it", small, words.rounds, 1, whole, (8, 8))
-    measure("1 client with the whole output, one pixel of it", small, words.rounds, 1, whole, (1, 1))
+
+    def commits(name, ticks, clients, size, damage):
+        measure(name, ticks, words.rounds, lambda ticks: recording(clients, size, damage, ticks))
+
+    commits("1 client, the whole output", words.ticks, 1, whole, whole)
+    commits("1 client with the whole output, 8 by 8 of it", small, 1, whole, (8, 8))
+    commits("1 client with the whole output, one pixel of it", small, 1, whole, (1, 1))
     for clients in 1, 8, 32:
-        measure(f"{clients} client{'s' * (clients > 1)}, 8 by 8", small, words.rounds, clients, (8, 8), (8, 8))
-    measure("1 client, nothing committed", small, words.rounds, 1, (8, 8), None)
+        commits(f"{clients} client{'s' * (clients > 1)}, 8 by 8", small, clients, (8, 8), (8, 8))
+    commits("1 client, nothing committed", small, 1, (8, 8), None)
+    for clients in 1, 8, 32:
+        measure(f"one of {clients} with 8 by 8 goes and comes again", small, words.rounds, lambda ticks, clients=clients: ends(clients, (8, 8), ticks))
 
 
 if __name__ == "__main__":
