@@ -82,7 +82,7 @@ def ends(clients, size, ticks):
         lines += ["connect", f"bytes {client} {mapped(*size).hex()}"]
     lines.append("tick 0")
     for tick in range(ticks):
-        lines += [f"gone {clients}", f"close {clients}", "connect", f"bytes {clients} {mapped(*size).hex()}", f"tick {tick + 1}"]
+        lines += [f"gone {clients}", "connect", f"bytes {clients} {mapped(*size).hex()}", f"tick {tick + 1}"]
     return "\n".join(lines).encode() + b"\n"
 
 
