@@ -1,6 +1,7 @@
 pub mod Finds
 pub mod Passing
 pub mod Peers
+pub mod Queueing
 pub mod Pieces
 pub mod Rows
 pub mod Tables

@@ -69,7 +69,7 @@ pub IsPeer-unqueued : (v w : ClientView) (p : Peer) (why cause : Cause) → w �
 IsPeer-unqueued v w p why cause only is = subst (λ (x : ClientView). IsPeer (cleared cause x) (ended cause p)) (sym only) (IsPeer-ended v p cause is)
 
 -- why an event isn't queued now, where each refusal before was acted upon
-unqueued-now : (v : ClientView) (p : Peer) (event : Said) (cause : Cause) → IsPeer v p → IsUnqueuedFor v.refused (has_room v.unsent event) cause → MatchBool (has_room v.unsent event) (cause ≡ Memory) (cause ≡ Slow)
+pub unqueued-now : (v : ClientView) (p : Peer) (event : Said) (cause : Cause) → IsPeer v p → IsUnqueuedFor v.refused (has_room v.unsent event) cause → MatchBool (has_room v.unsent event) (cause ≡ Memory) (cause ≡ Slow)
 unqueued-now v p event cause is why = subst (λ (was : Option Cause). IsUnqueuedFor was (has_room v.unsent event) cause) is.open why
 
 slow-of : (room : Bool) (cause : Cause) → MatchBool room (cause ≡ Memory) (cause ≡ Slow) → cause ≢ Memory → Slow ≡ cause

@@ -1,6 +1,6 @@
 -- One client of the plain desktop: what a compositor holds of it, whatever a program keeps.
 use Rattle.std.specs.Option.{option_map}
-use Rattle.std.specs.Prelude.{ℕ, suc, zero, ◌≡◌, ◌+◌, ◌-◌, List, [], ◌∷◌, ◌++◌, length, take, drop, Bool, true, false, ◌&&◌, nat_le, if◌then◌else◌, is_some, Option, Some, None, Result, Ok, Err, ◌⊎◌, IsTrue, MatchBool, MatchOption, unsigned_abs}
+use Rattle.std.specs.Prelude.{ℕ, suc, zero, ◌≡◌, ◌+◌, ◌-◌, List, [], ◌∷◌, ◌++◌, fold, length, take, drop, Bool, true, false, ◌&&◌, nat_le, if◌then◌else◌, is_some, Option, Some, None, Result, Ok, Err, ◌⊎◌, IsTrue, MatchBool, MatchOption, unsigned_abs}
 use Rattle.wl_wire.specs.Wire.{split_of}
 use Rattle.wl_wire.specs.declared.header.Split.{Split}
 use Rattle.wl_wire.specs.declared.header.Split.TheVariants.{Message as Whole, More, Bad}
@@ -134,6 +134,10 @@ LacksMemory old new =
 -- an object goes, if it is there
 abbrev pub removed : ℕ → Peer → Peer
 removed id p = record p { objects = with_id id None p.objects; held = p.held - (if is_some (p.objects id) then 1 else 0) }
+
+-- these objects go, in turn
+abbrev pub all_removed : List ℕ → Peer → Peer
+all_removed ids p = fold (λ p id. removed id p) p ids
 
 abbrev pub changed_region : ℕ → Change → Peer → Peer
 changed_region id change p = record p { regions = with_id id (option_map (λ changes. changes ++ change ∷ []) (p.regions id)) p.regions }

@@ -1,5 +1,6 @@
 -- One message of a client whose surfaces use some of its buffers.
-use Rattle.std.specs.Prelude.{ℕ, ◌≡◌, ◌≢◌, ◌-◌, Bool, true, false, take, drop, Option, Some, None, Result, Ok, Err, ◌⊎◌}
+use Rattle.std.specs.Prelude.{ℕ, ◌≡◌, ◌≢◌, ◌-◌, ◌==◌, Bool, true, false, if◌then◌else◌, List, take, drop, Option, Some, None, Result, Ok, Err, ◌⊎◌}
+use Rattle.std.specs.List.{list_any}
 use Rattle.wl_wire.specs.declared.header.Split.{Split}
 use Rattle.wl_wire.specs.declared.header.Split.TheVariants.{Message as Whole, More, Bad}
 use Rattle.wl_proto.specs.declared.interface.Interface.{Interface}
@@ -9,7 +10,7 @@ use Rattle.wl_proto.specs.declared.request.Request.{Request}
 use Rattle.wl_wire.specs.Wire.{split_of}
 use Rattle.wl_store.specs.Stores.{Stock}
 use Rattle.wl_surface.specs.Kept.{IsAny, Numbered, Slots, StandForAll, has_at}
-use Rattle.wl_table.specs.Objects.{Held, HoldsAt}
+use Rattle.wl_table.specs.Objects.{Held, HoldsAt, entry_of}
 use Rattle.wl_client.specs.declared.actions.Action.{Action}
 use Rattle.wl_client.specs.declared.actions.Action.TheVariants.{GetRegistry, Bind, CreateRegion, DestroyRegion, CreatePool, CreateBuffer, DestroyPool, DestroyBuffer}
 use Rattle.wl_client.specs.declared.clients.Cause.{Cause}
@@ -85,6 +86,10 @@ ChangesTable (DestroyRegion id) old new = HoldsAt old new id None
 ChangesTable (DestroyPool id store) old new = HoldsAt old new id None
 ChangesTable (DestroyBuffer id store) old new = HoldsAt old new id None
 ChangesTable action old new = new ≡ old
+
+-- new holds nothing under these ids, and under every other id what old holds
+abbrev pub HoldsWithout : Held → Held → List ℕ → Type 0
+HoldsWithout old new ids = (other : ℕ) → entry_of new other ≡ (if list_any (λ id. other == id) ids then None else entry_of old other)
 
 -- the first message passes, and is to an object of this kind
 abbrev pub PassesTo : Bool → ClientView → Type 0

@@ -1,8 +1,8 @@
 -- What a client is told.
-use Rattle.std.specs.Prelude.{ℕ, List, [], ◌∷◌, map, codes, pos}
+use Rattle.std.specs.Prelude.{ℕ, List, [], ◌∷◌, map, codes, pos, Option, Some, None}
 use Rattle.wl_wire.specs.Wire.{Word, Number, Text, message_bytes}
 use Rattle.wl_proto.specs.declared.interface.Interface.{Interface}
-use Rattle.wl_proto.specs.declared.interface.Interface.TheVariants.{WlDisplay, WlRegistry, WlCallback, WlShm, WlOutput, WlSeat}
+use Rattle.wl_proto.specs.declared.interface.Interface.TheVariants.{WlBuffer, WlDisplay, WlRegistry, WlCallback, WlShm, WlOutput, WlSeat}
 use Rattle.wl_proto.specs.Messages.{Message, says}
 use Rattle.wl_client.specs.declared.refusals.ErrorCode.{ErrorCode}
 use Rattle.wl_client.specs.declared.refusals.ErrorCode.TheVariants.{InvalidObject, InvalidMethod, NoMemory, Implementation, MissingCapability, InvalidFormat, InvalidStride, InvalidFd, InvalidTransform, SurfaceHasRoleObject, BadSurface, BadParent, Role, DefunctSurfaces, NotTheTopmostPopup, InvalidPopupParent, InvalidSurfaceState, InvalidPositioner, NotConstructed, AlreadyConstructed, UnconfiguredBuffer, InvalidSerial, InvalidSize, DefunctRoleObject, InvalidInput, InvalidGrab}
@@ -94,6 +94,11 @@ callback_done callback = said callback (says WlCallback 0 (Word 0 ∷ []))
 
 abbrev pub id_deleted : ℕ → Said
 id_deleted id = said 1 (says WlDisplay 1 (Word id ∷ []))
+
+-- wl_buffer.release of this buffer, if there is one
+abbrev pub released_told : Option ℕ → List Said
+released_told None = []
+released_told (Some buffer) = said buffer (says WlBuffer 0 []) ∷ []
 
 -- wl_display.error
 abbrev pub error_told : Refusal → Said

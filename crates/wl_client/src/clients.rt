@@ -1,18 +1,19 @@
 //! One client: what came from it, what is to be sent to it, and what its messages ask.
 
 ghost use Rattle.std.specs.Option.{option_copied, option_map};
-ghost use Rattle.std.specs.Prelude.{◌≡◌, ◌++◌, [], length, ◌≤◌, ◌∷◌, ◌==◌, ◌+◌, if◌then◌else◌, OnOk, OnErr, IfOk, IfErr, IsTrue, MatchBool, Some, None, true, false, is_some, is_none, map, nat_le};
+ghost use Rattle.std.specs.Prelude.{◌≡◌, ◌++◌, [], length, ◌≤◌, ◌∷◌, ◌==◌, ◌+◌, if◌then◌else◌, OnOk, OnErr, IfOk, IfErr, IsTrue, MatchBool, Some, None, true, false, is_some, is_none, map, nat_le, List};
 ghost use Rattle.wl_client.specs.Agreement.{output_of};
-ghost use Rattle.wl_client.specs.Told.{id_deleted, said, said_bytes};
+ghost use Rattle.wl_client.specs.Told.{Said, id_deleted, released_told, said, said_bytes};
 ghost use Rattle.wl_proto.specs.Messages.{says};
-ghost use Rattle.wl_proto.specs.declared.interface.Interface.TheVariants.{WlBuffer};
+ghost use Rattle.wl_wire.specs.Wire.{Word};
+ghost use Rattle.wl_proto.specs.declared.interface.Interface.TheVariants.{WlBuffer, WlCallback};
 ghost use Rattle.wl_client.specs.Peer.{IsUnqueuedFor, has_room, object_at_version};
 ghost use Rattle.wl_client.specs.Said.{said_of};
 
 use crate::actions::Action;
 use crate::backlog::Backlog;
 use crate::buffers::ShmBuffer;
-use crate::events::{deletion_event, error_event, release_event};
+use crate::events::{deletion_event, error_event, frame_event, release_event};
 use crate::outputs::Output;
 use crate::refusals::{ErrorCode, Refusal};
 use std::alloc::{AllocError, Allocator};
@@ -68,9 +69,9 @@ impl<A: Allocator> Model for Client<A> {
 }
 
 impl<A: Allocator + Copy> Client<A> {
-    ghost use Rattle.wl_client.specs.Peer.{Peer, ended, newcomer, Queues, Errs, LacksMemory, WantsOr, Acts, counted, made, removed, left_by, released, sent_by, stored_by};
+    ghost use Rattle.wl_client.specs.Peer.{Peer, ended, newcomer, Queues, Errs, LacksMemory, WantsOr, Acts, counted, made, removed, all_removed, left_by, released, sent_by, stored_by};
     ghost use Rattle.wl_client.specs.Objects.{entry_at_version, held_at, object_of};
-    ghost use Rattle.wl_client.specs.Serving.{ChangesTable, EndsBy};
+    ghost use Rattle.wl_client.specs.Serving.{ChangesTable, EndsBy, HoldsWithout};
     ghost use Rattle.wl_client.specs.View.{cleared, stored};
     ghost use Rattle.wl_table.specs.Objects.{HoldsAt, entry_of};
     ghost use Rattle.wl_store.specs.Stores.{picture_turned, store_at, write_refusal};
@@ -245,6 +246,76 @@ impl<A: Allocator + Copy> Client<A> {
     {
         let _removed = self.objects.remove(id);
         self.queue_all(&[deletion_event(id), release_event(buffer)]);
+    }
+
+    /// Removes an object, whose id is given back, and with it these callbacks, whose ids are given back after it. Then it is told that a
+    /// buffer is released, if one is (wayland.xml, wl_display.delete_id, wl_surface.frame and wl_buffer.release).
+    pub fn remove_with(&mut self, id: u32, callbacks: &[u32], released: Option<u32>)
+        ensures table { self.new.ended ≡ None → HoldsWithout self.old.objects self.new.objects (id ∷ callbacks.now) }
+        ensures removes { (p : Peer) → IsPeer self.old p
+            → (q : Peer) × Queues (id_deleted id ∷ map id_deleted callbacks.now ++ released_told released) (removed id (all_removed callbacks.now p)) q × IsPeer self.new q }
+        ensures rest { length self.new.rest ≤ length self.old.rest }
+    {
+        self.take_out(callbacks);
+        self.take_out_one(id);
+        if !self.queue_deletions(&[id]) {
+            return;
+        }
+        if !self.queue_deletions(callbacks) {
+            return;
+        }
+        if let Some(buffer) = released {
+            self.queue_all(&[release_event(buffer)]);
+        }
+    }
+
+    /// Takes objects out of the table, of which nothing is told yet.
+    fn take_out(&mut self, ids: &[u32])
+        ensures removes { (p : Peer) → IsPeer self.old p → IsPeer self.new (all_removed ids.now p) }
+        ensures table { HoldsWithout self.old.objects self.new.objects ids.now }
+        ensures rest { self.new.rest ≡ self.old.rest }
+    {
+        for id in ids {
+            self.take_out_one(*id);
+        }
+    }
+
+    /// Takes an object out of the table, of which nothing is told yet.
+    fn take_out_one(&mut self, id: u32)
+        ensures removes { (p : Peer) → IsPeer self.old p → IsPeer self.new (removed id p) }
+        ensures table { HoldsAt self.old.objects self.new.objects id None }
+        ensures rest { self.new.rest ≡ self.old.rest }
+    {
+        let _removed = self.objects.remove(id);
+    }
+
+    /// Queues wl_display.delete_id of each of these ids in turn. False where one isn't queued: the client ends then
+    /// (wayland.xml, wl_display.delete_id).
+    fn queue_deletions(&mut self, ids: &[u32]) -> bool
+        ensures table { MatchBool result (self.new.objects ≡ self.old.objects) (is_some self.new.ended ≡ true) }
+        ensures queues { (p : Peer) → IsPeer self.old p
+            → (mid : Peer) × IsPeer self.new mid × ((more : List Said) (q : Peer) → MatchBool result (Queues more mid q) (q ≡ mid) → Queues (map id_deleted ids.now ++ more) p q) }
+        ensures rest { length self.new.rest ≤ length self.old.rest }
+    {
+        for id in ids {
+            if let Err(cause) = self.queue(&deletion_event(*id)) {
+                self.end(cause);
+                return false;
+            }
+        }
+        true
+    }
+
+    /// Tells that a frame's callback is done at this time, in milliseconds, and removes it: its id is given back (wayland.xml,
+    /// wl_surface.frame: "The object returned by this request will be destroyed by the compositor after the callback is fired").
+    pub fn finish(&mut self, callback: u32, time: u32)
+        ensures table { self.new.ended ≡ None → HoldsAt self.old.objects self.new.objects callback None }
+        ensures tells { (p : Peer) → IsPeer self.old p
+            → (q : Peer) × Queues (said callback (says WlCallback 0 (Word time ∷ [])) ∷ id_deleted callback ∷ []) (removed callback p) q × IsPeer self.new q }
+        ensures rest { length self.new.rest ≤ length self.old.rest }
+    {
+        let _removed = self.objects.remove(callback);
+        self.queue_all(&[frame_event(callback, time), deletion_event(callback)]);
     }
 
     /// A request more is counted, as long as its number has 64 bits.

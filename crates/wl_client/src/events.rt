@@ -5,7 +5,8 @@ ghost use Rattle.wl_client.specs.Told.{callback_done, id_deleted, error_told, fo
 ghost use Rattle.wl_client.specs.Agreement.{output_of};
 ghost use Rattle.wl_client.specs.Said.{said_of};
 ghost use Rattle.wl_proto.specs.Messages.{says};
-ghost use Rattle.wl_proto.specs.declared.interface.Interface.TheVariants.{WlBuffer, WlShm, WlSeat, WlOutput};
+ghost use Rattle.wl_wire.specs.Wire.{Word};
+ghost use Rattle.wl_proto.specs.declared.interface.Interface.TheVariants.{WlBuffer, WlCallback, WlShm, WlSeat, WlOutput};
 
 use crate::outputs::Output;
 use crate::refusals::Refusal;
@@ -35,6 +36,18 @@ pub fn callback_event(callback: u32) -> Event<'static>
     Event {
         object: callback,
         body: EventBody::WlCallback(WlCallbackEvent::Done { callback_data: 0 }),
+    }
+}
+
+/// wl_callback.done of a frame's callback, with the time in milliseconds (wayland.xml, wl_surface.frame and wl_callback.done).
+pub fn frame_event(callback: u32, time: u32) -> Event<'static>
+    ensures { said_of result ≡ said callback (says WlCallback 0 (Word time ∷ [])) }
+{
+    Event {
+        object: callback,
+        body: EventBody::WlCallback(WlCallbackEvent::Done {
+            callback_data: time,
+        }),
     }
 }
 

@@ -5,7 +5,7 @@ use Rattle.std.specs.Option.{option_map}
 use Rattle.wl_client.specs.Objects.{nothing}
 use Rattle.wl_client.specs.View.{ClientView}
 use Rattle.wl_store.specs.Stores.{Stock}
-use Rattle.wl_surface.specs.Kept.{Slots}
+use Rattle.wl_surface.specs.Kept.{Slots, no_slots}
 use Rattle.wl_surface.specs.Surfaces.{no_surfaces}
 use Rattle.wl_scene.specs.Lent.{slots_lent, slots_of}
 use Rattle.wl_scene.specs.declared.owned.Owned.{Owned}
@@ -19,7 +19,7 @@ use Rattle.wl_desk.proofs.Desktops.{at-map}
 use Rattle.wl_plain.proofs.StandingDesks.{all-show}
 
 -- nothing is kept of a client that isn't there
-nothing-kept : AreKept nothing [] no_surfaces
+nothing-kept : AreKept nothing no_slots no_surfaces
 nothing-kept = record {
   links = refl;
   numbered = λ id. refl;
@@ -31,7 +31,7 @@ nothing-kept = record {
 }
 
 abbrev slots_seen : Option OwnedView → Slots
-slots_seen None = []
+slots_seen None = no_slots
 slots_seen (Some o) = o.surfaces
 
 slots-seen : {A : Type 0} (o : Option (Owned A)) → slots_of o ≡ slots_seen (option_map owned_view o)

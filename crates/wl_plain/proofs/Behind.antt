@@ -1,18 +1,21 @@
 -- What came from a client and wasn't taken yet doesn't change what is done.
-use Rattle.std.proofs.Common.{◌≡◌, ℕ, List, Bool, true, false, Option, Some, None, refl, ap, sym, ◌∙◌}
+use Rattle.std.proofs.Common.{◌≡◌, ℕ, List, Bool, true, false, Option, Some, None, refl, ap, sym, ◌∙◌, [], ◌∷◌}
+use Rattle.std.specs.Prelude.{fold}
 use Rattle.wl_proto.specs.declared.interface.Interface.TheVariants.{XdgToplevel}
 use Rattle.wl_store.specs.Stores.{Stock}
 use Rattle.wl_client.specs.declared.actions.Action.{Action}
 use Rattle.wl_client.specs.declared.actions.Action.TheVariants.{Sync, GetRegistry, Bind, CreateRegion, AddToRegion, SubtractFromRegion, DestroyRegion, CreatePool, CreateBuffer, ResizePool, DestroyPool, DestroyBuffer}
 use Rattle.wl_client.specs.declared.clients.Cause.{Cause}
-use Rattle.wl_client.specs.Peer.{Peer, changed, with_rest}
+use Rattle.wl_client.specs.Peer.{Peer, changed, with_rest, removed}
 use Rattle.wl_shell.specs.Shell.{Effect, Stays, Unconfigured, Configures, Maps, Unmaps, XdgSurface as Xdg, xdg_at, xdg_of}
 use Rattle.wl_plain.specs.Ask.{Ask, Own, CreateSurface, AskSurface, DestroyBase, GetXdgSurface, DestroyXdgSurface, GetToplevel, Acknowledge, ConfigureAgain, Ignore}
 use Rattle.wl_plain.specs.Desktop.{Resident}
 use Rattle.wl_client.specs.Serving.{has_used, keeps_store}
-use Rattle.wl_surface.specs.Surfaces.{is_used}
-use Rattle.wl_plain.specs.Step.{after_surface, answers_to, making, own_changed, toplevel_given, with_peer}
-use Rattle.wl_plain.proofs.Simply.{Simple, Asking, DestroySurface, CommitSurface, DestroyToplevel, changed_simply, committed_on, effect_on}
+use Rattle.wl_surface.specs.Surfaces.{is_used, without_surface}
+use Rattle.wl_surface.specs.Waiting.{Callback}
+use Rattle.wl_plain.specs.Step.{after_surface, answers_to, making, own_changed, toplevel_given, with_peer, removing, with_surfaces}
+use Rattle.wl_plain.specs.Changing.{callbacks_of, without_callbacks}
+use Rattle.wl_plain.proofs.Simply.{Simple, Asking, DestroySurface, AskingFrame, CommitSurface, DestroyToplevel, changed_simply, committed_on, effect_on}
 
 -- a client from which this came and wasn't taken yet
 abbrev pub with_behind : List ℕ → Resident → Resident
@@ -56,10 +59,18 @@ toplevel-stream : (id xdg : ℕ) (x : Option Xdg) (r : Resident) (s : Option Cau
 toplevel-stream id xdg None r s rest = refl
 toplevel-stream id xdg (Some x) r s rest = refl
 
+without-stream : (gone : List Callback) (p : Peer) (s : Option Cause) (rest : List ℕ)
+    → fold (λ p callback. removed callback.id p) (record p { status = s; rest = rest }) gone ≡ record (fold (λ p callback. removed callback.id p) p gone) { status = s; rest = rest }
+without-stream [] p s rest = refl
+without-stream (callback ∷ gone) p s rest = without-stream gone (removed callback.id p) s rest
+
 changed-stream : (ask : Simple) (r : Resident) (s : Option Cause) (rest : List ℕ) → changed_simply ask (with_stream s rest r) ≡ with_stream s rest (changed_simply ask r)
 changed-stream (Asking (Own action)) r s rest = own-stream action r s rest
 changed-stream (Asking (CreateSurface id version)) r s rest = refl
-changed-stream (DestroySurface id) r s rest = refl
+changed-stream (DestroySurface id) r s rest =
+    let bare : Resident = after_surface id r (with_surfaces (without_surface id r.owned.surfaces) r) in
+    ap (λ (p : Peer). removing id (with_peer p (without_callbacks (callbacks_of id r) bare))) (without-stream (callbacks_of id r) bare.peer s rest)
+changed-stream (AskingFrame id version surface) r s rest = refl
 changed-stream (Asking (AskSurface id request)) r s rest = refl
 changed-stream (CommitSurface id effect) r s rest = effect-stream id effect (xdg_of id r.owned.shell) (after_surface id r (committed_on id r)) s rest
 changed-stream (Asking (DestroyBase id)) r s rest = refl

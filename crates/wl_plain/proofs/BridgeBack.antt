@@ -57,7 +57,7 @@ becomes-back Q c r d new still h =
 
 -- ---- what a client is told
 
-told-back : (events : List Said) (p q : Peer) (why : Option Cause) → QueuesTo events p q why → Queues events p (ended_why why q)
+pub told-back : (events : List Said) (p q : Peer) (why : Option Cause) → QueuesTo events p q why → Queues events p (ended_why why q)
 told-back [] p q why h = ap (λ why. ended_why why q) h.1 ∙ h.0
 told-back (event ∷ events) p q why h = at (has_room p.unsent event) (told-back events (queued event p) q why) h
   where
@@ -184,39 +184,6 @@ leaves-by None c r d new done e still owns is h =
 leaves-back : (c : ℕ) (o : Option Resident) (d new : Desktop) (done : Done) → d.pointer ≡ first_pointer → client_at c d ≡ o → OwnsToplevelsAt o (toplevels_of c d) → LeavesAt c o d done new → ChangesAt IsLeft (gave.Gone false) c o d done new
 leaves-back c None d new done still is owns h = h
 leaves-back c (Some r) d new done still is owns h = (Some (left_by r.peer.status r.peer), (refl, h.0), leaves-by r.peer.status c r d new done refl still owns is h)
-
--- ---- a frame
-
-told-none : (time c : ℕ) (o : Option Resident) (d : Desktop) (new : Midstep) → client_at c d ≡ o → OwnsToplevelsAt o (toplevels_of c d) → TellsAt (λ r. without_callbacks (callbacks_due r) r) (frames_told time) c o (unstruck d) new → new ≡ unstruck d
-told-none time c None d new is owns h = h
-told-none time c (Some r) d new is owns h = by r.peer.status refl
-  where
-    plain : Resident
-    plain = record r { peer = record r.peer { status = None }; callbacks = [] }
-
-    told : TellsAt (λ r. without_callbacks (callbacks_due r) r) (frames_told time) c (Some plain) (unstruck d) new → plain ≡ r → new ≡ unstruck d
-    told h whole =
-        h.3 ∙ ap (λ why. record { desktop = with_client c (Some (record plain { peer = h.0 })) d; struck = struck_by c why [] }) h.2.1
-        ∙ ap (λ (q : Peer). record { desktop = with_client c (Some (record plain { peer = q })) d; struck = [] }) h.2.0
-        ∙ ap unstruck (ap (λ q. with_client c (Some q) d) whole ∙ ap (λ o. with_client c o d) (sym is) ∙ client-kept c d)
-
-    by : (s : Option Cause) → r.peer.status ≡ s → new ≡ unstruck d
-    by (Some cause) e = let k : new ≡ unstruck d = rw e at h in k
-    by None e =
-        let only = living r.peer.status r (toplevels_of c d) e owns in
-        let whole : plain ≡ r =
-        sym (ap (λ cs. record r { callbacks = cs }) only.callbacks ∙ ap (λ t. record r { peer = record r.peer { status = t }; callbacks = [] }) e) in
-        told (subst (λ q. TellsAt (λ r. without_callbacks (callbacks_due r) r) (frames_told time) c (Some q) (unstruck d) new) (sym whole) h) whole
-
-frames-back : (time n c : ℕ) (d : Desktop) (new : Midstep) → NoMore d → TellsFrames time n c (unstruck d) new → new ≡ unstruck d
-frames-back time zero c d new only h = h
-frames-back time (suc n) c d new only h =
-    let same : h.0 ≡ unstruck d = told-none time c (client_at c d) d h.0 refl (only.each c) h.1 in
-    frames-back time n (suc c) d new only (subst (λ (m : Midstep). TellsFrames time n (suc c) m new) same h.2)
-
-pub shows-back : (time : ℕ) (d new : Desktop) → NoMore d → Shows time d new → new ≡ d
-shows-back time d new only h =
-    settled-back d new only.pointer (subst (λ (m : Midstep). EndsAndSettles m new) (frames-back time 32 1 d h.0 only h.1) h.2)
 
 -- ---- a call
 

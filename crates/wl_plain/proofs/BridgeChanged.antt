@@ -1,29 +1,27 @@
 -- What is asked of a client that has no more than toplevels is done alike where every request may be served.
 use Rattle.std.proofs.Common.{◌≡◌, ℕ, List, [], ◌∷◌, ◌++◌, Bool, true, false, Option, Some, None, cond, refl, ap, subst, sym, ◌∙◌, map, inl, inr}
-use Rattle.std.specs.Prelude.{◌==◌, ◌⊎◌, filter, flat_map, fold}
+use Rattle.std.specs.Prelude.{◌==◌, ◌⊎◌, flat_map, fold}
 use Rattle.std.specs.Option.{option_map, option_map_or}
-use Rattle.wl_client.specs.Told.{id_deleted}
-use Rattle.wl_surface.specs.Frames.{frames_asked}
 use Rattle.wl_surface.specs.Request.{Commit}
-use Rattle.wl_surface.specs.Surfaces.{Link, Surface, Surfaces, applying, asking, history_in, with_change as with_surface_change, without_surface}
+use Rattle.wl_surface.specs.Surfaces.{Link, Surface, Surfaces, applying, asking, with_change as with_surface_change, without_surface}
 use Rattle.wl_surface.specs.Trees.{applied_tree, behaves_synchronised, committed_in}
 use Rattle.wl_shell.specs.Popups.{Popped, by_number, dismissed_after, dismissed_among, dismissing, is_parent_of, is_toplevel, is_toplevel_kind, orphan, orphaning, placing, popped_of, popup_changed, popups_of, with_popup, with_popup_role, without_grab}
 use Rattle.wl_shell.specs.declared.stage.Stage.{Stage}
 use Rattle.wl_shell.specs.Shell.{Effect, Stays, Unconfigured, Configures, Maps, Unmaps, Waiting, Kind, Toplevel, Popup, RoleObject, Shell, XdgSurface as Xdg, at_stage, in_stage, on_commit, stage_of, unmapping, with_change, without_role, xdg_of}
 use Rattle.wl_scene.specs.Pointer.{first_pointer}
 use Rattle.wl_scene.specs.Windows.{Window}
-use Rattle.wl_plain.specs.Changing.{after_all, changed_for, commit_done, effect_done, is_asked, placement_now, stacked_by, stacked_for, surface_ended, toplevel_ended, tree_committed}
+use Rattle.wl_plain.specs.Changing.{after_all, callbacks_of, changed_for, commit_done, effect_done, placement_now, stacked_by, stacked_for, surface_ended, toplevel_ended, tree_committed, without_callbacks}
 use Rattle.wl_plain.specs.Demand.{Demand, Move}
 use Rattle.wl_plain.specs.Demanding.{effect_of_commit}
-use Rattle.wl_plain.specs.Desktop.{Callback, Desktop, Resident, Subsurface}
+use Rattle.wl_plain.specs.Desktop.{Desktop, Resident, Subsurface}
 use Rattle.wl_plain.specs.Replies.{commit_told, configure_told, own_answers}
 use Rattle.wl_plain.specs.Step.{after_surface, asked_so_far, configured, configures_told, removing, role_configured, with_shell, with_surfaces}
 use Rattle.wl_plain.specs.NoMore.{AreToplevels, IsToplevel, OwnsToplevelsOnly}
 use Rattle.wl_plain.specs.Happens.{wants_memory}
 use Rattle.wl_plain.specs.WlSurface.{will_show}
 use Rattle.wl_plain.proofs.BridgeBuffers.{changed-after, gone-after}
-use Rattle.wl_plain.proofs.BridgeJudged.{IsToplevelAt, Same, asks, commit, effect-same, ends, found-toplevel, goes, move, none-popped}
-use Rattle.wl_plain.proofs.Simply.{CommitSurface, DestroySurface, DestroyToplevel, Simple, changed_simply, committed_on, effect_for, effect_of, effect_on, stacked_simply, answers_simply, wants_simply}
+use Rattle.wl_plain.proofs.BridgeJudged.{IsToplevelAt, Same, asks, commit, effect-same, ends, found-toplevel, frames, goes, move, none-popped}
+use Rattle.wl_plain.proofs.Simply.{AskingFrame, CommitSurface, DestroySurface, DestroyToplevel, Simple, changed_simply, committed_on, effect_for, effect_of, effect_on, stacked_simply, answers_simply, wants_simply}
 
 -- ---- popups, where there are none
 
@@ -70,37 +68,34 @@ pub stage-top : (stage : Stage) (o : Option RoleObject) → IsToplevel o → IsT
 stage-top stage None top = tt
 stage-top stage (Some object) top = top
 
--- ---- a client without subsurfaces, callbacks and pointers
+-- ---- a client without subsurfaces and pointers
 
-built : List Link → List Subsurface → List Callback → List ℕ → Resident → Resident
-built links subsurfaces callbacks pointers r =
-    record r {
-      owned = record r.owned { surfaces = record r.owned.surfaces { links = links } };
-      subsurfaces = subsurfaces;
-      callbacks = callbacks;
-      pointers = pointers;
-    }
+built : List Link → List Subsurface → List ℕ → Resident → Resident
+built links subsurfaces pointers r =
+    record r { owned = record r.owned { surfaces = record r.owned.surfaces { links = links } }; subsurfaces = subsurfaces; pointers = pointers }
 
 plain : Resident → Resident
 unfolding built
-plain r = built [] [] [] [] r
+plain r = built [] [] [] r
 
 is-plain : (r : Resident) → OwnsToplevelsOnly r → plain r ≡ r
 unfolding plain
 is-plain r only =
-    sym (ap (λ ls. built ls r.subsurfaces r.callbacks r.pointers r) only.links ∙ ap (λ ss. built [] ss r.callbacks r.pointers r) only.subsurfaces
-    ∙ ap (λ cs. built [] [] cs r.pointers r) only.callbacks ∙ ap (λ ps. built [] [] [] ps r) only.pointers)
+    sym (ap (λ ls. built ls r.subsurfaces r.pointers r) only.links ∙ ap (λ ss. built [] ss r.pointers r) only.subsurfaces ∙ ap (λ ps. built [] [] ps r) only.pointers)
 
 -- ---- the end of a surface
 
-ended-plain : (id : ℕ) (r : Resident) → surface_ended id (plain r) ≡ removing id (after_all (plain r) (with_surfaces (without_surface id (plain r).owned.surfaces) (plain r)))
+abbrev ended_after : ℕ → Resident → Resident → Resident
+ended_after id q now = removing id (without_callbacks (callbacks_of id q) now)
+
+ended-plain : (id : ℕ) (r : Resident) → surface_ended id (plain r) ≡ ended_after id (plain r) (after_all (plain r) (with_surfaces (without_surface id (plain r).owned.surfaces) (plain r)))
 unfolding plain
 ended-plain id r = refl
 
 ended-same : (id : ℕ) (r : Resident) → OwnsToplevelsOnly r → surface_ended id r ≡ changed_simply (DestroySurface id) r
 ended-same id r only =
-    subst (λ q. surface_ended id q ≡ removing id (after_all q (with_surfaces (without_surface id q.owned.surfaces) q))) (is-plain r only) (ended-plain id r)
-    ∙ ap (λ q. removing id q) (gone-after id r only.apart)
+    subst (λ q. surface_ended id q ≡ ended_after id q (after_all q (with_surfaces (without_surface id q.owned.surfaces) q))) (is-plain r only) (ended-plain id r)
+    ∙ ap (λ q. ended_after id r q) (gone-after id r only.apart)
 
 -- ---- a commit
 
@@ -160,6 +155,7 @@ toplevel-same id xdg top r only =
 pub changed-same : (c : ℕ) (ask : Simple) (demand : Demand) (r : Resident) (d : Desktop) → OwnsToplevelsOnly r → Same r ask demand → changed_for c demand r d ≡ changed_simply ask r
 changed-same c ask demand r d only (asks other) = refl
 changed-same c ask demand r d only (ends id) = ended-same id r only
+changed-same c ask demand r d only (frames id version surface) = refl
 changed-same c ask demand r d only (commit id effect e) = commit-same c id effect r d only e
 changed-same c ask demand r d only (goes id xdg top) = toplevel-same id xdg top r only
 changed-same c ask demand r d only (move id serial) = refl
@@ -179,8 +175,8 @@ commit-answers c id Configures (Some x) r now d e is top = configures-same c r.p
 
 pub answers-same : (c : ℕ) (ask : Simple) (demand : Demand) (r : Resident) (windows : List Window) (d : Desktop) → OwnsToplevelsOnly r → Same r ask demand → own_answers c demand r windows d ≡ answers_simply ask r
 answers-same c ask demand r windows d only (asks other) = refl
-answers-same c ask demand r windows d only (ends id) =
-    ap (λ (cs : List Callback). id_deleted id ∷ map (λ (callback : Callback). id_deleted callback.id) (filter (is_asked (frames_asked (history_in id r.owned.surfaces))) cs)) only.callbacks
+answers-same c ask demand r windows d only (ends id) = refl
+answers-same c ask demand r windows d only (frames id version surface) = refl
 answers-same c ask demand r windows d only (commit id effect e) =
     ap (λ f. commit_told c f (xdg_of id r.owned.shell) (tree_committed id r) d) (effect-same r id only.roles ∙ e)
     ∙ commit-answers c id effect (xdg_of id r.owned.shell) r (tree_committed id r) d refl refl (found-toplevel (λ x. x.surface == id) r.owned.shell only.roles)
@@ -223,6 +219,7 @@ moved-plain c id serial r windows d = refl
 pub stacked-same : (c : ℕ) (ask : Simple) (demand : Demand) (r : Resident) (windows : List Window) (d : Desktop) → d.pointer ≡ first_pointer → OwnsToplevelsOnly r → Same r ask demand → stacked_for c demand r windows d ≡ stacked_simply c ask r d
 stacked-same c ask demand r windows d still only (asks other) = refl
 stacked-same c ask demand r windows d still only (ends id) = refl
+stacked-same c ask demand r windows d still only (frames id version surface) = refl
 stacked-same c ask demand r windows d still only (commit id effect e) = stacked-commit c id effect r d only.roles e
 stacked-same c ask demand r windows d still only (goes id xdg surface) = refl
 stacked-same c ask demand r windows d still only (move id serial) =
@@ -231,6 +228,7 @@ stacked-same c ask demand r windows d still only (move id serial) =
 pub wants-same : (ask : Simple) (demand : Demand) (r : Resident) → Same r ask demand → wants_memory demand ≡ wants_simply ask
 wants-same ask demand r (asks other) = refl
 wants-same ask demand r (ends id) = refl
+wants-same ask demand r (frames id version surface) = refl
 wants-same ask demand r (commit id effect e) = refl
 wants-same ask demand r (goes id xdg surface) = refl
 wants-same ask demand r (move id serial) = refl

@@ -21,7 +21,7 @@ use Rattle.wl_client.specs.Objects.{Object, Objects, fits}
 use Rattle.wl_shell.specs.Popups.{popped_kind, popped_of, popped_role}
 use Rattle.wl_shell.specs.Shell.{Effect, Stays, Unconfigured, Configures, Maps, Unmaps, Kind, Toplevel, RoleObject, Shell, XdgSurface as Xdg, is_full, on_commit, stage_of, xdg_at, xdg_of, xdg_with}
 use Rattle.wl_plain.specs.Ask.{Ask, Ignore, owns}
-use Rattle.wl_plain.specs.Demand.{Demand, Asks, EndSurface, CommitTree, EndToplevel, Move}
+use Rattle.wl_plain.specs.Demand.{Demand, Asks, EndSurface, AskFrame, CommitTree, EndToplevel, Move}
 use Rattle.wl_plain.specs.Demanding.{base_demand, committed_by, demand_by, demand_of, demands, effect_of_commit, effect_on_xdg, is_dismissed, judge_all, moved_by_pointer, own_demand, surface_demand, toplevel_asked, toplevel_destroyed, xdg_asked}
 use Rattle.wl_plain.specs.Desktop.{Resident}
 use Rattle.wl_plain.specs.LeftOut.{served_now}
@@ -31,7 +31,7 @@ use Rattle.wl_client.specs.ToplevelRequest as toplevel
 use Rattle.wl_plain.specs.Served.{unserved_now}
 use Rattle.wl_client.specs.Peer.{Peer, known_of}
 use Rattle.wl_plain.specs.Step.{with_peer}
-use Rattle.wl_plain.proofs.Simply.{Simple, Asking, DestroySurface, CommitSurface, DestroyToplevel, asks_simply, effect_for, effect_of, judge, simple_of, simply}
+use Rattle.wl_plain.proofs.Simply.{Simple, Asking, DestroySurface, AskingFrame, CommitSurface, DestroyToplevel, asks_simply, effect_for, effect_of, judge, simple_of, simply}
 use Rattle.wl_plain.specs.NoMore.{AreToplevels, IsToplevel}
 use Rattle.wl_plain.specs.WlSurface.{surface_created, transform_set, will_show}
 use Rattle.wl_client.specs.Requests.{rect}
@@ -41,6 +41,7 @@ use Rattle.wl_plain.specs.XdgShell.{acknowledged_by, base_destroyed, geometry_se
 pub data Same (r : Resident) : Simple → Demand → Type 0 where
   asks : (ask : Ask) → Same r (Asking ask) (Asks ask)
   ends : (id : ℕ) → Same r (DestroySurface id) (EndSurface id)
+  frames : (id version surface : ℕ) → Same r (AskingFrame id version surface) (AskFrame id version surface)
   commit : (id : ℕ) (effect : Effect) → effect_of r id ≡ effect → Same r (CommitSurface id effect) (CommitTree id)
   goes : (id xdg top : ℕ) → Same r (DestroyToplevel id xdg top) (EndToplevel id xdg top)
   move : (id serial : ℕ) → Same r (Asking Ignore) (Move id serial)
@@ -65,6 +66,7 @@ simply-ok r (Err refusal) ask e = absurd (cc)
 pub simple-peer : (p : Peer) (r : Resident) (demand : Demand) → simple_of (with_peer p r) demand ≡ simple_of r demand
 simple-peer p r (Asks ask) = refl
 simple-peer p r (EndSurface id) = refl
+simple-peer p r (AskFrame id version surface) = refl
 simple-peer p r (CommitTree id) = refl
 simple-peer p r (EndToplevel id xdg top) = refl
 simple-peer p r demand = refl
@@ -125,7 +127,7 @@ commit-simple r (Some x) object Unmaps = commit object (effect_of r object) refl
 
 surface-simple : (r : Resident) (object version : ℕ) (request : WlSurfaceRequest) → unserved_now (ToSurface request) ≡ false → IsSimple r (surface_demand r object version request)
 surface-simple r object version surface.Destroy served = if-simple r (is_some (xdg_of object r.owned.shell)) _ _ (λ there. refl) (λ none. ends object)
-surface-simple r object version (surface.Frame callback) served = absurd (cc)
+surface-simple r object version (surface.Frame callback) served = frames callback version object
 surface-simple r object version surface.Commit served = commit-simple r (xdg_of object r.owned.shell) object (effect_of_commit r object)
 surface-simple r object version (surface.SetBufferTransform transform) served = demands-simple r (transform_set object transform)
 surface-simple r object version (surface.Attach buffer x y) served = asks _

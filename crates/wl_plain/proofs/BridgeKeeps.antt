@@ -1,27 +1,33 @@
--- What is asked leaves a client no more than toplevels, where the object that comes or goes isn't a wl_surface of its.
+-- What is asked leaves a client no more than toplevels, where the object that comes or goes is neither a wl_surface nor a wl_callback, but for a
+-- surface that goes.
 use Rattle.std.proofs.Common.{◌≡◌, ℕ, Bool, true, false, Option, Some, None, cond, refl, ap, subst, sym, ◌∙◌, eq-eqb}
 use Rattle.std.specs.Prelude.{◌==◌, filter, find, is_some, not}
 use Rattle.std.specs.Option.{option_map}
 use Rattle.std.proofs.lemmas.Bool.{eqb-true}
-use Rattle.wl_proto.specs.declared.interface.Interface.TheVariants.{WlSurface, XdgToplevel}
+use Rattle.wl_proto.specs.declared.interface.Interface.TheVariants.{WlSurface, XdgToplevel, WlCallback}
 use Rattle.wl_client.specs.declared.actions.Action.{Action}
 use Rattle.wl_client.specs.declared.actions.Action.TheVariants.{Sync, GetRegistry, Bind, CreateRegion, AddToRegion, SubtractFromRegion, DestroyRegion, CreatePool, CreateBuffer, ResizePool, DestroyPool, DestroyBuffer}
 use Rattle.wl_client.specs.Objects.{Object, Objects, is_of, with_id}
 use Rattle.wl_client.specs.Peer.{Peer, changed, object_at_version}
 use Rattle.wl_client.specs.Serving.{has_used, keeps_store}
 use Rattle.wl_store.specs.Stores.{Stock}
-use Rattle.wl_surface.specs.Surfaces.{Surface, Surfaces, applying, asking, is_used, new_surface, surface_at, with_change, with_new, with_role, without_surface}
-use Rattle.wl_surface.specs.Request.{Commit}
+use Rattle.wl_surface.specs.Surfaces.{Surface, Surfaces, applying, asking, is_used, new_surface, surface_at, with_change, with_new, with_role, without_surface, history_in}
+use Rattle.wl_surface.specs.Request.{Commit, Frame}
 use Rattle.wl_surface.specs.declared.role.Role.TheVariants.{Toplevel as AsToplevel}
+use Rattle.wl_surface.specs.Waiting.{Callback}
+use Rattle.wl_surface.specs.Frames.{frames_asked}
 use Rattle.wl_shell.specs.Shell.{Effect, Stays, Unconfigured, Configures, Maps, Unmaps, XdgSurface as Xdg, xdg_at, xdg_of}
 use Rattle.wl_plain.specs.Ask.{Own, CreateSurface, AskSurface, DestroyBase, GetXdgSurface, DestroyXdgSurface, GetToplevel, Acknowledge, ConfigureAgain, Ignore}
 use Rattle.wl_plain.specs.Desktop.{Resident}
 use Rattle.wl_plain.specs.Owning.{AreApartBy}
 use Rattle.wl_plain.specs.Step.{after_surface, making, own_changed, toplevel_given, with_surfaces}
 use Rattle.wl_plain.specs.NoMore.{OwnsToplevelsOnly}
+use Rattle.wl_plain.specs.Changing.{is_asked, without_callbacks}
 use Rattle.wl_plain.proofs.BridgeServes.{top-effect, top-given, tops-kept}
 use Rattle.wl_plain.proofs.OwningKeys.{apart-left, apart-map, differ, found-map, gone, new-apart, new-elsewhere, none-left}
-use Rattle.wl_plain.proofs.Simply.{Asking, CommitSurface, DestroySurface, DestroyToplevel, Simple, changed_simply, committed_on, effect_on}
+use Rattle.wl_plain.proofs.Simply.{Asking, CommitSurface, DestroySurface, DestroyToplevel, Simple, changed_simply, committed_on, effect_on, AskingFrame}
+use Rattle.wl_plain.proofs.BridgeHeard.{AreHeard, heard-at, heard-left, heard-more, left_of, none-heard-left, surface-left}
+use Rattle.wl_plain.proofs.OrderlyObjectsCalls.{is_left}
 
 -- the objects that are surfaces
 abbrev pub AreKnown : Surfaces → Objects → Type 0
@@ -56,34 +62,50 @@ touches (Asking (DestroyBase id)) = Some id
 touches (Asking (GetXdgSurface id version base surface)) = Some id
 touches (Asking (DestroyXdgSurface id)) = Some id
 touches (Asking (GetToplevel id version xdg)) = Some id
+touches (AskingFrame id version surface) = Some id
 touches (DestroyToplevel id xdg top) = Some id
 touches ask = None
 
--- it isn't a wl_surface, or isn't there yet
+-- it is neither a wl_surface nor a wl_callback, or isn't there yet
 abbrev pub IsApart : Objects → Option ℕ → Type 0
 IsApart objects None = Unit {0}
-IsApart objects (Some id) = is_of WlSurface (objects id) ≡ false
+IsApart objects (Some id) = (is_of WlSurface (objects id) ≡ false) × (is_of WlCallback (objects id) ≡ false)
+
+-- and a surface that goes is no wl_callback
+abbrev pub IsApartFrom : Objects → Simple → Type 0
+IsApartFrom objects (DestroySurface id) = is_of WlCallback (objects id) ≡ false
+IsApartFrom objects ask = IsApart objects (touches ask)
+
+-- the objects that are surfaces, and those that are callbacks
+abbrev AreBoth : Resident → Objects → Type 0
+AreBoth r objects = AreKnown r.owned.surfaces objects × AreHeard r.callbacks objects
+
+both-at : (r : Resident) (objects : Objects) (id : ℕ) (x : Option Object) → IsApart objects (Some id) → AreBoth r objects → AreBoth r (with_id id x objects)
+both-at r objects id x other both = (known-at r.owned.surfaces objects id x other.0 both.0, heard-at r.callbacks objects id x other.1 both.1)
+
+both-of : (r : Resident) → OwnsToplevelsOnly r → AreBoth r r.peer.objects
+both-of r only = (only.known, only.callbacks)
 
 kept-objects : (b : Bool) (stores : Stock) (p : Peer) → (keeps_store b stores p).objects ≡ p.objects
 kept-objects true stores p = refl
 kept-objects false stores p = refl
 
-own-known : (action : Action) (r : Resident) → IsApart r.peer.objects (action_touches action) → AreKnown r.owned.surfaces r.peer.objects → AreKnown r.owned.surfaces (own_changed action r).peer.objects
-own-known (Sync callback) r other known = known
-own-known (GetRegistry id) r other known = known-at r.owned.surfaces r.peer.objects id _ other known
-own-known (Bind id interface version) r other known = known-at r.owned.surfaces r.peer.objects id _ other known
-own-known (CreateRegion id version) r other known = known-at r.owned.surfaces r.peer.objects id _ other known
-own-known (AddToRegion id rect) r other known = known
-own-known (SubtractFromRegion id rect) r other known = known
-own-known (DestroyRegion id) r other known = known-at r.owned.surfaces r.peer.objects id None other known
-own-known (CreatePool id version size) r other known = known-at r.owned.surfaces r.peer.objects id _ other known
-own-known (CreateBuffer id version laid) r other known = known-at r.owned.surfaces r.peer.objects id _ other known
-own-known (ResizePool store size) r other known = known
-own-known (DestroyPool id store) r other known = known-at r.owned.surfaces r.peer.objects id None other known
-own-known (DestroyBuffer id store) r other known =
-    subst (λ objects. AreKnown r.owned.surfaces objects)
+own-both : (action : Action) (r : Resident) → IsApart r.peer.objects (action_touches action) → AreBoth r r.peer.objects → AreBoth r (own_changed action r).peer.objects
+own-both (Sync callback) r other both = both
+own-both (GetRegistry id) r other both = both-at r r.peer.objects id _ other both
+own-both (Bind id interface version) r other both = both-at r r.peer.objects id _ other both
+own-both (CreateRegion id version) r other both = both-at r r.peer.objects id _ other both
+own-both (AddToRegion id rect) r other both = both
+own-both (SubtractFromRegion id rect) r other both = both
+own-both (DestroyRegion id) r other both = both-at r r.peer.objects id None other both
+own-both (CreatePool id version size) r other both = both-at r r.peer.objects id _ other both
+own-both (CreateBuffer id version laid) r other both = both-at r r.peer.objects id _ other both
+own-both (ResizePool store size) r other both = both
+own-both (DestroyPool id store) r other both = both-at r r.peer.objects id None other both
+own-both (DestroyBuffer id store) r other both =
+    subst (λ objects. AreBoth r objects)
     (sym (kept-objects (has_used (λ number. is_used number r.owned.surfaces) (r.peer.buffers id)) r.peer.stores (changed (DestroyBuffer id store) r.peer)))
-    (known-at r.owned.surfaces r.peer.objects id None other known)
+    (both-at r r.peer.objects id None other both)
 
 -- ---- surfaces
 
@@ -180,64 +202,96 @@ changed-owns id change keeps r only =
 
 given-owns : (id version xdg : ℕ) (o : Option Xdg) (r : Resident) → IsApart r.peer.objects (Some id) → OwnsToplevelsOnly r → OwnsToplevelsOnly (making XdgToplevel id version (toplevel_given id xdg o r))
 given-owns id version xdg None r other only =
-    record { links = only.links; apart = only.apart; known = known-at r.owned.surfaces r.peer.objects id _ other only.known; roles = only.roles; subsurfaces = only.subsurfaces; callbacks = only.callbacks; pointers = only.pointers }
+    let both = both-at r r.peer.objects id (Some (object_at_version XdgToplevel version)) other (both-of r only) in
+    record { links = only.links; apart = only.apart; known = both.0; roles = only.roles; subsurfaces = only.subsurfaces; callbacks = both.1; pointers = only.pointers }
 given-owns id version xdg (Some x) r other only =
+    let both = both-at r r.peer.objects id (Some (object_at_version XdgToplevel version)) other (both-of r only) in
     record {
       links = only.links;
       apart = changed-apart x.surface (with_role AsToplevel) (λ s. refl) r.owned.surfaces only.apart;
-      known = changed-known x.surface (with_role AsToplevel) (λ s. refl) r.owned.surfaces (with_id id (Some (object_at_version XdgToplevel version)) r.peer.objects)
-          (known-at r.owned.surfaces r.peer.objects id (Some (object_at_version XdgToplevel version)) other only.known);
+      known = changed-known x.surface (with_role AsToplevel) (λ s. refl) r.owned.surfaces (with_id id (Some (object_at_version XdgToplevel version)) r.peer.objects) both.0;
       roles = top-given id xdg (Some x) r only.roles;
       subsurfaces = only.subsurfaces;
-      callbacks = only.callbacks;
+      callbacks = both.1;
       pointers = only.pointers;
     }
 
--- the surfaces are the same
-same-owns : (ask : Simple) (r : Resident) → (changed_simply ask r).owned.surfaces ≡ r.owned.surfaces → AreKnown r.owned.surfaces (changed_simply ask r).peer.objects → (changed_simply ask r).subsurfaces ≡ r.subsurfaces → (changed_simply ask r).callbacks ≡ r.callbacks
+-- the surfaces and callbacks are the same
+same-owns : (ask : Simple) (r : Resident) → (changed_simply ask r).owned.surfaces ≡ r.owned.surfaces → AreBoth r (changed_simply ask r).peer.objects → (changed_simply ask r).subsurfaces ≡ r.subsurfaces → (changed_simply ask r).callbacks ≡ r.callbacks
     → (changed_simply ask r).pointers ≡ r.pointers → OwnsToplevelsOnly r → OwnsToplevelsOnly (changed_simply ask r)
-same-owns ask r same known subsurfaces callbacks pointers only =
+same-owns ask r same both subsurfaces callbacks pointers only =
     record {
       links = ap (λ all. all.links) same ∙ only.links;
       apart = subst Apart (sym same) only.apart;
-      known = subst (λ all. AreKnown all (changed_simply ask r).peer.objects) (sym same) known;
+      known = subst (λ all. AreKnown all (changed_simply ask r).peer.objects) (sym same) both.0;
       roles = tops-kept ask r only.roles;
       subsurfaces = subsurfaces ∙ only.subsurfaces;
-      callbacks = callbacks ∙ only.callbacks;
+      callbacks = subst (λ calls. AreHeard calls (changed_simply ask r).peer.objects) (sym callbacks) both.1;
       pointers = pointers ∙ only.pointers;
     }
 
-pub asked-owns : (ask : Simple) (r : Resident) → IsApart r.peer.objects (touches ask) → OwnsToplevelsOnly r → OwnsToplevelsOnly (changed_simply ask r)
-asked-owns (Asking (Own action)) r other only = same-owns (Asking (Own action)) r refl (own-known action r other only.known) refl refl refl only
+-- callbacks go
+pub without-owns : (which : Callback → Bool) (r : Resident) → OwnsToplevelsOnly r → OwnsToplevelsOnly (without_callbacks (filter which r.callbacks) r)
+without-owns which r only =
+    record {
+      links = only.links;
+      apart = only.apart;
+      known = λ id there. surface-left r.callbacks r.peer which only.callbacks id (only.known id there);
+      roles = only.roles;
+      subsurfaces = only.subsurfaces;
+      callbacks = heard-left r.callbacks r.peer which only.callbacks;
+      pointers = only.pointers;
+    }
+
+pub asked-owns : (ask : Simple) (r : Resident) → IsApartFrom r.peer.objects ask → OwnsToplevelsOnly r → OwnsToplevelsOnly (changed_simply ask r)
+asked-owns (Asking (Own action)) r other only = same-owns (Asking (Own action)) r refl (own-both action r other (both-of r only)) refl refl refl only
 asked-owns (Asking (CreateSurface id version)) r other only =
     record {
       links = only.links;
-      apart = new-is-apart id r.owned.surfaces (nobody r.owned.surfaces r.peer.objects id other only.known) only.apart;
+      apart = new-is-apart id r.owned.surfaces (nobody r.owned.surfaces r.peer.objects id other.0 only.known) only.apart;
       known = new-known id version r.owned.surfaces r.peer.objects only.known;
       roles = only.roles;
       subsurfaces = only.subsurfaces;
-      callbacks = only.callbacks;
+      callbacks = heard-at r.callbacks r.peer.objects id (Some (object_at_version WlSurface version)) other.1 only.callbacks;
       pointers = only.pointers;
     }
 asked-owns (DestroySurface id) r other only =
+    let base : Resident = after_surface id r (with_surfaces (without_surface id r.owned.surfaces) r) in
+    let which : Callback → Bool = is_asked (frames_asked (history_in id r.owned.surfaces)) in
+    let left : Objects = left_of r.callbacks base.peer which only.callbacks in
     record {
       links = only.links;
       apart = apart-left (λ key s. s.id == key) (λ s. not (s.id == id)) r.owned.surfaces.surfaces only.apart;
-      known = gone-known id r.owned.surfaces r.peer.objects only.known;
+      known = gone-known id r.owned.surfaces left (λ key there. surface-left r.callbacks base.peer which only.callbacks key (only.known key there));
       roles = only.roles;
       subsurfaces = only.subsurfaces;
-      callbacks = only.callbacks;
+      callbacks = heard-at (filter (is_left (filter which r.callbacks)) r.callbacks) left id None (none-heard-left r.callbacks base.peer which only.callbacks id other)
+          (heard-left r.callbacks base.peer which only.callbacks);
+      pointers = only.pointers;
+    }
+asked-owns (AskingFrame id version surface) r other only =
+    let request = Frame r.peer.requests in
+    record {
+      links = only.links;
+      apart = changed-apart surface (asking request) (λ s. refl) r.owned.surfaces only.apart;
+      known = changed-known surface (asking request) (λ s. refl) r.owned.surfaces (with_id id (Some (object_at_version WlCallback version)) r.peer.objects)
+          (known-at r.owned.surfaces r.peer.objects id (Some (object_at_version WlCallback version)) other.0 only.known);
+      roles = only.roles;
+      subsurfaces = only.subsurfaces;
+      callbacks = heard-more r.callbacks r.peer.objects r.peer.requests id version other.1 only.callbacks;
       pointers = only.pointers;
     }
 asked-owns (Asking (AskSurface id request)) r other only = changed-owns id (asking request) (λ s. refl) r only
 asked-owns (CommitSurface id effect) r other only =
     effect-owns id effect (xdg_of id r.owned.shell) (after_surface id r (committed_on id r)) (changed-owns id (λ s. applying (asking Commit s)) (λ s. refl) r only)
-asked-owns (Asking (DestroyBase id)) r other only = same-owns (Asking (DestroyBase id)) r refl (known-at r.owned.surfaces r.peer.objects id None other only.known) refl refl refl only
+asked-owns (Asking (DestroyBase id)) r other only = same-owns (Asking (DestroyBase id)) r refl (both-at r r.peer.objects id None other (both-of r only)) refl refl refl only
 asked-owns (Asking (GetXdgSurface id version base surface)) r other only =
-    same-owns (Asking (GetXdgSurface id version base surface)) r refl (known-at r.owned.surfaces r.peer.objects id _ other only.known) refl refl refl only
-asked-owns (Asking (DestroyXdgSurface id)) r other only = same-owns (Asking (DestroyXdgSurface id)) r refl (known-at r.owned.surfaces r.peer.objects id None other only.known) refl refl refl only
+    same-owns (Asking (GetXdgSurface id version base surface)) r refl (both-at r r.peer.objects id _ other (both-of r only)) refl refl refl only
+asked-owns (Asking (DestroyXdgSurface id)) r other only =
+    same-owns (Asking (DestroyXdgSurface id)) r refl (both-at r r.peer.objects id None other (both-of r only)) refl refl refl only
 asked-owns (Asking (GetToplevel id version xdg)) r other only = given-owns id version xdg (xdg_at xdg r.owned.shell) r other only
-asked-owns (Asking (Acknowledge xdg serial)) r other only = same-owns (Asking (Acknowledge xdg serial)) r refl only.known refl refl refl only
-asked-owns (Asking (ConfigureAgain xdg)) r other only = same-owns (Asking (ConfigureAgain xdg)) r refl only.known refl refl refl only
-asked-owns (DestroyToplevel id xdg top) r other only = same-owns (DestroyToplevel id xdg top) r refl (known-at r.owned.surfaces r.peer.objects id None other only.known) refl refl refl only
+asked-owns (Asking (Acknowledge xdg serial)) r other only = same-owns (Asking (Acknowledge xdg serial)) r refl (both-of r only) refl refl refl only
+asked-owns (Asking (ConfigureAgain xdg)) r other only = same-owns (Asking (ConfigureAgain xdg)) r refl (both-of r only) refl refl refl only
+asked-owns (DestroyToplevel id xdg top) r other only =
+    same-owns (DestroyToplevel id xdg top) r refl (both-at r r.peer.objects id None other (both-of r only)) refl refl refl only
 asked-owns (Asking Ignore) r other only = only

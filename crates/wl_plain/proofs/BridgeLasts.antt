@@ -21,7 +21,7 @@ use Rattle.wl_plain.specs.NoMore.{NoMore, OwnsToplevelsAt, OwnsToplevelsBy, Owns
 use Rattle.wl_plain.specs.NoMoreLaws.{LeavesPointer}
 use Rattle.wl_plain.specs.Happens.{Happens, FeedsAt, IsFedAt, Reaches, StopsAt}
 use Rattle.wl_plain.proofs.Altering.{Alters, ChangesAt, left_so}
-use Rattle.wl_plain.proofs.BridgeBack.{alters-back, settled-back, shows-back}
+use Rattle.wl_plain.proofs.BridgeBack.{alters-back, settled-back}
 use Rattle.wl_plain.proofs.BridgeDesks.{become-has}
 use Rattle.wl_plain.proofs.BridgeMessages.{serves-has}
 use Rattle.wl_plain.proofs.BridgeServes.{becomes-same, living, only-peer}
@@ -31,6 +31,8 @@ use Rattle.wl_plain.proofs.OwningKeys.{none-some, some-same}
 use Rattle.wl_plain.proofs.Others.{left_out, one_client}
 use Rattle.wl_plain.proofs.Places.{number-other}
 use Rattle.wl_plain.proofs.OneRunStays.{sent-status, stored-status}
+use Rattle.wl_plain.proofs.Framing.{told-shows}
+use Rattle.wl_plain.proofs.FramingKeeps.{frames-have}
 
 -- ---- a client comes or goes
 
@@ -58,7 +60,7 @@ put-has c x standing d has owns stay = record { pointer = has.pointer; each = λ
 -- a newcomer owns nothing
 arrival-owns : (output : Output) → OwnsToplevelsOnly (arrival output)
 arrival-owns output =
-    record { links = refl; apart = tt; known = λ id there. absurd (none-there there); roles = tt; subsurfaces = refl; callbacks = refl; pointers = refl }
+    record { links = refl; apart = tt; known = λ id there. absurd (none-there there); roles = tt; subsurfaces = refl; callbacks = (tt, λ id there. absurd (none-there there)); pointers = refl }
   where
     none-there : false ≡ true → ⊥
     none-there e = absurd (cc)
@@ -191,7 +193,7 @@ happens-has (Feed c piece) d e done leaves has h = fed-has c piece (client_at c 
 happens-has (Store c store at bytes) d e done leaves has h =
     alters-has (Store c store at bytes) d e done has (alters-back (Store c store at bytes) tt d e done has h)
 happens-has (Leave c) d e done leaves has h = alters-has (Leave c) d e done has (alters-back (Leave c) tt d e done has h)
-happens-has (Tick time) d e done leaves has h = subst NoMore (sym (shows-back time d e has h.1)) has
+happens-has (Tick time) d e done leaves has h = frames-have time 32 1 d e has (told-shows time d e has.pointer h.1)
 happens-has (Send c n) d e done leaves has h = alters-has (Send c n) d e done has (alters-back (Send c n) tt d e done has h)
 happens-has (Close c) d e done leaves has h = alters-has (Close c) d e done has (alters-back (Close c) tt d e done has h)
 happens-has (Motion time x y) d e done leaves has h = absurd leaves

@@ -1,5 +1,5 @@
 -- A client that has no wl_pointers, and is left alone, is as it was.
-use Rattle.std.proofs.Common.{◌≡◌, ◌≢◌, ℕ, ◌+◌, List, [], true, Option, Some, None, refl, ap, sym, ◌∙◌, inl, inr}
+use Rattle.std.proofs.Common.{◌≡◌, ◌≢◌, ℕ, ◌+◌, List, [], true, false, Option, Some, None, refl, ap, sym, ◌∙◌, inl, inr}
 use Rattle.wl_client.specs.declared.clients.Cause.{Cause}
 use Rattle.wl_shell.specs.Popups.{is_among}
 use Rattle.wl_scene.specs.Stacking.{Standing}
@@ -8,13 +8,12 @@ use Rattle.wl_plain.specs.Desktop.{Desktop, Resident, client_at}
 use Rattle.wl_plain.specs.Laws.{toplevels_of}
 use Rattle.wl_plain.specs.LeftOut.{served_now}
 use Rattle.wl_plain.specs.NoMore.{NoMore, OwnsToplevelsAt, OwnsToplevelsBy}
-use Rattle.wl_plain.specs.Acts.{Act, Connect, Feed, Store, Leave, Tick, Send, Close, Motion, Button, lowest}
+use Rattle.wl_plain.specs.Acts.{Act, Connect, Feed, Store, Leave, Tick, Send, Close, Motion, Button, is_tick, lowest}
 use Rattle.wl_plain.proofs.Forms.{ConnectsAt}
 use Rattle.wl_plain.specs.Happens.{Happens}
 use Rattle.wl_plain.specs.Others.{HasEndedUntold, IsLeftAlone, IsLeftBy, IsLeftLiving, IsLeftSo, client_of}
-use Rattle.wl_plain.proofs.BridgeBack.{shows-back}
 use Rattle.wl_plain.proofs.BridgePointer.{buttons-same, moves-same}
-use Rattle.wl_plain.proofs.OwningKeys.{none-some}
+use Rattle.wl_plain.proofs.OwningKeys.{differ, none-some}
 use Rattle.wl_plain.proofs.OthersAlone.{others_are_left_alone}
 use Rattle.wl_plain.proofs.OthersTold.{told-nothing}
 
@@ -56,23 +55,23 @@ nobody None old new done none h = h.1
 nobody (Some k) old new done none (inl h) = h.1
 nobody (Some k) old new done none (inr h) = absurd (none-some (k + 1) (sym none ∙ ap (client_of Connect) h.0))
 
--- what happens that is no client's step leaves every client as it was, where what isn't served has left no trace
-no-client : (act : Act) (old new : Desktop) (done : Done) (other : ℕ) → NoMore old → client_of act done ≡ None → Happens served_now act done old new
+-- what happens that is no client's step, and no frame, leaves every client as it was, where what isn't served has left no trace
+no-client : (act : Act) (old new : Desktop) (done : Done) (other : ℕ) → is_tick act ≡ false → NoMore old → client_of act done ≡ None → Happens served_now act done old new
     → (client_at other new ≡ client_at other old) × (toplevels_of other new ≡ toplevels_of other old)
-no-client Connect old new done other more none h = same-all other old new (nobody (lowest old.clients) old new done none h)
-no-client (Tick time) old new done other more none h = same-all other old new (shows-back time old new more h.1)
-no-client (Motion time x y) old new done other more none h = moves-same other old more time x y new h.1
-no-client (Button time button pressed) old new done other more none h = buttons-same other old more pressed time button new h.1
-no-client (Feed c piece) old new done other more none h = absurd (none-some c (sym none))
-no-client (Store c store at bytes) old new done other more none h = absurd (none-some c (sym none))
-no-client (Leave c) old new done other more none h = absurd (none-some c (sym none))
-no-client (Send c n) old new done other more none h = absurd (none-some c (sym none))
-no-client (Close c) old new done other more none h = absurd (none-some c (sym none))
+no-client Connect old new done other untimed more none h = same-all other old new (nobody (lowest old.clients) old new done none h)
+no-client (Tick time) old new done other untimed more none h = absurd (differ untimed)
+no-client (Motion time x y) old new done other untimed more none h = moves-same other old more time x y new h.1
+no-client (Button time button pressed) old new done other untimed more none h = buttons-same other old more pressed time button new h.1
+no-client (Feed c piece) old new done other untimed more none h = absurd (none-some c (sym none))
+no-client (Store c store at bytes) old new done other untimed more none h = absurd (none-some c (sym none))
+no-client (Leave c) old new done other untimed more none h = absurd (none-some c (sym none))
+no-client (Send c n) old new done other untimed more none h = absurd (none-some c (sym none))
+no-client (Close c) old new done other untimed more none h = absurd (none-some c (sym none))
 
-pub others-same : (act : Act) (old new : Desktop) (done : Done) (other : ℕ) → NoMore old → Happens served_now act done old new → client_of act done ≢ Some other
+pub others-same : (act : Act) (old new : Desktop) (done : Done) (other : ℕ) → is_tick act ≡ false → NoMore old → Happens served_now act done old new → client_of act done ≢ Some other
     → (client_at other new ≡ client_at other old) × (toplevels_of other new ≡ toplevels_of other old)
-others-same act old new done other more h differ = at (client_of act done) refl
+others-same act old new done other untimed more h apart = at (client_of act done) refl
   where
     at : (o : Option ℕ) → client_of act done ≡ o → (client_at other new ≡ client_at other old) × (toplevels_of other new ≡ toplevels_of other old)
-    at (Some c) e = alone-same other old new more (others_are_left_alone served_now act done c other old new e h (λ same. differ (e ∙ ap Some same)))
-    at None e = no-client act old new done other more e h
+    at (Some c) e = alone-same other old new more (others_are_left_alone served_now act done c other old new e h (λ same. apart (e ∙ ap Some same)))
+    at None e = no-client act old new done other untimed more e h

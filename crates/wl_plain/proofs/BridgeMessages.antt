@@ -18,7 +18,7 @@ use Rattle.wl_plain.specs.Step.{with_peer}
 use Rattle.wl_plain.proofs.Simply.{Simple, changed_simply, judge, stacked_simply, told_simply}
 use Rattle.wl_plain.specs.NoMore.{NoMore, OwnsToplevelsAt, OwnsToplevelsOnly}
 use Rattle.wl_plain.proofs.BridgeDesks.{become-has, stacked-others-own}
-use Rattle.wl_plain.proofs.BridgeKeeps.{IsApart, asked-owns, touches}
+use Rattle.wl_plain.proofs.BridgeKeeps.{IsApartFrom, asked-owns}
 use Rattle.wl_plain.proofs.BridgeServes.{living, only-peer, stacked-pointer}
 use Rattle.wl_plain.proofs.OwningKeys.{none-some}
 use Rattle.wl_plain.proofs.Places.{stacked-clients}
@@ -27,7 +27,7 @@ over : (cause : Cause) (p q : Peer) → q ≡ ended cause p → q.status ≡ Non
 over cause p q e alive = none-some cause (sym alive ∙ ap (λ (x : Peer). x.status) e)
 
 -- what is told to one that lives on leaves it its objects
-told-objects : (events : List Said) (p q : Peer) → Queues events p q → q.status ≡ None → q.objects ≡ p.objects
+pub told-objects : (events : List Said) (p q : Peer) → Queues events p q → q.status ≡ None → q.objects ≡ p.objects
 told-objects [] p q h alive = ap (λ (x : Peer). x.objects) h
 told-objects (event ∷ events) p q h alive = at (has_room p.unsent event) (λ k. told-objects events (queued event p) q k alive) h
   where
@@ -36,18 +36,18 @@ told-objects (event ∷ events) p q h alive = at (has_room p.unsent event) (λ k
     at true later (inl e) = absurd (over _ p q e alive)
     at true later (inr k) = later k
 
--- what an accepted message makes or takes away is no wl_surface, unless it is one that goes
+-- what an accepted message makes or takes away is neither a wl_surface nor a wl_callback, unless it is a surface that goes
 abbrev pub TouchesApart : Type 0
 TouchesApart =
     (r : Resident) (object opcode : ℕ) (body : List ℕ) (ask : Simple) → OwnsToplevelsOnly r → judge r object opcode body ≡ Ok ask
-    → IsApart r.peer.objects (touches ask)
+    → IsApartFrom r.peer.objects ask
 
 module _ (finds : TouchesApart) (c : ℕ) (there : Resident) (d new : Desktop) (is : client_at c d ≡ Some there) (has : NoMore d) (only : OwnsToplevelsOnly there) where
   -- one that ends leaves the others what they have
   ends-has : (p q : Peer) → (q.status ≡ None → ⊥) → NoMore (become c (with_peer p there) q d)
   ends-has p q never = become-has c (with_peer p there) there q d is has.pointer (λ other differ. has.each other) (λ alive. absurd (never alive))
 
-  apart : (split : Split) (ask : Simple) → AsksBy there split ask → IsApart there.peer.objects (touches ask)
+  apart : (split : Split) (ask : Simple) → AsksBy there split ask → IsApartFrom there.peer.objects ask
   apart (Message object opcode size) ask asks = finds there object opcode (take (size - 8) (drop 8 there.peer.rest)) ask only asks
   apart Bad ask asks = absurd asks
   apart More ask asks = absurd asks
@@ -56,7 +56,7 @@ module _ (finds : TouchesApart) (c : ℕ) (there : Resident) (d new : Desktop) (
       → NoMore (become c (changed_simply ask (with_peer p there)) q (stacked_simply c ask (with_peer p there) d))
   done-has ask asks p q objects told =
       let r : Resident = with_peer p there in
-      let touched = subst (λ (o : Objects). IsApart o (touches ask)) (sym objects) (apart (split_of there.peer.rest) ask asks) in
+      let touched = subst (λ (o : Objects). IsApartFrom o ask) (sym objects) (apart (split_of there.peer.rest) ask asks) in
       become-has c (changed_simply ask r) there q (stacked_simply c ask r d) (ap (λ clients. client_in clients c) (stacked-clients c ask r d) ∙ is) (stacked-pointer c ask r d ∙ has.pointer)
       (stacked-others-own c ask r d has)
       (λ alive. only-peer (changed_simply ask r) q (told-objects (told_simply ask r) (changed_simply ask r).peer q told alive) (asked-owns ask r touched (only-peer there p objects only)))

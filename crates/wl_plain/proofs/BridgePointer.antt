@@ -8,7 +8,7 @@ use Rattle.wl_surface.specs.Surfaces.{history_in}
 use Rattle.wl_shell.specs.Shell.{Shell}
 use Rattle.wl_scene.specs.Pointer.{Pointer, is_down, is_press}
 use Rattle.wl_scene.specs.Stacking.{Standing}
-use Rattle.wl_plain.specs.Changing.{drawing, without_callbacks}
+use Rattle.wl_plain.specs.Changing.{drawing}
 use Rattle.wl_plain.specs.Desktop.{Desktop, Resident, client_at}
 use Rattle.wl_plain.specs.Laws.{toplevels_of}
 use Rattle.wl_plain.specs.NoMore.{AreToplevels, NoMore, OwnsToplevelsAt, OwnsToplevelsOnly}
@@ -17,13 +17,13 @@ use Rattle.wl_plain.specs.Replies.{popups_done}
 use Rattle.wl_plain.specs.Settling.{QueuesTo, leave_drawn, told_drawn}
 use Rattle.wl_plain.specs.Stacked.{all_windows}
 use Rattle.wl_plain.specs.Step.{with_shell}
-use Rattle.wl_plain.specs.Happens.{callbacks_due, frames_told, hit_now, noted_if, number_of, point_in, pointed, raised_by, without_grabs}
+use Rattle.wl_plain.specs.Happens.{hit_now, noted_if, number_of, point_in, pointed, raised_by, without_grabs}
 use Rattle.wl_plain.proofs.Forms.{Buttons, MovesTo, PressesIf, ReleasesIf}
 use Rattle.wl_plain.proofs.BridgeChanged.{none-dismissed}
 use Rattle.wl_plain.proofs.BridgeServes.{living, none-done}
 use Rattle.wl_plain.proofs.OwningKeys.{none-some}
 use Rattle.wl_plain.proofs.OthersAlone.{Is, Never}
-use Rattle.wl_plain.proofs.OthersKept.{TellsAll}
+use Rattle.wl_plain.proofs.OthersKept.{TellsPointer}
 use Rattle.wl_plain.proofs.OthersOwn.{moves, pressed-so, raised-client, released-so}
 use Rattle.wl_plain.proofs.OthersSettling.{Stays}
 use Rattle.wl_plain.proofs.OthersTold.{TellsBy}
@@ -34,12 +34,12 @@ use Rattle.wl_plain.proofs.OthersTold.{TellsBy}
 abbrev StaysQuiet : Resident → Resident → Option Cause → Type 0
 StaysQuiet r q why = OwnsToplevelsOnly r → (q ≡ r) × (why ≡ None)
 
--- a client without frame callbacks and wl_pointers
+-- a client without wl_pointers
 abbrev bare : Resident → Resident
-bare r = record r { callbacks = []; pointers = [] }
+bare r = record r { pointers = [] }
 
 is-bare : (r : Resident) → OwnsToplevelsOnly r → bare r ≡ r
-is-bare r owns = ap (λ ps. record r { callbacks = []; pointers = ps }) (sym owns.pointers) ∙ ap (λ cs. record r { callbacks = cs }) (sym owns.callbacks)
+is-bare r owns = ap (λ ps. record r { pointers = ps }) (sym owns.pointers)
 
 -- nothing of it changes, and it is told nothing
 abbrev IsQuiet : (Resident → Resident) → (Resident → List Said) → Resident → Type 0
@@ -66,13 +66,12 @@ none-gone r roles =
     let still = none-dismissed (λ p. p.popup.has_grab) r.owned.shell roles in
     (ap (λ (s : Shell). with_shell s (bare r)) still, none-done (bare r) (without_grabs (bare r)) (subst AreToplevels (sym still) roles))
 
-quiet-all : TellsAll StaysQuiet
+quiet-all : TellsPointer StaysQuiet
 quiet-all = record {
   focus = record {
     leave = λ surface. quiet (leave_drawn surface) (left_surface surface) (λ r roles. none-left surface r);
     enter = λ at w. quiet told_drawn (entered_surface at w) (λ r roles. (refl, refl));
   };
-  done = λ time. quiet (λ r. without_callbacks (callbacks_due r) r) (frames_told time) (λ r roles. (refl, refl));
   motion = λ time at w. quiet (λ r. r) (motion_told time at w) (λ r roles. (refl, refl));
   dismissed = quiet without_grabs (λ r. popups_done r (without_grabs r)) none-gone;
   pressed = λ time button pressed.

@@ -8,10 +8,12 @@ use Rattle.wl_proto.specs.declared.interface.Interface.TheVariants.{WlBuffer}
 use Rattle.wl_proto.specs.Messages.{says}
 use Rattle.wl_client.specs.Buffers.{Buffer as Made}
 use Rattle.wl_client.specs.Told.{Said, said}
+use Rattle.wl_client.specs.Peer.{Peer, removed}
 use Rattle.wl_surface.specs.Request.{Buffer, Request, Commit}
 use Rattle.wl_surface.specs.State.{History, applied, committed, held, is_commit, values}
 use Rattle.wl_surface.specs.Surfaces.{Surface, Surfaces, applying, asking, is_busy, listed, names, new_surface, shows, surface_at, with_change, with_role, without_surface}
 use Rattle.wl_surface.specs.declared.role.Role.TheVariants.{Toplevel as AsToplevel}
+use Rattle.wl_surface.specs.Waiting.{Callback}
 use Rattle.wl_surface.proofs.Records.{applied-kept, held-kept}
 use Rattle.wl_shell.specs.Shell.{Effect, Stays, Unconfigured, Configures, Maps, Unmaps, XdgSurface as Xdg, xdg_at, xdg_of}
 use Rattle.wl_plain.specs.Ask.{Ask, Own, CreateSurface, AskSurface, DestroyBase, GetXdgSurface, DestroyXdgSurface, GetToplevel, Acknowledge, ConfigureAgain, Ignore}
@@ -19,7 +21,8 @@ use Rattle.wl_plain.specs.Desktop.{Resident}
 use Rattle.wl_plain.specs.Owning.{AllCounts, AreApartBy}
 use Rattle.wl_plain.specs.Releases.{is_released, release_of, release_told, shown_at}
 use Rattle.wl_plain.specs.Replies.{buffers_busy, buffers_shown, by_object, is_same_buffer, releases}
-use Rattle.wl_plain.specs.Step.{changed_by, each_once, toplevel_given, with_surfaces}
+use Rattle.wl_plain.specs.Step.{changed_by, each_once, toplevel_given, with_surfaces, after_surface, with_peer}
+use Rattle.wl_plain.specs.Changing.{callbacks_of}
 use Rattle.wl_plain.proofs.BridgeBuffers.{OthersUsed, changed-others, gone-others, had-gone, nothing-after, shown_by}
 use Rattle.wl_plain.proofs.Letting.{each-more, each-once, listed-each, named-so, none-left, or-any}
 use Rattle.wl_plain.proofs.OwningKeys.{any-found, found-any, found-map}
@@ -164,9 +167,16 @@ one-released id old new apart counts used =
     at (Some s) counts =
         ap (λ bs. told_of (filter (is_released new) (each_once bs))) (one-shown s.history (counts s.history refl)) ∙ one-told new (applied s.history).buffer
 
+-- a buffer's id is given back for no callback
+gone-buffers : (gone : List Callback) (p : Peer) → (fold (λ p callback. removed callback.id p) p gone).buffers ≡ p.buffers
+gone-buffers [] p = refl
+gone-buffers (callback ∷ gone) p = gone-buffers gone (removed callback.id p)
+
 gone-same : (id : ℕ) (r : Resident) (o : Option Buffer) → release_of o (changed_simply (DestroySurface id) r) ≡ release_of o (with_surfaces (without_surface id r.owned.surfaces) r)
 gone-same id r None = refl
-gone-same id r (Some b) = refl
+gone-same id r (Some b) =
+    let base : Resident = after_surface id r (with_surfaces (without_surface id r.owned.surfaces) r) in
+    ap (λ bs. release_of (Some b) (with_peer (record base.peer { buffers = bs }) base)) (gone-buffers (callbacks_of id r) base.peer)
 
 pub gone-released : (id : ℕ) (r : Resident) → AreApartBy (λ key s. s.id == key) r.owned.surfaces.surfaces → ((h : History) → option_map (λ s. s.history) (surface_at id r.owned.surfaces) ≡ Some h → AllCounts h)
     → releases r (changed_simply (DestroySurface id) r) ≡ release_told (release_of (shown_at (surface_at id r.owned.surfaces)) (with_surfaces (without_surface id r.owned.surfaces) r))

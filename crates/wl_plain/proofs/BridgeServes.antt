@@ -1,7 +1,7 @@
 -- A message of a client, where no client has more than toplevels, does what it does where every request may be served.
 use Rattle.std.proofs.Common.{◌≡◌, ℕ, List, [], ◌∷◌, ◌++◌, Bool, true, false, Option, Some, None, Result, cond, refl, ap, subst, sym, ◌∙◌, map, inl, inr}
 use Rattle.std.specs.Prelude.{Ok, Err, ◌==◌, not, filter, flat_map}
-use Rattle.wl_proto.specs.declared.interface.Interface.TheVariants.{WlSurface, XdgPopup}
+use Rattle.wl_proto.specs.declared.interface.Interface.TheVariants.{WlSurface, XdgPopup, WlCallback}
 use Rattle.wl_proto.specs.Messages.{says}
 use Rattle.wl_client.specs.declared.clients.Cause.{Cause}
 use Rattle.wl_client.specs.declared.clients.Cause.TheVariants.{Memory, Slow}
@@ -22,7 +22,7 @@ use Rattle.wl_plain.specs.Replies.{dismissed_in, newest_first, own_answers, popu
 use Rattle.wl_plain.specs.Settling.{EndsAndSettles, QueuesTo, after_status, becomes, ended_at, pointer_without, unstruck}
 use Rattle.wl_plain.specs.Stacked.{all_windows}
 use Rattle.wl_plain.specs.Step.{toplevel_given, with_peer}
-use Rattle.wl_plain.proofs.Simply.{Answers, Asking, Becomes, CommitSurface, DestroySurface, DestroyToplevel, Simple, WantsOr, answers_simply, changed_simply, effect_on, stacked_simply, told_simply, wants_simply}
+use Rattle.wl_plain.proofs.Simply.{Answers, Asking, AskingFrame, Becomes, CommitSurface, DestroySurface, DestroyToplevel, Simple, WantsOr, answers_simply, changed_simply, effect_on, stacked_simply, told_simply, wants_simply}
 use Rattle.wl_plain.specs.NoMore.{AreToplevels, IsToplevel, OwnsToplevelsBy, OwnsToplevelsOnly}
 use Rattle.wl_plain.specs.Happens.{done_for}
 use Rattle.wl_plain.proofs.Forms.{after_why, Answers as StepAnswers, Becomes as StepBecomes, Does, WantsOr as StepWantsOr}
@@ -30,7 +30,7 @@ use Rattle.wl_plain.proofs.Behind.{changed-status}
 use Rattle.wl_plain.proofs.BridgeBuffers.{nothing-after}
 use Rattle.wl_plain.proofs.BridgeChanged.{answers-same, changed-same, no-popups, stacked-same, stage-top, wants-same}
 use Rattle.wl_plain.proofs.BridgeReleases.{asked-told, ended-told}
-use Rattle.wl_plain.proofs.BridgeJudged.{Pairs, Same, asks, commit, ends, goes, move}
+use Rattle.wl_plain.proofs.BridgeJudged.{Pairs, Same, asks, commit, ends, goes, move, frames}
 use Rattle.wl_plain.proofs.Places.{number-same, number-twice, stacked-clients}
 use Rattle.wl_plain.proofs.OneRunEnds.{queues-status}
 
@@ -80,6 +80,7 @@ pub tops-kept : (ask : Simple) (r : Resident) → AreToplevels r.owned.shell →
 tops-kept (Asking (Own action)) r top = top
 tops-kept (Asking (CreateSurface id version)) r top = top
 tops-kept (DestroySurface id) r top = top
+tops-kept (AskingFrame id version surface) r top = top
 tops-kept (Asking (AskSurface id request)) r top = top
 tops-kept (CommitSurface id effect) r top = top-effect id effect (xdg_of id r.owned.shell) _ top
 tops-kept (Asking (DestroyBase id)) r top = top
@@ -129,7 +130,7 @@ ended_why (Some cause) q = ended cause q
 abbrev IsToldTo : List Said → Peer → Peer → Type 0
 IsToldTo events p q = (told : Peer) × (why : Option Cause) × QueuesTo events p told why × (q ≡ ended_why why told)
 
-told-to : (events : List Said) (p q : Peer) → Queues events p q → IsToldTo events p q
+pub told-to : (events : List Said) (p q : Peer) → Queues events p q → IsToldTo events p q
 told-to [] p q h = (p, None, (refl, refl), h)
 told-to (event ∷ events) p q h = at (has_room p.unsent event) refl (told-to events (queued event p) q) h
   where
@@ -194,6 +195,7 @@ nothing-between (x ∷ xs) ys = ap (λ zs. x ∷ zs) (nothing-between xs ys)
 released-told : (ask : Simple) (r : Resident) → OwnsToplevelsOnly r → answers_simply ask r ++ releases r (changed_simply ask r) ≡ told_simply ask r
 released-told (Asking ask) r only = asked-told ask r only.apart
 released-told (DestroySurface id) r only = refl
+released-told (AskingFrame id version surface) r only = refl
 released-told (CommitSurface id effect) r only = refl
 released-told (DestroyToplevel id xdg surface) r only = ended-told id xdg surface r
 
@@ -229,13 +231,14 @@ only-peer r p same only =
       known = λ id there. ap (λ objects. is_of WlSurface (objects id)) same ∙ only.known id there;
       roles = only.roles;
       subsurfaces = only.subsurfaces;
-      callbacks = only.callbacks;
+      callbacks = (only.callbacks.0, λ id there. ap (λ objects. is_of WlCallback (objects id)) same ∙ only.callbacks.1 id there);
       pointers = only.pointers;
     }
 
 pub same-peer : (r : Resident) (p : Peer) (ask : Simple) (demand : Demand) → Same r ask demand → Same (with_peer p r) ask demand
 same-peer r p ask demand (asks other) = asks other
 same-peer r p ask demand (ends id) = ends id
+same-peer r p ask demand (frames id version surface) = frames id version surface
 same-peer r p ask demand (commit id effect e) = commit id effect e
 same-peer r p ask demand (goes id xdg surface) = goes id xdg surface
 same-peer r p ask demand (move id serial) = move id serial

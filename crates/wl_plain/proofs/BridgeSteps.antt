@@ -1,16 +1,17 @@
--- A call, and a frame, of clients that have no more than toplevels is what it is where every request may be served.
+-- A call of clients that have no more than toplevels is what it is where every request may be served.
 use Rattle.std.proofs.Common.{◌≡◌, ℕ, zero, suc, List, [], ◌∷◌, Bool, true, false, Option, Some, None, cond, refl, ap, subst, sym, ◌∙◌}
 use Rattle.std.specs.Prelude.{◌==◌, filter, is_none, not}
 use Rattle.std.proofs.lemmas.Bool.{eqb-false, eqb-true}
 use Rattle.wl_client.specs.declared.clients.Cause.{Cause}
 use Rattle.wl_client.specs.declared.clients.Cause.TheVariants.{Gone}
 use Rattle.wl_client.specs.Peer.{Peer, ended, left_by}
+use Rattle.wl_surface.specs.Waiting.{Callback}
 use Rattle.wl_scene.specs.Pointer.{first_pointer}
 use Rattle.wl_scene.specs.Stacking.{Standing, without_client}
 use Rattle.wl_plain.specs.declared.answers.Done.{Done}
 use Rattle.wl_plain.specs.declared.answers.Done.TheVariants as gave
 use Rattle.wl_plain.specs.Changing.{without_callbacks}
-use Rattle.wl_plain.specs.Desktop.{Callback, Desktop, Resident, become, become_by, client_at, resident_of, with_client, with_number}
+use Rattle.wl_plain.specs.Desktop.{Desktop, Resident, become, become_by, client_at, resident_of, with_client, with_number}
 use Rattle.wl_plain.specs.Laws.{toplevels_of}
 use Rattle.wl_plain.specs.LeftOut.{served_now}
 use Rattle.wl_plain.specs.Settling.{TellsAt, becomes, unstruck}
@@ -120,41 +121,6 @@ closed-leaves p done q h = at p.status refl h.0
     at : (s : Option Cause) → p.status ≡ s → q ≡ closed_by s p → ((x : Peer) → q ≡ Some x → x.status ≡ p.status) × (q ≡ None → (cause : Cause) × (p.status ≡ Some cause))
     at None e is = (λ x there. ap (λ (y : Peer). y.status) (same-peer x p (sym there ∙ is)), λ none. absurd (none-some p (sym none ∙ is)))
     at (Some cause) e is = (λ x there. absurd (none-some x (sym is ∙ there)), λ none. (cause, e))
-
--- ---- a frame
-
--- a client without callbacks is told nothing
-tells-none : (time c : ℕ) (o : Option Resident) (d : Desktop) → client_at c d ≡ o → OwnsToplevelsAt o (toplevels_of c d)
-    → TellsAt (λ r. without_callbacks (callbacks_due r) r) (frames_told time) c o (unstruck d) (unstruck d)
-tells-none time c None d is owns = refl
-tells-none time c (Some r) d is owns = by r.peer.status refl
-  where
-    told : (callbacks : List Callback) → callbacks ≡ [] → r.callbacks ≡ callbacks → (s : Option Cause) → s ≡ None → r.peer.status ≡ s
-        → TellsAt (λ r. without_callbacks (callbacks_due r) r) (frames_told time) c (Some (record r { peer = record r.peer { status = None }; callbacks = [] })) (unstruck d) (unstruck d)
-    told callbacks none same s alive e =
-        let whole : record r { peer = record r.peer { status = None }; callbacks = [] } ≡ r =
-        sym (ap (λ cs. record r { callbacks = cs }) (same ∙ none) ∙ ap (λ t. record r { peer = record r.peer { status = t }; callbacks = [] }) (e ∙ alive)) in (
-          record r.peer { status = None },
-          None,
-          (refl, refl),
-          ap unstruck (sym (ap (λ q. with_client c (Some q) d) whole ∙ ap (λ o. with_client c o d) (sym is) ∙ client-kept c d)),
-        )
-
-    by : (s : Option Cause) → r.peer.status ≡ s → TellsAt (λ r. without_callbacks (callbacks_due r) r) (frames_told time) c (Some r) (unstruck d) (unstruck d)
-    by (Some cause) e = rw e refl
-    by None e =
-        let only = living r.peer.status r (toplevels_of c d) e owns in
-        let whole : record r { peer = record r.peer { status = None }; callbacks = [] } ≡ r =
-        sym (ap (λ cs. record r { callbacks = cs }) only.callbacks ∙ ap (λ t. record r { peer = record r.peer { status = t }; callbacks = [] }) e) in
-        subst (λ q. TellsAt (λ r. without_callbacks (callbacks_due r) r) (frames_told time) c (Some q) (unstruck d) (unstruck d)) whole
-        (told r.callbacks only.callbacks refl r.peer.status e refl)
-
-frames-none : (time n c : ℕ) (d : Desktop) → NoMore d → TellsFrames time n c (unstruck d) (unstruck d)
-frames-none time zero c d only = refl
-frames-none time (suc n) c d only = (unstruck d, tells-none time c (client_at c d) d refl (only.each c), frames-none time n (suc c) d only)
-
-pub shows-whole : (time : ℕ) (d new : Desktop) → NoMore d → new ≡ d → Shows time d new
-shows-whole time d new only e = (unstruck d, frames-none time 32 1 d only, settles-to d d new refl e only.pointer)
 
 -- ---- another client
 

@@ -11,6 +11,7 @@ use Rattle.wl_client.specs.declared.refusals.Refusal.{Refusal}
 use Rattle.wl_client.specs.Peer.{IsIdle, IsIdleAt, Peer, counted, ended, has_room, queued, removed, with_rest}
 use Rattle.wl_client.specs.Plain.{or_slow as refused_or, refused}
 use Rattle.wl_client.specs.Told.{Said, display_error, error_told}
+use Rattle.wl_surface.specs.Waiting.{Callback}
 use Rattle.wl_scene.specs.Pointer.{Target}
 use Rattle.wl_scene.specs.Windows.{Window}
 use Rattle.wl_plain.specs.Ample.{answered, became, done, ends_and_settles, ends_first, enters, leaves, moves_unless, or_slow, queued_to, served, served_all, served_at, served_by, settles, settles_all, taken, tells, tells_at, tells_unless}
@@ -20,7 +21,7 @@ use Rattle.wl_shell.specs.Shell.{Effect, Stays, Unconfigured, Configures, Maps, 
 use Rattle.wl_plain.specs.Changing.{callbacks_of, changed_for, drawing, effect_done, grab_allowed, grabbed, has_focus, in_rising_order, mode_set, popup_given_to, stacked_by, stacked_for, tree_committed}
 use Rattle.wl_plain.specs.Demand.{Demand, Asks, EndSurface, AskFrame, CommitTree, EndObject, GetSubsurface, EndSubsurface, SetMode, GetPointer, MakeCursor, CreatePositioner, EndPositioner, SetPositioner, GetPopup, Grab, EndPopup, EndToplevel, Move}
 use Rattle.wl_plain.specs.Demanding.{effect_of_commit, judge_all}
-use Rattle.wl_plain.specs.Desktop.{Callback, Desktop, Resident, become_by, client_at, client_in, place, resident_of, with_client, with_number, with_place}
+use Rattle.wl_plain.specs.Desktop.{Desktop, Resident, become_by, client_at, client_in, place, resident_of, with_client, with_number, with_place}
 use Rattle.wl_plain.specs.LeftOut.{LeftOut}
 use Rattle.wl_plain.specs.Replies.{replies}
 use Rattle.wl_plain.specs.Happens.{done_for}

@@ -81,6 +81,7 @@ pub mod BridgeDesks
 pub mod BridgeJudged
 pub mod BridgeServes
 pub mod BridgeFinds
+pub mod BridgeHeard
 pub mod BridgeKeeps
 pub mod BridgeMessages
 pub mod BridgeSteps
@@ -134,5 +135,9 @@ pub mod SoundWithin
 pub mod ShownWindows
 pub mod Following
 pub mod MarkedThrough
+pub mod FramingEnds
+pub mod Framing
+pub mod FramingKeeps
+pub mod FramingWaits
 pub mod Altering
 pub mod TouchingKeeps

@@ -73,7 +73,7 @@ not-applied d m p c surface x y same none =
 -- ---- along the way
 
 -- one end or settling more
-unmarked-on : (d m p : Desktop) (x y : ℤ) → AreDistinct (all_windows d) → m.output ≡ d.output → ((c : ℕ) → Owns c m p) → marks_at_least_of all_windows d m x y ≡ false → marks_at_least_of all_windows m p x y ≡ false → marks_at_least_of all_windows d p x y ≡ false
+pub unmarked-on : (d m p : Desktop) (x y : ℤ) → AreDistinct (all_windows d) → m.output ≡ d.output → ((c : ℕ) → Owns c m p) → marks_at_least_of all_windows d m x y ≡ false → marks_at_least_of all_windows m p x y ≡ false → marks_at_least_of all_windows d p x y ≡ false
 unmarked-on d m p x y apart sized owns before here =
     unmarked-together d.output.width d.output.height (applied_between d m) (applied_between m p) (applied_between d p) (all_windows d) (all_windows m) (all_windows p) x y apart
     (each-map (IsShown (owned_in p)) _

@@ -2,10 +2,11 @@
 use Rattle.std.proofs.Common.{◌≡◌, ℕ, zero, suc, ◌≤◌, List, [], ◌∷◌, Bool, true, false, Option, Some, None, refl, sym, subst, ◌∙◌, arith}
 use Rattle.std.specs.Prelude.{fold}
 use Rattle.wl_client.specs.Peer.{Peer, removed}
+use Rattle.wl_surface.specs.Waiting.{Callback}
 use Rattle.wl_scene.specs.Pointer.{Target, is_down, is_press}
 use Rattle.wl_scene.specs.Windows.{Window}
 use Rattle.wl_plain.specs.Changing.{grab_holder, without_callbacks}
-use Rattle.wl_plain.specs.Desktop.{Callback, Desktop, Resident}
+use Rattle.wl_plain.specs.Desktop.{Desktop, Resident}
 use Rattle.wl_plain.specs.Pointing.{button_told, has_pointers, motion_told}
 use Rattle.wl_plain.specs.Replies.{focus_window, popups_done}
 use Rattle.wl_plain.specs.Settling.{EndsAndSettles, Midstep, Settles, SettlesEnds, is_settled, unstruck}
@@ -22,7 +23,7 @@ gone-status : (gone : List Callback) (p : Peer) → (fold (λ p callback. remove
 gone-status [] p = refl
 gone-status (callback ∷ gone) p = gone-status gone (removed callback.id p)
 
-callbacks-status : (gone : List Callback) (r : Resident) → (without_callbacks gone r).peer.status ≡ r.peer.status
+pub callbacks-status : (gone : List Callback) (r : Resident) → (without_callbacks gone r).peer.status ≡ r.peer.status
 callbacks-status gone r = gone-status gone r.peer
 
 frames-leads : (time n c : ℕ) (old : Midstep) → Sound old → Leads Midstep moving old (TellsFrames time n c old)

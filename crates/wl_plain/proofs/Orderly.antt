@@ -23,17 +23,13 @@ use Rattle.wl_plain.specs.Ask.{Ask, Own, CreateSurface, AskSurface, DestroyBase,
 use Rattle.wl_plain.specs.Demand.{Demand, Asks, EndSurface, AskFrame, CommitTree, EndObject, GetSubsurface, EndSubsurface, SetMode, GetPointer, MakeCursor, CreatePositioner, EndPositioner, SetPositioner, GetPopup, Grab, EndPopup, EndToplevel, Move}
 use Rattle.wl_plain.specs.Desktop.{Desktop, Resident, client_at}
 use Rattle.wl_plain.specs.Laws.{AreApart, toplevels_of}
-use Rattle.wl_plain.specs.Owning.{AreApartBy}
+use Rattle.wl_plain.specs.Owning.{AreApartBy, AreObjects}
 use Rattle.wl_plain.specs.Soundness.{AreOnce, IsLive}
 use Rattle.wl_plain.specs.WlPointer.{is_no_cursor}
 use Rattle.wl_plain.specs.WlSubsurface.{has_subsurface, is_no_subsurface, is_of_child}
 use Rattle.wl_plain.specs.XdgShell.{is_foreign, role_of}
 
 -- ---- objects
-
--- each id is once among these, and is that of a live object of this interface
-abbrev pub AreObjects : {X : Type 0} → Interface → Objects → (ℕ → X → Bool) → List X → Type 0
-AreObjects interface objects has xs = AreApartBy has xs × ((id : ℕ) → list_any (has id) xs ≡ true → is_of interface (objects id) ≡ true)
 
 -- the role object with this id is a toplevel, or a popup
 abbrev pub is_toplevel_at : ℕ → Option RoleObject → Bool

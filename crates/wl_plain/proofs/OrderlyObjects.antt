@@ -15,6 +15,7 @@ use Rattle.wl_surface.specs.Surfaces.{Surfaces, asking, history_in, is_used, wit
 use Rattle.wl_surface.specs.Surfaces.{with_change as with_surface_change}
 use Rattle.wl_surface.specs.Trees.{committed_in, desynchronised_in, destroyed_in, linked, synchronised_in}
 use Rattle.wl_surface.specs.declared.role.Role.TheVariants as role
+use Rattle.wl_surface.specs.Waiting.{Callback}
 use Rattle.wl_shell.specs.Popups.{Popped, dismissed_among, dismissed_with, dismissing, is_parent_of, orphan, orphaning, placing, popup_changed, with_grab, without_grab}
 use Rattle.wl_shell.specs.Positioner.{Positioner}
 use Rattle.wl_shell.specs.Shell.{Effect, Stays, Unconfigured, Configures, Maps, Unmaps, Waiting, Mapped, Shell, XdgSurface as Xdg, acknowledging, configuring, in_stage, unmapping, with_change, without_role, xdg_at, xdg_of}
@@ -23,7 +24,7 @@ use Rattle.wl_plain.specs.Ask.{Ask, Own, CreateSurface, AskSurface, DestroyBase,
 use Rattle.wl_plain.specs.Changing.{after_all, is_asked, link_with_id, unlinked_at, changed_for, drawing, effect_done, frame_asked, grab_allowed, grabbed, has_focus, in_rising_order, mode_set, placement_now, popup_given_to, subsurface_ended, subsurface_given, surface_ended, toplevel_ended, tree_committed, without_callbacks, without_child}
 use Rattle.wl_plain.specs.Demand.{Demand, Asks, EndSurface, AskFrame, CommitTree, EndObject, GetSubsurface, EndSubsurface, SetMode, GetPointer, MakeCursor, CreatePositioner, EndPositioner, SetPositioner, GetPopup, Grab, EndPopup, EndToplevel, Move}
 use Rattle.wl_plain.specs.Demanding.{effect_of_commit}
-use Rattle.wl_plain.specs.Desktop.{Callback, Desktop, Resident, Subsurface}
+use Rattle.wl_plain.specs.Desktop.{Desktop, Resident, Subsurface}
 use Rattle.wl_plain.specs.Step.{asked_so_far, changed_by, configured, making, toplevel_given, with_shell, with_surfaces, xdg_changed}
 use Rattle.wl_plain.proofs.Orderly.{HasObjects, IsAllowed, IsAsked, IsNew, IsObject, IsOwn, is_no_surface}
 use Rattle.wl_plain.proofs.OrderlyObjectsCalls.{has-callbacks, is_left, left, other-left}

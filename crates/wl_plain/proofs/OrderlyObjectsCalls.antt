@@ -8,8 +8,9 @@ use Rattle.wl_proto.specs.declared.interface.Interface.TheVariants.{WlCallback, 
 use Rattle.wl_client.specs.Objects.{Objects, interface_number, is_of}
 use Rattle.wl_client.specs.Peer.{Peer, removed}
 use Rattle.wl_surface.specs.Surfaces.{Surfaces}
+use Rattle.wl_surface.specs.Waiting.{Callback}
 use Rattle.wl_shell.specs.Shell.{Shell}
-use Rattle.wl_plain.specs.Desktop.{Callback, Subsurface}
+use Rattle.wl_plain.specs.Desktop.{Subsurface}
 use Rattle.wl_plain.specs.Owning.{AreApartBy}
 use Rattle.wl_plain.proofs.OrderlyObjectsHas.{Has, has_callback, has_popup, has_sub, has_toplevel, has_xdg}
 use Rattle.wl_plain.proofs.OrderlyObjectsKeys.{any-of-filter, is-false, none-of-gone, objects-more, of-one}

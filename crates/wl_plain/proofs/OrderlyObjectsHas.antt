@@ -7,9 +7,11 @@ use Rattle.wl_proto.specs.declared.interface.Interface.{Interface}
 use Rattle.wl_proto.specs.declared.interface.Interface.TheVariants.{WlCallback, WlSurface, WlSubsurface, XdgSurface, XdgToplevel, XdgPopup}
 use Rattle.wl_client.specs.Objects.{Object, Objects, interface_number, is_of, with_id}
 use Rattle.wl_surface.specs.Surfaces.{Surfaces, surface_at}
+use Rattle.wl_surface.specs.Waiting.{Callback}
 use Rattle.wl_shell.specs.Shell.{Shell, XdgSurface as Xdg}
-use Rattle.wl_plain.specs.Desktop.{Callback, Resident, Subsurface}
-use Rattle.wl_plain.proofs.Orderly.{AreObjects, HasObjects, is_popup_at, is_toplevel_at}
+use Rattle.wl_plain.specs.Desktop.{Resident, Subsurface}
+use Rattle.wl_plain.specs.Owning.{AreObjects}
+use Rattle.wl_plain.proofs.Orderly.{HasObjects, is_popup_at, is_toplevel_at}
 use Rattle.wl_plain.proofs.OrderlyObjectsKeys.{no-key, none-of-gone, objects-gone, objects-more, of-one, others-kept}
 
 -- the tests by the ids of objects

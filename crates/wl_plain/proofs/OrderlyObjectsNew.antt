@@ -9,12 +9,12 @@ use Rattle.wl_client.specs.Judgement.{is_free}
 use Rattle.wl_client.specs.Objects.{Object, Objects, interface_number, is_of, with_id}
 use Rattle.wl_client.specs.Peer.{object_at_version}
 use Rattle.wl_surface.specs.Surfaces.{Surfaces}
+use Rattle.wl_surface.specs.Waiting.{Callback}
 use Rattle.wl_shell.specs.Popups.{new_popup}
 use Rattle.wl_shell.specs.Positioner.{Positioner}
 use Rattle.wl_shell.specs.Shell.{Shell, XdgSurface as Xdg, new_toplevel, with_change, with_new, without_xdg, xdg_at}
-use Rattle.wl_plain.specs.Desktop.{Callback, Subsurface}
-use Rattle.wl_plain.specs.Owning.{AreApartBy}
-use Rattle.wl_plain.proofs.Orderly.{AreObjects}
+use Rattle.wl_plain.specs.Desktop.{Subsurface}
+use Rattle.wl_plain.specs.Owning.{AreApartBy, AreObjects}
 use Rattle.wl_plain.proofs.OrderlyObjectsHas.{Has, has-calls, has-gone, has-made, has-shell, has-subsurfaces, has_callback, has_popup, has_sub, has_toplevel, has_xdg, no-callback, no-popup, no-subsurface, no-toplevel, no-xdg}
 use Rattle.wl_plain.proofs.OrderlyObjectsKeys.{any-less, free-none, is-false, no-key, none-found, objects-filter, objects-map, objects-new}
 use Rattle.wl_plain.proofs.OwningKeys.{changed-apart, differ, new-apart}

@@ -5,9 +5,10 @@ use Rattle.std.specs.List.{list_any}
 use Rattle.wl_proto.specs.declared.interface.Interface.TheVariants.{XdgToplevel, XdgPopup}
 use Rattle.wl_client.specs.Objects.{Objects, is_of, with_id}
 use Rattle.wl_surface.specs.Surfaces.{Surfaces}
+use Rattle.wl_surface.specs.Waiting.{Callback}
 use Rattle.wl_shell.specs.Popups.{is_toplevel_kind}
 use Rattle.wl_shell.specs.Shell.{RoleObject, Shell, XdgSurface as Xdg, is_role, with_change, without_role, xdg_with}
-use Rattle.wl_plain.specs.Desktop.{Callback, Subsurface}
+use Rattle.wl_plain.specs.Desktop.{Subsurface}
 use Rattle.wl_plain.proofs.Orderly.{HasId, is_popup_at, is_toplevel_at}
 use Rattle.wl_plain.proofs.OrderlyObjectsHas.{Has, has-gone, has_popup, has_toplevel, no-callback, no-popup, no-subsurface, no-toplevel, no-xdg}
 use Rattle.wl_plain.proofs.OrderlyObjectsKeys.{any-less, any-map, is-false}

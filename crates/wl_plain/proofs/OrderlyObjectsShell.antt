@@ -4,11 +4,12 @@ use Rattle.std.specs.Prelude.{◌==◌, ◌&&◌, not}
 use Rattle.std.specs.Option.{option_map}
 use Rattle.wl_client.specs.Objects.{Objects}
 use Rattle.wl_surface.specs.Surfaces.{Surfaces}
+use Rattle.wl_surface.specs.Waiting.{Callback}
 use Rattle.wl_proto.specs.declared.interface.Interface.TheVariants.{XdgSurface, XdgToplevel, XdgPopup}
 use Rattle.wl_shell.specs.Popups.{dismiss, dismissed_among, is_among, is_toplevel_kind, popup_changed, with_popup, with_popup_role}
 use Rattle.wl_shell.specs.declared.stage.Stage.{Stage}
 use Rattle.wl_shell.specs.Shell.{Kind, Toplevel, IsPopup, Popup, RoleObject, Shell, XdgSurface as Xdg, acknowledging, at_stage, configuring, in_stage, role_acknowledged, unmapping, without_role}
-use Rattle.wl_plain.specs.Desktop.{Callback, Subsurface}
+use Rattle.wl_plain.specs.Desktop.{Subsurface}
 use Rattle.wl_plain.proofs.Orderly.{is_popup_at, is_toplevel_at}
 use Rattle.wl_plain.proofs.OrderlyObjectsHas.{Has, has-shell, has_popup, has_toplevel, has_xdg}
 use Rattle.wl_plain.proofs.OrderlyObjectsKeys.{objects-map}

@@ -22,7 +22,7 @@ use Rattle.wl_plain.specs.Acts.{Act, Connect, Feed, Store, Leave, Tick, Send, Cl
 use Rattle.wl_plain.specs.Happens.{ChangesThen, ConnectsThen, Happens, HappensThen, LeavesThen, PressesThen, ReleasesThen, ending, hit_now, point_in, pointed, settling}
 use Rattle.wl_plain.proofs.Orderly.{AreOrderly, IsOrderlyAt, IsOrderlyBy}
 use Rattle.wl_plain.proofs.OrderlyRunMessages.{MessageKeeps, fed-known}
-use Rattle.wl_plain.proofs.OrderlyRunTold.{Anyhow, Frames, IsAlike, Known, ToldOrderly, alike, ended-by-known, ending-known, known-so, left-orderly, nothing-orderly, orderly-all, orderly-stays, settling-known}
+use Rattle.wl_plain.proofs.OrderlyRunTold.{Anyhow, Frames, IsAlike, Known, ToldOrderly, alike, ended-by-known, ending-known, known-so, left-orderly, nothing-orderly, orderly-all, orderly-frames, orderly-stays, settling-known}
 use Rattle.wl_plain.proofs.OrderlyRunTops.{pointed-known, raised-known}
 use Rattle.wl_plain.proofs.OwningKeys.{none-some, some-same}
 use Rattle.wl_plain.proofs.Places.{number-other, number-same}
@@ -208,7 +208,7 @@ module _ (frames : Frames) where
     happens-known left (Leave a) done d known h = leaves-known a (client_at a d) d done refl known h
     happens-known left (Tick time) done d known h =
         shown-then c ToldOrderly (orderly-all frames) IsOrderlyAt Anyhow (orderly-stays frames) X Next (λ mid within. next mid within.0)
-        time d known h.1
+        (orderly-frames frames) time d known h.1
     happens-known left (Send a n) done d known h = changes-known (IsSent n) _ a (client_at a d) d done (sent-keeps n done) refl known h
     happens-known left (Close a) done d known h = changes-known IsClosed _ a (client_at a d) d done (closed-keeps done) refl known h
     happens-known left (Motion time x y) done d known h =

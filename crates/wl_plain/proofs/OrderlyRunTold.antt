@@ -8,11 +8,12 @@ use Rattle.wl_client.specs.Peer.{Peer, ended}
 use Rattle.wl_client.specs.Told.{Said}
 use Rattle.wl_surface.specs.Frames.{frames_counting}
 use Rattle.wl_surface.specs.Surfaces.{Link, no_surfaces}
+use Rattle.wl_surface.specs.Waiting.{Callback}
 use Rattle.wl_shell.specs.Popups.{Popped, dismissing}
 use Rattle.wl_shell.specs.Shell.{Shell}
 use Rattle.wl_scene.specs.Stacking.{Standing}
 use Rattle.wl_plain.specs.Changing.{drawing, without_callbacks}
-use Rattle.wl_plain.specs.Desktop.{Callback, Desktop, Resident, client_at, resident_of}
+use Rattle.wl_plain.specs.Desktop.{Desktop, Resident, client_at, resident_of}
 use Rattle.wl_plain.specs.Laws.{toplevels_of}
 use Rattle.wl_plain.specs.Pointing.{button_told, entered_surface, has_pointers, left_surface, motion_told}
 use Rattle.wl_plain.specs.Replies.{popups_done}
@@ -26,7 +27,7 @@ use Rattle.wl_plain.proofs.OwningKeys.{none-some}
 use Rattle.wl_plain.proofs.OrderlyRunSteady.{callbacks-steady}
 use Rattle.wl_plain.proofs.Places.{number-same}
 use Rattle.wl_plain.proofs.Stacks.{differ}
-use Rattle.wl_plain.proofs.OthersKept.{TellsAll, has-more}
+use Rattle.wl_plain.proofs.OthersKept.{TellsDone, TellsPointer, has-more}
 use Rattle.wl_plain.proofs.OthersSettling.{AreIn, Stays, ended-in, ending-in, none_of, settled-in, settles-in, settling-in}
 use Rattle.wl_plain.proofs.OthersTold.{TellsBy, ToldSo}
 
@@ -200,13 +201,15 @@ module _ (frames : Frames) where
   pressed-orderly true pressed r = λ tops known. drawn-orderly (has_pointers (noted pressed r)) (noted pressed r) tops (noted-orderly pressed r tops known)
   pressed-orderly false pressed r = λ tops known. known
 
-  pub orderly-all : TellsAll ToldOrderly
+  pub orderly-frames : TellsDone ToldOrderly
+  orderly-frames time = told-orderly (λ r. without_callbacks (callbacks_due r) r) (frames_told time) done-orderly
+
+  pub orderly-all : TellsPointer ToldOrderly
   orderly-all = record {
     focus = record {
       leave = λ surface. told-orderly (leave_drawn surface) (left_surface surface) (λ r. drawn-orderly _ r);
       enter = λ at w. told-orderly told_drawn (entered_surface at w) (λ r. drawn-orderly _ r);
     };
-    done = λ time. told-orderly (λ r. without_callbacks (callbacks_due r) r) (frames_told time) done-orderly;
     motion = λ time at w. told-orderly (λ r. r) (motion_told time at w) (λ r tops known. known);
     dismissed = told-orderly without_grabs (λ r. popups_done r (without_grabs r)) dismissed-orderly;
     pressed = λ time button pressed.

@@ -9,7 +9,7 @@ use Rattle.wl_scene.specs.Stacking.{Standing, is_of, with_mapped}
 use Rattle.wl_plain.specs.Desktop.{Desktop, Resident, become, become_by, client_at, client_in}
 use Rattle.wl_plain.specs.Laws.{toplevels_of}
 use Rattle.wl_plain.proofs.Places.{other-become, stacked-clients}
-use Rattle.wl_plain.proofs.Simply.{Asking, CommitSurface, DestroySurface, DestroyToplevel, Simple, stacked_simply}
+use Rattle.wl_plain.proofs.Simply.{Asking, AskingFrame, CommitSurface, DestroySurface, DestroyToplevel, Simple, stacked_simply}
 
 abbrev of : ℕ → List Standing → List Standing
 of c standing = filter (λ s. s.client == c) standing
@@ -62,6 +62,7 @@ effect-others c other id Unmaps r d differ = left_out (λ s. not (is_of c id s))
 stacked-others : (c other : ℕ) (ask : Simple) (r : Resident) (d : Desktop) → c ≢ other → toplevels_of other (stacked_simply c ask r d) ≡ toplevels_of other d
 stacked-others c other (Asking ask) r d differ = refl
 stacked-others c other (DestroySurface id) r d differ = refl
+stacked-others c other (AskingFrame id version surface) r d differ = refl
 stacked-others c other (CommitSurface id effect) r d differ = effect-others c other id effect r d differ
 stacked-others c other (DestroyToplevel id xdg top) r d differ = left_out (λ s. not (is_of c _ s)) other (one_surface c other _ differ) d.standing
 
@@ -101,5 +102,6 @@ effect-keeps c id Unmaps r d = refl
 pub stacked-keeps : (c : ℕ) (ask : Simple) (r : Resident) (d : Desktop) → Keeps d (stacked_simply c ask r d)
 stacked-keeps c (Asking ask) r d = refl
 stacked-keeps c (DestroySurface id) r d = refl
+stacked-keeps c (AskingFrame id version surface) r d = refl
 stacked-keeps c (CommitSurface id effect) r d = effect-keeps c id effect r d
 stacked-keeps c (DestroyToplevel id xdg top) r d = refl

@@ -9,11 +9,12 @@ use Rattle.wl_client.specs.declared.clients.Cause.TheVariants.{Memory, Slow}
 use Rattle.wl_client.specs.Peer.{Peer, has_room, queued, removed}
 use Rattle.wl_client.specs.Told.{Said, said_bytes}
 use Rattle.wl_surface.specs.Frames.{frames_counting}
+use Rattle.wl_surface.specs.Waiting.{Callback}
 use Rattle.wl_shell.specs.Popups.{dismiss, dismissed_among, dismissed_with, is_among, popup_changed, with_popup, with_popup_role}
 use Rattle.wl_shell.specs.Shell.{Kind, Toplevel, IsPopup, RoleObject, Shell, XdgSurface}
 use Rattle.wl_scene.specs.Windows.{Place, Window}
 use Rattle.wl_plain.specs.Changing.{drawing, without_callbacks}
-use Rattle.wl_plain.specs.Desktop.{Callback, Resident}
+use Rattle.wl_plain.specs.Desktop.{Resident}
 use Rattle.wl_plain.specs.Pointing.{button_told, entered_surface, has_pointers, left_surface, motion_told}
 use Rattle.wl_plain.specs.Replies.{popups_done}
 use Rattle.wl_plain.specs.Settling.{QueuesFirst, QueuesTo, leave_drawn, told_drawn}
@@ -264,21 +265,26 @@ tells-own change events own r q why h =
     ap (λ (p : Peer). record (change r) { peer = p }) more.1 in
     (own-then r (change r) (record (change r) { peer = q }) (own r) (rw same (own-more (change r) more.0)), more.2)
 
--- So does all that clients are told: of the focus, of frames, of motions, of dismissed popups, and of presses and releases.
-pub record TellsAll (T : Resident → Resident → Option Cause → Type 0) : Type 0 where
+-- So does all that clients are told: of frames,
+abbrev pub TellsDone : (Resident → Resident → Option Cause → Type 0) → Type 0
+TellsDone T = (time : ℕ) → TellsBy T (λ r. without_callbacks (callbacks_due r) r) (frames_told time)
+
+-- and of the focus, of motions, of dismissed popups, and of presses and releases.
+pub record TellsPointer (T : Resident → Resident → Option Cause → Type 0) : Type 0 where
   pub focus : TellsFocus T
-  pub done : (time : ℕ) → TellsBy T (λ r. without_callbacks (callbacks_due r) r) (frames_told time)
   pub motion : (time : ℕ) (at : Option Place) (w : Option Window) → TellsBy T (λ r. r) (motion_told time at w)
   pub dismissed : TellsBy T without_grabs (λ r. popups_done r (without_grabs r))
   pub pressed : (time button : ℕ) (pressed : Bool) → TellsBy T (λ r. noted_if (has_pointers r) pressed r) (button_told time button (number_of pressed))
 
-pub own-all : TellsAll StaysOwn
+pub own-frames : TellsDone StaysOwn
+own-frames time = tells-own (λ r. without_callbacks (callbacks_due r) r) (frames_told time) own-done
+
+pub own-all : TellsPointer StaysOwn
 own-all = record {
   focus = record {
     leave = λ surface. tells-own (leave_drawn surface) (left_surface surface) (λ r. own-drawn _ r);
     enter = λ at w. tells-own told_drawn (entered_surface at w) (λ r. own-drawn _ r);
   };
-  done = λ time. tells-own (λ r. without_callbacks (callbacks_due r) r) (frames_told time) own-done;
   motion = λ time at w. tells-own (λ r. r) (motion_told time at w) own-same;
   dismissed = tells-own without_grabs (λ r. popups_done r (without_grabs r)) own-dismissed;
   pressed = λ time button pressed.

@@ -27,7 +27,7 @@ use Rattle.wl_plain.specs.Own.{HasEndedLate, HasItsOwn, KeepsItsOwn, KeepsItsOwn
 use Rattle.wl_plain.proofs.OwningKeys.{some-same}
 use Rattle.wl_plain.proofs.StandingLists.{any-last}
 use Rattle.wl_plain.proofs.OthersAlone.{others_are_left_alone}
-use Rattle.wl_plain.proofs.OthersKept.{StaysOwn, TellsAll, own-all, own-drawn, own-more, own-same, own-then}
+use Rattle.wl_plain.proofs.OthersKept.{StaysOwn, TellsDone, TellsPointer, own-all, own-drawn, own-frames, own-more, own-same, own-then}
 use Rattle.wl_plain.proofs.OthersSettling.{IsIn, IsWithin, Stays, ending-in, settles-in, settling-in, tells-in, within-same}
 
 -- ---- what stays of a client
@@ -169,7 +169,7 @@ raised-client c (Some w) d = refl
 
 -- ---- a frame is shown, the pointer moves, a button is pressed or released
 
-module _ (c : ℕ) (T : Resident → Resident → Option Cause → Type 0) (all : TellsAll T) (A : Option Resident → List Standing → Type 0) (P : Resident → Cause → Type 0) (stays : Stays T A P) where
+module _ (c : ℕ) (T : Resident → Resident → Option Cause → Type 0) (all : TellsPointer T) (A : Option Resident → List Standing → Type 0) (P : Resident → Cause → Type 0) (stays : Stays T A P) where
   abbrev pub Known : Desktop → Type 0
   Known d = IsIn c T all.focus A P stays d
 
@@ -188,11 +188,11 @@ module _ (c : ℕ) (T : Resident → Resident → Option Cause → Type 0) (all 
   ends : (mid : Midstep) (new : Desktop) → Within mid → SettlesEnds mid new → Known new
   ends mid new known h = ending-in c T all.focus A P stays mid new known h
 
-  frames : (time n k : ℕ) (old new : Midstep) → Within old → TellsFrames time n k old new → Within new
-  frames time zero k old new known h = same old new h known
-  frames time (suc n) k old new known h =
-      let mid : Within h.0 = tells-in c T all.focus A P stays (λ r. without_callbacks (callbacks_due r) r) (frames_told time) (all.done time) k old h.0 known h.1 in
-      frames time n (suc k) h.0 new mid h.2
+  frames : TellsDone T → (time n k : ℕ) (old new : Midstep) → Within old → TellsFrames time n k old new → Within new
+  frames done time zero k old new known h = same old new h known
+  frames done time (suc n) k old new known h =
+      let mid : Within h.0 = tells-in c T all.focus A P stays (λ r. without_callbacks (callbacks_due r) r) (frames_told time) (done time) k old h.0 known h.1 in
+      frames done time n (suc k) h.0 new mid h.2
 
   motion : (time : ℕ) (moves focus : Option Target) (old new : Midstep) → Within old → TellsMotion time moves focus old new → Within new
   motion time moves None old new known h = same old new h known
@@ -223,8 +223,8 @@ module _ (c : ℕ) (T : Resident → Resident → Option Cause → Type 0) (all 
   -- what follows from the middle of a step, with what comes then, follows from the step
   module _ (X : Type 0) (Next : Midstep → Type 0) (next : (mid : Midstep) → Within mid → Next mid → X) where
     -- a frame is shown
-    pub shown-then : (time : ℕ) (d : Desktop) → Known d → ShowsThen time d Next → X
-    shown-then time d known h = next h.0 (frames time 32 1 (unstruck d) h.0 (begun d known) h.1) h.2
+    pub shown-then : TellsDone T → (time : ℕ) (d : Desktop) → Known d → ShowsThen time d Next → X
+    shown-then done time d known h = next h.0 (frames done time 32 1 (unstruck d) h.0 (begun d known) h.1) h.2
 
     -- the pointer moves
     pub moves-then : (time : ℕ) (d : Desktop) → Known d → MovesThen time d Next → X
@@ -247,8 +247,8 @@ module _ (c : ℕ) (T : Resident → Resident → Option Cause → Type 0) (all 
         let told : Within h.0 = button-told time button false d.pointer.focus (unstruck start) h.0 (begun start known) h.1 in
         next h.2 (settles h.0 h.2 told h.3) h.4
 
-  pub shown : (time : ℕ) (d new : Desktop) → Known d → Shows time d new → Known new
-  shown time d new known h = shown-then (Known new) (settling new) (λ mid known. settling-in c T all.focus A P stays mid new known) time d known h
+  pub shown : TellsDone T → (time : ℕ) (d new : Desktop) → Known d → Shows time d new → Known new
+  shown done time d new known h = shown-then (Known new) (settling new) (λ mid known. settling-in c T all.focus A P stays mid new known) done time d known h
 
   pub moves : (time : ℕ) (d new : Desktop) → Known d → MovesTo time d new → Known new
   moves time d new known h = moves-then (Known new) (ending new) (λ mid known. ends mid new known) time d known h
@@ -321,7 +321,7 @@ own_stays out (Feed a piece) done c old new not_it h = another out (Feed a piece
 own_stays out (Store a store at bytes) done c old new not_it h = another out (Store a store at bytes) done a c old new refl not_it h
 own_stays out (Leave a) done c old new not_it h = another out (Leave a) done a c old new refl not_it h
 own_stays out (Tick time) done c old new not_it h =
-    kept c old old new refl (λ surface. refl) (λ A P stays known. shown c StaysOwn own-all A P stays time old new known h.1)
+    kept c old old new refl (λ surface. refl) (λ A P stays known. shown c StaysOwn own-all A P stays own-frames time old new known h.1)
 own_stays out (Send a n) done c old new not_it h = another out (Send a n) done a c old new refl not_it h
 own_stays out (Close a) done c old new not_it h = another out (Close a) done a c old new refl not_it h
 own_stays out (Motion time x y) done c old new not_it h =

@@ -5,7 +5,7 @@ use Rattle.wl_client.specs.Peer.{Peer}
 use Rattle.wl_shell.specs.Shell.{Effect, Stays, Unconfigured, Configures, Maps, Unmaps}
 use Rattle.wl_plain.specs.Desktop.{Desktop, Resident, become, become_by, client_at, client_in, place, resident_of, with_client, with_number, with_place}
 use Rattle.wl_plain.specs.Laws.{status_in, status_of}
-use Rattle.wl_plain.proofs.Simply.{Asking, CommitSurface, DestroySurface, DestroyToplevel, Simple, stacked_simply}
+use Rattle.wl_plain.proofs.Simply.{Asking, AskingFrame, CommitSurface, DestroySurface, DestroyToplevel, Simple, stacked_simply}
 
 place-same : (rs : List (Option Resident)) (k : ℕ) (x : Option Resident) (r : Resident) → place rs k ≡ Some r → place (with_place k x rs) k ≡ x
 place-same [] k x r h = absurd (cc)
@@ -90,5 +90,6 @@ effect-clients c id Unmaps r d = refl
 pub stacked-clients : (c : ℕ) (ask : Simple) (r : Resident) (d : Desktop) → (stacked_simply c ask r d).clients ≡ d.clients
 stacked-clients c (Asking ask) r d = refl
 stacked-clients c (DestroySurface id) r d = refl
+stacked-clients c (AskingFrame id version surface) r d = refl
 stacked-clients c (CommitSurface id effect) r d = effect-clients c id effect r d
 stacked-clients c (DestroyToplevel id xdg top) r d = refl

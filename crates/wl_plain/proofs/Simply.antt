@@ -1,5 +1,5 @@
 -- What comes of a message to a client that has no more than toplevels, and what becomes of the desktop where nobody points.
-use Rattle.std.specs.Prelude.{ℕ, ℤ, ◌+◌, ◌≡◌, ◌==◌, ◌&&◌, Bool, true, false, Option, Some, None, Result, Ok, Err, List, [], ◌∷◌, ◌++◌, ◌⊎◌}
+use Rattle.std.specs.Prelude.{ℕ, ℤ, ◌+◌, ◌≡◌, ◌==◌, ◌&&◌, Bool, true, false, Option, Some, None, Result, Ok, Err, List, [], ◌∷◌, ◌++◌, map, ◌⊎◌}
 use Rattle.wl_client.specs.declared.refusals.Refusal.{Refusal}
 use Rattle.wl_client.specs.Peer.{Errs, LacksMemory, Peer, Queues, counted}
 use Rattle.wl_client.specs.Told.{Said, id_deleted}
@@ -8,7 +8,8 @@ use Rattle.wl_surface.specs.Surfaces.{applying, asking, with_change, without_sur
 use Rattle.wl_shell.specs.Shell.{Effect, Stays, Unconfigured, Configures, Maps, Unmaps, Waiting, Mapped, XdgSurface as Xdg, in_stage, on_commit, stage_of, unmapping, without_role, xdg_of}
 use Rattle.wl_scene.specs.Stacking.{with_mapped, without_surface_of}
 use Rattle.wl_plain.specs.Ask.{Ask, AskSurface, Ignore}
-use Rattle.wl_plain.specs.Demand.{Demand, Asks, EndSurface, CommitTree, EndToplevel}
+use Rattle.wl_plain.specs.Changing.{callbacks_of, frame_asked, without_callbacks}
+use Rattle.wl_plain.specs.Demand.{Demand, Asks, EndSurface, AskFrame, CommitTree, EndToplevel}
 use Rattle.wl_plain.specs.Demanding.{judge_all}
 use Rattle.wl_plain.specs.Desktop.{Desktop, Resident, become}
 use Rattle.wl_plain.specs.LeftOut.{served_now}
@@ -17,10 +18,12 @@ use Rattle.wl_plain.specs.Step.{after_surface, answers_to, asked_so_far, changed
 use Rattle.wl_plain.specs.Touching.{is_window_at}
 use Rattle.wl_plain.specs.WlSurface.{will_show}
 
--- What a demand comes to there: of surfaces and toplevels that go no more goes with them, and a commit applies its surface alone.
+-- What a demand comes to there: with a surface only its frame callbacks go, with a toplevel no more goes, and a commit applies its surface alone.
 pub data Simple : Type 0 where
   Asking : Ask → Simple
   DestroySurface : ℕ → Simple
+  -- a frame callback with an id and a version, of a surface
+  AskingFrame : ℕ → ℕ → ℕ → Simple
   -- a commit, with what it comes to for the shell
   CommitSurface : ℕ → Effect → Simple
   -- a toplevel, and its xdg_surface
@@ -37,6 +40,7 @@ effect_of r surface = effect_for (will_show r surface) (xdg_of surface r.owned.s
 abbrev pub simple_of : Resident → Demand → Simple
 simple_of r (Asks ask) = Asking ask
 simple_of r (EndSurface id) = DestroySurface id
+simple_of r (AskFrame id version surface) = AskingFrame id version surface
 simple_of r (CommitTree id) = CommitSurface id (effect_of r id)
 simple_of r (EndToplevel id xdg top) = DestroyToplevel id xdg top
 simple_of r demand = Asking Ignore
@@ -68,7 +72,9 @@ effect_on surface Unmaps (Some x) r = xdg_changed x.id (unmapping (asked_so_far 
 
 abbrev pub changed_simply : Simple → Resident → Resident
 changed_simply (Asking ask) r = changed_by ask r
-changed_simply (DestroySurface id) r = removing id (after_surface id r (with_surfaces (without_surface id r.owned.surfaces) r))
+changed_simply (DestroySurface id) r =
+    removing id (without_callbacks (callbacks_of id r) (after_surface id r (with_surfaces (without_surface id r.owned.surfaces) r)))
+changed_simply (AskingFrame id version surface) r = frame_asked id version surface r
 changed_simply (CommitSurface id effect) r = effect_on id effect (xdg_of id r.owned.shell) (after_surface id r (committed_on id r))
 changed_simply (DestroyToplevel id xdg top) r = removing id (xdg_changed xdg without_role r)
 
@@ -84,7 +90,8 @@ stacked_simply c ask r d = d
 
 abbrev pub answers_simply : Simple → Resident → List Said
 answers_simply (Asking ask) r = answers_to ask r
-answers_simply (DestroySurface id) r = id_deleted id ∷ []
+answers_simply (DestroySurface id) r = id_deleted id ∷ map (λ callback. id_deleted callback.id) (callbacks_of id r)
+answers_simply (AskingFrame id version surface) r = []
 answers_simply (CommitSurface id Configures) r = configures_told r.peer.serial (xdg_of id r.owned.shell)
 answers_simply (CommitSurface id effect) r = []
 answers_simply (DestroyToplevel id xdg top) r = id_deleted id ∷ []
@@ -94,6 +101,7 @@ abbrev pub told_simply : Simple → Resident → List Said
 told_simply (Asking (AskSurface id request)) r = releases r (changed_simply (Asking (AskSurface id request)) r)
 told_simply (Asking ask) r = answers_to ask r
 told_simply (DestroySurface id) r = answers_simply (DestroySurface id) r ++ releases r (changed_simply (DestroySurface id) r)
+told_simply (AskingFrame id version surface) r = releases r (changed_simply (AskingFrame id version surface) r)
 told_simply (CommitSurface id effect) r = answers_simply (CommitSurface id effect) r ++ releases r (changed_simply (CommitSurface id effect) r)
 told_simply (DestroyToplevel id xdg top) r = id_deleted id ∷ []
 

@@ -5,7 +5,7 @@ use Rattle.std.specs.Option.{option_map}
 use Rattle.std.proofs.lemmas.Bool.{eqb-true}
 use Rattle.wl_client.specs.declared.actions.Action.{Action}
 use Rattle.wl_client.specs.declared.actions.Action.TheVariants.{DestroyBuffer}
-use Rattle.wl_surface.specs.Request.{Request}
+use Rattle.wl_surface.specs.Request.{Request, Frame}
 use Rattle.wl_surface.specs.State.{History}
 use Rattle.wl_surface.specs.Surfaces.{Surfaces, history_in, with_change, with_new, with_role, without_surface, asking}
 use Rattle.wl_surface.specs.declared.role.Role.TheVariants.{Toplevel as AsToplevel}
@@ -32,7 +32,7 @@ use Rattle.wl_plain.proofs.StandingFound.{Finds, FindsBare, FindsTop, found-so}
 use Rattle.wl_plain.proofs.StandingLists.{apart-left, mapped-another, mapped-apart, mapped-here, without-another, without-here}
 use Rattle.wl_plain.proofs.StandingSurfaces.{committing, history-else, history-left, shown-asked, shown-committed, shown-made, shown-role}
 use Rattle.wl_plain.proofs.StandingTurned.{turned-after}
-use Rattle.wl_plain.proofs.Simply.{Asking, CommitSurface, DestroySurface, DestroyToplevel, Simple, changed_simply, committed_on, effect_for, effect_of, effect_on, stacked_simply}
+use Rattle.wl_plain.proofs.Simply.{Asking, AskingFrame, CommitSurface, DestroySurface, DestroyToplevel, Simple, changed_simply, committed_on, effect_for, effect_of, effect_on, stacked_simply}
 
 -- the mapped toplevels stand after what is asked, each once
 abbrev pub StandAfter : ℕ → Simple → Resident → Desktop → Type 0
@@ -247,6 +247,7 @@ shown-after : (c : ℕ) (ask : Simple) (r : Resident) (d : Desktop) → AreToldA
 shown-after c (Asking (Own action)) r d told counts is apart finds = (unchanged c r d is apart (own_changed action r).owned (own-owned action r), apart)
 shown-after c (Asking (CreateSurface id version)) r d told counts is apart finds = (created c r d is apart id, apart)
 shown-after c (DestroySurface id) r d told counts is apart finds = (destroyed c r d is apart id finds, apart)
+shown-after c (AskingFrame id version surface) r d told counts is apart finds = (asked c r d is apart surface (Frame r.peer.requests) counts, apart)
 shown-after c (Asking (AskSurface id request)) r d told counts is apart finds = (asked c r d is apart id request counts, apart)
 shown-after c (CommitSurface id effect) r d told counts is apart finds = committed-after c r d is apart id effect told finds.0
 shown-after c (Asking (DestroyBase id)) r d told counts is apart finds = (is, apart)

@@ -8,6 +8,7 @@ use Rattle.wl_client.specs.declared.actions.Action.TheVariants.{DestroyBuffer}
 use Rattle.wl_surface.specs.State.{History}
 use Rattle.wl_surface.specs.Surfaces.{Surface, Surfaces, history_in, new_surface, with_change, with_new, with_role, without_surface, asking}
 use Rattle.wl_surface.specs.declared.role.Role.TheVariants.{Toplevel as AsToplevel}
+use Rattle.wl_surface.specs.Request.{Frame}
 use Rattle.wl_shell.specs.Agreement.{AreApart as AreToldApart}
 use Rattle.wl_shell.specs.Shell.{Effect, Unconfigured, RoleObject, Shell, XdgSurface, acknowledged, acknowledging, configuring, in_stage, new_toplevel, on_commit, stage_of, unmapping, without_role, without_xdg, xdg_at, xdg_of}
 use Rattle.wl_shell.specs.Shell.{with_change as with_xdg_change, with_new as with_new_xdg}
@@ -28,7 +29,7 @@ use Rattle.wl_plain.proofs.OwningXdg.{has_surface}
 use Rattle.wl_plain.proofs.StandingClients.{IsFound, left-else, left-none, one_stepped, stepped-else, stepped-found, stepped-here}
 use Rattle.wl_plain.proofs.StandingFound.{Finds, found-so}
 use Rattle.wl_plain.proofs.StandingSurfaces.{committing, history-else, history-left, shown-asked, shown-committed, shown-role}
-use Rattle.wl_plain.proofs.Simply.{Asking, CommitSurface, DestroySurface, DestroyToplevel, Simple, changed_simply, committed_on, effect_for, effect_of, effect_on}
+use Rattle.wl_plain.proofs.Simply.{Asking, AskingFrame, CommitSurface, DestroySurface, DestroyToplevel, Simple, changed_simply, committed_on, effect_for, effect_of, effect_on}
 
 -- of this surface nothing changed that counts
 abbrev IsStill : Owned → Owned → ℕ → Type 0
@@ -211,6 +212,9 @@ bare-after (Asking (CreateSurface id version)) r told counts top is finds =
     bare-kept r.owned (with_all r is (with_new id r.owned.surfaces)) is (λ surface. (refl, made-shows id surface r.owned.surfaces.surfaces))
 bare-after (DestroySurface id) r told counts top is finds =
     bare-but id r.owned (with_all r is (without_surface id r.owned.surfaces)) is (never _ (ap waits finds)) (λ surface other. (refl, ap shows_buffer (history-left id surface r.owned.surfaces other)))
+bare-after (AskingFrame id version surface) r told counts top is finds =
+    let request = Frame r.peer.requests in
+    bare-kept r.owned (with_all r is (with_change surface (asking request) r.owned.surfaces)) is (λ other. (refl, shown-asked surface other request r.owned.surfaces counts))
 bare-after (Asking (AskSurface id request)) r told counts top is finds =
     bare-kept r.owned (with_all r is (with_change id (asking request) r.owned.surfaces)) is (λ surface. (refl, shown-asked id surface request r.owned.surfaces counts))
 bare-after (CommitSurface id effect) r told counts top is finds = committed-bare r is id effect told finds.0 (finds.1 top)

@@ -29,7 +29,7 @@ use Rattle.wl_shell.specs.Agreement.{AreApart}
 use Rattle.wl_shell.specs.Shell.{Effect, Stays, Unconfigured, Configures, Maps, Unmaps, RoleObject, answers_states, is_full, is_waiting, stage_of, xdg_at, xdg_of, xdg_with}
 use Rattle.wl_shell.specs.Shell.{XdgSurface as Xdg}
 use Rattle.wl_plain.specs.Ask.{Ask, Own, CreateSurface, AskSurface, DestroyBase, GetXdgSurface, DestroyXdgSurface, GetToplevel, Acknowledge, ConfigureAgain, Ignore, owns}
-use Rattle.wl_plain.specs.Demand.{Demand, Asks, EndSurface, CommitTree, EndToplevel, Move}
+use Rattle.wl_plain.specs.Demand.{Demand, Asks, EndSurface, CommitTree, EndToplevel, Move, AskFrame}
 use Rattle.wl_plain.specs.Demanding.{base_demand, committed_by, demand_by, demand_of, demands, effect_of_commit, judge_all, moved_by_pointer, own_demand, surface_demand, surface_destroyed, toplevel_asked, toplevel_demand, toplevel_destroyed, xdg_asked, xdg_demand}
 use Rattle.wl_plain.specs.LeftOut.{served_now}
 use Rattle.wl_client.specs.Requests.{Request, ToCompositor, ToSurface, ToSubcompositor, ToSubsurface, ToSeat, ToPointer, ToBase, ToPositioner, ToXdgSurface, ToToplevel, ToPopup, request_of}
@@ -138,7 +138,7 @@ transform-finds r object z =
 
 surface-finds : (r : Resident) (object version : ℕ) (request : WlSurfaceRequest) → unserved_now (ToSurface request) ≡ false → Accepts (surface_demand r object version request) r
 surface-finds r object version surface.Destroy served = destroyed-finds r object
-surface-finds r object version (surface.Frame callback) served = absurd (cc)
+surface-finds r object version (surface.Frame callback) served = accepted (AskFrame callback version object) r tt
 surface-finds r object version surface.Commit served = effect-finds r (xdg_of object r.owned.shell) object (effect_of_commit r object) refl refl
 surface-finds r object version (surface.SetBufferTransform transform) served = transform-finds r object transform
 surface-finds r object version (surface.Attach buffer x y) served = accepted _ r refl

@@ -8,7 +8,7 @@ use Rattle.std.proofs.lemmas.List.Folds.{list_all-append}
 use Rattle.wl_store.specs.Transform.{transform_of}
 use Rattle.wl_store.specs.declared.transform.Transform.{Transform}
 use Rattle.wl_store.specs.declared.transform.Transform.TheVariants.{Normal, Rotated90, Rotated180, Rotated270, Flipped, Flipped90, Flipped180, Flipped270}
-use Rattle.wl_surface.specs.Request.{Request, SetBufferTransform, Commit}
+use Rattle.wl_surface.specs.Request.{Request, SetBufferTransform, Commit, Frame}
 use Rattle.wl_surface.specs.State.{History, Values, applied, asked, first_values}
 use Rattle.wl_surface.specs.Surfaces.{Surface, Surfaces, asking, history_in, new_surface, surface_at, with_change, with_role, without_surface}
 use Rattle.wl_surface.specs.declared.role.Role.TheVariants.{Toplevel as AsToplevel}
@@ -21,7 +21,7 @@ use Rattle.wl_plain.proofs.OwningKeys.{gone, none-some, some-same}
 use Rattle.wl_plain.proofs.OwningSurfaces.{has_id}
 use Rattle.wl_plain.proofs.StandingFound.{Finds}
 use Rattle.wl_plain.proofs.StandingSurfaces.{changed-found, committing, history-left}
-use Rattle.wl_plain.proofs.Simply.{Asking, CommitSurface, DestroySurface, Simple, changed_simply, committed_on, effect_on}
+use Rattle.wl_plain.proofs.Simply.{Asking, AskingFrame, CommitSurface, DestroySurface, Simple, changed_simply, committed_on, effect_on}
 
 -- ---- one surface
 
@@ -106,6 +106,8 @@ given-turned id xdg (Some x) r is = changed-turned x.surface (with_role AsToplev
 pub turned-after : (ask : Simple) (r : Resident) → AreTurned r.owned.surfaces → Finds ask r → AreTurned (changed_simply ask r).owned.surfaces
 turned-after (Asking (CreateSurface id version)) r is finds = λ surface. made-turned id surface r.owned.surfaces.surfaces (is surface)
 turned-after (DestroySurface id) r is finds = left-turned id r.owned.surfaces is
+turned-after (AskingFrame id version surface) r is finds =
+    changed-turned surface (asking (Frame r.peer.requests)) r.owned.surfaces (λ s. refl) (λ s well. well-more s.history.requests (Frame r.peer.requests) well refl) is
 turned-after (Asking (AskSurface id request)) r is finds =
     changed-turned id (asking request) r.owned.surfaces (λ s. refl) (λ s well. well-more s.history.requests request well finds) is
 turned-after (CommitSurface id effect) r is finds =

@@ -483,10 +483,10 @@ pub row_invalid_transform : status 1 (asks 1 6 7 (Number (pos 8) ∷ []) one) �
 unfolding tree applied_tree behaves_synchronised depth descends_from height
 row_invalid_transform = refl
 
--- what is not served yet is refused as a limit would be
-pub row_frame_unserved : status 1 (asks 1 6 3 (Word 12 ∷ []) one) ≡ Some (Protocol 1 3)
+-- a frame callback
+pub row_frame : status 1 (asks 1 6 3 (Word 12 ∷ []) one) ≡ None
 unfolding tree applied_tree behaves_synchronised depth descends_from height
-row_frame_unserved = refl
+row_frame = refl
 
 -- after its new id
 pub row_frame_in_use : status 1 (asks 1 6 3 (Word 6 ∷ []) one) ≡ Some (Protocol 1 0)

@@ -8,6 +8,7 @@ use Rattle.std.proofs.lemmas.List.Elements.{filter-append}
 use Rattle.wl_surface.specs.State.{History}
 use Rattle.wl_surface.specs.Surfaces.{Surfaces, history_in, without_surface}
 use Rattle.wl_surface.specs.declared.role.Role.TheVariants.{Toplevel as AsToplevel}
+use Rattle.wl_surface.specs.Request.{Frame}
 use Rattle.wl_shell.specs.Shell.{Effect, Stays, Unconfigured, Configures, Maps, Unmaps, xdg_at, xdg_of}
 use Rattle.wl_shell.specs.Shell.{XdgSurface as Xdg}
 use Rattle.wl_scene.specs.Stacking.{Standing, is_of}
@@ -22,7 +23,7 @@ use Rattle.wl_plain.proofs.StandingFound.{Finds}
 use Rattle.wl_plain.proofs.StandingSurfaces.{committing, history-else, history-left, shown-role}
 use Rattle.wl_plain.proofs.Touching.{StaysAt, asked-stays, gone-stays, history-gone, made-stays, same-stays}
 use Rattle.wl_plain.proofs.TouchingWindows.{stands_else}
-use Rattle.wl_plain.proofs.Simply.{Asking, CommitSurface, DestroySurface, DestroyToplevel, Simple, changed_simply, effect_on, is_touched, stacked_simply, touched}
+use Rattle.wl_plain.proofs.Simply.{Asking, AskingFrame, CommitSurface, DestroySurface, DestroyToplevel, Simple, changed_simply, effect_on, is_touched, stacked_simply, touched}
 
 -- ---- what a client owns
 
@@ -48,6 +49,7 @@ pub asked-links : (ask : Simple) (r : Resident) → (changed_simply ask r).owned
 asked-links (Asking (Own action)) r = refl
 asked-links (Asking (CreateSurface id version)) r = refl
 asked-links (DestroySurface id) r = refl
+asked-links (AskingFrame id version surface) r = refl
 asked-links (Asking (AskSurface id request)) r = refl
 asked-links (CommitSurface id effect) r = ap (λ (all : Surfaces). all.links) (effect-surfaces id effect (xdg_of id r.owned.shell) _)
 asked-links (Asking (DestroyBase id)) r = refl
@@ -94,6 +96,8 @@ module _ (c : ℕ) (r : Resident) (standing : List Standing) (is : AreMapped c r
   asked-surfaces-stay (Asking (CreateSurface id version)) surface finds other =
       made-stays (list_any (is_of c surface) standing) id surface r.owned.surfaces (λ there. is.shows surface (sym (is.stands surface) ∙ there))
   asked-surfaces-stay (DestroySurface id) surface finds other = destroyed-stays id surface finds
+  asked-surfaces-stay (AskingFrame id version of) surface finds other =
+      asked-stays (list_any (is_of c surface) standing) of surface (Frame r.peer.requests) r.owned.surfaces counts
   asked-surfaces-stay (Asking (AskSurface id request)) surface finds other = asked-stays (list_any (is_of c surface) standing) id surface request r.owned.surfaces counts
   asked-surfaces-stay (CommitSurface id effect) surface finds other = committed-stays id surface effect other
   asked-surfaces-stay (Asking (DestroyBase id)) surface finds other = same-in surface r.owned.surfaces refl

@@ -25,7 +25,7 @@ use Rattle.wl_plain.proofs.CommitDamage.{AreNew, applied-so}
 use Rattle.wl_plain.proofs.FoundWindows.{IsSized, all-sized, found-each, none-stands, of-id, of-number}
 use Rattle.wl_plain.proofs.OwningKeys.{found-passes, none-some, some-same}
 use Rattle.wl_plain.proofs.Places.{stacked-clients}
-use Rattle.wl_plain.proofs.Simply.{Asking, CommitSurface, DestroySurface, DestroyToplevel, Simple, changed_simply, effect_for, effect_of, is_touched, stacked_simply, touched}
+use Rattle.wl_plain.proofs.Simply.{Asking, AskingFrame, CommitSurface, DestroySurface, DestroyToplevel, Simple, changed_simply, effect_for, effect_of, is_touched, stacked_simply, touched}
 use Rattle.wl_plain.proofs.StandingFound.{Finds}
 use Rattle.wl_plain.proofs.StandingLists.{apart-left, mapped-apart, without-here}
 use Rattle.wl_plain.proofs.StandingSurfaces.{committing, history-here}
@@ -73,6 +73,7 @@ module _ (c : ℕ) (r : Resident) (d : Desktop) (is : AreMapped c r.owned d.stan
   asked-apart (DestroyToplevel id xdg top) apart finds = apart-left _ d.standing apart
   asked-apart (Asking ask) apart finds = apart
   asked-apart (DestroySurface id) apart finds = apart
+  asked-apart (AskingFrame id version surface) apart finds = apart
 
   -- a commit takes what was asked of its surface
   commit-history : (id : ℕ) (effect : Effect) → history_in id (changed_simply (CommitSurface id effect) r).owned.surfaces ≡ option_map committed_now (history_in id r.owned.surfaces)
@@ -109,6 +110,7 @@ module _ (c : ℕ) (r : Resident) (d : Desktop) (is : AreMapped c r.owned d.stan
       inr (inr (subst (λ m. list_any (is_of c m) (without_surface_of c top d.standing) ≡ false) (some-same top id t) (without-here c top d.standing)))
   asked-keeps (Asking ask) id finds t = absurd (none-some id t)
   asked-keeps (DestroySurface n) id finds t = absurd (none-some id t)
+  asked-keeps (AskingFrame n version surface) id finds t = absurd (none-some id t)
 
 -- ---- a client that lives
 

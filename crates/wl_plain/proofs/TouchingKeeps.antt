@@ -17,7 +17,7 @@ use Rattle.wl_plain.specs.Step.{after_surface, with_peer}
 use Rattle.wl_plain.proofs.BridgeBack.{AsksBy, message-by}
 use Rattle.wl_plain.proofs.OrderlyObjectsThere.{there-changed}
 use Rattle.wl_plain.proofs.Places.{client-become, left_by, stacked-clients, status-become}
-use Rattle.wl_plain.proofs.Simply.{Asking, CommitSurface, DestroySurface, DestroyToplevel, Simple, changed_simply, committed_on, effect_on, stacked_simply, touched}
+use Rattle.wl_plain.proofs.Simply.{Asking, AskingFrame, CommitSurface, DestroySurface, DestroyToplevel, Simple, changed_simply, committed_on, effect_on, stacked_simply, touched}
 use Rattle.wl_plain.proofs.StandingSurfaces.{committing}
 
 -- one message asks one thing
@@ -44,6 +44,7 @@ still-there (CommitSurface surface effect) r id t there =
 still-there (DestroyToplevel toplevel xdg top) r id t there = there
 still-there (Asking ask) r id t there = absurd (cc)
 still-there (DestroySurface surface) r id t there = absurd (cc)
+still-there (AskingFrame new version surface) r id t there = absurd (cc)
 
 module _ (c : ℕ) (there : Resident) (d : Desktop) (is : client_at c d ≡ Some there) where
   module _ (ask : Simple) (asks : AsksBy there (split_of there.peer.rest) ask) (id : ℕ) (t : touched ask there ≡ Some id) (has : is_some (surface_at id there.owned.surfaces) ≡ true) where
@@ -76,6 +77,7 @@ module _ (c : ℕ) (there : Resident) (d : Desktop) (is : client_at c d ≡ Some
             peer-touched (DestroyToplevel toplevel xdg top) p = refl
             peer-touched (Asking ask) p = refl
             peer-touched (DestroySurface surface) p = refl
+            peer-touched (AskingFrame new version surface) p = refl
 
   -- The surface that a message touches is there afterwards, if it was before and the client lives on.
   pub serves-keeps : (new : Desktop) → NoMore d → Serves served_now c d new → status_in c new ≡ None → (ask : Simple) → AsksBy there (split_of there.peer.rest) ask → (id : ℕ) → touched ask there ≡ Some id

@@ -1,6 +1,6 @@
 -- What may happen to the plain desktop, and what a step does to the client that it is of.
 use Rattle.std.specs.Option.{option_map}
-use Rattle.std.specs.Prelude.{ℕ, ℤ, ◌≡◌, ◌+◌, List, [], ◌∷◌, length, nat_le, Bool, Option, Some, None, is_none, is_some}
+use Rattle.std.specs.Prelude.{ℕ, ℤ, ◌≡◌, ◌+◌, List, [], ◌∷◌, length, nat_le, Bool, true, false, Option, Some, None, is_none, is_some}
 use Rattle.wl_store.specs.Stores.{store_at, write_refusal}
 use Rattle.wl_store.specs.declared.stores.StoreError.{StoreError}
 use Rattle.wl_store.specs.declared.stores.StoreError.TheVariants as refused
@@ -34,6 +34,18 @@ pub data Act : Type 0 where
   Motion : ℕ → ℤ → ℤ → Act
   -- a button of the pointer is pressed or released: the time, the button, and whether it is pressed
   Button : ℕ → ℕ → Bool → Act
+
+-- a frame is shown
+abbrev pub is_tick : Act → Bool
+is_tick Connect = false
+is_tick (Feed client piece) = false
+is_tick (Store client store at bytes) = false
+is_tick (Leave client) = false
+is_tick (Tick time) = true
+is_tick (Send client count) = false
+is_tick (Close client) = false
+is_tick (Motion time x y) = false
+is_tick (Button time button pressed) = false
 
 abbrev pub fed_of : Option Cause → Fed
 fed_of None = Alive

@@ -12,6 +12,7 @@ use Rattle.wl_surface.specs.Request.{Frame}
 use Rattle.wl_surface.specs.Surfaces.{Surfaces, buffers_of, history_in, with_change as with_surface_change, with_role}
 use Rattle.wl_surface.specs.Trees.{committed_in, desynchronised_in, destroyed_in, linked, synchronised_in, unlinked}
 use Rattle.wl_surface.specs.declared.role.Role.TheVariants.{Popup as AsPopup, Cursor as AsCursor}
+use Rattle.wl_surface.specs.Waiting.{Callback}
 use Rattle.wl_shell.specs.Popups.{dismissing, is_parent_of, is_toplevel, new_popup, orphaning, parent_allows, parent_of, placing, popup_at, popup_changed, popups_of, with_grab, without_grab}
 use Rattle.wl_shell.specs.Positioner.{Placed, Positioner, first_positioner, place}
 use Rattle.wl_shell.specs.Shell.{Effect, Stays, Unconfigured, Configures, Maps, Unmaps, Waiting, Mapped, Popup, XdgSurface, in_stage, next_serial, unmapping, with_change, without_role, xdg_at, xdg_of}
@@ -20,7 +21,7 @@ use Rattle.wl_scene.specs.Stacking.{Standing, is_of, with_mapped, without_surfac
 use Rattle.wl_scene.specs.Windows.{Place, Window}
 use Rattle.wl_plain.specs.Demand.{Demand, Asks, EndSurface, AskFrame, CommitTree, EndObject, GetSubsurface, EndSubsurface, SetMode, GetPointer, MakeCursor, CreatePositioner, EndPositioner, SetPositioner, GetPopup, Grab, EndPopup, EndToplevel, Move}
 use Rattle.wl_plain.specs.Demanding.{effect_of_commit}
-use Rattle.wl_plain.specs.Desktop.{Callback, Desktop, Resident, Subsurface}
+use Rattle.wl_plain.specs.Desktop.{Desktop, Resident, Subsurface}
 use Rattle.wl_plain.specs.Popups.{parent_corner}
 use Rattle.wl_plain.specs.Step.{asked_of, asked_so_far, changed_by, configured, letting_go, making, removing, with_peer, with_shell, with_surfaces, xdg_changed}
 

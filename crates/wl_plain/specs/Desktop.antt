@@ -4,15 +4,11 @@ use Rattle.wl_client.specs.Objects.{ById, nothing}
 use Rattle.wl_client.specs.Told.{Output}
 use Rattle.wl_client.specs.declared.clients.Cause.{Cause}
 use Rattle.wl_client.specs.Peer.{Peer, newcomer}
+use Rattle.wl_surface.specs.Waiting.{Callback}
 use Rattle.wl_shell.specs.Positioner.{Positioner}
 use Rattle.wl_scene.specs.Pointer.{Pointer, first_pointer}
 use Rattle.wl_scene.specs.Stacking.{Owned, Standing, nothing_owned, without_client}
 use Rattle.wl_scene.specs.Windows.{Window}
-
--- a callback that a frame request asked for, by that request's number among the client's
-pub record Callback : Type 0 where
-  pub number : ℕ
-  pub id : ℕ
 
 -- a wl_subsurface by its id: the number of its link, and its surface, while that is there
 pub record Subsurface : Type 0 where

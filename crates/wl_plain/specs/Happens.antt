@@ -13,6 +13,7 @@ use Rattle.wl_client.specs.declared.refusals.Refusal.{Refusal}
 use Rattle.wl_client.specs.Peer.{Errs, IsIdle, LacksMemory, Peer, counted, ended, with_rest}
 use Rattle.wl_client.specs.Told.{Output, Said, display_error, id_deleted, said}
 use Rattle.wl_surface.specs.Frames.{frames_counting}
+use Rattle.wl_surface.specs.Waiting.{Callback}
 use Rattle.wl_shell.specs.Popups.{dismissing}
 use Rattle.wl_scene.specs.Pointer.{Pointer, Target, is_down, is_press, without_button}
 use Rattle.wl_scene.specs.Stacking.{raised}
@@ -25,7 +26,7 @@ use Rattle.wl_plain.specs.declared.answers.Stored.TheVariants as stored
 use Rattle.wl_plain.specs.Changing.{changed_for, grab_holder, stacked_for, with_kept_move, without_callbacks}
 use Rattle.wl_plain.specs.Demand.{Demand, Asks, Move}
 use Rattle.wl_plain.specs.Demanding.{judge_all}
-use Rattle.wl_plain.specs.Desktop.{Callback, Desktop, Resident, arrival, client_at, with_client}
+use Rattle.wl_plain.specs.Desktop.{Desktop, Resident, arrival, client_at, with_client}
 use Rattle.wl_plain.specs.Laws.{status_in}
 use Rattle.wl_plain.specs.LeftOut.{LeftOut}
 use Rattle.wl_plain.specs.Pointing.{button_told, has_pointers, motion_told, moved_with}

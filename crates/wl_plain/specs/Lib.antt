@@ -24,6 +24,7 @@ pub mod Step
 pub mod Acts
 pub mod Touching
 pub mod Happens
+pub mod Framing
 pub mod RunLaws
 pub mod Others
 pub mod Own

@@ -1,6 +1,6 @@
 -- Desktops that have no more than toplevels.
 use Rattle.std.specs.Prelude.{ℕ, ◌≡◌, ◌==◌, true, is_some, Option, Some, None, List, [], ◌∷◌}
-use Rattle.wl_proto.specs.declared.interface.Interface.TheVariants.{WlSurface}
+use Rattle.wl_proto.specs.declared.interface.Interface.TheVariants.{WlCallback, WlSurface}
 use Rattle.wl_client.specs.declared.clients.Cause.{Cause}
 use Rattle.wl_client.specs.Objects.{is_of}
 use Rattle.wl_surface.specs.Surfaces.{surface_at}
@@ -9,7 +9,7 @@ use Rattle.wl_scene.specs.Pointer.{first_pointer}
 use Rattle.wl_scene.specs.Stacking.{Standing}
 use Rattle.wl_plain.specs.Desktop.{Desktop, Resident, client_at, resident_of}
 use Rattle.wl_plain.specs.Laws.{toplevels_of}
-use Rattle.wl_plain.specs.Owning.{AreApartBy}
+use Rattle.wl_plain.specs.Owning.{AreApartBy, AreObjects}
 
 -- the role objects of a client are toplevels
 abbrev pub IsToplevel : Option RoleObject → Type 0
@@ -20,15 +20,15 @@ abbrev pub AreToplevels : Shell → Type 0
 AreToplevels [] = Unit {0}
 AreToplevels (x ∷ xs) = IsToplevel x.role × AreToplevels xs
 
--- A client has no links, subsurfaces, frame callbacks and pointers, and no popup. Its surfaces are told apart by their ids, which are those of
--- wl_surfaces.
+-- A client has no links, subsurfaces and pointers, and no popup. Its surfaces are told apart by their ids, which are those of wl_surfaces, and its
+-- frame callbacks by theirs, which are those of wl_callbacks.
 pub record OwnsToplevelsOnly (r : Resident) : Type 0 where
   pub links : r.owned.surfaces.links ≡ []
   pub apart : AreApartBy (λ id s. s.id == id) r.owned.surfaces.surfaces
   pub known : (id : ℕ) → is_some (surface_at id r.owned.surfaces) ≡ true → is_of WlSurface (r.peer.objects id) ≡ true
   pub roles : AreToplevels r.owned.shell
   pub subsurfaces : r.subsurfaces ≡ []
-  pub callbacks : r.callbacks ≡ []
+  pub callbacks : AreObjects WlCallback r.peer.objects (λ id callback. callback.id == id) r.callbacks
   pub pointers : r.pointers ≡ []
 
 -- one that ended owns nothing, and none of its toplevels stands

@@ -1,5 +1,6 @@
 -- What is kept of a client's surfaces and xdg_surfaces, under the numbers of the surfaces, and what the client owns, by ids.
 use Rattle.std.specs.Prelude.{ℕ, ◌≡◌, ◌==◌, Bool, true, false, if◌then◌else◌, is_some, Option, Some, None, Result, Ok, Err, List, [], ◌∷◌, find, length}
+use Rattle.std.specs.List.{list_any}
 use Rattle.std.specs.Option.{option_and_then, option_map_or}
 use Rattle.wl_proto.specs.declared.interface.Interface.{Interface}
 use Rattle.wl_proto.specs.declared.interface.Interface.TheVariants.{WlSurface, XdgSurface, XdgToplevel}
@@ -8,7 +9,7 @@ use Rattle.wl_table.specs.declared.entry.Entry.{Entry}
 use Rattle.wl_client.specs.declared.refusals.ErrorCode.TheVariants as error
 use Rattle.wl_client.specs.declared.refusals.Refusal.{Refusal}
 use Rattle.wl_client.specs.Told.{display_error}
-use Rattle.wl_client.specs.Objects.{ById, interface_number, with_id}
+use Rattle.wl_client.specs.Objects.{ById, Objects, interface_number, is_of, with_id}
 use Rattle.wl_surface.specs.Kept.{Numbered, Slots, StandForAll}
 use Rattle.wl_surface.specs.Kept.{count as count_kept}
 use Rattle.wl_surface.specs.State.{History, committed}
@@ -71,6 +72,10 @@ by_id numbers kept = λ id. option_and_then kept (numbers id)
 abbrev pub AreApartBy : {X : Type 0} → (ℕ → X → Bool) → List X → Type 0
 AreApartBy has [] = Unit {0}
 AreApartBy has (x ∷ xs) = ((key : ℕ) → has key x ≡ true → find (has key) xs ≡ None) × AreApartBy has xs
+
+-- each id is once among these, and is that of a live object of this interface
+abbrev pub AreObjects : {X : Type 0} → Interface → Objects → (ℕ → X → Bool) → List X → Type 0
+AreObjects interface objects has xs = AreApartBy has xs × ((id : ℕ) → list_any (has id) xs ≡ true → is_of interface (objects id) ≡ true)
 
 -- all that was committed counts
 abbrev pub AllCounts : History → Type 0

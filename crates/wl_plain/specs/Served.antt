@@ -2,18 +2,16 @@
 use Rattle.std.specs.Prelude.{Bool, true, false}
 use Rattle.wl_proto.specs.declared.wl_compositor.WlCompositorRequest.TheVariants as compositor
 use Rattle.wl_proto.specs.declared.wl_seat.WlSeatRequest.TheVariants as seat
-use Rattle.wl_proto.specs.declared.wl_surface.WlSurfaceRequest.TheVariants as surface
 use Rattle.wl_proto.specs.declared.xdg_surface.XdgSurfaceRequest.TheVariants as xdg
 use Rattle.wl_proto.specs.declared.xdg_wm_base.XdgWmBaseRequest.TheVariants as base
-use Rattle.wl_client.specs.Requests.{Request, ToDisplay, ToRegistry, ToCompositor, ToRegion, ToShm, ToPool, ToBuffer, ToSurface, ToSubcompositor, ToSubsurface, ToSeat, ToPointer, ToBase, ToPositioner, ToXdgSurface, ToPopup, ToNothing}
+use Rattle.wl_client.specs.Requests.{Request, ToDisplay, ToRegistry, ToCompositor, ToRegion, ToShm, ToPool, ToBuffer, ToSubcompositor, ToSubsurface, ToSeat, ToPointer, ToBase, ToPositioner, ToXdgSurface, ToPopup, ToNothing}
 
 -- Which requests aren't served: they are refused as a limit would be.
 abbrev pub Unserved : Type 0
 Unserved = Request → Bool
 
--- which aren't served now: those of frame callbacks, subsurfaces, popups and pointers
+-- which aren't served now: those of subsurfaces, popups and pointers
 abbrev pub unserved_now : Unserved
-unserved_now (ToSurface (surface.Frame callback)) = true
 unserved_now (ToSubcompositor request) = true
 unserved_now (ToSubsurface request) = true
 unserved_now (ToSeat (seat.GetPointer id)) = true

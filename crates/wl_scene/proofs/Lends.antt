@@ -22,11 +22,6 @@ slots-at lent (suc n) index slot some is within e =
     let less : index < length lent = grind (arith, nat_tests) in
     ap slots_of (sym (get_or_from_slice_get lent index slot None (slice_get_read lent (length lent) index slot refl less e)) ∙ ap (λ i. get_or lent i None) same)
 
--- a surface that is there, as it is told
-pub shown-current : {A : Type 0} (t : Standing) (current : Current A) (s : Option Surface) → IsCurrentAt (Some current) s → record { surface = record { client = t.client; surface = t.surface }; x = within_bounds (t.place.x +ℤ current.offset.x); y = within_bounds (t.place.y +ℤ current.offset.y); w = current.w; h = current.h } ≡ shown_with t (option_map (λ s. s.history) s)
-shown-current t current None is = absurd is
-shown-current t current (Some s) is = rw (is.width, is.height, is.offset.0, is.offset.1) refl
-
 pub shown-at : (owned : ℕ → Owned) (ts : List Toplevel) (k : ℕ) (t : Toplevel) (r : Told) → slice_get ts k ≡ Some t → r ≡ shown_by owned (standing_of t) → slice_get (map (shown_by owned) (map standing_of ts)) k ≡ Some r
 shown-at owned ts k t r e f =
     slice_get-map (shown_by owned) (map standing_of ts) k

@@ -3,7 +3,7 @@ use Rattle.std.specs.Prelude.{ℕ, zero, suc, ◌≡◌, Bool, true, false, Opti
 use Rattle.std.specs.List.{All}
 use Rattle.wl_surface.specs.State.{History, applied, height_of, width_of}
 use Rattle.wl_surface.specs.Surfaces.{history_in, is_there, surface_at}
-use Rattle.wl_surface.specs.Kept.{Slots, StandForAll}
+use Rattle.wl_surface.specs.Kept.{Slots, StandForAll, no_slots}
 use Rattle.wl_scene.specs.declared.owned.Owned.{Owned as Lent}
 use Rattle.wl_scene.specs.declared.window.Window.{Window as Told}
 use Rattle.wl_scene.specs.Stacking.{Owned, Standing}
@@ -11,12 +11,12 @@ use Rattle.wl_scene.specs.Windows.{Window, corner_at}
 
 -- what is kept of the surfaces of a client: nothing, where nothing is lent
 abbrev pub slots_of : {A : Type 0} → Option (Lent A) → Slots
-slots_of None = []
+slots_of None = no_slots
 slots_of (Some lent) = lent.surfaces
 
 -- What client c owns is lent at index c - 1. There is no client 0.
 abbrev pub slots_lent : {A : Type 0} → List (Option (Lent A)) → ℕ → Slots
-slots_lent lent zero = []
+slots_lent lent zero = no_slots
 slots_lent lent (suc index) = slots_of (slice_index_or lent index None)
 
 -- What is lent stands for what each client owns, its surfaces by their numbers. None of them is linked to another.

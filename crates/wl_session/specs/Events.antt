@@ -2,7 +2,8 @@
 use Rattle.std.specs.Prelude.{ℕ, ◌≡◌, ◌<◌, pos, Bool, true, false, List, [], ◌∷◌, filter}
 use Rattle.wl_paint.specs.Damage.{Damaged, has}
 use Rattle.wl_paint.specs.Frame.{Image}
-use Rattle.wl_plain.specs.Acts.{Act, Connect, Feed, Store, Leave, Tick, Send, Close, Motion, Button}
+use Rattle.wl_plain.specs.Acts.{Act}
+pub use Rattle.wl_plain.specs.Acts.{is_tick}
 use Rattle.wl_plain.specs.Desktop.{Desktop}
 use Rattle.wl_plain.specs.Happenings.{Happening, Leads, Message, Receive, Single, Starve}
 use Rattle.wl_plain.specs.LeftOut.{LeftOut}
@@ -76,17 +77,6 @@ pub record IsShown (before after : Moment) : Type 0 where
       → marks_at_least before.desktop after.desktop (pos x) (pos y) ≡ false
 
 -- ---- events
-
-abbrev pub is_tick : Act → Bool
-is_tick Connect = false
-is_tick (Feed client piece) = false
-is_tick (Store client store at bytes) = false
-is_tick (Leave client) = false
-is_tick (Tick time) = true
-is_tick (Send client count) = false
-is_tick (Close client) = false
-is_tick (Motion time x y) = false
-is_tick (Button time button pressed) = false
 
 -- a frame is shown
 abbrev pub is_frame : Happening → Bool

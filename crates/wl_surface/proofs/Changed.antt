@@ -1,11 +1,10 @@
 -- What a commit changes.
-use Rattle.std.proofs.Common.{◌≡◌, ℕ, ◌++◌, List, [], ◌∷◌, Bool, true, false, Option, Some, None, take, drop, refl, ap, sym, subst, ◌∙◌, arith}
+use Rattle.std.proofs.Common.{◌≡◌, ℕ, ◌++◌, List, [], ◌∷◌, Bool, true, false, Option, Some, None, take, drop, refl, ap, sym, ◌∙◌, arith}
 use Rattle.std.specs.Prelude.{◌↔◌, not}
-use Rattle.wl_store.specs.declared.transform.Transform.{Transform}
 use Rattle.wl_surface.specs.declared.applied.Change.{Change}
 use Rattle.wl_surface.specs.declared.applied.Shape.{Shape}
 use Rattle.wl_surface.specs.Applied.{AreFreed, with_freed, AreSame, HasShape, IsSameShape, newly_damaged, AreChanges, IsChange}
-use Rattle.wl_surface.specs.Kept.{IsAny, Kept, Numbered, Slots, StandForAll, StandsAt, StandsFor, buffer_of, changed_at, kept_at, kept_shows, shown_of, shows_at, with_at}
+use Rattle.wl_surface.specs.Kept.{IsAny, Kept, Numbered, StandForAll, StandsAt, StandsFor, buffer_of, changed_at, kept_shows, place_at, shown_of, shows_at, with_at}
 use Rattle.wl_surface.specs.Request.{Buffer, Commit, Request}
 use Rattle.wl_surface.specs.State.{History, damaged_rects}
 use Rattle.wl_surface.specs.Surfaces.{Surface, asking, names}
@@ -160,18 +159,18 @@ shown-there b None (Some s) t = absurd (t)
 shown-there b (Some k) None t = absurd (t)
 
 -- what stops being busy is freed, once
-pub freed-told : (slots new : Slots) (number : ℕ) (all after : Numbered) → ((other : ℕ) → (other == number) ≡ false → after other ≡ all other) → StandForAll slots all → StandForAll new after
-    → AreFreed (with_freed (λ b. list_any (λ e. kept_shows b e.1) (entries_from 0 new)) (option_map buffer_of (shown_of (kept_at slots number)).1) (with_freed (λ b. list_any (λ e. kept_shows b e.1) (entries_from 0 new)) (option_map buffer_of (shown_of (kept_at slots number)).0) [])) all after
+pub freed-told : (slots new : List (Option Kept)) (number : ℕ) (all after : Numbered) → ((other : ℕ) → (other == number) ≡ false → after other ≡ all other) → StandForAll (record { places = slots; frames = [] }) all → StandForAll (record { places = new; frames = [] }) after
+    → AreFreed (with_freed (λ b. list_any (λ e. kept_shows b e.1) (entries_from 0 new)) (option_map buffer_of (shown_of (place_at slots number)).1) (with_freed (λ b. list_any (λ e. kept_shows b e.1) (entries_from 0 new)) (option_map buffer_of (shown_of (place_at slots number)).0) [])) all after
 freed-told slots new number all after others stand stands b was is w i =
     let busy : ℕ → Bool = λ n. list_any (λ e. kept_shows n e.1) (entries_from 0 new) in
-    let shown = shown_of (kept_at slots number) in
+    let shown = shown_of (place_at slots number) in
     let told = both-freed busy (option_map buffer_of shown.0) (option_map buffer_of shown.1) b in
     let now = IsAny-kept (kept_shows b) (shows_at b) refl (shows-same b) new after stands (busy b) refl in
     told ∙ ap bit (same is w i (only-answer (shows_at b) after is (busy b) i now)) where
       same : (is : Bool) → IsAny (shows_at b) all was → IsAny (shows_at b) after is → is ≡ list_any (λ e. kept_shows b e.1) (entries_from 0 new)
-          → (kept-names b (shown_of (kept_at slots number)) && not (list_any (λ e. kept_shows b e.1) (entries_from 0 new))) ≡ (was && not is)
-      same true w i e = ap (λ x. kept-names b (shown_of (kept_at slots number)) && not x) (sym e) ∙ and-false (kept-names b (shown_of (kept_at slots number))) ∙ sym (and-false was)
-      same false w i e = ap (λ x. kept-names b (shown_of (kept_at slots number)) && not x) (sym e) ∙ ap (λ x. x && true) (sym (was-here (shows_at b) number all after was others w i ∙ shown-there b (kept_at slots number) (all number) (stand number)))
+          → (kept-names b (shown_of (place_at slots number)) && not (list_any (λ e. kept_shows b e.1) (entries_from 0 new))) ≡ (was && not is)
+      same true w i e = ap (λ x. kept-names b (shown_of (place_at slots number)) && not x) (sym e) ∙ and-false (kept-names b (shown_of (place_at slots number))) ∙ sym (and-false was)
+      same false w i e = ap (λ x. kept-names b (shown_of (place_at slots number)) && not x) (sym e) ∙ ap (λ x. x && true) (sym (was-here (shows_at b) number all after was others w i ∙ shown-there b (place_at slots number) (all number) (stand number)))
 
 -- a change of one surface leaves the others, and so does its end
 pub others-changed : (number : ℕ) (change : Surface → Surface) (all : Numbered) (other : ℕ) → (other == number) ≡ false → changed_at number change all other ≡ all other

@@ -1,10 +1,9 @@
 -- Trees of surfaces, computed on worked examples.
-use Rattle.std.proofs.Common.{◌≡◌, ℕ, zero, suc, ◌+◌, List, [], ◌∷◌, ◌++◌, Option, Some, None, true, false, refl}
-use Rattle.std.specs.Prelude.{ℤ, pos, fold}
+use Rattle.std.proofs.Common.{◌≡◌, ℕ, zero, suc, ◌+◌, Option, Some, None, true, false, refl}
+use Rattle.std.specs.Prelude.{pos}
 use Rattle.std.specs.Option.{option_map}
-use Rattle.wl_geom.specs.declared.rect.Rect.{Rect}
-use Rattle.wl_surface.specs.Request.{Buffer, Request, Attach, Commit, Damage, SetPosition}
-use Rattle.wl_surface.specs.State.{History, applied, held, pending}
+use Rattle.wl_surface.specs.Request.{Buffer, Request, Attach}
+use Rattle.wl_surface.specs.State.{applied}
 use Rattle.wl_surface.specs.Surfaces.{Surfaces, asking, history_in, is_busy, no_surfaces, with_change, with_new}
 use Rattle.wl_surface.specs.Trees.{applied_tree, behaves_synchronised, committed_in, depth, descends_from, desynchronised_in, destroyed_in, height, is_bad_parent, is_too_deep, levels, linked, synchronised_in, unlinked}
 use Rattle.wl_surface.proofs.Rows.{small}

@@ -7,6 +7,7 @@ use Rattle.wl_store.specs.declared.transform.Transform.{Transform}
 use Rattle.wl_store.specs.Transform.{is_turned, transform_of}
 use Rattle.wl_surface.specs.declared.content.Attached.{Attached}
 use Rattle.wl_surface.specs.declared.content.Offset.{Offset}
+use Rattle.wl_surface.specs.declared.frames.Waiting.{Waiting}
 use Rattle.wl_surface.specs.Request.{Buffer, Request}
 use Rattle.wl_surface.specs.declared.role.Role.{Role}
 use Rattle.wl_surface.specs.declared.surface.Current.{Current}
@@ -118,16 +119,25 @@ with_at number surface all other = cond (other == number) surface (all other)
 abbrev pub changed_at : ℕ → (Surface → Surface) → Numbered → Numbered
 changed_at number change all other = cond (other == number) (option_map change (all other)) (all other)
 
--- what is kept, by numbers from 0 on
-abbrev pub Slots : Type 0
-Slots = List (Option Kept)
+-- What is kept of the surfaces, by numbers from 0 on, and the frame requests that wait, in the order of the requests (wayland.xml,
+-- wl_surface.frame).
+pub record Slots : Type 0 where
+  pub places : List (Option Kept)
+  pub frames : List Waiting
+
+-- nothing is kept
+abbrev pub no_slots : Slots
+no_slots = record { places = []; frames = [] }
+
+abbrev pub place_at : List (Option Kept) → ℕ → Option Kept
+place_at places number = slice_index_or places number None
 
 abbrev pub kept_at : Slots → ℕ → Option Kept
-kept_at slots number = slice_index_or slots number None
+kept_at slots number = place_at slots.places number
 
 -- how many surfaces are kept
 abbrev pub count : Slots → ℕ
-count slots = count_by is_some slots
+count slots = count_by is_some slots.places
 
 abbrev pub one_if_kept : Option Kept → ℕ
 one_if_kept slot = cond (is_some slot) 1 0

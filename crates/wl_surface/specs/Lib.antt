@@ -6,3 +6,4 @@ pub mod Request
 pub mod State
 pub mod Surfaces
 pub mod Trees
+pub mod Waiting

@@ -5,6 +5,7 @@ ghost use Rattle.wl_surface.specs.Laws.{CommitTakesAll};
 
 mod applied;
 mod content;
+mod frames;
 mod role;
 mod surface;
 mod surfaces;

@@ -1,17 +1,19 @@
 //! The surfaces of a client.
 
-ghost use Rattle.std.specs.Prelude.{ℕ, [], ◌≡◌, ◌≢◌, ◌+◌, ◌<◌, ◌≤◌, ◌||◌, ◌==◌, vec_len, vec_capacity, ◌↔◌, List, map, Option, Some, None, IfOk, OnOk, OnErr, IfErr, IsErr, IsOk, MatchBool, nat_le, unsigned_abs, option_copied, true};
+ghost use Rattle.std.specs.Prelude.{ℕ, [], ◌≡◌, ◌≢◌, ◌+◌, ◌<◌, ◌≤◌, ◌||◌, ◌==◌, vec_len, vec_capacity, ◌↔◌, List, map, Option, Some, None, IfOk, OnOk, OnErr, IfErr, IfNone, IfSome, IsErr, IsOk, MatchBool, OnSome, if◌then◌else◌, is_some, ◌++◌, ◌∷◌, nat_le, length, unsigned_abs, option_copied, true, false, filter, not};
 ghost use Rattle.std.specs.List.{list_any};
 ghost use Rattle.std.specs.Option.{option_map};
 ghost use Rattle.slab.specs.Slab.{entries};
 ghost use Rattle.wl_geom.specs.Region.{Change as RegionChange, Stands as Covers};
 ghost use Rattle.wl_surface.specs.Applied.{AreChanges, AreFreed, AreGone, with_freed, is_shown_at};
 ghost use Rattle.wl_surface.specs.Kept.{Changes, IsAny, changed_at, shown_of, IsCopied, IsCurrentAt, kept_at, one_if_kept, Numbered, StandForAll, buffer_of, content_at, count, counting_in, counting_of, had_at, has_at, is_transform, kept_has, kept_shows, nobody, pending_at, role_at, shows_at, with_at};
-ghost use Rattle.wl_surface.specs.Request.{Attach, Commit, Damage, SetBufferTransform, SetInputRegion, SetOpaqueRegion};
+ghost use Rattle.wl_surface.specs.Request.{Attach, Commit, Damage, Frame, SetBufferTransform, SetInputRegion, SetOpaqueRegion};
 ghost use Rattle.wl_surface.specs.Surfaces.{applying, asking, new_surface, with_role};
+ghost use Rattle.wl_surface.specs.Waiting.{AreUndue, AreWaiting, Callback, IsNewNumber, IsNextDue, applied_by, frames_at, is_in, callbacks_of as those_of, next_of, without_next, without_those_of};
 
 use crate::applied::{Applied, Change};
 use crate::content::{Attached, BufferNo};
+use crate::frames::{Waiting, apply_all, callbacks_of, next_place};
 use crate::role::{Role, SurfaceError};
 use crate::surface::{Current, Surface};
 use slab::Slab;
@@ -26,10 +28,12 @@ pub type SurfaceNo = usize;
 /// How many surfaces a client may have.
 pub const MAX_SURFACES: usize = 256;
 
-/// The surfaces of a client by their numbers. They are seen as what is kept of each.
+/// The surfaces of a client by their numbers, and the frame requests that wait, in the order of the requests. They are seen as what is kept
+/// of each.
 #[derive(Drop)]
 pub struct Surfaces<A: Allocator> {
     slots: Slab<Surface<A>, A>,
+    frames: Vec<Waiting, A>,
     alloc: A,
 }
 
@@ -38,7 +42,7 @@ impl<A: Allocator> Model for Surfaces<A> {
 
     ghost Value = { Slots };
 
-    ghost view = { λ surfaces. surfaces.slots.slots };
+    ghost view = { λ surfaces. record { places = surfaces.slots.slots; frames = surfaces.frames.items } };
 }
 
 /// Whether one of the surfaces has the buffer held or applied.
@@ -117,9 +121,11 @@ impl<A: Allocator + Copy> Surfaces<A> {
     pub fn new(alloc: A) -> Self
         ensures stand { StandForAll result nobody }
         ensures count { count result ≡ 0 }
+        ensures frames { result.frames ≡ [] }
     {
         Surfaces {
             slots: Slab::new(alloc),
+            frames: Vec::new(alloc),
             alloc,
         }
     }
@@ -133,6 +139,7 @@ impl<A: Allocator + Copy> Surfaces<A> {
         ensures room { OnOk result (count self.old < 256) }
         ensures err { OnErr result (self.new ≡ self.old) }
         ensures cause { IfErr result (λ e. MatchBool (nat_le 256 (count self.old)) (e ≡ SurfaceError.TooMany) (e ≡ SurfaceError.Memory)) }
+        ensures frames { self.new.frames ≡ self.old.frames }
     {
         if MAX_SURFACES <= self.slots.len() {
             return Err(SurfaceError::TooMany);
@@ -150,6 +157,7 @@ impl<A: Allocator + Copy> Surfaces<A> {
         region: Option<&Region<A>>,
     ) -> Result<(), SurfaceError>
         ensures ok { OnOk result ((changes : Option (List RegionChange)) → IsCopied (option_copied region.entry) changes → Changes self.old self.new surface (asking (SetOpaqueRegion changes))) }
+        ensures frames { self.new.frames ≡ self.old.frames }
         ensures err { OnErr result (self.new ≡ self.old) }
         ensures cause { IfErr result (λ e. e ≡ SurfaceError.Memory) }
     {
@@ -168,6 +176,7 @@ impl<A: Allocator + Copy> Surfaces<A> {
         region: Option<&Region<A>>,
     ) -> Result<(), SurfaceError>
         ensures ok { OnOk result ((changes : Option (List RegionChange)) → IsCopied (option_copied region.entry) changes → Changes self.old self.new surface (asking (SetInputRegion changes))) }
+        ensures frames { self.new.frames ≡ self.old.frames }
         ensures err { OnErr result (self.new ≡ self.old) }
         ensures cause { IfErr result (λ e. e ≡ SurfaceError.Memory) }
     {
@@ -178,9 +187,13 @@ impl<A: Allocator + Copy> Surfaces<A> {
         Ok(())
     }
 
-    /// wl_surface.commit: what is pending is applied, and what that changes is told. Without memory nothing changes.
+    /// wl_surface.commit: what is pending is applied, the surface's frame requests with it, and what that changes is told. Without memory
+    /// nothing changes.
     pub fn commit(&mut self, surface: SurfaceNo) -> Result<Applied<A>, SurfaceError>
         ensures ok { OnOk result (Changes self.old self.new surface (λ s. applying (asking Commit s))) }
+        ensures frames { OnOk result (self.new.frames ≡ map (applied_by surface) self.old.frames) }
+        ensures waits { OnOk result ((all : Numbered) (cs : List Callback) → AreWaiting self.old.frames all cs
+            → AreWaiting self.new.frames (changed_at surface (λ s. applying (asking Commit s)) all) cs) }
         ensures changes { IfOk result (λ applied. (all : Numbered) → StandForAll self.old all → AreChanges surface (all surface) applied.changes.items) }
         ensures freed { IfOk result (λ applied. (all : Numbered) → StandForAll self.old all
             → AreFreed applied.freed.items all (changed_at surface (λ s. applying (asking Commit s)) all)) }
@@ -195,6 +208,7 @@ impl<A: Allocator + Copy> Surfaces<A> {
         if let Some(kept) = self.slots.get_mut(surface) {
             changes.push_reserved(kept.commit_change(surface, alloc)?);
         }
+        apply_all(&mut self.frames, surface);
         add_freed(&self.slots, current, &mut freed);
         add_freed(&self.slots, held, &mut freed);
         Ok(Applied {
@@ -204,21 +218,27 @@ impl<A: Allocator + Copy> Surfaces<A> {
         })
     }
 
-    /// wl_surface.destroy: the surface is gone, and what that changes is told. Nothing changes where there is none of this number, nor
-    /// without memory.
+    /// wl_surface.destroy: the surface is gone, its frame requests with it, and what that changes is told. Nothing changes where there is
+    /// none of this number, nor without memory.
     pub fn destroy(&mut self, surface: SurfaceNo) -> Result<Applied<A>, SurfaceError>
         ensures ok { OnOk result ((all : Numbered) → StandForAll self.old all → StandForAll self.new (with_at surface None all)) }
         ensures count { OnOk result (count self.new + one_if_kept (kept_at self.old surface) ≡ count self.old) }
         ensures changes { IfOk result (λ applied. (all : Numbered) → StandForAll self.old all → AreGone surface (all surface) applied.changes.items) }
         ensures freed { IfOk result (λ applied. (all : Numbered) → StandForAll self.old all
             → AreFreed applied.freed.items all (with_at surface None all)) }
-        ensures callbacks { IfOk result (λ applied. applied.callbacks.items ≡ []) }
+        ensures callbacks { IfOk result (λ applied. applied.callbacks.items ≡ those_of surface self.old.frames) }
+        ensures frames { OnOk result (self.new.frames ≡ without_those_of surface self.old.frames) }
+        ensures ids { IfOk result (λ applied. (all : Numbered) (cs : List Callback) → AreWaiting self.old.frames all cs
+            → applied.callbacks.items ≡ map (λ (c : Callback). c.id) (filter (is_in (frames_at (all surface))) cs)) }
+        ensures waits { OnOk result ((all : Numbered) (cs : List Callback) → AreWaiting self.old.frames all cs
+            → AreWaiting self.new.frames (with_at surface None all) (filter (λ c. not (is_in (frames_at (all surface)) c)) cs)) }
         ensures err { OnErr result (self.new ≡ self.old) }
         ensures cause { IfErr result (λ e. e ≡ SurfaceError.Memory) }
     {
         let alloc = self.alloc;
         let changes = self.going(surface)?;
         let mut freed = Vec::with_capacity(alloc, 2)?;
+        let callbacks = callbacks_of(&self.frames, surface, alloc)?;
         let (current, held) = self.shown(surface);
         self.remove(surface);
         add_freed(&self.slots, current, &mut freed);
@@ -226,7 +246,7 @@ impl<A: Allocator + Copy> Surfaces<A> {
         Ok(Applied {
             changes,
             freed,
-            callbacks: Vec::new(alloc),
+            callbacks,
         })
     }
 
@@ -247,7 +267,8 @@ impl<A: Allocator + Copy> Surfaces<A> {
     }
 
     fn clear_opaque(&mut self, surface: SurfaceNo)
-        ensures { Changes self.old self.new surface (asking (SetOpaqueRegion None)) }
+        ensures changes { Changes self.old self.new surface (asking (SetOpaqueRegion None)) }
+        ensures frames { self.new.frames ≡ self.old.frames }
     {
         if let Some(kept) = self.slots.get_mut(surface) {
             kept.clear_opaque();
@@ -256,9 +277,46 @@ impl<A: Allocator + Copy> Surfaces<A> {
 }
 
 impl<A: Allocator> Surfaces<A> {
+    /// wl_surface.frame: a callback that waits until a commit applies it and a frame is shown. Without memory nothing changes.
+    pub fn frame(&mut self, surface: SurfaceNo, callback: u32) -> Result<(), SurfaceError>
+        ensures ok { OnOk result ((n : ℕ) → Changes self.old self.new surface (asking (Frame n))) }
+        ensures frames { OnOk result (self.new.frames ≡ (if is_some (kept_at self.old surface) then self.old.frames ++ record { surface = surface; callback = callback; is_applied = false } ∷ [] else self.old.frames)) }
+        ensures waits { OnOk result ((all : Numbered) (cs : List Callback) → StandForAll self.old all → AreWaiting self.old.frames all cs → is_some (all surface) ≡ true → (n : ℕ) → IsNewNumber n all cs
+            → AreWaiting self.new.frames (changed_at surface (asking (Frame n)) all) (cs ++ record { number = n; id = callback } ∷ [])) }
+        ensures err { OnErr result (self.new ≡ self.old) }
+        ensures cause { IfErr result (λ e. e ≡ SurfaceError.Memory) }
+    {
+        if self.slots.get(surface).is_none() {
+            return Ok(());
+        }
+        self.frames.push(Waiting {
+            surface,
+            callback,
+            is_applied: false,
+        })?;
+        Ok(())
+    }
+
+    /// Takes out the applied callback that was requested first, if there is one: it is answered at the next frame that is shown
+    /// (wayland.xml, wl_surface.frame).
+    pub fn next_frame(&mut self) -> Option<u32>
+        ensures next { result ≡ next_of self.old.frames }
+        ensures frames { self.new.frames ≡ without_next self.old.frames }
+        ensures places { self.new.places ≡ self.old.places }
+        ensures less { OnSome result (length self.new.frames < length self.old.frames) }
+        ensures due { IfSome result (λ id. (all : Numbered) (cs : List Callback) → AreWaiting self.old.frames all cs → IsNextDue id all cs self.new.frames) }
+        ensures none { IfNone result ((self.new ≡ self.old) × ((all : Numbered) (cs : List Callback) → AreWaiting self.old.frames all cs → AreUndue all cs)) }
+    {
+        let Some(place) = next_place(&self.frames) else {
+            return None;
+        };
+        Some(self.frames.remove(place).callback)
+    }
+
     /// wl_surface.attach of a buffer, or of none, at this offset in pixels. It is pending until the next commit.
     pub fn attach(&mut self, surface: SurfaceNo, buffer: Option<Attached>, x: i32, y: i32)
-        ensures { Changes self.old self.new surface (asking (Attach (option_map buffer_of buffer) x y)) }
+        ensures changes { Changes self.old self.new surface (asking (Attach (option_map buffer_of buffer) x y)) }
+        ensures frames { self.new.frames ≡ self.old.frames }
     {
         if let Some(kept) = self.slots.get_mut(surface) {
             kept.attach(buffer, x, y);
@@ -268,6 +326,7 @@ impl<A: Allocator> Surfaces<A> {
     /// wl_surface.damage of a rectangle in surface pixels. Without memory nothing changes.
     pub fn damage(&mut self, surface: SurfaceNo, rect: Rect) -> Result<(), SurfaceError>
         ensures ok { OnOk result (Changes self.old self.new surface (asking (Damage rect))) }
+        ensures frames { self.new.frames ≡ self.old.frames }
         ensures err { OnErr result (self.new ≡ self.old) }
         ensures cause { IfErr result (λ e. e ≡ SurfaceError.Memory) }
     {
@@ -278,7 +337,8 @@ impl<A: Allocator> Surfaces<A> {
     }
 
     fn set_opaque_to(&mut self, surface: SurfaceNo, region: Region<A>)
-        ensures { (changes : List RegionChange) → Covers region changes → Changes self.old self.new surface (asking (SetOpaqueRegion (Some changes))) }
+        ensures changes { (changes : List RegionChange) → Covers region changes → Changes self.old self.new surface (asking (SetOpaqueRegion (Some changes))) }
+        ensures frames { self.new.frames ≡ self.old.frames }
     {
         if let Some(kept) = self.slots.get_mut(surface) {
             kept.set_opaque(region);
@@ -286,7 +346,8 @@ impl<A: Allocator> Surfaces<A> {
     }
 
     fn set_input_to(&mut self, surface: SurfaceNo, region: Region<A>)
-        ensures { (changes : List RegionChange) → Covers region changes → Changes self.old self.new surface (asking (SetInputRegion (Some changes))) }
+        ensures changes { (changes : List RegionChange) → Covers region changes → Changes self.old self.new surface (asking (SetInputRegion (Some changes))) }
+        ensures frames { self.new.frames ≡ self.old.frames }
     {
         if let Some(kept) = self.slots.get_mut(surface) {
             kept.set_input(region);
@@ -294,7 +355,8 @@ impl<A: Allocator> Surfaces<A> {
     }
 
     fn clear_input(&mut self, surface: SurfaceNo)
-        ensures { Changes self.old self.new surface (asking (SetInputRegion None)) }
+        ensures changes { Changes self.old self.new surface (asking (SetInputRegion None)) }
+        ensures frames { self.new.frames ≡ self.old.frames }
     {
         if let Some(kept) = self.slots.get_mut(surface) {
             kept.clear_input();
@@ -303,7 +365,8 @@ impl<A: Allocator> Surfaces<A> {
 
     fn turn(&mut self, surface: SurfaceNo, number: u32)
         requires { number < 8 }
-        ensures { Changes self.old self.new surface (asking (SetBufferTransform number)) }
+        ensures changes { Changes self.old self.new surface (asking (SetBufferTransform number)) }
+        ensures frames { self.new.frames ≡ self.old.frames }
     {
         if let Some(kept) = self.slots.get_mut(surface) {
             kept.set_transform(Transform::from_number(number));
@@ -313,6 +376,7 @@ impl<A: Allocator> Surfaces<A> {
     /// wl_surface.set_buffer_transform to one of the eight transforms. `Transform` is refused for any other number, and nothing changes then.
     pub fn set_transform(&mut self, surface: SurfaceNo, transform: i32) -> Result<(), SurfaceError>
         ensures ok { OnOk result (Changes self.old self.new surface (asking (SetBufferTransform (unsigned_abs transform)))) }
+        ensures frames { self.new.frames ≡ self.old.frames }
         ensures valid { IsOk result ↔ (is_transform transform ≡ true) }
         ensures err { OnErr result (self.new ≡ self.old) }
         ensures cause { IfErr result (λ e. e ≡ SurfaceError.Transform) }
@@ -327,6 +391,7 @@ impl<A: Allocator> Surfaces<A> {
     /// Gives a surface its role, for life. `Role` is refused exactly where it has another one, and nothing changes then.
     pub fn give_role(&mut self, surface: SurfaceNo, role: Role) -> Result<(), SurfaceError>
         ensures ok { OnOk result (Changes self.old self.new surface (with_role role)) }
+        ensures frames { self.new.frames ≡ self.old.frames }
         ensures err { OnErr result (self.new ≡ self.old) }
         ensures refused { (all : Numbered) → StandForAll self.old all → (IsErr result) ↔ ((other : Role) × (role_at (all surface) ≡ Some other) × (other ≢ role)) }
         ensures cause { IfErr result (λ e. e ≡ SurfaceError.Role) }
@@ -386,8 +451,10 @@ impl<A: Allocator> Surfaces<A> {
     fn remove(&mut self, surface: SurfaceNo)
         ensures stand { (all : Numbered) → StandForAll self.old all → StandForAll self.new (with_at surface None all) }
         ensures count { count self.new + one_if_kept (kept_at self.old surface) ≡ count self.old }
+        ensures frames { self.new.frames ≡ without_those_of surface self.old.frames }
     {
         self.slots.try_remove(surface);
+        self.frames.retain(|waiting| waiting.surface != surface);
     }
 
     /// Whether a surface shows a buffer.

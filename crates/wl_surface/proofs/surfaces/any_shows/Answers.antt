@@ -1,4 +1,4 @@
-use Rattle.std.proofs.Common.{refl, sym, ◌∙◌}
+use Rattle.std.proofs.Common.{refl, sym}
 use Rattle.wl_surface.proofs.surfaces.any_shows.Goals as goal
 
 pub returns-then-shows : goal.returns-then-shows

@@ -7,7 +7,7 @@ use Rattle.wl_client.proofs.clients.Client.is_buffer_used.Goals as goal
 
 pub returns-in-Some : goal.returns-in-Some
 returns-in-Some g c = λ used are.
-    used-same _ used _ _ are c.is_used.ensures
+    used-same c.args.surfaces.now used _ _ are c.is_used.ensures
     ∙ ap used c.number.ensures
     ∙ ap (λ b. has_used used b) c.in-Some.ensures.value
     ∙ ap (λ (v : ClientView). has_used used (held_at v.buffers c.args.id)) c.self.view_is

@@ -1,6 +1,6 @@
 use Rattle.std.proofs.Common.{refl, Some, w32}
 use Rattle.std.proofs.lemmas.Int.{to_z-of_z}
-use Rattle.wl_surface.proofs.Records.{For-asked, still, undamaged}
+use Rattle.wl_surface.proofs.Records.{For-asked, undamaged}
 use Rattle.wl_surface.specs.Request.{Attach}
 use Rattle.std.specs.Option.{option_map}
 use Rattle.wl_surface.specs.Kept.{buffer_of}

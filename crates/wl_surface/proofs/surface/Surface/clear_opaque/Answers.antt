@@ -1,4 +1,4 @@
-use Rattle.std.proofs.Common.{refl, Some, None, []}
+use Rattle.std.proofs.Common.{refl, Some, None}
 use Rattle.wl_surface.proofs.Records.{For-asked, still, undamaged}
 use Rattle.wl_surface.specs.Request.{SetOpaqueRegion}
 use Rattle.wl_surface.proofs.surface.Surface.clear_opaque.Goals as goal

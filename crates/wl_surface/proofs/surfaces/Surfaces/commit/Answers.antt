@@ -1,7 +1,10 @@
-use Rattle.std.proofs.Common.{Option, Some, None, sym, subst, ◌∙◌}
+use Rattle.std.proofs.Common.{◌≡◌, Option, map, ap, refl, sym, subst, ◌∙◌}
 use Rattle.wl_surface.specs.Kept.{Kept, StandsAt, changed_at}
 use Rattle.wl_surface.specs.Request.{Commit}
 use Rattle.wl_surface.specs.Surfaces.{Surface, applying, asking}
+use Rattle.wl_surface.specs.Waiting.{applied_by}
+use Rattle.wl_surface.proofs.Counting.{waiting-committed}
+use Rattle.wl_surface.proofs.Waiting.{applied-all}
 use Rattle.wl_surface.proofs.Changed.{freed-told, others-changed, told-none, told-some}
 use Rattle.wl_surface.proofs.Slots.{Changes-at, Changes-none}
 use Rattle.wl_surface.proofs.surfaces.Surfaces.commit.Goals as goal
@@ -11,8 +14,8 @@ pub returns-clause-ok : goal.returns-clause-ok
 returns-clause-ok g c =
     let at = c.get_mut.ensures.value in
     elim c.match-get_mut.branch [
-      | in-Some+in_ok-commit_change w ↦ rw (← c.self.view_is, w.self-inside-is) (Changes-at c.self.inside.slots.slots c.args.surface _ _ _ (sym (rw w.in-Some.is at at)) w.in_ok-commit_change.ensures.ok)
-      | in_default w ↦ rw (← c.self.view_is, w.self-inside-is) (Changes-none c.self.inside.slots.slots c.args.surface _ (sym (rw w.in_default.is at at)))
+      | in-Some+in_ok-commit_change w ↦ rw (← c.self.view_is, w.self-inside-is) (Changes-at c.self.inside.slots.slots _ _ c.args.surface _ _ _ (sym (rw w.in-Some.is at at)) w.in_ok-commit_change.ensures.ok)
+      | in_default w ↦ rw (← c.self.view_is, w.self-inside-is) (Changes-none c.self.inside.slots.slots _ _ c.args.surface _ (sym (rw w.in_default.is at at)))
     ]
 
 pub returns-clause-changes : goal.returns-clause-changes
@@ -29,3 +32,15 @@ returns-clause-freed g c = λ all stand.
     let stands = (returns-clause-ok g c).stand all stand in
     rw (c.add_freed-2.ensures.items, c.add_freed.ensures.items, c.in_ok-freed.ensures.items, c.shown-current.ensures, ← c.self.view_is)
     (freed-told c.self.inside.slots.slots c.match-get_mut.self-inside.slots.slots c.args.surface all (changed_at c.args.surface (λ (s : Surface). applying (asking Commit s)) all) (others-changed c.args.surface (λ (s : Surface). applying (asking Commit s)) all) (rw (← c.self.view_is) at stand) stands)
+
+pub returns-clause-frames : goal.returns-clause-frames
+returns-clause-frames g c =
+    let same : c.match-get_mut.self-inside.frames.items ≡ c.args.self.now.frames = elim c.match-get_mut.branch [
+      | in-Some+in_ok-commit_change w ↦ rw (← c.self.view_is, w.self-inside-is) refl
+      | in_default w ↦ rw (← c.self.view_is, w.self-inside-is) refl
+    ] in
+    applied-all c.args.surface c.deref_mut.result.now c.apply_all.new.frames c.match-get_mut.self-inside.frames.items _ c.apply_all.ensures c.deref_mut.ensures.value c.deref_mut.ensures.len
+    ∙ ap (λ ws. map (applied_by c.args.surface) ws) same
+
+pub returns-clause-waits : goal.returns-clause-waits
+returns-clause-waits g c = λ all cs are. rw (returns-clause-frames g c) (waiting-committed c.args.surface all c.args.self.now.frames cs are)

@@ -1,0 +1,62 @@
+//! The frame requests that wait for their callbacks.
+
+ghost use Rattle.std.specs.Prelude.{◌≡◌, IfOk, map};
+ghost use Rattle.std.specs.List.{position};
+ghost use Rattle.wl_surface.specs.Waiting.{applied_by, callbacks_of as those_of};
+
+use crate::surfaces::SurfaceNo;
+use std::alloc::{AllocError, Allocator};
+
+/// A callback that waits (wayland.xml, wl_surface.frame): the surface that it was requested of, and its id. It is applied once a commit of its
+/// surface came after it.
+#[derive(Clone, Copy)]
+pub(crate) struct Waiting {
+    pub(crate) surface: SurfaceNo,
+    pub(crate) callback: u32,
+    pub(crate) is_applied: bool,
+}
+
+impl Waiting {
+    /// What a commit of the surface makes of it.
+    fn applied_by(self, surface: SurfaceNo) -> Waiting
+        ensures { result ≡ applied_by surface self }
+    {
+        Waiting {
+            is_applied: self.is_applied || self.surface == surface,
+            ..self
+        }
+    }
+}
+
+/// A commit of the surface applies its requests.
+pub(crate) fn apply_all(frames: &mut [Waiting], surface: SurfaceNo)
+    ensures { frames.new ≡ map (applied_by surface) frames.old }
+{
+    for waiting in frames.iter_mut() {
+        *waiting = waiting.applied_by(surface);
+    }
+}
+
+/// The callbacks of the surface, in the order of their requests.
+pub(crate) fn callbacks_of<A: Allocator>(
+    frames: &[Waiting],
+    surface: SurfaceNo,
+    alloc: A,
+) -> Result<Vec<u32, A>, AllocError>
+    ensures { IfOk result (λ callbacks. callbacks.items ≡ those_of surface frames.now) }
+{
+    let mut callbacks = Vec::new(alloc);
+    for waiting in frames {
+        if waiting.surface == surface {
+            callbacks.push(waiting.callback)?;
+        }
+    }
+    Ok(callbacks)
+}
+
+/// The place of the applied one that was requested first.
+pub(crate) fn next_place(frames: &[Waiting]) -> Option<usize>
+    ensures { result ≡ position (λ (w : Waiting). w.is_applied) frames.now }
+{
+    frames.iter().position(|waiting| waiting.is_applied)
+}
