@@ -6,7 +6,7 @@ ghost use Rattle.wl_client.specs.Agreement.{output_of};
 ghost use Rattle.wl_client.specs.Told.{Said, id_deleted, released_told, said, said_bytes};
 ghost use Rattle.wl_proto.specs.Messages.{says};
 ghost use Rattle.wl_wire.specs.Wire.{Word};
-ghost use Rattle.wl_proto.specs.declared.interface.Interface.TheVariants.{WlBuffer, WlCallback};
+ghost use Rattle.wl_proto.specs.declared.interface.Interface.TheVariants.{WlCallback};
 ghost use Rattle.wl_client.specs.Peer.{IsUnqueuedFor, has_room, object_at_version};
 ghost use Rattle.wl_client.specs.Said.{said_of};
 
@@ -236,18 +236,6 @@ impl<A: Allocator + Copy> Client<A> {
         let _removed = self.objects.remove(id);
         self.queue_all(&[deletion_event(id)]);
     }
-
-    /// Removes an object, whose id is given back, and tells that a buffer is released.
-    pub fn remove_and_release(&mut self, id: u32, buffer: u32)
-        ensures table { self.new.ended ≡ None → HoldsAt self.old.objects self.new.objects id None }
-        ensures removes { (p : Peer) → IsPeer self.old p
-            → (q : Peer) × Queues (id_deleted id ∷ said buffer (says WlBuffer 0 []) ∷ []) (removed id p) q × IsPeer self.new q }
-        ensures rest { length self.new.rest ≤ length self.old.rest }
-    {
-        let _removed = self.objects.remove(id);
-        self.queue_all(&[deletion_event(id), release_event(buffer)]);
-    }
-
     /// Removes an object, whose id is given back, and with it these callbacks, whose ids are given back after it. Then it is told that a
     /// buffer is released, if one is (wayland.xml, wl_display.delete_id, wl_surface.frame and wl_buffer.release).
     pub fn remove_with(&mut self, id: u32, callbacks: &[u32], released: Option<u32>)

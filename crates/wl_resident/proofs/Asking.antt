@@ -112,6 +112,7 @@ dropped : {A : Type 0} (old mid : Kept A) (r : Resident) (size : ℕ) → mid �
 dropped old mid r size e is = rw e (record {
   peer = subst (λ (rest : List ℕ). IsPeer (record old.client { rest = drop size rest }) (with_rest (drop size r.peer.rest) r.peer)) (sym is.peer.rest) (IsPeer-with_rest old.client r.peer (drop size r.peer.rest) is.peer);
   owns = is.owns;
+  frames = is.frames;
 })
 
 -- what is answered to a client with the same objects before

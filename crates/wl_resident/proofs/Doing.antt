@@ -1,5 +1,5 @@
 -- What is asked of a client leads to a client that is stood for.
-use Rattle.std.proofs.Common.{◌≡◌, ℕ, List, map, ◌≤◌, true, false, Option, Some, None, length, refl, ap, sym, subst, ◌∙◌}
+use Rattle.std.proofs.Common.{◌≡◌, ℕ, List, map, ◌≤◌, true, false, Option, Some, None, length, refl, ap, sym, subst, ◌∙◌, [], ◌∷◌}
 use Rattle.std.specs.Prelude.{is_some}
 use Rattle.std.specs.Option.{option_map}
 use Rattle.wl_geom.specs.declared.rect.Rect.{Rect}
@@ -16,6 +16,8 @@ use Rattle.wl_surface.specs.Kept.{Kept as KeptSurface}
 use Rattle.wl_surface.specs.Request.{Request}
 use Rattle.wl_surface.specs.State.{Values, asked, committed, geometry_asked, is_commit}
 use Rattle.wl_surface.specs.Surfaces.{Surface, Surfaces, asking, surface_at}
+use Rattle.wl_surface.specs.Frames.{frames_of}
+use Rattle.wl_surface.specs.declared.frames.Waiting.{Waiting}
 use Rattle.wl_shell.specs.Kept.{kept_of}
 use Rattle.wl_scene.specs.declared.owned.Owned.{Owned as Lent}
 use Rattle.wl_resident.specs.declared.residents.Resident.{Resident as Kept}
@@ -26,10 +28,11 @@ use Rattle.wl_table.specs.Objects.{Held, entry_of}
 use Rattle.wl_table.specs.declared.entry.Entry.{Entry}
 use Rattle.wl_plain.specs.Owning.{AreKept, by_number, names_in, targets_in}
 use Rattle.wl_plain.proofs.OwningNames.{targets-at}
-use Rattle.wl_resident.specs.Residents.{IsLeft, IsResident, IsSurface, Owns}
+use Rattle.wl_resident.specs.Residents.{IsLeft, IsResident, IsSurface, KeepsFrames, Owns}
 use Rattle.wl_plain.specs.Step.{changed_by}
 use Rattle.wl_plain.proofs.Letting.{asked-keeps}
 use Rattle.wl_resident.proofs.Numbers.{keeps-same}
+use Rattle.wl_resident.proofs.Framing.{IsFramed, framed-asked, no-more}
 use Rattle.wl_plain.proofs.OwningAsks.{owned-asked}
 use Rattle.wl_plain.proofs.OwningSurfaces.{surface-named, surface-read}
 
@@ -46,6 +49,7 @@ lacked old v after r lacks ended = (
   record {
     peer = lacks.2;
     owns = λ none. absurd (gone v.client.ended ended none);
+    frames = λ none. absurd (gone v.client.ended ended none);
     numbers = λ none. absurd (gone v.client.ended ended none);
   },
 )
@@ -57,9 +61,9 @@ cut-bounds (Some k) s stands = (stands.history.cut_within, stands.history.commit
 
 -- A request of a surface that is no commit, attaches nothing and asks for no window geometry.
 pub asked-so : {A : Type 0} (old new : Kept A) (r : Resident) (id number : ℕ) (request : Request) → IsResident old r → IsSurface old id number → is_commit request ≡ false → ((v : Values) → (asked v request).buffer ≡ v.buffer)
-    → ((g : Option Rect) → geometry_asked g request ≡ g) → Changes old.owned.surfaces new.owned.surfaces number (asking request) → new.client ≡ old.client → kept_of new.owned.shell ≡ kept_of old.owned.shell
+    → ((g : Option Rect) → geometry_asked g request ≡ g) → frames_of (request ∷ []) ≡ [] → new.owned.surfaces.frames ≡ old.owned.surfaces.frames → Changes old.owned.surfaces new.owned.surfaces number (asking request) → new.client ≡ old.client → kept_of new.owned.shell ≡ kept_of old.owned.shell
     → ((changed_by (AskSurface id request) r).peer ≡ r.peer) × IsLeft old new (changed_by (AskSurface id request) r) r.peer
-asked-so old new r id number request is named plain keeps other changes same shell =
+asked-so old new r id number request is named plain keeps other asks_none frames changes same shell =
     let names = names_in old.client.objects in
     let there = surface-named names.surfaces old.owned.surfaces r.owned.surfaces is.owns.surfaces id number named in
     let read = surface-read names.surfaces old.owned.surfaces r.owned.surfaces is.owns.surfaces id number named ∙ there.1 in
@@ -69,6 +73,11 @@ asked-so old new r id number request is named plain keeps other changes same she
       record {
         peer = rw same is.peer;
         owns = λ alive. rw (same, shell) (owned-asked names old.owned.surfaces (kept_of old.owned.shell) r is.owns id number request new.owned.surfaces named plain other changes);
+        frames = λ alive.
+            let table : new.client.objects ≡ old.client.objects = ap (λ (w : ClientView). w.objects) same in
+            subst (λ (ws : List Waiting). IsFramed ws new.client.objects (changed_by (AskSurface id request) r)) (sym frames)
+            (framed-asked old.owned.surfaces.frames old.client.objects new.client.objects r (changed_by (AskSurface id request) r) refl (no-more r.peer.requests) is.frames old.owned.surfaces is.owns.surfaces id number request asks_none named
+            (ap names_in table) refl);
         numbers = λ alive. keeps-same old.client.objects new.client.objects (ap (λ (w : ClientView). w.objects) same);
       },
     )
@@ -91,12 +100,13 @@ pub kept-there : {A : Type 0} (v w : Lent A) (numbers : ById ℕ) (all : Surface
 kept-there v w numbers all same kept = rw same kept
 
 -- The buffers that a surface had are let go of, once what was asked of it stands: so it was done.
-pub let-go-so : {A : Type 0} (old v w : Kept A) (after : Resident) → v.client ≡ old.client → Owns v after → w.client ≡ record v.client { stores = w.client.stores } → w.owned ≡ v.owned → IsPeer w.client after.peer → IsLeft old w after after.peer
-let-go-so old v w after still owns only same peer =
+pub let-go-so : {A : Type 0} (old v w : Kept A) (after : Resident) → v.client ≡ old.client → Owns v after → KeepsFrames v after → w.client ≡ record v.client { stores = w.client.stores } → w.owned ≡ v.owned → IsPeer w.client after.peer → IsLeft old w after after.peer
+let-go-so old v w after still owns frames only same peer =
     let objects = ap (λ (c : ClientView). c.objects) only in
     record {
       peer = peer;
       owns = λ alive. rw (objects, same) owns;
+      frames = λ alive. rw (objects, same) frames;
       numbers = λ alive. keeps-same old.client.objects w.client.objects (objects ∙ ap (λ (c : ClientView). c.objects) still);
     }
 

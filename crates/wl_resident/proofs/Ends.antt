@@ -1,6 +1,6 @@
 -- A client that ended has no objects and owns nothing.
 use Rattle.std.proofs.Common.{subst, ◌≡◌, ℕ, List, [], ◌∷◌, Bool, true, false, Option, Some, None, refl, ap, sym, ◌∙◌, inl, inr}
-use Rattle.std.specs.Prelude.{if◌then◌else◌, ◌==◌, is_some}
+use Rattle.std.specs.Prelude.{if◌then◌else◌, ◌==◌, is_some, ◌+◌}
 use Rattle.std.specs.Option.{option_and_then, option_map}
 use Rattle.wl_proto.specs.declared.interface.Interface.{Interface}
 use Rattle.wl_proto.specs.declared.interface.Interface.TheVariants.{WlDisplay, WlSurface, XdgSurface, XdgToplevel}
@@ -20,10 +20,14 @@ use Rattle.wl_scene.specs.Stacking.{nothing_owned}
 use Rattle.wl_scene.specs.declared.owned.Owned.{Owned}
 use Rattle.wl_resident.specs.Agreement.{IsSeat}
 use Rattle.wl_plain.specs.Desktop.{Resident, resident_of}
-use Rattle.wl_plain.specs.Owning.{IsOwned, names_in, target_as, targets_in}
+use Rattle.wl_plain.specs.Owning.{IsOwned, names_in, target_as, targets_in, by_number}
+use Rattle.wl_plain.specs.Framing.{AreFramed}
 use Rattle.wl_resident.specs.Seats.{IsBare}
 use Rattle.wl_resident.specs.View.{OwnedView, owned_view}
 use Rattle.wl_plain.proofs.OwningKeys.{differ}
+use Rattle.wl_plain.proofs.FramingWaits.{framed-none}
+use Rattle.wl_surface.specs.declared.frames.Waiting.{Waiting}
+use Rattle.wl_surface.specs.Surfaces.{no_surfaces}
 
 -- ---- what is told, and ends a client
 
@@ -110,7 +114,14 @@ owns-nothing held owned none bare =
 
 -- an ended client of which nothing is left
 pub seat-bare : {A : Type 0} (v : ClientView) (owned : Owned A) (q : Peer) → IsPeer v q → AreNameless v.objects → IsBare owned → IsSeat v (owned_view owned) (resident_of q)
-seat-bare v owned q is none bare = record { peer = is; owns = owns-nothing v.objects owned none bare; ended = λ e. refl }
+seat-bare v owned q is none bare =
+    record {
+      peer = is;
+      owns = owns-nothing v.objects owned none bare;
+      frames = subst (λ (ws : List Waiting). AreFramed ws (by_number (targets_in WlSurface v.objects) no_surfaces) (q.requests + 1) []) (sym bare.frames)
+          (framed-none (by_number (targets_in WlSurface v.objects) no_surfaces) (q.requests + 1) (λ number. refl));
+      ended = λ e. refl;
+    }
 
 -- ---- it stays so
 

@@ -4,6 +4,9 @@ pub mod Doing
 pub mod Shelling
 pub mod Scenes
 pub mod Ends
+pub mod Framing
+pub mod Going
+pub mod Answering
 pub mod Seats
 pub mod Taking
 pub mod Telling

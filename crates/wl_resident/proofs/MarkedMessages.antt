@@ -592,7 +592,7 @@ module _ {A : Type 0} (c : ℕ) (others : ℕ → ById ℕ) (base d e : Desktop)
           let id : ℕ = there.0 in
           let t : touched ask r ≡ Some id = there.1 in
           let lives : new.client.ended ≡ None = sym status ∙ alive in
-          let marked : IsMarkedBy old a ask id = asked-marks old r (record { peer = before.seat.peer; owns = before.seat.owns }) a asks ask id told t in
+          let marked : IsMarkedBy old a ask id = asked-marks old r (record { peer = before.seat.peer; owns = before.seat.owns; frames = before.seat.frames }) a asks ask id told t in
           let number : ℕ = marked.0 in
           let asked_number : surface_number ≡ Some number = by_asked ∙ marked.1 in
           never-changed c id d e record_was record_is (first id number asked_number marked.2) (second id number asked_number (still-named more serves keeps ask id number told t marked.2 lives))

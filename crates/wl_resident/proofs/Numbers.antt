@@ -52,5 +52,6 @@ pub left-from : {A : Type 0} (old mid new : Kept A) (r : Resident) (q : Peer) �
 left-from old mid new r q same left = record {
   peer = left.peer;
   owns = left.owns;
+  frames = left.frames;
   numbers = λ alive. subst (λ (held : Held). KeepsNumbers held new.client.objects) same (left.numbers alive);
 }

@@ -1,5 +1,5 @@
 -- A message of a client's own interfaces, as the desk takes it.
-use Rattle.std.proofs.Common.{◌≡◌, ℕ, ◌-◌, take, drop, Bool, true, false, Option, Some, None, Result, refl, ap, subst, sym, ◌∙◌}
+use Rattle.std.proofs.Common.{◌≡◌, ℕ, ◌-◌, take, drop, Bool, true, false, Option, Some, None, Result, refl, ap, subst, sym, ◌∙◌, ◌≤◌, arith}
 use Rattle.std.specs.Prelude.{Ok, Err}
 use Rattle.std.specs.Option.{option_and_then}
 use Rattle.std.proofs.Math.Path.{fun_ext}
@@ -15,20 +15,21 @@ use Rattle.wl_client.specs.Judgement.{action_of}
 use Rattle.wl_client.specs.Requests.{request_of}
 use Rattle.wl_client.specs.Judgement.{judge as judge_own}
 use Rattle.wl_client.specs.Objects.{KeepsSurfaces, of_surface}
-use Rattle.wl_client.specs.Peer.{IsIdleAt, Peer, known_of, with_rest}
-use Rattle.wl_client.specs.Serving.{AnswersWith, AreUsed, PassesTo, ServesWith, TakesWith, is_own, was_taken}
+use Rattle.wl_client.specs.Peer.{IsIdleAt, Peer, known_of, with_rest, changed, counted}
+use Rattle.wl_client.specs.Serving.{AnswersWith, AreUsed, PassesTo, ServesWith, TakesWith, is_own, was_taken, has_used, keeps_store}
 use Rattle.wl_client.specs.View.{ClientView}
 use Rattle.wl_client.specs.declared.actions.Action.{Action}
 use Rattle.wl_client.specs.declared.refusals.Refusal.{Refusal}
 use Rattle.wl_client.specs.declared.served.Served.{Served}
 use Rattle.wl_client.specs.declared.served.Served.TheVariants as served
+use Rattle.wl_client.specs.declared.actions.Action.TheVariants.{Sync, GetRegistry, Bind, CreateRegion, AddToRegion, SubtractFromRegion, DestroyRegion, CreatePool, CreateBuffer, ResizePool, DestroyPool, DestroyBuffer}
 use Rattle.wl_surface.specs.Kept.{has_at}
 use Rattle.wl_surface.specs.Surfaces.{has, is_used}
 use Rattle.wl_table.specs.Objects.{Held, entry_of}
 use Rattle.wl_table.specs.declared.entry.Entry.{Entry}
 use Rattle.wl_resident.specs.declared.residents.Resident.{Resident as Kept}
 use Rattle.wl_resident.specs.declared.residents.Stacking.TheVariants.{Stays}
-use Rattle.wl_plain.specs.Ask.{owns}
+use Rattle.wl_plain.specs.Ask.{owns, Own}
 use Rattle.wl_plain.specs.Demand.{Demand}
 use Rattle.wl_plain.specs.Demanding.{demand_of, demands, judge_all}
 use Rattle.wl_plain.specs.Desktop.{Desktop, Resident}
@@ -36,13 +37,17 @@ use Rattle.wl_plain.specs.LeftOut.{served_now}
 use Rattle.wl_plain.specs.NoMore.{OwnsToplevelsOnly}
 use Rattle.wl_plain.specs.Owning.{by_number, names_in, target_as, targets_in}
 use Rattle.wl_resident.specs.Residents.{AnswersSo as AnswersWhole, IsLeft, IsResident, StacksSo as StacksWhole, TakesSo}
-use Rattle.wl_plain.specs.Step.{with_peer}
+use Rattle.wl_plain.specs.Step.{with_peer, changed_by}
 use Rattle.wl_plain.proofs.BridgeServes.{only-peer}
 use Rattle.wl_resident.proofs.Asking.{demanded-first, judged-by, whole-first}
 use Rattle.wl_resident.proofs.Simply.{AnswersSo, asks-stay, simply}
 use Rattle.wl_resident.proofs.Numbers.{keeps-names}
+use Rattle.wl_resident.proofs.Framing.{IsFramed, framed-names, no-more}
 use Rattle.wl_plain.proofs.OwningNames.{names-with}
 use Rattle.wl_plain.proofs.OwningSurfaces.{any-is}
+use Rattle.wl_store.specs.Stores.{Stock}
+use Rattle.wl_scene.specs.Stacking.{Owned}
+use Rattle.wl_scene.specs.declared.owned.Owned.{Owned as Lent}
 
 -- ---- it is taken
 
@@ -127,17 +132,40 @@ own-demand-of : (r : Resident) (object version : ℕ) (m : Message) → is_own m
 own-demand-of r object version m own = own-asked m.interface r object version m own refl
 
 -- what it leaves
-own-left : {A : Type 0} (old new : Kept A) (r then : Resident) (q : Peer) → IsResident old r → then.owned ≡ r.owned → new.owned ≡ old.owned → (new.client.ended ≡ None → KeepsSurfaces old.client.objects new.client.objects) → IsPeer new.client q → IsLeft old new then q
-own-left old new r then q is owned same keeps peer = record {
+own-left : {A : Type 0} (old new : Kept A) (r then : Resident) (q : Peer) → IsResident old r → then.owned ≡ r.owned → then.callbacks ≡ r.callbacks → r.peer.requests ≤ then.peer.requests → new.owned ≡ old.owned → (new.client.ended ≡ None → KeepsSurfaces old.client.objects new.client.objects) → IsPeer new.client q → IsLeft old new then q
+own-left {A} old new r then q is owned callbacks more same keeps peer = record {
   peer = peer;
   owns = λ alive. rw (names-kept old.client.objects new.client.objects (keeps alive), same, owned) is.owns;
+  frames = λ alive.
+      subst (λ (o : Lent A). IsFramed o.surfaces.frames new.client.objects then) (sym same)
+      (framed-names old.owned.surfaces.frames old.client.objects new.client.objects r then callbacks more is.frames (names-kept old.client.objects new.client.objects (keeps alive)) (ap (λ (o : Owned). o.surfaces) owned));
   numbers = λ alive. keeps-names old.client.objects new.client.objects (names-kept old.client.objects new.client.objects (keeps alive));
 }
 
-own-answered : {A : Type 0} (old new : Kept A) (r left : Resident) (judged : Result Action Refusal) (q : Peer) → IsResident old r → left.owned ≡ r.owned → new.owned ≡ old.owned → (new.client.ended ≡ None → KeepsSurfaces old.client.objects new.client.objects)
+kept-requests : (b : Bool) (stores : Stock) (p : Peer) → (keeps_store b stores p).requests ≡ p.requests
+kept-requests true stores p = refl
+kept-requests false stores p = refl
+
+own-requests : (action : Action) (left : Resident) (n : ℕ) → n ≤ left.peer.requests → n ≤ (changed_by (Own action) (with_peer (counted left.peer) left)).peer.requests
+own-requests (Sync callback) left n le = omega (arith, le)
+own-requests (GetRegistry registry) left n le = omega (arith, le)
+own-requests (Bind id interface version) left n le = omega (arith, le)
+own-requests (CreateRegion id version) left n le = omega (arith, le)
+own-requests (AddToRegion id rect) left n le = omega (arith, le)
+own-requests (SubtractFromRegion id rect) left n le = omega (arith, le)
+own-requests (DestroyRegion id) left n le = omega (arith, le)
+own-requests (CreatePool id version size) left n le = omega (arith, le)
+own-requests (CreateBuffer id version buffer) left n le = omega (arith, le)
+own-requests (ResizePool store size) left n le = omega (arith, le)
+own-requests (DestroyPool id store) left n le = omega (arith, le)
+own-requests (DestroyBuffer id store) left n le =
+    subst (λ (m : ℕ). n ≤ m) (sym (kept-requests (has_used (λ number. is_used number left.owned.surfaces) (left.peer.buffers id)) left.peer.stores (changed (DestroyBuffer id store) (counted left.peer)))) (omega (arith, le))
+
+own-answered : {A : Type 0} (old new : Kept A) (r left : Resident) (judged : Result Action Refusal) (q : Peer) → IsResident old r → left.owned ≡ r.owned → left.callbacks ≡ r.callbacks → r.peer.requests ≤ left.peer.requests → new.owned ≡ old.owned → (new.client.ended ≡ None → KeepsSurfaces old.client.objects new.client.objects)
     → AnswersWith (λ number. is_used number left.owned.surfaces) judged left.peer q → IsPeer new.client q → AnswersSo (owns judged) left old new
-own-answered old new r left (Ok action) q is owned same keeps acts peer = (q, acts, own-left old new r _ q is owned same keeps peer)
-own-answered old new r left (Err refusal) q is owned same keeps errs peer = (q, errs, own-left old new r left q is owned same keeps peer)
+own-answered old new r left (Ok action) q is owned callbacks more same keeps acts peer =
+    (q, acts, own-left old new r (changed_by (Own action) (with_peer (counted left.peer) left)) q is owned callbacks (own-requests action left r.peer.requests more) same keeps peer)
+own-answered old new r left (Err refusal) q is owned callbacks more same keeps errs peer = (q, errs, own-left old new r left q is owned callbacks more same keeps peer)
 
 -- the buffers that its surfaces use
 pub used-of : {A : Type 0} (old : Kept A) (r : Resident) → IsResident old r → AreUsed old.owned.surfaces (λ number. is_used number r.owned.surfaces)
@@ -160,6 +188,6 @@ own-served old new r q is (object, version, size, target, m, passes, own) same k
     let answers : AnswersWith used action left.peer q = subst (λ (j : Result Action Refusal). AnswersWith used j left.peer q) judged_own taken in
     subst (λ (s : Split). TakesSo s c r d old new Stays) (sym whole) (
       subst (λ (j : Result Demand Refusal). AnswersWhole j c left d old new) (sym judged)
-          (simply old new c d left (only-peer r left.peer refl only) (owns action) (own-answered old new r left action q is refl same keeps answers peer)),
+          (simply old new c d left (only-peer r left.peer refl only) (owns action) (own-answered old new r left action q is refl refl (no-more r.peer.requests) same keeps answers peer)),
       subst (λ (j : Result Demand Refusal). StacksWhole old r j Stays) (sym judged) (asks-stay old r (owns action)),
     )

@@ -48,6 +48,7 @@ use Rattle.wl_plain.proofs.Letting.{asked-keeps}
 use Rattle.wl_plain.proofs.BridgeServes.{only-peer}
 use Rattle.wl_resident.proofs.Numbers.{left-from}
 use Rattle.wl_resident.proofs.Simply.{AnswersSimply, AnswersSo}
+use Rattle.wl_resident.proofs.Framing.{IsFramed, framed-names, one-more}
 use Rattle.wl_plain.proofs.Simply.{Simple, Asking, told_simply}
 use Rattle.wl_plain.proofs.BridgeReleases.{requested-still}
 use Rattle.wl_plain.proofs.OwningSurfaces.{surface-named, surface-read}
@@ -79,7 +80,7 @@ number-toplevel XdgToplevel e = refl
 number-toplevel interface e = absurd (cc)
 
 -- what names a number is an object of the interface
-entry-named : (interface : Interface) (held : Held) (id number : ℕ) → targets_in interface held id ≡ Some number → (entry : Entry) × (entry_of held id ≡ Some entry) × ((interface_number entry.interface == interface_number interface) ≡ true)
+pub entry-named : (interface : Interface) (held : Held) (id number : ℕ) → targets_in interface held id ≡ Some number → (entry : Entry) × (entry_of held id ≡ Some entry) × ((interface_number entry.interface == interface_number interface) ≡ true)
 entry-named interface held id number named = at (entry_of held id) refl named
   where
     is : (b : Bool) (target : ℕ) → cond b (Some target) None ≡ Some number → b ≡ true
@@ -124,6 +125,7 @@ refused old new r judged refusal e ended errs =
       record {
         peer = errs.2;
         owns = λ none. absurd (gone new.client.ended ended none);
+        frames = λ none. absurd (gone new.client.ended ended none);
         numbers = λ none. absurd (gone new.client.ended ended none);
       },
     )
@@ -183,10 +185,12 @@ base-held old mid id only is = subst (λ (o : Held). is_of XdgWmBase (objects_in
 
 -- a client of which a request more was counted
 pub counted-on : {A : Type 0} (old mid : Kept A) (r : Resident) → IsResident old r → mid.client ≡ record old.client { requests = mid.client.requests } → mid.owned ≡ old.owned → IsPeer mid.client (counted r.peer) → IsResident mid (with_peer (counted r.peer) r)
-counted-on old mid r is only same peer = record {
+counted-on {A} old mid r is only same peer = record {
   peer = peer;
   owns = subst (λ (n : Names). IsOwned n mid.owned.surfaces (kept_of mid.owned.shell) r.owned) (sym (names-counted old.client mid.client only))
       (rw same is.owns);
+  frames = subst (λ (o : Lent A). IsFramed o.surfaces.frames mid.client.objects (with_peer (counted r.peer) r)) (sym same)
+      (framed-names old.owned.surfaces.frames old.client.objects mid.client.objects r (with_peer (counted r.peer) r) refl (one-more r.peer.requests) is.frames (names-counted old.client mid.client only) refl);
 }
 
 -- it is refused with what was made

@@ -27,7 +27,7 @@ use Rattle.wl_plain.specs.Stacked.{all_windows}
 use Rattle.wl_plain.specs.Step.{with_peer}
 use Rattle.wl_plain.proofs.Simply.{Simple, CommitSurface, DestroyToplevel, asks_simply, changed_simply, judge, told_simply, wants_simply}
 use Rattle.wl_plain.proofs.BridgeChanged.{changed-same, wants-same}
-use Rattle.wl_plain.proofs.BridgeJudged.{Pairs, Same, asks, commit, demands-pair, effect-same, ends, goes, judge-pair, move}
+use Rattle.wl_plain.proofs.BridgeJudged.{Pairs, Same, asks, commit, demands-pair, effect-same, ends, frames, goes, judge-pair, move}
 use Rattle.wl_plain.proofs.BridgeServes.{living, only-peer, pairs-peer, replies-same, same-peer}
 
 -- ---- simply
@@ -114,6 +114,7 @@ module _ {A : Type 0} (old new : Kept A) (c : ℕ) (d : Desktop) where
 for-stacks : {A : Type 0} (old : Kept A) (ask : Simple) (demand : Demand) (r : Resident) (stacking : Stacking) → AreToplevels r.owned.shell → Same r ask demand → StacksFor old r demand stacking → StacksOne old r ask stacking
 for-stacks old ask demand r stacking top (asks other) h = h
 for-stacks old ask demand r stacking top (ends id) h = h
+for-stacks old ask demand r stacking top (frames id version surface) h = h
 for-stacks old ask demand r stacking top (commit id effect e) h =
     subst (λ f. StacksBy old id f stacking) (effect-same r id top ∙ e) h
 for-stacks old ask demand r stacking top (goes id xdg surface) h = h

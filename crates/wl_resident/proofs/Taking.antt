@@ -24,7 +24,7 @@ use Rattle.wl_shell.specs.Shell.{XdgSurface as Xdg}
 use Rattle.wl_scene.specs.Stacking.{Owned, Stack, Standing, mapped_on, without_client, without_surface_of}
 use Rattle.wl_resident.specs.Agreement.{IsScene, IsSeat, IsStack, with_numbers}
 use Rattle.wl_plain.specs.Desktop.{Desktop, Resident, become, become_by, client_at, client_in, owned_of, resident_of, with_number}
-use Rattle.wl_plain.specs.Owning.{targets_in}
+use Rattle.wl_plain.specs.Owning.{targets_in, by_number}
 use Rattle.wl_resident.specs.Residents.{IsLeft, StacksBy}
 use Rattle.wl_plain.proofs.BridgeJudged.{judge-pair}
 use Rattle.wl_plain.proofs.BridgeServes.{answers-whole, becomes-whole, only-peer, pairs-peer}
@@ -40,6 +40,7 @@ use Rattle.wl_plain.proofs.StandingFound.{judge-finds}
 use Rattle.wl_resident.proofs.Releasing.{maps-quiet}
 use Rattle.wl_plain.proofs.Simply.{Acts, Answers, Asking, Becomes, CommitSurface, DestroySurface, DestroyToplevel, Simple, WantsOr, changed_simply, committed_on, effect_on, judge, stacked_simply, told_simply, wants_simply}
 use Rattle.wl_plain.specs.Standing.{AreMapped, MappedStand, is_mapped}
+use Rattle.wl_plain.specs.Framing.{AreFramed}
 use Rattle.wl_resident.specs.View.{owned_view}
 use Rattle.wl_resident.specs.declared.residents.Resident.{Resident as Kept}
 use Rattle.wl_resident.specs.declared.residents.Stacking.{Stacking}
@@ -51,6 +52,7 @@ use Rattle.wl_plain.proofs.Behind.{changed-status}
 use Rattle.wl_plain.proofs.Places.{left_by, number-same, number-twice, stacked-clients}
 use Rattle.wl_plain.proofs.StandingSteps.{serves-stand}
 use Rattle.wl_resident.proofs.Scenes.{AreOnce, Has, next-of, none-stands, numbers-by, numbers-same, stack-by, stack-mapped, stack-out, stack-without}
+use Rattle.wl_resident.proofs.Framing.{told-requests}
 
 -- ---- the client's place in the desktop
 
@@ -261,10 +263,13 @@ module _ {A : Type 0} (c : ℕ) (others : ℕ → ById ℕ) (base d : Desktop) (
     acts-later (wants_simply ask) _ c (with_peer p r) d (become c changed q after) (q, queues-at (wants_simply ask) _ p q is.acts told, refl),
     become-lives q.status c others base after changed q mid stack told (record {
       based = based-at None c base d after r changed q is.based (stacked-clients c ask (with_peer p r) d) (stacked-keeps c ask (with_peer p r) d);
-      seat = record { peer = is.left.peer; owns = is.left.owns none; ended = λ some. absurd (differ (none-is q.status told some)) };
+      seat = record { peer = is.left.peer; owns = is.left.owns none; frames = framed-by (queues-at (wants_simply ask) _ p q is.acts told); ended = λ some. absurd (differ (none-is q.status told some)) };
       scene = λ known. scene-on none (become_by None c changed q after) stack (record { standing = scene.standing; next = scene.next }) known;
     }),
   )
+    where
+      framed-by : Queues (told_simply ask (with_peer p r)) changed.peer q → AreFramed mid.owned.surfaces.frames (by_number (numbers mid) changed.owned.surfaces) (q.requests + 1) changed.callbacks
+      framed-by h = rw (told-requests (told_simply ask (with_peer p r)) changed.peer q h told) (is.left.frames none)
 
   -- ---- one that ended
 

@@ -26,11 +26,13 @@ use Rattle.wl_plain.proofs.Places.{left_by}
 use Rattle.wl_plain.proofs.StandingDesks.{become-stand}
 use Rattle.wl_resident.proofs.Taking.{Sits, based-at, become-gone, become-lives, itself, none-is, numbers, sits-gone, sits-same, sits-seated}
 
--- What is told makes of a client's peer another: its table and what it owns stay where it lives on, and where it doesn't, it ends so or had ended.
+-- What is told makes of a client's peer another: its table, its count of requests and what it owns stay where it lives on, and where it doesn't, it
+-- ends so or had ended.
 pub record Told {A : Type 0} (old mid : Kept A) (r : Resident) (q : Peer) : Type 0 where
   pub peer : IsPeer mid.client q
   pub owned : mid.owned ≡ old.owned
   pub lives : q.status ≡ None → mid.client.objects ≡ old.client.objects
+  pub requests : q.status ≡ None → q.requests ≡ r.peer.requests
   pub gone : is_some q.status ≡ true → IsOver q ⊎ ((is_some r.peer.status ≡ true) × (q.objects ≡ r.peer.objects))
 
 module _ {A : Type 0} (c : ℕ) (others : ℕ → ById ℕ) (base d : Desktop) (r : Resident) (old mid new : Kept A) (was now : Stack) (is : IsSeated c others base old was d r) (q : Peer) (told : Told old mid r q) where
@@ -39,7 +41,7 @@ module _ {A : Type 0} (c : ℕ) (others : ℕ → ById ℕ) (base d : Desktop) (
       sits-same c others base mid new was now _ _ same stays
       (become-lives q.status c others base d r q mid was none (record {
         based = based-at None c base d d r r q is.based refl refl;
-        seat = record { peer = told.peer; owns = owns; ended = λ some. absurd (differ (none-is q.status none some)) };
+        seat = record { peer = told.peer; owns = owns; frames = rw (told.lives none, told.owned, told.requests none) is.seat.frames; ended = λ some. absurd (differ (none-is q.status none some)) };
         scene = λ known. subst (λ (held : Held). IsScene (with_numbers c (targets_in WlSurface held) others) was (become_by None c r q d)) (sym (told.lives none))
             (record { standing = is.scene.standing; next = is.scene.next });
       }))
@@ -73,33 +75,33 @@ module _ {A : Type 0} (c : ℕ) (others : ℕ → ById ℕ) (base d : Desktop) (
 
 -- ---- what is told
 
-told-same : {A : Type 0} (old mid : Kept A) (r : Resident) (q : Peer) → q.status ≡ r.peer.status → q.objects ≡ r.peer.objects → IsPeer mid.client q → mid.owned ≡ old.owned → mid.client.objects ≡ old.client.objects → Told old mid r q
-told-same old mid r q status objects peer owned table =
-    record { peer = peer; owned = owned; lives = λ none. table; gone = λ some. inr (sym (ap (λ (o : Option Cause). is_some o) status) ∙ some, objects) }
+told-same : {A : Type 0} (old mid : Kept A) (r : Resident) (q : Peer) → q.status ≡ r.peer.status → q.objects ≡ r.peer.objects → q.requests ≡ r.peer.requests → IsPeer mid.client q → mid.owned ≡ old.owned → mid.client.objects ≡ old.client.objects → Told old mid r q
+told-same old mid r q status objects requests peer owned table =
+    record { peer = peer; owned = owned; lives = λ none. table; requests = λ none. requests; gone = λ some. inr (sym (ap (λ (o : Option Cause). is_some o) status) ∙ some, objects) }
 
-sent-so : (n : ℕ) (p : Peer) → ((sent_by n p).status ≡ p.status) × ((sent_by n p).objects ≡ p.objects)
+sent-so : (n : ℕ) (p : Peer) → ((sent_by n p).status ≡ p.status) × ((sent_by n p).objects ≡ p.objects) × ((sent_by n p).requests ≡ p.requests)
 sent-so n p = at (nat_le n (length p.unsent))
   where
-    at : (b : Bool) → ((if b then record p { unsent = drop n p.unsent } else p).status ≡ p.status) × ((if b then record p { unsent = drop n p.unsent } else p).objects ≡ p.objects)
-    at true = (refl, refl)
-    at false = (refl, refl)
+    at : (b : Bool) → ((if b then record p { unsent = drop n p.unsent } else p).status ≡ p.status) × ((if b then record p { unsent = drop n p.unsent } else p).objects ≡ p.objects) × ((if b then record p { unsent = drop n p.unsent } else p).requests ≡ p.requests)
+    at true = (refl, refl, refl)
+    at false = (refl, refl, refl)
 
 pub told-sent : {A : Type 0} (n : ℕ) (old mid : Kept A) (r : Resident) → IsPeer mid.client (sent_by n r.peer) → mid.owned ≡ old.owned → mid.client.objects ≡ old.client.objects → Told old mid r (sent_by n r.peer)
-told-sent n old mid r peer owned table = told-same old mid r (sent_by n r.peer) (sent-so n r.peer).0 (sent-so n r.peer).1 peer owned table
+told-sent n old mid r peer owned table = told-same old mid r (sent_by n r.peer) (sent-so n r.peer).0 (sent-so n r.peer).1 (sent-so n r.peer).2 peer owned table
 
-stored-so : (s : Option Cause) (store at : ℕ) (bytes : List ℕ) (p : Peer) → ((stored_at s store at bytes p).status ≡ p.status) × ((stored_at s store at bytes p).objects ≡ p.objects)
-stored-so (Some cause) store at bytes p = (refl, refl)
+stored-so : (s : Option Cause) (store at : ℕ) (bytes : List ℕ) (p : Peer) → ((stored_at s store at bytes p).status ≡ p.status) × ((stored_at s store at bytes p).objects ≡ p.objects) × ((stored_at s store at bytes p).requests ≡ p.requests)
+stored-so (Some cause) store at bytes p = (refl, refl, refl)
 stored-so None store at bytes p = by (write_refusal store at (length bytes) p.stores)
   where
-    by : (o : Option StoreError) → ((stored_by store at bytes o p).status ≡ p.status) × ((stored_by store at bytes o p).objects ≡ p.objects)
-    by None = (refl, refl)
-    by (Some error) = (refl, refl)
+    by : (o : Option StoreError) → ((stored_by store at bytes o p).status ≡ p.status) × ((stored_by store at bytes o p).objects ≡ p.objects) × ((stored_by store at bytes o p).requests ≡ p.requests)
+    by None = (refl, refl, refl)
+    by (Some error) = (refl, refl, refl)
 
 pub told-stored : {A : Type 0} (store at : ℕ) (bytes : List ℕ) (old mid : Kept A) (r : Resident) → IsPeer mid.client (stored_at r.peer.status store at bytes r.peer) → mid.owned ≡ old.owned → mid.client.objects ≡ old.client.objects
     → Told old mid r (stored_at r.peer.status store at bytes r.peer)
 told-stored store at bytes old mid r peer owned table =
     let so = stored-so r.peer.status store at bytes r.peer in
-    told-same old mid r (stored_at r.peer.status store at bytes r.peer) so.0 so.1 peer owned table
+    told-same old mid r (stored_at r.peer.status store at bytes r.peer) so.0 so.1 so.2 peer owned table
 
 ended-so : (s : Option Cause) (cause : Cause) (p : Peer) → p.status ≡ s → is_some (ended_by s cause p).status ≡ true
 ended-so None cause p e = refl
@@ -115,6 +117,7 @@ told-ended cause old mid r peer owned =
       peer = peer;
       owned = owned;
       lives = λ none. absurd (differ (none-is (ended_by r.peer.status cause r.peer).status none (ended-so r.peer.status cause r.peer refl)));
+      requests = λ none. absurd (differ (none-is (ended_by r.peer.status cause r.peer).status none (ended-so r.peer.status cause r.peer refl)));
       gone = λ some. ended-over r.peer.status cause r.peer refl;
     }
 
@@ -163,7 +166,7 @@ come-seated c others base d r piece old was is lives =
     let none : r.peer.status ≡ None = sym is.seat.peer.status ∙ lives in
     subst (λ (s : Option Cause). IsSeated c others base (come_on piece old) was (become c r (come_to piece r) d) (left_by s r (come_to piece r))) none
     (told-seated c others base d r old (come_on piece old) (come_on piece old) was was is (come_to piece r)
-    (told-same old (come_on piece old) r (come_to piece r) refl refl peer refl refl) (cleared-lives old.client.ended c (come_on piece old) was lives))
+    (told-same old (come_on piece old) r (come_to piece r) refl refl refl peer refl refl) (cleared-lives old.client.ended c (come_on piece old) was lives))
   where
     peer : IsPeer (come_on piece old).client (come_to piece r)
     peer =

@@ -218,7 +218,7 @@ module _ {A : Type 0} (c : ℕ) (others : ℕ → ById ℕ) (base d e : Desktop)
           absurd (differ (added (λ x y. false) d1 d2 (changes.nothing (none_was none) (none_is none)) x y wide1 high1 clean marked))
       allowed (Some number) number_is =
           let told = asks-something alive in
-          let resident : IsResident old r = record { peer = before.seat.peer; owns = before.seat.owns } in
+          let resident : IsResident old r = record { peer = before.seat.peer; owns = before.seat.owns; frames = before.seat.frames } in
           let t = asked-touches old r resident a asks number (sym by_asked ∙ number_is) told.0 told.1 in
           let id : ℕ = t.0 in
           let m : IsMarkedBy old a told.0 id = asked-marks old r resident a asks told.0 id told.1 t.1 in

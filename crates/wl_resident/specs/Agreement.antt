@@ -1,5 +1,5 @@
 -- What a desk keeps agrees with a desktop.
-use Rattle.std.specs.Prelude.{ℕ, zero, suc, ◌≡◌, ◌==◌, ◌%◌, if◌then◌else◌, List, [], ◌∷◌, length, slice_index_or, Option, Some, None, is_some, true}
+use Rattle.std.specs.Prelude.{ℕ, zero, suc, ◌≡◌, ◌==◌, ◌+◌, ◌%◌, if◌then◌else◌, List, [], ◌∷◌, length, slice_index_or, Option, Some, None, is_some, true}
 use Rattle.wl_proto.specs.declared.interface.Interface.TheVariants.{WlSurface}
 use Rattle.wl_client.specs.Agreement.{IsPeer, output_of}
 use Rattle.wl_client.specs.Objects.{ById, nothing}
@@ -9,8 +9,9 @@ use Rattle.wl_shell.specs.Kept.{kept_of}
 use Rattle.wl_scene.specs.Stacking.{Stack, Standing}
 use Rattle.wl_plain.specs.Desktop.{Desktop, Resident, place}
 use Rattle.wl_plain.specs.Laws.{OwnsNothing}
-use Rattle.wl_plain.specs.Owning.{IsOwned, names_in, targets_in}
+use Rattle.wl_plain.specs.Owning.{IsOwned, by_number, names_in, targets_in}
 use Rattle.wl_plain.specs.Standing.{MappedStand}
+use Rattle.wl_plain.specs.Framing.{AreFramed}
 use Rattle.wl_resident.specs.View.{DeskView, OwnedView}
 
 -- ---- the clients
@@ -19,6 +20,7 @@ use Rattle.wl_resident.specs.View.{DeskView, OwnedView}
 pub record IsSeat (v : ClientView) (o : OwnedView) (r : Resident) : Type 0 where
   pub peer : IsPeer v r.peer
   pub owns : IsOwned (names_in v.objects) o.surfaces (kept_of o.shell) r.owned
+  pub frames : AreFramed o.surfaces.frames (by_number (targets_in WlSurface v.objects) r.owned.surfaces) (r.peer.requests + 1) r.callbacks
   pub ended : is_some r.peer.status ≡ true → OwnsNothing r
 
 -- a number's client, or nobody

@@ -1,6 +1,6 @@
 -- What the desk keeps of a client agrees with a client of the plain desktop, and what a request makes of both.
 use Rattle.std.specs.List.{list_all}
-use Rattle.std.specs.Prelude.{ℕ, ◌≡◌, ◌-◌, IfSome, None, Some, Result, Ok, Err, true, Option, List, [], take, drop}
+use Rattle.std.specs.Prelude.{ℕ, ◌≡◌, ◌+◌, ◌-◌, IfSome, None, Some, Result, Ok, Err, true, Option, List, [], take, drop}
 use Rattle.wl_wire.specs.Wire.{split_of}
 use Rattle.wl_wire.specs.declared.header.Split.{Split}
 use Rattle.wl_wire.specs.declared.header.Split.TheVariants.{Message as Whole, More, Bad}
@@ -33,20 +33,27 @@ use Rattle.wl_client.specs.ToplevelRequest as toplevel
 use Rattle.wl_plain.specs.Desktop.{Desktop, Resident}
 use Rattle.wl_plain.specs.LeftOut.{served_now}
 use Rattle.wl_plain.specs.NoMore.{OwnsToplevelsOnly}
-use Rattle.wl_plain.specs.Owning.{IsOwned, names_in, targets_in}
+use Rattle.wl_plain.specs.Owning.{IsOwned, by_number, names_in, targets_in}
 use Rattle.wl_plain.specs.Replies.{replies}
 use Rattle.wl_plain.specs.Stacked.{all_windows}
 use Rattle.wl_plain.specs.Step.{answers_to, changed_by, role_configured, takes_memory, with_peer}
 use Rattle.wl_plain.specs.Happens.{wants_memory}
+use Rattle.wl_plain.specs.Framing.{AreFramed}
 
 -- what is kept of the surfaces and of the shell stands for what the client owns
 abbrev pub Owns : {A : Type 0} → Kept A → Resident → Type 0
 Owns v r = IsOwned (names_in v.client.objects) v.owned.surfaces (kept_of v.owned.shell) r.owned
 
+-- the frame callbacks that are kept are those of the client, whose frame requests have numbers up to that of its last request
+abbrev pub KeepsFrames : {A : Type 0} → Kept A → Resident → Type 0
+KeepsFrames v r =
+    AreFramed v.owned.surfaces.frames (by_number (targets_in WlSurface v.client.objects) r.owned.surfaces) (r.peer.requests + 1) r.callbacks
+
 -- a client that lives
 pub record IsResident {A : Type 0} (v : Kept A) (r : Resident) : Type 0 where
   pub peer : IsPeer v.client r.peer
   pub owns : Owns v r
+  pub frames : KeepsFrames v r
 
 -- the surfaces that were there and are there still keep their numbers
 abbrev pub KeepsNumbers : Held → Held → Type 0
@@ -56,6 +63,7 @@ KeepsNumbers old new = (id a b : ℕ) → targets_in WlSurface old id ≡ Some a
 pub record IsLeft {A : Type 0} (old new : Kept A) (r : Resident) (q : Peer) : Type 0 where
   pub peer : IsPeer new.client q
   pub owns : new.client.ended ≡ None → Owns new r
+  pub frames : new.client.ended ≡ None → KeepsFrames new r
   pub numbers : new.client.ended ≡ None → KeepsNumbers old.client.objects new.client.objects
 
 -- What is asked is done, and then answered; there may be no memory for it.

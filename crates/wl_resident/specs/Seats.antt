@@ -64,6 +64,7 @@ IsRestacked c (Out number) old new was is =
 pub record IsBare {A : Type 0} (owned : Owned A) : Type 0 where
   pub surfaces : StandForAll owned.surfaces nobody
   pub count : count_kept owned.surfaces ≡ 0
+  pub frames : owned.surfaces.frames ≡ []
   pub shell : owned.shell ≡ []
 
 -- Where the client ended, nothing is left of what it owned, and none of its toplevels stands.

@@ -1,12 +1,10 @@
 //! wl_buffer.release: a buffer that no surface shows any more may be written to again.
 
-ghost use Rattle.std.specs.Prelude.{◌≡◌, ◌∷◌, ◌≤◌, None, Option, length, map, ℕ};
+ghost use Rattle.std.specs.Prelude.{◌≡◌, ◌≤◌, None, Option, length, map, ℕ};
 ghost use Rattle.std.specs.Option.{option_map};
 ghost use Rattle.wl_client.specs.Agreement.{IsPeer};
 ghost use Rattle.wl_client.specs.Objects.{ById};
-ghost use Rattle.wl_client.specs.Peer.{Peer, Queues, removed};
-ghost use Rattle.wl_client.specs.Told.{id_deleted};
-ghost use Rattle.wl_table.specs.Objects.{HoldsAt};
+ghost use Rattle.wl_client.specs.Peer.{Peer, Queues};
 ghost use Rattle.wl_surface.specs.Kept.{buffer_of, had_at};
 ghost use Rattle.wl_surface.specs.Surfaces.{Surface};
 ghost use Rattle.wl_plain.specs.Desktop.{Resident as Plain};
@@ -60,20 +58,6 @@ impl<A: Allocator + Copy> Resident<A> {
     {
         if let Some(buffer) = released {
             self.client.queue_all(&[release_event(buffer)]);
-        }
-    }
-
-    /// Removes the wl_surface with this id, and tells of the buffer that is released, if there is one.
-    pub(crate) fn remove_surface(&mut self, object: u32, released: Option<u32>)
-        ensures table { self.new.client.ended ≡ None → HoldsAt self.old.client.objects self.new.client.objects object None }
-        ensures removes { (p : Peer) → IsPeer self.old.client p
-            → (q : Peer) × Queues (id_deleted object ∷ release_told released) (removed object p) q × IsPeer self.new.client q }
-        ensures owned { self.new.owned ≡ self.old.owned }
-        ensures rest { length self.new.client.rest ≤ length self.old.client.rest }
-    {
-        match released {
-            Some(buffer) => self.client.remove_and_release(object, buffer),
-            None => self.client.remove(object),
         }
     }
 }

@@ -1,6 +1,6 @@
 //! The requests of wl_surface.
 
-ghost use Rattle.std.specs.Prelude.{◌≡◌, ◌≢◌, ◌≤◌, length, ◌++◌, ◌||◌, ℕ, Bool, Ok, Option, None, Some, is_some, true, map, unsigned_abs};
+ghost use Rattle.std.specs.Prelude.{◌≡◌, ◌≢◌, ◌≤◌, ◌+◌, length, ◌++◌, ◌||◌, ℕ, Bool, Ok, Option, None, Some, is_some, true, map, unsigned_abs};
 ghost use Rattle.std.specs.Option.{option_map};
 ghost use Rattle.wl_client.specs.Agreement.{IsPeer};
 ghost use Rattle.wl_client.specs.Buffers.{Buffer as Made};
@@ -9,17 +9,18 @@ ghost use Rattle.wl_client.specs.Peer.{Peer};
 ghost use Rattle.wl_surface.specs.Kept.{buffer_of, had_at, is_transform};
 ghost use Rattle.wl_surface.specs.Request.{Attach, Damage as DamageAsked, SetBufferTransform, SetInputRegion, SetOpaqueRegion};
 ghost use Rattle.wl_proto.specs.Messages.{wl_surface_request};
-ghost use Rattle.wl_proto.specs.declared.wl_surface.WlSurfaceRequest.TheVariants.{Commit, Destroy, SetBufferTransform as TransformAsked};
+ghost use Rattle.wl_proto.specs.declared.wl_surface.WlSurfaceRequest.TheVariants.{Commit, Destroy, Frame as FrameAsked, SetBufferTransform as TransformAsked};
 ghost use Rattle.wl_shell.specs.Kept.{Kept as KeptXdg, changing, commit_answer, kept_after, kept_of};
 ghost use Rattle.wl_plain.specs.Ask.{AskSurface};
 ghost use Rattle.wl_plain.specs.Demand.{CommitTree, EndSurface};
 ghost use Rattle.wl_plain.specs.Desktop.{Desktop, Resident as Plain};
 ghost use Rattle.wl_plain.specs.NoMore.{OwnsToplevelsOnly};
-ghost use Rattle.wl_plain.specs.Owning.{AreKept, IsOwned, Names, effect_by, names_in};
+ghost use Rattle.wl_plain.specs.Owning.{AreKept, IsOwned, Names, by_number, effect_by, names_in};
+ghost use Rattle.wl_plain.specs.Framing.{AreFramed};
 ghost use Rattle.wl_plain.specs.LeftOut.{served_now};
 ghost use Rattle.wl_plain.specs.Releases.{let_if, same_number};
 ghost use Rattle.wl_resident.specs.Marking.{TellsChange};
-ghost use Rattle.wl_resident.specs.Residents.{AnswersDemand, Does, IsSurface, Meets, MeetsSo, Stacks, stacking_by};
+ghost use Rattle.wl_resident.specs.Residents.{AnswersDemand, Does, IsFree, IsSurface, Meets, MeetsSo, NewIsFree, Stacks, stacking_by};
 ghost use Rattle.wl_plain.specs.Step.{buffers_had, is_number, is_over, letting_go};
 ghost use Rattle.wl_plain.specs.Demanding.{demand_of, effect_of_commit};
 ghost use Rattle.wl_surface.specs.Surfaces.{Surface, listed};
@@ -29,9 +30,10 @@ use crate::residents::{Outcome, Resident, Stacking};
 use std::alloc::Allocator;
 use wl_client::{ErrorCode, Refusal};
 use wl_geom::Rect;
-use wl_proto::WlSurfaceRequest;
+use wl_proto::{Interface, WlSurfaceRequest};
 use wl_shell::ShellAct;
 use wl_surface::{Applied, Attached, SurfaceNo};
+use wl_table::Entry;
 
 /// No toplevel is placed within bounds.
 const NO_BOUNDS: Rect = Rect {
@@ -149,22 +151,19 @@ impl<A: Allocator + Copy> Resident<A> {
         self.let_go_of_three(pending, held, applied);
     }
 
-    /// wl_surface.destroy of a surface that has no xdg_surface.
+    /// wl_surface.destroy of a surface that has no xdg_surface. Its frame callbacks go with it, and their ids are given back after its own.
     pub(crate) fn destroy_surface(&mut self, object: u32, surface: SurfaceNo)
         ensures does { IsSurface self.old object surface → kept_of self.old.owned.shell surface ≡ None → Meets (λ r. EndSurface object) self.old self.new }
         ensures rest { length self.new.client.rest ≤ length self.old.client.rest }
     {
         let had = self.owned.surfaces.buffers(surface);
-        match self.owned.surfaces.destroy(surface) {
-            Ok(_) => {}
-            Err(_) => {
-                self.client.lack_memory();
-                return;
-            }
-        }
+        let Ok(applied) = self.owned.surfaces.destroy(surface) else {
+            self.client.lack_memory();
+            return;
+        };
         let released = self.released(had);
         self.let_go_of(had);
-        self.remove_surface(object, released);
+        self.client.remove_with(object, &applied.callbacks, released);
     }
 
     /// wl_surface.attach of the buffer with this id, or of none for null, at this offset in pixels.
@@ -248,6 +247,7 @@ impl<A: Allocator + Copy> Resident<A> {
     fn apply(&mut self, surface: SurfaceNo, act: ShellAct, serial: u32) -> Option<Applied<A>>
         ensures applies { (c : ℕ) (r : Plain) (d : Desktop) (names : Names) (object : ℕ) (kept : ℕ → Option KeptXdg) (shows : Bool) → OwnsToplevelsOnly r
             → effect_of_commit r object ≡ effect_by act → IsPeer self.old.client r.peer → IsOwned names self.old.owned.surfaces kept r.owned
+            → AreFramed self.old.owned.surfaces.frames (by_number names.surfaces r.owned.surfaces) (r.peer.requests + 1) r.callbacks
             → names_in self.old.client.objects ≡ names → names.surfaces object ≡ Some surface → commit_answer shows (kept surface) ≡ Ok act → serial ≡ r.peer.serial
             → kept_of self.old.owned.shell ≡ changing surface (kept_after r.peer.serial act) kept
             → MeetsSo c (CommitTree object) r d self.old self.new }
@@ -316,7 +316,27 @@ impl<A: Allocator + Copy> Resident<A> {
         self.set_buffer_transform(object, surface, transform);
     }
 
-    /// A request of a surface. Frame callbacks aren't served yet.
+    /// wl_surface.frame: the callback with this id waits until a commit applies the request and a frame is shown.
+    fn frame(&mut self, object: u32, version: u32, surface: SurfaceNo, callback: u32)
+        ensures answers { IsSurface self.old object surface → IsFree self.old callback
+            → AnswersDemand (λ r. demand_of served_now r object version (wl_surface_request (FrameAsked callback))) self.old self.new }
+        ensures rest { length self.new.client.rest ≤ length self.old.client.rest }
+    {
+        self.client.count();
+        match self.owned.surfaces.frame(surface, callback) {
+            Ok(()) => {
+                let entry = Entry {
+                    interface: Interface::WlCallback,
+                    version,
+                    target: 0,
+                };
+                self.client.add(callback, entry, &[]);
+            }
+            Err(_) => self.client.lack_memory(),
+        }
+    }
+
+    /// A request of a surface, whose new id is free, if it has one.
     pub(crate) fn wl_surface(
         &mut self,
         object: u32,
@@ -324,7 +344,7 @@ impl<A: Allocator + Copy> Resident<A> {
         surface: SurfaceNo,
         request: &WlSurfaceRequest,
     ) -> Outcome<A>
-        ensures answers { IsSurface self.old object surface
+        ensures answers { IsSurface self.old object surface → NewIsFree self.old (wl_surface_request request.now)
             → AnswersDemand (λ r. demand_of served_now r object version (wl_surface_request request.now)) self.old self.new }
         ensures stacks { IsSurface self.old object surface
             → Stacks (λ r. demand_of served_now r object version (wl_surface_request request.now)) self.old result.stacking }
@@ -353,8 +373,8 @@ impl<A: Allocator + Copy> Resident<A> {
                 self.damage(object, surface, Rect { x, y, w, h });
                 Outcome::of(Stacking::Stays)
             }
-            WlSurfaceRequest::Frame { .. } => {
-                self.refuse_unserved();
+            WlSurfaceRequest::Frame { callback } => {
+                self.frame(object, version, surface, callback);
                 Outcome::of(Stacking::Stays)
             }
             WlSurfaceRequest::SetOpaqueRegion { region } => {

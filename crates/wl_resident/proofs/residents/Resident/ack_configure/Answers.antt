@@ -4,7 +4,7 @@ use Rattle.wl_client.specs.Peer.{counted}
 use Rattle.wl_shell.specs.Kept.{acknowledgement_answer, kept_of}
 use Rattle.wl_plain.specs.Ask.{Acknowledge}
 use Rattle.wl_plain.specs.Owning.{IsOwned, Names, names_in, shell_refusal}
-use Rattle.wl_plain.specs.Step.{changed_by}
+use Rattle.wl_plain.specs.Step.{changed_by, with_peer}
 use Rattle.wl_plain.specs.XdgShell.{acknowledged_by}
 use Rattle.wl_plain.proofs.OwningAsks.{owned-acknowledged}
 use Rattle.wl_plain.proofs.OwningReads.{acknowledged-by}
@@ -12,6 +12,7 @@ use Rattle.wl_resident.proofs.Shelling.{accepted, names-counted, told-err, told-
 use Rattle.wl_resident.proofs.Numbers.{keeps-names}
 use Rattle.wl_resident.proofs.Simply.{simply}
 use Rattle.wl_resident.proofs.residents.Resident.ack_configure.Goals as goal
+use Rattle.wl_resident.proofs.Framing.{framed-names, one-more}
 
 pub returns-in-Ok-clause-answers : goal.returns-in-Ok-clause-answers
 returns-in-Ok-clause-answers g c = λ named client r on is only.
@@ -29,6 +30,8 @@ returns-in-Ok-clause-answers g c = λ named client r on is only.
       record {
         peer = c.count.ensures.counts r.peer is.peer;
         numbers = λ alive. keeps-names v.client.objects c.count.new.self.objects (names-counted v.client c.count.new.self c.count.ensures.only);
+        frames = λ alive. framed-names v.owned.surfaces.frames v.client.objects c.count.new.self.objects r (changed_by (Acknowledge x.id serial) (with_peer (counted r.peer) r)) refl (one-more r.peer.requests) is.frames
+            (names-counted v.client c.count.new.self c.count.ensures.only) refl;
         owns = λ alive. subst (λ (n : Names). IsOwned n v.owned.surfaces (kept_of c.ack.new.self) (changed_by (Acknowledge x.id serial) r).owned) (sym (names-counted v.client c.count.new.self c.count.ensures.only))
             (owned-acknowledged names v.owned.surfaces kept r is.owns c.args.surface k x h one serial (kept_of c.ack.new.self) c.in-Ok.ensures.ok);
       },

@@ -18,12 +18,14 @@ use Rattle.wl_plain.proofs.OwningSurfaces.{AreKept-changed}
 use Rattle.wl_resident.proofs.Shelling.{owns-told}
 use Rattle.wl_resident.proofs.Numbers.{keeps-same}
 use Rattle.wl_resident.proofs.residents.Resident.apply.Goals as goal
+use Rattle.wl_resident.proofs.Framing.{IsFramed, framed-applied}
 use Rattle.wl_plain.specs.Releases.{release_told}
 use Rattle.wl_plain.proofs.BridgeReleases.{committed-released}
 use Rattle.wl_plain.proofs.Simply.{CommitSurface, answers_simply, changed_simply, committed_on, told_simply}
+use Rattle.wl_scene.specs.declared.owned.Owned.{Owned as Lent}
 
 pub returns-clause-applies : goal.returns-clause-applies
-returns-clause-applies g c = λ client r on names object kept shows only comes is owned names_are named answer serial shell.
+returns-clause-applies g c = λ client r on names object kept shows only comes is owned framed names_are named answer serial shell.
     meets-simply _ _ client on (CommitSurface object (effect_by c.args.act)) (CommitTree object) r only (commit object (effect_by c.args.act) (sym (effect-same r object only.roles) ∙ comes)) (
     let v = c.args.self.now in
     let number = c.args.surface in
@@ -48,6 +50,10 @@ returns-clause-applies g c = λ client r on names object kept shows only comes i
       record {
         peer = told.2;
         numbers = λ alive. keeps-same v.client.objects c.tell_act.new.self.client.objects (c.tell_act.ensures.table alive ∙ ap (λ (w : ClientView). w.objects) c.let_go_of.ensures.only);
+        frames = λ alive.
+            let table = c.tell_act.ensures.table alive ∙ ap (λ (w : ClientView). w.objects) c.let_go_of.ensures.only in
+            subst (λ (o : Lent _). IsFramed o.surfaces.frames c.tell_act.new.self.client.objects (changed_simply ask r)) (sym (c.tell_act.ensures.owned ∙ c.let_go_of.ensures.owned))
+            (framed-applied v.client.objects c.tell_act.new.self.client.objects names r object number (effect_by act) v.owned.surfaces c.commit.new.self names_are table owned.surfaces named framed c.in-Ok.ensures.waits);
         owns = λ alive. owns-told c.tell_act.new.self _ names _
             (ap names_in (c.tell_act.ensures.table alive ∙ ap (λ (w : ClientView). w.objects) c.let_go_of.ensures.only) ∙ names_are)
             (c.tell_act.ensures.owned ∙ c.let_go_of.ensures.owned)
@@ -56,7 +62,7 @@ returns-clause-applies g c = λ client r on names object kept shows only comes i
     ))
 
 pub returns-in_default-clause-applies : goal.returns-in_default-clause-applies
-returns-in_default-clause-applies g c = λ client r on names object kept shows only comes is owned names_are named answer serial shell.
+returns-in_default-clause-applies g c = λ client r on names object kept shows only comes is owned framed names_are named answer serial shell.
     meets-simply _ _ client on (CommitSurface object (effect_by c.args.act)) (CommitTree object) r only (commit object (effect_by c.args.act) (sym (effect-same r object only.roles) ∙ comes)) (
     let lacks = lacked c.args.self.now _ _ r (c.lack_memory.ensures.lacks r.peer is) c.lack_memory.ensures.ended in
     (lacks.0, inl lacks.1, lacks.2))

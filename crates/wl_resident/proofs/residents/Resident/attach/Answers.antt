@@ -1,14 +1,16 @@
-use Rattle.std.proofs.Common.{refl, inr, w32}
+use Rattle.std.proofs.Common.{refl, inr, w32, List, subst, sym}
 use Rattle.std.proofs.lemmas.Int.{to_z-of_z}
 use Rattle.wl_shell.specs.Kept.{kept_of}
 use Rattle.wl_surface.specs.Request.{Attach}
 use Rattle.wl_surface.specs.Surfaces.{surface_at}
+use Rattle.wl_surface.specs.declared.frames.Waiting.{Waiting}
 use Rattle.wl_plain.specs.Owning.{names_in}
 use Rattle.wl_plain.specs.Step.{after_surface, asked_of}
 use Rattle.wl_plain.specs.WlSurface.{buffer_named}
 use Rattle.wl_resident.proofs.Doing.{had-by, let-go-so}
 use Rattle.wl_plain.proofs.OwningAsks.{owned-asked}
 use Rattle.wl_resident.proofs.residents.Resident.attach.Goals as goal
+use Rattle.wl_resident.proofs.Framing.{IsFramed, framed-asked, no-more}
 
 pub returns-clause-does : goal.returns-clause-does
 returns-clause-does g c = λ named r is.
@@ -21,4 +23,7 @@ returns-clause-does g c = λ named r is.
     let then = asked_of c.args.object request r in
     let peer = c.let_go_of.ensures.stores then names.surfaces is.peer owned.surfaces (surface_at c.args.object r.owned.surfaces) had in
     let after = after_surface c.args.object r then in
-    (after.peer, inr refl, let-go-so v (record { client = v.client; owned = record { surfaces = c.attach.new.self; shell = v.owned.shell } }) c.let_go_of.new.self after refl owned c.let_go_of.ensures.only c.let_go_of.ensures.owned peer)
+    let framed =
+    subst (λ (ws : List Waiting). IsFramed ws v.client.objects after) (sym c.attach.ensures.frames)
+    (framed-asked v.owned.surfaces.frames v.client.objects v.client.objects r after refl (no-more r.peer.requests) is.frames v.owned.surfaces is.owns.surfaces c.args.object c.args.surface request refl named refl refl) in
+    (after.peer, inr refl, let-go-so v (record { client = v.client; owned = record { surfaces = c.attach.new.self; shell = v.owned.shell } }) c.let_go_of.new.self after refl owned framed c.let_go_of.ensures.only c.let_go_of.ensures.owned peer)

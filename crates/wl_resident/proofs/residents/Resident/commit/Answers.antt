@@ -17,6 +17,7 @@ use Rattle.wl_resident.proofs.Stackings.{commit-stacks}
 use Rattle.wl_resident.proofs.Numbers.{left-from}
 use Rattle.wl_resident.proofs.Shelling.{names-counted, objects-counted, refused-whole, told-err}
 use Rattle.wl_resident.proofs.residents.Resident.commit.Goals as goal
+use Rattle.wl_resident.proofs.Framing.{framed-names, one-more}
 
 pub returns-in-Ok-clause-answers : goal.returns-in-Ok-clause-answers
 returns-in-Ok-clause-answers g c = λ named client r on is only.
@@ -35,7 +36,8 @@ returns-in-Ok-clause-answers g c = λ named client r on is only.
     let serial : c.serial-serial.result ≡ r.peer.serial = c.serial-serial.ensures ∙ is.peer.serial in
     let shell = c.in-Ok.ensures.ok ∙ ap (λ (n : ℕ). changing number (kept_after n act) kept) serial in
     let comes = accepted-effect names v.owned.surfaces kept r is.owns object number act only.roles named (ap (λ (b : Bool). commit_answer b (kept number)) (sym will) ∙ answer) in
-    let applied = c.apply-applied.ensures.applies client (with_peer (counted r.peer) r) on names object kept shows (only-peer r (counted r.peer) refl only) comes (c.count.ensures.counts r.peer is.peer) is.owns (names-counted v.client c.count.new.self c.count.ensures.only) named answer serial shell in
+    let applied = c.apply-applied.ensures.applies client (with_peer (counted r.peer) r) on names object kept shows (only-peer r (counted r.peer) refl only) comes (c.count.ensures.counts r.peer is.peer) is.owns
+    (framed-names v.owned.surfaces.frames v.client.objects v.client.objects r (with_peer (counted r.peer) r) refl (one-more r.peer.requests) is.frames refl refl) (names-counted v.client c.count.new.self c.count.ensures.only) named answer serial shell in
     subst (λ (j : Result Demand Refusal). AnswersSo j client r on v c.apply-applied.new.self) (sym judged)
     (applied.0, applied.1, left-from v (record { client = c.count.new.self; owned = record v.owned { shell = c.on_commit.new.self } }) _ _ applied.0 (objects-counted v.client c.count.new.self c.count.ensures.only) applied.2)
 

@@ -8,6 +8,7 @@ use Rattle.wl_shell.specs.Kept.{Kept as KeptXdg, changing, configure_answer, kep
 use Rattle.wl_shell.specs.Shell.{next_serial, xdg_with}
 use Rattle.wl_plain.specs.Owning.{IsOwned, Names, kept_id, names_in, shell_refusal}
 use Rattle.wl_plain.specs.Ask.{ConfigureAgain, Ignore}
+use Rattle.wl_plain.specs.Step.{changed_by, with_peer}
 use Rattle.wl_plain.proofs.OwningAsks.{owned-configured}
 use Rattle.wl_plain.proofs.OwningReads.{configured-by}
 use Rattle.wl_resident.proofs.Shelling.{accepted, changing-same, drawn, events-told, names-counted, owns-told, refused-again, told-again, toplevel-answered, xdg-refused}
@@ -15,6 +16,8 @@ use Rattle.wl_resident.proofs.Numbers.{keeps-names}
 use Rattle.wl_plain.proofs.Simply.{asks_simply}
 use Rattle.wl_resident.proofs.Simply.{simply}
 use Rattle.wl_resident.proofs.residents.Resident.configure_again.Goals as goal
+use Rattle.wl_resident.proofs.Framing.{IsFramed, framed-names, one-more}
+use Rattle.wl_scene.specs.declared.owned.Owned.{Owned as Lent}
 
 pub returns-in-Ok-true-clause-answers : goal.returns-in-Ok-true-clause-answers
 returns-in-Ok-true-clause-answers g c = λ named client r on is only.
@@ -38,6 +41,11 @@ returns-in-Ok-true-clause-answers g c = λ named client r on is only.
       record {
         peer = told.2;
         numbers = λ alive. keeps-names v.client.objects new.client.objects (ap names_in (c.tell_configure.ensures.table alive ∙ ap (λ (w : ClientView). w.objects) c.draw_serial.ensures) ∙ names-counted v.client c.count.new.self c.count.ensures.only);
+        frames = λ alive.
+            let table = ap names_in (c.tell_configure.ensures.table alive ∙ ap (λ (w : ClientView). w.objects) c.draw_serial.ensures) ∙ names-counted v.client c.count.new.self c.count.ensures.only in
+            let after = changed_by (ConfigureAgain x.id) (with_peer (counted r.peer) r) in
+            subst (λ (o : Lent _). IsFramed o.surfaces.frames new.client.objects after) (sym c.tell_configure.ensures.owned)
+            (framed-names v.owned.surfaces.frames v.client.objects new.client.objects r after refl (one-more r.peer.requests) is.frames table refl);
         owns = λ alive. owns-told new _ names _ (ap names_in (c.tell_configure.ensures.table alive ∙ ap (λ (w : ClientView). w.objects) c.draw_serial.ensures) ∙ names-counted v.client c.count.new.self c.count.ensures.only) c.tell_configure.ensures.owned
             (owned-configured names v.owned.surfaces kept r is.owns number k x h one (kept_of c.configure.new.self)
             (c.in-Ok-true.ensures.ok ∙ ap (λ b. changing number (kept_configured b c.serial-serial.result) kept) c.in-Ok-true.field-0-test ∙ ap (λ n. changing number (kept_configuring n) kept) serial));
@@ -62,6 +70,7 @@ returns-in-Ok-false-clause-answers g c = λ named client r on is only.
       record {
         peer = count.ensures.counts r.peer is.peer;
         numbers = λ alive. keeps-names v.client.objects count.new.self.objects (names-counted v.client count.new.self count.ensures.only);
+        frames = λ alive. framed-names v.owned.surfaces.frames v.client.objects count.new.self.objects r (with_peer (counted r.peer) r) refl (one-more r.peer.requests) is.frames (names-counted v.client count.new.self count.ensures.only) refl;
         owns = λ alive. subst (λ (n : Names). IsOwned n v.owned.surfaces (kept_of c.configure.new.self) r.owned) (sym (names-counted v.client count.new.self count.ensures.only))
             (subst (λ (ks : ℕ → Option KeptXdg). IsOwned names v.owned.surfaces ks r.owned)
             (sym (c.in-Ok-false.ensures.ok ∙ ap (λ b. changing number (kept_configured b c.serial-serial.result) kept) c.in-Ok-false.field-0-test ∙ changing-same number kept)) is.owns);

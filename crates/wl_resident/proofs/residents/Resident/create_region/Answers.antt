@@ -8,10 +8,12 @@ use Rattle.wl_proto.specs.declared.interface.Interface.TheVariants.{WlRegion}
 use Rattle.wl_client.specs.Peer.{counted}
 use Rattle.wl_shell.specs.Kept.{kept_of}
 use Rattle.wl_plain.specs.Owning.{IsOwned, Names}
+use Rattle.wl_plain.specs.Step.{changed_by, with_peer}
 use Rattle.wl_resident.proofs.Numbers.{keeps-names}
 use Rattle.wl_resident.proofs.Shelling.{holds-counted}
 use Rattle.wl_resident.proofs.Simply.{simply}
 use Rattle.wl_resident.proofs.residents.Resident.create_region.Goals as goal
+use Rattle.wl_resident.proofs.Framing.{framed-names, one-more}
 
 pub returns-clause-answers : goal.returns-clause-answers
 returns-clause-answers g c = λ free client r on is only.
@@ -25,6 +27,7 @@ returns-clause-answers g c = λ free client r on is only.
       record {
         peer = made.2;
         owns = λ alive. subst (λ (n : Names). IsOwned n v.owned.surfaces (kept_of v.owned.shell) r.owned) (sym (named alive)) is.owns;
+        frames = λ alive. framed-names v.owned.surfaces.frames v.client.objects c.create_region.new.self.objects r (changed_by (Own (CreateRegion c.args.id c.args.version)) (with_peer (counted r.peer) r)) refl (one-more r.peer.requests) is.frames (named alive) refl;
         numbers = λ alive. keeps-names v.client.objects c.create_region.new.self.objects (named alive);
       },
     ))

@@ -1,4 +1,4 @@
-use Rattle.std.proofs.Common.{refl, inl, subst, sym}
+use Rattle.std.proofs.Common.{refl, inl, subst, sym, List, ap}
 use Rattle.wl_proto.specs.declared.interface.Interface.TheVariants.{WlSurface}
 use Rattle.wl_client.specs.Peer.{counted}
 use Rattle.wl_shell.specs.Kept.{kept_of}
@@ -7,7 +7,7 @@ use Rattle.wl_client.specs.declared.refusals.Refusal.{Refusal}
 use Rattle.wl_plain.specs.Ask.{Ask, CreateSurface}
 use Rattle.wl_plain.specs.Demanding.{demands}
 use Rattle.wl_resident.specs.Residents.{AnswersSo}
-use Rattle.wl_plain.specs.Owning.{names_in}
+use Rattle.wl_plain.specs.Owning.{names_in, Names}
 use Rattle.wl_plain.specs.Step.{changed_by, with_peer}
 use Rattle.wl_plain.specs.WlSurface.{surface_created}
 use Rattle.wl_resident.proofs.Doing.{lacked}
@@ -18,6 +18,8 @@ use Rattle.wl_plain.proofs.Creating.{created-past, created-short, created-within
 use Rattle.wl_resident.proofs.Shelling.{accepted, holds-counted}
 use Rattle.wl_resident.proofs.Simply.{simply}
 use Rattle.wl_resident.proofs.residents.Resident.create_surface.Goals as goal
+use Rattle.wl_resident.proofs.Framing.{IsFramed, framed-made, one-more}
+use Rattle.wl_surface.specs.declared.frames.Waiting.{Waiting}
 
 pub returns-in-Ok-clause-answers : goal.returns-in-Ok-clause-answers
 returns-in-Ok-clause-answers g c = λ free client r on is only.
@@ -35,6 +37,12 @@ returns-in-Ok-clause-answers g c = λ free client r on is only.
         owns = λ alive. owned-created (names_in v.client.objects) v.owned.surfaces (kept_of v.owned.shell) (with_peer (counted r.peer) r) is.owns id c.args.version c.in-Ok.surface c.create.new.self (names_in c.add.new.self.objects)
             (targets-free WlSurface v.client.objects id free) c.in-Ok.ensures.ok c.in-Ok.ensures.count
             (names (holds-counted v.client c.count.new.self c.add.new.self.objects id _ c.count.ensures.only (c.add.ensures.table alive)));
+        frames = λ alive.
+            let now = names (holds-counted v.client c.count.new.self c.add.new.self.objects id _ c.count.ensures.only (c.add.ensures.table alive)) in
+            let after = changed_by (CreateSurface id c.args.version) (with_peer (counted r.peer) r) in
+            subst (λ (ws : List Waiting). IsFramed ws c.add.new.self.objects after) (sym c.create.ensures.frames)
+            (framed-made v.owned.surfaces.frames v.client.objects c.add.new.self.objects r after refl (one-more r.peer.requests) is.frames v.owned.surfaces is.owns.surfaces id c.in-Ok.surface c.create.new.self c.in-Ok.ensures.ok
+            (targets-free WlSurface v.client.objects id free) (ap (λ (n : Names). n.surfaces) now) refl);
         numbers = λ alive. keeps-made v.client.objects c.add.new.self.objects id c.in-Ok.surface (targets-free WlSurface v.client.objects id free)
             (names (holds-counted v.client c.count.new.self c.add.new.self.objects id _ c.count.ensures.only (c.add.ensures.table alive)));
       },

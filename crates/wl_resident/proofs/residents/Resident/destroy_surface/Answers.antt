@@ -1,15 +1,24 @@
-use Rattle.std.proofs.Common.{◌≡◌, List, ◌∷◌, None, ap, refl, inl, inr, subst, sym, ◌∙◌}
-use Rattle.wl_client.specs.Peer.{Queues}
-use Rattle.wl_client.specs.Told.{Said, id_deleted}
+use Rattle.std.specs.Prelude.{filter, not}
+use Rattle.std.proofs.Common.{◌≡◌, List, ◌∷◌, None, map, ap, refl, inl, inr, subst, sym, ◌∙◌}
+use Rattle.wl_client.specs.Peer.{Peer, Queues, all_removed, removed}
+use Rattle.wl_client.specs.Serving.{HoldsWithout}
+use Rattle.wl_client.specs.Told.{Said}
 use Rattle.wl_client.specs.View.{ClientView}
 use Rattle.wl_shell.specs.Kept.{kept_of}
-use Rattle.wl_surface.specs.Surfaces.{surface_at, without_surface}
+use Rattle.wl_table.specs.Objects.{Held}
+use Rattle.wl_surface.specs.Frames.{frames_asked}
+use Rattle.wl_surface.specs.Surfaces.{history_in, surface_at, without_surface}
+use Rattle.wl_surface.specs.Waiting.{Callback, is_in}
+use Rattle.wl_scene.specs.declared.owned.Owned.{Owned as Lent}
+use Rattle.wl_plain.specs.Changing.{callbacks_of}
+use Rattle.wl_plain.specs.Replies.{releases}
 use Rattle.wl_plain.specs.Demand.{EndSurface}
 use Rattle.wl_plain.specs.Owning.{Names, names_in, with_surface}
 use Rattle.wl_plain.specs.Step.{after_surface, with_surfaces}
 use Rattle.wl_resident.proofs.Doing.{had-by, lacked}
 use Rattle.wl_plain.proofs.OwningAsks.{owned-destroyed}
-use Rattle.wl_resident.proofs.Shelling.{surface-gone}
+use Rattle.wl_resident.proofs.Framing.{IsFramed, framed-destroy, left-by, numbered}
+use Rattle.wl_resident.proofs.Going.{are-heard, asked-read, going-removed, going-requests, going-told, surface-gone-with}
 use Rattle.wl_plain.proofs.OwningXdg.{xdg-of-none}
 use Rattle.wl_plain.proofs.BridgeJudged.{ends}
 use Rattle.wl_resident.proofs.Numbers.{keeps-gone}
@@ -19,8 +28,8 @@ use Rattle.wl_plain.specs.Releases.{release_told}
 use Rattle.wl_plain.proofs.BridgeReleases.{gone-released}
 use Rattle.wl_plain.proofs.Simply.{DestroySurface, changed_simply, told_simply}
 
-pub returns-in-Err-clause-does : goal.returns-in-Err-clause-does
-returns-in-Err-clause-does g c = λ named bare client r on is only.
+pub returns-in_default-clause-does : goal.returns-in_default-clause-does
+returns-in_default-clause-does g c = λ named bare client r on is only.
     meets-simply _ _ client on (DestroySurface c.args.object) (EndSurface c.args.object) r only (ends c.args.object) (
     let lacks = lacked c.args.self.now _ _ r (c.lack_memory.ensures.lacks r.peer is.peer) c.lack_memory.ensures.ended in
     (lacks.0, inl lacks.1, lacks.2))
@@ -39,18 +48,30 @@ returns-clause-does g c = λ named bare client r on is only.
     let then = with_surfaces (without_surface id r.owned.surfaces) r in
     let owned = destroyed bare_names refl in
     let peer = c.let_go_of.ensures.stores then bare_names.surfaces is.peer owned.surfaces (surface_at id r.owned.surfaces) had in
-    let told = c.remove_surface.ensures.removes (after_surface id r then).peer peer in
+    let waits = is.frames.waits in
+    let asked = asked-read v.client.objects r v.owned.surfaces is.owns.surfaces id c.args.surface named in
+    let cs = callbacks_of id r in
+    let calls = c.deref.result.now in
+    let ids : calls ≡ map (λ (x : Callback). x.id) cs =
+    c.deref.ensures.value ∙ c.in-Ok.ensures.ids (numbered v.client.objects r) r.callbacks waits ∙ ap (λ ns. map (λ (x : Callback). x.id) (filter (is_in ns) r.callbacks)) asked in
+    let after = after_surface id r then in
+    let told = c.remove_with.ensures.removes after.peer peer in
+    let went = going-removed cs calls after.peer ids in
     let released = c.released-released.ensures then bare_names.surfaces is.peer owned.surfaces (surface_at id r.owned.surfaces) had in
-    let events : (id_deleted id ∷ release_told c.released-released.result) ≡ told_simply (DestroySurface id) r =
-    ap (λ (es : List Said). id_deleted id ∷ es) (ap release_told released ∙ sym (gone-released id r is.owns.surfaces.apart (is.owns.surfaces.counts id))) in (
+    let events = going-told id cs calls c.released-released.result (releases r (changed_simply (DestroySurface id) r)) ids
+    (ap release_told released ∙ sym (gone-released id r is.owns.surfaces.apart (is.owns.surfaces.counts id))) in
+    let table = λ (alive : c.remove_with.new.self.ended ≡ None). surface-gone-with v.client.objects c.remove_with.new.self.objects id calls (are-heard id r v.client.objects calls only is.peer.objects ids)
+    (subst (λ (held : Held). HoldsWithout held c.remove_with.new.self.objects (id ∷ calls)) (ap (λ (w : ClientView). w.objects) c.let_go_of.ensures.only) (c.remove_with.ensures.table alive)) c.args.surface named in (
       told.0,
-      inr (subst (λ (es : List Said). Queues es (changed_simply (DestroySurface id) r).peer told.0) events told.1),
+      inr (subst (λ (p : Peer). Queues (told_simply (DestroySurface id) r) (removed id p) told.0) went (subst (λ (es : List Said). Queues es (removed id (all_removed calls after.peer)) told.0) events told.1)),
       record {
         peer = told.2;
-        numbers = λ alive. keeps-gone v.client.objects c.remove_surface.new.self.client.objects id (surface-gone v.client.objects c.remove_surface.new.self.client.objects id c.args.surface named (rw (ap (λ (w : ClientView). w.objects) c.let_go_of.ensures.only) at c.remove_surface.ensures.table alive));
-        owns = λ alive.
-            let table = ap (λ (w : ClientView). w.objects) c.let_go_of.ensures.only in
-            let holds = rw table at c.remove_surface.ensures.table alive in
-            rw (c.remove_surface.ensures.owned, c.let_go_of.ensures.owned) (destroyed (names_in c.remove_surface.new.self.client.objects) (surface-gone v.client.objects c.remove_surface.new.self.client.objects id c.args.surface named holds));
+        numbers = λ alive. keeps-gone v.client.objects c.remove_with.new.self.objects id (table alive);
+        frames = λ alive.
+            subst (λ (o : Lent _). IsFramed o.surfaces.frames c.remove_with.new.self.objects (changed_simply (DestroySurface id) r)) (sym c.let_go_of.ensures.owned)
+            (framed-destroy v.client.objects c.remove_with.new.self.objects r (changed_simply (DestroySurface id) r) v.owned.surfaces is.owns.surfaces is.frames id c.args.surface named c.destroy.new.self c.in-Ok.ensures.waits
+            (going-requests cs after.peer) (left-by (frames_asked (history_in id r.owned.surfaces)) r.callbacks ∙ ap (λ ns. filter (λ x. not (is_in ns x)) r.callbacks) (sym asked))
+            (ap (λ (n : Names). n.surfaces) (table alive)) refl);
+        owns = λ alive. rw c.let_go_of.ensures.owned (destroyed (names_in c.remove_with.new.self.objects) (table alive));
       },
     ))

@@ -1,16 +1,18 @@
 use Rattle.wl_plain.specs.Demanding.{toplevel_destroyed}
 use Rattle.wl_plain.proofs.BridgeJudged.{gone-simple}
-use Rattle.wl_plain.proofs.Simply.{simply}
+use Rattle.wl_plain.proofs.Simply.{simply, DestroyToplevel, changed_simply}
 use Rattle.wl_shell.specs.Shell.{xdg_with}
-use Rattle.std.proofs.Common.{None, inr}
+use Rattle.std.proofs.Common.{None, inr, ap, refl}
 use Rattle.wl_shell.specs.Kept.{kept_of}
 use Rattle.wl_client.specs.Peer.{counted}
-use Rattle.wl_plain.specs.Owning.{names_in}
+use Rattle.wl_plain.specs.Owning.{names_in, Names}
+use Rattle.wl_plain.specs.Step.{with_peer}
 use Rattle.wl_plain.proofs.OwningAsks.{owned-toplevel-gone}
 use Rattle.wl_resident.proofs.Shelling.{toplevel-answered, toplevel-gone}
 use Rattle.wl_resident.proofs.Numbers.{keeps-toplevel}
 use Rattle.wl_resident.proofs.Simply.{answers-simply}
 use Rattle.wl_resident.proofs.residents.Resident.destroy_toplevel.Goals as goal
+use Rattle.wl_resident.proofs.Framing.{framed-kept, one-more}
 
 pub returns-clause-answers : goal.returns-clause-answers
 returns-clause-answers g c = λ named client r on is only.
@@ -25,6 +27,8 @@ returns-clause-answers g c = λ named client r on is only.
       record {
         peer = gone.2;
         numbers = λ alive. keeps-toplevel v.client.objects c.remove.new.self.objects c.args.object None (toplevel-gone v.client c.count.new.self c.remove.new.self c.args.object c.args.surface c.count.ensures.only named (c.remove.ensures.table alive));
+        frames = λ alive. framed-kept v.owned.surfaces.frames v.client.objects c.remove.new.self.objects r (changed_simply (DestroyToplevel c.args.object x.id x.surface) (with_peer (counted r.peer) r)) refl (one-more r.peer.requests) is.frames
+            (ap (λ (n : Names). n.surfaces) (toplevel-gone v.client c.count.new.self c.remove.new.self c.args.object c.args.surface c.count.ensures.only named (c.remove.ensures.table alive))) refl;
         owns = λ alive. owned-toplevel-gone (names_in v.client.objects) v.owned.surfaces (kept_of v.owned.shell) r is.owns c.args.surface k x h one c.args.object (kept_of c.destroy_toplevel.new.self) (names_in c.remove.new.self.objects) its
             c.destroy_toplevel.ensures
             (toplevel-gone v.client c.count.new.self c.remove.new.self c.args.object c.args.surface c.count.ensures.only named (c.remove.ensures.table alive));

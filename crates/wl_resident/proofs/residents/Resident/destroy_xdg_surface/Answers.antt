@@ -1,10 +1,10 @@
 use Rattle.wl_proto.specs.declared.xdg_surface.XdgSurfaceRequest.TheVariants as xdg
-use Rattle.std.proofs.Common.{◌≡◌, ap, inr, subst, sym, ◌∙◌}
+use Rattle.std.proofs.Common.{◌≡◌, ap, inr, subst, sym, ◌∙◌, refl}
 use Rattle.std.specs.Prelude.{Ok, None}
 use Rattle.wl_client.specs.Peer.{counted}
 use Rattle.wl_shell.specs.Kept.{destruction_answer, kept_of}
 use Rattle.wl_plain.specs.Ask.{DestroyXdgSurface}
-use Rattle.wl_plain.specs.Owning.{IsOwned, names_in, shell_refusal, with_xdg}
+use Rattle.wl_plain.specs.Owning.{IsOwned, names_in, shell_refusal, with_xdg, Names}
 use Rattle.wl_plain.specs.Step.{changed_by, with_peer}
 use Rattle.wl_plain.specs.XdgShell.{xdg_surface_destroyed}
 use Rattle.wl_plain.proofs.OwningAsks.{owned-xdg-gone}
@@ -13,6 +13,7 @@ use Rattle.wl_resident.proofs.Shelling.{accepted, told-err, told-ok, xdg-answere
 use Rattle.wl_resident.proofs.Numbers.{keeps-xdg}
 use Rattle.wl_resident.proofs.Simply.{simply}
 use Rattle.wl_resident.proofs.residents.Resident.destroy_xdg_surface.Goals as goal
+use Rattle.wl_resident.proofs.Framing.{framed-kept, one-more}
 
 pub returns-in-Ok-clause-answers : goal.returns-in-Ok-clause-answers
 returns-in-Ok-clause-answers g c = λ named client r on is only.
@@ -35,6 +36,9 @@ returns-in-Ok-clause-answers g c = λ named client r on is only.
       record {
         peer = gone.2;
         numbers = λ alive. keeps-xdg v.client.objects c.remove.new.self.objects object None (xdg-gone v.client c.count.new.self c.remove.new.self object number c.count.ensures.only named (c.remove.ensures.table alive));
+        frames = λ alive.
+            let went = xdg-gone v.client c.count.new.self c.remove.new.self object number c.count.ensures.only named (c.remove.ensures.table alive) in
+            framed-kept v.owned.surfaces.frames v.client.objects c.remove.new.self.objects r (changed_by (DestroyXdgSurface object) (with_peer (counted r.peer) r)) refl (one-more r.peer.requests) is.frames (ap (λ (n : Names). n.surfaces) went) refl;
         owns = λ alive.
             let went : left ≡ with_xdg object None names = xdg-gone v.client c.count.new.self c.remove.new.self object number c.count.ensures.only named (c.remove.ensures.table alive) in
             subst (λ i. IsOwned left v.owned.surfaces after (changed_by (DestroyXdgSurface i) (with_peer (counted r.peer) r)).owned) same

@@ -1,12 +1,12 @@
 use Rattle.wl_proto.specs.declared.xdg_surface.XdgSurfaceRequest.TheVariants as xdg
-use Rattle.std.proofs.Common.{◌≡◌, ap, refl, sym, ◌∙◌}
+use Rattle.std.proofs.Common.{◌≡◌, ap, refl, sym, ◌∙◌, List, subst}
 use Rattle.std.specs.Prelude.{Some}
 use Rattle.wl_proto.specs.declared.interface.Interface.TheVariants.{XdgToplevel}
 use Rattle.wl_client.specs.Peer.{counted}
 use Rattle.wl_shell.specs.Kept.{kept_of, toplevel_answer}
 use Rattle.wl_plain.specs.Ask.{GetToplevel}
-use Rattle.wl_plain.specs.Owning.{names_in, shell_refusal}
-use Rattle.wl_plain.specs.Step.{with_peer}
+use Rattle.wl_plain.specs.Owning.{names_in, shell_refusal, Names}
+use Rattle.wl_plain.specs.Step.{with_peer, making, toplevel_given}
 use Rattle.wl_plain.specs.XdgShell.{is_no_toplevel, role_of, toplevel_made}
 use Rattle.wl_plain.proofs.OwningAsks.{owned-toplevel-made}
 use Rattle.wl_plain.proofs.OwningNames.{names-toplevel-made, targets-free}
@@ -15,6 +15,9 @@ use Rattle.wl_resident.proofs.Shelling.{accepted, acts-given, holds-counted, rol
 use Rattle.wl_resident.proofs.Numbers.{keeps-toplevel}
 use Rattle.wl_resident.proofs.Simply.{simply}
 use Rattle.wl_resident.proofs.residents.Resident.get_toplevel.Goals as goal
+use Rattle.wl_resident.proofs.Framing.{IsFramed, framed-role, one-more}
+use Rattle.wl_surface.specs.declared.frames.Waiting.{Waiting}
+use Rattle.wl_surface.specs.declared.role.Role.TheVariants.{Toplevel as AsToplevel}
 
 pub returns-in-Ok-clause-answers : goal.returns-in-Ok-clause-answers
 returns-in-Ok-clause-answers g c = λ named free client r on is only.
@@ -40,6 +43,14 @@ returns-in-Ok-clause-answers g c = λ named free client r on is only.
         numbers = λ alive. keeps-toplevel v.client.objects c.add.new.self.objects id (Some number)
             (names-toplevel-made v.client.objects c.add.new.self.objects id (record { interface = XdgToplevel; version = version; target = number }) free refl
             (holds-counted v.client c.count.new.self c.add.new.self.objects id (Some (record { interface = XdgToplevel; version = version; target = number })) c.count.ensures.only (c.add.ensures.table alive)));
+        frames = λ alive.
+            let now = names-toplevel-made v.client.objects c.add.new.self.objects id (record { interface = XdgToplevel; version = version; target = number }) free refl
+            (holds-counted v.client c.count.new.self c.add.new.self.objects id (Some (record { interface = XdgToplevel; version = version; target = number })) c.count.ensures.only (c.add.ensures.table alive)) in
+            let then = with_peer (counted r.peer) r in
+            subst (λ o. IsFramed c.give_role-given.new.self.frames c.add.new.self.objects (making XdgToplevel id version (toplevel_given id x.id o then))) (sym one.at_id)
+            (subst (λ (ws : List Waiting). IsFramed ws c.add.new.self.objects (making XdgToplevel id version (toplevel_given id x.id (Some x) then))) (sym c.give_role-given.ensures.frames)
+            (framed-role v.owned.surfaces.frames v.client.objects c.add.new.self.objects r (making XdgToplevel id version (toplevel_given id x.id (Some x) then)) refl (one-more r.peer.requests) is.frames
+            v.owned.surfaces is.owns.surfaces x.surface number AsToplevel one.surface (ap (λ (n : Names). n.surfaces) now) refl));
         owns = λ alive. owned-toplevel-made names v.owned.surfaces kept (with_peer (counted r.peer) r) is.owns number k x h one id version c.give_role-given.new.self (kept_of c.get_toplevel.new.self) (names_in c.add.new.self.objects) bare.0
             (targets-free XdgToplevel v.client.objects id free)
             (role-given names v.owned.surfaces kept r is.owns x.surface number c.role.result c.give_role-given.result c.give_role-given.new.self one.surface bare.1 c.role.ensures c.give_role-given.ensures.refused c.give_role-given.ensures.ok)

@@ -5,7 +5,7 @@ use Rattle.wl_client.specs.Peer.{counted}
 use Rattle.wl_shell.specs.Kept.{kept_of, making_refused}
 use Rattle.wl_shell.specs.declared.error.ShellError.{ShellError}
 use Rattle.wl_plain.specs.Ask.{GetXdgSurface}
-use Rattle.wl_plain.specs.Owning.{asks_unless, names_in, shell_refusal}
+use Rattle.wl_plain.specs.Owning.{asks_unless, names_in, shell_refusal, Names}
 use Rattle.wl_plain.specs.Step.{changed_by, with_peer}
 use Rattle.wl_plain.specs.XdgShell.{has_any, is_foreign, role_of, xdg_surface_made}
 use Rattle.wl_resident.proofs.Doing.{lacked}
@@ -16,6 +16,7 @@ use Rattle.wl_resident.proofs.Shelling.{accepted, making-err, making-memory, mak
 use Rattle.wl_resident.proofs.Numbers.{keeps-xdg}
 use Rattle.wl_resident.proofs.Simply.{simply}
 use Rattle.wl_resident.proofs.residents.Resident.get_xdg_surface.Goals as goal
+use Rattle.wl_resident.proofs.Framing.{framed-kept, one-more}
 
 pub returns-in-Ok-clause-answers : goal.returns-in-Ok-clause-answers
 returns-in-Ok-clause-answers g c = λ free named client r on is only.
@@ -43,6 +44,10 @@ returns-in-Ok-clause-answers g c = λ free named client r on is only.
         numbers = λ alive. keeps-xdg v.client.objects c.add.new.self.objects id (Some number)
             (names-xdg-made v.client.objects c.add.new.self.objects id (record { interface = XdgSurface; version = version; target = number }) free refl
             (holds-counted v.client c.count.new.self c.add.new.self.objects id (Some (record { interface = XdgSurface; version = version; target = number })) c.count.ensures.only (c.add.ensures.table alive)));
+        frames = λ alive.
+            let now = names-xdg-made v.client.objects c.add.new.self.objects id (record { interface = XdgSurface; version = version; target = number }) free refl
+            (holds-counted v.client c.count.new.self c.add.new.self.objects id (Some (record { interface = XdgSurface; version = version; target = number })) c.count.ensures.only (c.add.ensures.table alive)) in
+            framed-kept v.owned.surfaces.frames v.client.objects c.add.new.self.objects r (changed_by ask (with_peer (counted r.peer) r)) refl (one-more r.peer.requests) is.frames (ap (λ (n : Names). n.surfaces) now) refl;
         owns = λ alive. owned-xdg-made names v.owned.surfaces kept r is.owns id version base surface number (kept_of c.get_xdg_surface.new.self) (names_in c.add.new.self.objects) named
             (free-made (is_foreign (role_of r surface)) (has_any r surface) (kept number) none).2
             (targets-free XdgSurface v.client.objects id free)

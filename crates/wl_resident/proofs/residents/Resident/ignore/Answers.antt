@@ -4,10 +4,12 @@ use Rattle.std.proofs.Common.{refl, subst, sym}
 use Rattle.wl_client.specs.Peer.{counted}
 use Rattle.wl_shell.specs.Kept.{kept_of}
 use Rattle.wl_plain.specs.Owning.{IsOwned, Names}
+use Rattle.wl_plain.specs.Step.{with_peer}
 use Rattle.wl_resident.proofs.Shelling.{names-counted}
 use Rattle.wl_resident.proofs.Numbers.{keeps-names}
 use Rattle.wl_resident.proofs.Simply.{simply}
 use Rattle.wl_resident.proofs.residents.Resident.ignore.Goals as goal
+use Rattle.wl_resident.proofs.Framing.{framed-names, one-more}
 
 pub returns-clause-answers : goal.returns-clause-answers
 returns-clause-answers g c = λ client r on is only.
@@ -18,6 +20,7 @@ returns-clause-answers g c = λ client r on is only.
       record {
         peer = c.count.ensures.counts r.peer is.peer;
         numbers = λ alive. keeps-names v.client.objects c.count.new.self.objects (names-counted v.client c.count.new.self c.count.ensures.only);
+        frames = λ alive. framed-names v.owned.surfaces.frames v.client.objects c.count.new.self.objects r (with_peer (counted r.peer) r) refl (one-more r.peer.requests) is.frames (names-counted v.client c.count.new.self c.count.ensures.only) refl;
         owns = λ alive. subst (λ (n : Names). IsOwned n v.owned.surfaces (kept_of v.owned.shell) r.owned) (sym (names-counted v.client c.count.new.self c.count.ensures.only)) is.owns;
       },
     ))

@@ -13,7 +13,7 @@ use Rattle.wl_resident.proofs.residents.Resident.serve_on.Goals as goal
 pub returns-clause-serves : goal.returns-clause-serves
 returns-clause-serves g c = λ some others base d r is more.
     let only = seated-only c.args.client others base d _ _ r is c.in-Some.ensures.lives more in
-    let takes = simply-takes (split_of r.peer.rest) c.args.client r d _ _ c.in-Some.outcome.stacking only (c.in-Some.ensures.takes c.args.client r d (record { peer = is.seat.peer; owns = is.seat.owns }) only) in
+    let takes = simply-takes (split_of r.peer.rest) c.args.client r d _ _ c.in-Some.outcome.stacking only (c.in-Some.ensures.takes c.args.client r d (record { peer = is.seat.peer; owns = is.seat.owns; frames = is.seat.frames }) only) in
     let s = served c.args.client others base d r c.in-Some.outcome.stacking _ _ _ _ _ is c.in-Some.ensures.lives more takes c.settle.ensures.settles in
     (s.0, s.1, s.2, s.3)
 
@@ -33,7 +33,7 @@ returns-clause-marks g c = λ some others base d r unlinked before more e q serv
     let s = split_of r.peer.rest in
     let stacking = c.in-Some.outcome.stacking in
     let only = seated-only c.args.client others base d old was r before c.in-Some.ensures.lives more in
-    let takes = simply-takes s c.args.client r d old mid stacking only (c.in-Some.ensures.takes c.args.client r d (record { peer = before.seat.peer; owns = before.seat.owns }) only) in
+    let takes = simply-takes s c.args.client r d old mid stacking only (c.in-Some.ensures.takes c.args.client r d (record { peer = before.seat.peer; owns = before.seat.owns; frames = before.seat.frames }) only) in
     marks-all d e c.args.damage.now c.mark_change.new.damage more (serves-has touches_apart c.args.client d e more serves)
     (message-marks c.args.client others base d e r q old new was now before after unlinked more serves c.asked-asked.result c.asked-asked.ensures
     (keeps-numbers s r c.args.client stacking old mid new was now takes c.settle.ensures.settles)
@@ -54,7 +54,7 @@ returns-clause-within g c = λ some others base d r width height unlinked before
     let s = split_of r.peer.rest in
     let stacking = c.in-Some.outcome.stacking in
     let only = seated-only c.args.client others base d old was r before c.in-Some.ensures.lives more in
-    let takes = simply-takes s c.args.client r d old mid stacking only (c.in-Some.ensures.takes c.args.client r d (record { peer = before.seat.peer; owns = before.seat.owns }) only) in
+    let takes = simply-takes s c.args.client r d old mid stacking only (c.in-Some.ensures.takes c.args.client r d (record { peer = before.seat.peer; owns = before.seat.owns; frames = before.seat.frames }) only) in
     message-within c.args.client others base d e r q old new was now before after unlinked more serves c.asked-asked.result c.asked-asked.ensures
     (keeps-numbers s r c.args.client stacking old mid new was now takes c.settle.ensures.settles)
     c.touched_by-touched.result c.touched_by-touched.ensures c.window-was.result c.window-is.result c.window-was.ensures.none c.window-is.ensures.none

@@ -14,7 +14,7 @@ use Rattle.wl_resident.proofs.Simply.{simply}
 use Rattle.wl_resident.proofs.residents.Resident.wl_surface.Goals as goal
 
 pub returns-in-Attach-clause-answers : goal.returns-in-Attach-clause-answers
-returns-in-Attach-clause-answers g c = λ named client r on is only.
+returns-in-Attach-clause-answers g c = λ named new client r on is only.
     let v = c.args.self.now in
     let id = c.args.object in
     let x = c.in-Attach.x in
@@ -29,7 +29,7 @@ returns-in-Attach-clause-answers g c = λ named client r on is only.
     (does (surface-counted v.client c.count.new.self id c.args.surface c.count.ensures.only named))))
 
 pub returns-in-Damage-clause-answers : goal.returns-in-Damage-clause-answers
-returns-in-Damage-clause-answers g c = λ named client r on is only.
+returns-in-Damage-clause-answers g c = λ named new client r on is only.
     let v = c.args.self.now in
     let id = c.args.object in
     let rect : Rect = record { x = c.in-Damage.x; y = c.in-Damage.y; w = c.in-Damage.w; h = c.in-Damage.h } in
@@ -46,7 +46,7 @@ returns-in-Damage-clause-answers g c = λ named client r on is only.
     (does (surface-counted v.client count.new.self id c.args.surface count.ensures.only named))))
 
 pub returns-in-SetOpaqueRegion-clause-answers : goal.returns-in-SetOpaqueRegion-clause-answers
-returns-in-SetOpaqueRegion-clause-answers g c = λ named client r on is only.
+returns-in-SetOpaqueRegion-clause-answers g c = λ named new client r on is only.
     let v = c.args.self.now in
     let id = c.args.object in
     let region = c.in-SetOpaqueRegion.region in
@@ -58,7 +58,7 @@ returns-in-SetOpaqueRegion-clause-answers g c = λ named client r on is only.
     (c.set_opaque_region.ensures.does (surface-counted v.client count.new.self id c.args.surface count.ensures.only named))))
 
 pub returns-in-SetInputRegion-clause-answers : goal.returns-in-SetInputRegion-clause-answers
-returns-in-SetInputRegion-clause-answers g c = λ named client r on is only.
+returns-in-SetInputRegion-clause-answers g c = λ named new client r on is only.
     let v = c.args.self.now in
     let id = c.args.object in
     let region = c.in-SetInputRegion.region in
@@ -88,7 +88,7 @@ pub returns-in-Destroy-clause-rest : goal.returns-in-Destroy-clause-rest
 returns-in-Destroy-clause-rest g c = c.destroy.ensures.rest
 
 pub returns-in-Frame-clause-rest : goal.returns-in-Frame-clause-rest
-returns-in-Frame-clause-rest g c = c.refuse_unserved.ensures.rest
+returns-in-Frame-clause-rest g c = c.frame.ensures.rest
 
 pub returns-in-SetBufferTransform-clause-rest : goal.returns-in-SetBufferTransform-clause-rest
 returns-in-SetBufferTransform-clause-rest g c = c.transform.ensures.rest
@@ -124,10 +124,10 @@ pub returns-in-Destroy-clause-answers : goal.returns-in-Destroy-clause-answers
 returns-in-Destroy-clause-answers g c = search rules
 
 pub returns-in-Frame-clause-answers : goal.returns-in-Frame-clause-answers
-returns-in-Frame-clause-answers g c = search rules
+returns-in-Frame-clause-answers g c = λ named new client r on is only. rw c.in-Frame.is (c.frame.ensures.answers named (rw c.in-Frame.is at new) client r on is only)
 
 pub returns-in-SetBufferTransform-clause-answers : goal.returns-in-SetBufferTransform-clause-answers
-returns-in-SetBufferTransform-clause-answers g c = λ named.
+returns-in-SetBufferTransform-clause-answers g c = λ named new.
     let z = c.in-SetBufferTransform.transform in
     let fits : FitsSigned w32 z = search rules in
     let answers = simp (to_z-of_z w32 z fits) at c.transform.ensures.answers in
