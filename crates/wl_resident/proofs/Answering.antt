@@ -64,7 +64,7 @@ module _ (numbers : ById ℕ) (slots : Slots) (all : Surfaces) (is : AreKept num
 
 -- ---- one of several goes
 
-any-middle : (p : Callback → Bool) (before after : List Callback) (c : Callback) → list_any p (before ++ c ∷ after) ≡ (p c || list_any p (before ++ after))
+pub any-middle : (p : Callback → Bool) (before after : List Callback) (c : Callback) → list_any p (before ++ c ∷ after) ≡ (p c || list_any p (before ++ after))
 any-middle p [] after c = refl
 any-middle p (b ∷ bs) after c = ap (λ x. p b || x) (any-middle p bs after c) ∙ turned (p b) (p c) (list_any p (bs ++ after))
   where
@@ -103,13 +103,13 @@ apart-middle (b ∷ bs) after c apart = (
 
 none-middle : (before after : List Callback) (c : Callback) → AreApartBy has_callback (before ++ c ∷ after) → (key : ℕ) → has_callback key c ≡ true → list_any (has_callback key) (before ++ after) ≡ false
 none-middle [] after c apart key has = none-any (has_callback key) after (apart.0 key has)
-none-middle (b ∷ bs) after c apart key has = at (has_callback key b) refl
+none-middle (b ∷ bs) after c apart key has = at (has_callback key b) refl (none-middle bs after c apart.1 key has)
   where
-    at : (x : Bool) → has_callback key b ≡ x → (x || list_any (has_callback key) (bs ++ after)) ≡ false
-    at true e =
+    at : (x : Bool) → has_callback key b ≡ x → list_any (has_callback key) (bs ++ after) ≡ false → (x || list_any (has_callback key) (bs ++ after)) ≡ false
+    at true e later =
         let any : list_any (has_callback key) (bs ++ c ∷ after) ≡ true = any-middle (has_callback key) bs after c ∙ ap (λ x. x || list_any (has_callback key) (bs ++ after)) has in
         absurd (differ (sym any ∙ none-any (has_callback key) (bs ++ c ∷ after) (apart.0 key e)))
-    at false e = none-middle bs after c apart.1 key has
+    at false e later = later
 
 same-id : (n : ℕ) → (n == n) ≡ true
 same-id n = grind (arith)

@@ -7,6 +7,7 @@ pub mod Ends
 pub mod Framing
 pub mod Going
 pub mod Answering
+pub mod Answered
 pub mod Seats
 pub mod Taking
 pub mod Telling

@@ -66,7 +66,7 @@ use Rattle.wl_plain.specs.LeftOut.{served_now}
 use Rattle.wl_plain.specs.NoMore.{NoMore}
 use Rattle.wl_plain.specs.Happens.{Serves}
 use Rattle.wl_plain.specs.Step.{with_peer}
-use Rattle.wl_plain.proofs.Simply.{Simple, Asking, CommitSurface, DestroySurface, DestroyToplevel, changed_simply, effect_of, judge, simple_of, simply, touched}
+use Rattle.wl_plain.proofs.Simply.{Simple, Asking, AskingFrame, CommitSurface, DestroySurface, DestroyToplevel, changed_simply, effect_of, judge, simple_of, simply, touched}
 use Rattle.wl_plain.specs.Touching.{any_window_at, changes_at, has_window_at, is_window_damaged, is_window_of, window_at}
 use Rattle.wl_client.specs.Requests.{Request as AnyRequest, ToCompositor, ToSurface, ToSubcompositor, ToSubsurface, ToSeat, ToPointer, ToBase, ToPositioner, ToXdgSurface, ToToplevel, ToPopup, request_in, request_of, toplevel_request}
 use Rattle.wl_plain.specs.Served.{unserved_now}
@@ -550,6 +550,7 @@ module _ {A : Type 0} (c : ℕ) (others : ℕ → ById ℕ) (base d e : Desktop)
         subst (λ (o : Option History). IsAppliedBy (CommitSurface surface effect) o (rects_applied applied)) (sym history-then) (told-rects commit)
     applied-by (Asking ask) commit = tt
     applied-by (DestroySurface surface) commit = tt
+    applied-by (AskingFrame id version surface) commit = tt
     applied-by (DestroyToplevel toplevel xdg top) commit = tt
 
   -- a surface that is touched is there afterwards, with its number

@@ -1,6 +1,6 @@
 -- A message is taken by the desk: what becomes of its client and of the toplevels.
 use Rattle.std.proofs.Common.{◌≡◌, ℕ, ◌-◌, List, [], ◌∷◌, take, drop, Bool, true, false, Option, Some, None, Result, refl, ap, sym, subst, ◌∙◌, inl, inr, ◌⊎◌}
-use Rattle.std.specs.Prelude.{is_some, Ok, Err, ◌%◌, ◌==◌, ◌&&◌, not, cond}
+use Rattle.std.specs.Prelude.{is_some, Ok, Err, ◌%◌, ◌==◌, ◌&&◌, not, cond, ◌+◌}
 use Rattle.wl_store.specs.Stores.{Stock}
 use Rattle.wl_wire.specs.Wire.{split_of}
 use Rattle.wl_wire.specs.declared.header.Split.{Split}
@@ -38,7 +38,7 @@ use Rattle.wl_plain.proofs.Forms.{ServesAt, Takes}
 use Rattle.wl_plain.specs.Step.{after_surface, with_peer}
 use Rattle.wl_plain.proofs.StandingFound.{judge-finds}
 use Rattle.wl_resident.proofs.Releasing.{maps-quiet}
-use Rattle.wl_plain.proofs.Simply.{Acts, Answers, Asking, Becomes, CommitSurface, DestroySurface, DestroyToplevel, Simple, WantsOr, changed_simply, committed_on, effect_on, judge, stacked_simply, told_simply, wants_simply}
+use Rattle.wl_plain.proofs.Simply.{Acts, Answers, Asking, AskingFrame, Becomes, CommitSurface, DestroySurface, DestroyToplevel, Simple, WantsOr, changed_simply, committed_on, effect_on, judge, stacked_simply, told_simply, wants_simply}
 use Rattle.wl_plain.specs.Standing.{AreMapped, MappedStand, is_mapped}
 use Rattle.wl_plain.specs.Framing.{AreFramed}
 use Rattle.wl_resident.specs.View.{owned_view}
@@ -166,6 +166,7 @@ commit-stacks c id Unmaps old r p d stacking h = inr (inl (id, h.0, h.1, h.2, re
 stacks-so : {A : Type 0} (c : ℕ) (ask : Simple) (old : Kept A) (r : Resident) (p : Peer) (d : Desktop) (stacking : Stacking) → StacksOne old r ask stacking → Stacks c (numbers old) ask (with_peer p r) d stacking
 stacks-so c (Asking ask) old r p d stacking h = inl (h, refl)
 stacks-so c (DestroySurface id) old r p d stacking h = inl (h, refl)
+stacks-so c (AskingFrame id version surface) old r p d stacking h = inl (h, refl)
 stacks-so c (CommitSurface id effect) old r p d stacking h = commit-stacks c id effect old r p d stacking h
 stacks-so c (DestroyToplevel id xdg top) old r p d stacking h = inr (inl (top, h.0, h.1, h.2, refl))
 

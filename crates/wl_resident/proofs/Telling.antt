@@ -5,7 +5,7 @@ use Rattle.wl_store.specs.Stores.{write_refusal}
 use Rattle.wl_store.specs.declared.stores.StoreError.{StoreError}
 use Rattle.wl_client.specs.Agreement.{IsPeer}
 use Rattle.wl_client.specs.Objects.{ById}
-use Rattle.wl_client.specs.Peer.{Peer, ended, left_by as gone_by, sent_by, stored_at, stored_by, with_rest}
+use Rattle.wl_client.specs.Peer.{Peer, ended, left_by as gone_by, sent_by, stored_at, stored_by, with_rest, Queues}
 use Rattle.wl_client.specs.View.{ClientView}
 use Rattle.wl_client.specs.declared.clients.Cause.{Cause}
 use Rattle.wl_client.specs.declared.clients.Cause.TheVariants.{Gone}
@@ -15,16 +15,21 @@ use Rattle.wl_scene.specs.Stacking.{Stack}
 use Rattle.wl_scene.specs.declared.owned.Owned.{Owned as Keeps}
 use Rattle.wl_resident.specs.Agreement.{IsScene, with_numbers}
 use Rattle.wl_plain.specs.Desktop.{Desktop, Resident, become, become_by}
-use Rattle.wl_plain.specs.Owning.{IsOwned, names_in, targets_in}
+use Rattle.wl_plain.specs.Owning.{IsOwned, names_in, targets_in, Names}
+use Rattle.wl_plain.specs.Framing.{done_due, FramesToldAt, FramesToldBy}
+use Rattle.wl_plain.specs.Happens.{callbacks_due, frames_told}
 use Rattle.wl_resident.specs.Seats.{IsClearedBy, IsSeated, ended_by}
 use Rattle.wl_proto.specs.declared.interface.Interface.TheVariants.{WlSurface}
 use Rattle.wl_resident.specs.View.{owned_view}
 use Rattle.wl_resident.specs.declared.residents.Resident.{Resident as Kept}
-use Rattle.wl_resident.proofs.Ends.{AreNameless, IsOver, nameless-over, nameless-same, nameless-seat}
+use Rattle.wl_resident.specs.Residents.{IsLeft}
+use Rattle.wl_resident.proofs.Ends.{AreNameless, IsOver, nameless-over, nameless-same, nameless-seat, queues-over}
 use Rattle.wl_plain.proofs.OwningKeys.{differ}
 use Rattle.wl_plain.proofs.Places.{left_by}
 use Rattle.wl_plain.proofs.StandingDesks.{become-stand}
+use Rattle.wl_plain.proofs.OneRunMoves.{callbacks-status}
 use Rattle.wl_resident.proofs.Taking.{Sits, based-at, become-gone, become-lives, itself, none-is, numbers, sits-gone, sits-same, sits-seated}
+use Rattle.wl_resident.proofs.Framing.{told-requests}
 
 -- What is told makes of a client's peer another: its table, its count of requests and what it owns stay where it lives on, and where it doesn't, it
 -- ends so or had ended.
@@ -144,6 +149,52 @@ ends-ended v cause p ended is = at p.status (ap (λ (o : Option Cause). is_some 
     at : (s : Option Cause) → is_some s ≡ true → IsPeer v (ended_by s cause p)
     at None e = absurd (differ (sym e))
     at (Some was) e = is
+
+-- ---- a frame
+
+-- A client that was told of a frame agrees with what becomes of the desktop's.
+module _ {A : Type 0} (c : ℕ) (others : ℕ → ById ℕ) (base d : Desktop) (r : Resident) (time : ℕ) (old mid new : Kept A) (was now : Stack) (is : IsSeated c others base old was d r) (alive : r.peer.status ≡ None) (q : Peer)
+    (told : Queues (frames_told time r) (done_due r).peer q) (left : IsLeft old mid (done_due r) q) (names : mid.client.ended ≡ None → names_in mid.client.objects ≡ names_in old.client.objects) where
+  done-alive : (done_due r).peer.status ≡ None
+  done-alive = callbacks-status (callbacks_due r) r ∙ alive
+
+  frames-live : q.status ≡ None → new ≡ mid → now ≡ was → Sits c others base new now (become c (done_due r) q d) (left_by q.status (done_due r) q)
+  frames-live none same stays =
+      let ended : mid.client.ended ≡ None = left.peer.status ∙ none in
+      sits-same c others base mid new was now _ _ same stays
+      (become-lives q.status c others base d (done_due r) q mid was none (record {
+        based = based-at None c base d d r (done_due r) q is.based refl refl;
+        seat = record {
+          peer = left.peer;
+          owns = left.owns ended;
+          frames = rw (told-requests (frames_told time r) (done_due r).peer q told none) (left.frames ended);
+          ended = λ some. absurd (differ (none-is q.status none some));
+        };
+        scene = λ known. subst (λ (numbers : ById ℕ). IsScene (with_numbers c numbers others) was (become_by None c (done_due r) q d)) (sym (ap (λ (n : Names). n.surfaces) (names ended)))
+            (record { standing = is.scene.standing; next = is.scene.next });
+      }))
+
+  frames-sit : IsClearedBy mid.client.ended c mid new was now → Sits c others base new now (become c (done_due r) q d) (left_by q.status (done_due r) q)
+  frames-sit cleared = at mid.client.ended refl cleared
+    where
+      at : (o : Option Cause) → mid.client.ended ≡ o → IsClearedBy o c mid new was now → Sits c others base new now (become c (done_due r) q d) (left_by q.status (done_due r) q)
+      at None e cleared = frames-live (sym left.peer.status ∙ e) cleared.0 cleared.1
+      at (Some s) e cleared =
+          let status : q.status ≡ Some s = sym left.peer.status ∙ e in
+          become-gone q.status s c others base d (done_due r) q new now status
+          (sits-gone s c (numbers old) others base d d r (done_due r) q mid new was now is.based (itself c d) is.scene left.peer
+          (nameless-over mid.client q left.peer (queues-over (frames_told time r) (done_due r).peer q done-alive told (ap (λ (o : Option Cause). is_some o) status))) cleared)
+
+  pub frames-seated : IsClearedBy mid.client.ended c mid new was now → IsSeated c others base new now (become c (done_due r) q d) (left_by q.status (done_due r) q)
+  frames-seated cleared = sits-seated c others base new now (become c (done_due r) q d) (left_by q.status (done_due r) q) (frames-sit cleared) (become-stand c (done_due r) r q d is.based.there refl is.mapped)
+
+-- one that ended is told nothing
+pub frames-untold : (time c : ℕ) (r : Resident) (d : Desktop) → is_some r.peer.status ≡ true → FramesToldAt time c (Some r) d d
+frames-untold time c r d over = at r.peer.status over
+  where
+    at : (s : Option Cause) → is_some s ≡ true → FramesToldBy s time c r d d
+    at None e = absurd (differ (sym e))
+    at (Some cause) e = refl
 
 -- ---- a piece
 

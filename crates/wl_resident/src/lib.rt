@@ -3,6 +3,7 @@
 #![tactic(auto)]
 
 mod feeding;
+mod frames;
 mod marking;
 mod messages;
 mod releases;
