@@ -139,8 +139,15 @@ module _ (all : Numbered) where
           → IsNextDue id all (c ∷ cs) (cond b ws (w ∷ without_next ws))
       by true is rest e = record { before = []; callback = c; after = cs; all_are = refl; has_id = sym t.0.id ∙ ap or_none e; undue = tt; surface = w.surface; due = t.0.applied ∙ is; others = t.1 }
       by false is rest e = let found = rest e in record {
-        before = c ∷ found.before; callback = found.callback; after = found.after; all_are = ap (λ xs. c ∷ xs) found.all_are; has_id = found.has_id;
-        undue = (undue w c t.0 is, found.undue); surface = found.surface; due = found.due; others = (t.0, found.others);
+        before = c ∷ found.before;
+        callback = found.callback;
+        after = found.after;
+        all_are = ap (λ xs. c ∷ xs) found.all_are;
+        has_id = found.has_id;
+        undue = (undue w c t.0 is, found.undue);
+        surface = found.surface;
+        due = found.due;
+        others = (t.0, found.others);
       }
 
   pub waiting-none : (ws : List Waiting) (cs : List Callback) → AreWaiting ws all cs → next_of ws ≡ None → AreUndue all cs
