@@ -24,6 +24,8 @@ use Rattle.wl_resident.specs.View.{DeskView, OwnedView, owned_view}
 use Rattle.wl_plain.specs.declared.answers.ConnectError.TheVariants.{Full, Memory}
 use Rattle.wl_plain.specs.declared.answers.Done.{Done}
 use Rattle.wl_plain.specs.declared.answers.Done.TheVariants as gave
+use Rattle.wl_plain.specs.Framing.{AreFramed}
+use Rattle.wl_plain.specs.Owning.{by_number, names_in}
 use Rattle.wl_resident.specs.declared.residents.Resident.{Resident as Kept}
 use Rattle.wl_desk.proofs.Desktops.{agrees-put, at, at-map, at-within, client-past, place-at, put-map, put-set, put-twice, scene-out, seated-back, seated-out}
 use Rattle.wl_resident.proofs.Ends.{nameless-newcomer, owns-nothing}
@@ -33,6 +35,9 @@ use Rattle.wl_plain.proofs.StandingSteps.{closed-stand, connects-stand, empty-st
 use Rattle.wl_resident.proofs.Taking.{gone-scene}
 use Rattle.wl_resident.proofs.Telling.{lives-of}
 use Rattle.wl_plain.proofs.Places.{client-kept, number-kept}
+use Rattle.wl_plain.proofs.FramingWaits.{framed-none}
+use Rattle.wl_surface.specs.declared.frames.Waiting.{Waiting}
+use Rattle.wl_surface.specs.Surfaces.{no_surfaces}
 
 -- a client ends by this, where it lives
 abbrev pub ended_of : ℕ → Cause → Option Resident → Desktop → Desktop
@@ -277,7 +282,13 @@ Connects-new output us vs os stack k v owned d same found within owned_within is
       connects,
       agrees-put (view_of output us os stack) k (Some v) (Some (owned_view owned)) (Some (arrival d.output)) (set us k (Some v)) (map (option_map owned_view) (set os k (Some owned))) stack d after a within
           (put-set k (Some v) us within) (put-map owned_view k (Some owned) os (set os k (Some owned)) (put-set k (Some owned) os owned_within)) refl (ap (λ (n : ℕ). with_number n (Some (arrival d.output)) d.clients) number)
-          (record { peer = next; owns = owns-nothing v.objects owned none bare; ended = λ some. absurd (differ (sym some)) })
+          (record {
+            peer = next;
+            owns = owns-nothing v.objects owned none bare;
+            frames = subst (λ (ws : List Waiting). AreFramed ws (by_number (names_in v.objects).surfaces no_surfaces) ((newcomer d.output).requests + 1) []) (sym bare.frames)
+                (framed-none (by_number (names_in v.objects).surfaces no_surfaces) ((newcomer d.output).requests + 1) (λ number. refl));
+            ended = λ some. absurd (differ (sym some));
+          })
           (record {
             standing = stack-by (with_numbers (suc k) nothing (numbers_in us)) (with_numbers (suc k) (numbers_of (Some v)) (numbers_in us)) stack.standing d.standing
                 (numbers-by (suc k) nothing (numbers_of (Some v)) (numbers_in us) d.standing (λ surface n has e. absurd (cc))) scene.standing;

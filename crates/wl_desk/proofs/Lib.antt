@@ -8,3 +8,4 @@ pub mod Kept
 pub mod MarkedCalls
 pub mod PaintedDesks
 pub mod NoMore
+pub mod Framing

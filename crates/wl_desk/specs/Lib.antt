@@ -1,4 +1,5 @@
 pub mod Agreeing
 pub mod Feeding
+pub mod Framing
 pub mod Lent
 pub mod Painting

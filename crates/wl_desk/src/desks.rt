@@ -7,17 +7,18 @@ ghost use Rattle.wl_client.specs.Peer.{Peer};
 ghost use Rattle.wl_paint.specs.Damage.{has};
 ghost use Rattle.wl_paint.specs.Frame.{color_at, is_side};
 ghost use Rattle.wl_plain.specs.Desktop.{Desktop, empty};
-ghost use Rattle.wl_plain.specs.Acts.{Connect, Feed, Store, Leave, Send, Close, lowest, peer_at, unsent_of, status_of, store_size_of};
+ghost use Rattle.wl_plain.specs.Acts.{Connect, Feed, Store, Leave, Tick, Send, Close, lowest, peer_at, unsent_of, status_of, store_size_of};
 ghost use Rattle.wl_resident.specs.Agreement.{IsSlot};
 ghost use Rattle.wl_desk.specs.Agreeing.{Agrees, MarksNothing, MarksStep, TakesStep};
 ghost use Rattle.wl_resident.specs.Marking.{MarksAtLeast, MarksAtMost};
 ghost use Rattle.wl_desk.specs.Feeding.{Ends, IsIdleIn, kept_at, kept_in, lives_in, rest_in, served_as, served_of};
 ghost use Rattle.wl_resident.specs.Marking.{IsAsLarge};
+ghost use Rattle.wl_desk.specs.Framing.{MarksIfEnds, WasTold};
 ghost use Rattle.wl_desk.specs.Painting.{IsOpaqueAsSaid};
 ghost use Rattle.wl_plain.specs.Scratch.{scratch};
 ghost use Rattle.wl_resident.specs.Seats.{has_ended_in};
 ghost use Rattle.wl_plain.specs.LeftOut.{served_now};
-ghost use Rattle.wl_plain.specs.Happens.{Serves};
+ghost use Rattle.wl_plain.specs.Happens.{Happens, Serves};
 ghost use Rattle.wl_plain.specs.Touching.{has_window_at};
 
 use crate::windows::Lent;
@@ -186,6 +187,36 @@ impl<A: Allocator + Copy> Desk<A> {
             return;
         };
         resident.end(&mut self.scene, &mut self.damage, client, cause, alloc);
+        put_back(&mut self.clients[k], &mut self.owned[k], resident);
+    }
+
+    /// A frame was shown at this time, in milliseconds: the clients in rising number are told that their frame callbacks that are due are done
+    /// (wayland.xml, wl_surface.frame). One to which an event isn't queued ends. Where none ends, nothing more is to be painted.
+    pub fn frames(&mut self, time: u32)
+        ensures shows { (d : Desktop) → Agrees self.old.desk d → (e : Desktop) × Happens served_now (Tick time) Done.Tick d e × Agrees self.new.desk e
+            × MarksAtLeast d e self.old.damage self.new.damage × MarksIfEnds d e self.old.damage self.new.damage }
+        ensures sides { IsAsLarge self.old.damage self.new.damage }
+        ensures output { self.new.desk.output ≡ self.old.desk.output }
+    {
+        for before in 0..CLIENT_LIMIT {
+            self.tell_frames(before as u32 + 1, time);
+        }
+    }
+
+    /// A client is told of a frame.
+    fn tell_frames(&mut self, client: ClientNo, time: u32)
+        ensures tells { (d : Desktop) → Agrees self.old.desk d → (e : Desktop) × WasTold time client self.old self.new d e }
+        ensures sides { IsAsLarge self.old.damage self.new.damage }
+        ensures output { self.new.desk.output ≡ self.old.desk.output }
+    {
+        let Some(k) = place_of(&self.clients, client) else {
+            return;
+        };
+        let alloc = *self.clients.allocator();
+        let Some(mut resident) = take_out(&mut self.clients[k], &mut self.owned[k]) else {
+            return;
+        };
+        resident.tell_frames(&mut self.scene, &mut self.damage, client, time, alloc);
         put_back(&mut self.clients[k], &mut self.owned[k], resident);
     }
 

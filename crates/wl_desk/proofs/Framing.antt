@@ -1,0 +1,175 @@
+-- A frame is told to the clients one after another.
+use Rattle.std.proofs.Common.{◌≡◌, ◌≢◌, ℕ, zero, suc, ◌+◌, ◌<◌, ◌≤◌, List, Bool, true, false, Option, Some, None, get_or, set, refl, ap, subst, sym, ◌∙◌, arith, ◌⊎◌, inl, inr}
+use Rattle.std.specs.Prelude.{pos, ◌||◌, is_some}
+use Rattle.wl_client.specs.View.{ClientView}
+use Rattle.wl_client.specs.declared.clients.Cause.{Cause}
+use Rattle.wl_client.specs.declared.outputs.Output.{Output}
+use Rattle.wl_client.specs.Peer.{Peer}
+use Rattle.wl_paint.specs.Damage.{Damaged, has}
+use Rattle.wl_plain.specs.Desktop.{Desktop, Resident, become, become_by, client_at}
+use Rattle.wl_plain.specs.Framing.{FramesTold, FramesToldAt, FramesToldBy, done_due}
+use Rattle.wl_plain.specs.Laws.{status_in, status_of}
+use Rattle.wl_plain.specs.Moments.{marks_at_least}
+use Rattle.wl_plain.specs.NoMore.{NoMore}
+use Rattle.wl_plain.proofs.Framing.{told-more}
+use Rattle.wl_plain.proofs.FramingKeeps.{IsAsOwned, frames-have, frames-same}
+use Rattle.wl_plain.proofs.MarkedThrough.{unmarked-on}
+use Rattle.wl_plain.proofs.OneRunFates.{same-or}
+use Rattle.wl_plain.proofs.OwningKeys.{differ}
+use Rattle.wl_plain.proofs.Places.{other-become, status-become}
+use Rattle.wl_plain.proofs.TouchingSteps.{told-marks-nothing}
+use Rattle.wl_plain.proofs.ToplevelWindows.{marks_of_toplevels}
+use Rattle.wl_scene.specs.Stacking.{Stack}
+use Rattle.wl_scene.specs.declared.owned.Owned.{Owned}
+use Rattle.wl_resident.specs.Agreement.{Matches, numbers_in}
+use Rattle.wl_resident.specs.Marking.{IsAsLarge, MarksAtLeast, MarksEnd}
+use Rattle.wl_resident.specs.Seats.{IsSeated}
+use Rattle.wl_resident.specs.View.{DeskView, MarkedDesk}
+use Rattle.wl_resident.specs.declared.residents.Resident.{Resident as Kept}
+use Rattle.wl_resident.proofs.Toplevels.{MarksToplevels, marks-all}
+use Rattle.wl_desk.specs.Agreeing.{Agrees}
+use Rattle.wl_desk.specs.Framing.{HasSame, MarksIfEnds, WasTold}
+use Rattle.wl_desk.proofs.Agreed.{agrees-apart, still-unmarked}
+use Rattle.wl_desk.proofs.Calls.{IsFound, back, out, untaken, view_of}
+use Rattle.wl_desk.proofs.Desktops.{client-past}
+use Rattle.wl_desk.proofs.MarkedCalls.{or-none, told-marks, unlinked}
+
+-- ---- nobody is told
+
+-- nothing changes, and the same is to be painted
+pub nothing-told : (time c : ℕ) (old new : MarkedDesk) (d : Desktop) → FramesToldAt time c (client_at c d) d d → Agrees old.desk d → Agrees new.desk d → new.damage ≡ old.damage → WasTold time c old new d d
+nothing-told time c old new d told a b same =
+    record {
+      told = told;
+      agrees = b;
+      marks = λ x y wide high clean. (ap (λ (w : Damaged). has w x y) (sym same) ∙ clean, still-unmarked old.desk d a x y);
+      quiet = λ stays x y wide high. ap (λ (w : Damaged). has w x y) same;
+    }
+
+pub nobody-told : (time c : ℕ) (old new : MarkedDesk) (d : Desktop) → client_at c d ≡ None → Agrees old.desk d → Agrees new.desk d → new.damage ≡ old.damage → WasTold time c old new d d
+nobody-told time c old new d nobody a b same = nothing-told time c old new d (subst (λ (o : Option Resident). FramesToldAt time c o d d) (sym nobody) refl) a b same
+
+-- ---- one client is told
+
+-- an end leaves nothing, whatever was answered before it
+same-end : (c : ℕ) (made r : Resident) (q : Peer) (cause : Cause) (d : Desktop) → q.status ≡ Some cause → become c made q d ≡ become c r q d
+same-end c made r q cause d status = ap (λ s. become_by s c made q d) status ∙ sym (ap (λ s. become_by s c r q d) status)
+
+marks-told : (c : ℕ) (r : Resident) (v : DeskView) (d : Desktop) (q : Peer) (ended : Option Cause) (old new : Damaged) → client_at c d ≡ Some r → Matches v d → q.status ≡ ended → MarksEnd ended c v.scene old new
+    → MarksToplevels d (become c (done_due r) q d) old new
+marks-told c r v d q (Some cause) old new there a status marks =
+    subst (λ (e : Desktop). MarksToplevels d e old new) (sym (same-end c (done_due r) r q cause d status)) (told-marks c r v d q (Some cause) old new there a status marks)
+marks-told c r v d q None old new there a status marks = λ x y wide high clean. (
+  or-none (has old x y) ∙ sym (marks.1 x y wide high) ∙ clean,
+  told-marks-nothing c r d there (unlinked v d a) a.mapped.apart (done_due r) q refl status (pos x) (pos y),
+)
+
+-- a client that lives is told
+pub one-told : (time c : ℕ) (r : Resident) (old new : MarkedDesk) (d e : Desktop) (ended : Option Cause) → client_at c d ≡ Some r → r.peer.status ≡ None → Agrees old.desk d → Matches new.desk e → FramesToldAt time c (Some r) d e → status_in c e ≡ ended
+    → MarksEnd ended c old.desk.scene old.damage new.damage → WasTold time c old new d e
+one-told time c r old new d e ended there alive a b told status marks =
+    let at : FramesToldAt time c (client_at c d) d e = subst (λ (o : Option Resident). FramesToldAt time c o d e) (sym there) told in
+    let later : NoMore e = frames-have time 1 c d e a.no_more (e, at, refl) in
+    let so : FramesToldBy None time c r d e = subst (λ s. FramesToldBy s time c r d e) alive told in
+    let is : so.0.status ≡ ended = sym (ap (λ (x : Desktop). status_in c x) so.2 ∙ status-become c (done_due r) so.0 d r there) ∙ status in
+    record {
+      told = at;
+      agrees = record { matches = b; no_more = later };
+      marks = marks-all d e old.damage new.damage a.no_more later
+          (subst (λ (x : Desktop). MarksToplevels d x old.damage new.damage) (sym so.2) (marks-told c r old.desk d so.0 ended old.damage new.damage there a.matches is marks));
+      quiet = λ stays x y wide high.
+          let lives : ended ≡ None = sym status ∙ stays ∙ ap status_of there ∙ alive in
+          (subst (λ s. MarksEnd s c old.desk.scene old.damage new.damage) lives marks).1 x y wide high ∙ sym (or-none (has old.damage x y));
+    }
+
+-- ---- several are told
+
+-- n clients were told
+pub record HasTold (time n : ℕ) (old new : MarkedDesk) (d mid : Desktop) : Type 0 where
+  pub told : FramesTold time n 1 d mid
+  pub agrees : Agrees new.desk mid
+  pub marks : MarksAtLeast d mid old.damage new.damage
+  pub quiet : MarksIfEnds d mid old.damage new.damage
+  pub others : (k : ℕ) → n < k → client_at k mid ≡ client_at k d
+
+pub none-told : (time : ℕ) (old : MarkedDesk) (d : Desktop) → Agrees old.desk d → HasTold time 0 old old d d
+none-told time old d a =
+    record { told = refl; agrees = a; marks = λ x y wide high clean. (clean, still-unmarked old.desk d a x y); quiet = λ stays x y wide high. refl; others = λ k past. refl }
+
+told-others : (time c : ℕ) (o : Option Resident) (d e : Desktop) → FramesToldAt time c o d e → (k : ℕ) → c ≢ k → client_at k e ≡ client_at k d
+told-others time c None d e h k apart = ap (λ (x : Desktop). client_at k x) h
+told-others time c (Some r) d e h k apart = by r.peer.status h
+  where
+    by : (s : Option Cause) → FramesToldBy s time c r d e → client_at k e ≡ client_at k d
+    by (Some cause) h = ap (λ (x : Desktop). client_at k x) h
+    by None h = ap (λ (x : Desktop). client_at k x) h.2 ∙ other-become c k (done_due r) h.0 d apart
+
+pub more-told : (time n : ℕ) (old mid new : MarkedDesk) (d m e : Desktop) → IsAsLarge old.damage mid.damage → Agrees old.desk d → HasTold time n old mid d m → WasTold time (n + 1) mid new m e → HasTold time (n + 1) old new d e
+more-told time n old mid new d m e large a before here =
+    let next : suc n ≡ n + 1 = omega arith in
+    let number : n + 1 ≡ 1 + n = omega arith in
+    let owned : IsAsOwned d m = frames-same time n 1 d m before.told in
+    let owns : IsAsOwned m e = frames-same time 1 (n + 1) m e (e, here.told, refl) in
+    let others = told-others time (n + 1) (client_at (n + 1) m) m e here.told in
+    record {
+      told = subst (λ k. FramesTold time k 1 d e) next (told-more time n 1 d m e before.told (subst (λ k. FramesToldAt time k (client_at k m) m e) number here.told));
+      agrees = here.agrees;
+      marks = λ x y wide high clean.
+          let second = here.marks x y (rw large.width wide) (rw large.height high) clean in
+          let first = before.marks x y wide high second.0 in
+          (first.0, unmarked-on d m e (pos x) (pos y) (agrees-apart old.desk d a) owned.output owns.owns first.1 second.1);
+      quiet = λ stays x y wide high.
+          let was : (c : ℕ) → status_in c m ≡ status_in c d = λ c. at c (same-or (n + 1) c) stays others in
+          let one : status_in (n + 1) e ≡ status_in (n + 1) m = stays (n + 1) ∙ sym (was (n + 1)) in
+          here.quiet one x y (rw large.width wide) (rw large.height high) ∙ before.quiet was x y wide high;
+      others = λ k past. others k (λ same. let e : n + 1 ≡ k = same in omega (arith, past, e)) ∙ before.others k (omega (arith, past));
+    }
+  where
+    at : (c : ℕ) → ((n + 1) ≡ c) ⊎ ((n + 1) ≢ c) → ((c : ℕ) → status_in c e ≡ status_in c d) → ((k : ℕ) → (n + 1) ≢ k → client_at k e ≡ client_at k m) → status_in c m ≡ status_in c d
+    at c (inl same) stays others = ap status_of (before.others c (omega (arith, same)))
+    at c (inr apart) stays others = sym (ap status_of (others c apart)) ∙ stays c
+
+-- ---- a client of the desk
+
+module _ {A : Type 0} (time : ℕ) (output : Output) (us : List (Option ClientView)) (os : List (Option (Owned A))) (stack : Stack) (c k : ℕ) (is : IsFound us os c k) (d : Desktop) (damage : Damaged) (a : Agrees (view_of output us os stack) d) where
+  abbrev marked : DeskView → Damaged → MarkedDesk
+  marked v damage = record { desk = v; damage = damage }
+
+  -- nobody was taken out
+  pub untaken-told : (x x2 : Option ClientView) (y y2 : Option (Owned A)) → x ≡ get_or us k x → y ≡ get_or os k y → (x ≡ None) ⊎ (y ≡ None) → (x2 ≡ None) × (y2 ≡ None)
+      → WasTold time c (marked (view_of output us os stack) damage) (marked (view_of output (set us k x2) (set os k y2) stack) damage) d d
+  untaken-told x x2 y y2 e f none left =
+      let free = untaken output us os stack c k is d a.matches x x2 y y2 e f none left in
+      nobody-told time c (marked (view_of output us os stack) damage) (marked (view_of output (set us k x2) (set os k y2) stack) damage) d free.0 a (record { matches = free.1; no_more = a.no_more }) refl
+
+  -- one was, is told, and is put back
+  pub taken-told : (v new : Kept A) (x x2 : Option ClientView) (y y2 : Option (Owned A)) (now : Stack) (after : Damaged) → x ≡ get_or us k x → y ≡ get_or os k y → (x ≡ Some v.client) × (y ≡ Some v.owned)
+      → ((r : Resident) → IsSeated c (numbers_in us) d v stack d r → NoMore d → (e : Desktop) × (s : Resident) × FramesToldAt time c (Some r) d e × IsSeated c (numbers_in us) d new now e s)
+      → (v.client.ended ≡ None → MarksEnd new.client.ended c stack damage after) → (is_some v.client.ended ≡ true → (new ≡ v) × (now ≡ stack) × (after ≡ damage))
+      → (e : Desktop) × WasTold time c (marked (view_of output us os stack) damage) (marked (view_of output (set (set us k x2) k (Some new.client)) (set (set os k y2) k (Some new.owned)) now) after) d e
+  taken-told v new x x2 y y2 now after e f taken tells marks idle =
+      let s = out output us os stack c k is d a.matches v x y e f taken in
+      let n = tells s.0 s.2 a.no_more in
+      let matches = back output us os stack c k is d a.matches new x2 y2 now n.0 n.1 n.3 in
+      let old = marked (view_of output us os stack) damage in
+      let later = marked (view_of output (set (set us k x2) k (Some new.client)) (set (set os k y2) k (Some new.owned)) now) after in
+      (n.0, at s.0 n.0 n.1 later.desk s.1 s.2 n.2 n.3 matches v.client.ended refl)
+    where
+      over-told : (r : Resident) (x : Desktop) → FramesToldAt time c (Some r) d x → is_some r.peer.status ≡ true → x ≡ d
+      over-told r x h over = by r.peer.status h over
+        where
+          by : (s : Option Cause) → FramesToldBy s time c r d x → is_some s ≡ true → x ≡ d
+          by None h over = absurd (differ (sym over))
+          by (Some cause) h over = h
+
+      at : (r : Resident) (x : Desktop) (q : Resident) (later : DeskView) → client_at c d ≡ Some r → IsSeated c (numbers_in us) d v stack d r → FramesToldAt time c (Some r) d x → IsSeated c (numbers_in us) d new now x q → Matches later x
+          → (o : Option Cause) → v.client.ended ≡ o → WasTold time c (marked (view_of output us os stack) damage) (marked later after) d x
+      at r x q later there seated told seated_after matches None ended =
+          one-told time c r (marked (view_of output us os stack) damage) (marked later after) d x new.client.ended there (sym seated.seat.peer.status ∙ ended) a matches told
+          (ap status_of seated_after.based.there ∙ sym seated_after.seat.peer.status) (marks ended)
+      at r x q later there seated told seated_after matches (Some cause) ended =
+          let same = over-told r x told (ap (λ (o : Option Cause). is_some o) (sym seated.seat.peer.status ∙ ended)) in
+          let here : FramesToldAt time c (Some r) d d = subst (λ (y : Desktop). FramesToldAt time c (Some r) d y) same told in
+          subst (λ (y : Desktop). WasTold time c (marked (view_of output us os stack) damage) (marked later after) d y) (sym same)
+          (nothing-told time c (marked (view_of output us os stack) damage) (marked later after) d (subst (λ (o : Option Resident). FramesToldAt time c o d d) (sym there) here) a
+          (record { matches = subst (λ (y : Desktop). Matches later y) same matches; no_more = a.no_more }) (idle (ap (λ (o : Option Cause). is_some o) ended)).2)
