@@ -162,13 +162,13 @@ module _ (old new : Held) (r after : Resident) (slots : Slots) (is : AreKept (ta
   -- The number of the request is that of the client's last one.
   pub framed-frame : (frames : List Waiting) (n callback : ℕ) → n ≡ r.peer.requests + 1 → after.peer.requests ≡ n
       → ((all : Numbered) (cs : List Callback) → StandForAll slots all → AreWaiting slots.frames all cs → is_some (all number) ≡ true → (n : ℕ) → IsNewNumber n all cs
-        → AreWaiting frames (changed_at number (asking (Frame n)) all) (cs ++ record { number = n; id = callback } ∷ []))
+      → AreWaiting frames (changed_at number (asking (Frame n)) all) (cs ++ record { number = n; id = callback } ∷ []))
       → after.callbacks ≡ r.callbacks ++ record { number = n; id = callback } ∷ [] → names_in new ≡ names_in old → after.owned.surfaces ≡ with_change id (asking (Frame n)) r.owned.surfaces → IsFramed frames new after
   framed-frame frames n callback numbered_so counted waits calls names surfaces =
       let all = numbered old r in
       let le : r.peer.requests + 1 ≤ n = omega (arith, numbered_so) in
       let more = framed-more slots.frames frames all number n (r.peer.requests + 1) r.callbacks (r.callbacks ++ record { number = n; id = callback } ∷ []) le f
-          (waits all r.callbacks is.stand f.waits there n (is-new slots.frames all (r.peer.requests + 1) n r.callbacks le f)) in
+      (waits all r.callbacks is.stand f.waits there n (is-new slots.frames all (r.peer.requests + 1) n r.callbacks le f)) in
       rw (changed-so (asking (Frame n)) (λ s. refl) (ap (λ (x : Names). x.surfaces) names) surfaces, calls, counted) more
 
   pub framed-commit : (frames : List Waiting)

@@ -163,7 +163,8 @@ impl<A: Allocator + Copy> Resident<A> {
         };
         let released = self.released(had);
         self.let_go_of(had);
-        self.client.remove_with(object, &applied.callbacks, released);
+        self.client
+            .remove_with(object, &applied.callbacks, released);
     }
 
     /// wl_surface.attach of the buffer with this id, or of none for null, at this offset in pixels.

@@ -1,6 +1,6 @@
 -- The events that a session's steps are.
 use Rattle.std.proofs.Common.{◌≡◌, ℕ, zero, suc, Bool, true, false, List, [], ◌∷◌, ◌++◌, Option, Some, None, refl, ap, sym, subst, ◌∙◌, inl, inr}
-use Rattle.std.specs.Prelude.{replicate}
+use Rattle.std.specs.Prelude.{replicate, ◌<◌, pos}
 use Rattle.std.proofs.lemmas.List.{map-append}
 use Rattle.wl_client.specs.declared.clients.Cause.{Cause}
 use Rattle.wl_client.specs.declared.clients.Cause.TheVariants as cause
@@ -17,6 +17,8 @@ use Rattle.wl_plain.specs.LeftOut.{served_now}
 use Rattle.wl_plain.specs.Settling.{EndsAndSettles, becomes, unstruck}
 use Rattle.wl_plain.specs.Step.{with_peer}
 use Rattle.wl_plain.specs.Through.{IsSingle}
+use Rattle.wl_plain.specs.Laws.{status_in}
+use Rattle.wl_plain.specs.Moments.{marks_at_least}
 use Rattle.wl_plain.proofs.OwningKeys.{differ}
 use Rattle.wl_plain.proofs.Through.{happens_leads_through, messages_lead_through, settling-with}
 use Rattle.wl_resident.specs.Marking.{MarksAtLeast, MarksAtMost}
@@ -71,11 +73,14 @@ marked-course act done old new tick single parts frame sides step marks quiet = 
 
 -- a frame
 pub tick-course : (time : ℕ) (done : Done) (old new : SessionView) → HasItsSides old.damage new.damage
-    → ((d : Desktop) → Agrees old.desk d → Happens served_now (Tick time) done d d) → ((d : Desktop) → Agrees old.desk d → Agrees new.desk d) → ((d : Desktop) → Agrees old.desk d → IsNextFrame d old.frame new.frame (has old.damage))
-    → ((x y : ℕ) → has new.damage x y ≡ false) → TakesCourse (Tick time) done old new
-tick-course time done old new sides happens agrees next none = λ d a.
-    course-of (Tick time) done old new d d (λ c piece e. absurd (cc)) refl a (happens d a) (agrees d a)
-    (record { frame = next d a; sides = sides; none = λ x y w h. none x y; marks = λ x y w h clean. still-unmarked old.desk d a x y })
+    → ((d : Desktop) → Agrees old.desk d
+    → (e : Desktop) × Happens served_now (Tick time) done d e × Agrees new.desk e
+    × ((x y : ℕ) → x < old.damage.width → y < old.damage.height → has new.damage x y ≡ false → marks_at_least d e (pos x) (pos y) ≡ false)
+    × (((c : ℕ) → status_in c e ≡ status_in c d) → (x y : ℕ) → x < old.damage.width → y < old.damage.height → has new.damage x y ≡ false))
+    → ((d : Desktop) → Agrees old.desk d → IsNextFrame d old.frame new.frame (has old.damage)) → TakesCourse (Tick time) done old new
+tick-course time done old new sides shows next = λ d a.
+    let s = shows d a in
+    course-of (Tick time) done old new d s.0 (λ c piece e. absurd (cc)) refl a s.1 s.2 (record { frame = next d a; sides = sides; none = s.4; marks = s.3 })
 
 -- ---- events one after another
 

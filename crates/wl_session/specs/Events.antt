@@ -10,6 +10,7 @@ use Rattle.wl_plain.specs.LeftOut.{LeftOut}
 use Rattle.wl_plain.specs.Marks.{AreDistinct}
 use Rattle.wl_plain.specs.Moments.{marks_at_least}
 use Rattle.wl_plain.specs.Stacked.{all_windows}
+use Rattle.wl_plain.specs.Laws.{status_in}
 use Rattle.wl_resident.specs.Marking.{MarksAtLeast, MarksAtMost}
 use Rattle.wl_resident.specs.Marking.{IsAsLarge as HasItsSides}
 use Rattle.wl_session.specs.Run.{IsNextFrame}
@@ -66,12 +67,14 @@ pub record IsMarked (happening : Happening) (before after : Moment) : Type 0 whe
   pub most : IsMost happening before after
   pub quiet : is_quiet happening ≡ true → IsAsDamaged before.damage after.damage
 
--- A frame is shown of the desktop as it was: what was to be painted again is painted, and nothing else. Then nothing is to be painted but what
--- the frame itself has to mark; and today nothing is.
+-- A frame is shown of the desktop as it was: what was to be painted again is painted, and nothing else. Then clients are told of it, and nothing
+-- is to be painted but what that has to mark, which is nothing where no client ends.
 pub record IsShown (before after : Moment) : Type 0 where
   pub frame : IsNextFrame before.desktop before.frame after.frame (has before.damage)
   pub sides : HasItsSides before.damage after.damage
-  pub none : (x y : ℕ) → x < before.damage.width → y < before.damage.height → has after.damage x y ≡ false
+  pub none :
+      ((c : ℕ) → status_in c after.desktop ≡ status_in c before.desktop)
+      → (x y : ℕ) → x < before.damage.width → y < before.damage.height → has after.damage x y ≡ false
   pub marks :
       (x y : ℕ) → x < before.damage.width → y < before.damage.height → has after.damage x y ≡ false
       → marks_at_least before.desktop after.desktop (pos x) (pos y) ≡ false

@@ -183,8 +183,10 @@ impl<A: Allocator + Copy> Session<A> {
         self.desk.status(client)
     }
 
-    /// A frame is shown. What was damaged since the last one is painted from nothing, and is the frame's damage; every other pixel is as in the
-    /// frame before. Where a window isn't opaque at a point that its opaque region holds, it is free what a damaged pixel gets.
+    /// A frame is shown at this time, in milliseconds. What was damaged since the last one is painted from nothing, and is the frame's damage; every
+    /// other pixel is as in the frame before. Where a window isn't opaque at a point that its opaque region holds, it is free what a damaged pixel
+    /// gets. Then the clients are told that their frame callbacks that are due are done (wayland.xml, wl_surface.frame); one to which that isn't
+    /// queued ends, and is still in this frame.
     pub fn tick(&mut self, time: u32) -> Frame<'_, A>
         ensures* after { sem 𝓛 (Rests (the_row A.row A.Allocator) self.entry (λ v. TakesStep (Tick time) Done.Tick self.old.desk v.desk × (v.frame ≡ result.pixels.now) × TakesCourse (Tick time) Done.Tick self.old v)) }
         ensures frame { (d : Desktop) → Agrees self.old.desk d → IsNextFrame d self.old.frame result.pixels.now (has result.damage.now) }
@@ -194,6 +196,7 @@ impl<A: Allocator + Copy> Session<A> {
     {
         self.desk.paint(&mut self.framebuffer);
         self.desk.take_damage(&mut self.painted);
+        self.desk.frames(time);
         self.frame(time)
     }
 

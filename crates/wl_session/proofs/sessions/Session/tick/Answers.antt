@@ -6,7 +6,6 @@ use Rattle.wl_plain.specs.Desktop.{Desktop}
 use Rattle.wl_resident.specs.View.{DeskView}
 use Rattle.wl_session.specs.Run.{IsNextFrame}
 use Rattle.wl_session.specs.View.{SessionView}
-use Rattle.wl_plain.proofs.BridgeSteps.{shows-whole}
 use Rattle.wl_plain.specs.Acts.{Tick}
 use Rattle.wl_plain.specs.declared.answers.Done.TheVariants as gave
 use Rattle.wl_session.specs.Course.{TakesCourse}
@@ -15,7 +14,7 @@ use Rattle.wl_session.proofs.sessions.Session.tick.Goals as goal
 
 pub invariant_of-self : goal.invariant_of-self
 invariant_of-self g c =
-    let same = sym (ap (λ (v : DeskView). v.output) c.take_damage.ensures.desk) in (
+    let same = sym (c.frames.ensures.output ∙ ap (λ (v : DeskView). v.output) c.take_damage.ensures.desk) in (
       c.paint.ensures.width ∙ (c.self.invariant.0 ∙ ap (λ (o : Output). o.width) same),
       c.paint.ensures.height ∙ (c.self.invariant.1 ∙ ap (λ (o : Output). o.height) same),
       c.take_damage.ensures.width ∙ ap (λ (o : Output). o.width) same,
@@ -30,15 +29,33 @@ returns g c =
       painted = λ x y w h here opaque. c.paint.ensures.painted d a x y w h (sym (ap (λ (m : Damaged). has m x y) c.take_damage.ensures.taken) ∙ here) opaque;
       kept = λ x y w h none. c.paint.ensures.kept x y w h (sym (ap (λ (m : Damaged). has m x y) c.take_damage.ensures.taken) ∙ none);
     }) in
-    let course : TakesCourse (Tick c.args.time) gave.Tick c.args.self.now (record { desk = c.take_damage.new.self.desk; damage = c.take_damage.new.self.damage; frame = c.paint.new.framebuffer; painted = c.take_damage.new.painted }) =
-    rw (← c.self.view_is) (tick-course c.args.time gave.Tick _ _ c.take_damage.ensures.sides (λ d a. (refl, shows-whole c.args.time d d a.no_more refl)) (λ d a. rw c.take_damage.ensures.desk a)
+    let sides = c.take_damage.ensures.sides in
+    let told = c.frames.ensures.sides in
+    let course : TakesCourse (Tick c.args.time) gave.Tick c.args.self.now (record { desk = c.frames.new.self.desk; damage = c.frames.new.self.damage; frame = c.paint.new.framebuffer; painted = c.take_damage.new.painted }) =
+    rw (← c.self.view_is) (tick-course c.args.time gave.Tick _ _ (record { width = told.width ∙ sides.width; height = told.height ∙ sides.height }) (λ d a.
+    let shows = c.frames.ensures.shows d (rw c.take_damage.ensures.desk a) in (
+      shows.0,
+      shows.1,
+      shows.2,
+      (λ x y wide high clean. (shows.3 x y (rw sides.width wide) (rw sides.height high) clean).1),
+      (λ stays x y wide high. shows.4 stays x y (rw sides.width wide) (rw sides.height high) ∙ c.take_damage.ensures.none x y),
+    ))
     (λ d a. record {
       large = record { width = c.paint.ensures.width; height = c.paint.ensures.height; background = c.paint.ensures.background };
       painted = λ x y w h here opaque. c.paint.ensures.painted d a x y w h here opaque;
       kept = λ x y w h none. c.paint.ensures.kept x y w h none;
-    })
-    c.take_damage.ensures.none) in (
-      (refl, (λ s. tt), ((λ d a. (d, (refl, shows-whole c.args.time d d a.no_more refl), rw (c.take_damage.ensures.desk) (rw (← c.self.view_is) at a))), sym c.frame.ensures.pixels, course)),
+    })) in (
+      (
+        refl,
+        (λ s. tt),
+        (
+          (λ d a.
+              let shows = c.frames.ensures.shows d (rw c.take_damage.ensures.desk (rw (← c.self.view_is) at a)) in
+              (shows.0, shows.1, shows.2)),
+          sym c.frame.ensures.pixels,
+          course,
+        ),
+      ),
       record {
         after = tt;
         frame = next;
