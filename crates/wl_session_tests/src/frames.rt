@@ -27,7 +27,7 @@ const ATTACH_11: Message = Message(6, 1, &[Arg::Object(11), Arg::Int(0), Arg::In
 const RELEASED_10: Message = Message(10, 0, &[]);
 
 /// The buffer 10 is all red before it is shown.
-const RED_10: &[Row] = &[Row::Fills(1, 1, 0, 1600, RED)];
+pub(crate) const RED_10: &[Row] = &[Row::Fills(1, 1, 0, 1600, RED)];
 
 /// The window is there: 40 by 40 points at (0, 0), and black around it.
 const SHOWS_RED: &[Row] = &[

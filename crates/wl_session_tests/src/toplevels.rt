@@ -303,8 +303,8 @@ const ERRORS: &[Row] = &[
     ),
     Row::Errs(Message(7, 4, &[Arg::Uint(1)]), 7, 4),
     Row::Errs(Message(5, 2, &[Arg::NewId(20), Arg::Object(6)]), 5, 0),
-    // frame callbacks aren't served yet
-    Row::Errs(Message(6, 3, &[Arg::NewId(20)]), 1, 3),
+    // the id of a frame callback is in use
+    Row::Errs(Message(6, 3, &[Arg::NewId(6)]), 1, 0),
 ];
 
 #[test]
