@@ -196,7 +196,16 @@ impl World {
         let new = Content { buffer, transform };
         self.ask_opaque(number, new);
         self.ask_damage(number, surface, new, (x, y));
+        self.ask_frame(number);
         self.ask(Request::Commit(slot));
+    }
+
+    /// Asks to be told of the next frame, each time by a new id.
+    fn ask_frame(&mut self, number: usize) {
+        let now = self.client(client_of(number));
+        let callback = now.callback.saturating_add(1);
+        self.set_client(client_of(number), Client { callback, ..now });
+        self.ask(Request::Frame(slot_of(number), callback));
     }
 
     fn choose_transform(&mut self, surface: Surface) -> u32 {

@@ -70,6 +70,8 @@ pub(crate) struct Client {
     pub lies: bool,
     /// The last serial that it was told.
     pub serial: u32,
+    /// The id of its last frame callback.
+    pub callback: u32,
     /// Where what wasn't sent yet of its stream begins and ends.
     pub from: usize,
     pub to: usize,
@@ -83,6 +85,7 @@ const NOBODY: Client = Client {
     started: false,
     lies: false,
     serial: 0,
+    callback: 99,
     from: 0,
     to: 0,
     next: 0,

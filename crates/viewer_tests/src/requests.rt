@@ -108,6 +108,8 @@ pub(crate) enum Request {
     DestroyRegion,
     /// The region, or none.
     SetOpaque(usize, bool),
+    /// A frame callback of the surface, with this new id.
+    Frame(usize, u32),
     Commit(usize),
     DestroyToplevel(usize),
     DestroyXdgSurface(usize),
@@ -266,6 +268,7 @@ fn words_of(request: Request) -> Words {
         Request::DestroyRegion => bare(REGION, 0),
         Request::SetOpaque(slot, true) => single(surface_id(slot), 4, REGION),
         Request::SetOpaque(slot, false) => single(surface_id(slot), 4, 0),
+        Request::Frame(slot, callback) => single(surface_id(slot), 3, callback),
         Request::Commit(slot) => bare(surface_id(slot), 6),
         Request::DestroyToplevel(slot) => bare(toplevel_id(slot), 0),
         Request::DestroyXdgSurface(slot) => bare(xdg_surface_id(slot), 0),
