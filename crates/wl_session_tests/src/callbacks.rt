@@ -113,12 +113,16 @@ const UNMAPPED: &[Row] = &[
     Row::Told(&[DONE_14, FREED_14]),
 ];
 
-/// A client to which it can't be told any more ends: there is room for wl_callback.done, and none for wl_display.delete_id. Its window is in
-/// that frame, and not in the next.
+/// A client to which it can't be told any more ends: regions that came and went left room for wl_callback.done, and none for
+/// wl_display.delete_id. Its window is in that frame, and not in the next.
 const TOO_SLOW: &[Row] = &[
     Row::Sends(ASKS_14),
     Row::Sends(COMMIT),
-    Row::Syncs(43_690),
+    Row::Changes(
+        87_380,
+        Message(3, 1, &[Arg::NewId(16)]),
+        Message(16, 0, &[]),
+    ),
     Row::Waiting(1_048_560),
     Row::Is(1, Fed::Alive),
     Row::Shows(1600, 1600, &[Pixel(0, 0, 255, 0, 0)]),
