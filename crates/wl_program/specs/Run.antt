@@ -18,12 +18,11 @@ use Rattle.wl_options.specs.declared.fault.Fault.{Fault}
 use Rattle.wl_options.specs.declared.fault.Fault.TheVariants.{Read, Write, Side, Bind, Size, BadLine, Memory}
 use Rattle.wl_options.specs.declared.fault.Status.{Status}
 use Rattle.wl_options.specs.declared.fault.Status.TheVariants as status
-use Rattle.wl_program.specs.Serving.{TakesTurns}
+use Rattle.wl_program.specs.Serving.{TakesTurns, output_of}
 
--- an output of the replay's size, whose background is black
+-- the output of a replay
 abbrev pub config_of : Replay → Config
-config_of replay =
-    record { width = replay.size.width; height = replay.size.height; background = record { r = 0; g = 0; b = 0 } }
+config_of replay = output_of replay.size
 
 -- the side files are those of the replay's folder
 abbrev pub folder_of : Replay → FolderView

@@ -1,22 +1,39 @@
 -- What is served: turns of the plain desktop, one after another.
-use Rattle.std.specs.Prelude.{◌≡◌, ⊤, Bool, true, List}
+use Rattle.std.specs.Prelude.{◌≡◌, ⊤, Bool, true, List, []}
 use Rattle.wl_options.specs.declared.command.Serve.{Serve}
 use Rattle.wl_options.specs.declared.fault.Fault.{Fault}
 use Rattle.wl_options.specs.declared.fault.Fault.TheVariants.{Read, Write, Side, Bind, Size, BadLine, Memory}
+use Rattle.wl_options.specs.declared.size.Size as declared
 use Rattle.wl_plain.specs.Acts.{Act}
-use Rattle.wl_plain.specs.Desktop.{Desktop, empty}
+use Rattle.wl_plain.specs.Desktop.{empty}
 use Rattle.wl_plain.specs.LeftOut.{served_now}
-use Rattle.wl_plain.specs.RunLaws.{Lasts}
-use Rattle.wl_plain.specs.declared.answers.Done.{Done}
-use Rattle.wl_server.specs.Acting.{InTurn}
+use Rattle.wl_replay.specs.Told.{IsFirst, Stage}
+use Rattle.wl_server.specs.Acting.{InTurn, ShowsScratch}
 use Rattle.wl_server.specs.Phases.{IsTurn}
+use Rattle.wl_session.specs.Course.{Runs, moment}
+use Rattle.wl_session.specs.Events.{Event, Moment}
+use Rattle.wl_session.specs.Liars.{nobody}
+use Rattle.wl_session.specs.View.{SessionView}
+use Rattle.wl_session.specs.declared.sessions.Config.{Config}
+
+-- an output of this size, whose background is black
+abbrev pub output_of : declared.Size → Config
+output_of size = record { width = size.width; height = size.height; background = record { r = 0; g = 0; b = 0 } }
+
+-- a session of such an output as a moment, at which nobody is connected
+abbrev pub moment_of : declared.Size → SessionView → Moment
+moment_of size session = moment (empty (record { width = size.width; height = size.height })) session
+
+abbrev pub stage_of : declared.Size → SessionView → Stage
+stage_of size session =
+    record { first = moment_of size session; events = []; now = moment_of size session }
 
 -- On an output of the size that is asked, from a desktop without clients on, the turns 1 to the last that is asked were taken, one after
--- another.
+-- another, event by event, and each frame that was shown was the desktop painted from nothing where each client kept its promises.
 abbrev pub TakesTurns : Serve → Type 0
 TakesTurns serve =
-    (acts : List Act) × (dones : List Done) × (last : Desktop) × InTurn IsTurn serve.turns acts
-    × Lasts served_now acts dones (empty (record { width = serve.size.width; height = serve.size.height })) last
+    (first : Stage) × (acts : List Act) × (events : List Event) × (last : Moment) × IsFirst (output_of serve.size) first
+    × InTurn IsTurn serve.turns acts × Runs served_now first.now acts events last × ShowsScratch nobody events
 
 -- how reading the pointer's file fails: a line is bad only where there is such a file
 abbrev pub IsOfPointer : Bool → Fault → Type 0

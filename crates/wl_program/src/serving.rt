@@ -2,11 +2,13 @@
 
 ghost use Rattle.std.specs.Prelude.{◌≡◌, ◌⊎◌, IfErr, IfOk, OnOk};
 ghost use Rattle.wl_plain.specs.Desktop.{empty};
+ghost use Rattle.wl_replay.specs.Told.{IsFirst};
 ghost use Rattle.wl_session.specs.Agreeing.{Agrees};
+ghost use Rattle.wl_session.specs.Liars.{IsRightBut, nobody};
 ghost use Rattle.wl_server.specs.Acting.{InTurn, Takes};
 ghost use Rattle.wl_server.specs.Phases.{IsTurn};
 ghost use Rattle.wl_program.specs.Run.{FailsServing};
-ghost use Rattle.wl_program.specs.Serving.{TakesTurns};
+ghost use Rattle.wl_program.specs.Serving.{TakesTurns, moment_of, output_of, stage_of};
 
 use crate::pointing::read_pointer;
 use crate::run::BLACK;
@@ -53,6 +55,8 @@ fn bind_failed(error: io::Error) -> Fault
 /// A session without clients, whose output has this size.
 fn session_of<A: Allocator + Copy>(alloc: A, size: Size) -> Result<Session<A>, Fault>
     ensures desk { IfOk result (λ session. Agrees session.desk (empty (record { width = size.width; height = size.height }))) }
+    ensures right { IfOk result (λ session. IsRightBut nobody (moment_of size session)) }
+    ensures first { IfOk result (λ session. IsFirst (output_of size) (stage_of size session)) }
     ensures failed { IfErr result (λ fault. fault ≡ Fault.Memory) }
 {
     let config = Config {
@@ -73,7 +77,7 @@ fn take_turn<A: Allocator + Copy, H: Hub, W: Write + Drop, P: Write + Drop, S: S
     side: &mut S,
     number: u32,
 ) -> Result<(), Fault>
-    ensures taken { OnOk result (Takes (IsTurn number) service.old.session.desk service.new.session.desk) }
+    ensures taken { OnOk result (Takes (IsTurn number) service.old.session service.new.session) }
     ensures failed { IfErr result (λ fault. fault ≡ Fault.Write) }
 {
     let taken = turn(hub, service, side, number);
@@ -91,7 +95,7 @@ fn take_turns<A: Allocator + Copy, H: Hub, W: Write + Drop, P: Write + Drop, S: 
     side: &mut S,
     turns: u32,
 ) -> Result<(), Fault>
-    ensures taken { OnOk result (Takes (InTurn IsTurn turns) service.old.session.desk service.new.session.desk) }
+    ensures taken { OnOk result (Takes (InTurn IsTurn turns) service.old.session service.new.session) }
     ensures failed { IfErr result (λ fault. fault ≡ Fault.Write) }
 {
     for before in 0..turns {

@@ -1,3 +1,4 @@
+pub mod Frames
 pub mod Pieces
 pub mod Taking
 pub mod Turning

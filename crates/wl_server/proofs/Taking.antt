@@ -1,50 +1,88 @@
 -- What a session does, joined of what it does one after another.
-use Rattle.std.proofs.Common.{◌≡◌, ◌≤◌, ◌+◌, ℕ, zero, suc, List, [], ◌∷◌, ◌++◌, refl, sym, subst, inl, inr, arith, add-one, append-nil}
+use Rattle.std.proofs.Common.{◌≡◌, ◌≤◌, ◌+◌, ℕ, zero, suc, List, [], ◌∷◌, ◌++◌, refl, ap, sym, subst, ◌∙◌, inl, inr, arith, add-one, append-nil, append_assoc}
 use Rattle.std.proofs.lemmas.Bool.{cases_lt}
 use Rattle.wl_plain.specs.declared.answers.Done.{Done}
 use Rattle.wl_plain.specs.Acts.{Act}
 use Rattle.wl_plain.specs.Desktop.{Desktop}
 use Rattle.wl_plain.specs.LeftOut.{LeftOut, served_now}
-use Rattle.wl_plain.specs.RunLaws.{Lasts}
-use Rattle.wl_resident.specs.View.{DeskView}
-use Rattle.wl_session.specs.Agreeing.{Agrees, TakesStep}
-use Rattle.wl_server.specs.Acting.{InTurn, Takes}
+use Rattle.wl_session.specs.Agreeing.{Agrees}
+use Rattle.wl_session.specs.Course.{Course, Runs, TakesCourse, moment}
+use Rattle.wl_session.specs.Events.{Event, Moment}
+use Rattle.wl_session.specs.View.{SessionView}
+use Rattle.wl_session.proofs.Courses.{apart-then}
+use Rattle.wl_server.specs.Acting.{InTurn, Takes, Went}
 
-pub Lasts-append : (left : LeftOut) (acts more : List Act) (dones others : List Done) (d mid e : Desktop) → Lasts left acts dones d mid → Lasts left more others mid e
-    → Lasts left (acts ++ more) (dones ++ others) d e
-Lasts-append left [] more [] others d mid e first next = subst (λ (v : Desktop). Lasts left more others v e) first next
-Lasts-append left [] more (done ∷ dones) others d mid e first next = absurd first
-Lasts-append left (act ∷ acts) more [] others d mid e first next = absurd first
-Lasts-append left (act ∷ acts) more (done ∷ dones) others d mid e first next =
-    (first.0, first.1, Lasts-append left acts more dones others first.0 mid e first.2 next)
+runs-append : (left : LeftOut) (acts more : List Act) (from mid to : Moment) (events others : List Event) → Runs left from acts events mid → Runs left mid more others to
+    → Runs left from (acts ++ more) (events ++ others) to
+runs-append left [] more from mid to events others first next =
+    subst (λ (es : List Event). Runs left from more (es ++ others) to) (sym first.0) (subst (λ (m : Moment). Runs left m more others to) first.1 next)
+runs-append left (act ∷ acts) more from mid to events others first next = (
+  first.0,
+  first.1,
+  first.2,
+  first.3 ++ others,
+  first.4,
+  first.5,
+  first.6,
+  ap (λ (es : List Event). es ++ others) first.7 ∙ append_assoc first.2 first.3 others,
+  runs-append left acts more first.0 mid to first.3 others first.8 next,
+)
 
-pub Takes-none : (P : List Act → Type 0) (old new : DeskView) → new ≡ old → P [] → Takes P old new
-Takes-none P old new same p = λ d agrees. ([], [], d, p, refl, subst (λ (v : DeskView). Agrees v d) (sym same) agrees)
+-- ---- where acts lead
 
-pub Takes-one : (P : List Act → Type 0) (act : Act) (done : Done) (old new : DeskView) → TakesStep act done old new → P (act ∷ []) → Takes P old new
-Takes-one P act done old new takes p = λ d agrees.
-    let step = takes d agrees in (act ∷ [], done ∷ [], step.0, p, (step.0, step.1, refl), step.2)
+went-none : (old new : SessionView) (d : Desktop) → new ≡ old → Agrees old.desk d → Went [] old new d
+went-none old new d same agrees = record {
+  desktop = d;
+  events = [];
+  runs = (refl, ap (λ (v : SessionView). moment d v) same);
+  apart = tt;
+  agrees = subst (λ (v : SessionView). Agrees v.desk d) (sym same) agrees;
+}
 
-pub Takes-then : (P Q R : List Act → Type 0) (old mid new : DeskView) → Takes P old mid → Takes Q mid new
+went-one : (act : Act) (done : Done) (old new : SessionView) (d : Desktop) → Course act done old new d → Went (act ∷ []) old new d
+went-one act done old new d course = record {
+  desktop = course.desktop;
+  events = course.events;
+  runs = (moment course.desktop new, done, course.events, [], course.happens, course.parts, course.leads, sym (append-nil course.events), (refl, refl));
+  apart = course.apart;
+  agrees = course.agrees;
+}
+
+pub went-then : (a b : List Act) (old mid new : SessionView) (d : Desktop) (first : Went a old mid d) → Went b mid new first.desktop → Went (a ++ b) old new d
+went-then a b old mid new d first next = record {
+  desktop = next.desktop;
+  events = first.events ++ next.events;
+  runs = runs-append served_now a b (moment d old) (moment first.desktop mid) (moment next.desktop new) first.events next.events first.runs next.runs;
+  apart = apart-then first.events next.events first.apart next.apart;
+  agrees = next.agrees;
+}
+
+-- ---- the same of acts of which something holds
+
+pub Takes-none : (P : List Act → Type 0) (old new : SessionView) → new ≡ old → P [] → Takes P old new
+Takes-none P old new same p = λ d agrees. ([], p, went-none old new d same agrees)
+
+pub Takes-one : (P : List Act → Type 0) (act : Act) (done : Done) (old new : SessionView) → TakesCourse act done old new → P (act ∷ []) → Takes P old new
+Takes-one P act done old new takes p = λ d agrees. (act ∷ [], p, went-one act done old new d (takes d agrees))
+
+pub Takes-then : (P Q R : List Act → Type 0) (old mid new : SessionView) → Takes P old mid → Takes Q mid new
     → ((a b : List Act) → P a → Q b → R (a ++ b)) → Takes R old new
 Takes-then P Q R old mid new first next join = λ d agrees.
     let a = first d agrees in
-    let b = next a.2 a.5 in
-    (a.0 ++ b.0, a.1 ++ b.1, b.2, join a.0 b.0 a.3 b.3, Lasts-append served_now a.0 b.0 a.1 b.1 d a.2 b.2 a.4 b.4, b.5)
+    let b = next a.2.desktop a.2.agrees in
+    (a.0 ++ b.0, join a.0 b.0 a.1 b.1, went-then a.0 b.0 old mid new d a.2 b.2)
 
-pub Takes-weaker : (P Q : List Act → Type 0) (old new : DeskView) → Takes P old new → ((a : List Act) → P a → Q a) → Takes Q old new
-Takes-weaker P Q old new takes weaker = λ d agrees.
-    let a = takes d agrees in (a.0, a.1, a.2, weaker a.0 a.3, a.4, a.5)
+pub Takes-weaker : (P Q : List Act → Type 0) (old new : SessionView) → Takes P old new → ((a : List Act) → P a → Q a) → Takes Q old new
+Takes-weaker P Q old new takes weaker = λ d agrees. let a = takes d agrees in (a.0, weaker a.0 a.1, a.2)
 
-pub Takes-two : (P : List Act → Type 0) (act next : Act) (done after : Done) (old mid new : DeskView) → TakesStep act done old mid → TakesStep next after mid new
+pub Takes-two : (P : List Act → Type 0) (act next : Act) (done after : Done) (old mid new : SessionView) → TakesCourse act done old mid → TakesCourse next after mid new
     → P (act ∷ next ∷ []) → Takes P old new
 Takes-two P act next done after old mid new first last p = λ d agrees.
-    let a = first d agrees in
-    let b = last a.0 a.2 in
-    (act ∷ next ∷ [], done ∷ after ∷ [], b.0, p, (a.0, a.1, (b.0, b.1, refl)), b.2)
+    let a = went-one act done old mid d (first d agrees) in
+    (act ∷ next ∷ [], p, went-then (act ∷ []) (next ∷ []) old mid new d a (went-one next after mid new a.desktop (last a.desktop a.agrees)))
 
 -- what is said of the acts is said of a value that is known
-pub Takes-is : {X : Type 0} (P : X → List Act → Type 0) (x y : X) (old new : DeskView) → x ≡ y → Takes (P x) old new → Takes (P y) old new
+pub Takes-is : {X : Type 0} (P : X → List Act → Type 0) (x y : X) (old new : SessionView) → x ≡ y → Takes (P x) old new → Takes (P y) old new
 Takes-is P x y old new same takes = subst (λ (v : _). Takes (P v) old new) same takes
 
 -- ---- one after another

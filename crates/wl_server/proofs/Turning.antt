@@ -3,11 +3,10 @@ use Rattle.std.proofs.Common.{◌≡◌, ℕ, List, [], ◌∷◌, ◌++◌, Res
 use Rattle.std.specs.Result.{OnOk}
 use Rattle.std.proofs.lemmas.List.Elements.{All-nil}
 use Rattle.wl_plain.specs.Acts.{Act, Tick}
-use Rattle.wl_plain.specs.LeftOut.{served_now}
-use Rattle.wl_resident.specs.View.{DeskView}
+use Rattle.wl_session.specs.View.{SessionView}
 use Rattle.wl_server.specs.Acting.{InTurn, Takes}
 use Rattle.wl_server.specs.Phases.{AcceptsSome, Closes, Fills, IsPiece, IsTurn, Puts, Reads, Shows, StartsTurn, Writes}
-use Rattle.wl_server.proofs.Taking.{InTurn-none, Lasts-append, Takes-weaker}
+use Rattle.wl_server.proofs.Taking.{InTurn-none, Takes-weaker, went-then}
 
 -- ---- a client of which nothing is told
 
@@ -28,7 +27,7 @@ closes-none c = inl refl
 
 -- ---- a turn that stops, since what it is told to failed
 
-pub accepted-only : (time : ℕ) (old new : DeskView) → Takes (AcceptsSome 32) old new → Takes (StartsTurn time) old new
+pub accepted-only : (time : ℕ) (old new : SessionView) → Takes (AcceptsSome 32) old new → Takes (StartsTurn time) old new
 accepted-only time old new takes =
     Takes-weaker (AcceptsSome 32) (StartsTurn time) old new takes
     (λ acts accepts. (
@@ -50,19 +49,17 @@ accepted-only time old new takes =
       },
     ))
 
-pub up-to-frame : (time : ℕ) (start heard read filled shown : DeskView) → Takes (AcceptsSome 32) start heard → Takes (InTurn Reads 32) heard read
+pub up-to-frame : (time : ℕ) (start heard read filled shown : SessionView) → Takes (AcceptsSome 32) start heard → Takes (InTurn Reads 32) heard read
     → Takes (InTurn Fills 32) read filled → Takes (Shows time) filled shown → Takes (StartsTurn time) start shown
 up-to-frame time start heard read filled shown accepts reads fills shows = λ d agrees.
     let a = accepts d agrees in
-    let r = reads a.2 a.5 in
-    let f = fills r.2 r.5 in
-    let s = shows f.2 f.5 in
+    let r = reads a.2.desktop a.2.agrees in
+    let f = fills r.2.desktop r.2.agrees in
+    let s = shows f.2.desktop f.2.agrees in
     let acts = a.0 ++ (r.0 ++ (f.0 ++ s.0)) in
     let order : acts ++ [] ≡ a.0 ++ (r.0 ++ (f.0 ++ (s.0 ++ []))) =
     append-nil acts ∙ ap (λ (shown : List Act). a.0 ++ (r.0 ++ (f.0 ++ shown))) (sym (append-nil s.0)) in (
       acts,
-      a.1 ++ (r.1 ++ (f.1 ++ s.1)),
-      s.2,
       (
         [],
         record {
@@ -72,39 +69,36 @@ up-to-frame time start heard read filled shown accepts reads fills shows = λ d 
           shown = s.0;
           written = [];
           closed = [];
-          accepts = a.3;
-          reads = r.3;
-          fills = f.3;
-          shows = s.3;
+          accepts = a.1;
+          reads = r.1;
+          fills = f.1;
+          shows = s.1;
           writes = InTurn-none Writes 32 writes-none;
           closes = InTurn-none Closes 32 closes-none;
           order = order;
         },
       ),
-      Lasts-append served_now a.0 (r.0 ++ (f.0 ++ s.0)) a.1 (r.1 ++ (f.1 ++ s.1)) d a.2 s.2 a.4
-          (Lasts-append served_now r.0 (f.0 ++ s.0) r.1 (f.1 ++ s.1) a.2 r.2 s.2 r.4 (Lasts-append served_now f.0 s.0 f.1 s.1 r.2 f.2 s.2 f.4 s.4)),
-      s.5,
+      went-then a.0 (r.0 ++ (f.0 ++ s.0)) start heard shown d a.2
+          (went-then r.0 (f.0 ++ s.0) heard read shown a.2.desktop r.2 (went-then f.0 s.0 read filled shown r.2.desktop f.2 s.2)),
     )
 
 -- ---- a whole turn
 
-pub whole : (time : ℕ) (start heard read filled shown written closed : DeskView) → Takes (AcceptsSome 32) start heard → Takes (InTurn Reads 32) heard read
+pub whole : (time : ℕ) (start heard read filled shown written closed : SessionView) → Takes (AcceptsSome 32) start heard → Takes (InTurn Reads 32) heard read
     → Takes (InTurn Fills 32) read filled → Takes (Shows time) filled shown → Takes (InTurn Writes 32) shown written → Takes (InTurn Closes 32) written closed
     → Takes (IsTurn time) start closed
 whole time start heard read filled shown written closed accepts reads fills shows writes closes = λ d agrees.
     let a = accepts d agrees in
-    let r = reads a.2 a.5 in
-    let f = fills r.2 r.5 in
-    let s = shows f.2 f.5 in
-    let w = writes s.2 s.5 in
-    let c = closes w.2 w.5 in
-    let last = Lasts-append served_now w.0 c.0 w.1 c.1 s.2 w.2 c.2 w.4 c.4 in
-    let shown_on = Lasts-append served_now s.0 (w.0 ++ c.0) s.1 (w.1 ++ c.1) f.2 s.2 c.2 s.4 last in
-    let filled_on = Lasts-append served_now f.0 (s.0 ++ (w.0 ++ c.0)) f.1 (s.1 ++ (w.1 ++ c.1)) r.2 f.2 c.2 f.4 shown_on in
-    let read_on = Lasts-append served_now r.0 (f.0 ++ (s.0 ++ (w.0 ++ c.0))) r.1 (f.1 ++ (s.1 ++ (w.1 ++ c.1))) a.2 r.2 c.2 r.4 filled_on in (
+    let r = reads a.2.desktop a.2.agrees in
+    let f = fills r.2.desktop r.2.agrees in
+    let s = shows f.2.desktop f.2.agrees in
+    let w = writes s.2.desktop s.2.agrees in
+    let c = closes w.2.desktop w.2.agrees in
+    let last = went-then w.0 c.0 shown written closed s.2.desktop w.2 c.2 in
+    let shown_on = went-then s.0 (w.0 ++ c.0) filled shown closed f.2.desktop s.2 last in
+    let filled_on = went-then f.0 (s.0 ++ (w.0 ++ c.0)) read filled closed r.2.desktop f.2 shown_on in
+    let read_on = went-then r.0 (f.0 ++ (s.0 ++ (w.0 ++ c.0))) heard read closed a.2.desktop r.2 filled_on in (
       a.0 ++ (r.0 ++ (f.0 ++ (s.0 ++ (w.0 ++ c.0)))),
-      a.1 ++ (r.1 ++ (f.1 ++ (s.1 ++ (w.1 ++ c.1)))),
-      c.2,
       record {
         accepted = a.0;
         read = r.0;
@@ -112,19 +106,18 @@ whole time start heard read filled shown written closed accepts reads fills show
         shown = s.0;
         written = w.0;
         closed = c.0;
-        accepts = a.3;
-        reads = r.3;
-        fills = f.3;
-        shows = s.3;
-        writes = w.3;
-        closes = c.3;
+        accepts = a.1;
+        reads = r.1;
+        fills = f.1;
+        shows = s.1;
+        writes = w.1;
+        closes = c.1;
         order = refl;
       },
-      Lasts-append served_now a.0 (r.0 ++ (f.0 ++ (s.0 ++ (w.0 ++ c.0)))) a.1 (r.1 ++ (f.1 ++ (s.1 ++ (w.1 ++ c.1)))) d a.2 c.2 a.4 read_on,
-      c.5,
+      went-then a.0 (r.0 ++ (f.0 ++ (s.0 ++ (w.0 ++ c.0)))) start heard closed d a.2 read_on,
     )
 
-pub whole-begun : (time : ℕ) (old new : DeskView) → Takes (IsTurn time) old new → Takes (StartsTurn time) old new
+pub whole-begun : (time : ℕ) (old new : SessionView) → Takes (IsTurn time) old new → Takes (StartsTurn time) old new
 whole-begun time old new takes =
     Takes-weaker (IsTurn time) (StartsTurn time) old new takes
     (λ acts is. (

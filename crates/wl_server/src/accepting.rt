@@ -24,7 +24,7 @@ pub(crate) fn accept_all<A: Allocator + Copy, H: Hub, W: Write>(
     report: &mut W,
 ) -> Result<(), TurnError>
     requires { length seats.old ≡ 32 }
-    ensures { Takes (AcceptsSome 32) session.old.desk session.new.desk }
+    ensures { Takes (AcceptsSome 32) session.old session.new }
 {
     for before in 0..ACCEPTS {
         if !accept_one(hub, session, seats, accepted, report)? {
@@ -43,7 +43,7 @@ fn accept_one<A: Allocator + Copy, H: Hub, W: Write>(
     report: &mut W,
 ) -> Result<bool, TurnError>
     requires { length seats.old ≡ 32 }
-    ensures { Takes AcceptsOne session.old.desk session.new.desk }
+    ensures { Takes AcceptsOne session.old session.new }
 {
     if *accepted == u32::MAX {
         return Ok(false);

@@ -20,7 +20,7 @@ pub(crate) fn close_all<A: Allocator + Copy, H: Hub, W: Write>(
     report: &mut W,
 ) -> Result<(), TurnError>
     requires { length seats.old ≡ 32 }
-    ensures { Takes (InTurn Closes 32) session.old.desk session.new.desk }
+    ensures { Takes (InTurn Closes 32) session.old session.new }
 {
     for k in 0..seats.len() {
         close_seat(hub, session, k as u32 + 1, &mut seats[k], report)?;
@@ -35,7 +35,7 @@ fn close_seat<A: Allocator + Copy, H: Hub, W: Write>(
     seat: &mut Option<Seat<H::Conn>>,
     report: &mut W,
 ) -> Result<(), TurnError>
-    ensures { Takes (Closes client) session.old.desk session.new.desk }
+    ensures { Takes (Closes client) session.old session.new }
 {
     let Fed::Ended(cause) = session.status(client) else {
         return Ok(());

@@ -24,7 +24,7 @@ pub(crate) fn fill_all<A: Allocator + Copy, C: Drop, S: SideFiles>(
     side: &mut S,
 )
     requires { length seats.now ≡ 32 }
-    ensures { Takes (InTurn Fills 32) session.old.desk session.new.desk }
+    ensures { Takes (InTurn Fills 32) session.old session.new }
 {
     let mut buf = [0; PIECE];
     for k in 0..seats.len() {
@@ -41,7 +41,7 @@ fn fill_seat<A: Allocator + Copy, C: Drop, S: SideFiles>(
     buf: &mut [u8],
 )
     requires { length buf.old ≡ 4096 }
-    ensures { Takes (Fills client) session.old.desk session.new.desk }
+    ensures { Takes (Fills client) session.old session.new }
 {
     if let Some(seat) = seat {
         if seat.has_sent {
@@ -60,7 +60,7 @@ fn fill_client<A: Allocator + Copy, S: SideFiles>(
     buf: &mut [u8],
 )
     requires { length buf.old ≡ 4096 }
-    ensures { Takes (Fills client) session.old.desk session.new.desk }
+    ensures { Takes (Fills client) session.old session.new }
 {
     for before in 0..stores {
         fill_store(session, client, before + 1, number, side, buf);
@@ -77,7 +77,7 @@ fn fill_store<A: Allocator + Copy, S: SideFiles>(
     buf: &mut [u8],
 )
     requires { length buf.old ≡ 4096 }
-    ensures { Takes (Puts client store) session.old.desk session.new.desk }
+    ensures { Takes (Puts client store) session.old session.new }
 {
     if let Some(size) = session.store_size(client, store) {
         if opens(number, store, side) {
@@ -102,7 +102,7 @@ fn put_file<A: Allocator + Copy, S: SideFiles>(
     buf: &mut [u8],
 )
     requires { length buf.old ≡ 4096 }
-    ensures { Takes (Puts client store) session.old.desk session.new.desk }
+    ensures { Takes (Puts client store) session.old session.new }
 {
     let mut at = 0;
     while at < size {
@@ -127,7 +127,7 @@ fn put_piece<A: Allocator + Copy, S: SideFiles>(
     buf: &mut [u8],
 ) -> Result<u32, SideFault>
     requires { length buf.old ≤ PIECE }
-    ensures put { IfOk result (λ count. Takes (PutsOnce client store at count) session.old.desk session.new.desk) }
+    ensures put { IfOk result (λ count. Takes (PutsOnce client store at count) session.old session.new) }
     ensures kept { OnErr result (session.new ≡ session.old) }
     ensures within { IfOk result (λ count. count ≤ length buf.old) }
 {

@@ -22,7 +22,7 @@ pub(crate) fn read_all<A: Allocator + Copy, H: Hub>(
     seats: &mut [Option<Seat<H::Conn>>],
 )
     requires { length seats.old ≡ 32 }
-    ensures { Takes (InTurn Reads 32) session.old.desk session.new.desk }
+    ensures { Takes (InTurn Reads 32) session.old session.new }
 {
     let mut buf = [0; PIECE];
     for k in 0..seats.len() {
@@ -39,7 +39,7 @@ fn read_seat<A: Allocator + Copy, H: Hub>(
     buf: &mut [u8],
 )
     requires { length buf.old ≡ 4096 }
-    ensures { Takes (Reads client) session.old.desk session.new.desk }
+    ensures { Takes (Reads client) session.old session.new }
 {
     if let Some(seat) = seat {
         read_client(hub, session, client, seat, buf);
@@ -55,7 +55,7 @@ fn read_client<A: Allocator + Copy, H: Hub>(
     buf: &mut [u8],
 )
     requires { length buf.old ≡ 4096 }
-    ensures { Takes (Reads client) session.old.desk session.new.desk }
+    ensures { Takes (Reads client) session.old session.new }
 {
     seat.has_sent = false;
     for before in 0..READS {
@@ -74,7 +74,7 @@ fn read_once<A: Allocator + Copy, H: Hub>(
     buf: &mut [u8],
 ) -> bool
     requires { length buf.old ≡ 4096 }
-    ensures { Takes (ReadsOnce client result) session.old.desk session.new.desk }
+    ensures { Takes (ReadsOnce client result) session.old session.new }
 {
     match receive(hub, &mut seat.conn, buf) {
         Received::Bytes(count) => {

@@ -1,7 +1,7 @@
 //! What lasts from turn to turn, and the turn.
 
 ghost use Rattle.std.specs.Prelude.{◌≡◌, OnOk, length};
-ghost use Rattle.wl_server.specs.Acting.{Takes};
+ghost use Rattle.wl_server.specs.Acting.{IsServed, Takes};
 ghost use Rattle.wl_server.specs.Phases.{IsTurn, StartsTurn};
 
 use crate::accepting::accept_all;
@@ -58,16 +58,19 @@ impl<A: Allocator, C: Drop, W: Drop, P: Drop> Service<A, C, W, P> {
 /// that wait are accepted; clients are read, one after another; those that sent bytes get their side files; a frame is shown; clients are
 /// written to, one after another; and those that ended are closed.
 ///
+/// What it takes are steps of a session, event by event: the frame that it shows is the desktop as the frame began, painted from nothing, at
+/// each point that no window covers of a client that broke its promises (wayland.xml, wl_surface.damage and wl_buffer.release).
+///
 /// What fails of a connection ends its client, and is never answered. `Write` is answered where the report or the images couldn't be
-/// written; the steps that were taken stand.
+/// written; the steps that were taken stand, and are those that a turn begins with.
 pub fn turn<A: Allocator + Copy, H: Hub, W: Write + Drop, P: Write + Drop, S: SideFiles>(
     hub: &mut H,
     service: &mut Service<A, H::Conn, W, P>,
     side: &mut S,
     time: u32,
 ) -> Result<(), TurnError>
-    ensures taken { OnOk result (Takes (IsTurn time) service.old.session.desk service.new.session.desk) }
-    ensures begun { Takes (StartsTurn time) service.old.session.desk service.new.session.desk }
+    ensures taken { OnOk result (IsServed (IsTurn time) service.old.session service.new.session) }
+    ensures begun { IsServed (StartsTurn time) service.old.session service.new.session }
 {
     service.waiting.take(time);
     take_turn(
@@ -91,8 +94,8 @@ fn take_turn<A: Allocator + Copy, H: Hub, W: Write, P: Write, S: SideFiles>(
     side: &mut S,
     time: u32,
 ) -> Result<(), TurnError>
-    ensures taken { OnOk result (Takes (IsTurn time) session.old.desk session.new.desk) }
-    ensures begun { Takes (StartsTurn time) session.old.desk session.new.desk }
+    ensures taken { OnOk result (Takes (IsTurn time) session.old session.new) }
+    ensures begun { Takes (StartsTurn time) session.old session.new }
 {
     take_phases(
         hub,
@@ -118,8 +121,8 @@ fn take_phases<A: Allocator + Copy, H: Hub, W: Write, P: Write, S: SideFiles>(
     time: u32,
 ) -> Result<(), TurnError>
     requires { length seats.old ≡ 32 }
-    ensures taken { OnOk result (Takes (IsTurn time) session.old.desk session.new.desk) }
-    ensures begun { Takes (StartsTurn time) session.old.desk session.new.desk }
+    ensures taken { OnOk result (Takes (IsTurn time) session.old session.new) }
+    ensures begun { Takes (StartsTurn time) session.old session.new }
 {
     accept_all(hub, session, seats, accepted, report)?;
     read_all(hub, session, seats);

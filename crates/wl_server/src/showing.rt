@@ -17,7 +17,7 @@ pub(crate) fn show<A: Allocator + Copy, W: Write, P: Write>(
     report: &mut W,
     ppm: &mut Option<P>,
 ) -> Result<(), TurnError>
-    ensures { Takes (Shows time) session.old.desk session.new.desk }
+    ensures { Takes (Shows time) session.old session.new }
 {
     let frame = session.tick(time);
     let count = frame.damage.count();

@@ -16,7 +16,7 @@ pub(crate) fn write_all<A: Allocator + Copy, H: Hub>(
     seats: &mut [Option<Seat<H::Conn>>],
 )
     requires { length seats.old ≡ 32 }
-    ensures { Takes (InTurn Writes 32) session.old.desk session.new.desk }
+    ensures { Takes (InTurn Writes 32) session.old session.new }
 {
     for k in 0..seats.len() {
         write_seat(hub, session, k as u32 + 1, &mut seats[k]);
@@ -30,7 +30,7 @@ fn write_seat<A: Allocator + Copy, H: Hub>(
     client: ClientNo,
     seat: &mut Option<Seat<H::Conn>>,
 )
-    ensures { Takes (Writes client) session.old.desk session.new.desk }
+    ensures { Takes (Writes client) session.old session.new }
 {
     if let Some(seat) = seat {
         write_client(hub, session, client, seat);
@@ -44,7 +44,7 @@ fn write_client<A: Allocator + Copy, H: Hub>(
     client: ClientNo,
     seat: &mut Seat<H::Conn>,
 )
-    ensures { Takes (Writes client) session.old.desk session.new.desk }
+    ensures { Takes (Writes client) session.old session.new }
 {
     let Some(bytes) = session.out(client) else {
         return;

@@ -1,13 +1,11 @@
 -- The turns of a new session are those that were asked.
-use Rattle.std.proofs.Common.{ap}
 use Rattle.std.proofs.lemmas.Result.{err_from_is_err_and}
-use Rattle.wl_session.specs.View.{SessionView}
 use Rattle.wl_program.proofs.Served.{pointer-fails, turns-ok, write-fails}
 use Rattle.wl_program.proofs.serving.serve.Goals as goal
 
 pub returns-clause-served : goal.returns-clause-served
 returns-clause-served g c =
-    turns-ok c.take_turns.result c.args.serve _ _ _ (ap (λ (s : SessionView). s.desk) c.new-service.ensures.session) c.in_ok-session.ensures.desk c.take_turns.ensures.taken
+    turns-ok c.take_turns.result c.args.serve _ _ _ c.new-service.ensures.session c.in_ok-session.ensures.desk c.in_ok-session.ensures.right c.in_ok-session.ensures.first c.take_turns.ensures.taken
 
 pub returns-in_err-lines-clause-failed : goal.returns-in_err-lines-clause-failed
 returns-in_err-lines-clause-failed g c =

@@ -1,6 +1,8 @@
 -- The flush leaves the session.
+use Rattle.wl_server.specs.Phases.{IsTurn}
+use Rattle.wl_server.proofs.Frames.{served-takes}
 use Rattle.wl_program.proofs.Ending.{on_ok}
 use Rattle.wl_program.proofs.serving.take_turn.Goals as goal
 
 pub returns-in-Ok-clause-taken : goal.returns-in-Ok-clause-taken
-returns-in-Ok-clause-taken g c = on_ok c.flush-flushed.result c.in-Ok.ensures.taken
+returns-in-Ok-clause-taken g c = on_ok c.flush-flushed.result (served-takes (IsTurn c.args.number) _ _ c.in-Ok.ensures.taken)

@@ -4,4 +4,4 @@ use Rattle.wl_program.proofs.serving.take_turns.Given as goal
 
 -- the turns up to this one were taken
 abbrev pub invariant-loop-before : goal.invariant-loop-before
-invariant-loop-before g l = Takes (InTurn IsTurn l.before) l.fn.service.session.desk l.service.session.desk
+invariant-loop-before g l = Takes (InTurn IsTurn l.before) l.fn.service.session l.service.session

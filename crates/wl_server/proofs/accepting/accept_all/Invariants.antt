@@ -5,4 +5,4 @@ use Rattle.wl_server.proofs.accepting.accept_all.Given as goal
 -- so many were accepted at most
 abbrev pub invariant-loop-before : goal.invariant-loop-before
 invariant-loop-before g l =
-    Takes (AcceptsSome l.before) l.fn.session.desk l.session.desk
+    Takes (AcceptsSome l.before) l.fn.session l.session

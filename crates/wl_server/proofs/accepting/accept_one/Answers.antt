@@ -14,10 +14,10 @@ pub returns-in_default-2 : goal.returns-in_default-2
 returns-in_default-2 g c = Takes-none AcceptsOne _ _ refl (accepts-none 1)
 
 pub returns-in_err-map_err-in-Ok : goal.returns-in_err-map_err-in-Ok
-returns-in_err-map_err-in-Ok g c = Takes-one AcceptsOne _ _ _ _ c.in-Ok.ensures.step accepts-connect
+returns-in_err-map_err-in-Ok g c = Takes-one AcceptsOne _ _ _ _ c.in-Ok.ensures.course accepts-connect
 
 pub returns-in_ok-map_err-in-Ok : goal.returns-in_ok-map_err-in-Ok
-returns-in_ok-map_err-in-Ok g c = Takes-one AcceptsOne _ _ _ _ c.in-Ok.ensures.step accepts-connect
+returns-in_ok-map_err-in-Ok g c = Takes-one AcceptsOne _ _ _ _ c.in-Ok.ensures.course accepts-connect
 
 pub returns-in-Err-Full : goal.returns-in-Err-Full
-returns-in-Err-Full g c = Takes-one AcceptsOne _ _ _ _ c.in-Err-Full.ensures.step accepts-connect
+returns-in-Err-Full g c = Takes-one AcceptsOne _ _ _ _ c.in-Err-Full.ensures.course accepts-connect

@@ -13,7 +13,7 @@ pub returns-in_err-map_err : goal.returns-in_err-map_err
 returns-in_err-map_err g c = Takes-none (Closes c.args.client) _ _ refl (inl refl)
 
 pub returns-in-Some : goal.returns-in-Some
-returns-in-Some g c = Takes-one (Closes c.args.client) _ _ _ _ c.close.ensures.step (inr refl)
+returns-in-Some g c = Takes-one (Closes c.args.client) _ _ _ _ c.close.ensures.course (inr refl)
 
 pub returns-in_default-take : goal.returns-in_default-take
-returns-in_default-take g c = Takes-one (Closes c.args.client) _ _ _ _ c.close.ensures.step (inr refl)
+returns-in_default-take g c = Takes-one (Closes c.args.client) _ _ _ _ c.close.ensures.course (inr refl)

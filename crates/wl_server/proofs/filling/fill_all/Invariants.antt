@@ -5,4 +5,4 @@ use Rattle.wl_server.proofs.filling.fill_all.Given as goal
 -- the clients up to this one got their side files
 abbrev pub invariant-loop-k : goal.invariant-loop-k
 invariant-loop-k g l =
-    Takes (InTurn Fills l.k) l.fn.session.desk l.session.desk
+    Takes (InTurn Fills l.k) l.fn.session l.session

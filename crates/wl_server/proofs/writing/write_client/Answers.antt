@@ -7,7 +7,7 @@ pub returns-in_default : goal.returns-in_default
 returns-in_default g c = Takes-none (Writes c.args.client) _ _ refl (inl refl)
 
 pub returns-then-delivered : goal.returns-then-delivered
-returns-then-delivered g c = Takes-two (Writes c.args.client) _ _ _ _ _ _ _ c.sent.ensures.step c.gone.ensures.step (inr (_, inr refl))
+returns-then-delivered g c = Takes-two (Writes c.args.client) _ _ _ _ _ _ _ c.sent.ensures.course c.gone.ensures.course (inr (_, inr refl))
 
 pub returns-else-delivered : goal.returns-else-delivered
-returns-else-delivered g c = Takes-one (Writes c.args.client) _ _ _ _ c.sent.ensures.step (inr (_, inl refl))
+returns-else-delivered g c = Takes-one (Writes c.args.client) _ _ _ _ c.sent.ensures.course (inr (_, inl refl))

@@ -1,0 +1,51 @@
+-- What a session shows while it is served.
+use Rattle.std.proofs.Common.{◌≡◌, ◌<◌, ℕ, Bool, true, false, List, [], ◌∷◌, ◌++◌, Result, Ok, Err, refl, subst}
+use Rattle.std.specs.Result.{OnOk}
+use Rattle.wl_plain.specs.Acts.{Act}
+use Rattle.wl_plain.specs.LeftOut.{served_now}
+use Rattle.wl_session.specs.Course.{moment}
+use Rattle.wl_session.specs.Events.{AreApart, AreEvents, Event, Moment}
+use Rattle.wl_session.specs.Liars.{IsRightBut}
+use Rattle.wl_session.specs.View.{SessionView}
+use Rattle.wl_session.proofs.Runs.{runs-events}
+use Rattle.wl_session.proofs.Seen.{frame-scratch}
+use Rattle.wl_session.proofs.Stays.{stays_right}
+use Rattle.wl_server.specs.Acting.{IsServed, ShowsScratch, Takes}
+
+-- up to a frame, and with it
+
+events-first : (before : List Event) (frame : Event) (later : List Event) (from to : Moment) → AreEvents served_now from (before ++ frame ∷ later) to
+    → AreEvents served_now from (before ++ frame ∷ []) frame.after
+events-first [] frame later from to leads = (leads.0, leads.1, refl)
+events-first (e ∷ es) frame later from to leads = (leads.0, leads.1, events-first es frame later e.after to leads.2)
+
+apart-first : (before : List Event) (frame : Event) (later : List Event) → AreApart (before ++ frame ∷ later) → AreApart (before ++ frame ∷ [])
+apart-first [] frame later apart = (apart.0, apart.1, tt)
+apart-first (e ∷ es) frame later apart = (apart.0, apart.1, apart-first es frame later apart.2)
+
+shows-scratch : (from to : Moment) (events : List Event) (liars : ℕ → Bool) → AreApart events → AreEvents served_now from events to → IsRightBut liars from → ShowsScratch liars events
+shows-scratch from to events liars apart leads right before frame later broke x y same tick holds w h clear =
+    let up_to = events-first before frame later from to (subst (λ (es : List Event). AreEvents served_now from es to) same leads) in
+    let distinct = apart-first before frame later (subst AreApart same apart) in
+    frame-scratch served_now before frame from frame.after liars broke up_to distinct tick holds right x y w h clear
+
+-- ---- what is served
+
+pub served-of : (P : List Act → Type 0) (old new : SessionView) → Takes P old new → IsServed P old new
+served-of P old new takes = λ d agrees.
+    let t = takes d agrees in
+    let went = t.2 in
+    let leads = runs-events t.0 (moment d old) (moment went.desktop new) went.events went.runs in (
+      t.0,
+      t.1,
+      went,
+      (λ liars right. shows-scratch (moment d old) (moment went.desktop new) went.events liars went.apart leads right),
+      (λ liars last broke right. stays_right served_now (moment d old) (moment went.desktop new) went.events liars last went.apart leads broke right),
+    )
+
+pub served-ok : {T E : Type 0} (P : List Act → Type 0) (old new : SessionView) (r : Result T E) → OnOk r (Takes P old new) → OnOk r (IsServed P old new)
+served-ok P old new (Ok x) takes = served-of P old new takes
+served-ok P old new (Err e) takes = tt
+
+pub served-takes : (P : List Act → Type 0) (old new : SessionView) → IsServed P old new → Takes P old new
+served-takes P old new served = λ d agrees. let s = served d agrees in (s.0, s.1, s.2)
