@@ -23,7 +23,7 @@ turns-taken : (serve : Serve) (first old new : SessionView) → old ≡ first �
 turns-taken serve first old new same agrees right begins takes =
     let from_first : Takes (InTurn IsTurn serve.turns) first new = subst (λ (v : SessionView). Takes (InTurn IsTurn serve.turns) v new) same takes in
     let s = served-of (InTurn IsTurn serve.turns) first new from_first (empty (record { width = serve.size.width; height = serve.size.height })) agrees in
-    (stage_of serve.size first, s.0, s.2.events, moment s.2.desktop new, begins, s.1, s.2.runs, s.3 nobody right)
+    (stage_of serve.size first, s.0, s.2.events, moment s.2.desktop new, begins, s.1, s.2.runs, s.4 nobody right)
 
 pub turns-ok : {T : Type 0} (r : Result T Fault) (serve : Serve) (first old new : SessionView) → old ≡ first → Agrees first.desk (empty (record { width = serve.size.width; height = serve.size.height }))
     → IsRightBut nobody (moment_of serve.size first) → IsFirst (output_of serve.size) (stage_of serve.size first)

@@ -1,8 +1,11 @@
 -- What a session shows while it is served.
-use Rattle.std.proofs.Common.{◌≡◌, ◌<◌, ℕ, Bool, true, false, List, [], ◌∷◌, ◌++◌, Result, Ok, Err, refl, subst}
+use Rattle.std.proofs.Common.{◌≡◌, ◌<◌, ℕ, Bool, true, false, List, [], ◌∷◌, ◌++◌, Option, Result, Ok, Err, refl, subst}
+use Rattle.std.specs.Prelude.{⊤}
 use Rattle.std.specs.Result.{OnOk}
 use Rattle.wl_plain.specs.Acts.{Act}
+use Rattle.wl_plain.specs.Desktop.{Desktop}
 use Rattle.wl_plain.specs.LeftOut.{served_now}
+use Rattle.wl_session.specs.Agreeing.{Agrees}
 use Rattle.wl_session.specs.Course.{moment}
 use Rattle.wl_session.specs.Events.{AreApart, AreEvents, Event, Moment}
 use Rattle.wl_session.specs.Liars.{IsRightBut}
@@ -10,7 +13,8 @@ use Rattle.wl_session.specs.View.{SessionView}
 use Rattle.wl_session.proofs.Runs.{runs-events}
 use Rattle.wl_session.proofs.Seen.{frame-scratch}
 use Rattle.wl_session.proofs.Stays.{stays_right}
-use Rattle.wl_server.specs.Acting.{IsServed, ShowsScratch, Takes}
+use Rattle.wl_server.specs.Acting.{IsServed, ShowsScratch, Takes, Went}
+use Rattle.wl_server.specs.Telling.{IsToldOf, Tells}
 
 -- up to a frame, and with it
 
@@ -31,21 +35,27 @@ shows-scratch from to events liars apart leads right before frame later broke x 
 
 -- ---- what is served
 
-pub served-of : (P : List Act → Type 0) (old new : SessionView) → Takes P old new → IsServed P old new
-served-of P old new takes = λ d agrees.
+served-as : (P : List Act → Type 0) (Q : List Event → Type 0) (old new : SessionView)
+    → ((d : Desktop) → Agrees old.desk d → (acts : List Act) × P acts × (went : Went acts old new d) × Q went.events) → IsServed P Q old new
+served-as P Q old new takes = λ d agrees.
     let t = takes d agrees in
     let went = t.2 in
     let leads = runs-events t.0 (moment d old) (moment went.desktop new) went.events went.runs in (
       t.0,
       t.1,
       went,
+      t.3,
       (λ liars right. shows-scratch (moment d old) (moment went.desktop new) went.events liars went.apart leads right),
       (λ liars last broke right. stays_right served_now (moment d old) (moment went.desktop new) went.events liars last went.apart leads broke right),
     )
 
-pub served-ok : {T E : Type 0} (P : List Act → Type 0) (old new : SessionView) (r : Result T E) → OnOk r (Takes P old new) → OnOk r (IsServed P old new)
-served-ok P old new (Ok x) takes = served-of P old new takes
-served-ok P old new (Err e) takes = tt
+pub served-of : (P : List Act → Type 0) (old new : SessionView) → Takes P old new → IsServed P (λ events. ⊤) old new
+served-of P old new takes = served-as P (λ events. ⊤) old new (λ d agrees. let t = takes d agrees in (t.0, t.1, t.2, tt))
 
-pub served-takes : (P : List Act → Type 0) (old new : SessionView) → IsServed P old new → Takes P old new
-served-takes P old new served = λ d agrees. let s = served d agrees in (s.0, s.1, s.2)
+pub served-told : {T E : Type 0} (P : List Act → Type 0) (old new : SessionView) (report told images imaged : Option (List ℕ)) (r : Result T E)
+    → OnOk r (Tells P old new report told images imaged) → OnOk r (IsServed P (IsToldOf report told images imaged) old new)
+served-told P old new report told images imaged (Ok x) tells = served-as P (IsToldOf report told images imaged) old new tells
+served-told P old new report told images imaged (Err e) tells = tt
+
+pub served-takes : (P : List Act → Type 0) (Q : List Event → Type 0) (old new : SessionView) → IsServed P Q old new → Takes P old new
+served-takes P Q old new served = λ d agrees. let s = served d agrees in (s.0, s.1, s.2)

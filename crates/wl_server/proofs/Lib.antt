@@ -1,4 +1,5 @@
 pub mod Frames
 pub mod Pieces
 pub mod Taking
+pub mod Telling
 pub mod Turning

@@ -12,7 +12,7 @@ use Rattle.wl_session.specs.View.{SessionView}
 use Rattle.wl_session.proofs.Courses.{apart-then}
 use Rattle.wl_server.specs.Acting.{InTurn, Takes, Went}
 
-runs-append : (left : LeftOut) (acts more : List Act) (from mid to : Moment) (events others : List Event) → Runs left from acts events mid → Runs left mid more others to
+pub runs-append : (left : LeftOut) (acts more : List Act) (from mid to : Moment) (events others : List Event) → Runs left from acts events mid → Runs left mid more others to
     → Runs left from (acts ++ more) (events ++ others) to
 runs-append left [] more from mid to events others first next =
     subst (λ (es : List Event). Runs left from more (es ++ others) to) (sym first.0) (subst (λ (m : Moment). Runs left m more others to) first.1 next)
@@ -30,7 +30,7 @@ runs-append left (act ∷ acts) more from mid to events others first next = (
 
 -- ---- where acts lead
 
-went-none : (old new : SessionView) (d : Desktop) → new ≡ old → Agrees old.desk d → Went [] old new d
+abbrev pub went-none : (old new : SessionView) (d : Desktop) → new ≡ old → Agrees old.desk d → Went [] old new d
 went-none old new d same agrees = record {
   desktop = d;
   events = [];
@@ -39,7 +39,7 @@ went-none old new d same agrees = record {
   agrees = subst (λ (v : SessionView). Agrees v.desk d) (sym same) agrees;
 }
 
-went-one : (act : Act) (done : Done) (old new : SessionView) (d : Desktop) → Course act done old new d → Went (act ∷ []) old new d
+abbrev pub went-one : (act : Act) (done : Done) (old new : SessionView) (d : Desktop) → Course act done old new d → Went (act ∷ []) old new d
 went-one act done old new d course = record {
   desktop = course.desktop;
   events = course.events;
@@ -48,7 +48,7 @@ went-one act done old new d course = record {
   agrees = course.agrees;
 }
 
-pub went-then : (a b : List Act) (old mid new : SessionView) (d : Desktop) (first : Went a old mid d) → Went b mid new first.desktop → Went (a ++ b) old new d
+abbrev pub went-then : (a b : List Act) (old mid new : SessionView) (d : Desktop) (first : Went a old mid d) → Went b mid new first.desktop → Went (a ++ b) old new d
 went-then a b old mid new d first next = record {
   desktop = next.desktop;
   events = first.events ++ next.events;

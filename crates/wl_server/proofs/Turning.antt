@@ -1,12 +1,13 @@
 -- A turn, joined of its phases.
-use Rattle.std.proofs.Common.{◌≡◌, ℕ, List, [], ◌∷◌, ◌++◌, Result, Ok, Err, refl, ap, sym, ◌∙◌, inl, arith, append-nil}
-use Rattle.std.specs.Result.{OnOk}
+use Rattle.std.proofs.Common.{◌≡◌, ℕ, Option, List, [], ◌∷◌, ◌++◌, refl, ap, sym, ◌∙◌, inl, arith, append-nil}
 use Rattle.std.proofs.lemmas.List.Elements.{All-nil}
 use Rattle.wl_plain.specs.Acts.{Act, Tick}
 use Rattle.wl_session.specs.View.{SessionView}
 use Rattle.wl_server.specs.Acting.{InTurn, Takes}
 use Rattle.wl_server.specs.Phases.{AcceptsSome, Closes, Fills, IsPiece, IsTurn, Puts, Reads, Shows, StartsTurn, Writes}
-use Rattle.wl_server.proofs.Taking.{InTurn-none, Takes-weaker, went-then}
+use Rattle.wl_server.specs.Telling.{Reports, Tells}
+use Rattle.wl_server.proofs.Taking.{InTurn-none, Takes-then, Takes-weaker, went-then}
+use Rattle.wl_server.proofs.Telling.{Tells-quiet, Tells-then, Tells-unseen, Tells-weaker, accepts-pass, all-closes-pass, all-fills-pass, all-reads-pass, all-writes-pass}
 
 -- ---- a client of which nothing is told
 
@@ -84,38 +85,77 @@ up-to-frame time start heard read filled shown accepts reads fills shows = λ d 
 
 -- ---- a whole turn
 
+-- acts of one kind, and then of another
+abbrev After : (List Act → Type 0) → (List Act → Type 0) → List Act → Type 0
+After P Q acts = (a : List Act) × (b : List Act) × P a × Q b × (acts ≡ a ++ b)
+
+after : (P Q : List Act → Type 0) (a b : List Act) → P a → Q b → After P Q (a ++ b)
+after P Q a b p q = (a, b, p, q, refl)
+
+-- what comes after the accepting, and so on
+abbrev Closing : List Act → Type 0
+Closing = InTurn Closes 32
+
+abbrev Writing : List Act → Type 0
+Writing = After (InTurn Writes 32) Closing
+
+abbrev Showing : ℕ → List Act → Type 0
+Showing time = After (Shows time) Writing
+
+abbrev Filling : ℕ → List Act → Type 0
+Filling time = After (InTurn Fills 32) (Showing time)
+
+abbrev Reading : ℕ → List Act → Type 0
+Reading time = After (InTurn Reads 32) (Filling time)
+
+turn-of : (time : ℕ) (acts : List Act) → After (AcceptsSome 32) (Reading time) acts → IsTurn time acts
+turn-of time acts (accepted, afterwards, accepts, (read, later, reads, (filled, onwards, fills, (shown, behind, shows, (written, closed, writes, closes, e), d), c), b), a) =
+    let last = ap (λ (l : List Act). shown ++ l) e in
+    let onward = ap (λ (l : List Act). filled ++ l) (d ∙ last) in
+    let all = ap (λ (l : List Act). read ++ l) (c ∙ onward) in
+    record {
+      accepted = accepted;
+      read = read;
+      filled = filled;
+      shown = shown;
+      written = written;
+      closed = closed;
+      accepts = accepts;
+      reads = reads;
+      fills = fills;
+      shows = shows;
+      writes = writes;
+      closes = closes;
+      order = a ∙ ap (λ (l : List Act). accepted ++ l) (b ∙ all);
+    }
+
 pub whole : (time : ℕ) (start heard read filled shown written closed : SessionView) → Takes (AcceptsSome 32) start heard → Takes (InTurn Reads 32) heard read
     → Takes (InTurn Fills 32) read filled → Takes (Shows time) filled shown → Takes (InTurn Writes 32) shown written → Takes (InTurn Closes 32) written closed
     → Takes (IsTurn time) start closed
-whole time start heard read filled shown written closed accepts reads fills shows writes closes = λ d agrees.
-    let a = accepts d agrees in
-    let r = reads a.2.desktop a.2.agrees in
-    let f = fills r.2.desktop r.2.agrees in
-    let s = shows f.2.desktop f.2.agrees in
-    let w = writes s.2.desktop s.2.agrees in
-    let c = closes w.2.desktop w.2.agrees in
-    let last = went-then w.0 c.0 shown written closed s.2.desktop w.2 c.2 in
-    let shown_on = went-then s.0 (w.0 ++ c.0) filled shown closed f.2.desktop s.2 last in
-    let filled_on = went-then f.0 (s.0 ++ (w.0 ++ c.0)) read filled closed r.2.desktop f.2 shown_on in
-    let read_on = went-then r.0 (f.0 ++ (s.0 ++ (w.0 ++ c.0))) heard read closed a.2.desktop r.2 filled_on in (
-      a.0 ++ (r.0 ++ (f.0 ++ (s.0 ++ (w.0 ++ c.0)))),
-      record {
-        accepted = a.0;
-        read = r.0;
-        filled = f.0;
-        shown = s.0;
-        written = w.0;
-        closed = c.0;
-        accepts = a.1;
-        reads = r.1;
-        fills = f.1;
-        shows = s.1;
-        writes = w.1;
-        closes = c.1;
-        order = refl;
-      },
-      went-then a.0 (r.0 ++ (f.0 ++ (s.0 ++ (w.0 ++ c.0)))) start heard closed d a.2 read_on,
-    )
+whole time start heard read filled shown written closed accepts reads fills shows writes closes =
+    let from_shown = Takes-then (InTurn Writes 32) Closing Writing shown written closed writes closes (after (InTurn Writes 32) Closing) in
+    let from_filled = Takes-then (Shows time) Writing (Showing time) filled shown closed shows from_shown (after (Shows time) Writing) in
+    let from_read = Takes-then (InTurn Fills 32) (Showing time) (Filling time) read filled closed fills from_filled (after (InTurn Fills 32) (Showing time)) in
+    let from_heard = Takes-then (InTurn Reads 32) (Filling time) (Reading time) heard read closed reads from_read (after (InTurn Reads 32) (Filling time)) in
+    let all = Takes-then (AcceptsSome 32) (Reading time) (After (AcceptsSome 32) (Reading time)) start heard closed accepts from_heard (after (AcceptsSome 32) (Reading time)) in
+    Takes-weaker (After (AcceptsSome 32) (Reading time)) (IsTurn time) start closed all (turn-of time)
+
+-- the same with what is told: of what is read, filled and written nothing is
+pub whole-told : (time : ℕ) (start heard read filled shown written closed : SessionView) (w x y z i j : Option (List ℕ)) → Reports (AcceptsSome 32) start heard w x
+    → Takes (InTurn Reads 32) heard read → Takes (InTurn Fills 32) read filled → Tells (Shows time) filled shown x y i j → Takes (InTurn Writes 32) shown written
+    → Reports (InTurn Closes 32) written closed y z → Tells (IsTurn time) start closed w z i j
+whole-told time start heard read filled shown written closed w x y z i j accepts reads fills shows writes closes =
+    let told_closed = Tells-unseen (InTurn Closes 32) written closed y z j (all-closes-pass 32) closes in
+    let told_written = Tells-quiet (InTurn Writes 32) shown written y j (all-writes-pass 32) writes in
+    let told_filled = Tells-quiet (InTurn Fills 32) read filled x i (all-fills-pass 32) fills in
+    let told_read = Tells-quiet (InTurn Reads 32) heard read x i (all-reads-pass 32) reads in
+    let told_heard = Tells-unseen (AcceptsSome 32) start heard w x i (accepts-pass 32) accepts in
+    let from_shown = Tells-then (InTurn Writes 32) Closing Writing shown written closed y y z j j j told_written told_closed (after (InTurn Writes 32) Closing) in
+    let from_filled = Tells-then (Shows time) Writing (Showing time) filled shown closed x y z i j j shows from_shown (after (Shows time) Writing) in
+    let from_read = Tells-then (InTurn Fills 32) (Showing time) (Filling time) read filled closed x x z i i j told_filled from_filled (after (InTurn Fills 32) (Showing time)) in
+    let from_heard = Tells-then (InTurn Reads 32) (Filling time) (Reading time) heard read closed x x z i i j told_read from_read (after (InTurn Reads 32) (Filling time)) in
+    let all = Tells-then (AcceptsSome 32) (Reading time) (After (AcceptsSome 32) (Reading time)) start heard closed w x z i i j told_heard from_heard (after (AcceptsSome 32) (Reading time)) in
+    Tells-weaker (After (AcceptsSome 32) (Reading time)) (IsTurn time) start closed w z i j all (turn-of time)
 
 pub whole-begun : (time : ℕ) (old new : SessionView) → Takes (IsTurn time) old new → Takes (StartsTurn time) old new
 whole-begun time old new takes =
@@ -138,8 +178,3 @@ whole-begun time old new takes =
         order = append-nil acts ∙ is.order;
       },
     ))
-
--- what holds holds where the answer is Ok
-pub on_ok : {T E P : Type 0} (r : Result T E) → P → OnOk r P
-on_ok (Ok x) p = p
-on_ok (Err e) p = tt

@@ -35,12 +35,12 @@ ShowsScratch liars events =
     → x < frame.before.frame.width → y < frame.before.frame.height → is_covered all_windows broke frame.before.desktop (pos x) (pos y) ≡ false
     → color_at frame.after.frame x y ≡ scratch frame.before.frame.background frame.before.desktop (pos x) (pos y)
 
--- The same as Takes, and where the session was right but for some clients, its frames are, and it stays so but for them and those that break a
--- promise meanwhile.
-abbrev pub IsServed : (List Act → Type 0) → SessionView → SessionView → Type 0
-IsServed P old new =
+-- A session went from old to new by acts of which P holds, and of their events Q. Where it was right but for some clients, its frames are, and it
+-- stays so but for them and those that break a promise meanwhile.
+abbrev pub IsServed : (List Act → Type 0) → (List Event → Type 0) → SessionView → SessionView → Type 0
+IsServed P Q old new =
     (d : Desktop) → Agrees old.desk d
-    → (acts : List Act) × P acts × (went : Went acts old new d)
+    → (acts : List Act) × P acts × (went : Went acts old new d) × Q went.events
     × ((liars : ℕ → Bool) → IsRightBut liars (moment d old) → ShowsScratch liars went.events)
     × ((liars last : ℕ → Bool) → AreLiars liars went.events last → IsRightBut liars (moment d old) → IsRightBut last (moment went.desktop new))
 

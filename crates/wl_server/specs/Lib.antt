@@ -1,3 +1,4 @@
 pub mod Acting
 pub mod Due
 pub mod Phases
+pub mod Telling

@@ -1,7 +1,8 @@
 //! Connections are accepted.
 
-ghost use Rattle.std.specs.Prelude.{◌≡◌, length};
+ghost use Rattle.std.specs.Prelude.{◌≡◌, length, OnOk};
 ghost use Rattle.wl_server.specs.Acting.{Takes};
+ghost use Rattle.wl_server.specs.Telling.{Reports};
 ghost use Rattle.wl_server.specs.Phases.{AcceptsOne, AcceptsSome};
 
 use crate::error::{TurnError, write_failed};
@@ -24,7 +25,8 @@ pub(crate) fn accept_all<A: Allocator + Copy, H: Hub, W: Write>(
     report: &mut W,
 ) -> Result<(), TurnError>
     requires { length seats.old ≡ 32 }
-    ensures { Takes (AcceptsSome 32) session.old session.new }
+    ensures taken { Takes (AcceptsSome 32) session.old session.new }
+    ensures told { OnOk result (Reports (AcceptsSome 32) session.old session.new (W.contents report.old) (W.contents report.new)) }
 {
     for before in 0..ACCEPTS {
         if !accept_one(hub, session, seats, accepted, report)? {
@@ -43,7 +45,8 @@ fn accept_one<A: Allocator + Copy, H: Hub, W: Write>(
     report: &mut W,
 ) -> Result<bool, TurnError>
     requires { length seats.old ≡ 32 }
-    ensures { Takes AcceptsOne session.old session.new }
+    ensures taken { Takes AcceptsOne session.old session.new }
+    ensures told { OnOk result (Reports AcceptsOne session.old session.new (W.contents report.old) (W.contents report.new)) }
 {
     if *accepted == u32::MAX {
         return Ok(false);

@@ -1,7 +1,8 @@
 //! Clients that ended are closed.
 
-ghost use Rattle.std.specs.Prelude.{◌≡◌, length};
+ghost use Rattle.std.specs.Prelude.{◌≡◌, length, OnOk};
 ghost use Rattle.wl_server.specs.Acting.{InTurn, Takes};
+ghost use Rattle.wl_server.specs.Telling.{Reports};
 ghost use Rattle.wl_server.specs.Phases.{Closes};
 
 use crate::error::{TurnError, write_failed};
@@ -20,7 +21,8 @@ pub(crate) fn close_all<A: Allocator + Copy, H: Hub, W: Write>(
     report: &mut W,
 ) -> Result<(), TurnError>
     requires { length seats.old ≡ 32 }
-    ensures { Takes (InTurn Closes 32) session.old session.new }
+    ensures taken { Takes (InTurn Closes 32) session.old session.new }
+    ensures told { OnOk result (Reports (InTurn Closes 32) session.old session.new (W.contents report.old) (W.contents report.new)) }
 {
     for k in 0..seats.len() {
         close_seat(hub, session, k as u32 + 1, &mut seats[k], report)?;
@@ -35,7 +37,8 @@ fn close_seat<A: Allocator + Copy, H: Hub, W: Write>(
     seat: &mut Option<Seat<H::Conn>>,
     report: &mut W,
 ) -> Result<(), TurnError>
-    ensures { Takes (Closes client) session.old session.new }
+    ensures taken { Takes (Closes client) session.old session.new }
+    ensures told { OnOk result (Reports (Closes client) session.old session.new (W.contents report.old) (W.contents report.new)) }
 {
     let Fed::Ended(cause) = session.status(client) else {
         return Ok(());

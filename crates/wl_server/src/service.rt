@@ -1,8 +1,9 @@
 //! What lasts from turn to turn, and the turn.
 
-ghost use Rattle.std.specs.Prelude.{◌≡◌, OnOk, length};
+ghost use Rattle.std.specs.Prelude.{◌≡◌, ⊤, OnOk, length};
 ghost use Rattle.wl_server.specs.Acting.{IsServed, Takes};
 ghost use Rattle.wl_server.specs.Phases.{IsTurn, StartsTurn};
+ghost use Rattle.wl_server.specs.Telling.{IsToldOf, Tells, images_in};
 
 use crate::accepting::accept_all;
 use crate::closing::close_all;
@@ -59,7 +60,8 @@ impl<A: Allocator, C: Drop, W: Drop, P: Drop> Service<A, C, W, P> {
 /// written to, one after another; and those that ended are closed.
 ///
 /// What it takes are steps of a session, event by event: the frame that it shows is the desktop as the frame began, painted from nothing, at
-/// each point that no window covers of a client that broke its promises (wayland.xml, wl_surface.damage and wl_buffer.release).
+/// each point that no window covers of a client that broke its promises (wayland.xml, wl_surface.damage and wl_buffer.release). Told are each client
+/// that connects, the frame where something was to be painted for it, with its image, and each client that is closed; nothing else.
 ///
 /// What fails of a connection ends its client, and is never answered. `Write` is answered where the report or the images couldn't be
 /// written; the steps that were taken stand, and are those that a turn begins with.
@@ -69,8 +71,9 @@ pub fn turn<A: Allocator + Copy, H: Hub, W: Write + Drop, P: Write + Drop, S: Si
     side: &mut S,
     time: u32,
 ) -> Result<(), TurnError>
-    ensures taken { OnOk result (IsServed (IsTurn time) service.old.session service.new.session) }
-    ensures begun { IsServed (StartsTurn time) service.old.session service.new.session }
+    ensures taken { OnOk result (IsServed (IsTurn time) (IsToldOf (W.contents service.old.report) (W.contents service.new.report)
+        (images_in P.contents service.old.ppm) (images_in P.contents service.new.ppm)) service.old.session service.new.session) }
+    ensures begun { IsServed (StartsTurn time) (λ events. ⊤) service.old.session service.new.session }
 {
     service.waiting.take(time);
     take_turn(
@@ -94,7 +97,8 @@ fn take_turn<A: Allocator + Copy, H: Hub, W: Write, P: Write, S: SideFiles>(
     side: &mut S,
     time: u32,
 ) -> Result<(), TurnError>
-    ensures taken { OnOk result (Takes (IsTurn time) session.old session.new) }
+    ensures taken { OnOk result (Tells (IsTurn time) session.old session.new (W.contents report.old) (W.contents report.new)
+        (images_in P.contents ppm.old) (images_in P.contents ppm.new)) }
     ensures begun { Takes (StartsTurn time) session.old session.new }
 {
     take_phases(
@@ -121,7 +125,8 @@ fn take_phases<A: Allocator + Copy, H: Hub, W: Write, P: Write, S: SideFiles>(
     time: u32,
 ) -> Result<(), TurnError>
     requires { length seats.old ≡ 32 }
-    ensures taken { OnOk result (Takes (IsTurn time) session.old session.new) }
+    ensures taken { OnOk result (Tells (IsTurn time) session.old session.new (W.contents report.old) (W.contents report.new)
+        (images_in P.contents ppm.old) (images_in P.contents ppm.new)) }
     ensures begun { Takes (StartsTurn time) session.old session.new }
 {
     accept_all(hub, session, seats, accepted, report)?;

@@ -1,8 +1,11 @@
 //! A frame is shown.
 
-ghost use Rattle.std.specs.Prelude.{◌≡◌};
+ghost use Rattle.std.specs.Prelude.{◌≡◌, OnOk};
+ghost use Rattle.std.specs.Io.KnownBytes.{Appends};
+ghost use Rattle.wl_session.specs.Image.{image_of};
 ghost use Rattle.wl_server.specs.Acting.{Takes};
 ghost use Rattle.wl_server.specs.Phases.{Shows};
+ghost use Rattle.wl_server.specs.Telling.{Tells, images_in};
 
 use crate::error::{TurnError, write_failed};
 use std::alloc::Allocator;
@@ -17,7 +20,9 @@ pub(crate) fn show<A: Allocator + Copy, W: Write, P: Write>(
     report: &mut W,
     ppm: &mut Option<P>,
 ) -> Result<(), TurnError>
-    ensures { Takes (Shows time) session.old session.new }
+    ensures taken { Takes (Shows time) session.old session.new }
+    ensures told { OnOk result (Tells (Shows time) session.old session.new (W.contents report.old) (W.contents report.new)
+        (images_in P.contents ppm.old) (images_in P.contents ppm.new)) }
 {
     let frame = session.tick(time);
     let count = frame.damage.count();
@@ -32,7 +37,10 @@ pub(crate) fn show<A: Allocator + Copy, W: Write, P: Write>(
 fn write_image<A: Allocator, P: Write>(
     frame: &Framebuffer<A>,
     ppm: &mut Option<P>,
-) -> Result<(), TurnError> {
+) -> Result<(), TurnError>
+    ensures { OnOk result (Appends (images_in P.contents ppm.old) (images_in P.contents ppm.new)
+        (image_of frame.now.width frame.now.height frame.now.pixels)) }
+{
     match ppm {
         Some(ppm) => write_ppm(frame, ppm).map_err(write_failed),
         None => Ok(()),

@@ -5,4 +5,4 @@ use Rattle.wl_program.proofs.Ending.{on_ok}
 use Rattle.wl_program.proofs.serving.take_turn.Goals as goal
 
 pub returns-in-Ok-clause-taken : goal.returns-in-Ok-clause-taken
-returns-in-Ok-clause-taken g c = on_ok c.flush-flushed.result (served-takes (IsTurn c.args.number) _ _ c.in-Ok.ensures.taken)
+returns-in-Ok-clause-taken g c = on_ok c.flush-flushed.result (served-takes (IsTurn c.args.number) _ _ _ c.in-Ok.ensures.taken)
