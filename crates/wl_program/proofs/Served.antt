@@ -8,28 +8,39 @@ use Rattle.wl_session.specs.Agreeing.{Agrees}
 use Rattle.wl_session.specs.Course.{moment}
 use Rattle.wl_session.specs.Liars.{IsRightBut, nobody}
 use Rattle.wl_session.specs.View.{SessionView}
-use Rattle.wl_server.specs.Acting.{InTurn, Takes}
+use Rattle.wl_server.specs.Acting.{InTurn, IsServed}
 use Rattle.wl_server.specs.Phases.{IsTurn}
+use Rattle.wl_server.specs.Telling.{IsToldOf, Reports, gathered, reported}
+use Rattle.wl_plain.specs.Acts.{Act}
+use Rattle.std.specs.Io.KnownBytes.{Appends, Keeps}
+use Rattle.std.proofs.KnownBytes.{Appends-kept}
 use Rattle.wl_options.specs.declared.command.Serve.{Serve}
 use Rattle.wl_options.specs.declared.fault.Fault.{Fault}
 use Rattle.wl_options.specs.declared.fault.Fault.TheVariants.{Read, Write, Side, Bind, Size, BadLine, Memory}
 use Rattle.wl_program.specs.Run.{FailsServing}
-use Rattle.wl_server.proofs.Frames.{served-of}
+use Rattle.wl_server.proofs.Frames.{served-as}
 use Rattle.wl_program.specs.Serving.{IsOfPointer, TakesTurns, moment_of, output_of, stage_of}
 
+-- a turn's report, once it is flushed
+pub turn-reported : (P : List Act → Type 0) (old new : SessionView) (report told flushed images imaged : Option (List ℕ)) → IsServed P (IsToldOf report told images imaged) old new
+    → Keeps told flushed → Reports P old new report flushed
+turn-reported P old new report told flushed images imaged served keeps = λ d agrees.
+    let s = served d agrees in (s.0, s.1, s.2, Appends-kept report told flushed (gathered reported s.2.events) s.3.0 keeps)
+
 -- turns of a new session are turns of a desktop without clients
-turns-taken : (serve : Serve) (first old new : SessionView) → old ≡ first → Agrees first.desk (empty (record { width = serve.size.width; height = serve.size.height }))
-    → IsRightBut nobody (moment_of serve.size first) → IsFirst (output_of serve.size) (stage_of serve.size first) → Takes (InTurn IsTurn serve.turns) old new → TakesTurns serve
-turns-taken serve first old new same agrees right begins takes =
-    let from_first : Takes (InTurn IsTurn serve.turns) first new = subst (λ (v : SessionView). Takes (InTurn IsTurn serve.turns) v new) same takes in
-    let s = served-of (InTurn IsTurn serve.turns) first new from_first (empty (record { width = serve.size.width; height = serve.size.height })) agrees in
+turns-taken : (serve : Serve) (first old new : SessionView) (report told : Option (List ℕ)) → old ≡ first → Agrees first.desk (empty (record { width = serve.size.width; height = serve.size.height }))
+    → IsRightBut nobody (moment_of serve.size first) → IsFirst (output_of serve.size) (stage_of serve.size first) → Reports (InTurn IsTurn serve.turns) old new report told
+    → TakesTurns serve
+turns-taken serve first old new report told same agrees right begins takes =
+    let from_first : Reports (InTurn IsTurn serve.turns) first new report told = subst (λ (v : SessionView). Reports (InTurn IsTurn serve.turns) v new report told) same takes in
+    let s = served-as (InTurn IsTurn serve.turns) (λ events. Appends report told (gathered reported events)) first new from_first (empty (record { width = serve.size.width; height = serve.size.height })) agrees in
     (stage_of serve.size first, s.0, s.2.events, moment s.2.desktop new, begins, s.1, s.2.runs, s.4 nobody right)
 
-pub turns-ok : {T : Type 0} (r : Result T Fault) (serve : Serve) (first old new : SessionView) → old ≡ first → Agrees first.desk (empty (record { width = serve.size.width; height = serve.size.height }))
-    → IsRightBut nobody (moment_of serve.size first) → IsFirst (output_of serve.size) (stage_of serve.size first)
-    → OnOk r (Takes (InTurn IsTurn serve.turns) old new) → OnOk r (TakesTurns serve)
-turns-ok (Ok x) serve first old new same agrees right begins takes = turns-taken serve first old new same agrees right begins takes
-turns-ok (Err e) serve first old new same agrees right begins takes = tt
+pub turns-ok : {T : Type 0} (r : Result T Fault) (serve : Serve) (first old new : SessionView) (report told : Option (List ℕ)) → old ≡ first
+    → Agrees first.desk (empty (record { width = serve.size.width; height = serve.size.height })) → IsRightBut nobody (moment_of serve.size first)
+    → IsFirst (output_of serve.size) (stage_of serve.size first) → OnOk r (Reports (InTurn IsTurn serve.turns) old new report told) → OnOk r (TakesTurns serve)
+turns-ok (Ok x) serve first old new report told same agrees right begins takes = turns-taken serve first old new report told same agrees right begins takes
+turns-ok (Err e) serve first old new report told same agrees right begins takes = tt
 
 -- what fails to be written is a fault of serving
 pub write-fails : {T : Type 0} (r : Result T Fault) (serve : Serve) (report reported : Option (List ℕ)) → IfErr r (λ fault. fault ≡ Write)

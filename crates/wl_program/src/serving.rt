@@ -5,8 +5,9 @@ ghost use Rattle.wl_plain.specs.Desktop.{empty};
 ghost use Rattle.wl_replay.specs.Told.{IsFirst};
 ghost use Rattle.wl_session.specs.Agreeing.{Agrees};
 ghost use Rattle.wl_session.specs.Liars.{IsRightBut, nobody};
-ghost use Rattle.wl_server.specs.Acting.{InTurn, Takes};
+ghost use Rattle.wl_server.specs.Acting.{InTurn};
 ghost use Rattle.wl_server.specs.Phases.{IsTurn};
+ghost use Rattle.wl_server.specs.Telling.{Reports};
 ghost use Rattle.wl_program.specs.Run.{FailsServing};
 ghost use Rattle.wl_program.specs.Serving.{TakesTurns, moment_of, output_of, stage_of};
 
@@ -77,7 +78,7 @@ fn take_turn<A: Allocator + Copy, H: Hub, W: Write + Drop, P: Write + Drop, S: S
     side: &mut S,
     number: u32,
 ) -> Result<(), Fault>
-    ensures taken { OnOk result (Takes (IsTurn number) service.old.session service.new.session) }
+    ensures taken { OnOk result (Reports (IsTurn number) service.old.session service.new.session (W.contents service.old.report) (W.contents service.new.report)) }
     ensures failed { IfErr result (λ fault. fault ≡ Fault.Write) }
 {
     let taken = turn(hub, service, side, number);
@@ -95,7 +96,7 @@ fn take_turns<A: Allocator + Copy, H: Hub, W: Write + Drop, P: Write + Drop, S: 
     side: &mut S,
     turns: u32,
 ) -> Result<(), Fault>
-    ensures taken { OnOk result (Takes (InTurn IsTurn turns) service.old.session service.new.session) }
+    ensures taken { OnOk result (Reports (InTurn IsTurn turns) service.old.session service.new.session (W.contents service.old.report) (W.contents service.new.report)) }
     ensures failed { IfErr result (λ fault. fault ≡ Fault.Write) }
 {
     for before in 0..turns {

@@ -35,7 +35,7 @@ shows-scratch from to events liars apart leads right before frame later broke x 
 
 -- ---- what is served
 
-served-as : (P : List Act → Type 0) (Q : List Event → Type 0) (old new : SessionView)
+pub served-as : (P : List Act → Type 0) (Q : List Event → Type 0) (old new : SessionView)
     → ((d : Desktop) → Agrees old.desk d → (acts : List Act) × P acts × (went : Went acts old new d) × Q went.events) → IsServed P Q old new
 served-as P Q old new takes = λ d agrees.
     let t = takes d agrees in
