@@ -349,6 +349,75 @@ const BELOW: &[Row] = &[
     ),
 ];
 
+/// Nine points of the buffer 11 are red: 31 to 33 of the rows 33 to 35.
+const NINE_RED: &[Row] = &[
+    Row::Fills(1, 1, 11804, 3, RED),
+    Row::Fills(1, 1, 11964, 3, RED),
+    Row::Fills(1, 1, 12124, 3, RED),
+];
+
+const SHOWS_BLACK: &[Row] = &[Row::Shows(1600, 1600, &[Pixel(31, 33, 0, 0, 0)])];
+
+/// The client 2 shows a green buffer 10 of 8 by 8 pixels, at (32, 32).
+const GREEN_SQUARE: &[Row] = &[
+    Row::From(
+        2,
+        Message(
+            9,
+            0,
+            &[
+                Arg::NewId(10),
+                Arg::Int(0),
+                Arg::Int(8),
+                Arg::Int(8),
+                Arg::Int(32),
+                Arg::Uint(1),
+            ],
+        ),
+    ),
+    Row::Fills(2, 1, 0, 64, GREEN),
+    Row::From(
+        2,
+        Message(6, 1, &[Arg::Object(10), Arg::Int(0), Arg::Int(0)]),
+    ),
+    Row::From(
+        2,
+        Message(6, 2, &[Arg::Int(0), Arg::Int(0), Arg::Int(8), Arg::Int(8)]),
+    ),
+    Row::From(2, COMMIT),
+    Row::Shows(
+        64,
+        64,
+        &[Pixel(32, 32, 0, 255, 0), Pixel(39, 39, 0, 255, 0)],
+    ),
+];
+
+/// What changed below another window is painted again, and shown where that one doesn't hide it.
+const CHANGED_BELOW: &[Row] = &[
+    Row::Sends(ATTACH_11),
+    Row::Sends(Message(
+        6,
+        2,
+        &[Arg::Int(31), Arg::Int(33), Arg::Int(3), Arg::Int(3)],
+    )),
+    Row::Sends(COMMIT),
+    Row::Told(&[RELEASED_10]),
+    Row::Shows(
+        9,
+        9,
+        &[
+            Pixel(31, 32, 0, 0, 0),
+            Pixel(31, 33, 255, 0, 0),
+            Pixel(31, 35, 255, 0, 0),
+            Pixel(31, 36, 0, 0, 0),
+            Pixel(32, 33, 0, 255, 0),
+            Pixel(33, 35, 0, 255, 0),
+            Pixel(39, 39, 0, 255, 0),
+            Pixel(40, 33, 0, 0, 0),
+        ],
+    ),
+];
+
 /// The client 1 ends: its window goes, and that of the client 2 stays, which is told nothing.
 const OTHER_STAYS: &[Row] = &[
     Row::Errs(Message(7, 4, &[Arg::Uint(9)]), 7, 4),
@@ -408,6 +477,17 @@ const CASES: &[Case] = &[
     (
         "a window that is turned is painted as a whole",
         &[RED_10, MAPS, SHOWS_RED, TURNS],
+    ),
+    (
+        "a change below another window is painted",
+        &[
+            NINE_RED,
+            MAPS,
+            SHOWS_BLACK,
+            SECOND,
+            GREEN_SQUARE,
+            CHANGED_BELOW,
+        ],
     ),
     (
         "a window that moves leaves its old place",
