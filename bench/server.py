@@ -1,10 +1,11 @@
 #!/usr/bin/env python3
 """What `wlframe serve` costs: round trips over its socket, and turns with clients that do nothing.
 
-    bench/server.py [--seconds S] [--turns N]
+    bench/server.py [--seconds S] [--turns N] [--peer]
 
 Round trips: 1 and 31 clients that each send wl_display.sync and read its two events before they send the next, and one that sends 1,000 of
-them at once and then reads all 2,000 events. Turns: how long N turns take with 0, 1 and 32 connections that send nothing. The program has to be
+them at once and then reads all 2,000 events. Turns: how long N turns take with 0, 1 and 32 connections that send nothing. With --peer the same
+clients ask libwayland's server too (bench/peers/libwayland_server.c), which needs a C compiler and Debian's libwayland-dev. The program has to be
 built before (`./wlframe --help` builds it).
 """
 import argparse
@@ -17,7 +18,9 @@ import subprocess
 import tempfile
 import time
 
-PROGRAM = pathlib.Path(__file__).resolve().parent.parent / "crates" / "wlframe" / "out" / "wlframe"
+TOP = pathlib.Path(__file__).resolve().parent.parent
+PROGRAM = TOP / "crates" / "wlframe" / "out" / "wlframe"
+PEER = TOP / "bench" / "peers" / "libwayland_server.c"
 SYNC = struct.pack("=III", 1, 12 << 16, 2)  # wl_display.sync of the new id 2, which delete_id gives back
 ANSWER = 24  # bytes of wl_callback.done and wl_display.delete_id
 FOREVER = 1_000_000
@@ -27,14 +30,16 @@ BATCH = 1000
 class Server:
     """A server in a folder of its own, which takes so many turns."""
 
-    def __init__(self, turns):
+    def __init__(self, turns=FOREVER):
         self.turns = turns
+
+    def words(self):
+        return [PROGRAM, "serve", "--socket", self.path, "--turns", str(self.turns), "--dir", self.room.name, "--size", "64x64"]
 
     def __enter__(self):
         self.room = tempfile.TemporaryDirectory()
         self.path = pathlib.Path(self.room.name) / "socket"
-        words = [PROGRAM, "serve", "--socket", self.path, "--turns", str(self.turns), "--dir", self.room.name, "--size", "64x64"]
-        self.process = subprocess.Popen(words, stdout=subprocess.DEVNULL)
+        self.process = subprocess.Popen(self.words(), stdout=subprocess.DEVNULL)
         return self
 
     def connect(self):
@@ -56,6 +61,16 @@ class Server:
         self.room.cleanup()
 
 
+class Peer(Server):
+    """libwayland's server in a folder of its own."""
+
+    def words(self):
+        program = pathlib.Path(self.room.name) / "peer"
+        flags = subprocess.run(["pkg-config", "--cflags", "--libs", "wayland-server"], check=True, capture_output=True, text=True).stdout.split()
+        subprocess.run(["cc", "-O2", "-o", program, PEER, *flags], check=True)
+        return [program, self.path]
+
+
 def read(client, size):
     while size > 0:
         data = client.recv(size)
@@ -64,9 +79,9 @@ def read(client, size):
         size -= len(data)
 
 
-def one_at_a_time(count, seconds):
+def one_at_a_time(kind, count, seconds):
     """Round trips a second of so many clients together."""
-    with Server(FOREVER) as server, selectors.DefaultSelector() as ready:
+    with kind() as server, selectors.DefaultSelector() as ready:
         for _ in range(count):
             client = server.connect()
             client.sendall(SYNC)
@@ -80,10 +95,10 @@ def one_at_a_time(count, seconds):
         return done / passed
 
 
-def batches(seconds):
+def batches(kind, seconds):
     """Requests a second of a client that sends them by the thousand. Their ids differ, since each is given back only once it is answered."""
     requests = b"".join(struct.pack("=III", 1, 12 << 16, 2 + number) for number in range(BATCH))
-    with Server(FOREVER) as server:
+    with kind() as server:
         client = server.connect()
         begun, done = time.monotonic(), 0
         while (passed := time.monotonic() - begun) < seconds:
@@ -113,10 +128,12 @@ def main():
     parser = argparse.ArgumentParser(description="What wlframe serve costs.")
     parser.add_argument("--seconds", type=float, default=3.0)
     parser.add_argument("--turns", type=int, default=100_000)
+    parser.add_argument("--peer", action="store_true", help="measure libwayland's server too")
     asked = parser.parse_args()
-    for count in (1, 31):
-        print(f"{count:2} clients, one request at a time each: {one_at_a_time(count, asked.seconds):10,.0f} round trips/s")
-    print(f" 1 client, {BATCH:,} requests at a time:      {batches(asked.seconds):10,.0f} requests/s")
+    for name, kind in [("wlframe", Server), ("libwayland", Peer)][: 2 if asked.peer else 1]:
+        for count in (1, 31):
+            print(f"{name}, {count:2} clients, one request at a time each: {one_at_a_time(kind, count, asked.seconds):10,.0f} round trips/s")
+        print(f"{name},  1 client, {BATCH:,} requests at a time:      {batches(kind, asked.seconds):10,.0f} requests/s")
     for count in (0, 1, 32):
         wall, spent = turns(count, asked.turns)
         print(f"{count:2} idle clients: {wall:7.2f} us a turn, {spent:7.2f} us of processor time")
