@@ -4,8 +4,12 @@
 #[cfg(test)]
 mod memory;
 #[cfg(test)]
+mod own;
+#[cfg(test)]
 mod pointer;
 #[cfg(test)]
 mod serving;
+#[cfg(test)]
+mod slow;
 #[cfg(test)]
 mod sockets;
