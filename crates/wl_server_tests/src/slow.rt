@@ -1,6 +1,6 @@
 //! Turns with slow clients: accepting fails at first, one client never reads what it asks for, and one sends a byte a turn.
 
-ghost use Rattle.std.specs.Prelude.{◌≤◌, ⊤, IfSome, length};
+ghost use Rattle.std.specs.Prelude.{◌≡◌, ◌≤◌, ⊤, IfSome, length};
 
 use crate::memory::OneFile;
 use crate::serving::{ANSWER, CONFIG, SYNC};
@@ -16,6 +16,17 @@ enum Way {
     Floods,
     /// It sends one sync, a byte a turn, and reads.
     Trickles,
+}
+
+/// Fills the buffer with syncs, on from this place in one, and answers where the last one stops.
+fn flood(from: usize, buf: &mut [u8]) -> usize {
+    let mut at = from;
+    for byte in buf {
+        at %= SYNC.len();
+        *byte = SYNC[at];
+        at += 1;
+    }
+    at
 }
 
 /// A hub to which the one connects, and then the other; before that the first accept fails.
@@ -45,18 +56,10 @@ impl SlowHub {
         }
     }
 
-    /// Fills the buffer with syncs, on from where the last ones ended.
-    fn flood(&mut self, buf: &mut [u8]) {
-        for byte in buf {
-            self.flooded %= SYNC.len();
-            *byte = SYNC[self.flooded];
-            self.flooded += 1;
-        }
-    }
-
     /// The byte of this turn, if it wasn't sent yet. None where nothing is to be sent now.
     fn drip(&mut self, buf: &mut [u8]) -> Option<usize>
-        ensures { IfSome result (λ n. n ≤ length buf.new) }
+        ensures within { IfSome result (λ n. n ≤ length buf.new) }
+        ensures faults { self.new.faults ≡ self.old.faults }
     {
         if self.has_sent {
             return None;
@@ -99,7 +102,7 @@ impl Hub for SlowHub {
     fn read(&mut self, conn: &mut Way, buf: &mut [u8]) -> Result<Option<usize>, HubFault> {
         match conn {
             Way::Floods => {
-                self.flood(buf);
+                self.flooded = flood(self.flooded, buf);
                 Ok(Some(buf.len()))
             }
             Way::Trickles => Ok(self.drip(buf)),
