@@ -1,4 +1,4 @@
-use Rattle.std.proofs.Common.{false, true, ap, sym, ◌∙◌}
+use Rattle.std.proofs.Common.{false, true, ap, sym, ◌∙◌, refl}
 use Rattle.std.proofs.lemmas.List.{length-set}
 use Rattle.wl_plain.specs.Acts.{Close, IsClosed}
 use Rattle.wl_plain.specs.declared.answers.Done.TheVariants as gave
@@ -6,6 +6,7 @@ use Rattle.wl_desk.proofs.Calls.{Changes-none, closed, found, unclosed}
 use Rattle.wl_paint.specs.Damage.{has}
 use Rattle.wl_desk.proofs.MarkedCalls.{closed-marks, or-none, past-marks, unclosed-marks}
 use Rattle.wl_desk.proofs.NoMore.{steps-marked, steps-whole}
+use Rattle.wl_resident.specs.View.{MarkedDesk}
 use Rattle.wl_desk.proofs.desks.Desk.close.Goals as goal
 
 pub returns-in_default-clause-step : goal.returns-in_default-clause-step
@@ -37,3 +38,34 @@ returns-clause-marks g c = steps-marked (Close c.args.client) tt _ c.args.self.n
 
 pub invariant_of-self : goal.invariant_of-self
 invariant_of-self g c = ((length-set _ _ _ ∙ c.self.invariant.0.0, length-set _ _ _ ∙ c.self.invariant.0.1), c.self.invariant.1)
+
+pub returns-in_default-clause-sides : goal.returns-in_default-clause-sides
+returns-in_default-clause-sides g c = record { width = refl; height = refl }
+
+pub returns-in_default-clause-nothing : goal.returns-in_default-clause-nothing
+returns-in_default-clause-nothing g c = λ d a x y w h. refl
+
+pub returns-in_default-clause-output : goal.returns-in_default-clause-output
+returns-in_default-clause-output g c = refl
+
+pub returns-then-not-has_ended-clause-sides : goal.returns-then-not-has_ended-clause-sides
+returns-then-not-has_ended-clause-sides g c = record { width = refl; height = refl }
+
+pub returns-then-not-has_ended-clause-nothing : goal.returns-then-not-has_ended-clause-nothing
+returns-then-not-has_ended-clause-nothing g c = λ d a x y w h. refl
+
+pub returns-then-not-has_ended-clause-output : goal.returns-then-not-has_ended-clause-output
+returns-then-not-has_ended-clause-output g c = refl
+
+pub returns-clause-sides : goal.returns-clause-sides
+returns-clause-sides g c = record {
+      width = ap (λ (m : MarkedDesk). m.damage.width) c.self.view_is;
+      height = ap (λ (m : MarkedDesk). m.damage.height) c.self.view_is;
+    }
+
+pub returns-clause-nothing : goal.returns-clause-nothing
+returns-clause-nothing g c = λ d a x y w h. ap (λ (m : MarkedDesk). has m.damage x y) c.self.view_is
+
+pub returns-clause-output : goal.returns-clause-output
+returns-clause-output g c = ap (λ (m : MarkedDesk). m.desk.output) c.self.view_is
+

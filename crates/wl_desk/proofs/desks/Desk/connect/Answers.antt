@@ -49,3 +49,22 @@ returns-clause-output g c = ap (λ w. w.desk.output) c.self.view_is
 
 pub returns-clause-nothing : goal.returns-clause-nothing
 returns-clause-nothing g c = λ d a x y w h. ap (λ (m : MarkedDesk). has m.damage x y) c.self.view_is
+
+pub returns-in_default-clause-sides : goal.returns-in_default-clause-sides
+returns-in_default-clause-sides g c = record { width = refl; height = refl }
+
+pub returns-in_default-clause-nothing : goal.returns-in_default-clause-nothing
+returns-in_default-clause-nothing g c = λ d a x y w h. refl
+
+pub returns-in_default-new-clause-sides : goal.returns-in_default-new-clause-sides
+returns-in_default-new-clause-sides g c = record { width = refl; height = refl }
+
+pub returns-in_default-new-clause-nothing : goal.returns-in_default-new-clause-nothing
+returns-in_default-new-clause-nothing g c = λ d a x y w h. refl
+
+pub returns-clause-sides : goal.returns-clause-sides
+returns-clause-sides g c = record {
+      width = ap (λ (m : MarkedDesk). m.damage.width) c.self.view_is;
+      height = ap (λ (m : MarkedDesk). m.damage.height) c.self.view_is;
+    }
+

@@ -7,6 +7,7 @@ use Rattle.wl_desk.proofs.Calls.{found}
 use Rattle.wl_desk.proofs.Kept.{Ended-none, ends, ends-untaken}
 use Rattle.wl_desk.proofs.MarkedCalls.{ends-marks, ends-none-marks, ends-untaken-marks, own-within}
 use Rattle.wl_desk.proofs.NoMore.{ends-marked, ends-whole}
+use Rattle.wl_resident.specs.View.{MarkedDesk}
 use Rattle.wl_desk.proofs.desks.Desk.end.Goals as goal
 
 pub returns-in_default-clause-ends : goal.returns-in_default-clause-ends
@@ -78,3 +79,13 @@ returns-clause-output g c = ap (λ w. w.desk.output) c.self.view_is
 
 pub returns-clause-sides : goal.returns-clause-sides
 returns-clause-sides g c = rw (← c.self.view_is) c.end.ensures.marks.0
+
+pub returns-in_default-clause-sides : goal.returns-in_default-clause-sides
+returns-in_default-clause-sides g c = record { width = refl; height = refl }
+
+pub returns-in_default-take_out-clause-sides : goal.returns-in_default-take_out-clause-sides
+returns-in_default-take_out-clause-sides g c = record {
+      width = ap (λ (m : MarkedDesk). m.damage.width) c.self.view_is;
+      height = ap (λ (m : MarkedDesk). m.damage.height) c.self.view_is;
+    }
+

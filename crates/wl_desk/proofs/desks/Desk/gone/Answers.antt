@@ -7,6 +7,7 @@ use Rattle.wl_plain.specs.declared.answers.Done.TheVariants as gave
 use Rattle.wl_desk.proofs.Calls.{Changes-none, changes, changes-untaken, found}
 use Rattle.wl_desk.proofs.MarkedCalls.{goes-marks, own-within, past-marks, untaken-marks}
 use Rattle.wl_desk.proofs.NoMore.{steps-marked, steps-whole}
+use Rattle.wl_resident.specs.View.{MarkedDesk}
 use Rattle.wl_desk.proofs.desks.Desk.gone.Goals as goal
 
 pub returns-in_default-clause-step : goal.returns-in_default-clause-step
@@ -78,3 +79,13 @@ returns-clause-output g c = ap (λ w. w.desk.output) c.self.view_is
 
 pub returns-clause-sides : goal.returns-clause-sides
 returns-clause-sides g c = rw (← c.self.view_is) c.gone-lived.ensures.marks.0
+
+pub returns-in_default-clause-sides : goal.returns-in_default-clause-sides
+returns-in_default-clause-sides g c = record { width = refl; height = refl }
+
+pub returns-in_default-take_out-clause-sides : goal.returns-in_default-take_out-clause-sides
+returns-in_default-take_out-clause-sides g c = record {
+      width = ap (λ (m : MarkedDesk). m.damage.width) c.self.view_is;
+      height = ap (λ (m : MarkedDesk). m.damage.height) c.self.view_is;
+    }
+

@@ -5,6 +5,7 @@ use Rattle.wl_desk.specs.Feeding.{served_as}
 use Rattle.wl_desk.proofs.Calls.{found, serves}
 use Rattle.wl_desk.proofs.Kept.{Idle-none, idles, idles-untaken, rest-less, served-answer, served-idle, served-took, serves-marks, serves-told, serves-within}
 use Rattle.wl_desk.proofs.NoMore.{idles-whole, message-whole}
+use Rattle.wl_resident.specs.View.{MarkedDesk}
 use Rattle.wl_desk.proofs.desks.Desk.serve.Goals as goal
 
 pub returns-in_default-clause-more : goal.returns-in_default-clause-more
@@ -121,3 +122,13 @@ returns-in_default-take_out-clause-rests g c = λ more. ap (λ w. w.damage) c.se
 
 pub returns-clause-sides : goal.returns-clause-sides
 returns-clause-sides g c = rw (← c.self.view_is) c.serve_on-taken.ensures.sides
+
+pub returns-in_default-clause-sides : goal.returns-in_default-clause-sides
+returns-in_default-clause-sides g c = record { width = refl; height = refl }
+
+pub returns-in_default-take_out-clause-sides : goal.returns-in_default-take_out-clause-sides
+returns-in_default-take_out-clause-sides g c = record {
+      width = ap (λ (m : MarkedDesk). m.damage.width) c.self.view_is;
+      height = ap (λ (m : MarkedDesk). m.damage.height) c.self.view_is;
+    }
+

@@ -6,6 +6,8 @@ use Rattle.wl_plain.specs.declared.answers.Stored.TheVariants as stored
 use Rattle.wl_desk.proofs.Calls.{Changes-none, changes, changes-untaken, found}
 use Rattle.wl_desk.proofs.MarkedCalls.{changes-marks, changes-nothing, past-marks, stored-status, untaken-marks}
 use Rattle.wl_desk.proofs.NoMore.{steps-marked, steps-whole}
+use Rattle.wl_paint.specs.Damage.{has}
+use Rattle.wl_resident.specs.View.{MarkedDesk}
 use Rattle.wl_desk.proofs.desks.Desk.store.Goals as goal
 
 pub returns-in_default-clause-step : goal.returns-in_default-clause-step
@@ -71,3 +73,19 @@ returns-clause-nothing g c = λ d a.
 
 pub returns-clause-sides : goal.returns-clause-sides
 returns-clause-sides g c = rw (← c.self.view_is) c.store-stored.ensures.marks.0
+
+pub returns-in_default-clause-sides : goal.returns-in_default-clause-sides
+returns-in_default-clause-sides g c = record { width = refl; height = refl }
+
+pub returns-in_default-clause-nothing : goal.returns-in_default-clause-nothing
+returns-in_default-clause-nothing g c = λ d a x y w h. refl
+
+pub returns-in_default-take_out-clause-sides : goal.returns-in_default-take_out-clause-sides
+returns-in_default-take_out-clause-sides g c = record {
+      width = ap (λ (m : MarkedDesk). m.damage.width) c.self.view_is;
+      height = ap (λ (m : MarkedDesk). m.damage.height) c.self.view_is;
+    }
+
+pub returns-in_default-take_out-clause-nothing : goal.returns-in_default-take_out-clause-nothing
+returns-in_default-take_out-clause-nothing g c = λ d a x y w h. ap (λ (m : MarkedDesk). has m.damage x y) c.self.view_is
+

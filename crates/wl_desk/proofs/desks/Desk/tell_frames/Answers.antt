@@ -59,3 +59,7 @@ returns-clause-output g c = ap (λ w. w.desk.output) c.self.view_is
 
 pub returns-clause-sides : goal.returns-clause-sides
 returns-clause-sides g c = rw (← c.self.view_is) c.tell_frames.ensures.sides
+
+pub returns-in_default-clause-sides : goal.returns-in_default-clause-sides
+returns-in_default-clause-sides g c = record { width = refl; height = refl }
+
