@@ -7,5 +7,7 @@ pub mod MarkedRows
 pub mod MarkedWords
 pub mod Marks
 pub mod PaintedRows
+pub mod Parts
 pub mod PaintedRuns
 pub mod Written
+pub mod Zeros
