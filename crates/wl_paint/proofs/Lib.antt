@@ -11,3 +11,5 @@ pub mod Parts
 pub mod PaintedRuns
 pub mod Written
 pub mod Zeros
+pub mod Filled
+pub mod Spans
