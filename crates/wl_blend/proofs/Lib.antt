@@ -1,2 +1,3 @@
 pub mod Fours
 pub mod Vectors
+pub mod Rest

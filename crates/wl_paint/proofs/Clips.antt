@@ -26,6 +26,10 @@ is_between-all was first x end k e = rw e refl
 pub is_between-empty : (was span : Bool) (top y : ℕ) → (was || (span && is_between top y y)) ≡ was
 is_between-empty was span top y = grind (arith, nat_tests)
 
+-- no row is marked yet
+pub is_between-none : (was span : Bool) (top k : ℕ) → was ≡ (was || (span && is_between top top k))
+is_between-none was span top k = grind (arith, nat_tests)
+
 pub is_between-here : (was span : Bool) (top y : ℕ) → top ≤ y → (was || span) ≡ (was || (span && is_between top (y + 1) y))
 is_between-here was span top y h = grind (arith, nat_tests)
 

@@ -1,5 +1,5 @@
 -- Windows laid over a run, one after the other.
-use Rattle.std.proofs.Common.{◌≡◌, ℕ, ◌+◌, ◌-◌, ◌*◌, ◌<◌, ◌≤◌, ℤ, pos, ◌-ℤ◌, true, false, List, take, refl, sym, ◌∙◌, ap, arith, inl, inr}
+use Rattle.std.proofs.Common.{◌≡◌, ℕ, ◌+◌, ◌-◌, ◌*◌, ◌<◌, ◌≤◌, ℤ, pos, ◌-ℤ◌, Bool, ◌&&◌, true, false, List, take, refl, sym, ◌∙◌, ap, arith, inl, inr}
 use Rattle.std.specs.Prelude.{slice_get, slice_index, Some, unsigned_abs, ◌⊎◌}
 use Rattle.std.proofs.lemmas.Bool.{cases_lt}
 use Rattle.std.proofs.lemmas.Option.{slice_get_within, get_or_from_slice_get}
@@ -26,6 +26,14 @@ kept_pixel run i color fourth same = rw (fourth, same) refl
 -- a window lets be what is beside it
 pub over-beside : (x y : ℤ) (under : Rgb) (w : Window) → in_span w.x (pos (surface_width w.picture.transform w.picture.layout)) x ≡ false → over x y under w ≡ under
 over-beside x y under w e = rw e refl
+
+and-false : (a : Bool) → (a && false) ≡ false
+and-false true = refl
+and-false false = refl
+
+-- and what is above or below it
+pub over-above : (x y : ℤ) (under : Rgb) (w : Window) → in_span w.y (pos (surface_height w.picture.transform w.picture.layout)) y ≡ false → over x y under w ≡ under
+over-above x y under w e = rw (e, and-false (in_span w.x (pos (surface_width w.picture.transform w.picture.layout)) x)) refl
 
 over-inside : (x y : ℤ) (under : Rgb) (w : Window) (i j : ℕ) → in_span w.x (pos (surface_width w.picture.transform w.picture.layout)) x ≡ true
     → in_span w.y (pos (surface_height w.picture.transform w.picture.layout)) y ≡ true → unsigned_abs (x -ℤ w.x) ≡ i → unsigned_abs (y -ℤ w.y) ≡ j

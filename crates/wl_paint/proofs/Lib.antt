@@ -7,5 +7,9 @@ pub mod MarkedRows
 pub mod MarkedWords
 pub mod Marks
 pub mod PaintedRows
+pub mod Parts
 pub mod PaintedRuns
 pub mod Written
+pub mod Zeros
+pub mod Filled
+pub mod Spans

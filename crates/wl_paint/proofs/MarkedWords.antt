@@ -36,19 +36,28 @@ earlier more c d v w e h = omega arith
 latest : (more c d v w : ℕ) → more + v ≡ w → d ≡ c → more + (v + c) ≡ w + d
 latest more c d v w h e = omega arith
 
+none-before : (k : ℕ) → k < 0 → ⊥
+none-before k h = omega arith
+
+before-apart : (k n : ℕ) → k < n → n ≢ k
+before-apart k n l e = omega arith
+
+last-is : (k n : ℕ) → k < suc n → n ≤ k → n ≡ k
+last-is k n h g = omega arith
+
 -- as many points more are marked as bits of the word that changes
 pub count_below-marked : (words next : List ℕ) (k n more : ℕ) → k < n → ((j : ℕ) → j ≢ k → slice_index next j ≡ slice_index words j)
     → more + count_below 64 (is_set (slice_index words k)) ≡ count_below 64 (is_set (slice_index next k))
     → more + count_below (64 * n) (is_marked words) ≡ count_below (64 * n) (is_marked next)
-count_below-marked words next k zero more h others counted = absurd (omega arith)
+count_below-marked words next k zero more h others counted = absurd (none-before k h)
 count_below-marked words next k (suc n) more h others counted =
     joined more _ _ _ _ _ _ (count_below-word words n) (count_below-word next n)
     (elim (cases_lt k n) [
-      | inl l ↦ earlier more _ _ _ _ (ap (λ (w : ℕ). count_below 64 (is_set w)) (others n (λ e. absurd (omega arith)))) (count_below-marked words next k n more l others counted)
+      | inl l ↦ earlier more _ _ _ _ (ap (λ (w : ℕ). count_below 64 (is_set w)) (others n (before-apart k n l))) (count_below-marked words next k n more l others counted)
       | inr g ↦ (
-          let last : n ≡ k = omega arith in
+          let last : n ≡ k = last-is k n h g in
           let here : more + count_below 64 (is_set (slice_index words n)) ≡ count_below 64 (is_set (slice_index next n)) = rw last counted in
-          latest more _ _ _ _ here (same_below words next k n (omega arith) others))
+          latest more _ _ _ _ here (same_below words next k n g others))
     ])
 
 -- the marks of the words, as those of a row

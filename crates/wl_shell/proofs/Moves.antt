@@ -2,6 +2,7 @@
 use Rattle.std.proofs.Common.{◌≡◌, Bool, true, false, refl, ap, sym, ◌∙◌, arith}
 use Rattle.std.specs.Prelude.{ℤ, pos, ◌+ℤ◌, ◌-ℤ◌, neg_ℤ, int_lt, ◌&&◌, ◌||◌, not, if◌then◌else◌}
 use Rattle.std.specs.Int.{int_min, int_max}
+use Rattle.std.proofs.lemmas.Bool.{false≢true}
 use Rattle.std.proofs.lemmas.Int.{ints}
 use Rattle.wl_shell.specs.Moves.{Lying, cut, flip, lies_out, moved_to, slide, towards_end, towards_start, tried, turned}
 use Rattle.wl_shell.specs.Positioner.{Axis, flipped, is_constrained, nearest, part_within, placed_on, resized, slid, start_of}
@@ -119,7 +120,7 @@ flip-is false first end a l e f = refl
 flip-is true first end a l e f = rw e (kept (lies_out first end (turned a)) f) where
   kept : (out : Bool) → not out ≡ false → (if out then l else turned a) ≡ l
   kept true g = refl
-  kept false g = absurd (cc)
+  kept false g = absurd (false≢true (sym g))
 
 slide-is : (may_slide : Bool) (first end start size gravity : ℤ) → is_constrained first end start size ≡ true → tried may_slide first end (slide first end) (lying start size gravity) ≡ lying (slid may_slide first end start size) size gravity
 slide-is false first end start size gravity e = refl
@@ -148,9 +149,9 @@ same-place true may_slide may_resize first end a true true e f =
     let slid-not = ap (λ (x : Lying). tried may_slide first end (slide first end) x) there ∙ not-tried may_slide first end (slide first end) (turned a) fits in
     ap pair-of (ap (λ (x : Lying). tried may_resize first end (cut first end) x) slid-not ∙ not-tried may_resize first end (cut first end) (turned a) fits) ∙ rw (e, fits) refl where
       fits-turned : (out : Bool) → not out ≡ true → out ≡ false
-      fits-turned true g = absurd (cc)
+      fits-turned true g = absurd (false≢true g)
       fits-turned false g = refl
-same-place false may_slide may_resize first end a true true e f = absurd (cc)
+same-place false may_slide may_resize first end a true true e f = absurd (false≢true f)
 same-place may_flip may_slide may_resize first end a true false e f =
     let l = lying (start_of a) a.size a.gravity in
     let q = slid may_slide first end (start_of a) a.size in

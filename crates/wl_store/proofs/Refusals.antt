@@ -1,11 +1,11 @@
 -- Which calls nothing refuses, from the store that was found.
-use Rattle.std.proofs.Common.{◌≡◌, ℕ, ◌+◌, ◌-◌, ◌<◌, ◌≤◌, true, false, cond, List, length, Some, None, get_or, eqb, arith, ap, sym, ◌∙◌}
+use Rattle.std.proofs.Common.{◌≡◌, ℕ, ◌+◌, ◌-◌, ◌<◌, ◌≤◌, true, false, cond, List, [], ◌∷◌, ◌++◌, ◌||◌, replicate, length, Some, None, get_or, eqb, arith, ap, sym, ◌∙◌}
 use Rattle.std.specs.List.{find}
 use Rattle.std.specs.Option.{option_map}
 use Rattle.std.specs.Prelude.{ℤ, is_some, nat_le, nat_lt}
 use Rattle.std.proofs.lemmas.Bool.Decides.{nat_tests}
 use Rattle.wl_store.specs.declared.stores.StoreError.TheVariants.{OutOfRange}
-use Rattle.wl_store.specs.Stores.{Held, IsPlace, IsSound, Stock, bytes_of, store_at, total_size, can_hold, let_go, with_change, without_store, create_refusal, is_full, new_refusal, resize_refusal, size_refusal, write_refusal}
+use Rattle.wl_store.specs.Stores.{Held, IsPlace, IsSound, Stock, bytes_of, store_at, total_size, can_hold, created, let_go, with_change, without_store, create_refusal, is_full, new_refusal, resize_refusal, size_refusal, write_refusal}
 use Rattle.wl_store.proofs.Places.{place-reads}
 
 -- what is read at its place is the store of that number
@@ -69,3 +69,26 @@ pub resize-refused : (held : List Held) (made total : ℕ) (stock : Stock) (numb
     → resize_refusal number size stock ≡ size_refusal total (length s.bytes) size
 resize-refused held made total stock number place size s v u p e =
     rw (store-read held made stock number place s v p e) (ap (λ n. size_refusal n (length s.bytes) size) (sym (u.summed ∙ ap total_size v)))
+
+-- whether it can, by the uses that were read
+pub can-hold-read : (stock : Stock) (number uses : ℕ) (s : Held) → store_at number stock ≡ Some s → uses ≡ s.uses → nat_lt uses 4294967295 ≡ can_hold number stock
+can-hold-read stock number uses s e u = rw (u, e)
+
+-- what wasn't found isn't there
+pub not-there : (read held : List Held) (made : ℕ) (stock : Stock) (number : ℕ) → read ≡ held → record { held = held; made = made } ≡ stock
+    → find (λ s. eqb s.number number) read ≡ None → store_at number stock ≡ None
+not-there read held made stock number r v e = ap (store_at number) (sym v) ∙ ap (find (λ s. eqb s.number number)) (sym r) ∙ e
+
+pub not-live : (stock : Stock) (number : ℕ) → store_at number stock ≡ None → false ≡ is_some (store_at number stock)
+not-live stock number e = rw e
+
+-- there is a number left
+pub number-left : (n made : ℕ) → (eqb n 64 || eqb made 4294967295) ≡ false → made < 4294967296 → made < 4294967295
+number-left n made e h = grind (arith, nat_tests)
+
+-- a store put at the end
+pub made-is : (held now : List Held) (made size : ℕ) (stock : Stock) (x : Held) → now ≡ held ++ x ∷ [] → x ≡ record { number = made + 1; bytes = replicate size 0; uses = 1 }
+    → record { held = held; made = made } ≡ stock → record { held = now; made = made + 1 } ≡ created size stock
+made-is held now made size stock x e q v =
+    let stock_of : List Held → Stock = λ h. record { held = h; made = made + 1 } in
+    ap stock_of (e ∙ ap (λ (u : Held). held ++ u ∷ []) q) ∙ ap (created size) v

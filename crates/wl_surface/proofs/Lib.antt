@@ -8,3 +8,5 @@ pub mod Rows
 pub mod Slots
 pub mod Trees
 pub mod Waiting
+pub mod Left
+pub mod Callbacks

@@ -2,3 +2,4 @@ pub mod Prefixes
 pub mod Counted
 pub mod Found
 pub mod ReadAgain
+pub mod Appended

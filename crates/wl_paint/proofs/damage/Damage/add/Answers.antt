@@ -1,6 +1,7 @@
 use Rattle.std.proofs.Common.{arith, rules, ◌≡◌, ◌++◌, ◌∙◌, take, drop, w32, FitsSigned, length}
 use Rattle.std.proofs.lemmas.Int.{to_z-of_z}
 use Rattle.std.proofs.lemmas.List.{take_at}
+use Rattle.wl_paint.proofs.MarkedRows.{rows-kept, rows-narrow, rows-wide}
 use Rattle.wl_paint.proofs.damage.Damage.add.Goals as goal
 
 pub returns-clause-points : goal.returns-clause-points
@@ -20,3 +21,26 @@ returns-clause-points g c =
     let in_column = simp to_z-of_z at (row y h) in
     c.mark_rows.ensures.points x y
     ∙ rw (c.deref_mut.ensures.value, in_row, in_column))
+
+pub mark_rows-requires-clause-rows : goal.mark_rows-requires-clause-rows
+mark_rows-requires-clause-rows g c = c.clipped-top.ensures.order
+
+pub mark_rows-requires-clause-columns : goal.mark_rows-requires-clause-columns
+mark_rows-requires-clause-columns g c = c.clipped-left.ensures.order
+
+pub mark_rows-requires-clause-within : goal.mark_rows-requires-clause-within
+mark_rows-requires-clause-within g c = rw (c.deref_mut.ensures.value, c.self.invariant.sized) c.clipped-top.ensures.within
+
+pub mark_rows-requires-clause-wide : goal.mark_rows-requires-clause-wide
+mark_rows-requires-clause-wide g c =
+    rows-wide c.deref_mut.result.now c.self.inside.rows.items c.self.inside.width c.self.inside.height c.clipped-left.result.1 c.deref_mut.ensures.value c.self.invariant c.clipped-left.ensures.within
+
+pub mark_rows-requires-clause-narrow : goal.mark_rows-requires-clause-narrow
+mark_rows-requires-clause-narrow g c =
+    rows-narrow c.deref_mut.result.now c.self.inside.rows.items c.self.inside.width c.self.inside.height c.deref_mut.ensures.value c.self.invariant
+
+pub invariant_of-self : goal.invariant_of-self
+invariant_of-self g c =
+    let d = c.self.inside in
+    rows-kept c.deref_mut.result.now d.rows.items c.mark_rows.new.rows d.width d.height d.rows.len c.deref_mut.ensures.value c.self.invariant
+    c.deref_mut.ensures.len c.mark_rows.auto.rows c.mark_rows.ensures.widths

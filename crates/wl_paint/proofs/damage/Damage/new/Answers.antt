@@ -1,4 +1,4 @@
-use Rattle.std.proofs.Common.{rules}
+use Rattle.std.proofs.Common.{rules, ◌≡◌, ◌∙◌, arith}
 use Rattle.wl_paint.proofs.MarkedRows.{rows-more}
 use Rattle.wl_paint.proofs.damage.Damage.new.Goals as goal
 
@@ -17,3 +17,8 @@ loop-preserved g c =
     let more = rows-more c.loop.rows.items c.push.new.self.items row.field-0 c.loop.counter c.args.width c.in_ok-push.ensures.items c.loop.invariant.sized
     row.ensures.width row.ensures.empty c.loop.invariant.wide c.loop.invariant.empty in
     record { wide = more.0; empty = more.1; sized = search rules }
+
+pub invariant_of-result : goal.invariant_of-result
+invariant_of-result g c =
+    let all : c.loop.counter ≡ c.args.height = omega arith in
+    record { wide = c.requires.wide; high = c.requires.high; sized = c.loop.invariant.sized ∙ all; each_wide = λ y h. c.loop.invariant.wide y (rw all h) }

@@ -1,7 +1,7 @@
 use Rattle.std.proofs.Common.{◌≡◌, ℕ, ◌-◌, List, length, ap, subst, sym, ◌∙◌, arith}
 use Rattle.wl_store.specs.Stores.{Held, IsPlace, Stock, with_change, without_store}
 use Rattle.wl_store.proofs.Places.{reads-same}
-use Rattle.wl_store.proofs.Refusals.{let_go-last, let_go-other, live, store-read}
+use Rattle.wl_store.proofs.Refusals.{let_go-last, let_go-other, live, not-live, not-there, store-read}
 use Rattle.wl_store.proofs.Sound.{changed-is, removed-is, sound-removed, sound-same}
 use Rattle.wl_store.proofs.stores.Stores.let_go.Goals as goal
 
@@ -53,3 +53,8 @@ returns-else-uses-le1-clause-counted g c =
     ap stock (changed-is held c.self.inside.made c.self.inside.total c.args.store c.in-Some.place less c.index_mut.result.now c.set_uses.new.self c.self.invariant at c.index_mut.ensures.value new)
     ∙ ap (with_change c.args.store less) c.self.view_is
     ∙ sym (let_go-other c.args.self.now c.args.store c.index.result.now found (omega (arith, c.uses-uses.ensures)))
+
+pub returns-in_default-clause-live : goal.returns-in_default-clause-live
+returns-in_default-clause-live g c =
+    not-live c.args.self.now c.args.store
+    (not-there c.deref.result.now c.self.inside.held.items c.self.inside.made c.args.self.now c.args.store c.deref.ensures.value c.self.view_is c.in_default.ensures.absent)

@@ -1,9 +1,9 @@
-use Rattle.std.proofs.Common.{ℕ, ◌-◌, ◌++◌, List, length, replicate, ap, subst, ◌∙◌, arith, w32}
+use Rattle.std.proofs.Common.{ℕ, ◌-◌, ◌++◌, List, length, replicate, ap, refl, subst, ◌∙◌, arith, w32}
 use Rattle.std.specs.Prelude.{unsigned_abs}
 use Rattle.std.proofs.lemmas.Int.{to_z-of_z}
 use Rattle.wl_store.specs.Stores.{Held, IsPlace, Stock, resized}
 use Rattle.wl_store.proofs.Places.{reads-same}
-use Rattle.wl_store.proofs.Refusals.{resize-refused}
+use Rattle.wl_store.proofs.Refusals.{not-there, resize-refused}
 use Rattle.wl_store.proofs.Sound.{changed-is, sound-grown, sound-same, size-in_total, unchanged}
 use Rattle.wl_store.proofs.stores.Stores.resize.Goals as goal
 
@@ -105,3 +105,31 @@ returns-in-Err-clause-err g c =
     let at = subst (λ h. IsPlace h c.args.store place) c.deref.ensures.value c.in-Some.ensures.found in
     let stock : List Held → Stock = λ held. record { held = held; made = c.self.inside.made } in
     ap stock (unchanged held place c.index_mut.result.now c.grow.new.self c.index_mut.ensures.value c.in-Err.ensures.err) ∙ c.self.view_is
+
+pub returns-in_default-clause-refused : goal.returns-in_default-clause-refused
+returns-in_default-clause-refused g c =
+    rw (not-there c.deref.result.now c.self.inside.held.items c.self.inside.made c.args.self.now c.args.store c.deref.ensures.value c.self.view_is c.in_default.ensures.absent) refl
+
+pub returns-in_default-clause-accepted : goal.returns-in_default-clause-accepted
+returns-in_default-clause-accepted g c =
+    rw (not-there c.deref.result.now c.self.inside.held.items c.self.inside.made c.args.self.now c.args.store c.deref.ensures.value c.self.view_is c.in_default.ensures.absent) tt
+
+pub returns-in-Err-clause-accepted : goal.returns-in-Err-clause-accepted
+returns-in-Err-clause-accepted g c =
+    let held = c.self.inside.held.items in
+    let read = c.index.result.now in
+    let at = subst (λ h. IsPlace h c.args.store c.in-Some.place) c.deref.ensures.value c.in-Some.ensures.found in
+    let refused = resize-refused held c.self.inside.made c.self.inside.total c.args.self.now c.args.store c.in-Some.place c.args.size read c.self.view_is c.self.invariant at c.index.ensures in
+    let first = simp (to_z-of_z w32 c.args.size c.ranges.size, c.size-present.ensures.value) at c.in_default-size_refusal.ensures.first in
+    rw (refused, ← first) refl
+
+pub overflow_add-self : goal.overflow_add-self
+overflow_add-self g c =
+    let held = c.self.inside.held.items in
+    let place = c.in-Some.place in
+    let at = subst (λ h. IsPlace h c.args.store place) c.deref.ensures.value c.in-Some.ensures.found in
+    let fits = to_z-of_z w32 c.args.size c.ranges.size in
+    let sized = simp fits at c.unsigned_abs-size.ensures.value in
+    let room = simp fits at c.in_default-size_refusal.ensures.room in
+    let within = size-in_total held c.self.inside.made c.self.inside.total place c.index.result.now c.self.invariant at.within in
+    omega (arith, sized, room, within, ap (λ (s : Held). length s.bytes) c.index.ensures)

@@ -6,6 +6,7 @@ use Rattle.wl_surface.specs.Waiting.{applied_by}
 use Rattle.wl_surface.proofs.Counting.{waiting-committed}
 use Rattle.wl_surface.proofs.Waiting.{applied-all}
 use Rattle.wl_surface.proofs.Changed.{freed-told, others-changed, told-none, told-some}
+use Rattle.wl_surface.proofs.Left.{left-as-it-was}
 use Rattle.wl_surface.proofs.Slots.{Changes-at, Changes-none}
 use Rattle.wl_surface.proofs.surfaces.Surfaces.commit.Goals as goal
 use Rattle.wl_surface.proofs.surfaces.Surfaces.commit.Goals.{in-Some+in_ok-commit_change, in_default}
@@ -44,3 +45,8 @@ returns-clause-frames g c =
 
 pub returns-clause-waits : goal.returns-clause-waits
 returns-clause-waits g c = λ all cs are. rw (returns-clause-frames g c) (waiting-committed c.args.surface all c.args.self.now.frames cs are)
+
+pub returns-in_err-commit_change-clause-err : goal.returns-in_err-commit_change-clause-err
+returns-in_err-commit_change-clause-err g c =
+    left-as-it-was c.from_residual-in_err-commit_change.result c.self.inside.slots.slots c.self.inside.frames.items c.args.surface c.in-Some.kept.now c.commit_change.new.self c.args.self.now
+    (sym (rw c.in-Some.is at c.get_mut.ensures.value)) c.in_err-commit_change.ensures.err c.self.view_is
