@@ -1,5 +1,4 @@
 use std::alloc::Allocator;
-use std::test::Fail;
 use test_support::Refusing;
 use wl_geom::{Rect, Region, RegionError};
 
@@ -39,15 +38,25 @@ fn has_a_hole<A: Allocator>(region: &Region<A>) -> bool {
         && !region.contains(-1, 0)
 }
 
+fn gets_a_hole<A: Allocator + Copy>(region: &mut Region<A>) -> bool {
+    !region.contains(0, 0)
+        && region.add(FOUR_BY_FOUR) == Ok(())
+        && region.subtract(HOLE) == Ok(())
+        && has_a_hole(region)
+}
+
+fn is_copied<A: Allocator + Copy>(region: &Region<A>) -> bool {
+    match region.copy() {
+        Ok(copy) => has_a_hole(&copy) && same(region, &copy),
+        Err(_) => false,
+    }
+}
+
 #[test]
-fn a_region_with_a_hole_and_its_copy(rt: HostRuntime) -> Result<(), Fail> {
+fn a_region_with_a_hole_and_its_copy(rt: HostRuntime) {
     let mut region = Region::new(rt.alloc());
-    assert!(rt; !region.contains(0, 0));
-    assert!(rt; region.add(FOUR_BY_FOUR) == Ok(()) && region.subtract(HOLE) == Ok(()));
-    let copy = region.copy()?;
-    assert!(rt; has_a_hole(&region) && has_a_hole(&copy) && same(&region, &copy));
+    assert!(rt; gets_a_hole(&mut region) && is_copied(&region));
     assert!(rt; FOUR_BY_FOUR.contains(3, 0) && !FOUR_BY_FOUR.contains(4, 0));
-    Ok(())
 }
 
 // What passes the last coordinate is dropped, and a point past it can't be asked for.
@@ -114,15 +123,22 @@ fn makes_512<A: Allocator + Copy>(region: &mut Region<A>) -> bool {
     true
 }
 
+// Whether one more change is refused, and leaves the region as it was.
+fn makes_no_more<A: Allocator + Copy>(region: &mut Region<A>) -> bool {
+    match region.copy() {
+        Ok(before) => {
+            region.add(HOLE) == Err(RegionError::TooMany)
+                && region.subtract(FOUR_BY_FOUR) == Err(RegionError::TooMany)
+                && same(region, &before)
+        }
+        Err(_) => false,
+    }
+}
+
 #[test]
-fn the_513th_change_is_one_too_many(rt: HostRuntime) -> Result<(), Fail> {
+fn the_513th_change_is_one_too_many(rt: HostRuntime) {
     let mut region = Region::new(rt.alloc());
-    assert!(rt; makes_512(&mut region));
-    let before = region.copy()?;
-    assert!(rt; region.add(HOLE) == Err(RegionError::TooMany));
-    assert!(rt; region.subtract(FOUR_BY_FOUR) == Err(RegionError::TooMany));
-    assert!(rt; same(&region, &before));
-    Ok(())
+    assert!(rt; makes_512(&mut region) && makes_no_more(&mut region));
 }
 
 // How many of three changes and a copy are done where so many allocations are served. None where one is refused though no allocation was, or for
@@ -131,18 +147,38 @@ fn done_before_a_refusal<B: Allocator + Copy>(alloc: B, served: u64) -> Option<u
     let heap = Refusing::new(alloc, served);
     let mut region = Region::new(&heap);
     let mut known = Region::new(alloc);
-    let done = change(&mut region, 3)?;
-    if change(&mut known, done)? != done || !same(&region, &known) {
+    changes_and_copies(&mut region, &mut known, &heap)
+}
+
+fn changes_and_copies<A: Allocator + Copy, B: Allocator + Copy>(
+    region: &mut Region<A>,
+    known: &mut Region<B>,
+    heap: &Refusing<B>,
+) -> Option<u32> {
+    let done = change(region, 3)?;
+    if change(known, done)? != done || !same(region, known) || heap.refused() != (done < 3) {
         return None;
     }
-    if heap.refused() {
-        return if done < 3 { Some(done) } else { None };
+    if done < 3 {
+        return Some(done);
     }
-    match region.copy() {
-        Ok(copy) if done == 3 && same(&copy, &known) && !heap.refused() => Some(4),
-        Err(RegionError::Memory) if done == 3 && same(&region, &known) && heap.refused() => Some(3),
-        _ => None,
-    }
+    copies(region, known, heap)
+}
+
+// 4 where the region is copied, and 3 where the memory for it is refused.
+fn copies<A: Allocator + Copy, B: Allocator>(
+    region: &Region<A>,
+    known: &Region<B>,
+    heap: &Refusing<B>,
+) -> Option<u32> {
+    let (is_right, done) = match region.copy() {
+        Ok(copy) => (same(&copy, known) && !heap.refused(), 4),
+        Err(error) => (
+            error == RegionError::Memory && same(region, known) && heap.refused(),
+            3,
+        ),
+    };
+    if is_right { Some(done) } else { None }
 }
 
 // Does the first so many of two adds and a subtract, up to the first that is refused: how many were done.

@@ -1,4 +1,4 @@
-use std::alloc::Allocator;
+use std::alloc::{Allocator, Global};
 use test_support::Refusing;
 use wl_geom::Rect;
 use wl_shell::{Shell, ShellAct, ShellError, Stage, XdgSurface};
@@ -18,6 +18,13 @@ const GEOMETRY: Rect = Rect {
     h: 10,
 };
 
+const NO_WIDTH: Rect = Rect {
+    x: 4,
+    y: 5,
+    w: 0,
+    h: 10,
+};
+
 fn is_act<A: Allocator + Copy>(
     shell: &mut Shell<A>,
     surface: SurfaceNo,
@@ -26,96 +33,6 @@ fn is_act<A: Allocator + Copy>(
     act: ShellAct,
 ) -> bool {
     shell.on_commit(surface, has_buffer, WHOLE, (0, 0), serial) == Ok(act)
-}
-
-// Whether a commit with a buffer is refused since no configure was acknowledged.
-fn is_unconfigured<A: Allocator + Copy>(shell: &mut Shell<A>, serial: u32) -> bool {
-    shell.on_commit(1, true, WHOLE, (0, 0), serial) == Err(ShellError::UnconfiguredBuffer)
-}
-
-fn is_stage<A: Allocator>(shell: &Shell<A>, stage: Stage) -> bool {
-    shell.get(1).and_then(XdgSurface::stage) == Some(stage)
-}
-
-fn geometry<A: Allocator>(shell: &Shell<A>) -> Option<Rect> {
-    shell.get(1).and_then(XdgSurface::window_geometry)
-}
-
-// Surface 1 gets xdg_surface 20 of base 10.
-fn is_made<A: Allocator + Copy>(shell: &mut Shell<A>) -> bool {
-    shell.get_xdg_surface(1, 20, 10, false, false) == Ok(())
-}
-
-// Toplevel 21 is made, asks for a geometry and is configured by its first commit.
-fn is_asked<A: Allocator + Copy>(shell: &mut Shell<A>) -> bool {
-    is_made(shell)
-        && shell.get_toplevel(1, 21, false) == Ok(())
-        && shell.geometry(1, GEOMETRY) == Ok(())
-        && shell.configure(1, 6) == Ok(false)
-        && is_act(shell, 1, false, 7, ShellAct::Configure(None))
-        && is_stage(shell, Stage::Waiting)
-        && geometry(shell) == Some(GEOMETRY)
-}
-
-fn is_acknowledged<A: Allocator + Copy>(shell: &mut Shell<A>) -> bool {
-    is_unconfigured(shell, 8)
-        && shell.configure(1, 8) == Ok(true)
-        && shell.ack(1, 9) == Err(ShellError::InvalidSerial)
-        && shell.ack(1, 8) == Ok(())
-        && shell.ack(1, 7) == Err(ShellError::InvalidSerial)
-}
-
-fn is_mapped_and_unmapped<A: Allocator + Copy>(shell: &mut Shell<A>) -> bool {
-    is_act(shell, 1, true, 9, ShellAct::Map)
-        && is_stage(shell, Stage::Mapped)
-        && is_act(shell, 1, true, 9, ShellAct::Nothing)
-        && is_act(shell, 1, false, 9, ShellAct::Unmap)
-        && is_stage(shell, Stage::Fresh)
-        && geometry(shell).is_none()
-}
-
-fn is_destroyed<A: Allocator + Copy>(shell: &mut Shell<A>) -> bool {
-    if shell.check_base(10) != Err(ShellError::DefunctSurfaces)
-        || shell.destroy_xdg_surface(1) != Err(ShellError::DefunctRoleObject)
-    {
-        return false;
-    }
-    shell.destroy_toplevel(1);
-    shell.destroy_xdg_surface(1) == Ok(())
-        && shell.check_base(10) == Ok(())
-        && shell.get(1).is_none()
-}
-
-#[test]
-fn a_toplevel_from_its_making_on(rt: HostRuntime) {
-    let mut shell = Shell::new(rt.alloc());
-    assert!(rt; is_asked(&mut shell));
-    assert!(rt; is_acknowledged(&mut shell));
-    assert!(rt; is_mapped_and_unmapped(&mut shell));
-    assert!(rt; is_destroyed(&mut shell));
-}
-
-fn refuses_xdg_surfaces<A: Allocator + Copy>(shell: &mut Shell<A>) -> bool {
-    shell.get_xdg_surface(1, 20, 10, true, true) == Err(ShellError::Role)
-        && shell.get_xdg_surface(1, 20, 10, false, true) == Err(ShellError::InvalidSurfaceState)
-        && is_made(shell)
-        && shell.get_xdg_surface(1, 22, 10, false, false) == Err(ShellError::Role)
-}
-
-// What is asked of surface 1 before it has a role.
-fn refuses_without_a_role<A: Allocator + Copy>(shell: &mut Shell<A>) -> bool {
-    shell.geometry(1, GEOMETRY) == Err(ShellError::NotConstructed)
-        && shell.ack(1, 1) == Err(ShellError::NotConstructed)
-        && is_act(shell, 1, false, 1, ShellAct::Nothing)
-        && is_unconfigured(shell, 1)
-        && shell.get_toplevel(1, 21, true) == Err(ShellError::Role)
-}
-
-fn refuses_toplevels<A: Allocator + Copy>(shell: &mut Shell<A>) -> bool {
-    shell.get_toplevel(1, 21, false) == Ok(())
-        && shell.get_toplevel(1, 23, true) == Err(ShellError::AlreadyConstructed)
-        && shell.geometry(1, Rect { w: 0, ..GEOMETRY }) == Err(ShellError::InvalidSize)
-        && shell.check_base(11) == Ok(())
 }
 
 // Whether what was refused has left the first that was made.
@@ -135,31 +52,6 @@ fn has_the_first<A: Allocator>(shell: &Shell<A>) -> bool {
     }
 }
 
-#[test]
-fn what_is_refused(rt: HostRuntime) {
-    let mut shell = Shell::new(rt.alloc());
-    assert!(rt; refuses_xdg_surfaces(&mut shell));
-    assert!(rt; refuses_without_a_role(&mut shell));
-    assert!(rt; refuses_toplevels(&mut shell));
-    assert!(rt; has_the_first(&shell));
-}
-
-fn has_no_xdg_surface<A: Allocator + Copy>(shell: &mut Shell<A>) -> bool {
-    shell.get_toplevel(1, 21, false) == Err(ShellError::NotConstructed)
-        && shell.geometry(1, GEOMETRY) == Err(ShellError::NotConstructed)
-        && shell.ack(1, 1) == Err(ShellError::NotConstructed)
-        && is_act(shell, 1, true, 1, ShellAct::Nothing)
-        && shell.configure(1, 1) == Ok(false)
-}
-
-#[test]
-fn no_xdg_surface(rt: HostRuntime) {
-    let mut shell = Shell::new(rt.alloc());
-    assert!(rt; has_no_xdg_surface(&mut shell));
-    shell.destroy_toplevel(1);
-    assert!(rt; shell.destroy_xdg_surface(1) == Ok(()));
-}
-
 fn takes_63_configures<A: Allocator + Copy>(shell: &mut Shell<A>) -> bool {
     for serial in 2..65_u32 {
         if shell.configure(1, serial) != Ok(true) {
@@ -169,19 +61,171 @@ fn takes_63_configures<A: Allocator + Copy>(shell: &mut Shell<A>) -> bool {
     true
 }
 
-fn waits_for_64<A: Allocator + Copy>(shell: &mut Shell<A>) -> bool {
-    shell.configure(1, 65) == Err(ShellError::TooMany)
-        && shell.ack(1, 63) == Ok(())
-        && shell.ack(1, 62) == Err(ShellError::InvalidSerial)
-        && shell.ack(1, 64) == Ok(())
+/// What is done to surface 1 of a shell or asked of it, with what is wanted of it.
+#[derive(Clone, Copy)]
+enum Row {
+    /// It gets an xdg_surface of base 10 with this id. Whether it has a role, and a buffer.
+    GetsXdgSurface(u32, bool, bool, Result<(), ShellError>),
+    /// It gets a toplevel with this id. Whether it has another role.
+    GetsToplevel(u32, bool, Result<(), ShellError>),
+    Asks(Rect, Result<(), ShellError>),
+    /// A configure with this serial is sent.
+    IsConfigured(u32, Result<bool, ShellError>),
+    /// Configures with the serials 2 to 64 are sent.
+    IsConfigured63,
+    Acknowledges(u32, Result<(), ShellError>),
+    /// A commit with a buffer or none, at the next serial.
+    Commits(bool, u32, Result<ShellAct, ShellError>),
+    DestroysToplevel,
+    DestroysXdgSurface(Result<(), ShellError>),
+    Base(u32, Result<(), ShellError>),
+    IsStage(Stage),
+    HasGeometry(Option<Rect>),
+    IsThere(bool),
+    HasTheFirst,
+}
+
+// Does what a row says, and tells whether it is as wanted.
+fn is_met<A: Allocator + Copy>(shell: &mut Shell<A>, row: &Row) -> bool {
+    match *row {
+        Row::GetsXdgSurface(id, has_role, has_buffer, wanted) => {
+            shell.get_xdg_surface(1, id, 10, has_role, has_buffer) == wanted
+        }
+        Row::GetsToplevel(id, has_other, wanted) => {
+            shell.get_toplevel(1, id, has_other) == wanted
+        }
+        Row::Asks(rect, wanted) => shell.geometry(1, rect) == wanted,
+        Row::IsConfigured(serial, wanted) => shell.configure(1, serial) == wanted,
+        Row::IsConfigured63 => takes_63_configures(shell),
+        Row::Acknowledges(serial, wanted) => shell.ack(1, serial) == wanted,
+        Row::Commits(has_buffer, serial, wanted) => {
+            shell.on_commit(1, has_buffer, WHOLE, (0, 0), serial) == wanted
+        }
+        Row::DestroysToplevel => destroys_toplevel(shell),
+        Row::DestroysXdgSurface(wanted) => shell.destroy_xdg_surface(1) == wanted,
+        _ => is_seen(shell, row),
+    }
+}
+
+fn destroys_toplevel<A: Allocator + Copy>(shell: &mut Shell<A>) -> bool {
+    shell.destroy_toplevel(1);
+    true
+}
+
+// Whether it is as a row says that does nothing.
+fn is_seen<A: Allocator>(shell: &Shell<A>, row: &Row) -> bool {
+    match *row {
+        Row::Base(base, wanted) => shell.check_base(base) == wanted,
+        Row::IsStage(wanted) => shell.get(1).and_then(XdgSurface::stage) == Some(wanted),
+        Row::HasGeometry(wanted) => { shell.get(1).and_then(XdgSurface::window_geometry) == wanted }
+        Row::IsThere(wanted) => shell.get(1).is_some() == wanted,
+        Row::HasTheFirst => has_the_first(shell),
+        _ => false,
+    }
+}
+
+// Toplevel 21 asks for a geometry, is configured by its first commit, mapped, unmapped and destroyed.
+const FROM_ITS_MAKING_ON: &[Row] = &[
+    Row::GetsXdgSurface(20, false, false, Ok(())),
+    Row::GetsToplevel(21, false, Ok(())),
+    Row::Asks(GEOMETRY, Ok(())),
+    Row::IsConfigured(6, Ok(false)),
+    Row::Commits(false, 7, Ok(ShellAct::Configure(None))),
+    Row::IsStage(Stage::Waiting),
+    Row::HasGeometry(Some(GEOMETRY)),
+    Row::Commits(true, 8, Err(ShellError::UnconfiguredBuffer)),
+    Row::IsConfigured(8, Ok(true)),
+    Row::Acknowledges(9, Err(ShellError::InvalidSerial)),
+    Row::Acknowledges(8, Ok(())),
+    Row::Acknowledges(7, Err(ShellError::InvalidSerial)),
+    Row::Commits(true, 9, Ok(ShellAct::Map)),
+    Row::IsStage(Stage::Mapped),
+    Row::Commits(true, 9, Ok(ShellAct::Nothing)),
+    Row::Commits(false, 9, Ok(ShellAct::Unmap)),
+    Row::IsStage(Stage::Fresh),
+    Row::HasGeometry(None),
+    Row::Base(10, Err(ShellError::DefunctSurfaces)),
+    Row::DestroysXdgSurface(Err(ShellError::DefunctRoleObject)),
+    Row::DestroysToplevel,
+    Row::DestroysXdgSurface(Ok(())),
+    Row::Base(10, Ok(())),
+    Row::IsThere(false),
+];
+
+// An xdg_surface, then what is asked of it before it has a role, then its toplevel. What is refused leaves the first that was made.
+const REFUSED: &[Row] = &[
+    Row::GetsXdgSurface(20, true, true, Err(ShellError::Role)),
+    Row::GetsXdgSurface(20, false, true, Err(ShellError::InvalidSurfaceState)),
+    Row::GetsXdgSurface(20, false, false, Ok(())),
+    Row::GetsXdgSurface(22, false, false, Err(ShellError::Role)),
+    Row::Asks(GEOMETRY, Err(ShellError::NotConstructed)),
+    Row::Acknowledges(1, Err(ShellError::NotConstructed)),
+    Row::Commits(false, 1, Ok(ShellAct::Nothing)),
+    Row::Commits(true, 1, Err(ShellError::UnconfiguredBuffer)),
+    Row::GetsToplevel(21, true, Err(ShellError::Role)),
+    Row::GetsToplevel(21, false, Ok(())),
+    Row::GetsToplevel(23, true, Err(ShellError::AlreadyConstructed)),
+    Row::Asks(NO_WIDTH, Err(ShellError::InvalidSize)),
+    Row::Base(11, Ok(())),
+    Row::HasTheFirst,
+];
+
+const NO_XDG_SURFACE: &[Row] = &[
+    Row::GetsToplevel(21, false, Err(ShellError::NotConstructed)),
+    Row::Asks(GEOMETRY, Err(ShellError::NotConstructed)),
+    Row::Acknowledges(1, Err(ShellError::NotConstructed)),
+    Row::Commits(true, 1, Ok(ShellAct::Nothing)),
+    Row::IsConfigured(1, Ok(false)),
+    Row::DestroysToplevel,
+    Row::DestroysXdgSurface(Ok(())),
+];
+
+const CONFIGURE_65: &[Row] = &[
+    Row::GetsXdgSurface(20, false, false, Ok(())),
+    Row::GetsToplevel(21, false, Ok(())),
+    Row::Commits(false, 1, Ok(ShellAct::Configure(None))),
+    Row::IsConfigured63,
+    Row::IsConfigured(65, Err(ShellError::TooMany)),
+    Row::Acknowledges(63, Ok(())),
+    Row::Acknowledges(62, Err(ShellError::InvalidSerial)),
+    Row::Acknowledges(64, Ok(())),
+];
+
+const CASES: &[(&str, &[Row])] = &[
+    ("a toplevel from its making on", FROM_ITS_MAKING_ON),
+    ("what is refused", REFUSED),
+    ("no xdg_surface", NO_XDG_SURFACE),
+    ("sixty-four configures wait", CONFIGURE_65),
+];
+
+// The first row that isn't met.
+fn missed<A: Allocator + Copy>(shell: &mut Shell<A>, rows: &[Row]) -> Option<usize> {
+    for (place, row) in rows.iter().enumerate() {
+        if !is_met(shell, row) {
+            return Some(place);
+        }
+    }
+    None
+}
+
+fn missed_by(alloc: Global, rows: &[Row]) -> Option<usize> {
+    let mut shell = Shell::new(alloc);
+    missed(&mut shell, rows)
+}
+
+// The case and its row that are the first not to be met.
+fn missed_case(alloc: Global, cases: &[(&str, &[Row])]) -> Option<(usize, usize)> {
+    for (place, &(_, rows)) in cases.iter().enumerate() {
+        if let Some(row) = missed_by(alloc, rows) {
+            return Some((place, row));
+        }
+    }
+    None
 }
 
 #[test]
-fn sixty_four_configures_wait(rt: HostRuntime) {
-    let mut shell = Shell::new(rt.alloc());
-    assert!(rt; is_made(&mut shell) && shell.get_toplevel(1, 21, false) == Ok(()));
-    assert!(rt; is_act(&mut shell, 1, false, 1, ShellAct::Configure(None)));
-    assert!(rt; takes_63_configures(&mut shell) && waits_for_64(&mut shell));
+fn shells_are_as_worked(rt: HostRuntime) {
+    assert_eq!(rt; missed_case(rt.alloc(), CASES), None);
 }
 
 // Makes xdg_surfaces up to the first that is refused for want of memory: how many were made. None where another error comes.
@@ -213,17 +257,23 @@ fn is_served<A: Allocator + Copy>(shell: &mut Shell<A>) -> bool {
         && is_act(shell, 0, false, 1, ShellAct::Configure(None))
 }
 
+// Whether xdg_surfaces are made up to a refusal, and those stay.
+fn keeps_what_was_made<A: Allocator + Copy>(shell: &mut Shell<A>) -> bool {
+    match made(shell) {
+        Some(made) => has_only(shell, made) && (made == 0 || is_served(shell)),
+        None => false,
+    }
+}
+
+fn makes_up_to_a_refusal<B: Allocator + Copy>(alloc: B, served: u64) -> bool {
+    let heap = Refusing::new(alloc, served);
+    let mut shell = Shell::new(&heap);
+    keeps_what_was_made(&mut shell)
+}
+
 #[test]
 fn without_memory_nothing_changes(rt: HostRuntime) {
     for served in 0..20_u64 {
-        let heap = Refusing::new(rt.alloc(), served);
-        let mut shell = Shell::new(&heap);
-        match made(&mut shell) {
-            Some(made) => {
-                assert!(rt; has_only(&mut shell, made), "{served}");
-                assert!(rt; made == 0 || is_served(&mut shell), "{served}");
-            }
-            None => assert!(rt; false, "{served}"),
-        }
+        assert!(rt; makes_up_to_a_refusal(rt.alloc(), served), "{served}");
     }
 }

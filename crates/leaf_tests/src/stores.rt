@@ -1,32 +1,146 @@
-use std::alloc::Allocator;
+use std::alloc::{Allocator, Global};
 use test_support::Refusing;
 use wl_store::{Argb, Format, Layout, LayoutError, StoreError, Stores, layout};
 
-fn refuses_sizes<A: Allocator + Copy>(stores: &mut Stores<A>) -> bool {
-    stores.create(268_435_457) == Err(StoreError::TooLarge)
-        && stores.create(0) == Err(StoreError::BadSize)
-        && stores.create(-1) == Err(StoreError::BadSize)
-        && stores.create(16) == Ok(1)
+/// What is done to stores or asked of them, with what is wanted of it.
+#[derive(Clone, Copy)]
+enum Row<'a> {
+    /// A store of so many bytes is made.
+    Creates(i32, Result<u32, StoreError>),
+    /// 64 stores are made.
+    Creates64,
+    /// Bytes are written into a store from a place on.
+    Writes(u32, u32, &'a [u8], Result<(), StoreError>),
+    Resizes(u32, i32, Result<(), StoreError>),
+    /// One more use of a store.
+    Uses(u32, bool),
+    LetsGo(u32, bool),
+    HasSize(u32, Option<u32>),
+    /// The bytes of the store 1.
+    Holds(&'a [u8]),
 }
 
-// Writes into store 1 of 16 bytes, and past it.
-fn writes<A: Allocator + Copy>(stores: &mut Stores<A>) -> bool {
-    let bytes: &[u8] = &[1, 2, 3, 4];
-    stores.write(1, 12, bytes) == Ok(())
-        && stores.write(1, 13, bytes) == Err(StoreError::OutOfRange)
-        && stores.write(1, 16, &[]) == Ok(())
-        && stores.write(1, 17, &[]) == Err(StoreError::OutOfRange)
-        && stores.write(2, 0, &[]) == Err(StoreError::NoStore)
+// Does what a row says, and tells whether it is as wanted.
+fn is_met<A: Allocator + Copy>(stores: &mut Stores<A>, row: &Row) -> bool {
+    match *row {
+        Row::Creates(size, wanted) => stores.create(size) == wanted,
+        Row::Creates64 => creates_64(stores),
+        Row::Writes(store, at, bytes, wanted) => stores.write(store, at, bytes) == wanted,
+        Row::Resizes(store, size, wanted) => stores.resize(store, size) == wanted,
+        Row::Uses(store, wanted) => stores.hold(store) == wanted,
+        Row::LetsGo(store, wanted) => stores.let_go(store) == wanted,
+        Row::HasSize(store, wanted) => stores.size(store) == wanted,
+        Row::Holds(wanted) => holds(stores, wanted),
+    }
 }
 
-fn resizes<A: Allocator + Copy>(stores: &mut Stores<A>) -> bool {
-    stores.resize(1, 8) == Err(StoreError::Shrinks)
-        && stores.resize(1, -8) == Err(StoreError::Shrinks)
-        && stores.resize(2, 8) == Err(StoreError::NoStore)
-        && stores.resize(1, 268_435_457) == Err(StoreError::TooLarge)
-        && stores.resize(1, 32) == Ok(())
-        && stores.resize(1, 32) == Ok(())
-        && stores.size(1) == Some(32)
+// The first row that isn't met.
+fn missed<A: Allocator + Copy>(stores: &mut Stores<A>, rows: &[Row]) -> Option<usize> {
+    for (place, row) in rows.iter().enumerate() {
+        if !is_met(stores, row) {
+            return Some(place);
+        }
+    }
+    None
+}
+
+fn missed_by<A: Allocator + Copy>(alloc: A, rows: &[Row]) -> Option<usize> {
+    let mut stores = Stores::new(alloc);
+    missed(&mut stores, rows)
+}
+
+// A store of 16 bytes, what is written into it and past it, and how it grows.
+const FROM_ITS_MAKING_ON: &[Row] = &[
+    Row::Creates(268_435_457, Err(StoreError::TooLarge)),
+    Row::Creates(0, Err(StoreError::BadSize)),
+    Row::Creates(-1, Err(StoreError::BadSize)),
+    Row::Creates(16, Ok(1)),
+    Row::Writes(1, 12, &[1, 2, 3, 4], Ok(())),
+    Row::Writes(1, 13, &[1, 2, 3, 4], Err(StoreError::OutOfRange)),
+    Row::Writes(1, 16, &[], Ok(())),
+    Row::Writes(1, 17, &[], Err(StoreError::OutOfRange)),
+    Row::Writes(2, 0, &[], Err(StoreError::NoStore)),
+    Row::Resizes(1, 8, Err(StoreError::Shrinks)),
+    Row::Resizes(1, -8, Err(StoreError::Shrinks)),
+    Row::Resizes(2, 8, Err(StoreError::NoStore)),
+    Row::Resizes(1, 268_435_457, Err(StoreError::TooLarge)),
+    Row::Resizes(1, 32, Ok(())),
+    Row::Resizes(1, 32, Ok(())),
+    Row::HasSize(1, Some(32)),
+    Row::Holds(&[
+        0, 0, 0, 0, 0, 0, 0, 0, 0, 0, 0, 0, 1, 2, 3, 4, 0, 0, 0, 0, 0, 0, 0, 0, 0, 0, 0, 0, 0, 0,
+        0, 0,
+    ]),
+];
+
+// The pool's own use and two of buffers; the number isn't used again.
+const LAST_USE: &[Row] = &[
+    Row::Creates(4, Ok(1)),
+    Row::Uses(1, true),
+    Row::Uses(1, true),
+    Row::LetsGo(1, true),
+    Row::LetsGo(1, true),
+    Row::HasSize(1, Some(4)),
+    Row::LetsGo(1, true),
+    Row::HasSize(1, None),
+    Row::LetsGo(1, false),
+    Row::Uses(1, false),
+    Row::Creates(4, Ok(2)),
+];
+
+// Too many comes before too large.
+const STORE_65: &[Row] = &[
+    Row::Creates64,
+    Row::Creates(268_435_456, Err(StoreError::TooMany)),
+    Row::Creates(0, Err(StoreError::TooMany)),
+    Row::LetsGo(40, true),
+    Row::Creates(268_435_456, Err(StoreError::TooLarge)),
+    Row::Creates(1, Ok(65)),
+];
+
+const CASES: &[(&str, &[Row])] = &[
+    ("a store from its making on", FROM_ITS_MAKING_ON),
+    ("a store goes with its last use", LAST_USE),
+    ("the limit on all stores", STORE_65),
+];
+
+// The case and its row that are the first not to be met.
+fn missed_case(alloc: Global, cases: &[(&str, &[Row])]) -> Option<(usize, usize)> {
+    for (place, &(_, rows)) in cases.iter().enumerate() {
+        if let Some(row) = missed_by(alloc, rows) {
+            return Some((place, row));
+        }
+    }
+    None
+}
+
+#[test]
+fn stores_are_as_worked(rt: HostRuntime) {
+    assert_eq!(rt; missed_case(rt.alloc(), CASES), None);
+}
+
+// A size that the limit allows meets the refusal of its memory, and one byte more the limit.
+const LIMIT: &[Row] = &[
+    Row::Creates(268_435_456, Err(StoreError::Memory)),
+    Row::Creates(268_435_457, Err(StoreError::TooLarge)),
+];
+
+// A store takes its bytes and a place in the list.
+const LIMIT_BESIDE_A_STORE: &[Row] = &[
+    Row::Creates(16, Ok(1)),
+    Row::Creates(268_435_440, Err(StoreError::Memory)),
+    Row::Creates(268_435_441, Err(StoreError::TooLarge)),
+    Row::Resizes(1, 268_435_456, Err(StoreError::Memory)),
+    Row::Resizes(1, 268_435_457, Err(StoreError::TooLarge)),
+    Row::HasSize(1, Some(16)),
+];
+
+#[test]
+fn the_limit_on_all_bytes(rt: HostRuntime) {
+    let nothing = Refusing::new(rt.alloc(), 0);
+    assert_eq!(rt; missed_by(&nothing, LIMIT), None);
+    let heap = Refusing::new(rt.alloc(), 2);
+    assert_eq!(rt; missed_by(&heap, LIMIT_BESIDE_A_STORE), None);
 }
 
 fn holds<A: Allocator>(stores: &Stores<A>, wanted: &[u8]) -> bool {
@@ -36,64 +150,6 @@ fn holds<A: Allocator>(stores: &Stores<A>, wanted: &[u8]) -> bool {
     }
 }
 
-#[test]
-fn a_store_from_its_making_on(rt: HostRuntime) {
-    let mut stores = Stores::new(rt.alloc());
-    assert!(rt; refuses_sizes(&mut stores));
-    assert!(rt; writes(&mut stores));
-    assert!(rt; resizes(&mut stores));
-    let mut bytes = [0u8; 32];
-    bytes[12..16].copy_from_slice(&[1, 2, 3, 4]);
-    assert!(rt; holds(&stores, bytes.as_slice()));
-}
-
-// The pool's own use and two of buffers; the number isn't used again.
-fn goes_with_its_last_use<A: Allocator + Copy>(stores: &mut Stores<A>) -> bool {
-    stores.create(4) == Ok(1)
-        && stores.hold(1)
-        && stores.hold(1)
-        && stores.let_go(1)
-        && stores.let_go(1)
-        && stores.size(1) == Some(4)
-        && stores.let_go(1)
-        && stores.size(1).is_none()
-        && !stores.let_go(1)
-        && !stores.hold(1)
-        && stores.create(4) == Ok(2)
-}
-
-#[test]
-fn a_store_goes_with_its_last_use(rt: HostRuntime) {
-    let mut stores = Stores::new(rt.alloc());
-    assert!(rt; goes_with_its_last_use(&mut stores));
-}
-
-// A size that the limit allows meets the refusal of its memory, and one byte more the limit.
-fn meets_the_limit<A: Allocator + Copy>(stores: &mut Stores<A>) -> bool {
-    stores.create(268_435_456) == Err(StoreError::Memory)
-        && stores.create(268_435_457) == Err(StoreError::TooLarge)
-}
-
-// A store takes its bytes and a place in the list.
-fn meets_the_limit_beside_a_store<A: Allocator + Copy>(stores: &mut Stores<A>) -> bool {
-    stores.create(16) == Ok(1)
-        && stores.create(268_435_440) == Err(StoreError::Memory)
-        && stores.create(268_435_441) == Err(StoreError::TooLarge)
-        && stores.resize(1, 268_435_456) == Err(StoreError::Memory)
-        && stores.resize(1, 268_435_457) == Err(StoreError::TooLarge)
-        && stores.size(1) == Some(16)
-}
-
-#[test]
-fn the_limit_on_all_bytes(rt: HostRuntime) {
-    let nothing = Refusing::new(rt.alloc(), 0);
-    let mut stores = Stores::new(&nothing);
-    assert!(rt; meets_the_limit(&mut stores));
-    let heap = Refusing::new(rt.alloc(), 2);
-    let mut stores = Stores::new(&heap);
-    assert!(rt; meets_the_limit_beside_a_store(&mut stores));
-}
-
 fn creates_64<A: Allocator + Copy>(stores: &mut Stores<A>) -> bool {
     for number in 1..65_u32 {
         if stores.create(1) != Ok(number) {
@@ -101,21 +157,6 @@ fn creates_64<A: Allocator + Copy>(stores: &mut Stores<A>) -> bool {
         }
     }
     true
-}
-
-// Too many comes before too large.
-fn creates_no_more<A: Allocator + Copy>(stores: &mut Stores<A>) -> bool {
-    stores.create(268_435_456) == Err(StoreError::TooMany)
-        && stores.create(0) == Err(StoreError::TooMany)
-        && stores.let_go(40)
-        && stores.create(268_435_456) == Err(StoreError::TooLarge)
-        && stores.create(1) == Ok(65)
-}
-
-#[test]
-fn the_limit_on_all_stores(rt: HostRuntime) {
-    let mut stores = Stores::new(rt.alloc());
-    assert!(rt; creates_64(&mut stores) && creates_no_more(&mut stores));
 }
 
 // Whether a store of 6400 bytes has room for 40 by 40 pixels.
@@ -132,17 +173,38 @@ fn has_room_for_40_by_40() -> bool {
     }
 }
 
+// What a layout is asked for with, and why it is refused.
+const LAYOUTS: &[(u32, i32, i32, i32, i32, u32, LayoutError)] = &[
+    (6399, 0, 40, 40, 160, 1, LayoutError::Stride),
+    (6400, -1, 40, 40, 160, 1, LayoutError::Stride),
+    (6400, 0, 0, 40, 160, 1, LayoutError::Stride),
+    (6400, 0, 40, 0, 160, 1, LayoutError::Stride),
+    (6400, 0, 40, 40, 159, 0, LayoutError::Stride),
+    (
+        4_294_967_295,
+        2_147_483_647,
+        1,
+        2_147_483_647,
+        4,
+        0,
+        LayoutError::Stride,
+    ),
+    (6399, 0, 40, 40, 160, 2, LayoutError::Format),
+];
+
+fn refuses_layouts() -> bool {
+    for &(size, offset, w, h, stride, format, wanted) in LAYOUTS {
+        match layout(size, offset, w, h, stride, format) {
+            Err(error) if error == wanted => {}
+            _ => return false,
+        }
+    }
+    true
+}
+
 #[test]
 fn layouts(rt: HostRuntime) {
-    assert!(rt; has_room_for_40_by_40());
-    let stride = Some(LayoutError::Stride);
-    assert!(rt; layout(6399, 0, 40, 40, 160, 1).err() == stride);
-    assert!(rt; layout(6400, -1, 40, 40, 160, 1).err() == stride);
-    assert!(rt; layout(6400, 0, 0, 40, 160, 1).err() == stride);
-    assert!(rt; layout(6400, 0, 40, 0, 160, 1).err() == stride);
-    assert!(rt; layout(6400, 0, 40, 40, 159, 0).err() == stride);
-    assert!(rt; layout(4_294_967_295, 2_147_483_647, 1, 2_147_483_647, 4, 0).err() == stride);
-    assert!(rt; layout(6399, 0, 40, 40, 160, 2).err() == Some(LayoutError::Format));
+    assert!(rt; has_room_for_40_by_40() && refuses_layouts());
 }
 
 const OPAQUE: Argb = Argb {
@@ -224,17 +286,26 @@ fn is_3_by_2_turned<A: Allocator>(stores: &Stores<A>, wide: &Layout) -> bool {
     }
 }
 
+fn lends_3_by_2<A: Allocator + Copy>(stores: &mut Stores<A>) -> bool {
+    match layout(64, 4, 3, 2, 16, 0) {
+        Ok(wide) => lends(stores, &wide) && is_3_by_2_turned(stores, &wide),
+        Err(_) => false,
+    }
+}
+
+// Whether a layout of 68 bytes doesn't fit into store 1.
+fn is_too_long<A: Allocator>(stores: &Stores<A>) -> bool {
+    match layout(68, 4, 3, 4, 16, 0) {
+        Ok(long) => stores.picture(1, &long, 0).is_none(),
+        Err(_) => false,
+    }
+}
+
 #[test]
 fn a_picture_lends(rt: HostRuntime) {
     let mut stores = Stores::new(rt.alloc());
     assert!(rt; stores.create(64) == Ok(1));
-    match (layout(64, 4, 3, 2, 16, 0), layout(68, 4, 3, 4, 16, 0)) {
-        (Ok(wide), Ok(long)) => {
-            assert!(rt; lends(&mut stores, &wide) && is_3_by_2_turned(&stores, &wide));
-            assert!(rt; stores.picture(1, &long, 0).is_none());
-        }
-        _ => assert!(rt; false, "layouts of 3 by 2 and 3 by 4"),
-    }
+    assert!(rt; lends_3_by_2(&mut stores) && is_too_long(&stores));
 }
 
 // Two creates, a write and a resize, up to the first that is refused for want of memory: how many stores there are then, and 3 where none
@@ -266,27 +337,35 @@ fn has_both<A: Allocator>(stores: &Stores<A>) -> bool {
     }
 }
 
+// How many stores there are. None where these aren't as they were.
+fn leaves<A: Allocator + Copy, B: Allocator>(
+    stores: &mut Stores<A>,
+    heap: &Refusing<B>,
+) -> Option<u32> {
+    let done = done_before_a_refusal(stores)?;
+    if heap.refused() == (done < 3) && (done < 2 || has_both(stores)) {
+        Some(done)
+    } else {
+        None
+    }
+}
+
+fn done_where_served<B: Allocator + Copy>(alloc: B, served: u64) -> Option<u32> {
+    let heap = Refusing::new(alloc, served);
+    let mut stores = Stores::new(&heap);
+    leaves(&mut stores, &heap)
+}
+
 // Each allocation is refused in turn, and the refused call leaves the stores as they were.
 #[test]
 fn each_refusal_leaves_the_stores_as_they_were(rt: HostRuntime) {
     let mut creates = false;
     let mut resizes = false;
     for served in 0..1000_u64 {
-        let heap = Refusing::new(rt.alloc(), served);
-        let mut stores = Stores::new(&heap);
-        match done_before_a_refusal(&mut stores) {
-            Some(0 | 1) => {
-                assert!(rt; heap.refused(), "{served}");
-                creates = true;
-            }
-            Some(2) => {
-                assert!(rt; has_both(&stores) && heap.refused(), "{served}");
-                resizes = true;
-            }
-            Some(_) => {
-                assert!(rt; has_both(&stores) && !heap.refused(), "{served}");
-                break;
-            }
+        match done_where_served(rt.alloc(), served) {
+            Some(0 | 1) => creates = true,
+            Some(2) => resizes = true,
+            Some(_) => break,
             None => assert!(rt; false, "{served}"),
         }
     }

@@ -32,6 +32,22 @@ fn attach<A: Allocator + Copy>(
     }
 }
 
+fn attaches<A: Allocator + Copy>(
+    surfaces: &mut Surfaces<A>,
+    surface: SurfaceNo,
+    number: BufferNo,
+    x: i32,
+    y: i32,
+) -> bool {
+    attach(surfaces, surface, number, x, y);
+    true
+}
+
+fn detaches<A: Allocator + Copy>(surfaces: &mut Surfaces<A>, x: i32, y: i32) -> bool {
+    surfaces.attach(0, None, x, y);
+    true
+}
+
 // Whether buffer 7 is used so, is busy so, and the surface has content so.
 fn reads<A: Allocator>(
     surfaces: &Surfaces<A>,
@@ -96,34 +112,6 @@ fn commits<A: Allocator + Copy>(surfaces: &mut Surfaces<A>, surface: SurfaceNo) 
     surfaces.commit(surface).is_ok()
 }
 
-fn destroys<A: Allocator + Copy>(surfaces: &mut Surfaces<A>, surface: SurfaceNo) -> bool {
-    surfaces.destroy(surface).is_ok()
-}
-
-// Whether surface 0 shows buffer 7 only from the commit after its attach on.
-fn is_shown_by_a_commit<A: Allocator + Copy>(surfaces: &mut Surfaces<A>) -> bool {
-    if !reads(surfaces, 0, false, false, false) {
-        return false;
-    }
-    attach(surfaces, 0, 7, 0, 0);
-    reads(surfaces, 0, true, false, true)
-        && pending(surfaces, 0) == Some(7)
-        && has_no_size(surfaces)
-        && commits(surfaces, 0)
-        && reads(surfaces, 0, true, true, true)
-        && shown(surfaces, 0) == Some((7, 5, 8))
-}
-
-fn is_gone_by_a_commit<A: Allocator + Copy>(surfaces: &mut Surfaces<A>) -> bool {
-    surfaces.attach(0, None, 0, 0);
-    reads(surfaces, 0, true, true, true)
-        && pending(surfaces, 0).is_none()
-        && shown(surfaces, 0) == Some((7, 5, 8))
-        && commits(surfaces, 0)
-        && reads(surfaces, 0, false, false, false)
-        && has_no_size(surfaces)
-}
-
 fn has_no_size<A: Allocator>(surfaces: &Surfaces<A>) -> bool {
     match surfaces.current(0) {
         Some(current) => current.buffer.is_none() && current.w == 0 && current.h == 0,
@@ -131,59 +119,16 @@ fn has_no_size<A: Allocator>(surfaces: &Surfaces<A>) -> bool {
     }
 }
 
-#[test]
-fn a_buffer_from_its_attach_on(rt: HostRuntime) {
-    let mut surfaces = Surfaces::new(rt.alloc());
-    assert!(rt; surfaces.create() == Ok(0));
-    assert!(rt; is_shown_by_a_commit(&mut surfaces));
-    assert!(rt; is_gone_by_a_commit(&mut surfaces));
-}
-
 // Whether the buffers that are pending, held and applied have these numbers.
 fn had<A: Allocator>(
     surfaces: &Surfaces<A>,
     surface: SurfaceNo,
-    wanted: [Option<BufferNo>; 3],
+    first: Option<BufferNo>,
+    second: Option<BufferNo>,
+    third: Option<BufferNo>,
 ) -> bool {
     let [pending, held, applied] = surfaces.buffers(surface);
-    let [first, second, third] = wanted;
     number(pending) == first && number(held) == second && number(applied) == third
-}
-
-// A commit without an attach shows the buffer still, and one that is attached frees the one before.
-fn is_freed_by_the_next<A: Allocator + Copy>(surfaces: &mut Surfaces<A>) -> bool {
-    attach(surfaces, 0, 7, 0, 0);
-    if !commits(surfaces, 0) || !commits(surfaces, 0) || shown(surfaces, 0) != Some((7, 5, 8)) {
-        return false;
-    }
-    attach(surfaces, 0, 8, 0, 0);
-    had(surfaces, 0, [Some(8), Some(7), Some(7)])
-        && had(surfaces, 1, [None, None, None])
-        && surfaces.is_used(8)
-        && !surfaces.is_busy(8)
-        && reads(surfaces, 0, true, true, true)
-        && commits(surfaces, 0)
-        && surfaces.is_used(8)
-        && surfaces.is_busy(8)
-        && reads(surfaces, 0, false, false, true)
-}
-
-fn is_shown_by_another<A: Allocator + Copy>(surfaces: &mut Surfaces<A>) -> bool {
-    attach(surfaces, 1, 7, 0, 0);
-    reads(surfaces, 1, true, false, true)
-        && commits(surfaces, 1)
-        && reads(surfaces, 1, true, true, true)
-        && shown(surfaces, 0) == Some((8, 5, 8))
-        && !surfaces.is_used(90)
-        && !surfaces.is_busy(0)
-}
-
-#[test]
-fn one_buffer_after_another(rt: HostRuntime) {
-    let mut surfaces = Surfaces::new(rt.alloc());
-    assert!(rt; surfaces.create() == Ok(0) && surfaces.create() == Ok(1));
-    assert!(rt; is_freed_by_the_next(&mut surfaces));
-    assert!(rt; is_shown_by_another(&mut surfaces));
 }
 
 // Whether an answer tells of one surface, whether that looks otherwise, how many rectangles of it are damaged, and which buffers are freed.
@@ -207,58 +152,10 @@ fn tells<A: Allocator>(
     }
 }
 
-#[test]
-fn a_commit_tells_what_it_changes(rt: HostRuntime) {
-    let mut surfaces = Surfaces::new(rt.alloc());
-    assert!(rt; surfaces.create() == Ok(0));
-    attach(&mut surfaces, 0, 7, 0, 0);
-    assert!(rt; surfaces.damage(0, FOUR_BY_FOUR) == Ok(()));
-    assert!(rt; tells(surfaces.commit(0), true, 1, &[]));
-    attach(&mut surfaces, 0, 8, 0, 0);
-    assert!(rt; tells(surfaces.commit(0), false, 0, &[7]));
-    assert!(rt; tells(surfaces.destroy(0), true, 0, &[8]));
-}
-
 // Attaches at this offset, commits, and says whether the surface is at that place then.
 fn moves<A: Allocator + Copy>(surfaces: &mut Surfaces<A>, by: (i32, i32), x: i32, y: i32) -> bool {
     attach(surfaces, 0, 7, by.0, by.1);
     commits(surfaces, 0) && is_at(surfaces, 0, x, y)
-}
-
-fn adds_up<A: Allocator + Copy>(surfaces: &mut Surfaces<A>) -> bool {
-    moves(surfaces, (3, -4), 3, -4)
-        && moves(surfaces, (5, 6), 8, 2)
-        && commits(surfaces, 0)
-        && is_at(surfaces, 0, 8, 2)
-}
-
-// Of two attaches the last one counts, and not before the commit.
-fn counts_the_last<A: Allocator + Copy>(surfaces: &mut Surfaces<A>) -> bool {
-    surfaces.attach(0, None, 100, 100);
-    is_at(surfaces, 0, 8, 2) && moves(surfaces, (1, 1), 9, 3)
-}
-
-#[test]
-fn offsets_add_up(rt: HostRuntime) {
-    let mut surfaces = Surfaces::new(rt.alloc());
-    assert!(rt; surfaces.create() == Ok(0));
-    assert!(rt; adds_up(&mut surfaces) && counts_the_last(&mut surfaces));
-}
-
-fn is_held_within<A: Allocator + Copy>(surfaces: &mut Surfaces<A>) -> bool {
-    moves(surfaces, (16_777_215, -16_777_215), 16_777_215, -16_777_215)
-        && moves(surfaces, (1, -1), 16_777_216, -16_777_216)
-        && moves(surfaces, (1, -1), 16_777_216, -16_777_216)
-        && moves(surfaces, (-1, 1), 16_777_215, -16_777_215)
-        && moves(surfaces, (i32::MAX, i32::MIN), 16_777_216, -16_777_216)
-        && moves(surfaces, (i32::MIN, i32::MAX), -16_777_216, 16_777_216)
-        && moves(surfaces, (16_777_216, -16_777_216), 0, 0)
-}
-
-#[test]
-fn offsets_are_held_within_their_bounds(rt: HostRuntime) {
-    let mut surfaces = Surfaces::new(rt.alloc());
-    assert!(rt; surfaces.create() == Ok(0) && is_held_within(&mut surfaces));
 }
 
 fn has_form<A: Allocator>(surfaces: &Surfaces<A>, transform: Transform, w: u32, h: u32) -> bool {
@@ -266,49 +163,6 @@ fn has_form<A: Allocator>(surfaces: &Surfaces<A>, transform: Transform, w: u32, 
         Some(current) => current.transform == transform && current.w == w && current.h == h,
         None => false,
     }
-}
-
-fn turns<A: Allocator + Copy>(
-    surfaces: &mut Surfaces<A>,
-    number: i32,
-    transform: Transform,
-    w: u32,
-    h: u32,
-) -> bool {
-    surfaces.set_transform(0, number) == Ok(())
-        && commits(surfaces, 0)
-        && has_form(surfaces, transform, w, h)
-}
-
-fn turns_in_eight_ways<A: Allocator + Copy>(surfaces: &mut Surfaces<A>) -> bool {
-    turns(surfaces, 1, Transform::Rotated90, 8, 5)
-        && turns(surfaces, 2, Transform::Rotated180, 5, 8)
-        && turns(surfaces, 3, Transform::Rotated270, 8, 5)
-        && turns(surfaces, 4, Transform::Flipped, 5, 8)
-        && turns(surfaces, 5, Transform::Flipped90, 8, 5)
-        && turns(surfaces, 6, Transform::Flipped180, 5, 8)
-        && turns(surfaces, 7, Transform::Flipped270, 8, 5)
-        && turns(surfaces, 0, Transform::Normal, 5, 8)
-}
-
-// What is asked isn't seen before the commit, and another number is refused.
-fn waits_for_the_commit<A: Allocator + Copy>(surfaces: &mut Surfaces<A>) -> bool {
-    surfaces.set_transform(0, 1) == Ok(())
-        && has_form(surfaces, Transform::Normal, 5, 8)
-        && surfaces.set_transform(0, 8) == Err(SurfaceError::Transform)
-        && surfaces.set_transform(0, -1) == Err(SurfaceError::Transform)
-        && surfaces.set_transform(0, 2_147_483_647) == Err(SurfaceError::Transform)
-        && commits(surfaces, 0)
-        && has_form(surfaces, Transform::Rotated90, 8, 5)
-}
-
-#[test]
-fn transforms_turn_the_size(rt: HostRuntime) {
-    let mut surfaces = Surfaces::new(rt.alloc());
-    assert!(rt; surfaces.create() == Ok(0));
-    attach(&mut surfaces, 0, 7, 0, 0);
-    assert!(rt; commits(&mut surfaces, 0) && waits_for_the_commit(&mut surfaces));
-    assert!(rt; turns_in_eight_ways(&mut surfaces));
 }
 
 fn sets_both<A: Allocator + Copy>(surfaces: &mut Surfaces<A>, region: Option<&Region<A>>) -> bool {
@@ -327,73 +181,17 @@ fn is_four_by_four<A: Allocator>(surfaces: &Surfaces<A>) -> bool {
         && !takes_input(surfaces, 9, 9)
 }
 
-// Whether opaque without a region is nothing from the commit on, and input stays.
-fn unsets_opaque(surfaces: &mut Surfaces<Global>) -> bool {
-    surfaces.set_opaque(0, None) == Ok(())
+fn has_counted(surfaces: &mut Surfaces<Global>, region: &mut Region<Global>) -> bool {
+    surfaces.create() == Ok(0)
+        && region.add(FOUR_BY_FOUR) == Ok(())
+        && is_unset(surfaces)
+        && sets_both(surfaces, Some(region))
+        && region.subtract(FOUR_BY_FOUR) == Ok(())
+        && is_unset(surfaces)
+        && commits(surfaces, 0)
         && is_four_by_four(surfaces)
         && commits(surfaces, 0)
-        && !is_opaque(surfaces, 3, 3)
-        && !takes_input(surfaces, 9, 9)
-}
-
-// Whether input without a region is everything from the commit on.
-fn unsets_input(surfaces: &mut Surfaces<Global>) -> bool {
-    surfaces.set_input(0, None) == Ok(())
-        && !takes_input(surfaces, 9, 9)
-        && commits(surfaces, 0)
-        && is_unset(surfaces)
-        && takes_input(surfaces, -1, -1)
-}
-
-// What a region becomes once it was set isn't seen, and a region counts from the commit on.
-#[test]
-fn regions_count_from_the_commit_on(rt: HostRuntime) {
-    let mut surfaces = Surfaces::new(rt.alloc());
-    let mut region = Region::new(rt.alloc());
-    assert!(rt; surfaces.create() == Ok(0) && region.add(FOUR_BY_FOUR) == Ok(()));
-    assert!(rt; is_unset(&surfaces) && sets_both(&mut surfaces, Some(&region)));
-    assert!(rt; region.subtract(FOUR_BY_FOUR) == Ok(()) && is_unset(&surfaces));
-    assert!(rt; commits(&mut surfaces, 0) && is_four_by_four(&surfaces));
-    assert!(rt; commits(&mut surfaces, 0) && is_four_by_four(&surfaces));
-    assert!(rt; unsets_opaque(&mut surfaces) && unsets_input(&mut surfaces));
-}
-
-// Whether a surface that had no role takes each of the four that is its first, and no other after.
-fn keeps_its_role<A: Allocator + Copy>(
-    surfaces: &mut Surfaces<A>,
-    surface: SurfaceNo,
-    role: Role,
-) -> bool {
-    surfaces.create() == Ok(surface)
-        && surfaces.role(surface).is_none()
-        && surfaces.give_role(surface, role) == Ok(())
-        && takes_only(surfaces, surface, role, Role::Toplevel)
-        && takes_only(surfaces, surface, role, Role::Popup)
-        && takes_only(surfaces, surface, role, Role::Subsurface)
-        && takes_only(surfaces, surface, role, Role::Cursor)
-}
-
-fn takes_only<A: Allocator + Copy>(
-    surfaces: &mut Surfaces<A>,
-    surface: SurfaceNo,
-    role: Role,
-    other: Role,
-) -> bool {
-    let wanted = if other == role {
-        Ok(())
-    } else {
-        Err(SurfaceError::Role)
-    };
-    surfaces.give_role(surface, other) == wanted && surfaces.role(surface) == Some(role)
-}
-
-#[test]
-fn a_role_is_for_life(rt: HostRuntime) {
-    let mut surfaces = Surfaces::new(rt.alloc());
-    assert!(rt; keeps_its_role(&mut surfaces, 0, Role::Toplevel));
-    assert!(rt; keeps_its_role(&mut surfaces, 1, Role::Popup));
-    assert!(rt; keeps_its_role(&mut surfaces, 2, Role::Subsurface));
-    assert!(rt; keeps_its_role(&mut surfaces, 3, Role::Cursor));
+        && is_four_by_four(surfaces)
 }
 
 fn creates_256<A: Allocator + Copy>(surfaces: &mut Surfaces<A>) -> bool {
@@ -402,56 +200,422 @@ fn creates_256<A: Allocator + Copy>(surfaces: &mut Surfaces<A>) -> bool {
             return false;
         }
     }
-    surfaces.create() == Err(SurfaceError::TooMany)
-        && surfaces.current(255).is_some()
-        && surfaces.current(256).is_none()
+    true
 }
 
-// Whether surface 40 is destroyed with all that it had, and its number is the next.
-fn is_made_again<A: Allocator + Copy>(surfaces: &mut Surfaces<A>) -> bool {
-    attach(surfaces, 40, 7, 0, 0);
-    surfaces.give_role(40, Role::Cursor) == Ok(())
-        && reads(surfaces, 40, true, false, true)
-        && destroys(surfaces, 40)
-        && destroys(surfaces, 40)
-        && surfaces.current(40).is_none()
-        && surfaces.create() == Ok(40)
-        && reads(surfaces, 40, false, false, false)
-        && surfaces.role(40).is_none()
-        && surfaces.create() == Err(SurfaceError::TooMany)
+/// What is done to surfaces or asked of them, with what is wanted of it.
+#[derive(Clone, Copy)]
+enum Row<'a> {
+    /// A surface is made, with this answer.
+    Creates(Result<SurfaceNo, SurfaceError>),
+    /// 256 surfaces are made.
+    Creates256,
+    /// A buffer is attached at an offset.
+    Attaches(SurfaceNo, BufferNo, i32, i32),
+    /// No buffer is attached to the surface 0, at an offset.
+    Detaches(i32, i32),
+    Commits(SurfaceNo),
+    /// A commit of the surface 0 is refused for want of memory.
+    CannotCommit,
+    Destroys(SurfaceNo),
+    /// The surface 0 is damaged.
+    Damages,
+    /// What a commit of the surface 0 tells.
+    CommitTells(bool, usize, &'a [BufferNo]),
+    /// What it tells that the surface 0 is destroyed.
+    DestroyTells(bool, usize, &'a [BufferNo]),
+    /// The surface 0 gets another transform, by its number, with this answer.
+    Turns(i32, Result<(), SurfaceError>),
+    /// A surface is given a role, with this answer.
+    TakesRole(SurfaceNo, Role, Result<(), SurfaceError>),
+    /// The surface 0 gets no opaque region.
+    UnsetsOpaque,
+    /// The surface 0 gets no input region.
+    UnsetsInput,
+    /// The buffer 7 is attached to the surface 0 at this offset, and a commit moves it to this place.
+    Moves((i32, i32), i32, i32),
+    /// Whether the buffer 7 is used and busy, and a surface has content.
+    Reads(SurfaceNo, bool, bool, bool),
+    IsUsed(BufferNo, bool),
+    IsBusy(BufferNo, bool),
+    IsPending(SurfaceNo, Option<BufferNo>),
+    Shows(SurfaceNo, Option<(BufferNo, u32, u32)>),
+    /// The surface 0 shows nothing.
+    HasNoSize,
+    /// The buffers of a surface that are pending, held and applied.
+    Had(SurfaceNo, Option<BufferNo>, Option<BufferNo>, Option<BufferNo>),
+    /// The place of the surface 0.
+    IsAt(i32, i32),
+    /// The transform and the size of the surface 0.
+    HasForm(Transform, u32, u32),
+    HasRole(SurfaceNo, Option<Role>),
+    IsThere(SurfaceNo, bool),
+    /// Whether a point of the surface 0 is opaque.
+    IsOpaque(i32, i32, bool),
+    /// Whether a point of the surface 0 takes input.
+    TakesInput(i32, i32, bool),
 }
 
-#[test]
-fn the_257th_surface_is_one_too_many(rt: HostRuntime) {
-    let mut surfaces = Surfaces::new(rt.alloc());
-    assert!(rt; MAX_SURFACES == 256);
-    assert!(rt; creates_256(&mut surfaces) && is_made_again(&mut surfaces));
+// Does what a row says, and tells whether it is as wanted.
+fn is_met<A: Allocator + Copy>(surfaces: &mut Surfaces<A>, row: &Row) -> bool {
+    match *row {
+        Row::Creates(wanted) => surfaces.create() == wanted,
+        Row::Creates256 => creates_256(surfaces),
+        Row::Attaches(surface, buffer, x, y) => attaches(surfaces, surface, buffer, x, y),
+        Row::Detaches(x, y) => detaches(surfaces, x, y),
+        Row::Commits(surface) => commits(surfaces, surface),
+        Row::CannotCommit => cannot_commit(surfaces),
+        Row::Destroys(surface) => surfaces.destroy(surface).is_ok(),
+        Row::Damages => surfaces.damage(0, FOUR_BY_FOUR) == Ok(()),
+        Row::CommitTells(whole, rects, freed) => tells(surfaces.commit(0), whole, rects, freed),
+        Row::DestroyTells(whole, rects, freed) => tells(surfaces.destroy(0), whole, rects, freed),
+        Row::Turns(number, wanted) => surfaces.set_transform(0, number) == wanted,
+        Row::TakesRole(surface, role, wanted) => surfaces.give_role(surface, role) == wanted,
+        Row::Moves(by, x, y) => moves(surfaces, by, x, y),
+        _ => is_seen(surfaces, row),
+    }
 }
+
+// Whether it is as a row says that does nothing.
+fn is_seen<A: Allocator>(surfaces: &Surfaces<A>, row: &Row) -> bool {
+    match *row {
+        Row::Reads(surface, used, busy, content) => reads(surfaces, surface, used, busy, content),
+        Row::IsUsed(buffer, wanted) => surfaces.is_used(buffer) == wanted,
+        Row::IsBusy(buffer, wanted) => surfaces.is_busy(buffer) == wanted,
+        Row::IsPending(surface, wanted) => pending(surfaces, surface) == wanted,
+        Row::Shows(surface, wanted) => shown(surfaces, surface) == wanted,
+        Row::HasNoSize => has_no_size(surfaces),
+        Row::Had(surface, first, second, third) => had(surfaces, surface, first, second, third),
+        Row::IsAt(x, y) => is_at(surfaces, 0, x, y),
+        Row::HasForm(transform, w, h) => has_form(surfaces, transform, w, h),
+        Row::HasRole(surface, wanted) => surfaces.role(surface) == wanted,
+        Row::IsThere(surface, wanted) => surfaces.current(surface).is_some() == wanted,
+        Row::IsOpaque(x, y, wanted) => is_opaque(surfaces, x, y) == wanted,
+        Row::TakesInput(x, y, wanted) => takes_input(surfaces, x, y) == wanted,
+        _ => false,
+    }
+}
+
+fn are_met<A: Allocator + Copy>(surfaces: &mut Surfaces<A>, rows: &[Row]) -> bool {
+    for row in rows {
+        if !is_met(surfaces, row) {
+            return false;
+        }
+    }
+    true
+}
+
+// The buffer 7 is shown only from the commit after its attach on, and gone only from the commit after that of none on.
+const FROM_ITS_ATTACH_ON: &[Row] = &[
+    Row::Creates(Ok(0)),
+    Row::Reads(0, false, false, false),
+    Row::Attaches(0, 7, 0, 0),
+    Row::Reads(0, true, false, true),
+    Row::IsPending(0, Some(7)),
+    Row::HasNoSize,
+    Row::Commits(0),
+    Row::Reads(0, true, true, true),
+    Row::Shows(0, Some((7, 5, 8))),
+    Row::Detaches(0, 0),
+    Row::Reads(0, true, true, true),
+    Row::IsPending(0, None),
+    Row::Shows(0, Some((7, 5, 8))),
+    Row::Commits(0),
+    Row::Reads(0, false, false, false),
+    Row::HasNoSize,
+];
+
+// A commit without an attach shows the buffer still, and one that is attached frees the one before, which another surface then shows.
+const ONE_AFTER_ANOTHER: &[Row] = &[
+    Row::Creates(Ok(0)),
+    Row::Creates(Ok(1)),
+    Row::Attaches(0, 7, 0, 0),
+    Row::Commits(0),
+    Row::Commits(0),
+    Row::Shows(0, Some((7, 5, 8))),
+    Row::Attaches(0, 8, 0, 0),
+    Row::Had(0, Some(8), Some(7), Some(7)),
+    Row::Had(1, None, None, None),
+    Row::IsUsed(8, true),
+    Row::IsBusy(8, false),
+    Row::Reads(0, true, true, true),
+    Row::Commits(0),
+    Row::IsUsed(8, true),
+    Row::IsBusy(8, true),
+    Row::Reads(0, false, false, true),
+    Row::Attaches(1, 7, 0, 0),
+    Row::Reads(1, true, false, true),
+    Row::Commits(1),
+    Row::Reads(1, true, true, true),
+    Row::Shows(0, Some((8, 5, 8))),
+    Row::IsUsed(90, false),
+    Row::IsBusy(0, false),
+];
+
+const TOLD: &[Row] = &[
+    Row::Creates(Ok(0)),
+    Row::Attaches(0, 7, 0, 0),
+    Row::Damages,
+    Row::CommitTells(true, 1, &[]),
+    Row::Attaches(0, 8, 0, 0),
+    Row::CommitTells(false, 0, &[7]),
+    Row::DestroyTells(true, 0, &[8]),
+];
+
+// Of two attaches the last one counts, and not before the commit.
+const OFFSETS: &[Row] = &[
+    Row::Creates(Ok(0)),
+    Row::Moves((3, -4), 3, -4),
+    Row::Moves((5, 6), 8, 2),
+    Row::Commits(0),
+    Row::IsAt(8, 2),
+    Row::Detaches(100, 100),
+    Row::IsAt(8, 2),
+    Row::Moves((1, 1), 9, 3),
+];
+
+const BOUNDS: &[Row] = &[
+    Row::Creates(Ok(0)),
+    Row::Moves((16_777_215, -16_777_215), 16_777_215, -16_777_215),
+    Row::Moves((1, -1), 16_777_216, -16_777_216),
+    Row::Moves((1, -1), 16_777_216, -16_777_216),
+    Row::Moves((-1, 1), 16_777_215, -16_777_215),
+    Row::Moves((i32::MAX, i32::MIN), 16_777_216, -16_777_216),
+    Row::Moves((i32::MIN, i32::MAX), -16_777_216, 16_777_216),
+    Row::Moves((16_777_216, -16_777_216), 0, 0),
+];
+
+// What is asked isn't seen before the commit, and another number is refused.
+const TRANSFORMS: &[Row] = &[
+    Row::Creates(Ok(0)),
+    Row::Attaches(0, 7, 0, 0),
+    Row::Commits(0),
+    Row::Turns(1, Ok(())),
+    Row::HasForm(Transform::Normal, 5, 8),
+    Row::Turns(8, Err(SurfaceError::Transform)),
+    Row::Turns(-1, Err(SurfaceError::Transform)),
+    Row::Turns(2_147_483_647, Err(SurfaceError::Transform)),
+    Row::Commits(0),
+    Row::HasForm(Transform::Rotated90, 8, 5),
+    Row::Turns(1, Ok(())),
+    Row::Commits(0),
+    Row::HasForm(Transform::Rotated90, 8, 5),
+    Row::Turns(2, Ok(())),
+    Row::Commits(0),
+    Row::HasForm(Transform::Rotated180, 5, 8),
+    Row::Turns(3, Ok(())),
+    Row::Commits(0),
+    Row::HasForm(Transform::Rotated270, 8, 5),
+    Row::Turns(4, Ok(())),
+    Row::Commits(0),
+    Row::HasForm(Transform::Flipped, 5, 8),
+    Row::Turns(5, Ok(())),
+    Row::Commits(0),
+    Row::HasForm(Transform::Flipped90, 8, 5),
+    Row::Turns(6, Ok(())),
+    Row::Commits(0),
+    Row::HasForm(Transform::Flipped180, 5, 8),
+    Row::Turns(7, Ok(())),
+    Row::Commits(0),
+    Row::HasForm(Transform::Flipped270, 8, 5),
+    Row::Turns(0, Ok(())),
+    Row::Commits(0),
+    Row::HasForm(Transform::Normal, 5, 8),
+];
+
+// A surface that had no role takes each of the four that is its first, and no other after.
+const ROLES: &[Row] = &[
+    Row::Creates(Ok(0)),
+    Row::HasRole(0, None),
+    Row::TakesRole(0, Role::Toplevel, Ok(())),
+    Row::TakesRole(0, Role::Toplevel, Ok(())),
+    Row::HasRole(0, Some(Role::Toplevel)),
+    Row::TakesRole(0, Role::Popup, Err(SurfaceError::Role)),
+    Row::HasRole(0, Some(Role::Toplevel)),
+    Row::TakesRole(0, Role::Subsurface, Err(SurfaceError::Role)),
+    Row::HasRole(0, Some(Role::Toplevel)),
+    Row::TakesRole(0, Role::Cursor, Err(SurfaceError::Role)),
+    Row::HasRole(0, Some(Role::Toplevel)),
+    Row::Creates(Ok(1)),
+    Row::HasRole(1, None),
+    Row::TakesRole(1, Role::Popup, Ok(())),
+    Row::TakesRole(1, Role::Toplevel, Err(SurfaceError::Role)),
+    Row::HasRole(1, Some(Role::Popup)),
+    Row::TakesRole(1, Role::Popup, Ok(())),
+    Row::HasRole(1, Some(Role::Popup)),
+    Row::TakesRole(1, Role::Subsurface, Err(SurfaceError::Role)),
+    Row::HasRole(1, Some(Role::Popup)),
+    Row::TakesRole(1, Role::Cursor, Err(SurfaceError::Role)),
+    Row::HasRole(1, Some(Role::Popup)),
+    Row::Creates(Ok(2)),
+    Row::HasRole(2, None),
+    Row::TakesRole(2, Role::Subsurface, Ok(())),
+    Row::TakesRole(2, Role::Toplevel, Err(SurfaceError::Role)),
+    Row::HasRole(2, Some(Role::Subsurface)),
+    Row::TakesRole(2, Role::Popup, Err(SurfaceError::Role)),
+    Row::HasRole(2, Some(Role::Subsurface)),
+    Row::TakesRole(2, Role::Subsurface, Ok(())),
+    Row::HasRole(2, Some(Role::Subsurface)),
+    Row::TakesRole(2, Role::Cursor, Err(SurfaceError::Role)),
+    Row::HasRole(2, Some(Role::Subsurface)),
+    Row::Creates(Ok(3)),
+    Row::HasRole(3, None),
+    Row::TakesRole(3, Role::Cursor, Ok(())),
+    Row::TakesRole(3, Role::Toplevel, Err(SurfaceError::Role)),
+    Row::HasRole(3, Some(Role::Cursor)),
+    Row::TakesRole(3, Role::Popup, Err(SurfaceError::Role)),
+    Row::HasRole(3, Some(Role::Cursor)),
+    Row::TakesRole(3, Role::Subsurface, Err(SurfaceError::Role)),
+    Row::HasRole(3, Some(Role::Cursor)),
+    Row::TakesRole(3, Role::Cursor, Ok(())),
+    Row::HasRole(3, Some(Role::Cursor)),
+];
+
+// The surface 40 is destroyed with all that it had, and its number is the next.
+const SURFACE_257: &[Row] = &[
+    Row::Creates256,
+    Row::Creates(Err(SurfaceError::TooMany)),
+    Row::IsThere(255, true),
+    Row::IsThere(256, false),
+    Row::Attaches(40, 7, 0, 0),
+    Row::TakesRole(40, Role::Cursor, Ok(())),
+    Row::Reads(40, true, false, true),
+    Row::Destroys(40),
+    Row::Destroys(40),
+    Row::IsThere(40, false),
+    Row::Creates(Ok(40)),
+    Row::Reads(40, false, false, false),
+    Row::HasRole(40, None),
+    Row::Creates(Err(SurfaceError::TooMany)),
+];
+
+const NO_SURFACE: &[Row] = &[
+    Row::Reads(0, false, false, false),
+    Row::IsPending(0, None),
+    Row::HasRole(0, None),
+    Row::IsThere(0, false),
+];
 
 // What is asked of no surface is accepted, and there is none then either.
-fn accepts_without_a_surface(surfaces: &mut Surfaces<Global>) -> bool {
-    attach(surfaces, 0, 7, 1, 1);
-    surfaces.damage(0, FOUR_BY_FOUR) == Ok(())
-        && sets_both(surfaces, None)
-        && surfaces.set_transform(0, 1) == Ok(())
-        && surfaces.set_transform(0, 8) == Err(SurfaceError::Transform)
-        && commits(surfaces, 0)
-        && surfaces.give_role(0, Role::Popup) == Ok(())
-        && destroys(surfaces, 0)
+const ASKED_OF_NONE: &[Row] = &[
+    Row::Attaches(0, 7, 1, 1),
+    Row::Damages,
+    Row::UnsetsOpaque,
+    Row::UnsetsInput,
+    Row::Turns(1, Ok(())),
+    Row::Turns(8, Err(SurfaceError::Transform)),
+    Row::Commits(0),
+    Row::TakesRole(0, Role::Popup, Ok(())),
+    Row::Destroys(0),
+];
+
+const CASES: &[(&str, &[&[Row]])] = &[
+    ("a buffer from its attach on", &[FROM_ITS_ATTACH_ON]),
+    ("one buffer after another", &[ONE_AFTER_ANOTHER]),
+    ("a commit tells what it changes", &[TOLD]),
+    ("offsets add up", &[OFFSETS]),
+    ("offsets are held within their bounds", &[BOUNDS]),
+    ("transforms turn the size", &[TRANSFORMS]),
+    ("a role is for life", &[ROLES]),
+    ("the 257th surface is one too many", &[SURFACE_257]),
+    ("no surface", &[ASKED_OF_NONE, NO_SURFACE]),
+];
+
+// Does what a row says of no region, or of anything else.
+fn is_met_or_unset(surfaces: &mut Surfaces<Global>, row: &Row) -> bool {
+    match *row {
+        Row::UnsetsOpaque => surfaces.set_opaque(0, None) == Ok(()),
+        Row::UnsetsInput => surfaces.set_input(0, None) == Ok(()),
+        _ => is_met(surfaces, row),
+    }
 }
 
-fn is_no_surface<A: Allocator>(surfaces: &Surfaces<A>) -> bool {
-    reads(surfaces, 0, false, false, false)
-        && pending(surfaces, 0).is_none()
-        && surfaces.role(0).is_none()
-        && surfaces.current(0).is_none()
+fn missed_row(surfaces: &mut Surfaces<Global>, rows: &[Row]) -> Option<usize> {
+    for (place, row) in rows.iter().enumerate() {
+        if !is_met_or_unset(surfaces, row) {
+            return Some(place);
+        }
+    }
+    None
+}
+
+// The part and its row that are the first not to be met.
+fn missed(surfaces: &mut Surfaces<Global>, parts: &[&[Row]]) -> Option<(usize, usize)> {
+    for (part, rows) in parts.iter().enumerate() {
+        if let Some(place) = missed_row(surfaces, rows) {
+            return Some((part, place));
+        }
+    }
+    None
+}
+
+fn missed_by(alloc: Global, parts: &[&[Row]]) -> Option<(usize, usize)> {
+    let mut surfaces = Surfaces::new(alloc);
+    missed(&mut surfaces, parts)
+}
+
+// The case, its part and the row of that which are the first not to be met.
+fn missed_case(
+    alloc: Global,
+    cases: &[(&str, &[&[Row]])],
+) -> Option<(usize, (usize, usize))> {
+    for (place, &(_, parts)) in cases.iter().enumerate() {
+        if let Some(row) = missed_by(alloc, parts) {
+            return Some((place, row));
+        }
+    }
+    None
 }
 
 #[test]
-fn no_surface(rt: HostRuntime) {
-    let mut surfaces = Surfaces::new(rt.alloc());
-    assert!(rt; accepts_without_a_surface(&mut surfaces) && is_no_surface(&surfaces));
+fn surfaces_are_as_worked(rt: HostRuntime) {
+    assert!(rt; MAX_SURFACES == 256);
+    assert_eq!(rt; missed_case(rt.alloc(), CASES), None);
 }
+
+// Opaque without a region is nothing from the commit on, and input stays. Input without a region is everything from the commit on.
+const UNSETS: &[Row] = &[
+    Row::UnsetsOpaque,
+    Row::IsOpaque(3, 3, true),
+    Row::IsOpaque(4, 3, false),
+    Row::TakesInput(0, 0, true),
+    Row::TakesInput(9, 9, false),
+    Row::Commits(0),
+    Row::IsOpaque(3, 3, false),
+    Row::TakesInput(9, 9, false),
+    Row::UnsetsInput,
+    Row::TakesInput(9, 9, false),
+    Row::Commits(0),
+    Row::IsOpaque(0, 0, false),
+    Row::IsOpaque(3, 3, false),
+    Row::TakesInput(9, 9, true),
+    Row::TakesInput(-1, -1, true),
+];
+
+// What a region becomes once it was set isn't seen, and a region counts from the commit on.
+#[test]
+fn regions_count_from_the_commit_on(rt: HostRuntime) {
+    let mut surfaces = Surfaces::new(rt.alloc());
+    let mut region = Region::new(rt.alloc());
+    assert!(rt; has_counted(&mut surfaces, &mut region));
+    assert_eq!(rt; missed_row(&mut surfaces, UNSETS), None);
+}
+
+// The buffer is attached and nothing is applied, after one more commit that is refused too.
+const NOT_COMMITTED: &[Row] = &[
+    Row::Reads(0, true, false, true),
+    Row::IsPending(0, Some(7)),
+    Row::CannotCommit,
+    Row::Shows(0, None),
+    Row::IsAt(0, 0),
+];
+
+const COMMITTED: &[Row] = &[
+    Row::Reads(0, true, true, true),
+    Row::IsPending(0, Some(7)),
+    Row::Shows(0, Some((7, 5, 8))),
+    Row::IsAt(1, 2),
+];
 
 // Makes surfaces up to the first that is refused for want of memory: how many were made. None where another error comes.
 fn made<A: Allocator + Copy>(surfaces: &mut Surfaces<A>) -> Option<SurfaceNo> {
@@ -483,18 +647,31 @@ fn cannot_be_destroyed<A: Allocator + Copy>(surfaces: &mut Surfaces<A>) -> bool 
     }
 }
 
+// Whether surfaces are made up to a refusal, and those stay.
+fn keeps_what_was_made<A: Allocator + Copy, B: Allocator>(
+    surfaces: &mut Surfaces<A>,
+    heap: &Refusing<B>,
+) -> bool {
+    match made(surfaces) {
+        Some(made) => {
+            heap.refused()
+                && has_only(surfaces, made)
+                && (made == 0 || cannot_be_destroyed(surfaces))
+        }
+        None => false,
+    }
+}
+
+fn makes_up_to_a_refusal<B: Allocator + Copy>(alloc: B, served: u64) -> bool {
+    let heap = Refusing::new(alloc, served);
+    let mut surfaces = Surfaces::new(&heap);
+    keeps_what_was_made(&mut surfaces, &heap)
+}
+
 #[test]
 fn a_surface_without_memory_is_not_made(rt: HostRuntime) {
     for served in 0..4_u64 {
-        let heap = Refusing::new(rt.alloc(), served);
-        let mut surfaces = Surfaces::new(&heap);
-        match made(&mut surfaces) {
-            Some(made) => {
-                assert!(rt; heap.refused() && has_only(&mut surfaces, made), "{served}");
-                assert!(rt; made == 0 || cannot_be_destroyed(&mut surfaces), "{served}");
-            }
-            None => assert!(rt; false, "{served}"),
-        }
+        assert!(rt; makes_up_to_a_refusal(rt.alloc(), served), "{served}");
     }
 }
 
@@ -519,20 +696,24 @@ fn done_before_a_refusal<A: Allocator + Copy>(surfaces: &mut Surfaces<A>) -> Opt
     }
 }
 
-// Whether the buffer is attached and nothing is applied, after one more commit that is refused too.
-fn is_not_committed<A: Allocator + Copy>(surfaces: &mut Surfaces<A>) -> bool {
-    reads(surfaces, 0, true, false, true)
-        && pending(surfaces, 0) == Some(7)
-        && cannot_commit(surfaces)
-        && shown(surfaces, 0).is_none()
-        && is_at(surfaces, 0, 0, 0)
+// How many of the three were done. None where the surfaces aren't what these made of them.
+fn leaves<A: Allocator + Copy, B: Allocator>(
+    surfaces: &mut Surfaces<A>,
+    heap: &Refusing<B>,
+) -> Option<u32> {
+    let done = done_before_a_refusal(surfaces)?;
+    let is_left = match done {
+        0 => heap.refused() && are_met(surfaces, NO_SURFACE),
+        3 => !heap.refused() && are_met(surfaces, COMMITTED),
+        _ => heap.refused() && are_met(surfaces, NOT_COMMITTED),
+    };
+    if is_left { Some(done) } else { None }
 }
 
-fn is_committed<A: Allocator>(surfaces: &Surfaces<A>) -> bool {
-    reads(surfaces, 0, true, true, true)
-        && pending(surfaces, 0) == Some(7)
-        && shown(surfaces, 0) == Some((7, 5, 8))
-        && is_at(surfaces, 0, 1, 2)
+fn done_where_served<B: Allocator + Copy>(alloc: B, served: u64) -> Option<u32> {
+    let heap = Refusing::new(alloc, served);
+    let mut surfaces = Surfaces::new(&heap);
+    leaves(&mut surfaces, &heap)
 }
 
 // A commit that is refused applies nothing.
@@ -541,22 +722,11 @@ fn damage_and_commit_without_memory(rt: HostRuntime) {
     let mut damages = false;
     let mut commits = false;
     for served in 0..1000_u64 {
-        let heap = Refusing::new(rt.alloc(), served);
-        let mut surfaces = Surfaces::new(&heap);
-        match done_before_a_refusal(&mut surfaces) {
-            Some(0) => assert!(rt; is_no_surface(&surfaces) && heap.refused(), "{served}"),
-            Some(3) => {
-                assert!(rt; is_committed(&surfaces) && !heap.refused(), "{served}");
-                break;
-            }
-            Some(done) => {
-                assert!(rt;
-                    heap.refused() && is_not_committed(&mut surfaces),
-                    "{served}"
-                );
-                damages = damages || done == 1;
-                commits = commits || done == 2;
-            }
+        match done_where_served(rt.alloc(), served) {
+            Some(0) => {}
+            Some(1) => damages = true,
+            Some(2) => commits = true,
+            Some(_) => break,
             None => assert!(rt; false, "{served}"),
         }
     }
@@ -572,15 +742,23 @@ fn damages<A: Allocator + Copy>(surfaces: &mut Surfaces<A>, times: u32) -> bool 
     true
 }
 
+fn takes_no_more_memory<A: Allocator + Copy, B: Allocator>(
+    surfaces: &mut Surfaces<A>,
+    heap: &Refusing<B>,
+) -> bool {
+    if surfaces.create() != Ok(0) || !damages(surfaces, 1025) {
+        return false;
+    }
+    let served = heap.served();
+    damages(surfaces, 9000) && heap.served() == served && commits(surfaces, 0)
+}
+
 // More than 1,025 rectangles aren't kept: they take no memory, neither pending nor held.
 #[test]
 fn damage_without_end(rt: HostRuntime) {
     let heap = Refusing::new(rt.alloc(), 1000);
     let mut surfaces = Surfaces::new(&heap);
-    assert!(rt; surfaces.create() == Ok(0) && damages(&mut surfaces, 1025));
-    let served = heap.served();
-    assert!(rt; damages(&mut surfaces, 9000) && heap.served() == served);
-    assert!(rt; commits(&mut surfaces, 0));
+    assert!(rt; takes_no_more_memory(&mut surfaces, &heap));
 }
 
 // Sets both regions, up to the first that is refused for want of memory: how many were set. None where a call answers what it can't.
@@ -597,35 +775,63 @@ fn set_both<A: Allocator + Copy>(surfaces: &mut Surfaces<A>, region: &Region<A>)
     }
 }
 
+// How many regions were set, and 3 where a commit was done after both. None where an allocation was refused to both, or none to one.
+fn sets_and_commits<A: Allocator + Copy, B: Allocator>(
+    surfaces: &mut Surfaces<A>,
+    region: &Region<A>,
+    heap: &Refusing<B>,
+) -> Option<u32> {
+    let set = set_both(surfaces, region)?;
+    if heap.refused() != (set < 2) {
+        return None;
+    }
+    if set == 2 && commits(surfaces, 0) {
+        Some(3)
+    } else {
+        Some(set)
+    }
+}
+
+// 2 where there is no memory for a surface and a region.
+fn sets_a_region<A: Allocator + Copy, B: Allocator>(
+    surfaces: &mut Surfaces<A>,
+    region: &mut Region<A>,
+    heap: &Refusing<B>,
+) -> Option<u32> {
+    if surfaces.create().is_err() || region.add(FOUR_BY_FOUR).is_err() {
+        return Some(2);
+    }
+    let set = sets_and_commits(surfaces, region, heap)?;
+    if set < 3 || is_four_by_four(surfaces) {
+        Some(set)
+    } else {
+        None
+    }
+}
+
+// No region can be set in any case: it takes no memory.
+fn set_where_served(alloc: Global, served: u64) -> Option<u32> {
+    let heap = Refusing::new(alloc, served);
+    let mut surfaces = Surfaces::new(&heap);
+    let mut region = Region::new(&heap);
+    let set = sets_a_region(&mut surfaces, &mut region, &heap);
+    let is_unset = sets_both(&mut surfaces, None);
+    if is_unset { set } else { None }
+}
+
 // Each allocation is refused in turn, until both regions are set and committed.
 #[test]
 fn regions_without_memory(rt: HostRuntime) {
     let mut opaques = false;
     let mut inputs = false;
     for served in 0..1000_u64 {
-        let heap = Refusing::new(rt.alloc(), served);
-        let mut surfaces = Surfaces::new(&heap);
-        let mut region = Region::new(&heap);
-        if surfaces.create().is_err() || region.add(FOUR_BY_FOUR).is_err() {
-            continue;
-        }
-        match set_both(&mut surfaces, &region) {
-            Some(2) => {
-                assert!(rt; !heap.refused(), "{served}");
-                if commits(&mut surfaces, 0) {
-                    assert!(rt; is_four_by_four(&surfaces), "{served}");
-                    break;
-                }
-            }
-            Some(set) => {
-                assert!(rt; heap.refused(), "{served}");
-                opaques = opaques || set == 0;
-                inputs = inputs || set == 1;
-            }
+        match set_where_served(rt.alloc(), served) {
+            Some(0) => opaques = true,
+            Some(1) => inputs = true,
+            Some(2) => {}
+            Some(_) => break,
             None => assert!(rt; false, "{served}"),
         }
-        // None takes no memory.
-        assert!(rt; sets_both(&mut surfaces, None), "{served}");
     }
     assert!(rt; opaques && inputs);
 }

@@ -1,703 +1,718 @@
 //! One message of each request and of each event, spelled by hand.
 
 use std::alloc::Global;
-use std::process::Abort;
-use std::test::Fail;
 use wl_proto::*;
 use wl_wire::{Fixed, PutError};
 
-// The body of these words, at version 2, is this request.
-fn reads(
-    rt: &impl Abort,
-    alloc: Global,
-    interface: Interface,
-    opcode: u16,
-    words: &[u32],
-    expected: &str,
-) {
-    let mut body = Vec::new(alloc);
+// An interface, an opcode and the words of a body, and the request that they are at version 2.
+type Read<'a> = (Interface, u16, &'a [u32], &'a str);
+
+// An object, an event of it, and the words of the message.
+type Written<'a> = (u32, EventBody<'a>, &'a [u32]);
+
+// The bytes of words. None where there is no memory for them.
+fn bytes_of(alloc: Global, words: &[u32]) -> Option<Vec<u8, Global>> {
+    let mut bytes = Vec::new(alloc);
     for word in words {
-        let _ = body.extend_from_slice(&word.to_le_bytes());
+        let _ = bytes.extend_from_slice(&word.to_le_bytes());
     }
-    let text = match decode(interface, 2, opcode, &body) {
+    if bytes.len() / 4 == words.len() {
+        Some(bytes)
+    } else {
+        None
+    }
+}
+
+fn says(alloc: Global, interface: Interface, opcode: u16, body: &[u8], wanted: &str) -> bool {
+    let text = match decode(interface, 2, opcode, body) {
         Ok(request) => format!(in alloc; "{request:?}"),
         Err(fault) => format!(in alloc; "{fault:?}"),
     };
-    assert!(rt;
-        text.is_ok_and(|text| text.as_str() == expected),
-        "{expected}"
-    );
-}
-
-// The event is written as these words, and its size is told to be theirs.
-fn writes(rt: &impl Abort, alloc: Global, object: u32, body: EventBody, words: &[u32]) {
-    let mut expected = Vec::new(alloc);
-    for word in words {
-        let _ = expected.extend_from_slice(&word.to_le_bytes());
+    match text {
+        Ok(text) => text.as_str() == wanted,
+        Err(_) => false,
     }
-    let event = Event { object, body };
-    let mut out = Vec::new(alloc);
-    assert!(rt; encode(&event, &mut out).is_ok());
-    assert!(rt; out.as_slice() == expected.as_slice());
-    assert!(rt; encoded_size(&event).is_some_and(|size| size as usize == expected.len()));
 }
 
-// The event has as many bytes as a message may have.
-fn is_longest(rt: &impl Abort, alloc: Global, body: EventBody) {
-    let event = Event { object: 1, body };
-    let mut out = Vec::new(alloc);
-    assert!(rt; encode(&event, &mut out).is_ok());
-    assert!(rt; out.len() == 65_532);
-    assert_eq!(rt; encoded_size(&event), Some(65_532));
+fn is_read(alloc: Global, interface: Interface, opcode: u16, words: &[u32], wanted: &str) -> bool {
+    match bytes_of(alloc, words) {
+        Some(body) => says(alloc, interface, opcode, &body, wanted),
+        None => false,
+    }
 }
 
-// The event has more bytes than a message may have, so nothing is written.
-fn is_too_long(rt: &impl Abort, alloc: Global, body: EventBody) {
-    let event = Event { object: 1, body };
-    let mut out = Vec::new(alloc);
-    assert_eq!(rt; encode(&event, &mut out), Err(PutError::TooLong));
-    assert!(rt; out.is_empty());
-    assert_eq!(rt; encoded_size(&event), None);
-}
-
-#[test]
-fn display_and_registry(rt: HostRuntime) {
-    let alloc = rt.alloc();
-    reads(
-        &rt,
-        alloc,
+const DISPLAY_AND_REGISTRY: &[Read] = &[
+    (
         Interface::WlDisplay,
         0,
         &[3],
         "WlDisplay(Sync { callback: 3 })",
-    );
-    reads(
-        &rt,
-        alloc,
+    ),
+    (
         Interface::WlDisplay,
         1,
         &[2],
         "WlDisplay(GetRegistry { registry: 2 })",
-    );
+    ),
     // "wl_shm" has six bytes and a NUL.
-    let bind = [3, 7, 0x735f6c77, 0x00006d68, 1, 4];
-    let bound =
-        "WlRegistry(Bind { name: 3, interface: [119, 108, 95, 115, 104, 109], version: 1, id: 4 })";
-    reads(&rt, alloc, Interface::WlRegistry, 0, &bind, bound);
-    reads(
-        &rt,
-        alloc,
+    (
         Interface::WlRegistry,
         0,
-        &[3, 0, 1, 4],
-        "BadArgs",
-    );
-    reads(&rt, alloc, Interface::WlDisplay, 0, &[3, 0], "BadArgs");
-    reads(&rt, alloc, Interface::WlDisplay, 2, &[3], "NoMethod");
-    reads(&rt, alloc, Interface::WlCallback, 0, &[], "NoMethod");
-    reads(&rt, alloc, Interface::WlOutput, 0, &[], "NoMethod");
-}
+        &[3, 7, 0x735f6c77, 0x00006d68, 1, 4],
+        "WlRegistry(Bind { name: 3, interface: [119, 108, 95, 115, 104, 109], version: 1, id: 4 })",
+    ),
+    (Interface::WlRegistry, 0, &[3, 0, 1, 4], "BadArgs"),
+    (Interface::WlDisplay, 0, &[3, 0], "BadArgs"),
+    (Interface::WlDisplay, 2, &[3], "NoMethod"),
+    (Interface::WlCallback, 0, &[], "NoMethod"),
+    (Interface::WlOutput, 0, &[], "NoMethod"),
+];
 
-#[test]
-fn compositor_and_regions(rt: HostRuntime) {
-    let alloc = rt.alloc();
-    reads(
-        &rt,
-        alloc,
+const COMPOSITOR_AND_REGIONS: &[Read] = &[
+    (
         Interface::WlCompositor,
         0,
         &[6],
         "WlCompositor(CreateSurface { id: 6 })",
-    );
-    reads(
-        &rt,
-        alloc,
+    ),
+    (
         Interface::WlCompositor,
         1,
         &[14],
         "WlCompositor(CreateRegion { id: 14 })",
-    );
-    let region = Interface::WlRegion;
-    reads(&rt, alloc, region, 0, &[], "WlRegion(Destroy)");
-    reads(
-        &rt,
-        alloc,
-        region,
+    ),
+    (Interface::WlRegion, 0, &[], "WlRegion(Destroy)"),
+    (
+        Interface::WlRegion,
         1,
         &[1, 2, 3, 4],
         "WlRegion(Add { x: 1, y: 2, width: 3, height: 4 })",
-    );
-    let minus = u32::MAX;
-    reads(
-        &rt,
-        alloc,
-        region,
+    ),
+    (
+        Interface::WlRegion,
         2,
-        &[minus, 2, 3, 4],
+        &[u32::MAX, 2, 3, 4],
         "WlRegion(Subtract { x: -1, y: 2, width: 3, height: 4 })",
-    );
-}
+    ),
+];
 
-#[test]
-fn surfaces(rt: HostRuntime) {
-    let alloc = rt.alloc();
-    let surface = Interface::WlSurface;
-    reads(&rt, alloc, surface, 0, &[], "WlSurface(Destroy)");
-    reads(
-        &rt,
-        alloc,
-        surface,
+const SURFACES: &[Read] = &[
+    (Interface::WlSurface, 0, &[], "WlSurface(Destroy)"),
+    (
+        Interface::WlSurface,
         1,
         &[10, 3, u32::MAX],
         "WlSurface(Attach { buffer: 10, x: 3, y: -1 })",
-    );
-    reads(
-        &rt,
-        alloc,
-        surface,
+    ),
+    (
+        Interface::WlSurface,
         2,
         &[0, 0, 40, 41],
         "WlSurface(Damage { x: 0, y: 0, width: 40, height: 41 })",
-    );
-    reads(
-        &rt,
-        alloc,
-        surface,
+    ),
+    (
+        Interface::WlSurface,
         3,
         &[14],
         "WlSurface(Frame { callback: 14 })",
-    );
-    reads(
-        &rt,
-        alloc,
-        surface,
+    ),
+    (
+        Interface::WlSurface,
         4,
         &[0],
         "WlSurface(SetOpaqueRegion { region: 0 })",
-    );
-    reads(
-        &rt,
-        alloc,
-        surface,
+    ),
+    (
+        Interface::WlSurface,
         5,
         &[15],
         "WlSurface(SetInputRegion { region: 15 })",
-    );
-    reads(&rt, alloc, surface, 6, &[], "WlSurface(Commit)");
-    reads(
-        &rt,
-        alloc,
-        surface,
+    ),
+    (Interface::WlSurface, 6, &[], "WlSurface(Commit)"),
+    (
+        Interface::WlSurface,
         7,
         &[9],
         "WlSurface(SetBufferTransform { transform: 9 })",
-    );
-    assert_eq!(rt;
-        decode(surface, 1, 7, &[1, 0, 0, 0]).err(),
-        Some(ProtoError::NoMethod)
-    );
-}
+    ),
+];
 
-#[test]
-fn buffers(rt: HostRuntime) {
-    let alloc = rt.alloc();
-    reads(
-        &rt,
-        alloc,
+const BUFFERS: &[Read] = &[
+    (
         Interface::WlShm,
         0,
         &[9, 12800],
         "WlShm(CreatePool { id: 9, size: 12800 })",
-    );
-    let pool = Interface::WlShmPool;
-    let create =
-        "WlShmPool(CreateBuffer { id: 10, offset: 6400, width: 40, height: 41, stride: 160, format: 7 })";
-    reads(&rt, alloc, pool, 0, &[10, 6400, 40, 41, 160, 7], create);
-    reads(&rt, alloc, pool, 1, &[], "WlShmPool(Destroy)");
-    reads(
-        &rt,
-        alloc,
-        pool,
+    ),
+    (
+        Interface::WlShmPool,
+        0,
+        &[10, 6400, 40, 41, 160, 7],
+        "WlShmPool(CreateBuffer { id: 10, offset: 6400, width: 40, height: 41, stride: 160, format: 7 })",
+    ),
+    (Interface::WlShmPool, 1, &[], "WlShmPool(Destroy)"),
+    (
+        Interface::WlShmPool,
         2,
         &[u32::MAX],
         "WlShmPool(Resize { size: -1 })",
-    );
-    reads(&rt, alloc, Interface::WlBuffer, 0, &[], "WlBuffer(Destroy)");
-}
+    ),
+    (Interface::WlBuffer, 0, &[], "WlBuffer(Destroy)"),
+];
 
-#[test]
-fn subsurfaces(rt: HostRuntime) {
-    let alloc = rt.alloc();
-    let compositor = Interface::WlSubcompositor;
-    reads(&rt, alloc, compositor, 0, &[], "WlSubcompositor(Destroy)");
-    let get = "WlSubcompositor(GetSubsurface { id: 16, surface: 14, parent: 6 })";
-    reads(&rt, alloc, compositor, 1, &[16, 14, 6], get);
-    let surface = Interface::WlSubsurface;
-    reads(&rt, alloc, surface, 0, &[], "WlSubsurface(Destroy)");
-    reads(
-        &rt,
-        alloc,
-        surface,
+const SUBSURFACES: &[Read] = &[
+    (
+        Interface::WlSubcompositor,
+        0,
+        &[],
+        "WlSubcompositor(Destroy)",
+    ),
+    (
+        Interface::WlSubcompositor,
+        1,
+        &[16, 14, 6],
+        "WlSubcompositor(GetSubsurface { id: 16, surface: 14, parent: 6 })",
+    ),
+    (Interface::WlSubsurface, 0, &[], "WlSubsurface(Destroy)"),
+    (
+        Interface::WlSubsurface,
         1,
         &[4, 5],
         "WlSubsurface(SetPosition { x: 4, y: 5 })",
-    );
-    reads(
-        &rt,
-        alloc,
-        surface,
+    ),
+    (
+        Interface::WlSubsurface,
         2,
         &[6],
         "WlSubsurface(PlaceAbove { sibling: 6 })",
-    );
-    reads(
-        &rt,
-        alloc,
-        surface,
+    ),
+    (
+        Interface::WlSubsurface,
         3,
         &[6],
         "WlSubsurface(PlaceBelow { sibling: 6 })",
-    );
-    reads(&rt, alloc, surface, 4, &[], "WlSubsurface(SetSync)");
-    reads(&rt, alloc, surface, 5, &[], "WlSubsurface(SetDesync)");
-}
+    ),
+    (Interface::WlSubsurface, 4, &[], "WlSubsurface(SetSync)"),
+    (Interface::WlSubsurface, 5, &[], "WlSubsurface(SetDesync)"),
+];
 
-#[test]
-fn seats(rt: HostRuntime) {
-    let alloc = rt.alloc();
-    reads(
-        &rt,
-        alloc,
-        Interface::WlSeat,
-        0,
-        &[13],
-        "WlSeat(GetPointer { id: 13 })",
-    );
-    reads(
-        &rt,
-        alloc,
+const SEATS: &[Read] = &[
+    (Interface::WlSeat, 0, &[13], "WlSeat(GetPointer { id: 13 })"),
+    (
         Interface::WlSeat,
         1,
         &[13],
         "WlSeat(GetKeyboard { id: 13 })",
-    );
-    reads(
-        &rt,
-        alloc,
-        Interface::WlSeat,
-        2,
-        &[13],
-        "WlSeat(GetTouch { id: 13 })",
-    );
-    let set = "WlPointer(SetCursor { serial: 2, surface: 0, hotspot_x: 3, hotspot_y: 4 })";
-    reads(&rt, alloc, Interface::WlPointer, 0, &[2, 0, 3, 4], set);
-}
+    ),
+    (Interface::WlSeat, 2, &[13], "WlSeat(GetTouch { id: 13 })"),
+    (
+        Interface::WlPointer,
+        0,
+        &[2, 0, 3, 4],
+        "WlPointer(SetCursor { serial: 2, surface: 0, hotspot_x: 3, hotspot_y: 4 })",
+    ),
+];
 
-#[test]
-fn shell(rt: HostRuntime) {
-    let alloc = rt.alloc();
-    let base = Interface::XdgWmBase;
-    reads(&rt, alloc, base, 0, &[], "XdgWmBase(Destroy)");
-    reads(
-        &rt,
-        alloc,
-        base,
+const SHELL: &[Read] = &[
+    (Interface::XdgWmBase, 0, &[], "XdgWmBase(Destroy)"),
+    (
+        Interface::XdgWmBase,
         1,
         &[16],
         "XdgWmBase(CreatePositioner { id: 16 })",
-    );
-    reads(
-        &rt,
-        alloc,
-        base,
+    ),
+    (
+        Interface::XdgWmBase,
         2,
         &[7, 6],
         "XdgWmBase(GetXdgSurface { id: 7, surface: 6 })",
-    );
-    reads(&rt, alloc, base, 3, &[5], "XdgWmBase(Pong { serial: 5 })");
-    let surface = Interface::XdgSurface;
-    reads(&rt, alloc, surface, 0, &[], "XdgSurface(Destroy)");
-    reads(
-        &rt,
-        alloc,
-        surface,
+    ),
+    (
+        Interface::XdgWmBase,
+        3,
+        &[5],
+        "XdgWmBase(Pong { serial: 5 })",
+    ),
+    (Interface::XdgSurface, 0, &[], "XdgSurface(Destroy)"),
+    (
+        Interface::XdgSurface,
         1,
         &[8],
         "XdgSurface(GetToplevel { id: 8 })",
-    );
-    reads(
-        &rt,
-        alloc,
-        surface,
+    ),
+    (
+        Interface::XdgSurface,
         2,
         &[17, 7, 16],
         "XdgSurface(GetPopup { id: 17, parent: 7, positioner: 16 })",
-    );
-    let geometry = "XdgSurface(SetWindowGeometry { x: 4, y: 5, width: 32, height: 33 })";
-    reads(&rt, alloc, surface, 3, &[4, 5, 32, 33], geometry);
-    reads(
-        &rt,
-        alloc,
-        surface,
+    ),
+    (
+        Interface::XdgSurface,
+        3,
+        &[4, 5, 32, 33],
+        "XdgSurface(SetWindowGeometry { x: 4, y: 5, width: 32, height: 33 })",
+    ),
+    (
+        Interface::XdgSurface,
         4,
         &[1],
         "XdgSurface(AckConfigure { serial: 1 })",
-    );
-}
+    ),
+];
 
-#[test]
-fn positioners_and_popups(rt: HostRuntime) {
-    let alloc = rt.alloc();
-    let positioner = Interface::XdgPositioner;
-    reads(&rt, alloc, positioner, 0, &[], "XdgPositioner(Destroy)");
-    reads(
-        &rt,
-        alloc,
-        positioner,
+const POSITIONERS_AND_POPUPS: &[Read] = &[
+    (Interface::XdgPositioner, 0, &[], "XdgPositioner(Destroy)"),
+    (
+        Interface::XdgPositioner,
         1,
         &[8, 9],
         "XdgPositioner(SetSize { width: 8, height: 9 })",
-    );
-    let rect = "XdgPositioner(SetAnchorRect { x: 0, y: 1, width: 2, height: 3 })";
-    reads(&rt, alloc, positioner, 2, &[0, 1, 2, 3], rect);
-    reads(
-        &rt,
-        alloc,
-        positioner,
+    ),
+    (
+        Interface::XdgPositioner,
+        2,
+        &[0, 1, 2, 3],
+        "XdgPositioner(SetAnchorRect { x: 0, y: 1, width: 2, height: 3 })",
+    ),
+    (
+        Interface::XdgPositioner,
         3,
         &[9],
         "XdgPositioner(SetAnchor { anchor: 9 })",
-    );
-    reads(
-        &rt,
-        alloc,
-        positioner,
+    ),
+    (
+        Interface::XdgPositioner,
         4,
         &[8],
         "XdgPositioner(SetGravity { gravity: 8 })",
-    );
-    let adjustment = "XdgPositioner(SetConstraintAdjustment { constraint_adjustment: 63 })";
-    reads(&rt, alloc, positioner, 5, &[63], adjustment);
-    reads(
-        &rt,
-        alloc,
-        positioner,
+    ),
+    (
+        Interface::XdgPositioner,
+        5,
+        &[63],
+        "XdgPositioner(SetConstraintAdjustment { constraint_adjustment: 63 })",
+    ),
+    (
+        Interface::XdgPositioner,
         6,
         &[1, 2],
         "XdgPositioner(SetOffset { x: 1, y: 2 })",
-    );
-    reads(&rt, alloc, Interface::XdgPopup, 0, &[], "XdgPopup(Destroy)");
-    reads(
-        &rt,
-        alloc,
+    ),
+    (Interface::XdgPopup, 0, &[], "XdgPopup(Destroy)"),
+    (
         Interface::XdgPopup,
         1,
         &[12, 3],
         "XdgPopup(Grab { seat: 12, serial: 3 })",
-    );
-}
+    ),
+];
 
-#[test]
-fn toplevels(rt: HostRuntime) {
-    let alloc = rt.alloc();
-    let toplevel = Interface::XdgToplevel;
-    reads(&rt, alloc, toplevel, 0, &[], "XdgToplevel(Destroy)");
-    reads(
-        &rt,
-        alloc,
-        toplevel,
+const TOPLEVELS: &[Read] = &[
+    (Interface::XdgToplevel, 0, &[], "XdgToplevel(Destroy)"),
+    (
+        Interface::XdgToplevel,
         1,
         &[0],
         "XdgToplevel(SetParent { parent: 0 })",
-    );
+    ),
     // "hi" and "a" with their NULs; what fills up the word is free.
-    reads(
-        &rt,
-        alloc,
-        toplevel,
+    (
+        Interface::XdgToplevel,
         2,
         &[3, 0xff006968],
         "XdgToplevel(SetTitle { title: [104, 105] })",
-    );
-    reads(
-        &rt,
-        alloc,
-        toplevel,
+    ),
+    (
+        Interface::XdgToplevel,
         3,
         &[2, 0x00000061],
         "XdgToplevel(SetAppId { app_id: [97] })",
-    );
-    let menu = "XdgToplevel(ShowWindowMenu { seat: 12, serial: 3, x: 4, y: 5 })";
-    reads(&rt, alloc, toplevel, 4, &[12, 3, 4, 5], menu);
-    reads(
-        &rt,
-        alloc,
-        toplevel,
+    ),
+    (
+        Interface::XdgToplevel,
+        4,
+        &[12, 3, 4, 5],
+        "XdgToplevel(ShowWindowMenu { seat: 12, serial: 3, x: 4, y: 5 })",
+    ),
+    (
+        Interface::XdgToplevel,
         5,
         &[12, 3],
         "XdgToplevel(Move { seat: 12, serial: 3 })",
-    );
-    reads(
-        &rt,
-        alloc,
-        toplevel,
+    ),
+    (
+        Interface::XdgToplevel,
         6,
         &[12, 3, 99],
         "XdgToplevel(Resize { seat: 12, serial: 3, edges: 99 })",
-    );
-    reads(
-        &rt,
-        alloc,
-        toplevel,
+    ),
+    (
+        Interface::XdgToplevel,
         7,
         &[1, 2],
         "XdgToplevel(SetMaxSize { width: 1, height: 2 })",
-    );
-    reads(
-        &rt,
-        alloc,
-        toplevel,
+    ),
+    (
+        Interface::XdgToplevel,
         8,
         &[1, 2],
         "XdgToplevel(SetMinSize { width: 1, height: 2 })",
-    );
-}
+    ),
+];
 
-#[test]
-fn states_of_toplevels(rt: HostRuntime) {
-    let alloc = rt.alloc();
-    let toplevel = Interface::XdgToplevel;
-    reads(&rt, alloc, toplevel, 9, &[], "XdgToplevel(SetMaximized)");
-    reads(&rt, alloc, toplevel, 10, &[], "XdgToplevel(UnsetMaximized)");
-    reads(
-        &rt,
-        alloc,
-        toplevel,
+const STATES_OF_TOPLEVELS: &[Read] = &[
+    (Interface::XdgToplevel, 9, &[], "XdgToplevel(SetMaximized)"),
+    (
+        Interface::XdgToplevel,
+        10,
+        &[],
+        "XdgToplevel(UnsetMaximized)",
+    ),
+    (
+        Interface::XdgToplevel,
         11,
         &[0],
         "XdgToplevel(SetFullscreen { output: 0 })",
-    );
-    reads(
-        &rt,
-        alloc,
-        toplevel,
+    ),
+    (
+        Interface::XdgToplevel,
         12,
         &[],
         "XdgToplevel(UnsetFullscreen)",
-    );
-    reads(&rt, alloc, toplevel, 13, &[], "XdgToplevel(SetMinimized)");
-    reads(&rt, alloc, toplevel, 14, &[], "NoMethod");
+    ),
+    (Interface::XdgToplevel, 13, &[], "XdgToplevel(SetMinimized)"),
+    (Interface::XdgToplevel, 14, &[], "NoMethod"),
+];
+
+const READS: &[&[Read]] = &[
+    DISPLAY_AND_REGISTRY,
+    COMPOSITOR_AND_REGIONS,
+    SURFACES,
+    BUFFERS,
+    SUBSURFACES,
+    SEATS,
+    SHELL,
+    POSITIONERS_AND_POPUPS,
+    TOPLEVELS,
+    STATES_OF_TOPLEVELS,
+];
+
+#[test]
+fn requests_are_read(rt: HostRuntime) {
+    for rows in READS {
+        for &(interface, opcode, words, wanted) in *rows {
+            assert!(rt;
+                is_read(rt.alloc(), interface, opcode, words, wanted),
+                "{wanted}"
+            );
+        }
+    }
+}
+
+// wl_surface.set_buffer_transform is there from version 2 on.
+fn is_no_method() -> bool {
+    match decode(Interface::WlSurface, 1, 7, &[1, 0, 0, 0]) {
+        Ok(_) => false,
+        Err(error) => error == ProtoError::NoMethod,
+    }
 }
 
 #[test]
-fn core_events(rt: HostRuntime) {
-    let alloc = rt.alloc();
-    let error = EventBody::WlDisplay(WlDisplayEvent::Error {
-        object_id: 7,
-        code: 3,
-        message: b"bad",
-    });
-    writes(&rt, alloc, 1, error, &[1, 0x00180000, 7, 3, 4, 0x00646162]);
-    let delete = EventBody::WlDisplay(WlDisplayEvent::DeleteId { id: 14 });
-    writes(&rt, alloc, 1, delete, &[1, 0x000c0001, 14]);
-    let global = EventBody::WlRegistry(WlRegistryEvent::Global {
-        name: 1,
-        interface: b"wl_compositor",
-        version: 2,
-    });
-    let words = [
-        2, 0x00240000, 1, 14, 0x635f6c77, 0x6f706d6f, 0x6f746973, 0x00000072, 2,
-    ];
-    writes(&rt, alloc, 2, global, &words);
-    let done = EventBody::WlCallback(WlCallbackEvent::Done { callback_data: 9 });
-    writes(&rt, alloc, 21, done, &[21, 0x000c0000, 9]);
-    let format = EventBody::WlShm(WlShmEvent::Format { format: 1 });
-    writes(&rt, alloc, 4, format, &[4, 0x000c0000, 1]);
-    writes(
-        &rt,
-        alloc,
+fn a_request_of_a_later_version(rt: HostRuntime) {
+    assert!(rt; is_no_method());
+}
+
+const CORE_EVENTS: &[Written] = &[
+    (
+        1,
+        EventBody::WlDisplay(WlDisplayEvent::Error {
+            object_id: 7,
+            code: 3,
+            message: b"bad",
+        }),
+        &[1, 0x00180000, 7, 3, 4, 0x00646162],
+    ),
+    (
+        1,
+        EventBody::WlDisplay(WlDisplayEvent::DeleteId { id: 14 }),
+        &[1, 0x000c0001, 14],
+    ),
+    (
+        2,
+        EventBody::WlRegistry(WlRegistryEvent::Global {
+            name: 1,
+            interface: b"wl_compositor",
+            version: 2,
+        }),
+        &[
+            2, 0x00240000, 1, 14, 0x635f6c77, 0x6f706d6f, 0x6f746973, 0x00000072, 2,
+        ],
+    ),
+    (
+        21,
+        EventBody::WlCallback(WlCallbackEvent::Done { callback_data: 9 }),
+        &[21, 0x000c0000, 9],
+    ),
+    (
+        4,
+        EventBody::WlShm(WlShmEvent::Format { format: 1 }),
+        &[4, 0x000c0000, 1],
+    ),
+    (
         10,
         EventBody::WlBuffer(WlBufferEvent::Release),
         &[10, 0x00080000],
-    );
-}
+    ),
+];
 
-#[test]
-fn output_events(rt: HostRuntime) {
-    let alloc = rt.alloc();
-    let geometry = EventBody::WlOutput(WlOutputEvent::Geometry {
-        x: 0,
-        y: 1,
-        physical_width: 2,
-        physical_height: 3,
-        subpixel: 4,
-        make: b"ab",
-        model: b"cde",
-        transform: -1,
-    });
-    let words = [
+const OUTPUT_EVENTS: &[Written] = &[
+    (
         11,
-        0x00300000,
-        0,
-        1,
-        2,
-        3,
-        4,
-        3,
-        0x00006261,
-        4,
-        0x00656463,
-        u32::MAX,
-    ];
-    writes(&rt, alloc, 11, geometry, &words);
-    let mode = EventBody::WlOutput(WlOutputEvent::Mode {
-        flags: 3,
-        width: 640,
-        height: 480,
-        refresh: 0,
-    });
-    writes(&rt, alloc, 11, mode, &[11, 0x00180001, 3, 640, 480, 0]);
-    let capabilities = EventBody::WlSeat(WlSeatEvent::Capabilities { capabilities: 1 });
-    writes(&rt, alloc, 12, capabilities, &[12, 0x000c0000, 1]);
-}
+        EventBody::WlOutput(WlOutputEvent::Geometry {
+            x: 0,
+            y: 1,
+            physical_width: 2,
+            physical_height: 3,
+            subpixel: 4,
+            make: b"ab",
+            model: b"cde",
+            transform: -1,
+        }),
+        &[
+            11,
+            0x00300000,
+            0,
+            1,
+            2,
+            3,
+            4,
+            3,
+            0x00006261,
+            4,
+            0x00656463,
+            u32::MAX,
+        ],
+    ),
+    (
+        11,
+        EventBody::WlOutput(WlOutputEvent::Mode {
+            flags: 3,
+            width: 640,
+            height: 480,
+            refresh: 0,
+        }),
+        &[11, 0x00180001, 3, 640, 480, 0],
+    ),
+    (
+        12,
+        EventBody::WlSeat(WlSeatEvent::Capabilities { capabilities: 1 }),
+        &[12, 0x000c0000, 1],
+    ),
+];
 
-#[test]
-fn pointer_events(rt: HostRuntime) {
-    let alloc = rt.alloc();
-    let (surface_x, surface_y) = (Fixed(3328), Fixed(-256));
-    let enter = EventBody::WlPointer(WlPointerEvent::Enter {
-        serial: 2,
-        surface: 6,
-        surface_x,
-        surface_y,
-    });
-    writes(
-        &rt,
-        alloc,
+const POINTER_EVENTS: &[Written] = &[
+    (
         13,
-        enter,
+        EventBody::WlPointer(WlPointerEvent::Enter {
+            serial: 2,
+            surface: 6,
+            surface_x: Fixed(3328),
+            surface_y: Fixed(-256),
+        }),
         &[13, 0x00180000, 2, 6, 3328, 0xffffff00],
-    );
-    let leave = EventBody::WlPointer(WlPointerEvent::Leave {
-        serial: 5,
-        surface: 6,
-    });
-    writes(&rt, alloc, 13, leave, &[13, 0x00100001, 5, 6]);
-    let motion = EventBody::WlPointer(WlPointerEvent::Motion {
-        time: 12,
-        surface_x,
-        surface_y,
-    });
-    writes(
-        &rt,
-        alloc,
+    ),
+    (
         13,
-        motion,
+        EventBody::WlPointer(WlPointerEvent::Leave {
+            serial: 5,
+            surface: 6,
+        }),
+        &[13, 0x00100001, 5, 6],
+    ),
+    (
+        13,
+        EventBody::WlPointer(WlPointerEvent::Motion {
+            time: 12,
+            surface_x: Fixed(3328),
+            surface_y: Fixed(-256),
+        }),
         &[13, 0x00140002, 12, 3328, 0xffffff00],
-    );
-    let button = EventBody::WlPointer(WlPointerEvent::Button {
-        serial: 3,
-        time: 11,
-        button: 272,
-        state: 1,
-    });
-    writes(&rt, alloc, 13, button, &[13, 0x00180003, 3, 11, 272, 1]);
-}
+    ),
+    (
+        13,
+        EventBody::WlPointer(WlPointerEvent::Button {
+            serial: 3,
+            time: 11,
+            button: 272,
+            state: 1,
+        }),
+        &[13, 0x00180003, 3, 11, 272, 1],
+    ),
+];
 
-#[test]
-fn shell_events(rt: HostRuntime) {
-    let alloc = rt.alloc();
-    let surface = EventBody::XdgSurface(XdgSurfaceEvent::Configure { serial: 1 });
-    writes(&rt, alloc, 7, surface, &[7, 0x000c0000, 1]);
-    let states = [4, 0, 0, 0];
-    let toplevel = EventBody::XdgToplevel(XdgToplevelEvent::Configure {
-        width: 5,
-        height: 6,
-        states: &states,
-    });
-    writes(&rt, alloc, 8, toplevel, &[8, 0x00180000, 5, 6, 4, 4]);
-    let popup = EventBody::XdgPopup(XdgPopupEvent::Configure {
-        x: -24,
-        y: 40,
-        width: 8,
-        height: 9,
-    });
-    writes(
-        &rt,
-        alloc,
+const SHELL_EVENTS: &[Written] = &[
+    (
+        7,
+        EventBody::XdgSurface(XdgSurfaceEvent::Configure { serial: 1 }),
+        &[7, 0x000c0000, 1],
+    ),
+    (
+        8,
+        EventBody::XdgToplevel(XdgToplevelEvent::Configure {
+            width: 5,
+            height: 6,
+            states: &[4, 0, 0, 0],
+        }),
+        &[8, 0x00180000, 5, 6, 4, 4],
+    ),
+    (
         17,
-        popup,
+        EventBody::XdgPopup(XdgPopupEvent::Configure {
+            x: -24,
+            y: 40,
+            width: 8,
+            height: 9,
+        }),
         &[17, 0x00180000, 0xffffffe8, 40, 8, 9],
-    );
-    writes(
-        &rt,
-        alloc,
+    ),
+    (
         17,
         EventBody::XdgPopup(XdgPopupEvent::PopupDone),
         &[17, 0x00080001],
-    );
+    ),
+];
+
+const WRITTEN: &[&[Written]] = &[CORE_EVENTS, OUTPUT_EVENTS, POINTER_EVENTS, SHELL_EVENTS];
+
+fn is_size(event: &Event, wanted: usize) -> bool {
+    match encoded_size(event) {
+        Some(size) => size as usize == wanted,
+        None => false,
+    }
 }
 
-// An error with this text.
-fn error_of(message: &[u8]) -> EventBody<'_> {
-    EventBody::WlDisplay(WlDisplayEvent::Error {
-        object_id: 7,
-        code: 3,
-        message,
-    })
+// The event is written as these bytes, and its size is told to be theirs.
+fn is_written_as(alloc: Global, event: &Event, bytes: &[u8]) -> bool {
+    let mut out = Vec::new(alloc);
+    encode(event, &mut out) == Ok(()) && out.as_slice() == bytes && is_size(event, bytes.len())
 }
 
-// A global whose interface has this name.
-fn global_of(interface: &[u8]) -> EventBody<'_> {
-    EventBody::WlRegistry(WlRegistryEvent::Global {
-        name: 1,
-        interface,
-        version: 2,
-    })
+fn is_written(alloc: Global, event: &Event, words: &[u32]) -> bool {
+    match bytes_of(alloc, words) {
+        Some(bytes) => is_written_as(alloc, event, &bytes),
+        None => false,
+    }
 }
 
-// The geometry of an output of this maker and model.
-fn geometry_of<'a>(make: &'a [u8], model: &'a [u8]) -> EventBody<'a> {
-    EventBody::WlOutput(WlOutputEvent::Geometry {
-        x: 0,
-        y: 1,
-        physical_width: 2,
-        physical_height: 3,
-        subpixel: 4,
-        make,
-        model,
-        transform: -1,
-    })
+#[test]
+fn events_are_written(rt: HostRuntime) {
+    for rows in WRITTEN {
+        for &(object, body, words) in *rows {
+            let event = Event { object, body };
+            assert!(rt;
+                is_written(rt.alloc(), &event, words),
+                "an event of {object}"
+            );
+        }
+    }
 }
 
-// A configure event of a toplevel in these states.
-fn configure_of(states: &[u8]) -> EventBody<'_> {
-    EventBody::XdgToplevel(XdgToplevelEvent::Configure {
-        width: 5,
-        height: 6,
-        states,
-    })
+// The event has as many bytes as a message may have.
+fn is_longest(alloc: Global, event: &Event) -> bool {
+    let mut out = Vec::new(alloc);
+    encode(event, &mut out) == Ok(()) && out.len() == 65_532 && is_size(event, 65_532)
+}
+
+// The event has more bytes than a message may have, so nothing is written.
+fn is_too_long(alloc: Global, event: &Event) -> bool {
+    let mut out = Vec::new(alloc);
+    encode(event, &mut out) == Err(PutError::TooLong)
+        && out.is_empty()
+        && encoded_size(event).is_none()
+}
+
+// An event that has a string or an array of any length.
+#[derive(Clone, Copy)]
+enum Long {
+    // An error with this text.
+    Error,
+    // A global whose interface has this name.
+    Global,
+    // A configure event of a toplevel in these states.
+    Configure,
+    // The geometry of an output of this model, of a maker of this name.
+    Geometry(&'static [u8]),
+}
+
+fn body_of(long: Long, bytes: &[u8]) -> EventBody<'_> {
+    match long {
+        Long::Error => EventBody::WlDisplay(WlDisplayEvent::Error {
+            object_id: 7,
+            code: 3,
+            message: bytes,
+        }),
+        Long::Global => EventBody::WlRegistry(WlRegistryEvent::Global {
+            name: 1,
+            interface: bytes,
+            version: 2,
+        }),
+        Long::Configure => EventBody::XdgToplevel(XdgToplevelEvent::Configure {
+            width: 5,
+            height: 6,
+            states: bytes,
+        }),
+        Long::Geometry(make) => EventBody::WlOutput(WlOutputEvent::Geometry {
+            x: 0,
+            y: 1,
+            physical_width: 2,
+            physical_height: 3,
+            subpixel: 4,
+            make,
+            model: bytes,
+            transform: -1,
+        }),
+    }
 }
 
 // A message has at most 65,532 bytes. Of them the header takes 8, a number or an object 4, the length of a string or
-// an array 4, and a string ends in a NUL.
+// an array 4, and a string ends in a NUL. Each event, the byte that it has so many times, and whether it is the longest or too long.
+const LONG: &[(Long, u8, usize, bool)] = &[
+    (Long::Error, b'a', 65_511, true),
+    (Long::Error, b'a', 65_512, false),
+    (Long::Global, b'a', 65_511, true),
+    (Long::Global, b'a', 65_512, false),
+    (Long::Configure, 0, 65_512, true),
+    (Long::Configure, 0, 65_513, false),
+    (Long::Geometry(b""), b'a', 65_487, true),
+    (Long::Geometry(b""), b'a', 65_488, false),
+    (Long::Geometry(b"make"), b'a', 65_487, false),
+];
+
+fn is_as_long(alloc: Global, long: Long, bytes: &[u8], is_allowed: bool) -> bool {
+    let event = Event {
+        object: 1,
+        body: body_of(long, bytes),
+    };
+    if is_allowed {
+        is_longest(alloc, &event)
+    } else {
+        is_too_long(alloc, &event)
+    }
+}
+
+fn has_length(alloc: Global, long: Long, byte: u8, count: usize, is_allowed: bool) -> bool {
+    match vec![in alloc; byte; count] {
+        Ok(bytes) => is_as_long(alloc, long, &bytes, is_allowed),
+        Err(_) => false,
+    }
+}
+
 #[test]
-fn longest_events(rt: HostRuntime) -> Result<(), Fail> {
-    let alloc = rt.alloc();
-    let text = vec![in alloc; b'a'; 65_511]?;
-    let longer = vec![in alloc; b'a'; 65_512]?;
-    is_longest(&rt, alloc, error_of(&text));
-    is_too_long(&rt, alloc, error_of(&longer));
-    is_longest(&rt, alloc, global_of(&text));
-    is_too_long(&rt, alloc, global_of(&longer));
-    let states = vec![in alloc; 0_u8; 65_512]?;
-    let more_states = vec![in alloc; 0_u8; 65_513]?;
-    is_longest(&rt, alloc, configure_of(&states));
-    is_too_long(&rt, alloc, configure_of(&more_states));
-    let model = vec![in alloc; b'a'; 65_487]?;
-    let longer_model = vec![in alloc; b'a'; 65_488]?;
-    is_longest(&rt, alloc, geometry_of(b"", &model));
-    is_too_long(&rt, alloc, geometry_of(b"", &longer_model));
-    is_too_long(&rt, alloc, geometry_of(b"make", &model));
-    Ok(())
+fn longest_events(rt: HostRuntime) {
+    for &(long, byte, count, is_allowed) in LONG {
+        assert!(rt;
+            has_length(rt.alloc(), long, byte, count, is_allowed),
+            "{count}"
+        );
+    }
 }

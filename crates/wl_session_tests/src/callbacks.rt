@@ -2,7 +2,7 @@
 
 use crate::frames::RED_10;
 use crate::pools::BUFFERS;
-use crate::support::{Case, Message, Pixel, REGISTRY, Row, play_after};
+use crate::support::{Case, Message, Pixel, REGISTRY, Row, first_missed_case};
 use crate::toplevels::{ACKNOWLEDGES, ATTACH_NONE, COMMIT, CONFIGURES, GLOBALS, MADE, MAPS};
 use wl_session::{Cause, Done, Fed, Step};
 use wl_wire::Arg;
@@ -156,7 +156,5 @@ const CASES: &[Case] = &[
 
 #[test]
 fn callbacks_are_answered(rt: HostRuntime) {
-    for &(name, parts) in CASES {
-        assert_eq!(rt; play_after(rt.alloc(), MAPPED, parts), Ok(()), "{name}");
-    }
+    assert_eq!(rt; first_missed_case(rt.alloc(), MAPPED, CASES), None);
 }

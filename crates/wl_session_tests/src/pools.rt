@@ -1,6 +1,6 @@
 //! Pools, buffers and the stores behind them.
 
-use crate::support::{Case, Message, REGISTRY, Row, play};
+use crate::support::{Case, Message, REGISTRY, Row, first_missed_case};
 use wl_session::{Cause, Done, Fed, Step, Stored};
 use wl_wire::Arg;
 
@@ -282,7 +282,5 @@ const CASES: &[Case] = &[
 
 #[test]
 fn pools_and_stores_are_as_worked(rt: HostRuntime) {
-    for &(name, parts) in CASES {
-        assert_eq!(rt; play(rt.alloc(), parts), Ok(()), "{name}");
-    }
+    assert_eq!(rt; first_missed_case(rt.alloc(), &[], CASES), None);
 }

@@ -1,6 +1,6 @@
 //! Worked recordings, with the answers that the protocol asks for.
 
-use crate::support::{CLIENT, CONFIG, Case, Row, SYNC, has_out, play};
+use crate::support::{CLIENT, CONFIG, Case, Row, SYNC, first_missed_case, has_out};
 use std::alloc::Global;
 use wl_session::{Cause, Config, ConnectError, Done, Fed, FrameError, Rgb, Session, Shot, Step};
 
@@ -271,7 +271,5 @@ const CASES: &[Case] = &[
 
 #[test]
 fn recordings_are_as_worked(rt: HostRuntime) {
-    for &(name, parts) in CASES {
-        assert_eq!(rt; play(rt.alloc(), parts), Ok(()), "{name}");
-    }
+    assert_eq!(rt; first_missed_case(rt.alloc(), &[], CASES), None);
 }

@@ -1,7 +1,7 @@
 //! Regions.
 
 use crate::pools::SHM;
-use crate::support::{Case, Message, REGISTRY, Row, play};
+use crate::support::{Case, Message, REGISTRY, Row, first_missed_case};
 use wl_wire::Arg;
 
 const RECT: &[Arg] = &[Arg::Int(0), Arg::Int(0), Arg::Int(4), Arg::Int(4)];
@@ -37,7 +37,5 @@ const CASES: &[Case] = &[
 
 #[test]
 fn regions_are_as_worked(rt: HostRuntime) {
-    for &(name, parts) in CASES {
-        assert_eq!(rt; play(rt.alloc(), parts), Ok(()), "{name}");
-    }
+    assert_eq!(rt; first_missed_case(rt.alloc(), &[], CASES), None);
 }

@@ -1,7 +1,7 @@
 //! wl_buffer.release: a buffer that no surface shows any more is told, while its wl_buffer is there.
 
 use crate::pools::BUFFERS;
-use crate::support::{Case, Message, REGISTRY, Row, play, play_after};
+use crate::support::{Case, Message, REGISTRY, Row, first_missed_case, play};
 use crate::toplevels::{ACKNOWLEDGES, ATTACH_NONE, COMMIT, CONFIGURES, GLOBALS, MADE, MAPS};
 use wl_session::{Done, Step};
 use wl_wire::Arg;
@@ -101,9 +101,7 @@ const CASES: &[Case] = &[
 
 #[test]
 fn buffers_are_released(rt: HostRuntime) {
-    for &(name, parts) in CASES {
-        assert_eq!(rt; play_after(rt.alloc(), MAPPED, parts), Ok(()), "{name}");
-    }
+    assert_eq!(rt; first_missed_case(rt.alloc(), MAPPED, CASES), None);
 }
 
 #[test]

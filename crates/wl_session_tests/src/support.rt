@@ -423,9 +423,37 @@ fn play_row_in(
 }
 
 /// Plays the parts of a case, and then a row.
-pub(crate) fn play_row(alloc: Global, parts: &[&[Row]], row: &Row) -> Result<(), Fault> {
+fn play_row(alloc: Global, parts: &[&[Row]], row: &Row) -> Result<(), Fault> {
     match Session::new(alloc, CONFIG) {
         Ok(mut session) => play_row_in(alloc, &mut session, parts, row),
         Err(_) => Err(Fault::NoSession),
     }
+}
+
+/// The first of the rows that isn't as wanted, each in a session of its own after these parts, and what wasn't.
+pub(crate) fn first_missed_row(
+    alloc: Global,
+    parts: &[&[Row]],
+    rows: &[Row],
+) -> Option<(usize, Fault)> {
+    for (place, row) in rows.iter().enumerate() {
+        if let Err(fault) = play_row(alloc, parts, row) {
+            return Some((place, fault));
+        }
+    }
+    None
+}
+
+/// The first of the cases that isn't as wanted, each in a session of its own after the parts that they share, and what wasn't.
+pub(crate) fn first_missed_case(
+    alloc: Global,
+    first: &[&[Row]],
+    cases: &[Case],
+) -> Option<(usize, Fault)> {
+    for (place, &(_, parts)) in cases.iter().enumerate() {
+        if let Err(fault) = play_after(alloc, first, parts) {
+            return Some((place, fault));
+        }
+    }
+    None
 }
