@@ -1,3 +1,5 @@
 mod Accepted
 pub mod Locals
+mod Named
 mod Rows
+mod Sides

@@ -1,12 +1,12 @@
 -- Each call adds its part to the command that clap's clauses read.
-use Rattle.std.proofs.Common.{◌≡◌, ◌∙◌, ap₂, rules, codes}
+use Rattle.std.proofs.Common.{◌≡◌, ◌∙◌, ap₂, codes}
 use Rattle.std.proofs.lemmas.Result.{IfOk-weaker}
 use Rattle.clap.specs.Words.{app_of, new_app, with_rule}
 use Rattle.wl_options.proofs.command.serve_command.Goals as goal
 
 pub returns : goal.returns
 returns c =
-    let named : app_of c.after_help.result ≡ new_app (codes "serve") = search rules in
+    let named : app_of c.after_help.result ≡ new_app (codes "serve") = rw (c.after_help.ensures, c.about.ensures) c.new.ensures.app in
     let with_socket = c.in_ok-arg.ensures.shape c.socket_option.ensures.own ∙ ap₂ with_rule named c.socket_option.ensures.rule in
     let with_turns = c.in_ok-arg-2.ensures.shape c.turns_option.ensures.own ∙ ap₂ with_rule with_socket c.turns_option.ensures.rule in
     let with_size = c.in_ok-arg-3.ensures.shape c.size_option.ensures.own ∙ ap₂ with_rule with_turns c.size_option.ensures.rule in

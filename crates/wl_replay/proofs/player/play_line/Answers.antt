@@ -1,4 +1,4 @@
-use Rattle.std.proofs.Common.{ℕ, List, Ok, Some, sym, ap, ◌∙◌}
+use Rattle.std.proofs.Common.{ℕ, List, Ok, Some, inr, refl, sym, ap, ◌∙◌}
 use Rattle.wl_recording.specs.Line.{asked_by, meaning}
 use Rattle.wl_replay.proofs.player.play_line.Goals as goal
 
@@ -12,4 +12,17 @@ returns-in-Ok-clause-played g c =
       ap asked_by (sym c.deref.ensures.value) ∙ sym asks ∙ ap (λ (piece : List ℕ). Some (meaning piece c.in-Some.line)) (sym c.deref-2.ensures.value),
       c.in-Ok.ensures.told,
       c.in-Ok.ensures.calm,
+    )
+
+pub returns-in_default-clause-failed : goal.returns-in_default-clause-failed
+returns-in_default-clause-failed g c =
+    let none = rw c.in_default.is at c.in_ok-line.ensures in (
+      refl,
+      inr (
+        c.read_text.new.text.items,
+        g.R.Read.remaining c.read_text.new.reader,
+        c.in_ok-read_text.ensures.taken (ap Ok c.if-not-branch.false),
+        ap asked_by (sym c.deref.ensures.value) ∙ sym none,
+      ),
+      (refl, refl, refl),
     )

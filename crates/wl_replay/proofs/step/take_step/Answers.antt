@@ -1,7 +1,7 @@
 use Rattle.std.proofs.Common.{refl}
 use Rattle.wl_replay.specs.Report.{TellsBytes, TellsConnect, TellsGone, TellsNothing, TellsTick}
 use Rattle.wl_recording.specs.Side.{files_of}
-use Rattle.wl_replay.specs.Storing.{TellsStore}
+use Rattle.wl_replay.specs.Storing.{TellsFile, TellsStore}
 use Rattle.wl_recording.specs.declared.line.Line.TheVariants as line
 use Rattle.wl_replay.proofs.Leading.{Counts-silent, Leads-at, Leads-nothing}
 use Rattle.wl_replay.proofs.step.take_step.Goals as goal
@@ -35,3 +35,11 @@ pub returns-in_ok-tick-in-Tick-clause-told : goal.returns-in_ok-tick-in-Tick-cla
 returns-in_ok-tick-in-Tick-clause-told g c =
     Leads-at (files_of g.S.SideFiles.opens g.S.SideFiles.gives g.S.SideFiles.fault_count) c.args.side.now c.args.side.now c.args.line (line.Tick c.in-Tick.time) c.args.piece.now (TellsTick c.in-Tick.time) _ _ _ _ _ _ c.in-Tick.is
     (λ old new told tells. (tells, refl)) (λ told counts. counts) c.in_ok-tick-in-Tick.ensures.told
+
+pub returns-in_ok-put_file-in-File-clause-told : goal.returns-in_ok-put_file-in-File-clause-told
+returns-in_ok-put_file-in-File-clause-told g c =
+    let files = files_of g.S.SideFiles.opens g.S.SideFiles.gives g.S.SideFiles.fault_count in
+    let from = c.args.side.now in
+    let to = c.put_file.new.side in
+    Leads-at files from to c.args.line (line.File c.in-File.place c.in-File.name) c.args.piece.now (TellsFile files c.in-File.place c.in-File.name.now from to) _ _ _ _ _ _ c.in-File.is
+    (λ old new told tells. tells) (Counts-silent _ 0) c.in_ok-put_file-in-File.ensures.told
