@@ -3,3 +3,4 @@ pub mod Counted
 pub mod Found
 pub mod ReadAgain
 pub mod Appended
+pub mod CutBack
