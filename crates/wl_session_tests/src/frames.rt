@@ -2,8 +2,7 @@
 
 use crate::pools::BUFFERS;
 use crate::support::{
-    CONFIG, Case, Fault, Message, Pixel, REGISTRY, Row, bytes_of, first_missed_case, is_pixel,
-    play_after, play_in,
+    Case, Message, Pixel, REGISTRY, Row, bytes_of, first_missed_case, is_pixel, play_after,
 };
 use crate::toplevels::{
     ACKNOWLEDGES, ATTACH_NONE, COMMIT, CONFIGURED, CONFIGURES, GLOBALS, MADE, MAPS,
@@ -458,26 +457,9 @@ const CASES: &[Case] = &[
         "a window shows what its store has",
         &[WITHOUT_POOL, MAPS, SHOWS_ONE_RED],
     ),
-    ("a clean tick paints nothing", &[RED_10, MAPS, SHOWS_RED]),
     (
         "a buffer is not copied at its commit",
         &[RED_10, MAPS, WRITTEN_AFTERWARDS],
-    ),
-    (
-        "a later write is seen where a commit tells of it",
-        &[RED_10, MAPS, SHOWS_RED, WRITTEN_LATER],
-    ),
-    (
-        "1,025 rectangles of damage mean the whole surface",
-        &[RED_10, MAPS, SHOWS_RED, MANY_RECTANGLES],
-    ),
-    (
-        "damage is cut to the surface",
-        &[RED_10, MAPS, SHOWS_RED, BEYOND_THE_SURFACE],
-    ),
-    (
-        "a window that is turned is painted as a whole",
-        &[RED_10, MAPS, SHOWS_RED, TURNS],
     ),
     (
         "a change below another window is painted",
@@ -490,30 +472,6 @@ const CASES: &[Case] = &[
             CHANGED_BELOW,
         ],
     ),
-    (
-        "a window that moves leaves its old place",
-        &[RED_10, MAPS, SHOWS_RED, MOVES],
-    ),
-    (
-        "a window that is mapped again takes the next place",
-        &[RED_10, MAPS, SHOWS_RED, MAPPED_AGAIN],
-    ),
-    (
-        "a toplevel takes its window with it",
-        &[RED_10, MAPS, SHOWS_RED, DESTROYED],
-    ),
-    (
-        "an error takes the window",
-        &[RED_10, MAPS, SHOWS_RED, ENDS],
-    ),
-    (
-        "a client that goes takes its window",
-        &[RED_10, MAPS, SHOWS_RED, GOES],
-    ),
-    (
-        "a buffer stays shown though its id is used again",
-        &[RED_10, MAPS, SHOWS_RED, ID_USED_AGAIN],
-    ),
 ];
 
 #[test]
@@ -521,8 +479,58 @@ fn frames_are_as_worked(rt: HostRuntime) {
     assert_eq!(rt; first_missed_case(rt.alloc(), START, CASES), None);
 }
 
+/// A window that is all red, and a clean tick after its frame.
+const SHOWN: &[&[Row]] = &[
+    REGISTRY,
+    GLOBALS,
+    MADE,
+    CONFIGURES,
+    ACKNOWLEDGES,
+    BUFFERS,
+    RED_10,
+    MAPS,
+    SHOWS_RED,
+];
+
+const SHOWN_CASES: &[Case] = &[
+    ("a clean tick paints nothing", &[]),
+    (
+        "a later write is seen where a commit tells of it",
+        &[WRITTEN_LATER],
+    ),
+    (
+        "1,025 rectangles of damage mean the whole surface",
+        &[MANY_RECTANGLES],
+    ),
+    ("damage is cut to the surface", &[BEYOND_THE_SURFACE]),
+    ("a window that is turned is painted as a whole", &[TURNS]),
+    ("a window that moves leaves its old place", &[MOVES]),
+    (
+        "a window that is mapped again takes the next place",
+        &[MAPPED_AGAIN],
+    ),
+    ("a toplevel takes its window with it", &[DESTROYED]),
+    ("an error takes the window", &[ENDS]),
+    ("a client that goes takes its window", &[GOES]),
+    (
+        "a buffer stays shown though its id is used again",
+        &[ID_USED_AGAIN],
+    ),
+];
+
+#[test]
+fn frames_of_a_shown_window(rt: HostRuntime) {
+    assert_eq!(rt; first_missed_case(rt.alloc(), SHOWN, SHOWN_CASES), None);
+}
+
 /// The white window of the client 1, and above it one of the client 2 that is half red.
 const TWO: &[&[Row]] = &[
+    REGISTRY,
+    GLOBALS,
+    MADE,
+    CONFIGURES,
+    ACKNOWLEDGES,
+    BUFFERS,
     WHITE_10,
     MAPS,
     SHOWS_WHITE,
@@ -531,45 +539,22 @@ const TWO: &[&[Row]] = &[
     SHOWS_BOTH,
 ];
 
-const COMMITTED_BELOW: &[&[Row]] = &[BELOW];
+const TWO_CASES: &[Case] = &[
+    ("a commit below the other window", &[BELOW]),
+    ("both windows are damaged", &[MOVED_TO_THE_CORNER]),
+    ("the client below ends", &[OTHER_STAYS]),
+];
 
-const BOTH_DAMAGED: &[&[Row]] = &[MOVED_TO_THE_CORNER];
-
-const FIRST_ENDED: &[&[Row]] = &[OTHER_STAYS];
-
-/// Plays parts after both windows are there.
-fn play_two(
-    alloc: Global,
-    first: &[&[Row]],
-    second: &[&[Row]],
-    parts: &[&[Row]],
-) -> Result<(), Fault> {
-    match Session::new(alloc, CONFIG) {
-        Ok(mut session) => play_after_two(alloc, &mut session, first, second, parts),
-        Err(_) => Err(Fault::NoSession),
-    }
-}
-
-fn play_after_two(
-    alloc: Global,
-    session: &mut Session<Global>,
-    first: &[&[Row]],
-    second: &[&[Row]],
-    parts: &[&[Row]],
-) -> Result<(), Fault> {
-    play_in(alloc, session, first)?;
-    play_in(alloc, session, second)?;
-    play_in(alloc, session, parts)
+#[test]
+fn windows_of_two_clients(rt: HostRuntime) {
+    assert_eq!(rt; first_missed_case(rt.alloc(), TWO, TWO_CASES), None);
 }
 
 /// The parts of a session before the client 2 has the only window.
 const SECOND_ALONE: &[&[Row]] = &[REGISTRY, GLOBALS, MADE, CONFIGURES, BUFFERS];
 
 #[test]
-fn windows_of_two_clients(rt: HostRuntime) {
-    assert_eq!(rt; play_two(rt.alloc(), START, TWO, COMMITTED_BELOW), Ok(()));
-    assert_eq!(rt; play_two(rt.alloc(), START, TWO, BOTH_DAMAGED), Ok(()));
-    assert_eq!(rt; play_two(rt.alloc(), START, TWO, FIRST_ENDED), Ok(()));
+fn a_window_of_the_second_client_alone(rt: HostRuntime) {
     let parts: &[&[Row]] = &[SECOND, SECOND_BUFFER, SHOWS_SECOND_ALONE, UNCONFIGURED];
     assert_eq!(rt; play_after(rt.alloc(), SECOND_ALONE, parts), Ok(()));
 }
