@@ -10,4 +10,6 @@ mod shells;
 #[cfg(test)]
 mod stores;
 #[cfg(test)]
+mod surface_cases;
+#[cfg(test)]
 mod surfaces;
