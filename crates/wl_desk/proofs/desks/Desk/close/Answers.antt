@@ -59,13 +59,12 @@ returns-then-not-has_ended-clause-output g c = refl
 
 pub returns-clause-sides : goal.returns-clause-sides
 returns-clause-sides g c = record {
-      width = ap (λ (m : MarkedDesk). m.damage.width) c.self.view_is;
-      height = ap (λ (m : MarkedDesk). m.damage.height) c.self.view_is;
-    }
+  width = ap (λ (m : MarkedDesk). m.damage.width) c.self.view_is;
+  height = ap (λ (m : MarkedDesk). m.damage.height) c.self.view_is;
+}
 
 pub returns-clause-nothing : goal.returns-clause-nothing
 returns-clause-nothing g c = λ d a x y w h. ap (λ (m : MarkedDesk). has m.damage x y) c.self.view_is
 
 pub returns-clause-output : goal.returns-clause-output
 returns-clause-output g c = ap (λ (m : MarkedDesk). m.desk.output) c.self.view_is
-

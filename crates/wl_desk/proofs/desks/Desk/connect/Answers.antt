@@ -64,7 +64,6 @@ returns-in_default-new-clause-nothing g c = λ d a x y w h. refl
 
 pub returns-clause-sides : goal.returns-clause-sides
 returns-clause-sides g c = record {
-      width = ap (λ (m : MarkedDesk). m.damage.width) c.self.view_is;
-      height = ap (λ (m : MarkedDesk). m.damage.height) c.self.view_is;
-    }
-
+  width = ap (λ (m : MarkedDesk). m.damage.width) c.self.view_is;
+  height = ap (λ (m : MarkedDesk). m.damage.height) c.self.view_is;
+}

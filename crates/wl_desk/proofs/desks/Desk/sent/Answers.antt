@@ -81,10 +81,9 @@ returns-in_default-clause-nothing g c = λ d a x y w h. refl
 
 pub returns-in_default-take_out-clause-sides : goal.returns-in_default-take_out-clause-sides
 returns-in_default-take_out-clause-sides g c = record {
-      width = ap (λ (m : MarkedDesk). m.damage.width) c.self.view_is;
-      height = ap (λ (m : MarkedDesk). m.damage.height) c.self.view_is;
-    }
+  width = ap (λ (m : MarkedDesk). m.damage.width) c.self.view_is;
+  height = ap (λ (m : MarkedDesk). m.damage.height) c.self.view_is;
+}
 
 pub returns-in_default-take_out-clause-nothing : goal.returns-in_default-take_out-clause-nothing
 returns-in_default-take_out-clause-nothing g c = λ d a x y w h. ap (λ (m : MarkedDesk). has m.damage x y) c.self.view_is
-

@@ -128,7 +128,6 @@ returns-in_default-clause-sides g c = record { width = refl; height = refl }
 
 pub returns-in_default-take_out-clause-sides : goal.returns-in_default-take_out-clause-sides
 returns-in_default-take_out-clause-sides g c = record {
-      width = ap (λ (m : MarkedDesk). m.damage.width) c.self.view_is;
-      height = ap (λ (m : MarkedDesk). m.damage.height) c.self.view_is;
-    }
-
+  width = ap (λ (m : MarkedDesk). m.damage.width) c.self.view_is;
+  height = ap (λ (m : MarkedDesk). m.damage.height) c.self.view_is;
+}

@@ -11,11 +11,11 @@ returns-clause-taken g c = c.swap.ensures.x_after ∙ ap (λ (m : MarkedDesk). m
 
 pub returns-clause-sides : goal.returns-clause-sides
 returns-clause-sides g c = record {
-      width = ap (λ (d : Damaged). d.width) c.swap.ensures.y_after ∙ (c.clear.ensures.width ∙ (c.requires.wide
-          ∙ (sym (ap (λ (m : MarkedDesk). m.desk.output.width) c.self.view_is) ∙ (sym c.self.invariant.1.0 ∙ ap (λ (m : MarkedDesk). m.damage.width) c.self.view_is))));
-      height = ap (λ (d : Damaged). d.height) c.swap.ensures.y_after ∙ (c.clear.ensures.height ∙ (c.requires.high
-          ∙ (sym (ap (λ (m : MarkedDesk). m.desk.output.height) c.self.view_is) ∙ (sym c.self.invariant.1.1 ∙ ap (λ (m : MarkedDesk). m.damage.height) c.self.view_is))));
-    }
+  width = ap (λ (d : Damaged). d.width) c.swap.ensures.y_after ∙ (c.clear.ensures.width ∙ (c.requires.wide
+      ∙ (sym (ap (λ (m : MarkedDesk). m.desk.output.width) c.self.view_is) ∙ (sym c.self.invariant.1.0 ∙ ap (λ (m : MarkedDesk). m.damage.width) c.self.view_is))));
+  height = ap (λ (d : Damaged). d.height) c.swap.ensures.y_after ∙ (c.clear.ensures.height ∙ (c.requires.high
+      ∙ (sym (ap (λ (m : MarkedDesk). m.desk.output.height) c.self.view_is) ∙ (sym c.self.invariant.1.1 ∙ ap (λ (m : MarkedDesk). m.damage.height) c.self.view_is))));
+}
 
 pub returns-clause-desk : goal.returns-clause-desk
 returns-clause-desk g c = ap (λ (m : MarkedDesk). m.desk) c.self.view_is

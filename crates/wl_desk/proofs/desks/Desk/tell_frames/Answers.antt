@@ -62,4 +62,3 @@ returns-clause-sides g c = rw (← c.self.view_is) c.tell_frames.ensures.sides
 
 pub returns-in_default-clause-sides : goal.returns-in_default-clause-sides
 returns-in_default-clause-sides g c = record { width = refl; height = refl }
-
