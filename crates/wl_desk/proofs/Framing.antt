@@ -1,16 +1,20 @@
 -- A frame is told to the clients one after another.
-use Rattle.std.proofs.Common.{◌≡◌, ◌≢◌, ℕ, zero, suc, ◌+◌, ◌<◌, ◌≤◌, List, Bool, true, false, Option, Some, None, get_or, set, refl, ap, subst, sym, ◌∙◌, arith, ◌⊎◌, inl, inr}
-use Rattle.std.specs.Prelude.{pos, ◌||◌, is_some}
+use Rattle.std.proofs.Common.{◌≡◌, ◌≢◌, ℕ, suc, ◌+◌, ◌<◌, List, Bool, true, false, Option, Some, None, get_or, set, refl, ap, subst, sym, ◌∙◌, arith, ◌⊎◌, inl, inr}
+use Rattle.std.specs.Prelude.{pos, ◌==◌, ◌&&◌, ◌||◌, is_some}
 use Rattle.wl_client.specs.View.{ClientView}
 use Rattle.wl_client.specs.declared.clients.Cause.{Cause}
+use Rattle.wl_client.specs.Told.{Output as Sides}
 use Rattle.wl_client.specs.declared.outputs.Output.{Output}
 use Rattle.wl_client.specs.Peer.{Peer}
 use Rattle.wl_paint.specs.Damage.{Damaged, has}
+use Rattle.std.proofs.lemmas.Bool.{or_left, or_right}
 use Rattle.wl_plain.specs.Desktop.{Desktop, Resident, become, become_by, client_at}
 use Rattle.wl_plain.specs.Framing.{FramesTold, FramesToldAt, FramesToldBy, done_due}
 use Rattle.wl_plain.specs.Laws.{status_in, status_of}
-use Rattle.wl_plain.specs.Moments.{marks_at_least}
+use Rattle.wl_plain.specs.Moments.{marks_at_most}
 use Rattle.wl_plain.specs.NoMore.{NoMore}
+use Rattle.wl_plain.specs.Touching.{has_window_at}
+use Rattle.wl_scene.specs.Windows.{contains}
 use Rattle.wl_plain.proofs.Framing.{told-more}
 use Rattle.wl_plain.proofs.FramingKeeps.{IsAsOwned, frames-have, frames-same}
 use Rattle.wl_plain.proofs.MarkedThrough.{unmarked-on}
@@ -18,36 +22,42 @@ use Rattle.wl_plain.proofs.OneRunFates.{same-or}
 use Rattle.wl_plain.proofs.OwningKeys.{differ}
 use Rattle.wl_plain.proofs.Places.{other-become, status-become}
 use Rattle.wl_plain.proofs.TouchingSteps.{told-marks-nothing}
-use Rattle.wl_plain.proofs.ToplevelWindows.{marks_of_toplevels}
 use Rattle.wl_scene.specs.Stacking.{Stack}
 use Rattle.wl_scene.specs.declared.owned.Owned.{Owned}
 use Rattle.wl_resident.specs.Agreement.{Matches, numbers_in}
-use Rattle.wl_resident.specs.Marking.{IsAsLarge, MarksAtLeast, MarksEnd}
+use Rattle.wl_resident.specs.Marking.{IsAsLarge, MarksAtLeast, MarksMost, MarksOwnIf}
 use Rattle.wl_resident.specs.Seats.{IsSeated}
 use Rattle.wl_resident.specs.View.{DeskView, MarkedDesk}
 use Rattle.wl_resident.specs.declared.residents.Resident.{Resident as Kept}
 use Rattle.wl_resident.proofs.Toplevels.{MarksToplevels, marks-all}
+use Rattle.wl_resident.proofs.Within.{within-output}
 use Rattle.wl_desk.specs.Agreeing.{Agrees}
-use Rattle.wl_desk.specs.Framing.{HasSame, MarksIfEnds, WasTold}
+use Rattle.wl_desk.specs.Framing.{MarksIfEnds, WasTold}
 use Rattle.wl_desk.proofs.Agreed.{agrees-apart, still-unmarked}
 use Rattle.wl_desk.proofs.Calls.{IsFound, back, out, untaken, view_of}
-use Rattle.wl_desk.proofs.Desktops.{client-past}
-use Rattle.wl_desk.proofs.MarkedCalls.{or-none, told-marks, unlinked}
+use Rattle.wl_desk.proofs.Most.{HasNoNew, over-within, told-over, told-windows}
+use Rattle.wl_desk.proofs.MarkedCalls.{or-none, own-marks, unlinked}
 
 -- ---- nobody is told
 
+-- what is to be painted is of an output of the desktop's sides
+abbrev pub IsSized : MarkedDesk → Desktop → Type 0
+IsSized v d = (v.damage.width ≡ d.output.width) × (v.damage.height ≡ d.output.height)
+
 -- nothing changes, and the same is to be painted
-pub nothing-told : (time c : ℕ) (old new : MarkedDesk) (d : Desktop) → FramesToldAt time c (client_at c d) d d → Agrees old.desk d → Agrees new.desk d → new.damage ≡ old.damage → WasTold time c old new d d
-nothing-told time c old new d told a b same =
+pub nothing-told : (time c : ℕ) (old new : MarkedDesk) (d : Desktop) → FramesToldAt time c (client_at c d) d d → Agrees old.desk d → Agrees new.desk d → new.damage ≡ old.damage → IsSized old d → WasTold time c old new d d
+nothing-told time c old new d told a b same sized =
     record {
       told = told;
+      sized = sized;
       agrees = b;
       marks = λ x y wide high clean. (ap (λ (w : Damaged). has w x y) (sym same) ∙ clean, still-unmarked old.desk d a x y);
+      within = λ x y wide high marked. inl (ap (λ (w : Damaged). has w x y) (sym same) ∙ marked);
       quiet = λ stays x y wide high. ap (λ (w : Damaged). has w x y) same;
     }
 
-pub nobody-told : (time c : ℕ) (old new : MarkedDesk) (d : Desktop) → client_at c d ≡ None → Agrees old.desk d → Agrees new.desk d → new.damage ≡ old.damage → WasTold time c old new d d
-nobody-told time c old new d nobody a b same = nothing-told time c old new d (subst (λ (o : Option Resident). FramesToldAt time c o d d) (sym nobody) refl) a b same
+pub nobody-told : (time c : ℕ) (old new : MarkedDesk) (d : Desktop) → client_at c d ≡ None → Agrees old.desk d → Agrees new.desk d → new.damage ≡ old.damage → IsSized old d → WasTold time c old new d d
+nobody-told time c old new d nobody a b same sized = nothing-told time c old new d (subst (λ (o : Option Resident). FramesToldAt time c o d d) (sym nobody) refl) a b same sized
 
 -- ---- one client is told
 
@@ -55,46 +65,75 @@ nobody-told time c old new d nobody a b same = nothing-told time c old new d (su
 same-end : (c : ℕ) (made r : Resident) (q : Peer) (cause : Cause) (d : Desktop) → q.status ≡ Some cause → become c made q d ≡ become c r q d
 same-end c made r q cause d status = ap (λ s. become_by s c made q d) status ∙ sym (ap (λ s. become_by s c r q d) status)
 
-marks-told : (c : ℕ) (r : Resident) (v : DeskView) (d : Desktop) (q : Peer) (ended : Option Cause) (old new : Damaged) → client_at c d ≡ Some r → Matches v d → q.status ≡ ended → MarksEnd ended c v.scene old new
+-- its windows are to be painted where it ended, and nothing more else
+abbrev AddsOwn : Option Cause → ℕ → Desktop → Damaged → Damaged → Type 0
+AddsOwn ended c d old new = (x y : ℕ) → x < old.width → y < old.height → has new x y ≡ (has old x y || (is_some ended && has_window_at c (pos x) (pos y) d))
+
+marks-told : (c : ℕ) (r : Resident) (v : DeskView) (d : Desktop) (q : Peer) (ended : Option Cause) (old new : Damaged) → client_at c d ≡ Some r → Matches v d → q.status ≡ ended → AddsOwn ended c d old new
     → MarksToplevels d (become c (done_due r) q d) old new
-marks-told c r v d q (Some cause) old new there a status marks =
-    subst (λ (e : Desktop). MarksToplevels d e old new) (sym (same-end c (done_due r) r q cause d status)) (told-marks c r v d q (Some cause) old new there a status marks)
-marks-told c r v d q None old new there a status marks = λ x y wide high clean. (
-  or-none (has old x y) ∙ sym (marks.1 x y wide high) ∙ clean,
+marks-told c r v d q (Some cause) old new there a status adds =
+    subst (λ (e : Desktop). MarksToplevels d e old new) (sym (same-end c (done_due r) r q cause d status)) (own-marks c r v d q old new there a adds)
+marks-told c r v d q None old new there a status adds = λ x y wide high clean. (
+  or-none (has old x y) ∙ sym (adds x y wide high) ∙ clean,
   told-marks-nothing c r d there (unlinked v d a) a.mapped.apart (done_due r) q refl status (pos x) (pos y),
 )
 
 -- a client that lives is told
 pub one-told : (time c : ℕ) (r : Resident) (old new : MarkedDesk) (d e : Desktop) (ended : Option Cause) → client_at c d ≡ Some r → r.peer.status ≡ None → Agrees old.desk d → Matches new.desk e → FramesToldAt time c (Some r) d e → status_in c e ≡ ended
-    → MarksEnd ended c old.desk.scene old.damage new.damage → WasTold time c old new d e
-one-told time c r old new d e ended there alive a b told status marks =
+    → AddsOwn ended c d old.damage new.damage → IsSized old d → WasTold time c old new d e
+one-told time c r old new d e ended there alive a b told status marks sized =
     let at : FramesToldAt time c (client_at c d) d e = subst (λ (o : Option Resident). FramesToldAt time c o d e) (sym there) told in
     let later : NoMore e = frames-have time 1 c d e a.no_more (e, at, refl) in
     let so : FramesToldBy None time c r d e = subst (λ s. FramesToldBy s time c r d e) alive told in
     let is : so.0.status ≡ ended = sym (ap (λ (x : Desktop). status_in c x) so.2 ∙ status-become c (done_due r) so.0 d r there) ∙ status in
     record {
       told = at;
+      sized = sized;
       agrees = record { matches = b; no_more = later };
       marks = marks-all d e old.damage new.damage a.no_more later
           (subst (λ (x : Desktop). MarksToplevels d x old.damage new.damage) (sym so.2) (marks-told c r old.desk d so.0 ended old.damage new.damage there a.matches is marks));
+      within = λ x y wide high marked. own-or (has old.damage x y) (is_some ended) (has_window_at c (pos x) (pos y) d) (ap (λ (o : Option Cause). is_some o) status) (sym (marks x y wide high) ∙ marked);
       quiet = λ stays x y wide high.
           let lives : ended ≡ None = sym status ∙ stays ∙ ap status_of there ∙ alive in
-          (subst (λ s. MarksEnd s c old.desk.scene old.damage new.damage) lives marks).1 x y wide high ∙ sym (or-none (has old.damage x y));
+          subst (λ s. AddsOwn s c d old.damage new.damage) lives marks x y wide high ∙ sym (or-none (has old.damage x y));
     }
+  where
+    own-or : (a b f : Bool) → is_some (status_in c e) ≡ b → (a || (b && f)) ≡ true → (a ≡ true) ⊎ ((is_some (status_in c e) ≡ true) × (f ≡ true))
+    own-or true b f over h = inl refl
+    own-or false true f over h = inr (over, h)
+    own-or false false f over h = absurd (differ (sym h))
 
 -- ---- several are told
+
+-- What is to be painted was before, or lies in a window that a client had that ended.
+abbrev WithinEnds : Desktop → Desktop → Damaged → Damaged → Type 0
+WithinEnds d e old new =
+    (x y : ℕ) → x < old.width → y < old.height → has new x y ≡ true
+    → (has old x y ≡ true) ⊎ ((c : ℕ) × (is_some (status_in c e) ≡ true) × (has_window_at c (pos x) (pos y) d ≡ true))
 
 -- n clients were told
 pub record HasTold (time n : ℕ) (old new : MarkedDesk) (d mid : Desktop) : Type 0 where
   pub told : FramesTold time n 1 d mid
+  pub sized : (n ≡ 0) ⊎ IsSized old d
   pub agrees : Agrees new.desk mid
   pub marks : MarksAtLeast d mid old.damage new.damage
+  pub within : WithinEnds d mid old.damage new.damage
+  pub windows : HasNoNew d mid
   pub quiet : MarksIfEnds d mid old.damage new.damage
   pub others : (k : ℕ) → n < k → client_at k mid ≡ client_at k d
 
 pub none-told : (time : ℕ) (old : MarkedDesk) (d : Desktop) → Agrees old.desk d → HasTold time 0 old old d d
 none-told time old d a =
-    record { told = refl; agrees = a; marks = λ x y wide high clean. (clean, still-unmarked old.desk d a x y); quiet = λ stays x y wide high. refl; others = λ k past. refl }
+    record {
+      told = refl;
+      sized = inl refl;
+      agrees = a;
+      marks = λ x y wide high clean. (clean, still-unmarked old.desk d a x y);
+      within = λ x y wide high marked. inl marked;
+      windows = λ p there. there;
+      quiet = λ stays x y wide high. refl;
+      others = λ k past. refl;
+    }
 
 told-others : (time c : ℕ) (o : Option Resident) (d e : Desktop) → FramesToldAt time c o d e → (k : ℕ) → c ≢ k → client_at k e ≡ client_at k d
 told-others time c None d e h k apart = ap (λ (x : Desktop). client_at k x) h
@@ -113,11 +152,14 @@ more-told time n old mid new d m e large a before here =
     let others = told-others time (n + 1) (client_at (n + 1) m) m e here.told in
     record {
       told = subst (λ k. FramesTold time k 1 d e) next (told-more time n 1 d m e before.told (subst (λ k. FramesToldAt time k (client_at k m) m e) number here.told));
+      sized = inr (sym large.width ∙ here.sized.0 ∙ ap (λ (o : Sides). o.width) owned.output, sym large.height ∙ here.sized.1 ∙ ap (λ (o : Sides). o.height) owned.output);
       agrees = here.agrees;
       marks = λ x y wide high clean.
           let second = here.marks x y (rw large.width wide) (rw large.height high) clean in
           let first = before.marks x y wide high second.0 in
           (first.0, unmarked-on d m e (pos x) (pos y) (agrees-apart old.desk d a) owned.output owns.owns first.1 second.1);
+      within = λ x y wide high marked. within-on x y wide high (here.within x y (rw large.width wide) (rw large.height high) marked);
+      windows = λ p there. before.windows p (told-windows time (n + 1) (client_at (n + 1) m) m e refl (unlinked mid.desk m before.agrees.matches) (unlinked new.desk e here.agrees.matches) here.told p there);
       quiet = λ stays x y wide high.
           let was : (c : ℕ) → status_in c m ≡ status_in c d = λ c. at c (same-or (n + 1) c) stays others in
           let one : status_in (n + 1) e ≡ status_in (n + 1) m = stays (n + 1) ∙ sym (was (n + 1)) in
@@ -125,13 +167,43 @@ more-told time n old mid new d m e large a before here =
       others = λ k past. others k (λ same. let e : n + 1 ≡ k = same in omega (arith, past, e)) ∙ before.others k (omega (arith, past));
     }
   where
+    within-on : (x y : ℕ) → x < old.damage.width → y < old.damage.height
+        → (has mid.damage x y ≡ true) ⊎ ((is_some (status_in (n + 1) e) ≡ true) × (has_window_at (n + 1) (pos x) (pos y) m ≡ true))
+        → (has old.damage x y ≡ true) ⊎ ((c : ℕ) × (is_some (status_in c e) ≡ true) × (has_window_at c (pos x) (pos y) d ≡ true))
+    within-on x y wide high (inr (over, there)) =
+        inr (n + 1, over, before.windows (λ w. (w.owner.client == (n + 1)) && contains w (pos x) (pos y)) there)
+    within-on x y wide high (inl marked) = earlier (before.within x y wide high marked)
+      where
+        earlier : (has old.damage x y ≡ true) ⊎ ((c : ℕ) × (is_some (status_in c m) ≡ true) × (has_window_at c (pos x) (pos y) d ≡ true))
+            → (has old.damage x y ≡ true) ⊎ ((c : ℕ) × (is_some (status_in c e) ≡ true) × (has_window_at c (pos x) (pos y) d ≡ true))
+        earlier (inl marked) = inl marked
+        earlier (inr (c, over, there)) = inr (c, told-over time (n + 1) c (client_at (n + 1) m) m e refl here.told over, there)
+
     at : (c : ℕ) → ((n + 1) ≡ c) ⊎ ((n + 1) ≢ c) → ((c : ℕ) → status_in c e ≡ status_in c d) → ((k : ℕ) → (n + 1) ≢ k → client_at k e ≡ client_at k m) → status_in c m ≡ status_in c d
     at c (inl same) stays others = ap status_of (before.others c (omega (arith, same)))
     at c (inr apart) stays others = sym (ap status_of (others c apart)) ∙ stays c
 
+-- what all of them mark is no more than a step may
+pub told-most : (time n : ℕ) (old new : MarkedDesk) (d e : Desktop) → Agrees old.desk d → HasTold time (suc n) old new d e → MarksMost d e old.damage new.damage
+told-most time n old new d e a told x y wide high marked = sized told.sized
+  where
+    by : IsSized old d → (has old.damage x y ≡ true) ⊎ ((c : ℕ) × (is_some (status_in c e) ≡ true) × (has_window_at c (pos x) (pos y) d ≡ true)) → (has old.damage x y || marks_at_most d e None (pos x) (pos y)) ≡ true
+    by sides (inl was) = or_left (has old.damage x y) _ was
+    by sides (inr (c, over, there)) =
+        or_right (has old.damage x y) _
+        (over-within c d e (pos x) (pos y) a.no_more told.agrees.no_more (unlinked new.desk e told.agrees.matches) over
+        (within-output d.output.width d.output.height x y (subst (λ w. x < w) sides.0 wide) (subst (λ h. y < h) sides.1 high)) there)
+
+    sized : (suc n ≡ 0) ⊎ IsSized old d → (has old.damage x y || marks_at_most d e None (pos x) (pos y)) ≡ true
+    sized (inl none) = absurd (cc)
+    sized (inr sides) = by sides (told.within x y wide high marked)
+
 -- ---- a client of the desk
 
-module _ {A : Type 0} (time : ℕ) (output : Output) (us : List (Option ClientView)) (os : List (Option (Owned A))) (stack : Stack) (c k : ℕ) (is : IsFound us os c k) (d : Desktop) (damage : Damaged) (a : Agrees (view_of output us os stack) d) where
+module _ {A : Type 0} (time : ℕ) (output : Output) (us : List (Option ClientView)) (os : List (Option (Owned A))) (stack : Stack) (c k : ℕ) (is : IsFound us os c k) (d : Desktop) (damage : Damaged) (sides : (damage.width ≡ output.width) × (damage.height ≡ output.height)) (a : Agrees (view_of output us os stack) d) where
+  sized : IsSized (record { desk = view_of output us os stack; damage = damage }) d
+  sized = (sides.0 ∙ ap (λ (o : Sides). o.width) a.matches.output, sides.1 ∙ ap (λ (o : Sides). o.height) a.matches.output)
+
   abbrev marked : DeskView → Damaged → MarkedDesk
   marked v damage = record { desk = v; damage = damage }
 
@@ -140,12 +212,12 @@ module _ {A : Type 0} (time : ℕ) (output : Output) (us : List (Option ClientVi
       → WasTold time c (marked (view_of output us os stack) damage) (marked (view_of output (set us k x2) (set os k y2) stack) damage) d d
   untaken-told x x2 y y2 e f none left =
       let free = untaken output us os stack c k is d a.matches x x2 y y2 e f none left in
-      nobody-told time c (marked (view_of output us os stack) damage) (marked (view_of output (set us k x2) (set os k y2) stack) damage) d free.0 a (record { matches = free.1; no_more = a.no_more }) refl
+      nobody-told time c (marked (view_of output us os stack) damage) (marked (view_of output (set us k x2) (set os k y2) stack) damage) d free.0 a (record { matches = free.1; no_more = a.no_more }) refl sized
 
   -- one was, is told, and is put back
   pub taken-told : (v new : Kept A) (x x2 : Option ClientView) (y y2 : Option (Owned A)) (now : Stack) (after : Damaged) → x ≡ get_or us k x → y ≡ get_or os k y → (x ≡ Some v.client) × (y ≡ Some v.owned)
       → ((r : Resident) → IsSeated c (numbers_in us) d v stack d r → NoMore d → (e : Desktop) × (s : Resident) × FramesToldAt time c (Some r) d e × IsSeated c (numbers_in us) d new now e s)
-      → (v.client.ended ≡ None → MarksEnd new.client.ended c stack damage after) → (is_some v.client.ended ≡ true → (new ≡ v) × (now ≡ stack) × (after ≡ damage))
+      → (v.client.ended ≡ None → MarksOwnIf (is_some new.client.ended) c v stack damage after) → (is_some v.client.ended ≡ true → (new ≡ v) × (now ≡ stack) × (after ≡ damage))
       → (e : Desktop) × WasTold time c (marked (view_of output us os stack) damage) (marked (view_of output (set (set us k x2) k (Some new.client)) (set (set os k y2) k (Some new.owned)) now) after) d e
   taken-told v new x x2 y y2 now after e f taken tells marks idle =
       let s = out output us os stack c k is d a.matches v x y e f taken in
@@ -166,10 +238,10 @@ module _ {A : Type 0} (time : ℕ) (output : Output) (us : List (Option ClientVi
           → (o : Option Cause) → v.client.ended ≡ o → WasTold time c (marked (view_of output us os stack) damage) (marked later after) d x
       at r x q later there seated told seated_after matches None ended =
           one-told time c r (marked (view_of output us os stack) damage) (marked later after) d x new.client.ended there (sym seated.seat.peer.status ∙ ended) a matches told
-          (ap status_of seated_after.based.there ∙ sym seated_after.seat.peer.status) (marks ended)
+          (ap status_of seated_after.based.there ∙ sym seated_after.seat.peer.status) ((marks ended).1 (numbers_in us) d d r seated) sized
       at r x q later there seated told seated_after matches (Some cause) ended =
           let same = over-told r x told (ap (λ (o : Option Cause). is_some o) (sym seated.seat.peer.status ∙ ended)) in
           let here : FramesToldAt time c (Some r) d d = subst (λ (y : Desktop). FramesToldAt time c (Some r) d y) same told in
           subst (λ (y : Desktop). WasTold time c (marked (view_of output us os stack) damage) (marked later after) d y) (sym same)
           (nothing-told time c (marked (view_of output us os stack) damage) (marked later after) d (subst (λ (o : Option Resident). FramesToldAt time c o d d) (sym there) here) a
-          (record { matches = subst (λ (y : Desktop). Matches later y) same matches; no_more = a.no_more }) (idle (ap (λ (o : Option Cause). is_some o) ended)).2)
+          (record { matches = subst (λ (y : Desktop). Matches later y) same matches; no_more = a.no_more }) (idle (ap (λ (o : Option Cause). is_some o) ended)).2 sized)

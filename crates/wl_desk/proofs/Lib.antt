@@ -6,6 +6,7 @@ pub mod Lending
 pub mod Painting
 pub mod Kept
 pub mod MarkedCalls
+pub mod Most
 pub mod PaintedDesks
 pub mod NoMore
 pub mod Framing

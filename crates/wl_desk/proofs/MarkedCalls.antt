@@ -84,14 +84,14 @@ any-standing c numbers [] (s ∷ ss) is = absurd is
 any-standing c numbers (k ∷ ks) [] is = absurd is
 
 -- those that aren't the client's are all, where it has none
-others-all : (c : ℕ) (ss : List Standing) → list_any (λ s. s.client == c) ss ≡ false → without_client c ss ≡ ss
+pub others-all : (c : ℕ) (ss : List Standing) → list_any (λ s. s.client == c) ss ≡ false → without_client c ss ≡ ss
 others-all c [] none = refl
 others-all c (s ∷ ss) none =
     let both = neither (s.client == c) (list_any (λ s. s.client == c) ss) none in
     rw both.0 (ap (λ ss. s ∷ ss) (others-all c ss both.1))
 
 -- one of whose surfaces none stands has no toplevel
-none-standing : (c : ℕ) (ss : List Standing) → ((surface : ℕ) → list_any (is_of c surface) ss ≡ false) → list_any (λ s. s.client == c) ss ≡ false
+pub none-standing : (c : ℕ) (ss : List Standing) → ((surface : ℕ) → list_any (is_of c surface) ss ≡ false) → list_any (λ s. s.client == c) ss ≡ false
 none-standing c [] none = refl
 none-standing c (s ∷ ss) none =
     by (s.client == c) refl (none-standing c ss (λ surface. (neither (is_of c surface s) (list_any (is_of c surface) ss) (none surface)).1))
@@ -100,11 +100,11 @@ none-standing c (s ∷ ss) none =
     by true e rest = absurd (differ (sym (neither (is_of c s.surface s) (list_any (is_of c s.surface) ss) (none s.surface)).0 ∙ of-it c s.surface s (eqb-true s.client c e) refl))
     by false e rest = rest
 
-abbrev of_client : ℕ → ℕ → ℕ → Bool
+abbrev pub of_client : ℕ → ℕ → ℕ → Bool
 of_client c client surface = client == c
 
 -- a client with a window has a toplevel that stands
-window-stands : (c : ℕ) (d : Desktop) → ((c : ℕ) → (owned_in d c).surfaces.links ≡ []) → (x y : ℤ) → list_any (λ s. s.client == c) d.standing ≡ false → has_window_at c x y d ≡ false
+pub window-stands : (c : ℕ) (d : Desktop) → ((c : ℕ) → (owned_in d c).surfaces.links ≡ []) → (x y : ℤ) → list_any (λ s. s.client == c) d.standing ≡ false → has_window_at c x y d ≡ false
 window-stands c d links x y none =
     ap (λ ws. any_window_at (of_client c) x y ws) (sym (windows-else (of_client c) (owned_in d) d.standing links ∙ ap (λ ss. windows_on (owned_in d) ss) (others-all c d.standing none)))
     ∙ any-gone (λ (w : Window). (w.owner.client == c) && contains w x y) (is_else (of_client c)) (λ w f. ap (λ b. not b) (and-left (w.owner.client == c) _ f)) (windows_in d)

@@ -10,7 +10,7 @@ ghost use Rattle.wl_plain.specs.Desktop.{Desktop, empty};
 ghost use Rattle.wl_plain.specs.Acts.{Connect, Feed, Store, Leave, Tick, Send, Close, lowest, peer_at, unsent_of, status_of, store_size_of};
 ghost use Rattle.wl_resident.specs.Agreement.{IsSlot};
 ghost use Rattle.wl_desk.specs.Agreeing.{Agrees, MarksNothing, MarksStep, TakesStep};
-ghost use Rattle.wl_resident.specs.Marking.{MarksAtLeast, MarksAtMost};
+ghost use Rattle.wl_resident.specs.Marking.{MarksAtLeast, MarksAtMost, MarksMost};
 ghost use Rattle.wl_desk.specs.Feeding.{Ends, IsIdleIn, kept_at, kept_in, lives_in, rest_in, served_as, served_of};
 ghost use Rattle.wl_resident.specs.Marking.{IsAsLarge};
 ghost use Rattle.wl_desk.specs.Framing.{MarksIfEnds, WasTold};
@@ -176,6 +176,7 @@ impl<A: Allocator + Copy> Desk<A> {
         ensures marks { (d e : Desktop) → Agrees self.old.desk d → Ends client cause d e → MarksAtLeast d e self.old.damage self.new.damage }
         ensures within { (d : Desktop) → Agrees self.old.desk d → (x y : ℕ) → x < self.old.damage.width → y < self.old.damage.height
             → has self.new.damage x y ≡ true → (has self.old.damage x y || has_window_at client (pos x) (pos y) d) ≡ true }
+        ensures most { (d e : Desktop) → Agrees self.old.desk d → Ends client cause d e → Agrees self.new.desk e → MarksMost d e self.old.damage self.new.damage }
         ensures sides { IsAsLarge self.old.damage self.new.damage }
         ensures output { self.new.desk.output ≡ self.old.desk.output }
     {
@@ -191,10 +192,12 @@ impl<A: Allocator + Copy> Desk<A> {
     }
 
     /// A frame was shown at this time, in milliseconds: the clients in rising number are told that their frame callbacks that are due are done
-    /// (wayland.xml, wl_surface.frame). One to which an event isn't queued ends. Where none ends, nothing more is to be painted.
+    /// (wayland.xml, wl_surface.frame). One to which an event isn't queued ends, and its windows are marked. Where none ends, nothing more is to
+    /// be painted.
     pub fn frames(&mut self, time: u32)
         ensures shows { (d : Desktop) → Agrees self.old.desk d → (e : Desktop) × Happens served_now (Tick time) Done.Tick d e × Agrees self.new.desk e
-            × MarksAtLeast d e self.old.damage self.new.damage × MarksIfEnds d e self.old.damage self.new.damage }
+            × MarksAtLeast d e self.old.damage self.new.damage × MarksMost d e self.old.damage self.new.damage
+            × MarksIfEnds d e self.old.damage self.new.damage }
         ensures sides { IsAsLarge self.old.damage self.new.damage }
         ensures output { self.new.desk.output ≡ self.old.desk.output }
     {
@@ -265,6 +268,8 @@ impl<A: Allocator + Copy> Desk<A> {
         ensures marks { MarksStep (Leave client) (Done.Gone result) self.old self.new }
         ensures within { (d : Desktop) → Agrees self.old.desk d → (x y : ℕ) → x < self.old.damage.width → y < self.old.damage.height
             → has self.new.damage x y ≡ true → (has self.old.damage x y || has_window_at client (pos x) (pos y) d) ≡ true }
+        ensures most { (d e : Desktop) → Agrees self.old.desk d → Happens served_now (Leave client) (Done.Gone result) d e → Agrees self.new.desk e
+            → MarksMost d e self.old.damage self.new.damage }
         ensures sides { IsAsLarge self.old.damage self.new.damage }
         ensures output { self.new.desk.output ≡ self.old.desk.output }
     {

@@ -1,5 +1,5 @@
 -- What is kept of a client as its frame callbacks are answered.
-use Rattle.std.proofs.Common.{◌≡◌, ℕ, ◌+◌, List, ◌∷◌, ◌++◌, Bool, true, false, Option, Some, None, refl, ap, subst, sym, ◌∙◌, arith, [], eq-eqb}
+use Rattle.std.proofs.Common.{◌≡◌, ℕ, ◌+◌, List, ◌++◌, true, false, Option, Some, None, refl, ap, subst, sym, ◌∙◌, [], eq-eqb}
 use Rattle.std.specs.Prelude.{◌==◌, ◌||◌, is_some, slice_index_or, count_by, filter}
 use Rattle.std.specs.List.{list_any}
 use Rattle.std.specs.Option.{option_map}
@@ -10,7 +10,6 @@ use Rattle.wl_table.specs.declared.entry.Entry.{Entry}
 use Rattle.wl_client.specs.Agreement.{IsPeer}
 use Rattle.wl_client.specs.Objects.{ById, interface_number, is_of, object_of, objects_in}
 use Rattle.wl_client.specs.Peer.{Peer, Queues, removed}
-use Rattle.wl_surface.specs.declared.frames.Waiting.{Waiting}
 use Rattle.wl_surface.specs.Kept.{Kept as KeptSurface, Slots, StandsAt}
 use Rattle.wl_surface.specs.Surfaces.{Surfaces}
 use Rattle.wl_surface.specs.Waiting.{AreUndue, Callback, IsNextDue, is_in}
@@ -18,7 +17,7 @@ use Rattle.wl_surface.specs.Frames.{frames_counting}
 use Rattle.wl_shell.specs.Kept.{Book, kept_of}
 use Rattle.wl_scene.specs.Stacking.{Owned}
 use Rattle.wl_plain.specs.Desktop.{Resident}
-use Rattle.wl_plain.specs.Framing.{AreFramed, done_due}
+use Rattle.wl_plain.specs.Framing.{done_due}
 use Rattle.wl_plain.specs.Happens.{callbacks_due, frame_told, frames_told}
 use Rattle.wl_plain.specs.Owning.{AreKept, IsOwned, Names, by_number, names_in, names_surface, targets_in}
 use Rattle.wl_plain.proofs.FramingWaits.{framed-less}
@@ -28,7 +27,7 @@ use Rattle.wl_resident.specs.declared.residents.Resident.{Resident as Kept}
 use Rattle.wl_resident.specs.Residents.{IsLeft, IsResident}
 use Rattle.wl_resident.proofs.Answering.{IsAnswered, all-answered, all-callbacks, answered-on, any-middle, counting-due, none-due, over-told, without_it}
 use Rattle.wl_resident.proofs.Doing.{gone}
-use Rattle.wl_resident.proofs.Framing.{IsFramed, framed-names, no-more, numbered, told-requests}
+use Rattle.wl_resident.proofs.Framing.{numbered, told-requests}
 use Rattle.wl_resident.proofs.Going.{going-requests}
 use Rattle.wl_resident.proofs.Numbers.{keeps-names}
 

@@ -1,10 +1,9 @@
 -- The frame callbacks that are due, answered one after another.
-use Rattle.std.proofs.Common.{◌≡◌, ℕ, ◌+◌, List, [], ◌∷◌, ◌++◌, Bool, true, false, Option, Some, None, cond, map, refl, ap, subst, sym, ◌∙◌, arith}
+use Rattle.std.proofs.Common.{◌≡◌, ℕ, List, [], ◌∷◌, ◌++◌, Bool, true, false, Some, None, cond, map, refl, ap, subst, sym, ◌∙◌, arith}
 use Rattle.std.specs.Prelude.{◌==◌, ◌||◌, filter, find, flat_map, fold, is_some, not}
 use Rattle.std.specs.List.{list_any}
 use Rattle.std.proofs.lemmas.List.Elements.{filter-append}
 use Rattle.std.proofs.lemmas.List.Folds.{list_any-append}
-use Rattle.wl_client.specs.declared.clients.Cause.{Cause}
 use Rattle.wl_client.specs.Objects.{ById, Objects, with_id}
 use Rattle.wl_client.specs.Peer.{Peer, Queues, all_removed, removed}
 use Rattle.wl_client.specs.Told.{Said}
@@ -14,7 +13,7 @@ use Rattle.wl_surface.specs.Frames.{frames_counting, frames_of}
 use Rattle.wl_surface.specs.Kept.{IsAny, Slots}
 use Rattle.wl_surface.specs.State.{counting}
 use Rattle.wl_surface.specs.Surfaces.{Surface, Surfaces}
-use Rattle.wl_surface.specs.Waiting.{AreUndue, Callback, IsNextDue, IsUndue, applied_at, is_in}
+use Rattle.wl_surface.specs.Waiting.{AreUndue, Callback, IsUndue, applied_at, is_in}
 use Rattle.wl_plain.specs.Desktop.{Resident}
 use Rattle.wl_plain.specs.Framing.{done_due}
 use Rattle.wl_plain.specs.Happens.{callbacks_due, frame_told, frames_told}

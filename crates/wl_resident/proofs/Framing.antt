@@ -12,7 +12,7 @@ use Rattle.wl_client.specs.Told.{Said}
 use Rattle.wl_client.specs.declared.clients.Cause.{Cause}
 use Rattle.wl_surface.specs.declared.frames.Waiting.{Waiting}
 use Rattle.wl_surface.specs.Frames.{frames_of}
-use Rattle.wl_surface.specs.Kept.{Changes, Numbered, Slots, StandForAll, changed_at, kept_at, with_at}
+use Rattle.wl_surface.specs.Kept.{Numbered, Slots, StandForAll, changed_at, kept_at, with_at}
 use Rattle.wl_surface.specs.Request.{Commit, Frame, Request}
 use Rattle.wl_surface.specs.Surfaces.{Surface, applying, asking, new_surface, with_change, with_new, with_role, without_surface}
 use Rattle.wl_surface.specs.Waiting.{AreWaiting, Callback, IsNewNumber, applied_at, frames_at, is_in}

@@ -1,6 +1,6 @@
 -- What goes with a surface: its frame callbacks, which are no objects that name a surface.
-use Rattle.std.proofs.Common.{◌≡◌, ℕ, List, [], ◌∷◌, ◌++◌, Bool, true, false, Option, Some, None, cond, map, refl, ap, subst, sym, ◌∙◌, eq-eqb}
-use Rattle.std.specs.Prelude.{◌==◌, ◌||◌, filter, fold, if◌then◌else◌}
+use Rattle.std.proofs.Common.{◌≡◌, ℕ, List, [], ◌∷◌, ◌++◌, Bool, true, false, Option, Some, None, map, refl, ap, sym, ◌∙◌, eq-eqb}
+use Rattle.std.specs.Prelude.{◌==◌, ◌||◌, fold, if◌then◌else◌}
 use Rattle.std.specs.List.{list_any}
 use Rattle.std.specs.Option.{option_and_then, option_map}
 use Rattle.std.proofs.Math.Path.{fun_ext}
@@ -9,7 +9,7 @@ use Rattle.wl_proto.specs.declared.interface.Interface.{Interface}
 use Rattle.wl_proto.specs.declared.interface.Interface.TheVariants.{WlCallback, WlSurface, XdgSurface, XdgToplevel}
 use Rattle.wl_table.specs.Objects.{Held, entry_of}
 use Rattle.wl_table.specs.declared.entry.Entry.{Entry}
-use Rattle.wl_client.specs.Objects.{ById, interface_number, is_of, object_of, objects_in, with_id}
+use Rattle.wl_client.specs.Objects.{interface_number, is_of, object_of, objects_in}
 use Rattle.wl_client.specs.Peer.{Peer, all_removed, removed}
 use Rattle.wl_client.specs.Serving.{HoldsWithout}
 use Rattle.wl_client.specs.Told.{Said, id_deleted, released_told}

@@ -15,6 +15,7 @@ pub mod Committing
 pub mod Stackings
 pub mod Asking
 pub mod OwnAsking
+pub mod OwnEnds
 pub mod OwnWindows
 pub mod Releasing
 pub mod MarkedMessages

@@ -155,13 +155,17 @@ marked-more slots c toplevels k t old was new less is more sides = record {
   sides = record { width = sides.width ∙ is.sides.width; height = sides.height ∙ is.sides.height };
 }
 
--- where they are those of a scene, these are the client's windows
+-- where they are those of a scene, these are those that it shows of the client's
+pub scene-shown : (c : ℕ) (slots : Slots) (toplevels : List Toplevel) (stack : Stack) (old new : Damaged) → map standing_of toplevels ≡ stack.standing → AreMarked slots c toplevels old new
+    → (all : Numbered) → StandForAll slots all → (x y : ℕ) → x < old.width → y < old.height → has new x y ≡ (has old x y || list_any (is_shown_by c all (pos x) (pos y)) stack.standing)
+scene-shown c slots toplevels stack old new same are all stand x y wide high =
+    are.points all stand x y wide high
+    ∙ ap (λ (b : Bool). has old x y || b) (any-standing (is_shown_by c all (pos x) (pos y)) toplevels ∙ ap (λ (ss : List Standing). list_any (is_shown_by c all (pos x) (pos y)) ss) same)
+
+-- and so the client's windows
 pub scene-marked : {A : Type 0} (c : ℕ) (others : ℕ → ById ℕ) (base d : Desktop) (r : Resident) (v : Kept A) (stack : Stack) → IsSeated c others base v stack d r → (toplevels : List Toplevel) (old new : Damaged) → map standing_of toplevels ≡ stack.standing
     → AreMarked v.owned.surfaces c toplevels old new → (x y : ℕ) → x < old.width → y < old.height → has new x y ≡ (has old x y || has_window_at c (pos x) (pos y) d)
 scene-marked c others base d r v stack seated toplevels old new same are x y wide high =
     let all = numbered c others base d r v stack seated in
-    are.points all (numbered-stand c others base d r v stack seated) x y wide high
-    ∙ ap (λ (b : Bool). has old x y || b) (
-    any-standing (is_shown_by c all (pos x) (pos y)) toplevels
-    ∙ (ap (λ (ss : List Standing). list_any (is_shown_by c all (pos x) (pos y)) ss) same ∙ seated-shown c others base d r v stack seated (pos x) (pos y))
-    )
+    scene-shown c v.owned.surfaces toplevels stack old new same are all (numbered-stand c others base d r v stack seated) x y wide high
+    ∙ ap (λ (b : Bool). has old x y || b) (seated-shown c others base d r v stack seated (pos x) (pos y))

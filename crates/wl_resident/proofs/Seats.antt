@@ -61,7 +61,7 @@ marks-settled {A = A} c stacking v mid was between old new lives restacked marks
     at (ToTop number) (inr h) = subst (λ (k : Stack). MarksEnd mid.client.ended c k old new) h.1 marks
     at (Out number) h = lived h.0
 
-cleared-client : {A : Type 0} (o : Option Cause) (c : ℕ) (old new : Kept A) (was is : Stack) → IsClearedBy o c old new was is → new.client.ended ≡ old.client.ended
+pub cleared-client : {A : Type 0} (o : Option Cause) (c : ℕ) (old new : Kept A) (was is : Stack) → IsClearedBy o c old new was is → new.client.ended ≡ old.client.ended
 cleared-client {A = A} None c old new was is h = ap (λ (k : Kept A). k.client.ended) h.0
 cleared-client (Some cause) c old new was is h = ap (λ v. v.ended) h.0
 

@@ -175,7 +175,7 @@ module _ (c id : ℕ) (d e : Desktop) (was is : Option WindowRecord) (first : Is
 
 -- ---- a message
 
-within-output : (width height x y : ℕ) → x < width → y < height → in_output width height (pos x) (pos y) ≡ true
+pub within-output : (width height x y : ℕ) → x < width → y < height → in_output width height (pos x) (pos y) ≡ true
 within-output width height x y w h = grind (arith, ints)
 
 module _ {A : Type 0} (c : ℕ) (others : ℕ → ById ℕ) (base d e : Desktop) (r q : Resident) (old new : Kept A) (was now : Stack) (before : IsSeated c others base old was d r) (after : IsSeated c others base new now e q)

@@ -45,10 +45,18 @@ abbrev pub MarksAtLeast : Desktop → Desktop → Damaged → Damaged → Type 0
 MarksAtLeast d e old new =
     (x y : ℕ) → x < old.width → y < old.height → has new x y ≡ false → (has old x y ≡ false) × (marks_at_least d e (pos x) (pos y) ≡ false)
 
--- A step after which its client lives marks no more than it may: what is to be painted was before, or is among what the step marks at most.
+-- A step in which a press raised this toplevel marks no more than it may: what is to be painted was before, or is among what it marks at most.
+abbrev pub MarksMostBy : Option (ℕ × ℕ) → Desktop → Desktop → Damaged → Damaged → Type 0
+MarksMostBy raised d e old new =
+    (x y : ℕ) → x < old.width → y < old.height → has new x y ≡ true → (has old x y || marks_at_most d e raised (pos x) (pos y)) ≡ true
+
+-- the same of one in which no press raised any
+abbrev pub MarksMost : Desktop → Desktop → Damaged → Damaged → Type 0
+MarksMost d e old new = MarksMostBy None d e old new
+
+-- So it is where its client lives after it.
 abbrev pub MarksAtMost : ℕ → Desktop → Desktop → Damaged → Damaged → Type 0
-MarksAtMost c d e old new =
-    status_in c e ≡ None → (x y : ℕ) → x < old.width → y < old.height → has new x y ≡ true → (has old x y || marks_at_most d e None (pos x) (pos y)) ≡ true
+MarksAtMost c d e old new = status_in c e ≡ None → MarksMost d e old new
 
 -- a toplevel of the client stands
 abbrev pub stands_any : ℕ → Stack → Bool
@@ -59,12 +67,16 @@ abbrev pub MarksEnd : Option Cause → ℕ → Stack → Damaged → Damaged →
 MarksEnd ended c stack old new =
     IsAsLarge old new × ((x y : ℕ) → x < old.width → y < old.height → has new x y ≡ (has old x y || (is_some ended && stands_any c stack)))
 
--- Where a client that lived has ended, its own windows are to be painted, and no more; where it had ended before, nothing more is.
-abbrev pub MarksOwn : {A : Type 0} → Option Cause → ℕ → Kept A → Stack → Damaged → Damaged → Type 0
-MarksOwn ended c kept stack old new =
+-- If so, a client's own windows are to be painted, and no more; else nothing more is.
+abbrev pub MarksOwnIf : {A : Type 0} → Bool → ℕ → Kept A → Stack → Damaged → Damaged → Type 0
+MarksOwnIf if_so c kept stack old new =
     IsAsLarge old new
     × ((others : ℕ → ById ℕ) (base d : Desktop) (r : Resident) → IsSeated c others base kept stack d r
-    → (x y : ℕ) → x < old.width → y < old.height → has new x y ≡ (has old x y || (is_none ended && has_window_at c (pos x) (pos y) d)))
+    → (x y : ℕ) → x < old.width → y < old.height → has new x y ≡ (has old x y || (if_so && has_window_at c (pos x) (pos y) d)))
+
+-- They are where a client that lived has ended, not where it had ended before.
+abbrev pub MarksOwn : {A : Type 0} → Option Cause → ℕ → Kept A → Stack → Damaged → Damaged → Type 0
+MarksOwn ended c kept stack old new = MarksOwnIf (is_none ended) c kept stack old new
 
 -- ---- the window of a surface
 

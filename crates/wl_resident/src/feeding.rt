@@ -51,7 +51,7 @@ impl<A: Allocator + Copy> Resident<A> {
     }
 
     /// Where the client ended, nothing is left of what it owned.
-    fn empty(&mut self, scene: &mut Scene<A>, client: ClientNo, alloc: A)
+    pub(crate) fn empty(&mut self, scene: &mut Scene<A>, client: ClientNo, alloc: A)
         ensures clears { IsClearedBy self.old.client.ended client self.old self.new scene.old scene.new }
     {
         if self.client.has_ended() {

@@ -8,7 +8,7 @@ ghost use Rattle.wl_plain.specs.Framing.{FramesToldAt, done_due};
 ghost use Rattle.wl_plain.specs.Happens.{frames_told};
 ghost use Rattle.wl_plain.specs.NoMore.{NoMore, OwnsToplevelsOnly};
 ghost use Rattle.wl_plain.specs.Owning.{names_in};
-ghost use Rattle.wl_resident.specs.Marking.{IsAsLarge, MarksEnd};
+ghost use Rattle.wl_resident.specs.Marking.{IsAsLarge, MarksOwnIf};
 ghost use Rattle.wl_resident.specs.Residents.{IsLeft, IsResident};
 ghost use Rattle.wl_resident.specs.Seats.{IsSeated};
 
@@ -25,6 +25,7 @@ impl<A: Allocator + Copy> Resident<A> {
         ensures tells { self.old.client.ended ≡ None → (r : Plain) → IsResident self.old r → OwnsToplevelsOnly r
             → (q : Peer) × Queues (frames_told time r) (done_due r).peer q × IsLeft self.old self.new (done_due r) q
             × (self.new.client.ended ≡ None → names_in self.new.client.objects ≡ names_in self.old.client.objects) }
+        ensures places { self.new.owned.surfaces.places ≡ self.old.owned.surfaces.places }
     {
         while let Some(callback) = self.owned.surfaces.next_frame() {
             self.client.finish(callback, time);
@@ -35,7 +36,7 @@ impl<A: Allocator + Copy> Resident<A> {
     }
 
     /// A frame was shown at this time, in milliseconds: a client that lives is told that the callbacks that are due are done. Where it ends by
-    /// that, nothing is left of what it owned, and everything is marked if a toplevel of its stood.
+    /// that, its windows are marked, and no more, and nothing is left of what it owned.
     pub fn tell_frames(
         &mut self,
         scene: &mut Scene<A>,
@@ -46,7 +47,7 @@ impl<A: Allocator + Copy> Resident<A> {
     )
         ensures tells { (others : ℕ → ById ℕ) (base d : Desktop) (r : Plain) → IsSeated client others base self.old scene.old d r → NoMore d
             → (e : Desktop) × (s : Plain) × FramesToldAt time client (Some r) d e × IsSeated client others base self.new scene.new e s }
-        ensures marks { self.old.client.ended ≡ None → MarksEnd self.new.client.ended client scene.old damage.old damage.new }
+        ensures marks { self.old.client.ended ≡ None → MarksOwnIf (is_some self.new.client.ended) client self.old scene.old damage.old damage.new }
         ensures idle { is_some self.old.client.ended ≡ true → (self.new ≡ self.old) × (scene.new ≡ scene.old) × (damage.new ≡ damage.old) }
         ensures sides { IsAsLarge damage.old damage.new }
     {
@@ -54,6 +55,9 @@ impl<A: Allocator + Copy> Resident<A> {
             return;
         }
         self.answer_frames(time);
-        self.clear(scene, damage, client, alloc);
+        if self.client.has_ended() {
+            self.mark_windows(scene, damage, client);
+        }
+        self.empty(scene, client, alloc);
     }
 }

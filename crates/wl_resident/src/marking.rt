@@ -1,6 +1,7 @@
 //! What of the output a message marks to be painted again.
 
 ghost use Rattle.std.specs.Prelude.{ℕ, ℤ, ◌≡◌, ◌↔◌, ◌<◌, ◌+ℤ◌, ◌-ℤ◌, ◌&&◌, ◌||◌, IfNone, IfSome, None, Some, find, int_le, int_lt, pos, true};
+ghost use Rattle.std.specs.List.{list_any};
 ghost use Rattle.std.specs.Option.{option_map};
 ghost use Rattle.wl_proto.specs.declared.interface.Interface.TheVariants.{WlSurface};
 ghost use Rattle.wl_client.specs.Objects.{ById};
@@ -314,6 +315,8 @@ impl<A: Allocator + Copy> Resident<A> {
         ensures marks { (others : ℕ → ById ℕ) (base d : Desktop) (r : Plain) → IsSeated client others base self.now scene.now d r
             → (x y : ℕ) → x < damage.old.width → y < damage.old.height
             → has damage.new x y ≡ (has damage.old x y || has_window_at client (pos x) (pos y) d) }
+        ensures shown { (all : Numbered) → StandForAll self.now.owned.surfaces all → (x y : ℕ) → x < damage.old.width → y < damage.old.height
+            → has damage.new x y ≡ (has damage.old x y || list_any (is_shown_by client all (pos x) (pos y)) scene.now.standing) }
         ensures sides { IsAsLarge damage.old damage.new }
     {
         for toplevel in scene.toplevels() {

@@ -1,6 +1,6 @@
 -- The events that a session's steps are.
 use Rattle.std.proofs.Common.{◌≡◌, ℕ, zero, suc, Bool, true, false, List, [], ◌∷◌, ◌++◌, Option, Some, None, refl, ap, sym, subst, ◌∙◌, inl, inr}
-use Rattle.std.specs.Prelude.{replicate, ◌<◌, pos}
+use Rattle.std.specs.Prelude.{replicate, ◌<◌, ◌||◌, pos}
 use Rattle.std.proofs.lemmas.List.{map-append}
 use Rattle.wl_client.specs.declared.clients.Cause.{Cause}
 use Rattle.wl_client.specs.declared.clients.Cause.TheVariants as cause
@@ -16,17 +16,17 @@ use Rattle.wl_plain.specs.Happens.{Happens, Reaches, Serves, ServesThen}
 use Rattle.wl_plain.specs.LeftOut.{served_now}
 use Rattle.wl_plain.specs.Settling.{EndsAndSettles, becomes, unstruck}
 use Rattle.wl_plain.specs.Step.{with_peer}
-use Rattle.wl_plain.specs.Through.{IsSingle}
+use Rattle.wl_plain.specs.Through.{IsSingle, raised_in}
 use Rattle.wl_plain.specs.Laws.{status_in}
-use Rattle.wl_plain.specs.Moments.{marks_at_least}
+use Rattle.wl_plain.specs.Moments.{marks_at_least, marks_at_most}
 use Rattle.wl_plain.proofs.OwningKeys.{differ}
 use Rattle.wl_plain.proofs.Through.{happens_leads_through, messages_lead_through, settling-with}
-use Rattle.wl_resident.specs.Marking.{MarksAtLeast, MarksAtMost}
+use Rattle.wl_resident.specs.Marking.{MarksAtLeast, MarksAtMost, MarksMost, MarksMostBy}
 use Rattle.wl_resident.specs.Marking.{IsAsLarge as HasItsSides}
 use Rattle.wl_resident.specs.View.{MarkedDesk}
 use Rattle.wl_desk.specs.Agreeing.{Agrees, MarksNothing, MarksStep, TakesStep}
 use Rattle.wl_desk.specs.Feeding.{Ends, EndsBy, EndsOf, kept_at, kept_by, kept_of}
-use Rattle.wl_desk.proofs.Agreed.{agrees-apart, kept-unmarked, still-unmarked}
+use Rattle.wl_desk.proofs.Agreed.{agrees-apart, kept-unmarked}
 use Rattle.wl_session.specs.Course.{AreParts, Course, TakesCourse, Took, happenings, moment}
 use Rattle.wl_session.specs.Events.{AreApart, AreEvents, Event, IsMarked, Moment, PaintsIf, is_quiet_act, is_tick}
 use Rattle.wl_session.specs.Liars.{AreLiars, IsRightBut}
@@ -62,13 +62,23 @@ course-of act done old new d e single parts a happens b paints =
       agrees = b;
     }
 
+-- no more is marked than may be
+abbrev pub MarksFew : Act → Done → MarkedDesk → MarkedDesk → Type 0
+MarksFew act done old new =
+    (d e : Desktop) → Agrees old.desk d → Happens served_now act done d e → Agrees new.desk e → MarksMostBy (raised_in act d) d e old.damage new.damage
+
+-- that is so where nothing is
+pub nothing-few : (act : Act) (done : Done) (old new : MarkedDesk) → MarksNothing old new → MarksFew act done old new
+nothing-few act done old new nothing = λ d e a step b x y wide high again.
+    ap (λ t. t || marks_at_most d e (raised_in act d) (pos x) (pos y)) (sym (nothing d a x y wide high) ∙ again)
+
 -- what shows no frame
 pub marked-course : (act : Act) (done : Done) (old new : SessionView) → is_tick act ≡ false → IsSingle act → AreParts act done (Single act done ∷ []) → new.frame ≡ old.frame → HasItsSides old.damage new.damage
-    → TakesStep act done old.desk new.desk → MarksStep act done (marked old) (marked new) → (is_quiet_act act ≡ true → MarksNothing (marked old) (marked new)) → TakesCourse act done old new
-marked-course act done old new tick single parts frame sides step marks quiet = λ d a.
+    → TakesStep act done old.desk new.desk → MarksStep act done (marked old) (marked new) → MarksFew act done (marked old) (marked new) → (is_quiet_act act ≡ true → MarksNothing (marked old) (marked new)) → TakesCourse act done old new
+marked-course act done old new tick single parts frame sides step marks most quiet = λ d a.
     let e = step d a in
     let paints : PaintsIf false (Single act done) (moment d old) (moment e.0 new) =
-    record { frame = frame; sides = sides; marks = marks d e.0 a e.1; most = tt; quiet = λ is. quiet is d a } in
+    record { frame = frame; sides = sides; marks = marks d e.0 a e.1; most = most d e.0 a e.1 e.2; quiet = λ is. quiet is d a } in
     course-of act done old new d e.0 single parts a e.1 e.2 (subst (λ b. PaintsIf b (Single act done) (moment d old) (moment e.0 new)) (sym tick) paints)
 
 -- a frame
@@ -76,11 +86,12 @@ pub tick-course : (time : ℕ) (done : Done) (old new : SessionView) → HasItsS
     → ((d : Desktop) → Agrees old.desk d
     → (e : Desktop) × Happens served_now (Tick time) done d e × Agrees new.desk e
     × ((x y : ℕ) → x < old.damage.width → y < old.damage.height → has new.damage x y ≡ false → marks_at_least d e (pos x) (pos y) ≡ false)
+    × ((x y : ℕ) → x < old.damage.width → y < old.damage.height → has new.damage x y ≡ true → marks_at_most d e None (pos x) (pos y) ≡ true)
     × (((c : ℕ) → status_in c e ≡ status_in c d) → (x y : ℕ) → x < old.damage.width → y < old.damage.height → has new.damage x y ≡ false))
     → ((d : Desktop) → Agrees old.desk d → IsNextFrame d old.frame new.frame (has old.damage)) → TakesCourse (Tick time) done old new
 tick-course time done old new sides shows next = λ d a.
     let s = shows d a in
-    course-of (Tick time) done old new d s.0 (λ c piece e. absurd (cc)) refl a s.1 s.2 (record { frame = next d a; sides = sides; none = s.4; marks = s.3 })
+    course-of (Tick time) done old new d s.0 (λ c piece e. absurd (cc)) refl a s.1 s.2 (record { frame = next d a; sides = sides; none = s.5; marks = s.3; most = s.4 })
 
 -- ---- events one after another
 
@@ -190,7 +201,7 @@ fed-course client piece done old kept new d frame damage a s happens b = at (cli
           frame = frame;
           sides = record { width = ap (λ (m : Damaged). m.width) damage; height = ap (λ (m : Damaged). m.height) damage };
           marks = λ x y w h clean. (ap (λ (m : Damaged). has m x y) (sym damage) ∙ clean, kept-unmarked old.desk client piece d a x y);
-          most = tt;
+          most = λ x y w h again. ap (λ t. t || marks_at_most d (kept_at client piece d) None (pos x) (pos y)) (ap (λ (m : Damaged). has m x y) (sym damage) ∙ again);
           quiet = λ _ x y w h. ap (λ (m : Damaged). has m x y) damage;
         } in
         let leads : AreEvents served_now (moment d old) (event ∷ s.events) (moment s.desktop new) = (refl, record { leads = received; paints = marks }, s.leads) in
@@ -214,8 +225,8 @@ fed-course client piece done old kept new d frame damage a s happens b = at (cli
 
 -- there was no memory to keep it
 pub lacking-course : (client : ℕ) (piece : List ℕ) (done : Done) (old new : SessionView) (d e : Desktop) → new.frame ≡ old.frame → HasItsSides old.damage new.damage → Agrees old.desk d → status_of (peer_at client d) ≡ fed.Alive
-    → Ends client cause.Memory d e → MarksAtLeast d e old.damage new.damage → Happens served_now (Feed client piece) done d e → Agrees new.desk e → Course (Feed client piece) done old new d
-lacking-course client piece done old new d e frame sides a alive ends marks happens b = at (client_at client d) refl
+    → Ends client cause.Memory d e → MarksAtLeast d e old.damage new.damage → MarksMost d e old.damage new.damage → Happens served_now (Feed client piece) done d e → Agrees new.desk e → Course (Feed client piece) done old new d
+lacking-course client piece done old new d e frame sides a alive ends marks most happens b = at (client_at client d) refl
   where
     by : (t : Option Cause) (r : Resident) → client_at client d ≡ Some r → r.peer.status ≡ t → Course (Feed client piece) done old new d
     by (Some cause) r there over =
@@ -226,7 +237,7 @@ lacking-course client piece done old new d e frame sides a alive ends marks happ
         let through = settling-with e (unstruck (becomes client r (ended cause.Memory r.peer) d)) over in
         let event : Event = record { happening = Starve client; before = moment d old; path = through.0; after = moment e new } in
         let starves : Leads served_now (Starve client) d through.0 e = subst (λ o. StarvesAt client o d through.0 e) (sym there) (lives, through.1) in
-        let marked : IsMarked (Starve client) (moment d old) (moment e new) = record { frame = frame; sides = sides; marks = marks; most = tt; quiet = λ no. absurd (differ (sym no)) } in
+        let marked : IsMarked (Starve client) (moment d old) (moment e new) = record { frame = frame; sides = sides; marks = marks; most = most; quiet = λ no. absurd (differ (sym no)) } in
         let leads : AreEvents served_now (moment d old) (event ∷ []) (moment e new) = (refl, record { leads = starves; paints = marked }, refl) in
         let apart : AreApart (event ∷ []) = (agrees-apart old.desk d a, agrees-apart new.desk e b, tt) in
         record {

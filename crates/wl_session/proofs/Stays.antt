@@ -1,9 +1,8 @@
 -- What is right but for some clients stays so, one event at a time.
-use Rattle.std.proofs.Common.{◌≡◌, ◌<◌, ℕ, Bool, true, false, List, [], ◌∷◌, Option, Some, None, refl, ap, sym, subst, ◌∙◌, arith, get_or}
+use Rattle.std.proofs.Common.{◌≡◌, ◌<◌, ℕ, Bool, true, false, List, [], ◌∷◌, Option, Some, None, refl, ap, sym, subst, ◌∙◌, get_or}
 use Rattle.std.specs.Prelude.{ℤ, pos, ◌-ℤ◌, ◌==◌, ◌&&◌, ◌||◌, not, is_some, slice_get}
 use Rattle.std.specs.List.{list_any}
 use Rattle.std.proofs.lemmas.Bool.{eqb-true}
-use Rattle.std.proofs.lemmas.Int.{ints}
 use Rattle.std.proofs.lemmas.Option.{slice_get-get_or}
 use Rattle.wl_blend.specs.declared.color.Rgb.{Rgb}
 use Rattle.wl_client.specs.declared.clients.Cause.{Cause}
@@ -32,6 +31,7 @@ use Rattle.wl_plain.proofs.OwningKeys.{none-some}
 use Rattle.wl_plain.proofs.Places.{number-same}
 use Rattle.wl_plain.proofs.ShownWindows.{IsShown as ShowsBuffer, all-shown}
 use Rattle.wl_plain.proofs.Stacks.{and-left, and-right, differ, each-map, or-left, or-right, same-number, unless}
+use Rattle.wl_resident.proofs.Within.{within-output}
 use Rattle.wl_session.specs.Events.{Event, IsEvent, IsMarked, IsShown, Moment, PaintsIf, is_frame}
 use Rattle.wl_session.specs.Liars.{HoldsLiars, IsRightBut, closes, gives_back, was_closed}
 use Rattle.wl_session.specs.Promises.{KeepsIn, KeepsOpaque, is_clear_in}
@@ -40,11 +40,6 @@ use Rattle.wl_session.specs.Unmarked.{covers_at, is_covered}
 use Rattle.wl_session.proofs.Promised.{promises_are_enough}
 use Rattle.wl_session.proofs.StoreWrites.{any-none}
 use Rattle.wl_session.proofs.Unmarked.{covered-still, none-at, none-kept, unmarked_stays}
-
--- ---- points of the output
-
-within-output : (width height x y : ℕ) → x < width → y < height → in_output width height (pos x) (pos y) ≡ true
-within-output width height x y w h = grind (arith, ints)
 
 -- ---- a client that isn't there has no window
 

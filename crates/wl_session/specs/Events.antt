@@ -1,5 +1,5 @@
 -- What happens to a session, one event at a time: what is to be painted again of the desktop, and the last frame, before it and after it.
-use Rattle.std.specs.Prelude.{ℕ, ◌≡◌, ◌<◌, pos, Bool, true, false, List, [], ◌∷◌, filter}
+use Rattle.std.specs.Prelude.{ℕ, ◌≡◌, ◌<◌, None, pos, Bool, true, false, List, [], ◌∷◌, filter}
 use Rattle.wl_paint.specs.Damage.{Damaged, has}
 use Rattle.wl_paint.specs.Frame.{Image}
 use Rattle.wl_plain.specs.Acts.{Act, Connect, Feed, Store, Leave, Tick, Send, Close, Motion, Button}
@@ -8,10 +8,11 @@ use Rattle.wl_plain.specs.Desktop.{Desktop}
 use Rattle.wl_plain.specs.Happenings.{Happening, Leads, Message, Receive, Single, Starve}
 use Rattle.wl_plain.specs.LeftOut.{LeftOut}
 use Rattle.wl_plain.specs.Marks.{AreDistinct}
-use Rattle.wl_plain.specs.Moments.{marks_at_least}
+use Rattle.wl_plain.specs.Moments.{marks_at_least, marks_at_most}
 use Rattle.wl_plain.specs.Stacked.{all_windows}
 use Rattle.wl_plain.specs.Laws.{status_in}
-use Rattle.wl_resident.specs.Marking.{MarksAtLeast, MarksAtMost}
+use Rattle.wl_plain.specs.Through.{raised_in}
+use Rattle.wl_resident.specs.Marking.{MarksAtLeast, MarksAtMost, MarksMost, MarksMostBy}
 use Rattle.wl_resident.specs.Marking.{IsAsLarge as HasItsSides}
 use Rattle.wl_session.specs.Run.{IsNextFrame}
 
@@ -53,13 +54,15 @@ is_quiet (Message client) = false
 is_quiet (Starve client) = false
 is_quiet (Single act done) = is_quiet_act act
 
--- A message after which its client lives on marks nothing but what it marks at most.
+-- Nothing is marked but what was, and what may be. Of a message it is said where its client lives on.
 abbrev pub IsMost : Happening → Moment → Moment → Type 0
+IsMost (Receive client piece) before after = MarksMost before.desktop after.desktop before.damage after.damage
 IsMost (Message client) before after = MarksAtMost client before.desktop after.desktop before.damage after.damage
-IsMost happening before after = Unit {0}
+IsMost (Starve client) before after = MarksMost before.desktop after.desktop before.damage after.damage
+IsMost (Single act done) before after = MarksMostBy (raised_in act before.desktop) before.desktop after.desktop before.damage after.damage
 
 -- Whatever happens but a frame leaves the last frame. What was to be painted again still is, and so is what has to be marked; nothing else is
--- where nothing new is shown, and no more than a message may mark.
+-- where nothing new is shown, and no more than may be.
 pub record IsMarked (happening : Happening) (before after : Moment) : Type 0 where
   pub frame : after.frame ≡ before.frame
   pub sides : HasItsSides before.damage after.damage
@@ -68,7 +71,7 @@ pub record IsMarked (happening : Happening) (before after : Moment) : Type 0 whe
   pub quiet : is_quiet happening ≡ true → IsAsDamaged before.damage after.damage
 
 -- A frame is shown of the desktop as it was: what was to be painted again is painted, and nothing else. Then clients are told of it, and nothing
--- is to be painted but what that has to mark, which is nothing where no client ends.
+-- is to be painted but what that has to mark and may, which is nothing where no client ends.
 pub record IsShown (before after : Moment) : Type 0 where
   pub frame : IsNextFrame before.desktop before.frame after.frame (has before.damage)
   pub sides : HasItsSides before.damage after.damage
@@ -78,6 +81,9 @@ pub record IsShown (before after : Moment) : Type 0 where
   pub marks :
       (x y : ℕ) → x < before.damage.width → y < before.damage.height → has after.damage x y ≡ false
       → marks_at_least before.desktop after.desktop (pos x) (pos y) ≡ false
+  pub most :
+      (x y : ℕ) → x < before.damage.width → y < before.damage.height → has after.damage x y ≡ true
+      → marks_at_most before.desktop after.desktop None (pos x) (pos y) ≡ true
 
 -- ---- events
 

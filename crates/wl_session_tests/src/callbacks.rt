@@ -114,7 +114,7 @@ const UNMAPPED: &[Row] = &[
 ];
 
 /// A client to which it can't be told any more ends: regions that came and went left room for wl_callback.done, and none for
-/// wl_display.delete_id. Its window is in that frame, and not in the next.
+/// wl_display.delete_id. Its window is in that frame, and not in the next, which paints the points that it had, and no more.
 const TOO_SLOW: &[Row] = &[
     Row::Sends(ASKS_14),
     Row::Sends(COMMIT),
@@ -128,7 +128,7 @@ const TOO_SLOW: &[Row] = &[
     Row::Shows(1600, 1600, &[Pixel(0, 0, 255, 0, 0)]),
     Row::Is(1, Fed::Ended(Cause::Slow)),
     Row::Waiting(1_048_572),
-    Row::Shows(1600, 3072, &[Pixel(0, 0, 0, 0, 0)]),
+    Row::Shows(1600, 1600, &[Pixel(0, 0, 0, 0, 0)]),
     Row::Shows(0, 0, &[Pixel(0, 0, 0, 0, 0)]),
 ];
 

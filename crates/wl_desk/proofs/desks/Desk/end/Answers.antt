@@ -1,4 +1,4 @@
-use Rattle.std.proofs.Common.{ap, refl, ◌∙◌, pos}
+use Rattle.std.proofs.Common.{None, ap, refl, ◌∙◌, pos}
 use Rattle.std.specs.Prelude.{◌||◌}
 use Rattle.wl_plain.specs.Touching.{has_window_at}
 use Rattle.std.proofs.lemmas.List.{length-set}
@@ -8,6 +8,8 @@ use Rattle.wl_desk.proofs.Kept.{Ended-none, ends, ends-untaken}
 use Rattle.wl_desk.proofs.MarkedCalls.{ends-marks, ends-none-marks, ends-untaken-marks, own-within}
 use Rattle.wl_desk.proofs.NoMore.{ends-marked, ends-whole}
 use Rattle.wl_resident.specs.View.{MarkedDesk}
+use Rattle.wl_plain.specs.Moments.{marks_at_most}
+use Rattle.wl_desk.proofs.Most.{ends-over, own-most, sized}
 use Rattle.wl_desk.proofs.desks.Desk.end.Goals as goal
 
 pub returns-in_default-clause-ends : goal.returns-in_default-clause-ends
@@ -49,6 +51,16 @@ pub returns-clause-within : goal.returns-clause-within
 returns-clause-within g c = λ d a.
     rw (← c.self.view_is) (own-within c.self.inside.output c.self.inside.clients.items c.self.inside.owned.items c.self.inside.scene c.args.client c.in-Some.k (found _ _ _ _ _ c.deref.ensures.value c.in-Some.ensures.some c.self.invariant.0) d (rw (← c.self.view_is) at a.matches)
     c.in-Some-take_out.resident _ _ c.self.inside.damage c.end.new.damage c.index_mut.ensures.value c.index_mut-2.ensures.value c.in-Some-take_out.ensures.some c.end.ensures.marks)
+
+pub returns-in_default-clause-most : goal.returns-in_default-clause-most
+returns-in_default-clause-most g c = λ d e a step b x y wide high marked. ap (λ t. t || marks_at_most d e None (pos x) (pos y)) marked
+
+pub returns-in_default-take_out-clause-most : goal.returns-in_default-take_out-clause-most
+returns-in_default-take_out-clause-most g c = λ d e a step b x y wide high marked. rw (← c.self.view_is) (ap (λ t. t || marks_at_most d e None (pos x) (pos y)) marked)
+
+pub returns-clause-most : goal.returns-clause-most
+returns-clause-most g c = λ d e a step b.
+    own-most c.args.client c.args.self.now _ d e c.end.new.damage a b (sized _ _ d c.self.view_is c.self.invariant.1 a) (ends-over c.args.client c.args.cause d e a.no_more step) (returns-clause-within g c d a)
 
 pub invariant_of-self-2 : goal.invariant_of-self-2
 invariant_of-self-2 g c = (

@@ -1,4 +1,4 @@
-use Rattle.std.proofs.Common.{false, ap, refl, sym, ◌∙◌, pos}
+use Rattle.std.proofs.Common.{None, false, ap, refl, sym, ◌∙◌, pos}
 use Rattle.std.specs.Prelude.{◌||◌}
 use Rattle.wl_plain.specs.Touching.{has_window_at}
 use Rattle.std.proofs.lemmas.List.{length-set}
@@ -8,6 +8,8 @@ use Rattle.wl_desk.proofs.Calls.{Changes-none, changes, changes-untaken, found}
 use Rattle.wl_desk.proofs.MarkedCalls.{goes-marks, own-within, past-marks, untaken-marks}
 use Rattle.wl_desk.proofs.NoMore.{steps-marked, steps-whole}
 use Rattle.wl_resident.specs.View.{MarkedDesk}
+use Rattle.wl_plain.specs.Moments.{marks_at_most}
+use Rattle.wl_desk.proofs.Most.{leaves-over, own-most, sized}
 use Rattle.wl_desk.proofs.desks.Desk.gone.Goals as goal
 
 pub returns-in_default-clause-step : goal.returns-in_default-clause-step
@@ -49,6 +51,16 @@ pub returns-clause-within : goal.returns-clause-within
 returns-clause-within g c = λ d a.
     rw (← c.self.view_is) (own-within c.self.inside.output c.self.inside.clients.items c.self.inside.owned.items c.self.inside.scene c.args.client c.in-Some.k (found _ _ _ _ _ c.deref.ensures.value c.in-Some.ensures.some c.self.invariant.0) d (rw (← c.self.view_is) at a.matches)
     c.in-Some-take_out.resident _ _ c.self.inside.damage c.gone-lived.new.damage c.index_mut.ensures.value c.index_mut-2.ensures.value c.in-Some-take_out.ensures.some c.gone-lived.ensures.marks)
+
+pub returns-in_default-clause-most : goal.returns-in_default-clause-most
+returns-in_default-clause-most g c = λ d e a step b x y wide high marked. ap (λ t. t || marks_at_most d e None (pos x) (pos y)) marked
+
+pub returns-in_default-take_out-clause-most : goal.returns-in_default-take_out-clause-most
+returns-in_default-take_out-clause-most g c = λ d e a step b x y wide high marked. rw (← c.self.view_is) (ap (λ t. t || marks_at_most d e None (pos x) (pos y)) marked)
+
+pub returns-clause-most : goal.returns-clause-most
+returns-clause-most g c = λ d e a step b.
+    own-most c.args.client c.args.self.now _ d e c.gone-lived.new.damage a b (sized _ _ d c.self.view_is c.self.invariant.1 a) (leaves-over c.args.client (gave.Gone c.gone-lived.result) d e a.no_more step) (returns-clause-within g c d a)
 
 pub invariant_of-self-2 : goal.invariant_of-self-2
 invariant_of-self-2 g c = (

@@ -9,8 +9,9 @@ use Rattle.wl_resident.proofs.residents.Resident.answer_frames.Given as goal
 -- the client lives, and was told of some of its callbacks
 abbrev pub invariant-loop-callback : goal.invariant-loop-callback
 invariant-loop-callback g l =
-    l.fn.self.client.ended ≡ None → (r : Resident) → IsResident l.fn.self r → OwnsToplevelsOnly r
-    → (mid : Resident) × IsAnswered l.time r mid × IsResident l.self mid × (names_in l.self.client.objects ≡ names_in l.fn.self.client.objects)
+    (l.fn.self.client.ended ≡ None → (r : Resident) → IsResident l.fn.self r → OwnsToplevelsOnly r
+    → (mid : Resident) × IsAnswered l.time r mid × IsResident l.self mid × (names_in l.self.client.objects ≡ names_in l.fn.self.client.objects))
+    × (l.self.owned.surfaces.places ≡ l.fn.self.owned.surfaces.places)
 
 abbrev pub decreases-loop-callback : goal.decreases-loop-callback
 decreases-loop-callback g l = length l.self.owned.surfaces.frames

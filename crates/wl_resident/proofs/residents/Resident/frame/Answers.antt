@@ -1,4 +1,4 @@
-use Rattle.std.proofs.Common.{◌∙◌, refl, inl, ◌≡◌, None, true}
+use Rattle.std.proofs.Common.{refl, inl, ◌≡◌, None, true}
 use Rattle.std.specs.Prelude.{Some}
 use Rattle.wl_proto.specs.declared.interface.Interface.TheVariants.{WlCallback}
 use Rattle.wl_client.specs.Peer.{counted}

@@ -1,6 +1,6 @@
 use Rattle.std.proofs.Common.{refl, subst}
 use Rattle.wl_paint.specs.Damage.{Damaged}
-use Rattle.wl_resident.specs.Marking.{MarksAtLeast}
+use Rattle.wl_resident.specs.Marking.{MarksAtLeast, MarksMost}
 use Rattle.wl_resident.specs.Marking.{IsAsLarge as HasItsSides}
 use Rattle.wl_plain.specs.declared.answers.Done.TheVariants as gave
 use Rattle.wl_desk.specs.Agreeing.{Agrees}
@@ -41,5 +41,6 @@ returns-clause-course g c = λ d a.
           let happens = fed-lacking c.args.self.now.desk c.args.client c.args.piece.now d m.0 c.status.result a m.1 (c.status.ensures m.0 new) in
           rw w.self-is (rw (← c.self.view_is) (lacking-course c.args.client c.args.piece.now (gave.Feed c.status.result) _ _ d m.0 refl
           (subst (λ (x : Damaged). HasItsSides x w.end.new.self.damage) w.in-Err.ensures.damage w.end.ensures.sides) was kept.1 m.1
-          (subst (λ (x : Damaged). MarksAtLeast d m.0 x w.end.new.self.damage) w.in-Err.ensures.damage (w.end.ensures.marks d m.0 kept.0 m.1)) happens m.2))
+          (subst (λ (x : Damaged). MarksAtLeast d m.0 x w.end.new.self.damage) w.in-Err.ensures.damage (w.end.ensures.marks d m.0 kept.0 m.1))
+          (subst (λ (x : Damaged). MarksMost d m.0 x w.end.new.self.damage) w.in-Err.ensures.damage (w.end.ensures.most d m.0 kept.0 m.1 m.2)) happens m.2))
     ]

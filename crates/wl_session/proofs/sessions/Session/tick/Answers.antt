@@ -1,4 +1,6 @@
-use Rattle.std.proofs.Common.{◌∙◌, refl, sym, ap}
+use Rattle.std.proofs.Common.{None, ◌∙◌, refl, sym, ap, pos}
+use Rattle.std.specs.Prelude.{◌||◌}
+use Rattle.wl_plain.specs.Moments.{marks_at_most}
 use Rattle.wl_client.specs.declared.outputs.Output.{Output}
 use Rattle.wl_paint.specs.Damage.{Damaged, has}
 use Rattle.wl_desk.specs.Agreeing.{Agrees}
@@ -38,7 +40,8 @@ returns g c =
       shows.1,
       shows.2,
       (λ x y wide high clean. (shows.3 x y (rw sides.width wide) (rw sides.height high) clean).1),
-      (λ stays x y wide high. shows.4 stays x y (rw sides.width wide) (rw sides.height high) ∙ c.take_damage.ensures.none x y),
+      (λ x y wide high again. sym (ap (λ b. b || marks_at_most d shows.0 None (pos x) (pos y)) (c.take_damage.ensures.none x y)) ∙ shows.4 x y (rw sides.width wide) (rw sides.height high) again),
+      (λ stays x y wide high. shows.5 stays x y (rw sides.width wide) (rw sides.height high) ∙ c.take_damage.ensures.none x y),
     ))
     (λ d a. record {
       large = record { width = c.paint.ensures.width; height = c.paint.ensures.height; background = c.paint.ensures.background };
