@@ -1,5 +1,5 @@
 -- What happens to clients that have no more than toplevels is what happens where no more is served.
-use Rattle.std.proofs.Common.{◌≡◌, ℕ, zero, suc, ◌-◌, List, [], ◌∷◌, Bool, true, false, Option, Some, None, Result, drop, take, refl, ap, subst, sym, ◌∙◌, inl, inr}
+use Rattle.std.proofs.Common.{◌≡◌, ℕ, ◌-◌, List, [], ◌∷◌, Bool, true, false, Option, Some, None, Result, drop, take, refl, ap, subst, sym, ◌∙◌, inl, inr}
 use Rattle.std.specs.Prelude.{Ok, Err}
 use Rattle.wl_wire.specs.Wire.{split_of}
 use Rattle.wl_wire.specs.declared.header.Split.{Split}
@@ -13,7 +13,6 @@ use Rattle.wl_client.specs.Told.{Said, code_number, display_error, error_told}
 use Rattle.wl_scene.specs.Pointer.{first_pointer}
 use Rattle.wl_plain.specs.declared.answers.Done.{Done}
 use Rattle.wl_plain.specs.declared.answers.Done.TheVariants as gave
-use Rattle.wl_plain.specs.Changing.{without_callbacks}
 use Rattle.wl_plain.specs.Demand.{Demand}
 use Rattle.wl_plain.specs.Demanding.{judge_all}
 use Rattle.wl_plain.specs.Desktop.{Desktop, Resident, become, client_at, client_in, with_client}
@@ -21,13 +20,13 @@ use Rattle.wl_plain.specs.Laws.{toplevels_of}
 use Rattle.wl_plain.specs.LeftOut.{served_now}
 use Rattle.wl_plain.specs.NoMore.{NoMore, OwnsToplevelsAt, OwnsToplevelsBy, OwnsToplevelsOnly}
 use Rattle.wl_plain.specs.Replies.{replies}
-use Rattle.wl_plain.specs.Settling.{EndsAndSettles, EndsFirst, Midstep, QueuesFirst, QueuesTo, SettlesAll, TellsAt, becomes, struck_by, unstruck}
+use Rattle.wl_plain.specs.Settling.{EndsAndSettles, EndsFirst, Midstep, QueuesFirst, QueuesTo, SettlesAll, becomes, unstruck}
 use Rattle.wl_plain.specs.Stacked.{all_windows}
 use Rattle.wl_plain.specs.Step.{with_peer}
 use Rattle.wl_plain.proofs.Simply.{Becomes, Simple, changed_simply, judge, stacked_simply, told_simply}
 use Rattle.wl_plain.specs.Acts.{IsClosed, IsLeft, IsSent, IsStored, Act, Connect, Feed, Store, Leave, Tick, Send, Close, Motion, Button}
-use Rattle.wl_plain.specs.Happens.{Happens, callbacks_due, done_for, frames_told, Serves as StepServes, TellsFrames, wants_memory}
-use Rattle.wl_plain.proofs.Forms.{after_why, Answers as StepAnswers, Becomes as StepBecomes, ChangesAt as StepChangesAt, Does, LeavesAt, ServesAt as StepServesAt, Shows, Takes as StepTakes, WantsOr as StepWantsOr}
+use Rattle.wl_plain.specs.Happens.{Happens, done_for, Serves as StepServes, wants_memory}
+use Rattle.wl_plain.proofs.Forms.{after_why, Answers as StepAnswers, Becomes as StepBecomes, ChangesAt as StepChangesAt, Does, LeavesAt, ServesAt as StepServesAt, Takes as StepTakes, WantsOr as StepWantsOr}
 use Rattle.wl_plain.proofs.Altering.{Alters, ChangesAt, IsCall}
 use Rattle.wl_plain.proofs.Behind.{changed-status}
 use Rattle.wl_plain.proofs.BridgeChanged.{changed-same}
@@ -97,7 +96,7 @@ does-back c ask demand r there d new is still alive only same h =
 over : (cause : Cause) (p q : Peer) → q ≡ ended cause p → q.status ≡ None → ⊥
 over cause p q e alive = none-some cause (sym alive ∙ ap (λ (x : Peer). x.status) e)
 
-erred : (refusal : Refusal) (p q : Peer) → Errs refusal p q → q.status ≡ None → ⊥
+pub erred : (refusal : Refusal) (p q : Peer) → Errs refusal p q → q.status ≡ None → ⊥
 erred refusal p q h alive = at (has_room p.unsent (error_told refusal)) h
   where
     at : (b : Bool) → QueuesOr b (q ≡ ended (Protocol refusal.object (code_number refusal.code)) (queued (error_told refusal) p)) p q → ⊥
@@ -105,7 +104,7 @@ erred refusal p q h alive = at (has_room p.unsent (error_told refusal)) h
     at true (inl e) = over _ p q e alive
     at true (inr e) = over _ (queued (error_told refusal) p) q e alive
 
-lacking : (p q : Peer) → LacksMemory p q → q.status ≡ None → ⊥
+pub lacking : (p q : Peer) → LacksMemory p q → q.status ≡ None → ⊥
 lacking p q (inl e) alive = over _ p q e alive
 lacking p q (inr e) alive = none-some _ (sym alive ∙ ap (λ (x : Peer). x.status) e.1)
 

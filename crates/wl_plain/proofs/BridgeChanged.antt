@@ -21,7 +21,7 @@ use Rattle.wl_plain.specs.Happens.{wants_memory}
 use Rattle.wl_plain.specs.WlSurface.{will_show}
 use Rattle.wl_plain.proofs.BridgeBuffers.{changed-after, gone-after}
 use Rattle.wl_plain.proofs.BridgeJudged.{IsToplevelAt, Same, asks, commit, effect-same, ends, found-toplevel, frames, goes, move, none-popped}
-use Rattle.wl_plain.proofs.Simply.{AskingFrame, CommitSurface, DestroySurface, DestroyToplevel, Simple, changed_simply, committed_on, effect_for, effect_of, effect_on, stacked_simply, answers_simply, wants_simply}
+use Rattle.wl_plain.proofs.Simply.{CommitSurface, DestroySurface, DestroyToplevel, Simple, changed_simply, committed_on, effect_for, effect_of, effect_on, stacked_simply, answers_simply, wants_simply}
 
 -- ---- popups, where there are none
 

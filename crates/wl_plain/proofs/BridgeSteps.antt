@@ -1,27 +1,25 @@
 -- A call of clients that have no more than toplevels is what it is where every request may be served.
-use Rattle.std.proofs.Common.{◌≡◌, ℕ, zero, suc, List, [], ◌∷◌, Bool, true, false, Option, Some, None, cond, refl, ap, subst, sym, ◌∙◌}
+use Rattle.std.proofs.Common.{◌≡◌, ℕ, List, [], ◌∷◌, Bool, true, false, Option, Some, None, cond, refl, ap, subst, sym, ◌∙◌}
 use Rattle.std.specs.Prelude.{◌==◌, filter, is_none, not}
 use Rattle.std.proofs.lemmas.Bool.{eqb-false, eqb-true}
 use Rattle.wl_client.specs.declared.clients.Cause.{Cause}
 use Rattle.wl_client.specs.declared.clients.Cause.TheVariants.{Gone}
 use Rattle.wl_client.specs.Peer.{Peer, ended, left_by}
-use Rattle.wl_surface.specs.Waiting.{Callback}
 use Rattle.wl_scene.specs.Pointer.{first_pointer}
 use Rattle.wl_scene.specs.Stacking.{Standing, without_client}
 use Rattle.wl_plain.specs.declared.answers.Done.{Done}
 use Rattle.wl_plain.specs.declared.answers.Done.TheVariants as gave
-use Rattle.wl_plain.specs.Changing.{without_callbacks}
 use Rattle.wl_plain.specs.Desktop.{Desktop, Resident, become, become_by, client_at, resident_of, with_client, with_number}
 use Rattle.wl_plain.specs.Laws.{toplevels_of}
 use Rattle.wl_plain.specs.LeftOut.{served_now}
-use Rattle.wl_plain.specs.Settling.{TellsAt, becomes, unstruck}
+use Rattle.wl_plain.specs.Settling.{becomes}
 use Rattle.wl_plain.specs.Step.{with_peer}
 use Rattle.wl_plain.specs.Acts.{IsClosed, IsLeft, IsSent, IsStored, Act, Connect, Feed, Store, Leave, Tick, Send, Close, Motion, Button, closed_by}
 use Rattle.wl_plain.specs.NoMore.{NoMore, OwnsToplevelsAt, OwnsToplevelsBy}
-use Rattle.wl_plain.specs.Happens.{TellsFrames, callbacks_due, frames_told, Happens}
-use Rattle.wl_plain.proofs.Forms.{ChangesAt as StepChangesAt, LeavesAt, Shows}
+use Rattle.wl_plain.specs.Happens.{Happens}
+use Rattle.wl_plain.proofs.Forms.{ChangesAt as StepChangesAt, LeavesAt}
 use Rattle.wl_plain.proofs.Altering.{Alters, ChangesAt, left_so}
-use Rattle.wl_plain.proofs.BridgeServes.{becomes-same, living, settles-to}
+use Rattle.wl_plain.proofs.BridgeServes.{becomes-same, settles-to}
 use Rattle.wl_plain.proofs.OwningKeys.{none-some}
 use Rattle.wl_plain.proofs.Places.{client-kept, number-other, number-same}
 use Rattle.wl_plain.proofs.OneRun.{held}

@@ -1,6 +1,6 @@
 -- What an accepted message makes or takes away is neither a wl_surface nor a wl_callback, where no more than toplevels is served, but for a surface
 -- that goes.
-use Rattle.std.proofs.Common.{◌≡◌, true, false, Option, Some, None, Result, refl, ap, subst, ◌∙◌, ℕ}
+use Rattle.std.proofs.Common.{◌≡◌, true, false, Some, Result, refl, subst, ℕ}
 use Rattle.std.specs.Prelude.{Ok, Err, ◌==◌}
 use Rattle.wl_proto.specs.declared.interface.Interface.{Interface}
 use Rattle.wl_proto.specs.declared.interface.Interface.TheVariants.{WlRegion, WlSurface, WlShmPool, WlBuffer, XdgWmBase, XdgSurface, XdgToplevel, WlCallback}

@@ -141,3 +141,7 @@ pub mod FramingKeeps
 pub mod FramingWaits
 pub mod Altering
 pub mod TouchingKeeps
+pub mod EndingThrough
+pub mod EndingMarks
+pub mod EndingStruck
+pub mod MostThrough

@@ -9,7 +9,7 @@ use Rattle.wl_client.specs.declared.actions.Action.{Action}
 use Rattle.wl_client.specs.declared.actions.Action.TheVariants.{GetRegistry, Bind, CreateRegion, DestroyRegion, CreatePool, CreateBuffer, DestroyPool, DestroyBuffer}
 use Rattle.wl_client.specs.declared.clients.Cause.{Cause}
 use Rattle.wl_client.specs.Judgement.{is_free}
-use Rattle.wl_client.specs.Objects.{Objects, is_of}
+use Rattle.wl_client.specs.Objects.{is_of}
 use Rattle.wl_surface.specs.Request.{Request, Child, AddChild, PlaceAbove, PlaceBelow}
 use Rattle.wl_surface.specs.State.{History, is_member, order}
 use Rattle.wl_surface.specs.Surfaces.{Link, Surfaces, history_in, link_at, surface_at}

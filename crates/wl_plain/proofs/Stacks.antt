@@ -33,7 +33,7 @@ pub or-right : (a b : Bool) → (a || b) ≡ false → b ≡ false
 or-right true b e = absurd (cc)
 or-right false b e = e
 
-or-second : (a b : Bool) → (a || b) ≡ true → a ≡ false → b ≡ true
+pub or-second : (a b : Bool) → (a || b) ≡ true → a ≡ false → b ≡ true
 or-second true b e f = absurd (cc)
 or-second false b e f = e
 
@@ -67,7 +67,7 @@ or-first : (a b : Bool) → a ≡ true → (a || b) ≡ true
 or-first true b e = refl
 or-first false b e = absurd (differ e)
 
-either-more : (a b c d : Bool) → (a || b) ≡ true → (a ≡ true → c ≡ true) → (b ≡ true → d ≡ true) → (c || d) ≡ true
+pub either-more : (a b c d : Bool) → (a || b) ≡ true → (a ≡ true → c ≡ true) → (b ≡ true → d ≡ true) → (c || d) ≡ true
 either-more true b c d e f g = or-first c d (f refl)
 either-more false b c d e f g = or-more c d (g e)
 
@@ -202,7 +202,7 @@ kept-later v w o vs same other e =
     or-second (has_same_record o v) (list_any (has_same_record o) vs) e
     (unless (has_same_record o v) (λ f. differ (sym other ∙ surface-as v w o (surface-turned w v same) (surface-turned o v (record-surface o v f)))))
 
-first-same : (w v : Window) (vs : List Window) → is_same_surface w v ≡ true → list_any (is_same_surface v) vs ≡ false → (has_same_record w v || list_any (has_same_record w) vs) ≡ true → has_same_record w v ≡ true
+pub first-same : (w v : Window) (vs : List Window) → is_same_surface w v ≡ true → list_any (is_same_surface v) vs ≡ false → (has_same_record w v || list_any (has_same_record w) vs) ≡ true → has_same_record w v ≡ true
 first-same w v vs same apart e = at (has_same_record w v) e where
   at : (b : Bool) → (b || list_any (has_same_record w) vs) ≡ true → b ≡ true
   at true f = refl

@@ -38,7 +38,7 @@ module _ (c : ℕ) (there : Resident) (d : Desktop) (is : client_at c d ≡ Some
   asks-find More ask p asks = absurd asks
 
   -- an accepted request is done
-  asked-stand : AreToplevels there.owned.shell → (ask : Simple) (p : Peer) → AsksBy there (split_of there.peer.rest) ask → StandAfter c ask (with_peer p there) d
+  pub asked-stand : AreToplevels there.owned.shell → (ask : Simple) (p : Peer) → AsksBy there (split_of there.peer.rest) ask → StandAfter c ask (with_peer p there) d
   asked-stand top ask p asks =
       stand-after c ask (with_peer p there) d owned.shell.apart owned.surfaces.counts top (subst (λ o. AreMapped c o d.standing) (ap owned_of is) (stand.each c)) stand.apart
       (asks-find (split_of there.peer.rest) ask p asks)

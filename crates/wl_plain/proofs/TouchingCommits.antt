@@ -57,7 +57,8 @@ maps-unmapped shows (Some x) e = by (stage_of x) shows e
     by (Some stage.Mapped) false e = absurd (cc)
 
 module _ (c : ℕ) (r : Resident) (d : Desktop) (is : AreMapped c r.owned d.standing) where
-  maps-none : (id : ℕ) → effect_of r id ≡ Maps → list_any (is_of c id) d.standing ≡ false
+  -- where it comes to a mapping, its toplevel doesn't stand
+  pub maps-none : (id : ℕ) → effect_of r id ≡ Maps → list_any (is_of c id) d.standing ≡ false
   maps-none id e = is.stands id ∙ maps-unmapped (will_show r id) (xdg_of id r.owned.shell) e
 
   -- no toplevel stands twice afterwards

@@ -33,7 +33,7 @@ pub none-there : (x y : ℤ) (ws : List Window) → any_window_at none_of x y ws
 none-there x y [] = refl
 none-there x y (w ∷ ws) = none-there x y ws
 
-neither-there : (x y : ℤ) (ws vs : List Window) → (any_window_at none_of x y ws || any_window_at none_of x y vs) ≡ true → ⊥
+pub neither-there : (x y : ℤ) (ws vs : List Window) → (any_window_at none_of x y ws || any_window_at none_of x y vs) ≡ true → ⊥
 neither-there x y ws vs e =
     differ (either-of (any_window_at none_of x y ws) (any_window_at none_of x y vs) false e (λ f. sym (none-there x y ws) ∙ f) (λ f. sym (none-there x y vs) ∙ f))
 
