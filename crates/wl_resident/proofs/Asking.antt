@@ -43,12 +43,12 @@ use Rattle.wl_resident.specs.Marking.{marked_by}
 use Rattle.wl_resident.specs.Messages.{IsAsked}
 use Rattle.wl_resident.specs.declared.messages.Asked.{Asked}
 use Rattle.wl_resident.specs.declared.messages.Asked.TheVariants as asks
-use Rattle.wl_resident.specs.Residents.{AnswersDemand, AnswersSo, IsResident, NewIsFree, ObjectsFit, Stacks, StacksBy, StacksFor, StacksSo, StacksTo, TakesSo}
+use Rattle.wl_resident.specs.Residents.{AnswersAs, AnswersDemand, AnswersDemandAs, AnswersSo, IsResident, NewIsFree, ObjectsFit, Stacks, StacksBy, StacksFor, StacksSo, StacksTo, TakesAs, TakesSo}
 use Rattle.wl_plain.specs.Step.{with_peer}
 use Rattle.wl_plain.proofs.BridgeServes.{only-peer}
 use Rattle.wl_plain.proofs.PiecesChanging.{judged-behind}
 use Rattle.wl_resident.proofs.Numbers.{left-from}
-use Rattle.wl_resident.proofs.Shelling.{new-free, refused-whole}
+use Rattle.wl_resident.proofs.Shelling.{meets-from, new-free, refused-whole}
 
 -- a seat has no keyboard and no touch
 pub seat-refused : (r : Resident) (object version : ℕ) (request : WlSeatRequest) → ((id : ℕ) × (request ≡ GetKeyboard id)) ⊎ ((id : ℕ) × (request ≡ GetTouch id)) → demand_of served_now r object version (wl_seat_request request) ≡ Err (record { object = object; code = MissingCapability })
@@ -120,6 +120,11 @@ answers-from : {A : Type 0} (old mid new : Kept A) (c : ℕ) (r : Resident) (d :
 answers-from old mid new c r d (Ok demand) same h = (h.0, h.1, left-from old mid new (changed_for c demand (with_peer (counted r.peer) r) d) h.0 same h.2)
 answers-from old mid new c r d (Err refusal) same h = (h.0, h.1, left-from old mid new r h.0 same h.2)
 
+decided-from : {A : Type 0} (done : Bool) (old mid new : Kept A) (c : ℕ) (r : Resident) (d : Desktop) (judged : Result Demand Refusal) → mid.client.objects ≡ old.client.objects → AnswersAs done judged c r d mid new → AnswersAs done judged c r d old new
+decided-from done old mid new c r d (Ok demand) same h = meets-from done demand c (with_peer (counted r.peer) r) d old mid new same h
+decided-from true old mid new c r d (Err refusal) same h = absurd h
+decided-from false old mid new c r d (Err refusal) same h = (h.0, h.1, left-from old mid new r h.0 same h.2)
+
 stacks-to-from : {A : Type 0} (old mid : Kept A) (id : ℕ) (place : ℕ → Stacking) (stacking : Stacking) → mid.client.objects ≡ old.client.objects → StacksTo mid id place stacking → StacksTo old id place stacking
 stacks-to-from old mid id place stacking same h = (h.0, ap (λ (held : Held). targets_in WlSurface held id) (sym same) ∙ h.1, h.2)
 
@@ -171,6 +176,16 @@ module _ {A : Type 0} (old : Kept A) (r : Resident) (object version size target 
         subst (λ (j : Result Demand Refusal). AnswersSo j c left d old new) (sym demanded-first) (answers-from old mid new c left d (demand_of served_now left object version m) objects (answers c left d there has)),
         subst (λ (j : Result Demand Refusal). StacksSo old r j stacking) (sym demanded-first) (stacks-from old mid r (drop size r.peer.rest) (demand_of served_now left object version m) stacking objects (stacks left there has)),
       )
+
+  -- the same where it is known whether it was done
+  pub first-decided : (mid new : Kept A) (done : Bool) → mid ≡ record old { client = record old.client { rest = drop size old.client.rest } } → AnswersDemandAs done (λ r. demand_of served_now r object version m) mid new
+      → (c : ℕ) (d : Desktop) → OwnsToplevelsOnly r → TakesAs done (split_of r.peer.rest) c r d old new
+  first-decided mid new done same answers c d only =
+      let there = dropped old mid r size same is in
+      let objects : mid.client.objects ≡ old.client.objects = ap (λ (k : Kept A). k.client.objects) same in
+      let has : OwnsToplevelsOnly left = only-peer r left.peer refl only in
+      subst (λ (s : Split). TakesAs done s c r d old new) (sym whole-first)
+      (subst (λ (j : Result Demand Refusal). AnswersAs done j c left d old new) (sym demanded-first) (decided-from done old mid new c left d (demand_of served_now left object version m) objects (answers c left d there has)))
 
 -- ---- where there is no whole message
 

@@ -1,6 +1,7 @@
 pub mod Numbers
 pub mod Simply
 pub mod Doing
+pub mod Stillness
 pub mod Shelling
 pub mod Scenes
 pub mod Ends
@@ -18,8 +19,12 @@ pub mod OwnAsking
 pub mod OwnEnds
 pub mod OwnWindows
 pub mod Releasing
+pub mod Freeing
 pub mod MarkedMessages
 pub mod Within
 pub mod Marked
 pub mod Toplevels
 pub mod Spans
+pub mod EndedMessages
+pub mod EndedThrough
+pub mod ServedThrough

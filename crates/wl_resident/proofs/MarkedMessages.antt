@@ -1,11 +1,8 @@
--- What a message of a client marks to be painted again the desk marks: what it changes of the window of the surface that it touches, and everything
--- where its client ends and a toplevel of its stood.
-use Rattle.std.proofs.Common.{◌≡◌, ℕ, ◌<◌, ◌-◌, List, [], ◌∷◌, ◌++◌, Bool, true, false, Option, Some, None, Result, refl, ap, sym, subst, ◌∙◌, inl, inr}
-use Rattle.std.specs.Prelude.{ℤ, pos, ◌==◌, ◌&&◌, ◌||◌, Ok, Err, cond, drop, find, if◌then◌else◌, is_some, take}
-use Rattle.std.specs.List.{list_any}
+-- What a message of a client that lives on marks to be painted again the desk marks: what it changes of the window of the surface that it touches.
+use Rattle.std.proofs.Common.{◌≡◌, ℕ, ◌<◌, ◌-◌, List, [], ◌∷◌, Bool, true, false, Option, Some, None, Result, refl, ap, sym, subst, ◌∙◌, inl, inr}
+use Rattle.std.specs.Prelude.{ℤ, pos, ◌==◌, ◌||◌, Ok, Err, cond, drop, find, if◌then◌else◌, is_some, take}
 use Rattle.std.specs.Option.{option_and_then, option_map}
-use Rattle.std.proofs.lemmas.Bool.{eqb-false, eqb-true, or_left, or_right}
-use Rattle.std.proofs.lemmas.List.Folds.{list_any-append}
+use Rattle.std.proofs.lemmas.Bool.{eqb-false, eqb-true, or_left}
 use Rattle.wl_wire.specs.Wire.{Field, split_of}
 use Rattle.wl_wire.specs.declared.header.Split.{Split}
 use Rattle.wl_wire.specs.declared.header.Split.TheVariants.{Message as Whole, More, Bad}
@@ -36,24 +33,22 @@ use Rattle.wl_client.specs.declared.refusals.Refusal.{Refusal}
 use Rattle.wl_client.proofs.Passing.{judged-refused}
 use Rattle.wl_paint.specs.Damage.{Damaged, has}
 use Rattle.wl_surface.specs.Applied.{AreChanges, newly_damaged}
-use Rattle.wl_surface.specs.Request.{Buffer, Request}
-use Rattle.wl_surface.specs.State.{History, offset, values}
+use Rattle.wl_surface.specs.State.{History}
 use Rattle.wl_surface.specs.Surfaces.{Surface, history_in, surface_at}
 use Rattle.wl_surface.specs.declared.applied.Applied.{Applied}
 use Rattle.wl_shell.specs.Kept.{kept_of}
 use Rattle.wl_shell.specs.Shell.{Effect, Stays, Unconfigured, Configures, Maps, Unmaps, is_full, xdg_at, xdg_of, xdg_with}
 use Rattle.wl_shell.specs.Shell.{XdgSurface as Xdg}
-use Rattle.wl_scene.specs.Stacking.{Owned, Stack, Standing, root_of, windows_on}
-use Rattle.wl_scene.specs.Windows.{Owner, Place, Window, contains, moved, owner_of, window_with}
-use Rattle.wl_resident.specs.Agreement.{IsStack}
+use Rattle.wl_scene.specs.Stacking.{Owned, Stack}
+use Rattle.wl_scene.specs.Windows.{Window, contains}
 use Rattle.wl_plain.specs.Ask.{Ask, Ignore, owns}
 use Rattle.wl_plain.specs.Demand.{Demand, Asks, EndSurface, AskFrame, CommitTree, EndToplevel, Move}
 use Rattle.wl_plain.specs.Demanding.{base_demand, committed_by, demand_by, demand_of, demands, effect_of_commit, judge_all, moved_by_pointer, own_demand, surface_demand, toplevel_asked, toplevel_demand, toplevel_destroyed, xdg_asked}
 use Rattle.wl_plain.proofs.BridgeJudged.{simple-peer, simply-ok}
-use Rattle.wl_plain.specs.Desktop.{Desktop, Resident, client_in, owned_in, owned_of, place}
+use Rattle.wl_plain.specs.Desktop.{Desktop, Resident, client_in, owned_in, owned_of}
 use Rattle.wl_plain.specs.Laws.{status_in, status_of}
 use Rattle.wl_resident.proofs.Toplevels.{MarksToplevels}
-use Rattle.wl_resident.specs.Marking.{AddsPoints, AreUnlinked, IsRecordOf, MarksChange, MarksEnd, TellsChange, any_record_has, commit_by, commit_in, is_record_damaged, marked_by, marked_in, record_has, rects_applied, rects_changed, stands_any}
+use Rattle.wl_resident.specs.Marking.{AddsPoints, AreUnlinked, IsRecordOf, MarksChange, TellsChange, any_record_has, commit_by, commit_in, is_record_damaged, marked_by, marked_in, record_has, rects_applied, rects_changed}
 use Rattle.wl_resident.specs.declared.marking.WindowRecord.{WindowRecord}
 use Rattle.wl_resident.specs.Messages.{IsAsked, IsKind}
 use Rattle.wl_plain.specs.Owning.{by_number, names_in, target_as, targets_in}
@@ -61,13 +56,14 @@ use Rattle.wl_plain.specs.Marks.{has_same_record}
 use Rattle.wl_plain.specs.Moments.{history_of}
 use Rattle.wl_resident.specs.Residents.{IsLeft, IsResident, KeepsNumbers, asked_by}
 use Rattle.wl_resident.proofs.Simply.{AnswersSimply, TakesSo}
-use Rattle.wl_resident.specs.Seats.{IsClearedBy, IsRestacked, IsSeated, IsSettledBy}
+use Rattle.wl_resident.specs.Seats.{IsClearedBy, IsRestacked, IsSeated}
+use Rattle.wl_resident.proofs.Seats.{IsSettledBy}
 use Rattle.wl_plain.specs.LeftOut.{served_now}
 use Rattle.wl_plain.specs.NoMore.{NoMore}
 use Rattle.wl_plain.specs.Happens.{Serves}
 use Rattle.wl_plain.specs.Step.{with_peer}
 use Rattle.wl_plain.proofs.Simply.{Simple, Asking, AskingFrame, CommitSurface, DestroySurface, DestroyToplevel, changed_simply, effect_of, judge, simple_of, simply, touched}
-use Rattle.wl_plain.specs.Touching.{any_window_at, changes_at, has_window_at, is_window_damaged, is_window_of, window_at}
+use Rattle.wl_plain.specs.Touching.{changes_at, is_window_damaged, is_window_of, window_at}
 use Rattle.wl_client.specs.Requests.{Request as AnyRequest, ToCompositor, ToSurface, ToSubcompositor, ToSubsurface, ToSeat, ToPointer, ToBase, ToPositioner, ToXdgSurface, ToToplevel, ToPopup, request_in, request_of, toplevel_request}
 use Rattle.wl_plain.specs.Served.{unserved_now}
 use Rattle.wl_client.specs.ToplevelRequest.{ToplevelRequest}
@@ -90,45 +86,15 @@ use Rattle.wl_plain.proofs.BridgeBack.{AsksBy}
 use Rattle.wl_plain.proofs.OwningXdg.{toplevel-named}
 use Rattle.wl_plain.proofs.OwningSurfaces.{surface-named, surface-read}
 use Rattle.wl_plain.proofs.Places.{number-other}
-use Rattle.wl_plain.proofs.Stacks.{and-both, and-left, and-right, differ, fields, or-left, or-right, recorded, unless}
+use Rattle.wl_plain.proofs.Stacks.{and-left, and-right, differ, fields, or-left, or-right, recorded, unless}
 use Rattle.wl_plain.proofs.StandingTurned.{same-turned}
 use Rattle.wl_resident.proofs.Taking.{none-is}
-use Rattle.wl_plain.proofs.TouchingMarks.{either-of}
 use Rattle.wl_plain.proofs.TouchingDamage.{IsAppliedBy, MarkedExactlyBy, serves-exactly}
 use Rattle.wl_plain.proofs.TouchingKeeps.{serves-keeps}
 use Rattle.wl_plain.proofs.TouchingMessages.{touched-peer}
-use Rattle.wl_plain.proofs.TouchingWindows.{counted as counted_of, lone, window_by, windows-first}
 use Rattle.wl_plain.proofs.ToplevelWindows.{marks_of_toplevels}
 
--- ---- windows are those of toplevels that stand
-
-module _ (is : ℕ → ℕ → Bool) (x y : ℤ) where
-  lone-stands : (owner : Owner) (surface : ℕ) (place : Place) (requests : Option (List Request)) → any_window_at is x y (lone owner surface place requests) ≡ true → is owner.client surface ≡ true
-  lone-stands owner surface place None e = absurd (differ e)
-  lone-stands owner surface place (Some requests) e = at (values requests).buffer e
-    where
-      at : (buffer : Option Buffer) → any_window_at is x y (window_with owner surface (moved place (offset requests).x (offset requests).y) (values requests) buffer) ≡ true → is owner.client surface ≡ true
-      at None e = absurd (differ e)
-      at (Some buffer) e = either-of _ false (is owner.client surface) e (λ f. and-left (is owner.client surface) _ f) (λ f. absurd (differ f))
-
-  -- a window of surfaces that pass is there for a toplevel of such a surface
-  pub windows-stand : (owned : ℕ → Owned) (ss : List Standing) → ((c : ℕ) → (owned c).surfaces.links ≡ []) → any_window_at is x y (windows_on owned ss) ≡ true → list_any (λ s. is s.client s.surface) ss ≡ true
-  windows-stand owned [] unlinked e = e
-  windows-stand owned (s ∷ ss) unlinked e =
-      let others : Bool = list_any (λ (t : Standing). is t.client t.surface) ss in
-      let here : any_window_at is x y (window_by owned s ++ windows_on owned ss) ≡ true = ap (λ ws. any_window_at is x y ws) (sym (windows-first owned s ss unlinked)) ∙ e in
-      either-of (any_window_at is x y (window_by owned s)) (any_window_at is x y (windows_on owned ss)) (is s.client s.surface || others)
-      (sym (list_any-append (λ (w : Window). is w.owner.client w.surface && contains w x y) (window_by owned s) (windows_on owned ss)) ∙ here)
-      (λ f. or_left (is s.client s.surface) others (lone-stands (owner_of (root_of owned s)) s.surface s.place (counted_of (history_in s.surface (owned s.client).surfaces)) f))
-      (λ f. or_right (is s.client s.surface) others (windows-stand owned ss unlinked f))
-
--- the toplevels of a client are kept as its own
-pub stack-any : (numbers : ℕ → ById ℕ) (c : ℕ) (ks ss : List Standing) → IsStack numbers ks ss → list_any (λ k. k.client == c) ks ≡ list_any (λ s. s.client == c) ss
-stack-any numbers c [] [] is = refl
-stack-any numbers c (k ∷ ks) (s ∷ ss) is =
-    ap (λ n. (n == c) || list_any (λ (t : Standing). t.client == c) ks) is.0.client ∙ ap (λ b. (s.client == c) || b) (stack-any numbers c ks ss is.1)
-stack-any numbers c [] (s ∷ ss) is = absurd is
-stack-any numbers c (k ∷ ks) [] is = absurd is
+-- ---- links
 
 -- where no client's surfaces are linked but for this one's, none are
 pub seated-unlinked : {A : Type 0} (c : ℕ) (others : ℕ → ById ℕ) (base d : Desktop) (v : Kept A) (stack : Stack) (r : Resident) → IsSeated c others base v stack d r
@@ -309,7 +275,7 @@ IsMarkedBy v asked ask id = (number : ℕ) × (marked_by asked ≡ Some number) 
 
 module _ {A : Type 0} (v : Kept A) (r : Resident) (is : IsResident v r) where
   -- a message that passes
-  passed-touches : (P : Simple → ℕ → Type 0) (object version size target : ℕ) (m : Message) → Passes v.client object version size target m → (request_of m ≡ ToSurface surface.Commit → Commits r P object)
+  pub passed-touches : (P : Simple → ℕ → Type 0) (object version size target : ℕ) (m : Message) → Passes v.client object version size target m → (request_of m ≡ ToSurface surface.Commit → Commits r P object)
       → (request_of m ≡ ToToplevel toplevel.Destroy → Destroys r P object) → (ask : Simple) (id : ℕ) → AsksBy r (split_of r.peer.rest) ask → touched ask r ≡ Some id → P ask id
   passed-touches P object version size target m passes commits destroys ask id asks t =
       let left = with_peer (with_rest (drop size r.peer.rest) r.peer) r in
@@ -566,44 +532,27 @@ module _ {A : Type 0} (c : ℕ) (others : ℕ → ById ℕ) (base d e : Desktop)
       (record_was record_is : Option WindowRecord) (first : (id number : ℕ) → surface_number ≡ Some number → targets_in WlSurface old.client.objects id ≡ Some number → IsRecordOf record_was (window_at c id d))
       (second : (id number : ℕ) → surface_number ≡ Some number → targets_in WlSurface new.client.objects id ≡ Some number → IsRecordOf record_is (window_at c id e))
       (applied : Option (Applied A)) (commits : (number : ℕ) → commit_by a ≡ Some number → TellsChange old new number applied)
-      (d0 d1 d2 : Damaged) (settled : MarksEnd new.client.ended c was d0 d1) (changes : MarksChange record_was record_is (rects_applied applied) d1 d2) where
+      (lives : new.client.ended ≡ None) (d0 d2 : Damaged) (changes : MarksChange record_was record_is (rects_applied applied) d0 d2) where
     module _ (x y : ℕ) (wide : x < d0.width) (high : y < d0.height) (unmarked : has d2 x y ≡ false) where
-      wide1 : x < d1.width
-      wide1 = subst (λ n. x < n) (sym settled.0.width) wide
-
-      high1 : y < d1.height
-      high1 = subst (λ n. y < n) (sym settled.0.height) high
-
-      none1 : has d1 x y ≡ false
-      none1 = unless (has d1 x y) (λ f. differ (sym unmarked ∙ changes.more x y wide1 high1 f))
-
       none0 : has d0 x y ≡ false
-      none0 = or-left (has d0 x y) _ (sym (settled.1 x y wide high) ∙ none1)
-
-      -- the client ended, and had a window there
-      ended-there : is_some (status_in c e) ≡ true → has_window_at c (pos x) (pos y) d ≡ true → ⊥
-      ended-there over there =
-          let stood : stands_any c was ≡ true = stack-any _ c was.standing d.standing before.scene.standing
-          ∙ windows-stand (λ client surface. client == c) (pos x) (pos y) (owned_in d) d.standing (seated-unlinked c others base d old was r before unlinked) there in
-          differ (sym (or-right (has d0 x y) _ (sym (settled.1 x y wide high) ∙ none1)) ∙ and-both (is_some new.client.ended) (stands_any c was) (ap (λ o. is_some o) (sym status) ∙ over) stood)
+      none0 = unless (has d0 x y) (λ f. differ (sym unmarked ∙ changes.more x y wide high f))
 
       not-marked : MarkedExactlyBy c r (pos x) (pos y) d e → ⊥
-      not-marked (inl (over, there)) = ended-there over there
+      not-marked (inl (over, there)) = differ (sym (ap (λ o. is_some o) (status ∙ lives)) ∙ over)
       not-marked (inr (alive, ask, told, there)) =
           let id : ℕ = there.0 in
           let t : touched ask r ≡ Some id = there.1 in
-          let lives : new.client.ended ≡ None = sym status ∙ alive in
           let marked : IsMarkedBy old a ask id = asked-marks old r (record { peer = before.seat.peer; owns = before.seat.owns; frames = before.seat.frames }) a asks ask id told t in
           let number : ℕ = marked.0 in
           let asked_number : surface_number ≡ Some number = by_asked ∙ marked.1 in
           never-changed c id d e record_was record_is (first id number asked_number marked.2) (second id number asked_number (still-named more serves keeps ask id number told t marked.2 lives))
-          (rects_applied applied) d1 d2 changes x y wide1 high1 unmarked (there.2 (rects_applied applied) (applied-by a applied commits id number marked.2 lives ask marked.3))
+          (rects_applied applied) d0 d2 changes x y wide high unmarked (there.2 (rects_applied applied) (applied-by a applied commits id number marked.2 lives ask marked.3))
 
       least : marks_of_toplevels d e (pos x) (pos y) ≡ false
       least =
           unless (marks_of_toplevels d e (pos x) (pos y))
           (λ f. not-marked (serves-exactly c r d before.based.there _ _ _ before.seat.owns before.mapped (seated-unlinked c others base d old was r before unlinked) (pos x) (pos y) e more serves f))
 
-    -- What a message marks at least is to be painted, as is what was.
+    -- What a message of a client that lives on marks at least is to be painted, as is what was.
     pub message-marks : MarksToplevels d e d0 d2
     message-marks = λ x y wide high unmarked. (none0 x y wide high unmarked, least x y wide high unmarked)

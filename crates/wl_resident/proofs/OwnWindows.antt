@@ -91,7 +91,7 @@ module _ (c : ℕ) (x y : ℤ) (owned : ℕ → Owned) (links : (owned c).surfac
           none-tree is_own (owner_at s) (λ w f. and_left (w.owner.client == c) (contains w x y) (ap (λ (o : Owner). o.client == c) f ∙ e)) 17 (owned s.client).surfaces s.surface s.place
           ∙ sym (and_left (k.client == c) (shows_point x y k.place (option_map (λ (s : Surface). s.history) (all k.surface))) (ap (λ (n : ℕ). n == c) one.client ∙ e))
 
-  windows-shown : (ks ss : List Standing) → IsStack numbers ks ss → AllShow owned ss → list_any (is_shown_by c all x y) ks ≡ list_any is_own (windows_on owned ss)
+  pub windows-shown : (ks ss : List Standing) → IsStack numbers ks ss → AllShow owned ss → list_any (is_shown_by c all x y) ks ≡ list_any is_own (windows_on owned ss)
   windows-shown [] [] are show = refl
   windows-shown [] (s ∷ ss) are show = absurd are
   windows-shown (k ∷ ks) [] are show = absurd are

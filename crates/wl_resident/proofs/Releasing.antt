@@ -21,8 +21,6 @@ use Rattle.wl_plain.specs.Step.{with_peer}
 use Rattle.wl_plain.specs.WlSurface.{will_show}
 use Rattle.wl_plain.proofs.BridgeReleases.{committed-released}
 use Rattle.wl_plain.proofs.Simply.{CommitSurface, committed_on, effect_for, effect_of, told_simply}
-use Rattle.wl_plain.specs.Replies.{is_same_buffer}
-use Rattle.wl_plain.specs.Step.{is_number}
 
 index-map : {X Y : Type 0} (f : X → Y) (xs : List X) (k : ℕ) (d : X) → f (slice_index_or xs k d) ≡ slice_index_or (map f xs) k (f d)
 index-map f [] zero d = refl
@@ -40,11 +38,6 @@ shown-had had shown at is same =
     ∙ index-map (option_map buffer_of) had 2 shown
     ∙ ap (λ (os : List (Option Buffer)). slice_index_or os 2 (option_map buffer_of shown)) same
     ∙ third at (option_map buffer_of shown)
-
--- whether a number is a buffer's
-pub number-same : (number : ℕ) (o : Option ℕ) → is_number number o ≡ is_same_buffer number o
-number-same number None = refl
-number-same number (Some other) = refl
 
 -- ---- a surface that is mapped
 

@@ -2,12 +2,11 @@
 use Rattle.std.proofs.Common.{◌≡◌, ◌||◌, ℕ, Bool, true, false, List, [], ◌∷◌, Option, Some, None, ap, inl, inr, refl, subst, sym, ◌∙◌}
 use Rattle.std.specs.List.{list_any}
 use Rattle.std.specs.Prelude.{is_some, map}
-use Rattle.std.proofs.lemmas.Bool.{and_left}
 use Rattle.wl_client.specs.declared.clients.Cause.{Cause}
-use Rattle.wl_paint.specs.Damage.{Damaged, has}
+use Rattle.wl_paint.specs.Damage.{Damaged}
 use Rattle.wl_scene.specs.Stacking.{Stack, without_client}
-use Rattle.wl_resident.specs.Marking.{IsAsLarge, MarksEnd, stands_any}
-use Rattle.wl_resident.specs.Seats.{IsBare, IsClearedBy, IsRestacked, IsSettledBy}
+use Rattle.wl_resident.specs.Marking.{MarksEnd}
+use Rattle.wl_resident.specs.Seats.{IsBare, IsClearedBy, IsRestacked, IsRestackedBy}
 use Rattle.wl_resident.specs.declared.residents.Resident.{Resident as Kept}
 use Rattle.wl_resident.specs.declared.residents.Stacking.{Stacking}
 use Rattle.wl_resident.specs.declared.residents.Stacking.TheVariants.{Stays, ToTop, Out}
@@ -20,14 +19,33 @@ pub cleared : {A : Type 0} (o : Option Cause) (c : ℕ) (old new : Kept A) (was 
 cleared None c old new was is h client bare standing next = absurd (differ (sym h))
 cleared (Some cause) c old new was is h client bare standing next = (client, bare, standing, next)
 
-pub settled-ended : {A : Type 0} (o : Option Cause) (c : ℕ) (stacking : Stacking) (old new : Kept A) (was is : Stack) → is_some o ≡ true → IsClearedBy o c old new was is → IsSettledBy o c stacking old new was is
-settled-ended None c stacking old new was is h gone = absurd (differ (sym h))
-settled-ended (Some cause) c stacking old new was is h gone = gone
+-- After a message a client that lives still has it done, and nothing is left of one that ended.
+abbrev pub IsSettledBy : {A : Type 0} → Option Cause → ℕ → Stacking → Kept A → Kept A → Stack → Stack → Type 0
+IsSettledBy (Some cause) c stacking old new was is = IsClearedBy (Some cause) c old new was is
+IsSettledBy {A} None c stacking old new was is =
+    (mid : Kept A) × (between : Stack) × IsRestacked c stacking old mid was between × IsClearedBy mid.client.ended c mid new between is
 
-pub settled-lives : {A : Type 0} (o : Option Cause) (c : ℕ) (stacking : Stacking) (old mid new : Kept A) (was between is : Stack) → is_some o ≡ false → IsRestacked c stacking old mid was between
+pub settled-by : {A : Type 0} (o : Option Cause) (c : ℕ) (stacking : Stacking) (old mid new : Kept A) (was between is : Stack) → old.client.ended ≡ o → IsRestackedBy o c stacking old mid was between
     → IsClearedBy mid.client.ended c mid new between is → IsSettledBy o c stacking old new was is
-settled-lives None c stacking old mid new was between is h restacked left = (mid, between, restacked, left)
-settled-lives (Some cause) c stacking old mid new was between is h restacked left = absurd (differ h)
+settled-by None c stacking old mid new was between is ended restacked left = (mid, between, restacked, left)
+settled-by {A} (Some cause) c stacking old mid new was between is ended restacked left =
+    let over : mid.client.ended ≡ Some cause = ap (λ (k : Kept A). k.client.ended) restacked.0 ∙ ended in
+    let gone : IsClearedBy (Some cause) c mid new between is = subst (λ (o : Option Cause). IsClearedBy o c mid new between is) over left in
+    (gone.0 ∙ ap (λ (k : Kept A). k.client) restacked.0, gone.1, gone.2 ∙ ap (λ (k : Stack). without_client c k.standing) restacked.1, gone.3 ∙ ap (λ (k : Stack). k.next) restacked.1)
+
+-- who ended by it, or had before, has the stack as it was
+pub ended-stack : {A : Type 0} (o : Option Cause) (c : ℕ) (stacking : Stacking) (old mid : Kept A) (was between : Stack) → old.client.ended ≡ o → IsRestackedBy o c stacking old mid was between → is_some mid.client.ended ≡ true → between ≡ was
+ended-stack (Some cause) c stacking old mid was between ended restacked over = restacked.1
+ended-stack {A} None c stacking old mid was between ended restacked over = at stacking restacked
+  where
+    lives : mid ≡ old → true ≡ false
+    lives same = sym over ∙ ap (λ (k : Kept A). is_some k.client.ended) same ∙ ap (λ (o : Option Cause). is_some o) ended
+
+    at : (s : Stacking) → IsRestacked c s old mid was between → between ≡ was
+    at Stays h = absurd (differ (lives h.0))
+    at (ToTop number) (inl h) = absurd (differ (lives h.0))
+    at (ToTop number) (inr h) = h.1
+    at (Out number) h = absurd (differ (lives h.0))
 
 -- ---- what an end marks
 
@@ -38,28 +56,6 @@ any-map f p (x ∷ xs) = ap (λ b. p (f x) || b) (any-map f p xs)
 -- what is seen of a list passes a test alike
 pub any-mapped : {X Y : Type 0} (f : X → Y) (p : Y → Bool) (xs : List X) (ys : List Y) (b : Bool) → b ≡ list_any (λ x. p (f x)) xs → map f xs ≡ ys → b ≡ list_any p ys
 any-mapped f p xs ys b is seen = is ∙ (sym (any-map f p xs) ∙ ap (λ zs. list_any p zs) seen)
-
-pub large-then : (old mid new : Damaged) → IsAsLarge old mid → IsAsLarge mid new → IsAsLarge old new
-large-then old mid new before after = record { width = after.width ∙ before.width; height = after.height ∙ before.height }
-
--- where it lives, the stack doesn't matter
-marks-lives : (o : Option Cause) (c : ℕ) (was is : Stack) (old new : Damaged) → is_some o ≡ false → MarksEnd o c is old new → MarksEnd o c was old new
-marks-lives o c was is old new lives marks =
-    (marks.0, λ x y in_width in_height. marks.1 x y in_width in_height ∙ ap (λ b. has old x y || b) (and_left (is_some o) (stands_any c is) lives ∙ sym (and_left (is_some o) (stands_any c was) lives)))
-
--- What was done to the stack before changes nothing of that: where it ended by that, the stack is as it was.
-pub marks-settled : {A : Type 0} (c : ℕ) (stacking : Stacking) (v mid : Kept A) (was between : Stack) (old new : Damaged) → is_some v.client.ended ≡ false → IsRestacked c stacking v mid was between
-    → MarksEnd mid.client.ended c between old new → MarksEnd mid.client.ended c was old new
-marks-settled {A = A} c stacking v mid was between old new lives restacked marks = at stacking restacked
-  where
-    lived : mid ≡ v → MarksEnd mid.client.ended c was old new
-    lived same = marks-lives mid.client.ended c was between old new (ap (λ (k : Kept A). is_some k.client.ended) same ∙ lives) marks
-
-    at : (s : Stacking) → IsRestacked c s v mid was between → MarksEnd mid.client.ended c was old new
-    at Stays h = lived h.0
-    at (ToTop number) (inl h) = lived h.0
-    at (ToTop number) (inr h) = subst (λ (k : Stack). MarksEnd mid.client.ended c k old new) h.1 marks
-    at (Out number) h = lived h.0
 
 pub cleared-client : {A : Type 0} (o : Option Cause) (c : ℕ) (old new : Kept A) (was is : Stack) → IsClearedBy o c old new was is → new.client.ended ≡ old.client.ended
 cleared-client {A = A} None c old new was is h = ap (λ (k : Kept A). k.client.ended) h.0

@@ -38,7 +38,7 @@ use Rattle.wl_plain.specs.Demand.{Demand}
 use Rattle.wl_plain.specs.Desktop.{Desktop, Resident}
 use Rattle.wl_plain.specs.NoMore.{OwnsToplevelsOnly}
 use Rattle.wl_plain.specs.Owning.{AreKept, IsOwned, IsXdg, Names, asks_by, by_number, configuring_if, kept_base, names_in, names_surface, shell_refusal, target_as, targets_in, with_surface, with_toplevel, with_xdg}
-use Rattle.wl_resident.specs.Residents.{ActsFor, AnswersSo as AnswersWhole, Does, IsFree, NewIsFree, IsResident, IsToplevel, IsXdgSurface, Meets, MeetsSo}
+use Rattle.wl_resident.specs.Residents.{ActsFor, AnswersAs, AnswersSo as AnswersWhole, Does, IsFree, NewIsFree, IsResident, IsToplevel, IsXdgSurface, Meets, MeetsAs, MeetsSo}
 use Rattle.wl_plain.specs.Step.{answers_to, changed_by, configures_told, role_configured, takes_memory, toplevel_configured, toplevel_given, with_peer, xdg_configured}
 use Rattle.wl_plain.specs.Demanding.{xdg_asked, xdg_demand}
 use Rattle.wl_plain.specs.XdgShell.{configured_again, is_no_toplevel, role_of}
@@ -134,6 +134,16 @@ pub refused-whole : {A : Type 0} (old new : Kept A) (c : ℕ) (r : Resident) (d 
     → AnswersWhole judged c r d old new
 refused-whole old new c r d judged refusal e ended errs =
     subst (λ (j : Result Demand Refusal). AnswersWhole j c r d old new) (sym e) (refused old new r (Err refusal) refusal refl ended errs)
+
+pub refused-as : {A : Type 0} (old new : Kept A) (c : ℕ) (r : Resident) (d : Desktop) (judged : Result Demand Refusal) (refusal : Refusal) → judged ≡ Err refusal → is_some new.client.ended ≡ true → (q : Peer) × Errs refusal r.peer q × IsPeer new.client q
+    → AnswersAs false judged c r d old new
+refused-as old new c r d judged refusal e ended errs =
+    subst (λ (j : Result Demand Refusal). AnswersAs false j c r d old new) (sym e) (refused old new r (Err refusal) refusal refl ended errs)
+
+-- What is done of what was there in between, with the same objects, is done of what was before.
+pub meets-from : {A : Type 0} (done : Bool) (demand : Demand) (c : ℕ) (r : Resident) (d : Desktop) (old mid new : Kept A) → mid.client.objects ≡ old.client.objects → MeetsAs done c demand r d mid new → MeetsAs done c demand r d old new
+meets-from true demand c r d old mid new same h = (h.0, h.1, left-from old mid new _ h.0 same h.2)
+meets-from false demand c r d old mid new same h = (h.0, h.1, h.2, left-from old mid new _ h.1 same h.3)
 
 -- it is accepted
 pub accepted : {A : Type 0} {old : Kept A} (new : Kept A) (r : Resident) (judged : Result Ask Refusal) (ask : Ask) → judged ≡ Ok ask → AnswersSo (Ok ask) r old new → AnswersSo judged r old new

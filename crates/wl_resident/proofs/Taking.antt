@@ -8,8 +8,7 @@ use Rattle.wl_wire.specs.declared.header.Split.TheVariants.{Message as Whole, Mo
 use Rattle.wl_proto.specs.declared.interface.Interface.TheVariants.{WlSurface}
 use Rattle.wl_client.specs.Agreement.{IsPeer}
 use Rattle.wl_client.specs.Objects.{ById}
-use Rattle.wl_client.specs.Peer.{Errs, LacksMemory, Peer, Queues, counted, with_rest}
-use Rattle.wl_client.specs.Peer.{WantsOr as WantsOrAlone}
+use Rattle.wl_client.specs.Peer.{LacksMemory, Peer, Queues, counted, with_rest}
 use Rattle.wl_client.specs.Told.{Said, display_error}
 use Rattle.wl_client.specs.declared.refusals.ErrorCode.TheVariants.{InvalidMethod}
 use Rattle.std.specs.Option.{option_and_then}
@@ -26,19 +25,20 @@ use Rattle.wl_resident.specs.Agreement.{IsScene, IsSeat, IsStack, with_numbers}
 use Rattle.wl_plain.specs.Desktop.{Desktop, Resident, become, become_by, client_at, client_in, owned_of, resident_of, with_number}
 use Rattle.wl_plain.specs.Owning.{targets_in, by_number}
 use Rattle.wl_resident.specs.Residents.{IsLeft, StacksBy}
-use Rattle.wl_plain.proofs.BridgeJudged.{judge-pair}
-use Rattle.wl_plain.proofs.BridgeServes.{answers-whole, becomes-whole, only-peer, pairs-peer}
-use Rattle.wl_resident.proofs.Simply.{AnswersSimply, StacksOne, StacksSimply, TakesSo, seated-only}
-use Rattle.wl_resident.specs.Seats.{IsBased, IsClearedBy, IsRestacked, IsSeated, IsSettledBy, Lacks}
-use Rattle.wl_plain.specs.Demanding.{judge_all}
+use Rattle.wl_plain.specs.Through.{ServesThrough}
+use Rattle.wl_plain.proofs.BridgeBack.{AsksBy}
+use Rattle.wl_plain.proofs.EndingThrough.{AnswersAs, RouteBy, TakesAs, served-through}
+use Rattle.wl_plain.proofs.Through.{messages_lead_through}
+use Rattle.wl_resident.proofs.Simply.{ActsAs, AnswersSimplyAs, StacksIn, StacksOne, StacksSimply, TakesSimplyAs}
+use Rattle.wl_resident.specs.Seats.{IsBased, IsClearedBy, IsRestacked, IsSeated, Lacks}
+use Rattle.wl_resident.proofs.Seats.{IsSettledBy}
 use Rattle.wl_plain.specs.LeftOut.{served_now}
-use Rattle.wl_plain.specs.NoMore.{NoMore, OwnsToplevelsOnly}
+use Rattle.wl_plain.specs.NoMore.{NoMore}
 use Rattle.wl_plain.specs.Happens.{Serves}
-use Rattle.wl_plain.proofs.Forms.{ServesAt, Takes}
 use Rattle.wl_plain.specs.Step.{after_surface, with_peer}
 use Rattle.wl_plain.proofs.StandingFound.{judge-finds}
 use Rattle.wl_resident.proofs.Releasing.{maps-quiet}
-use Rattle.wl_plain.proofs.Simply.{Acts, Answers, Asking, AskingFrame, Becomes, CommitSurface, DestroySurface, DestroyToplevel, Simple, WantsOr, changed_simply, committed_on, effect_on, judge, stacked_simply, told_simply, wants_simply}
+use Rattle.wl_plain.proofs.Simply.{Asking, AskingFrame, Becomes, CommitSurface, DestroySurface, DestroyToplevel, Simple, changed_simply, committed_on, effect_on, judge, stacked_simply, told_simply, wants_simply}
 use Rattle.wl_plain.specs.Standing.{AreMapped, MappedStand, is_mapped}
 use Rattle.wl_plain.specs.Framing.{AreFramed}
 use Rattle.wl_resident.specs.View.{owned_view}
@@ -206,34 +206,45 @@ cleared-none (Some cause) c on new between now e h = absurd (cc)
 
 -- ---- an accepted request
 
--- What a request asks was done, told and counted for a client of the desktop.
-pub record Asked {A : Type 0} (c : ℕ) (others : ℕ → ById ℕ) (base d : Desktop) (r : Resident) (p : Peer) (ask : Simple) (q : Peer) (stacking : Stacking) (old mid : Kept A) (was : Stack) : Type 0 where
+-- what a peer becomes by it: told what was done, or without memory for it
+abbrev pub PeerActs : Bool → Simple → Resident → Peer → Peer → Type 0
+PeerActs true ask r p q = Queues (told_simply ask (with_peer p r)) (changed_simply ask (with_peer p r)).peer q
+PeerActs false ask r p q = (wants_simply ask ≡ true) × LacksMemory p q
+
+-- What a request asks was done, told and counted for a client of the desktop, or there was no memory for it.
+pub record Asked {A : Type 0} (c : ℕ) (others : ℕ → ById ℕ) (base d : Desktop) (r : Resident) (p : Peer) (ask : Simple) (done : Bool) (q : Peer) (stacking : Stacking) (old mid : Kept A) (was : Stack) : Type 0 where
   pub based : IsBased c base d r
   pub once : AreOnce (numbers old)
   pub scene : IsScene (with_numbers c (numbers old) others) was d
   pub lives : p.status ≡ None
-  pub acts : WantsOrAlone (wants_simply ask) (Queues (told_simply ask (with_peer p r)) (changed_simply ask (with_peer p r)).peer q) p q
+  pub acts : PeerActs done ask r p q
   pub left : IsLeft old mid (changed_simply ask (with_peer p r)) q
   pub stacks : Stacks c (numbers old) ask (with_peer p r) d stacking
   pub quiet : (id : ℕ) → ask ≡ CommitSurface id Maps → told_simply (CommitSurface id Maps) (with_peer p r) ≡ []
 
--- so the desktop has it done, and the desk agrees
-abbrev pub Acted : {A : Type 0} → ℕ → (ℕ → ById ℕ) → Desktop → Desktop → Resident → Peer → Simple → Kept A → Stack → Type 0
-Acted c others base d r p ask new is = (e : Desktop) × (s : Resident) × Acts ask c (with_peer p r) d e × Sits c others base new is e s
+-- it was as it was done, or there was no memory for the stack of a surface that was to be mapped
+abbrev pub Turned : Bool → Bool → Simple → Type 0
+Turned done b ask = (b ≡ done) ⊎ ((done ≡ true) × (b ≡ false) × ((id : ℕ) × (ask ≡ CommitSurface id Maps)))
+
+-- so the desktop has it done, or not
+abbrev pub DoneAs : Bool → Simple → ℕ → Resident → Desktop → Desktop → Type 0
+DoneAs true ask c r d e = Becomes (Queues (told_simply ask r) (changed_simply ask r).peer) c (changed_simply ask r) (stacked_simply c ask r d) e
+DoneAs false ask c r d e = (wants_simply ask ≡ true) × Becomes (LacksMemory r.peer) c r d e
+
+-- and the desk agrees
+abbrev pub Acted : {A : Type 0} → ℕ → (ℕ → ById ℕ) → Desktop → Desktop → Resident → Peer → Simple → Bool → Kept A → Stack → Type 0
+Acted c others base d r p ask done new is =
+    (e : Desktop) × (s : Resident) × (b : Bool) × Turned done b ask × DoneAs b ask c (with_peer p r) d e × Sits c others base new is e s
 
 lacks-status : (p q : Peer) → LacksMemory p q → q.status ≡ None → true ≡ false
 lacks-status p q lacks none = none-is q.status none (over-ended q (lacks-over p q lacks))
 
-queues-at : (b : Bool) (Later : Type 0) (p q : Peer) → WantsOrAlone b Later p q → q.status ≡ None → Later
-queues-at false Later p q h none = h
-queues-at true Later p q (inl h) none = absurd (differ (lacks-status p q h none))
-queues-at true Later p q (inr h) none = h
+-- who lives was told
+acts-told : (done : Bool) (ask : Simple) (r : Resident) (p q : Peer) → PeerActs done ask r p q → q.status ≡ None → (done ≡ true) × PeerActs true ask r p q
+acts-told true ask r p q h none = (refl, h)
+acts-told false ask r p q h none = absurd (differ (lacks-status p q h.1 none))
 
-acts-later : (b : Bool) (Later : Type 0) (c : ℕ) (r : Resident) (d e : Desktop) → Later → WantsOr b Later c r d e
-acts-later false Later c r d e h = h
-acts-later true Later c r d e h = inr h
-
-module _ {A : Type 0} (c : ℕ) (others : ℕ → ById ℕ) (base d : Desktop) (r : Resident) (p : Peer) (ask : Simple) (q : Peer) (stacking : Stacking) (old mid : Kept A) (was : Stack) (is : Asked c others base d r p ask q stacking old mid was) where
+module _ {A : Type 0} (c : ℕ) (others : ℕ → ById ℕ) (base d : Desktop) (r : Resident) (p : Peer) (ask : Simple) (done : Bool) (q : Peer) (stacking : Stacking) (old mid : Kept A) (was : Stack) (is : Asked c others base d r p ask done q stacking old mid was) where
   abbrev changed : Resident
   changed = changed_simply ask (with_peer p r)
 
@@ -257,17 +268,20 @@ module _ {A : Type 0} (c : ℕ) (others : ℕ → ById ℕ) (base d : Desktop) (
       }
 
   -- it lives, and the stack is this one
-  lives-on : mid.client.ended ≡ None → q.status ≡ None → (stack : Stack) → IsScene (with_numbers c (numbers old) others) stack after → Acted c others base d r p ask mid stack
-  lives-on none told stack scene = (
-    become c changed q after,
-    left_by q.status changed q,
-    acts-later (wants_simply ask) _ c (with_peer p r) d (become c changed q after) (q, queues-at (wants_simply ask) _ p q is.acts told, refl),
-    become-lives q.status c others base after changed q mid stack told (record {
-      based = based-at None c base d after r changed q is.based (stacked-clients c ask (with_peer p r) d) (stacked-keeps c ask (with_peer p r) d);
-      seat = record { peer = is.left.peer; owns = is.left.owns none; frames = framed-by (queues-at (wants_simply ask) _ p q is.acts told); ended = λ some. absurd (differ (none-is q.status told some)) };
-      scene = λ known. scene-on none (become_by None c changed q after) stack (record { standing = scene.standing; next = scene.next }) known;
-    }),
-  )
+  lives-on : mid.client.ended ≡ None → q.status ≡ None → (stack : Stack) → IsScene (with_numbers c (numbers old) others) stack after → Acted c others base d r p ask done mid stack
+  lives-on none told stack scene =
+      let acts = acts-told done ask r p q is.acts told in (
+        become c changed q after,
+        left_by q.status changed q,
+        true,
+        inl (sym acts.0),
+        (q, acts.1, refl),
+        become-lives q.status c others base after changed q mid stack told (record {
+          based = based-at None c base d after r changed q is.based (stacked-clients c ask (with_peer p r) d) (stacked-keeps c ask (with_peer p r) d);
+          seat = record { peer = is.left.peer; owns = is.left.owns none; frames = framed-by acts.1; ended = λ some. absurd (differ (none-is q.status told some)) };
+          scene = λ known. scene-on none (become_by None c changed q after) stack (record { standing = scene.standing; next = scene.next }) known;
+        }),
+      )
     where
       framed-by : Queues (told_simply ask (with_peer p r)) changed.peer q → AreFramed mid.owned.surfaces.frames (by_number (numbers mid) changed.owned.surfaces) (q.requests + 1) changed.callbacks
       framed-by h = rw (told-requests (told_simply ask (with_peer p r)) changed.peer q h told) (is.left.frames none)
@@ -290,69 +304,67 @@ module _ {A : Type 0} (c : ℕ) (others : ℕ → ById ℕ) (base d : Desktop) (
       at (inr (inl k)) = subst (λ (y : Desktop). IsSameBut c d y) (sym k.4) (record { clients = refl; output = refl; standing = without-both c k.0 d.standing; mappings = refl })
       at (inr (inr k)) = absurd (differ (none-is q.status (maps-lives k.0 k.4 h) (some-is q.status s ended)))
 
-  acted-gone : (s : Cause) (new : Kept A) (now : Stack) → q.status ≡ Some s → IsClearedBy (Some s) c mid new was now → Acted c others base d r p ask new now
-  acted-gone s new now ended left = at (wants_simply ask) is.acts
+  acted-gone : (s : Cause) (new : Kept A) (now : Stack) → q.status ≡ Some s → IsClearedBy (Some s) c mid new was now → Acted c others base d r p ask done new now
+  acted-gone s new now ended left = at done is.acts
     where
-      told : Queues (told_simply ask (with_peer p r)) changed.peer q → (b : Bool)
-          → (e : Desktop) × (s : Resident) × WantsOr b (Becomes (Queues (told_simply ask (with_peer p r)) changed.peer) c changed after e) c (with_peer p r) d e × Sits c others base new now e s
-      told h b = (
+      at : (t : Bool) → PeerActs t ask r p q → Acted c others base d r p ask t new now
+      at true h = (
         become c changed q after,
         left_by q.status changed q,
-        acts-later b _ c (with_peer p r) d (become c changed q after) (q, h, refl),
+        true,
+        inl refl,
+        (q, h, refl),
         become-gone q.status s c others base after changed q new now ended
             (sits-gone s c (numbers old) others base d after r changed q mid new was now is.based (same-after s ended h) is.scene is.left.peer
             (nameless-over mid.client q is.left.peer (queues-over (told_simply ask (with_peer p r)) changed.peer q changed-lives h (some-is q.status s ended))) left),
       )
-
-      at : (b : Bool) → WantsOrAlone b (Queues (told_simply ask (with_peer p r)) changed.peer q) p q
-          → (e : Desktop) × (s : Resident) × WantsOr b (Becomes (Queues (told_simply ask (with_peer p r)) changed.peer) c changed after e) c (with_peer p r) d e × Sits c others base new now e s
-      at false h = told h false
-      at true (inr h) = told h true
-      at true (inl h) = (
+      at false h = (
         become c (with_peer p r) q d,
         left_by q.status (with_peer p r) q,
-        inl (q, h, refl),
+        false,
+        inl refl,
+        (h.0, (q, h.1, refl)),
         become-gone q.status s c others base d (with_peer p r) q new now ended
-            (sits-gone s c (numbers old) others base d d r (with_peer p r) q mid new was now is.based (itself c d) is.scene is.left.peer (nameless-over mid.client q is.left.peer (lacks-over p q h)) left),
+            (sits-gone s c (numbers old) others base d d r (with_peer p r) q mid new was now is.based (itself c d) is.scene is.left.peer (nameless-over mid.client q is.left.peer (lacks-over p q h.1)) left),
       )
 
   -- ---- one that lives
 
-  acted-same : (new : Kept A) (stack now : Stack) → new ≡ mid → now ≡ stack → Acted c others base d r p ask mid stack → Acted c others base d r p ask new now
-  acted-same new stack now same stays acted = (acted.0, acted.1, acted.2, sits-same c others base mid new stack now acted.0 acted.1 same stays acted.3)
+  acted-same : (new : Kept A) (stack now : Stack) → new ≡ mid → now ≡ stack → Acted c others base d r p ask done mid stack → Acted c others base d r p ask done new now
+  acted-same new stack now same stays acted =
+      (acted.0, acted.1, acted.2, acted.3, acted.4, sits-same c others base mid new stack now acted.0 acted.1 same stays acted.5)
 
   -- it still lives after the stack was done
   lived-on : mid.client.ended ≡ None → q.status ≡ None → (on new : Kept A) (between now : Stack) → on ≡ mid → IsClearedBy on.client.ended c on new between now → IsScene (with_numbers c (numbers old) others) between after
-      → Acted c others base d r p ask new now
+      → Acted c others base d r p ask done new now
   lived-on none told on new between now same left scene =
       let stays = cleared-none on.client.ended c on new between now (ap (λ (k : Kept A). k.client.ended) same ∙ none) left in
       acted-same new between now (stays.0 ∙ same) stays.1 (lives-on none told between scene)
 
   -- there was no memory for the stack
-  lacked : (id : ℕ) (on new : Kept A) (now : Stack) → q.status ≡ None → ask ≡ CommitSurface id Maps → Lacks mid.client on.client → IsClearedBy on.client.ended c on new was now → Acted c others base d r p ask new now
+  lacked : (id : ℕ) (on new : Kept A) (now : Stack) → q.status ≡ None → ask ≡ CommitSurface id Maps → Lacks mid.client on.client → IsClearedBy on.client.ended c on new was now → Acted c others base d r p ask done new now
   lacked id on new now told e lacks left =
+      let acts = acts-told done ask r p q is.acts told in
       let gone = lacks q is.left.peer in
       let over = lacks-over q gone.0 gone.1 in
       let cause : gone.0.status ≡ Some over.0 = ap (λ (x : Peer). x.status) over.2 in
       let queues = subst (λ (es : List Said). Queues es (changed_simply (CommitSurface id Maps) (with_peer p r)).peer q) (is.quiet id e)
-      (subst (λ (a : Simple). Queues (told_simply a (with_peer p r)) (changed_simply a (with_peer p r)).peer q) e (queues-at (wants_simply ask) _ p q is.acts told)) in
+      (subst (λ (a : Simple). Queues (told_simply a (with_peer p r)) (changed_simply a (with_peer p r)).peer q) e acts.1) in
       let before = lacks-before p q gone.0 _ (queues ∙ mapped-peer id (with_peer p r)) gone.1 in (
         become c (with_peer p r) gone.0 d,
         left_by gone.0.status (with_peer p r) gone.0,
-        wants (wants_simply ask) _ _ (ap (λ (a : Simple). wants_simply a) e) (gone.0, before, refl),
+        false,
+        inr (acts.0, refl, (id, e)),
+        (ap (λ (a : Simple). wants_simply a) e, (gone.0, before, refl)),
         become-gone gone.0.status over.0 c others base d (with_peer p r) gone.0 new now cause
             (sits-gone over.0 c (numbers old) others base d d r (with_peer p r) gone.0 on new was now is.based (itself c d) is.scene gone.2 (nameless-over on.client gone.0 gone.2 over)
             (subst (λ (o : Option Cause). IsClearedBy o c on new was now) (gone.2.status ∙ cause) left)),
       )
-    where
-      wants : (b : Bool) (Later : Type 0) (e : Desktop) → b ≡ true → Becomes (LacksMemory p) c (with_peer p r) d e → WantsOr b Later c (with_peer p r) d e
-      wants true Later e h becomes = inl becomes
-      wants false Later e h becomes = absurd (differ (sym h))
 
-  acted-lives : mid.client.ended ≡ None → q.status ≡ None → (on new : Kept A) (between now : Stack) → IsRestacked c stacking mid on was between → IsClearedBy on.client.ended c on new between now → Acted c others base d r p ask new now
+  acted-lives : mid.client.ended ≡ None → q.status ≡ None → (on new : Kept A) (between now : Stack) → IsRestacked c stacking mid on was between → IsClearedBy on.client.ended c on new between now → Acted c others base d r p ask done new now
   acted-lives none told on new between now restacked left = at is.stacks
     where
-      mapped : (id n : ℕ) → numbers old id ≡ Some n → ask ≡ CommitSurface id Maps → ((on ≡ mid) × (between ≡ mapped_on c n was)) ⊎ (Lacks mid.client on.client × (between ≡ was)) → Acted c others base d r p ask new now
+      mapped : (id n : ℕ) → numbers old id ≡ Some n → ask ≡ CommitSurface id Maps → ((on ≡ mid) × (between ≡ mapped_on c n was)) ⊎ (Lacks mid.client on.client × (between ≡ was)) → Acted c others base d r p ask done new now
       mapped id n number e (inl h) =
           lived-on none told on new between now h.0 left
           (subst (λ (k : Stack). IsScene (with_numbers c (numbers old) others) k after) (sym h.1)
@@ -363,7 +375,7 @@ module _ {A : Type 0} (c : ℕ) (others : ℕ → ById ℕ) (base d : Desktop) (
           })))
       mapped id n number e (inr h) = lacked id on new now told e h.0 (subst (λ (k : Stack). IsClearedBy on.client.ended c on new k now) h.1 left)
 
-      at : Stacks c (numbers old) ask (with_peer p r) d stacking → Acted c others base d r p ask new now
+      at : Stacks c (numbers old) ask (with_peer p r) d stacking → Acted c others base d r p ask done new now
       at (inl k) =
           let h = subst (λ (s : Stacking). IsRestacked c s mid on was between) k.0 restacked in
           lived-on none told on new between now h.0 left
@@ -381,53 +393,73 @@ module _ {A : Type 0} (c : ℕ) (others : ℕ → ById ℕ) (base d : Desktop) (
       at (inr (inr k)) = mapped k.0 k.1 k.2 k.4 (subst (λ (s : Stacking). IsRestacked c s mid on was between) k.3 restacked)
 
   -- it was settled
-  pub acted : (new : Kept A) (now : Stack) → IsSettledBy mid.client.ended c stacking mid new was now → Acted c others base d r p ask new now
+  pub acted : (new : Kept A) (now : Stack) → IsSettledBy mid.client.ended c stacking mid new was now → Acted c others base d r p ask done new now
   acted new now settled = at mid.client.ended refl settled
     where
-      at : (o : Option Cause) → mid.client.ended ≡ o → IsSettledBy o c stacking mid new was now → Acted c others base d r p ask new now
+      at : (o : Option Cause) → mid.client.ended ≡ o → IsSettledBy o c stacking mid new was now → Acted c others base d r p ask done new now
       at None e h = acted-lives e (sym is.left.peer.status ∙ e) h.0 new h.1 now h.2 h.3
       at (Some s) e h = acted-gone s new now (sym is.left.peer.status ∙ e) h
 
 -- ---- a whole message
 
+-- it was as it was done, or there was no memory for the stack
+abbrev pub TurnedIn : Bool → Bool → Split → Resident → Type 0
+TurnedIn done b split r = (b ≡ done) ⊎ ((done ≡ true) × (b ≡ false) × ((id : ℕ) × AsksBy r split (CommitSurface id Maps)))
+
+-- what becomes of the peer
+acted-peer : {A : Type 0} (done : Bool) (ask : Simple) (r : Resident) (p : Peer) (old mid : Kept A) → ActsAs done ask (with_peer p r) old mid → (q : Peer) × PeerActs done ask r p q × IsLeft old mid (changed_simply ask (with_peer p r)) q
+acted-peer true ask r p old mid h = h
+acted-peer false ask r p old mid h = (h.1, (h.0, h.2), h.3)
+
+done-so : (b : Bool) (ask : Simple) (c : ℕ) (r : Resident) (d e : Desktop) → DoneAs b ask c (with_peer (counted r.peer) r) d e → AnswersAs b (Ok ask) c r d e
+done-so true ask c r d e h = h
+done-so false ask c r d e h = h
+
 module _ {A : Type 0} (c : ℕ) (others : ℕ → ById ℕ) (base d : Desktop) (r : Resident) (stacking : Stacking) (old mid new : Kept A) (was now : Stack) (based : IsBased c base d r) (once : AreOnce (numbers old)) (scene : IsScene (with_numbers c (numbers old) others) was d) (settled : IsSettledBy mid.client.ended c stacking mid new was now) where
   -- what is judged of it is answered
-  answered : (judged : Result Simple Refusal) (p : Peer) → p.status ≡ None → ((id : ℕ) → judged ≡ Ok (CommitSurface id Maps) → told_simply (CommitSurface id Maps) (with_peer (counted p) r) ≡ [])
-      → AnswersSimply judged (with_peer p r) old mid → StacksSimply old r judged stacking
-      → (e : Desktop) × (s : Resident) × Answers judged c (with_peer p r) d e × Sits c others base new now e s
-  answered (Ok ask) p lives quiet answers stacks =
-      acted c others base d r (counted p) ask answers.0 stacking old mid was
-      (record { based = based; once = once; scene = scene; lives = lives; acts = answers.1; left = answers.2; stacks = stacks-so c ask old r (counted p) d stacking stacks; quiet = λ id e. quiet id (ap (λ (a : Simple). Ok a) e) })
-      new now settled
-  answered (Err refusal) p lives quiet answers stacks =
+  answered : (done : Bool) (judged : Result Simple Refusal) (p : Peer) → p.status ≡ None → ((id : ℕ) → judged ≡ Ok (CommitSurface id Maps) → told_simply (CommitSurface id Maps) (with_peer (counted p) r) ≡ [])
+      → AnswersSimplyAs done judged (with_peer p r) old mid → StacksSimply old r judged stacking
+      → (e : Desktop) × (s : Resident) × (b : Bool) × ((b ≡ done) ⊎ ((done ≡ true) × (b ≡ false) × ((id : ℕ) × (judged ≡ Ok (CommitSurface id Maps))))) × AnswersAs b judged c (with_peer p r) d e × Sits c others base new now e s
+  answered done (Ok ask) p lives quiet answers stacks =
+      let acts = acted-peer done ask r (counted p) old mid answers in
+      let a = acted c others base d r (counted p) ask done acts.0 stacking old mid was
+      (record { based = based; once = once; scene = scene; lives = lives; acts = acts.1; left = acts.2; stacks = stacks-so c ask old r (counted p) d stacking stacks; quiet = λ id e. quiet id (ap (λ (a : Simple). Ok a) e) })
+      new now settled in
+      (a.0, a.1, a.2, turned a.2 a.3, done-so a.2 ask c (with_peer p r) d a.0 a.4, a.5)
+    where
+      turned : (b : Bool) → Turned done b ask → (b ≡ done) ⊎ ((done ≡ true) × (b ≡ false) × ((id : ℕ) × ((let j : Result Simple Refusal = Ok ask in j) ≡ Ok (CommitSurface id Maps))))
+      turned b (inl h) = inl h
+      turned b (inr h) = inr (h.0, h.1, (h.2.0, ap (λ (a : Simple). Ok a) h.2.1))
+  answered true (Err refusal) p lives quiet answers stacks = absurd answers
+  answered false (Err refusal) p lives quiet answers stacks =
       let q = answers.0 in
       let over = errs-over refusal p q answers.1 in
       let cause : q.status ≡ Some over.0 = ap (λ (x : Peer). x.status) over.2 in (
         become c (with_peer p r) q d,
         left_by q.status (with_peer p r) q,
+        false,
+        inl refl,
         (q, answers.1, refl),
         become-gone q.status over.0 c others base d (with_peer p r) q new now cause
             (sits-gone over.0 c (numbers old) others base d d r (with_peer p r) q mid new was now based (itself c d) scene answers.2.peer (nameless-over mid.client q answers.2.peer over)
             (subst (λ (o : Option Cause). IsSettledBy o c stacking mid new was now) (answers.2.peer.status ∙ cause) settled)),
       )
 
-  taken : (split : Split) → client_at c d ≡ Some r → NoMore d → OwnsToplevelsOnly r → r.peer.status ≡ None
-      → ((id object opcode : ℕ) (body : List ℕ) (p : Peer) → judge r object opcode body ≡ Ok (CommitSurface id Maps) → told_simply (CommitSurface id Maps) (with_peer p r) ≡ []) → TakesSo split r old mid stacking
-      → (e : Desktop) × (s : Resident) × Takes served_now split c r d e × Sits c others base new now e s
-  taken (Whole object opcode size) there more only lives quiet takes =
-      let body = take (size - 8) (drop 8 r.peer.rest) in
+  taken : (done : Bool) (split : Split) → r.peer.status ≡ None
+      → ((id object opcode : ℕ) (body : List ℕ) (p : Peer) → judge r object opcode body ≡ Ok (CommitSurface id Maps) → told_simply (CommitSurface id Maps) (with_peer p r) ≡ []) → TakesSimplyAs done split r old mid → StacksIn split old r stacking
+      → (e : Desktop) × (s : Resident) × (b : Bool) × TurnedIn done b split r × TakesAs b split c r d e × Sits c others base new now e s
+  taken done (Whole object opcode size) lives quiet takes stacks =
       let left : Resident = with_peer (with_rest (drop size r.peer.rest) r.peer) r in
-      let a = answered (judge r object opcode body) left.peer lives (λ id e. quiet id object opcode body (counted left.peer) e) takes.0 takes.1 in (
-        a.0,
-        a.1,
-        answers-whole c r d a.0 there more.pointer (judge r object opcode body) (judge_all served_now r object opcode body) left lives (only-peer r left.peer refl only)
-            (pairs-peer r left.peer (judge r object opcode body) (judge_all served_now r object opcode body) (judge-pair r object opcode body)) a.2,
-        a.3,
-      )
-  taken Bad there more only lives quiet takes =
-      let a = answered (Err (display_error InvalidMethod)) r.peer lives (λ id e. absurd (cc)) takes tt in
-      (a.0, a.1, becomes-whole (Errs (display_error InvalidMethod) r.peer) c r d a.0 more.pointer a.2, a.3)
-  taken More there more only lives quiet takes = absurd takes
+      answered done (judge r object opcode (take (size - 8) (drop 8 r.peer.rest))) left.peer lives (λ id e. quiet id object opcode (take (size - 8) (drop 8 r.peer.rest)) (counted left.peer) e) takes stacks
+  taken true Bad lives quiet takes stacks = absurd takes
+  taken false Bad lives quiet takes stacks =
+      let a = answered false (Err (display_error InvalidMethod)) r.peer lives (λ id e. absurd (cc)) takes tt in
+      (a.0, a.1, false, inl refl, refused a.2 a.4, a.5)
+    where
+      refused : {e : Desktop} (b : Bool) → AnswersAs b (Err (display_error InvalidMethod)) c r d e → TakesAs false Bad c r d e
+      refused true h = absurd h
+      refused false h = h
+  taken done More lives quiet takes stacks = absurd takes
 
 -- a surface that is mapped has a number
 known-by : {N : Type 0} (kept : ℕ → Option N) (n : Option ℕ) (x : Option Xdg) (is_kept : Option N → Option Xdg → Type 0) → is_kept (option_and_then kept n) x → ((y : Xdg) → is_kept None (Some y) → ⊥) → is_mapped x ≡ true → is_some n ≡ true
@@ -444,16 +476,20 @@ pub sits-seated : {A : Type 0} (c : ℕ) (others : ℕ → ById ℕ) (base : Des
 sits-seated c others base v stack e s sits mapped =
     record { based = sits.based; seat = sits.seat; scene = sits.scene (known-mapped c v e s sits.based.there sits.seat mapped); mapped = mapped }
 
--- The first message of a client is taken, and the stack is settled.
-pub served : {A : Type 0} (c : ℕ) (others : ℕ → ById ℕ) (base d : Desktop) (r : Resident) (stacking : Stacking) (old mid new : Kept A) (was now : Stack) → IsSeated c others base old was d r → old.client.ended ≡ None → NoMore d
-    → TakesSo (split_of r.peer.rest) r old mid stacking → IsSettledBy mid.client.ended c stacking mid new was now → (e : Desktop) × (s : Resident) × Serves served_now c d e × IsSeated c others base new now e s
-served c others base d r stacking old mid new was now is lives more takes settled =
+-- The first message of a client is taken, and the stack is settled: it leads through these desktops.
+abbrev pub Served : {A : Type 0} → Bool → ℕ → (ℕ → ById ℕ) → Desktop → Desktop → Resident → Kept A → Stack → Type 0
+Served done c others base d r new now =
+    (e : Desktop) × (s : Resident) × (path : List Desktop) × (b : Bool) × TurnedIn done b (split_of r.peer.rest) r × ServesThrough served_now c d path e × RouteBy b c r d path e × IsSeated c others base new now e s
+
+pub served : {A : Type 0} (done : Bool) (c : ℕ) (others : ℕ → ById ℕ) (base d : Desktop) (r : Resident) (stacking : Stacking) (old mid new : Kept A) (was now : Stack) → IsSeated c others base old was d r → old.client.ended ≡ None → NoMore d
+    → TakesSimplyAs done (split_of r.peer.rest) r old mid → StacksIn (split_of r.peer.rest) old r stacking → IsSettledBy mid.client.ended c stacking mid new was now → Served done c others base d r new now
+served done c others base d r stacking old mid new was now is lives more takes stacks settled =
     let alive : r.peer.status ≡ None = sym is.seat.peer.status ∙ lives in
-    let only = seated-only c others base d old was r is lives more in
     let owns = is.seat.owns in
     let bare = (subst (λ (o : Owned). AreMapped c o d.standing) (ap owned_of is.based.there) (is.mapped.each c)).bare in
     let quiet : (id object opcode : ℕ) (body : List ℕ) (p : Peer) → judge r object opcode body ≡ Ok (CommitSurface id Maps) → told_simply (CommitSurface id Maps) (with_peer p r) ≡ [] =
     λ id object opcode body p e. maps-quiet _ _ r id p owns.surfaces bare (judge-finds r object opcode body owns.shell.apart (CommitSurface id Maps) e).0 in
-    let t = taken c others base d r stacking old mid new was now is.based is.seat.owns.surfaces.once is.scene settled (split_of r.peer.rest) is.based.there more only alive quiet takes in
-    let serves : Serves served_now c d t.0 = subst (λ (o : Option Resident). ServesAt served_now c o d t.0) (sym is.based.there) (alive, t.2) in
-    (t.0, t.1, serves, sits-seated c others base new now t.0 t.1 t.3 (serves-stand c r d is.based.there _ _ _ is.seat.owns is.mapped t.0 more serves))
+    let t = taken c others base d r stacking old mid new was now is.based is.seat.owns.surfaces.once is.scene settled done (split_of r.peer.rest) alive quiet takes stacks in
+    let through = served-through t.2 c r d t.0 is.based.there alive more t.4 in
+    let serves : Serves served_now c d t.0 = (messages_lead_through served_now c d t.0).0 through.0 through.1 in
+    (t.0, t.1, through.0, t.2, t.3, through.1, through.2, sits-seated c others base new now t.0 t.1 t.5 (serves-stand c r d is.based.there _ _ _ is.seat.owns is.mapped t.0 more serves))

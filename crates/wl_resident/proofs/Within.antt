@@ -1,6 +1,6 @@
 -- What a message of a client that lives on marks to be painted again is no more than what it marks at most.
 use Rattle.std.proofs.Common.{◌≡◌, ℕ, ◌<◌, ◌-◌, List, Bool, true, false, Option, Some, None, Result, refl, ap, sym, subst, ◌∙◌, inl, inr, ◌⊎◌, arith}
-use Rattle.std.specs.Prelude.{ℤ, pos, ◌&&◌, ◌||◌, Ok, Err, drop, if◌then◌else◌, is_some, take}
+use Rattle.std.specs.Prelude.{ℤ, pos, ◌||◌, Ok, Err, drop, if◌then◌else◌, take}
 use Rattle.std.proofs.lemmas.Bool.{or_left, or_right}
 use Rattle.std.proofs.lemmas.Int.{ints}
 use Rattle.wl_wire.specs.Wire.{split_of}
@@ -46,7 +46,7 @@ use Rattle.wl_plain.proofs.Stacks.{differ}
 use Rattle.wl_plain.proofs.TouchingDamage.{serves-within}
 use Rattle.wl_plain.proofs.TouchingMarks.{either-of}
 use Rattle.wl_plain.proofs.TouchingMessages.{touched-peer}
-use Rattle.wl_resident.specs.Marking.{AddsPoints, AreUnlinked, IsRecordOf, MarksAtMost, MarksChange, MarksEnd, TellsChange, any_record_has, commit_by, is_record_damaged, marked_by, marked_in, record_has, rects_applied, stands_any}
+use Rattle.wl_resident.specs.Marking.{AddsPoints, AreUnlinked, IsRecordOf, MarksAtMost, MarksChange, TellsChange, any_record_has, commit_by, is_record_damaged, marked_by, marked_in, record_has, rects_applied}
 use Rattle.wl_resident.specs.Messages.{IsAsked, IsKind}
 use Rattle.wl_resident.specs.Residents.{IsResident, KeepsNumbers, asked_by}
 use Rattle.wl_resident.specs.Seats.{IsSeated}
@@ -125,7 +125,7 @@ module _ {A : Type 0} (v : Kept A) (r : Resident) (is : IsResident v r) where
       (there.0, sym (touched-peer ask behind r) ∙ ap (λ (a : Simple). touched a left) (sym same) ∙ there.1)
 
   -- Where the desk marks the window of a surface, the message touches a surface.
-  asked-touches : (a : Asked) → IsAsked v.client a → (number : ℕ) → marked_by a ≡ Some number → (ask : Simple) → AsksBy r (split_of r.peer.rest) ask → (id : ℕ) × (touched ask r ≡ Some id)
+  pub asked-touches : (a : Asked) → IsAsked v.client a → (number : ℕ) → marked_by a ≡ Some number → (ask : Simple) → AsksBy r (split_of r.peer.rest) ask → (id : ℕ) × (touched ask r ≡ Some id)
   asked-touches (asked.Request object version size target k) (m, passes, told) number marked ask asks =
       passed-one object version size target m passes (kind-touches k m target number told marked) ask asks
   asked-touches asked.More is number marked ask asks = absurd (cc)
@@ -185,7 +185,7 @@ module _ {A : Type 0} (c : ℕ) (others : ℕ → ById ℕ) (base d e : Desktop)
     (first : (id number : ℕ) → surface_number ≡ Some number → targets_in WlSurface old.client.objects id ≡ Some number → IsRecordOf record_was (window_at c id d))
     (second : (id number : ℕ) → surface_number ≡ Some number → targets_in WlSurface new.client.objects id ≡ Some number → IsRecordOf record_is (window_at c id e))
     (applied : Option (Applied A)) (commits : (number : ℕ) → commit_by a ≡ Some number → TellsChange old new number applied)
-    (d0 d1 d2 : Damaged) (settled : MarksEnd new.client.ended c was d0 d1) (changes : MarksChange record_was record_is (rects_applied applied) d1 d2)
+    (d0 d2 : Damaged) (changes : MarksChange record_was record_is (rects_applied applied) d0 d2)
     (width : d0.width ≡ d.output.width) (height : d0.height ≡ d.output.height) where
   -- the message of a client that lives on asks something
   asks-something : status_in c e ≡ None → (ask : Simple) × AsksBy r (split_of r.peer.rest) ask
@@ -198,24 +198,13 @@ module _ {A : Type 0} (c : ℕ) (others : ℕ → ById ℕ) (base d e : Desktop)
     abbrev lives : new.client.ended ≡ None
     lives = sym (status c others base d e r q old new was now before after) ∙ alive
 
-    wide1 : x < d1.width
-    wide1 = subst (λ n. x < n) (sym settled.0.width) wide
-
-    high1 : y < d1.height
-    high1 = subst (λ n. y < n) (sym settled.0.height) high
-
     inside : in_output d.output.width d.output.height (pos x) (pos y) ≡ true
     inside = within-output d.output.width d.output.height x y (subst (λ n. x < n) width wide) (subst (λ n. y < n) height high)
 
-    module _ (clean0 : has d0 x y ≡ false) where
-      clean : has d1 x y ≡ false
-      clean =
-          settled.1 x y wide high ∙ ap (λ b. b || (is_some new.client.ended && stands_any c was)) clean0
-          ∙ ap (λ o. is_some o && stands_any c was) lives
-
+    module _ (clean : has d0 x y ≡ false) where
       allowed : (o : Option ℕ) → surface_number ≡ o → marks_at_most d e None (pos x) (pos y) ≡ true
       allowed None none =
-          absurd (differ (added (λ x y. false) d1 d2 (changes.nothing (none_was none) (none_is none)) x y wide1 high1 clean marked))
+          absurd (differ (added (λ x y. false) d0 d2 (changes.nothing (none_was none) (none_is none)) x y wide high clean marked))
       allowed (Some number) number_is =
           let told = asks-something alive in
           let resident : IsResident old r = record { peer = before.seat.peer; owns = before.seat.owns; frames = before.seat.frames } in
@@ -226,7 +215,7 @@ module _ {A : Type 0} (c : ℕ) (others : ℕ → ById ℕ) (base d e : Desktop)
           let named = still-named c others base d e r q old new was now before after more serves keeps told.0 id m.0 told.1 t.1 m.2 lives in
           serves-within c r d before.based.there _ _ _ before.seat.owns before.mapped (seated-unlinked c others base d old was r before unlinked) (pos x) (pos y) e more serves alive told.0 told.1 id t.1
           (rects_applied applied) (applied-by c others base d e r q old new was now before after a applied commits id m.0 m.2 lives told.0 m.3) inside
-          (changes-there c id d e record_was record_is (first id m.0 asked_number m.2) (second id m.0 asked_number named) (rects_applied applied) d1 d2 changes x y wide1 high1 clean marked)
+          (changes-there c id d e record_was record_is (first id m.0 asked_number m.2) (second id m.0 asked_number named) (rects_applied applied) d0 d2 changes x y wide high clean marked)
 
     at : (b : Bool) → has d0 x y ≡ b → (has d0 x y || marks_at_most d e None (pos x) (pos y)) ≡ true
     at true there = or_left (has d0 x y) _ there

@@ -1,4 +1,5 @@
 pub mod Agreement
+pub mod Freed
 pub mod Marking
 pub mod Messages
 pub mod Residents

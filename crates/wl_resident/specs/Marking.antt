@@ -7,12 +7,14 @@ use Rattle.wl_geom.specs.Rect.{in_span}
 use Rattle.wl_store.specs.Transform.{transform_of}
 use Rattle.wl_client.specs.declared.clients.Cause.{Cause}
 use Rattle.wl_surface.specs.Applied.{AreChanges}
-use Rattle.wl_surface.specs.Kept.{Numbered, StandForAll}
+use Rattle.wl_surface.specs.Kept.{Changes, Numbered, Slots, StandForAll}
+use Rattle.wl_surface.specs.Request.{Commit as CommitAsked, Request}
 use Rattle.wl_surface.specs.declared.applied.Applied.{Applied}
 use Rattle.wl_surface.specs.declared.applied.Change.{Change}
 use Rattle.wl_surface.specs.declared.surface.Current.{Current}
-use Rattle.wl_surface.specs.State.{History, applied, height_of, is_damaged, width_of, within_bounds}
-use Rattle.wl_surface.specs.Surfaces.{Surface}
+use Rattle.wl_surface.specs.State.{History, applied, counting, height_of, is_damaged, width_of, within_bounds}
+use Rattle.wl_surface.specs.Surfaces.{Surface, applying, asking}
+use Rattle.wl_shell.specs.Kept.{kept_of}
 use Rattle.std.specs.Option.{option_map}
 use Rattle.wl_paint.specs.Damage.{Damaged, has}
 use Rattle.wl_scene.specs.Stacking.{Stack, Standing}
@@ -22,7 +24,8 @@ use Rattle.wl_plain.specs.Touching.{has_window_at}
 use Rattle.wl_resident.specs.Seats.{IsSeated}
 use Rattle.wl_client.specs.Objects.{ById}
 use Rattle.wl_plain.specs.Laws.{status_in}
-use Rattle.wl_plain.specs.Moments.{marks_at_least, marks_at_most}
+use Rattle.wl_plain.specs.Moments.{marks_at_least, marks_at_least_through, marks_at_most, marks_at_most_through}
+use Rattle.wl_plain.specs.Stacked.{all_windows}
 use Rattle.wl_resident.specs.declared.marking.WindowRecord.{WindowRecord}
 use Rattle.wl_resident.specs.declared.messages.Asked.{Asked}
 use Rattle.wl_resident.specs.declared.messages.Asked.TheVariants as asked
@@ -78,6 +81,19 @@ MarksOwnIf if_so c kept stack old new =
 abbrev pub MarksOwn : {A : Type 0} → Option Cause → ℕ → Kept A → Stack → Damaged → Damaged → Type 0
 MarksOwn ended c kept stack old new = MarksOwnIf (is_none ended) c kept stack old new
 
+-- ---- what a request leaves as it was
+
+-- the requests of a surface that count
+abbrev pub counted_at : Option Surface → Option (List Request)
+counted_at at = option_map (λ (s : Surface). counting s.history) at
+
+-- What counts of each surface with an xdg_surface stays what it was, whether the client lives on or not.
+abbrev pub IsStill : {A : Type 0} → Kept A → Kept A → Type 0
+IsStill old new =
+    (all : Numbered) → StandForAll old.owned.surfaces all
+    → (later : Numbered) × StandForAll new.owned.surfaces later
+    × ((number : ℕ) (s : Surface) → all number ≡ Some s → is_some (kept_of old.owned.shell number) ≡ true → counted_at (later number) ≡ Some (counting s.history))
+
 -- ---- the window of a surface
 
 -- the record of a window of a toplevel that stands there, whose surface shows this
@@ -104,6 +120,10 @@ record_has x y k = in_span k.x (pos k.w) x && in_span k.y (pos k.h) y
 abbrev pub any_record_has : ℤ → ℤ → Option WindowRecord → Bool
 any_record_has x y None = false
 any_record_has x y (Some k) = record_has x y k
+
+-- so did the one before a commit that was applied
+abbrev pub was_shown : Bool → Option WindowRecord → ℤ → ℤ → Bool
+was_shown applied was x y = applied && any_record_has x y was
 
 -- a surface that was mapped there shows the point
 abbrev pub shows_point : ℤ → ℤ → Place → Option History → Bool
@@ -165,3 +185,16 @@ commit_by asked = None
 abbrev pub TellsChange : {A : Type 0} → Kept A → Kept A → ℕ → Option (Applied A) → Type 0
 TellsChange {A} old new number applied =
     new.client.ended ≡ None → (all : Numbered) → StandForAll old.owned.surfaces all → (a : Applied A) × (applied ≡ Some a) × AreChanges number (all number) a.changes.items
+
+-- What a commit of the surface with this number, which told this, made of what is kept of the client's surfaces.
+abbrev pub IsCommitted : {A : Type 0} → Slots → Slots → ℕ → Option (Applied A) → Type 0
+IsCommitted old new number None = new ≡ old
+IsCommitted old new number (Some applied) = Changes old new number (λ s. applying (asking CommitAsked s))
+
+-- What is to be painted stays so. What a step through these desktops marks at least is to be painted too, and nothing else than what it marks at
+-- most.
+abbrev pub MarksThrough : Desktop → List Desktop → Damaged → Damaged → Type 0
+MarksThrough d path old new =
+    (x y : ℕ) → x < old.width → y < old.height
+    → (has new x y ≡ false → (has old x y ≡ false) × (marks_at_least_through all_windows d path (pos x) (pos y) ≡ false))
+    × (has new x y ≡ true → (has old x y || marks_at_most_through all_windows None d path (pos x) (pos y)) ≡ true)

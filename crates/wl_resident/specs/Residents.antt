@@ -1,6 +1,6 @@
 -- What the desk keeps of a client agrees with a client of the plain desktop, and what a request makes of both.
 use Rattle.std.specs.List.{list_all}
-use Rattle.std.specs.Prelude.{ℕ, ◌≡◌, ◌+◌, ◌-◌, IfSome, None, Some, Result, Ok, Err, true, Option, List, [], take, drop}
+use Rattle.std.specs.Prelude.{ℕ, ◌≡◌, ◌+◌, ◌-◌, IfSome, None, Some, Result, Ok, Err, Bool, true, false, Option, List, [], take, drop}
 use Rattle.wl_wire.specs.Wire.{split_of}
 use Rattle.wl_wire.specs.declared.header.Split.{Split}
 use Rattle.wl_wire.specs.declared.header.Split.TheVariants.{Message as Whole, More, Bad}
@@ -11,7 +11,7 @@ use Rattle.wl_proto.specs.Objects.{objects_in as objects_named}
 use Rattle.wl_table.specs.Objects.{Held, entry_of}
 use Rattle.wl_client.specs.Agreement.{IsPeer}
 use Rattle.wl_client.specs.Objects.{fits, is_of, objects_in}
-use Rattle.wl_client.specs.Peer.{Errs, Peer, Queues, WantsOr, counted, with_rest}
+use Rattle.wl_client.specs.Peer.{Errs, LacksMemory, Peer, Queues, WantsOr, counted, with_rest}
 use Rattle.wl_client.specs.declared.refusals.Refusal.{Refusal}
 use Rattle.wl_client.specs.declared.refusals.ErrorCode.TheVariants.{InvalidMethod}
 use Rattle.wl_client.specs.Told.{Said, display_error}
@@ -96,6 +96,22 @@ AnswersSo (Err refusal) c r d old new = (q : Peer) × Errs refusal r.peer q × I
 abbrev pub AnswersDemand : {A : Type 0} → (Resident → Result Demand Refusal) → Kept A → Kept A → Type 0
 AnswersDemand judged old new = (c : ℕ) (r : Resident) (d : Desktop) → IsResident old r → OwnsToplevelsOnly r → AnswersSo (judged r) c r d old new
 
+-- The same where it is known which of the two it was: done and told, though an event that isn't queued may end the client; or without memory.
+abbrev pub MeetsAs : {A : Type 0} → Bool → ℕ → Demand → Resident → Desktop → Kept A → Kept A → Type 0
+MeetsAs true c demand r d old new =
+    (q : Peer) × Queues (replies served_now c demand r (changed_for c demand r d) (all_windows d) d) (changed_for c demand r d).peer q
+    × IsLeft old new (changed_for c demand r d) q
+MeetsAs false c demand r d old new = (wants_memory demand ≡ true) × (q : Peer) × LacksMemory r.peer q × IsLeft old new (changed_for c demand r d) q
+
+-- done, or refused or without memory
+abbrev pub AnswersAs : {A : Type 0} → Bool → Result Demand Refusal → ℕ → Resident → Desktop → Kept A → Kept A → Type 0
+AnswersAs done (Ok demand) c r d old new = MeetsAs done c demand (with_peer (counted r.peer) r) d old new
+AnswersAs true (Err refusal) c r d old new = ⊥
+AnswersAs false (Err refusal) c r d old new = (q : Peer) × Errs refusal r.peer q × IsLeft old new r q
+
+abbrev pub AnswersDemandAs : {A : Type 0} → Bool → (Resident → Result Demand Refusal) → Kept A → Kept A → Type 0
+AnswersDemandAs done judged old new = (c : ℕ) (r : Resident) (d : Desktop) → IsResident old r → OwnsToplevelsOnly r → AnswersAs done (judged r) c r d old new
+
 -- the wl_surface with this id has the surface of this number
 abbrev pub IsSurface : {A : Type 0} → Kept A → ℕ → ℕ → Type 0
 IsSurface v id surface = targets_in WlSurface v.client.objects id ≡ Some surface
@@ -174,6 +190,16 @@ TakesSo (Whole object opcode size) c r d old new stacking =
     × StacksSo old r (judge_all served_now r object opcode (take (size - 8) (drop 8 r.peer.rest))) stacking
 TakesSo Bad c r d old new stacking = AnswersSo (Err (display_error InvalidMethod)) c r d old new
 TakesSo More c r d old new stacking = ⊥
+
+-- The same where it is known whether it was done.
+abbrev pub TakesAs : {A : Type 0} → Bool → Split → ℕ → Resident → Desktop → Kept A → Kept A → Type 0
+TakesAs done (Whole object opcode size) c r d old new =
+    AnswersAs done (judge_all served_now r object opcode (take (size - 8) (drop 8 r.peer.rest))) c (with_peer (with_rest (drop size r.peer.rest) r.peer) r) d old new
+TakesAs done Bad c r d old new = AnswersAs done (Err (display_error InvalidMethod)) c r d old new
+TakesAs done More c r d old new = ⊥
+
+abbrev pub TakesMessageAs : {A : Type 0} → Bool → Kept A → Kept A → Type 0
+TakesMessageAs done old new = (c : ℕ) (r : Resident) (d : Desktop) → IsResident old r → OwnsToplevelsOnly r → TakesAs done (split_of r.peer.rest) c r d old new
 
 abbrev pub TakesMessage : {A : Type 0} → Kept A → Kept A → Stacking → Type 0
 TakesMessage old new stacking =

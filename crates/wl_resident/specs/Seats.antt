@@ -60,6 +60,11 @@ IsRestacked c (ToTop number) old new was is = ((new ≡ old) × (is ≡ mapped_o
 IsRestacked c (Out number) old new was is =
     (new ≡ old) × (is.standing ≡ without_surface_of c number was.standing) × (is.next ≡ was.next)
 
+-- so it is where the client lives; else nothing is done
+abbrev pub IsRestackedBy : {A : Type 0} → Option Cause → ℕ → Stacking → Kept A → Kept A → Stack → Stack → Type 0
+IsRestackedBy None c stacking old new was is = IsRestacked c stacking old new was is
+IsRestackedBy (Some cause) c stacking old new was is = (new ≡ old) × (is ≡ was)
+
 -- nothing is kept of surfaces and of the shell
 pub record IsBare {A : Type 0} (owned : Owned A) : Type 0 where
   pub surfaces : StandForAll owned.surfaces nobody
@@ -72,9 +77,3 @@ abbrev pub IsClearedBy : {A : Type 0} → Option Cause → ℕ → Kept A → Ke
 IsClearedBy None c old new was is = (new ≡ old) × (is ≡ was)
 IsClearedBy (Some cause) c old new was is =
     (new.client ≡ old.client) × IsBare new.owned × (is.standing ≡ without_client c was.standing) × (is.next ≡ was.next)
-
--- So it is after a message: a client that lives still has it done, and nothing is left of one that ended.
-abbrev pub IsSettledBy : {A : Type 0} → Option Cause → ℕ → Stacking → Kept A → Kept A → Stack → Stack → Type 0
-IsSettledBy (Some cause) c stacking old new was is = IsClearedBy (Some cause) c old new was is
-IsSettledBy {A} None c stacking old new was is =
-    (mid : Kept A) × (between : Stack) × IsRestacked c stacking old mid was between × IsClearedBy mid.client.ended c mid new between is

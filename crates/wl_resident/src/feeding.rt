@@ -1,17 +1,18 @@
 //! One client is served, and its toplevels come to the stack and go.
 
-ghost use Rattle.std.specs.Prelude.{ℕ, ◌≡◌, ◌<◌, ◌≤◌, ◌||◌, None, Some, length, pos, true, false};
+ghost use Rattle.std.specs.Prelude.{ℕ, ◌≡◌, ◌<◌, ◌≤◌, ◌||◌, List, None, Some, length, pos, true, false};
 ghost use Rattle.wl_paint.specs.Damage.{has};
-ghost use Rattle.wl_resident.specs.Marking.{AreUnlinked, IsAsLarge, MarksAtLeast, MarksAtMost, MarksEnd, MarksOwn, stands_any};
+ghost use Rattle.wl_resident.specs.Marking.{AreUnlinked, IsAsLarge, MarksAtLeast, MarksAtMost, MarksEnd, MarksOwn, MarksThrough, stands_any};
 ghost use Rattle.wl_client.specs.Objects.{ById};
 ghost use Rattle.wl_store.specs.Stores.{write_refusal};
 ghost use Rattle.wl_client.specs.Agreement.{IsPeer};
 ghost use Rattle.wl_client.specs.Peer.{IsIdleAt, Peer, stored_at};
 ghost use Rattle.wl_plain.specs.Desktop.{Desktop, Resident as Plain, become};
-ghost use Rattle.wl_resident.specs.Seats.{IsBare, IsChangedSo, IsClearedBy, IsRestacked, IsSeated, IsSettledBy, ended_by};
+ghost use Rattle.wl_resident.specs.Seats.{IsBare, IsChangedSo, IsClearedBy, IsRestackedBy, IsSeated, ended_by};
 ghost use Rattle.wl_plain.specs.LeftOut.{served_now};
 ghost use Rattle.wl_plain.specs.NoMore.{NoMore};
 ghost use Rattle.wl_plain.specs.Happens.{Serves};
+ghost use Rattle.wl_plain.specs.Through.{ServesThrough};
 ghost use Rattle.wl_plain.specs.Acts.{IsLeft, IsSent, IsStored, stored_of};
 
 use crate::marking::{mark_change, mark_everywhere, touched_by};
@@ -35,11 +36,15 @@ pub fn bare<A: Allocator + Copy>(alloc: A) -> Owned<A>
 }
 
 impl<A: Allocator + Copy> Resident<A> {
-    /// What a request asks of the stack of toplevels is done. There may be no memory for it.
+    /// What a request asks of the stack of toplevels is done, where the client lives. There may be no memory for it.
     fn restack(&mut self, scene: &mut Scene<A>, client: ClientNo, stacking: Stacking)
-        ensures stack { IsRestacked client stacking self.old self.new scene.old scene.new }
+        ensures stack { IsRestackedBy self.old.client.ended client stacking self.old self.new scene.old scene.new }
+        ensures owned { self.new.owned ≡ self.old.owned }
         ensures less { length self.new.client.rest ≤ length self.old.client.rest }
     {
+        if self.client.has_ended() {
+            return;
+        }
         match stacking {
             Stacking::Stays => {}
             Stacking::ToTop(surface) => match scene.map(Surface { client, surface }) {
@@ -79,27 +84,9 @@ impl<A: Allocator + Copy> Resident<A> {
         self.empty(scene, client, alloc);
     }
 
-    /// What a message that was taken does to the stack of toplevels.
-    fn settle(
-        &mut self,
-        scene: &mut Scene<A>,
-        damage: &mut Damage<A>,
-        client: ClientNo,
-        stacking: Stacking,
-        alloc: A,
-    )
-        ensures settles { IsSettledBy self.old.client.ended client stacking self.old self.new scene.old scene.new }
-        ensures marks { MarksEnd self.new.client.ended client scene.old damage.old damage.new }
-        ensures less { length self.new.client.rest ≤ length self.old.client.rest }
-    {
-        if !self.client.has_ended() {
-            self.restack(scene, client, stacking);
-        }
-        self.clear(scene, damage, client, alloc);
-    }
-
     /// Takes the first whole message of a client that lives, and answers whether there was one. What it changes of a window is marked: the damage
-    /// that a commit applied, where the window stands as it did; else all of it, as it was before and as it is after.
+    /// that a commit applied, where the window stands as it did; else all of it, as it was before and as it is after. Where the client ends by it,
+    /// its windows are marked, and no more.
     pub fn serve_on(
         &mut self,
         scene: &mut Scene<A>,
@@ -116,6 +103,10 @@ impl<A: Allocator + Copy> Resident<A> {
             → IsSeated client others base self.old scene.old d r → NoMore d
             → (e : Desktop) (q : Plain) → Serves served_now client d e → IsSeated client others base self.new scene.new e q
             → MarksAtMost client d e damage.old damage.new }
+        ensures through { result ≡ true → (others : ℕ → ById ℕ) (base d : Desktop) (r : Plain) → damage.old.width ≡ d.output.width → damage.old.height ≡ d.output.height → AreUnlinked base
+            → IsSeated client others base self.old scene.old d r → NoMore d
+            → (e : Desktop) × (q : Plain) × (path : List Desktop) × ServesThrough served_now client d path e × IsSeated client others base self.new scene.new e q
+            × MarksThrough d path damage.old damage.new }
         ensures idle { result ≡ false → (self.new ≡ self.old) × (scene.new ≡ scene.old) × (damage.new ≡ damage.old) × IsIdleAt self.old.client.ended self.old.client.rest }
         ensures sides { IsAsLarge damage.old damage.new }
         ensures less { result ≡ true → length self.new.client.rest < length self.old.client.rest }
@@ -129,9 +120,14 @@ impl<A: Allocator + Copy> Resident<A> {
         let Some(outcome) = self.serve(asked) else {
             return false;
         };
-        self.settle(scene, damage, client, outcome.stacking, alloc);
-        let is = self.window(scene, client, touched);
-        mark_change(damage, was, is, &outcome.applied);
+        self.restack(scene, client, outcome.stacking);
+        if self.client.has_ended() {
+            self.mark_end(scene, damage, client, was, &outcome.applied);
+        } else {
+            let is = self.window(scene, client, touched);
+            mark_change(damage, was, is, &outcome.applied);
+        }
+        self.empty(scene, client, alloc);
         true
     }
 

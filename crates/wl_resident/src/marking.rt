@@ -1,6 +1,6 @@
 //! What of the output a message marks to be painted again.
 
-ghost use Rattle.std.specs.Prelude.{ℕ, ℤ, ◌≡◌, ◌↔◌, ◌<◌, ◌+ℤ◌, ◌-ℤ◌, ◌&&◌, ◌||◌, IfNone, IfSome, None, Some, find, int_le, int_lt, pos, true};
+ghost use Rattle.std.specs.Prelude.{ℕ, ℤ, ◌≡◌, ◌↔◌, ◌<◌, ◌+ℤ◌, ◌-ℤ◌, ◌&&◌, ◌||◌, IfNone, IfSome, None, Some, find, int_le, int_lt, is_some, pos, true};
 ghost use Rattle.std.specs.List.{list_any};
 ghost use Rattle.std.specs.Option.{option_map};
 ghost use Rattle.wl_proto.specs.declared.interface.Interface.TheVariants.{WlSurface};
@@ -10,7 +10,7 @@ ghost use Rattle.wl_surface.specs.State.{within_bounds};
 ghost use Rattle.wl_paint.specs.Damage.{has};
 ghost use Rattle.wl_scene.specs.Stacking.{is_of, standing_of};
 ghost use Rattle.wl_plain.specs.Desktop.{Desktop, Resident as Plain};
-ghost use Rattle.wl_resident.specs.Marking.{IsAsLarge, IsRecordOf, MarksChange, any_record_has, is_record_damaged, is_shown_by, marked_by, record_has, record_showing, rects_applied};
+ghost use Rattle.wl_resident.specs.Marking.{IsAsLarge, IsRecordOf, MarksChange, any_record_has, is_record_damaged, is_shown_by, marked_by, record_has, record_showing, rects_applied, was_shown};
 ghost use Rattle.wl_plain.specs.Owning.{targets_in};
 ghost use Rattle.wl_resident.specs.Seats.{IsSeated};
 ghost use Rattle.wl_resident.specs.declared.marking.WindowRecord.{WindowRecord as WindowAsKept};
@@ -322,5 +322,25 @@ impl<A: Allocator + Copy> Resident<A> {
         for toplevel in scene.toplevels() {
             self.mark_toplevel(damage, client, toplevel);
         }
+    }
+
+    /// What a client had on the output that ended by a message is marked: its windows by what is kept now and, where the message was a commit that
+    /// was applied, the window of its surface as it was before.
+    pub(crate) fn mark_end(
+        &self,
+        scene: &Scene<A>,
+        damage: &mut Damage<A>,
+        client: ClientNo,
+        was: Option<WindowRecord>,
+        applied: &Option<Applied<A>>,
+    )
+        ensures points { (all : Numbered) → StandForAll self.now.owned.surfaces all → (x y : ℕ) → x < damage.old.width → y < damage.old.height
+            → has damage.new x y ≡ (has damage.old x y || (was_shown (is_some applied.now) was (pos x) (pos y) || list_any (is_shown_by client all (pos x) (pos y)) scene.now.standing)) }
+        ensures sides { IsAsLarge damage.old damage.new }
+    {
+        if applied.is_some() {
+            mark_window(damage, was);
+        }
+        self.mark_windows(scene, damage, client);
     }
 }

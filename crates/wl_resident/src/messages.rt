@@ -1,14 +1,15 @@
 //! The messages of one client, one after another.
 
-ghost use Rattle.std.specs.Prelude.{ℕ, ◌≡◌, ◌≢◌, ◌<◌, ◌≤◌, IfNone, IfSome, None, Some, length, true};
+ghost use Rattle.std.specs.Prelude.{ℕ, ◌≡◌, ◌≢◌, ◌<◌, ◌≤◌, IfNone, IfSome, None, Some, is_some, length, true};
 ghost use Rattle.wl_table.specs.Objects.{entry_of};
 ghost use Rattle.wl_proto.specs.Messages.{Message, request_message};
 ghost use Rattle.wl_proto.specs.declared.wl_surface.WlSurfaceRequest.TheVariants.{Commit};
-ghost use Rattle.wl_client.specs.Peer.{IsIdleAt};
+ghost use Rattle.wl_client.specs.Agreement.{IsPeer};
+ghost use Rattle.wl_client.specs.Peer.{IsIdleAt, Peer};
 ghost use Rattle.wl_client.specs.Serving.{is_own};
-ghost use Rattle.wl_resident.specs.Marking.{TellsChange, commit_by};
+ghost use Rattle.wl_resident.specs.Marking.{IsCommitted, IsStill, TellsChange, commit_by};
 ghost use Rattle.wl_resident.specs.Messages.{IsAsked, IsKind};
-ghost use Rattle.wl_resident.specs.Residents.{AnswersDemand, NewIsFree, ObjectsFit, Stacks, TakesMessage};
+ghost use Rattle.wl_resident.specs.Residents.{AnswersDemand, AnswersDemandAs, NewIsFree, ObjectsFit, Stacks, TakesMessage, TakesMessageAs};
 ghost use Rattle.wl_plain.specs.LeftOut.{served_now};
 ghost use Rattle.wl_plain.specs.Demanding.{demand_of};
 
@@ -112,9 +113,13 @@ impl<A: Allocator + Copy> Resident<A> {
             → NewIsFree self.old m → ObjectsFit self.old m → AnswersDemand (λ r. demand_of served_now r object version m) self.old self.new }
         ensures stacks { (m : Message) → IsKind kind m → entry_of self.old.client.objects object ≡ Some (record { interface = m.interface; version = version; target = target })
             → Stacks (λ r. demand_of served_now r object version m) self.old result.stacking }
+        ensures decides { kind ≡ Kind.Surface Commit → (m : Message) → IsKind kind m → entry_of self.old.client.objects object ≡ Some (record { interface = m.interface; version = version; target = target })
+            → AnswersDemandAs (is_some result.applied) (λ r. demand_of served_now r object version m) self.old self.new }
+        ensures commits { kind ≡ Kind.Surface Commit → IsCommitted self.old.owned.surfaces self.new.owned.surfaces target result.applied }
         ensures change { kind ≡ Kind.Surface Commit → TellsChange self.old self.new target result.applied }
         ensures nothing { kind ≢ Kind.Surface Commit → result.applied ≡ None }
         ensures rest { length self.new.client.rest ≤ length self.old.client.rest }
+        ensures still { kind ≢ Kind.Surface Commit → (p : Peer) → IsPeer self.old.client p → IsStill self.old self.new }
     {
         match kind {
             Kind::Surface(request) => self.wl_surface(object, version, target, &request),
@@ -148,10 +153,13 @@ impl<A: Allocator + Copy> Resident<A> {
         requires { IsAsked self.old.client asked }
         ensures lives { IfSome result (λ s. self.old.client.ended ≡ None) }
         ensures takes { IfSome result (λ s. TakesMessage self.old self.new s.stacking) }
+        ensures decides { IfSome result (λ s. (number : ℕ) → commit_by asked ≡ Some number → TakesMessageAs (is_some s.applied) self.old self.new) }
+        ensures commits { IfSome result (λ s. (number : ℕ) → commit_by asked ≡ Some number → IsCommitted self.old.owned.surfaces self.new.owned.surfaces number s.applied) }
         ensures change { IfSome result (λ s. (number : ℕ) → commit_by asked ≡ Some number → TellsChange self.old self.new number s.applied) }
         ensures nothing { IfSome result (λ s. commit_by asked ≡ None → s.applied ≡ None) }
         ensures idle { IfNone result ((self.new ≡ self.old) × IsIdleAt self.old.client.ended self.old.client.rest) }
         ensures less { IfSome result (λ s. length self.new.client.rest < length self.old.client.rest) }
+        ensures still { IfSome result (λ s. commit_by asked ≡ None → (p : Peer) → IsPeer self.old.client p → IsStill self.old self.new) }
     {
         if self.client.has_ended() {
             return None;

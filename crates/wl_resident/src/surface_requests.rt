@@ -19,8 +19,8 @@ ghost use Rattle.wl_plain.specs.Owning.{AreKept, IsOwned, Names, by_number, effe
 ghost use Rattle.wl_plain.specs.Framing.{AreFramed};
 ghost use Rattle.wl_plain.specs.LeftOut.{served_now};
 ghost use Rattle.wl_plain.specs.Releases.{let_if, same_number};
-ghost use Rattle.wl_resident.specs.Marking.{TellsChange};
-ghost use Rattle.wl_resident.specs.Residents.{AnswersDemand, Does, IsFree, IsSurface, Meets, MeetsSo, NewIsFree, Stacks, stacking_by};
+ghost use Rattle.wl_resident.specs.Marking.{IsCommitted, IsStill, TellsChange};
+ghost use Rattle.wl_resident.specs.Residents.{AnswersDemand, AnswersDemandAs, Does, IsFree, IsSurface, Meets, MeetsAs, NewIsFree, Stacks, stacking_by};
 ghost use Rattle.wl_plain.specs.Step.{buffers_had, is_number, is_over, letting_go};
 ghost use Rattle.wl_plain.specs.Demanding.{demand_of, effect_of_commit};
 ghost use Rattle.wl_surface.specs.Surfaces.{Surface, listed};
@@ -155,13 +155,14 @@ impl<A: Allocator + Copy> Resident<A> {
     pub(crate) fn destroy_surface(&mut self, object: u32, surface: SurfaceNo)
         ensures does { IsSurface self.old object surface → kept_of self.old.owned.shell surface ≡ None → Meets (λ r. EndSurface object) self.old self.new }
         ensures rest { length self.new.client.rest ≤ length self.old.client.rest }
+        ensures still { kept_of self.old.owned.shell surface ≡ None → IsStill self.old self.new }
     {
         let had = self.owned.surfaces.buffers(surface);
         let Ok(applied) = self.owned.surfaces.destroy(surface) else {
             self.client.lack_memory();
             return;
         };
-        let released = self.released(had);
+        let released = self.released(had, &applied.freed);
         self.let_go_of(had);
         self.client
             .remove_with(object, &applied.callbacks, released);
@@ -171,6 +172,7 @@ impl<A: Allocator + Copy> Resident<A> {
     pub(crate) fn attach(&mut self, object: u32, surface: SurfaceNo, buffer: u32, x: i32, y: i32)
         ensures does { IsSurface self.old object surface → Does (λ r. AskSurface object (Attach (buffer_named r buffer) x y)) self.old self.new }
         ensures rest { length self.new.client.rest ≤ length self.old.client.rest }
+        ensures still { IsStill self.old self.new }
     {
         let had = self.owned.surfaces.buffers(surface);
         let attached = self.attached(buffer);
@@ -182,6 +184,7 @@ impl<A: Allocator + Copy> Resident<A> {
     pub(crate) fn damage(&mut self, object: u32, surface: SurfaceNo, rect: Rect)
         ensures does { IsSurface self.old object surface → Does (λ r. AskSurface object (DamageAsked rect)) self.old self.new }
         ensures rest { length self.new.client.rest ≤ length self.old.client.rest }
+        ensures still { IsStill self.old self.new }
     {
         match self.owned.surfaces.damage(surface, rect) {
             Ok(()) => {}
@@ -193,6 +196,7 @@ impl<A: Allocator + Copy> Resident<A> {
     pub(crate) fn set_opaque_region(&mut self, object: u32, surface: SurfaceNo, region: u32)
         ensures does { IsSurface self.old object surface → Does (λ r. AskSurface object (SetOpaqueRegion (region_named r region))) self.old self.new }
         ensures rest { length self.new.client.rest ≤ length self.old.client.rest }
+        ensures still { (p : Peer) → IsPeer self.old.client p → IsStill self.old self.new }
     {
         let region = self.client.region(region);
         match self.owned.surfaces.set_opaque(surface, region) {
@@ -205,6 +209,7 @@ impl<A: Allocator + Copy> Resident<A> {
     pub(crate) fn set_input_region(&mut self, object: u32, surface: SurfaceNo, region: u32)
         ensures does { IsSurface self.old object surface → Does (λ r. AskSurface object (SetInputRegion (region_named r region))) self.old self.new }
         ensures rest { length self.new.client.rest ≤ length self.old.client.rest }
+        ensures still { (p : Peer) → IsPeer self.old.client p → IsStill self.old self.new }
     {
         let region = self.client.region(region);
         match self.owned.surfaces.set_input(surface, region) {
@@ -215,9 +220,11 @@ impl<A: Allocator + Copy> Resident<A> {
 
     /// wl_surface.commit: what is pending counts, and the shell says what that comes to.
     fn commit(&mut self, object: u32, version: u32, surface: SurfaceNo) -> Outcome<A>
-        ensures answers { IsSurface self.old object surface → AnswersDemand (λ r. demand_of served_now r object version (wl_surface_request Commit)) self.old self.new }
+        ensures answers { IsSurface self.old object surface
+            → AnswersDemandAs (is_some result.applied) (λ r. demand_of served_now r object version (wl_surface_request Commit)) self.old self.new }
         ensures stacks { IsSurface self.old object surface
             → Stacks (λ r. demand_of served_now r object version (wl_surface_request Commit)) self.old result.stacking }
+        ensures commits { IsCommitted self.old.owned.surfaces self.new.owned.surfaces surface result.applied }
         ensures change { TellsChange self.old self.new surface result.applied }
         ensures rest { length self.new.client.rest ≤ length self.old.client.rest }
     {
@@ -251,7 +258,8 @@ impl<A: Allocator + Copy> Resident<A> {
             → AreFramed self.old.owned.surfaces.frames (by_number names.surfaces r.owned.surfaces) (r.peer.requests + 1) r.callbacks
             → names_in self.old.client.objects ≡ names → names.surfaces object ≡ Some surface → commit_answer shows (kept surface) ≡ Ok act → serial ≡ r.peer.serial
             → kept_of self.old.owned.shell ≡ changing surface (kept_after r.peer.serial act) kept
-            → MeetsSo c (CommitTree object) r d self.old self.new }
+            → MeetsAs (is_some result) c (CommitTree object) r d self.old self.new }
+        ensures commits { IsCommitted self.old.owned.surfaces self.new.owned.surfaces surface result }
         ensures change { TellsChange self.old self.new surface result }
         ensures rest { length self.new.client.rest ≤ length self.old.client.rest }
     {
@@ -260,7 +268,7 @@ impl<A: Allocator + Copy> Resident<A> {
             self.client.lack_memory();
             return None;
         };
-        let released = self.released(had);
+        let released = self.released(had, &applied.freed);
         self.let_go_of(had);
         self.tell_act(surface, act, serial, released);
         Some(applied)
@@ -271,6 +279,7 @@ impl<A: Allocator + Copy> Resident<A> {
         ensures does { is_transform transform ≡ true → IsSurface self.old object surface
             → Does (λ r. AskSurface object (SetBufferTransform (unsigned_abs transform))) self.old self.new }
         ensures rest { length self.new.client.rest ≤ length self.old.client.rest }
+        ensures still { IsStill self.old self.new }
     {
         match self.owned.surfaces.set_transform(surface, transform) {
             Ok(()) => {}
@@ -292,6 +301,7 @@ impl<A: Allocator + Copy> Resident<A> {
     fn destroy(&mut self, object: u32, version: u32, surface: SurfaceNo)
         ensures answers { IsSurface self.old object surface → AnswersDemand (λ r. demand_of served_now r object version (wl_surface_request Destroy)) self.old self.new }
         ensures rest { length self.new.client.rest ≤ length self.old.client.rest }
+        ensures still { IsStill self.old self.new }
     {
         if self.has_xdg_surface(surface) {
             let refusal = Refusal::of(object, ErrorCode::SurfaceHasRoleObject);
@@ -307,6 +317,7 @@ impl<A: Allocator + Copy> Resident<A> {
         ensures answers { IsSurface self.old object surface
             → AnswersDemand (λ r. demand_of served_now r object version (wl_surface_request (TransformAsked transform))) self.old self.new }
         ensures rest { length self.new.client.rest ≤ length self.old.client.rest }
+        ensures still { IsStill self.old self.new }
     {
         if !is_valid(transform) {
             let refusal = Refusal::of(object, ErrorCode::InvalidTransform);
@@ -322,6 +333,7 @@ impl<A: Allocator + Copy> Resident<A> {
         ensures answers { IsSurface self.old object surface → IsFree self.old callback
             → AnswersDemand (λ r. demand_of served_now r object version (wl_surface_request (FrameAsked callback))) self.old self.new }
         ensures rest { length self.new.client.rest ≤ length self.old.client.rest }
+        ensures still { IsStill self.old self.new }
     {
         self.client.count();
         match self.owned.surfaces.frame(surface, callback) {
@@ -349,9 +361,13 @@ impl<A: Allocator + Copy> Resident<A> {
             → AnswersDemand (λ r. demand_of served_now r object version (wl_surface_request request.now)) self.old self.new }
         ensures stacks { IsSurface self.old object surface
             → Stacks (λ r. demand_of served_now r object version (wl_surface_request request.now)) self.old result.stacking }
+        ensures decides { request.now ≡ Commit → IsSurface self.old object surface
+            → AnswersDemandAs (is_some result.applied) (λ r. demand_of served_now r object version (wl_surface_request request.now)) self.old self.new }
+        ensures commits { request.now ≡ Commit → IsCommitted self.old.owned.surfaces self.new.owned.surfaces surface result.applied }
         ensures change { request.now ≡ Commit → TellsChange self.old self.new surface result.applied }
         ensures nothing { request.now ≢ Commit → result.applied ≡ None }
         ensures rest { length self.new.client.rest ≤ length self.old.client.rest }
+        ensures still { request.now ≢ Commit → (p : Peer) → IsPeer self.old.client p → IsStill self.old self.new }
     {
         match *request {
             WlSurfaceRequest::Commit => self.commit(object, version, surface),

@@ -7,6 +7,7 @@ ghost use Rattle.wl_plain.specs.Ask.{Own};
 ghost use Rattle.wl_plain.specs.Demand.{Asks};
 ghost use Rattle.wl_plain.specs.LeftOut.{served_now};
 ghost use Rattle.wl_plain.specs.Demanding.{demand_of, demands};
+ghost use Rattle.wl_resident.specs.Marking.{IsStill};
 ghost use Rattle.wl_resident.specs.Residents.{AnswersDemand, IsFree, NewIsFree};
 ghost use Rattle.wl_plain.specs.WlSurface.{surface_created};
 
@@ -28,6 +29,7 @@ impl<A: Allocator + Copy> Resident<A> {
     fn create_surface(&mut self, version: u32, id: u32)
         ensures answers { IsFree self.old id → AnswersDemand (λ r. demands (surface_created r id version)) self.old self.new }
         ensures rest { length self.new.client.rest ≤ length self.old.client.rest }
+        ensures still { IsStill self.old self.new }
     {
         match self.owned.surfaces.create() {
             Ok(surface) => {
@@ -54,6 +56,7 @@ impl<A: Allocator + Copy> Resident<A> {
     fn create_region(&mut self, version: u32, id: u32)
         ensures answers { IsFree self.old id → AnswersDemand (λ r. Ok (Asks (Own (CreateRegion id version)))) self.old self.new }
         ensures rest { length self.new.client.rest ≤ length self.old.client.rest }
+        ensures surfaces { self.new.owned.surfaces ≡ self.old.owned.surfaces }
     {
         self.client.count();
         self.client.create_region(id, version);
@@ -64,6 +67,7 @@ impl<A: Allocator + Copy> Resident<A> {
         ensures answers { NewIsFree self.old (wl_compositor_request request.now)
             → AnswersDemand (λ r. demand_of served_now r object version (wl_compositor_request request.now)) self.old self.new }
         ensures rest { length self.new.client.rest ≤ length self.old.client.rest }
+        ensures still { IsStill self.old self.new }
     {
         match *request {
             WlCompositorRequest::CreateSurface { id } => self.create_surface(version, id),

@@ -7,6 +7,7 @@ ghost use Rattle.wl_proto.specs.Messages.{xdg_surface_request};
 ghost use Rattle.wl_proto.specs.declared.xdg_surface.XdgSurfaceRequest.TheVariants.{AckConfigure, Destroy, GetToplevel, SetWindowGeometry};
 ghost use Rattle.wl_shell.specs.Kept.{kept_of};
 ghost use Rattle.wl_plain.specs.Owning.{kept_base, kept_id, shell_refusal};
+ghost use Rattle.wl_resident.specs.Marking.{IsStill};
 ghost use Rattle.wl_resident.specs.Residents.{AnswersDemand, IsFree, IsXdgSurface, NewIsFree};
 ghost use Rattle.wl_plain.specs.LeftOut.{served_now};
 ghost use Rattle.wl_plain.specs.Demanding.{demand_of};
@@ -82,6 +83,7 @@ impl<A: Allocator + Copy> Resident<A> {
         ensures errs { (p : Peer) → IsPeer self.old.client p
             → (q : Peer) × Errs (shell_refusal (kept_base (kept_of self.old.owned.shell surface)) object object error) p q × IsPeer self.new.client q }
         ensures rest { length self.new.client.rest ≤ length self.old.client.rest }
+        ensures surfaces { self.new.owned.surfaces ≡ self.old.owned.surfaces }
     {
         let refusal = refusal_of(self.base_of(surface), object, object, error);
         self.client.refuse(refusal);
@@ -91,6 +93,7 @@ impl<A: Allocator + Copy> Resident<A> {
     fn destroy_xdg_surface(&mut self, object: u32, version: u32, surface: SurfaceNo)
         ensures answers { IsXdgSurface self.old object surface → AnswersDemand (λ r. demand_of served_now r object version (xdg_surface_request Destroy)) self.old self.new }
         ensures rest { length self.new.client.rest ≤ length self.old.client.rest }
+        ensures surfaces { self.new.owned.surfaces ≡ self.old.owned.surfaces }
     {
         match self.owned.shell.destroy_xdg_surface(surface) {
             Ok(()) => {
@@ -106,6 +109,7 @@ impl<A: Allocator + Copy> Resident<A> {
         ensures answers { IsXdgSurface self.old object surface → IsFree self.old id
             → AnswersDemand (λ r. demand_of served_now r object version (xdg_surface_request (GetToplevel id))) self.old self.new }
         ensures rest { length self.new.client.rest ≤ length self.old.client.rest }
+        ensures still { IsStill self.old self.new }
     {
         let has_other_role = is_other_role(self.owned.surfaces.role(surface));
         match self.owned.shell.get_toplevel(surface, id, has_other_role) {
@@ -128,6 +132,7 @@ impl<A: Allocator + Copy> Resident<A> {
         ensures answers { IsXdgSurface self.old object surface
             → AnswersDemand (λ r. demand_of served_now r object version (xdg_surface_request (SetWindowGeometry rect.x rect.y rect.w rect.h))) self.old self.new }
         ensures rest { length self.new.client.rest ≤ length self.old.client.rest }
+        ensures surfaces { self.new.owned.surfaces ≡ self.old.owned.surfaces }
     {
         match self.owned.shell.geometry(surface, rect) {
             Ok(()) => self.client.count(),
@@ -140,6 +145,7 @@ impl<A: Allocator + Copy> Resident<A> {
         ensures answers { IsXdgSurface self.old object surface
             → AnswersDemand (λ r. demand_of served_now r object version (xdg_surface_request (AckConfigure serial))) self.old self.new }
         ensures rest { length self.new.client.rest ≤ length self.old.client.rest }
+        ensures surfaces { self.new.owned.surfaces ≡ self.old.owned.surfaces }
     {
         match self.owned.shell.ack(surface, serial) {
             Ok(()) => self.client.count(),
@@ -158,6 +164,7 @@ impl<A: Allocator + Copy> Resident<A> {
         ensures answers { IsXdgSurface self.old object surface → NewIsFree self.old (xdg_surface_request request.now)
             → AnswersDemand (λ r. demand_of served_now r object version (xdg_surface_request request.now)) self.old self.new }
         ensures rest { length self.new.client.rest ≤ length self.old.client.rest }
+        ensures still { IsStill self.old self.new }
     {
         match *request {
             XdgSurfaceRequest::Destroy => self.destroy_xdg_surface(object, version, surface),

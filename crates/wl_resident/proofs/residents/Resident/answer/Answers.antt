@@ -1,12 +1,17 @@
-use Rattle.std.proofs.Common.{◌≡◌, ap, subst, sym, rules, ◌∙◌}
-use Rattle.wl_proto.specs.Messages.{Message}
+use Rattle.std.proofs.Common.{◌≡◌, ap, refl, subst, sym, rules, ◌∙◌}
+use Rattle.std.specs.Prelude.{is_some}
+use Rattle.wl_proto.specs.Messages.{Message, wl_surface_request}
+use Rattle.wl_proto.specs.declared.wl_surface.WlSurfaceRequest.{WlSurfaceRequest}
 use Rattle.wl_proto.specs.declared.wl_surface.WlSurfaceRequest.TheVariants.{Commit}
 use Rattle.wl_resident.specs.declared.messages.Kind.TheVariants.{Surface}
 use Rattle.wl_resident.specs.declared.residents.Stacking.TheVariants.{Stays}
-use Rattle.wl_resident.specs.Residents.{StacksSo}
+use Rattle.wl_resident.specs.Residents.{AnswersAs, StacksSo}
 use Rattle.wl_plain.specs.Demanding.{demand_of}
 use Rattle.wl_plain.specs.LeftOut.{served_now}
+use Rattle.wl_resident.proofs.Doing.{named-by}
 use Rattle.wl_resident.proofs.Stackings.{base-stays, xdg-stays}
+use Rattle.wl_resident.proofs.Stillness.{same-still}
+use Rattle.wl_shell.specs.Kept.{kept_of}
 use Rattle.wl_resident.proofs.residents.Resident.answer.Goals as goal
 
 pub returns-in-XdgSurface-clause-stacks : goal.returns-in-XdgSurface-clause-stacks
@@ -84,6 +89,22 @@ returns-in-Surface-clause-change g c = λ commits.
     let same : c.in-Surface.request ≡ Commit = cc in
     c.wl_surface.ensures.change same
 
+pub returns-in-Surface-clause-decides : goal.returns-in-Surface-clause-decides
+returns-in-Surface-clause-decides g c = λ commits m kind entry client r on is only.
+    let both = sym c.in-Surface.is ∙ commits in
+    let same : c.in-Surface.request ≡ Commit = cc in
+    let v = c.args.self.now in
+    let told : m ≡ wl_surface_request c.in-Surface.request = rw c.in-Surface.is at kind in
+    let named = named-by v.client.objects c.args.object c.args.target _ entry (ap (λ (n : Message). n.interface) (told ∙ ap (λ (q : WlSurfaceRequest). wl_surface_request q) same)) refl in
+    subst (λ (n : Message). AnswersAs (is_some c.wl_surface.result.applied) (demand_of served_now r c.args.object c.args.version n) client r on v c.wl_surface.new.self) (sym told)
+    (c.wl_surface.ensures.decides same named client r on is only)
+
+pub returns-in-Surface-clause-commits : goal.returns-in-Surface-clause-commits
+returns-in-Surface-clause-commits g c = λ commits.
+    let both = sym c.in-Surface.is ∙ commits in
+    let same : c.in-Surface.request ≡ Commit = cc in
+    c.wl_surface.ensures.commits same
+
 pub returns-in-Surface-clause-nothing : goal.returns-in-Surface-clause-nothing
 returns-in-Surface-clause-nothing g c = λ other. c.wl_surface.ensures.nothing (λ commits. other (c.in-Surface.is ∙ ap Surface commits))
 
@@ -122,3 +143,68 @@ returns-in-Unserved-clause-change g c = λ commits. let both = sym commits ∙ c
 
 pub returns-in-Unserved-clause-nothing : goal.returns-in-Unserved-clause-nothing
 returns-in-Unserved-clause-nothing g c = λ other. rw c.of-in-Unserved.ensures
+
+pub returns-in-Toplevel-clause-decides : goal.returns-in-Toplevel-clause-decides
+returns-in-Toplevel-clause-decides g c = λ commits. let both = sym commits ∙ c.in-Toplevel.is in absurd (cc)
+
+pub returns-in-Toplevel-clause-commits : goal.returns-in-Toplevel-clause-commits
+returns-in-Toplevel-clause-commits g c = λ commits. let both = sym commits ∙ c.in-Toplevel.is in absurd (cc)
+
+pub returns-in-Compositor-clause-decides : goal.returns-in-Compositor-clause-decides
+returns-in-Compositor-clause-decides g c = λ commits. let both = sym commits ∙ c.in-Compositor.is in absurd (cc)
+
+pub returns-in-Compositor-clause-commits : goal.returns-in-Compositor-clause-commits
+returns-in-Compositor-clause-commits g c = λ commits. let both = sym commits ∙ c.in-Compositor.is in absurd (cc)
+
+pub returns-in-Seat-clause-decides : goal.returns-in-Seat-clause-decides
+returns-in-Seat-clause-decides g c = λ commits. let both = sym commits ∙ c.in-Seat.is in absurd (cc)
+
+pub returns-in-Seat-clause-commits : goal.returns-in-Seat-clause-commits
+returns-in-Seat-clause-commits g c = λ commits. let both = sym commits ∙ c.in-Seat.is in absurd (cc)
+
+pub returns-in-Base-clause-decides : goal.returns-in-Base-clause-decides
+returns-in-Base-clause-decides g c = λ commits. let both = sym commits ∙ c.in-Base.is in absurd (cc)
+
+pub returns-in-Base-clause-commits : goal.returns-in-Base-clause-commits
+returns-in-Base-clause-commits g c = λ commits. let both = sym commits ∙ c.in-Base.is in absurd (cc)
+
+pub returns-in-XdgSurface-clause-decides : goal.returns-in-XdgSurface-clause-decides
+returns-in-XdgSurface-clause-decides g c = λ commits. let both = sym commits ∙ c.in-XdgSurface.is in absurd (cc)
+
+pub returns-in-XdgSurface-clause-commits : goal.returns-in-XdgSurface-clause-commits
+returns-in-XdgSurface-clause-commits g c = λ commits. let both = sym commits ∙ c.in-XdgSurface.is in absurd (cc)
+
+pub returns-in-Unserved-clause-decides : goal.returns-in-Unserved-clause-decides
+returns-in-Unserved-clause-decides g c = λ commits. let both = sym commits ∙ c.in-Unserved.is in absurd (cc)
+
+pub returns-in-Unserved-clause-commits : goal.returns-in-Unserved-clause-commits
+returns-in-Unserved-clause-commits g c = λ commits. let both = sym commits ∙ c.in-Unserved.is in absurd (cc)
+
+pub returns-in-Surface-clause-still : goal.returns-in-Surface-clause-still
+returns-in-Surface-clause-still g c = λ other. c.wl_surface.ensures.still (λ commits. other (c.in-Surface.is ∙ ap Surface commits))
+
+pub returns-in-Compositor-clause-still : goal.returns-in-Compositor-clause-still
+returns-in-Compositor-clause-still g c = λ other p is. c.wl_compositor.ensures.still
+
+pub returns-in-XdgSurface-clause-still : goal.returns-in-XdgSurface-clause-still
+returns-in-XdgSurface-clause-still g c = λ other p is. c.xdg_surface.ensures.still
+
+pub returns-in-Toplevel-clause-still : goal.returns-in-Toplevel-clause-still
+returns-in-Toplevel-clause-still g c = λ other p is.
+    let v = c.args.self.now in
+    same-still v.owned.surfaces (kept_of v.owned.shell) c.xdg_toplevel.new.self.owned.surfaces c.xdg_toplevel.ensures.surfaces
+
+pub returns-in-Seat-clause-still : goal.returns-in-Seat-clause-still
+returns-in-Seat-clause-still g c = λ other p is.
+    let v = c.args.self.now in
+    same-still v.owned.surfaces (kept_of v.owned.shell) c.wl_seat.new.self.owned.surfaces c.wl_seat.ensures.surfaces
+
+pub returns-in-Base-clause-still : goal.returns-in-Base-clause-still
+returns-in-Base-clause-still g c = λ other p is.
+    let v = c.args.self.now in
+    same-still v.owned.surfaces (kept_of v.owned.shell) c.xdg_wm_base.new.self.owned.surfaces c.xdg_wm_base.ensures.surfaces
+
+pub returns-in-Unserved-clause-still : goal.returns-in-Unserved-clause-still
+returns-in-Unserved-clause-still g c = λ other p is.
+    let v = c.args.self.now in
+    same-still v.owned.surfaces (kept_of v.owned.shell) c.refuse_unserved.new.self.owned.surfaces c.refuse_unserved.ensures.surfaces

@@ -1,16 +1,17 @@
-use Rattle.std.proofs.Common.{◌≡◌, ℕ, List, ◌++◌, Option, ap, refl, inl, inr, subst, sym, ◌∙◌}
+use Rattle.std.proofs.Common.{◌≡◌, ℕ, List, ◌++◌, true, false, Option, ap, refl, subst, sym, ◌∙◌}
 use Rattle.wl_client.specs.Peer.{Peer, Queues}
 use Rattle.wl_client.specs.Told.{Said}
 use Rattle.wl_client.specs.View.{ClientView}
 use Rattle.wl_shell.specs.Kept.{Kept, changing, kept_after, kept_of}
+use Rattle.wl_surface.specs.Kept.{Changes}
 use Rattle.wl_surface.specs.Request.{Commit}
 use Rattle.wl_surface.specs.Surfaces.{applying, asking, surface_at}
 use Rattle.wl_plain.specs.Demand.{CommitTree}
-use Rattle.wl_plain.specs.Owning.{effect_by, names_in}
+use Rattle.wl_plain.specs.Owning.{by_number, effect_by, names_in}
 use Rattle.wl_resident.specs.Residents.{told_by}
 use Rattle.wl_plain.specs.Step.{after_surface}
 use Rattle.wl_plain.proofs.BridgeJudged.{commit, effect-same}
-use Rattle.wl_resident.proofs.Simply.{meets-simply}
+use Rattle.wl_resident.proofs.Simply.{meets-as}
 use Rattle.wl_resident.proofs.Committing.{commit-peer, commit-told}
 use Rattle.wl_resident.proofs.Doing.{gone, had-by, lacked}
 use Rattle.wl_plain.proofs.OwningAsks.{owned-committed-by}
@@ -19,14 +20,16 @@ use Rattle.wl_resident.proofs.Shelling.{owns-told}
 use Rattle.wl_resident.proofs.Numbers.{keeps-same}
 use Rattle.wl_resident.proofs.residents.Resident.apply.Goals as goal
 use Rattle.wl_resident.proofs.Framing.{IsFramed, framed-applied}
-use Rattle.wl_plain.specs.Releases.{release_told}
+use Rattle.wl_plain.specs.Releases.{release_told, shown_at}
+use Rattle.wl_resident.specs.Freed.{IsFreedOf}
+use Rattle.wl_resident.proofs.Freeing.{freed-changed}
 use Rattle.wl_plain.proofs.BridgeReleases.{committed-released}
 use Rattle.wl_plain.proofs.Simply.{CommitSurface, answers_simply, changed_simply, committed_on, told_simply}
 use Rattle.wl_scene.specs.declared.owned.Owned.{Owned as Lent}
 
 pub returns-clause-applies : goal.returns-clause-applies
 returns-clause-applies g c = λ client r on names object kept shows only comes is owned framed names_are named answer serial shell.
-    meets-simply _ _ client on (CommitSurface object (effect_by c.args.act)) (CommitTree object) r only (commit object (effect_by c.args.act) (sym (effect-same r object only.roles) ∙ comes)) (
+    meets-as _ _ client on (CommitSurface object (effect_by c.args.act)) (CommitTree object) r only (commit object (effect_by c.args.act) (sym (effect-same r object only.roles) ∙ comes)) true (
     let v = c.args.self.now in
     let number = c.args.surface in
     let act = c.args.act in
@@ -39,14 +42,17 @@ returns-clause-applies g c = λ client r on names object kept shows only comes i
     let told = c.tell_act.ensures.told after.peer peer in
     let same : kept_of c.let_go_of.new.self.owned.shell number ≡ changing number (kept_after c.args.serial act) kept number =
     ap (λ o. kept_of o.shell number) c.let_go_of.ensures.owned ∙ ap (λ (k : ℕ → Option Kept). k number) (shell ∙ ap (λ n. changing number (kept_after n act) kept) (sym serial)) in
-    let released = c.released-released.ensures then names.surfaces is are (surface_at object r.owned.surfaces) had in
+    let freed = freed-changed names.surfaces v.owned.surfaces r then owned.surfaces object number named c.in-Ok.applied.freed.items c.commit.new.self (λ s. applying (asking Commit s)) (λ s. refl) refl are
+    (c.in-Ok.ensures.freed (by_number names.surfaces r.owned.surfaces) owned.surfaces.stand) in
+    let at = surface_at object r.owned.surfaces in
+    let released = c.released-released.ensures then is at had (subst (λ (numbers : List ℕ). IsFreedOf numbers (shown_at at) then) (sym c.deref.ensures.value) freed) in
     let telling = release_told c.released-released.result in
     let events : told_by act c.args.serial (kept_of c.let_go_of.new.self.owned.shell number) ++ telling ≡ told_simply ask r =
     ap (λ (es : List Said). es ++ telling) (ap (told_by act c.args.serial) same ∙ commit-told names v.owned.surfaces kept r owned object number named shows act c.args.serial answer serial)
     ∙ ap (λ (es : List Said). answers_simply ask r ++ es) (ap release_told released ∙ sym (committed-released object (effect_by act) r owned.surfaces.apart (owned.surfaces.counts object))) in
     let left = commit-peer names v.owned.surfaces kept r owned object number named shows act answer in (
       told.0,
-      inr (subst (λ (es : List Said). Queues es (changed_simply ask r).peer told.0) events (subst (λ (p : Peer). Queues (told_by act c.args.serial (kept_of c.let_go_of.new.self.owned.shell number) ++ telling) p told.0) (sym left) told.1)),
+      subst (λ (es : List Said). Queues es (changed_simply ask r).peer told.0) events (subst (λ (p : Peer). Queues (told_by act c.args.serial (kept_of c.let_go_of.new.self.owned.shell number) ++ telling) p told.0) (sym left) told.1),
       record {
         peer = told.2;
         numbers = λ alive. keeps-same v.client.objects c.tell_act.new.self.client.objects (c.tell_act.ensures.table alive ∙ ap (λ (w : ClientView). w.objects) c.let_go_of.ensures.only);
@@ -63,9 +69,13 @@ returns-clause-applies g c = λ client r on names object kept shows only comes i
 
 pub returns-in_default-clause-applies : goal.returns-in_default-clause-applies
 returns-in_default-clause-applies g c = λ client r on names object kept shows only comes is owned framed names_are named answer serial shell.
-    meets-simply _ _ client on (CommitSurface object (effect_by c.args.act)) (CommitTree object) r only (commit object (effect_by c.args.act) (sym (effect-same r object only.roles) ∙ comes)) (
+    meets-as _ _ client on (CommitSurface object (effect_by c.args.act)) (CommitTree object) r only (commit object (effect_by c.args.act) (sym (effect-same r object only.roles) ∙ comes)) false (
     let lacks = lacked c.args.self.now _ _ r (c.lack_memory.ensures.lacks r.peer is) c.lack_memory.ensures.ended in
-    (lacks.0, inl lacks.1, lacks.2))
+    (refl, lacks.0, lacks.1, lacks.2))
+
+pub returns-clause-commits : goal.returns-clause-commits
+returns-clause-commits g c =
+    subst (λ (o : Lent _). Changes c.args.self.now.owned.surfaces o.surfaces c.args.surface (λ s. applying (asking Commit s))) (sym (c.tell_act.ensures.owned ∙ c.let_go_of.ensures.owned)) c.in-Ok.ensures.ok
 
 pub returns-clause-change : goal.returns-clause-change
 returns-clause-change g c = λ alive all stand. (c.in-Ok.applied, refl, c.in-Ok.ensures.changes all stand)

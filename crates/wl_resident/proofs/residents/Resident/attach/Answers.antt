@@ -1,4 +1,4 @@
-use Rattle.std.proofs.Common.{refl, inr, w32, List, subst, sym}
+use Rattle.std.proofs.Common.{refl, inr, w32, List, subst, sym, ap}
 use Rattle.std.proofs.lemmas.Int.{to_z-of_z}
 use Rattle.wl_shell.specs.Kept.{kept_of}
 use Rattle.wl_surface.specs.Request.{Attach}
@@ -9,6 +9,8 @@ use Rattle.wl_plain.specs.Step.{after_surface, asked_of}
 use Rattle.wl_plain.specs.WlSurface.{buffer_named}
 use Rattle.wl_resident.proofs.Doing.{had-by, let-go-so}
 use Rattle.wl_plain.proofs.OwningAsks.{owned-asked}
+use Rattle.wl_resident.proofs.Stillness.{asked-still, still-then}
+use Rattle.wl_scene.specs.declared.owned.Owned.{Owned as Lent}
 use Rattle.wl_resident.proofs.residents.Resident.attach.Goals as goal
 use Rattle.wl_resident.proofs.Framing.{IsFramed, framed-asked, no-more}
 
@@ -27,3 +29,9 @@ returns-clause-does g c = λ named r is.
     subst (λ (ws : List Waiting). IsFramed ws v.client.objects after) (sym c.attach.ensures.frames)
     (framed-asked v.owned.surfaces.frames v.client.objects v.client.objects r after refl (no-more r.peer.requests) is.frames v.owned.surfaces is.owns.surfaces c.args.object c.args.surface request refl named refl refl) in
     (after.peer, inr refl, let-go-so v (record { client = v.client; owned = record { surfaces = c.attach.new.self; shell = v.owned.shell } }) c.let_go_of.new.self after refl owned framed c.let_go_of.ensures.only c.let_go_of.ensures.owned peer)
+
+pub returns-clause-still : goal.returns-clause-still
+returns-clause-still g c =
+    let v = c.args.self.now in
+    still-then v.owned.surfaces (kept_of v.owned.shell) c.attach.new.self c.let_go_of.new.self.owned.surfaces (ap (λ (o : Lent _). o.surfaces) c.let_go_of.ensures.owned)
+    (asked-still v.owned.surfaces (kept_of v.owned.shell) c.attach.new.self c.args.surface _ c.attach.ensures.changes)

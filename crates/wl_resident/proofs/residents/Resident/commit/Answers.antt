@@ -1,5 +1,5 @@
 use Rattle.std.proofs.Common.{◌≡◌, ℕ, Bool, Result, refl, ap, subst, sym, ◌∙◌}
-use Rattle.std.specs.Prelude.{Err}
+use Rattle.std.specs.Prelude.{Err, is_some}
 use Rattle.wl_client.specs.Peer.{counted}
 use Rattle.wl_shell.specs.Kept.{changing, commit_answer, kept_after, kept_of}
 use Rattle.wl_shell.specs.declared.acts.ShellAct.{ShellAct}
@@ -10,12 +10,11 @@ use Rattle.wl_plain.specs.WlSurface.{will_show}
 use Rattle.wl_plain.proofs.OwningReads.{accepted-effect, committed-by, pending-read}
 use Rattle.wl_plain.specs.Demand.{Demand, CommitTree}
 use Rattle.wl_plain.specs.Demanding.{commit_demand}
-use Rattle.wl_resident.specs.Residents.{AnswersSo, StacksSo}
+use Rattle.wl_resident.specs.Residents.{AnswersAs, StacksSo}
 use Rattle.wl_plain.proofs.BridgeServes.{only-peer}
 use Rattle.wl_resident.proofs.Doing.{gone}
 use Rattle.wl_resident.proofs.Stackings.{commit-stacks}
-use Rattle.wl_resident.proofs.Numbers.{left-from}
-use Rattle.wl_resident.proofs.Shelling.{names-counted, objects-counted, refused-whole, told-err}
+use Rattle.wl_resident.proofs.Shelling.{meets-from, names-counted, objects-counted, refused-as, told-err}
 use Rattle.wl_resident.proofs.residents.Resident.commit.Goals as goal
 use Rattle.wl_resident.proofs.Framing.{framed-names, one-more}
 
@@ -38,11 +37,13 @@ returns-in-Ok-clause-answers g c = λ named client r on is only.
     let comes = accepted-effect names v.owned.surfaces kept r is.owns object number act only.roles named (ap (λ (b : Bool). commit_answer b (kept number)) (sym will) ∙ answer) in
     let applied = c.apply-applied.ensures.applies client (with_peer (counted r.peer) r) on names object kept shows (only-peer r (counted r.peer) refl only) comes (c.count.ensures.counts r.peer is.peer) is.owns
     (framed-names v.owned.surfaces.frames v.client.objects v.client.objects r (with_peer (counted r.peer) r) refl (one-more r.peer.requests) is.frames refl refl) (names-counted v.client c.count.new.self c.count.ensures.only) named answer serial shell in
-    subst (λ (j : Result Demand Refusal). AnswersSo j client r on v c.apply-applied.new.self) (sym judged)
-    (applied.0, applied.1, left-from v (record { client = c.count.new.self; owned = record v.owned { shell = c.on_commit.new.self } }) _ _ applied.0 (objects-counted v.client c.count.new.self c.count.ensures.only) applied.2)
+    let done = is_some c.apply-applied.result in
+    subst (λ (j : Result Demand Refusal). AnswersAs done j client r on v c.apply-applied.new.self) (sym judged)
+    (meets-from done (CommitTree object) client (with_peer (counted r.peer) r) on v (record { client = c.count.new.self; owned = record v.owned { shell = c.on_commit.new.self } }) c.apply-applied.new.self
+    (objects-counted v.client c.count.new.self c.count.ensures.only) applied)
 
 pub returns-in-Err-clause-answers : goal.returns-in-Err-clause-answers
-returns-in-Err-clause-answers g c = λ named client r on is only.
+returns-in-Err-clause-answers g c = rw c.of.ensures (λ named client r on is only.
     let v = c.args.self.now in
     let object = c.args.object in
     let number = c.args.surface in
@@ -56,9 +57,9 @@ returns-in-Err-clause-answers g c = λ named client r on is only.
     let judged = told-err (commit_demand r object) (λ (a : ShellAct). CommitTree object) (shell_refusal base (kept_id (kept number)) xdg) (commit_answer (will_show r object) (kept number)) c.on_commit.result error
     (committed-by names v.owned.surfaces kept r is.owns object number base xdg only.roles named)
     (c.on_commit.ensures.answer ∙ ap (λ (b : Bool). commit_answer b (kept number)) will) c.in-Err.is in
-    refused-whole _ _ client r on (commit_demand r object) (shell_refusal base xdg xdg error) (judged ∙ ap (λ i. Err (shell_refusal base i xdg error)) same)
+    refused-as _ _ client r on (commit_demand r object) (shell_refusal base xdg xdg error) (judged ∙ ap (λ i. Err (shell_refusal base i xdg error)) same)
     c.refuse_xdg_surface.ensures.ended
-    (c.refuse_xdg_surface.ensures.errs r.peer is.peer)
+    (c.refuse_xdg_surface.ensures.errs r.peer is.peer))
 
 pub returns-in-Ok-clause-stacks : goal.returns-in-Ok-clause-stacks
 returns-in-Ok-clause-stacks g c = λ named r is only.
@@ -102,3 +103,9 @@ returns-in-Ok-clause-change g c = c.apply-applied.ensures.change
 
 pub returns-in-Err-clause-change : goal.returns-in-Err-clause-change
 returns-in-Err-clause-change g c = λ alive. absurd (gone c.refuse_xdg_surface.new.self.client.ended c.refuse_xdg_surface.ensures.ended alive)
+
+pub returns-in-Ok-clause-commits : goal.returns-in-Ok-clause-commits
+returns-in-Ok-clause-commits g c = c.apply-applied.ensures.commits
+
+pub returns-in-Err-clause-commits : goal.returns-in-Err-clause-commits
+returns-in-Err-clause-commits g c = rw c.of.ensures c.refuse_xdg_surface.ensures.surfaces

@@ -1,4 +1,4 @@
-use Rattle.std.proofs.Common.{refl, inl, subst, sym, List, ap}
+use Rattle.std.proofs.Common.{refl, inl, subst, sym, List, ap, ◌∙◌}
 use Rattle.wl_proto.specs.declared.interface.Interface.TheVariants.{WlSurface}
 use Rattle.wl_client.specs.Peer.{counted}
 use Rattle.wl_shell.specs.Kept.{kept_of}
@@ -17,6 +17,7 @@ use Rattle.wl_plain.proofs.OwningNames.{names-surface-made, targets-free}
 use Rattle.wl_plain.proofs.Creating.{created-past, created-short, created-within}
 use Rattle.wl_resident.proofs.Shelling.{accepted, holds-counted}
 use Rattle.wl_resident.proofs.Simply.{simply}
+use Rattle.wl_resident.proofs.Stillness.{created-still, same-still}
 use Rattle.wl_resident.proofs.residents.Resident.create_surface.Goals as goal
 use Rattle.wl_resident.proofs.Framing.{IsFramed, framed-made, one-more}
 use Rattle.wl_surface.specs.declared.frames.Waiting.{Waiting}
@@ -67,3 +68,18 @@ returns-else-is_too_many-clause-answers g c = λ free client r on is only.
     accepted _ r (surface_created r id c.args.version) ask
     (created-short (names_in v.client.objects) v.owned.surfaces r id c.args.version c.in-Err.error is.owns.surfaces c.in-Err.ensures.cause (λ many. absurd (let told = c.is_too_many.ensures.1 many in let not = c.if-is_too_many.false in cc)))
     (lacks.0, inl lacks.1, lacks.2))
+
+pub returns-in-Ok-clause-still : goal.returns-in-Ok-clause-still
+returns-in-Ok-clause-still g c =
+    let v = c.args.self.now in
+    created-still v.owned.surfaces (kept_of v.owned.shell) c.create.new.self c.in-Ok.surface c.in-Ok.ensures.ok
+
+pub returns-then-is_too_many-clause-still : goal.returns-then-is_too_many-clause-still
+returns-then-is_too_many-clause-still g c =
+    let v = c.args.self.now in
+    same-still v.owned.surfaces (kept_of v.owned.shell) c.refuse_unserved.new.self.owned.surfaces (c.refuse_unserved.ensures.surfaces ∙ c.in-Err.ensures.err)
+
+pub returns-else-is_too_many-clause-still : goal.returns-else-is_too_many-clause-still
+returns-else-is_too_many-clause-still g c =
+    let v = c.args.self.now in
+    same-still v.owned.surfaces (kept_of v.owned.shell) c.create.new.self c.in-Err.ensures.err

@@ -1,6 +1,8 @@
 use Rattle.std.proofs.Common.{refl, inl, inr, sym}
 use Rattle.wl_surface.specs.Request.{Damage}
 use Rattle.wl_resident.proofs.Doing.{asked-so, lacked}
+use Rattle.wl_resident.proofs.Stillness.{asked-still, same-still}
+use Rattle.wl_shell.specs.Kept.{kept_of}
 use Rattle.wl_resident.proofs.residents.Resident.damage.Goals as goal
 
 pub returns-in-Ok-clause-does : goal.returns-in-Ok-clause-does
@@ -12,3 +14,13 @@ pub returns-in-Err-clause-does : goal.returns-in-Err-clause-does
 returns-in-Err-clause-does g c = λ named r is.
     let lacks = lacked c.args.self.now _ _ r (c.lack_memory.ensures.lacks r.peer is.peer) c.lack_memory.ensures.ended in
     (lacks.0, inl lacks.1, lacks.2)
+
+pub returns-in-Ok-clause-still : goal.returns-in-Ok-clause-still
+returns-in-Ok-clause-still g c =
+    let v = c.args.self.now in
+    asked-still v.owned.surfaces (kept_of v.owned.shell) c.damage.new.self c.args.surface _ c.in-Ok.ensures.ok
+
+pub returns-in-Err-clause-still : goal.returns-in-Err-clause-still
+returns-in-Err-clause-still g c =
+    let v = c.args.self.now in
+    same-still v.owned.surfaces (kept_of v.owned.shell) c.damage.new.self c.in-Err.ensures.err

@@ -11,6 +11,7 @@ use Rattle.wl_plain.specs.Owning.{names_in}
 use Rattle.wl_plain.specs.WlSubsurface.{refuses}
 use Rattle.wl_plain.proofs.OwningReads.{destroyed-by}
 use Rattle.wl_resident.proofs.Shelling.{absent-kept, counted-meets, refused-whole, surface-counted}
+use Rattle.wl_resident.proofs.Stillness.{same-still}
 use Rattle.wl_resident.proofs.residents.Resident.destroy.Goals as goal
 
 pub returns-then-has_xdg_surface-clause-answers : goal.returns-then-has_xdg_surface-clause-answers
@@ -32,3 +33,11 @@ returns-clause-answers g c = λ named client r on is only.
     subst (λ (j : Result Demand Refusal). AnswersSo j client r on v c.destroy_surface.new.self) (sym judged)
     (counted-meets v (record { client = c.count.new.self; owned = v.owned }) c.destroy_surface.new.self client r on (λ (q : Resident). EndSurface id) is only c.count.ensures.only refl (c.count.ensures.counts r.peer is.peer)
     (c.destroy_surface.ensures.does (surface-counted v.client c.count.new.self id c.args.surface c.count.ensures.only named) (absent-kept _ there)))
+
+pub returns-then-has_xdg_surface-clause-still : goal.returns-then-has_xdg_surface-clause-still
+returns-then-has_xdg_surface-clause-still g c =
+    let v = c.args.self.now in
+    same-still v.owned.surfaces (kept_of v.owned.shell) v.owned.surfaces refl
+
+pub returns-clause-still : goal.returns-clause-still
+returns-clause-still g c = let there = sym c.has_xdg_surface.ensures ∙ c.if-has_xdg_surface.false in c.destroy_surface.ensures.still (absent-kept _ there)

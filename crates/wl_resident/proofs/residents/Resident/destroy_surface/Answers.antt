@@ -1,5 +1,5 @@
 use Rattle.std.specs.Prelude.{filter, not}
-use Rattle.std.proofs.Common.{◌≡◌, List, ◌∷◌, None, map, ap, refl, inl, inr, subst, sym, ◌∙◌}
+use Rattle.std.proofs.Common.{◌≡◌, ℕ, List, ◌∷◌, None, map, ap, refl, inl, inr, subst, sym, ◌∙◌}
 use Rattle.wl_client.specs.Peer.{Peer, Queues, all_removed, removed}
 use Rattle.wl_client.specs.Serving.{HoldsWithout}
 use Rattle.wl_client.specs.Told.{Said}
@@ -13,7 +13,7 @@ use Rattle.wl_scene.specs.declared.owned.Owned.{Owned as Lent}
 use Rattle.wl_plain.specs.Changing.{callbacks_of}
 use Rattle.wl_plain.specs.Replies.{releases}
 use Rattle.wl_plain.specs.Demand.{EndSurface}
-use Rattle.wl_plain.specs.Owning.{Names, names_in, with_surface}
+use Rattle.wl_plain.specs.Owning.{Names, by_number, names_in, with_surface}
 use Rattle.wl_plain.specs.Step.{after_surface, with_surfaces}
 use Rattle.wl_resident.proofs.Doing.{had-by, lacked}
 use Rattle.wl_plain.proofs.OwningAsks.{owned-destroyed}
@@ -23,8 +23,11 @@ use Rattle.wl_plain.proofs.OwningXdg.{xdg-of-none}
 use Rattle.wl_plain.proofs.BridgeJudged.{ends}
 use Rattle.wl_resident.proofs.Numbers.{keeps-gone}
 use Rattle.wl_resident.proofs.Simply.{meets-simply}
+use Rattle.wl_resident.proofs.Stillness.{destroyed-still, same-still, still-then}
 use Rattle.wl_resident.proofs.residents.Resident.destroy_surface.Goals as goal
-use Rattle.wl_plain.specs.Releases.{release_told}
+use Rattle.wl_plain.specs.Releases.{release_told, shown_at}
+use Rattle.wl_resident.specs.Freed.{IsFreedOf}
+use Rattle.wl_resident.proofs.Freeing.{freed-left}
 use Rattle.wl_plain.proofs.BridgeReleases.{gone-released}
 use Rattle.wl_plain.proofs.Simply.{DestroySurface, changed_simply, told_simply}
 
@@ -51,13 +54,16 @@ returns-clause-does g c = λ named bare client r on is only.
     let waits = is.frames.waits in
     let asked = asked-read v.client.objects r v.owned.surfaces is.owns.surfaces id c.args.surface named in
     let cs = callbacks_of id r in
-    let calls = c.deref.result.now in
+    let calls = c.deref-2.result.now in
     let ids : calls ≡ map (λ (x : Callback). x.id) cs =
-    c.deref.ensures.value ∙ c.in-Ok.ensures.ids (numbered v.client.objects r) r.callbacks waits ∙ ap (λ ns. map (λ (x : Callback). x.id) (filter (is_in ns) r.callbacks)) asked in
+    c.deref-2.ensures.value ∙ c.in-Ok.ensures.ids (numbered v.client.objects r) r.callbacks waits ∙ ap (λ ns. map (λ (x : Callback). x.id) (filter (is_in ns) r.callbacks)) asked in
     let after = after_surface id r then in
     let told = c.remove_with.ensures.removes after.peer peer in
     let went = going-removed cs calls after.peer ids in
-    let released = c.released-released.ensures then bare_names.surfaces is.peer owned.surfaces (surface_at id r.owned.surfaces) had in
+    let freed = freed-left names.surfaces v.owned.surfaces r then is.owns.surfaces id c.args.surface named c.in-Ok.applied.freed.items c.destroy.new.self refl owned.surfaces
+    (c.in-Ok.ensures.freed (by_number names.surfaces r.owned.surfaces) is.owns.surfaces.stand) in
+    let at = surface_at id r.owned.surfaces in
+    let released = c.released-released.ensures then is.peer at had (subst (λ (numbers : List ℕ). IsFreedOf numbers (shown_at at) then) (sym c.deref.ensures.value) freed) in
     let events = going-told id cs calls c.released-released.result (releases r (changed_simply (DestroySurface id) r)) ids
     (ap release_told released ∙ sym (gone-released id r is.owns.surfaces.apart (is.owns.surfaces.counts id))) in
     let table = λ (alive : c.remove_with.new.self.ended ≡ None). surface-gone-with v.client.objects c.remove_with.new.self.objects id calls (are-heard id r v.client.objects calls only is.peer.objects ids)
@@ -75,3 +81,14 @@ returns-clause-does g c = λ named bare client r on is only.
         owns = λ alive. rw c.let_go_of.ensures.owned (destroyed (names_in c.remove_with.new.self.objects) (table alive));
       },
     ))
+
+pub returns-in_default-clause-still : goal.returns-in_default-clause-still
+returns-in_default-clause-still g c = λ bare.
+    let v = c.args.self.now in
+    same-still v.owned.surfaces (kept_of v.owned.shell) c.destroy.new.self c.in_default.ensures.err
+
+pub returns-clause-still : goal.returns-clause-still
+returns-clause-still g c = λ bare.
+    let v = c.args.self.now in
+    still-then v.owned.surfaces (kept_of v.owned.shell) c.destroy.new.self c.let_go_of.new.self.owned.surfaces (ap (λ (o : Lent _). o.surfaces) c.let_go_of.ensures.owned)
+    (destroyed-still v.owned.surfaces (kept_of v.owned.shell) c.destroy.new.self c.args.surface bare c.in-Ok.ensures.ok)

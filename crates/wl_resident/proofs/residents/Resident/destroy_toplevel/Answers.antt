@@ -34,3 +34,6 @@ returns-clause-answers g c = λ named client r on is only.
             (toplevel-gone v.client c.count.new.self c.remove.new.self c.args.object c.args.surface c.count.ensures.only named (c.remove.ensures.table alive));
       },
     )))
+
+pub returns-clause-surfaces : goal.returns-clause-surfaces
+returns-clause-surfaces g c = refl

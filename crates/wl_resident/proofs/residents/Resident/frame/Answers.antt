@@ -18,6 +18,7 @@ use Rattle.wl_resident.proofs.Framing.{framed-frame}
 use Rattle.wl_resident.proofs.Numbers.{keeps-names}
 use Rattle.wl_resident.proofs.Shelling.{asked-releases, holds-counted, wants-told}
 use Rattle.wl_resident.proofs.Simply.{meets-simply}
+use Rattle.wl_resident.proofs.Stillness.{asked-still, same-still}
 use Rattle.wl_resident.proofs.residents.Resident.frame.Goals as goal
 
 pub returns-in-Ok-clause-answers : goal.returns-in-Ok-clause-answers
@@ -56,3 +57,13 @@ returns-in-Err-clause-answers g c = λ named free client r on is only.
     meets-simply _ _ client on ask (AskFrame callback version object) then (only-peer r (counted r.peer) refl only) (frames callback version object) (
     let lacks = lacked c.args.self.now _ (changed_simply ask then) then (c.lack_memory.ensures.lacks (counted r.peer) (c.count.ensures.counts r.peer is.peer)) c.lack_memory.ensures.ended in
     (lacks.0, inl lacks.1, lacks.2))
+
+pub returns-in-Ok-clause-still : goal.returns-in-Ok-clause-still
+returns-in-Ok-clause-still g c =
+    let v = c.args.self.now in
+    asked-still v.owned.surfaces (kept_of v.owned.shell) c.frame.new.self c.args.surface (Frame 0) (c.in-Ok.ensures.ok 0)
+
+pub returns-in-Err-clause-still : goal.returns-in-Err-clause-still
+returns-in-Err-clause-still g c =
+    let v = c.args.self.now in
+    same-still v.owned.surfaces (kept_of v.owned.shell) c.frame.new.self c.in-Err.ensures.err

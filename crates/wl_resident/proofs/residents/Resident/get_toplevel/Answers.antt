@@ -14,6 +14,7 @@ use Rattle.wl_plain.proofs.OwningReads.{bare-toplevel, role-read, toplevel-made-
 use Rattle.wl_resident.proofs.Shelling.{accepted, acts-given, holds-counted, role-given, told-err, told-ok, xdg-answered, xdg-refused}
 use Rattle.wl_resident.proofs.Numbers.{keeps-toplevel}
 use Rattle.wl_resident.proofs.Simply.{simply}
+use Rattle.wl_resident.proofs.Stillness.{given-still, same-still}
 use Rattle.wl_resident.proofs.residents.Resident.get_toplevel.Goals as goal
 use Rattle.wl_resident.proofs.Framing.{IsFramed, framed-role, one-more}
 use Rattle.wl_surface.specs.declared.frames.Waiting.{Waiting}
@@ -76,3 +77,13 @@ returns-in-Err-clause-answers g c = λ named free client r on is only.
     (ap kept_of c.in-Err.ensures.err)
     c.refuse_xdg_surface.ensures.ended
     (c.refuse_xdg_surface.ensures.errs r.peer is.peer)))
+
+pub returns-in-Ok-clause-still : goal.returns-in-Ok-clause-still
+returns-in-Ok-clause-still g c =
+    let v = c.args.self.now in
+    given-still v.owned.surfaces (kept_of v.owned.shell) c.give_role-given.new.self c.args.surface AsToplevel c.give_role-given.result c.give_role-given.ensures.ok c.give_role-given.ensures.err
+
+pub returns-in-Err-clause-still : goal.returns-in-Err-clause-still
+returns-in-Err-clause-still g c =
+    let v = c.args.self.now in
+    same-still v.owned.surfaces (kept_of v.owned.shell) c.refuse_xdg_surface.new.self.owned.surfaces c.refuse_xdg_surface.ensures.surfaces

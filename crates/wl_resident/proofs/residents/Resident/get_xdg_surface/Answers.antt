@@ -98,3 +98,12 @@ returns-else-is_memory-clause-answers g c = λ free named client r on is only.
     refused-so _ _ r (xdg_surface_made r base version id surface) c.refusal_of.result (shell_refusal base id base c.in-Err.error)
     (made-by names v.owned.surfaces kept r is.owns base version id surface number id base named ∙ ap (asks_unless ask (shell_refusal base id base)) some)
     c.refusal_of.ensures c.refuse.ensures.ended (c.refuse.ensures.errs r.peer is.peer))
+
+pub returns-in-Ok-clause-surfaces : goal.returns-in-Ok-clause-surfaces
+returns-in-Ok-clause-surfaces g c = refl
+
+pub returns-then-is_memory-clause-surfaces : goal.returns-then-is_memory-clause-surfaces
+returns-then-is_memory-clause-surfaces g c = refl
+
+pub returns-else-is_memory-clause-surfaces : goal.returns-else-is_memory-clause-surfaces
+returns-else-is_memory-clause-surfaces g c = refl

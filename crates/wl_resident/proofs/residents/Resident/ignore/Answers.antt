@@ -24,3 +24,6 @@ returns-clause-answers g c = λ client r on is only.
         owns = λ alive. subst (λ (n : Names). IsOwned n v.owned.surfaces (kept_of v.owned.shell) r.owned) (sym (names-counted v.client c.count.new.self c.count.ensures.only)) is.owns;
       },
     ))
+
+pub returns-clause-surfaces : goal.returns-clause-surfaces
+returns-clause-surfaces g c = refl

@@ -1,4 +1,4 @@
-use Rattle.std.proofs.Common.{◌∙◌, ap, subst}
+use Rattle.std.proofs.Common.{◌∙◌, ap, subst, refl}
 use Rattle.wl_client.specs.Agreement.{IsPeer}
 use Rattle.wl_client.specs.Peer.{Errs, Peer}
 use Rattle.wl_client.specs.declared.refusals.Refusal.{Refusal}
@@ -11,3 +11,6 @@ returns-clause-errs g c = λ p is.
     subst (λ (f : Refusal). (q : Peer) × Errs f p q × IsPeer c.refuse.new.self q)
     (c.refusal_of-refusal.ensures ∙ ap (λ base. shell_refusal base object object c.args.error) c.base_of.ensures)
     (c.refuse.ensures.errs p is)
+
+pub returns-clause-surfaces : goal.returns-clause-surfaces
+returns-clause-surfaces g c = refl

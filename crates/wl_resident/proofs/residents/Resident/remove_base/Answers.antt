@@ -20,3 +20,6 @@ returns-clause-does g c = λ base r is.
         owns = λ alive. subst (λ (names : Names). IsOwned names v.owned.surfaces (kept_of v.owned.shell) r.owned) (sym (base-gone _ _ c.args.object base (c.remove.ensures.table alive))) is.owns;
       },
     )
+
+pub returns-clause-surfaces : goal.returns-clause-surfaces
+returns-clause-surfaces g c = refl

@@ -1,17 +1,20 @@
 use Rattle.std.proofs.lemmas.Grind.{common_steps}
 use Rattle.std.proofs.Common.{◌≡◌, ◌≢◌, ℕ, None, Some, arith, ap, refl, subst, sym, ◌∙◌, rules}
 use Rattle.wl_proto.specs.declared.wl_surface.WlSurfaceRequest.TheVariants.{Commit}
+use Rattle.std.specs.Prelude.{is_some}
 use Rattle.wl_client.specs.View.{ClientView}
 use Rattle.wl_surface.specs.Surfaces.{is_used}
 use Rattle.wl_table.specs.Objects.{entry_of}
-use Rattle.wl_resident.specs.Marking.{TellsChange, commit_by, commit_in}
+use Rattle.wl_resident.specs.Marking.{IsCommitted, TellsChange, commit_by, commit_in}
 use Rattle.wl_resident.specs.Messages.{IsAsked}
 use Rattle.wl_resident.specs.declared.messages.Asked.TheVariants.{Own, Request}
 use Rattle.wl_resident.specs.declared.messages.Kind.{Kind}
 use Rattle.wl_resident.specs.declared.messages.Kind.TheVariants as kind
-use Rattle.wl_resident.proofs.Asking.{first-refused, first-taken, fit-passed, new-passed}
+use Rattle.wl_resident.proofs.Asking.{first-decided, first-refused, first-taken, fit-passed, new-passed}
 use Rattle.wl_resident.proofs.OwnAsking.{own-served, own-taken, used-of}
 use Rattle.wl_resident.proofs.Shelling.{absent-kept}
+use Rattle.wl_resident.proofs.Stillness.{same-still, served-peer}
+use Rattle.wl_shell.specs.Kept.{kept_of}
 use Rattle.wl_resident.proofs.residents.Resident.serve.Goals as goal
 
 -- what commits a surface is a commit of it
@@ -92,3 +95,47 @@ returns-in-Request-clause-change g c = λ number commits.
 
 pub returns-in-Request-clause-nothing : goal.returns-in-Request-clause-nothing
 returns-in-Request-clause-nothing g c = λ none. c.answer.ensures.nothing (other-in c.in-Request.kind c.in-Request.target (sym (ap commit_by c.in-Request.is) ∙ none))
+
+pub returns-in-Refused-clause-decides : goal.returns-in-Refused-clause-decides
+returns-in-Refused-clause-decides g c = λ number commits. let both = sym commits ∙ ap commit_by c.in-Refused.is in absurd (cc)
+
+pub returns-in-Refused-clause-commits : goal.returns-in-Refused-clause-commits
+returns-in-Refused-clause-commits g c = λ number commits. let both = sym commits ∙ ap commit_by c.in-Refused.is in absurd (cc)
+
+pub returns-in-Own-clause-decides : goal.returns-in-Own-clause-decides
+returns-in-Own-clause-decides g c = λ number commits. let both = sym commits ∙ ap commit_by c.in-Own.is in absurd (cc)
+
+pub returns-in-Own-clause-commits : goal.returns-in-Own-clause-commits
+returns-in-Own-clause-commits g c = λ number commits. let both = sym commits ∙ ap commit_by c.in-Own.is in absurd (cc)
+
+pub returns-in-Request-clause-commits : goal.returns-in-Request-clause-commits
+returns-in-Request-clause-commits g c = λ number commits.
+    let is = commits-in c.in-Request.kind c.in-Request.target number (sym (ap commit_by c.in-Request.is) ∙ commits) in
+    subst (λ (n : ℕ). IsCommitted c.args.self.now.owned.surfaces c.answer.new.self.owned.surfaces n c.answer.result.applied) is.1 (c.answer.ensures.commits is.0)
+
+pub returns-in-Request-clause-decides : goal.returns-in-Request-clause-decides
+returns-in-Request-clause-decides g c = λ number commits client r on is only.
+    let v = c.args.self.now in
+    let kind = commits-in c.in-Request.kind c.in-Request.target number (sym (ap commit_by c.in-Request.is) ∙ commits) in
+    let asked : IsAsked v.client (Request c.in-Request.object c.in-Request.version c.in-Request.size c.in-Request.target c.in-Request.kind) = rw c.in-Request.is at c.requires in
+    let m = asked.0 in
+    let passes = asked.1 in
+    let mid = record v { client = c.take_first.new.self } in
+    let table = ap (λ (w : ClientView). entry_of w.objects c.in-Request.object) c.take_first.ensures ∙ passes.entry in
+    first-decided v r c.in-Request.object c.in-Request.version c.in-Request.size c.in-Request.target m passes is mid c.answer.new.self (is_some c.answer.result.applied)
+    (ap (λ (w : ClientView). record v { client = w }) c.take_first.ensures)
+    (c.answer.ensures.decides kind.0 m asked.2 table) client on only
+
+pub returns-in-Refused-clause-still : goal.returns-in-Refused-clause-still
+returns-in-Refused-clause-still g c = λ none p is.
+    let v = c.args.self.now in
+    same-still v.owned.surfaces (kept_of v.owned.shell) v.owned.surfaces refl
+
+pub returns-in-Own-clause-still : goal.returns-in-Own-clause-still
+returns-in-Own-clause-still g c = λ none p is.
+    let v = c.args.self.now in
+    same-still v.owned.surfaces (kept_of v.owned.shell) v.owned.surfaces refl
+
+pub returns-in-Request-clause-still : goal.returns-in-Request-clause-still
+returns-in-Request-clause-still g c = λ none p is. c.answer.ensures.still (other-in c.in-Request.kind c.in-Request.target (sym (ap commit_by c.in-Request.is) ∙ none))
+    _ (served-peer c.args.self.now.client c.take_first.new.self p c.in-Request.size c.take_first.ensures is)

@@ -1,6 +1,8 @@
 use Rattle.std.proofs.Common.{refl, inl, inr, sym}
 use Rattle.wl_surface.specs.Request.{SetInputRegion}
 use Rattle.wl_resident.proofs.Doing.{asked-so, copied-named, lacked}
+use Rattle.wl_resident.proofs.Stillness.{asked-still, same-still}
+use Rattle.wl_shell.specs.Kept.{kept_of}
 use Rattle.wl_resident.proofs.residents.Resident.set_input_region.Goals as goal
 
 pub returns-in-Ok-clause-does : goal.returns-in-Ok-clause-does
@@ -13,3 +15,14 @@ pub returns-in-Err-clause-does : goal.returns-in-Err-clause-does
 returns-in-Err-clause-does g c = λ named r is.
     let lacks = lacked c.args.self.now _ _ r (c.lack_memory.ensures.lacks r.peer is.peer) c.lack_memory.ensures.ended in
     (lacks.0, inl lacks.1, lacks.2)
+
+pub returns-in-Ok-clause-still : goal.returns-in-Ok-clause-still
+returns-in-Ok-clause-still g c = λ p is.
+    let v = c.args.self.now in
+    let copied = copied-named _ p c.args.region _ c.region-region.ensures is in
+    asked-still v.owned.surfaces (kept_of v.owned.shell) c.set_input.new.self c.args.surface _ (c.in-Ok.ensures.ok (p.regions c.args.region) copied)
+
+pub returns-in-Err-clause-still : goal.returns-in-Err-clause-still
+returns-in-Err-clause-still g c = λ p is.
+    let v = c.args.self.now in
+    same-still v.owned.surfaces (kept_of v.owned.shell) c.set_input.new.self c.in-Err.ensures.err

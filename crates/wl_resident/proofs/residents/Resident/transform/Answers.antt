@@ -11,6 +11,8 @@ use Rattle.wl_plain.specs.Step.{with_peer}
 use Rattle.wl_plain.specs.WlSurface.{refuse, transform_set}
 use Rattle.wl_resident.proofs.Shelling.{accepted, asked-releases, counted-does, refused-so, surface-counted}
 use Rattle.wl_resident.proofs.Simply.{simply}
+use Rattle.wl_resident.proofs.Stillness.{same-still}
+use Rattle.wl_shell.specs.Kept.{kept_of}
 use Rattle.wl_resident.proofs.residents.Resident.transform.Goals as goal
 
 pub returns-then-not-is_valid-clause-answers : goal.returns-then-not-is_valid-clause-answers
@@ -36,3 +38,11 @@ returns-clause-answers g c = λ named client r on is only.
     (counted-does v (record { client = c.count.new.self; owned = v.owned }) c.set_buffer_transform.new.self r (λ (q : Resident). ask) is c.count.ensures.only refl (c.count.ensures.counts r.peer is.peer)
     (asked-releases (names_in v.client.objects).surfaces v.owned.surfaces (with_peer (counted r.peer) r) id c.args.surface (SetBufferTransform (unsigned_abs z)) refl is.owns.surfaces named)
     (does valid (surface-counted v.client c.count.new.self id c.args.surface c.count.ensures.only named))))
+
+pub returns-then-not-is_valid-clause-still : goal.returns-then-not-is_valid-clause-still
+returns-then-not-is_valid-clause-still g c =
+    let v = c.args.self.now in
+    same-still v.owned.surfaces (kept_of v.owned.shell) v.owned.surfaces refl
+
+pub returns-clause-still : goal.returns-clause-still
+returns-clause-still g c = c.set_buffer_transform.ensures.still

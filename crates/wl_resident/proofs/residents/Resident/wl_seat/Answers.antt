@@ -1,4 +1,4 @@
-use Rattle.std.proofs.Common.{ap, arith, sym, ◌∙◌}
+use Rattle.std.proofs.Common.{ap, arith, refl, sym, ◌∙◌}
 use Rattle.std.specs.Prelude.{Err}
 use Rattle.wl_client.specs.declared.refusals.Refusal.{Refusal}
 use Rattle.wl_proto.specs.Messages.{wl_seat_request}
@@ -13,4 +13,5 @@ returns-in-GetKeyboard g c = record {
   answers = λ client r on is only. refused-whole _ _ client r on (demand_of served_now r c.args.object c.args.version (wl_seat_request c.args.request.now)) c.of.result
       (seat-refused r c.args.object c.args.version c.args.request.now c.in-GetKeyboard.is ∙ ap (λ (f : Refusal). Err f) (sym c.of.ensures)) c.refuse.ensures.ended (c.refuse.ensures.errs r.peer is.peer);
   rest = let none = c.refuse.ensures.rest in omega arith;
+  surfaces = refl;
 }

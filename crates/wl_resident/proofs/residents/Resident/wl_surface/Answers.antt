@@ -1,5 +1,5 @@
 use Rattle.std.proofs.Common.{refl, rules, sym, w32, ◌∙◌}
-use Rattle.std.specs.Prelude.{FitsSigned, Ok}
+use Rattle.std.specs.Prelude.{FitsSigned, Ok, is_some}
 use Rattle.std.proofs.lemmas.Int.{to_z-of_z}
 use Rattle.wl_geom.specs.declared.rect.Rect.{Rect}
 use Rattle.wl_client.specs.Peer.{counted}
@@ -10,7 +10,7 @@ use Rattle.wl_plain.specs.Owning.{names_in}
 use Rattle.wl_plain.specs.Step.{with_peer}
 use Rattle.wl_plain.specs.WlSurface.{buffer_named, region_named}
 use Rattle.wl_resident.proofs.Shelling.{asked-releases, counted-does, surface-counted}
-use Rattle.wl_resident.proofs.Simply.{simply}
+use Rattle.wl_resident.proofs.Simply.{answered-so, simply}
 use Rattle.wl_resident.proofs.residents.Resident.wl_surface.Goals as goal
 
 pub returns-in-Attach-clause-answers : goal.returns-in-Attach-clause-answers
@@ -118,7 +118,14 @@ pub returns-in-SetBufferTransform-clause-stacks : goal.returns-in-SetBufferTrans
 returns-in-SetBufferTransform-clause-stacks g c = rw c.of-in-SetBufferTransform.ensures (search rules)
 
 pub returns-in-Commit-clause-answers : goal.returns-in-Commit-clause-answers
-returns-in-Commit-clause-answers g c = search rules
+returns-in-Commit-clause-answers g c = λ named new client r on is only.
+    rw c.in-Commit.is (answered-so (is_some c.commit.result.applied) _ client r on c.args.self.now c.commit.new.self (c.commit.ensures.answers named client r on is only))
+
+pub returns-in-Commit-clause-decides : goal.returns-in-Commit-clause-decides
+returns-in-Commit-clause-decides g c = λ commits named client r on is only. rw c.in-Commit.is (c.commit.ensures.answers named client r on is only)
+
+pub returns-in-Commit-clause-commits : goal.returns-in-Commit-clause-commits
+returns-in-Commit-clause-commits g c = λ commits. c.commit.ensures.commits
 
 pub returns-in-Destroy-clause-answers : goal.returns-in-Destroy-clause-answers
 returns-in-Destroy-clause-answers g c = search rules
@@ -180,3 +187,69 @@ returns-in-SetBufferTransform-clause-change g c = λ commits. let both = sym com
 
 pub returns-in-SetBufferTransform-clause-nothing : goal.returns-in-SetBufferTransform-clause-nothing
 returns-in-SetBufferTransform-clause-nothing g c = λ other. rw c.of-in-SetBufferTransform.ensures
+
+pub returns-in-Destroy-clause-decides : goal.returns-in-Destroy-clause-decides
+returns-in-Destroy-clause-decides g c = λ commits. let both = sym commits ∙ c.in-Destroy.is in absurd (cc)
+
+pub returns-in-Destroy-clause-commits : goal.returns-in-Destroy-clause-commits
+returns-in-Destroy-clause-commits g c = λ commits. let both = sym commits ∙ c.in-Destroy.is in absurd (cc)
+
+pub returns-in-Attach-clause-decides : goal.returns-in-Attach-clause-decides
+returns-in-Attach-clause-decides g c = λ commits. let both = sym commits ∙ c.in-Attach.is in absurd (cc)
+
+pub returns-in-Attach-clause-commits : goal.returns-in-Attach-clause-commits
+returns-in-Attach-clause-commits g c = λ commits. let both = sym commits ∙ c.in-Attach.is in absurd (cc)
+
+pub returns-in-Damage-clause-decides : goal.returns-in-Damage-clause-decides
+returns-in-Damage-clause-decides g c = λ commits. let both = sym commits ∙ c.in-Damage.is in absurd (cc)
+
+pub returns-in-Damage-clause-commits : goal.returns-in-Damage-clause-commits
+returns-in-Damage-clause-commits g c = λ commits. let both = sym commits ∙ c.in-Damage.is in absurd (cc)
+
+pub returns-in-Frame-clause-decides : goal.returns-in-Frame-clause-decides
+returns-in-Frame-clause-decides g c = λ commits. let both = sym commits ∙ c.in-Frame.is in absurd (cc)
+
+pub returns-in-Frame-clause-commits : goal.returns-in-Frame-clause-commits
+returns-in-Frame-clause-commits g c = λ commits. let both = sym commits ∙ c.in-Frame.is in absurd (cc)
+
+pub returns-in-SetOpaqueRegion-clause-decides : goal.returns-in-SetOpaqueRegion-clause-decides
+returns-in-SetOpaqueRegion-clause-decides g c = λ commits. let both = sym commits ∙ c.in-SetOpaqueRegion.is in absurd (cc)
+
+pub returns-in-SetOpaqueRegion-clause-commits : goal.returns-in-SetOpaqueRegion-clause-commits
+returns-in-SetOpaqueRegion-clause-commits g c = λ commits. let both = sym commits ∙ c.in-SetOpaqueRegion.is in absurd (cc)
+
+pub returns-in-SetInputRegion-clause-decides : goal.returns-in-SetInputRegion-clause-decides
+returns-in-SetInputRegion-clause-decides g c = λ commits. let both = sym commits ∙ c.in-SetInputRegion.is in absurd (cc)
+
+pub returns-in-SetInputRegion-clause-commits : goal.returns-in-SetInputRegion-clause-commits
+returns-in-SetInputRegion-clause-commits g c = λ commits. let both = sym commits ∙ c.in-SetInputRegion.is in absurd (cc)
+
+pub returns-in-SetBufferTransform-clause-decides : goal.returns-in-SetBufferTransform-clause-decides
+returns-in-SetBufferTransform-clause-decides g c = λ commits. let both = sym commits ∙ c.in-SetBufferTransform.is in absurd (cc)
+
+pub returns-in-SetBufferTransform-clause-commits : goal.returns-in-SetBufferTransform-clause-commits
+returns-in-SetBufferTransform-clause-commits g c = λ commits. let both = sym commits ∙ c.in-SetBufferTransform.is in absurd (cc)
+
+pub returns-in-Destroy-clause-still : goal.returns-in-Destroy-clause-still
+returns-in-Destroy-clause-still g c = λ other p is. c.destroy.ensures.still
+
+pub returns-in-Attach-clause-still : goal.returns-in-Attach-clause-still
+returns-in-Attach-clause-still g c = λ other p is. c.attach.ensures.still
+
+pub returns-in-Damage-clause-still : goal.returns-in-Damage-clause-still
+returns-in-Damage-clause-still g c = λ other p is. c.damage.ensures.still
+
+pub returns-in-Frame-clause-still : goal.returns-in-Frame-clause-still
+returns-in-Frame-clause-still g c = λ other p is. c.frame.ensures.still
+
+pub returns-in-SetBufferTransform-clause-still : goal.returns-in-SetBufferTransform-clause-still
+returns-in-SetBufferTransform-clause-still g c = λ other p is. c.transform.ensures.still
+
+pub returns-in-SetOpaqueRegion-clause-still : goal.returns-in-SetOpaqueRegion-clause-still
+returns-in-SetOpaqueRegion-clause-still g c = λ other p is. c.set_opaque_region.ensures.still (counted p) (c.count-in-SetOpaqueRegion.ensures.counts p is)
+
+pub returns-in-SetInputRegion-clause-still : goal.returns-in-SetInputRegion-clause-still
+returns-in-SetInputRegion-clause-still g c = λ other p is. c.set_input_region.ensures.still (counted p) (c.count-in-SetInputRegion.ensures.counts p is)
+
+pub returns-in-Commit-clause-still : goal.returns-in-Commit-clause-still
+returns-in-Commit-clause-still g c = λ other. absurd (other c.in-Commit.is)

@@ -1,6 +1,8 @@
 use Rattle.std.proofs.Common.{rules, w32}
 use Rattle.std.specs.Prelude.{FitsSigned}
 use Rattle.std.proofs.lemmas.Int.{to_z-of_z}
+use Rattle.wl_resident.proofs.Stillness.{same-still}
+use Rattle.wl_shell.specs.Kept.{kept_of}
 use Rattle.wl_resident.proofs.residents.Resident.xdg_surface.Goals as goal
 
 pub returns-in-GetPopup-clause-answers : goal.returns-in-GetPopup-clause-answers
@@ -18,3 +20,26 @@ returns-in-SetWindowGeometry-clause-answers g c = λ named free.
     let height-fits : FitsSigned w32 height = search rules in
     let answers = simp (to_z-of_z w32 x x-fits, to_z-of_z w32 y y-fits, to_z-of_z w32 width width-fits, to_z-of_z w32 height height-fits) at c.set_window_geometry.ensures.answers in
     rw c.in-SetWindowGeometry.is (answers named)
+
+pub returns-in-Destroy-clause-still : goal.returns-in-Destroy-clause-still
+returns-in-Destroy-clause-still g c =
+    let v = c.args.self.now in
+    same-still v.owned.surfaces (kept_of v.owned.shell) c.destroy_xdg_surface.new.self.owned.surfaces c.destroy_xdg_surface.ensures.surfaces
+
+pub returns-in-GetPopup-clause-still : goal.returns-in-GetPopup-clause-still
+returns-in-GetPopup-clause-still g c =
+    let v = c.args.self.now in
+    same-still v.owned.surfaces (kept_of v.owned.shell) c.refuse_unserved.new.self.owned.surfaces c.refuse_unserved.ensures.surfaces
+
+pub returns-in-SetWindowGeometry-clause-still : goal.returns-in-SetWindowGeometry-clause-still
+returns-in-SetWindowGeometry-clause-still g c =
+    let v = c.args.self.now in
+    same-still v.owned.surfaces (kept_of v.owned.shell) c.set_window_geometry.new.self.owned.surfaces c.set_window_geometry.ensures.surfaces
+
+pub returns-in-AckConfigure-clause-still : goal.returns-in-AckConfigure-clause-still
+returns-in-AckConfigure-clause-still g c =
+    let v = c.args.self.now in
+    same-still v.owned.surfaces (kept_of v.owned.shell) c.ack_configure.new.self.owned.surfaces c.ack_configure.ensures.surfaces
+
+pub returns-in-GetToplevel-clause-still : goal.returns-in-GetToplevel-clause-still
+returns-in-GetToplevel-clause-still g c = c.get_toplevel.ensures.still

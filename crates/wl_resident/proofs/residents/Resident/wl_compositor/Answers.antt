@@ -1,0 +1,11 @@
+use Rattle.wl_resident.proofs.Stillness.{same-still}
+use Rattle.wl_shell.specs.Kept.{kept_of}
+use Rattle.wl_resident.proofs.residents.Resident.wl_compositor.Goals as goal
+
+pub returns-in-CreateSurface-clause-still : goal.returns-in-CreateSurface-clause-still
+returns-in-CreateSurface-clause-still g c = c.create_surface.ensures.still
+
+pub returns-in-CreateRegion-clause-still : goal.returns-in-CreateRegion-clause-still
+returns-in-CreateRegion-clause-still g c =
+    let v = c.args.self.now in
+    same-still v.owned.surfaces (kept_of v.owned.shell) c.create_region.new.self.owned.surfaces c.create_region.ensures.surfaces
