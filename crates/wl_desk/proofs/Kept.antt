@@ -17,7 +17,7 @@ use Rattle.wl_scene.specs.declared.owned.Owned.{Owned}
 use Rattle.wl_resident.specs.Agreement.{Matches, IsPlace, IsSeat, IsSlot, numbers_in}
 use Rattle.wl_plain.specs.Desktop.{Desktop, Resident, become, become_by, client_at, client_in, resident_of, with_number}
 use Rattle.wl_desk.specs.Feeding.{IsIdleIn, IsIdleOf, kept_at, kept_by, kept_in, kept_of, kept_while, lives_in, rest_in, served_as, served_by, served_of}
-use Rattle.wl_resident.specs.Marking.{AreUnlinked, MarksAtLeast, MarksAtMost}
+use Rattle.wl_resident.specs.Marking.{AreUnlinked, MarksAtLeast, MarksAtMost, MarksThrough}
 use Rattle.wl_resident.specs.Seats.{IsSeated, ended_by}
 use Rattle.wl_plain.specs.declared.answers.Fed.TheVariants as fed
 use Rattle.wl_plain.proofs.OwningKeys.{differ}
@@ -26,6 +26,7 @@ use Rattle.wl_plain.specs.LeftOut.{served_now}
 use Rattle.wl_plain.specs.NoMore.{NoMore}
 use Rattle.wl_plain.specs.Acts.{fed_of, peer_at, status_of}
 use Rattle.wl_plain.specs.Happens.{Serves}
+use Rattle.wl_plain.specs.Through.{ServesThrough}
 use Rattle.wl_plain.proofs.BridgeBack.{message-by}
 use Rattle.wl_resident.specs.View.{DeskView, OwnedView, owned_view}
 use Rattle.wl_resident.specs.declared.residents.Resident.{Resident as Kept}
@@ -147,6 +148,16 @@ module _ {A : Type 0} (output : Output) (us : List (Option ClientView)) (os : Li
       let s = out output us os stack c k is d a v x y f g taken in
       let n = seated-new new x2 y2 now e s.0 s.1 more serves b in
       marks s.0 (sides.0 ∙ ap (λ (o : Shown). o.width) a.output) (sides.1 ∙ ap (λ (o : Shown). o.height) a.output) (unlinked (view_of output us os stack) d a) s.2 more e n.0 serves n.1
+
+  -- it leads through desktops along which what is marked is what may be marked
+  pub serves-through : (v new : Kept A) (x x2 : Option ClientView) (y y2 : Option (Owned A)) (now : Stack) (before after : Damaged) → x ≡ get_or us k x → y ≡ get_or os k y → (x ≡ Some v.client) × (y ≡ Some v.owned) → NoMore d
+      → ((r : Resident) → before.width ≡ d.output.width → before.height ≡ d.output.height → AreUnlinked d → IsSeated c (numbers_in us) d v stack d r → NoMore d
+      → (e : Desktop) × (q : Resident) × (path : List Desktop) × ServesThrough served_now c d path e × IsSeated c (numbers_in us) d new now e q × MarksThrough d path before after)
+      → (before.width ≡ output.width) × (before.height ≡ output.height) → (e : Desktop) × (path : List Desktop) × ServesThrough served_now c d path e × Matches (put-back new x2 y2 now) e × MarksThrough d path before after
+  serves-through v new x x2 y y2 now before after f g taken more through sides =
+      let s = out output us os stack c k is d a v x y f g taken in
+      let n = through s.0 (sides.0 ∙ ap (λ (o : Shown). o.width) a.output) (sides.1 ∙ ap (λ (o : Shown). o.height) a.output) (unlinked (view_of output us os stack) d a) s.2 more in
+      (n.0, n.2, n.3, back output us os stack c k is d a new x2 y2 now n.0 n.1 n.4, n.5)
 
   -- there was no message
   pub idles : (v new : Kept A) (x x2 : Option ClientView) (y y2 : Option (Owned A)) (now : Stack) → x ≡ get_or us k x → y ≡ get_or os k y → (x ≡ Some v.client) × (y ≡ Some v.owned)

@@ -5,7 +5,7 @@ use Rattle.wl_client.specs.Told.{Output as Shown}
 use Rattle.wl_client.specs.declared.clients.Cause.{Cause}
 use Rattle.wl_paint.specs.Damage.{Damaged}
 use Rattle.wl_resident.specs.Agreement.{Matches}
-use Rattle.wl_resident.specs.Marking.{MarksAtLeast}
+use Rattle.wl_resident.specs.Marking.{MarksAtLeast, MarksThrough}
 use Rattle.wl_resident.specs.Seats.{ended_by}
 use Rattle.wl_resident.specs.View.{DeskView}
 use Rattle.wl_plain.specs.declared.answers.Done.{Done}
@@ -17,6 +17,8 @@ use Rattle.wl_plain.specs.Settling.{EndsAndSettles, becomes, unstruck}
 use Rattle.wl_plain.specs.Step.{with_peer}
 use Rattle.wl_plain.specs.Acts.{Act}
 use Rattle.wl_plain.specs.Happens.{Happens, Serves}
+use Rattle.wl_plain.specs.Through.{ServesThrough}
+use Rattle.wl_plain.proofs.Through.{messages_lead_through}
 use Rattle.wl_desk.specs.Agreeing.{Agrees, TakesStep}
 use Rattle.wl_desk.specs.Feeding.{Ends, EndsBy, EndsOf, IsIdleIn, kept_at, kept_by, kept_of}
 use Rattle.wl_desk.proofs.Calls.{ended_at, ended_of}
@@ -52,6 +54,13 @@ pub message-whole : (c : ℕ) (old new : DeskView) → ((d : Desktop) → Agrees
 message-whole c old new taken d a =
     let h = taken d a in
     (h.0, h.1, record { matches = h.2; no_more = serves-has touches_apart c d h.0 a.no_more h.1 })
+
+-- and so along desktops
+pub through-whole : (c : ℕ) (old new : DeskView) (before after : Damaged) → ((d : Desktop) → Agrees old d → (e : Desktop) × (path : List Desktop) × ServesThrough served_now c d path e × Matches new e × MarksThrough d path before after)
+    → (d : Desktop) → Agrees old d → (e : Desktop) × (path : List Desktop) × ServesThrough served_now c d path e × Agrees new e × MarksThrough d path before after
+through-whole c old new before after taken d a =
+    let h = taken d a in
+    (h.0, h.1, h.2, record { matches = h.3; no_more = serves-has touches_apart c d h.0 a.no_more ((messages_lead_through served_now c d h.0).0 h.1 h.2) }, h.4)
 
 pub idles-whole : (c : ℕ) (old new : DeskView) → ((d : Desktop) → Matches old d → Matches new d × IsIdleIn c d) → (d : Desktop) → Agrees old d → Agrees new d × IsIdleIn c d
 idles-whole c old new small d a =

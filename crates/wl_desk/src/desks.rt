@@ -10,7 +10,7 @@ ghost use Rattle.wl_plain.specs.Desktop.{Desktop, empty};
 ghost use Rattle.wl_plain.specs.Acts.{Connect, Feed, Store, Leave, Tick, Send, Close, lowest, peer_at, unsent_of, status_of, store_size_of};
 ghost use Rattle.wl_resident.specs.Agreement.{IsSlot};
 ghost use Rattle.wl_desk.specs.Agreeing.{Agrees, MarksNothing, MarksStep, TakesStep};
-ghost use Rattle.wl_resident.specs.Marking.{MarksAtLeast, MarksAtMost, MarksMost};
+ghost use Rattle.wl_resident.specs.Marking.{MarksAtLeast, MarksAtMost, MarksMost, MarksThrough};
 ghost use Rattle.wl_desk.specs.Feeding.{Ends, IsIdleIn, kept_at, kept_in, lives_in, rest_in, served_as, served_of};
 ghost use Rattle.wl_resident.specs.Marking.{IsAsLarge};
 ghost use Rattle.wl_desk.specs.Framing.{MarksIfEnds, WasTold};
@@ -19,6 +19,7 @@ ghost use Rattle.wl_plain.specs.Scratch.{scratch};
 ghost use Rattle.wl_resident.specs.Seats.{has_ended_in};
 ghost use Rattle.wl_plain.specs.LeftOut.{served_now};
 ghost use Rattle.wl_plain.specs.Happens.{Happens, Serves};
+ghost use Rattle.wl_plain.specs.Through.{ServesThrough};
 ghost use Rattle.wl_plain.specs.Touching.{has_window_at};
 
 use crate::windows::Lent;
@@ -143,7 +144,8 @@ impl<A: Allocator + Copy> Desk<A> {
         keep_in(&mut self.clients[k], piece)
     }
 
-    /// Takes the first whole message of what came from a client that lives. `More` where there is none; then nothing is changed.
+    /// Takes the first whole message of what came from a client that lives. `More` where there is none; then nothing is changed. What the message
+    /// changes is marked, and the windows of a client that ends by it.
     pub fn serve(&mut self, client: ClientNo) -> Served
         ensures serves { result ≢ Served.More → (d : Desktop) → Agrees self.old.desk d → (e : Desktop) × Serves served_now client d e × Agrees self.new.desk e }
         ensures told { result ≢ Served.More → (d : Desktop) → Agrees self.new.desk d → result ≡ served_of (status_of (peer_at client d)) }
@@ -151,6 +153,8 @@ impl<A: Allocator + Copy> Desk<A> {
             → MarksAtLeast d e self.old.damage self.new.damage }
         ensures within { result ≢ Served.More → (d e : Desktop) → Agrees self.old.desk d → Serves served_now client d e → Agrees self.new.desk e
             → MarksAtMost client d e self.old.damage self.new.damage }
+        ensures through { result ≢ Served.More → (d : Desktop) → Agrees self.old.desk d
+            → (e : Desktop) × (path : List Desktop) × ServesThrough served_now client d path e × Agrees self.new.desk e × MarksThrough d path self.old.damage self.new.damage }
         ensures more { result ≡ Served.More → (d : Desktop) → Agrees self.old.desk d → Agrees self.new.desk d × IsIdleIn client d }
         ensures rests { result ≡ Served.More → self.new.damage ≡ self.old.damage }
         ensures sides { IsAsLarge self.old.damage self.new.damage }

@@ -1,6 +1,7 @@
 -- The events that a session's steps are.
 use Rattle.std.proofs.Common.{◌≡◌, ℕ, zero, suc, Bool, true, false, List, [], ◌∷◌, ◌++◌, Option, Some, None, refl, ap, sym, subst, ◌∙◌, inl, inr}
 use Rattle.std.specs.Prelude.{replicate, ◌<◌, ◌||◌, pos}
+use Rattle.std.proofs.lemmas.Bool.{or_left, or_right}
 use Rattle.std.proofs.lemmas.List.{map-append}
 use Rattle.wl_client.specs.declared.clients.Cause.{Cause}
 use Rattle.wl_client.specs.declared.clients.Cause.TheVariants as cause
@@ -11,24 +12,27 @@ use Rattle.wl_plain.specs.Acts.{Act, Feed, Tick, peer_at, peer_of, status_of, fe
 use Rattle.wl_plain.specs.declared.answers.Done.{Done}
 use Rattle.wl_plain.specs.declared.answers.Fed.TheVariants as fed
 use Rattle.wl_plain.specs.Desktop.{Desktop, Resident, client_at, with_client}
-use Rattle.wl_plain.specs.Happenings.{Leads, Message, Receive, ReceivesAt, Single, Starve, StarvesAt}
+use Rattle.wl_plain.specs.Happenings.{Happening, Leads, Message, Receive, ReceivesAt, Single, Starve, StarvesAt}
 use Rattle.wl_plain.specs.Happens.{Happens, Reaches, Serves, ServesThen}
 use Rattle.wl_plain.specs.LeftOut.{served_now}
 use Rattle.wl_plain.specs.Settling.{EndsAndSettles, becomes, unstruck}
 use Rattle.wl_plain.specs.Step.{with_peer}
-use Rattle.wl_plain.specs.Through.{IsSingle, raised_in}
+use Rattle.wl_plain.specs.Through.{IsSingle, ServesThrough, raised_in}
+use Rattle.wl_plain.specs.Stacked.{all_windows}
 use Rattle.wl_plain.specs.Laws.{status_in}
-use Rattle.wl_plain.specs.Moments.{marks_at_least, marks_at_most}
+use Rattle.wl_plain.specs.Moments.{marks_at_least, marks_at_most, marks_at_most_through}
+use Rattle.wl_plain.proofs.MarkedThrough.{marked_through}
+use Rattle.wl_plain.proofs.MostThrough.{most-through}
 use Rattle.wl_plain.proofs.OwningKeys.{differ}
 use Rattle.wl_plain.proofs.Through.{happens_leads_through, messages_lead_through, settling-with}
-use Rattle.wl_resident.specs.Marking.{MarksAtLeast, MarksAtMost, MarksMost, MarksMostBy}
+use Rattle.wl_resident.specs.Marking.{MarksAtLeast, MarksMost, MarksThrough}
 use Rattle.wl_resident.specs.Marking.{IsAsLarge as HasItsSides}
 use Rattle.wl_resident.specs.View.{MarkedDesk}
 use Rattle.wl_desk.specs.Agreeing.{Agrees, MarksNothing, MarksStep, TakesStep}
 use Rattle.wl_desk.specs.Feeding.{Ends, EndsBy, EndsOf, kept_at, kept_by, kept_of}
 use Rattle.wl_desk.proofs.Agreed.{agrees-apart, kept-unmarked}
 use Rattle.wl_session.specs.Course.{AreParts, Course, TakesCourse, Took, happenings, moment}
-use Rattle.wl_session.specs.Events.{AreApart, AreEvents, Event, IsMarked, Moment, PaintsIf, is_quiet_act, is_tick}
+use Rattle.wl_session.specs.Events.{AreApart, AreEvents, Event, IsMarked, MarksFew, Moment, PaintsIf, is_quiet_act, is_tick}
 use Rattle.wl_session.specs.Liars.{AreLiars, IsRightBut}
 use Rattle.wl_session.specs.Run.{IsNextFrame}
 use Rattle.wl_session.specs.View.{SessionView}
@@ -45,11 +49,11 @@ right-so : (old new : SessionView) (d e : Desktop) (events : List Event) → Are
 right-so old new d e events apart leads liars last broke right = stays_right served_now (moment d old) (moment e new) events liars last apart leads broke right
 
 pub course-of : (act : Act) (done : Done) (old new : SessionView) (d e : Desktop) → IsSingle act → AreParts act done (Single act done ∷ []) → Agrees old.desk d → Happens served_now act done d e → Agrees new.desk e
-    → PaintsIf (is_tick act) (Single act done) (moment d old) (moment e new) → Course act done old new d
+    → ((path : List Desktop) → Leads served_now (Single act done) d path e → PaintsIf (is_tick act) (Single act done) (moment d old) path (moment e new)) → Course act done old new d
 course-of act done old new d e single parts a happens b paints =
     let through = (happens_leads_through served_now act done d e).1 single happens in
     let event : Event = record { happening = Single act done; before = moment d old; path = through.0; after = moment e new } in
-    let leads : AreEvents served_now (moment d old) (event ∷ []) (moment e new) = (refl, record { leads = through.1; paints = paints }, refl) in
+    let leads : AreEvents served_now (moment d old) (event ∷ []) (moment e new) = (refl, record { leads = through.1; paints = paints through.0 through.1 }, refl) in
     let apart : AreApart (event ∷ []) = (agrees-apart old.desk d a, agrees-apart new.desk e b, tt) in
     record {
       desktop = e;
@@ -62,24 +66,40 @@ course-of act done old new d e single parts a happens b paints =
       agrees = b;
     }
 
--- no more is marked than may be
-abbrev pub MarksFew : Act → Done → MarkedDesk → MarkedDesk → Type 0
-MarksFew act done old new =
-    (d e : Desktop) → Agrees old.desk d → Happens served_now act done d e → Agrees new.desk e → MarksMostBy (raised_in act d) d e old.damage new.damage
+-- no more is marked than may be from the first desktop to the last
+abbrev pub MarksNoMore : Act → Done → MarkedDesk → MarkedDesk → Type 0
+MarksNoMore act done old new =
+    (d e : Desktop) → Agrees old.desk d → Happens served_now act done d e → Agrees new.desk e → MarksMost d e old.damage new.damage
 
 -- that is so where nothing is
-pub nothing-few : (act : Act) (done : Done) (old new : MarkedDesk) → MarksNothing old new → MarksFew act done old new
-nothing-few act done old new nothing = λ d e a step b x y wide high again.
-    ap (λ t. t || marks_at_most d e (raised_in act d) (pos x) (pos y)) (sym (nothing d a x y wide high) ∙ again)
+pub nothing-more : (act : Act) (done : Done) (old new : MarkedDesk) → MarksNothing old new → MarksNoMore act done old new
+nothing-more act done old new nothing = λ d e a step b x y wide high again.
+    ap (λ t. t || marks_at_most d e None (pos x) (pos y)) (sym (nothing d a x y wide high) ∙ again)
+
+-- where it is no more from the first to the last, it is no more along the desktops between
+few-through : (h : Happening) (old new : MarkedDesk) (d e : Desktop) (path : List Desktop) (raised : Option (ℕ × ℕ)) → Agrees old.desk d → Agrees new.desk e → Leads served_now h d path e → MarksMost d e old.damage new.damage
+    → MarksFew raised d path old.damage new.damage
+few-through h old new d e path raised a b leads most = λ x y wide high again. at x y (has old.damage x y) refl (most x y wide high again)
+  where
+    at : (x y : ℕ) (t : Bool) → has old.damage x y ≡ t → (t || marks_at_most d e None (pos x) (pos y)) ≡ true → (has old.damage x y || marks_at_most_through all_windows raised d path (pos x) (pos y)) ≡ true
+    at x y true was either = or_left (has old.damage x y) _ was
+    at x y false was either =
+        or_right (has old.damage x y) _ (most-through served_now h d path e raised (pos x) (pos y) a.no_more b.no_more a.matches.mapped.apart b.matches.mapped.apart leads either)
 
 -- what shows no frame
 pub marked-course : (act : Act) (done : Done) (old new : SessionView) → is_tick act ≡ false → IsSingle act → AreParts act done (Single act done ∷ []) → new.frame ≡ old.frame → HasItsSides old.damage new.damage
-    → TakesStep act done old.desk new.desk → MarksStep act done (marked old) (marked new) → MarksFew act done (marked old) (marked new) → (is_quiet_act act ≡ true → MarksNothing (marked old) (marked new)) → TakesCourse act done old new
+    → TakesStep act done old.desk new.desk → MarksStep act done (marked old) (marked new) → MarksNoMore act done (marked old) (marked new) → (is_quiet_act act ≡ true → MarksNothing (marked old) (marked new)) → TakesCourse act done old new
 marked-course act done old new tick single parts frame sides step marks most quiet = λ d a.
     let e = step d a in
-    let paints : PaintsIf false (Single act done) (moment d old) (moment e.0 new) =
-    record { frame = frame; sides = sides; marks = marks d e.0 a e.1; most = most d e.0 a e.1 e.2; quiet = λ is. quiet is d a } in
-    course-of act done old new d e.0 single parts a e.1 e.2 (subst (λ b. PaintsIf b (Single act done) (moment d old) (moment e.0 new)) (sym tick) paints)
+    course-of act done old new d e.0 single parts a e.1 e.2
+    (λ path leads. subst (λ b. PaintsIf b (Single act done) (moment d old) path (moment e.0 new)) (sym tick) (record {
+      frame = frame;
+      sides = sides;
+      marks = marks d e.0 a e.1;
+      each = tt;
+      most = few-through (Single act done) (marked old) (marked new) d e.0 path (raised_in act d) a e.2 leads (most d e.0 a e.1 e.2);
+      quiet = λ is. quiet is d a;
+    }))
 
 -- a frame
 pub tick-course : (time : ℕ) (done : Done) (old new : SessionView) → HasItsSides old.damage new.damage
@@ -91,7 +111,15 @@ pub tick-course : (time : ℕ) (done : Done) (old new : SessionView) → HasItsS
     → ((d : Desktop) → Agrees old.desk d → IsNextFrame d old.frame new.frame (has old.damage)) → TakesCourse (Tick time) done old new
 tick-course time done old new sides shows next = λ d a.
     let s = shows d a in
-    course-of (Tick time) done old new d s.0 (λ c piece e. absurd (cc)) refl a s.1 s.2 (record { frame = next d a; sides = sides; none = s.5; marks = s.3; most = s.4 })
+    course-of (Tick time) done old new d s.0 (λ c piece e. absurd (cc)) refl a s.1 s.2
+    (λ path leads. record {
+      frame = next d a;
+      sides = sides;
+      none = s.5;
+      marks = s.3;
+      most = λ x y wide high again.
+          most-through served_now (Single (Tick time) done) d path s.0 None (pos x) (pos y) a.no_more s.2.no_more a.matches.mapped.apart s.2.matches.mapped.apart leads (s.4 x y wide high again);
+    })
 
 -- ---- events one after another
 
@@ -114,13 +142,29 @@ pub served-none : (client : ℕ) (v : SessionView) (d : Desktop) → Agrees v.de
 served-none client v d a = record { count = zero; desktop = d; events = []; reaches = refl; parts = refl; leads = refl; apart = tt; agrees = a }
 
 -- one more
-pub served-more : (client : ℕ) (old mid new : SessionView) (d e : Desktop) → (s : Took client old mid d) → new.frame ≡ mid.frame → HasItsSides mid.damage new.damage → Serves served_now client s.desktop e → Agrees new.desk e
-    → MarksAtLeast s.desktop e mid.damage new.damage → MarksAtMost client s.desktop e mid.damage new.damage → Took client old new d
-served-more client old mid new d e s frame sides serves agrees marks most =
-    let through = (messages_lead_through served_now client s.desktop e).1 serves in
-    let event : Event = record { happening = Message client; before = moment s.desktop mid; path = through.0; after = moment e new } in
-    let last : AreEvents served_now (moment s.desktop mid) (event ∷ []) (moment e new) =
-    (refl, record { leads = through.1; paints = record { frame = frame; sides = sides; marks = marks; most = most; quiet = λ no. absurd (differ (sym no)) } }, refl) in
+pub served-more : (client : ℕ) (old mid new : SessionView) (d e : Desktop) → (s : Took client old mid d) → new.frame ≡ mid.frame → HasItsSides mid.damage new.damage → (path : List Desktop) → ServesThrough served_now client s.desktop path e → Agrees new.desk e
+    → MarksThrough s.desktop path mid.damage new.damage → Took client old new d
+served-more client old mid new d e s frame sides path through agrees marks =
+    let serves : Serves served_now client s.desktop e = (messages_lead_through served_now client s.desktop e).0 path through in
+    let distinct = agrees-apart mid.desk s.desktop s.agrees in
+    let event : Event = record { happening = Message client; before = moment s.desktop mid; path = path; after = moment e new } in
+    let last : AreEvents served_now (moment s.desktop mid) (event ∷ []) (moment e new) = (
+      refl,
+      record {
+        leads = through;
+        paints = record {
+          frame = frame;
+          sides = sides;
+          marks = λ x y wide high clean.
+              let unmarked = (marks x y wide high).0 clean in
+              (unmarked.0, marked_through served_now (Message client) s.desktop path e (pos x) (pos y) distinct through unmarked.1);
+          each = λ x y wide high clean. ((marks x y wide high).0 clean).1;
+          most = λ x y wide high again. (marks x y wide high).1 again;
+          quiet = λ no. absurd (differ (sym no));
+        };
+      },
+      refl,
+    ) in
     record {
       count = suc s.count;
       desktop = e;
@@ -197,11 +241,12 @@ fed-course client piece done old kept new d frame damage a s happens b = at (cli
         let event : Event = record { happening = Receive client piece; before = moment d old; path = kept_at client piece d ∷ []; after = moment (kept_at client piece d) kept } in
         let received : Leads served_now (Receive client piece) d (kept_at client piece d ∷ []) (kept_at client piece d) =
         subst (λ o. ReceivesAt client piece o d (kept_at client piece d ∷ []) (kept_at client piece d)) (sym there) (alive, same, refl) in
-        let marks : IsMarked (Receive client piece) (moment d old) (moment (kept_at client piece d) kept) = record {
+        let marks : IsMarked (Receive client piece) (moment d old) (kept_at client piece d ∷ []) (moment (kept_at client piece d) kept) = record {
           frame = frame;
           sides = record { width = ap (λ (m : Damaged). m.width) damage; height = ap (λ (m : Damaged). m.height) damage };
           marks = λ x y w h clean. (ap (λ (m : Damaged). has m x y) (sym damage) ∙ clean, kept-unmarked old.desk client piece d a x y);
-          most = λ x y w h again. ap (λ t. t || marks_at_most d (kept_at client piece d) None (pos x) (pos y)) (ap (λ (m : Damaged). has m x y) (sym damage) ∙ again);
+          each = tt;
+          most = λ x y w h again. or_left (has old.damage x y) _ (ap (λ (m : Damaged). has m x y) (sym damage) ∙ again);
           quiet = λ _ x y w h. ap (λ (m : Damaged). has m x y) damage;
         } in
         let leads : AreEvents served_now (moment d old) (event ∷ s.events) (moment s.desktop new) = (refl, record { leads = received; paints = marks }, s.leads) in
@@ -237,8 +282,15 @@ lacking-course client piece done old new d e frame sides a alive ends marks most
         let through = settling-with e (unstruck (becomes client r (ended cause.Memory r.peer) d)) over in
         let event : Event = record { happening = Starve client; before = moment d old; path = through.0; after = moment e new } in
         let starves : Leads served_now (Starve client) d through.0 e = subst (λ o. StarvesAt client o d through.0 e) (sym there) (lives, through.1) in
-        let marked : IsMarked (Starve client) (moment d old) (moment e new) = record { frame = frame; sides = sides; marks = marks; most = most; quiet = λ no. absurd (differ (sym no)) } in
-        let leads : AreEvents served_now (moment d old) (event ∷ []) (moment e new) = (refl, record { leads = starves; paints = marked }, refl) in
+        let marks_along : IsMarked (Starve client) (moment d old) through.0 (moment e new) = record {
+          frame = frame;
+          sides = sides;
+          marks = marks;
+          each = tt;
+          most = few-through (Starve client) (marked old) (marked new) d e through.0 None a b starves most;
+          quiet = λ no. absurd (differ (sym no));
+        } in
+        let leads : AreEvents served_now (moment d old) (event ∷ []) (moment e new) = (refl, record { leads = starves; paints = marks_along }, refl) in
         let apart : AreApart (event ∷ []) = (agrees-apart old.desk d a, agrees-apart new.desk e b, tt) in
         record {
           desktop = e;

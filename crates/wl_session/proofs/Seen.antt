@@ -63,7 +63,7 @@ still-liars e liars next tick broke c honest = by (liars c) refl
 -- ---- one frame is copied
 
 -- what is copied of a report is what the frame has
-copied-holds : (e : Event) (film : Film) (sight : Sight) → IsShown e.before e.after → IsShot e film → Holds sight e.before.frame → Holds (copied e.before.frame.width sight film) e.after.frame
+copied-holds : (e : Event) (film : Film) (sight : Sight) → IsShown e.before e.path e.after → IsShot e film → Holds sight e.before.frame → Holds (copied e.before.frame.width sight film) e.after.frame
 copied-holds e film sight shown shot held x y w h = at (in_runs film.runs x y) refl
   where
     wide : x < e.before.frame.width
@@ -85,7 +85,7 @@ module _ (left : LeftOut) (width height : ℕ) (background : Rgb) (to : Moment) 
     high : image.height ≡ height
     over : image.background ≡ background
 
-  of-next : (e : Event) → IsOf e.before.frame → (b : Bool) → PaintsIf b e.happening e.before e.after → IsOf e.after.frame
+  of-next : (e : Event) → IsOf e.before.frame → (b : Bool) → PaintsIf b e.happening e.before e.path e.after → IsOf e.after.frame
   of-next e is true shown = record {
     wide = shown.frame.large.width ∙ is.wide;
     high = shown.frame.large.height ∙ is.high;
@@ -105,7 +105,7 @@ module _ (left : LeftOut) (width height : ℕ) (background : Rgb) (to : Moment) 
       → fold (copied width) sight (take 1 films) x y ≡ scratch background frame.before.desktop (pos x) (pos y)
   sees-frame frame later [] liars broke sight x y is apart tick shots holds right held kind w h clear = absurd shots
   sees-frame frame later (film ∷ films) liars broke sight x y is apart tick shots holds right held kind w h clear =
-      let shown : IsShown frame.before frame.after = subst (λ b. PaintsIf b frame.happening frame.before frame.after) tick is.paints in
+      let shown : IsShown frame.before frame.path frame.after = subst (λ b. PaintsIf b frame.happening frame.before frame.path frame.after) tick is.paints in
       let copies = copied-holds frame film sight shown shots.0 held x y (rw (shown.frame.large.width, kind.wide) w) (rw (shown.frame.large.height, kind.high) h) in
       let right_there = frame-right left frame liars broke is.leads apart holds right
       (λ c honest. keeps-opaque frame.happening frame.before.desktop frame.after.desktop c tick (holds c honest).0) shown x y
@@ -142,10 +142,10 @@ module _ (left : LeftOut) (width height : ℕ) (background : Rgb) (to : Moment) 
           → fold (copied width) sight (take (length (cond b (e ∷ frames_of (es ++ frame ∷ [])) (frames_of (es ++ frame ∷ [])))) films) x y ≡ scratch background frame.before.desktop (pos x) (pos y)
       by began rest true is [] shots = absurd shots
       by began rest true is (film ∷ films) shots =
-          let shown : IsShown e.before e.after = subst (λ b. PaintsIf b e.happening e.before e.after) is leads.1.paints in
+          let shown : IsShown e.before e.path e.after = subst (λ b. PaintsIf b e.happening e.before e.path e.after) is leads.1.paints in
           rest films (copied width sight film) (subst (λ n. Holds (copied n sight film) e.after.frame) began.2.wide (copied-holds e film sight shown shots.0 began.1)) shots.1
       by began rest false is films shots =
-          let marked : IsMarked e.happening e.before e.after = subst (λ b. PaintsIf b e.happening e.before e.after) is leads.1.paints in
+          let marked : IsMarked e.happening e.before e.path e.after = subst (λ b. PaintsIf b e.happening e.before e.path e.after) is leads.1.paints in
           rest films sight (subst (λ (i : Image). Holds sight i) (sym marked.frame) began.1) shots
 
 -- ---- what a frame shows
@@ -158,7 +158,7 @@ frame-scratch left [] frame from to liars broke leads apart tick holds right x y
     let at : IsRightBut liars frame.before = subst (λ (m : Moment). IsRightBut liars m) (sym leads.0) right in
     let more : (c : ℕ) → broke c ≡ false → holds.0 c ≡ false = holds.2 in
     let those : HoldsLiars frame liars broke = λ c honest. holds.1 c (more c honest) in
-    let shown : IsShown frame.before frame.after = subst (λ b. PaintsIf b frame.happening frame.before frame.after) tick leads.1.paints in
+    let shown : IsShown frame.before frame.path frame.after = subst (λ b. PaintsIf b frame.happening frame.before frame.path frame.after) tick leads.1.paints in
     frame-right left frame liars broke leads.1.leads (apart.0, apart.1) those at
     (λ c honest. keeps-opaque frame.happening frame.before.desktop frame.after.desktop c tick (those c honest).0) shown x y (rw (← at.wide) w) (rw (← at.high) h)
     (covers-less (both liars broke) broke (pos x) (pos y) (all_windows frame.before.desktop) (still-liars frame liars broke tick those) clear)

@@ -180,7 +180,7 @@ module _ (left : LeftOut) (e : Event) (liars next : ℕ → Bool) (leads : Leads
       by true b e = absurd (differ (sym e))
       by false b e = refl
 
-  marked-right : IsMarked e.happening e.before e.after → IsRightBut next e.after
+  marked-right : IsMarked e.happening e.before e.path e.after → IsRightBut next e.after
   marked-right marked = record {
     wide = ap (λ (i : Image). i.width) marked.frame ∙ (right.wide ∙ ap (λ (o : Output). o.width) (sym same-output));
     high = ap (λ (i : Image). i.height) marked.frame ∙ (right.high ∙ ap (λ (o : Output). o.height) (sym same-output));
@@ -222,7 +222,7 @@ module _ (left : LeftOut) (e : Event) (liars next : ℕ → Bool) (leads : Leads
       seen false b false e f = absurd (differ f)
 
   -- the frame is the desktop as it began, painted from nothing
-  pub frame-right : ((c : ℕ) → next c ≡ false → KeepsOpaque all_windows old c) → IsShown e.before e.after → (x y : ℕ) → x < old.output.width → y < old.output.height
+  pub frame-right : ((c : ℕ) → next c ≡ false → KeepsOpaque all_windows old c) → IsShown e.before e.path e.after → (x y : ℕ) → x < old.output.width → y < old.output.height
       → is_covered all_windows (both liars next) old (pos x) (pos y) ≡ false → color_at e.after.frame x y ≡ scratch e.before.frame.background old (pos x) (pos y)
   frame-right keeps shown x y w h clear = at (has e.before.damage x y) refl
     where
@@ -239,7 +239,7 @@ module _ (left : LeftOut) (e : Event) (liars next : ℕ → Bool) (leads : Leads
       at true is = shown.frame.painted x y wide high is (opaque-there keeps (pos x) (pos y) later)
       at false is = shown.frame.kept x y wide high is ∙ right.points x y w h is (was-clear x y clear)
 
-  shown-right : ((c : ℕ) → next c ≡ false → KeepsOpaque all_windows old c) → IsShown e.before e.after → IsRightBut next e.after
+  shown-right : ((c : ℕ) → next c ≡ false → KeepsOpaque all_windows old c) → IsShown e.before e.path e.after → IsRightBut next e.after
   shown-right keeps shown = record {
     wide = shown.frame.large.width ∙ (right.wide ∙ ap (λ (o : Output). o.width) (sym same-output));
     high = shown.frame.large.height ∙ (right.high ∙ ap (λ (o : Output). o.height) (sym same-output));
@@ -274,7 +274,7 @@ pub event-right : (left : LeftOut) (e : Event) (liars next : ℕ → Bool) → I
     → IsRightBut liars e.before → IsRightBut next e.after
 event-right left e liars next is apart broke right = by (is_frame e.happening) refl is.paints
   where
-    by : (b : Bool) → is_frame e.happening ≡ b → PaintsIf b e.happening e.before e.after → IsRightBut next e.after
+    by : (b : Bool) → is_frame e.happening ≡ b → PaintsIf b e.happening e.before e.path e.after → IsRightBut next e.after
     by true f shown = shown-right left e liars next is.leads apart broke right (λ c honest. keeps-opaque e.happening e.before.desktop e.after.desktop c f (broke c honest).0) shown
     by false f marked = marked-right left e liars next is.leads apart broke right marked
 

@@ -1,5 +1,5 @@
 -- What happens to a session, one event at a time: what is to be painted again of the desktop, and the last frame, before it and after it.
-use Rattle.std.specs.Prelude.{ℕ, ◌≡◌, ◌<◌, None, pos, Bool, true, false, List, [], ◌∷◌, filter}
+use Rattle.std.specs.Prelude.{ℕ, ◌≡◌, ◌<◌, ◌||◌, None, Option, pos, Bool, true, false, List, [], ◌∷◌, filter}
 use Rattle.wl_paint.specs.Damage.{Damaged, has}
 use Rattle.wl_paint.specs.Frame.{Image}
 use Rattle.wl_plain.specs.Acts.{Act, Connect, Feed, Store, Leave, Tick, Send, Close, Motion, Button}
@@ -8,11 +8,11 @@ use Rattle.wl_plain.specs.Desktop.{Desktop}
 use Rattle.wl_plain.specs.Happenings.{Happening, Leads, Message, Receive, Single, Starve}
 use Rattle.wl_plain.specs.LeftOut.{LeftOut}
 use Rattle.wl_plain.specs.Marks.{AreDistinct}
-use Rattle.wl_plain.specs.Moments.{marks_at_least, marks_at_most}
+use Rattle.wl_plain.specs.Moments.{marks_at_least, marks_at_least_through, marks_at_most_through}
 use Rattle.wl_plain.specs.Stacked.{all_windows}
 use Rattle.wl_plain.specs.Laws.{status_in}
 use Rattle.wl_plain.specs.Through.{raised_in}
-use Rattle.wl_resident.specs.Marking.{MarksAtLeast, MarksAtMost, MarksMost, MarksMostBy}
+use Rattle.wl_resident.specs.Marking.{MarksAtLeast}
 use Rattle.wl_resident.specs.Marking.{IsAsLarge as HasItsSides}
 use Rattle.wl_session.specs.Run.{IsNextFrame}
 
@@ -54,25 +54,35 @@ is_quiet (Message client) = false
 is_quiet (Starve client) = false
 is_quiet (Single act done) = is_quiet_act act
 
--- Nothing is marked but what was, and what may be. Of a message it is said where its client lives on.
-abbrev pub IsMost : Happening → Moment → Moment → Type 0
-IsMost (Receive client piece) before after = MarksMost before.desktop after.desktop before.damage after.damage
-IsMost (Message client) before after = MarksAtMost client before.desktop after.desktop before.damage after.damage
-IsMost (Starve client) before after = MarksMost before.desktop after.desktop before.damage after.damage
-IsMost (Single act done) before after = MarksMostBy (raised_in act before.desktop) before.desktop after.desktop before.damage after.damage
+-- the toplevel that a press raised, if it did
+abbrev pub raised_by : Happening → Desktop → Option (ℕ × ℕ)
+raised_by (Single act done) d = raised_in act d
+raised_by happening d = None
+
+-- Nothing is marked but what was, and what may be: by the step's own change, and by each end and each settling in turn.
+abbrev pub MarksFew : Option (ℕ × ℕ) → Desktop → List Desktop → Damaged → Damaged → Type 0
+MarksFew raised d path old new =
+    (x y : ℕ) → x < old.width → y < old.height → has new x y ≡ true → (has old x y || marks_at_most_through all_windows raised d path (pos x) (pos y)) ≡ true
+
+-- A message marks what it has to by its own change, and by each end and each settling in turn.
+abbrev pub MarksEach : Happening → Desktop → List Desktop → Damaged → Damaged → Type 0
+MarksEach (Message client) d path old new =
+    (x y : ℕ) → x < old.width → y < old.height → has new x y ≡ false → marks_at_least_through all_windows d path (pos x) (pos y) ≡ false
+MarksEach happening d path old new = Unit {0}
 
 -- Whatever happens but a frame leaves the last frame. What was to be painted again still is, and so is what has to be marked; nothing else is
--- where nothing new is shown, and no more than may be.
-pub record IsMarked (happening : Happening) (before after : Moment) : Type 0 where
+-- where nothing new is shown, and no more than may be along the desktops that it leads through.
+pub record IsMarked (happening : Happening) (before : Moment) (path : List Desktop) (after : Moment) : Type 0 where
   pub frame : after.frame ≡ before.frame
   pub sides : HasItsSides before.damage after.damage
   pub marks : MarksAtLeast before.desktop after.desktop before.damage after.damage
-  pub most : IsMost happening before after
+  pub each : MarksEach happening before.desktop path before.damage after.damage
+  pub most : MarksFew (raised_by happening before.desktop) before.desktop path before.damage after.damage
   pub quiet : is_quiet happening ≡ true → IsAsDamaged before.damage after.damage
 
 -- A frame is shown of the desktop as it was: what was to be painted again is painted, and nothing else. Then clients are told of it, and nothing
 -- is to be painted but what that has to mark and may, which is nothing where no client ends.
-pub record IsShown (before after : Moment) : Type 0 where
+pub record IsShown (before : Moment) (path : List Desktop) (after : Moment) : Type 0 where
   pub frame : IsNextFrame before.desktop before.frame after.frame (has before.damage)
   pub sides : HasItsSides before.damage after.damage
   pub none :
@@ -83,7 +93,7 @@ pub record IsShown (before after : Moment) : Type 0 where
       → marks_at_least before.desktop after.desktop (pos x) (pos y) ≡ false
   pub most :
       (x y : ℕ) → x < before.damage.width → y < before.damage.height → has after.damage x y ≡ true
-      → marks_at_most before.desktop after.desktop None (pos x) (pos y) ≡ true
+      → marks_at_most_through all_windows None before.desktop path (pos x) (pos y) ≡ true
 
 -- ---- events
 
@@ -94,14 +104,14 @@ is_frame (Message client) = false
 is_frame (Starve client) = false
 is_frame (Single act done) = is_tick act
 
-abbrev pub PaintsIf : Bool → Happening → Moment → Moment → Type 0
-PaintsIf true happening before after = IsShown before after
-PaintsIf false happening before after = IsMarked happening before after
+abbrev pub PaintsIf : Bool → Happening → Moment → List Desktop → Moment → Type 0
+PaintsIf true happening before path after = IsShown before path after
+PaintsIf false happening before path after = IsMarked happening before path after
 
 -- It may happen, marks what it has to, and shows a frame where it is a tick.
 pub record IsEvent (left : LeftOut) (e : Event) : Type 0 where
   pub leads : Leads left e.happening e.before.desktop e.path e.after.desktop
-  pub paints : PaintsIf (is_frame e.happening) e.happening e.before e.after
+  pub paints : PaintsIf (is_frame e.happening) e.happening e.before e.path e.after
 
 -- events one after another, from one moment to another
 abbrev pub AreEvents : LeftOut → Moment → List Event → Moment → Type 0

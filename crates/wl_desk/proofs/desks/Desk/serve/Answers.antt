@@ -3,8 +3,8 @@ use Rattle.std.proofs.lemmas.List.{length-set}
 use Rattle.wl_resident.specs.Agreement.{numbers_in}
 use Rattle.wl_desk.specs.Feeding.{served_as}
 use Rattle.wl_desk.proofs.Calls.{found, serves}
-use Rattle.wl_desk.proofs.Kept.{Idle-none, idles, idles-untaken, rest-less, served-answer, served-idle, served-took, serves-marks, serves-told, serves-within}
-use Rattle.wl_desk.proofs.NoMore.{idles-whole, message-whole}
+use Rattle.wl_desk.proofs.Kept.{Idle-none, idles, idles-untaken, rest-less, served-answer, served-idle, served-took, serves-marks, serves-through, serves-told, serves-within}
+use Rattle.wl_desk.proofs.NoMore.{idles-whole, message-whole, through-whole}
 use Rattle.wl_resident.specs.View.{MarkedDesk}
 use Rattle.wl_desk.proofs.desks.Desk.serve.Goals as goal
 
@@ -42,6 +42,19 @@ returns-clause-within g c = λ some d e a step b.
     c.in-Some-take_out.resident c.serve_on-taken.new.self _ _ _ _ c.serve_on-taken.new.scene e c.self.inside.damage c.serve_on-taken.new.damage c.index_mut.ensures.value c.index_mut-2.ensures.value c.in-Some-take_out.ensures.some a.no_more
     (λ r width height. c.serve_on-taken.ensures.within (served-took _ _ _ c.served_of-served.ensures some) (numbers_in c.self.inside.clients.items) d d r width height)
     c.self.invariant.1 step (rw (c.put_back.ensures.client, c.put_back.ensures.owned) at b.matches))
+
+pub returns-clause-through : goal.returns-clause-through
+returns-clause-through g c = λ some. through-whole c.args.client _ _ c.args.self.now.damage c.serve_on-taken.new.damage (λ d a.
+    rw (c.put_back.ensures.client, c.put_back.ensures.owned, ← c.self.view_is) (serves-through c.self.inside.output c.self.inside.clients.items c.self.inside.owned.items c.self.inside.scene c.args.client c.in-Some.k (found _ _ _ _ _ c.deref.ensures.value c.in-Some.ensures.some c.self.invariant.0) d (rw (← c.self.view_is) at a.matches)
+    c.in-Some-take_out.resident c.serve_on-taken.new.self _ _ _ _ c.serve_on-taken.new.scene c.self.inside.damage c.serve_on-taken.new.damage c.index_mut.ensures.value c.index_mut-2.ensures.value c.in-Some-take_out.ensures.some a.no_more
+    (λ r width height. c.serve_on-taken.ensures.through (served-took _ _ _ c.served_of-served.ensures some) (numbers_in c.self.inside.clients.items) d d r width height)
+    c.self.invariant.1))
+
+pub returns-in_default-clause-through : goal.returns-in_default-clause-through
+returns-in_default-clause-through g c = λ some. absurd (some refl)
+
+pub returns-in_default-take_out-clause-through : goal.returns-in_default-take_out-clause-through
+returns-in_default-take_out-clause-through g c = λ some. absurd (some refl)
 
 pub returns-clause-more : goal.returns-clause-more
 returns-clause-more g c = λ more. idles-whole c.args.client _ _ (λ d a.

@@ -12,8 +12,8 @@ loop-self-preserved g c =
     record {
       taken = λ d a.
           let m = c.loop-self.invariant.taken d a in
-          let next = c.serve.ensures.serves other m.desktop m.agrees in
-          served-more c.args.client _ _ _ d next.0 m refl c.serve.ensures.sides next.1 next.2 (c.serve.ensures.marks other m.desktop next.0 m.agrees next.1 next.2) (c.serve.ensures.within other m.desktop next.0 m.agrees next.1 next.2);
+          let next = c.serve.ensures.through other m.desktop m.agrees in
+          served-more c.args.client _ _ _ d next.0 m refl c.serve.ensures.sides next.1 next.2 next.3 next.4;
       frame = c.loop-self.invariant.frame;
       output = c.serve.ensures.output ∙ c.loop-self.invariant.output;
       painted = c.loop-self.invariant.painted;
