@@ -202,16 +202,16 @@ const DESTROYED: &[Row] = &[
     Row::Shows(1600, 1600, &[Pixel(0, 0, 0, 0, 0), Pixel(39, 39, 0, 0, 0)]),
 ];
 
-/// The client ends by an error, and its window goes.
+/// The client ends by an error, and its window goes: its points are painted again, and no more.
 const ENDS: &[Row] = &[
     Row::Errs(Message(7, 4, &[Arg::Uint(9)]), 7, 4),
-    Row::Shows(1600, 3072, &[Pixel(0, 0, 0, 0, 0), Pixel(39, 39, 0, 0, 0)]),
+    Row::Shows(1600, 1600, &[Pixel(0, 0, 0, 0, 0), Pixel(39, 39, 0, 0, 0)]),
 ];
 
 /// So it does where it goes by itself.
 const GOES: &[Row] = &[
     Row::Calls(Step::Gone { client: 1 }, Done::Gone(true)),
-    Row::Shows(1600, 3072, &[Pixel(0, 0, 0, 0, 0), Pixel(39, 39, 0, 0, 0)]),
+    Row::Shows(1600, 1600, &[Pixel(0, 0, 0, 0, 0), Pixel(39, 39, 0, 0, 0)]),
 ];
 
 /// The buffer 10 stays shown, though its wl_buffer went and another has its id.
@@ -231,7 +231,7 @@ const ID_USED_AGAIN: &[Row] = &[
     )),
     Row::Fills(1, 1, 6400, 1600, GREEN),
     Row::Sends(COMMIT),
-    Row::Shows(0, 1600, &[Pixel(0, 0, 255, 0, 0), Pixel(39, 39, 255, 0, 0)]),
+    Row::Shows(0, 0, &[Pixel(0, 0, 255, 0, 0), Pixel(39, 39, 255, 0, 0)]),
 ];
 
 /// The client 2 has the registry 2, the wl_compositor 3, the wl_shm 4 and the xdg_wm_base 5, and a toplevel that was configured.
@@ -425,7 +425,7 @@ const OTHER_STAYS: &[Row] = &[
     Row::Waits(2, Some(&[])),
     Row::Shows(
         1600,
-        3072,
+        1600,
         &[
             Pixel(31, 31, 0, 0, 0),
             Pixel(32, 32, 128, 0, 0),
@@ -440,7 +440,7 @@ const UNCONFIGURED: &[Row] = &[
     Row::Errs(COMMIT, 7, 3),
     Row::Is(2, Fed::Alive),
     Row::Waits(2, Some(&[])),
-    Row::Shows(0, 1600, &[Pixel(0, 0, 128, 0, 0), Pixel(39, 39, 128, 0, 0)]),
+    Row::Shows(0, 0, &[Pixel(0, 0, 128, 0, 0), Pixel(39, 39, 128, 0, 0)]),
 ];
 
 const SHOWS_SECOND_ALONE: &[Row] = &[Row::Shows(

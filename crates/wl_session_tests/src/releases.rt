@@ -1,9 +1,9 @@
 //! wl_buffer.release: a buffer that no surface shows any more is told, while its wl_buffer is there.
 
 use crate::pools::BUFFERS;
-use crate::support::{Case, Message, REGISTRY, Row, first_missed_case, play};
+use crate::support::{Case, Message, Pixel, REGISTRY, Row, first_missed_case, play};
 use crate::toplevels::{ACKNOWLEDGES, ATTACH_NONE, COMMIT, CONFIGURES, GLOBALS, MADE, MAPS};
-use wl_session::{Done, Step};
+use wl_session::{Cause, Done, Fed, Step};
 use wl_wire::Arg;
 
 /// wl_buffer.release of the buffer 10.
@@ -80,6 +80,28 @@ const CONFIGURED_AGAIN: &[Row] = &[
     ]),
 ];
 
+/// A client to which the release can't be told ends: the window that the commit moved by 3 pixels is painted again where it was and where it was
+/// then, 43 by 40 points, and no more.
+const TOO_SLOW: &[Row] = &[
+    Row::Shows(1600, 1600, &[]),
+    Row::Changes(
+        87_381,
+        Message(3, 1, &[Arg::NewId(16)]),
+        Message(16, 0, &[]),
+    ),
+    Row::Waiting(1_048_572),
+    Row::Sends(ATTACH_11),
+    Row::Calls(
+        Step::Feed {
+            client: 1,
+            piece: &[6, 0, 0, 0, 6, 0, 8, 0],
+        },
+        Done::Feed(Fed::Ended(Cause::Slow)),
+    ),
+    Row::Shows(1720, 1720, &[Pixel(0, 0, 0, 0, 0), Pixel(42, 39, 0, 0, 0)]),
+    Row::Shows(0, 0, &[]),
+];
+
 /// A toplevel that shows the buffer 10, with the buffer 11 beside it.
 const MAPPED: &[&[Row]] = &[
     REGISTRY,
@@ -97,6 +119,7 @@ const CASES: &[Case] = &[
     ("its wl_buffer is gone", &[GONE]),
     ("two surfaces show it", &[SHOWN_TWICE]),
     ("the next toplevel is configured", &[CONFIGURED_AGAIN]),
+    ("the client is too slow", &[TOO_SLOW]),
 ];
 
 #[test]
