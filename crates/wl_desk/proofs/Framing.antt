@@ -35,7 +35,8 @@ use Rattle.wl_desk.specs.Agreeing.{Agrees}
 use Rattle.wl_desk.specs.Framing.{MarksIfEnds, WasTold}
 use Rattle.wl_desk.proofs.Agreed.{agrees-apart, still-unmarked}
 use Rattle.wl_desk.proofs.Calls.{IsFound, back, out, untaken, view_of}
-use Rattle.wl_desk.proofs.Most.{HasNoNew, over-within, told-over, told-windows}
+use Rattle.wl_plain.proofs.EndingMarks.{gone-most}
+use Rattle.wl_desk.proofs.Most.{HasNoNew, told-over, told-windows}
 use Rattle.wl_desk.proofs.MarkedCalls.{or-none, own-marks, unlinked}
 
 -- ---- nobody is told
@@ -191,7 +192,7 @@ told-most time n old new d e a told x y wide high marked = sized told.sized
     by sides (inl was) = or_left (has old.damage x y) _ was
     by sides (inr (c, over, there)) =
         or_right (has old.damage x y) _
-        (over-within c d e (pos x) (pos y) a.no_more told.agrees.no_more (unlinked new.desk e told.agrees.matches) over
+        (gone-most c d e (pos x) (pos y) a.no_more told.agrees.no_more over
         (within-output d.output.width d.output.height x y (subst (λ w. x < w) sides.0 wide) (subst (λ h. y < h) sides.1 high)) there)
 
     sized : (suc n ≡ 0) ⊎ IsSized old d → (has old.damage x y || marks_at_most d e None (pos x) (pos y)) ≡ true

@@ -1,26 +1,24 @@
 -- What the end of a client marks at most, and what is left of the windows.
-use Rattle.std.proofs.Common.{◌≡◌, ◌≢◌, ◌<◌, ℕ, List, [], ◌∷◌, Bool, true, false, Option, Some, None, refl, ap, subst, sym, ◌∙◌, eq-eqb, ◌⊎◌, inl, inr}
+use Rattle.std.proofs.Common.{◌≡◌, ◌≢◌, ◌<◌, ℕ, Bool, true, false, Option, Some, None, refl, ap, subst, sym, ◌∙◌, eq-eqb, ◌⊎◌, inl, inr}
 use Rattle.std.proofs.Math.Path.{fun_ext}
 use Rattle.std.proofs.lemmas.Bool.{or_left, or_right}
 use Rattle.std.specs.List.{list_any}
-use Rattle.std.specs.Prelude.{ℤ, pos, ◌==◌, ◌&&◌, ◌||◌, cond, filter, is_some, not}
+use Rattle.std.specs.Prelude.{ℤ, pos, ◌||◌, is_some}
 use Rattle.wl_client.specs.Peer.{Peer, left_by}
 use Rattle.wl_client.specs.Told.{Output as Sides}
 use Rattle.wl_client.specs.declared.clients.Cause.{Cause}
 use Rattle.wl_paint.specs.Damage.{Damaged, has}
 use Rattle.wl_surface.specs.Surfaces.{history_in}
-use Rattle.wl_scene.specs.Stacking.{Owned as Owns, Standing, is_of, windows_on}
-use Rattle.wl_scene.specs.Windows.{Window, contains}
+use Rattle.wl_scene.specs.Stacking.{Owned as Owns, is_of, windows_on}
+use Rattle.wl_scene.specs.Windows.{Window}
 use Rattle.wl_plain.specs.Acts.{IsLeft, Leave}
 use Rattle.wl_plain.specs.Desktop.{Desktop, Resident, become, become_by, client_at, owned_in, owned_of, resident_of}
 use Rattle.wl_plain.specs.Framing.{FramesToldAt, FramesToldBy, done_due}
 use Rattle.wl_plain.specs.Happens.{Happens}
-use Rattle.wl_plain.specs.Laws.{status_in, status_of, toplevels_of}
+use Rattle.wl_plain.specs.Laws.{status_in, status_of}
 use Rattle.wl_plain.specs.LeftOut.{served_now}
-use Rattle.wl_plain.specs.Marks.{has_same_record, in_output, is_changed_at, is_kept_in}
-use Rattle.wl_plain.specs.Moments.{marks_at_least, marks_at_most}
-use Rattle.wl_plain.specs.NoMore.{NoMore, OwnsToplevelsAt, OwnsToplevelsBy}
-use Rattle.wl_plain.specs.Stacked.{all_windows}
+use Rattle.wl_plain.specs.Moments.{marks_at_most}
+use Rattle.wl_plain.specs.NoMore.{NoMore}
 use Rattle.wl_plain.specs.Standing.{AreMapped}
 use Rattle.wl_plain.specs.Touching.{has_window_at}
 use Rattle.wl_plain.specs.declared.answers.Done.{Done}
@@ -32,11 +30,10 @@ use Rattle.wl_resident.specs.View.{DeskView, MarkedDesk}
 use Rattle.wl_resident.proofs.Within.{within-output}
 use Rattle.wl_plain.proofs.Altering.{ChangesAt, left_so}
 use Rattle.wl_plain.proofs.BridgeBack.{alters-back}
-use Rattle.wl_plain.proofs.BridgeWindows.{windows-same}
+use Rattle.wl_plain.proofs.EndingMarks.{gone-most}
 use Rattle.wl_plain.proofs.OrderlyObjectsKeys.{any-of-filter}
 use Rattle.wl_plain.proofs.Places.{number-other, other-become, status-become}
-use Rattle.wl_plain.proofs.Stacks.{and-both, and-left, and-right, differ, fields}
-use Rattle.wl_plain.proofs.StandingLists.{any-gone}
+use Rattle.wl_plain.proofs.Stacks.{differ}
 use Rattle.wl_plain.proofs.ToplevelWindows.{windows_in}
 use Rattle.wl_plain.proofs.TouchingMarks.{is_else}
 use Rattle.wl_plain.proofs.TouchingWindows.{counted, windows-else}
@@ -44,75 +41,8 @@ use Rattle.wl_plain.proofs.TouchingWindows.{windows-same as windows-kept}
 use Rattle.wl_desk.specs.Agreeing.{Agrees}
 use Rattle.wl_desk.specs.Feeding.{Ends}
 use Rattle.wl_desk.proofs.Calls.{ended_of}
-use Rattle.wl_desk.proofs.MarkedCalls.{none-standing, of_client, others-all, owned-numbers, unlinked, window-stands}
+use Rattle.wl_desk.proofs.MarkedCalls.{none-standing, of_client, owned-numbers, unlinked, window-stands}
 use Rattle.wl_desk.proofs.NoMore.{ended-once}
-
--- ---- lists
-
--- what has one thing has the other
-any-so : (p q : Window → Bool) → ((w : Window) → p w ≡ true → q w ≡ true) → (ws : List Window) → list_any p ws ≡ true → list_any q ws ≡ true
-any-so p q so [] e = e
-any-so p q so (w ∷ ws) e = at (p w) refl e (any-so p q so ws)
-  where
-    at : (b : Bool) → p w ≡ b → (b || list_any p ws) ≡ true → (list_any p ws ≡ true → list_any q ws ≡ true) → (q w || list_any q ws) ≡ true
-    at true here e later = or_left (q w) _ (so w here)
-    at false here e later = or_right (q w) _ (later e)
-
--- none has one thing where none has the other
-none-so : (p q : Window → Bool) → ((w : Window) → p w ≡ true → q w ≡ true) → (ws : List Window) → list_any q ws ≡ false → list_any p ws ≡ false
-none-so p q so ws none = at (list_any p ws) refl
-  where
-    at : (b : Bool) → list_any p ws ≡ b → b ≡ false
-    at false e = refl
-    at true e = absurd (differ (sym none ∙ any-so p q so ws e))
-
-none-filtered : (c : ℕ) (ss : List Standing) → filter (λ s. s.client == c) ss ≡ [] → list_any (λ s. s.client == c) ss ≡ false
-none-filtered c [] e = refl
-none-filtered c (s ∷ ss) e = at (s.client == c) refl e (none-filtered c ss)
-  where
-    at : (b : Bool) → (s.client == c) ≡ b → cond b (s ∷ filter (λ s. s.client == c) ss) (filter (λ s. s.client == c) ss) ≡ []
-        → (filter (λ s. s.client == c) ss ≡ [] → list_any (λ s. s.client == c) ss ≡ false) → (b || list_any (λ s. s.client == c) ss) ≡ false
-    at true here e later = absurd (cc)
-    at false here e later = later e
-
--- ---- the windows of a client that ended
-
--- none of its toplevels stands
-over-none : (c : ℕ) (e : Desktop) → NoMore e → is_some (status_in c e) ≡ true → toplevels_of c e ≡ []
-over-none c e more over = at (client_at c e) (more.each c) over
-  where
-    by : (s : Option Cause) (r : Resident) → OwnsToplevelsBy s r (toplevels_of c e) → is_some s ≡ true → toplevels_of c e ≡ []
-    by None r owns over = absurd (differ over)
-    by (Some cause) r owns over = owns.1
-
-    at : (o : Option Resident) → OwnsToplevelsAt o (toplevels_of c e) → is_some (status_of o) ≡ true → toplevels_of c e ≡ []
-    at None owns over = absurd (differ over)
-    at (Some r) owns over = by r.peer.status r owns over
-
--- so it has no window
-over-windowless : (c : ℕ) (e : Desktop) → NoMore e → AreUnlinked e → is_some (status_in c e) ≡ true → list_any (λ (w : Window). w.owner.client == c) (windows_in e) ≡ false
-over-windowless c e more unlinked over =
-    ap (λ ws. list_any (λ (w : Window). w.owner.client == c) ws)
-    (sym (windows-else (of_client c) (owned_in e) e.standing unlinked ∙ ap (λ ss. windows_on (owned_in e) ss) (others-all c e.standing (none-filtered c e.standing (over-none c e more over)))))
-    ∙ any-gone (λ (w : Window). w.owner.client == c) (is_else (of_client c)) (λ w f. ap (λ b. not b) f) (windows_in e)
-
--- A point of the output at which a client had a window that ended is among what is marked at most.
-pub over-within : (c : ℕ) (d e : Desktop) (x y : ℤ) → NoMore d → NoMore e → AreUnlinked e → is_some (status_in c e) ≡ true → in_output d.output.width d.output.height x y ≡ true
-    → has_window_at c x y d ≡ true → marks_at_most d e None x y ≡ true
-over-within c d e x y more later unlinked over inside there =
-    or_left (marks_at_least d e x y) _
-    (and-both (in_output d.output.width d.output.height x y) _ inside (or_left (list_any (is_changed_at (all_windows e) x y) (all_windows d) || _) _ (or_left (list_any (is_changed_at (all_windows e) x y) (all_windows d)) _ changed)))
-  where
-    gone : (w : Window) → (w.owner.client == c) ≡ true → is_kept_in (all_windows e) w ≡ false
-    gone w own =
-        ap (λ ws. is_kept_in ws w) (windows-same e later)
-        ∙ none-so (has_same_record w) (λ v. v.owner.client == c) (λ v same. ap (λ n. n == c) (sym (fields w v same).client) ∙ own) (windows_in e) (over-windowless c e later unlinked over)
-
-    changed : list_any (is_changed_at (all_windows e) x y) (all_windows d) ≡ true
-    changed =
-        ap (λ ws. list_any (is_changed_at (all_windows e) x y) ws) (windows-same d more)
-        ∙ any-so (λ w. (w.owner.client == c) && contains w x y) (is_changed_at (all_windows e) x y)
-        (λ w f. and-both (contains w x y) _ (and-right (w.owner.client == c) _ f) (ap not (gone w (and-left (w.owner.client == c) _ f)))) (windows_in d) there
 
 -- ---- what is left of the windows as a frame is told
 
@@ -190,7 +120,7 @@ own-most c old v d e new a b sides ends within = λ x y wide high marked.
     at x y wide high false was true there h (inl none) = absurd (differ (sym (absent-windowless c old.desk d (pos x) (pos y) a.matches none) ∙ there))
     at x y wide high false was true there h (inr over) =
         or_right (has old.damage x y) _
-        (over-within c d e (pos x) (pos y) a.no_more b.no_more (unlinked v e b.matches) over
+        (gone-most c d e (pos x) (pos y) a.no_more b.no_more over
         (within-output d.output.width d.output.height x y (subst (λ w. x < w) sides.0 wide) (subst (λ h. y < h) sides.1 high)) there)
 
 -- a client that leaves has ended, if it is there
