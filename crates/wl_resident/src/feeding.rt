@@ -1,7 +1,6 @@
 //! One client is served, and its toplevels come to the stack and go.
 
-ghost use Rattle.std.specs.Prelude.{ℕ, ◌≡◌, ◌<◌, ◌≤◌, ◌||◌, List, None, Some, length, pos, true, false};
-ghost use Rattle.wl_paint.specs.Damage.{has};
+ghost use Rattle.std.specs.Prelude.{ℕ, ◌≡◌, ◌<◌, ◌≤◌, List, None, Some, length, true, false};
 ghost use Rattle.wl_resident.specs.Marking.{AreUnlinked, IsAsLarge, MarksAtLeast, MarksAtMost, MarksOwn, MarksThrough};
 ghost use Rattle.wl_client.specs.Objects.{ById};
 ghost use Rattle.wl_store.specs.Stores.{write_refusal};
