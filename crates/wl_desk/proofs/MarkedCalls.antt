@@ -11,13 +11,13 @@ use Rattle.wl_client.specs.declared.clients.Cause.{Cause}
 use Rattle.wl_client.specs.declared.outputs.Output.{Output}
 use Rattle.wl_paint.specs.Damage.{Damaged, has}
 use Rattle.wl_surface.specs.Surfaces.{history_in}
-use Rattle.wl_scene.specs.Stacking.{Owned as Owns, Stack, Standing, is_of, nothing_owned, windows_on, without_client}
+use Rattle.wl_scene.specs.Stacking.{Owned as Owns, Stack, nothing_owned, windows_on, without_client}
 use Rattle.wl_scene.specs.Windows.{Window, contains}
 use Rattle.wl_scene.specs.declared.owned.Owned.{Owned}
-use Rattle.wl_resident.specs.Agreement.{Matches, IsPlace, IsStack, numbers_in}
-use Rattle.wl_plain.specs.Desktop.{Desktop, Resident, arrival, become, client_at, client_in, owned_in, owned_of, place, with_number, with_place}
-use Rattle.wl_plain.specs.Laws.{OwnsNothing, status_of}
-use Rattle.wl_resident.specs.Marking.{AreUnlinked, MarksEnd, MarksOwn, stands_any}
+use Rattle.wl_resident.specs.Agreement.{Matches, IsPlace, numbers_in}
+use Rattle.wl_plain.specs.Desktop.{Desktop, Resident, arrival, become, become_by, client_at, client_in, owned_in, owned_of, place, with_number, with_place}
+use Rattle.wl_plain.specs.Laws.{OwnsNothing}
+use Rattle.wl_resident.specs.Marking.{AreUnlinked, MarksOwn}
 use Rattle.wl_resident.specs.Seats.{IsChangedSo, IsSeated, ended_by, has_ended_in}
 use Rattle.wl_plain.specs.Standing.{AreMapped}
 use Rattle.wl_plain.proofs.Altering.{Changes, ChangesAt, left_so}
@@ -30,12 +30,11 @@ use Rattle.wl_plain.specs.declared.answers.Done.TheVariants as gave
 use Rattle.wl_resident.specs.declared.residents.Resident.{Resident as Kept}
 use Rattle.wl_desk.proofs.Calls.{IsFound, client-here, closed-none, ended_at, ended_of, lowest-at, out, untaken, view_of}
 use Rattle.wl_desk.proofs.Desktops.{at, client-past, place-at}
-use Rattle.std.proofs.lemmas.Bool.{eqb-true}
 use Rattle.wl_plain.proofs.Stacks.{and-left, differ}
-use Rattle.wl_plain.proofs.Places.{status-become}
-use Rattle.wl_plain.proofs.StandingLists.{any-gone, of-it}
+use Rattle.wl_plain.proofs.StandingLists.{any-gone}
 use Rattle.wl_resident.proofs.Toplevels.{MarksToplevels}
-use Rattle.wl_resident.proofs.Telling.{lives-of}
+use Rattle.wl_resident.proofs.Scenes.{none-standing, others-all}
+use Rattle.wl_resident.proofs.Telling.{become-kept, lives-of}
 use Rattle.wl_plain.proofs.Touching.{desktops-touch, same-stays}
 use Rattle.wl_plain.proofs.TouchingMarks.{is_else}
 use Rattle.wl_plain.proofs.TouchingSteps.{end-touches, none-there, none_of, told-marks-nothing}
@@ -51,10 +50,6 @@ neither false b e = (refl, e)
 pub or-none : (a : Bool) → a ≡ (a || false)
 or-none true = refl
 or-none false = refl
-
-pub or-all : (a : Bool) → true ≡ (a || true)
-or-all true = refl
-or-all false = refl
 
 unless : (b : Bool) → (b ≡ true → ⊥) → b ≡ false
 unless true h = absurd (h refl)
@@ -76,29 +71,6 @@ unlinked-here (Some v) (Some o) None here = absurd here
 pub unlinked : (w : DeskView) (d : Desktop) → Matches w d → AreUnlinked d
 unlinked w d a zero = refl
 unlinked w d a (suc k) = unlinked-here (at w.clients k) (at w.owned k) (client_at (suc k) d) (place-at w d k a)
-
-any-standing : (c : ℕ) (numbers : ℕ → ℕ → Option ℕ) (ks ss : List Standing) → IsStack numbers ks ss → list_any (λ s. s.client == c) ks ≡ list_any (λ s. s.client == c) ss
-any-standing c numbers [] [] is = refl
-any-standing c numbers (k ∷ ks) (s ∷ ss) is = rw (is.0.client, any-standing c numbers ks ss is.1) refl
-any-standing c numbers [] (s ∷ ss) is = absurd is
-any-standing c numbers (k ∷ ks) [] is = absurd is
-
--- those that aren't the client's are all, where it has none
-pub others-all : (c : ℕ) (ss : List Standing) → list_any (λ s. s.client == c) ss ≡ false → without_client c ss ≡ ss
-others-all c [] none = refl
-others-all c (s ∷ ss) none =
-    let both = neither (s.client == c) (list_any (λ s. s.client == c) ss) none in
-    rw both.0 (ap (λ ss. s ∷ ss) (others-all c ss both.1))
-
--- one of whose surfaces none stands has no toplevel
-pub none-standing : (c : ℕ) (ss : List Standing) → ((surface : ℕ) → list_any (is_of c surface) ss ≡ false) → list_any (λ s. s.client == c) ss ≡ false
-none-standing c [] none = refl
-none-standing c (s ∷ ss) none =
-    by (s.client == c) refl (none-standing c ss (λ surface. (neither (is_of c surface s) (list_any (is_of c surface) ss) (none surface)).1))
-  where
-    by : (b : Bool) → (s.client == c) ≡ b → list_any (λ s. s.client == c) ss ≡ false → (b || list_any (λ s. s.client == c) ss) ≡ false
-    by true e rest = absurd (differ (sym (neither (is_of c s.surface s) (list_any (is_of c s.surface) ss) (none s.surface)).0 ∙ of-it c s.surface s (eqb-true s.client c e) refl))
-    by false e rest = rest
 
 abbrev pub of_client : ℕ → ℕ → ℕ → Bool
 of_client c client surface = client == c
@@ -187,19 +159,16 @@ stored-status store from bytes done p q h = ap (λ o. status-then o) h.0 ∙ sto
 
 -- ---- a client is told something
 
--- so it is also where it ends by that
-pub told-marks : (c : ℕ) (there : Resident) (w : DeskView) (d : Desktop) (q : Peer) (ended : Option Cause) (old new : Damaged) → client_at c d ≡ Some there → Matches w d → q.status ≡ ended → MarksEnd ended c w.scene old new → MarksToplevels d (become c there q d) old new
-told-marks c there w d q None old new at_c a status marks = λ x y wide high clean. (
-  (neither (has old x y) false (sym (marks.1 x y wide high) ∙ clean)).0,
-  told-marks-nothing c there d at_c (unlinked w d a) a.mapped.apart there q refl status (pos x) (pos y),
+-- one that lives on or had ended has the windows that it had
+told-marks : (c : ℕ) (there : Resident) (w : DeskView) (d : Desktop) (q : Peer) (damage : Damaged) → client_at c d ≡ Some there → Matches w d → (is_some q.status ≡ true → OwnsNothing there) → MarksToplevels d (become c there q d) damage damage
+told-marks c there w d q damage at_c a nothing = λ x y wide high clean. (
+  clean,
+  same-marks-nothing w d (become c there q d) a (ap (λ (e : Desktop). e.standing) same)
+      (λ other. ap (λ (e : Desktop). owned_in e other) same ∙ owned-numbers d.clients c other (Some (record there { peer = q })) (ap owned_of (sym at_c))) (pos x) (pos y),
 )
-told-marks c there w d q (Some cause) old new at_c a status marks = λ x y wide high clean.
-    let both = neither (has old x y) (stands_any c w.scene) (sym (marks.1 x y wide high) ∙ clean) in (
-      both.0,
-      unless (marks_of_toplevels d (become c there q d) (pos x) (pos y))
-          (λ marked. differ (sym (window-stands c d (unlinked w d a) (pos x) (pos y) (sym (any-standing c _ w.scene.standing d.standing a.scene.standing) ∙ both.1))
-          ∙ end-touches c there d at_c (unlinked w d a) a.mapped.apart there q cause status (pos x) (pos y) marked)),
-    )
+  where
+    same : become c there q d ≡ become_by None c there q d
+    same = (become-kept q.status c there q d at_c a.mapped nothing).0
 
 -- What a client's own windows hold is marked, and no more: that is enough, whatever it is told.
 pub own-marks : (c : ℕ) (there : Resident) (w : DeskView) (d : Desktop) (q : Peer) (old new : Damaged) → client_at c d ≡ Some there → Matches w d
@@ -234,32 +203,22 @@ module _ {A : Type 0} (output : Output) (us : List (Option ClientView)) (os : Li
   untaken-marks R absent done x x2 y y2 e damage f g none left changes =
       none-marks R absent done c old-view d e damage (untaken output us os stack c k is d a x x2 y y2 f g none left).0 a changes
 
-  -- how a client is that becomes so, and is seated
-  seated-status : (there : Resident) (q : Peer) (new : Kept A) (now : Stack) (s : Resident) → client_at c d ≡ Some there → IsSeated c (numbers_in us) d new now (become c there q d) s → q.status ≡ new.client.ended
-  seated-status there q new now s at_c seated =
-      sym (status-become c there q d there at_c) ∙ (ap (λ (o : Option Resident). status_of o) seated.based.there ∙ sym seated.seat.peer.status)
-
-  -- a client that is told something, which leads to one client only
-  pub changes-marks : (R : Peer → Done → Option Peer → Type 0) (absent done : Done) (v new : Kept A) (x : Option ClientView) (y : Option (Owned A)) (now : Stack) (e : Desktop) (before after : Damaged) → x ≡ get_or us k x → y ≡ get_or os k y
-      → (x ≡ Some v.client) × (y ≡ Some v.owned) → IsChangedSo c R done v new stack now → ((p : Peer) (q r : Option Peer) → R p done q → R p done r → q ≡ r) → MarksEnd new.client.ended c stack before after
-      → Changes c R absent d done e → MarksToplevels d e before after
-  changes-marks R absent done v new x y now e before after f g taken changed once marks changes =
+  -- a client that is told something, which leads to one client only, and lives after it as before or had ended
+  pub changes-marks : (R : Peer → Done → Option Peer → Type 0) (absent done : Done) (v new : Kept A) (x : Option ClientView) (y : Option (Owned A)) (e : Desktop) (damage : Damaged) → x ≡ get_or us k x → y ≡ get_or os k y
+      → (x ≡ Some v.client) × (y ≡ Some v.owned) → IsChangedSo c R done v new stack stack → ((p : Peer) (q r : Option Peer) → R p done q → R p done r → q ≡ r) → ((p q : Peer) → R p done (Some q) → q.status ≡ p.status)
+      → Changes c R absent d done e → MarksToplevels d e damage damage
+  changes-marks R absent done v new x y e damage f g taken changed once kept changes =
       let s = out output us os stack c k is d a v x y f g taken in
       let n = changed (numbers_in us) d d s.0 s.2 in
       let step : ChangesAt R absent c (Some s.0) d done e = subst (λ (o : Option Resident). ChangesAt R absent c o d done e) s.1 changes in
-      subst (λ (e : Desktop). MarksToplevels d e before after) (sym (step.2 ∙ ap (λ q. left_so c s.0 q d) (once s.0.peer step.0 (Some n.0) step.1 n.2)))
-      (told-marks c s.0 old-view d n.0 new.client.ended before after s.1 a (seated-status s.0 n.0 new now n.1 s.1 n.3) marks)
+      subst (λ (e : Desktop). MarksToplevels d e damage damage) (sym (step.2 ∙ ap (λ q. left_so c s.0 q d) (once s.0.peer step.0 (Some n.0) step.1 n.2)))
+      (told-marks c s.0 old-view d n.0 damage s.1 a (λ some. s.2.seat.ended (ap (λ (z : Option Cause). is_some z) (sym (kept s.0.peer n.0 n.2)) ∙ some)))
 
   -- a client that ended has no toplevel on the stack
-  none-stands : (r : Resident) → client_at c d ≡ Some r → (is_some r.peer.status ≡ true → OwnsNothing r) → (is_some r.peer.status && stands_any c stack) ≡ false
-  none-stands r there nothing = by (is_some r.peer.status) refl
-    where
-      by : (b : Bool) → is_some r.peer.status ≡ b → (b && stands_any c stack) ≡ false
-      by false e = refl
-      by true e =
-          let bare : owned_in d c ≡ nothing_owned = ap owned_of there ∙ ap (λ (r : Resident). r.owned) (nothing e) in
-          any-standing c _ stack.standing d.standing a.scene.standing
-          ∙ none-standing c d.standing (λ surface. (subst (λ o. AreMapped c o d.standing) bare (a.mapped.each c)).stands surface)
+  none-stands : (r : Resident) → client_at c d ≡ Some r → OwnsNothing r → list_any (λ s. s.client == c) d.standing ≡ false
+  none-stands r there nothing =
+      let bare : owned_in d c ≡ nothing_owned = ap owned_of there ∙ ap (λ (r : Resident). r.owned) nothing in
+      none-standing c d.standing (λ surface. (subst (λ o. AreMapped c o d.standing) bare (a.mapped.each c)).stands surface)
 
   -- its own windows are marked, whether it lived or not: one that ended has none
   own-points : (v : Kept A) (r : Resident) (before after : Damaged) → client_at c d ≡ Some r → IsSeated c (numbers_in us) d v stack d r → MarksOwn v.client.ended c v stack before after
@@ -268,9 +227,7 @@ module _ {A : Type 0} (output : Output) (us : List (Option ClientView)) (os : Li
       marks.1 (numbers_in us) d d r seated i j wide high ∙ ap (λ b. has before i j || b) (own v.client.ended seated.seat.peer.status)
     where
       no-window : is_some r.peer.status ≡ true → has_window_at c (pos i) (pos j) d ≡ false
-      no-window over =
-          window-stands c d (unlinked old-view d a) (pos i) (pos j)
-          (sym (any-standing c _ stack.standing d.standing a.scene.standing) ∙ (sym (ap (λ b. b && stands_any c stack) over) ∙ none-stands r there seated.seat.ended))
+      no-window over = window-stands c d (unlinked old-view d a) (pos i) (pos j) (none-stands r there (seated.seat.ended over))
 
       own : (o : Option Cause) → o ≡ r.peer.status → (is_none o && has_window_at c (pos i) (pos j) d) ≡ has_window_at c (pos i) (pos j) d
       own None e = refl
@@ -293,18 +250,6 @@ module _ {A : Type 0} (output : Output) (us : List (Option ClientView)) (os : Li
       let step : ChangesAt R absent c (Some s.0) d done e = subst (λ (o : Option Resident). ChangesAt R absent c o d done e) s.1 changes in
       subst (λ (e : Desktop). MarksToplevels d e before after) (sym (step.2 ∙ ap (λ q. left_so c s.0 q d) (once s.0.peer step.0 (Some n.0) step.1 n.2)))
       (own-marks c s.0 old-view d n.0 before after s.1 a (own-points v s.0 before after s.1 s.2 marks))
-
-  -- a client that lives after it as before, or ended before: nothing is marked
-  pub changes-nothing : (R : Peer → Done → Option Peer → Type 0) (done : Done) (v new : Kept A) (x : Option ClientView) (y : Option (Owned A)) (now : Stack) (before after : Damaged) → x ≡ get_or us k x → y ≡ get_or os k y
-      → (x ≡ Some v.client) × (y ≡ Some v.owned) → IsChangedSo c R done v new stack now → ((p q : Peer) → R p done (Some q) → q.status ≡ p.status) → MarksEnd new.client.ended c stack before after
-      → (i j : ℕ) → i < before.width → j < before.height → has after i j ≡ has before i j
-  changes-nothing R done v new x y now before after f g taken changed kept marks i j wide high =
-      let s = out output us os stack c k is d a v x y f g taken in
-      let n = changed (numbers_in us) d d s.0 s.2 in
-      let same : new.client.ended ≡ s.0.peer.status = sym (seated-status s.0 n.0 new now n.1 s.1 n.3) ∙ kept s.0.peer n.0 n.2 in
-      marks.1 i j wide high
-      ∙ (ap (λ b. has before i j || b) (ap (λ (z : Option Cause). is_some z && stands_any c stack) same ∙ none-stands s.0 s.1 s.2.seat.ended)
-      ∙ sym (or-none (has before i j)))
 
   -- a client ends
   pub ends-untaken-marks : (cause : Cause) (x x2 : Option ClientView) (y y2 : Option (Owned A)) (damage : Damaged) → x ≡ get_or us k x → y ≡ get_or os k y → (x ≡ None) ⊎ (y ≡ None) → (x2 ≡ None) × (y2 ≡ None) → MarksToplevels d (ended_at c cause d) damage damage
@@ -345,8 +290,7 @@ module _ {A : Type 0} (output : Output) (us : List (Option ClientView)) (os : Li
   gone-marks : (s : Resident) (e : Desktop) → client_at c d ≡ Some s → OwnsNothing s → e ≡ record d { clients = with_number c None d.clients; standing = without_client c d.standing } → (x y : ℤ) → marks_of_toplevels d e x y ≡ false
   gone-marks s e there nothing same x y =
       let bare : owned_in d c ≡ nothing_owned = ap owned_of there ∙ ap (λ (r : Resident). r.owned) nothing in
-      let none : list_any (λ s. s.client == c) d.standing ≡ false = none-standing c d.standing (λ surface. (subst (λ o. AreMapped c o d.standing) bare (a.mapped.each c)).stands surface) in
-      same-marks-nothing old-view d e a (ap (λ (d : Desktop). d.standing) same ∙ others-all c d.standing none)
+      same-marks-nothing old-view d e a (ap (λ (d : Desktop). d.standing) same ∙ others-all c d.standing (none-stands s there nothing))
       (λ other. ap (λ (d : Desktop). owned_in d other) same ∙ owned-numbers d.clients c other None (sym bare)) x y
 
   closed-by : (x : Option ClientView) (o : Option OwnedView) (r : Option Resident) (done : Done) (e : Desktop) (stood : Bool) (before after : Damaged) → client_at c d ≡ r → IsPlace x o r → has_ended_in x ≡ true

@@ -27,6 +27,7 @@ use Rattle.wl_resident.specs.Agreement.{Matches}
 use Rattle.wl_resident.specs.Marking.{AreUnlinked, MarksMost}
 use Rattle.wl_resident.specs.Seats.{ended_by}
 use Rattle.wl_resident.specs.View.{DeskView, MarkedDesk}
+use Rattle.wl_resident.proofs.Scenes.{none-standing, others-all}
 use Rattle.wl_resident.proofs.Within.{within-output}
 use Rattle.wl_plain.proofs.Altering.{ChangesAt, left_so}
 use Rattle.wl_plain.proofs.BridgeBack.{alters-back}
@@ -41,7 +42,7 @@ use Rattle.wl_plain.proofs.TouchingWindows.{windows-same as windows-kept}
 use Rattle.wl_desk.specs.Agreeing.{Agrees}
 use Rattle.wl_desk.specs.Feeding.{Ends}
 use Rattle.wl_desk.proofs.Calls.{ended_of}
-use Rattle.wl_desk.proofs.MarkedCalls.{none-standing, of_client, owned-numbers, unlinked, window-stands}
+use Rattle.wl_desk.proofs.MarkedCalls.{of_client, owned-numbers, unlinked, window-stands}
 use Rattle.wl_desk.proofs.NoMore.{ended-once}
 
 -- ---- what is left of the windows as a frame is told

@@ -238,19 +238,10 @@ impl<A: Allocator + Copy> Desk<A> {
         let Some(k) = place_of(&self.clients, client) else {
             return Stored::NoClient;
         };
-        let alloc = *self.clients.allocator();
         let Some(mut resident) = take_out(&mut self.clients[k], &mut self.owned[k]) else {
             return Stored::NoClient;
         };
-        let stored = resident.store(
-            &mut self.scene,
-            &mut self.damage,
-            client,
-            store,
-            at,
-            bytes,
-            alloc,
-        );
+        let stored = resident.store(store, at, bytes);
         put_back(&mut self.clients[k], &mut self.owned[k], resident);
         stored
     }
@@ -300,11 +291,10 @@ impl<A: Allocator + Copy> Desk<A> {
         let Some(k) = place_of(&self.clients, client) else {
             return false;
         };
-        let alloc = *self.clients.allocator();
         let Some(mut resident) = take_out(&mut self.clients[k], &mut self.owned[k]) else {
             return false;
         };
-        let sent = resident.sent(&mut self.scene, &mut self.damage, client, count, alloc);
+        let sent = resident.sent(count);
         put_back(&mut self.clients[k], &mut self.owned[k], resident);
         sent
     }

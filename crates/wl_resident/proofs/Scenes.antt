@@ -8,7 +8,7 @@ use Rattle.wl_scene.specs.Stacking.{Standing, is_of, with_mapped, without_client
 use Rattle.wl_scene.specs.Windows.{mapping_place}
 use Rattle.wl_resident.specs.Agreement.{IsStack, IsStanding, with_numbers}
 use Rattle.wl_plain.proofs.OwningKeys.{differ}
-use Rattle.wl_plain.proofs.Stacks.{and-both, equal-numbers, same-number}
+use Rattle.wl_plain.proofs.Stacks.{and-both, equal-numbers, or-left, or-right, same-number}
 
 -- ---- other numbers
 
@@ -137,3 +137,19 @@ none-stands c surface (s ∷ ss) = at (s.client == c) refl (none-stands c surfac
         → list_any (is_of c surface) (cond (not b) (s ∷ without_client c ss) (without_client c ss)) ≡ false
     at true e rest = rest
     at false e rest = rw (e, rest) refl
+
+-- those that aren't a client's are all, where it has none
+pub others-all : (c : ℕ) (ss : List Standing) → list_any (λ s. s.client == c) ss ≡ false → without_client c ss ≡ ss
+others-all c [] none = refl
+others-all c (s ∷ ss) none =
+    rw (or-left (s.client == c) _ none) (ap (λ (rest : List Standing). s ∷ rest) (others-all c ss (or-right (s.client == c) _ none)))
+
+-- one of whose surfaces none stands has no toplevel
+pub none-standing : (c : ℕ) (ss : List Standing) → ((surface : ℕ) → list_any (is_of c surface) ss ≡ false) → list_any (λ s. s.client == c) ss ≡ false
+none-standing c [] none = refl
+none-standing c (s ∷ ss) none = at (s.client == c) refl (none-standing c ss (λ surface. or-right (is_of c surface s) (list_any (is_of c surface) ss) (none surface)))
+  where
+    at : (b : Bool) → (s.client == c) ≡ b → list_any (λ s. s.client == c) ss ≡ false → (b || list_any (λ s. s.client == c) ss) ≡ false
+    at true e rest =
+        absurd (differ (sym (and-both (s.client == c) (s.surface == s.surface) e (same-number s.surface)) ∙ or-left (is_of c s.surface s) (list_any (is_of c s.surface) ss) (none s.surface)))
+    at false e rest = rest

@@ -1,11 +1,8 @@
 -- What is told to a client, and what a message does to the toplevels, at the desk.
-use Rattle.std.proofs.Common.{◌≡◌, ◌||◌, ℕ, Bool, true, false, List, [], ◌∷◌, Option, Some, None, ap, inl, inr, refl, subst, sym, ◌∙◌}
-use Rattle.std.specs.List.{list_any}
-use Rattle.std.specs.Prelude.{is_some, map}
+use Rattle.std.proofs.Common.{◌≡◌, ℕ, true, false, Option, Some, None, ap, inl, inr, subst, sym, ◌∙◌}
+use Rattle.std.specs.Prelude.{is_some}
 use Rattle.wl_client.specs.declared.clients.Cause.{Cause}
-use Rattle.wl_paint.specs.Damage.{Damaged}
 use Rattle.wl_scene.specs.Stacking.{Stack, without_client}
-use Rattle.wl_resident.specs.Marking.{MarksEnd}
 use Rattle.wl_resident.specs.Seats.{IsBare, IsClearedBy, IsRestacked, IsRestackedBy}
 use Rattle.wl_resident.specs.declared.residents.Resident.{Resident as Kept}
 use Rattle.wl_resident.specs.declared.residents.Stacking.{Stacking}
@@ -47,21 +44,8 @@ ended-stack {A} None c stacking old mid was between ended restacked over = at st
     at (ToTop number) (inr h) = h.1
     at (Out number) h = absurd (differ (lives h.0))
 
--- ---- what an end marks
-
-any-map : {X Y : Type 0} (f : X → Y) (p : Y → Bool) (xs : List X) → list_any p (map f xs) ≡ list_any (λ x. p (f x)) xs
-any-map f p [] = refl
-any-map f p (x ∷ xs) = ap (λ b. p (f x) || b) (any-map f p xs)
-
--- what is seen of a list passes a test alike
-pub any-mapped : {X Y : Type 0} (f : X → Y) (p : Y → Bool) (xs : List X) (ys : List Y) (b : Bool) → b ≡ list_any (λ x. p (f x)) xs → map f xs ≡ ys → b ≡ list_any p ys
-any-mapped f p xs ys b is seen = is ∙ (sym (any-map f p xs) ∙ ap (λ zs. list_any p zs) seen)
+-- ---- what is left
 
 pub cleared-client : {A : Type 0} (o : Option Cause) (c : ℕ) (old new : Kept A) (was is : Stack) → IsClearedBy o c old new was is → new.client.ended ≡ old.client.ended
 cleared-client {A = A} None c old new was is h = ap (λ (k : Kept A). k.client.ended) h.0
 cleared-client (Some cause) c old new was is h = ap (λ v. v.ended) h.0
-
--- of what is kept after, the same is said
-pub marks-left : {A : Type 0} (o : Option Cause) (c : ℕ) (mid new : Kept A) (was is seen : Stack) (before after : Damaged) → IsClearedBy o c mid new was is → MarksEnd mid.client.ended c seen before after
-    → MarksEnd new.client.ended c seen before after
-marks-left o c mid new was is seen before after left marks = subst (λ (s : Option Cause). MarksEnd s c seen before after) (sym (cleared-client o c mid new was is left)) marks

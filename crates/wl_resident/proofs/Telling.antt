@@ -1,6 +1,7 @@
 -- What is told to one client of the desk, and a piece of its stream.
 use Rattle.std.proofs.Common.{◌≡◌, ℕ, List, ◌++◌, length, Bool, true, false, Option, Some, None, refl, ap, sym, subst, ◌∙◌, inl, inr, ◌⊎◌}
-use Rattle.std.specs.Prelude.{is_some, nat_le, drop, if◌then◌else◌}
+use Rattle.std.specs.List.{list_any}
+use Rattle.std.specs.Prelude.{is_some, nat_le, drop, if◌then◌else◌, ◌==◌}
 use Rattle.wl_store.specs.Stores.{write_refusal}
 use Rattle.wl_store.specs.declared.stores.StoreError.{StoreError}
 use Rattle.wl_client.specs.Agreement.{IsPeer}
@@ -11,10 +12,12 @@ use Rattle.wl_client.specs.declared.clients.Cause.{Cause}
 use Rattle.wl_client.specs.declared.clients.Cause.TheVariants.{Gone}
 use Rattle.wl_table.specs.Objects.{Held}
 use Rattle.wl_shell.specs.Kept.{kept_of}
-use Rattle.wl_scene.specs.Stacking.{Stack}
+use Rattle.wl_scene.specs.Stacking.{Owned as Owns, Stack, Standing, nothing_owned, without_client}
 use Rattle.wl_scene.specs.declared.owned.Owned.{Owned as Keeps}
 use Rattle.wl_resident.specs.Agreement.{IsScene, with_numbers}
-use Rattle.wl_plain.specs.Desktop.{Desktop, Resident, become, become_by}
+use Rattle.wl_plain.specs.Desktop.{Desktop, Resident, become, become_by, client_at, owned_in, owned_of, resident_of, with_number}
+use Rattle.wl_plain.specs.Laws.{OwnsNothing}
+use Rattle.wl_plain.specs.Standing.{AreMapped, MappedStand}
 use Rattle.wl_plain.specs.Owning.{IsOwned, names_in, targets_in, Names}
 use Rattle.wl_plain.specs.Framing.{done_due, FramesToldAt, FramesToldBy}
 use Rattle.wl_plain.specs.Happens.{callbacks_due, frames_told}
@@ -30,6 +33,7 @@ use Rattle.wl_plain.proofs.StandingDesks.{become-stand}
 use Rattle.wl_plain.proofs.OneRunMoves.{callbacks-status}
 use Rattle.wl_resident.proofs.Taking.{Sits, based-at, become-gone, become-lives, itself, none-is, numbers, sits-gone, sits-same, sits-seated}
 use Rattle.wl_resident.proofs.Framing.{told-requests}
+use Rattle.wl_resident.proofs.Scenes.{none-standing, others-all}
 
 -- What is told makes of a client's peer another: its table, its count of requests and what it owns stay where it lives on, and where it doesn't, it
 -- ends so or had ended.
@@ -80,33 +84,56 @@ module _ {A : Type 0} (c : ℕ) (others : ℕ → ById ℕ) (base d : Desktop) (
 
 -- ---- what is told
 
-told-same : {A : Type 0} (old mid : Kept A) (r : Resident) (q : Peer) → q.status ≡ r.peer.status → q.objects ≡ r.peer.objects → q.requests ≡ r.peer.requests → IsPeer mid.client q → mid.owned ≡ old.owned → mid.client.objects ≡ old.client.objects → Told old mid r q
-told-same old mid r q status objects requests peer owned table =
-    record { peer = peer; owned = owned; lives = λ none. table; requests = λ none. requests; gone = λ some. inr (sym (ap (λ (o : Option Cause). is_some o) status) ∙ some, objects) }
+-- the desktop has the client as it was but for that, whether it lives or had ended
+pub become-kept : (s : Option Cause) (c : ℕ) (r : Resident) (q : Peer) (d : Desktop) → client_at c d ≡ Some r → MappedStand d → (is_some s ≡ true → OwnsNothing r)
+    → (become_by s c r q d ≡ become_by None c r q d) × (left_by s r q ≡ record r { peer = q })
+become-kept None c r q d there stand nothing = (refl, refl)
+become-kept (Some cause) c r q d there stand nothing =
+    let same : resident_of q ≡ record r { peer = q } = ap (λ (x : Resident). record x { peer = q }) (sym (nothing refl)) in
+    let bare : owned_in d c ≡ nothing_owned = ap owned_of there ∙ ap (λ (x : Resident). x.owned) (nothing refl) in
+    let none : list_any (λ s. s.client == c) d.standing ≡ false = none-standing c d.standing (λ surface. (subst (λ (o : Owns). AreMapped c o d.standing) bare (stand.each c)).stands surface) in (
+      ap (λ (x : Resident). record d { clients = with_number c (Some x) d.clients; standing = without_client c d.standing }) same
+          ∙ ap (λ (ss : List Standing). record d { clients = with_number c (Some (record r { peer = q })) d.clients; standing = ss }) (others-all c d.standing none),
+      same,
+    )
 
-sent-so : (n : ℕ) (p : Peer) → ((sent_by n p).status ≡ p.status) × ((sent_by n p).objects ≡ p.objects) × ((sent_by n p).requests ≡ p.requests)
+-- A client is told what leaves its table, its count of requests and whether it lives as they were.
+module _ {A : Type 0} (c : ℕ) (others : ℕ → ById ℕ) (base d : Desktop) (r : Resident) (q : Peer) (old mid : Kept A) (stack : Stack) (is : IsSeated c others base old stack d r) where
+  pub kept-seated : IsPeer mid.client q → mid.owned ≡ old.owned → mid.client.objects ≡ old.client.objects → q.status ≡ r.peer.status → q.requests ≡ r.peer.requests → IsSeated c others base mid stack (become c r q d) (left_by q.status r q)
+  kept-seated peer owned table status requests =
+      subst (λ (e : Desktop). IsSeated c others base mid stack e (left_by q.status r q)) (sym kept.0)
+      (subst (λ (s : Resident). IsSeated c others base mid stack (become_by None c r q d) s) (sym kept.1) (record {
+        based = based-at None c base d d r r q is.based refl refl;
+        seat = record { peer = peer; owns = owns; frames = rw (table, owned, requests) is.seat.frames; ended = λ some. ap (λ (x : Resident). record x { peer = q }) (nothing some) };
+        scene = subst (λ (held : Held). IsScene (with_numbers c (targets_in WlSurface held) others) stack (become_by None c r q d)) (sym table) (record { standing = is.scene.standing; next = is.scene.next });
+        mapped = subst (λ (e : Desktop). MappedStand e) kept.0 (become-stand c r r q d is.based.there refl is.mapped);
+      }))
+    where
+      nothing : is_some q.status ≡ true → OwnsNothing r
+      nothing some = is.seat.ended (ap (λ (o : Option Cause). is_some o) (sym status) ∙ some)
+
+      kept : (become_by q.status c r q d ≡ become_by None c r q d) × (left_by q.status r q ≡ record r { peer = q })
+      kept = become-kept q.status c r q d is.based.there is.mapped nothing
+
+      owns : IsOwned (names_in mid.client.objects) mid.owned.surfaces (kept_of mid.owned.shell) r.owned
+      owns =
+          subst (λ (held : Held). IsOwned (names_in held) mid.owned.surfaces (kept_of mid.owned.shell) r.owned) (sym table)
+          (subst (λ (o : Keeps A). IsOwned (names_in old.client.objects) o.surfaces (kept_of o.shell) r.owned) (sym owned) is.seat.owns)
+
+pub sent-so : (n : ℕ) (p : Peer) → ((sent_by n p).status ≡ p.status) × ((sent_by n p).requests ≡ p.requests)
 sent-so n p = at (nat_le n (length p.unsent))
   where
-    at : (b : Bool) → ((if b then record p { unsent = drop n p.unsent } else p).status ≡ p.status) × ((if b then record p { unsent = drop n p.unsent } else p).objects ≡ p.objects) × ((if b then record p { unsent = drop n p.unsent } else p).requests ≡ p.requests)
-    at true = (refl, refl, refl)
-    at false = (refl, refl, refl)
+    at : (b : Bool) → ((if b then record p { unsent = drop n p.unsent } else p).status ≡ p.status) × ((if b then record p { unsent = drop n p.unsent } else p).requests ≡ p.requests)
+    at true = (refl, refl)
+    at false = (refl, refl)
 
-pub told-sent : {A : Type 0} (n : ℕ) (old mid : Kept A) (r : Resident) → IsPeer mid.client (sent_by n r.peer) → mid.owned ≡ old.owned → mid.client.objects ≡ old.client.objects → Told old mid r (sent_by n r.peer)
-told-sent n old mid r peer owned table = told-same old mid r (sent_by n r.peer) (sent-so n r.peer).0 (sent-so n r.peer).1 (sent-so n r.peer).2 peer owned table
-
-stored-so : (s : Option Cause) (store at : ℕ) (bytes : List ℕ) (p : Peer) → ((stored_at s store at bytes p).status ≡ p.status) × ((stored_at s store at bytes p).objects ≡ p.objects) × ((stored_at s store at bytes p).requests ≡ p.requests)
-stored-so (Some cause) store at bytes p = (refl, refl, refl)
+pub stored-so : (s : Option Cause) (store at : ℕ) (bytes : List ℕ) (p : Peer) → ((stored_at s store at bytes p).status ≡ p.status) × ((stored_at s store at bytes p).requests ≡ p.requests)
+stored-so (Some cause) store at bytes p = (refl, refl)
 stored-so None store at bytes p = by (write_refusal store at (length bytes) p.stores)
   where
-    by : (o : Option StoreError) → ((stored_by store at bytes o p).status ≡ p.status) × ((stored_by store at bytes o p).objects ≡ p.objects) × ((stored_by store at bytes o p).requests ≡ p.requests)
-    by None = (refl, refl, refl)
-    by (Some error) = (refl, refl, refl)
-
-pub told-stored : {A : Type 0} (store at : ℕ) (bytes : List ℕ) (old mid : Kept A) (r : Resident) → IsPeer mid.client (stored_at r.peer.status store at bytes r.peer) → mid.owned ≡ old.owned → mid.client.objects ≡ old.client.objects
-    → Told old mid r (stored_at r.peer.status store at bytes r.peer)
-told-stored store at bytes old mid r peer owned table =
-    let so = stored-so r.peer.status store at bytes r.peer in
-    told-same old mid r (stored_at r.peer.status store at bytes r.peer) so.0 so.1 so.2 peer owned table
+    by : (o : Option StoreError) → ((stored_by store at bytes o p).status ≡ p.status) × ((stored_by store at bytes o p).requests ≡ p.requests)
+    by None = (refl, refl)
+    by (Some error) = (refl, refl)
 
 ended-so : (s : Option Cause) (cause : Cause) (p : Peer) → p.status ≡ s → is_some (ended_by s cause p).status ≡ true
 ended-so None cause p e = refl
@@ -202,10 +229,6 @@ frames-untold time c r d over = at r.peer.status over
 abbrev pub come_on : {A : Type 0} → List ℕ → Kept A → Kept A
 come_on piece v = record v { client = record v.client { rest = v.client.rest ++ piece } }
 
-cleared-lives : {A : Type 0} (o : Option Cause) (c : ℕ) (v : Kept A) (stack : Stack) → o ≡ None → IsClearedBy o c v v stack stack
-cleared-lives None c v stack e = (refl, refl)
-cleared-lives (Some cause) c v stack e = absurd (cc)
-
 -- the client with the piece
 abbrev pub come_to : List ℕ → Resident → Peer
 come_to piece r = with_rest (r.peer.rest ++ piece) r.peer
@@ -216,8 +239,7 @@ pub come-seated : {A : Type 0} (c : ℕ) (others : ℕ → ById ℕ) (base d : D
 come-seated c others base d r piece old was is lives =
     let none : r.peer.status ≡ None = sym is.seat.peer.status ∙ lives in
     subst (λ (s : Option Cause). IsSeated c others base (come_on piece old) was (become c r (come_to piece r) d) (left_by s r (come_to piece r))) none
-    (told-seated c others base d r old (come_on piece old) (come_on piece old) was was is (come_to piece r)
-    (told-same old (come_on piece old) r (come_to piece r) refl refl refl peer refl refl) (cleared-lives old.client.ended c (come_on piece old) was lives))
+    (kept-seated c others base d r (come_to piece r) old (come_on piece old) was is peer refl refl refl refl)
   where
     peer : IsPeer (come_on piece old).client (come_to piece r)
     peer =

@@ -1,6 +1,5 @@
 -- What the desk marks to be painted again.
 use Rattle.std.specs.Prelude.{ℕ, ℤ, List, [], ◌∷◌, ◌≡◌, ◌≢◌, ◌==◌, ◌<◌, ◌+ℤ◌, ◌-ℤ◌, ◌&&◌, ◌||◌, nat_lt, pos, unsigned_abs, Bool, false, true, Option, Some, None, is_none, is_some}
-use Rattle.std.specs.List.{list_any}
 use Rattle.wl_proto.specs.declared.wl_surface.WlSurfaceRequest.TheVariants.{Commit}
 use Rattle.wl_geom.specs.declared.rect.Rect.{Rect}
 use Rattle.wl_geom.specs.Rect.{in_span}
@@ -60,15 +59,6 @@ MarksMost d e old new = MarksMostBy None d e old new
 -- So it is where its client lives after it.
 abbrev pub MarksAtMost : ℕ → Desktop → Desktop → Damaged → Damaged → Type 0
 MarksAtMost c d e old new = status_in c e ≡ None → MarksMost d e old new
-
--- a toplevel of the client stands
-abbrev pub stands_any : ℕ → Stack → Bool
-stands_any c stack = list_any (λ s. s.client == c) stack.standing
-
--- Where the client ended and a toplevel of its stood, everything is to be painted.
-abbrev pub MarksEnd : Option Cause → ℕ → Stack → Damaged → Damaged → Type 0
-MarksEnd ended c stack old new =
-    IsAsLarge old new × ((x y : ℕ) → x < old.width → y < old.height → has new x y ≡ (has old x y || (is_some ended && stands_any c stack)))
 
 -- If so, a client's own windows are to be painted, and no more; else nothing more is.
 abbrev pub MarksOwnIf : {A : Type 0} → Bool → ℕ → Kept A → Stack → Damaged → Damaged → Type 0

@@ -1,10 +1,10 @@
 //! One client is served, and its toplevels come to the stack and go.
 
-ghost use Rattle.std.specs.Prelude.{ℕ, ◌≡◌, ◌<◌, ◌≤◌, ◌||◌, List, None, Some, length, pos, true, false};
-ghost use Rattle.wl_paint.specs.Damage.{has};
-ghost use Rattle.wl_resident.specs.Marking.{AreUnlinked, IsAsLarge, MarksAtLeast, MarksAtMost, MarksEnd, MarksOwn, MarksThrough, stands_any};
+ghost use Rattle.std.specs.Prelude.{ℕ, ◌≡◌, ◌<◌, ◌≤◌, List, None, Some, length, true, false};
+ghost use Rattle.wl_resident.specs.Marking.{AreUnlinked, IsAsLarge, MarksAtLeast, MarksAtMost, MarksOwn, MarksThrough};
 ghost use Rattle.wl_client.specs.Objects.{ById};
 ghost use Rattle.wl_store.specs.Stores.{write_refusal};
+ghost use Rattle.wl_scene.specs.Stacking.{Stack};
 ghost use Rattle.wl_client.specs.Agreement.{IsPeer};
 ghost use Rattle.wl_client.specs.Peer.{IsIdleAt, Peer, stored_at};
 ghost use Rattle.wl_plain.specs.Desktop.{Desktop, Resident as Plain, become};
@@ -15,7 +15,7 @@ ghost use Rattle.wl_plain.specs.Happens.{Serves};
 ghost use Rattle.wl_plain.specs.Through.{ServesThrough};
 ghost use Rattle.wl_plain.specs.Acts.{IsLeft, IsSent, IsStored, stored_of};
 
-use crate::marking::{mark_change, mark_everywhere, touched_by};
+use crate::marking::{mark_change, touched_by};
 use crate::residents::{Resident, Stacking};
 use std::alloc::Allocator;
 use wl_client::{Cause, Client, StoreNo};
@@ -63,25 +63,6 @@ impl<A: Allocator + Copy> Resident<A> {
             self.owned = bare(alloc);
             scene.unmap_all(client);
         }
-    }
-
-    /// Where the client ended, nothing is left of what it owned. If a toplevel of its stood, everything is marked.
-    pub fn clear(
-        &mut self,
-        scene: &mut Scene<A>,
-        damage: &mut Damage<A>,
-        client: ClientNo,
-        alloc: A,
-    )
-        ensures clears { IsClearedBy self.old.client.ended client self.old self.new scene.old scene.new }
-        ensures marks { MarksEnd self.old.client.ended client scene.old damage.old damage.new }
-    {
-        if self.client.has_ended() {
-            if stands_any(scene, client) {
-                mark_everywhere(damage);
-            }
-        }
-        self.empty(scene, client, alloc);
     }
 
     /// Takes the first whole message of a client that lives, and answers whether there was one. What it changes of a window is marked: the damage
@@ -152,22 +133,10 @@ impl<A: Allocator + Copy> Resident<A> {
     }
 
     /// Bytes are put into a store of a client that lives.
-    pub fn store(
-        &mut self,
-        scene: &mut Scene<A>,
-        damage: &mut Damage<A>,
-        client: ClientNo,
-        store: StoreNo,
-        at: u32,
-        bytes: &[u8],
-        alloc: A,
-    ) -> Stored
-        ensures changes { IsChangedSo client (IsStored store at bytes.now) (Done.Store result) self.old self.new scene.old scene.new }
-        ensures marks { MarksEnd self.new.client.ended client scene.old damage.old damage.new }
+    pub fn store(&mut self, store: StoreNo, at: u32, bytes: &[u8]) -> Stored
+        ensures changes { (c : ℕ) (stack : Stack) → IsChangedSo c (IsStored store at bytes.now) (Done.Store result) self.old self.new stack stack }
     {
-        let stored = store_of(&mut self.client, store, at, bytes);
-        self.clear(scene, damage, client, alloc);
-        stored
+        store_of(&mut self.client, store, at, bytes)
     }
 
     /// The client goes. True where it was alive. Its windows are marked then, and no more.
@@ -190,31 +159,11 @@ impl<A: Allocator + Copy> Resident<A> {
     }
 
     /// So many unsent bytes were sent. False and unchanged where there are fewer.
-    pub fn sent(
-        &mut self,
-        scene: &mut Scene<A>,
-        damage: &mut Damage<A>,
-        client: ClientNo,
-        count: usize,
-        alloc: A,
-    ) -> bool
-        ensures changes { IsChangedSo client (IsSent count) (Done.Sent result) self.old self.new scene.old scene.new }
-        ensures marks { MarksEnd self.new.client.ended client scene.old damage.old damage.new }
+    pub fn sent(&mut self, count: usize) -> bool
+        ensures changes { (c : ℕ) (stack : Stack) → IsChangedSo c (IsSent count) (Done.Sent result) self.old self.new stack stack }
     {
-        let sent = self.client.sent(count);
-        self.clear(scene, damage, client, alloc);
-        sent
+        self.client.sent(count)
     }
-}
-
-/// Whether a toplevel of the client stands.
-pub fn stands_any<A: Allocator>(scene: &Scene<A>, client: ClientNo) -> bool
-    ensures { result ≡ stands_any client scene.now }
-{
-    scene
-        .toplevels()
-        .iter()
-        .any(|toplevel| toplevel.surface.client == client)
 }
 
 /// Puts bytes into a store of a client that lives.

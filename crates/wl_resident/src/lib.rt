@@ -15,6 +15,6 @@ mod xdg_surface;
 mod xdg_toplevel;
 mod xdg_wm_base;
 
-pub use feeding::{bare, stands_any};
-pub use marking::{corner_of, mark_everywhere};
+pub use feeding::bare;
+pub use marking::corner_of;
 pub use residents::{Resident, Stacking};

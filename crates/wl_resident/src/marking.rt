@@ -29,14 +29,6 @@ use wl_scene::{Scene, Surface, Toplevel};
 use wl_store::Transform;
 use wl_surface::{Applied, Current, Offset, SurfaceNo, bounded_sum};
 
-/// The whole output, however large it is.
-const EVERYWHERE: Rect = Rect {
-    x: 0,
-    y: 0,
-    w: i32::MAX,
-    h: i32::MAX,
-};
-
 /// How many rectangles of a surface's damage count one by one.
 const MAX_RECTS: usize = 1_024;
 
@@ -257,14 +249,6 @@ pub(crate) fn mark_change<A: Allocator>(
             mark_window(damage, is);
         }
     }
-}
-
-/// Everything is marked.
-pub fn mark_everywhere<A: Allocator>(damage: &mut Damage<A>)
-    ensures everywhere { (x y : ℕ) → x < damage.old.width → y < damage.old.height → has damage.new x y ≡ true }
-    ensures sides { IsAsLarge damage.old damage.new }
-{
-    damage.add(EVERYWHERE);
 }
 
 /// The toplevel of this surface, if one stands.
