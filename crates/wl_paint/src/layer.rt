@@ -2,7 +2,8 @@
 ghost use Rattle.std.specs.Prelude.{◌≡◌, ◌-◌, ◌<◌, ◌≤◌, ◌+◌, ◌*◌, ◌/◌, ◌%◌, ◌^◌, ◌⊎◌, ℕ, IsTrue, IfSome, length, pos, slice_index};
 ghost use Rattle.wl_store.specs.Picture.{color_at, surface_height, surface_width};
 ghost use Rattle.wl_store.specs.declared.color.Format.TheVariants.{Argb8888};
-ghost use Rattle.wl_blend.specs.Blend.{argb_of, blended, color_of};
+ghost use Rattle.wl_store.specs.Layout.{argb_of};
+ghost use Rattle.wl_blend.specs.Blend.{blended, color_of};
 ghost use Rattle.wl_blend.specs.declared.color.Rgb.{Rgb};
 ghost use Rattle.wl_paint.specs.Painting.{OffsetIn, opaque, pixel_of, window_of};
 ghost use Rattle.wl_paint.specs.Window.{over};
