@@ -8,12 +8,11 @@ ghost use Rattle.wl_blend.specs.declared.color.Rgb.{Rgb};
 ghost use Rattle.wl_paint.specs.Painting.{OffsetIn, opaque, pixel_of, window_of};
 ghost use Rattle.wl_paint.specs.Window.{over};
 
-use crate::pixel::{write_argb, write_color};
+use crate::source::{copy_opaque, lay_colors};
 use crate::span::part_in;
 use crate::windows::Painted;
 use std::alloc::Allocator;
-use wl_blend::{Rgb, blend_run};
-use wl_store::{Argb, Format, Picture};
+use wl_store::Picture;
 
 /// How many pixels of a run are painted at a time, at most.
 pub(crate) const STRETCH: usize = 1024;
@@ -27,37 +26,6 @@ fn offset_in(start: i32, len: u32, place: u32) -> Option<u32>
         return None;
     }
     Some(offset as u32)
-}
-
-/// The colour that the point has whatever is below it, where it is opaque.
-fn hiding(color: Argb) -> Option<Rgb>
-    ensures { IfSome result (λ shown. (under : Rgb) → blended under color ≡ shown) }
-{
-    if color.a != 255 {
-        return None;
-    }
-    Some(Rgb {
-        r: color.r,
-        g: color.g,
-        b: color.b,
-    })
-}
-
-/// Writes the points of the picture from (i, j) to the right over a run of pixels, as long as they are opaque, and
-/// says whether all are.
-fn copy_opaque(run: &mut [u8], picture: &Picture<'_>, i: u32, j: u32) -> bool
-    requires whole { length run.old % 4 ≡ 0 }
-    requires columns { i + length run.old / 4 ≤ surface_width picture.now.transform picture.now.layout }
-    requires row { j < surface_height picture.now.transform picture.now.layout }
-    ensures { IsTrue result → (k : ℕ) → 4 * k < length run.old → (under : Rgb) → pixel_of run.new k ≡ opaque (blended under (color_at picture.now (i + k) j)) }
-{
-    for k in 0..run.len() / 4 {
-        let Some(color) = hiding(picture.pixel(i + k as u32, j)) else {
-            return false;
-        };
-        write_color(run, k, color);
-    }
-    true
 }
 
 /// Paints a run of pixels that starts at (x, y) with the window alone, where it hides all below it there. Else the
@@ -77,32 +45,6 @@ pub(crate) fn hide<A: Allocator>(run: &mut [u8], x: u32, y: u32, window: &Painte
         return false;
     }
     copy_opaque(run, &window.picture, i, j)
-}
-
-/// Puts the colours of the points of the picture from (i, j) to the right into pixels of argb8888.
-fn read_colors(pixels: &mut [u8], picture: &Picture<'_>, i: u32, j: u32)
-    requires whole { length pixels.old % 4 ≡ 0 }
-    requires columns { i + length pixels.old / 4 ≤ surface_width picture.now.transform picture.now.layout }
-    requires row { j < surface_height picture.now.transform picture.now.layout }
-    ensures { (k : ℕ) → 4 * k < length pixels.old → argb_of Argb8888 pixels.new k ≡ color_at picture.now (i + k) j }
-{
-    for k in 0..pixels.len() / 4 {
-        write_argb(pixels, k, picture.pixel(i + k as u32, j));
-    }
-}
-
-/// Lays the points of the picture from (i, j) to the right over a run of pixels.
-fn lay_colors(run: &mut [u8], picture: &Picture<'_>, i: u32, j: u32)
-    requires whole { length run.old % 4 ≡ 0 }
-    requires short { length run.old ≤ 4 * STRETCH }
-    requires columns { i + length run.old / 4 ≤ surface_width picture.now.transform picture.now.layout }
-    requires row { j < surface_height picture.now.transform picture.now.layout }
-    ensures { (k : ℕ) → 4 * k < length run.old → pixel_of run.new k ≡ opaque (blended (color_of run.old k) (color_at picture.now (i + k) j)) }
-{
-    let mut colors = [0; 4 * STRETCH];
-    let colors = &mut colors[..run.len()];
-    read_colors(colors, picture, i, j);
-    blend_run(run, colors, Format::Argb8888);
 }
 
 /// Lays the points of the picture from (i, j) to the right over `count` pixels from pixel `first` on.
