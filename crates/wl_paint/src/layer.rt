@@ -1,14 +1,15 @@
 //! One window laid over a run of pixels.
-ghost use Rattle.std.specs.Prelude.{◌≡◌, ◌-◌, ◌<◌, ◌≤◌, ◌+◌, ◌*◌, ◌/◌, ◌%◌, ◌^◌, ◌⊎◌, ℕ, IsTrue, IfSome, length, pos, slice_index};
+ghost use Rattle.std.specs.Prelude.{◌≡◌, ◌↔◌, ◌-◌, ◌<◌, ◌≤◌, ◌+◌, ◌*◌, ◌/◌, ◌%◌, ◌^◌, ◌⊎◌, ℕ, IsTrue, IfSome, length, pos, slice_index};
+ghost use Rattle.wl_geom.specs.Region.{CoverRun};
 ghost use Rattle.wl_store.specs.Picture.{color_at, surface_height, surface_width};
 ghost use Rattle.wl_store.specs.declared.color.Format.TheVariants.{Argb8888};
 ghost use Rattle.wl_store.specs.Layout.{argb_of};
 ghost use Rattle.wl_blend.specs.Blend.{blended, color_of};
 ghost use Rattle.wl_blend.specs.declared.color.Rgb.{Rgb};
-ghost use Rattle.wl_paint.specs.Painting.{OffsetIn, opaque, pixel_of, window_of};
-ghost use Rattle.wl_paint.specs.Window.{over};
+ghost use Rattle.wl_paint.specs.Painting.{OffsetIn, Shows, opaque, pixel_of, window_of};
+ghost use Rattle.wl_paint.specs.Window.{HasAlphaAsSaid, over};
 
-use crate::source::{copy_opaque, lay_colors};
+use crate::source::{copy_colors, copy_opaque, lay_colors};
 use crate::span::part_in;
 use crate::windows::Painted;
 use std::alloc::Allocator;
@@ -28,12 +29,23 @@ fn offset_in(start: i32, len: u32, place: u32) -> Option<u32>
     Some(offset as u32)
 }
 
-/// Paints a run of pixels that starts at (x, y) with the window alone, where it hides all below it there. Else the
-/// answer is false, and the run is to be painted otherwise.
+/// Whether the window's opaque region holds each of the `count` points of its picture from (i, j) to the right.
+fn is_said_opaque<A: Allocator>(window: &Painted<'_, A>, i: u32, j: u32, count: u32) -> bool
+    requires column { i < 2 ^ 31 }
+    requires row { j < 2 ^ 31 }
+    ensures { IsTrue result ↔ CoverRun (pos i) (pos j) count (window_of window.now).opaque.rects }
+{
+    window.opaque.covers_run(i as i32, j as i32, count)
+}
+
+/// Paints a run of pixels that starts at (x, y) with the window alone, where it hides all below it there: where its
+/// opaque region holds each of the points, or each of them has the alpha 255, as all of xrgb8888 have. Else the answer
+/// is false, and the run is to be painted otherwise.
 pub(crate) fn hide<A: Allocator>(run: &mut [u8], x: u32, y: u32, window: &Painted<'_, A>) -> bool
     requires whole { length run.old % 4 ≡ 0 }
     requires fits { x + length run.old < 2 ^ 32 }
-    ensures { IsTrue result → (i : ℕ) → 4 * i < length run.old → (under : Rgb) → pixel_of run.new i ≡ opaque (over (pos (x + i)) (pos y) under (window_of window.now)) }
+    ensures { IsTrue result → (i : ℕ) → 4 * i < length run.old → (under : Rgb)
+        → Shows (HasAlphaAsSaid (pos (x + i)) (pos y) (window_of window.now)) (over (pos (x + i)) (pos y) under (window_of window.now)) (pixel_of run.new i) }
 {
     let Some(i) = offset_in(window.x, window.picture.width(), x) else {
         return false;
@@ -41,8 +53,13 @@ pub(crate) fn hide<A: Allocator>(run: &mut [u8], x: u32, y: u32, window: &Painte
     let Some(j) = offset_in(window.y, window.picture.height(), y) else {
         return false;
     };
-    if run.len() / 4 > (window.picture.width() - i) as usize {
+    let count = run.len() / 4;
+    if count > (window.picture.width() - i) as usize {
         return false;
+    }
+    if is_said_opaque(window, i, j, count as u32) {
+        copy_colors(run, &window.picture, i, j);
+        return true;
     }
     copy_opaque(run, &window.picture, i, j)
 }
