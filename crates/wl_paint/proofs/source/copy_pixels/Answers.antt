@@ -13,7 +13,9 @@ loop-k-preserved c m h under =
       | inr g ↦
           let here : m ≡ c.loop-k.k = omega arith in
           let picture = c.args.picture.now in
-          let shown : Shows ((color_at picture (c.args.i + c.loop-k.k) c.args.j).a ≡ 255) (blended under (color_at picture (c.args.i + c.loop-k.k) c.args.j)) (pixel_of c.write_color.new.pixels c.loop-k.k)
-          = rw c.pixel.ensures at (Shows-without_alpha c.pixel.result c.without_alpha.result (pixel_of c.write_color.new.pixels c.loop-k.k) under c.write_color.ensures.written c.without_alpha.ensures) in
+          let pixel = pixel_of c.write_color.new.pixels c.loop-k.k in
+          let color = color_at picture (c.args.i + c.loop-k.k) c.args.j in
+          let shown : Shows (color.a ≡ 255) (blended under color) pixel
+          = rw c.pixel.ensures at (Shows-without_alpha c.pixel.result c.without_alpha.result pixel under c.write_color.ensures.written c.without_alpha.ensures) in
           rw here shown
     ]
