@@ -2,7 +2,8 @@
 #![tactic(auto)]
 
 ghost use Rattle.std.specs.Prelude.{◌≡◌, ℕ, ◌*◌, ◌%◌, ◌<◌, length};
-ghost use Rattle.wl_blend.specs.Blend.{argb_of, blended, color_of};
+ghost use Rattle.wl_store.specs.Layout.{argb_of};
+ghost use Rattle.wl_blend.specs.Blend.{blended, color_of};
 
 use wl_blend::blend_run;
 use wl_store::Format;

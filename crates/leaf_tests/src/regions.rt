@@ -215,3 +215,65 @@ fn each_refusal_leaves_a_region_as_it_was(rt: HostRuntime) {
     }
     assert!(rt; adds && subtracts && copies);
 }
+
+fn rect(x: i32, y: i32, w: i32, h: i32) -> Rect {
+    Rect { x, y, w, h }
+}
+
+// Two rectangles side by side, and a point of the first that is taken away.
+fn covers_two_and_a_hole<A: Allocator + Copy>(region: &mut Region<A>) -> bool {
+    region.covers_run(0, 0, 0)
+        && !region.covers_run(0, 0, 1)
+        && region.add(rect(0, 0, 4, 4)) == Ok(())
+        && region.add(rect(4, 0, 4, 4)) == Ok(())
+        && region.covers_run(0, 0, 8)
+        && !region.covers_run(0, 0, 9)
+        && !region.covers_run(-1, 0, 8)
+        && region.subtract(rect(3, 1, 1, 1)) == Ok(())
+        && !region.covers_run(0, 1, 8)
+        && region.covers_run(0, 0, 8)
+        && region.covers_run(0, 1, 3)
+        && region.covers_run(4, 1, 4)
+}
+
+#[test]
+fn runs_over_two_rectangles(rt: HostRuntime) {
+    let mut region = Region::new(rt.alloc());
+    assert!(rt; covers_two_and_a_hole(&mut region));
+}
+
+// Whether a row of so many points covers a run of them, and none that is a point longer or begins a point before; and none at all
+// where the point in the middle is missing, but the runs on both sides of it.
+fn covers_its_width<A: Allocator + Copy>(alloc: A, w: i32) -> bool {
+    let mut region = Region::new(alloc);
+    let wide = w.unsigned_abs();
+    let middle = w / 2;
+    region.add(rect(0, 7, w, 1)) == Ok(())
+        && region.covers_run(0, 7, wide)
+        && !region.covers_run(0, 7, wide.saturating_add(1))
+        && !region.covers_run(-1, 7, wide.max(1))
+        && !region.covers_run(0, 6, wide.max(1))
+        && !region.covers_run(0, 8, wide.max(1))
+        && region.subtract(rect(middle, 7, 1, 1)) == Ok(())
+        && region.covers_run(0, 7, wide) == (w == 0)
+        && region.covers_run(0, 7, middle.unsigned_abs())
+        && !region.covers_run(0, 7, middle.unsigned_abs().saturating_add(1))
+}
+
+#[test]
+fn runs_of_each_width(rt: HostRuntime) {
+    for w in [0, 1, 63, 64, 65, 4096] {
+        assert!(rt; covers_its_width(rt.alloc(), w), "{w}");
+    }
+}
+
+// No run that passes the last coordinate is covered.
+#[test]
+fn runs_at_the_last_column(rt: HostRuntime) {
+    let mut region = Region::new(rt.alloc());
+    assert!(rt; region.add(FAR) == Ok(()));
+    assert!(rt; region.covers_run(2_147_483_646, -2_147_483_648, 2));
+    assert!(rt; !region.covers_run(2_147_483_646, -2_147_483_648, 3));
+    assert!(rt; !region.covers_run(2_147_483_647, -2_147_483_648, 4_294_967_295));
+    assert!(rt; region.covers_run(2_147_483_647, 0, 0));
+}

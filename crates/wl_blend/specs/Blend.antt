@@ -1,8 +1,6 @@
 -- How a colour is laid over another, and the colours of pixels of four bytes.
 use Rattle.std.specs.Prelude.{ℕ, ◌+◌, ◌-◌, ◌*◌, ◌/◌, min, List, slice_index}
 use Rattle.wl_store.specs.declared.color.Argb.{Argb}
-use Rattle.wl_store.specs.declared.color.Format.{Format}
-use Rattle.wl_store.specs.Layout.{alpha_of}
 use Rattle.wl_blend.specs.declared.color.Rgb.{Rgb}
 
 -- a 255th, to the nearest whole number
@@ -22,12 +20,3 @@ blended d s =
 abbrev pub color_of : List ℕ → ℕ → Rgb
 color_of pixels k =
     record { r = slice_index pixels (4 * k + 2); g = slice_index pixels (4 * k + 1); b = slice_index pixels (4 * k) }
-
--- the colour of pixel k of a buffer's bytes: blue, green, red and alpha
-abbrev pub argb_of : Format → List ℕ → ℕ → Argb
-argb_of format bytes k = record {
-  a = alpha_of format (slice_index bytes (4 * k + 3));
-  r = slice_index bytes (4 * k + 2);
-  g = slice_index bytes (4 * k + 1);
-  b = slice_index bytes (4 * k);
-}

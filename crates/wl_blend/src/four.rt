@@ -1,6 +1,7 @@
 //! Four pixels of a run, in one vector.
 ghost use Rattle.std.specs.Prelude.{◌≡◌, ℕ, ◌+◌, ◌*◌, ◌<◌, ◌≤◌, ◌⊎◌, ◌↔◌, IsTrue, length, slice_index};
-ghost use Rattle.wl_blend.specs.Blend.{argb_of, blended, color_of};
+ghost use Rattle.wl_store.specs.Layout.{argb_of};
+ghost use Rattle.wl_blend.specs.Blend.{blended, color_of};
 ghost use Rattle.wl_blend.specs.Lanes.{AreBytes};
 
 use crate::lanes::{alphas, is_each, over_four};

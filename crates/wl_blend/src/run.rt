@@ -1,5 +1,6 @@
 ghost use Rattle.std.specs.Prelude.{◌≡◌, ℕ, ◌+◌, ◌*◌, ◌%◌, ◌<◌, ◌≤◌, ◌≢◌, ◌↔◌, IsTrue, length, slice_index};
-ghost use Rattle.wl_blend.specs.Blend.{argb_of, blended, color_of};
+ghost use Rattle.wl_store.specs.Layout.{argb_of};
+ghost use Rattle.wl_blend.specs.Blend.{blended, color_of};
 
 use crate::color::Rgb;
 use crate::formula::blend;

@@ -58,3 +58,18 @@ list_any_is p xs false e = rw (list_any-count p xs, e)
 pub bit-small : (b : Bool) → bit b ≤ 1
 bit-small true = omega arith
 bit-small false = omega arith
+
+-- a point outside of a hole, and one of the hole, that are counted once
+pub taken-small : (h : Bool) (n : ℕ) → n ≤ 1 → cond h 0 n ≤ 1
+taken-small true n l = omega arith
+taken-small false n l = l
+
+pub added-small : (h p : Bool) (n : ℕ) → n ≤ 1 → cond h 0 n + bit (p && h) ≤ 1
+added-small true true n l = omega arith
+added-small true false n l = omega arith
+added-small false true n l = omega arith
+added-small false false n l = omega arith
+
+pub bit-some : (b : Bool) → 1 ≤ bit b → b ≡ true
+bit-some true h = refl
+bit-some false h = absurd (omega arith)

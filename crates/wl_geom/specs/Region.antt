@@ -1,5 +1,5 @@
 -- Which points a list of adds and subtracts holds, and when a region stands for one.
-use Rattle.std.specs.Prelude.{◌≡◌, ℕ, ◌≤◌, ◌^◌, ℤ, pos, ◌+ℤ◌, ◌≤ℤ◌, Bool, true, false, ◌&&◌, cond, List, fold, length}
+use Rattle.std.specs.Prelude.{◌≡◌, ℕ, ◌<◌, ◌≤◌, ◌^◌, ℤ, pos, ◌+ℤ◌, ◌≤ℤ◌, Bool, true, false, ◌&&◌, cond, List, fold, length}
 use Rattle.wl_geom.specs.declared.rect.Rect.{Rect}
 use Rattle.wl_geom.specs.Rect.{in_rect, is_point, count_at, bit}
 
@@ -24,6 +24,14 @@ Covers rects changes = (x y : ℤ) → count_at x y rects ≡ bit (holds x y cha
 -- no point is in two of the rectangles
 abbrev pub AreDisjoint : List Rect → Type 0
 AreDisjoint rects = (x y : ℤ) → count_at x y rects ≤ 1
+
+-- each of the w points from (x, y) to the right is in one of the rectangles
+abbrev pub CoverRun : ℤ → ℤ → ℕ → List Rect → Type 0
+CoverRun x y w rects = (i : ℕ) → i < w → 1 ≤ count_at (x +ℤ pos i) y rects
+
+-- a list of changes holds each of the w points from (x, y) to the right
+abbrev pub HoldsRun : ℤ → ℤ → ℕ → List Change → Type 0
+HoldsRun x y w changes = (i : ℕ) → i < w → holds (x +ℤ pos i) y changes ≡ true
 
 -- what is seen of a region: its rectangles, and how many changes were made
 pub record Area : Type 0 where

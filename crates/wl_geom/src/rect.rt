@@ -1,7 +1,7 @@
 ghost use Rattle.std.specs.Prelude.{◌≡◌, ◌+ℤ◌, ◌<ℤ◌, ◌≤ℤ◌, ◌⊎◌, ◌↔◌, ◌&&◌, ℤ, IsTrue, false, pos};
-ghost use Rattle.wl_geom.specs.Rect.{in_rect};
+ghost use Rattle.wl_geom.specs.Rect.{bit, in_rect, sum_below};
 
-use crate::span::{end_of, is_in_span, may_meet};
+use crate::span::{count_in_span, end_of, is_in_span, may_meet};
 
 /// A rectangle of points: the columns from `x` to `x + w - 1` of the rows from `y` to `y + h - 1`.
 /// One whose width or height is not above 0 has no points.
@@ -19,6 +19,16 @@ impl Rect {
         ensures { result ≡ in_rect x y self.now }
     {
         is_in_span(self.x, self.w, x) && is_in_span(self.y, self.h, y)
+    }
+
+    /// How many of the `count` points from (x, y) to the right are in it.
+    pub(crate) fn count_in_run(&self, x: i32, y: i32, count: u32) -> u32
+        ensures { result ≡ sum_below count (λ i. bit (in_rect (x +ℤ pos i) y self.now)) }
+    {
+        if !is_in_span(self.y, self.h, y) {
+            return 0;
+        }
+        count_in_span(self.x, self.w, x, count)
     }
 
     pub(crate) fn is_empty(&self) -> bool

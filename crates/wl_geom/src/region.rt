@@ -1,7 +1,7 @@
-ghost use Rattle.std.specs.Prelude.{◌≡◌, ◌+◌, ◌↔◌, ◌++◌, ◌∷◌, ◌&&◌, [], ℤ, All, List, IsTrue, IfOk, OnOk, OnErr, IfErr, cond, not};
+ghost use Rattle.std.specs.Prelude.{◌≡◌, ◌+◌, ◌+ℤ◌, pos, ◌↔◌, ◌++◌, ◌∷◌, ◌&&◌, [], ℤ, All, List, IsTrue, IfOk, OnOk, OnErr, IfErr, cond, not};
 ghost use Rattle.std.specs.List.{list_any};
-ghost use Rattle.wl_geom.specs.Rect.{count_at, in_rect, bit};
-ghost use Rattle.wl_geom.specs.Region.{EndsInRange};
+ghost use Rattle.wl_geom.specs.Rect.{count_at, in_rect, bit, sum_below};
+ghost use Rattle.wl_geom.specs.Region.{AreDisjoint, EndsInRange};
 
 use crate::rect::Rect;
 use std::alloc::{AllocError, Allocator};
@@ -44,13 +44,13 @@ pub struct Region<A: Allocator> {
 
 impl<A: Allocator> Model for Region<A> {
     ghost use Rattle.std.specs.Prelude.{◌≤◌, All};
-    ghost use Rattle.wl_geom.specs.Region.{EndsInRange, Area};
+    ghost use Rattle.wl_geom.specs.Region.{AreDisjoint, EndsInRange, Area};
 
     ghost Value = { Area };
 
     ghost view = { λ region. record { rects = region.rects.items; changes = region.changes } };
 
-    ghost invariant = { λ region. (region.changes ≤ 512) × All EndsInRange region.rects.items };
+    ghost invariant = { λ region. (region.changes ≤ 512) × All EndsInRange region.rects.items × AreDisjoint region.rects.items };
 }
 
 /// Puts the rectangle at the end if it has points.
@@ -114,8 +114,20 @@ fn any_contains(rects: &[Rect], x: i32, y: i32) -> bool
     rects.iter().any(|rect| rect.contains(x, y))
 }
 
+/// How many of the `count` points from (x, y) to the right are in the rectangles, no two of which share a point.
+fn count_in_run(rects: &[Rect], x: i32, y: i32, count: u32) -> u32
+    requires { AreDisjoint rects.now }
+    ensures { result ≡ sum_below count (λ i. count_at (x +ℤ pos i) y rects.now) }
+{
+    let mut covered = 0;
+    for rect in rects {
+        covered += rect.count_in_run(x, y, count);
+    }
+    covered
+}
+
 impl<A: Allocator> Region<A> {
-    ghost use Rattle.wl_geom.specs.Region.{AreDisjoint, Change, Covers, Stands, holds};
+    ghost use Rattle.wl_geom.specs.Region.{AreDisjoint, Change, CoverRun, Covers, HoldsRun, Stands, holds};
 
     /// How many adds and subtracts were made.
     pub fn changes(&self) -> u32
@@ -144,6 +156,15 @@ impl<A: Allocator> Region<A> {
         ensures { (changes : List Change) → Stands self.now changes → result ≡ holds x y changes }
     {
         any_contains(&self.rects, x, y)
+    }
+
+    /// Whether the region holds each of the `w` points from (x, y) to (x + w - 1, y). With no points it is true; a point past the last
+    /// coordinate is not held. It takes no memory.
+    pub fn covers_run(&self, x: i32, y: i32, w: u32) -> bool
+        ensures held { (changes : List Change) → Stands self.now changes → (IsTrue result ↔ HoldsRun x y w changes) }
+        ensures covered { IsTrue result ↔ CoverRun x y w self.now.rects }
+    {
+        count_in_run(&self.rects, x, y, w) == w
     }
 }
 

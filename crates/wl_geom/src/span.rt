@@ -1,8 +1,8 @@
 //! Spans of one coordinate: the `len` numbers from `start` on, none where `len` is not above 0.
 //! An end may lie past the last coordinate, so ends are computed in 64 bits.
 
-ghost use Rattle.std.specs.Prelude.{◌≡◌, ◌^◌, ◌+ℤ◌, ◌-ℤ◌, ◌<ℤ◌, ◌≤ℤ◌, ◌&&◌, ℤ, false, int_le, int_lt, pos};
-ghost use Rattle.wl_geom.specs.Rect.{in_span};
+ghost use Rattle.std.specs.Prelude.{◌≡◌, ◌^◌, ◌<◌, ◌≤◌, ◌+ℤ◌, ◌-ℤ◌, ◌<ℤ◌, ◌≤ℤ◌, ◌&&◌, ℕ, ℤ, false, int_le, int_lt, nat_lt, pos};
+ghost use Rattle.wl_geom.specs.Rect.{bit, in_span, sum_below};
 
 /// Whether `at` is in the span.
 pub(crate) fn is_in_span(start: i32, len: i32, at: i32) -> bool
@@ -64,4 +64,28 @@ pub(crate) fn span_from(start: i32, len: i32, line: i64) -> (i32, i32)
     } else {
         (start, 0)
     }
+}
+
+/// How many of the `count` numbers from `from` on come before the line.
+fn count_before(from: i32, count: u32, line: i64) -> u32
+    ensures before { (i : ℕ) → i < count → nat_lt i result ≡ int_lt (from +ℤ pos i) line }
+    ensures within { result ≤ count }
+{
+    let first = i64::from(from);
+    if line <= first {
+        0
+    } else if line < first + i64::from(count) {
+        (line - first) as u32
+    } else {
+        count
+    }
+}
+
+/// How many of the `count` numbers from `from` on are in the span.
+pub(crate) fn count_in_span(start: i32, len: i32, from: i32, count: u32) -> u32
+    ensures { result ≡ sum_below count (λ i. bit (in_span start len (from +ℤ pos i))) }
+{
+    let before = count_before(from, count, i64::from(start));
+    let until = count_before(from, count, end_of(start, len));
+    until.saturating_sub(before)
 }

@@ -1,16 +1,22 @@
 -- Windows laid over a run, one after the other.
 use Rattle.std.proofs.Common.{◌≡◌, ℕ, ◌+◌, ◌-◌, ◌*◌, ◌<◌, ◌≤◌, ℤ, pos, ◌-ℤ◌, Bool, ◌&&◌, true, false, List, take, refl, sym, ◌∙◌, ap, arith, inl, inr}
-use Rattle.std.specs.Prelude.{slice_get, slice_index, Some, unsigned_abs, ◌⊎◌}
+use Rattle.std.specs.Prelude.{slice_get, slice_index, Some, unsigned_abs, ◌⊎◌, nat_lt, cond, ◌^◌}
 use Rattle.std.proofs.lemmas.Bool.{cases_lt}
+use Rattle.std.proofs.lemmas.Bool.Decides.{nat_tests}
+use Rattle.std.proofs.lemmas.Int.{ints}
 use Rattle.std.proofs.lemmas.Option.{slice_get_within, get_or_from_slice_get}
 use Rattle.std.proofs.lemmas.List.Sums.{fold_more}
 use Rattle.wl_blend.specs.declared.color.Rgb.{Rgb}
 use Rattle.wl_blend.specs.Blend.{blended, color_of}
-use Rattle.wl_geom.specs.Rect.{in_span}
+use Rattle.wl_geom.specs.Rect.{count_at, in_span}
+use Rattle.wl_store.specs.declared.place.Layout.{Layout}
+use Rattle.wl_store.specs.declared.transform.Transform.{Transform}
+use Rattle.wl_store.specs.Transform.{is_turned}
 use Rattle.wl_store.specs.Picture.{color_at, surface_height, surface_width}
 use Rattle.wl_paint.specs.Damage.{is_between}
-use Rattle.wl_paint.specs.Painting.{opaque, pixel_of}
-use Rattle.wl_paint.specs.Window.{Window, over, scratch}
+use Rattle.wl_paint.specs.Painting.{Shows, opaque, pixel_of}
+use Rattle.wl_paint.specs.Window.{AreOpaqueAsSaid, HasAlphaAsSaid, Window, in_window, is_said_opaque, over, scratch}
+use Rattle.wl_paint.proofs.Shown.{Shows-always, Shows-more}
 use Rattle.wl_paint.proofs.Clips.{between_none, offset_within, part_offset}
 
 pub scratch-more : (background : Rgb) (windows : List Window) (k : ℕ) (w : Window) (x y : ℤ) → slice_get windows k ≡ Some w
@@ -67,11 +73,55 @@ laid_pixel run now w x y first end count i j same order is column row down insid
     ]
 
 -- a pixel that shows the window's point whatever is below it
-pub hidden_pixel : (pixel : Rgb × ℕ) (w : Window) (x y i j k : ℕ) (under : Rgb)
+pub hidden_pixel : (pixel : Rgb × ℕ) (promised : Type 0) (w : Window) (x y i j k : ℕ) (under : Rgb)
     → in_span w.x (pos (surface_width w.picture.transform w.picture.layout)) (pos x) ≡ true → i ≡ unsigned_abs (pos x -ℤ w.x)
     → in_span w.y (pos (surface_height w.picture.transform w.picture.layout)) (pos y) ≡ true → j ≡ unsigned_abs (pos y -ℤ w.y)
     → i + k < surface_width w.picture.transform w.picture.layout
-    → pixel ≡ opaque (blended under (color_at w.picture (i + k) j)) → pixel ≡ opaque (over (pos (x + k)) (pos y) under w)
-hidden_pixel pixel w x y i j k under column is row down small e =
+    → pixel ≡ opaque (blended under (color_at w.picture (i + k) j)) → Shows promised (over (pos (x + k)) (pos y) under w) pixel
+hidden_pixel pixel promised w x y i j k under column is row down small e =
     let place = offset_within w.x (surface_width w.picture.transform w.picture.layout) x i k column is small in
-    e ∙ ap opaque (sym (over-inside (pos (x + k)) (pos y) under w (i + k) j place.0 row place.1 (sym down)))
+    Shows-always promised _ pixel (e ∙ ap opaque (sym (over-inside (pos (x + k)) (pos y) under w (i + k) j place.0 row place.1 (sym down))))
+
+-- in a span a place is as far from the start as it is counted
+distance-in : (start : ℤ) (len at n : ℕ) → in_span start (pos len) (pos at) ≡ true → unsigned_abs (pos at -ℤ start) ≡ n → pos at -ℤ start ≡ pos n
+distance-in start len at n inside e = grind (arith, ints, nat_tests)
+
+some-counted : (n : ℕ) → 1 ≤ n → nat_lt 0 n ≡ true
+some-counted n h = grind (arith, nat_tests)
+
+-- a point that the opaque region holds has the alpha that was promised
+promised-alpha : (w : Window) (x y i j : ℕ)
+    → in_span w.x (pos (surface_width w.picture.transform w.picture.layout)) (pos x) ≡ true → unsigned_abs (pos x -ℤ w.x) ≡ i
+    → in_span w.y (pos (surface_height w.picture.transform w.picture.layout)) (pos y) ≡ true → unsigned_abs (pos y -ℤ w.y) ≡ j
+    → 1 ≤ count_at (pos i) (pos j) w.opaque.rects → HasAlphaAsSaid (pos x) (pos y) w → (color_at w.picture i j).a ≡ 255
+promised-alpha w x y i j column right row down held promise =
+    let there : (in_window (pos x) (pos y) w && is_said_opaque (pos x) (pos y) w) ≡ true
+    = rw (column, row, distance-in w.x _ x i column right, distance-in w.y _ y j row down) (some-counted _ held) in
+    rw (right, down) at (promise there)
+
+-- a pixel that shows the window's point where that is as opaque as was said
+pub said_pixel : (pixel : Rgb × ℕ) (w : Window) (x y i j k : ℕ) (under : Rgb)
+    → in_span w.x (pos (surface_width w.picture.transform w.picture.layout)) (pos x) ≡ true → i ≡ unsigned_abs (pos x -ℤ w.x)
+    → in_span w.y (pos (surface_height w.picture.transform w.picture.layout)) (pos y) ≡ true → j ≡ unsigned_abs (pos y -ℤ w.y)
+    → i + k < surface_width w.picture.transform w.picture.layout → 1 ≤ count_at (pos (i + k)) (pos j) w.opaque.rects
+    → Shows ((color_at w.picture (i + k) j).a ≡ 255) (blended under (color_at w.picture (i + k) j)) pixel
+    → Shows (HasAlphaAsSaid (pos (x + k)) (pos y) w) (over (pos (x + k)) (pos y) under w) pixel
+said_pixel pixel w x y i j k under column is row down small held s =
+    let place = offset_within w.x (surface_width w.picture.transform w.picture.layout) x i k column is small in
+    Shows-more _ _ _ _ pixel (promised-alpha w (x + k) y (i + k) j place.0 place.1 row (sym down) held)
+    (sym (over-inside (pos (x + k)) (pos y) under w (i + k) j place.0 row place.1 (sym down))) s
+
+-- a surface's sides fit 31 bits
+side-fits : (turned : Bool) (m n : ℕ) → m < 2 ^ 31 → n < 2 ^ 31 → cond turned m n < 2 ^ 31
+side-fits true m n h l = h
+side-fits false m n h l = l
+
+pub width-fits : (t : Transform) (l : Layout) → surface_width t l < 2 ^ 31
+width-fits t l = side-fits (is_turned t) l.h l.w l.height_fits (omega (arith, l.wide_rows, l.stride_fits))
+
+pub height-fits : (t : Transform) (l : Layout) → surface_height t l < 2 ^ 31
+height-fits t l = side-fits (is_turned t) l.w l.h (omega (arith, l.wide_rows, l.stride_fits)) l.height_fits
+
+-- what all promise each promises
+pub promise-of : (windows : List Window) (k : ℕ) (w : Window) (x y : ℤ) → slice_get windows k ≡ Some w → AreOpaqueAsSaid x y windows → HasAlphaAsSaid x y w
+promise-of windows k w x y e all = rw (get_or_from_slice_get windows k w w e) at (all k w (slice_get_within windows k w e))

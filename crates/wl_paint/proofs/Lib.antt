@@ -13,3 +13,4 @@ pub mod Written
 pub mod Zeros
 pub mod Filled
 pub mod Spans
+pub mod Shown

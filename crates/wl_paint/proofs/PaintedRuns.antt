@@ -4,32 +4,33 @@ use Rattle.std.specs.Prelude.{◌⊎◌}
 use Rattle.std.proofs.lemmas.Bool.{cases_lt, both_ways}
 use Rattle.wl_blend.specs.declared.color.Rgb.{Rgb}
 use Rattle.wl_paint.specs.Damage.{IsFirstRun}
-use Rattle.wl_paint.specs.Painting.{opaque}
+use Rattle.wl_paint.specs.Painting.{Shows}
+use Rattle.wl_paint.proofs.Shown.{Shows-same}
 
 -- the row from base on is painted up to `from`, where it is damaged, and the rest is as it was
-pub record IsPaintedTo (was now : ℕ → Rgb × ℕ) (paint : ℕ → Rgb) (damaged : ℕ → Bool) (base width from : ℕ) : Type 0 where
+pub record IsPaintedTo (was now : ℕ → Rgb × ℕ) (promised : ℕ → Type 0) (paint : ℕ → Rgb) (damaged : ℕ → Bool) (base width from : ℕ) : Type 0 where
   pub bound : from ≤ width
-  pub painted : (x : ℕ) → x < from → damaged x ≡ true → now (base + x) ≡ opaque (paint x)
+  pub painted : (x : ℕ) → x < from → damaged x ≡ true → Shows (promised x) (paint x) (now (base + x))
   pub kept : (x : ℕ) → x < from → damaged x ≡ false → now (base + x) ≡ was (base + x)
   pub after : (x : ℕ) → from ≤ x → now (base + x) ≡ was (base + x)
   pub outside : (k : ℕ) → (k < base) ⊎ (base + width ≤ k) → now k ≡ was k
 
 -- the front of one run more
-pub IsPaintedTo-run : (was now next : ℕ → Rgb × ℕ) (paint : ℕ → Rgb) (damaged : ℕ → Bool) (base width from start len count : ℕ)
-    → IsFirstRun damaged width from (start, len) → count ≤ len → IsPaintedTo was now paint damaged base width from
-    → ((i : ℕ) → i < count → next (base + start + i) ≡ opaque (paint (start + i)))
+pub IsPaintedTo-run : (was now next : ℕ → Rgb × ℕ) (promised : ℕ → Type 0) (paint : ℕ → Rgb) (damaged : ℕ → Bool) (base width from start len count : ℕ)
+    → IsFirstRun damaged width from (start, len) → count ≤ len → IsPaintedTo was now promised paint damaged base width from
+    → ((i : ℕ) → i < count → Shows (promised (start + i)) (paint (start + i)) (next (base + start + i)))
     → ((k : ℕ) → (k < base + start) ⊎ (base + start + count ≤ k) → next k ≡ now k)
-    → IsPaintedTo was next paint damaged base width (start + count)
-IsPaintedTo-run was now next paint damaged base width from start len count run order p inside outside = record {
+    → IsPaintedTo was next promised paint damaged base width (start + count)
+IsPaintedTo-run was now next promised paint damaged base width from start len count run order p inside outside = record {
   bound = omega (arith, run.within);
   painted = λ x h d. elim (cases_lt x from) [
-    | inl l ↦ outside (base + x) (inl (omega (arith, run.starts))) ∙ p.painted x l d
+    | inl l ↦ Shows-same (promised x) (paint x) _ _ (outside (base + x) (inl (omega (arith, run.starts)))) (p.painted x l d)
     | inr g ↦ elim (cases_lt x start) [
       | inl l ↦ absurd (both_ways (damaged x) (run.before x g l) d)
       | inr s ↦
           let there : start + (x - start) ≡ x = omega arith in
           let here : base + start + (x - start) ≡ base + x = omega arith in
-          ap next (sym here) ∙ (inside (x - start) (omega arith) ∙ ap (λ (k : ℕ). opaque (paint k)) there)
+          Shows-same (promised x) (paint x) _ _ (ap next (sym here)) (rw there at (inside (x - start) (omega arith)))
     ]
   ];
   kept = λ x h d. elim (cases_lt x from) [
@@ -44,13 +45,13 @@ IsPaintedTo-run was now next paint damaged base width from start len count run o
 }
 
 -- a row that is painted up to a place after which nothing is damaged is painted
-pub painted-all : (was now : ℕ → Rgb × ℕ) (paint : ℕ → Rgb) (damaged : ℕ → Bool) (base width from : ℕ)
-    → IsPaintedTo was now paint damaged base width from → ((k : ℕ) → from ≤ k → k < width → damaged k ≡ false)
-    → (x : ℕ) → x < width → damaged x ≡ true → now (base + x) ≡ opaque (paint x)
-painted-all was now paint damaged base width from p none x h d =
+pub painted-all : (was now : ℕ → Rgb × ℕ) (promised : ℕ → Type 0) (paint : ℕ → Rgb) (damaged : ℕ → Bool) (base width from : ℕ)
+    → IsPaintedTo was now promised paint damaged base width from → ((k : ℕ) → from ≤ k → k < width → damaged k ≡ false)
+    → (x : ℕ) → x < width → damaged x ≡ true → Shows (promised x) (paint x) (now (base + x))
+painted-all was now promised paint damaged base width from p none x h d =
     elim (cases_lt x from) [ inl l ↦ p.painted x l d | inr g ↦ absurd (both_ways (damaged x) (none x g h) d) ]
 
-pub kept-all : (was now : ℕ → Rgb × ℕ) (paint : ℕ → Rgb) (damaged : ℕ → Bool) (base width from : ℕ)
-    → IsPaintedTo was now paint damaged base width from → (x : ℕ) → x < width → damaged x ≡ false → now (base + x) ≡ was (base + x)
-kept-all was now paint damaged base width from p x h d =
+pub kept-all : (was now : ℕ → Rgb × ℕ) (promised : ℕ → Type 0) (paint : ℕ → Rgb) (damaged : ℕ → Bool) (base width from : ℕ)
+    → IsPaintedTo was now promised paint damaged base width from → (x : ℕ) → x < width → damaged x ≡ false → now (base + x) ≡ was (base + x)
+kept-all was now promised paint damaged base width from p x h d =
     elim (cases_lt x from) [ inl l ↦ p.kept x l d | inr g ↦ p.after x g ]

@@ -18,9 +18,14 @@ pixel_of pixels k = (color_of pixels k, slice_index pixels (4 * k + 3))
 abbrev pub opaque : Rgb → Rgb × ℕ
 opaque color = (color, 255)
 
+-- the pixel is opaque, and it has the colour where what is promised holds
+pub record Shows (promised : Type 0) (color : Rgb) (pixel : Rgb × ℕ) : Type 0 where
+  pub colored : promised → pixel.0 ≡ color
+  pub fourth : pixel.1 ≡ 255
+
 -- the first rows are painted where they are damaged, and the rest is as it was
-pub record IsPaintedAbove (was now : ℕ → Rgb × ℕ) (paint : ℕ → ℕ → Rgb) (damaged : ℕ → ℕ → Bool) (width rows : ℕ) : Type 0 where
-  pub painted : (x y : ℕ) → x < width → y < rows → damaged x y ≡ true → now (y * width + x) ≡ opaque (paint x y)
+pub record IsPaintedAbove (was now : ℕ → Rgb × ℕ) (promised : ℕ → ℕ → Type 0) (paint : ℕ → ℕ → Rgb) (damaged : ℕ → ℕ → Bool) (width rows : ℕ) : Type 0 where
+  pub painted : (x y : ℕ) → x < width → y < rows → damaged x y ≡ true → Shows (promised x y) (paint x y) (now (y * width + x))
   pub kept : (x y : ℕ) → x < width → y < rows → damaged x y ≡ false → now (y * width + x) ≡ was (y * width + x)
   pub below : (x y : ℕ) → x < width → rows ≤ y → now (y * width + x) ≡ was (y * width + x)
 

@@ -37,6 +37,10 @@ scratch background windows x y = fold (over x y) background windows
 abbrev pub is_said_opaque : ℤ → ℤ → Window → Bool
 is_said_opaque x y w = nat_lt 0 (count_at (x -ℤ w.x) (y -ℤ w.y) w.opaque.rects)
 
+-- where the window contains the point and its opaque region holds it, it has the alpha 255 there
+abbrev pub HasAlphaAsSaid : ℤ → ℤ → Window → Type 0
+HasAlphaAsSaid x y w = (in_window x y w && is_said_opaque x y w) ≡ true → (color_in x y w).a ≡ 255
+
 -- each window that contains the point and whose opaque region holds it has the alpha 255 there
 abbrev pub AreOpaqueAsSaid : ℤ → ℤ → List Window → Type 0
 AreOpaqueAsSaid x y windows = All (λ w. (in_window x y w && is_said_opaque x y w) ≡ true → (color_in x y w).a ≡ 255) windows

@@ -12,6 +12,7 @@ mod painting;
 mod pixel;
 mod ppm;
 mod row;
+mod source;
 mod span;
 mod windows;
 mod words;

@@ -1,7 +1,7 @@
 ghost use Rattle.std.specs.Prelude.{◌≡◌, ◌<◌, ◌≤◌, ◌+◌, ◌*◌, ◌%◌, ◌^◌, ◌⊎◌, ℕ, length, take, pos, true, false};
 ghost use Rattle.wl_paint.specs.Damage.{has};
-ghost use Rattle.wl_paint.specs.Painting.{IsPaintedAbove, opaque, pixel_of};
-ghost use Rattle.wl_paint.specs.Window.{scratch};
+ghost use Rattle.wl_paint.specs.Painting.{IsPaintedAbove, Shows, opaque, pixel_of};
+ghost use Rattle.wl_paint.specs.Window.{AreOpaqueAsSaid, scratch};
 
 use crate::damage::Damage;
 use crate::layer::{STRETCH, hide, lay_window};
@@ -26,7 +26,8 @@ fn paint_lowest<W: Windows>(run: &mut [u8], x: u32, y: u32, windows: &W, backgro
     requires whole { length run.old % 4 ≡ 0 }
     requires fits { x + length run.old < 2 ^ 32 }
     ensures within { result ≤ length (W.windows windows.now) }
-    ensures pixels { (i : ℕ) → 4 * i < length run.old → pixel_of run.new i ≡ opaque (scratch background (take result (W.windows windows.now)) (pos (x + i)) (pos y)) }
+    ensures pixels { (i : ℕ) → 4 * i < length run.old
+        → Shows (AreOpaqueAsSaid (pos (x + i)) (pos y) (W.windows windows.now)) (scratch background (take result (W.windows windows.now)) (pos (x + i)) (pos y)) (pixel_of run.new i) }
 {
     let len = windows.len();
     for above in 0..len {
@@ -44,7 +45,8 @@ fn paint_run<W: Windows>(run: &mut [u8], x: u32, y: u32, windows: &W, background
     requires whole { length run.old % 4 ≡ 0 }
     requires fits { x + length run.old < 2 ^ 32 }
     requires short { length run.old ≤ 4 * STRETCH }
-    ensures { (i : ℕ) → 4 * i < length run.old → pixel_of run.new i ≡ opaque (scratch background (W.windows windows.now) (pos (x + i)) (pos y)) }
+    ensures { (i : ℕ) → 4 * i < length run.old
+        → Shows (AreOpaqueAsSaid (pos (x + i)) (pos y) (W.windows windows.now)) (scratch background (W.windows windows.now) (pos (x + i)) (pos y)) (pixel_of run.new i) }
 {
     let lowest = paint_lowest(run, x, y, windows, background);
     for k in lowest..windows.len() {
@@ -65,7 +67,8 @@ fn paint_part<W: Windows>(
     requires within { 4 * (first + count) ≤ length pixels.old }
     requires fits { x + 4 * count < 2 ^ 32 }
     requires short { count ≤ STRETCH }
-    ensures inside { (i : ℕ) → i < count → pixel_of pixels.new (first + i) ≡ opaque (scratch background (W.windows windows.now) (pos (x + i)) (pos y)) }
+    ensures inside { (i : ℕ) → i < count
+        → Shows (AreOpaqueAsSaid (pos (x + i)) (pos y) (W.windows windows.now)) (scratch background (W.windows windows.now) (pos (x + i)) (pos y)) (pixel_of pixels.new (first + i)) }
     ensures outside { (k : ℕ) → (k < first) ⊎ (first + count ≤ k) → pixel_of pixels.new k ≡ pixel_of pixels.old k }
 {
     let end = first + count as usize;
@@ -84,7 +87,8 @@ fn paint_row<A: Allocator, W: Windows>(
     requires within { 4 * (base + damage.now.width) ≤ length pixels.old }
     requires narrow { damage.now.width ≤ 4096 }
     requires row { y < damage.now.height }
-    ensures damaged { (x : ℕ) → x < damage.now.width → has damage.now x y ≡ true → pixel_of pixels.new (base + x) ≡ opaque (scratch background (W.windows windows.now) (pos x) (pos y)) }
+    ensures damaged { (x : ℕ) → x < damage.now.width → has damage.now x y ≡ true
+        → Shows (AreOpaqueAsSaid (pos x) (pos y) (W.windows windows.now)) (scratch background (W.windows windows.now) (pos x) (pos y)) (pixel_of pixels.new (base + x)) }
     ensures kept { (x : ℕ) → x < damage.now.width → has damage.now x y ≡ false → pixel_of pixels.new (base + x) ≡ pixel_of pixels.old (base + x) }
     ensures outside { (k : ℕ) → (k < base) ⊎ (base + damage.now.width ≤ k) → pixel_of pixels.new k ≡ pixel_of pixels.old k }
 {
@@ -118,7 +122,8 @@ pub(crate) fn paint_rows<A: Allocator, W: Windows>(
     requires narrow { width ≤ 4096 }
     requires low { height ≤ 4096 }
     requires sized { length pixels.old ≡ 4 * (width * height) }
-    ensures { IsPaintedAbove (pixel_of pixels.old) (pixel_of pixels.new) (λ x y. scratch background (W.windows windows.now) (pos x) (pos y)) (has damage.now) width height }
+    ensures { IsPaintedAbove (pixel_of pixels.old) (pixel_of pixels.new) (λ x y. AreOpaqueAsSaid (pos x) (pos y) (W.windows windows.now))
+        (λ x y. scratch background (W.windows windows.now) (pos x) (pos y)) (has damage.now) width height }
 {
     for y in 0..height {
         let base = y as usize * width as usize;

@@ -1,6 +1,6 @@
 ghost use Rattle.std.specs.Prelude.{◌≡◌, ℕ, ◌+◌, ◌*◌, ◌<◌, ◌≢◌, length};
 ghost use Rattle.wl_store.specs.declared.color.Format.TheVariants.{Argb8888};
-ghost use Rattle.wl_blend.specs.Blend.{argb_of};
+ghost use Rattle.wl_store.specs.Layout.{argb_of};
 ghost use Rattle.wl_paint.specs.Painting.{opaque, pixel_of};
 
 use wl_blend::Rgb;

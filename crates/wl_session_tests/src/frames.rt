@@ -392,8 +392,8 @@ const GREEN_SQUARE: &[Row] = &[
     ),
 ];
 
-/// What changed below another window is painted again, and shown where that one doesn't hide it.
-const CHANGED_BELOW: &[Row] = &[
+/// Nine points of the client 1's window change, the left three of them beside the window of the client 2 and the others below it.
+const CHANGES_NINE: &[Row] = &[
     Row::Sends(ATTACH_11),
     Row::Sends(Message(
         6,
@@ -402,21 +402,77 @@ const CHANGED_BELOW: &[Row] = &[
     )),
     Row::Sends(COMMIT),
     Row::Told(&[RELEASED_10]),
-    Row::Shows(
-        9,
-        9,
-        &[
-            Pixel(31, 32, 0, 0, 0),
-            Pixel(31, 33, 255, 0, 0),
-            Pixel(31, 35, 255, 0, 0),
-            Pixel(31, 36, 0, 0, 0),
-            Pixel(32, 33, 0, 255, 0),
-            Pixel(33, 35, 0, 255, 0),
-            Pixel(39, 39, 0, 255, 0),
-            Pixel(40, 33, 0, 0, 0),
-        ],
-    ),
 ];
+
+/// What changed below another window is painted again, and shown where that one doesn't hide it.
+const SHOWS_THREE_RED: &[Row] = &[Row::Shows(
+    9,
+    9,
+    &[
+        Pixel(31, 32, 0, 0, 0),
+        Pixel(31, 33, 255, 0, 0),
+        Pixel(31, 35, 255, 0, 0),
+        Pixel(31, 36, 0, 0, 0),
+        Pixel(32, 33, 0, 255, 0),
+        Pixel(33, 35, 0, 255, 0),
+        Pixel(39, 39, 0, 255, 0),
+        Pixel(40, 33, 0, 0, 0),
+    ],
+)];
+
+/// The client 2 shows a buffer 10 of 8 by 8 pixels of argb8888 that lets all through, at (32, 32); then a region that would call all of it opaque
+/// waits for a commit, which doesn't come.
+const CLEAR_SQUARE: &[Row] = &[
+    Row::From(
+        2,
+        Message(
+            9,
+            0,
+            &[
+                Arg::NewId(10),
+                Arg::Int(0),
+                Arg::Int(8),
+                Arg::Int(8),
+                Arg::Int(32),
+                Arg::Uint(0),
+            ],
+        ),
+    ),
+    Row::From(
+        2,
+        Message(6, 1, &[Arg::Object(10), Arg::Int(0), Arg::Int(0)]),
+    ),
+    Row::From(
+        2,
+        Message(6, 2, &[Arg::Int(0), Arg::Int(0), Arg::Int(8), Arg::Int(8)]),
+    ),
+    Row::From(2, COMMIT),
+    Row::Shows(64, 64, &[Pixel(32, 32, 0, 0, 0), Pixel(39, 39, 0, 0, 0)]),
+    Row::From(2, Message(3, 1, &[Arg::NewId(14)])),
+    Row::From(
+        2,
+        Message(14, 1, &[Arg::Int(0), Arg::Int(0), Arg::Int(8), Arg::Int(8)]),
+    ),
+    Row::From(2, Message(6, 4, &[Arg::Object(14)])),
+];
+
+/// A window hides nothing by an opaque region that it has asked for and not committed.
+const SHOWS_NINE_RED: &[Row] = &[Row::Shows(
+    9,
+    9,
+    &[
+        Pixel(31, 33, 255, 0, 0),
+        Pixel(32, 33, 255, 0, 0),
+        Pixel(33, 33, 255, 0, 0),
+        Pixel(31, 34, 255, 0, 0),
+        Pixel(32, 34, 255, 0, 0),
+        Pixel(33, 34, 255, 0, 0),
+        Pixel(31, 35, 255, 0, 0),
+        Pixel(32, 35, 255, 0, 0),
+        Pixel(33, 35, 255, 0, 0),
+        Pixel(34, 35, 0, 0, 0),
+    ],
+)];
 
 /// The client 1 ends: its window goes, and that of the client 2 stays, which is told nothing.
 const OTHER_STAYS: &[Row] = &[
@@ -469,7 +525,20 @@ const CASES: &[Case] = &[
             SHOWS_BLACK,
             SECOND,
             GREEN_SQUARE,
-            CHANGED_BELOW,
+            CHANGES_NINE,
+            SHOWS_THREE_RED,
+        ],
+    ),
+    (
+        "an opaque region that waits for its commit hides nothing",
+        &[
+            NINE_RED,
+            MAPS,
+            SHOWS_BLACK,
+            SECOND,
+            CLEAR_SQUARE,
+            CHANGES_NINE,
+            SHOWS_NINE_RED,
         ],
     ),
 ];

@@ -39,3 +39,12 @@ abbrev pub buffer_color : List ℕ → Layout → ℕ × ℕ → Argb
 buffer_color bytes l point =
     let at = l.offset + point.1 * l.stride + 4 * point.0 in
     record { a = alpha_of l.format (slice_index bytes (at + 3)); r = slice_index bytes (at + 2); g = slice_index bytes (at + 1); b = slice_index bytes at }
+
+-- the colour of pixel k of a buffer's bytes: blue, green, red and alpha
+abbrev pub argb_of : Format → List ℕ → ℕ → Argb
+argb_of format bytes k = record {
+  a = alpha_of format (slice_index bytes (4 * k + 3));
+  r = slice_index bytes (4 * k + 2);
+  g = slice_index bytes (4 * k + 1);
+  b = slice_index bytes (4 * k);
+}

@@ -1,12 +1,13 @@
 -- What is seen of a picture: bytes, where a buffer lies in them, and how a surface shows it.
 use Rattle.std.proofs.lemmas.Bool.{leb-true, ltb-true}
-use Rattle.std.specs.Prelude.{refl, ◌^◌, ℕ, ◌+◌, ◌*◌, nat_le, List, [], ◌∷◌, length, cond, Option, Some, None}
+use Rattle.std.specs.Prelude.{◌≡◌, refl, ◌^◌, ℕ, ◌+◌, ◌*◌, ◌<◌, nat_le, List, [], ◌∷◌, length, cond, Option, Some, None}
 use Rattle.wl_store.specs.declared.color.Argb.{Argb}
+use Rattle.wl_store.specs.declared.color.Format.{Format}
 use Rattle.wl_store.specs.declared.color.Format.TheVariants.{Argb8888}
 use Rattle.wl_store.specs.declared.place.Layout.{Layout}
 use Rattle.wl_store.specs.declared.transform.Transform.{Transform}
 use Rattle.wl_store.specs.declared.transform.Transform.TheVariants.{Normal}
-use Rattle.wl_store.specs.Layout.{buffer_color}
+use Rattle.wl_store.specs.Layout.{argb_of, buffer_color}
 use Rattle.wl_store.specs.Transform.{is_turned, buffer_point}
 
 pub record Shown : Type 0 where
@@ -28,6 +29,11 @@ surface_height t l = cond (is_turned t) l.w l.h
 -- the colour at the point (i, j) of the surface
 abbrev pub color_at : Shown → ℕ → ℕ → Argb
 color_at p i j = buffer_color p.bytes p.layout (buffer_point p.transform (surface_width p.transform p.layout) (surface_height p.transform p.layout) i j)
+
+-- the bytes are those of so many points of the surface from (i, j) to the right, four each, in this format
+pub record ArePoints (p : Shown) (i j count : ℕ) (bytes : List ℕ) (format : Format) : Type 0 where
+  pub as_many : length bytes ≡ 4 * count
+  pub colors : (k : ℕ) → k < count → argb_of format bytes k ≡ color_at p (i + k) j
 
 -- where a buffer of one pixel lies that is all there is
 abbrev pub one_pixel : Layout

@@ -28,3 +28,14 @@ buffer_point Flipped w h i j = (w - 1 - i, j)
 buffer_point Flipped90 w h i j = (j, i)
 buffer_point Flipped180 w h i j = (i, h - 1 - j)
 buffer_point Flipped270 w h i j = (h - 1 - j, w - 1 - i)
+
+-- each row of the surface is a row of the buffer, from the left
+abbrev pub keeps_rows : Transform → Bool
+keeps_rows Normal = true
+keeps_rows Rotated90 = false
+keeps_rows Rotated180 = false
+keeps_rows Rotated270 = false
+keeps_rows Flipped = false
+keeps_rows Flipped90 = false
+keeps_rows Flipped180 = true
+keeps_rows Flipped270 = false

@@ -1,6 +1,7 @@
-ghost use Rattle.std.specs.Prelude.{◌≡◌, ◌+◌, ◌*◌, ◌≤◌, ◌<◌, slice_range, length, IfSome};
+ghost use Rattle.std.specs.Prelude.{◌≡◌, ◌+◌, ◌*◌, ◌≤◌, ◌<◌, is_some, slice_range, length, IfSome};
 ghost use Rattle.wl_store.specs.Layout.{FitsIn, buffer_color};
-ghost use Rattle.wl_store.specs.Picture.{color_at, lent, surface_height, surface_width, transparent};
+ghost use Rattle.wl_store.specs.Picture.{ArePoints, color_at, lent, surface_height, surface_width, transparent};
+ghost use Rattle.wl_store.specs.Transform.{keeps_rows};
 
 use crate::color::{Argb, Format};
 use crate::place::Layout;
@@ -116,6 +117,23 @@ impl<'a> Picture<'a> {
     {
         let start = self.layout.offset as usize + j as usize * self.layout.stride as usize;
         &self.bytes[start..start + 4 * self.layout.w as usize]
+    }
+
+    /// The bytes of the `count` points of the surface from (i, j) to the right, four a pixel, and their format, where each row of the surface is a
+    /// row of the buffer: where the transform is normal or turns the buffer upside down.
+    pub fn points(&self, i: u32, j: u32, count: u32) -> Option<(&'a [u8], Format)>
+        requires columns { i + count ≤ surface_width self.now.transform self.now.layout }
+        requires row { j < surface_height self.now.transform self.now.layout }
+        ensures there { is_some result ≡ keeps_rows self.now.transform }
+        ensures points { IfSome result (λ points. ArePoints self.now i j count points.0.now points.1) }
+    {
+        let row = match self.transform {
+            Transform::Normal => self.row(j),
+            Transform::Flipped180 => self.row(self.layout.h - 1 - j),
+            _ => return None,
+        };
+        let first = 4 * i as usize;
+        Some((&row[first..first + 4 * count as usize], self.layout.format))
     }
 
     /// The colour at the point (i, j) of the surface.

@@ -1,6 +1,7 @@
 use Rattle.std.proofs.Common.{◌≡◌, ℕ, ◌<◌, ◌≤◌, ◌+◌, ◌*◌}
 use Rattle.std.specs.Prelude.{slice_index}
-use Rattle.wl_blend.specs.Blend.{argb_of, blended, color_of}
+use Rattle.wl_store.specs.Layout.{argb_of}
+use Rattle.wl_blend.specs.Blend.{blended, color_of}
 use Rattle.wl_blend.proofs.run.blend_rest.Given as goal
 
 -- the pixels so far are blended, and the others are as they were

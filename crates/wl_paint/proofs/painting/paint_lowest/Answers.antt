@@ -1,7 +1,8 @@
-use Rattle.std.proofs.Common.{◌+◌, ◌-◌, ◌*◌, ◌<◌, pos, length, take, arith, ap, sym, ◌∙◌}
-use Rattle.wl_paint.specs.Painting.{opaque, window_of}
+use Rattle.std.proofs.Common.{◌+◌, ◌-◌, ◌*◌, ◌<◌, pos, length, take, arith, sym}
+use Rattle.wl_paint.specs.Painting.{window_of}
 use Rattle.wl_paint.specs.Window.{scratch}
-use Rattle.wl_paint.proofs.Layers.{scratch-more}
+use Rattle.wl_paint.proofs.Layers.{promise-of, scratch-more}
+use Rattle.wl_paint.proofs.Shown.{Shows-more}
 use Rattle.wl_paint.proofs.painting.paint_lowest.Goals as goal
 
 pub returns-then-hide-clause-pixels : goal.returns-then-hide-clause-pixels
@@ -11,5 +12,6 @@ returns-then-hide-clause-pixels g c i h =
     let short : 4 * i < length c.loop-above.run = omega arith in
     let x = pos (c.args.x + i) in
     let y = pos c.args.y in
-    c.hide.ensures c.if-hide.true i short (scratch c.args.background (take k windows) x y)
-    ∙ ap opaque (sym (scratch-more c.args.background windows k (window_of c.window.result) x y c.window.ensures))
+    let w = window_of c.window.result in
+    Shows-more _ _ _ _ _ (promise-of windows k w x y c.window.ensures) (sym (scratch-more c.args.background windows k w x y c.window.ensures))
+    (c.hide.ensures c.if-hide.true i short (scratch c.args.background (take k windows) x y))

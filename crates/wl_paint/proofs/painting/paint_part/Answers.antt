@@ -1,4 +1,5 @@
-use Rattle.std.proofs.Common.{◌∙◌, arith}
+use Rattle.std.proofs.Common.{arith}
+use Rattle.wl_paint.proofs.Shown.{Shows-same}
 use Rattle.wl_paint.proofs.Parts.{length-part, part-inside, part-outside}
 use Rattle.wl_paint.proofs.painting.paint_part.Goals as goal
 
@@ -11,8 +12,8 @@ paint_run-requires-clause-short g c = omega (arith, length-part c.args.pixels.no
 pub returns-clause-inside : goal.returns-clause-inside
 returns-clause-inside g c = λ i in_part.
     let pixels = c.args.pixels.now in
-    part-inside pixels c.paint_run.new.run c.args.first c.args.count i c.requires.within c.paint_run.auto.run in_part
-    ∙ c.paint_run.ensures i (omega (arith, in_part, length-part pixels c.args.first c.args.count c.requires.within))
+    Shows-same _ _ _ _ (part-inside pixels c.paint_run.new.run c.args.first c.args.count i c.requires.within c.paint_run.auto.run in_part)
+    (c.paint_run.ensures i (omega (arith, in_part, length-part pixels c.args.first c.args.count c.requires.within)))
 
 pub returns-clause-outside : goal.returns-clause-outside
 returns-clause-outside g c = λ k out. part-outside c.args.pixels.now c.paint_run.new.run c.args.first c.args.count k c.requires.within c.paint_run.auto.run out

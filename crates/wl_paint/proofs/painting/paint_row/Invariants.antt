@@ -1,6 +1,6 @@
 use Rattle.std.proofs.Common.{◌-◌, pos}
 use Rattle.wl_paint.specs.Painting.{pixel_of}
-use Rattle.wl_paint.specs.Window.{scratch}
+use Rattle.wl_paint.specs.Window.{AreOpaqueAsSaid, scratch}
 use Rattle.wl_paint.specs.Damage.{has}
 use Rattle.wl_paint.proofs.PaintedRuns.{IsPaintedTo}
 use Rattle.wl_paint.proofs.painting.paint_row.Given as goal
@@ -8,7 +8,8 @@ use Rattle.wl_paint.proofs.painting.paint_row.Given as goal
 -- the row is painted up to `from`
 abbrev pub invariant-loop-start : goal.invariant-loop-start
 invariant-loop-start g l =
-    IsPaintedTo (pixel_of l.initial.pixels) (pixel_of l.pixels) (λ x. scratch l.background (g.W.Windows.windows l.windows) (pos x) (pos l.y)) (λ x. has l.damage x l.y) l.base l.damage.width l.from
+    IsPaintedTo (pixel_of l.initial.pixels) (pixel_of l.pixels) (λ x. AreOpaqueAsSaid (pos x) (pos l.y) (g.W.Windows.windows l.windows))
+    (λ x. scratch l.background (g.W.Windows.windows l.windows) (pos x) (pos l.y)) (λ x. has l.damage x l.y) l.base l.damage.width l.from
 
 abbrev pub decreases-loop-start : goal.decreases-loop-start
 decreases-loop-start g l = l.damage.width - l.from

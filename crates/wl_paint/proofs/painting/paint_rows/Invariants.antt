@@ -1,10 +1,11 @@
 use Rattle.std.proofs.Common.{pos}
 use Rattle.wl_paint.specs.Painting.{IsPaintedAbove, pixel_of}
-use Rattle.wl_paint.specs.Window.{scratch}
+use Rattle.wl_paint.specs.Window.{AreOpaqueAsSaid, scratch}
 use Rattle.wl_paint.specs.Damage.{has}
 use Rattle.wl_paint.proofs.painting.paint_rows.Given as goal
 
 -- the rows so far are painted
 abbrev pub invariant-loop-y : goal.invariant-loop-y
 invariant-loop-y g l =
-    IsPaintedAbove (pixel_of l.initial.pixels) (pixel_of l.pixels) (λ x y. scratch l.background (g.W.Windows.windows l.windows) (pos x) (pos y)) (has l.damage) l.width l.y
+    IsPaintedAbove (pixel_of l.initial.pixels) (pixel_of l.pixels) (λ x y. AreOpaqueAsSaid (pos x) (pos y) (g.W.Windows.windows l.windows))
+    (λ x y. scratch l.background (g.W.Windows.windows l.windows) (pos x) (pos y)) (has l.damage) l.width l.y

@@ -1,8 +1,7 @@
-use Rattle.std.proofs.Common.{ℕ, pos, ◌+◌, ◌*◌, ◌<◌, length, arith, ◌∙◌, ap, sym}
-use Rattle.wl_blend.specs.declared.color.Rgb.{Rgb}
-use Rattle.wl_paint.specs.Painting.{opaque, window_of}
-use Rattle.wl_paint.specs.Window.{over}
+use Rattle.std.proofs.Common.{pos, ◌+◌, ◌*◌, ◌<◌, length, arith, sym}
+use Rattle.wl_paint.specs.Painting.{pixel_of, window_of}
 use Rattle.wl_paint.proofs.Layers.{scratch-more}
+use Rattle.wl_paint.proofs.Shown.{Shows-more, Shows-over}
 use Rattle.wl_paint.proofs.painting.paint_run.Goals as goal
 
 pub loop-k-preserved : goal.loop-k-preserved
@@ -11,6 +10,5 @@ loop-k-preserved g c i h =
     let w = window_of c.window.result in
     let x = pos (c.args.x + i) in
     let y = pos c.args.y in
-    c.lay_window.ensures i short
-    ∙ (ap (λ (p : Rgb × ℕ). opaque (over x y p.0 w)) (c.loop-k.invariant i short)
-    ∙ ap opaque (sym (scratch-more c.args.background (g.W.Windows.windows c.args.windows.now) c.loop-k.k w x y c.window.ensures)))
+    Shows-more _ _ _ _ _ (λ said. said) (sym (scratch-more c.args.background (g.W.Windows.windows c.args.windows.now) c.loop-k.k w x y c.window.ensures))
+    (Shows-over _ _ (pixel_of c.loop-k.run i) _ x y w (c.lay_window.ensures i short) (c.loop-k.invariant i short))

@@ -7,7 +7,7 @@ use Rattle.wl_geom.proofs.region.Region.copy.Goals as goal
 pub invariant_of-result : goal.invariant_of-result
 invariant_of-result g c =
     let same = each_same c.self.inside.rects.items c.in_ok-clone.field-0.items c.in_ok-clone.ensures.cases.0 in
-    (c.self.invariant.0, rw same c.self.invariant.1)
+    rw same c.self.invariant
 
 pub returns-clause-ok : goal.returns-clause-ok
 returns-clause-ok g c =

@@ -23,12 +23,12 @@ invariant_of-self g c =
       some_width = is.some_width;
       some_height = is.some_height;
       sized = c.paint_rows.auto.pixels ∙ (ap length c.deref_mut.ensures.value ∙ is.sized);
-      fourths = fourths-painted now c.paint_rows.new.pixels _ _ c.self.inside.width c.self.inside.height is.some_width c.paint_rows.ensures before;
+      fourths = fourths-painted now c.paint_rows.new.pixels _ _ _ c.self.inside.width c.self.inside.height is.some_width c.paint_rows.ensures before;
     })
 
 pub returns-clause-damaged : goal.returns-clause-damaged
 returns-clause-damaged g c =
-    rw (← c.self.view_is, written_back g c) (λ x y w h d said. ap (λ (p : Rgb × ℕ). p.0) (c.paint_rows.ensures.painted x y w h d))
+    rw (← c.self.view_is, written_back g c) (λ x y w h d said. (c.paint_rows.ensures.painted x y w h d).colored said)
 
 pub returns-clause-kept : goal.returns-clause-kept
 returns-clause-kept g c =
