@@ -1,16 +1,18 @@
 #!/usr/bin/env python3
-"""Measures what a tick of `wlframe replay` costs at 1920 by 1080.
+"""Measures what a tick of `wlframe replay` costs at 1920 by 1080, and at 4096 by 4096.
 
-    bench/frames.py [--ticks N] [--rounds N]
+    bench/frames.py [--ticks N] [--rounds N] [--only WORDS]
 
 It writes recordings of clients with a window each, whose every tick is preceded by a commit of all of them, and plays them by the built
-program: one client with a window of the whole output that damages all of it, 8 by 8 points, or one; one with a window of 8 by 8 points; 8 and
-32 clients with such windows; ticks for which nobody committed; and ticks before each of which the last of 1, 8 or 32 clients with such windows
-went and came again. Each is played with few and with many ticks, one right after the other, and the difference is divided by the ticks
-between them, so that starting the program, making the image and mapping the windows aren't counted.
+program: one client with a window of the whole output that damages all of it, 8 by 8 points, or one; the same whole window in each format, in
+argb8888 opaque by its pixels, by its region, half through and letting all through; 8 such windows on each other of which the topmost commits; one
+client with a window of 8 by 8 points; 8 and 32 clients with such windows; ticks for which nobody committed; and ticks before each of which
+the last of 1, 8 or 32 clients with such windows went and came again. Each is played with few and with many ticks, one right after the other, and
+the difference is divided by the ticks between them, so that starting the program, making the image and mapping the windows aren't counted.
 
-Times are processor time, the program's own and the system's for it: the median of the rounds, with the least and the greatest. Pictures
-aren't written, and the report goes to /dev/null.
+Times are processor time, the program's own and the system's for it: the median of the rounds, with the least and the greatest. Pictures aren't
+written but in the last line, which has frames as PPM, beside a copy of as many bytes and their writing to a file in memory. The report goes
+to /dev/null. --only leaves out what doesn't have these words in its name.
 """
 import argparse
 import os
@@ -20,11 +22,13 @@ import struct
 import subprocess
 import sys
 import tempfile
+import time
 
 ROOT = pathlib.Path(__file__).resolve().parent.parent
 PROGRAM = ROOT / "crates" / "wlframe" / "out" / "wlframe"
-WIDTH, HEIGHT = 1920, 1080
-XRGB8888 = 1
+WHOLE = 1920, 1080
+LARGEST = 4096, 4096
+ARGB8888, XRGB8888 = 0, 1
 
 
 def message(sender, opcode, *arguments):
@@ -39,9 +43,10 @@ def message(sender, opcode, *arguments):
     return struct.pack("<IHH", sender, opcode, 8 + len(body)) + body
 
 
-def mapped(width, height):
-    """What a client sends until its window of this size is there."""
+def mapped(width, height, form=XRGB8888, region=False):
+    """What a client sends until its window of this size is there, with a region that says that all of it is opaque, or without one."""
     stride = 4 * width
+    opaque = message(3, 1, 11) + message(11, 1, 0, 0, width, height) + message(6, 4, 11) if region else b""
     return b"".join([
         message(1, 1, 2),
         message(2, 0, 1, "wl_compositor", 2, 3),
@@ -53,7 +58,8 @@ def mapped(width, height):
         message(6, 6),
         message(7, 4, 1),
         message(4, 0, 9, stride * height),
-        message(9, 0, 10, 0, width, height, stride, XRGB8888),
+        message(9, 0, 10, 0, width, height, stride, form),
+        opaque,
     ]) + committed(width, height)
 
 
@@ -62,13 +68,22 @@ def committed(width, height):
     return message(6, 1, 10, 0, 0) + message(6, 2, 0, 0, width, height) + message(6, 6)
 
 
-def recording(clients, size, damage, ticks):
-    """So many ticks of clients with windows of this size, each tick after a commit of every client, unless they damage nothing."""
+def filled(client, count, pixel):
+    """The lines that fill so many pixels of a client's store with one."""
+    most = 15_000
+    return [f"store {client} 1 {4 * first} {pixel * min(most, count - first)}" for first in range(0, count, most)]
+
+
+def recording(clients, size, damage, ticks, form=XRGB8888, region=False, pixel=None, last_alone=False):
+    """So many ticks of clients with windows of this size, each tick after a commit of every client, or of the last alone, unless they damage nothing.
+    The pixels of the windows are zeros, or as given."""
     lines = []
     for client in range(1, clients + 1):
-        lines += ["connect", f"bytes {client} {mapped(*size).hex()}"]
+        lines += ["connect", f"bytes {client} {mapped(*size, form, region).hex()}"]
+        if pixel:
+            lines += filled(client, size[0] * size[1], pixel)
     lines.append("tick 0")
-    commits = [f"bytes {client} {committed(*damage).hex()}" for client in range(1, clients + 1)] if damage else []
+    commits = [f"bytes {client} {committed(*damage).hex()}" for client in range(clients if last_alone else 1, clients + 1)] if damage else []
     for tick in range(ticks):
         lines += commits
         lines.append(f"tick {tick + 1}")
@@ -86,12 +101,13 @@ def ends(clients, size, ticks):
     return "\n".join(lines).encode() + b"\n"
 
 
-def seconds(text):
+def seconds(text, size, pictures=None):
     """The processor time of a run."""
+    words = [PROGRAM, "replay", "--size", "x".join(map(str, size)), *(["--ppm", pictures] if pictures else [])]
     with tempfile.TemporaryFile() as stream:
         stream.write(text)
         stream.seek(0)
-        child = subprocess.Popen([PROGRAM, "replay", "--size", f"{WIDTH}x{HEIGHT}"], stdin=stream, stdout=subprocess.DEVNULL)
+        child = subprocess.Popen(words, stdin=stream, stdout=subprocess.DEVNULL)
         _, status, used = os.wait4(child.pid, 0)
     child.returncode = os.waitstatus_to_exitcode(status)
     if child.returncode != 0:
@@ -99,36 +115,73 @@ def seconds(text):
     return used.ru_utime + used.ru_stime
 
 
-def measure(name, ticks, rounds, recorded):
-    """Prints milliseconds a tick of what is recorded for a number of ticks."""
-    few = recorded(1)
-    many = recorded(1 + ticks)
-    samples = [(seconds(many) - seconds(few)) / ticks * 1e3 for _ in range(rounds)]
-    print(f"{name}: {statistics.median(samples):.3f} ms a tick ({min(samples):.3f} to {max(samples):.3f}, {rounds} rounds of {ticks} ticks)")
+class Bench:
+    """What is measured, and how often."""
+
+    def __init__(self, words):
+        self.rounds, self.only, self.full, self.small = words.rounds, words.only, words.ticks, 50 * words.ticks
+
+    def measure(self, name, ticks, recorded, size=WHOLE, pictures=None):
+        """Prints milliseconds a tick of what is recorded for a number of ticks."""
+        if self.only and self.only not in name:
+            return
+        few, many, samples = recorded(1), recorded(1 + ticks), []
+        for _ in range(self.rounds):
+            times = [seconds(text, size, pictures) for text in (many, few)]
+            samples.append((times[0] - times[1]) / ticks * 1e3)
+        print(f"{name}: {statistics.median(samples):.3f} ms a tick ({min(samples):.3f} to {max(samples):.3f}, {self.rounds} rounds of {ticks} ticks)")
+
+    def commits(self, name, ticks, clients, window, damage, size=WHOLE, pictures=None, **how):
+        self.measure(name, ticks, lambda ticks: recording(clients, window, damage, ticks, **how), size, pictures)
+
+    def whole_frames(self):
+        opaque, half = "000000ff", "00000080"
+        self.commits("1 client, the whole output", self.full, 1, WHOLE, WHOLE)
+        self.commits("the same, argb8888, opaque pixels", self.full, 1, WHOLE, WHOLE, form=ARGB8888, pixel=opaque)
+        self.commits("the same, argb8888, opaque by its region", self.full, 1, WHOLE, WHOLE, form=ARGB8888, region=True, pixel=opaque)
+        self.commits("the same, argb8888, half through", self.full, 1, WHOLE, WHOLE, form=ARGB8888, pixel=half)
+        self.commits("the same, argb8888, all through", self.full, 1, WHOLE, WHOLE, form=ARGB8888)
+        self.commits("8 clients on each other, the topmost commits all of it", self.full, 8, WHOLE, WHOLE, last_alone=True)
+        self.commits("1 client, 4096 by 4096, all of it", self.full, 1, LARGEST, LARGEST, LARGEST)
+
+    def small_frames(self):
+        self.commits("1 client, 4096 by 4096, one pixel of it", self.small, 1, LARGEST, (1, 1), LARGEST)
+        self.commits("1 client, 4096 by 4096, nothing committed", self.small, 1, LARGEST, None, LARGEST)
+        self.commits("1 client with the whole output, 8 by 8 of it", self.small, 1, WHOLE, (8, 8))
+        self.commits("1 client with the whole output, one pixel of it", self.small, 1, WHOLE, (1, 1))
+        for clients in 1, 8, 32:
+            self.commits(f"{clients} client{'s' * (clients > 1)}, 8 by 8", self.small, clients, (8, 8), (8, 8))
+        self.commits("1 client, nothing committed", self.small, 1, (8, 8), None)
+        for clients in 1, 8, 32:
+            self.measure(f"one of {clients} with 8 by 8 goes and comes again", self.small, lambda ticks, clients=clients: ends(clients, (8, 8), ticks))
+
+    def pictures(self):
+        """Frames as PPM, and the same bytes copied and written by one call a frame."""
+        with tempfile.TemporaryDirectory(dir="/dev/shm") as room:
+            self.commits("1 client, the whole output, as PPM", self.full, 1, WHOLE, WHOLE, pictures=f"{room}/frames.ppm")
+            image, samples = bytearray(3 * WHOLE[0] * WHOLE[1]), []
+            for _ in range(self.rounds):
+                with open(f"{room}/copy", "wb", buffering=0) as it:
+                    before = time.process_time()
+                    for _ in range(self.full):
+                        it.write(bytes(image))
+                    samples.append((time.process_time() - before) / self.full * 1e3)
+            print(f"as many bytes copied and written: {statistics.median(samples):.3f} ms ({min(samples):.3f} to {max(samples):.3f})")
 
 
 def main():
     parser = argparse.ArgumentParser(description=__doc__.splitlines()[0])
     parser.add_argument("--ticks", type=int, default=20, help="full frames a run; small ones are 50 times as many")
     parser.add_argument("--rounds", type=int, default=5)
+    parser.add_argument("--only", help="words of the names of what is measured")
     words = parser.parse_args()
     if not PROGRAM.exists():
         sys.exit("build the program first: ./wlframe --help")
-    small = 50 * words.ticks
     print(f"load {os.getloadavg()[0]:.1f}")
-    whole = WIDTH, HEIGHT
-
-    def commits(name, ticks, clients, size, damage):
-        measure(name, ticks, words.rounds, lambda ticks: recording(clients, size, damage, ticks))
-
-    commits("1 client, the whole output", words.ticks, 1, whole, whole)
-    commits("1 client with the whole output, 8 by 8 of it", small, 1, whole, (8, 8))
-    commits("1 client with the whole output, one pixel of it", small, 1, whole, (1, 1))
-    for clients in 1, 8, 32:
-        commits(f"{clients} client{'s' * (clients > 1)}, 8 by 8", small, clients, (8, 8), (8, 8))
-    commits("1 client, nothing committed", small, 1, (8, 8), None)
-    for clients in 1, 8, 32:
-        measure(f"one of {clients} with 8 by 8 goes and comes again", small, words.rounds, lambda ticks, clients=clients: ends(clients, (8, 8), ticks))
+    bench = Bench(words)
+    bench.whole_frames()
+    bench.small_frames()
+    bench.pictures()
 
 
 if __name__ == "__main__":
