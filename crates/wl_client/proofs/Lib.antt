@@ -2,9 +2,5 @@ pub mod Finds
 pub mod Passing
 pub mod Peers
 pub mod Queueing
-pub mod Pieces
-pub mod Rows
 pub mod Tables
-pub mod Requests
 pub mod Taking
-pub mod Unique

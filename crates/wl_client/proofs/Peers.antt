@@ -6,8 +6,8 @@ use Rattle.std.proofs.lemmas.List.{drop_all}
 use Rattle.std.proofs.Math.Path.{fun_ext}
 use Rattle.std.proofs.lemmas.Bool.{eqb-true}
 use Rattle.std.proofs.lemmas.Bool.Decides.{nat_tests}
-use Rattle.wl_proto.specs.declared.interface.Interface.{Interface}
-use Rattle.wl_proto.specs.declared.interface.Interface.TheVariants.{WlDisplay, WlRegistry, WlCallback, WlCompositor, WlRegion, WlSurface, WlShm, WlShmPool, WlBuffer, WlSubcompositor, WlSubsurface, WlOutput, WlSeat, WlPointer, XdgWmBase, XdgPositioner, XdgSurface, XdgToplevel, XdgPopup}
+use Rattle.wl_interface.specs.declared.interface.Interface.{Interface}
+use Rattle.wl_interface.specs.declared.interface.Interface.TheVariants.{WlDisplay, WlRegistry, WlCallback, WlCompositor, WlRegion, WlSurface, WlShm, WlShmPool, WlBuffer, WlSubcompositor, WlSubsurface, WlOutput, WlSeat, WlPointer, XdgWmBase, XdgPositioner, XdgSurface, XdgToplevel, XdgPopup}
 use Rattle.wl_table.specs.declared.entry.Entry.{Entry}
 use Rattle.wl_table.specs.Objects.{Held, HoldsAt, entry_of}
 use Rattle.std.specs.BTreeMap.{BTreeMap, UpdatesBy}
@@ -19,15 +19,15 @@ use Rattle.wl_store.specs.Stores.{Held as Stored, Stock, can_hold, size_of, stor
 use Rattle.wl_store.specs.declared.place.Layout.{Layout}
 use Rattle.wl_store.specs.declared.place.LayoutError.{LayoutError}
 use Rattle.wl_client.specs.View.{ClientView, cleared}
-use Rattle.wl_client.specs.declared.clients.Cause.{Cause}
-use Rattle.wl_client.specs.declared.clients.Cause.TheVariants.{Protocol, Memory, Slow}
-use Rattle.wl_client.specs.declared.refusals.ErrorCode.TheVariants.{NoMemory}
-use Rattle.wl_client.specs.declared.refusals.Refusal.{Refusal}
-use Rattle.wl_client.specs.Buffers.{Buffer}
-use Rattle.wl_client.specs.Objects.{ById, Object, Objects, held_at, nothing, objects_in, object_of, with_id}
-use Rattle.wl_client.specs.Told.{Output, Said, bind_told, code_number, display_error, error_told, said_bytes}
-use Rattle.wl_client.specs.Judgement.{Known, buffer_created, layout_refused}
-use Rattle.wl_client.specs.Peer.{Peer, changed_region, ended, has_room, known_of, made, newcomer, no_stores, queued, removed, with_rest, IsUnqueuedFor, QueuesOr, Queues, Errs, LacksMemory, WantsOr}
+use Rattle.wl_peer.specs.declared.cause.Cause.{Cause}
+use Rattle.wl_peer.specs.declared.cause.Cause.TheVariants.{Protocol, Memory, Slow}
+use Rattle.wl_peer.specs.declared.refusals.ErrorCode.TheVariants.{NoMemory}
+use Rattle.wl_peer.specs.declared.refusals.Refusal.{Refusal}
+use Rattle.wl_peer.specs.Buffers.{Buffer}
+use Rattle.wl_peer.specs.Objects.{ById, Object, Objects, held_at, nothing, objects_in, object_of, with_id}
+use Rattle.wl_peer.specs.Told.{Output, Said, bind_told, code_number, display_error, error_told, said_bytes}
+use Rattle.wl_peer.specs.Judgement.{Known, buffer_created, layout_refused}
+use Rattle.wl_peer.specs.Peer.{Peer, changed_region, ended, has_room, known_of, made, newcomer, no_stores, queued, removed, with_rest, IsUnqueuedFor, QueuesOr, Queues, Errs, LacksMemory, WantsOr}
 use Rattle.wl_client.specs.Agreement.{IsPeer, IsRegion, known_in, output_of}
 
 pub IsPeer-queued : (v : ClientView) (p : Peer) (e : Said) → IsPeer v p → IsPeer (record v { unsent = v.unsent ++ said_bytes e }) (queued e p)

@@ -4,8 +4,8 @@ use Rattle.std.specs.List.{list_all}
 use Rattle.std.specs.Option.{option_map}
 use Rattle.std.specs.Prelude.{Ok, Err, IfSome, find, if◌then◌else◌, is_some, nat_le, not, ◌&&◌, ◌==◌}
 use Rattle.std.proofs.lemmas.Bool.{eqb-true}
-use Rattle.wl_proto.specs.declared.interface.Interface.{Interface}
-use Rattle.wl_proto.specs.declared.interface.Interface.TheVariants.{WlRegistry, WlShmPool, WlBuffer, WlCompositor, WlSurface, WlSubcompositor, WlSubsurface, WlSeat, WlPointer, XdgWmBase, XdgPositioner, XdgSurface, XdgToplevel, XdgPopup}
+use Rattle.wl_interface.specs.declared.interface.Interface.{Interface}
+use Rattle.wl_interface.specs.declared.interface.Interface.TheVariants.{WlRegistry, WlShmPool, WlBuffer, WlCompositor, WlSurface, WlSubcompositor, WlSubsurface, WlSeat, WlPointer, XdgWmBase, XdgPositioner, XdgSurface, XdgToplevel, XdgPopup}
 use Rattle.wl_proto.specs.declared.request.Request.{Request}
 use Rattle.wl_proto.specs.declared.request.Request.TheVariants as requests
 use Rattle.wl_proto.specs.declared.wl_display.WlDisplayRequest.{WlDisplayRequest}
@@ -48,15 +48,15 @@ use Rattle.wl_store.specs.Layout.{layout_refusal}
 use Rattle.wl_store.specs.declared.place.LayoutError.{LayoutError}
 use Rattle.wl_store.specs.declared.stores.StoreError.{StoreError}
 use Rattle.wl_store.specs.declared.stores.StoreError.TheVariants as store_errors
-use Rattle.wl_client.specs.declared.actions.Action.{Action}
-use Rattle.wl_client.specs.declared.actions.Action.TheVariants.{Sync, GetRegistry, Bind, AddToRegion, SubtractFromRegion, DestroyRegion, CreatePool, CreateBuffer, ResizePool, DestroyPool, DestroyBuffer}
-use Rattle.wl_client.specs.declared.refusals.Refusal.{Refusal}
-use Rattle.wl_client.specs.declared.refusals.ErrorCode.TheVariants.{Implementation}
-use Rattle.wl_client.specs.Told.{display_error}
-use Rattle.wl_client.specs.Buffers.{Buffer, Laid, buffer_asked}
-use Rattle.wl_client.specs.Judgement.{Known, action_of, binds, buffer_destroyed, buffer_laid, display_action, is_free, pool_action, pool_created, pool_resized, region_action}
-use Rattle.wl_client.specs.Requests.{rect, request_of}
-use Rattle.wl_client.specs.Objects.{Global, KeepsSurfaces, bound_interface, entry_at_version, globals, is_bound, is_of_surface, object_of, objects_in, of_surface}
+use Rattle.wl_peer.specs.declared.actions.Action.{Action}
+use Rattle.wl_peer.specs.declared.actions.Action.TheVariants.{Sync, GetRegistry, Bind, AddToRegion, SubtractFromRegion, DestroyRegion, CreatePool, CreateBuffer, ResizePool, DestroyPool, DestroyBuffer}
+use Rattle.wl_peer.specs.declared.refusals.Refusal.{Refusal}
+use Rattle.wl_peer.specs.declared.refusals.ErrorCode.TheVariants.{Implementation}
+use Rattle.wl_peer.specs.Told.{display_error}
+use Rattle.wl_peer.specs.Buffers.{Buffer, Laid, buffer_asked}
+use Rattle.wl_peer.specs.Judgement.{Known, action_of, binds, buffer_destroyed, buffer_laid, display_action, is_free, pool_action, pool_created, pool_resized, region_action}
+use Rattle.wl_peer.specs.Requests.{rect, request_of}
+use Rattle.wl_peer.specs.Objects.{Global, KeepsSurfaces, bound_interface, entry_at_version, globals, is_bound, is_of_surface, object_of, objects_in, of_surface}
 use Rattle.wl_client.specs.Serving.{ChangesTable, is_own}
 use Rattle.wl_client.proofs.Peers.{differ}
 

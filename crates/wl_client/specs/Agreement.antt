@@ -3,10 +3,10 @@ use Rattle.std.specs.Prelude.{◌≡◌, ◌≢◌, ℕ, length, List, Option, S
 use Rattle.std.specs.Option.{option_map}
 use Rattle.wl_geom.specs.Region.{Area, Change, Stands}
 use Rattle.wl_client.specs.declared.outputs.Output.{Output as Kept}
-use Rattle.wl_client.specs.Judgement.{Known}
-use Rattle.wl_client.specs.Objects.{held_at, objects_in}
-use Rattle.wl_client.specs.Peer.{Peer}
-use Rattle.wl_client.specs.Told.{Output}
+use Rattle.wl_peer.specs.Judgement.{Known}
+use Rattle.wl_peer.specs.Objects.{held_at, objects_in}
+use Rattle.wl_peer.specs.Peer.{Peer}
+use Rattle.wl_peer.specs.Told.{Output}
 use Rattle.wl_client.specs.View.{ClientView}
 
 abbrev pub output_of : Kept → Output

@@ -1,14 +1,6 @@
 pub mod Agreement
-pub mod Buffers
 pub mod First
-pub mod Judgement
-pub mod Objects
-pub mod Peer
-pub mod Plain
 pub mod Said
-pub mod Requests
 pub mod Serving
-pub mod Told
-pub mod ToplevelRequest
 pub mod View
 pub use Rattle.wl_wire.specs.Wire

@@ -3,32 +3,32 @@ use Rattle.std.specs.Prelude.{ℕ, ◌≡◌, ◌≢◌, ◌-◌, ◌==◌, Bool
 use Rattle.std.specs.List.{list_any}
 use Rattle.wl_wire.specs.declared.header.Split.{Split}
 use Rattle.wl_wire.specs.declared.header.Split.TheVariants.{Message as Whole, More, Bad}
-use Rattle.wl_proto.specs.declared.interface.Interface.{Interface}
-use Rattle.wl_proto.specs.declared.interface.Interface.TheVariants.{WlDisplay, WlRegistry, WlRegion, WlShm, WlShmPool, WlBuffer}
+use Rattle.wl_interface.specs.declared.interface.Interface.{Interface}
+use Rattle.wl_interface.specs.declared.interface.Interface.TheVariants.{WlDisplay, WlRegistry, WlRegion, WlShm, WlShmPool, WlBuffer}
 use Rattle.wl_proto.specs.Messages.{Message, request_message}
 use Rattle.wl_proto.specs.declared.request.Request.{Request}
 use Rattle.wl_wire.specs.Wire.{split_of}
 use Rattle.wl_store.specs.Stores.{Stock}
 use Rattle.wl_surface.specs.Kept.{IsAny, Numbered, Slots, StandForAll, has_at}
 use Rattle.wl_table.specs.Objects.{Held, HoldsAt, entry_of}
-use Rattle.wl_client.specs.declared.actions.Action.{Action}
-use Rattle.wl_client.specs.declared.actions.Action.TheVariants.{GetRegistry, Bind, CreateRegion, DestroyRegion, CreatePool, CreateBuffer, DestroyPool, DestroyBuffer}
-use Rattle.wl_client.specs.declared.clients.Cause.{Cause}
-use Rattle.wl_client.specs.declared.clients.Cause.TheVariants.{Protocol, Memory, Slow}
-use Rattle.wl_client.specs.declared.refusals.ErrorCode.TheVariants.{InvalidMethod}
-use Rattle.wl_client.specs.declared.refusals.Refusal.{Refusal}
-use Rattle.wl_client.specs.Buffers.{Buffer}
+use Rattle.wl_peer.specs.declared.actions.Action.{Action}
+use Rattle.wl_peer.specs.declared.actions.Action.TheVariants.{GetRegistry, Bind, CreateRegion, DestroyRegion, CreatePool, CreateBuffer, DestroyPool, DestroyBuffer}
+use Rattle.wl_peer.specs.declared.cause.Cause.{Cause}
+use Rattle.wl_peer.specs.declared.cause.Cause.TheVariants.{Protocol, Memory, Slow}
+use Rattle.wl_peer.specs.declared.refusals.ErrorCode.TheVariants.{InvalidMethod}
+use Rattle.wl_peer.specs.declared.refusals.Refusal.{Refusal}
+use Rattle.wl_peer.specs.Buffers.{Buffer}
 use Rattle.wl_client.specs.declared.served.Next.{Next}
 use Rattle.wl_client.specs.declared.served.Next.TheVariants as nexts
 use Rattle.wl_client.specs.declared.served.Served.{Served}
 use Rattle.wl_client.specs.declared.served.Served.TheVariants as answers
 use Rattle.wl_client.specs.Agreement.{known_in}
 use Rattle.wl_client.specs.First.{IsRefused, Passes}
-use Rattle.wl_client.specs.Judgement.{action_of, judge}
-use Rattle.wl_client.specs.Requests.{request_of}
-use Rattle.wl_client.specs.Objects.{entry_at_version}
-use Rattle.wl_client.specs.Peer.{Peer, Errs, Queues, WantsOr, answers_to, changed, counted, known_of, takes_memory, with_rest}
-use Rattle.wl_client.specs.Told.{code_number, display_error}
+use Rattle.wl_peer.specs.Judgement.{action_of, judge}
+use Rattle.wl_peer.specs.Requests.{request_of}
+use Rattle.wl_peer.specs.Objects.{entry_at_version}
+use Rattle.wl_peer.specs.Peer.{Peer, Errs, Queues, WantsOr, answers_to, changed, counted, known_of, takes_memory, with_rest}
+use Rattle.wl_peer.specs.Told.{code_number, display_error}
 use Rattle.wl_client.specs.View.{ClientView}
 
 -- the interfaces whose requests change nothing but the client, and leave its surfaces as they are
@@ -44,20 +44,6 @@ is_own interface = false
 -- the numbers of the buffers that the surfaces use, which are kept so: pending, held or applied
 abbrev pub AreUsed : Slots → (ℕ → Bool) → Type 0
 AreUsed slots used = (all : Numbered) × StandForAll slots all × ((number : ℕ) → IsAny (has_at number) all (used number))
-
--- the buffer of a wl_buffer is used
-abbrev pub has_used : (ℕ → Bool) → Option Buffer → Bool
-has_used used None = false
-has_used used (Some buffer) = used buffer.number
-
--- The wl_buffer goes. Its buffer lives on while a surface uses it, and with it the use of its store.
-abbrev pub keeps_store : Bool → Stock → Peer → Peer
-keeps_store true stores p = record p { stores = stores }
-keeps_store false stores p = p
-
-abbrev pub changed_with : (ℕ → Bool) → Action → Peer → Peer
-changed_with used (DestroyBuffer id store) p = keeps_store (has_used used (p.buffers id)) p.stores (changed (DestroyBuffer id store) p)
-changed_with used action p = changed action p
 
 -- what an accepted message asks is done, and then answered
 abbrev pub ActsWith : (ℕ → Bool) → Action → Peer → Peer → Type 0

@@ -4,9 +4,9 @@ use Rattle.wl_geom.specs.Region.{Area}
 use Rattle.wl_store.specs.Stores.{Stock}
 use Rattle.wl_table.specs.Objects.{Held}
 use Rattle.wl_store.specs.declared.stores.StoreError.{StoreError}
-use Rattle.wl_client.specs.declared.clients.Cause.{Cause}
+use Rattle.wl_peer.specs.declared.cause.Cause.{Cause}
 use Rattle.wl_client.specs.declared.outputs.Output.{Output}
-use Rattle.wl_client.specs.Buffers.{Buffer}
+use Rattle.wl_peer.specs.Buffers.{Buffer}
 
 -- why it ended; why an event wasn't queued; how many requests were counted; the bytes that wait to be read and to be sent; the table of its
 -- live objects; by their ids the regions, the stores of the pools, and the buffers; the stores; the next serial; and the output that it is
@@ -38,8 +38,3 @@ cleared cause v =
       buffers = [];
       stores = record { held = []; made = 0 };
     }
-
--- what a write of a store answers
-abbrev pub stored : Option StoreError → Result Unit StoreError
-stored None = Ok tt
-stored (Some error) = Err error

@@ -5,11 +5,11 @@ ghost use Rattle.wl_wire.specs.Wire.{split_of};
 ghost use Rattle.wl_wire.specs.declared.header.Split.TheVariants.{Message as Whole};
 ghost use Rattle.wl_client.specs.First.{IsFirst};
 
-use crate::actions::{are_fit, check_new_id};
+use crate::checks::{are_fit, check_new_id};
 use crate::clients::Client;
 use crate::first_message::First;
-use crate::refusals::{ErrorCode, Refusal};
 use std::alloc::{AllocError, Allocator};
+use wl_peer::{ErrorCode, Refusal};
 use wl_proto::decode;
 use wl_wire::{Split, split};
 

@@ -2,16 +2,15 @@
 
 ghost use Rattle.std.specs.Prelude.{◌≡◌, false, true, IfNone, IfSome};
 ghost use Rattle.wl_proto.specs.Messages.{request_message};
-ghost use Rattle.wl_client.specs.Judgement.{action_of};
-ghost use Rattle.wl_client.specs.Requests.{request_of};
+ghost use Rattle.wl_peer.specs.Judgement.{action_of};
+ghost use Rattle.wl_peer.specs.Requests.{request_of};
 ghost use Rattle.wl_client.specs.Agreement.{known_in};
 ghost use Rattle.wl_client.specs.Serving.{is_own};
 
-use crate::actions::Action;
 use crate::clients::Client;
-use crate::refusals::Refusal;
 use crate::{wl_buffer, wl_display, wl_region, wl_registry, wl_shm, wl_shm_pool};
 use std::alloc::Allocator;
+use wl_peer::{Action, Refusal};
 use wl_proto::Request;
 
 impl<A: Allocator + Copy> Client<A> {

@@ -1,9 +1,8 @@
 //! One client of a compositor: the bytes that came from it, its objects and what they hold, and the bytes that wait to be sent to it.
 #![tactic(auto)]
 
-mod actions;
 mod backlog;
-mod buffers;
+mod checks;
 mod clients;
 mod events;
 mod first_message;
@@ -11,7 +10,6 @@ mod globals;
 mod incoming;
 mod judgement;
 mod outputs;
-mod refusals;
 mod served;
 mod serving;
 mod wl_buffer;
@@ -21,12 +19,10 @@ mod wl_registry;
 mod wl_shm;
 mod wl_shm_pool;
 
-pub use actions::Action;
-pub use buffers::{Place, ShmBuffer};
-pub use clients::{Cause, Client};
+pub use clients::Client;
 pub use events::release_event;
 pub use first_message::First;
 pub use outputs::Output;
-pub use refusals::{ErrorCode, Refusal};
 pub use served::Served;
+pub use wl_peer::{Action, Cause, ErrorCode, Place, Refusal, ShmBuffer};
 pub use wl_store::{StoreError, StoreNo};

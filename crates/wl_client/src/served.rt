@@ -1,7 +1,6 @@
 //! What became of a client's first message.
 
-use crate::actions::Action;
-use crate::refusals::Refusal;
+use wl_peer::{Action, Refusal};
 
 /// What became of a client's first message.
 #[derive(Clone, Copy, Debug, PartialEq, Eq)]

@@ -1,16 +1,15 @@
 //! One message at a time, of a client whose surfaces use some of its buffers.
 
 ghost use Rattle.std.specs.Prelude.{ℕ, Bool, ◌≡◌, ◌≤◌, ◌<◌, drop, is_some, length, true, false, None};
-ghost use Rattle.wl_client.specs.Objects.{KeepsSurfaces};
-ghost use Rattle.wl_client.specs.Peer.{Errs, IsIdleAt, Peer, counted, with_rest};
+ghost use Rattle.wl_peer.specs.Objects.{KeepsSurfaces};
+ghost use Rattle.wl_peer.specs.Peer.{Errs, IsIdleAt, Peer, counted, with_rest};
 ghost use Rattle.wl_client.specs.Serving.{ActsWith, AnswersWith, AreUsed, ChangesTable, EndsSo, IsNext, IsOwnMessage, PassesTo, ServesWith, was_taken};
 
-use crate::actions::Action;
-use crate::clients::{Cause, Client};
+use crate::clients::Client;
 use crate::first_message::First;
-use crate::refusals::{ErrorCode, Refusal};
 use crate::served::{Next, Served};
 use std::alloc::Allocator;
+use wl_peer::{Action, Cause, ErrorCode, Refusal};
 use wl_surface::Surfaces;
 
 impl<A: Allocator + Copy> Client<A> {

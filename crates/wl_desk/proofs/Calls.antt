@@ -3,12 +3,12 @@ use Rattle.std.proofs.Common.{◌≡◌, ℕ, ◌+◌, suc, zero, ◌<◌, List,
 use Rattle.std.specs.Option.{option_map}
 use Rattle.std.specs.Prelude.{is_some, replicate, Ok, Err}
 use Rattle.wl_client.specs.Agreement.{IsPeer, output_of}
-use Rattle.wl_client.specs.Objects.{nothing}
-use Rattle.wl_client.specs.Peer.{Peer, newcomer}
-use Rattle.wl_client.specs.Told.{Output as Shown}
+use Rattle.wl_peer.specs.Objects.{nothing}
+use Rattle.wl_peer.specs.Peer.{Peer, newcomer}
+use Rattle.wl_peer.specs.Told.{Output as Shown}
 use Rattle.wl_client.specs.View.{ClientView}
-use Rattle.wl_client.specs.declared.clients.Cause.{Cause}
-use Rattle.wl_client.specs.declared.clients.Cause.TheVariants.{Gone}
+use Rattle.wl_peer.specs.declared.cause.Cause.{Cause}
+use Rattle.wl_peer.specs.declared.cause.Cause.TheVariants.{Gone}
 use Rattle.wl_client.specs.declared.outputs.Output.{Output}
 use Rattle.wl_scene.specs.Stacking.{Stack, without_client}
 use Rattle.wl_scene.specs.declared.owned.Owned.{Owned}

@@ -2,10 +2,10 @@
 use Rattle.std.proofs.Common.{◌≡◌, ◌≢◌, ℕ, suc, ◌+◌, ◌<◌, List, Bool, true, false, Option, Some, None, get_or, set, refl, ap, subst, sym, ◌∙◌, arith, ◌⊎◌, inl, inr}
 use Rattle.std.specs.Prelude.{pos, ◌==◌, ◌&&◌, ◌||◌, is_some}
 use Rattle.wl_client.specs.View.{ClientView}
-use Rattle.wl_client.specs.declared.clients.Cause.{Cause}
-use Rattle.wl_client.specs.Told.{Output as Sides}
+use Rattle.wl_peer.specs.declared.cause.Cause.{Cause}
+use Rattle.wl_peer.specs.Told.{Output as Sides}
 use Rattle.wl_client.specs.declared.outputs.Output.{Output}
-use Rattle.wl_client.specs.Peer.{Peer}
+use Rattle.wl_peer.specs.Peer.{Peer}
 use Rattle.wl_paint.specs.Damage.{Damaged, has}
 use Rattle.std.proofs.lemmas.Bool.{or_left, or_right}
 use Rattle.wl_plain.specs.Desktop.{Desktop, Resident, become, become_by, client_at}

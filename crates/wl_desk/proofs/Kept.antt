@@ -3,11 +3,11 @@ use Rattle.std.proofs.Common.{◌≡◌, ℕ, ◌<◌, List, ◌++◌, Bool, tru
 use Rattle.std.specs.Option.{option_map}
 use Rattle.std.specs.Prelude.{Ok, Err, OnErr, OnOk, ◌≢◌, is_none}
 use Rattle.std.proofs.lemmas.List.{set-get_or}
-use Rattle.wl_client.specs.Peer.{IsIdleAt, Peer}
-use Rattle.wl_client.specs.Told.{Output as Shown}
+use Rattle.wl_peer.specs.Peer.{IsIdleAt, Peer}
+use Rattle.wl_peer.specs.Told.{Output as Shown}
 use Rattle.wl_client.specs.View.{ClientView}
-use Rattle.wl_client.specs.declared.clients.Cause.{Cause}
-use Rattle.wl_client.specs.declared.clients.Cause.TheVariants as cause
+use Rattle.wl_peer.specs.declared.cause.Cause.{Cause}
+use Rattle.wl_peer.specs.declared.cause.Cause.TheVariants as cause
 use Rattle.wl_client.specs.declared.outputs.Output.{Output}
 use Rattle.wl_client.specs.declared.served.Served.{Served}
 use Rattle.wl_client.specs.declared.served.Served.TheVariants as served

@@ -3,11 +3,11 @@ use Rattle.std.proofs.Common.{◌≡◌, ℕ, ◌+◌, suc, zero, ◌<◌, List,
 use Rattle.std.specs.List.{list_any}
 use Rattle.std.specs.Option.{option_map}
 use Rattle.std.specs.Prelude.{ℤ, pos, ◌==◌, ◌&&◌, ◌||◌, cond, drop, filter, is_none, is_some, nat_le, not}
-use Rattle.wl_client.specs.Peer.{Peer, stored_at, stored_by}
+use Rattle.wl_peer.specs.Peer.{Peer, stored_at, stored_by}
 use Rattle.wl_store.specs.Stores.{write_refusal}
 use Rattle.wl_store.specs.declared.stores.StoreError.{StoreError}
 use Rattle.wl_client.specs.View.{ClientView}
-use Rattle.wl_client.specs.declared.clients.Cause.{Cause}
+use Rattle.wl_peer.specs.declared.cause.Cause.{Cause}
 use Rattle.wl_client.specs.declared.outputs.Output.{Output}
 use Rattle.wl_paint.specs.Damage.{Damaged, has}
 use Rattle.wl_surface.specs.Surfaces.{history_in}

@@ -4,9 +4,9 @@ use Rattle.std.proofs.Math.Path.{fun_ext}
 use Rattle.std.proofs.lemmas.Bool.{or_left, or_right}
 use Rattle.std.specs.List.{list_any}
 use Rattle.std.specs.Prelude.{ℤ, pos, ◌||◌, is_some}
-use Rattle.wl_client.specs.Peer.{Peer, left_by}
-use Rattle.wl_client.specs.Told.{Output as Sides}
-use Rattle.wl_client.specs.declared.clients.Cause.{Cause}
+use Rattle.wl_peer.specs.Peer.{Peer, left_by}
+use Rattle.wl_peer.specs.Told.{Output as Sides}
+use Rattle.wl_peer.specs.declared.cause.Cause.{Cause}
 use Rattle.wl_paint.specs.Damage.{Damaged, has}
 use Rattle.wl_surface.specs.Surfaces.{history_in}
 use Rattle.wl_scene.specs.Stacking.{Owned as Owns, is_of, windows_on}

@@ -1,8 +1,8 @@
 -- What the calls of a desk make of its clients and toplevels is what happens to the desktop, and leaves nothing there of what isn't served.
 use Rattle.std.proofs.Common.{◌≡◌, ℕ, List, ◌++◌, Option, Some, None, refl, ap, subst, sym, ◌∙◌}
-use Rattle.wl_client.specs.Peer.{Peer, ended, with_rest}
-use Rattle.wl_client.specs.Told.{Output as Shown}
-use Rattle.wl_client.specs.declared.clients.Cause.{Cause}
+use Rattle.wl_peer.specs.Peer.{Peer, ended, with_rest}
+use Rattle.wl_peer.specs.Told.{Output as Shown}
+use Rattle.wl_peer.specs.declared.cause.Cause.{Cause}
 use Rattle.wl_paint.specs.Damage.{Damaged}
 use Rattle.wl_resident.specs.Agreement.{Matches}
 use Rattle.wl_resident.specs.Marking.{MarksAtLeast, MarksThrough}

@@ -20,7 +20,7 @@ use Rattle.wl_surface.specs.declared.content.Attached.{Attached}
 use Rattle.wl_paint.specs.Window.{Window as Lent, color_in as color-lent, in_window, is_said_opaque, over as over-one}
 use Rattle.wl_store.specs.Stores.{Stock, bytes_of}
 use Rattle.wl_store.specs.declared.transform.Transform.{Transform}
-use Rattle.wl_client.specs.Objects.{ById}
+use Rattle.wl_peer.specs.Objects.{ById}
 use Rattle.wl_client.specs.View.{ClientView}
 use Rattle.wl_scene.specs.Stacking.{Owned, Standing, root_of, windows_on}
 use Rattle.wl_plain.specs.Desktop.{Desktop, Resident, client_at, owned_in}

@@ -1,9 +1,9 @@
 -- What the calls of a desk make of the desktop, message by message.
 use Rattle.std.specs.Prelude.{ℕ, zero, suc, ◌≡◌, ◌++◌, Bool, true, false, List, [], slice_index_or, is_none, Option, Some, None}
-use Rattle.wl_client.specs.Peer.{IsIdle, ended, with_rest}
+use Rattle.wl_peer.specs.Peer.{IsIdle, ended, with_rest}
 use Rattle.wl_client.specs.View.{ClientView}
-use Rattle.wl_client.specs.declared.clients.Cause.{Cause}
-use Rattle.wl_client.specs.declared.clients.Cause.TheVariants as cause
+use Rattle.wl_peer.specs.declared.cause.Cause.{Cause}
+use Rattle.wl_peer.specs.declared.cause.Cause.TheVariants as cause
 use Rattle.wl_client.specs.declared.served.Served.{Served}
 use Rattle.wl_client.specs.declared.served.Served.TheVariants as served
 use Rattle.wl_plain.specs.Desktop.{Desktop, Resident, client_at, with_client}

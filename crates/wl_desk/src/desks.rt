@@ -3,7 +3,7 @@
 ghost use Rattle.std.specs.Prelude.{◌≡◌, ◌≢◌, ◌↔◌, ◌&&◌, ◌||◌, ℕ, ◌+◌, ◌<◌, ◌≤◌, List, Option, length, pos, IfOk, IfSome, IfNone, IsErrOf, OnOk, OnErr, ◌⊎◌, false, true, Result, Ok, Err, None, Some};
 ghost use Rattle.std.specs.Option.{option_copied};
 ghost use Rattle.wl_client.specs.Agreement.{IsPeer, output_of};
-ghost use Rattle.wl_client.specs.Peer.{Peer};
+ghost use Rattle.wl_peer.specs.Peer.{Peer};
 ghost use Rattle.wl_paint.specs.Damage.{has};
 ghost use Rattle.wl_paint.specs.Frame.{color_at, is_side};
 ghost use Rattle.wl_plain.specs.Desktop.{Desktop, empty};

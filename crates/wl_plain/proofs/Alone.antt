@@ -9,14 +9,14 @@ use Rattle.wl_proto.specs.declared.wl_seat.WlSeatRequest.TheVariants as seat
 use Rattle.wl_proto.specs.Messages.{Message}
 use Rattle.wl_proto.specs.Objects.{objects_in as objects_named, new_id_in}
 use Rattle.wl_proto.specs.Spelling.{decoded}
-use Rattle.wl_client.specs.declared.actions.Action.{Action}
-use Rattle.wl_client.specs.declared.refusals.ErrorCode.TheVariants.{Implementation, InvalidMethod, InvalidObject}
-use Rattle.wl_client.specs.declared.refusals.Refusal.{Refusal}
-use Rattle.wl_client.specs.Judgement.{action_of, after_new_id, is_free, judged, judged_at}
-use Rattle.wl_client.specs.Requests.{Request, ToDisplay, ToRegistry, ToCompositor, ToRegion, ToSurface, ToShm, ToPool, ToBuffer, ToSubcompositor, ToSubsurface, ToSeat, ToPointer, ToBase, ToPositioner, ToXdgSurface, ToToplevel, ToPopup, ToNothing, request_of}
-use Rattle.wl_client.specs.Judgement.{judge as judge_alone}
-use Rattle.wl_client.specs.Objects.{Object, Objects, fits}
-use Rattle.wl_client.specs.Told.{display_error}
+use Rattle.wl_peer.specs.declared.actions.Action.{Action}
+use Rattle.wl_peer.specs.declared.refusals.ErrorCode.TheVariants.{Implementation, InvalidMethod, InvalidObject}
+use Rattle.wl_peer.specs.declared.refusals.Refusal.{Refusal}
+use Rattle.wl_peer.specs.Judgement.{action_of, after_new_id, is_free, judged, judged_at}
+use Rattle.wl_peer.specs.Requests.{Request, ToDisplay, ToRegistry, ToCompositor, ToRegion, ToSurface, ToShm, ToPool, ToBuffer, ToSubcompositor, ToSubsurface, ToSeat, ToPointer, ToBase, ToPositioner, ToXdgSurface, ToToplevel, ToPopup, ToNothing, request_of}
+use Rattle.wl_peer.specs.Judgement.{judge as judge_alone}
+use Rattle.wl_peer.specs.Objects.{Object, Objects, fits}
+use Rattle.wl_peer.specs.Told.{display_error}
 use Rattle.wl_plain.specs.Ask.{owns}
 use Rattle.wl_plain.specs.Desktop.{Resident}
 use Rattle.wl_plain.specs.Demand.{Demand}
@@ -24,7 +24,7 @@ use Rattle.wl_plain.specs.Demanding.{demand_by, demand_of, demands, judge_all}
 use Rattle.wl_plain.specs.LeftOut.{own_only}
 use Rattle.wl_plain.specs.Served.{beyond_clients}
 use Rattle.wl_plain.specs.WlSubsurface.{past_limit}
-use Rattle.wl_client.specs.Peer.{known_of}
+use Rattle.wl_peer.specs.Peer.{known_of}
 
 -- ---- the judgement
 

@@ -1,6 +1,6 @@
 -- What a call of a desk that takes no message and shows no frame does to one that has no more than toplevels.
 use Rattle.std.specs.Prelude.{ℕ, ◌≡◌, false, Option, Some, None}
-use Rattle.wl_client.specs.Peer.{Peer}
+use Rattle.wl_peer.specs.Peer.{Peer}
 use Rattle.wl_scene.specs.Stacking.{without_client}
 use Rattle.wl_plain.specs.declared.answers.Done.{Done}
 use Rattle.wl_plain.specs.declared.answers.Done.TheVariants as gave

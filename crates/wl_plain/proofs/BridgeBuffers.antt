@@ -4,7 +4,7 @@ use Rattle.std.specs.Prelude.{◌==◌, ◌||◌, not, filter, find, flat_map, f
 use Rattle.std.specs.List.{list_any}
 use Rattle.std.specs.Option.{option_map}
 use Rattle.std.proofs.lemmas.Bool.{eqb-true, or_left, or_right}
-use Rattle.wl_client.specs.Peer.{released}
+use Rattle.wl_peer.specs.Peer.{released}
 use Rattle.wl_store.specs.Stores.{Stock}
 use Rattle.wl_surface.specs.Request.{Buffer}
 use Rattle.wl_surface.specs.State.{History}

@@ -2,9 +2,9 @@
 use Rattle.std.proofs.Common.{◌≡◌, ◌≢◌, ℕ, zero, suc, Bool, true, false, Option, Some, None, refl, subst, sym, ◌∙◌}
 use Rattle.std.specs.Prelude.{◌==◌, replicate}
 use Rattle.std.proofs.lemmas.Bool.{eqb-false, eqb-true}
-use Rattle.wl_client.specs.declared.clients.Cause.{Cause}
-use Rattle.wl_client.specs.Peer.{Peer}
-use Rattle.wl_client.specs.Told.{Output}
+use Rattle.wl_peer.specs.declared.cause.Cause.{Cause}
+use Rattle.wl_peer.specs.Peer.{Peer}
+use Rattle.wl_peer.specs.Told.{Output}
 use Rattle.wl_scene.specs.Pointer.{first_pointer}
 use Rattle.wl_plain.specs.Desktop.{Desktop, Resident, become, become_by, client_at, empty, place, resident_of}
 use Rattle.wl_plain.specs.Laws.{toplevels_of}

@@ -4,9 +4,9 @@ use Rattle.std.specs.Prelude.{Ok, Err, ◌==◌, ◌&&◌, if◌then◌else◌, 
 use Rattle.wl_wire.specs.declared.error.ArgError.{ArgError}
 use Rattle.wl_wire.specs.declared.error.ArgError.TheVariants.{Null, Short, NoNul}
 use Rattle.wl_wire.specs.Wire.{Field, Text, Block, Kind, AWord, ANumber, AText, ABlock, block_at, field_at, fields_at, fields_behind, kind_of, none_left, text_at, whole, with_front, word_of}
-use Rattle.wl_client.specs.Judgement.{is_free}
-use Rattle.wl_client.specs.Objects.{Object, Objects, is_of}
-use Rattle.wl_proto.specs.declared.interface.Interface.TheVariants.{WlCallback, WlSurface}
+use Rattle.wl_peer.specs.Judgement.{is_free}
+use Rattle.wl_peer.specs.Objects.{Object, Objects, is_of}
+use Rattle.wl_interface.specs.declared.interface.Interface.TheVariants.{WlCallback, WlSurface}
 
 -- ---- what is read is of the kinds that are asked for
 

@@ -3,9 +3,9 @@ use Rattle.std.proofs.Common.{◌≡◌, ℕ, Bool, true, false, List, [], ◌�
 use Rattle.std.specs.Prelude.{◌==◌, filter}
 use Rattle.std.specs.List.{list_any}
 use Rattle.std.proofs.lemmas.Bool.{eqb-true}
-use Rattle.wl_proto.specs.declared.interface.Interface.TheVariants.{WlCallback, WlSurface}
-use Rattle.wl_client.specs.Objects.{Object, Objects, is_of, with_id}
-use Rattle.wl_client.specs.Peer.{Peer, object_at_version}
+use Rattle.wl_interface.specs.declared.interface.Interface.TheVariants.{WlCallback, WlSurface}
+use Rattle.wl_peer.specs.Objects.{Object, Objects, is_of, with_id}
+use Rattle.wl_peer.specs.Peer.{Peer, object_at_version}
 use Rattle.wl_surface.specs.Waiting.{Callback}
 use Rattle.wl_plain.specs.Owning.{AreObjects}
 use Rattle.wl_plain.proofs.OrderlyObjectsCalls.{all_removed, is_left, left-apart, removed-less, removed-others}

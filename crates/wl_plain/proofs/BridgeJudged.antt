@@ -15,9 +15,9 @@ use Rattle.wl_proto.specs.declared.xdg_wm_base.XdgWmBaseRequest.TheVariants as b
 use Rattle.wl_proto.specs.Messages.{Message}
 use Rattle.wl_proto.specs.Objects.{objects_in as objects_named, new_id_in}
 use Rattle.wl_proto.specs.Spelling.{decoded}
-use Rattle.wl_client.specs.declared.refusals.Refusal.{Refusal}
-use Rattle.wl_client.specs.Judgement.{action_of, after_new_id, is_free, judged, judged_at}
-use Rattle.wl_client.specs.Objects.{Object, Objects, fits}
+use Rattle.wl_peer.specs.declared.refusals.Refusal.{Refusal}
+use Rattle.wl_peer.specs.Judgement.{action_of, after_new_id, is_free, judged, judged_at}
+use Rattle.wl_peer.specs.Objects.{Object, Objects, fits}
 use Rattle.wl_shell.specs.Popups.{popped_kind, popped_of, popped_role}
 use Rattle.wl_shell.specs.Shell.{Effect, Stays, Unconfigured, Configures, Maps, Unmaps, Kind, Toplevel, RoleObject, Shell, XdgSurface as Xdg, is_full, on_commit, stage_of, xdg_at, xdg_of, xdg_with}
 use Rattle.wl_plain.specs.Ask.{Ask, Ignore, owns}
@@ -25,16 +25,16 @@ use Rattle.wl_plain.specs.Demand.{Demand, Asks, EndSurface, AskFrame, CommitTree
 use Rattle.wl_plain.specs.Demanding.{base_demand, committed_by, demand_by, demand_of, demands, effect_of_commit, effect_on_xdg, is_dismissed, judge_all, moved_by_pointer, own_demand, surface_demand, toplevel_asked, toplevel_destroyed, xdg_asked}
 use Rattle.wl_plain.specs.Desktop.{Resident}
 use Rattle.wl_plain.specs.LeftOut.{served_now}
-use Rattle.wl_client.specs.Requests.{Request, ToCompositor, ToSurface, ToSubcompositor, ToSubsurface, ToSeat, ToPointer, ToBase, ToPositioner, ToXdgSurface, ToToplevel, ToPopup, request_of}
-use Rattle.wl_client.specs.ToplevelRequest.{ToplevelRequest}
-use Rattle.wl_client.specs.ToplevelRequest as toplevel
+use Rattle.wl_peer.specs.Requests.{Request, ToCompositor, ToSurface, ToSubcompositor, ToSubsurface, ToSeat, ToPointer, ToBase, ToPositioner, ToXdgSurface, ToToplevel, ToPopup, request_of}
+use Rattle.wl_peer.specs.ToplevelRequest.{ToplevelRequest}
+use Rattle.wl_peer.specs.ToplevelRequest as toplevel
 use Rattle.wl_plain.specs.Served.{unserved_now}
-use Rattle.wl_client.specs.Peer.{Peer, known_of}
+use Rattle.wl_peer.specs.Peer.{Peer, known_of}
 use Rattle.wl_plain.specs.Step.{with_peer}
 use Rattle.wl_plain.proofs.Simply.{Simple, Asking, DestroySurface, AskingFrame, CommitSurface, DestroyToplevel, asks_simply, effect_for, effect_of, judge, simple_of, simply}
 use Rattle.wl_plain.specs.NoMore.{AreToplevels, IsToplevel}
 use Rattle.wl_plain.specs.WlSurface.{surface_created, transform_set, will_show}
-use Rattle.wl_client.specs.Requests.{rect}
+use Rattle.wl_peer.specs.Requests.{rect}
 use Rattle.wl_plain.specs.XdgShell.{acknowledged_by, base_destroyed, geometry_set, state_asked, toplevel_made, xdg_surface_destroyed, xdg_surface_made}
 
 -- what is asked is the same

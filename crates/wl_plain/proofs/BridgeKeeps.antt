@@ -4,12 +4,12 @@ use Rattle.std.proofs.Common.{◌≡◌, ℕ, Bool, true, false, Option, Some, N
 use Rattle.std.specs.Prelude.{◌==◌, filter, find, is_some, not}
 use Rattle.std.specs.Option.{option_map}
 use Rattle.std.proofs.lemmas.Bool.{eqb-true}
-use Rattle.wl_proto.specs.declared.interface.Interface.TheVariants.{WlSurface, XdgToplevel, WlCallback}
-use Rattle.wl_client.specs.declared.actions.Action.{Action}
-use Rattle.wl_client.specs.declared.actions.Action.TheVariants.{Sync, GetRegistry, Bind, CreateRegion, AddToRegion, SubtractFromRegion, DestroyRegion, CreatePool, CreateBuffer, ResizePool, DestroyPool, DestroyBuffer}
-use Rattle.wl_client.specs.Objects.{Object, Objects, is_of, with_id}
-use Rattle.wl_client.specs.Peer.{Peer, changed, object_at_version}
-use Rattle.wl_client.specs.Serving.{has_used, keeps_store}
+use Rattle.wl_interface.specs.declared.interface.Interface.TheVariants.{WlSurface, XdgToplevel, WlCallback}
+use Rattle.wl_peer.specs.declared.actions.Action.{Action}
+use Rattle.wl_peer.specs.declared.actions.Action.TheVariants.{Sync, GetRegistry, Bind, CreateRegion, AddToRegion, SubtractFromRegion, DestroyRegion, CreatePool, CreateBuffer, ResizePool, DestroyPool, DestroyBuffer}
+use Rattle.wl_peer.specs.Objects.{Object, Objects, is_of, with_id}
+use Rattle.wl_peer.specs.Peer.{Peer, changed, object_at_version}
+use Rattle.wl_peer.specs.Used.{has_used, keeps_store}
 use Rattle.wl_store.specs.Stores.{Stock}
 use Rattle.wl_surface.specs.Surfaces.{Surface, Surfaces, applying, asking, is_used, new_surface, surface_at, with_change, with_new, with_role, without_surface, history_in}
 use Rattle.wl_surface.specs.Request.{Commit, Frame}

@@ -4,10 +4,10 @@ use Rattle.std.specs.Prelude.{◌==◌, ◌+◌, filter, nat_le, drop, if◌then
 use Rattle.std.proofs.lemmas.Bool.{eqb-false, eqb-true}
 use Rattle.wl_store.specs.Stores.{write_refusal}
 use Rattle.wl_store.specs.declared.stores.StoreError.{StoreError}
-use Rattle.wl_client.specs.declared.clients.Cause.{Cause}
-use Rattle.wl_client.specs.declared.clients.Cause.TheVariants.{Gone, Memory}
-use Rattle.wl_client.specs.Peer.{Peer, ended, left_by, sent_by, stored_at, stored_by, with_rest}
-use Rattle.wl_client.specs.Told.{Output}
+use Rattle.wl_peer.specs.declared.cause.Cause.{Cause}
+use Rattle.wl_peer.specs.declared.cause.Cause.TheVariants.{Gone, Memory}
+use Rattle.wl_peer.specs.Peer.{Peer, ended, left_by, sent_by, stored_at, stored_by, with_rest}
+use Rattle.wl_peer.specs.Told.{Output}
 use Rattle.wl_scene.specs.Stacking.{Standing, without_client}
 use Rattle.wl_plain.specs.declared.answers.Done.{Done}
 use Rattle.wl_plain.specs.Desktop.{Desktop, Resident, arrival, become, client_at, client_in, place, with_client, with_number, with_place}

@@ -1,6 +1,6 @@
 -- A client that has no wl_pointers, and is left alone, is as it was.
 use Rattle.std.proofs.Common.{◌≡◌, ◌≢◌, ℕ, ◌+◌, List, [], true, false, Option, Some, None, refl, ap, sym, ◌∙◌, inl, inr}
-use Rattle.wl_client.specs.declared.clients.Cause.{Cause}
+use Rattle.wl_peer.specs.declared.cause.Cause.{Cause}
 use Rattle.wl_shell.specs.Popups.{is_among}
 use Rattle.wl_scene.specs.Stacking.{Standing}
 use Rattle.wl_plain.specs.declared.answers.Done.{Done}

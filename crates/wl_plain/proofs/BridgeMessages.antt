@@ -4,16 +4,16 @@ use Rattle.std.specs.Prelude.{Ok}
 use Rattle.wl_wire.specs.Wire.{split_of}
 use Rattle.wl_wire.specs.declared.header.Split.{Split}
 use Rattle.wl_wire.specs.declared.header.Split.TheVariants.{Message, More, Bad}
-use Rattle.wl_client.specs.declared.clients.Cause.{Cause}
-use Rattle.wl_client.specs.Peer.{Peer, Queues, QueuesOr, ended, has_room, queued}
-use Rattle.wl_client.specs.Told.{Said}
+use Rattle.wl_peer.specs.declared.cause.Cause.{Cause}
+use Rattle.wl_peer.specs.Peer.{Peer, Queues, QueuesOr, ended, has_room, queued}
+use Rattle.wl_peer.specs.Told.{Said}
 use Rattle.wl_plain.specs.Desktop.{Desktop, Resident, become, client_at, client_in}
 use Rattle.wl_plain.specs.Laws.{toplevels_of}
 use Rattle.wl_plain.specs.LeftOut.{served_now}
 use Rattle.wl_plain.specs.Happens.{Serves}
 use Rattle.wl_plain.proofs.Forms.{ServesAt}
 use Rattle.wl_plain.proofs.BridgeBack.{AsksBy, message-by}
-use Rattle.wl_client.specs.Objects.{Objects}
+use Rattle.wl_peer.specs.Objects.{Objects}
 use Rattle.wl_plain.specs.Step.{with_peer}
 use Rattle.wl_plain.proofs.Simply.{Simple, changed_simply, judge, stacked_simply, told_simply}
 use Rattle.wl_plain.specs.NoMore.{NoMore, OwnsToplevelsAt, OwnsToplevelsOnly}

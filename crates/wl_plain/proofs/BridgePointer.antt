@@ -1,9 +1,9 @@
 -- Where no client has more than toplevels, none is told of the pointer, and each stays as it is.
 use Rattle.std.proofs.Common.{◌≡◌, ℕ, List, [], Bool, true, false, Option, Some, None, refl, ap, subst, sym, ◌∙◌}
 use Rattle.std.specs.Prelude.{ℤ, ◌==◌, ◌&&◌, filter, if◌then◌else◌, is_some}
-use Rattle.wl_client.specs.declared.clients.Cause.{Cause}
-use Rattle.wl_client.specs.Peer.{Peer}
-use Rattle.wl_client.specs.Told.{Said}
+use Rattle.wl_peer.specs.declared.cause.Cause.{Cause}
+use Rattle.wl_peer.specs.Peer.{Peer}
+use Rattle.wl_peer.specs.Told.{Said}
 use Rattle.wl_surface.specs.Surfaces.{history_in}
 use Rattle.wl_shell.specs.Shell.{Shell}
 use Rattle.wl_scene.specs.Pointer.{Pointer, is_down, is_press}

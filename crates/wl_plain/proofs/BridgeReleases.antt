@@ -4,11 +4,11 @@ use Rattle.std.specs.Prelude.{◌==◌, ◌&&◌, ◌||◌, not, filter, flat_ma
 use Rattle.std.specs.List.{list_any}
 use Rattle.std.specs.Option.{option_map}
 use Rattle.std.proofs.lemmas.Bool.{or_left, or_right}
-use Rattle.wl_proto.specs.declared.interface.Interface.TheVariants.{WlBuffer}
+use Rattle.wl_interface.specs.declared.interface.Interface.TheVariants.{WlBuffer}
 use Rattle.wl_proto.specs.Messages.{says}
-use Rattle.wl_client.specs.Buffers.{Buffer as Made}
-use Rattle.wl_client.specs.Told.{Said, said}
-use Rattle.wl_client.specs.Peer.{Peer, removed}
+use Rattle.wl_peer.specs.Buffers.{Buffer as Made}
+use Rattle.wl_peer.specs.Told.{Said, said}
+use Rattle.wl_peer.specs.Peer.{Peer, removed}
 use Rattle.wl_surface.specs.Request.{Buffer, Request, Commit}
 use Rattle.wl_surface.specs.State.{History, applied, committed, held, is_commit, values}
 use Rattle.wl_surface.specs.Surfaces.{Surface, Surfaces, applying, asking, is_busy, listed, names, new_surface, shows, surface_at, with_change, with_role, without_surface}

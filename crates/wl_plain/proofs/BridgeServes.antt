@@ -1,14 +1,14 @@
 -- A message of a client, where no client has more than toplevels, does what it does where every request may be served.
 use Rattle.std.proofs.Common.{◌≡◌, ℕ, List, [], ◌∷◌, ◌++◌, Bool, true, false, Option, Some, None, Result, cond, refl, ap, subst, sym, ◌∙◌, map, inl, inr}
 use Rattle.std.specs.Prelude.{Ok, Err, ◌==◌, not, filter, flat_map}
-use Rattle.wl_proto.specs.declared.interface.Interface.TheVariants.{WlSurface, XdgPopup, WlCallback}
+use Rattle.wl_interface.specs.declared.interface.Interface.TheVariants.{WlSurface, XdgPopup, WlCallback}
 use Rattle.wl_proto.specs.Messages.{says}
-use Rattle.wl_client.specs.declared.clients.Cause.{Cause}
-use Rattle.wl_client.specs.declared.clients.Cause.TheVariants.{Memory, Slow}
-use Rattle.wl_client.specs.declared.refusals.Refusal.{Refusal}
-use Rattle.wl_client.specs.Objects.{is_of}
-use Rattle.wl_client.specs.Peer.{LacksMemory, Peer, Queues, QueuesOr, counted, ended, has_room, queued}
-use Rattle.wl_client.specs.Told.{Said, said}
+use Rattle.wl_peer.specs.declared.cause.Cause.{Cause}
+use Rattle.wl_peer.specs.declared.cause.Cause.TheVariants.{Memory, Slow}
+use Rattle.wl_peer.specs.declared.refusals.Refusal.{Refusal}
+use Rattle.wl_peer.specs.Objects.{is_of}
+use Rattle.wl_peer.specs.Peer.{LacksMemory, Peer, Queues, QueuesOr, counted, ended, has_room, queued}
+use Rattle.wl_peer.specs.Told.{Said, said}
 use Rattle.wl_shell.specs.Popups.{is_among}
 use Rattle.wl_shell.specs.Shell.{Effect, Stays, Unconfigured, Configures, Maps, Unmaps, Fresh, Waiting, Mapped, RoleObject, Shell, XdgSurface as Xdg, acknowledging, configuring, in_stage, new_toplevel, unmapping, with_change, with_new, without_role, without_xdg, xdg_at, xdg_of}
 use Rattle.wl_scene.specs.Pointer.{first_pointer}

@@ -2,12 +2,12 @@
 -- that goes.
 use Rattle.std.proofs.Common.{◌≡◌, true, false, Some, Result, refl, subst, ℕ}
 use Rattle.std.specs.Prelude.{Ok, Err, ◌==◌}
-use Rattle.wl_proto.specs.declared.interface.Interface.{Interface}
-use Rattle.wl_proto.specs.declared.interface.Interface.TheVariants.{WlRegion, WlSurface, WlShmPool, WlBuffer, XdgWmBase, XdgSurface, XdgToplevel, WlCallback}
-use Rattle.wl_client.specs.declared.actions.Action.{Action}
-use Rattle.wl_client.specs.declared.actions.Action.TheVariants.{GetRegistry, Bind, CreateRegion, DestroyRegion, CreatePool, CreateBuffer, DestroyPool, DestroyBuffer}
-use Rattle.wl_client.specs.declared.refusals.Refusal.{Refusal}
-use Rattle.wl_client.specs.Objects.{Objects, interface_number, is_of}
+use Rattle.wl_interface.specs.declared.interface.Interface.{Interface}
+use Rattle.wl_interface.specs.declared.interface.Interface.TheVariants.{WlRegion, WlSurface, WlShmPool, WlBuffer, XdgWmBase, XdgSurface, XdgToplevel, WlCallback}
+use Rattle.wl_peer.specs.declared.actions.Action.{Action}
+use Rattle.wl_peer.specs.declared.actions.Action.TheVariants.{GetRegistry, Bind, CreateRegion, DestroyRegion, CreatePool, CreateBuffer, DestroyPool, DestroyBuffer}
+use Rattle.wl_peer.specs.declared.refusals.Refusal.{Refusal}
+use Rattle.wl_peer.specs.Objects.{Objects, interface_number, is_of}
 use Rattle.wl_plain.specs.Ask.{Ask, Own, CreateSurface, DestroyBase, GetXdgSurface, DestroyXdgSurface, GetToplevel}
 use Rattle.wl_plain.specs.Demand.{Demand}
 use Rattle.wl_plain.specs.Demanding.{judge_all}

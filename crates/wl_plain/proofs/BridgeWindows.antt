@@ -1,7 +1,7 @@
 -- The windows of a desktop that has no more than toplevels are those of its toplevels: it has no popup.
 use Rattle.std.proofs.Common.{◌≡◌, ℕ, List, [], ◌∷◌, ◌++◌, Option, Some, None, refl, ap, ◌∙◌, map}
 use Rattle.std.specs.Prelude.{ℤ, flat_map}
-use Rattle.wl_client.specs.declared.clients.Cause.{Cause}
+use Rattle.wl_peer.specs.declared.cause.Cause.{Cause}
 use Rattle.wl_scene.specs.Stacking.{Owned, Standing, root_of, windows_on}
 use Rattle.wl_scene.specs.Windows.{Root, StackedPopup, owner_of, roots_of, tree, windows}
 use Rattle.wl_plain.specs.Desktop.{Desktop, Resident, client_at, owned_in, owned_of}

@@ -6,9 +6,9 @@ use Rattle.std.proofs.lemmas.Bool.{or_left, or_right}
 use Rattle.wl_wire.specs.Wire.{split_of}
 use Rattle.wl_wire.specs.declared.header.Split.{Split}
 use Rattle.wl_wire.specs.declared.header.Split.TheVariants.{Message as Whole, More, Bad}
-use Rattle.wl_client.specs.Objects.{Objects}
-use Rattle.wl_client.specs.Peer.{Peer, ended}
-use Rattle.wl_client.specs.Told.{Output}
+use Rattle.wl_peer.specs.Objects.{Objects}
+use Rattle.wl_peer.specs.Peer.{Peer, ended}
+use Rattle.wl_peer.specs.Told.{Output}
 use Rattle.wl_shell.specs.Kept.{Kept}
 use Rattle.wl_shell.specs.Shell.{Effect, Stays, Unconfigured, Configures, Maps, Unmaps}
 use Rattle.wl_surface.specs.Kept.{Slots}

@@ -4,11 +4,11 @@ use Rattle.std.specs.Prelude.{Ok, Err, ◌⊎◌, is_some}
 use Rattle.wl_wire.specs.Wire.{split_of}
 use Rattle.wl_wire.specs.declared.header.Split.{Split}
 use Rattle.wl_wire.specs.declared.header.Split.TheVariants.{Message, More, Bad}
-use Rattle.wl_client.specs.declared.clients.Cause.{Cause}
-use Rattle.wl_client.specs.declared.refusals.ErrorCode.TheVariants.{InvalidMethod}
-use Rattle.wl_client.specs.declared.refusals.Refusal.{Refusal}
-use Rattle.wl_client.specs.Peer.{Errs, LacksMemory, Peer, Queues, counted, ended, has_room, queued, with_rest}
-use Rattle.wl_client.specs.Told.{Said, display_error}
+use Rattle.wl_peer.specs.declared.cause.Cause.{Cause}
+use Rattle.wl_peer.specs.declared.refusals.ErrorCode.TheVariants.{InvalidMethod}
+use Rattle.wl_peer.specs.declared.refusals.Refusal.{Refusal}
+use Rattle.wl_peer.specs.Peer.{Errs, LacksMemory, Peer, Queues, counted, ended, has_room, queued, with_rest}
+use Rattle.wl_peer.specs.Told.{Said, display_error}
 use Rattle.wl_scene.specs.Pointer.{first_pointer}
 use Rattle.wl_plain.specs.Demand.{Demand}
 use Rattle.wl_plain.specs.Demanding.{judge_all}

@@ -1,9 +1,9 @@
 -- After a step's own change, ends and settlings follow: they keep the output, and leave each client what it owns, or nothing.
 use Rattle.std.proofs.Common.{◌≡◌, ◌≢◌, ℕ, zero, suc, List, [], ◌∷◌, ◌++◌, Bool, true, false, Option, Some, None, refl, ap, subst, sym, ◌∙◌, inl, inr}
 use Rattle.std.specs.Prelude.{◌⊎◌}
-use Rattle.wl_client.specs.declared.clients.Cause.{Cause}
-use Rattle.wl_client.specs.Peer.{ended}
-use Rattle.wl_client.specs.Told.{Said}
+use Rattle.wl_peer.specs.declared.cause.Cause.{Cause}
+use Rattle.wl_peer.specs.Peer.{ended}
+use Rattle.wl_peer.specs.Told.{Said}
 use Rattle.wl_scene.specs.Pointer.{Target}
 use Rattle.wl_scene.specs.Stacking.{nothing_owned}
 use Rattle.wl_scene.specs.Windows.{Window}

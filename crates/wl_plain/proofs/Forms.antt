@@ -1,16 +1,16 @@
 -- What happens to the plain desktop in forms in which what comes then is told: those end that are to, and the focus is settled.
 use Rattle.std.specs.Prelude.{ℕ, Bool, Option, Result, []}
 use Rattle.wl_wire.specs.declared.header.Split.{Split}
-use Rattle.wl_client.specs.declared.clients.Cause.{Cause}
-use Rattle.wl_client.specs.declared.refusals.Refusal.{Refusal}
-use Rattle.wl_client.specs.Peer.{Peer}
+use Rattle.wl_peer.specs.declared.cause.Cause.{Cause}
+use Rattle.wl_peer.specs.declared.refusals.Refusal.{Refusal}
+use Rattle.wl_peer.specs.Peer.{Peer}
 use Rattle.wl_plain.specs.declared.answers.Done.{Done}
 use Rattle.wl_plain.specs.Demand.{Demand}
 use Rattle.wl_plain.specs.Desktop.{Desktop, Resident}
 use Rattle.wl_plain.specs.LeftOut.{LeftOut}
 use Rattle.wl_plain.specs.Settling.{ended_all, struck_by}
 use Rattle.std.specs.Prelude.{ℕ, [], Bool, Option}
-use Rattle.wl_client.specs.Peer.{Peer}
+use Rattle.wl_peer.specs.Peer.{Peer}
 use Rattle.wl_plain.specs.Desktop.{Desktop, Resident}
 use Rattle.wl_plain.specs.Happens.{BecomesThen, ConnectsThen, DoesThen, WantsOrThen, AnswersThen, TakesThen, ServesThen, settling, LeavesThen, ChangesThen, ending, ShowsThen, MovesThen, PressedThen, ReleasedThen, PressesThen, ReleasesThen, ButtonsThen}
 

@@ -1,8 +1,8 @@
 -- A frame where nobody points, as one pass over the clients: each is told, and ends at once where it can't be.
 use Rattle.std.proofs.Common.{◌≡◌, ℕ, zero, suc, ◌+◌, List, [], ◌∷◌, true, Option, Some, None, refl, ap, subst, sym, ◌∙◌, arith}
 use Rattle.std.specs.Prelude.{◌||◌, filter, flat_map, is_some}
-use Rattle.wl_client.specs.declared.clients.Cause.{Cause}
-use Rattle.wl_client.specs.Peer.{Peer, Queues}
+use Rattle.wl_peer.specs.declared.cause.Cause.{Cause}
+use Rattle.wl_peer.specs.Peer.{Peer, Queues}
 use Rattle.wl_surface.specs.Waiting.{Callback}
 use Rattle.wl_scene.specs.Pointer.{first_pointer}
 use Rattle.wl_plain.specs.Changing.{without_callbacks}

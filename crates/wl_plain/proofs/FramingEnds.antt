@@ -2,8 +2,8 @@
 use Rattle.std.proofs.Common.{◌≡◌, ◌≢◌, ℕ, zero, suc, ◌<◌, List, [], ◌∷◌, ◌++◌, Bool, true, false, Option, Some, None, cond, refl, ap, subst, sym, ◌∙◌, arith, ltb-true}
 use Rattle.std.specs.Prelude.{◌==◌, ◌||◌, nat_lt}
 use Rattle.std.proofs.lemmas.Bool.{eqb-true}
-use Rattle.wl_client.specs.declared.clients.Cause.{Cause}
-use Rattle.wl_client.specs.Peer.{ended}
+use Rattle.wl_peer.specs.declared.cause.Cause.{Cause}
+use Rattle.wl_peer.specs.Peer.{ended}
 use Rattle.wl_scene.specs.Pointer.{first_pointer}
 use Rattle.wl_scene.specs.Stacking.{without_client}
 use Rattle.wl_plain.specs.Desktop.{Desktop, Resident, client_at, resident_of, with_client, with_number, with_place}

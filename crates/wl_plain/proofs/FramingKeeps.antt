@@ -1,8 +1,8 @@
 -- What a frame where nobody points keeps of the desktop, and what it marks.
 use Rattle.std.proofs.Common.{◌≡◌, ◌≢◌, ℕ, zero, suc, Option, Some, None, refl, ap, subst, sym, ◌∙◌, inl, inr}
 use Rattle.std.specs.Prelude.{◌⊎◌}
-use Rattle.wl_client.specs.declared.clients.Cause.{Cause}
-use Rattle.wl_client.specs.Peer.{Peer}
+use Rattle.wl_peer.specs.declared.cause.Cause.{Cause}
+use Rattle.wl_peer.specs.Peer.{Peer}
 use Rattle.wl_plain.specs.Desktop.{Desktop, Resident, become_by, client_at, owned_in, owned_of, resident_of}
 use Rattle.wl_plain.specs.Framing.{FramesTold, FramesToldAt, FramesToldBy, done_due}
 use Rattle.wl_plain.specs.Happens.{frames_told, is_counting}

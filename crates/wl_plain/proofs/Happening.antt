@@ -4,14 +4,14 @@ use Rattle.std.specs.Prelude.{Ok, Err, nat_le, ◌||◌, is_none, is_some, lengt
 use Rattle.wl_wire.specs.Wire.{split_of}
 use Rattle.wl_wire.specs.declared.header.Split.{Split}
 use Rattle.wl_wire.specs.declared.header.Split.TheVariants.{Message, More, Bad}
-use Rattle.wl_client.specs.declared.clients.Cause.{Cause}
-use Rattle.wl_client.specs.declared.clients.Cause.TheVariants as cause
-use Rattle.wl_client.specs.declared.refusals.ErrorCode.TheVariants.{InvalidMethod}
-use Rattle.wl_client.specs.declared.refusals.Refusal.{Refusal}
-use Rattle.wl_client.specs.Peer.{Errs, Peer, QueuesOr, counted, ended, has_room, queued, sent_by, stored_at, with_rest}
+use Rattle.wl_peer.specs.declared.cause.Cause.{Cause}
+use Rattle.wl_peer.specs.declared.cause.Cause.TheVariants as cause
+use Rattle.wl_peer.specs.declared.refusals.ErrorCode.TheVariants.{InvalidMethod}
+use Rattle.wl_peer.specs.declared.refusals.Refusal.{Refusal}
+use Rattle.wl_peer.specs.Peer.{Errs, Peer, QueuesOr, counted, ended, has_room, queued, sent_by, stored_at, with_rest}
 use Rattle.wl_store.specs.Stores.{write_refusal}
-use Rattle.wl_client.specs.Plain.{or_slow as refused_or, refused}
-use Rattle.wl_client.specs.Told.{Said, code_number, display_error, error_told}
+use Rattle.wl_peer.specs.Plain.{or_slow as refused_or, refused}
+use Rattle.wl_peer.specs.Told.{Said, code_number, display_error, error_told}
 use Rattle.wl_scene.specs.Pointer.{Target, is_down, is_press}
 use Rattle.wl_scene.specs.Windows.{Window}
 use Rattle.wl_plain.specs.Ample.{answered, became, buttons, changes_at, connects_at, dismisses, dismisses_unless, done, ends_and_settles, ends_first, enters, fed_at, fed_by, frames_to, happened, held_so, leaves, left_at, left_by, motion_for, motion_settles, moved_to, moves_unless, or_slow, pressed_if, queued_to, released_if, served_all, served_at, served_by, settles, settles_all, settles_ends, shown, taken, tells, tells_at, tells_button, tells_unless}

@@ -1,8 +1,8 @@
 -- What happens one message at a time leads through orderly desktops, which are sound; and a piece is the messages that it completes.
 use Rattle.std.proofs.Common.{◌≡◌, ℕ, zero, suc, List, [], ◌∷◌, ◌++◌, Option, Some, None, refl, subst, sym, inl, inr}
-use Rattle.wl_client.specs.declared.clients.Cause.{Cause}
-use Rattle.wl_client.specs.declared.clients.Cause.TheVariants.{Memory}
-use Rattle.wl_client.specs.Peer.{ended, with_rest}
+use Rattle.wl_peer.specs.declared.cause.Cause.{Cause}
+use Rattle.wl_peer.specs.declared.cause.Cause.TheVariants.{Memory}
+use Rattle.wl_peer.specs.Peer.{ended, with_rest}
 use Rattle.wl_plain.specs.declared.answers.Done.{Done}
 use Rattle.wl_plain.specs.Desktop.{Desktop, Resident, client_at, empty, with_client}
 use Rattle.wl_plain.specs.Happenings.{Happening, HappeningsAreSound, LeadsAll, Message, PieceIsMessages, Receive, ReceivesAt, Starve, StarvesAt}

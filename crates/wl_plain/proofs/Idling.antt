@@ -5,12 +5,12 @@ use Rattle.std.proofs.lemmas.Bool.Decides.{nat_tests}
 use Rattle.wl_wire.specs.Wire.{is_size, split_of, word_of}
 use Rattle.wl_wire.specs.declared.header.Split.{Split}
 use Rattle.wl_wire.specs.declared.header.Split.TheVariants.{Message, More, Bad}
-use Rattle.wl_client.specs.declared.clients.Cause.{Cause}
-use Rattle.wl_client.specs.declared.refusals.ErrorCode.TheVariants.{InvalidMethod}
-use Rattle.wl_client.specs.declared.refusals.Refusal.{Refusal}
-use Rattle.wl_client.specs.Peer.{IsIdle, IsIdleAt, Peer, counted, ended, has_room, queued, removed, with_rest}
-use Rattle.wl_client.specs.Plain.{or_slow as refused_or, refused}
-use Rattle.wl_client.specs.Told.{Said, display_error, error_told}
+use Rattle.wl_peer.specs.declared.cause.Cause.{Cause}
+use Rattle.wl_peer.specs.declared.refusals.ErrorCode.TheVariants.{InvalidMethod}
+use Rattle.wl_peer.specs.declared.refusals.Refusal.{Refusal}
+use Rattle.wl_peer.specs.Peer.{IsIdle, IsIdleAt, Peer, counted, ended, has_room, queued, removed, with_rest}
+use Rattle.wl_peer.specs.Plain.{or_slow as refused_or, refused}
+use Rattle.wl_peer.specs.Told.{Said, display_error, error_told}
 use Rattle.wl_surface.specs.Waiting.{Callback}
 use Rattle.wl_scene.specs.Pointer.{Target}
 use Rattle.wl_scene.specs.Windows.{Window}

@@ -1,8 +1,8 @@
 -- Stores of buffers that are over: a request that leaves a surface its buffers lets none go.
 use Rattle.std.proofs.Common.{◌≡◌, ℕ, ◌≤◌, List, [], ◌∷◌, ◌++◌, Bool, true, false, Option, Some, None, cond, length, refl, ap, subst, sym, ◌∙◌, eq-eqb}
 use Rattle.std.specs.Prelude.{◌==◌, ◌&&◌, ◌||◌, not, filter, fold, map}
-use Rattle.wl_client.specs.Buffers.{Buffer as Made}
-use Rattle.wl_client.specs.Peer.{released}
+use Rattle.wl_peer.specs.Buffers.{Buffer as Made}
+use Rattle.wl_peer.specs.Peer.{released}
 use Rattle.wl_store.specs.Stores.{Stock}
 use Rattle.wl_surface.specs.Request.{Buffer, Request}
 use Rattle.wl_surface.specs.State.{History, Values, applied, asked, committed, held, is_commit, pending, values}

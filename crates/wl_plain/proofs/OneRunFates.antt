@@ -2,7 +2,7 @@
 use Rattle.std.proofs.Common.{◌≡◌, ◌≢◌, ℕ, zero, suc, ◌≤◌, List, [], ◌∷◌, length, Bool, true, false, Option, Some, None, refl, ap, subst, sym, ◌∙◌, arith, inl, inr, eq-eqb}
 use Rattle.std.specs.Prelude.{◌==◌, ◌||◌, if◌then◌else◌, nat_lt, ◌⊎◌}
 use Rattle.std.proofs.lemmas.Bool.{eqb-false, eqb-true, ne_eqb}
-use Rattle.wl_client.specs.declared.clients.Cause.{Cause}
+use Rattle.wl_peer.specs.declared.cause.Cause.{Cause}
 use Rattle.wl_plain.specs.Desktop.{Resident, client_in, place, with_number, with_place}
 use Rattle.wl_plain.specs.Laws.{status_of}
 use Rattle.wl_plain.specs.Settling.{Strike, in_order, is_struck, struck_by}

@@ -1,7 +1,7 @@
 -- From the middle of a step, to what does it lead? To one thing, where no want of memory is met.
 use Rattle.std.proofs.Common.{◌≡◌, ℕ, Some, subst, sym, ◌∙◌, inl, inr}
 use Rattle.std.specs.Prelude.{◌⊎◌}
-use Rattle.wl_client.specs.declared.clients.Cause.TheVariants.{Memory}
+use Rattle.wl_peer.specs.declared.cause.Cause.TheVariants.{Memory}
 use Rattle.wl_plain.specs.Settling.{Midstep}
 use Rattle.wl_plain.proofs.OneRunFates.{Follows, fate, follows-on, AreStruck}
 

@@ -4,13 +4,13 @@ use Rattle.std.specs.Prelude.{Ok, Err}
 use Rattle.wl_wire.specs.Wire.{split_of}
 use Rattle.wl_wire.specs.declared.header.Split.{Split}
 use Rattle.wl_wire.specs.declared.header.Split.TheVariants.{Message, More, Bad}
-use Rattle.wl_client.specs.declared.clients.Cause.{Cause}
-use Rattle.wl_client.specs.declared.clients.Cause.TheVariants.{Memory}
-use Rattle.wl_client.specs.declared.refusals.ErrorCode.TheVariants.{InvalidMethod}
-use Rattle.wl_client.specs.declared.refusals.Refusal.{Refusal}
-use Rattle.wl_client.specs.Peer.{Errs, IsIdleAt, LacksMemory, Peer, counted, ended, with_rest}
-use Rattle.wl_client.specs.Told.{Said, display_error}
-use Rattle.wl_client.proofs.Unique.{refused_is}
+use Rattle.wl_peer.specs.declared.cause.Cause.{Cause}
+use Rattle.wl_peer.specs.declared.cause.Cause.TheVariants.{Memory}
+use Rattle.wl_peer.specs.declared.refusals.ErrorCode.TheVariants.{InvalidMethod}
+use Rattle.wl_peer.specs.declared.refusals.Refusal.{Refusal}
+use Rattle.wl_peer.specs.Peer.{Errs, IsIdleAt, LacksMemory, Peer, counted, ended, with_rest}
+use Rattle.wl_peer.specs.Told.{Said, display_error}
+use Rattle.wl_peer.proofs.Unique.{refused_is}
 use Rattle.wl_shell.specs.Popups.{is_toplevel}
 use Rattle.wl_shell.specs.Shell.{Effect, Stays, Unconfigured, Configures, Maps, Unmaps}
 use Rattle.wl_scene.specs.Windows.{Window}

@@ -3,8 +3,8 @@ use Rattle.std.proofs.Common.{◌≡◌, ◌≢◌, ℕ, zero, suc, List, [], �
 use Rattle.std.specs.Prelude.{◌+◌, ◌⊎◌, drop, if◌then◌else◌, nat_le}
 use Rattle.wl_store.specs.Stores.{write_refusal}
 use Rattle.wl_store.specs.declared.stores.StoreError.{StoreError}
-use Rattle.wl_client.specs.declared.clients.Cause.{Cause}
-use Rattle.wl_client.specs.Peer.{Peer, sent_by, stored_at, stored_by}
+use Rattle.wl_peer.specs.declared.cause.Cause.{Cause}
+use Rattle.wl_peer.specs.Peer.{Peer, sent_by, stored_at, stored_by}
 use Rattle.wl_plain.specs.declared.answers.Done.{Done}
 use Rattle.wl_plain.specs.Desktop.{Desktop, Resident, arrival, client_at, client_in, place, with_client, with_number, with_place}
 use Rattle.wl_plain.specs.Laws.{status_in, status_of}

@@ -3,13 +3,13 @@ use Rattle.std.proofs.Common.{◌≡◌, ℕ, ◌≤◌, ◌<◌, ◌+◌, Bool,
 use Rattle.std.specs.Prelude.{◌==◌, ◌&&◌, is_some, not, take}
 use Rattle.std.specs.List.{list_any}
 use Rattle.std.specs.Option.{option_and_then}
-use Rattle.wl_proto.specs.declared.interface.Interface.{Interface}
-use Rattle.wl_proto.specs.declared.interface.Interface.TheVariants.{WlCallback, WlRegion, WlShmPool, WlBuffer, WlSurface, WlSubcompositor, WlSubsurface, XdgWmBase, XdgPositioner, XdgSurface, XdgToplevel, XdgPopup}
-use Rattle.wl_client.specs.declared.actions.Action.{Action}
-use Rattle.wl_client.specs.declared.actions.Action.TheVariants.{GetRegistry, Bind, CreateRegion, DestroyRegion, CreatePool, CreateBuffer, DestroyPool, DestroyBuffer}
-use Rattle.wl_client.specs.declared.clients.Cause.{Cause}
-use Rattle.wl_client.specs.Judgement.{is_free}
-use Rattle.wl_client.specs.Objects.{is_of}
+use Rattle.wl_interface.specs.declared.interface.Interface.{Interface}
+use Rattle.wl_interface.specs.declared.interface.Interface.TheVariants.{WlCallback, WlRegion, WlShmPool, WlBuffer, WlSurface, WlSubcompositor, WlSubsurface, XdgWmBase, XdgPositioner, XdgSurface, XdgToplevel, XdgPopup}
+use Rattle.wl_peer.specs.declared.actions.Action.{Action}
+use Rattle.wl_peer.specs.declared.actions.Action.TheVariants.{GetRegistry, Bind, CreateRegion, DestroyRegion, CreatePool, CreateBuffer, DestroyPool, DestroyBuffer}
+use Rattle.wl_peer.specs.declared.cause.Cause.{Cause}
+use Rattle.wl_peer.specs.Judgement.{is_free}
+use Rattle.wl_peer.specs.Objects.{is_of}
 use Rattle.wl_surface.specs.Request.{Request, Child, AddChild, PlaceAbove, PlaceBelow}
 use Rattle.wl_surface.specs.State.{History, is_member, order}
 use Rattle.wl_surface.specs.Surfaces.{Link, Surfaces, history_in, link_at, surface_at}

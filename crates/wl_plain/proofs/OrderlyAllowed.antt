@@ -4,12 +4,12 @@ use Rattle.std.specs.Prelude.{Ok, pos, ◌==◌, ◌&&◌, ◌||◌, int_le, if�
 use Rattle.std.specs.Option.{option_and_then}
 use Rattle.std.proofs.lemmas.Bool.{eqb-true}
 use Rattle.wl_wire.specs.Wire.{Field}
-use Rattle.wl_proto.specs.declared.interface.Interface.{Interface}
-use Rattle.wl_proto.specs.declared.interface.Interface.TheVariants.{WlDisplay, WlRegistry, WlCallback, WlCompositor, WlRegion, WlSurface, WlShm, WlShmPool, WlBuffer, WlSubcompositor, WlSubsurface, WlOutput, WlSeat, WlPointer, XdgWmBase, XdgPositioner, XdgSurface, XdgToplevel, XdgPopup}
+use Rattle.wl_interface.specs.declared.interface.Interface.{Interface}
+use Rattle.wl_interface.specs.declared.interface.Interface.TheVariants.{WlDisplay, WlRegistry, WlCallback, WlCompositor, WlRegion, WlSurface, WlShm, WlShmPool, WlBuffer, WlSubcompositor, WlSubsurface, WlOutput, WlSeat, WlPointer, XdgWmBase, XdgPositioner, XdgSurface, XdgToplevel, XdgPopup}
 use Rattle.wl_proto.specs.Table.{AnObject}
 use Rattle.wl_proto.specs.declared.xdg_popup.XdgPopupRequest.{XdgPopupRequest}
 use Rattle.wl_proto.specs.declared.xdg_popup.XdgPopupRequest.TheVariants as popup
-use Rattle.wl_client.specs.Requests.{number_in, word_in}
+use Rattle.wl_peer.specs.Requests.{number_in, word_in}
 use Rattle.wl_surface.specs.Request.{Member, PlaceAbove, PlaceBelow}
 use Rattle.wl_surface.specs.Surfaces.{Link, link_at}
 use Rattle.wl_surface.specs.Trees.{is_bad_parent, is_too_deep}
@@ -20,12 +20,12 @@ use Rattle.wl_plain.specs.Demand.{Demand}
 use Rattle.wl_plain.specs.Demanding.{committed_by, demand_by, demand_of, effect_of_commit, judge_all, moved_by_pointer, surface_demand, toplevel_asked, toplevel_destroyed}
 use Rattle.wl_plain.specs.Desktop.{Resident, Subsurface}
 use Rattle.wl_plain.specs.LeftOut.{LeftOut}
-use Rattle.wl_client.specs.Requests.{pointer_request, popup_request, positioner_request, request_in, seat_request, subcompositor_request, subsurface_request, surface_request, toplevel_request}
-use Rattle.wl_client.specs.ToplevelRequest.{ToplevelRequest}
-use Rattle.wl_client.specs.ToplevelRequest as toplevel
+use Rattle.wl_peer.specs.Requests.{pointer_request, popup_request, positioner_request, request_in, seat_request, subcompositor_request, subsurface_request, surface_request, toplevel_request}
+use Rattle.wl_peer.specs.ToplevelRequest.{ToplevelRequest}
+use Rattle.wl_peer.specs.ToplevelRequest as toplevel
 use Rattle.wl_plain.specs.WlPointer.{is_no_cursor, pointer_demand, seat_demand}
 use Rattle.wl_plain.specs.WlSubsurface.{beside, demand_by_link, has_subsurface, is_no_subsurface, link_of_subsurface, living, placed_beside, subcompositor_demand, subsurface_at, subsurface_made}
-use Rattle.wl_client.specs.Requests.{rect}
+use Rattle.wl_peer.specs.Requests.{rect}
 use Rattle.wl_plain.specs.XdgPopup.{grab_of, popup_asked, positioner_asked, positioner_of, set_if}
 use Rattle.wl_plain.specs.XdgShell.{role_of}
 use Rattle.wl_plain.proofs.Orderly.{HasId, IsAllowed, IsOn, IsObject, IsOfParent}

@@ -6,22 +6,22 @@ use Rattle.std.specs.Option.{option_map_or}
 use Rattle.std.proofs.lemmas.Bool.{eqb-true}
 use Rattle.wl_wire.specs.Wire.{Field}
 use Rattle.wl_geom.specs.declared.rect.Rect.{Rect}
-use Rattle.wl_proto.specs.declared.interface.Interface.{Interface}
-use Rattle.wl_proto.specs.declared.interface.Interface.TheVariants.{WlCompositor, WlSurface, XdgWmBase, XdgPositioner, XdgSurface}
+use Rattle.wl_interface.specs.declared.interface.Interface.{Interface}
+use Rattle.wl_interface.specs.declared.interface.Interface.TheVariants.{WlCompositor, WlSurface, XdgWmBase, XdgPositioner, XdgSurface}
 use Rattle.wl_proto.specs.Table.{AnObject}
-use Rattle.wl_client.specs.declared.actions.Action.{Action}
-use Rattle.wl_client.specs.declared.refusals.Refusal.{Refusal}
-use Rattle.wl_client.specs.Judgement.{action_of}
-use Rattle.wl_client.specs.Requests.{number_in, word_in}
-use Rattle.wl_client.specs.Peer.{known_of}
+use Rattle.wl_peer.specs.declared.actions.Action.{Action}
+use Rattle.wl_peer.specs.declared.refusals.Refusal.{Refusal}
+use Rattle.wl_peer.specs.Judgement.{action_of}
+use Rattle.wl_peer.specs.Requests.{number_in, word_in}
+use Rattle.wl_peer.specs.Peer.{known_of}
 use Rattle.wl_shell.specs.Positioner.{is_complete}
 use Rattle.wl_shell.specs.Shell.{XdgSurface as Xdg, answers_states, is_full, is_waiting, stage_of, xdg_at, xdg_of}
 use Rattle.wl_plain.specs.Ask.{Ask, owns}
 use Rattle.wl_plain.specs.Demand.{Demand}
 use Rattle.wl_plain.specs.Demanding.{base_demand, compositor_demand, demands, own_demand, xdg_asked}
 use Rattle.wl_plain.specs.Desktop.{Resident}
-use Rattle.wl_client.specs.Requests.{base_request, compositor_request, request_in, xdg_request}
-use Rattle.wl_client.specs.Requests.{rect}
+use Rattle.wl_peer.specs.Requests.{base_request, compositor_request, request_in, xdg_request}
+use Rattle.wl_peer.specs.Requests.{rect}
 use Rattle.wl_plain.specs.XdgPopup.{is_no_popup, may_be_parent, positioner_of}
 use Rattle.wl_plain.specs.XdgShell.{acknowledged_by, configured_again, geometry_set, has_any, is_foreign, is_no_toplevel, role_of, state_asked}
 use Rattle.wl_plain.proofs.Orderly.{HasNoRole, IsAllowed, IsObject}

@@ -8,18 +8,18 @@ use Rattle.wl_wire.specs.declared.error.ArgError.{ArgError}
 use Rattle.wl_wire.specs.Wire.{Field, Word, Number, Text, Block, Kind, AWord, AText, fields_at, kind_of}
 use Rattle.wl_proto.specs.declared.argument.NewId.{NewId}
 use Rattle.wl_proto.specs.declared.error.ProtoError.{ProtoError}
-use Rattle.wl_proto.specs.declared.interface.Interface.{Interface}
+use Rattle.wl_interface.specs.declared.interface.Interface.{Interface}
 use Rattle.wl_proto.specs.Messages.{Message}
 use Rattle.wl_proto.specs.Objects.{new_id_by, new_id_in, new_id_of, objects_by, objects_of}
 use Rattle.wl_proto.specs.Objects.{objects_in as objects_named}
 use Rattle.wl_proto.specs.Spelling.{arguments_in, as_arguments, as_message, decoded, message_in}
 use Rattle.wl_proto.specs.Table.{Argument, AUint, AnObject, ANewId, ANewObject, Signature, is_in_version, if_in_version, kinds_of, requests_of}
-use Rattle.wl_client.specs.declared.refusals.ErrorCode.TheVariants.{Implementation, InvalidObject}
-use Rattle.wl_client.specs.declared.refusals.Refusal.{Refusal}
-use Rattle.wl_client.specs.Judgement.{after_new_id, is_free, judged, judged_at}
-use Rattle.wl_client.specs.Requests.{word_in}
-use Rattle.wl_client.specs.Objects.{Object, Objects, fits, interface_number, is_of}
-use Rattle.wl_client.specs.Told.{display_error}
+use Rattle.wl_peer.specs.declared.refusals.ErrorCode.TheVariants.{Implementation, InvalidObject}
+use Rattle.wl_peer.specs.declared.refusals.Refusal.{Refusal}
+use Rattle.wl_peer.specs.Judgement.{after_new_id, is_free, judged, judged_at}
+use Rattle.wl_peer.specs.Requests.{word_in}
+use Rattle.wl_peer.specs.Objects.{Object, Objects, fits, interface_number, is_of}
+use Rattle.wl_peer.specs.Told.{display_error}
 use Rattle.wl_plain.proofs.BridgeFinds.{fields-kinds}
 use Rattle.wl_plain.proofs.Stacks.{and-left, same-number}
 

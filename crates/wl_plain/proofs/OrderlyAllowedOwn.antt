@@ -3,21 +3,21 @@ use Rattle.std.proofs.Common.{◌≡◌, ℕ, zero, suc, ℤ, List, [], ◌∷�
 use Rattle.std.specs.Prelude.{Ok, Err, if◌then◌else◌, cond, find, nat_le}
 use Rattle.std.specs.Option.{option_map}
 use Rattle.wl_wire.specs.Wire.{Field}
-use Rattle.wl_proto.specs.declared.interface.Interface.{Interface}
-use Rattle.wl_proto.specs.declared.interface.Interface.TheVariants.{WlDisplay, WlRegistry, WlCompositor, WlRegion, WlShm, WlShmPool, WlBuffer}
+use Rattle.wl_interface.specs.declared.interface.Interface.{Interface}
+use Rattle.wl_interface.specs.declared.interface.Interface.TheVariants.{WlDisplay, WlRegistry, WlCompositor, WlRegion, WlShm, WlShmPool, WlBuffer}
 use Rattle.wl_proto.specs.Table.{AUint, AnInt}
 use Rattle.wl_store.specs.declared.place.LayoutError.{LayoutError}
 use Rattle.wl_store.specs.declared.stores.StoreError.{StoreError}
 use Rattle.wl_store.specs.declared.stores.StoreError.TheVariants.{BadSize, Shrinks}
 use Rattle.wl_store.specs.Stores.{Stock, can_hold, create_refusal}
-use Rattle.wl_client.specs.declared.actions.Action.{Action}
-use Rattle.wl_client.specs.declared.refusals.Refusal.{Refusal}
-use Rattle.wl_client.specs.Buffers.{Buffer, Laid}
-use Rattle.wl_client.specs.Judgement.{Known, action_of, binds, buffer_destroyed, buffer_laid, changed_unless_full, pool_action, pool_created, pool_resized, region_action}
+use Rattle.wl_peer.specs.declared.actions.Action.{Action}
+use Rattle.wl_peer.specs.declared.refusals.Refusal.{Refusal}
+use Rattle.wl_peer.specs.Buffers.{Buffer, Laid}
+use Rattle.wl_peer.specs.Judgement.{Known, action_of, binds, buffer_destroyed, buffer_laid, changed_unless_full, pool_action, pool_created, pool_resized, region_action}
 use Rattle.wl_proto.specs.declared.wl_region.WlRegionRequest.{WlRegionRequest}
 use Rattle.wl_proto.specs.declared.wl_region.WlRegionRequest.TheVariants as region
-use Rattle.wl_client.specs.Requests.{pool_request, region_request, request_in, number_in, text_in, word_in}
-use Rattle.wl_client.specs.Objects.{Global, bound_interface, globals, is_bound}
+use Rattle.wl_peer.specs.Requests.{pool_request, region_request, request_in, number_in, text_in, word_in}
+use Rattle.wl_peer.specs.Objects.{Global, bound_interface, globals, is_bound}
 use Rattle.wl_plain.specs.Desktop.{Resident}
 use Rattle.wl_plain.proofs.Orderly.{IsNew, IsObject, IsOwn, is_no_surface}
 use Rattle.wl_plain.proofs.OrderlyAllowedHeard.{IsHeard, fresh-bound, fresh-first}

@@ -2,13 +2,13 @@
 use Rattle.std.proofs.Common.{◌≡◌, ℕ, Bool, true, false, List, Option, Some, None, cond, refl, ap, sym, subst, ◌∙◌, map}
 use Rattle.std.specs.Prelude.{◌==◌, filter}
 use Rattle.std.specs.Option.{option_map_or}
-use Rattle.wl_proto.specs.declared.interface.Interface.{Interface}
-use Rattle.wl_proto.specs.declared.interface.Interface.TheVariants as of
-use Rattle.wl_client.specs.declared.actions.Action.{Action}
-use Rattle.wl_client.specs.declared.actions.Action.TheVariants.{Sync, GetRegistry, Bind, CreateRegion, AddToRegion, SubtractFromRegion, DestroyRegion, CreatePool, CreateBuffer, ResizePool, DestroyPool, DestroyBuffer}
-use Rattle.wl_client.specs.Objects.{Objects, is_of, with_id}
-use Rattle.wl_client.specs.Peer.{Peer, object_at_version, changed}
-use Rattle.wl_client.specs.Serving.{changed_with, has_used, keeps_store}
+use Rattle.wl_interface.specs.declared.interface.Interface.{Interface}
+use Rattle.wl_interface.specs.declared.interface.Interface.TheVariants as of
+use Rattle.wl_peer.specs.declared.actions.Action.{Action}
+use Rattle.wl_peer.specs.declared.actions.Action.TheVariants.{Sync, GetRegistry, Bind, CreateRegion, AddToRegion, SubtractFromRegion, DestroyRegion, CreatePool, CreateBuffer, ResizePool, DestroyPool, DestroyBuffer}
+use Rattle.wl_peer.specs.Objects.{Objects, is_of, with_id}
+use Rattle.wl_peer.specs.Peer.{Peer, object_at_version, changed}
+use Rattle.wl_peer.specs.Used.{changed_with, has_used, keeps_store}
 use Rattle.wl_surface.specs.Frames.{frames_asked}
 use Rattle.wl_surface.specs.Request.{Frame}
 use Rattle.wl_surface.specs.Surfaces.{Surfaces, asking, history_in, is_used, with_new, with_role}

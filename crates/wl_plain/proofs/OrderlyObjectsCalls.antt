@@ -3,10 +3,10 @@ use Rattle.std.proofs.Common.{◌≡◌, ℕ, Bool, true, false, List, [], ◌�
 use Rattle.std.specs.Prelude.{◌==◌, ◌&&◌, ◌||◌, not, filter, fold}
 use Rattle.std.specs.List.{list_any}
 use Rattle.std.proofs.lemmas.Bool.{eqb-true}
-use Rattle.wl_proto.specs.declared.interface.Interface.{Interface}
-use Rattle.wl_proto.specs.declared.interface.Interface.TheVariants.{WlCallback, WlSurface, WlSubsurface, XdgSurface, XdgToplevel, XdgPopup}
-use Rattle.wl_client.specs.Objects.{Objects, interface_number, is_of}
-use Rattle.wl_client.specs.Peer.{Peer, removed}
+use Rattle.wl_interface.specs.declared.interface.Interface.{Interface}
+use Rattle.wl_interface.specs.declared.interface.Interface.TheVariants.{WlCallback, WlSurface, WlSubsurface, XdgSurface, XdgToplevel, XdgPopup}
+use Rattle.wl_peer.specs.Objects.{Objects, interface_number, is_of}
+use Rattle.wl_peer.specs.Peer.{Peer, removed}
 use Rattle.wl_surface.specs.Surfaces.{Surfaces}
 use Rattle.wl_surface.specs.Waiting.{Callback}
 use Rattle.wl_shell.specs.Shell.{Shell}

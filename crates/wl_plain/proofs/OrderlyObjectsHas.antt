@@ -3,9 +3,9 @@ use Rattle.std.proofs.Common.{◌≡◌, ℕ, Bool, true, false, List, Some, Non
 use Rattle.std.specs.Prelude.{◌==◌, is_some}
 use Rattle.std.specs.List.{list_any}
 use Rattle.std.proofs.lemmas.Bool.{eqb-true}
-use Rattle.wl_proto.specs.declared.interface.Interface.{Interface}
-use Rattle.wl_proto.specs.declared.interface.Interface.TheVariants.{WlCallback, WlSurface, WlSubsurface, XdgSurface, XdgToplevel, XdgPopup}
-use Rattle.wl_client.specs.Objects.{Object, Objects, interface_number, is_of, with_id}
+use Rattle.wl_interface.specs.declared.interface.Interface.{Interface}
+use Rattle.wl_interface.specs.declared.interface.Interface.TheVariants.{WlCallback, WlSurface, WlSubsurface, XdgSurface, XdgToplevel, XdgPopup}
+use Rattle.wl_peer.specs.Objects.{Object, Objects, interface_number, is_of, with_id}
 use Rattle.wl_surface.specs.Surfaces.{Surfaces, surface_at}
 use Rattle.wl_surface.specs.Waiting.{Callback}
 use Rattle.wl_shell.specs.Shell.{Shell, XdgSurface as Xdg}

@@ -3,9 +3,9 @@ use Rattle.std.proofs.Common.{◌≡◌, ℕ, Bool, true, false, List, [], ◌�
 use Rattle.std.specs.Prelude.{◌==◌, ◌&&◌, ◌||◌, nat_le, not, is_some, find, filter}
 use Rattle.std.specs.List.{list_any}
 use Rattle.std.proofs.lemmas.Bool.{eqb-true}
-use Rattle.wl_proto.specs.declared.interface.Interface.{Interface}
-use Rattle.wl_client.specs.Judgement.{is_free}
-use Rattle.wl_client.specs.Objects.{Object, Objects, interface_number, is_of, with_id}
+use Rattle.wl_interface.specs.declared.interface.Interface.{Interface}
+use Rattle.wl_peer.specs.Judgement.{is_free}
+use Rattle.wl_peer.specs.Objects.{Object, Objects, interface_number, is_of, with_id}
 use Rattle.wl_plain.specs.Owning.{AreApartBy, AreObjects}
 use Rattle.wl_plain.proofs.OwningKeys.{apart-left, differ, found-any, found-none, found-passes, new-apart, none-first, none-later}
 use Rattle.wl_plain.proofs.Stacks.{and-right, equal-numbers}

@@ -2,8 +2,8 @@
 use Rattle.std.proofs.Common.{◌≡◌, ℕ, Bool, true, false, List, Option, Some, None, cond, refl, ap, sym, ◌∙◌, map}
 use Rattle.std.specs.Prelude.{◌==◌, ◌&&◌, not, find}
 use Rattle.std.specs.List.{list_any}
-use Rattle.wl_proto.specs.declared.interface.Interface.TheVariants.{XdgToplevel, XdgPopup}
-use Rattle.wl_client.specs.Objects.{Objects, is_of, with_id}
+use Rattle.wl_interface.specs.declared.interface.Interface.TheVariants.{XdgToplevel, XdgPopup}
+use Rattle.wl_peer.specs.Objects.{Objects, is_of, with_id}
 use Rattle.wl_surface.specs.Surfaces.{Surfaces}
 use Rattle.wl_surface.specs.Waiting.{Callback}
 use Rattle.wl_shell.specs.Popups.{is_toplevel_kind}

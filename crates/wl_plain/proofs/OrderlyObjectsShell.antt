@@ -2,10 +2,10 @@
 use Rattle.std.proofs.Common.{◌≡◌, ℕ, Bool, true, false, List, Option, Some, None, cond, refl, ap, sym, ◌∙◌, map}
 use Rattle.std.specs.Prelude.{◌==◌, ◌&&◌, not}
 use Rattle.std.specs.Option.{option_map}
-use Rattle.wl_client.specs.Objects.{Objects}
+use Rattle.wl_peer.specs.Objects.{Objects}
 use Rattle.wl_surface.specs.Surfaces.{Surfaces}
 use Rattle.wl_surface.specs.Waiting.{Callback}
-use Rattle.wl_proto.specs.declared.interface.Interface.TheVariants.{XdgSurface, XdgToplevel, XdgPopup}
+use Rattle.wl_interface.specs.declared.interface.Interface.TheVariants.{XdgSurface, XdgToplevel, XdgPopup}
 use Rattle.wl_shell.specs.Popups.{dismiss, dismissed_among, is_among, is_toplevel_kind, popup_changed, with_popup, with_popup_role}
 use Rattle.wl_shell.specs.declared.stage.Stage.{Stage}
 use Rattle.wl_shell.specs.Shell.{Kind, Toplevel, IsPopup, Popup, RoleObject, Shell, XdgSurface as Xdg, acknowledging, at_stage, configuring, in_stage, role_acknowledged, unmapping, without_role}

@@ -3,12 +3,12 @@ use Rattle.std.proofs.Common.{◌≡◌, ◌≢◌, ℕ, zero, suc, ◌+◌, Lis
 use Rattle.std.specs.Prelude.{◌==◌, ◌⊎◌, drop, if◌then◌else◌, nat_le, replicate}
 use Rattle.wl_store.specs.Stores.{write_refusal}
 use Rattle.wl_store.specs.declared.stores.StoreError.{StoreError}
-use Rattle.wl_proto.specs.declared.interface.Interface.TheVariants.{WlDisplay, WlSurface}
-use Rattle.wl_client.specs.declared.clients.Cause.{Cause}
-use Rattle.wl_client.specs.declared.clients.Cause.TheVariants.{Gone}
-use Rattle.wl_client.specs.Objects.{is_of}
-use Rattle.wl_client.specs.Peer.{Peer, ended, newcomer, object_at_version, sent_by, stored_at, stored_by}
-use Rattle.wl_client.specs.Told.{Output}
+use Rattle.wl_interface.specs.declared.interface.Interface.TheVariants.{WlDisplay, WlSurface}
+use Rattle.wl_peer.specs.declared.cause.Cause.{Cause}
+use Rattle.wl_peer.specs.declared.cause.Cause.TheVariants.{Gone}
+use Rattle.wl_peer.specs.Objects.{is_of}
+use Rattle.wl_peer.specs.Peer.{Peer, ended, newcomer, object_at_version, sent_by, stored_at, stored_by}
+use Rattle.wl_peer.specs.Told.{Output}
 use Rattle.wl_scene.specs.Pointer.{is_down, is_press}
 use Rattle.wl_scene.specs.Stacking.{Standing}
 use Rattle.wl_plain.specs.declared.answers.Done.{Done}

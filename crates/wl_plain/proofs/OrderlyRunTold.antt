@@ -1,11 +1,11 @@
 -- What a client is told, and how it ends, leaves it orderly.
 use Rattle.std.proofs.Common.{◌≡◌, ℕ, ◌+◌, List, [], ◌∷◌, ◌++◌, Bool, true, false, Option, Some, None, refl, ap, sym, subst, ◌∙◌, inl, inr, arith}
 use Rattle.std.specs.Prelude.{filter}
-use Rattle.wl_proto.specs.declared.interface.Interface.TheVariants.{WlSurface}
-use Rattle.wl_client.specs.declared.clients.Cause.{Cause}
-use Rattle.wl_client.specs.Objects.{is_of}
-use Rattle.wl_client.specs.Peer.{Peer, ended}
-use Rattle.wl_client.specs.Told.{Said}
+use Rattle.wl_interface.specs.declared.interface.Interface.TheVariants.{WlSurface}
+use Rattle.wl_peer.specs.declared.cause.Cause.{Cause}
+use Rattle.wl_peer.specs.Objects.{is_of}
+use Rattle.wl_peer.specs.Peer.{Peer, ended}
+use Rattle.wl_peer.specs.Told.{Said}
 use Rattle.wl_surface.specs.Frames.{frames_counting}
 use Rattle.wl_surface.specs.Surfaces.{Link, no_surfaces}
 use Rattle.wl_surface.specs.Waiting.{Callback}

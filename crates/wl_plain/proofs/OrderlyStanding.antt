@@ -22,8 +22,8 @@ use Rattle.wl_plain.specs.Desktop.{Desktop, Resident}
 use Rattle.wl_plain.specs.WlSurface.{will_show}
 use Rattle.wl_plain.specs.Step.{asked_so_far, changed_by, toplevel_given}
 use Rattle.wl_shell.specs.Positioner.{Positioner}
-use Rattle.wl_client.specs.Objects.{Object, interface_number, is_of as is_object_of}
-use Rattle.wl_proto.specs.declared.interface.Interface.TheVariants.{XdgPopup, XdgToplevel}
+use Rattle.wl_peer.specs.Objects.{Object, interface_number, is_of as is_object_of}
+use Rattle.wl_interface.specs.declared.interface.Interface.TheVariants.{XdgPopup, XdgToplevel}
 use Rattle.wl_plain.specs.Ask.{Ask, Own, CreateSurface, AskSurface, DestroyBase, GetXdgSurface, DestroyXdgSurface, GetToplevel, Acknowledge, ConfigureAgain, Ignore}
 use Rattle.wl_plain.specs.Demand.{Demand, Asks, EndSurface, AskFrame, CommitTree, EndObject, GetSubsurface, EndSubsurface, SetMode, GetPointer, MakeCursor, CreatePositioner, EndPositioner, SetPositioner, GetPopup, Grab, EndPopup, EndToplevel, Move}
 

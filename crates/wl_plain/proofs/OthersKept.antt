@@ -4,10 +4,10 @@ use Rattle.std.specs.Prelude.{◌==◌, ◌⊎◌, fold, if◌then◌else◌, ma
 use Rattle.std.specs.List.{list_any}
 use Rattle.std.specs.Option.{option_map}
 use Rattle.std.proofs.lemmas.Bool.{eqb-true}
-use Rattle.wl_client.specs.declared.clients.Cause.{Cause}
-use Rattle.wl_client.specs.declared.clients.Cause.TheVariants.{Memory, Slow}
-use Rattle.wl_client.specs.Peer.{Peer, has_room, queued, removed}
-use Rattle.wl_client.specs.Told.{Said, said_bytes}
+use Rattle.wl_peer.specs.declared.cause.Cause.{Cause}
+use Rattle.wl_peer.specs.declared.cause.Cause.TheVariants.{Memory, Slow}
+use Rattle.wl_peer.specs.Peer.{Peer, has_room, queued, removed}
+use Rattle.wl_peer.specs.Told.{Said, said_bytes}
 use Rattle.wl_surface.specs.Frames.{frames_counting}
 use Rattle.wl_surface.specs.Waiting.{Callback}
 use Rattle.wl_shell.specs.Popups.{dismiss, dismissed_among, dismissed_with, is_among, popup_changed, with_popup, with_popup_role}

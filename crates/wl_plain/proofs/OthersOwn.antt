@@ -2,10 +2,10 @@
 use Rattle.std.proofs.Common.{◌≡◌, ◌≢◌, ℕ, zero, suc, ◌+◌, List, [], ◌∷◌, ◌++◌, Bool, true, false, cond, Option, Some, None, refl, ap, sym, ◌∙◌, inl, inr}
 use Rattle.std.specs.Prelude.{◌==◌, ◌&&◌, ◌||◌, ◌⊎◌, filter, flat_map, if◌then◌else◌}
 use Rattle.std.specs.List.{list_any}
-use Rattle.wl_client.specs.declared.clients.Cause.{Cause}
-use Rattle.wl_client.specs.declared.clients.Cause.TheVariants.{Memory, Slow}
-use Rattle.wl_client.specs.Peer.{ended, has_room}
-use Rattle.wl_client.specs.Told.{Said, said_bytes}
+use Rattle.wl_peer.specs.declared.cause.Cause.{Cause}
+use Rattle.wl_peer.specs.declared.cause.Cause.TheVariants.{Memory, Slow}
+use Rattle.wl_peer.specs.Peer.{ended, has_room}
+use Rattle.wl_peer.specs.Told.{Said, said_bytes}
 use Rattle.wl_scene.specs.Pointer.{Target, is_down, is_press}
 use Rattle.wl_scene.specs.Stacking.{Standing, is_of, moved_to, raised}
 use Rattle.wl_scene.specs.Windows.{Place, Window}

@@ -4,7 +4,7 @@ use Rattle.std.specs.Prelude.{◌==◌, find, is_some, not}
 use Rattle.std.specs.Option.{option_and_then, option_map}
 use Rattle.std.proofs.Math.Path.{fun_ext}
 use Rattle.std.proofs.lemmas.Bool.{eqb-true, eqb-false, ne_eqb}
-use Rattle.wl_client.specs.Objects.{ById, with_id}
+use Rattle.wl_peer.specs.Objects.{ById, with_id}
 use Rattle.wl_surface.specs.Kept.{Numbered, Slots, StandForAll, StandsAt, kept_at, one_if_kept, with_at}
 use Rattle.wl_surface.specs.Kept.{Kept as KeptSurface}
 use Rattle.wl_surface.specs.Kept.{count as count_kept}

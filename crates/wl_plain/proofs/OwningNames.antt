@@ -4,11 +4,11 @@ use Rattle.std.specs.Prelude.{◌==◌}
 use Rattle.std.specs.Option.{option_and_then}
 use Rattle.std.proofs.Math.Path.{fun_ext}
 use Rattle.std.proofs.lemmas.Bool.{eqb-false, eqb-true}
-use Rattle.wl_proto.specs.declared.interface.Interface.{Interface}
-use Rattle.wl_proto.specs.declared.interface.Interface.TheVariants.{WlSurface, XdgSurface, XdgToplevel}
+use Rattle.wl_interface.specs.declared.interface.Interface.{Interface}
+use Rattle.wl_interface.specs.declared.interface.Interface.TheVariants.{WlSurface, XdgSurface, XdgToplevel}
 use Rattle.wl_table.specs.Objects.{Held, HoldsAt, entry_of}
 use Rattle.wl_table.specs.declared.entry.Entry.{Entry}
-use Rattle.wl_client.specs.Objects.{ById, interface_number, with_id}
+use Rattle.wl_peer.specs.Objects.{ById, interface_number, with_id}
 use Rattle.wl_plain.specs.Owning.{Names, names_in, names_surface, target_as, targets_in, with_surface, with_toplevel, with_xdg}
 
 -- ---- what there is by ids

@@ -5,9 +5,9 @@ use Rattle.std.specs.List.{list_any}
 use Rattle.std.specs.Option.{option_and_then, option_map, option_map_or}
 use Rattle.std.proofs.Math.Path.{fun_ext}
 use Rattle.wl_geom.specs.declared.rect.Rect.{Rect}
-use Rattle.wl_client.specs.declared.refusals.ErrorCode.TheVariants as error
-use Rattle.wl_client.specs.declared.refusals.Refusal.{Refusal}
-use Rattle.wl_client.specs.Objects.{with_id}
+use Rattle.wl_peer.specs.declared.refusals.ErrorCode.TheVariants as error
+use Rattle.wl_peer.specs.declared.refusals.Refusal.{Refusal}
+use Rattle.wl_peer.specs.Objects.{with_id}
 use Rattle.wl_surface.specs.declared.content.Attached.{Attached}
 use Rattle.wl_surface.specs.declared.role.Role.{Role}
 use Rattle.wl_surface.specs.declared.role.Role.TheVariants.{Toplevel as AsToplevel, Popup as AsPopup, Subsurface as AsSubsurface, Cursor as AsCursor}

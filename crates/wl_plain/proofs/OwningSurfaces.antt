@@ -5,7 +5,7 @@ use Rattle.std.specs.List.{list_any}
 use Rattle.std.specs.Option.{option_map}
 use Rattle.std.proofs.lemmas.Bool.{eqb-true, eqb-false, false_from_ne_true, ne_eqb}
 use Rattle.wl_geom.specs.declared.rect.Rect.{Rect}
-use Rattle.wl_client.specs.Objects.{ById, with_id}
+use Rattle.wl_peer.specs.Objects.{ById, with_id}
 use Rattle.wl_surface.specs.Kept.{Kept, Numbered, Slots, StandForAll, StandsAt, Changes, IsAny, changed_at, has_at, kept_at, one_if_kept, shows_at, with_at}
 use Rattle.wl_surface.specs.Kept.{count as count_kept}
 use Rattle.wl_surface.specs.Request.{Request, SetWindowGeometry}

@@ -4,7 +4,7 @@ use Rattle.std.specs.Prelude.{◌==◌, find, is_some}
 use Rattle.std.specs.Option.{option_and_then, option_map}
 use Rattle.std.proofs.Math.Path.{fun_ext}
 use Rattle.std.proofs.lemmas.Bool.{eqb-true, eqb-false, ne_eqb}
-use Rattle.wl_client.specs.Objects.{ById}
+use Rattle.wl_peer.specs.Objects.{ById}
 use Rattle.wl_surface.specs.Kept.{Slots}
 use Rattle.wl_surface.specs.State.{History}
 use Rattle.wl_surface.specs.Surfaces.{Surface, Surfaces, history_in, new_surface, surface_at, with_change, with_new, without_surface}

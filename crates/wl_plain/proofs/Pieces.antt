@@ -1,8 +1,8 @@
 -- Two pieces of a client's stream lead where they lead as one, whatever is left out.
 use Rattle.std.proofs.Common.{◌≡◌, ℕ, zero, suc, List, ◌++◌, true, Option, Some, None, refl, ap, subst, sym, ◌∙◌, inl, inr, append_assoc}
-use Rattle.wl_client.specs.declared.clients.Cause.{Cause}
-use Rattle.wl_client.specs.declared.clients.Cause.TheVariants.{Memory}
-use Rattle.wl_client.specs.Peer.{IsIdle, ended}
+use Rattle.wl_peer.specs.declared.cause.Cause.{Cause}
+use Rattle.wl_peer.specs.declared.cause.Cause.TheVariants.{Memory}
+use Rattle.wl_peer.specs.Peer.{IsIdle, ended}
 use Rattle.wl_scene.specs.Stacking.{without_client}
 use Rattle.wl_plain.specs.declared.answers.Done.{Done}
 use Rattle.wl_plain.specs.AnyPieces.{AnyPieces}

@@ -18,15 +18,15 @@ use Rattle.wl_proto.specs.declared.xdg_surface.XdgSurfaceRequest.TheVariants as 
 use Rattle.wl_proto.specs.declared.xdg_wm_base.XdgWmBaseRequest.{XdgWmBaseRequest}
 use Rattle.wl_proto.specs.declared.xdg_wm_base.XdgWmBaseRequest.TheVariants as base
 use Rattle.wl_proto.specs.Messages.{Message}
-use Rattle.wl_proto.specs.declared.interface.Interface.TheVariants.{WlPointer, XdgPopup}
+use Rattle.wl_interface.specs.declared.interface.Interface.TheVariants.{WlPointer, XdgPopup}
 use Rattle.wl_proto.specs.Objects.{objects_in as objects_named, new_id_in}
 use Rattle.wl_proto.specs.Spelling.{decoded}
-use Rattle.wl_client.specs.declared.refusals.ErrorCode.TheVariants.{InvalidMethod}
-use Rattle.wl_client.specs.declared.refusals.Refusal.{Refusal}
-use Rattle.wl_client.specs.Judgement.{after_new_id, judged, judged_at}
-use Rattle.wl_client.specs.Objects.{Object, Objects, fits}
-use Rattle.wl_client.specs.Peer.{Peer, removed, with_rest}
-use Rattle.wl_client.specs.Told.{Said, display_error}
+use Rattle.wl_peer.specs.declared.refusals.ErrorCode.TheVariants.{InvalidMethod}
+use Rattle.wl_peer.specs.declared.refusals.Refusal.{Refusal}
+use Rattle.wl_peer.specs.Judgement.{after_new_id, judged, judged_at}
+use Rattle.wl_peer.specs.Objects.{Object, Objects, fits}
+use Rattle.wl_peer.specs.Peer.{Peer, removed, with_rest}
+use Rattle.wl_peer.specs.Told.{Said, display_error}
 use Rattle.wl_surface.specs.Surfaces.{Link}
 use Rattle.wl_surface.specs.Trees.{destroyed_in}
 use Rattle.wl_surface.specs.Waiting.{Callback}
@@ -39,7 +39,7 @@ use Rattle.wl_plain.specs.Demand.{Demand, Asks, EndSurface, AskFrame, CommitTree
 use Rattle.wl_plain.specs.Demanding.{base_demand, demand_by, demand_of, effect_of_commit, judge_all, surface_demand, xdg_asked}
 use Rattle.wl_plain.specs.Desktop.{Desktop, Resident}
 use Rattle.wl_plain.specs.LeftOut.{LeftOut}
-use Rattle.wl_client.specs.Requests.{Request, ToCompositor, ToSurface, ToSubcompositor, ToSubsurface, ToSeat, ToPointer, ToBase, ToPositioner, ToXdgSurface, ToToplevel, ToPopup, request_of}
+use Rattle.wl_peer.specs.Requests.{Request, ToCompositor, ToSurface, ToSubcompositor, ToSubsurface, ToSeat, ToPointer, ToBase, ToPositioner, ToXdgSurface, ToToplevel, ToPopup, request_of}
 use Rattle.wl_plain.specs.Replies.{commit_told, configure_told, new_pointer_told, own_answers, popups_done, releases_unless, replies, role_told}
 use Rattle.wl_plain.specs.Stacked.{all_windows}
 use Rattle.wl_plain.specs.Step.{making, removing, with_peer, with_surfaces, xdg_configured}

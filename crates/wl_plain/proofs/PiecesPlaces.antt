@@ -2,8 +2,8 @@
 use Rattle.std.proofs.Common.{◌≡◌, ◌≢◌, ℕ, zero, suc, List, [], ◌∷◌, ◌++◌, Bool, true, false, Option, Some, None, refl, ap, subst, sym, ◌∙◌, map}
 use Rattle.std.specs.Prelude.{◌==◌, flat_map, if◌then◌else◌}
 use Rattle.std.proofs.lemmas.Bool.{eqb-false, eqb-true}
-use Rattle.wl_client.specs.declared.clients.Cause.{Cause}
-use Rattle.wl_client.specs.Peer.{Peer, with_rest}
+use Rattle.wl_peer.specs.declared.cause.Cause.{Cause}
+use Rattle.wl_peer.specs.Peer.{Peer, with_rest}
 use Rattle.wl_scene.specs.Stacking.{Owned, Standing, geometry_in, root_of}
 use Rattle.wl_scene.specs.Windows.{Root, Window, owner_of, roots_of, tree, windows}
 use Rattle.wl_plain.specs.Changing.{grab_holder, holder_from, holds_grab}

@@ -1,9 +1,9 @@
 -- More bytes of a client's stream behind the others change nothing of what clients are told, of their ends, and of the settling of the focus.
 use Rattle.std.proofs.Common.{◌≡◌, ℕ, zero, suc, List, [], ◌∷◌, Bool, true, false, Option, Some, None, refl, ap, subst, sym, ◌∙◌, inl, inr}
 use Rattle.std.specs.Prelude.{◌==◌, ◌&&◌, ◌||◌, is_some}
-use Rattle.wl_client.specs.declared.clients.Cause.{Cause}
-use Rattle.wl_client.specs.Peer.{Peer, ended, has_room, queued, with_rest}
-use Rattle.wl_client.specs.Told.{Said}
+use Rattle.wl_peer.specs.declared.cause.Cause.{Cause}
+use Rattle.wl_peer.specs.Peer.{Peer, ended, has_room, queued, with_rest}
+use Rattle.wl_peer.specs.Told.{Said}
 use Rattle.wl_surface.specs.Surfaces.{history_in}
 use Rattle.wl_scene.specs.Pointer.{Target, settled}
 use Rattle.wl_scene.specs.Stacking.{without_client}

@@ -1,7 +1,7 @@
 -- The stores of three buffers go one after another, each once.
 use Rattle.std.proofs.Common.{◌≡◌, ℕ, zero, suc, slice_index_or, map, List, [], ◌∷◌, ◌++◌, Bool, true, false, Option, Some, None, cond, refl, ap, ◌∙◌}
 use Rattle.std.specs.Prelude.{◌==◌, ◌||◌, not, filter, fold}
-use Rattle.wl_client.specs.Peer.{released}
+use Rattle.wl_peer.specs.Peer.{released}
 use Rattle.wl_store.specs.Stores.{Stock}
 use Rattle.wl_surface.specs.Request.{Buffer}
 use Rattle.std.specs.Option.{option_map}

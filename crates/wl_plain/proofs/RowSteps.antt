@@ -3,8 +3,8 @@ use Rattle.std.proofs.Common.{ℕ, List, [], ◌∷◌, ◌++◌, Option, Some, 
 use Rattle.std.specs.Prelude.{ℤ, pos, codes, ◌*◌, true, false}
 use Rattle.std.specs.Option.{option_map_or}
 use Rattle.wl_wire.specs.Wire.{Field, Word, Number, Text, message_bytes}
-use Rattle.wl_client.specs.declared.clients.Cause.{Cause}
-use Rattle.wl_client.specs.Told.{Output}
+use Rattle.wl_peer.specs.declared.cause.Cause.{Cause}
+use Rattle.wl_peer.specs.Told.{Output}
 use Rattle.wl_blend.specs.declared.color.Rgb.{Rgb}
 use Rattle.wl_scene.specs.Windows.{Place, Window}
 use Rattle.wl_plain.specs.Ample.{fed, happened}

@@ -4,15 +4,15 @@ use Rattle.std.specs.Prelude.{Ok, Err}
 use Rattle.wl_wire.specs.Wire.{split_of}
 use Rattle.wl_wire.specs.declared.header.Split.{Split}
 use Rattle.wl_wire.specs.declared.header.Split.TheVariants.{Message as Whole, More, Bad}
-use Rattle.wl_client.specs.declared.actions.Action.{Action}
-use Rattle.wl_client.specs.declared.actions.Action.TheVariants.{Sync, GetRegistry, Bind, CreateRegion, AddToRegion, SubtractFromRegion, DestroyRegion, CreatePool, CreateBuffer, ResizePool, DestroyPool, DestroyBuffer}
-use Rattle.wl_client.specs.declared.clients.Cause.{Cause}
-use Rattle.wl_client.specs.declared.clients.Cause.TheVariants.{Memory}
-use Rattle.wl_client.specs.declared.refusals.Refusal.{Refusal}
-use Rattle.wl_client.specs.Buffers.{Buffer as Made}
-use Rattle.wl_client.specs.Judgement.{judge as judge_alone}
-use Rattle.wl_client.specs.Peer.{Errs, LacksMemory, Peer, Queues, changed, counted, ended, known_of, with_rest}
-use Rattle.wl_client.specs.Peer.{Answers as AnswersAlone, FeedsAt as FeedsAloneAt, Reaches as ReachesAlone, Serves as ServesAlone, Stops as StopsAlone, Takes as TakesAlone, WantsOr as WantsOrAlone, answers_to as own_answers, takes_memory as own_takes_memory}
+use Rattle.wl_peer.specs.declared.actions.Action.{Action}
+use Rattle.wl_peer.specs.declared.actions.Action.TheVariants.{Sync, GetRegistry, Bind, CreateRegion, AddToRegion, SubtractFromRegion, DestroyRegion, CreatePool, CreateBuffer, ResizePool, DestroyPool, DestroyBuffer}
+use Rattle.wl_peer.specs.declared.cause.Cause.{Cause}
+use Rattle.wl_peer.specs.declared.cause.Cause.TheVariants.{Memory}
+use Rattle.wl_peer.specs.declared.refusals.Refusal.{Refusal}
+use Rattle.wl_peer.specs.Buffers.{Buffer as Made}
+use Rattle.wl_peer.specs.Judgement.{judge as judge_alone}
+use Rattle.wl_peer.specs.Peer.{Errs, LacksMemory, Peer, Queues, changed, counted, ended, known_of, with_rest}
+use Rattle.wl_peer.specs.Peer.{Answers as AnswersAlone, FeedsAt as FeedsAloneAt, Reaches as ReachesAlone, Serves as ServesAlone, Stops as StopsAlone, Takes as TakesAlone, WantsOr as WantsOrAlone, answers_to as own_answers, takes_memory as own_takes_memory}
 use Rattle.wl_surface.specs.Surfaces.{no_surfaces}
 use Rattle.wl_scene.specs.Pointer.{first_pointer}
 use Rattle.wl_scene.specs.Stacking.{Standing, without_client}
@@ -29,7 +29,7 @@ use Rattle.wl_plain.specs.Stacked.{all_windows}
 use Rattle.wl_plain.specs.Happens.{FeedsAt, Reaches, Serves, StopsAt}
 use Rattle.wl_plain.proofs.Forms.{Does, ServesAt, Answers as StepAnswers, Becomes as StepBecomes, Takes as StepTakes, WantsOr as StepWantsOr}
 use Rattle.wl_plain.specs.Step.{own_changed, with_peer}
-use Rattle.wl_client.specs.Serving.{has_used, keeps_store}
+use Rattle.wl_peer.specs.Used.{has_used, keeps_store}
 use Rattle.wl_surface.specs.Surfaces.{is_used}
 use Rattle.wl_plain.proofs.Alone.{as_own, judge-owns}
 use Rattle.wl_plain.proofs.Simply.{Asking}

@@ -1,8 +1,8 @@
 -- What comes of a message to a client that has no more than toplevels, and what becomes of the desktop where nobody points.
 use Rattle.std.specs.Prelude.{ℕ, ℤ, ◌+◌, ◌≡◌, ◌==◌, ◌&&◌, Bool, true, false, Option, Some, None, Result, Ok, Err, List, [], ◌∷◌, ◌++◌, map, ◌⊎◌}
-use Rattle.wl_client.specs.declared.refusals.Refusal.{Refusal}
-use Rattle.wl_client.specs.Peer.{Errs, LacksMemory, Peer, Queues, counted}
-use Rattle.wl_client.specs.Told.{Said, id_deleted}
+use Rattle.wl_peer.specs.declared.refusals.Refusal.{Refusal}
+use Rattle.wl_peer.specs.Peer.{Errs, LacksMemory, Peer, Queues, counted}
+use Rattle.wl_peer.specs.Told.{Said, id_deleted}
 use Rattle.wl_surface.specs.Request.{Commit}
 use Rattle.wl_surface.specs.Surfaces.{applying, asking, with_change, without_surface}
 use Rattle.wl_shell.specs.Shell.{Effect, Stays, Unconfigured, Configures, Maps, Unmaps, Waiting, Mapped, XdgSurface as Xdg, in_stage, on_commit, stage_of, unmapping, without_role, xdg_of}

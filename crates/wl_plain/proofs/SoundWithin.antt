@@ -1,8 +1,8 @@
 -- Each desktop that a happening leads through from an orderly one is orderly.
 use Rattle.std.proofs.Common.{◌≡◌, ◌≢◌, ℕ, zero, suc, List, [], ◌∷◌, ◌++◌, Option, Some, None, refl, subst, sym, inl, inr}
 use Rattle.std.specs.Prelude.{◌⊎◌}
-use Rattle.wl_client.specs.declared.clients.Cause.TheVariants.{Memory}
-use Rattle.wl_client.specs.Peer.{ended, with_rest}
+use Rattle.wl_peer.specs.declared.cause.Cause.TheVariants.{Memory}
+use Rattle.wl_peer.specs.Peer.{ended, with_rest}
 use Rattle.wl_plain.specs.Desktop.{Desktop, Resident, client_at, with_client}
 use Rattle.wl_plain.specs.Happenings.{AreSound, Happening, Leads, Message, Receive, ReceivesAt, Single, Starve, StarvesAt}
 use Rattle.wl_plain.specs.LeftOut.{LeftOut}

@@ -18,13 +18,13 @@ use Rattle.wl_proto.specs.Objects.{objects_in as objects_named}
 use Rattle.wl_proto.specs.Spelling.{decoded}
 use Rattle.wl_proto.specs.declared.argument.NewId.{NewId}
 use Rattle.wl_proto.specs.declared.error.ProtoError.{ProtoError}
-use Rattle.wl_client.specs.declared.actions.Action.{Action}
-use Rattle.wl_client.specs.declared.refusals.ErrorCode.TheVariants.{Implementation, InvalidMethod, InvalidObject}
-use Rattle.wl_client.specs.declared.refusals.Refusal.{Refusal}
-use Rattle.wl_client.specs.Judgement.{action_of, after_new_id, is_free, judged, judged_at}
-use Rattle.wl_client.specs.Objects.{Object, Objects, fits}
-use Rattle.wl_client.specs.Peer.{Peer, known_of}
-use Rattle.wl_client.specs.Told.{display_error}
+use Rattle.wl_peer.specs.declared.actions.Action.{Action}
+use Rattle.wl_peer.specs.declared.refusals.ErrorCode.TheVariants.{Implementation, InvalidMethod, InvalidObject}
+use Rattle.wl_peer.specs.declared.refusals.Refusal.{Refusal}
+use Rattle.wl_peer.specs.Judgement.{action_of, after_new_id, is_free, judged, judged_at}
+use Rattle.wl_peer.specs.Objects.{Object, Objects, fits}
+use Rattle.wl_peer.specs.Peer.{Peer, known_of}
+use Rattle.wl_peer.specs.Told.{display_error}
 use Rattle.wl_shell.specs.Agreement.{AreApart}
 use Rattle.wl_shell.specs.Shell.{Effect, Stays, Unconfigured, Configures, Maps, Unmaps, RoleObject, answers_states, is_full, is_waiting, stage_of, xdg_at, xdg_of, xdg_with}
 use Rattle.wl_shell.specs.Shell.{XdgSurface as Xdg}
@@ -32,9 +32,9 @@ use Rattle.wl_plain.specs.Ask.{Ask, Own, CreateSurface, AskSurface, DestroyBase,
 use Rattle.wl_plain.specs.Demand.{Demand, Asks, EndSurface, CommitTree, EndToplevel, Move, AskFrame}
 use Rattle.wl_plain.specs.Demanding.{base_demand, committed_by, demand_by, demand_of, demands, effect_of_commit, judge_all, moved_by_pointer, own_demand, surface_demand, surface_destroyed, toplevel_asked, toplevel_demand, toplevel_destroyed, xdg_asked, xdg_demand}
 use Rattle.wl_plain.specs.LeftOut.{served_now}
-use Rattle.wl_client.specs.Requests.{Request, ToCompositor, ToSurface, ToSubcompositor, ToSubsurface, ToSeat, ToPointer, ToBase, ToPositioner, ToXdgSurface, ToToplevel, ToPopup, request_of}
-use Rattle.wl_client.specs.ToplevelRequest.{ToplevelRequest}
-use Rattle.wl_client.specs.ToplevelRequest as toplevel
+use Rattle.wl_peer.specs.Requests.{Request, ToCompositor, ToSurface, ToSubcompositor, ToSubsurface, ToSeat, ToPointer, ToBase, ToPositioner, ToXdgSurface, ToToplevel, ToPopup, request_of}
+use Rattle.wl_peer.specs.ToplevelRequest.{ToplevelRequest}
+use Rattle.wl_peer.specs.ToplevelRequest as toplevel
 use Rattle.wl_plain.specs.Served.{unserved_now}
 use Rattle.wl_plain.specs.Desktop.{Resident}
 use Rattle.wl_plain.specs.Step.{with_peer}
@@ -42,8 +42,8 @@ use Rattle.wl_plain.proofs.Simply.{Simple, Asking, DestroySurface, CommitSurface
 use Rattle.wl_plain.specs.NoMore.{AreToplevels}
 use Rattle.wl_plain.specs.Standing.{turns_well}
 use Rattle.wl_plain.specs.WlSurface.{refuse, refuse_limit, transform_set, will_show}
-use Rattle.wl_client.specs.Requests.{rect}
-use Rattle.wl_client.specs.declared.refusals.ErrorCode.TheVariants as error
+use Rattle.wl_peer.specs.Requests.{rect}
+use Rattle.wl_peer.specs.declared.refusals.ErrorCode.TheVariants as error
 use Rattle.wl_surface.specs.Request.{SetBufferTransform, SetWindowGeometry}
 use Rattle.wl_plain.specs.XdgShell.{configured_again, has_any, is_foreign, is_no_toplevel, role_of, state_asked, xdg_surface_made}
 use Rattle.wl_plain.proofs.BridgeJudged.{effect-same}

@@ -3,7 +3,7 @@ use Rattle.std.proofs.Common.{◌≡◌, ℕ, Bool, false, true, List, [], Optio
 use Rattle.std.specs.Prelude.{ℤ, ◌⊎◌, filter}
 use Rattle.std.specs.List.{list_any}
 use Rattle.std.specs.Option.{option_map}
-use Rattle.wl_client.specs.Peer.{Peer}
+use Rattle.wl_peer.specs.Peer.{Peer}
 use Rattle.wl_geom.specs.declared.rect.Rect.{Rect}
 use Rattle.wl_surface.specs.Applied.{committed_now, newly_damaged}
 use Rattle.wl_surface.specs.State.{History}

@@ -3,9 +3,9 @@
 use Rattle.std.proofs.Common.{◌≡◌, ℕ, List, [], true, Option, Some, None, Result, Ok, refl, ap, sym, subst, ◌∙◌, inl, inr}
 use Rattle.std.specs.Prelude.{ℤ, ◌⊎◌, is_some}
 use Rattle.std.proofs.lemmas.Bool.{or_left}
-use Rattle.wl_client.specs.declared.clients.Cause.{Cause}
-use Rattle.wl_client.specs.declared.refusals.Refusal.{Refusal}
-use Rattle.wl_client.specs.Peer.{Peer}
+use Rattle.wl_peer.specs.declared.cause.Cause.{Cause}
+use Rattle.wl_peer.specs.declared.refusals.Refusal.{Refusal}
+use Rattle.wl_peer.specs.Peer.{Peer}
 use Rattle.wl_geom.specs.declared.rect.Rect.{Rect}
 use Rattle.wl_shell.specs.Kept.{Kept}
 use Rattle.wl_surface.specs.Kept.{Slots}

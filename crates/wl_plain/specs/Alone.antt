@@ -1,7 +1,7 @@
 -- A client that owns nothing is served as it is by itself.
 use Rattle.std.specs.Prelude.{ℕ, ◌≡◌, List, Option, Some, None}
-use Rattle.wl_client.specs.Peer.{Peer}
-use Rattle.wl_client.specs.Peer.{Feeds as FeedsAlone}
+use Rattle.wl_peer.specs.Peer.{Peer}
+use Rattle.wl_peer.specs.Peer.{Feeds as FeedsAlone}
 use Rattle.wl_scene.specs.Pointer.{first_pointer}
 use Rattle.wl_scene.specs.Stacking.{without_client}
 use Rattle.wl_plain.specs.Desktop.{Desktop, Resident, client_at, with_client}

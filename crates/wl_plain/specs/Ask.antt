@@ -1,7 +1,7 @@
 -- What an accepted message asks that touches no more than its own client.
 use Rattle.std.specs.Prelude.{ℕ, Result, Ok, Err}
-use Rattle.wl_client.specs.declared.actions.Action.{Action}
-use Rattle.wl_client.specs.declared.refusals.Refusal.{Refusal}
+use Rattle.wl_peer.specs.declared.actions.Action.{Action}
+use Rattle.wl_peer.specs.declared.refusals.Refusal.{Refusal}
 use Rattle.wl_surface.specs.Request.{Request}
 
 pub data Ask : Type 0 where

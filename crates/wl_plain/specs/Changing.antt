@@ -3,10 +3,10 @@ use Rattle.std.specs.Prelude.{ℕ, pos, suc, ◌+◌, ◌==◌, ◌&&◌, ◌||�
 use Rattle.std.specs.List.{list_any}
 use Rattle.std.specs.Option.{option_and_then, option_map, option_map_or}
 use Rattle.wl_geom.specs.declared.rect.Rect.{Rect}
-use Rattle.wl_proto.specs.declared.interface.Interface.TheVariants.{WlCallback, WlSubsurface, WlPointer, XdgPositioner, XdgPopup}
-use Rattle.wl_client.specs.Objects.{with_id}
-use Rattle.wl_client.specs.Peer.{removed}
-use Rattle.wl_client.specs.Told.{Output}
+use Rattle.wl_interface.specs.declared.interface.Interface.TheVariants.{WlCallback, WlSubsurface, WlPointer, XdgPositioner, XdgPopup}
+use Rattle.wl_peer.specs.Objects.{with_id}
+use Rattle.wl_peer.specs.Peer.{removed}
+use Rattle.wl_peer.specs.Told.{Output}
 use Rattle.wl_surface.specs.Frames.{frames_asked}
 use Rattle.wl_surface.specs.Request.{Frame}
 use Rattle.wl_surface.specs.Surfaces.{Surfaces, buffers_of, history_in, with_change as with_surface_change, with_role}

@@ -9,10 +9,10 @@ use Rattle.wl_proto.specs.declared.xdg_surface.XdgSurfaceRequest.TheVariants as 
 use Rattle.wl_proto.specs.declared.xdg_wm_base.XdgWmBaseRequest.{XdgWmBaseRequest}
 use Rattle.wl_proto.specs.declared.xdg_wm_base.XdgWmBaseRequest.TheVariants as base
 use Rattle.wl_proto.specs.Messages.{Message}
-use Rattle.wl_client.specs.declared.refusals.ErrorCode.TheVariants.{SurfaceHasRoleObject, UnconfiguredBuffer as unconfigured}
-use Rattle.wl_client.specs.declared.refusals.Refusal.{Refusal}
-use Rattle.wl_client.specs.Judgement.{action_of, judged_at}
-use Rattle.wl_client.specs.Peer.{known_of}
+use Rattle.wl_peer.specs.declared.refusals.ErrorCode.TheVariants.{SurfaceHasRoleObject, UnconfiguredBuffer as unconfigured}
+use Rattle.wl_peer.specs.declared.refusals.Refusal.{Refusal}
+use Rattle.wl_peer.specs.Judgement.{action_of, judged_at}
+use Rattle.wl_peer.specs.Peer.{known_of}
 use Rattle.wl_surface.specs.Request.{Attach, Damage, SetOpaqueRegion, SetInputRegion}
 use Rattle.wl_shell.specs.Popups.{Popped, popped_of}
 use Rattle.wl_shell.specs.Shell.{Effect, Stays, Unconfigured, Configures, XdgSurface as Xdg, is_full, on_commit, stage_of, xdg_at, xdg_of, xdg_with}
@@ -20,13 +20,13 @@ use Rattle.wl_plain.specs.Ask.{Ask, AskSurface, Ignore, owns}
 use Rattle.wl_plain.specs.Demand.{Demand, Asks, EndSurface, AskFrame, CommitTree, CreatePositioner, EndToplevel, Move}
 use Rattle.wl_plain.specs.Desktop.{Resident}
 use Rattle.wl_plain.specs.LeftOut.{LeftOut}
-use Rattle.wl_client.specs.Requests.{Request, ToCompositor, ToSurface, ToSubcompositor, ToSubsurface, ToSeat, ToPointer, ToBase, ToPositioner, ToXdgSurface, ToToplevel, ToPopup, request_of}
-use Rattle.wl_client.specs.ToplevelRequest.{ToplevelRequest}
-use Rattle.wl_client.specs.ToplevelRequest as toplevel
+use Rattle.wl_peer.specs.Requests.{Request, ToCompositor, ToSurface, ToSubcompositor, ToSubsurface, ToSeat, ToPointer, ToBase, ToPositioner, ToXdgSurface, ToToplevel, ToPopup, request_of}
+use Rattle.wl_peer.specs.ToplevelRequest.{ToplevelRequest}
+use Rattle.wl_peer.specs.ToplevelRequest as toplevel
 use Rattle.wl_plain.specs.WlPointer.{pointer_demand, seat_demand}
 use Rattle.wl_plain.specs.WlSubsurface.{past_limit, refuses, subcompositor_demand, subsurface_demand}
 use Rattle.wl_plain.specs.WlSurface.{buffer_named, region_named, surface_created, transform_set, will_show}
-use Rattle.wl_client.specs.Requests.{rect}
+use Rattle.wl_peer.specs.Requests.{rect}
 use Rattle.wl_plain.specs.XdgPopup.{popup_demand, popup_made, positioner_demand, positioner_of}
 use Rattle.wl_plain.specs.XdgShell.{acknowledged_by, base_destroyed, geometry_set, state_asked, toplevel_made, xdg_surface_destroyed, xdg_surface_made}
 

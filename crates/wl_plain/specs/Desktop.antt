@@ -1,9 +1,9 @@
 -- The plain desktop: what a compositor holds of its clients and of its screen, whatever a program keeps.
 use Rattle.std.specs.Prelude.{ℕ, suc, zero, List, [], ◌∷◌, Option, Some, None, replicate}
-use Rattle.wl_client.specs.Objects.{ById, nothing}
-use Rattle.wl_client.specs.Told.{Output}
-use Rattle.wl_client.specs.declared.clients.Cause.{Cause}
-use Rattle.wl_client.specs.Peer.{Peer, newcomer}
+use Rattle.wl_peer.specs.Objects.{ById, nothing}
+use Rattle.wl_peer.specs.Told.{Output}
+use Rattle.wl_peer.specs.declared.cause.Cause.{Cause}
+use Rattle.wl_peer.specs.Peer.{Peer, newcomer}
 use Rattle.wl_surface.specs.Waiting.{Callback}
 use Rattle.wl_shell.specs.Positioner.{Positioner}
 use Rattle.wl_scene.specs.Pointer.{Pointer, first_pointer}

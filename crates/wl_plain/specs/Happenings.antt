@@ -1,8 +1,8 @@
 -- What happens, one message at a time: each happening leads through the desktops of its own change, of each end and of each settling.
 use Rattle.std.specs.Prelude.{ℕ, ℤ, ◌≡◌, false, Option, Some, None, List, [], ◌∷◌, ◌++◌}
-use Rattle.wl_client.specs.declared.clients.Cause.TheVariants as cause
-use Rattle.wl_client.specs.Peer.{ended, with_rest}
-use Rattle.wl_client.specs.Told.{Output}
+use Rattle.wl_peer.specs.declared.cause.Cause.TheVariants as cause
+use Rattle.wl_peer.specs.Peer.{ended, with_rest}
+use Rattle.wl_peer.specs.Told.{Output}
 use Rattle.wl_plain.specs.declared.answers.Done.{Done}
 use Rattle.wl_plain.specs.Desktop.{Desktop, Resident, client_at, empty, with_client}
 use Rattle.wl_plain.specs.LeftOut.{LeftOut}

@@ -1,7 +1,7 @@
 -- Laws of the plain desktop.
 use Rattle.std.specs.Prelude.{ℕ, ◌≡◌, ◌==◌, ℤ, [], ◌∷◌, ◌-ℤ◌, slice_get, List, Option, Some, None, IsTrue, true, false, filter}
 use Rattle.std.specs.List.{list_any}
-use Rattle.wl_client.specs.declared.clients.Cause.{Cause}
+use Rattle.wl_peer.specs.declared.cause.Cause.{Cause}
 use Rattle.wl_scene.specs.Stacking.{Standing, is_of, windows_on}
 use Rattle.wl_scene.specs.Windows.{Window, contains}
 use Rattle.wl_blend.specs.declared.color.Rgb.{Rgb}

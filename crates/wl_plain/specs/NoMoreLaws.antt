@@ -1,5 +1,5 @@
 -- What isn't served leaves no trace.
-use Rattle.wl_client.specs.Told.{Output}
+use Rattle.wl_peer.specs.Told.{Output}
 use Rattle.wl_plain.specs.declared.answers.Done.{Done}
 use Rattle.wl_plain.specs.Desktop.{Desktop, empty}
 use Rattle.wl_plain.specs.LeftOut.{served_now}

@@ -3,14 +3,14 @@ use Rattle.std.specs.Prelude.{ℕ, ℤ, ◌≡◌, ◌≢◌, ◌-◌, true, if�
 use Rattle.wl_wire.specs.Wire.{Word, Number, split_of}
 use Rattle.wl_wire.specs.declared.header.Split.{Split}
 use Rattle.wl_wire.specs.declared.header.Split.TheVariants.{Message as Whole, More, Bad}
-use Rattle.wl_proto.specs.declared.interface.Interface.TheVariants.{WlPointer}
+use Rattle.wl_interface.specs.declared.interface.Interface.TheVariants.{WlPointer}
 use Rattle.wl_proto.specs.Messages.{says}
-use Rattle.wl_client.specs.declared.clients.Cause.{Cause}
-use Rattle.wl_client.specs.declared.clients.Cause.TheVariants.{Memory, Slow}
-use Rattle.wl_client.specs.declared.refusals.ErrorCode.TheVariants.{InvalidMethod}
-use Rattle.wl_client.specs.declared.refusals.Refusal.{Refusal}
-use Rattle.wl_client.specs.Peer.{Errs, Peer, ended, has_room}
-use Rattle.wl_client.specs.Told.{Said, display_error, said, said_bytes}
+use Rattle.wl_peer.specs.declared.cause.Cause.{Cause}
+use Rattle.wl_peer.specs.declared.cause.Cause.TheVariants.{Memory, Slow}
+use Rattle.wl_peer.specs.declared.refusals.ErrorCode.TheVariants.{InvalidMethod}
+use Rattle.wl_peer.specs.declared.refusals.Refusal.{Refusal}
+use Rattle.wl_peer.specs.Peer.{Errs, Peer, ended, has_room}
+use Rattle.wl_peer.specs.Told.{Said, display_error, said, said_bytes}
 use Rattle.wl_shell.specs.Popups.{is_among}
 use Rattle.wl_shell.specs.Shell.{next_serial}
 use Rattle.wl_scene.specs.Stacking.{Standing}

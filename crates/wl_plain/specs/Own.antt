@@ -1,9 +1,9 @@
 -- What all that happens leaves of a client, but for its own steps.
 use Rattle.std.specs.Prelude.{ℕ, ◌≡◌, ◌≢◌, ◌==◌, Bool, false, Option, Some, None, List, [], ◌∷◌, ◌++◌, ◌⊎◌}
 use Rattle.std.specs.List.{list_any}
-use Rattle.wl_client.specs.declared.clients.Cause.{Cause}
-use Rattle.wl_client.specs.declared.clients.Cause.TheVariants.{Memory, Slow}
-use Rattle.wl_client.specs.Peer.{Peer, ended}
+use Rattle.wl_peer.specs.declared.cause.Cause.{Cause}
+use Rattle.wl_peer.specs.declared.cause.Cause.TheVariants.{Memory, Slow}
+use Rattle.wl_peer.specs.Peer.{Peer, ended}
 use Rattle.wl_shell.specs.Popups.{dismiss, popup_changed}
 use Rattle.wl_shell.specs.Shell.{Shell, XdgSurface}
 use Rattle.wl_scene.specs.Stacking.{Standing}

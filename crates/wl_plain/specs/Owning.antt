@@ -2,14 +2,14 @@
 use Rattle.std.specs.Prelude.{ℕ, ◌≡◌, ◌==◌, Bool, true, false, if◌then◌else◌, is_some, Option, Some, None, Result, Ok, Err, List, [], ◌∷◌, find, length}
 use Rattle.std.specs.List.{list_any}
 use Rattle.std.specs.Option.{option_and_then, option_map_or}
-use Rattle.wl_proto.specs.declared.interface.Interface.{Interface}
-use Rattle.wl_proto.specs.declared.interface.Interface.TheVariants.{WlSurface, XdgSurface, XdgToplevel}
+use Rattle.wl_interface.specs.declared.interface.Interface.{Interface}
+use Rattle.wl_interface.specs.declared.interface.Interface.TheVariants.{WlSurface, XdgSurface, XdgToplevel}
 use Rattle.wl_table.specs.Objects.{Held, entry_of}
 use Rattle.wl_table.specs.declared.entry.Entry.{Entry}
-use Rattle.wl_client.specs.declared.refusals.ErrorCode.TheVariants as error
-use Rattle.wl_client.specs.declared.refusals.Refusal.{Refusal}
-use Rattle.wl_client.specs.Told.{display_error}
-use Rattle.wl_client.specs.Objects.{ById, Objects, interface_number, is_of, with_id}
+use Rattle.wl_peer.specs.declared.refusals.ErrorCode.TheVariants as error
+use Rattle.wl_peer.specs.declared.refusals.Refusal.{Refusal}
+use Rattle.wl_peer.specs.Told.{display_error}
+use Rattle.wl_peer.specs.Objects.{ById, Objects, interface_number, is_of, with_id}
 use Rattle.wl_surface.specs.Kept.{Numbered, Slots, StandForAll}
 use Rattle.wl_surface.specs.Kept.{count as count_kept}
 use Rattle.wl_surface.specs.State.{History, committed}

@@ -1,9 +1,9 @@
 -- What clients are told of the pointer (wayland.xml, wl_pointer).
 use Rattle.std.specs.Prelude.{ℕ, ℤ, ◌-ℤ◌, ◌==◌, ◌&&◌, Bool, true, false, if◌then◌else◌, Option, Some, None, List, [], ◌∷◌, flat_map, is_some}
 use Rattle.wl_wire.specs.Wire.{Word, Number}
-use Rattle.wl_proto.specs.declared.interface.Interface.TheVariants.{WlPointer}
+use Rattle.wl_interface.specs.declared.interface.Interface.TheVariants.{WlPointer}
 use Rattle.wl_proto.specs.Messages.{says}
-use Rattle.wl_client.specs.Told.{Said, said}
+use Rattle.wl_peer.specs.Told.{Said, said}
 use Rattle.wl_surface.specs.Surfaces.{history_in}
 use Rattle.wl_scene.specs.Pointer.{Target, fixed_from}
 use Rattle.wl_scene.specs.Stacking.{Standing, moved_to}

@@ -1,9 +1,9 @@
 -- Stores of buffers go one after another, and the buffer that one surface showed is released.
 use Rattle.std.specs.Prelude.{ℕ, ◌==◌, ◌&&◌, not, Bool, false, if◌then◌else◌, Option, Some, None, List, [], ◌∷◌}
-use Rattle.wl_proto.specs.declared.interface.Interface.TheVariants.{WlBuffer}
+use Rattle.wl_interface.specs.declared.interface.Interface.TheVariants.{WlBuffer}
 use Rattle.wl_proto.specs.Messages.{says}
-use Rattle.wl_client.specs.Peer.{released}
-use Rattle.wl_client.specs.Told.{Said, said}
+use Rattle.wl_peer.specs.Peer.{released}
+use Rattle.wl_peer.specs.Told.{Said, said}
 use Rattle.wl_store.specs.Stores.{Stock}
 use Rattle.wl_surface.specs.Request.{Buffer}
 use Rattle.wl_surface.specs.State.{applied}

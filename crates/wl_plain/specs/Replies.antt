@@ -2,9 +2,9 @@
 use Rattle.std.specs.Prelude.{ℕ, ◌==◌, ◌&&◌, nat_lt, not, Bool, true, false, if◌then◌else◌, Option, Some, None, List, [], ◌∷◌, ◌++◌, filter, find, flat_map, fold, map}
 use Rattle.std.specs.Option.{option_map}
 use Rattle.wl_wire.specs.Wire.{Word, Number}
-use Rattle.wl_proto.specs.declared.interface.Interface.TheVariants.{WlBuffer, WlPointer, XdgPopup}
+use Rattle.wl_interface.specs.declared.interface.Interface.TheVariants.{WlBuffer, WlPointer, XdgPopup}
 use Rattle.wl_proto.specs.Messages.{says}
-use Rattle.wl_client.specs.Told.{Said, id_deleted, said}
+use Rattle.wl_peer.specs.Told.{Said, id_deleted, said}
 use Rattle.wl_surface.specs.Request.{Buffer}
 use Rattle.wl_surface.specs.State.{History, applied, held}
 use Rattle.wl_surface.specs.Surfaces.{Surfaces, is_busy, listed}

@@ -1,10 +1,10 @@
 -- How events are queued, how clients end, and how the focus is settled, where every request is served.
 use Rattle.std.specs.Prelude.{ℕ, zero, suc, ◌≡◌, ◌==◌, ◌&&◌, ◌||◌, nat_lt, Bool, true, false, if◌then◌else◌, is_some, Option, Some, None, List, [], ◌∷◌, fold, ◌⊎◌}
 use Rattle.std.specs.List.{list_any}
-use Rattle.wl_client.specs.declared.clients.Cause.{Cause}
-use Rattle.wl_client.specs.declared.clients.Cause.TheVariants.{Memory, Slow}
-use Rattle.wl_client.specs.Peer.{Peer, ended, has_room, queued}
-use Rattle.wl_client.specs.Told.{Said}
+use Rattle.wl_peer.specs.declared.cause.Cause.{Cause}
+use Rattle.wl_peer.specs.declared.cause.Cause.TheVariants.{Memory, Slow}
+use Rattle.wl_peer.specs.Peer.{Peer, ended, has_room, queued}
+use Rattle.wl_peer.specs.Told.{Said}
 use Rattle.wl_surface.specs.Surfaces.{history_in}
 use Rattle.wl_scene.specs.Pointer.{Pointer, Target, settled}
 use Rattle.wl_scene.specs.Windows.{Window}

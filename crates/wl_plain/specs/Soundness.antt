@@ -1,7 +1,7 @@
 -- What of a desktop makes its windows distinct.
 use Rattle.std.specs.Prelude.{ℕ, suc, ◌≡◌, ◌≤◌, ◌==◌, Bool, true, false, Some, List, [], ◌∷◌, take}
 use Rattle.std.specs.List.{list_any}
-use Rattle.wl_client.specs.Told.{Output}
+use Rattle.wl_peer.specs.Told.{Output}
 use Rattle.wl_surface.specs.Request.{Child}
 use Rattle.wl_surface.specs.State.{History, is_member, order}
 use Rattle.wl_surface.specs.Surfaces.{Link, Surfaces, history_in, link_at}

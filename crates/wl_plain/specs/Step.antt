@@ -2,14 +2,14 @@
 use Rattle.std.specs.Prelude.{ℕ, ◌==◌, ◌&&◌, Bool, true, false, not, Option, Some, None, List, [], ◌∷◌, length, filter, fold, pos}
 use Rattle.std.specs.Option.{option_map, option_map_or}
 use Rattle.wl_wire.specs.Wire.{Word, Number, Block}
-use Rattle.wl_proto.specs.declared.interface.Interface.{Interface}
-use Rattle.wl_proto.specs.declared.interface.Interface.TheVariants.{WlSurface, XdgSurface, XdgToplevel}
+use Rattle.wl_interface.specs.declared.interface.Interface.{Interface}
+use Rattle.wl_interface.specs.declared.interface.Interface.TheVariants.{WlSurface, XdgSurface, XdgToplevel}
 use Rattle.wl_proto.specs.Messages.{says}
-use Rattle.wl_client.specs.declared.actions.Action.{Action}
-use Rattle.wl_client.specs.Peer.{Peer, made, object_at_version, released, removed}
-use Rattle.wl_client.specs.Peer.{answers_to as own_answers, takes_memory as own_takes_memory}
-use Rattle.wl_client.specs.Serving.{changed_with}
-use Rattle.wl_client.specs.Told.{Said, id_deleted, said}
+use Rattle.wl_peer.specs.declared.actions.Action.{Action}
+use Rattle.wl_peer.specs.Peer.{Peer, made, object_at_version, released, removed}
+use Rattle.wl_peer.specs.Peer.{answers_to as own_answers, takes_memory as own_takes_memory}
+use Rattle.wl_peer.specs.Used.{changed_with}
+use Rattle.wl_peer.specs.Told.{Said, id_deleted, said}
 use Rattle.wl_surface.specs.Request.{Buffer, Request}
 use Rattle.wl_surface.specs.State.{History}
 use Rattle.wl_surface.specs.Surfaces.{Surfaces, asking, buffers_of, history_in, is_used, with_change, with_new, with_role}

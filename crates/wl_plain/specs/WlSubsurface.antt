@@ -6,10 +6,10 @@ use Rattle.wl_proto.specs.declared.wl_subcompositor.WlSubcompositorRequest.{WlSu
 use Rattle.wl_proto.specs.declared.wl_subcompositor.WlSubcompositorRequest.TheVariants as subcompositor
 use Rattle.wl_proto.specs.declared.wl_subsurface.WlSubsurfaceRequest.{WlSubsurfaceRequest}
 use Rattle.wl_proto.specs.declared.wl_subsurface.WlSubsurfaceRequest.TheVariants as subsurface
-use Rattle.wl_client.specs.declared.refusals.ErrorCode.{ErrorCode}
-use Rattle.wl_client.specs.declared.refusals.ErrorCode.TheVariants.{BadSurface, BadParent, Implementation}
-use Rattle.wl_client.specs.declared.refusals.Refusal.{Refusal}
-use Rattle.wl_client.specs.Told.{display_error}
+use Rattle.wl_peer.specs.declared.refusals.ErrorCode.{ErrorCode}
+use Rattle.wl_peer.specs.declared.refusals.ErrorCode.TheVariants.{BadSurface, BadParent, Implementation}
+use Rattle.wl_peer.specs.declared.refusals.Refusal.{Refusal}
+use Rattle.wl_peer.specs.Told.{display_error}
 use Rattle.wl_surface.specs.Request.{Request, Member, Itself, Child, SetPosition, PlaceAbove, PlaceBelow}
 use Rattle.wl_surface.specs.Surfaces.{Link, Surfaces, link_at}
 use Rattle.wl_surface.specs.Trees.{is_bad_parent, is_too_deep, link_of}

@@ -2,11 +2,11 @@
 use Rattle.std.specs.Prelude.{ℕ, ℤ, pos, ◌&&◌, nat_le, int_le, unsigned_abs, Bool, if◌then◌else◌, Option, Result, Ok, Err, List, length}
 use Rattle.std.specs.Option.{option_and_then, option_map}
 use Rattle.wl_geom.specs.Region.{Change}
-use Rattle.wl_client.specs.declared.refusals.ErrorCode.{ErrorCode}
-use Rattle.wl_client.specs.declared.refusals.ErrorCode.TheVariants.{Implementation, InvalidTransform}
-use Rattle.wl_client.specs.declared.refusals.Refusal.{Refusal}
-use Rattle.wl_client.specs.Buffers.{Buffer as Made}
-use Rattle.wl_client.specs.Told.{display_error}
+use Rattle.wl_peer.specs.declared.refusals.ErrorCode.{ErrorCode}
+use Rattle.wl_peer.specs.declared.refusals.ErrorCode.TheVariants.{Implementation, InvalidTransform}
+use Rattle.wl_peer.specs.declared.refusals.Refusal.{Refusal}
+use Rattle.wl_peer.specs.Buffers.{Buffer as Made}
+use Rattle.wl_peer.specs.Told.{display_error}
 use Rattle.wl_surface.specs.Request.{Buffer, SetBufferTransform}
 use Rattle.wl_surface.specs.State.{pending}
 use Rattle.wl_surface.specs.Surfaces.{history_in, is_there}

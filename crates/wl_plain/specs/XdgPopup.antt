@@ -4,8 +4,8 @@ use Rattle.wl_proto.specs.declared.xdg_popup.XdgPopupRequest.{XdgPopupRequest}
 use Rattle.wl_proto.specs.declared.xdg_popup.XdgPopupRequest.TheVariants as popup
 use Rattle.wl_proto.specs.declared.xdg_positioner.XdgPositionerRequest.{XdgPositionerRequest}
 use Rattle.wl_proto.specs.declared.xdg_positioner.XdgPositionerRequest.TheVariants as positioner
-use Rattle.wl_client.specs.declared.refusals.ErrorCode.TheVariants as error
-use Rattle.wl_client.specs.declared.refusals.Refusal.{Refusal}
+use Rattle.wl_peer.specs.declared.refusals.ErrorCode.TheVariants as error
+use Rattle.wl_peer.specs.declared.refusals.Refusal.{Refusal}
 use Rattle.wl_surface.specs.declared.role.Role.{Role}
 use Rattle.wl_surface.specs.declared.role.Role.TheVariants.{Toplevel as AsToplevel, Popup as AsPopup, Subsurface as AsSubsurface, Cursor as AsCursor}
 use Rattle.wl_shell.specs.Popups.{Popped, is_parent, is_popup_mapped, popup_at}
@@ -15,7 +15,7 @@ use Rattle.wl_plain.specs.Ask.{Ignore}
 use Rattle.wl_plain.specs.Demand.{Demand, Asks, EndPositioner, SetPositioner, GetPopup, Grab, EndPopup}
 use Rattle.wl_plain.specs.Desktop.{Resident}
 use Rattle.wl_plain.specs.WlSubsurface.{past_limit, refuses}
-use Rattle.wl_client.specs.Requests.{rect}
+use Rattle.wl_peer.specs.Requests.{rect}
 use Rattle.wl_plain.specs.XdgShell.{role_of}
 
 -- ---- xdg_positioner

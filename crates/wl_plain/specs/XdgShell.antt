@@ -3,8 +3,8 @@ use Rattle.std.specs.Prelude.{ℕ, pos, ◌==◌, ◌&&◌, ◌||◌, int_lt, Bo
 use Rattle.std.specs.List.{list_any}
 use Rattle.std.specs.Option.{option_and_then, option_map_or}
 use Rattle.wl_geom.specs.declared.rect.Rect.{Rect}
-use Rattle.wl_client.specs.declared.refusals.ErrorCode.TheVariants as error
-use Rattle.wl_client.specs.declared.refusals.Refusal.{Refusal}
+use Rattle.wl_peer.specs.declared.refusals.ErrorCode.TheVariants as error
+use Rattle.wl_peer.specs.declared.refusals.Refusal.{Refusal}
 use Rattle.wl_surface.specs.Request.{SetWindowGeometry}
 use Rattle.wl_surface.specs.Surfaces.{has_content, history_in, surface_at}
 use Rattle.wl_surface.specs.declared.role.Role.{Role}

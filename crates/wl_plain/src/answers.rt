@@ -1,7 +1,8 @@
 //! What the calls of a desk answer.
 
 use thiserror::Error;
-use wl_client::{Cause, StoreError};
+use wl_peer::Cause;
+use wl_store::StoreError;
 
 /// A client's number: 1 to 32, the lowest free one first. Any other number is nobody's.
 pub type ClientNo = u32;
@@ -48,7 +49,7 @@ pub enum Stored {
 impl Stored {
     ghost use Rattle.std.specs.Prelude.{◌≡◌, ℕ, Option};
     ghost use Rattle.wl_store.specs.declared.stores.StoreError.{StoreError};
-    ghost use Rattle.wl_client.specs.View.{stored};
+    ghost use Rattle.wl_peer.specs.Stored.{stored};
     ghost use Rattle.wl_plain.specs.Acts.{answer_of};
 
     /// What a write of a store answered.

@@ -3,13 +3,13 @@ use Rattle.std.proofs.Common.{◌≡◌, ℕ, ◌+◌, List, ◌++◌, true, fal
 use Rattle.std.specs.Prelude.{◌==◌, ◌||◌, is_some, slice_index_or, count_by, filter}
 use Rattle.std.specs.List.{list_any}
 use Rattle.std.specs.Option.{option_map}
-use Rattle.wl_proto.specs.declared.interface.Interface.{Interface}
-use Rattle.wl_proto.specs.declared.interface.Interface.TheVariants.{WlCallback, WlSurface, XdgSurface, XdgToplevel}
+use Rattle.wl_interface.specs.declared.interface.Interface.{Interface}
+use Rattle.wl_interface.specs.declared.interface.Interface.TheVariants.{WlCallback, WlSurface, XdgSurface, XdgToplevel}
 use Rattle.wl_table.specs.Objects.{Held, HoldsAt, entry_of}
 use Rattle.wl_table.specs.declared.entry.Entry.{Entry}
 use Rattle.wl_client.specs.Agreement.{IsPeer}
-use Rattle.wl_client.specs.Objects.{ById, interface_number, is_of, object_of, objects_in}
-use Rattle.wl_client.specs.Peer.{Peer, Queues, removed}
+use Rattle.wl_peer.specs.Objects.{ById, interface_number, is_of, object_of, objects_in}
+use Rattle.wl_peer.specs.Peer.{Peer, Queues, removed}
 use Rattle.wl_surface.specs.Kept.{Kept as KeptSurface, Slots, StandsAt}
 use Rattle.wl_surface.specs.Surfaces.{Surfaces}
 use Rattle.wl_surface.specs.Waiting.{AreUndue, Callback, IsNextDue, is_in}

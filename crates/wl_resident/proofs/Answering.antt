@@ -4,11 +4,11 @@ use Rattle.std.specs.Prelude.{◌==◌, ◌||◌, filter, find, flat_map, fold, 
 use Rattle.std.specs.List.{list_any}
 use Rattle.std.proofs.lemmas.List.Elements.{filter-append}
 use Rattle.std.proofs.lemmas.List.Folds.{list_any-append}
-use Rattle.wl_client.specs.Objects.{ById, Objects, with_id}
-use Rattle.wl_client.specs.Peer.{Peer, Queues, all_removed, removed}
-use Rattle.wl_client.specs.Told.{Said}
+use Rattle.wl_peer.specs.Objects.{ById, Objects, with_id}
+use Rattle.wl_peer.specs.Peer.{Peer, Queues, all_removed, removed}
+use Rattle.wl_peer.specs.Told.{Said}
 use Rattle.wl_client.proofs.Queueing.{queues-then, removed-over, removed-past}
-use Rattle.wl_proto.specs.declared.interface.Interface.TheVariants.{WlCallback}
+use Rattle.wl_interface.specs.declared.interface.Interface.TheVariants.{WlCallback}
 use Rattle.wl_surface.specs.Frames.{frames_counting, frames_of}
 use Rattle.wl_surface.specs.Kept.{IsAny, Slots}
 use Rattle.wl_surface.specs.State.{counting}

@@ -10,23 +10,23 @@ use Rattle.wl_proto.specs.declared.wl_seat.WlSeatRequest.{WlSeatRequest}
 use Rattle.wl_proto.specs.declared.wl_seat.WlSeatRequest.TheVariants.{GetKeyboard, GetTouch}
 use Rattle.wl_client.specs.Agreement.{IsPeer}
 use Rattle.wl_client.specs.First.{IsRefused, Passes, passing, passing_in}
-use Rattle.wl_client.specs.Objects.{Object, Objects, fits, object_of, objects_in}
-use Rattle.wl_client.specs.Peer.{Errs, IsIdleAt, Peer, QueuesOr, counted, ended, has_room, queued, with_rest}
+use Rattle.wl_peer.specs.Objects.{Object, Objects, fits, object_of, objects_in}
+use Rattle.wl_peer.specs.Peer.{Errs, IsIdleAt, Peer, QueuesOr, counted, ended, has_room, queued, with_rest}
 use Rattle.std.specs.List.{list_all}
 use Rattle.wl_proto.specs.Objects.{new_id_in}
 use Rattle.wl_proto.specs.Objects.{objects_in as objects_named}
 use Rattle.wl_proto.specs.declared.argument.NewId.{NewId}
-use Rattle.wl_client.specs.Judgement.{is_free, judged_at}
-use Rattle.wl_client.specs.Told.{code_number, display_error, error_told}
-use Rattle.wl_client.specs.declared.clients.Cause.{Cause}
-use Rattle.wl_client.specs.declared.clients.Cause.TheVariants.{Protocol}
+use Rattle.wl_peer.specs.Judgement.{is_free, judged_at}
+use Rattle.wl_peer.specs.Told.{code_number, display_error, error_told}
+use Rattle.wl_peer.specs.declared.cause.Cause.{Cause}
+use Rattle.wl_peer.specs.declared.cause.Cause.TheVariants.{Protocol}
 use Rattle.wl_shell.specs.Shell.{Effect, Maps, Unmaps}
 use Rattle.wl_table.specs.Objects.{Held}
-use Rattle.wl_proto.specs.declared.interface.Interface.TheVariants.{WlSurface}
+use Rattle.wl_interface.specs.declared.interface.Interface.TheVariants.{WlSurface}
 use Rattle.wl_plain.specs.Owning.{targets_in}
 use Rattle.wl_client.specs.View.{ClientView}
-use Rattle.wl_client.specs.declared.refusals.ErrorCode.TheVariants.{InvalidMethod, MissingCapability}
-use Rattle.wl_client.specs.declared.refusals.Refusal.{Refusal}
+use Rattle.wl_peer.specs.declared.refusals.ErrorCode.TheVariants.{InvalidMethod, MissingCapability}
+use Rattle.wl_peer.specs.declared.refusals.Refusal.{Refusal}
 use Rattle.wl_client.proofs.Passing.{judged-passing, judged-refused}
 use Rattle.wl_client.proofs.Peers.{IsPeer-with_rest}
 use Rattle.wl_resident.specs.declared.residents.Resident.{Resident as Kept}

@@ -5,11 +5,11 @@ use Rattle.std.specs.Option.{option_map}
 use Rattle.wl_geom.specs.declared.rect.Rect.{Rect}
 use Rattle.wl_geom.specs.Region.{Area, Change}
 use Rattle.wl_client.specs.Agreement.{IsPeer, IsRegion}
-use Rattle.wl_client.specs.Objects.{ById, held_at}
+use Rattle.wl_peer.specs.Objects.{ById, held_at}
 use Rattle.wl_store.specs.Stores.{Stock}
 use Rattle.wl_client.proofs.Peers.{IsPeer-stores}
 use Rattle.wl_client.specs.View.{ClientView}
-use Rattle.wl_client.specs.Peer.{LacksMemory, Peer}
+use Rattle.wl_peer.specs.Peer.{LacksMemory, Peer}
 use Rattle.wl_surface.specs.declared.content.Attached.{Attached}
 use Rattle.wl_surface.specs.Kept.{Changes, IsCopied, Numbered, Slots, buffer_of, had_at, StandForAll, StandsAt, kept_at}
 use Rattle.wl_surface.specs.Kept.{Kept as KeptSurface}
@@ -23,7 +23,7 @@ use Rattle.wl_scene.specs.declared.owned.Owned.{Owned as Lent}
 use Rattle.wl_resident.specs.declared.residents.Resident.{Resident as Kept}
 use Rattle.wl_plain.specs.Ask.{AskSurface}
 use Rattle.wl_plain.specs.Desktop.{Resident}
-use Rattle.wl_proto.specs.declared.interface.Interface.TheVariants.{WlSurface}
+use Rattle.wl_interface.specs.declared.interface.Interface.TheVariants.{WlSurface}
 use Rattle.wl_table.specs.Objects.{Held, entry_of}
 use Rattle.wl_table.specs.declared.entry.Entry.{Entry}
 use Rattle.wl_plain.specs.Owning.{AreKept, by_number, names_in, targets_in}

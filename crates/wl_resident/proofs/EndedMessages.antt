@@ -5,8 +5,8 @@ use Rattle.std.specs.List.{list_any}
 use Rattle.std.specs.Option.{option_and_then, option_map}
 use Rattle.std.proofs.lemmas.Bool.{and_left, and_right, eqb-true, or_left, or_right}
 use Rattle.std.proofs.lemmas.Int.{ints}
-use Rattle.wl_proto.specs.declared.interface.Interface.TheVariants.{WlSurface}
-use Rattle.wl_client.specs.Objects.{ById}
+use Rattle.wl_interface.specs.declared.interface.Interface.TheVariants.{WlSurface}
+use Rattle.wl_peer.specs.Objects.{ById}
 use Rattle.wl_geom.specs.Rect.{in_span}
 use Rattle.wl_surface.specs.Kept.{Numbered, StandForAll, changed_at}
 use Rattle.wl_surface.specs.Request.{Buffer, Commit, Request}

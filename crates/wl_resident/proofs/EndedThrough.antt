@@ -5,12 +5,12 @@ use Rattle.std.specs.List.{list_any}
 use Rattle.std.proofs.lemmas.Bool.{or_left, or_right}
 use Rattle.wl_wire.specs.Wire.{split_of}
 use Rattle.wl_proto.specs.Messages.{Message, wl_surface_request}
-use Rattle.wl_proto.specs.declared.interface.Interface.TheVariants.{WlSurface}
+use Rattle.wl_interface.specs.declared.interface.Interface.TheVariants.{WlSurface}
 use Rattle.wl_proto.specs.declared.wl_surface.WlSurfaceRequest.TheVariants as surface
-use Rattle.wl_client.specs.Objects.{ById}
-use Rattle.wl_client.specs.Requests.{ToSurface, ToToplevel, request_of}
-use Rattle.wl_client.specs.ToplevelRequest as toplevel
-use Rattle.wl_client.proofs.Requests.{of-wl_surface}
+use Rattle.wl_peer.specs.Objects.{ById}
+use Rattle.wl_peer.specs.Requests.{ToSurface, ToToplevel, request_of}
+use Rattle.wl_peer.specs.ToplevelRequest as toplevel
+use Rattle.wl_peer.proofs.Requests.{of-wl_surface}
 use Rattle.wl_geom.specs.declared.rect.Rect.{Rect}
 use Rattle.wl_paint.specs.Damage.{Damaged, has}
 use Rattle.wl_surface.specs.Applied.{newly_damaged}

@@ -2,19 +2,19 @@
 use Rattle.std.proofs.Common.{subst, ◌≡◌, ℕ, List, [], ◌∷◌, Bool, true, false, Option, Some, None, refl, ap, sym, ◌∙◌, inl, inr}
 use Rattle.std.specs.Prelude.{if◌then◌else◌, ◌==◌, is_some, ◌+◌}
 use Rattle.std.specs.Option.{option_and_then, option_map}
-use Rattle.wl_proto.specs.declared.interface.Interface.{Interface}
-use Rattle.wl_proto.specs.declared.interface.Interface.TheVariants.{WlDisplay, WlSurface, XdgSurface, XdgToplevel}
+use Rattle.wl_interface.specs.declared.interface.Interface.{Interface}
+use Rattle.wl_interface.specs.declared.interface.Interface.TheVariants.{WlDisplay, WlSurface, XdgSurface, XdgToplevel}
 use Rattle.wl_table.specs.Objects.{Held, entry_of}
 use Rattle.wl_table.specs.declared.entry.Entry.{Entry}
 use Rattle.wl_client.specs.Agreement.{IsPeer}
-use Rattle.wl_client.specs.Objects.{Object, Objects, interface_number, with_id, nothing, object_of, objects_in}
-use Rattle.wl_client.specs.Peer.{Errs, LacksMemory, Peer, Queues, QueuesOr, ended, newcomer, object_at_version, has_room, queued}
-use Rattle.wl_client.specs.Told.{Output, Said, code_number, display_error, error_told}
+use Rattle.wl_peer.specs.Objects.{Object, Objects, interface_number, with_id, nothing, object_of, objects_in}
+use Rattle.wl_peer.specs.Peer.{Errs, LacksMemory, Peer, Queues, QueuesOr, ended, newcomer, object_at_version, has_room, queued}
+use Rattle.wl_peer.specs.Told.{Output, Said, code_number, display_error, error_told}
 use Rattle.wl_client.specs.View.{ClientView}
-use Rattle.wl_client.specs.declared.clients.Cause.{Cause}
-use Rattle.wl_client.specs.declared.clients.Cause.TheVariants.{Memory, Protocol, Slow}
-use Rattle.wl_client.specs.declared.refusals.ErrorCode.TheVariants.{NoMemory}
-use Rattle.wl_client.specs.declared.refusals.Refusal.{Refusal}
+use Rattle.wl_peer.specs.declared.cause.Cause.{Cause}
+use Rattle.wl_peer.specs.declared.cause.Cause.TheVariants.{Memory, Protocol, Slow}
+use Rattle.wl_peer.specs.declared.refusals.ErrorCode.TheVariants.{NoMemory}
+use Rattle.wl_peer.specs.declared.refusals.Refusal.{Refusal}
 use Rattle.wl_shell.specs.Kept.{Book, kept_of}
 use Rattle.wl_scene.specs.Stacking.{nothing_owned}
 use Rattle.wl_scene.specs.declared.owned.Owned.{Owned}

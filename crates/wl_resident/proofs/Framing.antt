@@ -5,11 +5,11 @@ use Rattle.std.specs.List.{list_any}
 use Rattle.std.specs.Option.{option_map}
 use Rattle.std.proofs.Math.Path.{fun_ext}
 use Rattle.std.proofs.lemmas.Bool.{eqb-true}
-use Rattle.wl_proto.specs.declared.interface.Interface.TheVariants.{WlSurface}
-use Rattle.wl_client.specs.Objects.{with_id}
-use Rattle.wl_client.specs.Peer.{Peer, Queues, QueuesOr, ended, has_room, queued}
-use Rattle.wl_client.specs.Told.{Said}
-use Rattle.wl_client.specs.declared.clients.Cause.{Cause}
+use Rattle.wl_interface.specs.declared.interface.Interface.TheVariants.{WlSurface}
+use Rattle.wl_peer.specs.Objects.{with_id}
+use Rattle.wl_peer.specs.Peer.{Peer, Queues, QueuesOr, ended, has_room, queued}
+use Rattle.wl_peer.specs.Told.{Said}
+use Rattle.wl_peer.specs.declared.cause.Cause.{Cause}
 use Rattle.wl_surface.specs.declared.frames.Waiting.{Waiting}
 use Rattle.wl_surface.specs.Frames.{frames_of}
 use Rattle.wl_surface.specs.Kept.{Numbered, Slots, StandForAll, changed_at, kept_at, with_at}

@@ -4,7 +4,7 @@ use Rattle.std.proofs.lemmas.Bool.{or_left}
 use Rattle.std.proofs.lemmas.List.Sums.{length-filter}
 use Rattle.std.specs.Prelude.{◌==◌, ◌||◌, not, count_by, filter, length}
 use Rattle.std.specs.List.{list_any}
-use Rattle.wl_client.specs.Objects.{ById, with_id}
+use Rattle.wl_peer.specs.Objects.{ById, with_id}
 use Rattle.wl_surface.specs.Applied.{AreFreed}
 use Rattle.wl_surface.specs.Kept.{IsAny, Numbered, Slots, changed_at, shows_at, with_at}
 use Rattle.wl_surface.specs.Request.{Buffer}

@@ -5,14 +5,14 @@ use Rattle.std.specs.List.{list_any}
 use Rattle.std.specs.Option.{option_and_then, option_map}
 use Rattle.std.proofs.Math.Path.{fun_ext}
 use Rattle.std.proofs.lemmas.Bool.{eqb-true}
-use Rattle.wl_proto.specs.declared.interface.Interface.{Interface}
-use Rattle.wl_proto.specs.declared.interface.Interface.TheVariants.{WlCallback, WlSurface, XdgSurface, XdgToplevel}
+use Rattle.wl_interface.specs.declared.interface.Interface.{Interface}
+use Rattle.wl_interface.specs.declared.interface.Interface.TheVariants.{WlCallback, WlSurface, XdgSurface, XdgToplevel}
 use Rattle.wl_table.specs.Objects.{Held, entry_of}
 use Rattle.wl_table.specs.declared.entry.Entry.{Entry}
-use Rattle.wl_client.specs.Objects.{interface_number, is_of, object_of, objects_in}
-use Rattle.wl_client.specs.Peer.{Peer, all_removed, removed}
+use Rattle.wl_peer.specs.Objects.{interface_number, is_of, object_of, objects_in}
+use Rattle.wl_peer.specs.Peer.{Peer, all_removed, removed}
 use Rattle.wl_client.specs.Serving.{HoldsWithout}
-use Rattle.wl_client.specs.Told.{Said, id_deleted, released_told}
+use Rattle.wl_peer.specs.Told.{Said, id_deleted, released_told}
 use Rattle.wl_surface.specs.Frames.{frames_asked}
 use Rattle.wl_surface.specs.Kept.{Slots}
 use Rattle.wl_surface.specs.Surfaces.{Surface, history_in, surface_at}

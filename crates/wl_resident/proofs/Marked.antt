@@ -7,8 +7,8 @@ use Rattle.std.proofs.Math.Bool.{or-false}
 use Rattle.std.proofs.lemmas.Bool.{and_from, and_left, and_right, eqb-true}
 use Rattle.std.proofs.lemmas.List.{append-nil}
 use Rattle.std.proofs.lemmas.List.Folds.{list_any-append}
-use Rattle.wl_proto.specs.declared.interface.Interface.TheVariants.{WlSurface}
-use Rattle.wl_client.specs.Objects.{ById}
+use Rattle.wl_interface.specs.declared.interface.Interface.TheVariants.{WlSurface}
+use Rattle.wl_peer.specs.Objects.{ById}
 use Rattle.wl_surface.specs.Kept.{IsCurrent, IsCurrentAt, Numbered, StandForAll}
 use Rattle.wl_surface.specs.Request.{Buffer, Member, Itself, Child}
 use Rattle.wl_surface.specs.State.{History, Values, applied, counting, height_of, order, position, width_of, within_bounds}

@@ -7,8 +7,8 @@ use Rattle.wl_wire.specs.Wire.{Field, split_of}
 use Rattle.wl_wire.specs.declared.header.Split.{Split}
 use Rattle.wl_wire.specs.declared.header.Split.TheVariants.{Message as Whole, More, Bad}
 use Rattle.wl_proto.specs.Messages.{Message}
-use Rattle.wl_proto.specs.declared.interface.Interface.{Interface}
-use Rattle.wl_proto.specs.declared.interface.Interface.TheVariants.{WlSurface, XdgToplevel}
+use Rattle.wl_interface.specs.declared.interface.Interface.{Interface}
+use Rattle.wl_interface.specs.declared.interface.Interface.TheVariants.{WlSurface, XdgToplevel}
 use Rattle.wl_proto.specs.declared.wl_compositor.WlCompositorRequest.TheVariants as compositor
 use Rattle.wl_proto.specs.declared.wl_seat.WlSeatRequest.TheVariants as seat
 use Rattle.wl_proto.specs.declared.wl_surface.WlSurfaceRequest.{WlSurfaceRequest}
@@ -22,14 +22,14 @@ use Rattle.wl_store.specs.Transform.{transform_of}
 use Rattle.wl_store.specs.declared.transform.Transform.{Transform}
 use Rattle.wl_client.specs.Agreement.{IsPeer}
 use Rattle.wl_client.specs.First.{IsRefused, Passes}
-use Rattle.wl_client.specs.Judgement.{action_of}
-use Rattle.wl_client.specs.Objects.{ById}
-use Rattle.wl_client.specs.Peer.{Peer, counted, with_rest, known_of}
+use Rattle.wl_peer.specs.Judgement.{action_of}
+use Rattle.wl_peer.specs.Objects.{ById}
+use Rattle.wl_peer.specs.Peer.{Peer, counted, with_rest, known_of}
 use Rattle.wl_client.specs.Serving.{is_own}
-use Rattle.wl_client.specs.declared.clients.Cause.{Cause}
-use Rattle.wl_client.specs.Told.{display_error}
-use Rattle.wl_client.specs.declared.refusals.ErrorCode.TheVariants.{InvalidMethod}
-use Rattle.wl_client.specs.declared.refusals.Refusal.{Refusal}
+use Rattle.wl_peer.specs.declared.cause.Cause.{Cause}
+use Rattle.wl_peer.specs.Told.{display_error}
+use Rattle.wl_peer.specs.declared.refusals.ErrorCode.TheVariants.{InvalidMethod}
+use Rattle.wl_peer.specs.declared.refusals.Refusal.{Refusal}
 use Rattle.wl_client.proofs.Passing.{judged-refused}
 use Rattle.wl_paint.specs.Damage.{Damaged, has}
 use Rattle.wl_surface.specs.Applied.{AreChanges, newly_damaged}
@@ -64,14 +64,14 @@ use Rattle.wl_plain.specs.Happens.{Serves}
 use Rattle.wl_plain.specs.Step.{with_peer}
 use Rattle.wl_plain.proofs.Simply.{Simple, Asking, AskingFrame, CommitSurface, DestroySurface, DestroyToplevel, changed_simply, effect_of, judge, simple_of, simply, touched}
 use Rattle.wl_plain.specs.Touching.{changes_at, is_window_damaged, is_window_of, window_at}
-use Rattle.wl_client.specs.Requests.{Request as AnyRequest, ToCompositor, ToSurface, ToSubcompositor, ToSubsurface, ToSeat, ToPointer, ToBase, ToPositioner, ToXdgSurface, ToToplevel, ToPopup, request_in, request_of, toplevel_request}
+use Rattle.wl_peer.specs.Requests.{Request as AnyRequest, ToCompositor, ToSurface, ToSubcompositor, ToSubsurface, ToSeat, ToPointer, ToBase, ToPositioner, ToXdgSurface, ToToplevel, ToPopup, request_in, request_of, toplevel_request}
 use Rattle.wl_plain.specs.Served.{unserved_now}
-use Rattle.wl_client.specs.ToplevelRequest.{ToplevelRequest}
-use Rattle.wl_client.specs.ToplevelRequest as toplevel
+use Rattle.wl_peer.specs.ToplevelRequest.{ToplevelRequest}
+use Rattle.wl_peer.specs.ToplevelRequest as toplevel
 use Rattle.wl_plain.specs.WlSurface.{surface_created, transform_set}
-use Rattle.wl_client.specs.Requests.{rect}
+use Rattle.wl_peer.specs.Requests.{rect}
 use Rattle.wl_plain.specs.XdgShell.{acknowledged_by, base_destroyed, geometry_set, state_asked, toplevel_made, xdg_surface_destroyed, xdg_surface_made}
-use Rattle.wl_client.proofs.Requests.{of-wl_compositor, of-wl_seat, of-wl_surface, of-xdg_surface, of-xdg_wm_base}
+use Rattle.wl_peer.proofs.Requests.{of-wl_compositor, of-wl_seat, of-wl_surface, of-xdg_surface, of-xdg_wm_base}
 use Rattle.wl_resident.specs.declared.messages.Asked.{Asked}
 use Rattle.wl_resident.specs.declared.messages.Asked.TheVariants as asked
 use Rattle.wl_resident.specs.declared.messages.Kind.{Kind}

@@ -2,12 +2,12 @@
 use Rattle.std.proofs.Common.{◌≡◌, ℕ, Bool, true, false, Option, Some, None, cond, refl, ap, subst, sym, ◌∙◌}
 use Rattle.std.specs.Prelude.{◌==◌}
 use Rattle.std.proofs.lemmas.Bool.{eqb-true}
-use Rattle.wl_client.specs.Objects.{ById, with_id}
+use Rattle.wl_peer.specs.Objects.{ById, with_id}
 use Rattle.wl_table.specs.Objects.{Held}
-use Rattle.wl_proto.specs.declared.interface.Interface.TheVariants.{WlSurface}
+use Rattle.wl_interface.specs.declared.interface.Interface.TheVariants.{WlSurface}
 use Rattle.wl_resident.specs.declared.residents.Resident.{Resident as Kept}
 use Rattle.wl_plain.specs.Desktop.{Resident}
-use Rattle.wl_client.specs.Peer.{Peer}
+use Rattle.wl_peer.specs.Peer.{Peer}
 use Rattle.wl_plain.specs.Owning.{Names, names_in, targets_in, with_surface, with_toplevel, with_xdg}
 use Rattle.wl_resident.specs.Residents.{IsLeft, KeepsNumbers}
 

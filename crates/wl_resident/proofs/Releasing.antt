@@ -5,7 +5,7 @@ use Rattle.wl_surface.specs.declared.content.Attached.{Attached}
 use Rattle.wl_surface.specs.Kept.{buffer_of, had_at}
 use Rattle.wl_surface.specs.Request.{Buffer}
 use Rattle.wl_surface.specs.Surfaces.{Surface, is_there}
-use Rattle.wl_client.specs.Peer.{Peer}
+use Rattle.wl_peer.specs.Peer.{Peer}
 use Rattle.wl_surface.specs.Surfaces.{surface_at}
 use Rattle.wl_shell.specs.Shell.{Maps, XdgSurface, on_commit, xdg_of}
 use Rattle.wl_shell.specs.declared.stage.Stage.{Stage}
@@ -13,7 +13,7 @@ use Rattle.wl_shell.specs.declared.stage.Stage.TheVariants as stage
 use Rattle.wl_scene.specs.Lent.{shows_buffer}
 use Rattle.wl_plain.specs.Desktop.{Resident}
 use Rattle.wl_plain.specs.Owning.{AreKept}
-use Rattle.wl_client.specs.Objects.{ById}
+use Rattle.wl_peer.specs.Objects.{ById}
 use Rattle.wl_surface.specs.Kept.{Slots}
 use Rattle.wl_plain.specs.Releases.{release_of, release_told, shown_at}
 use Rattle.wl_plain.specs.Standing.{AreBare, waits, waits_at}

@@ -1,7 +1,7 @@
 -- What is told to a client, and what a message does to the toplevels, at the desk.
 use Rattle.std.proofs.Common.{◌≡◌, ℕ, true, false, Option, Some, None, ap, inl, inr, subst, sym, ◌∙◌}
 use Rattle.std.specs.Prelude.{is_some}
-use Rattle.wl_client.specs.declared.clients.Cause.{Cause}
+use Rattle.wl_peer.specs.declared.cause.Cause.{Cause}
 use Rattle.wl_scene.specs.Stacking.{Stack, without_client}
 use Rattle.wl_resident.specs.Seats.{IsBare, IsClearedBy, IsRestacked, IsRestackedBy}
 use Rattle.wl_resident.specs.declared.residents.Resident.{Resident as Kept}

@@ -4,20 +4,20 @@ use Rattle.std.specs.Prelude.{◌&&◌, not, nat_le, IfSome, ◌==◌, ◌≢◌
 use Rattle.std.specs.Option.{option_map, option_and_then}
 use Rattle.std.proofs.Math.Path.{fun_ext}
 use Rattle.std.proofs.lemmas.Bool.{eqb-true}
-use Rattle.wl_proto.specs.declared.interface.Interface.{Interface}
-use Rattle.wl_proto.specs.declared.interface.Interface.TheVariants.{WlSurface, XdgSurface, XdgToplevel, XdgWmBase}
+use Rattle.wl_interface.specs.declared.interface.Interface.{Interface}
+use Rattle.wl_interface.specs.declared.interface.Interface.TheVariants.{WlSurface, XdgSurface, XdgToplevel, XdgWmBase}
 use Rattle.wl_proto.specs.Messages.{Message}
 use Rattle.wl_proto.specs.Objects.{new_id_in}
 use Rattle.wl_proto.specs.declared.argument.NewId.{NewId}
-use Rattle.wl_client.specs.Judgement.{is_free}
+use Rattle.wl_peer.specs.Judgement.{is_free}
 use Rattle.wl_table.specs.Objects.{Held, HoldsAt, entry_of}
 use Rattle.wl_table.specs.declared.entry.Entry.{Entry}
 use Rattle.wl_client.specs.Agreement.{IsPeer}
-use Rattle.wl_client.specs.Objects.{ById, interface_number, is_of, object_of, objects_in}
-use Rattle.wl_client.specs.Peer.{Errs, Peer, Queues, WantsOr, counted, made, object_at_version}
-use Rattle.wl_client.specs.Told.{Said}
+use Rattle.wl_peer.specs.Objects.{ById, interface_number, is_of, object_of, objects_in}
+use Rattle.wl_peer.specs.Peer.{Errs, Peer, Queues, WantsOr, counted, made, object_at_version}
+use Rattle.wl_peer.specs.Told.{Said}
 use Rattle.wl_client.specs.View.{ClientView}
-use Rattle.wl_client.specs.declared.refusals.Refusal.{Refusal}
+use Rattle.wl_peer.specs.declared.refusals.Refusal.{Refusal}
 use Rattle.wl_geom.specs.declared.rect.Rect.{Rect}
 use Rattle.wl_surface.specs.Kept.{Changes, Numbered, Slots, StandForAll, StandsAt, kept_at, role_at}
 use Rattle.wl_surface.specs.Request.{Request, SetWindowGeometry}

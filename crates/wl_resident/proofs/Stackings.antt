@@ -6,8 +6,8 @@ use Rattle.wl_proto.specs.declared.xdg_wm_base.XdgWmBaseRequest.{XdgWmBaseReques
 use Rattle.wl_proto.specs.declared.xdg_wm_base.XdgWmBaseRequest.TheVariants as base
 use Rattle.wl_proto.specs.declared.xdg_surface.XdgSurfaceRequest.{XdgSurfaceRequest}
 use Rattle.wl_proto.specs.declared.xdg_surface.XdgSurfaceRequest.TheVariants as requests
-use Rattle.wl_proto.specs.declared.interface.Interface.TheVariants.{XdgToplevel}
-use Rattle.wl_client.specs.declared.refusals.Refusal.{Refusal}
+use Rattle.wl_interface.specs.declared.interface.Interface.TheVariants.{XdgToplevel}
+use Rattle.wl_peer.specs.declared.refusals.Refusal.{Refusal}
 use Rattle.wl_shell.specs.Kept.{kept_of}
 use Rattle.wl_shell.specs.Shell.{Effect, XdgSurface as Xdg, xdg_at, xdg_with}
 use Rattle.wl_shell.specs.declared.acts.ShellAct.{ShellAct}
@@ -18,11 +18,11 @@ use Rattle.wl_plain.specs.Demanding.{demand_of, demands, effect_of_commit, moved
 use Rattle.wl_plain.specs.Desktop.{Resident}
 use Rattle.wl_plain.specs.LeftOut.{served_now}
 use Rattle.wl_plain.specs.Owning.{effect_by, names_in}
-use Rattle.wl_client.specs.Requests.{ToXdgSurface, toplevel_request}
+use Rattle.wl_peer.specs.Requests.{ToXdgSurface, toplevel_request}
 use Rattle.wl_plain.specs.Served.{unserved_now}
-use Rattle.wl_client.specs.ToplevelRequest.{ToplevelRequest}
-use Rattle.wl_client.specs.ToplevelRequest as toplevel
-use Rattle.wl_client.specs.Requests.{rect}
+use Rattle.wl_peer.specs.ToplevelRequest.{ToplevelRequest}
+use Rattle.wl_peer.specs.ToplevelRequest as toplevel
+use Rattle.wl_peer.specs.Requests.{rect}
 use Rattle.wl_plain.specs.XdgShell.{acknowledged_by, geometry_set, state_asked, toplevel_made, xdg_surface_destroyed}
 use Rattle.wl_plain.proofs.OwningXdg.{toplevel-named}
 use Rattle.wl_plain.proofs.Simply.{Asking, simply}

@@ -13,7 +13,7 @@ use Rattle.wl_surface.specs.declared.role.Role.{Role}
 use Rattle.wl_surface.specs.declared.role.SurfaceError.{SurfaceError}
 use Rattle.wl_shell.specs.Kept.{Kept as KeptXdg}
 use Rattle.wl_client.specs.Agreement.{IsPeer}
-use Rattle.wl_client.specs.Peer.{Peer, with_rest}
+use Rattle.wl_peer.specs.Peer.{Peer, with_rest}
 use Rattle.wl_client.specs.View.{ClientView}
 use Rattle.wl_client.proofs.Peers.{IsPeer-with_rest}
 use Rattle.wl_resident.specs.Marking.{counted_at}

@@ -5,11 +5,11 @@ use Rattle.std.specs.Prelude.{is_some, nat_le, drop, if◌then◌else◌, ◌==�
 use Rattle.wl_store.specs.Stores.{write_refusal}
 use Rattle.wl_store.specs.declared.stores.StoreError.{StoreError}
 use Rattle.wl_client.specs.Agreement.{IsPeer}
-use Rattle.wl_client.specs.Objects.{ById}
-use Rattle.wl_client.specs.Peer.{Peer, ended, left_by as gone_by, sent_by, stored_at, stored_by, with_rest, Queues}
+use Rattle.wl_peer.specs.Objects.{ById}
+use Rattle.wl_peer.specs.Peer.{Peer, ended, left_by as gone_by, sent_by, stored_at, stored_by, with_rest, Queues}
 use Rattle.wl_client.specs.View.{ClientView}
-use Rattle.wl_client.specs.declared.clients.Cause.{Cause}
-use Rattle.wl_client.specs.declared.clients.Cause.TheVariants.{Gone}
+use Rattle.wl_peer.specs.declared.cause.Cause.{Cause}
+use Rattle.wl_peer.specs.declared.cause.Cause.TheVariants.{Gone}
 use Rattle.wl_table.specs.Objects.{Held}
 use Rattle.wl_shell.specs.Kept.{kept_of}
 use Rattle.wl_scene.specs.Stacking.{Owned as Owns, Stack, Standing, nothing_owned, without_client}
@@ -22,7 +22,7 @@ use Rattle.wl_plain.specs.Owning.{IsOwned, names_in, targets_in, Names}
 use Rattle.wl_plain.specs.Framing.{done_due, FramesToldAt, FramesToldBy}
 use Rattle.wl_plain.specs.Happens.{callbacks_due, frames_told}
 use Rattle.wl_resident.specs.Seats.{IsClearedBy, IsSeated, ended_by}
-use Rattle.wl_proto.specs.declared.interface.Interface.TheVariants.{WlSurface}
+use Rattle.wl_interface.specs.declared.interface.Interface.TheVariants.{WlSurface}
 use Rattle.wl_resident.specs.View.{owned_view}
 use Rattle.wl_resident.specs.declared.residents.Resident.{Resident as Kept}
 use Rattle.wl_resident.specs.Residents.{IsLeft}

@@ -7,18 +7,18 @@ use Rattle.wl_wire.specs.Wire.{split_of}
 use Rattle.wl_wire.specs.declared.header.Split.{Split}
 use Rattle.wl_wire.specs.declared.header.Split.TheVariants.{Message as Whole}
 use Rattle.wl_proto.specs.Messages.{Message}
-use Rattle.wl_proto.specs.declared.interface.Interface.{Interface}
-use Rattle.wl_proto.specs.declared.interface.Interface.TheVariants.{WlSurface}
+use Rattle.wl_interface.specs.declared.interface.Interface.{Interface}
+use Rattle.wl_interface.specs.declared.interface.Interface.TheVariants.{WlSurface}
 use Rattle.wl_proto.specs.declared.wl_surface.WlSurfaceRequest.TheVariants as surface
 use Rattle.wl_geom.specs.declared.rect.Rect.{Rect}
 use Rattle.wl_client.specs.First.{Passes}
-use Rattle.wl_client.specs.Objects.{ById}
-use Rattle.wl_client.specs.Peer.{with_rest}
-use Rattle.wl_client.specs.Requests.{Request as AnyRequest, ToSurface, ToToplevel, request_in, request_of, toplevel_request}
-use Rattle.wl_client.specs.ToplevelRequest.{ToplevelRequest}
-use Rattle.wl_client.specs.ToplevelRequest as toplevel
-use Rattle.wl_client.specs.declared.refusals.Refusal.{Refusal}
-use Rattle.wl_client.proofs.Requests.{of-wl_surface}
+use Rattle.wl_peer.specs.Objects.{ById}
+use Rattle.wl_peer.specs.Peer.{with_rest}
+use Rattle.wl_peer.specs.Requests.{Request as AnyRequest, ToSurface, ToToplevel, request_in, request_of, toplevel_request}
+use Rattle.wl_peer.specs.ToplevelRequest.{ToplevelRequest}
+use Rattle.wl_peer.specs.ToplevelRequest as toplevel
+use Rattle.wl_peer.specs.declared.refusals.Refusal.{Refusal}
+use Rattle.wl_peer.proofs.Requests.{of-wl_surface}
 use Rattle.wl_paint.specs.Damage.{Damaged, has}
 use Rattle.wl_shell.specs.Shell.{Effect, Stays, Unconfigured, Configures, Maps, Unmaps, is_full, xdg_of, xdg_with}
 use Rattle.wl_shell.specs.Shell.{XdgSurface as Xdg}

@@ -1,9 +1,9 @@
 -- What a desk keeps agrees with a desktop.
 use Rattle.std.specs.Prelude.{ℕ, zero, suc, ◌≡◌, ◌==◌, ◌+◌, ◌%◌, if◌then◌else◌, List, [], ◌∷◌, length, slice_index_or, Option, Some, None, is_some, true}
-use Rattle.wl_proto.specs.declared.interface.Interface.TheVariants.{WlSurface}
+use Rattle.wl_interface.specs.declared.interface.Interface.TheVariants.{WlSurface}
 use Rattle.wl_client.specs.Agreement.{IsPeer, output_of}
-use Rattle.wl_client.specs.Objects.{ById, nothing}
-use Rattle.wl_client.specs.Peer.{Peer}
+use Rattle.wl_peer.specs.Objects.{ById, nothing}
+use Rattle.wl_peer.specs.Peer.{Peer}
 use Rattle.wl_client.specs.View.{ClientView}
 use Rattle.wl_shell.specs.Kept.{kept_of}
 use Rattle.wl_scene.specs.Stacking.{Stack, Standing}

@@ -4,7 +4,7 @@ use Rattle.wl_proto.specs.declared.wl_surface.WlSurfaceRequest.TheVariants.{Comm
 use Rattle.wl_geom.specs.declared.rect.Rect.{Rect}
 use Rattle.wl_geom.specs.Rect.{in_span}
 use Rattle.wl_store.specs.Transform.{transform_of}
-use Rattle.wl_client.specs.declared.clients.Cause.{Cause}
+use Rattle.wl_peer.specs.declared.cause.Cause.{Cause}
 use Rattle.wl_surface.specs.Applied.{AreChanges}
 use Rattle.wl_surface.specs.Kept.{Changes, Numbered, Slots, StandForAll}
 use Rattle.wl_surface.specs.Request.{Commit as CommitAsked, Request}
@@ -21,7 +21,7 @@ use Rattle.wl_scene.specs.Windows.{Place, Window, corner_at}
 use Rattle.wl_plain.specs.Desktop.{Desktop, Resident, owned_in}
 use Rattle.wl_plain.specs.Touching.{has_window_at}
 use Rattle.wl_resident.specs.Seats.{IsSeated}
-use Rattle.wl_client.specs.Objects.{ById}
+use Rattle.wl_peer.specs.Objects.{ById}
 use Rattle.wl_plain.specs.Laws.{status_in}
 use Rattle.wl_plain.specs.Moments.{marks_at_least, marks_at_least_through, marks_at_most, marks_at_most_through}
 use Rattle.wl_plain.specs.Stacked.{all_windows}

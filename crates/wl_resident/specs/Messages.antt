@@ -2,7 +2,7 @@
 use Rattle.std.specs.Prelude.{◌≡◌, true}
 use Rattle.wl_wire.specs.Wire.{split_of}
 use Rattle.wl_wire.specs.declared.header.Split.TheVariants.{More}
-use Rattle.wl_proto.specs.declared.interface.Interface.TheVariants.{XdgToplevel}
+use Rattle.wl_interface.specs.declared.interface.Interface.TheVariants.{XdgToplevel}
 use Rattle.wl_proto.specs.Messages.{Message, wl_compositor_request, wl_seat_request, wl_surface_request, xdg_surface_request, xdg_wm_base_request}
 use Rattle.wl_client.specs.First.{IsRefused, Passes}
 use Rattle.wl_client.specs.Serving.{PassesTo}
@@ -13,7 +13,7 @@ use Rattle.wl_resident.specs.declared.messages.Kind.{Kind}
 use Rattle.wl_resident.specs.declared.messages.Kind.TheVariants as kind
 use Rattle.wl_resident.specs.Residents.{asked_by}
 use Rattle.wl_plain.specs.LeftOut.{served_now}
-use Rattle.wl_client.specs.Requests.{request_of, toplevel_request}
+use Rattle.wl_peer.specs.Requests.{request_of, toplevel_request}
 
 -- the message is this request
 abbrev pub IsKind : Kind → Message → Type 0

@@ -4,17 +4,17 @@ use Rattle.std.specs.Prelude.{ℕ, ◌≡◌, ◌+◌, ◌-◌, IfSome, None, So
 use Rattle.wl_wire.specs.Wire.{split_of}
 use Rattle.wl_wire.specs.declared.header.Split.{Split}
 use Rattle.wl_wire.specs.declared.header.Split.TheVariants.{Message as Whole, More, Bad}
-use Rattle.wl_proto.specs.declared.interface.Interface.TheVariants.{WlSurface, XdgSurface, XdgToplevel, XdgWmBase}
+use Rattle.wl_interface.specs.declared.interface.Interface.TheVariants.{WlSurface, XdgSurface, XdgToplevel, XdgWmBase}
 use Rattle.wl_proto.specs.Messages.{Message}
 use Rattle.wl_proto.specs.Objects.{new_id_in}
 use Rattle.wl_proto.specs.Objects.{objects_in as objects_named}
 use Rattle.wl_table.specs.Objects.{Held, entry_of}
 use Rattle.wl_client.specs.Agreement.{IsPeer}
-use Rattle.wl_client.specs.Objects.{fits, is_of, objects_in}
-use Rattle.wl_client.specs.Peer.{Errs, LacksMemory, Peer, Queues, WantsOr, counted, with_rest}
-use Rattle.wl_client.specs.declared.refusals.Refusal.{Refusal}
-use Rattle.wl_client.specs.declared.refusals.ErrorCode.TheVariants.{InvalidMethod}
-use Rattle.wl_client.specs.Told.{Said, display_error}
+use Rattle.wl_peer.specs.Objects.{fits, is_of, objects_in}
+use Rattle.wl_peer.specs.Peer.{Errs, LacksMemory, Peer, Queues, WantsOr, counted, with_rest}
+use Rattle.wl_peer.specs.declared.refusals.Refusal.{Refusal}
+use Rattle.wl_peer.specs.declared.refusals.ErrorCode.TheVariants.{InvalidMethod}
+use Rattle.wl_peer.specs.Told.{Said, display_error}
 use Rattle.wl_shell.specs.Kept.{Kept as KeptXdg, kept_of}
 use Rattle.wl_shell.specs.Shell.{Effect, Maps, Unmaps, next_serial}
 use Rattle.wl_shell.specs.declared.acts.ShellAct.{ShellAct}
@@ -28,8 +28,8 @@ use Rattle.wl_plain.specs.Ask.{Ask}
 use Rattle.wl_plain.specs.Changing.{changed_for}
 use Rattle.wl_plain.specs.Demand.{Demand, CommitTree, EndToplevel}
 use Rattle.wl_plain.specs.Demanding.{effect_of_commit, judge_all}
-use Rattle.wl_client.specs.ToplevelRequest.{ToplevelRequest}
-use Rattle.wl_client.specs.ToplevelRequest as toplevel
+use Rattle.wl_peer.specs.ToplevelRequest.{ToplevelRequest}
+use Rattle.wl_peer.specs.ToplevelRequest as toplevel
 use Rattle.wl_plain.specs.Desktop.{Desktop, Resident}
 use Rattle.wl_plain.specs.LeftOut.{served_now}
 use Rattle.wl_plain.specs.NoMore.{OwnsToplevelsOnly}

@@ -1,11 +1,11 @@
 -- One client of the desk, apart from the others, with the stack of toplevels.
 use Rattle.std.specs.Prelude.{ℕ, ◌≡◌, [], Bool, false, is_some, Option, Some, None, ◌⊎◌}
-use Rattle.wl_proto.specs.declared.interface.Interface.TheVariants.{WlSurface}
+use Rattle.wl_interface.specs.declared.interface.Interface.TheVariants.{WlSurface}
 use Rattle.wl_client.specs.Agreement.{IsPeer}
-use Rattle.wl_client.specs.Objects.{ById}
-use Rattle.wl_client.specs.Peer.{LacksMemory, Peer, ended}
+use Rattle.wl_peer.specs.Objects.{ById}
+use Rattle.wl_peer.specs.Peer.{LacksMemory, Peer, ended}
 use Rattle.wl_client.specs.View.{ClientView}
-use Rattle.wl_client.specs.declared.clients.Cause.{Cause}
+use Rattle.wl_peer.specs.declared.cause.Cause.{Cause}
 use Rattle.wl_surface.specs.Kept.{StandForAll, nobody}
 use Rattle.wl_surface.specs.Kept.{count as count_kept}
 use Rattle.wl_scene.specs.Stacking.{Stack, mapped_on, without_client, without_surface_of}

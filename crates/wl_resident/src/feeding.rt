@@ -2,11 +2,11 @@
 
 ghost use Rattle.std.specs.Prelude.{ℕ, ◌≡◌, ◌<◌, ◌≤◌, List, None, Some, length, true, false};
 ghost use Rattle.wl_resident.specs.Marking.{AreUnlinked, IsAsLarge, MarksAtLeast, MarksAtMost, MarksOwn, MarksThrough};
-ghost use Rattle.wl_client.specs.Objects.{ById};
+ghost use Rattle.wl_peer.specs.Objects.{ById};
 ghost use Rattle.wl_store.specs.Stores.{write_refusal};
 ghost use Rattle.wl_scene.specs.Stacking.{Stack};
 ghost use Rattle.wl_client.specs.Agreement.{IsPeer};
-ghost use Rattle.wl_client.specs.Peer.{IsIdleAt, Peer, stored_at};
+ghost use Rattle.wl_peer.specs.Peer.{IsIdleAt, Peer, stored_at};
 ghost use Rattle.wl_plain.specs.Desktop.{Desktop, Resident as Plain, become};
 ghost use Rattle.wl_resident.specs.Seats.{IsBare, IsChangedSo, IsClearedBy, IsRestackedBy, IsSeated, ended_by};
 ghost use Rattle.wl_plain.specs.LeftOut.{served_now};

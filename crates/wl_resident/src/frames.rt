@@ -1,8 +1,8 @@
 //! The frame callbacks of a client are answered.
 
 ghost use Rattle.std.specs.Prelude.{ℕ, ◌≡◌, None, Some, is_some, true};
-ghost use Rattle.wl_client.specs.Objects.{ById};
-ghost use Rattle.wl_client.specs.Peer.{Peer, Queues};
+ghost use Rattle.wl_peer.specs.Objects.{ById};
+ghost use Rattle.wl_peer.specs.Peer.{Peer, Queues};
 ghost use Rattle.wl_plain.specs.Desktop.{Desktop, Resident as Plain};
 ghost use Rattle.wl_plain.specs.Framing.{FramesToldAt, done_due};
 ghost use Rattle.wl_plain.specs.Happens.{frames_told};

@@ -3,8 +3,8 @@
 ghost use Rattle.std.specs.Prelude.{ℕ, ℤ, ◌≡◌, ◌↔◌, ◌<◌, ◌+ℤ◌, ◌-ℤ◌, ◌&&◌, ◌||◌, IfNone, IfSome, None, Some, find, int_le, int_lt, is_some, pos, true};
 ghost use Rattle.std.specs.List.{list_any};
 ghost use Rattle.std.specs.Option.{option_map};
-ghost use Rattle.wl_proto.specs.declared.interface.Interface.TheVariants.{WlSurface};
-ghost use Rattle.wl_client.specs.Objects.{ById};
+ghost use Rattle.wl_interface.specs.declared.interface.Interface.TheVariants.{WlSurface};
+ghost use Rattle.wl_peer.specs.Objects.{ById};
 ghost use Rattle.wl_geom.specs.Rect.{in_rect, in_span};
 ghost use Rattle.wl_surface.specs.State.{within_bounds};
 ghost use Rattle.wl_paint.specs.Damage.{has};

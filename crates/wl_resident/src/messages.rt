@@ -5,7 +5,7 @@ ghost use Rattle.wl_table.specs.Objects.{entry_of};
 ghost use Rattle.wl_proto.specs.Messages.{Message, request_message};
 ghost use Rattle.wl_proto.specs.declared.wl_surface.WlSurfaceRequest.TheVariants.{Commit};
 ghost use Rattle.wl_client.specs.Agreement.{IsPeer};
-ghost use Rattle.wl_client.specs.Peer.{IsIdleAt, Peer};
+ghost use Rattle.wl_peer.specs.Peer.{IsIdleAt, Peer};
 ghost use Rattle.wl_client.specs.Serving.{is_own};
 ghost use Rattle.wl_resident.specs.Marking.{IsCommitted, IsStill, TellsChange, commit_by};
 ghost use Rattle.wl_resident.specs.Messages.{IsAsked, IsKind};

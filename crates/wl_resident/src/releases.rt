@@ -3,7 +3,7 @@
 ghost use Rattle.std.specs.Prelude.{◌≡◌, ◌≤◌, None, Option, length, map};
 ghost use Rattle.std.specs.Option.{option_map};
 ghost use Rattle.wl_client.specs.Agreement.{IsPeer};
-ghost use Rattle.wl_client.specs.Peer.{Peer, Queues};
+ghost use Rattle.wl_peer.specs.Peer.{Peer, Queues};
 ghost use Rattle.wl_surface.specs.Kept.{buffer_of, had_at};
 ghost use Rattle.wl_surface.specs.Surfaces.{Surface};
 ghost use Rattle.wl_plain.specs.Desktop.{Resident as Plain};

@@ -3,9 +3,9 @@
 ghost use Rattle.std.specs.Prelude.{◌≡◌, ◌≢◌, ◌≤◌, ◌+◌, length, ◌++◌, ◌||◌, ℕ, Bool, Ok, Option, None, Some, is_some, true, map, unsigned_abs};
 ghost use Rattle.std.specs.Option.{option_map};
 ghost use Rattle.wl_client.specs.Agreement.{IsPeer};
-ghost use Rattle.wl_client.specs.Buffers.{Buffer as Made};
-ghost use Rattle.wl_client.specs.Objects.{ById};
-ghost use Rattle.wl_client.specs.Peer.{Peer};
+ghost use Rattle.wl_peer.specs.Buffers.{Buffer as Made};
+ghost use Rattle.wl_peer.specs.Objects.{ById};
+ghost use Rattle.wl_peer.specs.Peer.{Peer};
 ghost use Rattle.wl_surface.specs.Kept.{buffer_of, had_at, is_transform};
 ghost use Rattle.wl_surface.specs.Request.{Attach, Damage as DamageAsked, SetBufferTransform, SetInputRegion, SetOpaqueRegion};
 ghost use Rattle.wl_proto.specs.Messages.{wl_surface_request};

@@ -2,7 +2,7 @@
 
 ghost use Rattle.std.specs.Prelude.{◌≡◌, ◌≤◌, ◌↔◌, IsTrue, Ok, length};
 ghost use Rattle.wl_proto.specs.Messages.{wl_compositor_request};
-ghost use Rattle.wl_client.specs.declared.actions.Action.TheVariants.{CreateRegion};
+ghost use Rattle.wl_peer.specs.declared.actions.Action.TheVariants.{CreateRegion};
 ghost use Rattle.wl_plain.specs.Ask.{Own};
 ghost use Rattle.wl_plain.specs.Demand.{Asks};
 ghost use Rattle.wl_plain.specs.LeftOut.{served_now};

@@ -2,7 +2,7 @@
 
 ghost use Rattle.std.specs.Prelude.{◌≡◌, is_some, true, ◌≤◌, length};
 ghost use Rattle.wl_client.specs.Agreement.{IsPeer};
-ghost use Rattle.wl_client.specs.Peer.{Errs, Peer};
+ghost use Rattle.wl_peer.specs.Peer.{Errs, Peer};
 ghost use Rattle.wl_proto.specs.Messages.{xdg_surface_request};
 ghost use Rattle.wl_proto.specs.declared.xdg_surface.XdgSurfaceRequest.TheVariants.{AckConfigure, Destroy, GetToplevel, SetWindowGeometry};
 ghost use Rattle.wl_shell.specs.Kept.{kept_of};

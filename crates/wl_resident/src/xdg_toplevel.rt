@@ -3,9 +3,9 @@
 ghost use Rattle.std.specs.Prelude.{◌≡◌, ◌∷◌, ◌++◌, ℕ, [], None, ◌≤◌, length};
 ghost use Rattle.std.specs.Option.{option_and_then, option_map};
 ghost use Rattle.wl_client.specs.Agreement.{IsPeer};
-ghost use Rattle.wl_client.specs.Peer.{Peer, Queues};
+ghost use Rattle.wl_peer.specs.Peer.{Peer, Queues};
 ghost use Rattle.wl_client.specs.Said.{said_of};
-ghost use Rattle.wl_proto.specs.declared.interface.Interface.TheVariants.{XdgToplevel};
+ghost use Rattle.wl_interface.specs.declared.interface.Interface.TheVariants.{XdgToplevel};
 ghost use Rattle.wl_proto.specs.Messages.{Message, xdg_toplevel_request};
 ghost use Rattle.wl_shell.specs.Kept.{kept_of};
 ghost use Rattle.wl_shell.specs.Shell.{xdg_with};
@@ -14,7 +14,7 @@ ghost use Rattle.wl_plain.specs.LeftOut.{served_now};
 ghost use Rattle.wl_plain.specs.Releases.{release_told};
 ghost use Rattle.wl_resident.specs.Residents.{AnswersDemand, IsToplevel, Stacks, asked_by, drawn_by, told_by};
 ghost use Rattle.wl_plain.specs.Step.{toplevel_configured, xdg_configured};
-ghost use Rattle.wl_client.specs.Requests.{toplevel_request};
+ghost use Rattle.wl_peer.specs.Requests.{toplevel_request};
 ghost use Rattle.wl_plain.specs.XdgShell.{state_asked};
 
 use crate::residents::{Resident, Stacking};

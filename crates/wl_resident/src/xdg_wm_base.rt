@@ -2,7 +2,7 @@
 
 ghost use Rattle.std.specs.Prelude.{◌≡◌, ◌↔◌, IsTrue, Ok, ◌≤◌, length};
 ghost use Rattle.wl_proto.specs.Messages.{xdg_wm_base_request};
-ghost use Rattle.wl_proto.specs.declared.interface.Interface.TheVariants.{WlSurface};
+ghost use Rattle.wl_interface.specs.declared.interface.Interface.TheVariants.{WlSurface};
 ghost use Rattle.wl_proto.specs.declared.xdg_wm_base.XdgWmBaseRequest.TheVariants.{Destroy, GetXdgSurface};
 ghost use Rattle.wl_plain.specs.Ask.{DestroyBase, Ignore};
 ghost use Rattle.wl_plain.specs.Demand.{Asks};

@@ -3,9 +3,9 @@ use Rattle.std.proofs.Common.{◌≡◌, ℕ, zero, suc, Bool, true, false, List
 use Rattle.std.specs.Prelude.{replicate, ◌<◌, ◌||◌, pos}
 use Rattle.std.proofs.lemmas.Bool.{or_left, or_right}
 use Rattle.std.proofs.lemmas.List.{map-append}
-use Rattle.wl_client.specs.declared.clients.Cause.{Cause}
-use Rattle.wl_client.specs.declared.clients.Cause.TheVariants as cause
-use Rattle.wl_client.specs.Peer.{ended, with_rest}
+use Rattle.wl_peer.specs.declared.cause.Cause.{Cause}
+use Rattle.wl_peer.specs.declared.cause.Cause.TheVariants as cause
+use Rattle.wl_peer.specs.Peer.{ended, with_rest}
 use Rattle.wl_paint.specs.Damage.{Damaged, has}
 use Rattle.wl_paint.specs.Frame.{Image}
 use Rattle.wl_plain.specs.Acts.{Act, Feed, Tick, peer_at, peer_of, status_of, fed_of}

@@ -3,9 +3,9 @@ use Rattle.std.proofs.Common.{◌≡◌, ℕ, zero, suc, List, [], ◌∷◌, �
 use Rattle.std.specs.Prelude.{◌==◌, not, cond, is_some, slice_index_or}
 use Rattle.wl_plain.specs.Standing.{AreMapped}
 use Rattle.std.specs.List.{list_any}
-use Rattle.wl_client.specs.declared.clients.Cause.{Cause}
-use Rattle.wl_client.specs.declared.clients.Cause.TheVariants.{Memory}
-use Rattle.wl_client.specs.Peer.{Peer, ended, with_rest}
+use Rattle.wl_peer.specs.declared.cause.Cause.{Cause}
+use Rattle.wl_peer.specs.declared.cause.Cause.TheVariants.{Memory}
+use Rattle.wl_peer.specs.Peer.{Peer, ended, with_rest}
 use Rattle.wl_client.specs.View.{ClientView}
 use Rattle.wl_scene.specs.Stacking.{Owned, Standing, is_of, nothing_owned, without_client}
 use Rattle.wl_resident.specs.Agreement.{IsPlace, Matches}

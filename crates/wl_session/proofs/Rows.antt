@@ -2,7 +2,7 @@
 use Rattle.std.proofs.Common.{◌≡◌, ◌<◌, ℕ, List, [], ◌∷◌, true, false, refl, subst, sym, inl, inr, arith}
 use Rattle.std.specs.Prelude.{◌==◌}
 use Rattle.std.proofs.lemmas.Bool.{eqb-true}
-use Rattle.wl_client.specs.Told.{Output}
+use Rattle.wl_peer.specs.Told.{Output}
 use Rattle.wl_paint.specs.Damage.{Damaged}
 use Rattle.wl_paint.specs.Frame.{Image}
 use Rattle.wl_plain.specs.Acts.{Close}

@@ -5,8 +5,8 @@ use Rattle.std.specs.List.{list_any}
 use Rattle.std.proofs.lemmas.Bool.{eqb-true}
 use Rattle.std.proofs.lemmas.Option.{slice_get-get_or}
 use Rattle.wl_blend.specs.declared.color.Rgb.{Rgb}
-use Rattle.wl_client.specs.declared.clients.Cause.{Cause}
-use Rattle.wl_client.specs.Told.{Output}
+use Rattle.wl_peer.specs.declared.cause.Cause.{Cause}
+use Rattle.wl_peer.specs.Told.{Output}
 use Rattle.wl_geom.specs.Region.{holds}
 use Rattle.wl_paint.specs.Damage.{has}
 use Rattle.wl_paint.specs.Frame.{Image, color_at}

@@ -17,7 +17,7 @@ use Rattle.wl_scene.specs.Windows.{Window, contains}
 use Rattle.std.specs.Prelude.{◌⊎◌}
 use Rattle.std.proofs.Common.{inl, inr}
 use Rattle.std.proofs.lemmas.Bool.{eqb-false, eqb-true}
-use Rattle.wl_client.specs.Peer.{Peer, stored_at}
+use Rattle.wl_peer.specs.Peer.{Peer, stored_at}
 use Rattle.wl_scene.specs.Stacking.{nothing_owned}
 use Rattle.wl_plain.specs.Desktop.{Desktop, Resident, Showing, client_at, owned_in, owned_of, with_client}
 use Rattle.wl_plain.specs.Stacked.{all_windows}

@@ -10,7 +10,7 @@ pub mod View
 pub mod Viewer
 pub mod Seen
 pub mod StoreWrites
-pub use Rattle.wl_client.specs.Peer
+pub use Rattle.wl_peer.specs.Peer
 pub use Rattle.wl_desk.specs.Agreeing
 pub use Rattle.wl_resident.specs.Agreement
 pub use Rattle.wl_plain.specs.Desktop

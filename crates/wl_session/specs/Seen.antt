@@ -1,6 +1,6 @@
 -- Incremental equals from scratch: what a viewer holds that copies only what each frame reports as damaged.
 use Rattle.std.specs.Prelude.{ℕ, ◌≡◌, ◌<◌, pos, Bool, true, false, fold, length, take, List, [], ◌∷◌, ◌++◌}
-use Rattle.wl_client.specs.Told.{Output}
+use Rattle.wl_peer.specs.Told.{Output}
 use Rattle.wl_paint.specs.Damage.{has}
 use Rattle.wl_paint.specs.Frame.{Image, color_at}
 use Rattle.wl_plain.specs.Acts.{Tick}

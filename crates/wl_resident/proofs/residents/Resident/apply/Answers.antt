@@ -1,6 +1,6 @@
 use Rattle.std.proofs.Common.{◌≡◌, ℕ, List, ◌++◌, true, false, Option, ap, refl, subst, sym, ◌∙◌}
-use Rattle.wl_client.specs.Peer.{Peer, Queues}
-use Rattle.wl_client.specs.Told.{Said}
+use Rattle.wl_peer.specs.Peer.{Peer, Queues}
+use Rattle.wl_peer.specs.Told.{Said}
 use Rattle.wl_client.specs.View.{ClientView}
 use Rattle.wl_shell.specs.Kept.{Kept, changing, kept_after, kept_of}
 use Rattle.wl_surface.specs.Kept.{Changes}

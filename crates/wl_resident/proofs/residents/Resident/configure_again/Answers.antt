@@ -1,8 +1,8 @@
 use Rattle.wl_plain.specs.XdgShell.{state_asked}
 use Rattle.std.proofs.Common.{◌≡◌, List, ap, inr, refl, subst, sym, ◌∙◌}
 use Rattle.std.specs.Prelude.{Some, true, false, ℕ, Option}
-use Rattle.wl_client.specs.Peer.{Queues, counted}
-use Rattle.wl_client.specs.Told.{Said}
+use Rattle.wl_peer.specs.Peer.{Queues, counted}
+use Rattle.wl_peer.specs.Told.{Said}
 use Rattle.wl_client.specs.View.{ClientView}
 use Rattle.wl_shell.specs.Kept.{Kept as KeptXdg, changing, configure_answer, kept_configured, kept_configuring, kept_of}
 use Rattle.wl_shell.specs.Shell.{next_serial, xdg_with}

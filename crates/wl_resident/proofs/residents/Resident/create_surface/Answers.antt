@@ -1,9 +1,9 @@
 use Rattle.std.proofs.Common.{refl, inl, subst, sym, List, ap, ◌∙◌}
-use Rattle.wl_proto.specs.declared.interface.Interface.TheVariants.{WlSurface}
-use Rattle.wl_client.specs.Peer.{counted}
+use Rattle.wl_interface.specs.declared.interface.Interface.TheVariants.{WlSurface}
+use Rattle.wl_peer.specs.Peer.{counted}
 use Rattle.wl_shell.specs.Kept.{kept_of}
 use Rattle.std.specs.Prelude.{Result}
-use Rattle.wl_client.specs.declared.refusals.Refusal.{Refusal}
+use Rattle.wl_peer.specs.declared.refusals.Refusal.{Refusal}
 use Rattle.wl_plain.specs.Ask.{Ask, CreateSurface}
 use Rattle.wl_plain.specs.Demanding.{demands}
 use Rattle.wl_resident.specs.Residents.{AnswersSo}

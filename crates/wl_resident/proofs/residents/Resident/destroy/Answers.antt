@@ -1,8 +1,8 @@
 use Rattle.std.proofs.Common.{Bool, Result, ap, subst, sym, refl, ◌∙◌}
 use Rattle.std.specs.Prelude.{Ok, Err, if◌then◌else◌}
 use Rattle.wl_shell.specs.Kept.{kept_of}
-use Rattle.wl_client.specs.declared.refusals.ErrorCode.TheVariants.{SurfaceHasRoleObject}
-use Rattle.wl_client.specs.declared.refusals.Refusal.{Refusal}
+use Rattle.wl_peer.specs.declared.refusals.ErrorCode.TheVariants.{SurfaceHasRoleObject}
+use Rattle.wl_peer.specs.declared.refusals.Refusal.{Refusal}
 use Rattle.wl_plain.specs.Demand.{Demand, EndSurface}
 use Rattle.wl_plain.specs.Demanding.{surface_destroyed}
 use Rattle.wl_resident.specs.Residents.{AnswersSo}

@@ -1,5 +1,5 @@
 use Rattle.std.proofs.Common.{refl}
-use Rattle.wl_client.specs.declared.refusals.ErrorCode.TheVariants.{DefunctSurfaces}
+use Rattle.wl_peer.specs.declared.refusals.ErrorCode.TheVariants.{DefunctSurfaces}
 use Rattle.wl_shell.specs.Kept.{kept_of}
 use Rattle.wl_plain.specs.Ask.{DestroyBase}
 use Rattle.wl_plain.specs.Desktop.{Resident}

@@ -1,8 +1,8 @@
 use Rattle.std.specs.Prelude.{filter, not}
 use Rattle.std.proofs.Common.{◌≡◌, ℕ, List, ◌∷◌, None, map, ap, refl, inl, inr, subst, sym, ◌∙◌}
-use Rattle.wl_client.specs.Peer.{Peer, Queues, all_removed, removed}
+use Rattle.wl_peer.specs.Peer.{Peer, Queues, all_removed, removed}
 use Rattle.wl_client.specs.Serving.{HoldsWithout}
-use Rattle.wl_client.specs.Told.{Said}
+use Rattle.wl_peer.specs.Told.{Said}
 use Rattle.wl_client.specs.View.{ClientView}
 use Rattle.wl_shell.specs.Kept.{kept_of}
 use Rattle.wl_table.specs.Objects.{Held}

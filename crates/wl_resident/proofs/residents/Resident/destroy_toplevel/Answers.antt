@@ -4,7 +4,7 @@ use Rattle.wl_plain.proofs.Simply.{simply, DestroyToplevel, changed_simply}
 use Rattle.wl_shell.specs.Shell.{xdg_with}
 use Rattle.std.proofs.Common.{None, inr, ap, refl}
 use Rattle.wl_shell.specs.Kept.{kept_of}
-use Rattle.wl_client.specs.Peer.{counted}
+use Rattle.wl_peer.specs.Peer.{counted}
 use Rattle.wl_plain.specs.Owning.{names_in, Names}
 use Rattle.wl_plain.specs.Step.{with_peer}
 use Rattle.wl_plain.proofs.OwningAsks.{owned-toplevel-gone}

@@ -1,7 +1,7 @@
 use Rattle.std.proofs.Common.{refl, inl, ◌≡◌, None, true}
 use Rattle.std.specs.Prelude.{Some}
-use Rattle.wl_proto.specs.declared.interface.Interface.TheVariants.{WlCallback}
-use Rattle.wl_client.specs.Peer.{counted}
+use Rattle.wl_interface.specs.declared.interface.Interface.TheVariants.{WlCallback}
+use Rattle.wl_peer.specs.Peer.{counted}
 use Rattle.wl_table.specs.declared.entry.Entry.{Entry}
 use Rattle.wl_shell.specs.Kept.{kept_of}
 use Rattle.wl_surface.specs.Request.{Frame}

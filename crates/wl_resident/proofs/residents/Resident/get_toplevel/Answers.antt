@@ -1,8 +1,8 @@
 use Rattle.wl_proto.specs.declared.xdg_surface.XdgSurfaceRequest.TheVariants as xdg
 use Rattle.std.proofs.Common.{◌≡◌, ap, refl, sym, ◌∙◌, List, subst}
 use Rattle.std.specs.Prelude.{Some}
-use Rattle.wl_proto.specs.declared.interface.Interface.TheVariants.{XdgToplevel}
-use Rattle.wl_client.specs.Peer.{counted}
+use Rattle.wl_interface.specs.declared.interface.Interface.TheVariants.{XdgToplevel}
+use Rattle.wl_peer.specs.Peer.{counted}
 use Rattle.wl_shell.specs.Kept.{kept_of, toplevel_answer}
 use Rattle.wl_plain.specs.Ask.{GetToplevel}
 use Rattle.wl_plain.specs.Owning.{names_in, shell_refusal, Names}

@@ -1,7 +1,7 @@
 use Rattle.std.proofs.Common.{ap, inl, refl, ◌∙◌}
 use Rattle.std.specs.Prelude.{Some, Err}
-use Rattle.wl_proto.specs.declared.interface.Interface.TheVariants.{XdgSurface}
-use Rattle.wl_client.specs.Peer.{counted}
+use Rattle.wl_interface.specs.declared.interface.Interface.TheVariants.{XdgSurface}
+use Rattle.wl_peer.specs.Peer.{counted}
 use Rattle.wl_shell.specs.Kept.{kept_of, making_refused}
 use Rattle.wl_shell.specs.declared.error.ShellError.{ShellError}
 use Rattle.wl_plain.specs.Ask.{GetXdgSurface}

@@ -1,5 +1,5 @@
 use Rattle.std.proofs.Common.{ap, refl}
-use Rattle.wl_client.specs.Peer.{left_by}
+use Rattle.wl_peer.specs.Peer.{left_by}
 use Rattle.wl_plain.specs.declared.answers.Done.TheVariants as gave
 use Rattle.wl_resident.proofs.Telling.{told-gone, told-seated}
 use Rattle.wl_resident.proofs.residents.Resident.gone.Goals as goal

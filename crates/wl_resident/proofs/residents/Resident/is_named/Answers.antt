@@ -1,6 +1,6 @@
 use Rattle.std.proofs.Common.{ap, ◌∙◌, ◌==◌, ℕ, Option}
 use Rattle.std.specs.Option.{option_map}
-use Rattle.wl_client.specs.Buffers.{Buffer as Made}
+use Rattle.wl_peer.specs.Buffers.{Buffer as Made}
 use Rattle.wl_plain.specs.Step.{is_number}
 use Rattle.wl_resident.proofs.residents.Resident.is_named.Goals as goal
 

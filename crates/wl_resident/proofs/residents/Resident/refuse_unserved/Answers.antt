@@ -1,6 +1,6 @@
 use Rattle.std.proofs.Common.{refl}
-use Rattle.wl_client.specs.Told.{display_error}
-use Rattle.wl_client.specs.declared.refusals.ErrorCode.TheVariants.{Implementation}
+use Rattle.wl_peer.specs.Told.{display_error}
+use Rattle.wl_peer.specs.declared.refusals.ErrorCode.TheVariants.{Implementation}
 use Rattle.wl_plain.specs.WlSurface.{refuse_limit}
 use Rattle.wl_resident.proofs.Shelling.{refused-so}
 use Rattle.wl_resident.proofs.Simply.{simply}

@@ -1,5 +1,5 @@
 use Rattle.std.proofs.Common.{ap, refl}
-use Rattle.wl_client.specs.Peer.{sent_by}
+use Rattle.wl_peer.specs.Peer.{sent_by}
 use Rattle.wl_plain.specs.declared.answers.Done.TheVariants as gave
 use Rattle.wl_resident.proofs.Telling.{kept-seated, sent-so}
 use Rattle.wl_resident.proofs.residents.Resident.sent.Goals as goal

@@ -1,7 +1,7 @@
 use Rattle.std.proofs.Common.{◌≡◌, Option, None, ap, refl, rules, sym, ◌∙◌}
 use Rattle.std.specs.Prelude.{is_some}
 use Rattle.wl_wire.specs.Wire.{split_of}
-use Rattle.wl_client.specs.declared.clients.Cause.{Cause}
+use Rattle.wl_peer.specs.declared.cause.Cause.{Cause}
 use Rattle.wl_plain.specs.LeftOut.{served_now}
 use Rattle.wl_plain.proofs.BridgeMessages.{serves-has}
 use Rattle.wl_plain.proofs.BridgeTouches.{touches_apart}

@@ -1,5 +1,5 @@
 use Rattle.std.proofs.Common.{ap, refl}
-use Rattle.wl_client.specs.Peer.{stored_at}
+use Rattle.wl_peer.specs.Peer.{stored_at}
 use Rattle.wl_plain.specs.declared.answers.Done.TheVariants as gave
 use Rattle.wl_resident.proofs.Telling.{kept-seated, stored-so}
 use Rattle.wl_resident.proofs.residents.Resident.store.Goals as goal

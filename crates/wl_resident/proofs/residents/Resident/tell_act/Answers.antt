@@ -1,6 +1,6 @@
 use Rattle.std.proofs.Common.{List, ◌++◌, subst, sym, ◌∙◌}
-use Rattle.wl_client.specs.Peer.{Peer, Queues}
-use Rattle.wl_client.specs.Told.{Said}
+use Rattle.wl_peer.specs.Peer.{Peer, Queues}
+use Rattle.wl_peer.specs.Told.{Said}
 use Rattle.wl_shell.specs.Kept.{kept_of}
 use Rattle.wl_shell.specs.Shell.{next_serial}
 use Rattle.wl_plain.specs.Releases.{release_told}

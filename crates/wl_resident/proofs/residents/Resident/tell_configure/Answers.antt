@@ -1,7 +1,7 @@
 use Rattle.std.proofs.Common.{List, [], ◌∷◌, ap, subst, sym, ◌∙◌}
-use Rattle.wl_client.specs.Peer.{Queues}
+use Rattle.wl_peer.specs.Peer.{Queues}
 use Rattle.wl_client.specs.Said.{said_of}
-use Rattle.wl_client.specs.Told.{Said}
+use Rattle.wl_peer.specs.Told.{Said}
 use Rattle.wl_plain.specs.Releases.{release_told}
 use Rattle.wl_plain.specs.Step.{toplevel_configured, xdg_configured}
 use Rattle.wl_resident.proofs.residents.Resident.tell_configure.Goals as goal

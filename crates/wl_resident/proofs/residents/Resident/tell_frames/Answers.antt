@@ -1,6 +1,6 @@
 use Rattle.std.proofs.Common.{◌≡◌, Bool, Option, None, ap, refl, subst, sym, ◌∙◌}
 use Rattle.std.specs.Prelude.{is_some}
-use Rattle.wl_client.specs.declared.clients.Cause.{Cause}
+use Rattle.wl_peer.specs.declared.cause.Cause.{Cause}
 use Rattle.wl_plain.specs.Framing.{FramesToldBy, done_due}
 use Rattle.wl_plain.specs.Desktop.{become}
 use Rattle.wl_resident.specs.Marking.{MarksOwnIf}

@@ -1,8 +1,8 @@
 use Rattle.std.proofs.Common.{Bool, ap, sym, refl, ◌∙◌, w32}
 use Rattle.std.specs.Prelude.{Ok, if◌then◌else◌, unsigned_abs}
 use Rattle.std.proofs.lemmas.Int.{to_z-of_z}
-use Rattle.wl_client.specs.declared.refusals.ErrorCode.TheVariants.{InvalidTransform}
-use Rattle.wl_client.specs.Peer.{counted}
+use Rattle.wl_peer.specs.declared.refusals.ErrorCode.TheVariants.{InvalidTransform}
+use Rattle.wl_peer.specs.Peer.{counted}
 use Rattle.wl_surface.specs.Request.{SetBufferTransform}
 use Rattle.wl_plain.specs.Ask.{AskSurface}
 use Rattle.wl_plain.specs.Desktop.{Resident}

@@ -1,6 +1,6 @@
 use Rattle.std.proofs.Common.{ap, arith, refl, sym, ◌∙◌}
 use Rattle.std.specs.Prelude.{Err}
-use Rattle.wl_client.specs.declared.refusals.Refusal.{Refusal}
+use Rattle.wl_peer.specs.declared.refusals.Refusal.{Refusal}
 use Rattle.wl_proto.specs.Messages.{wl_seat_request}
 use Rattle.wl_plain.specs.Demanding.{demand_of}
 use Rattle.wl_plain.specs.LeftOut.{served_now}

@@ -2,7 +2,7 @@ use Rattle.std.proofs.Common.{refl, rules, sym, w32, ◌∙◌}
 use Rattle.std.specs.Prelude.{FitsSigned, Ok, is_some}
 use Rattle.std.proofs.lemmas.Int.{to_z-of_z}
 use Rattle.wl_geom.specs.declared.rect.Rect.{Rect}
-use Rattle.wl_client.specs.Peer.{counted}
+use Rattle.wl_peer.specs.Peer.{counted}
 use Rattle.wl_surface.specs.Request.{Attach, Damage, SetInputRegion, SetOpaqueRegion}
 use Rattle.wl_plain.specs.Ask.{AskSurface}
 use Rattle.wl_plain.specs.Desktop.{Resident}

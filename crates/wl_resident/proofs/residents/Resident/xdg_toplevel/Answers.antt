@@ -1,12 +1,12 @@
 use Rattle.std.proofs.Common.{subst, sym, ◌∙◌, ap}
 use Rattle.std.specs.Prelude.{Ok, Result}
-use Rattle.wl_client.specs.declared.refusals.Refusal.{Refusal}
+use Rattle.wl_peer.specs.declared.refusals.Refusal.{Refusal}
 use Rattle.wl_shell.specs.Shell.{xdg_with}
 use Rattle.wl_resident.specs.declared.residents.Stacking.TheVariants.{Out, Stays}
 use Rattle.wl_plain.specs.Ask.{Ignore}
 use Rattle.wl_plain.specs.Demanding.{toplevel_asked, toplevel_demand}
-use Rattle.wl_client.specs.Requests.{toplevel_request}
-use Rattle.wl_client.specs.ToplevelRequest.{ToplevelRequest}
+use Rattle.wl_peer.specs.Requests.{toplevel_request}
+use Rattle.wl_peer.specs.ToplevelRequest.{ToplevelRequest}
 use Rattle.wl_plain.specs.Demand.{Demand, Asks}
 use Rattle.wl_resident.specs.Residents.{AnswersSo, StacksSo}
 use Rattle.wl_plain.proofs.BridgeJudged.{asks, toplevel-simple}

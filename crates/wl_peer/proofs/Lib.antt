@@ -1,0 +1,4 @@
+pub mod Pieces
+pub mod Requests
+pub mod Rows
+pub mod Unique

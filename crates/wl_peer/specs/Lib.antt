@@ -1,0 +1,11 @@
+pub mod Buffers
+pub mod Judgement
+pub mod Objects
+pub mod Peer
+pub mod Plain
+pub mod Requests
+pub mod Stored
+pub mod Told
+pub mod ToplevelRequest
+pub mod Used
+pub use Rattle.wl_wire.specs.Wire
