@@ -1,5 +1,5 @@
 -- What a write of a store answers.
-use Rattle.std.specs.Prelude.{Unit, tt, Option, Some, None, Result, Ok, Err}
+use Rattle.std.specs.Prelude.{Option, Some, None, Result, Ok, Err}
 use Rattle.wl_store.specs.declared.stores.StoreError.{StoreError}
 
 -- what a write of a store answers
