@@ -17,7 +17,6 @@ use Rattle.wl_peer.specs.declared.cause.Cause.{Cause}
 use Rattle.wl_peer.specs.declared.cause.Cause.TheVariants.{Protocol, Memory, Slow}
 use Rattle.wl_peer.specs.declared.refusals.ErrorCode.TheVariants.{InvalidMethod}
 use Rattle.wl_peer.specs.declared.refusals.Refusal.{Refusal}
-use Rattle.wl_peer.specs.Buffers.{Buffer}
 use Rattle.wl_client.specs.declared.served.Next.{Next}
 use Rattle.wl_client.specs.declared.served.Next.TheVariants as nexts
 use Rattle.wl_client.specs.declared.served.Served.{Served}
@@ -27,9 +26,10 @@ use Rattle.wl_client.specs.First.{IsRefused, Passes}
 use Rattle.wl_peer.specs.Judgement.{action_of, judge}
 use Rattle.wl_peer.specs.Requests.{request_of}
 use Rattle.wl_peer.specs.Objects.{entry_at_version}
-use Rattle.wl_peer.specs.Peer.{Peer, Errs, Queues, WantsOr, answers_to, changed, counted, known_of, takes_memory, with_rest}
+use Rattle.wl_peer.specs.Peer.{Peer, Errs, Queues, WantsOr, answers_to, counted, known_of, takes_memory, with_rest}
 use Rattle.wl_peer.specs.Told.{code_number, display_error}
 use Rattle.wl_client.specs.View.{ClientView}
+use Rattle.wl_peer.specs.Used.{changed_with}
 
 -- the interfaces whose requests change nothing but the client, and leave its surfaces as they are
 abbrev pub is_own : Interface → Bool
