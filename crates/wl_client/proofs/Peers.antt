@@ -1,6 +1,6 @@
 -- What each change of a client does to what is kept of it.
 use Rattle.std.proofs.Common.{◌≡◌, ◌≢◌, ℕ, suc, ◌+◌, ◌-◌, ◌<◌, List, [], ◌∷◌, ◌++◌, Bool, true, false, Some, None, Option, Result, refl, ap, subst, sym, ◌∙◌, inl, inr, length, map, drop, ◌≤◌, get_or, drop-cons, arith}
-use Rattle.std.specs.Prelude.{is_some, IfErr, IfNone, IfSome, IsOk, IsTrue, MatchBool, OnOk, Ok, Err, ◌==◌, if◌then◌else◌}
+use Rattle.std.specs.Prelude.{is_some, IfErr, IfNone, IfSome, IsOk, IsTrue, MatchBool, OnOk, Ok, Err, ◌==◌, if◌then◌else◌, ℤ}
 use Rattle.std.specs.Option.{option_map, option_map_or, unwrap_or}
 use Rattle.std.proofs.lemmas.List.{drop_all}
 use Rattle.std.proofs.Math.Path.{fun_ext}
@@ -13,7 +13,6 @@ use Rattle.wl_table.specs.Objects.{Held, HoldsAt, entry_of}
 use Rattle.std.specs.BTreeMap.{BTreeMap, UpdatesBy}
 use Rattle.std.specs.Ordering.{nat_cmp, is_eq}
 use Rattle.wl_geom.specs.Region.{Area, Change, Stands}
-use Rattle.std.specs.Prelude.{ℤ}
 use Rattle.wl_store.specs.Layout.{layout_refusal}
 use Rattle.wl_store.specs.Stores.{Held as Stored, Stock, can_hold, size_of, store_at}
 use Rattle.wl_store.specs.declared.place.Layout.{Layout}

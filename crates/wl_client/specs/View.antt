@@ -1,9 +1,8 @@
 -- What is kept of a client, as plain values.
-use Rattle.std.specs.Prelude.{ℕ, List, [], Option, Some, None, Result, Ok, Err}
+use Rattle.std.specs.Prelude.{ℕ, List, [], Option, Some, None}
 use Rattle.wl_geom.specs.Region.{Area}
 use Rattle.wl_store.specs.Stores.{Stock}
 use Rattle.wl_table.specs.Objects.{Held}
-use Rattle.wl_store.specs.declared.stores.StoreError.{StoreError}
 use Rattle.wl_peer.specs.declared.cause.Cause.{Cause}
 use Rattle.wl_client.specs.declared.outputs.Output.{Output}
 use Rattle.wl_peer.specs.Buffers.{Buffer}

@@ -17,25 +17,25 @@ use Rattle.wl_plain.specs.Desktop.{Desktop, Resident, arrival, become, become_by
 use Rattle.wl_resident.specs.Seats.{IsBare, IsChangedSo, IsSeated, ended_by, has_ended_in}
 use Rattle.wl_plain.specs.LeftOut.{served_now}
 use Rattle.wl_plain.specs.Happens.{Serves}
-use Rattle.wl_plain.proofs.Altering.{Changes, ChangesAt, left_so}
+use Rattle.wl_laws.proofs.Toplevels.Altering.{Changes, ChangesAt, left_so}
 use Rattle.wl_plain.specs.Acts.{IsClosed, closed_by, lowest, next_of, peer_at, peer_of}
-use Rattle.wl_plain.proofs.Forms.{ConnectsAt}
+use Rattle.wl_laws.proofs.Runs.Forms.{ConnectsAt}
 use Rattle.wl_resident.specs.View.{DeskView, OwnedView, owned_view}
 use Rattle.wl_plain.specs.declared.answers.ConnectError.TheVariants.{Full, Memory}
 use Rattle.wl_plain.specs.declared.answers.Done.{Done}
 use Rattle.wl_plain.specs.declared.answers.Done.TheVariants as gave
 use Rattle.wl_plain.specs.Framing.{AreFramed}
-use Rattle.wl_plain.specs.Owning.{by_number, names_in}
+use Rattle.wl_laws.specs.Owning.{by_number, names_in}
 use Rattle.wl_resident.specs.declared.residents.Resident.{Resident as Kept}
 use Rattle.wl_desk.proofs.Desktops.{agrees-put, at, at-map, at-within, client-past, place-at, put-map, put-set, put-twice, scene-out, seated-back, seated-out}
 use Rattle.wl_resident.proofs.Ends.{nameless-newcomer, owns-nothing}
-use Rattle.wl_plain.proofs.OwningKeys.{differ, some-same}
+use Rattle.wl_laws.proofs.Keeping.OwningKeys.{differ, some-same}
 use Rattle.wl_resident.proofs.Scenes.{numbers-by, stack-by}
-use Rattle.wl_plain.proofs.StandingSteps.{closed-stand, connects-stand, empty-stand}
+use Rattle.wl_laws.proofs.Keeping.StandingSteps.{closed-stand, connects-stand, empty-stand}
 use Rattle.wl_resident.proofs.Taking.{gone-scene}
 use Rattle.wl_resident.proofs.Telling.{lives-of}
-use Rattle.wl_plain.proofs.Places.{client-kept, number-kept}
-use Rattle.wl_plain.proofs.FramingWaits.{framed-none}
+use Rattle.wl_laws.proofs.Runs.Places.{client-kept, number-kept}
+use Rattle.wl_laws.proofs.Keeping.FramingWaits.{framed-none}
 use Rattle.wl_surface.specs.declared.frames.Waiting.{Waiting}
 use Rattle.wl_surface.specs.Surfaces.{no_surfaces}
 

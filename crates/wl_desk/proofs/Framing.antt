@@ -8,20 +8,19 @@ use Rattle.wl_client.specs.declared.outputs.Output.{Output}
 use Rattle.wl_peer.specs.Peer.{Peer}
 use Rattle.wl_paint.specs.Damage.{Damaged, has}
 use Rattle.std.proofs.lemmas.Bool.{or_left, or_right}
-use Rattle.wl_plain.specs.Desktop.{Desktop, Resident, become, become_by, client_at}
+use Rattle.wl_plain.specs.Desktop.{Desktop, Resident, become, become_by, client_at, status_in, status_of}
 use Rattle.wl_plain.specs.Framing.{FramesTold, FramesToldAt, FramesToldBy, done_due}
-use Rattle.wl_plain.specs.Laws.{status_in, status_of}
 use Rattle.wl_plain.specs.Moments.{marks_at_most}
-use Rattle.wl_plain.specs.NoMore.{NoMore}
-use Rattle.wl_plain.specs.Touching.{has_window_at}
+use Rattle.wl_laws.specs.NoMore.{NoMore}
+use Rattle.wl_laws.specs.Touching.{has_window_at}
 use Rattle.wl_scene.specs.Windows.{contains}
-use Rattle.wl_plain.proofs.Framing.{told-more}
-use Rattle.wl_plain.proofs.FramingKeeps.{IsAsOwned, frames-have, frames-same}
-use Rattle.wl_plain.proofs.MarkedThrough.{unmarked-on}
-use Rattle.wl_plain.proofs.OneRunFates.{same-or}
-use Rattle.wl_plain.proofs.OwningKeys.{differ}
-use Rattle.wl_plain.proofs.Places.{other-become, status-become}
-use Rattle.wl_plain.proofs.TouchingSteps.{told-marks-nothing}
+use Rattle.wl_laws.proofs.Marks.Framing.{told-more}
+use Rattle.wl_laws.proofs.Marks.FramingKeeps.{IsAsOwned, frames-have, frames-same}
+use Rattle.wl_laws.proofs.Marks.Through.{unmarked-on}
+use Rattle.wl_laws.proofs.Runs.Fates.{same-or}
+use Rattle.wl_laws.proofs.Keeping.OwningKeys.{differ}
+use Rattle.wl_laws.proofs.Runs.Places.{other-become, status-become}
+use Rattle.wl_laws.proofs.Marks.TouchingSteps.{told-marks-nothing}
 use Rattle.wl_scene.specs.Stacking.{Stack}
 use Rattle.wl_scene.specs.declared.owned.Owned.{Owned}
 use Rattle.wl_resident.specs.Agreement.{Matches, numbers_in}
@@ -35,7 +34,7 @@ use Rattle.wl_desk.specs.Agreeing.{Agrees}
 use Rattle.wl_desk.specs.Framing.{MarksIfEnds, WasTold}
 use Rattle.wl_desk.proofs.Agreed.{agrees-apart, still-unmarked}
 use Rattle.wl_desk.proofs.Calls.{IsFound, back, out, untaken, view_of}
-use Rattle.wl_plain.proofs.EndingMarks.{gone-most}
+use Rattle.wl_laws.proofs.Marks.Ending.{gone-most}
 use Rattle.wl_desk.proofs.Most.{HasNoNew, told-over, told-windows}
 use Rattle.wl_desk.proofs.MarkedCalls.{or-none, own-marks, unlinked}
 

@@ -20,23 +20,23 @@ use Rattle.wl_desk.specs.Feeding.{IsIdleIn, IsIdleOf, kept_at, kept_by, kept_in,
 use Rattle.wl_resident.specs.Marking.{AreUnlinked, MarksAtLeast, MarksAtMost, MarksThrough}
 use Rattle.wl_resident.specs.Seats.{IsSeated, ended_by}
 use Rattle.wl_plain.specs.declared.answers.Fed.TheVariants as fed
-use Rattle.wl_plain.proofs.OwningKeys.{differ}
+use Rattle.wl_laws.proofs.Keeping.OwningKeys.{differ}
 use Rattle.wl_plain.specs.Step.{with_peer}
 use Rattle.wl_plain.specs.LeftOut.{served_now}
-use Rattle.wl_plain.specs.NoMore.{NoMore}
+use Rattle.wl_laws.specs.NoMore.{NoMore}
 use Rattle.wl_plain.specs.Acts.{fed_of, peer_at, status_of}
 use Rattle.wl_plain.specs.Happens.{Serves}
 use Rattle.wl_plain.specs.Through.{ServesThrough}
-use Rattle.wl_plain.proofs.BridgeBack.{message-by}
+use Rattle.wl_laws.proofs.Toplevels.Back.{message-by}
 use Rattle.wl_resident.specs.View.{DeskView, OwnedView, owned_view}
 use Rattle.wl_resident.specs.declared.residents.Resident.{Resident as Kept}
 use Rattle.wl_desk.proofs.Calls.{IsFound, back, client-there, ended_at, ended_of, out, place-here, place-none, untaken, view_of}
 use Rattle.wl_desk.proofs.Desktops.{IsPut, at, at-map, at-within, client-past, numbers-put, place-at, put-map, put-set, put-twice, seated-back}
 use Rattle.wl_desk.proofs.MarkedCalls.{unlinked}
-use Rattle.wl_plain.proofs.Places.{number-same, stacked-clients}
+use Rattle.wl_laws.proofs.Runs.Places.{number-same, stacked-clients}
 use Rattle.wl_resident.proofs.Scenes.{stack-by}
 use Rattle.wl_resident.proofs.Telling.{come-seated, come_on, come_to}
-use Rattle.wl_plain.proofs.Simply.{changed_simply, stacked_simply}
+use Rattle.wl_laws.proofs.Toplevels.Simply.{changed_simply, stacked_simply}
 
 pub ok-then : {A E P Q : Type 0} (r : Result A E) → (P → Q) → OnOk r P → OnOk r Q
 ok-then (Ok v) f p = f p

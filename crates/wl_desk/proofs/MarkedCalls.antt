@@ -16,30 +16,30 @@ use Rattle.wl_scene.specs.Windows.{Window, contains}
 use Rattle.wl_scene.specs.declared.owned.Owned.{Owned}
 use Rattle.wl_resident.specs.Agreement.{Matches, IsPlace, numbers_in}
 use Rattle.wl_plain.specs.Desktop.{Desktop, Resident, arrival, become, become_by, client_at, client_in, owned_in, owned_of, place, with_number, with_place}
-use Rattle.wl_plain.specs.Laws.{OwnsNothing}
+use Rattle.wl_laws.specs.Laws.{OwnsNothing}
 use Rattle.wl_resident.specs.Marking.{AreUnlinked, MarksOwn}
 use Rattle.wl_resident.specs.Seats.{IsChangedSo, IsSeated, ended_by, has_ended_in}
-use Rattle.wl_plain.specs.Standing.{AreMapped}
-use Rattle.wl_plain.proofs.Altering.{Changes, ChangesAt, left_so}
+use Rattle.wl_laws.specs.Standing.{AreMapped}
+use Rattle.wl_laws.proofs.Toplevels.Altering.{Changes, ChangesAt, left_so}
 use Rattle.wl_plain.specs.Acts.{IsClosed, IsSent, IsStored, closed_by, lowest}
-use Rattle.wl_plain.proofs.Forms.{ConnectsAt}
-use Rattle.wl_plain.specs.Touching.{any_window_at, has_window_at}
+use Rattle.wl_laws.proofs.Runs.Forms.{ConnectsAt}
+use Rattle.wl_laws.specs.Touching.{any_window_at, has_window_at}
 use Rattle.wl_resident.specs.View.{DeskView, OwnedView, owned_view}
 use Rattle.wl_plain.specs.declared.answers.Done.{Done}
 use Rattle.wl_plain.specs.declared.answers.Done.TheVariants as gave
 use Rattle.wl_resident.specs.declared.residents.Resident.{Resident as Kept}
 use Rattle.wl_desk.proofs.Calls.{IsFound, client-here, closed-none, ended_at, ended_of, lowest-at, out, untaken, view_of}
 use Rattle.wl_desk.proofs.Desktops.{at, client-past, place-at}
-use Rattle.wl_plain.proofs.Stacks.{and-left, differ}
-use Rattle.wl_plain.proofs.StandingLists.{any-gone}
+use Rattle.wl_laws.proofs.Marks.Stacks.{and-left, differ}
+use Rattle.wl_laws.proofs.Keeping.StandingLists.{any-gone}
 use Rattle.wl_resident.proofs.Toplevels.{MarksToplevels}
 use Rattle.wl_resident.proofs.Scenes.{none-standing, others-all}
 use Rattle.wl_resident.proofs.Telling.{become-kept, lives-of}
-use Rattle.wl_plain.proofs.Touching.{desktops-touch, same-stays}
-use Rattle.wl_plain.proofs.TouchingMarks.{is_else}
-use Rattle.wl_plain.proofs.TouchingSteps.{end-touches, none-there, none_of, told-marks-nothing}
-use Rattle.wl_plain.proofs.TouchingWindows.{stands_else, windows-else}
-use Rattle.wl_plain.proofs.ToplevelWindows.{windows_in, marks_of_toplevels}
+use Rattle.wl_laws.proofs.Marks.Touching.{desktops-touch, same-stays}
+use Rattle.wl_laws.proofs.Marks.TouchingMarks.{is_else}
+use Rattle.wl_laws.proofs.Marks.TouchingSteps.{end-touches, none-there, none_of, told-marks-nothing}
+use Rattle.wl_laws.proofs.Marks.TouchingWindows.{stands_else, windows-else}
+use Rattle.wl_laws.proofs.Toplevels.WithoutPopups.{windows_in, marks_of_toplevels}
 
 -- ---- Booleans
 

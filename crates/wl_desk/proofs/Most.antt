@@ -12,15 +12,14 @@ use Rattle.wl_surface.specs.Surfaces.{history_in}
 use Rattle.wl_scene.specs.Stacking.{Owned as Owns, is_of, windows_on}
 use Rattle.wl_scene.specs.Windows.{Window}
 use Rattle.wl_plain.specs.Acts.{IsLeft, Leave}
-use Rattle.wl_plain.specs.Desktop.{Desktop, Resident, become, become_by, client_at, owned_in, owned_of, resident_of}
+use Rattle.wl_plain.specs.Desktop.{Desktop, Resident, become, become_by, client_at, owned_in, owned_of, resident_of, status_in, status_of}
 use Rattle.wl_plain.specs.Framing.{FramesToldAt, FramesToldBy, done_due}
 use Rattle.wl_plain.specs.Happens.{Happens}
-use Rattle.wl_plain.specs.Laws.{status_in, status_of}
 use Rattle.wl_plain.specs.LeftOut.{served_now}
 use Rattle.wl_plain.specs.Moments.{marks_at_most}
-use Rattle.wl_plain.specs.NoMore.{NoMore}
-use Rattle.wl_plain.specs.Standing.{AreMapped}
-use Rattle.wl_plain.specs.Touching.{has_window_at}
+use Rattle.wl_laws.specs.NoMore.{NoMore}
+use Rattle.wl_laws.specs.Standing.{AreMapped}
+use Rattle.wl_laws.specs.Touching.{has_window_at}
 use Rattle.wl_plain.specs.declared.answers.Done.{Done}
 use Rattle.wl_plain.specs.declared.answers.Done.TheVariants as gave
 use Rattle.wl_resident.specs.Agreement.{Matches}
@@ -29,16 +28,15 @@ use Rattle.wl_resident.specs.Seats.{ended_by}
 use Rattle.wl_resident.specs.View.{DeskView, MarkedDesk}
 use Rattle.wl_resident.proofs.Scenes.{none-standing, others-all}
 use Rattle.wl_resident.proofs.Within.{within-output}
-use Rattle.wl_plain.proofs.Altering.{ChangesAt, left_so}
-use Rattle.wl_plain.proofs.BridgeBack.{alters-back}
-use Rattle.wl_plain.proofs.EndingMarks.{gone-most}
-use Rattle.wl_plain.proofs.OrderlyObjectsKeys.{any-of-filter}
-use Rattle.wl_plain.proofs.Places.{number-other, other-become, status-become}
-use Rattle.wl_plain.proofs.Stacks.{differ}
-use Rattle.wl_plain.proofs.ToplevelWindows.{windows_in}
-use Rattle.wl_plain.proofs.TouchingMarks.{is_else}
-use Rattle.wl_plain.proofs.TouchingWindows.{counted, windows-else}
-use Rattle.wl_plain.proofs.TouchingWindows.{windows-same as windows-kept}
+use Rattle.wl_laws.proofs.Toplevels.Altering.{ChangesAt, left_so}
+use Rattle.wl_laws.proofs.Toplevels.Back.{alters-back}
+use Rattle.wl_laws.proofs.Marks.Ending.{gone-most}
+use Rattle.wl_laws.proofs.Soundness.ObjectsKeys.{any-of-filter}
+use Rattle.wl_laws.proofs.Runs.Places.{number-other, other-become, status-become}
+use Rattle.wl_laws.proofs.Marks.Stacks.{differ}
+use Rattle.wl_laws.proofs.Toplevels.WithoutPopups.{windows_in}
+use Rattle.wl_laws.proofs.Marks.TouchingMarks.{is_else}
+use Rattle.wl_laws.proofs.Marks.TouchingWindows.{counted, windows-else, windows-same as windows-kept}
 use Rattle.wl_desk.specs.Agreeing.{Agrees}
 use Rattle.wl_desk.specs.Feeding.{Ends}
 use Rattle.wl_desk.proofs.Calls.{ended_of}

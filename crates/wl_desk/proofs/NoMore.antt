@@ -9,30 +9,29 @@ use Rattle.wl_resident.specs.Marking.{MarksAtLeast, MarksThrough}
 use Rattle.wl_resident.specs.Seats.{ended_by}
 use Rattle.wl_resident.specs.View.{DeskView}
 use Rattle.wl_plain.specs.declared.answers.Done.{Done}
-use Rattle.wl_plain.specs.Desktop.{Desktop, Resident, become, client_at, empty, with_client}
-use Rattle.wl_plain.specs.Laws.{toplevels_of}
+use Rattle.wl_plain.specs.Desktop.{Desktop, Resident, become, client_at, empty, with_client, toplevels_of}
 use Rattle.wl_plain.specs.LeftOut.{served_now}
-use Rattle.wl_plain.specs.NoMore.{NoMore, OwnsToplevelsAt}
+use Rattle.wl_laws.specs.NoMore.{NoMore, OwnsToplevelsAt}
 use Rattle.wl_plain.specs.Settling.{EndsAndSettles, becomes, unstruck}
 use Rattle.wl_plain.specs.Step.{with_peer}
 use Rattle.wl_plain.specs.Acts.{Act}
 use Rattle.wl_plain.specs.Happens.{Happens, Serves}
 use Rattle.wl_plain.specs.Through.{ServesThrough}
-use Rattle.wl_plain.proofs.Through.{messages_lead_through}
+use Rattle.wl_laws.proofs.Runs.Through.{messages_lead_through}
 use Rattle.wl_desk.specs.Agreeing.{Agrees, TakesStep}
 use Rattle.wl_desk.specs.Feeding.{Ends, EndsBy, EndsOf, IsIdleIn, kept_at, kept_by, kept_of}
 use Rattle.wl_desk.proofs.Calls.{ended_at, ended_of}
-use Rattle.wl_plain.proofs.Altering.{Alters, IsCall}
-use Rattle.wl_plain.proofs.BridgeBack.{alters-back, settled-back}
-use Rattle.wl_plain.proofs.BridgeDesks.{become-has, empty-has}
-use Rattle.wl_plain.proofs.BridgeLasts.{alters-has}
-use Rattle.wl_plain.proofs.BridgeMessages.{serves-has}
-use Rattle.wl_plain.proofs.BridgeServes.{becomes-same, living, only-peer, settles-to}
-use Rattle.wl_plain.proofs.BridgeSteps.{alters-whole, has-put, stays-by}
-use Rattle.wl_plain.proofs.BridgeTouches.{touches_apart}
+use Rattle.wl_laws.proofs.Toplevels.Altering.{Alters, IsCall}
+use Rattle.wl_laws.proofs.Toplevels.Back.{alters-back, settled-back}
+use Rattle.wl_laws.proofs.Toplevels.Desks.{become-has, empty-has}
+use Rattle.wl_laws.proofs.Toplevels.Lasts.{alters-has}
+use Rattle.wl_laws.proofs.Toplevels.Messages.{serves-has}
+use Rattle.wl_laws.proofs.Toplevels.Serves.{becomes-same, living, only-peer, settles-to}
+use Rattle.wl_laws.proofs.Toplevels.Steps.{alters-whole, has-put, stays-by}
+use Rattle.wl_laws.proofs.Toplevels.Touches.{touches_apart}
 use Rattle.wl_resident.proofs.Toplevels.{MarksToplevels, marks-all}
-use Rattle.wl_plain.proofs.OwningKeys.{none-some}
-use Rattle.wl_plain.proofs.Places.{client-kept}
+use Rattle.wl_laws.proofs.Keeping.OwningKeys.{none-some}
+use Rattle.wl_laws.proofs.Runs.Places.{client-kept}
 
 -- ---- a step
 

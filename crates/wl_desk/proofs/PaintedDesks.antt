@@ -5,8 +5,7 @@ use Rattle.wl_blend.specs.declared.color.Rgb.{Rgb}
 use Rattle.wl_geom.specs.Region.{Area}
 use Rattle.wl_client.specs.View.{ClientView}
 use Rattle.wl_client.specs.declared.outputs.Output.{Output}
-use Rattle.wl_paint.specs.Window.{AreOpaqueAsSaid}
-use Rattle.wl_paint.specs.Window.{scratch as painted}
+use Rattle.wl_paint.specs.Window.{AreOpaqueAsSaid, scratch as painted}
 use Rattle.wl_scene.specs.Lent.{slots_lent}
 use Rattle.wl_scene.specs.Stacking.{Stack}
 use Rattle.wl_scene.specs.declared.owned.Owned.{Owned}

@@ -7,16 +7,15 @@ use Rattle.wl_blend.specs.declared.color.Rgb.{Rgb}
 use Rattle.wl_surface.specs.Kept.{Slots}
 use Rattle.wl_peer.specs.Objects.{ById}
 use Rattle.wl_client.specs.View.{ClientView}
-use Rattle.wl_paint.specs.Window.{AreOpaqueAsSaid}
-use Rattle.wl_paint.specs.Window.{scratch as painted}
+use Rattle.wl_paint.specs.Window.{AreOpaqueAsSaid, scratch as painted}
 use Rattle.wl_scene.specs.Lent.{AllShow}
 use Rattle.wl_scene.specs.Stacking.{Standing}
 use Rattle.wl_scene.specs.Windows.{contains}
 use Rattle.wl_resident.specs.Agreement.{IsStack}
 use Rattle.wl_plain.specs.Desktop.{Desktop, client_at, owned_in}
-use Rattle.wl_plain.specs.NoMore.{NoMore}
+use Rattle.wl_laws.specs.NoMore.{NoMore}
 use Rattle.wl_desk.specs.Lent.{windows_lent}
-use Rattle.wl_plain.specs.Owning.{AreKept}
+use Rattle.wl_laws.specs.Owning.{AreKept}
 use Rattle.wl_plain.specs.Scratch.{color_in, scratch}
 use Rattle.wl_plain.specs.Stacked.{all_windows}
 

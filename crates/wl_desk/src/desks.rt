@@ -20,7 +20,7 @@ ghost use Rattle.wl_resident.specs.Seats.{has_ended_in};
 ghost use Rattle.wl_plain.specs.LeftOut.{served_now};
 ghost use Rattle.wl_plain.specs.Happens.{Happens, Serves};
 ghost use Rattle.wl_plain.specs.Through.{ServesThrough};
-ghost use Rattle.wl_plain.specs.Touching.{has_window_at};
+ghost use Rattle.wl_laws.specs.Touching.{has_window_at};
 
 use crate::windows::Lent;
 use std::alloc::{AllocError, Allocator};

@@ -1,8 +1,7 @@
 -- Worked recordings, computed on the definitions: the run is there, and with ample memory it is the only one.
 use Rattle.std.proofs.Common.{◌≡◌, ◌≢◌, ℕ, List, [], ◌∷◌, ap, inl, inr, refl, take, Some, None}
 use Rattle.wl_peer.specs.declared.cause.Cause.TheVariants.{Protocol, Memory, Gone}
-use Rattle.wl_peer.specs.Peer.{Peer, newcomer, Feeds, with_rest}
-use Rattle.wl_peer.specs.Peer.{left_by}
+use Rattle.wl_peer.specs.Peer.{Peer, newcomer, Feeds, with_rest, left_by}
 use Rattle.wl_store.specs.Stores.{size_of}
 use Rattle.wl_peer.specs.Plain.{fed}
 use Rattle.wl_peer.proofs.Pieces.{Feeds-append}

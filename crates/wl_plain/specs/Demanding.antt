@@ -20,13 +20,12 @@ use Rattle.wl_plain.specs.Ask.{Ask, AskSurface, Ignore, owns}
 use Rattle.wl_plain.specs.Demand.{Demand, Asks, EndSurface, AskFrame, CommitTree, CreatePositioner, EndToplevel, Move}
 use Rattle.wl_plain.specs.Desktop.{Resident}
 use Rattle.wl_plain.specs.LeftOut.{LeftOut}
-use Rattle.wl_peer.specs.Requests.{Request, ToCompositor, ToSurface, ToSubcompositor, ToSubsurface, ToSeat, ToPointer, ToBase, ToPositioner, ToXdgSurface, ToToplevel, ToPopup, request_of}
+use Rattle.wl_peer.specs.Requests.{Request, ToCompositor, ToSurface, ToSubcompositor, ToSubsurface, ToSeat, ToPointer, ToBase, ToPositioner, ToXdgSurface, ToToplevel, ToPopup, request_of, rect}
 use Rattle.wl_peer.specs.ToplevelRequest.{ToplevelRequest}
 use Rattle.wl_peer.specs.ToplevelRequest as toplevel
 use Rattle.wl_plain.specs.WlPointer.{pointer_demand, seat_demand}
 use Rattle.wl_plain.specs.WlSubsurface.{past_limit, refuses, subcompositor_demand, subsurface_demand}
 use Rattle.wl_plain.specs.WlSurface.{buffer_named, region_named, surface_created, transform_set, will_show}
-use Rattle.wl_peer.specs.Requests.{rect}
 use Rattle.wl_plain.specs.XdgPopup.{popup_demand, popup_made, positioner_demand, positioner_of}
 use Rattle.wl_plain.specs.XdgShell.{acknowledged_by, base_destroyed, geometry_set, state_asked, toplevel_made, xdg_surface_destroyed, xdg_surface_made}
 

@@ -1,5 +1,5 @@
 -- The plain desktop: what a compositor holds of its clients and of its screen, whatever a program keeps.
-use Rattle.std.specs.Prelude.{ℕ, suc, zero, List, [], ◌∷◌, Option, Some, None, replicate}
+use Rattle.std.specs.Prelude.{ℕ, suc, zero, ◌==◌, filter, List, [], ◌∷◌, Option, Some, None, replicate}
 use Rattle.wl_peer.specs.Objects.{ById, nothing}
 use Rattle.wl_peer.specs.Told.{Output}
 use Rattle.wl_peer.specs.declared.cause.Cause.{Cause}
@@ -102,3 +102,15 @@ owned_in d c = owned_of (client_at c d)
 -- a way of showing a desktop: which windows it has, from bottom to top
 abbrev pub Showing : Type 0
 Showing = Desktop → List Window
+
+-- why a client ended, if it is there and did
+abbrev pub status_of : Option Resident → Option Cause
+status_of None = None
+status_of (Some r) = r.peer.status
+
+abbrev pub status_in : ℕ → Desktop → Option Cause
+status_in c d = status_of (client_at c d)
+
+-- the toplevels of a client, from the bottom
+abbrev pub toplevels_of : ℕ → Desktop → List Standing
+toplevels_of c d = filter (λ s. s.client == c) d.standing

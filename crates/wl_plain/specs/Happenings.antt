@@ -1,20 +1,14 @@
 -- What happens, one message at a time: each happening leads through the desktops of its own change, of each end and of each settling.
-use Rattle.std.specs.Prelude.{ℕ, ℤ, ◌≡◌, false, Option, Some, None, List, [], ◌∷◌, ◌++◌}
+use Rattle.std.specs.Prelude.{ℕ, ◌≡◌, Option, Some, None, List, [], ◌∷◌, ◌++◌}
 use Rattle.wl_peer.specs.declared.cause.Cause.TheVariants as cause
 use Rattle.wl_peer.specs.Peer.{ended, with_rest}
-use Rattle.wl_peer.specs.Told.{Output}
 use Rattle.wl_plain.specs.declared.answers.Done.{Done}
-use Rattle.wl_plain.specs.Desktop.{Desktop, Resident, client_at, empty, with_client}
+use Rattle.wl_plain.specs.Desktop.{Desktop, Resident, client_at, with_client}
 use Rattle.wl_plain.specs.LeftOut.{LeftOut}
-use Rattle.wl_plain.specs.Marks.{AreDistinct}
-use Rattle.wl_plain.specs.Moments.{marks_at_least_of, marks_at_least_through}
 use Rattle.wl_plain.specs.Settling.{becomes, unstruck}
-use Rattle.wl_plain.specs.Soundness.{IsSound}
-use Rattle.wl_plain.specs.Stacked.{all_windows}
 use Rattle.wl_plain.specs.Step.{with_peer}
-use Rattle.wl_plain.specs.Acts.{Act, Feed}
+use Rattle.wl_plain.specs.Acts.{Act}
 use Rattle.wl_plain.specs.Through.{HappensThrough, ServesThrough, settling_through}
-use Rattle.wl_plain.specs.Happens.{Happens}
 
 pub data Happening : Type 0 where
   -- bytes of a client that lives come, and are kept
@@ -46,33 +40,3 @@ Leads left (Single act done) d path new = HappensThrough left act done d path ne
 abbrev pub LeadsAll : LeftOut → List Happening → Desktop → Desktop → Type 0
 LeadsAll left [] d new = new ≡ d
 LeadsAll left (h ∷ hs) d new = (path : List Desktop) × (mid : Desktop) × Leads left h d path mid × LeadsAll left hs mid new
-
--- ---- laws
-
--- A piece of a client's stream leads where its bytes lead as they come, then the messages that they complete, and want of memory where it was met.
-abbrev pub PieceIsMessages : Type 0
-PieceIsMessages =
-    (left : LeftOut) (c : ℕ) (piece : List ℕ) (done : Done) (d new : Desktop)
-    → Happens left (Feed c piece) done d new
-    → (hs : List Happening) × LeadsAll left hs d new
-
-abbrev pub AreSound : List Desktop → Type 0
-AreSound [] = Unit {0}
-AreSound (d ∷ ds) = IsSound d × AreSound ds
-
--- After whatever happened from a desktop without clients on the desktop is sound, and so is each that the next happening leads through.
-abbrev pub HappeningsAreSound : Type 0
-HappeningsAreSound =
-    (left : LeftOut) (output : Output) (hs : List Happening) (d : Desktop)
-    → LeadsAll left hs (empty output) d
-    → IsSound d × ((h : Happening) (path : List Desktop) (new : Desktop) → Leads left h d path new → AreSound path)
-
--- What is marked through the desktops of a happening holds what is marked from the first to the last: the ends and settlings that follow a
--- change hide nothing of it.
-abbrev pub MarkedThrough : Type 0
-MarkedThrough =
-    (left : LeftOut) (h : Happening) (d : Desktop) (path : List Desktop) (new : Desktop) (x y : ℤ)
-    → AreDistinct (all_windows d)
-    → Leads left h d path new
-    → marks_at_least_through all_windows d path x y ≡ false
-    → marks_at_least_of all_windows d new x y ≡ false

@@ -26,8 +26,7 @@ use Rattle.wl_plain.specs.declared.answers.Stored.TheVariants as stored
 use Rattle.wl_plain.specs.Changing.{changed_for, grab_holder, stacked_for, with_kept_move, without_callbacks}
 use Rattle.wl_plain.specs.Demand.{Demand, Asks, Move}
 use Rattle.wl_plain.specs.Demanding.{judge_all}
-use Rattle.wl_plain.specs.Desktop.{Desktop, Resident, arrival, client_at, with_client}
-use Rattle.wl_plain.specs.Laws.{status_in}
+use Rattle.wl_plain.specs.Desktop.{Desktop, Resident, arrival, client_at, with_client, status_in}
 use Rattle.wl_plain.specs.LeftOut.{LeftOut}
 use Rattle.wl_plain.specs.Pointing.{button_told, has_pointers, motion_told, moved_with}
 use Rattle.wl_plain.specs.Replies.{focus_window, popups_done, replies}

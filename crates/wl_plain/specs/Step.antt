@@ -6,16 +6,14 @@ use Rattle.wl_interface.specs.declared.interface.Interface.{Interface}
 use Rattle.wl_interface.specs.declared.interface.Interface.TheVariants.{WlSurface, XdgSurface, XdgToplevel}
 use Rattle.wl_proto.specs.Messages.{says}
 use Rattle.wl_peer.specs.declared.actions.Action.{Action}
-use Rattle.wl_peer.specs.Peer.{Peer, made, object_at_version, released, removed}
-use Rattle.wl_peer.specs.Peer.{answers_to as own_answers, takes_memory as own_takes_memory}
+use Rattle.wl_peer.specs.Peer.{Peer, made, object_at_version, released, removed, answers_to as own_answers, takes_memory as own_takes_memory}
 use Rattle.wl_peer.specs.Used.{changed_with}
 use Rattle.wl_peer.specs.Told.{Said, id_deleted, said}
 use Rattle.wl_surface.specs.Request.{Buffer, Request}
 use Rattle.wl_surface.specs.State.{History}
 use Rattle.wl_surface.specs.Surfaces.{Surfaces, asking, buffers_of, history_in, is_used, with_change, with_new, with_role}
 use Rattle.wl_surface.specs.declared.role.Role.TheVariants.{Toplevel as AsToplevel}
-use Rattle.wl_shell.specs.Shell.{RoleObject, Shell, XdgSurface as Xdg, acknowledging, configuring, new_toplevel, next_serial, xdg_at, without_xdg}
-use Rattle.wl_shell.specs.Shell.{with_change as with_xdg_change, with_new as with_new_xdg}
+use Rattle.wl_shell.specs.Shell.{RoleObject, Shell, XdgSurface as Xdg, acknowledging, configuring, new_toplevel, next_serial, xdg_at, without_xdg, with_change as with_xdg_change, with_new as with_new_xdg}
 use Rattle.wl_plain.specs.Ask.{Ask, Own, CreateSurface, AskSurface, DestroyBase, GetXdgSurface, DestroyXdgSurface, GetToplevel, Acknowledge, ConfigureAgain, Ignore}
 use Rattle.wl_plain.specs.Desktop.{Resident}
 

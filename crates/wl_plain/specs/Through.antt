@@ -7,8 +7,8 @@ use Rattle.wl_plain.specs.Desktop.{Desktop, client_at}
 use Rattle.wl_plain.specs.LeftOut.{LeftOut}
 use Rattle.wl_plain.specs.Settling.{Midstep, Settles, Strike, ended_all, ended_by, unstruck}
 use Rattle.wl_plain.specs.Stacked.{all_windows}
-use Rattle.wl_plain.specs.Happens.{Happens, HappensThen, Serves, ServesThen, hit_now}
-use Rattle.wl_plain.specs.Acts.{Act, Button, Feed}
+use Rattle.wl_plain.specs.Happens.{HappensThen, ServesThen, hit_now}
+use Rattle.wl_plain.specs.Acts.{Act, Button}
 use Rattle.wl_plain.specs.declared.answers.Done.{Done}
 
 -- one after each end of these, where they end one after another
@@ -68,23 +68,3 @@ raised_if false d = None
 abbrev pub raised_in : Act → Desktop → Option (ℕ × ℕ)
 raised_in (Button time button pressed) d = raised_if (pressed && is_press button d.pointer.buttons) d
 raised_in act d = None
-
--- ---- laws
-
--- what happens isn't a piece
-abbrev pub IsSingle : Act → Type 0
-IsSingle act = (c : ℕ) (piece : List ℕ) → act ≡ Feed c piece → ⊥
-
--- A message leads where it leads with the desktops on the way, and these are there.
-abbrev pub MessagesLeadThrough : Type 0
-MessagesLeadThrough =
-    (left : LeftOut) (c : ℕ) (d new : Desktop)
-    → ((path : List Desktop) → ServesThrough left c d path new → Serves left c d new)
-    × (Serves left c d new → (path : List Desktop) × ServesThrough left c d path new)
-
--- So does whatever else happens.
-abbrev pub HappensLeadsThrough : Type 0
-HappensLeadsThrough =
-    (left : LeftOut) (act : Act) (done : Done) (d new : Desktop)
-    → ((path : List Desktop) → HappensThrough left act done d path new → Happens left act done d new)
-    × (IsSingle act → Happens left act done d new → (path : List Desktop) × HappensThrough left act done d path new)

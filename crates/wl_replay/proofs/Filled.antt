@@ -9,8 +9,7 @@ use Rattle.wl_recording.specs.declared.place.Place.{Place}
 use Rattle.wl_recording.specs.Side.{Files}
 use Rattle.wl_replay.specs.Storing.{Fills, FillsAll, Puts, more}
 use Rattle.wl_replay.specs.Told.{Stage, Stands}
-use Rattle.wl_replay.proofs.Stages.{stands-on, steps-on}
-use Rattle.wl_replay.proofs.Stages.{after as after-step}
+use Rattle.wl_replay.proofs.Stages.{stands-on, steps-on, after as after-step}
 
 abbrev pub at_byte : Place → ℕ → Place
 at_byte place at = record { client = place.client; store = place.store; at = at }

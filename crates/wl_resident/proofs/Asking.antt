@@ -13,8 +13,7 @@ use Rattle.wl_client.specs.First.{IsRefused, Passes, passing, passing_in}
 use Rattle.wl_peer.specs.Objects.{Object, Objects, fits, object_of, objects_in}
 use Rattle.wl_peer.specs.Peer.{Errs, IsIdleAt, Peer, QueuesOr, counted, ended, has_room, queued, with_rest}
 use Rattle.std.specs.List.{list_all}
-use Rattle.wl_proto.specs.Objects.{new_id_in}
-use Rattle.wl_proto.specs.Objects.{objects_in as objects_named}
+use Rattle.wl_proto.specs.Objects.{new_id_in, objects_in as objects_named}
 use Rattle.wl_proto.specs.declared.argument.NewId.{NewId}
 use Rattle.wl_peer.specs.Judgement.{is_free, judged_at}
 use Rattle.wl_peer.specs.Told.{code_number, display_error, error_told}
@@ -23,7 +22,7 @@ use Rattle.wl_peer.specs.declared.cause.Cause.TheVariants.{Protocol}
 use Rattle.wl_shell.specs.Shell.{Effect, Maps, Unmaps}
 use Rattle.wl_table.specs.Objects.{Held}
 use Rattle.wl_interface.specs.declared.interface.Interface.TheVariants.{WlSurface}
-use Rattle.wl_plain.specs.Owning.{targets_in}
+use Rattle.wl_laws.specs.Owning.{targets_in}
 use Rattle.wl_client.specs.View.{ClientView}
 use Rattle.wl_peer.specs.declared.refusals.ErrorCode.TheVariants.{InvalidMethod, MissingCapability}
 use Rattle.wl_peer.specs.declared.refusals.Refusal.{Refusal}
@@ -38,15 +37,15 @@ use Rattle.wl_plain.specs.Demand.{Demand, CommitTree, EndToplevel}
 use Rattle.wl_plain.specs.Demanding.{demand_of, effect_of_commit, judge_all}
 use Rattle.wl_plain.specs.Desktop.{Desktop, Resident}
 use Rattle.wl_plain.specs.LeftOut.{served_now}
-use Rattle.wl_plain.specs.NoMore.{OwnsToplevelsOnly}
+use Rattle.wl_laws.specs.NoMore.{OwnsToplevelsOnly}
 use Rattle.wl_resident.specs.Marking.{marked_by}
 use Rattle.wl_resident.specs.Messages.{IsAsked}
 use Rattle.wl_resident.specs.declared.messages.Asked.{Asked}
 use Rattle.wl_resident.specs.declared.messages.Asked.TheVariants as asks
 use Rattle.wl_resident.specs.Residents.{AnswersAs, AnswersDemand, AnswersDemandAs, AnswersSo, IsResident, NewIsFree, ObjectsFit, Stacks, StacksBy, StacksFor, StacksSo, StacksTo, TakesAs, TakesSo}
 use Rattle.wl_plain.specs.Step.{with_peer}
-use Rattle.wl_plain.proofs.BridgeServes.{only-peer}
-use Rattle.wl_plain.proofs.PiecesChanging.{judged-behind}
+use Rattle.wl_laws.proofs.Toplevels.Serves.{only-peer}
+use Rattle.wl_laws.proofs.Pieces.Changing.{judged-behind}
 use Rattle.wl_resident.proofs.Numbers.{left-from}
 use Rattle.wl_resident.proofs.Shelling.{meets-from, new-free, refused-whole}
 

@@ -15,20 +15,19 @@ use Rattle.wl_surface.specs.Surfaces.{Surface, applying, asking, history_in, is_
 use Rattle.wl_surface.proofs.Commits.{commit_takes_all}
 use Rattle.wl_shell.specs.Agreement.{IsKept}
 use Rattle.wl_shell.specs.Kept.{Kept as KeptXdg, kept_of}
-use Rattle.wl_shell.specs.Shell.{Unmaps, on_commit, stage_of, xdg_of}
-use Rattle.wl_shell.specs.Shell.{XdgSurface as Xdg}
+use Rattle.wl_shell.specs.Shell.{Unmaps, on_commit, stage_of, xdg_of, XdgSurface as Xdg}
 use Rattle.wl_shell.specs.declared.stage.Stage.{Stage}
 use Rattle.wl_shell.specs.declared.stage.Stage.TheVariants as stage
 use Rattle.wl_scene.specs.Stacking.{Owned, Stack, Standing, is_of}
 use Rattle.wl_scene.specs.Windows.{Place, corner_at, moved}
 use Rattle.wl_plain.specs.Desktop.{Desktop, Resident, owned_of}
-use Rattle.wl_plain.specs.Owning.{targets_in}
-use Rattle.wl_plain.specs.Standing.{is_mapped}
-use Rattle.wl_plain.specs.Touching.{has_window_at}
+use Rattle.wl_laws.specs.Owning.{targets_in}
+use Rattle.wl_laws.specs.Standing.{is_mapped}
+use Rattle.wl_laws.specs.Touching.{has_window_at}
 use Rattle.wl_plain.specs.WlSurface.{will_show}
-use Rattle.wl_plain.proofs.OwningSurfaces.{surface-named, surface-read}
-use Rattle.wl_plain.proofs.Simply.{effect_for, effect_of}
-use Rattle.wl_plain.proofs.Stacks.{and-both, and-left, and-right, differ}
+use Rattle.wl_laws.proofs.Keeping.OwningSurfaces.{surface-named, surface-read}
+use Rattle.wl_laws.proofs.Toplevels.Simply.{effect_for, effect_of}
+use Rattle.wl_laws.proofs.Marks.Stacks.{and-both, and-left, and-right, differ}
 use Rattle.wl_resident.specs.Agreement.{IsStack, IsStanding, with_numbers}
 use Rattle.wl_resident.specs.Marking.{counted_at, is_shown_by, shows_point}
 use Rattle.wl_resident.specs.Seats.{IsSeated}

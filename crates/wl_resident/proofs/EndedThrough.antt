@@ -21,33 +21,33 @@ use Rattle.wl_surface.specs.Surfaces.{applying, asking, with_change}
 use Rattle.wl_shell.specs.Shell.{Effect, Stays, Unconfigured, Configures, Maps, Unmaps, xdg_of}
 use Rattle.wl_scene.specs.Stacking.{Owned, Stack, Standing, is_of, without_surface_of}
 use Rattle.wl_scene.specs.Windows.{Window, contains}
-use Rattle.wl_plain.specs.Desktop.{Desktop, Resident, become_by, owned_in, owned_of}
+use Rattle.wl_plain.specs.Desktop.{Desktop, Resident, become_by, owned_in, owned_of, status_in}
 use Rattle.wl_plain.specs.Happens.{Serves}
-use Rattle.wl_plain.specs.Laws.{AreApart, status_in}
+use Rattle.wl_laws.specs.Laws.{AreApart}
 use Rattle.wl_plain.specs.LeftOut.{served_now}
 use Rattle.wl_plain.specs.Marks.{has_same_record, in_output}
 use Rattle.wl_plain.specs.Moments.{history_of, marks_at_least, marks_at_least_through, marks_at_most, marks_at_most_through}
-use Rattle.wl_plain.specs.NoMore.{NoMore}
-use Rattle.wl_plain.specs.Owning.{AreKept, by_number, targets_in}
+use Rattle.wl_laws.specs.NoMore.{NoMore}
+use Rattle.wl_laws.specs.Owning.{AreKept, by_number, targets_in}
 use Rattle.wl_plain.specs.Stacked.{all_windows}
-use Rattle.wl_plain.specs.Standing.{AreMapped}
+use Rattle.wl_laws.specs.Standing.{AreMapped}
 use Rattle.wl_plain.specs.Step.{with_peer}
-use Rattle.wl_plain.specs.Touching.{changes_at, has_window_at, is_window_damaged, is_window_of, window_at}
-use Rattle.wl_plain.proofs.BridgeBack.{AsksBy}
-use Rattle.wl_plain.proofs.EndingMarks.{gone-least, gone-most, no-links, twice-least, twice-most}
-use Rattle.wl_plain.proofs.EndingStruck.{at-own, own-stand, struck-kept, struck-least, struck-most, struck-own, struck-was}
-use Rattle.wl_plain.proofs.EndingThrough.{Struck}
-use Rattle.wl_plain.proofs.OrderlyObjectsKeys.{any-of-filter}
-use Rattle.wl_plain.proofs.OwningKeys.{found-any, some-same}
-use Rattle.wl_plain.proofs.OwningSurfaces.{AreKept-changed, surface-read}
-use Rattle.wl_plain.proofs.Simply.{CommitSurface, Simple, changed_simply, effect_of, stacked_simply, told_simply, touched}
-use Rattle.wl_plain.proofs.Stacks.{and-both, and-left, differ, unless}
-use Rattle.wl_plain.proofs.StandingDesks.{all-show}
-use Rattle.wl_plain.proofs.StandingFound.{Finds}
-use Rattle.wl_plain.proofs.TouchingAsks.{effect-surfaces}
-use Rattle.wl_plain.proofs.TouchingCommits.{IsAppliedBy}
-use Rattle.wl_plain.proofs.TouchingMarks.{either-of}
-use Rattle.wl_plain.proofs.TouchingMessages.{asks-find}
+use Rattle.wl_laws.specs.Touching.{changes_at, has_window_at, is_window_damaged, is_window_of, window_at}
+use Rattle.wl_laws.proofs.Toplevels.Back.{AsksBy}
+use Rattle.wl_laws.proofs.Marks.Ending.{gone-least, gone-most, no-links, twice-least, twice-most}
+use Rattle.wl_laws.proofs.Marks.EndingStruck.{at-own, own-stand, struck-kept, struck-least, struck-most, struck-own, struck-was}
+use Rattle.wl_laws.proofs.Marks.EndingThrough.{Struck}
+use Rattle.wl_laws.proofs.Soundness.ObjectsKeys.{any-of-filter}
+use Rattle.wl_laws.proofs.Keeping.OwningKeys.{found-any, some-same}
+use Rattle.wl_laws.proofs.Keeping.OwningSurfaces.{AreKept-changed, surface-read}
+use Rattle.wl_laws.proofs.Toplevels.Simply.{CommitSurface, Simple, changed_simply, effect_of, stacked_simply, told_simply, touched}
+use Rattle.wl_laws.proofs.Marks.Stacks.{and-both, and-left, differ, unless}
+use Rattle.wl_laws.proofs.Keeping.StandingDesks.{all-show}
+use Rattle.wl_laws.proofs.Keeping.StandingFound.{Finds}
+use Rattle.wl_laws.proofs.Marks.TouchingAsks.{effect-surfaces}
+use Rattle.wl_laws.proofs.Marks.TouchingCommits.{IsAppliedBy}
+use Rattle.wl_laws.proofs.Marks.TouchingMarks.{either-of}
+use Rattle.wl_laws.proofs.Marks.TouchingMessages.{asks-find}
 use Rattle.wl_resident.specs.Agreement.{IsStack, with_numbers}
 use Rattle.wl_resident.specs.Marking.{IsRecordOf, MarksAtLeast, MarksMost, MarksThrough, any_record_has, commit_by, is_shown_by, marked_by, marked_in}
 use Rattle.wl_resident.specs.Messages.{IsAsked}

@@ -37,21 +37,19 @@ use Rattle.wl_surface.specs.State.{History}
 use Rattle.wl_surface.specs.Surfaces.{Surface, history_in, surface_at}
 use Rattle.wl_surface.specs.declared.applied.Applied.{Applied}
 use Rattle.wl_shell.specs.Kept.{kept_of}
-use Rattle.wl_shell.specs.Shell.{Effect, Stays, Unconfigured, Configures, Maps, Unmaps, is_full, xdg_at, xdg_of, xdg_with}
-use Rattle.wl_shell.specs.Shell.{XdgSurface as Xdg}
+use Rattle.wl_shell.specs.Shell.{Effect, Stays, Unconfigured, Configures, Maps, Unmaps, is_full, xdg_at, xdg_of, xdg_with, XdgSurface as Xdg}
 use Rattle.wl_scene.specs.Stacking.{Owned, Stack}
 use Rattle.wl_scene.specs.Windows.{Window, contains}
 use Rattle.wl_plain.specs.Ask.{Ask, Ignore, owns}
 use Rattle.wl_plain.specs.Demand.{Demand, Asks, EndSurface, AskFrame, CommitTree, EndToplevel, Move}
 use Rattle.wl_plain.specs.Demanding.{base_demand, committed_by, demand_by, demand_of, demands, effect_of_commit, judge_all, moved_by_pointer, own_demand, surface_demand, toplevel_asked, toplevel_demand, toplevel_destroyed, xdg_asked}
-use Rattle.wl_plain.proofs.BridgeJudged.{simple-peer, simply-ok}
-use Rattle.wl_plain.specs.Desktop.{Desktop, Resident, client_in, owned_in, owned_of}
-use Rattle.wl_plain.specs.Laws.{status_in, status_of}
+use Rattle.wl_laws.proofs.Toplevels.Judged.{simple-peer, simply-ok}
+use Rattle.wl_plain.specs.Desktop.{Desktop, Resident, client_in, owned_in, owned_of, status_in, status_of}
 use Rattle.wl_resident.proofs.Toplevels.{MarksToplevels}
 use Rattle.wl_resident.specs.Marking.{AddsPoints, AreUnlinked, IsRecordOf, MarksChange, TellsChange, any_record_has, commit_by, commit_in, is_record_damaged, marked_by, marked_in, record_has, rects_applied, rects_changed}
 use Rattle.wl_resident.specs.declared.marking.WindowRecord.{WindowRecord}
 use Rattle.wl_resident.specs.Messages.{IsAsked, IsKind}
-use Rattle.wl_plain.specs.Owning.{by_number, names_in, target_as, targets_in}
+use Rattle.wl_laws.specs.Owning.{by_number, names_in, target_as, targets_in}
 use Rattle.wl_plain.specs.Marks.{has_same_record}
 use Rattle.wl_plain.specs.Moments.{history_of}
 use Rattle.wl_resident.specs.Residents.{IsLeft, IsResident, KeepsNumbers, asked_by}
@@ -59,17 +57,16 @@ use Rattle.wl_resident.proofs.Simply.{AnswersSimply, TakesSo}
 use Rattle.wl_resident.specs.Seats.{IsClearedBy, IsRestacked, IsSeated}
 use Rattle.wl_resident.proofs.Seats.{IsSettledBy}
 use Rattle.wl_plain.specs.LeftOut.{served_now}
-use Rattle.wl_plain.specs.NoMore.{NoMore}
+use Rattle.wl_laws.specs.NoMore.{NoMore}
 use Rattle.wl_plain.specs.Happens.{Serves}
 use Rattle.wl_plain.specs.Step.{with_peer}
-use Rattle.wl_plain.proofs.Simply.{Simple, Asking, AskingFrame, CommitSurface, DestroySurface, DestroyToplevel, changed_simply, effect_of, judge, simple_of, simply, touched}
-use Rattle.wl_plain.specs.Touching.{changes_at, is_window_damaged, is_window_of, window_at}
-use Rattle.wl_peer.specs.Requests.{Request as AnyRequest, ToCompositor, ToSurface, ToSubcompositor, ToSubsurface, ToSeat, ToPointer, ToBase, ToPositioner, ToXdgSurface, ToToplevel, ToPopup, request_in, request_of, toplevel_request}
+use Rattle.wl_laws.proofs.Toplevels.Simply.{Simple, Asking, AskingFrame, CommitSurface, DestroySurface, DestroyToplevel, changed_simply, effect_of, judge, simple_of, simply, touched}
+use Rattle.wl_laws.specs.Touching.{changes_at, is_window_damaged, is_window_of, window_at}
+use Rattle.wl_peer.specs.Requests.{Request as AnyRequest, ToCompositor, ToSurface, ToSubcompositor, ToSubsurface, ToSeat, ToPointer, ToBase, ToPositioner, ToXdgSurface, ToToplevel, ToPopup, request_in, request_of, toplevel_request, rect}
 use Rattle.wl_plain.specs.Served.{unserved_now}
 use Rattle.wl_peer.specs.ToplevelRequest.{ToplevelRequest}
 use Rattle.wl_peer.specs.ToplevelRequest as toplevel
 use Rattle.wl_plain.specs.WlSurface.{surface_created, transform_set}
-use Rattle.wl_peer.specs.Requests.{rect}
 use Rattle.wl_plain.specs.XdgShell.{acknowledged_by, base_destroyed, geometry_set, state_asked, toplevel_made, xdg_surface_destroyed, xdg_surface_made}
 use Rattle.wl_peer.proofs.Requests.{of-wl_compositor, of-wl_seat, of-wl_surface, of-xdg_surface, of-xdg_wm_base}
 use Rattle.wl_resident.specs.declared.messages.Asked.{Asked}
@@ -82,17 +79,17 @@ use Rattle.wl_resident.specs.declared.residents.Stacking.TheVariants as on
 use Rattle.wl_resident.proofs.Asking.{demanded-first, passing-peer, whole-first}
 use Rattle.wl_resident.proofs.Doing.{named-by}
 use Rattle.wl_resident.proofs.Ends.{lacks-over, over-ended}
-use Rattle.wl_plain.proofs.BridgeBack.{AsksBy}
-use Rattle.wl_plain.proofs.OwningXdg.{toplevel-named}
-use Rattle.wl_plain.proofs.OwningSurfaces.{surface-named, surface-read}
-use Rattle.wl_plain.proofs.Places.{number-other}
-use Rattle.wl_plain.proofs.Stacks.{and-left, and-right, differ, fields, or-left, or-right, recorded, unless}
-use Rattle.wl_plain.proofs.StandingTurned.{same-turned}
+use Rattle.wl_laws.proofs.Toplevels.Back.{AsksBy}
+use Rattle.wl_laws.proofs.Keeping.OwningXdg.{toplevel-named}
+use Rattle.wl_laws.proofs.Keeping.OwningSurfaces.{surface-named, surface-read}
+use Rattle.wl_laws.proofs.Runs.Places.{number-other}
+use Rattle.wl_laws.proofs.Marks.Stacks.{and-left, and-right, differ, fields, or-left, or-right, recorded, unless}
+use Rattle.wl_laws.proofs.Keeping.StandingTurned.{same-turned}
 use Rattle.wl_resident.proofs.Taking.{none-is}
-use Rattle.wl_plain.proofs.TouchingDamage.{IsAppliedBy, MarkedExactlyBy, serves-exactly}
-use Rattle.wl_plain.proofs.TouchingKeeps.{serves-keeps}
-use Rattle.wl_plain.proofs.TouchingMessages.{touched-peer}
-use Rattle.wl_plain.proofs.ToplevelWindows.{marks_of_toplevels}
+use Rattle.wl_laws.proofs.Marks.TouchingDamage.{IsAppliedBy, MarkedExactlyBy, serves-exactly}
+use Rattle.wl_laws.proofs.Marks.TouchingKeeps.{serves-keeps}
+use Rattle.wl_laws.proofs.Marks.TouchingMessages.{touched-peer}
+use Rattle.wl_laws.proofs.Toplevels.WithoutPopups.{marks_of_toplevels}
 
 -- ---- links
 

@@ -18,18 +18,17 @@ use Rattle.wl_plain.specs.Ask.{Ask}
 use Rattle.wl_plain.specs.Demand.{Demand}
 use Rattle.wl_plain.specs.Demanding.{demands, judge_all}
 use Rattle.wl_plain.specs.Changing.{changed_for}
-use Rattle.wl_plain.specs.Desktop.{Desktop, Resident}
+use Rattle.wl_plain.specs.Desktop.{Desktop, Resident, toplevels_of}
 use Rattle.wl_plain.specs.Happens.{wants_memory}
 use Rattle.wl_plain.specs.LeftOut.{served_now}
-use Rattle.wl_plain.specs.NoMore.{AreToplevels, NoMore, OwnsToplevelsAt, OwnsToplevelsOnly}
-use Rattle.wl_plain.specs.Laws.{toplevels_of}
+use Rattle.wl_laws.specs.NoMore.{AreToplevels, NoMore, OwnsToplevelsAt, OwnsToplevelsOnly}
 use Rattle.wl_plain.specs.Replies.{replies}
 use Rattle.wl_plain.specs.Stacked.{all_windows}
 use Rattle.wl_plain.specs.Step.{with_peer}
-use Rattle.wl_plain.proofs.Simply.{Simple, CommitSurface, DestroyToplevel, asks_simply, changed_simply, judge, told_simply, wants_simply}
-use Rattle.wl_plain.proofs.BridgeChanged.{changed-same, wants-same}
-use Rattle.wl_plain.proofs.BridgeJudged.{Pairs, Same, asks, commit, demands-pair, effect-same, ends, frames, goes, judge-pair, move}
-use Rattle.wl_plain.proofs.BridgeServes.{living, only-peer, pairs-peer, replies-same, same-peer}
+use Rattle.wl_laws.proofs.Toplevels.Simply.{Simple, CommitSurface, DestroyToplevel, asks_simply, changed_simply, judge, told_simply, wants_simply}
+use Rattle.wl_laws.proofs.Toplevels.Changed.{changed-same, wants-same}
+use Rattle.wl_laws.proofs.Toplevels.Judged.{Pairs, Same, asks, commit, demands-pair, effect-same, ends, frames, goes, judge-pair, move}
+use Rattle.wl_laws.proofs.Toplevels.Serves.{living, only-peer, pairs-peer, replies-same, same-peer}
 
 -- ---- simply
 

@@ -4,8 +4,7 @@ use Rattle.std.specs.Prelude.{◌==◌, drop, is_some, Ok, Err, OnErr, OnOk}
 use Rattle.std.specs.Option.{option_map}
 use Rattle.std.proofs.lemmas.Bool.{eqb-true}
 use Rattle.std.proofs.lemmas.List.{take-append-le}
-use Rattle.wl_surface.specs.Kept.{Changes, Numbered, Slots, StandForAll, StandsAt, changed_at, kept_at, with_at}
-use Rattle.wl_surface.specs.Kept.{Kept as KeptSurface}
+use Rattle.wl_surface.specs.Kept.{Changes, Numbered, Slots, StandForAll, StandsAt, changed_at, kept_at, with_at, Kept as KeptSurface}
 use Rattle.wl_surface.specs.Request.{Request}
 use Rattle.wl_surface.specs.State.{counting}
 use Rattle.wl_surface.specs.Surfaces.{Surface, asking, new_surface, with_role}

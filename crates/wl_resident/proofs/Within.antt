@@ -20,32 +20,30 @@ use Rattle.wl_peer.specs.ToplevelRequest as toplevel
 use Rattle.wl_peer.specs.declared.refusals.Refusal.{Refusal}
 use Rattle.wl_peer.proofs.Requests.{of-wl_surface}
 use Rattle.wl_paint.specs.Damage.{Damaged, has}
-use Rattle.wl_shell.specs.Shell.{Effect, Stays, Unconfigured, Configures, Maps, Unmaps, is_full, xdg_of, xdg_with}
-use Rattle.wl_shell.specs.Shell.{XdgSurface as Xdg}
+use Rattle.wl_shell.specs.Shell.{Effect, Stays, Unconfigured, Configures, Maps, Unmaps, is_full, xdg_of, xdg_with, XdgSurface as Xdg}
 use Rattle.wl_scene.specs.Stacking.{Stack}
 use Rattle.wl_scene.specs.Windows.{Window, contains}
 use Rattle.wl_surface.specs.declared.applied.Applied.{Applied}
 use Rattle.wl_plain.specs.Demand.{Demand}
 use Rattle.wl_plain.specs.Demanding.{committed_by, demand_by, demand_of, effect_of_commit, judge_all, toplevel_destroyed}
-use Rattle.wl_plain.specs.Desktop.{Desktop, Resident}
+use Rattle.wl_plain.specs.Desktop.{Desktop, Resident, status_in}
 use Rattle.wl_plain.specs.Happens.{Serves}
-use Rattle.wl_plain.specs.Laws.{status_in}
 use Rattle.wl_plain.specs.LeftOut.{served_now}
 use Rattle.wl_plain.specs.Marks.{has_same_record, in_output}
 use Rattle.wl_plain.specs.Moments.{marks_at_most}
-use Rattle.wl_plain.specs.NoMore.{NoMore}
-use Rattle.wl_plain.specs.Owning.{targets_in}
+use Rattle.wl_laws.specs.NoMore.{NoMore}
+use Rattle.wl_laws.specs.Owning.{targets_in}
 use Rattle.wl_plain.specs.Served.{unserved_now}
 use Rattle.wl_plain.specs.Step.{with_peer}
-use Rattle.wl_plain.specs.Touching.{changes_at, is_window_damaged, window_at}
-use Rattle.wl_plain.proofs.BridgeBack.{AsksBy, message-by}
-use Rattle.wl_plain.proofs.BridgeJudged.{simple-peer, simply-ok}
-use Rattle.wl_plain.proofs.Places.{status-become}
-use Rattle.wl_plain.proofs.Simply.{Simple, simple_of, touched}
-use Rattle.wl_plain.proofs.Stacks.{differ}
-use Rattle.wl_plain.proofs.TouchingDamage.{serves-within}
-use Rattle.wl_plain.proofs.TouchingMarks.{either-of}
-use Rattle.wl_plain.proofs.TouchingMessages.{touched-peer}
+use Rattle.wl_laws.specs.Touching.{changes_at, is_window_damaged, window_at}
+use Rattle.wl_laws.proofs.Toplevels.Back.{AsksBy, message-by}
+use Rattle.wl_laws.proofs.Toplevels.Judged.{simple-peer, simply-ok}
+use Rattle.wl_laws.proofs.Runs.Places.{status-become}
+use Rattle.wl_laws.proofs.Toplevels.Simply.{Simple, simple_of, touched}
+use Rattle.wl_laws.proofs.Marks.Stacks.{differ}
+use Rattle.wl_laws.proofs.Marks.TouchingDamage.{serves-within}
+use Rattle.wl_laws.proofs.Marks.TouchingMarks.{either-of}
+use Rattle.wl_laws.proofs.Marks.TouchingMessages.{touched-peer}
 use Rattle.wl_resident.specs.Marking.{AddsPoints, AreUnlinked, IsRecordOf, MarksAtMost, MarksChange, TellsChange, any_record_has, commit_by, is_record_damaged, marked_by, marked_in, record_has, rects_applied}
 use Rattle.wl_resident.specs.Messages.{IsAsked, IsKind}
 use Rattle.wl_resident.specs.Residents.{IsResident, KeepsNumbers, asked_by}

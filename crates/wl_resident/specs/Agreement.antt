@@ -8,9 +8,9 @@ use Rattle.wl_client.specs.View.{ClientView}
 use Rattle.wl_shell.specs.Kept.{kept_of}
 use Rattle.wl_scene.specs.Stacking.{Stack, Standing}
 use Rattle.wl_plain.specs.Desktop.{Desktop, Resident, place}
-use Rattle.wl_plain.specs.Laws.{OwnsNothing}
-use Rattle.wl_plain.specs.Owning.{IsOwned, by_number, names_in, targets_in}
-use Rattle.wl_plain.specs.Standing.{MappedStand}
+use Rattle.wl_laws.specs.Laws.{OwnsNothing}
+use Rattle.wl_laws.specs.Owning.{IsOwned, by_number, names_in, targets_in}
+use Rattle.wl_laws.specs.Standing.{MappedStand}
 use Rattle.wl_plain.specs.Framing.{AreFramed}
 use Rattle.wl_resident.specs.View.{DeskView, OwnedView}
 

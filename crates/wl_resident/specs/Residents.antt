@@ -6,8 +6,7 @@ use Rattle.wl_wire.specs.declared.header.Split.{Split}
 use Rattle.wl_wire.specs.declared.header.Split.TheVariants.{Message as Whole, More, Bad}
 use Rattle.wl_interface.specs.declared.interface.Interface.TheVariants.{WlSurface, XdgSurface, XdgToplevel, XdgWmBase}
 use Rattle.wl_proto.specs.Messages.{Message}
-use Rattle.wl_proto.specs.Objects.{new_id_in}
-use Rattle.wl_proto.specs.Objects.{objects_in as objects_named}
+use Rattle.wl_proto.specs.Objects.{new_id_in, objects_in as objects_named}
 use Rattle.wl_table.specs.Objects.{Held, entry_of}
 use Rattle.wl_client.specs.Agreement.{IsPeer}
 use Rattle.wl_peer.specs.Objects.{fits, is_of, objects_in}
@@ -32,8 +31,8 @@ use Rattle.wl_peer.specs.ToplevelRequest.{ToplevelRequest}
 use Rattle.wl_peer.specs.ToplevelRequest as toplevel
 use Rattle.wl_plain.specs.Desktop.{Desktop, Resident}
 use Rattle.wl_plain.specs.LeftOut.{served_now}
-use Rattle.wl_plain.specs.NoMore.{OwnsToplevelsOnly}
-use Rattle.wl_plain.specs.Owning.{IsOwned, by_number, names_in, targets_in}
+use Rattle.wl_laws.specs.NoMore.{OwnsToplevelsOnly}
+use Rattle.wl_laws.specs.Owning.{IsOwned, by_number, names_in, targets_in}
 use Rattle.wl_plain.specs.Replies.{replies}
 use Rattle.wl_plain.specs.Stacked.{all_windows}
 use Rattle.wl_plain.specs.Step.{answers_to, changed_by, role_configured, takes_memory, with_peer}

@@ -6,14 +6,13 @@ use Rattle.wl_peer.specs.Objects.{ById}
 use Rattle.wl_peer.specs.Peer.{LacksMemory, Peer, ended}
 use Rattle.wl_client.specs.View.{ClientView}
 use Rattle.wl_peer.specs.declared.cause.Cause.{Cause}
-use Rattle.wl_surface.specs.Kept.{StandForAll, nobody}
-use Rattle.wl_surface.specs.Kept.{count as count_kept}
+use Rattle.wl_surface.specs.Kept.{StandForAll, nobody, count as count_kept}
 use Rattle.wl_scene.specs.Stacking.{Stack, mapped_on, without_client, without_surface_of}
 use Rattle.wl_scene.specs.declared.owned.Owned.{Owned}
 use Rattle.wl_resident.specs.Agreement.{IsScene, IsSeat, with_numbers}
 use Rattle.wl_plain.specs.Desktop.{Desktop, Resident, become, client_at, with_number}
-use Rattle.wl_plain.specs.Owning.{targets_in}
-use Rattle.wl_plain.specs.Standing.{MappedStand}
+use Rattle.wl_laws.specs.Owning.{targets_in}
+use Rattle.wl_laws.specs.Standing.{MappedStand}
 use Rattle.wl_resident.specs.View.{owned_view}
 use Rattle.wl_plain.specs.declared.answers.Done.{Done}
 use Rattle.wl_resident.specs.declared.residents.Resident.{Resident as Kept}

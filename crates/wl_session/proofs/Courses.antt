@@ -11,22 +11,21 @@ use Rattle.wl_paint.specs.Frame.{Image}
 use Rattle.wl_plain.specs.Acts.{Act, Feed, Tick, peer_at, peer_of, status_of, fed_of}
 use Rattle.wl_plain.specs.declared.answers.Done.{Done}
 use Rattle.wl_plain.specs.declared.answers.Fed.TheVariants as fed
-use Rattle.wl_plain.specs.Desktop.{Desktop, Resident, client_at, with_client}
+use Rattle.wl_plain.specs.Desktop.{Desktop, Resident, client_at, with_client, status_in}
 use Rattle.wl_plain.specs.Happenings.{Happening, Leads, Message, Receive, ReceivesAt, Single, Starve, StarvesAt}
 use Rattle.wl_plain.specs.Happens.{Happens, Reaches, Serves, ServesThen}
 use Rattle.wl_plain.specs.LeftOut.{served_now}
 use Rattle.wl_plain.specs.Settling.{EndsAndSettles, becomes, unstruck}
 use Rattle.wl_plain.specs.Step.{with_peer}
-use Rattle.wl_plain.specs.Through.{IsSingle, ServesThrough, raised_in}
+use Rattle.wl_plain.specs.Through.{ServesThrough, raised_in}
+use Rattle.wl_laws.specs.Through.{IsSingle}
 use Rattle.wl_plain.specs.Stacked.{all_windows}
-use Rattle.wl_plain.specs.Laws.{status_in}
 use Rattle.wl_plain.specs.Moments.{marks_at_least, marks_at_most, marks_at_most_through}
-use Rattle.wl_plain.proofs.MarkedThrough.{marked_through}
-use Rattle.wl_plain.proofs.MostThrough.{most-through}
-use Rattle.wl_plain.proofs.OwningKeys.{differ}
-use Rattle.wl_plain.proofs.Through.{happens_leads_through, messages_lead_through, settling-with}
-use Rattle.wl_resident.specs.Marking.{MarksAtLeast, MarksMost, MarksThrough}
-use Rattle.wl_resident.specs.Marking.{IsAsLarge as HasItsSides}
+use Rattle.wl_laws.proofs.Marks.Through.{marked_through}
+use Rattle.wl_laws.proofs.Marks.Most.{most-through}
+use Rattle.wl_laws.proofs.Keeping.OwningKeys.{differ}
+use Rattle.wl_laws.proofs.Runs.Through.{happens_leads_through, messages_lead_through, settling-with}
+use Rattle.wl_resident.specs.Marking.{MarksAtLeast, MarksMost, MarksThrough, IsAsLarge as HasItsSides}
 use Rattle.wl_resident.specs.View.{MarkedDesk}
 use Rattle.wl_desk.specs.Agreeing.{Agrees, MarksNothing, MarksStep, TakesStep}
 use Rattle.wl_desk.specs.Feeding.{Ends, EndsBy, EndsOf, kept_at, kept_by, kept_of}

@@ -1,7 +1,7 @@
 -- A piece of a client's stream, message by message.
 use Rattle.std.proofs.Common.{◌≡◌, ℕ, zero, suc, List, [], ◌∷◌, ◌++◌, Bool, true, false, Option, Some, None, refl, ap, sym, subst, ◌∙◌, inl, inr}
 use Rattle.std.specs.Prelude.{◌==◌, not, cond, is_some, slice_index_or}
-use Rattle.wl_plain.specs.Standing.{AreMapped}
+use Rattle.wl_laws.specs.Standing.{AreMapped}
 use Rattle.std.specs.List.{list_any}
 use Rattle.wl_peer.specs.declared.cause.Cause.{Cause}
 use Rattle.wl_peer.specs.declared.cause.Cause.TheVariants.{Memory}
@@ -10,12 +10,10 @@ use Rattle.wl_client.specs.View.{ClientView}
 use Rattle.wl_scene.specs.Stacking.{Owned, Standing, is_of, nothing_owned, without_client}
 use Rattle.wl_resident.specs.Agreement.{IsPlace, Matches}
 use Rattle.wl_desk.specs.Agreeing.{Agrees}
-use Rattle.wl_plain.specs.Desktop.{Desktop, Resident, become, become_by, client_at, client_in, owned_in, owned_of, resident_of, with_client, with_number}
+use Rattle.wl_plain.specs.Desktop.{Desktop, Resident, become, become_by, client_at, client_in, owned_in, owned_of, resident_of, with_client, with_number, status_in, status_of as ended_in}
 use Rattle.wl_desk.specs.Feeding.{Ends, IsIdleIn, IsIdleOf, kept_at, kept_by, kept_of}
 use Rattle.wl_desk.proofs.Calls.{ended_at, ended_of}
 use Rattle.wl_desk.proofs.NoMore.{ended-once, kept-has}
-use Rattle.wl_plain.specs.Laws.{status_in}
-use Rattle.wl_plain.specs.Laws.{status_of as ended_in}
 use Rattle.wl_resident.specs.Seats.{ended_by}
 use Rattle.wl_plain.specs.Settling.{becomes}
 use Rattle.wl_plain.specs.Step.{with_peer}
@@ -24,15 +22,15 @@ use Rattle.wl_resident.specs.View.{DeskView, OwnedView}
 use Rattle.wl_plain.specs.declared.answers.Done.TheVariants as gave
 use Rattle.wl_plain.specs.declared.answers.Fed.{Fed}
 use Rattle.wl_plain.specs.LeftOut.{served_now}
-use Rattle.wl_plain.specs.NoMore.{NoMore}
+use Rattle.wl_laws.specs.NoMore.{NoMore}
 use Rattle.wl_plain.specs.Happens.{FeedsAt, IsFedAt, Reaches, Serves, StopsAt}
-use Rattle.wl_plain.proofs.Forms.{ServesAt as StepServesAt}
-use Rattle.wl_plain.proofs.BridgeBack.{message-by}
-use Rattle.wl_plain.proofs.BridgeLasts.{reaches-has}
-use Rattle.wl_plain.proofs.BridgeServes.{becomes-same, settles-to}
-use Rattle.wl_plain.proofs.Places.{client-become, number-kept, number-same, number-twice, stacked-clients}
-use Rattle.wl_plain.proofs.Stacks.{and-both, differ, or-left, or-right, same-number}
-use Rattle.wl_plain.proofs.Simply.{Simple, changed_simply, stacked_simply}
+use Rattle.wl_laws.proofs.Runs.Forms.{ServesAt as StepServesAt}
+use Rattle.wl_laws.proofs.Toplevels.Back.{message-by}
+use Rattle.wl_laws.proofs.Toplevels.Lasts.{reaches-has}
+use Rattle.wl_laws.proofs.Toplevels.Serves.{becomes-same, settles-to}
+use Rattle.wl_laws.proofs.Runs.Places.{client-become, number-kept, number-same, number-twice, stacked-clients}
+use Rattle.wl_laws.proofs.Marks.Stacks.{and-both, differ, or-left, or-right, same-number}
+use Rattle.wl_laws.proofs.Toplevels.Simply.{Simple, changed_simply, stacked_simply}
 
 -- ---- a client stays there
 

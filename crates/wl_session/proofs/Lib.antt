@@ -1,5 +1,4 @@
 pub mod Feeding
-pub mod Kept
 pub mod Reported
 pub mod Runs
 pub mod Unmarked
@@ -8,4 +7,3 @@ pub mod Seen
 pub mod Promised
 pub mod Courses
 pub mod Stays
-pub mod Rows

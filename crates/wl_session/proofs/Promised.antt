@@ -6,24 +6,23 @@ use Rattle.wl_peer.specs.declared.cause.Cause.{Cause}
 use Rattle.wl_peer.specs.Peer.{with_rest}
 use Rattle.wl_surface.specs.Request.{Buffer}
 use Rattle.wl_plain.specs.declared.answers.Done.{Done}
-use Rattle.wl_plain.specs.Desktop.{Desktop, Resident, client_at, owned_of, with_client}
+use Rattle.wl_plain.specs.Desktop.{Desktop, Resident, client_at, owned_of, with_client, toplevels_of}
 use Rattle.wl_plain.specs.Happenings.{Message, Receive, ReceivesAt, Single, Starve}
-use Rattle.wl_plain.specs.Laws.{toplevels_of}
 use Rattle.wl_plain.specs.LeftOut.{LeftOut}
 use Rattle.wl_plain.specs.Scratch.{pixel_at}
 use Rattle.wl_plain.specs.Stacked.{all_windows}
 use Rattle.wl_plain.specs.Step.{with_peer}
 use Rattle.wl_plain.specs.Acts.{Act, Connect, Feed, Leave, Send, Close, Store, Tick, Motion, Button}
 use Rattle.wl_plain.specs.Happens.{Happens}
-use Rattle.wl_plain.specs.Others.{client_of}
-use Rattle.wl_plain.specs.Own.{KeepsItsOwn, KeepsItsOwnBy, KeepsItsOwnSo, LivesOrEnds}
-use Rattle.wl_plain.proofs.OwningKeys.{none-some}
-use Rattle.wl_plain.proofs.Stacks.{Each, and-both, same-number}
-use Rattle.wl_plain.proofs.Places.{number-other, number-same}
-use Rattle.wl_plain.proofs.ShownWindows.{all-shown}
-use Rattle.wl_plain.proofs.Through.{happens_leads_through}
-use Rattle.wl_plain.proofs.OneRunFates.{same-or}
-use Rattle.wl_plain.proofs.OthersOwn.{own_stays}
+use Rattle.wl_laws.specs.Others.{client_of}
+use Rattle.wl_laws.specs.Own.{KeepsItsOwn, KeepsItsOwnBy, KeepsItsOwnSo, LivesOrEnds}
+use Rattle.wl_laws.proofs.Keeping.OwningKeys.{none-some}
+use Rattle.wl_laws.proofs.Marks.Stacks.{Each, and-both, same-number}
+use Rattle.wl_laws.proofs.Runs.Places.{number-other, number-same}
+use Rattle.wl_laws.proofs.Marks.ShownWindows.{all-shown}
+use Rattle.wl_laws.proofs.Runs.Through.{happens_leads_through}
+use Rattle.wl_laws.proofs.Runs.Fates.{same-or}
+use Rattle.wl_laws.proofs.Isolation.Own.{own_stays}
 use Rattle.wl_session.specs.Promises.{KeepBut, KeepsBuffers, KeepsDamage, busy_in, bytes_by, bytes_in, is_rewritten_at, is_same_color}
 use Rattle.wl_session.specs.StoreWrites.{PromisesAreEnough}
 use Rattle.wl_session.specs.Unmarked.{AllDamageBut}

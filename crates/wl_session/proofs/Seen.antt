@@ -10,12 +10,12 @@ use Rattle.wl_plain.specs.LeftOut.{LeftOut}
 use Rattle.wl_plain.specs.Marks.{AreDistinct}
 use Rattle.wl_plain.specs.Scratch.{scratch}
 use Rattle.wl_plain.specs.Stacked.{all_windows}
-use Rattle.wl_plain.proofs.SoundWithin.{leads-orderly}
-use Rattle.wl_plain.proofs.Orderly.{AreOrderly}
-use Rattle.wl_plain.proofs.OrderlyRun.{empty-orderly}
-use Rattle.wl_plain.proofs.RunSound.{orderly-is-sound}
-use Rattle.wl_plain.proofs.SoundWindows.{sound_is_distinct}
-use Rattle.wl_plain.proofs.Stacks.{differ}
+use Rattle.wl_laws.proofs.Soundness.Within.{leads-orderly}
+use Rattle.wl_laws.proofs.Soundness.Orderly.{AreOrderly}
+use Rattle.wl_laws.proofs.Soundness.Run.{empty-orderly}
+use Rattle.wl_laws.proofs.Soundness.RunIsSound.{orderly-is-sound}
+use Rattle.wl_laws.proofs.Soundness.Windows.{sound_is_distinct}
+use Rattle.wl_laws.proofs.Marks.Stacks.{differ}
 use Rattle.wl_session.specs.Events.{AreApart, AreEvents, Event, IsEvent, IsMarked, IsShown, Moment, PaintsIf, frames_of, is_frame}
 use Rattle.wl_session.specs.Liars.{AreLiars, HoldsLiars, IsRightBut, gives_back}
 use Rattle.wl_session.specs.Run.{Film, in_runs}

@@ -26,11 +26,11 @@ use Rattle.wl_plain.specs.Moments.{marks_at_least}
 use Rattle.wl_plain.specs.Scratch.{color_in, scratch}
 use Rattle.wl_plain.specs.Stacked.{all_windows}
 use Rattle.wl_plain.specs.Through.{ending_through}
-use Rattle.wl_plain.proofs.MarkedThrough.{leads-output}
-use Rattle.wl_plain.proofs.OwningKeys.{none-some}
-use Rattle.wl_plain.proofs.Places.{number-same}
-use Rattle.wl_plain.proofs.ShownWindows.{IsShown as ShowsBuffer, all-shown}
-use Rattle.wl_plain.proofs.Stacks.{and-left, and-right, differ, each-map, or-left, or-right, same-number, unless}
+use Rattle.wl_laws.proofs.Marks.Through.{leads-output}
+use Rattle.wl_laws.proofs.Keeping.OwningKeys.{none-some}
+use Rattle.wl_laws.proofs.Runs.Places.{number-same}
+use Rattle.wl_laws.proofs.Marks.ShownWindows.{IsShown as ShowsBuffer, all-shown}
+use Rattle.wl_laws.proofs.Marks.Stacks.{and-left, and-right, differ, each-map, or-left, or-right, same-number, unless}
 use Rattle.wl_resident.proofs.Within.{within-output}
 use Rattle.wl_session.specs.Events.{Event, IsEvent, IsMarked, IsShown, Moment, PaintsIf, is_frame}
 use Rattle.wl_session.specs.Liars.{HoldsLiars, IsRightBut, closes, gives_back, was_closed}

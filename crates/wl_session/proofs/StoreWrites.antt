@@ -1,6 +1,6 @@
 -- A store write that leaves busy buffers alone hides nothing.
-use Rattle.std.proofs.Common.{◌≡◌, ℕ, ◌<◌, Bool, true, false, List, [], ◌∷◌, ◌++◌, Option, Some, None, refl, ap, sym, subst, ◌∙◌, arith, pos, negsuc}
-use Rattle.std.specs.Prelude.{ℤ, ◌-ℤ◌, ◌==◌, ◌&&◌, ◌||◌, nat_lt, unsigned_abs, flat_map, find, cond, not}
+use Rattle.std.proofs.Common.{◌≡◌, ℕ, ◌<◌, Bool, true, false, List, [], ◌∷◌, ◌++◌, Option, Some, None, refl, ap, sym, subst, ◌∙◌, arith, pos, negsuc, inl, inr}
+use Rattle.std.specs.Prelude.{ℤ, ◌-ℤ◌, ◌==◌, ◌&&◌, ◌||◌, nat_lt, unsigned_abs, flat_map, find, cond, not, ◌⊎◌}
 use Rattle.std.specs.List.{list_any}
 use Rattle.std.specs.Option.{option_map}
 use Rattle.std.proofs.lemmas.Int.{ints}
@@ -12,23 +12,20 @@ use Rattle.wl_store.specs.declared.transform.Transform.TheVariants.{Normal, Rota
 use Rattle.wl_surface.specs.Request.{Buffer}
 use Rattle.wl_surface.specs.State.{History, applied}
 use Rattle.wl_surface.specs.Surfaces.{Surface, Surfaces, history_in, listed}
-use Rattle.wl_scene.specs.Stacking.{Owned}
+use Rattle.wl_scene.specs.Stacking.{Owned, nothing_owned}
 use Rattle.wl_scene.specs.Windows.{Window, contains}
-use Rattle.std.specs.Prelude.{◌⊎◌}
-use Rattle.std.proofs.Common.{inl, inr}
 use Rattle.std.proofs.lemmas.Bool.{eqb-false, eqb-true}
 use Rattle.wl_peer.specs.Peer.{Peer, stored_at}
-use Rattle.wl_scene.specs.Stacking.{nothing_owned}
 use Rattle.wl_plain.specs.Desktop.{Desktop, Resident, Showing, client_at, owned_in, owned_of, with_client}
 use Rattle.wl_plain.specs.Stacked.{all_windows}
 use Rattle.wl_plain.specs.Step.{with_peer}
-use Rattle.wl_plain.proofs.Forms.{ChangesAt}
+use Rattle.wl_laws.proofs.Runs.Forms.{ChangesAt}
 use Rattle.wl_plain.specs.Scratch.{bytes_now, color_in, pixel_at}
-use Rattle.wl_plain.proofs.Places.{number-other, number-same}
-use Rattle.wl_plain.proofs.Stacks.{Each, Fields, and-left, and-right, differ, each-map, fields, or-left, or-right, unless}
-use Rattle.wl_plain.proofs.Painted.{each-kept}
-use Rattle.wl_plain.proofs.Following.{Owns}
-use Rattle.wl_plain.proofs.ShownWindows.{IsShown, all-shown}
+use Rattle.wl_laws.proofs.Runs.Places.{number-other, number-same}
+use Rattle.wl_laws.proofs.Marks.Stacks.{Each, Fields, and-left, and-right, differ, each-map, fields, or-left, or-right, unless}
+use Rattle.wl_laws.proofs.Marks.Painted.{each-kept}
+use Rattle.wl_laws.proofs.Runs.Following.{Owns}
+use Rattle.wl_laws.proofs.Marks.ShownWindows.{IsShown, all-shown}
 use Rattle.wl_plain.specs.Marks.{has_same_record}
 use Rattle.wl_plain.specs.declared.answers.Done.{Done}
 use Rattle.wl_plain.specs.declared.answers.Done.TheVariants as gave

@@ -4,16 +4,14 @@ use Rattle.wl_paint.specs.Damage.{Damaged, has}
 use Rattle.wl_paint.specs.Frame.{Image}
 use Rattle.wl_plain.specs.Acts.{Act, Connect, Feed, Store, Leave, Tick, Send, Close, Motion, Button}
 pub use Rattle.wl_plain.specs.Acts.{is_tick}
-use Rattle.wl_plain.specs.Desktop.{Desktop}
+use Rattle.wl_plain.specs.Desktop.{Desktop, status_in}
 use Rattle.wl_plain.specs.Happenings.{Happening, Leads, Message, Receive, Single, Starve}
 use Rattle.wl_plain.specs.LeftOut.{LeftOut}
 use Rattle.wl_plain.specs.Marks.{AreDistinct}
 use Rattle.wl_plain.specs.Moments.{marks_at_least, marks_at_least_through, marks_at_most_through}
 use Rattle.wl_plain.specs.Stacked.{all_windows}
-use Rattle.wl_plain.specs.Laws.{status_in}
 use Rattle.wl_plain.specs.Through.{raised_in}
-use Rattle.wl_resident.specs.Marking.{MarksAtLeast}
-use Rattle.wl_resident.specs.Marking.{IsAsLarge as HasItsSides}
+use Rattle.wl_resident.specs.Marking.{MarksAtLeast, IsAsLarge as HasItsSides}
 use Rattle.wl_session.specs.Run.{IsNextFrame}
 
 -- a desktop, which points of its output are to be painted again, and the last frame

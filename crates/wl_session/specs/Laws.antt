@@ -1,13 +1,12 @@
 -- Laws of the plain desktop: a step of one client leaves every other as it was, and the output stays.
 use Rattle.std.specs.Prelude.{ℕ, ◌≡◌, ◌≢◌, false, Some}
-use Rattle.wl_plain.specs.Desktop.{Desktop, client_at}
-use Rattle.wl_plain.specs.Laws.{toplevels_of}
+use Rattle.wl_plain.specs.Desktop.{Desktop, client_at, toplevels_of}
 use Rattle.wl_plain.specs.LeftOut.{LeftOut, served_now}
-use Rattle.wl_plain.specs.NoMore.{NoMore}
+use Rattle.wl_laws.specs.NoMore.{NoMore}
 use Rattle.wl_plain.specs.declared.answers.Done.{Done}
 use Rattle.wl_plain.specs.Acts.{Act, is_tick}
 use Rattle.wl_plain.specs.Happens.{Happens}
-use Rattle.wl_plain.specs.Others.{client_of}
+use Rattle.wl_laws.specs.Others.{client_of}
 
 -- Whatever happens but a frame leaves each client that it isn't a step of as it was: its status, requests, objects, serials, unsent bytes and rest, what
 -- it owns, and the places and the order of its toplevels; where what isn't served has left no trace.

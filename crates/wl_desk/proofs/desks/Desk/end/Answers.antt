@@ -1,6 +1,6 @@
 use Rattle.std.proofs.Common.{None, ap, refl, ◌∙◌, pos}
 use Rattle.std.specs.Prelude.{◌||◌}
-use Rattle.wl_plain.specs.Touching.{has_window_at}
+use Rattle.wl_laws.specs.Touching.{has_window_at}
 use Rattle.std.proofs.lemmas.List.{length-set}
 use Rattle.wl_resident.specs.Agreement.{numbers_in}
 use Rattle.wl_desk.proofs.Calls.{found}

@@ -1,6 +1,6 @@
 use Rattle.std.proofs.Common.{None, false, ap, refl, sym, ◌∙◌, pos}
 use Rattle.std.specs.Prelude.{◌||◌}
-use Rattle.wl_plain.specs.Touching.{has_window_at}
+use Rattle.wl_laws.specs.Touching.{has_window_at}
 use Rattle.std.proofs.lemmas.List.{length-set}
 use Rattle.wl_plain.specs.Acts.{Leave, IsLeft}
 use Rattle.wl_plain.specs.declared.answers.Done.TheVariants as gave

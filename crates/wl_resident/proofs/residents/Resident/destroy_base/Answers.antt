@@ -3,9 +3,9 @@ use Rattle.wl_peer.specs.declared.refusals.ErrorCode.TheVariants.{DefunctSurface
 use Rattle.wl_shell.specs.Kept.{kept_of}
 use Rattle.wl_plain.specs.Ask.{DestroyBase}
 use Rattle.wl_plain.specs.Desktop.{Resident}
-use Rattle.wl_plain.specs.Owning.{names_in}
+use Rattle.wl_laws.specs.Owning.{names_in}
 use Rattle.wl_plain.specs.XdgShell.{base_destroyed}
-use Rattle.wl_plain.proofs.OwningReads.{base-unused, base-used}
+use Rattle.wl_laws.proofs.Keeping.OwningReads.{base-unused, base-used}
 use Rattle.wl_resident.proofs.Shelling.{accepted, base-held, counted-does, refused-so}
 use Rattle.wl_resident.proofs.Simply.{simply}
 use Rattle.wl_resident.proofs.residents.Resident.destroy_base.Goals as goal

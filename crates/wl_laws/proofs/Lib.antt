@@ -1,0 +1,7 @@
+pub mod Isolation
+pub mod Keeping
+pub mod Marks
+pub mod Pieces
+pub mod Runs
+pub mod Soundness
+pub mod Toplevels

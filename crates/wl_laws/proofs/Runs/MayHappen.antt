@@ -1,0 +1,280 @@
+-- What happens where memory is always there is among what may happen.
+use Rattle.std.proofs.Common.{◌≡◌, ℕ, zero, suc, ◌+◌, ◌-◌, ap, arith, ◌++◌, take, drop, List, [], ◌∷◌, Bool, true, false, Option, Some, None, Result, refl, subst, sym, inl, inr}
+use Rattle.std.specs.Prelude.{Ok, Err, nat_le, ◌||◌, is_none, is_some, length}
+use Rattle.wl_wire.specs.Wire.{split_of}
+use Rattle.wl_wire.specs.declared.header.Split.{Split}
+use Rattle.wl_wire.specs.declared.header.Split.TheVariants.{Message, More, Bad}
+use Rattle.wl_peer.specs.declared.cause.Cause.{Cause}
+use Rattle.wl_peer.specs.declared.cause.Cause.TheVariants as cause
+use Rattle.wl_peer.specs.declared.refusals.ErrorCode.TheVariants.{InvalidMethod}
+use Rattle.wl_peer.specs.declared.refusals.Refusal.{Refusal}
+use Rattle.wl_peer.specs.Peer.{Errs, Peer, QueuesOr, counted, ended, has_room, queued, sent_by, stored_at, with_rest}
+use Rattle.wl_store.specs.Stores.{write_refusal}
+use Rattle.wl_peer.specs.Plain.{or_slow as refused_or, refused}
+use Rattle.wl_peer.specs.Told.{Said, code_number, display_error, error_told}
+use Rattle.wl_scene.specs.Pointer.{Target, is_down, is_press}
+use Rattle.wl_scene.specs.Windows.{Window}
+use Rattle.wl_laws.specs.Ample.{answered, became, buttons, changes_at, connects_at, dismisses, dismisses_unless, done, ends_and_settles, ends_first, enters, fed_at, fed_by, frames_to, happened, held_so, leaves, left_at, left_by, motion_for, motion_settles, moved_to, moves_unless, or_slow, pressed_if, queued_to, released_if, served_all, served_at, served_by, settles, settles_all, settles_ends, shown, taken, tells, tells_at, tells_button, tells_unless}
+use Rattle.wl_plain.specs.declared.answers.ConnectError.TheVariants.{Full}
+use Rattle.wl_plain.specs.declared.answers.Done.{Done}
+use Rattle.wl_plain.specs.declared.answers.Done.TheVariants as gave
+use Rattle.wl_plain.specs.declared.answers.Fed.TheVariants.{NoClient}
+use Rattle.wl_plain.specs.declared.answers.Stored.TheVariants as stored
+use Rattle.wl_plain.specs.Changing.{changed_for, grab_holder}
+use Rattle.wl_plain.specs.Demand.{Demand}
+use Rattle.wl_plain.specs.Demanding.{judge_all}
+use Rattle.wl_plain.specs.Desktop.{Desktop, Resident, client_at, with_client, status_in}
+use Rattle.wl_plain.specs.LeftOut.{LeftOut}
+use Rattle.wl_plain.specs.Replies.{replies}
+use Rattle.wl_plain.specs.Settling.{EndsAndSettles, EndsFirst, Enters, Leaves, MovesUnless, Midstep, QueuesFirst, QueuesTo, Settles, SettlesAll, SettlesEnds, Strike, Tells, TellsAt, TellsUnless, becomes, ended_all, is_settled, is_struck, target_now, unstruck}
+use Rattle.wl_plain.specs.Stacked.{all_windows}
+use Rattle.wl_plain.specs.Step.{with_peer}
+use Rattle.wl_laws.proofs.Runs.Idling.{IsTaken, all-taken}
+use Rattle.wl_plain.specs.Acts.{Act, Connect, Feed, Store, Leave, Tick, Send, Close, Motion, Button, IsClosed, IsSent, IsStored, closed_by, fed_of, lowest, stored_of}
+use Rattle.wl_laws.proofs.Runs.Forms.{ConnectsAt, Answers, Becomes, Buttons, ChangesAt, Does, LeavesAt, MovesTo, PressesIf, ReleasesIf, ServesAt, Shows, Takes, WantsOr, after_why}
+use Rattle.wl_plain.specs.Happens.{Dismisses, DismissesUnless, FeedsAt, Happens, IsFedAt, MotionSettles, Reaches, StopsAt, TellsButton, TellsFrames, TellsMotion, done_for, hit_now, is_hit_of, point_in, pointed, raised_by, wants_memory, with_press, with_release}
+
+-- ---- events
+
+queues-first : (b : Bool) (events : List Said) (next p : Peer) → QueuesTo events next (queued_to events next).0 (queued_to events next).1 → QueuesFirst b (QueuesTo events next (or_slow b (queued_to events next) p).0 (or_slow b (queued_to events next) p).1) p (or_slow b (queued_to events next) p).0 (or_slow b (queued_to events next) p).1
+queues-first false events next p h = (refl, refl)
+queues-first true events next p h = inr h
+
+queues : (events : List Said) (p : Peer) → QueuesTo events p (queued_to events p).0 (queued_to events p).1
+queues [] p = (refl, refl)
+queues (event ∷ events) p = queues-first (has_room p.unsent event) events (queued event p) p (queues events (queued event p))
+
+tells-unless : (b : Bool) (change : Resident → Resident) (events : Resident → List Said) (c : ℕ) (r : Resident) (m : Midstep) → TellsUnless b change events c r m (tells_unless b change events c r m)
+tells-unless true change events c r m = refl
+tells-unless false change events c r m =
+    ((queued_to (events r) (change r).peer).0, (queued_to (events r) (change r).peer).1, queues (events r) (change r).peer, refl)
+
+tells-at : (change : Resident → Resident) (events : Resident → List Said) (c : ℕ) (o : Option Resident) (m : Midstep) → TellsAt change events c o m (tells_at change events c o m)
+tells-at change events c None m = refl
+tells-at change events c (Some r) m = tells-unless (is_some r.peer.status || is_struck c m.struck) change events c r m
+
+tells-so : (change : Resident → Resident) (events : Resident → List Said) (c : ℕ) (m : Midstep) → Tells change events c m (tells change events c m)
+tells-so change events c m = tells-at change events c (client_at c m.desktop) m
+
+-- ---- the focus, and ends
+
+leaves-so : (t : Option Target) (m : Midstep) → Leaves t m (leaves t m)
+leaves-so None m = refl
+leaves-so (Some t) m = tells-so _ _ t.client m
+
+enters-so : (t : Option Target) (windows : List Window) (m : Midstep) → Enters t windows m (enters t windows m)
+enters-so None windows m = refl
+enters-so (Some t) windows m = tells-so _ _ t.client m
+
+moves-unless : (b : Bool) (t : Option Target) (m : Midstep) → MovesUnless b t m (moves_unless b t m)
+moves-unless true t m = refl
+moves-unless false t m =
+    let left : Midstep = leaves m.desktop.pointer.focus m in
+    (left, leaves-so m.desktop.pointer.focus m, enters t (all_windows m.desktop) left, enters-so t (all_windows m.desktop) left, refl)
+
+settles-so : (m : Midstep) → Settles m (settles m)
+settles-so m = moves-unless (is_settled m.desktop) (target_now m.desktop) m
+
+ends-first : (Next : Midstep → Desktop → Type 0) (next : Midstep → Desktop) → ((m : Midstep) → Next m (next m)) → (ss : List Strike) (d : Desktop) → EndsFirst Next ss d (ends_first next ss d)
+ends-first Next next so [] d = refl
+ends-first Next next so (s ∷ ss) d = so _
+
+settles-all : (n : ℕ) (m : Midstep) → SettlesAll n m (settles_all n m)
+settles-all zero m = refl
+settles-all (suc n) m =
+    (settles m, settles-so m, ends-first (SettlesAll n) (λ mid. settles_all n mid) (λ mid. settles-all n mid) (settles m).struck (settles m).desktop)
+
+settles-ends : (mid : Midstep) → SettlesEnds mid (settles_ends mid)
+settles-ends mid = ends-first (SettlesAll 32) (λ m. settles_all 32 m) (λ m. settles-all 32 m) mid.struck mid.desktop
+
+ends-and-settles : (mid : Midstep) → EndsAndSettles mid (ends_and_settles mid)
+ends-and-settles mid = settles-all 33 (unstruck (ended_all mid.struck mid.desktop))
+
+-- ---- messages
+
+errs-first : (b : Bool) (refusal : Refusal) (p : Peer) → QueuesOr b (refused_or b (ended (cause.Protocol refusal.object (code_number refusal.code)) (queued (error_told refusal) p)) p ≡ ended (cause.Protocol refusal.object (code_number refusal.code)) (queued (error_told refusal) p)) p (refused_or b (ended (cause.Protocol refusal.object (code_number refusal.code)) (queued (error_told refusal) p)) p)
+errs-first false refusal p = refl
+errs-first true refusal p = inr refl
+
+errs : (refusal : Refusal) (p : Peer) → Errs refusal p (refused refusal p)
+errs refusal p = errs-first (has_room p.unsent (error_told refusal)) refusal p
+
+becomes-so : (refusal : Refusal) (c : ℕ) (r : Resident) (d : Desktop) → Becomes (Errs refusal r.peer) c r d (became c r (refused refusal r.peer) d)
+becomes-so refusal c r d = (refused refusal r.peer, errs refusal r.peer, ends-and-settles (unstruck (becomes c r (refused refusal r.peer) d)))
+
+module _ (out : LeftOut) where
+  does-so : (c : ℕ) (demand : Demand) (r : Resident) (d : Desktop) → Does out c demand r d (done out c demand r d)
+  does-so c demand r d =
+      let old : Resident = changed_for c demand r d in
+      let told : Peer × Option Cause = queued_to (replies out c demand r old (all_windows d) d) old.peer in (
+        told.0,
+        told.1,
+        queues (replies out c demand r old (all_windows d) d) old.peer,
+        ends-and-settles (unstruck (after_why told.1 c (with_client c (Some (with_peer told.0 old)) (done_for c demand r d)))),
+      )
+
+  wants-so : (b : Bool) (Later : Type 0) (c : ℕ) (r : Resident) (d new : Desktop) → Later → WantsOr b Later c r d new
+  wants-so false Later c r d new h = h
+  wants-so true Later c r d new h = inr h
+
+  answers-so : (judged : Result Demand Refusal) (c : ℕ) (r : Resident) (d : Desktop) → Answers out judged c r d (answered out judged c r d)
+  answers-so (Ok demand) c r d =
+      wants-so (wants_memory demand) (Does out c demand (with_peer (counted r.peer) r) d (done out c demand (with_peer (counted r.peer) r) d)) c (with_peer (counted r.peer) r) d
+      (done out c demand (with_peer (counted r.peer) r) d) (does-so c demand (with_peer (counted r.peer) r) d)
+  answers-so (Err refusal) c r d = becomes-so refusal c r d
+
+  -- a message that is there is taken, or the client is done
+  extended : (c n k : ℕ) (d mid : Desktop) (r : Resident) (s : Split) → Reaches out c k d mid → client_at c mid ≡ Some r → r.peer.status ≡ None → split_of r.peer.rest ≡ s → (j : ℕ) × Reaches out c j d (taken out s c r mid)
+  extended c n k d mid r (Message object opcode size) h e alive split = (
+    suc k,
+    (
+      mid,
+      h,
+      subst (λ (o : Option Resident). ServesAt out c o mid (taken out (Message object opcode size) c r mid)) (sym e) (
+        alive,
+        subst (λ (s : Split). Takes out s c r mid (taken out (Message object opcode size) c r mid)) (sym split)
+            (answers-so (judge_all out r object opcode (take (size - 8) (drop 8 r.peer.rest))) c (with_peer (with_rest (drop size r.peer.rest) r.peer) r) mid),
+      ),
+    ),
+  )
+  extended c n k d mid r Bad h e alive split = (
+    suc k,
+    (
+      mid,
+      h,
+      subst (λ (o : Option Resident). ServesAt out c o mid (taken out Bad c r mid)) (sym e)
+          (alive, subst (λ (s : Split). Takes out s c r mid (taken out Bad c r mid)) (sym split) (becomes-so (display_error InvalidMethod) c r mid)),
+    ),
+  )
+  extended c n k d mid r More h e alive split = (k, h)
+
+  reached-by : (c n k : ℕ) (d mid : Desktop) (r : Resident) (s : Option Cause) → Reaches out c k d mid → client_at c mid ≡ Some r → r.peer.status ≡ s → (j : ℕ) × Reaches out c j d (served_by out c s r mid)
+  reached-by c n k d mid r None h e alive = extended c n k d mid r (split_of r.peer.rest) h e alive refl
+  reached-by c n k d mid r (Some cause) h e alive = (k, h)
+
+  reached-at : (c n k : ℕ) (d mid : Desktop) (o : Option Resident) → Reaches out c k d mid → client_at c mid ≡ o → (j : ℕ) × Reaches out c j d (served_at out c o mid)
+  reached-at c n k d mid None h e = (k, h)
+  reached-at c n k d mid (Some r) h e = reached-by c n k d mid r r.peer.status h e refl
+
+  reached : (c n : ℕ) (d : Desktop) → (k : ℕ) × Reaches out c k d (served_all out c n d)
+  reached c zero d = (zero, refl)
+  reached c (suc n) d = let before = reached c n d in reached-at c n before.0 d (served_all out c n d) (client_at c (served_all out c n d)) before.1 refl
+
+  -- ---- a piece
+
+  stops-so : (c : ℕ) (d : Desktop) → IsTaken out c d → StopsAt c (client_at c d) d d
+  stops-so c d taken = subst (λ (o : Option Resident). StopsAt c o d d) (sym taken.1) (inl (refl, taken.2))
+
+  feeds-so : (c : ℕ) (piece : List ℕ) (s : Option Cause) (r : Resident) (d : Desktop) → client_at c d ≡ Some r → r.peer.status ≡ s → FeedsAt out c piece s r d (fed_by out c piece s r d)
+  feeds-so c piece (Some cause) r d e alive = refl
+  feeds-so c piece None r d e alive =
+      let more : Resident = with_peer (with_rest (r.peer.rest ++ piece) r.peer) r in
+      let end : Desktop = served_all out c (length more.peer.rest) (with_client c (Some more) d) in
+      let runs = reached c (length more.peer.rest) (with_client c (Some more) d) in
+      (runs.0, end, runs.1, stops-so c end (all-taken out c more r d e alive))
+
+  fed-so : (c : ℕ) (piece : List ℕ) (o : Option Resident) (d : Desktop) → client_at c d ≡ o → (done : Done) × IsFedAt out c piece o d done (fed_at out c piece o d)
+  fed-so c piece None d e = (gave.Feed NoClient, (refl, refl))
+  fed-so c piece (Some r) d e =
+      (gave.Feed (fed_of (status_in c (fed_by out c piece r.peer.status r d))), (feeds-so c piece r.peer.status r d e refl, refl))
+
+  -- ---- the other steps
+
+  connects-so : (o : Option ℕ) (d : Desktop) → (done : Done) × ConnectsAt o d done (connects_at o d)
+  connects-so None d = (gave.Connect (Err Full), (refl, refl))
+  connects-so (Some k) d = (gave.Connect (Ok (k + 1)), inr (refl, refl))
+
+  changes-by : (R : Peer → Done → Option Peer → Type 0) (absent done : Done) (c : ℕ) (r : Resident) (q : Option Peer) (d : Desktop) → R r.peer done q → ChangesAt R absent c (Some r) d done (held_so c r q d)
+  changes-by R absent done c r None d h = (None, h, refl)
+  changes-by R absent done c r (Some q) d h = (Some q, h, refl)
+
+  changes-so : (R : Peer → Done → Option Peer → Type 0) (absent : Done) (answer : Peer → Done) (change : Peer → Option Peer) → ((p : Peer) → R p (answer p) (change p)) → (c : ℕ) (o : Option Resident) (d : Desktop) → (done : Done) × ChangesAt R absent c o d done (changes_at change c o d)
+  changes-so R absent answer change so c None d = (absent, (refl, refl))
+  changes-so R absent answer change so c (Some r) d = (answer r.peer, changes-by R absent (answer r.peer) c r (change r.peer) d (so r.peer))
+
+  left-by : (c : ℕ) (r : Resident) (s : Option Cause) (d : Desktop) → r.peer.status ≡ s → LeavesAt c (Some r) d (gave.Gone (is_none r.peer.status)) (left_by c r.peer.status r d)
+  left-by c r None d e = (refl, rw e (ends-and-settles (unstruck (becomes c r (ended cause.Gone r.peer) d))))
+  left-by c r (Some why) d e = (refl, rw e refl)
+
+  left-so : (c : ℕ) (o : Option Resident) (d : Desktop) → (done : Done) × LeavesAt c o d done (left_at c o d)
+  left-so c None d = (gave.Gone false, (refl, refl))
+  left-so c (Some r) d = (gave.Gone (is_none r.peer.status), left-by c r r.peer.status d refl)
+
+  frames-so : (time n k : ℕ) (d : Desktop) → TellsFrames time n (suc k) (frames_to time k (unstruck d)) (frames_to time (k + n) (unstruck d))
+  frames-so time zero k d = let same : k + 0 ≡ k = omega arith in ap (λ (n : ℕ). frames_to time n (unstruck d)) same
+  frames-so time (suc n) k d =
+      let same : suc k + n ≡ k + suc n = omega arith in (
+        frames_to time (suc k) (unstruck d),
+        tells-so _ _ (suc k) (frames_to time k (unstruck d)),
+        subst (λ (all : ℕ). TellsFrames time n (suc (suc k)) (frames_to time (suc k) (unstruck d)) (frames_to time all (unstruck d))) same (frames-so time n (suc k) d),
+      )
+
+  shows-so : (time : ℕ) (d : Desktop) → Shows time d (shown time d)
+  shows-so time d = (frames_to time 32 (unstruck d), frames-so time 32 0 d, ends-and-settles (frames_to time 32 (unstruck d)))
+
+  -- ---- the pointer
+
+  motion-for : (time : ℕ) (moves t : Option Target) (m : Midstep) → TellsMotion time moves t m (motion_for time moves t m)
+  motion-for time None None m = refl
+  motion-for time (Some moved) None m = refl
+  motion-for time None (Some t) m = tells-so _ _ t.client m
+  motion-for time (Some moved) (Some t) m = refl
+
+  motion-settles : (b : Bool) (time : ℕ) (m : Midstep) → MotionSettles b time m (motion_settles b time m)
+  motion-settles true time m = motion-for time m.desktop.pointer.move m.desktop.pointer.focus m
+  motion-settles false time m = settles-so m
+
+  moves-so : (time : ℕ) (d : Desktop) → MovesTo time d (moved_to time d)
+  moves-so time d =
+      let told : Midstep = motion_settles (is_settled d) time (unstruck d) in
+      (told, motion-settles (is_settled d) time (unstruck d), settles-ends told)
+
+  dismisses-unless : (b : Bool) (c : ℕ) (m : Midstep) → DismissesUnless b c m (dismisses_unless b c m)
+  dismisses-unless true c m = refl
+  dismisses-unless false c m = tells-so _ _ c m
+
+  dismisses-so : (o : Option ℕ) (w : Option Window) (m : Midstep) → Dismisses o w m (dismisses o w m)
+  dismisses-so None w m = refl
+  dismisses-so (Some holder) w m = dismisses-unless (is_hit_of holder w) holder m
+
+  button-so : (time button : ℕ) (pressed : Bool) (t : Option Target) (m : Midstep) → TellsButton time button pressed t m (tells_button time button pressed t m)
+  button-so time button pressed None m = refl
+  button-so time button pressed (Some t) m = tells-so _ _ t.client m
+
+  pressed-so : (b : Bool) (time button : ℕ) (d : Desktop) → PressesIf b time button d (pressed_if b time button d)
+  pressed-so false time button d = refl
+  pressed-so true time button d =
+      let w : Option Window = hit_now d.pointer.place (all_windows d) in
+      let first : Midstep = unstruck (with_press button (raised_by w d)) in
+      let dismissed : Midstep = dismisses (grab_holder d) w first in
+      let told : Midstep = tells_button time button true d.pointer.focus dismissed in
+      (dismissed, dismisses-so (grab_holder d) w first, told, button-so time button true d.pointer.focus dismissed, settles told, settles-so told, settles-ends (settles told))
+
+  released-so : (b : Bool) (time button : ℕ) (d : Desktop) → ReleasesIf b time button d (released_if b time button d)
+  released-so false time button d = refl
+  released-so true time button d =
+      let first : Midstep = unstruck (with_release button d) in
+      let told : Midstep = tells_button time button false d.pointer.focus first in
+      (told, button-so time button false d.pointer.focus first, settles told, settles-so told, settles-ends (settles told))
+
+  buttons-so : (pressed : Bool) (time button : ℕ) (d : Desktop) → Buttons pressed time button d (buttons pressed time button d)
+  buttons-so true time button d = pressed-so (is_press button d.pointer.buttons) time button d
+  buttons-so false time button d = released-so (is_down button d.pointer.buttons) time button d
+
+  -- ---- all of them
+
+  -- Whatever happens where memory is always there may happen.
+  pub happens-ample : (act : Act) (d : Desktop) → (answer : Done) × Happens out act answer d (happened out act d)
+  happens-ample Connect d = connects-so (lowest d.clients) d
+  happens-ample (Feed c piece) d = fed-so c piece (client_at c d) d refl
+  happens-ample (Store c store at bytes) d =
+      changes-so (IsStored store at bytes) (gave.Store stored.NoClient) (λ p. gave.Store (stored_of p.status (write_refusal store at (length bytes) p.stores)))
+      (λ p. Some (stored_at p.status store at bytes p)) (λ p. (refl, refl)) c (client_at c d) d
+  happens-ample (Leave c) d = left-so c (client_at c d) d
+  happens-ample (Tick time) d = (gave.Tick, (refl, shows-so time d))
+  happens-ample (Send c n) d =
+      changes-so (IsSent n) (gave.Sent false) (λ p. gave.Sent (nat_le n (length p.unsent))) (λ p. Some (sent_by n p)) (λ p. (refl, refl)) c (client_at c d) d
+  happens-ample (Close c) d =
+      changes-so IsClosed (gave.Close false) (λ p. gave.Close (is_some p.status)) (λ p. closed_by p.status p) (λ p. (refl, refl)) c (client_at c d) d
+  happens-ample (Motion time x y) d = (gave.Motion, (refl, moves-so time (pointed (point_in d.output x y) d)))
+  happens-ample (Button time button pressed) d = (gave.Button, (refl, buttons-so pressed time button d))

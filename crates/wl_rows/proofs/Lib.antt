@@ -1,0 +1,17 @@
+pub mod Connect
+pub mod Damage
+pub mod Errors
+pub mod Examples
+pub mod Frames
+pub mod Grabs
+pub mod Input
+pub mod Levels
+pub mod Pointer
+pub mod Popups
+pub mod Sessions
+pub mod Slow
+pub mod Steps
+pub mod Subsurfaces
+pub mod Through
+pub mod Toplevels
+pub mod Viewers
