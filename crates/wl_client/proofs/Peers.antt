@@ -1,5 +1,6 @@
 -- What each change of a client does to what is kept of it.
-use Rattle.std.proofs.Common.{◌≡◌, ◌≢◌, ℕ, suc, ◌+◌, ◌-◌, ◌<◌, List, [], ◌∷◌, ◌++◌, Bool, true, false, Some, None, Option, Result, refl, ap, subst, sym, ◌∙◌, inl, inr, length, map, drop, ◌≤◌, get_or, drop-cons, arith}
+use Rattle.std.proofs.Common.{◌≡◌, ◌≢◌, ℕ, suc, ◌+◌, ◌-◌, ◌<◌, List, [], ◌∷◌, ◌++◌, Bool, true, false, Some, None, Option, Result, refl, ap, subst, sym, ◌∙◌, inl, inr, length, map, drop, ◌≤◌, get_or}
+use Rattle.std.proofs.Common.{drop-cons, arith}
 use Rattle.std.specs.Prelude.{is_some, IfErr, IfNone, IfSome, IsOk, IsTrue, MatchBool, OnOk, Ok, Err, ◌==◌, if◌then◌else◌, ℤ}
 use Rattle.std.specs.Option.{option_map, option_map_or, unwrap_or}
 use Rattle.std.proofs.lemmas.List.{drop_all}
@@ -7,7 +8,8 @@ use Rattle.std.proofs.Math.Path.{fun_ext}
 use Rattle.std.proofs.lemmas.Bool.{eqb-true}
 use Rattle.std.proofs.lemmas.Bool.Decides.{nat_tests}
 use Rattle.wl_interface.specs.declared.interface.Interface.{Interface}
-use Rattle.wl_interface.specs.declared.interface.Interface.TheVariants.{WlDisplay, WlRegistry, WlCallback, WlCompositor, WlRegion, WlSurface, WlShm, WlShmPool, WlBuffer, WlSubcompositor, WlSubsurface, WlOutput, WlSeat, WlPointer, XdgWmBase, XdgPositioner, XdgSurface, XdgToplevel, XdgPopup}
+use Rattle.wl_interface.specs.declared.interface.Interface.TheVariants.{WlDisplay, WlRegistry, WlCallback, WlCompositor, WlRegion, WlSurface, WlShm, WlShmPool, WlBuffer, WlSubcompositor, WlSubsurface}
+use Rattle.wl_interface.specs.declared.interface.Interface.TheVariants.{WlOutput, WlSeat, WlPointer, XdgWmBase, XdgPositioner, XdgSurface, XdgToplevel, XdgPopup}
 use Rattle.wl_table.specs.declared.entry.Entry.{Entry}
 use Rattle.wl_table.specs.Objects.{Held, HoldsAt, entry_of}
 use Rattle.std.specs.BTreeMap.{BTreeMap, UpdatesBy}
@@ -68,7 +70,8 @@ pub IsPeer-unqueued : (v w : ClientView) (p : Peer) (why cause : Cause) → w �
 IsPeer-unqueued v w p why cause only is = subst (λ (x : ClientView). IsPeer (cleared cause x) (ended cause p)) (sym only) (IsPeer-ended v p cause is)
 
 -- why an event isn't queued now, where each refusal before was acted upon
-pub unqueued-now : (v : ClientView) (p : Peer) (event : Said) (cause : Cause) → IsPeer v p → IsUnqueuedFor v.refused (has_room v.unsent event) cause → MatchBool (has_room v.unsent event) (cause ≡ Memory) (cause ≡ Slow)
+pub unqueued-now : (v : ClientView) (p : Peer) (event : Said) (cause : Cause) → IsPeer v p → IsUnqueuedFor v.refused (has_room v.unsent event) cause
+    → MatchBool (has_room v.unsent event) (cause ≡ Memory) (cause ≡ Slow)
 unqueued-now v p event cause is why = subst (λ (was : Option Cause). IsUnqueuedFor was (has_room v.unsent event) cause) is.open why
 
 slow-of : (room : Bool) (cause : Cause) → MatchBool room (cause ≡ Memory) (cause ≡ Slow) → cause ≢ Memory → Slow ≡ cause
@@ -107,7 +110,8 @@ objects_in-with old new id entry holds = fun_ext (λ other. at other (other == i
     at other true e = ap (λ o. option_map object_of o) (ap (λ k. entry_of new k) (eqb-true other id e) ∙ holds.here)
     at other false e = ap (λ o. option_map object_of o) (holds.others other (differ other id e))
 
-pub IsPeer-made : (v : ClientView) (p : Peer) (id : ℕ) (entry : Entry) (new : Held) → HoldsAt v.objects new id (Some entry) → length new ≡ length v.objects + 1 → IsPeer v p → IsPeer (record v { objects = new }) (made id (object_of entry) p)
+pub IsPeer-made : (v : ClientView) (p : Peer) (id : ℕ) (entry : Entry) (new : Held) → HoldsAt v.objects new id (Some entry) → length new ≡ length v.objects + 1 → IsPeer v p
+    → IsPeer (record v { objects = new }) (made id (object_of entry) p)
 IsPeer-made v p id entry new holds longer is = record {
   status = is.status;
   «open» = is.open;
@@ -132,7 +136,8 @@ less : (b : Bool) (n m : ℕ) → m + (if b then 1 else 0) ≡ n → m ≡ n - (
 less true n m h = omega arith
 less false n m h = omega arith
 
-pub IsPeer-removed : (v : ClientView) (p : Peer) (id : ℕ) (was : Option Entry) (new : Held) → was ≡ entry_of v.objects id → HoldsAt v.objects new id None → length new + (if is_some was then 1 else 0) ≡ length v.objects → IsPeer v p → IsPeer (record v { objects = new }) (removed id p)
+pub IsPeer-removed : (v : ClientView) (p : Peer) (id : ℕ) (was : Option Entry) (new : Held) → was ≡ entry_of v.objects id → HoldsAt v.objects new id None
+    → length new + (if is_some was then 1 else 0) ≡ length v.objects → IsPeer v p → IsPeer (record v { objects = new }) (removed id p)
 IsPeer-removed v p id was new found holds shorter is =
     let there : is_some was ≡ is_some (p.objects id) = ap is_some found ∙ sym (object-there (entry_of v.objects id)) ∙ ap (λ (os : Objects). is_some (os id)) is.objects in record {
       status = is.status;
@@ -154,14 +159,16 @@ another : (id other : ℕ) → (other == id) ≡ false → is_eq (nat_cmp id oth
 another id other apart = grind (arith, nat_tests)
 
 -- what a map that is updated at an id holds
-pub held_at-updates : {X : Type 0} (old new : BTreeMap ℕ X) (held : List (ℕ × X)) (id : ℕ) (x : Option X) → old.entries ≡ held → UpdatesBy nat_cmp (nat_cmp id) old new x → held_at new.entries ≡ with_id id x (held_at held)
+pub held_at-updates : {X : Type 0} (old new : BTreeMap ℕ X) (held : List (ℕ × X)) (id : ℕ) (x : Option X) → old.entries ≡ held → UpdatesBy nat_cmp (nat_cmp id) old new x
+    → held_at new.entries ≡ with_id id x (held_at held)
 held_at-updates {X} old new held id x same updates = fun_ext (λ other. at other (other == id) refl)
   where
     at : (other : ℕ) (b : Bool) → (other == id) ≡ b → held_at new.entries other ≡ (if b then x else held_at held other)
     at other true e = ap (λ k. held_at new.entries k) (eqb-true other id e) ∙ updates.1
     at other false e = updates.2 other (another id other e) ∙ ap (λ (h : List (ℕ × X)). held_at h other) same
 
-pub IsPeer-regions : (v : ClientView) (p : Peer) (old new : BTreeMap ℕ Area) (id : ℕ) (area : Option Area) (changes : Option (List Change)) → old.entries ≡ v.regions → UpdatesBy nat_cmp (nat_cmp id) old new area → IsRegion area changes → IsPeer v p → IsPeer (record v { regions = new.entries }) (record p { regions = with_id id changes p.regions })
+pub IsPeer-regions : (v : ClientView) (p : Peer) (old new : BTreeMap ℕ Area) (id : ℕ) (area : Option Area) (changes : Option (List Change)) → old.entries ≡ v.regions
+    → UpdatesBy nat_cmp (nat_cmp id) old new area → IsRegion area changes → IsPeer v p → IsPeer (record v { regions = new.entries }) (record p { regions = with_id id changes p.regions })
 IsPeer-regions v p old new id area changes same updates region is =
     let now = held_at-updates old new v.regions id area same updates in record {
       status = is.status;
@@ -183,7 +190,8 @@ IsPeer-regions v p old new id area changes same updates region is =
     at other true = region
     at other false = is.regions other
 
-pub IsPeer-pools : (v : ClientView) (p : Peer) (old new : BTreeMap ℕ ℕ) (id : ℕ) (store : Option ℕ) → old.entries ≡ v.pools → UpdatesBy nat_cmp (nat_cmp id) old new store → IsPeer v p → IsPeer (record v { pools = new.entries }) (record p { pools = with_id id store p.pools })
+pub IsPeer-pools : (v : ClientView) (p : Peer) (old new : BTreeMap ℕ ℕ) (id : ℕ) (store : Option ℕ) → old.entries ≡ v.pools → UpdatesBy nat_cmp (nat_cmp id) old new store → IsPeer v p
+    → IsPeer (record v { pools = new.entries }) (record p { pools = with_id id store p.pools })
 IsPeer-pools v p old new id store same updates is = record {
   status = is.status;
   «open» = is.open;
@@ -200,7 +208,8 @@ IsPeer-pools v p old new id store same updates is = record {
   output = is.output;
 }
 
-pub IsPeer-buffers : (v : ClientView) (p : Peer) (old new : BTreeMap ℕ Buffer) (id : ℕ) (buffer : Option Buffer) → old.entries ≡ v.buffers → UpdatesBy nat_cmp (nat_cmp id) old new buffer → IsPeer v p → IsPeer (record v { buffers = new.entries }) (record p { buffers = with_id id buffer p.buffers })
+pub IsPeer-buffers : (v : ClientView) (p : Peer) (old new : BTreeMap ℕ Buffer) (id : ℕ) (buffer : Option Buffer) → old.entries ≡ v.buffers → UpdatesBy nat_cmp (nat_cmp id) old new buffer → IsPeer v p
+    → IsPeer (record v { buffers = new.entries }) (record p { buffers = with_id id buffer p.buffers })
 IsPeer-buffers v p old new id buffer same updates is = record {
   status = is.status;
   «open» = is.open;
@@ -243,7 +252,8 @@ changes-of (Some area) None h = absurd h
 -- a judgement looks at the same
 pub known-is : (v : ClientView) (p : Peer) → IsPeer v p → known_in v ≡ known_of p
 known-is v p is =
-    let known : Objects → ℕ → ById ℕ → ById ℕ → ById Buffer → Stock → Known = λ objects held changes pools buffers stores. record { objects = objects; held = held; changes = changes; pools = pools; buffers = buffers; stores = stores } in
+    let known : Objects → ℕ → ById ℕ → ById ℕ → ById Buffer → Stock → Known = λ objects held changes pools buffers stores. record { objects = objects; held = held; changes = changes; pools = pools;
+        buffers = buffers; stores = stores } in
     let counts : ById ℕ = λ id. option_map (λ area. area.changes) (held_at v.regions id) in
     let lengths : ById ℕ = λ id. option_map length (p.regions id) in
     let same : counts ≡ lengths = fun_ext (λ id. changes-of (held_at v.regions id) (p.regions id) (is.regions id)) in
@@ -265,13 +275,16 @@ QueuesOr-refused true Later p cause why = inl (ap (λ c. ended c p) why)
 QueuesOr-refused false Later p cause why = ap (λ c. ended c p) why
 
 -- the event at a place isn't queued
-pub Queues-refused : {X : Type 0} (f : X → Said) (events : List X) (i : ℕ) (d : X) (v : ClientView) (p : Peer) (cause : Cause) → i < length events → IsPeer v p → IsUnqueuedFor v.refused (has_room v.unsent (f (get_or events i d))) cause → Queues (map f (drop i events)) p (ended cause p)
+pub Queues-refused : {X : Type 0} (f : X → Said) (events : List X) (i : ℕ) (d : X) (v : ClientView) (p : Peer) (cause : Cause) → i < length events → IsPeer v p
+    → IsUnqueuedFor v.refused (has_room v.unsent (f (get_or events i d))) cause → Queues (map f (drop i events)) p (ended cause p)
 Queues-refused {X} f events i d v p cause lt is why =
-    let refused = QueuesOr-refused (has_room p.unsent (f (get_or events i d))) (Queues (map f (drop (suc i) events)) (queued (f (get_or events i d)) p) (ended cause p)) p cause (rw is.unsent at (unqueued-now v p (f (get_or events i d)) cause is why)) in
+    let refused = QueuesOr-refused (has_room p.unsent (f (get_or events i d))) (Queues (map f (drop (suc i) events)) (queued (f (get_or events i d)) p) (ended cause p)) p cause
+        (rw is.unsent at (unqueued-now v p (f (get_or events i d)) cause is why)) in
     subst (λ (es : List X). Queues (map f es) p (ended cause p)) (sym (drop-cons events i d lt)) refused
 
 -- the event at a place is queued
-pub Queues-queued : {X : Type 0} (f : X → Said) (events : List X) (i : ℕ) (d : X) (v : ClientView) (p q : Peer) → i < length events → IsPeer v p → IsTrue (has_room v.unsent (f (get_or events i d))) → Queues (map f (drop (i + 1) events)) (queued (f (get_or events i d)) p) q → Queues (map f (drop i events)) p q
+pub Queues-queued : {X : Type 0} (f : X → Said) (events : List X) (i : ℕ) (d : X) (v : ClientView) (p q : Peer) → i < length events → IsPeer v p → IsTrue (has_room v.unsent (f (get_or events i d)))
+    → Queues (map f (drop (i + 1) events)) (queued (f (get_or events i d)) p) q → Queues (map f (drop i events)) p q
 Queues-queued {X} f events i d v p q lt is room later =
     let e : i + 1 ≡ suc i = omega arith in
     let rest = subst (λ (k : ℕ). Queues (map f (drop k events)) (queued (f (get_or events i d)) p) q) e later in
@@ -283,19 +296,22 @@ pub Queues-none : {X : Type 0} (f : X → Said) (events : List X) (i : ℕ) (p :
 Queues-none {X} f events i p past = subst (λ (es : List X). Queues (map f es) p p) (sym (drop_all i events past)) refl
 
 -- an error was told
-pub Errs-told : (v w : ClientView) (p : Peer) (refusal : Refusal) (event : Said) → event ≡ error_told refusal → IsPeer v p → (v.refused ≡ None) × IsTrue (has_room v.unsent event) × (w ≡ record v { unsent = v.unsent ++ said_bytes event }) → (q : Peer) × Errs refusal p q × IsPeer (cleared (Protocol refusal.object (code_number refusal.code)) w) q
+pub Errs-told : (v w : ClientView) (p : Peer) (refusal : Refusal) (event : Said) → event ≡ error_told refusal → IsPeer v p → (v.refused ≡ None) × IsTrue (has_room v.unsent event)
+    × (w ≡ record v { unsent = v.unsent ++ said_bytes event }) → (q : Peer) × Errs refusal p q × IsPeer (cleared (Protocol refusal.object (code_number refusal.code)) w) q
 Errs-told v w p refusal event same is ok =
     let cause = Protocol refusal.object (code_number refusal.code) in
     let here : IsTrue (has_room v.unsent (error_told refusal)) = subst (λ (e : Said). IsTrue (has_room v.unsent e)) same ok.1 in
     let room : IsTrue (has_room p.unsent (error_told refusal)) = subst (λ (u : List ℕ). IsTrue (has_room u (error_told refusal))) is.unsent here in
-    let told : IsPeer w (queued (error_told refusal) p) = subst (λ (e : Said). IsPeer w (queued e p)) same (subst (λ (x : ClientView). IsPeer x (queued event p)) (sym ok.2) (IsPeer-queued v p event is)) in (
+    let told : IsPeer w (queued (error_told refusal) p) =
+        subst (λ (e : Said). IsPeer w (queued e p)) same (subst (λ (x : ClientView). IsPeer x (queued event p)) (sym ok.2) (IsPeer-queued v p event is)) in (
       ended cause (queued (error_told refusal) p),
       QueuesOr-queued (has_room p.unsent (error_told refusal)) _ p _ room refl,
       IsPeer-ended w _ cause told,
     )
 
 -- an error couldn't be told
-pub Errs-untold : (v w : ClientView) (p : Peer) (refusal : Refusal) (event : Said) (cause : Cause) → event ≡ error_told refusal → IsPeer v p → IsUnqueuedFor v.refused (has_room v.unsent event) cause → w ≡ record v { refused = Some cause } → (q : Peer) × Errs refusal p q × IsPeer (cleared cause w) q
+pub Errs-untold : (v w : ClientView) (p : Peer) (refusal : Refusal) (event : Said) (cause : Cause) → event ≡ error_told refusal → IsPeer v p → IsUnqueuedFor v.refused (has_room v.unsent event) cause
+    → w ≡ record v { refused = Some cause } → (q : Peer) × Errs refusal p q × IsPeer (cleared cause w) q
 Errs-untold v w p refusal event cause same is why only =
     let here = subst (λ (e : Said). MatchBool (has_room v.unsent e) (cause ≡ Memory) (cause ≡ Slow)) same (unqueued-now v p event cause is why) in
     let reason = subst (λ (u : List ℕ). MatchBool (has_room u (error_told refusal)) (cause ≡ Memory) (cause ≡ Slow)) is.unsent here in (
@@ -305,7 +321,9 @@ Errs-untold v w p refusal event cause same is why only =
     )
 
 -- no_memory was told, or couldn't be
-pub LacksMemory-told : {X : Type 0} (result : Result X Cause) (v w : ClientView) (p : Peer) (event : Said) → event ≡ error_told (display_error NoMemory) → IsPeer v p → OnOk result ((v.refused ≡ None) × IsTrue (has_room v.unsent event) × (w ≡ record v { unsent = v.unsent ++ said_bytes event })) → IfErr result (λ e. w ≡ record v { refused = Some e }) → (q : Peer) × LacksMemory p q × IsPeer (cleared Memory w) q
+pub LacksMemory-told : {X : Type 0} (result : Result X Cause) (v w : ClientView) (p : Peer) (event : Said) → event ≡ error_told (display_error NoMemory) → IsPeer v p
+    → OnOk result ((v.refused ≡ None) × IsTrue (has_room v.unsent event) × (w ≡ record v { unsent = v.unsent ++ said_bytes event })) → IfErr result (λ e. w ≡ record v { refused = Some e })
+    → (q : Peer) × LacksMemory p q × IsPeer (cleared Memory w) q
 LacksMemory-told (Ok x) v w p event same is ok err =
     let told = error_told (display_error NoMemory) in
     let here = subst (λ (e : Said). IsTrue (has_room v.unsent e)) same ok.1 in
@@ -353,7 +371,9 @@ absent None h = refl
 absent (Some cause) h = absurd (cc)
 
 -- a client that has just connected
-pub IsPeer-new : (v : ClientView) (output : Output) (entry : Entry) → object_of entry ≡ record { interface = WlDisplay; version = 1 } → v.ended ≡ None → v.refused ≡ None → v.requests ≡ 0 → v.serial ≡ 1 → v.rest ≡ [] → v.unsent ≡ [] → HoldsAt [] v.objects 1 (Some entry) → length v.objects ≡ 1 → v.regions ≡ [] → v.pools ≡ [] → v.buffers ≡ [] → v.stores ≡ no_stores → output_of v.output ≡ output → IsPeer v (newcomer output)
+pub IsPeer-new : (v : ClientView) (output : Output) (entry : Entry) → object_of entry ≡ record { interface = WlDisplay; version = 1 } → v.ended ≡ None → v.refused ≡ None → v.requests ≡ 0
+    → v.serial ≡ 1 → v.rest ≡ [] → v.unsent ≡ [] → HoldsAt [] v.objects 1 (Some entry) → length v.objects ≡ 1 → v.regions ≡ [] → v.pools ≡ [] → v.buffers ≡ [] → v.stores ≡ no_stores
+    → output_of v.output ≡ output → IsPeer v (newcomer output)
 IsPeer-new v output entry display alive unrefused none first rest unsent holds held regions pools buffers stores shown = record {
   status = alive;
   «open» = unrefused;
@@ -370,18 +390,22 @@ IsPeer-new v output entry display alive unrefused none first rest unsent holds h
   output = shown;
 }
 
-grown : (r s : Area) (changes : Option (List Change)) (change : Change) → ((cs : List Change) → Stands r cs → Stands s (cs ++ change ∷ [])) → IsRegion (Some r) changes → IsRegion (Some s) (option_map (λ cs. cs ++ change ∷ []) changes)
+grown : (r s : Area) (changes : Option (List Change)) (change : Change) → ((cs : List Change) → Stands r cs → Stands s (cs ++ change ∷ [])) → IsRegion (Some r) changes
+    → IsRegion (Some s) (option_map (λ cs. cs ++ change ∷ []) changes)
 grown r s None change grows h = absurd h
 grown r s (Some cs) change grows h = grows cs h
 
 -- a region that is there takes a change more
-pub region-grown : (v : ClientView) (p : Peer) (old new : BTreeMap ℕ Area) (id : ℕ) (r s : Area) (change : Change) → old.entries ≡ v.regions → Some r ≡ held_at old.entries id → UpdatesBy nat_cmp (nat_cmp id) old new (Some s) → ((cs : List Change) → Stands r cs → Stands s (cs ++ change ∷ [])) → IsPeer v p → IsPeer (record v { regions = new.entries }) (changed_region id change p)
+pub region-grown : (v : ClientView) (p : Peer) (old new : BTreeMap ℕ Area) (id : ℕ) (r s : Area) (change : Change) → old.entries ≡ v.regions → Some r ≡ held_at old.entries id
+    → UpdatesBy nat_cmp (nat_cmp id) old new (Some s) → ((cs : List Change) → Stands r cs → Stands s (cs ++ change ∷ [])) → IsPeer v p
+    → IsPeer (record v { regions = new.entries }) (changed_region id change p)
 region-grown v p old new id r s change same found updates grows is =
     let there : IsRegion (Some r) (p.regions id) = subst (λ (area : Option Area). IsRegion area (p.regions id)) (ap (λ (m : List (ℕ × Area)). held_at m id) (sym same) ∙ sym found) (is.regions id) in
     IsPeer-regions v p old new id (Some s) _ same updates (grown r s (p.regions id) change grows there) is
 
 -- a region that is there stays as it was
-pub region-kept : (v : ClientView) (p : Peer) (old new : BTreeMap ℕ Area) (id : ℕ) (r s : Area) → old.entries ≡ v.regions → Some r ≡ held_at old.entries id → UpdatesBy nat_cmp (nat_cmp id) old new (Some s) → s ≡ r → IsPeer v p → IsPeer (record v { regions = new.entries }) (record p { regions = with_id id (p.regions id) p.regions })
+pub region-kept : (v : ClientView) (p : Peer) (old new : BTreeMap ℕ Area) (id : ℕ) (r s : Area) → old.entries ≡ v.regions → Some r ≡ held_at old.entries id
+    → UpdatesBy nat_cmp (nat_cmp id) old new (Some s) → s ≡ r → IsPeer v p → IsPeer (record v { regions = new.entries }) (record p { regions = with_id id (p.regions id) p.regions })
 region-kept v p old new id r s same found updates stays is =
     let there : IsRegion (Some r) (p.regions id) = subst (λ (area : Option Area). IsRegion area (p.regions id)) (ap (λ (m : List (ℕ × Area)). held_at m id) (sym same) ∙ sym found) (is.regions id) in
     IsPeer-regions v p old new id (Some s) (p.regions id) same updates (subst (λ (area : Area). IsRegion (Some area) (p.regions id)) (sym stays) there) is
@@ -421,7 +445,9 @@ refused-by None result error is some none = absurd (let h = rw is at none in cc)
 refused-by (Some e) result error is some none = let same : Err e ≡ Err error = sym some ∙ is in cc
 
 -- a buffer that doesn't lie in its store is refused
-pub buffer-refused : (object version store : ℕ) (stores : Stock) (id : ℕ) (offset width height stride : ℤ) (format size : ℕ) (error : LayoutError) → can_hold store stores ≡ true → size_of store stores ≡ size → layout_refusal size offset width height stride format ≡ Some error → Err (layout_refused object error) ≡ buffer_created object version store stores id offset width height stride format
+pub buffer-refused : (object version store : ℕ) (stores : Stock) (id : ℕ) (offset width height stride : ℤ) (format size : ℕ) (error : LayoutError) → can_hold store stores ≡ true
+    → size_of store stores ≡ size → layout_refusal size offset width height stride format ≡ Some error
+    → Err (layout_refused object error) ≡ buffer_created object version store stores id offset width height stride format
 buffer-refused object version store stores id offset width height stride format size error held sized refused = rw (held, sized, refused) refl
 
 -- how many bytes a store has, or none where it isn't live

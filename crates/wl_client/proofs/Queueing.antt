@@ -45,7 +45,8 @@ past-one : (id : ℕ) (events : List Said) (p m : Peer) → Queues events p m �
 past-one id [] p m h lives = ap (λ (x : Peer). removed id x) h
 past-one id (e ∷ es) p m h lives = at (λ h. past-one id es (queued e p) m h lives) (has_room p.unsent e) h
   where
-    at : (Queues es (queued e p) m → Queues es (queued e (removed id p)) (removed id m)) → (room : Bool) → QueuesOr room (Queues es (queued e p) m) p m → QueuesOr room (Queues es (queued e (removed id p)) (removed id m)) (removed id p) (removed id m)
+    at : (Queues es (queued e p) m → Queues es (queued e (removed id p)) (removed id m)) → (room : Bool) → QueuesOr room (Queues es (queued e p) m) p m
+        → QueuesOr room (Queues es (queued e (removed id p)) (removed id m)) (removed id p) (removed id m)
     at next false h = absurd (over-and-alive Slow p m h lives)
     at next true (inl h) = absurd (over-and-alive Memory p m h lives)
     at next true (inr h) = inr (next h)
@@ -59,7 +60,8 @@ over-one : (id : ℕ) (events : List Said) (p m : Peer) → p.status ≡ None �
 over-one id [] p m lives h over = absurd (alive-and-over p m h lives over)
 over-one id (e ∷ es) p m lives h over = at (λ h. over-one id es (queued e p) m lives h over) (has_room p.unsent e) h
   where
-    at : (Queues es (queued e p) m → Queues es (queued e (removed id p)) m) → (room : Bool) → QueuesOr room (Queues es (queued e p) m) p m → QueuesOr room (Queues es (queued e (removed id p)) m) (removed id p) m
+    at : (Queues es (queued e p) m → Queues es (queued e (removed id p)) m) → (room : Bool) → QueuesOr room (Queues es (queued e p) m) p m
+        → QueuesOr room (Queues es (queued e (removed id p)) m) (removed id p) m
     at next false h = h
     at next true (inl h) = inl h
     at next true (inr h) = inr (next h)
@@ -70,7 +72,8 @@ removed-over [] events more p m lives h over = queues-over events more p m lives
 removed-over (id ∷ ids) events more p m lives h over = removed-over ids events more (removed id p) m lives (over-one id events p m lives h over) over
 
 -- the event at a place is queued, and others follow those that are left
-pub then-queued : (f : ℕ → Said) (ids : List ℕ) (i : ℕ) (more : List Said) (v : ClientView) (p q : Peer) (event : Said) → i < length ids → event ≡ f (get_or ids i 0) → IsPeer v p → IsTrue (has_room v.unsent event) → Queues (map f (drop (i + 1) ids) ++ more) (queued event p) q → Queues (map f (drop i ids) ++ more) p q
+pub then-queued : (f : ℕ → Said) (ids : List ℕ) (i : ℕ) (more : List Said) (v : ClientView) (p q : Peer) (event : Said) → i < length ids → event ≡ f (get_or ids i 0) → IsPeer v p
+    → IsTrue (has_room v.unsent event) → Queues (map f (drop (i + 1) ids) ++ more) (queued event p) q → Queues (map f (drop i ids) ++ more) p q
 then-queued f ids i more v p q event lt same is room later =
     let e : i + 1 ≡ suc i = omega arith in
     let rest = subst (λ (k : ℕ). Queues (map f (drop k ids) ++ more) (queued event p) q) e later in
@@ -80,10 +83,12 @@ then-queued f ids i more v p q event lt same is room later =
     subst (λ (es : List ℕ). Queues (map f es ++ more) p q) (sym (drop-cons ids i 0 lt)) named
 
 -- the event at a place isn't queued, whatever were to follow
-pub then-refused : (f : ℕ → Said) (ids : List ℕ) (i : ℕ) (more : List Said) (v : ClientView) (p : Peer) (cause : Cause) (event : Said) → i < length ids → event ≡ f (get_or ids i 0) → IsPeer v p → IsUnqueuedFor v.refused (has_room v.unsent event) cause → Queues (map f (drop i ids) ++ more) p (ended cause p)
+pub then-refused : (f : ℕ → Said) (ids : List ℕ) (i : ℕ) (more : List Said) (v : ClientView) (p : Peer) (cause : Cause) (event : Said) → i < length ids → event ≡ f (get_or ids i 0) → IsPeer v p
+    → IsUnqueuedFor v.refused (has_room v.unsent event) cause → Queues (map f (drop i ids) ++ more) p (ended cause p)
 then-refused f ids i more v p cause event lt same is why =
     let reason = subst (λ (u : List ℕ). MatchBool (has_room u event) (cause ≡ Memory) (cause ≡ Slow)) is.unsent (unqueued-now v p event cause is why) in
-    let refused : Queues (event ∷ map f (drop (suc i) ids) ++ more) p (ended cause p) = QueuesOr-refused (has_room p.unsent event) (Queues (map f (drop (suc i) ids) ++ more) (queued event p) (ended cause p)) p cause reason in
+    let refused : Queues (event ∷ map f (drop (suc i) ids) ++ more) p (ended cause p) =
+        QueuesOr-refused (has_room p.unsent event) (Queues (map f (drop (suc i) ids) ++ more) (queued event p) (ended cause p)) p cause reason in
     let named : Queues (f (get_or ids i 0) ∷ map f (drop (suc i) ids) ++ more) p (ended cause p) = subst (λ (x : Said). Queues (x ∷ map f (drop (suc i) ids) ++ more) p (ended cause p)) same refused in
     subst (λ (es : List ℕ). Queues (map f es ++ more) p (ended cause p)) (sym (drop-cons ids i 0 lt)) named
 
@@ -112,7 +117,8 @@ held_without-cons old new id ids other holds = at (other == id) refl
     at true e = gone (list_any (λ i. other == i) ids) e
     at false e = ap (λ (o : Option Entry). if list_any (λ i. other == i) ids then None else o) (holds.others other (differ other id e))
 
-pub held_without-next : (old new : Held) (ids : List ℕ) (i other : ℕ) (was : Option Entry) → i < length ids → HoldsAt old new (get_or ids i 0) None → held_without old (drop i ids) other ≡ was → held_without new (drop (i + 1) ids) other ≡ was
+pub held_without-next : (old new : Held) (ids : List ℕ) (i other : ℕ) (was : Option Entry) → i < length ids → HoldsAt old new (get_or ids i 0) None → held_without old (drop i ids) other ≡ was
+    → held_without new (drop (i + 1) ids) other ≡ was
 held_without-next old new ids i other was lt holds h =
     let e : i + 1 ≡ suc i = omega arith in
     ap (λ (k : ℕ). held_without new (drop k ids) other) e

@@ -5,7 +5,8 @@ use Rattle.std.specs.Option.{option_map}
 use Rattle.std.specs.Prelude.{Ok, Err, IfSome, find, if◌then◌else◌, is_some, nat_le, not, ◌&&◌, ◌==◌}
 use Rattle.std.proofs.lemmas.Bool.{eqb-true}
 use Rattle.wl_interface.specs.declared.interface.Interface.{Interface}
-use Rattle.wl_interface.specs.declared.interface.Interface.TheVariants.{WlRegistry, WlShmPool, WlBuffer, WlCompositor, WlSurface, WlSubcompositor, WlSubsurface, WlSeat, WlPointer, XdgWmBase, XdgPositioner, XdgSurface, XdgToplevel, XdgPopup}
+use Rattle.wl_interface.specs.declared.interface.Interface.TheVariants.{WlRegistry, WlShmPool, WlBuffer, WlCompositor, WlSurface, WlSubcompositor, WlSubsurface, WlSeat, WlPointer, XdgWmBase}
+use Rattle.wl_interface.specs.declared.interface.Interface.TheVariants.{XdgPositioner, XdgSurface, XdgToplevel, XdgPopup}
 use Rattle.wl_proto.specs.declared.request.Request.{Request}
 use Rattle.wl_proto.specs.declared.request.Request.TheVariants as requests
 use Rattle.wl_proto.specs.declared.wl_display.WlDisplayRequest.{WlDisplayRequest}
@@ -39,7 +40,8 @@ use Rattle.wl_proto.specs.declared.xdg_toplevel.XdgToplevelRequest.{XdgToplevelR
 use Rattle.wl_proto.specs.declared.xdg_toplevel.XdgToplevelRequest.TheVariants as xdg_toplevel_requests
 use Rattle.wl_proto.specs.declared.xdg_popup.XdgPopupRequest.{XdgPopupRequest}
 use Rattle.wl_proto.specs.declared.xdg_popup.XdgPopupRequest.TheVariants as xdg_popup_requests
-use Rattle.wl_proto.specs.Messages.{request_message, wl_display_request, wl_shm_pool_request, wl_compositor_request, wl_surface_request, wl_subcompositor_request, wl_subsurface_request, wl_seat_request, wl_pointer_request, xdg_wm_base_request, xdg_positioner_request, xdg_surface_request, xdg_toplevel_request, xdg_popup_request}
+use Rattle.wl_proto.specs.Messages.{request_message, wl_display_request, wl_shm_pool_request, wl_compositor_request, wl_surface_request, wl_subcompositor_request, wl_subsurface_request}
+use Rattle.wl_proto.specs.Messages.{wl_seat_request, wl_pointer_request, xdg_wm_base_request, xdg_positioner_request, xdg_surface_request, xdg_toplevel_request, xdg_popup_request}
 use Rattle.wl_proto.specs.Objects.{new_id_in}
 use Rattle.wl_table.specs.declared.entry.Entry.{Entry}
 use Rattle.wl_table.specs.Objects.{Held, HoldsAt, entry_of}
@@ -81,7 +83,8 @@ absent false b o h = absurd (cc)
 pub free-absent : (held : Held) (id : ℕ) → is_free (objects_in held) id ≡ true → entry_of held id ≡ None
 free-absent held id free = absent (nat_le 1 id) (nat_le id 4278190079) (entry_of held id) free
 
-keeps-made : (old new : Held) (id : ℕ) (interface : Interface) (version : ℕ) → is_free (objects_in old) id ≡ true → is_of_surface interface ≡ false → HoldsAt old new id (Some (entry_at_version interface version)) → KeepsSurfaces old new
+keeps-made : (old new : Held) (id : ℕ) (interface : Interface) (version : ℕ) → is_free (objects_in old) id ≡ true → is_of_surface interface ≡ false
+    → HoldsAt old new id (Some (entry_at_version interface version)) → KeepsSurfaces old new
 keeps-made old new id interface version free another holds =
     keeps-at old new id (Some (entry_at_version interface version)) (ap of_surface (free-absent old id free))
     (ap (λ (b : Bool). if b then Some (entry_at_version interface version) else None) another) holds
@@ -104,23 +107,28 @@ asked : (action is : Action) (old new : Held) → action ≡ is → ChangesTable
 asked action is old new same changes = subst (λ (a : Action). ChangesTable a old new) same changes
 
 -- no global is one of those
-bound-next : (b s : Bool) (g : Global) (rest : Bool) (found : Option Global) → is_of_surface g.interface ≡ s → (not s && rest) ≡ true → (rest ≡ true → IfSome (option_map (λ (h : Global). h.interface) found) (λ i. is_of_surface i ≡ false)) → IfSome (option_map (λ (h : Global). h.interface) (if b then Some g else found)) (λ i. is_of_surface i ≡ false)
+bound-next : (b s : Bool) (g : Global) (rest : Bool) (found : Option Global) → is_of_surface g.interface ≡ s → (not s && rest) ≡ true
+    → (rest ≡ true → IfSome (option_map (λ (h : Global). h.interface) found) (λ i. is_of_surface i ≡ false)) → IfSome (option_map (λ (h : Global). h.interface) (if b then Some g else found))
+    (λ i. is_of_surface i ≡ false)
 bound-next true false g rest found e h later = e
 bound-next true true g rest found e h later = absurd (cc)
 bound-next false true g rest found e h later = absurd (cc)
 bound-next false false g rest found e h later = later h
 
-none-bound : (test : Global → Bool) (gs : List Global) → list_all (λ g. not (is_of_surface g.interface)) gs ≡ true → IfSome (option_map (λ (g : Global). g.interface) (find test gs)) (λ i. is_of_surface i ≡ false)
+none-bound : (test : Global → Bool) (gs : List Global) → list_all (λ g. not (is_of_surface g.interface)) gs ≡ true
+    → IfSome (option_map (λ (g : Global). g.interface) (find test gs)) (λ i. is_of_surface i ≡ false)
 none-bound test [] h = tt
 none-bound test (g ∷ gs) h =
     bound-next (test g) (is_of_surface g.interface) g (list_all (λ g. not (is_of_surface g.interface)) gs) (find test gs) refl h (λ later. none-bound test gs later)
 
-keeps-bound : (old new : Held) (action : Action) (id version : ℕ) (o : Option Interface) → IfSome o (λ i. is_of_surface i ≡ false) → is_free (objects_in old) id ≡ true → Ok action ≡ binds id version o → ChangesTable action old new → KeepsSurfaces old new
+keeps-bound : (old new : Held) (action : Action) (id version : ℕ) (o : Option Interface) → IfSome o (λ i. is_of_surface i ≡ false) → is_free (objects_in old) id ≡ true → Ok action ≡ binds id version o
+    → ChangesTable action old new → KeepsSurfaces old new
 keeps-bound old new action id version None another free is changes = absurd (cc)
 keeps-bound old new action id version (Some interface) another free is changes =
     keeps-made old new id interface version free another (asked action (Bind id interface version) old new (same-action action (Bind id interface version) is) changes)
 
-keeps-changed : (old new : Held) (action change : Action) (full : Bool) → (ChangesTable change old new → KeepsSurfaces old new) → Ok action ≡ (if full then Err (display_error Implementation) else Ok change) → ChangesTable action old new → KeepsSurfaces old new
+keeps-changed : (old new : Held) (action change : Action) (full : Bool) → (ChangesTable change old new → KeepsSurfaces old new)
+    → Ok action ≡ (if full then Err (display_error Implementation) else Ok change) → ChangesTable action old new → KeepsSurfaces old new
 keeps-changed old new action change true keeps is changes = absurd (cc)
 keeps-changed old new action change false keeps is changes = keeps (asked action change old new (same-action action change is) changes)
 
@@ -134,43 +142,52 @@ keeps-region old new action object (Some count) was (regions.Add x y width heigh
 keeps-region old new action object (Some count) was (regions.Subtract x y width height) there another is changes =
     keeps-changed old new action (SubtractFromRegion object (rect x y width height)) (nat_le 512 count) (λ same. keeps-same old new same) is changes
 
-keeps-pool_created : (old new : Held) (action : Action) (object version id : ℕ) (size : ℤ) (o : Option StoreError) → is_free (objects_in old) id ≡ true → Ok action ≡ pool_created object version id size o → ChangesTable action old new → KeepsSurfaces old new
+keeps-pool_created : (old new : Held) (action : Action) (object version id : ℕ) (size : ℤ) (o : Option StoreError) → is_free (objects_in old) id ≡ true
+    → Ok action ≡ pool_created object version id size o → ChangesTable action old new → KeepsSurfaces old new
 keeps-pool_created old new action object version id size None free is changes =
     keeps-made old new id WlShmPool version free refl (asked action (CreatePool id version size) old new (same-action action (CreatePool id version size) is) changes)
 keeps-pool_created old new action object version id size (Some store_errors.BadSize) free is changes = absurd (cc)
 keeps-pool_created old new action object version id size (Some error) free is changes = absurd (cc)
 
-keeps-buffer_laid : (old new : Held) (action : Action) (object version id : ℕ) (laid : Laid) (o : Option LayoutError) → is_free (objects_in old) id ≡ true → Ok action ≡ buffer_laid object version id laid o → ChangesTable action old new → KeepsSurfaces old new
+keeps-buffer_laid : (old new : Held) (action : Action) (object version id : ℕ) (laid : Laid) (o : Option LayoutError) → is_free (objects_in old) id ≡ true
+    → Ok action ≡ buffer_laid object version id laid o → ChangesTable action old new → KeepsSurfaces old new
 keeps-buffer_laid old new action object version id laid None free is changes =
     keeps-made old new id WlBuffer version free refl (asked action (CreateBuffer id version laid) old new (same-action action (CreateBuffer id version laid) is) changes)
 keeps-buffer_laid old new action object version id laid (Some error) free is changes = absurd (cc)
 
-keeps-buffer_created : (old new : Held) (action : Action) (object version id : ℕ) (laid : Laid) (o : Option LayoutError) (held : Bool) → is_free (objects_in old) id ≡ true → Ok action ≡ (if held then buffer_laid object version id laid o else Err (display_error Implementation)) → ChangesTable action old new → KeepsSurfaces old new
+keeps-buffer_created : (old new : Held) (action : Action) (object version id : ℕ) (laid : Laid) (o : Option LayoutError) (held : Bool) → is_free (objects_in old) id ≡ true
+    → Ok action ≡ (if held then buffer_laid object version id laid o else Err (display_error Implementation)) → ChangesTable action old new → KeepsSurfaces old new
 keeps-buffer_created old new action object version id laid o true free is changes = keeps-buffer_laid old new action object version id laid o free is changes
 keeps-buffer_created old new action object version id laid o false free is changes = absurd (cc)
 
-keeps-pool_resized : (old new : Held) (action : Action) (object store : ℕ) (size : ℤ) (o : Option StoreError) → Ok action ≡ pool_resized object store size o → ChangesTable action old new → KeepsSurfaces old new
+keeps-pool_resized : (old new : Held) (action : Action) (object store : ℕ) (size : ℤ) (o : Option StoreError) → Ok action ≡ pool_resized object store size o → ChangesTable action old new
+    → KeepsSurfaces old new
 keeps-pool_resized old new action object store size None is changes =
     keeps-same old new (asked action (ResizePool store size) old new (same-action action (ResizePool store size) is) changes)
 keeps-pool_resized old new action object store size (Some store_errors.Shrinks) is changes = absurd (cc)
 keeps-pool_resized old new action object store size (Some error) is changes = absurd (cc)
 
-keeps-buffer_destroyed : (old new : Held) (action : Action) (object : ℕ) (o : Option Buffer) (was : Entry) → entry_of old object ≡ Some was → of_surface (Some was) ≡ None → Ok action ≡ buffer_destroyed object o → ChangesTable action old new → KeepsSurfaces old new
+keeps-buffer_destroyed : (old new : Held) (action : Action) (object : ℕ) (o : Option Buffer) (was : Entry) → entry_of old object ≡ Some was → of_surface (Some was) ≡ None
+    → Ok action ≡ buffer_destroyed object o → ChangesTable action old new → KeepsSurfaces old new
 keeps-buffer_destroyed old new action object None was there another is changes = absurd (cc)
 keeps-buffer_destroyed old new action object (Some buffer) was there another is changes =
     keeps-removed old new object was there another (asked action (DestroyBuffer object buffer.laid.store) old new (same-action action (DestroyBuffer object buffer.laid.store) is) changes)
 
 -- ---- by requests
 
-keeps-display : (old new : Held) (action : Action) (request : WlDisplayRequest) → IfSome (new_id_in (wl_display_request request)) (λ n. is_free (objects_in old) n.id ≡ true) → accepted action ≡ accepted (display_action request) → ChangesTable action old new → KeepsSurfaces old new
+keeps-display : (old new : Held) (action : Action) (request : WlDisplayRequest) → IfSome (new_id_in (wl_display_request request)) (λ n. is_free (objects_in old) n.id ≡ true)
+    → accepted action ≡ accepted (display_action request) → ChangesTable action old new → KeepsSurfaces old new
 keeps-display old new action (displays.Sync callback) free is changes = keeps-same old new (asked action (Sync callback) old new (same-action action (Sync callback) is) changes)
 keeps-display old new action (displays.GetRegistry registry) free is changes =
     keeps-made old new registry WlRegistry 1 free refl (asked action (GetRegistry registry) old new (same-action action (GetRegistry registry) is) changes)
 
-keeps-pool : (old new : Held) (action : Action) (object version : ℕ) (stores : Stock) (o : Option ℕ) (was : Entry) (request : WlShmPoolRequest) → entry_of old object ≡ Some was → of_surface (Some was) ≡ None → IfSome (new_id_in (wl_shm_pool_request request)) (λ n. is_free (objects_in old) n.id ≡ true) → Ok action ≡ pool_action object version stores o request → ChangesTable action old new → KeepsSurfaces old new
+keeps-pool : (old new : Held) (action : Action) (object version : ℕ) (stores : Stock) (o : Option ℕ) (was : Entry) (request : WlShmPoolRequest) → entry_of old object ≡ Some was
+    → of_surface (Some was) ≡ None → IfSome (new_id_in (wl_shm_pool_request request)) (λ n. is_free (objects_in old) n.id ≡ true) → Ok action ≡ pool_action object version stores o request
+    → ChangesTable action old new → KeepsSurfaces old new
 keeps-pool old new action object version stores None was request there another free is changes = absurd (cc)
 keeps-pool old new action object version stores (Some store) was (pools.CreateBuffer id offset width height stride format) there another free is changes =
-    keeps-buffer_created old new action object version id (buffer_asked store offset width height stride format) (layout_refusal (size_of store stores) offset width height stride format) (can_hold store stores) free is changes
+    keeps-buffer_created old new action object version id (buffer_asked store offset width height stride format) (layout_refusal (size_of store stores) offset width height stride format)
+        (can_hold store stores) free is changes
 keeps-pool old new action object version stores (Some store) was pools.Destroy there another free is changes =
     keeps-removed old new object was there another (asked action (DestroyPool object store) old new (same-action action (DestroyPool object store) is) changes)
 keeps-pool old new action object version stores (Some store) was (pools.Resize size) there another free is changes =
@@ -257,7 +274,10 @@ of-xdg_popup xdg_popup_requests.Destroy = refl
 of-xdg_popup (xdg_popup_requests.Grab seat serial) = refl
 
 -- an accepted request of one of a client's own interfaces
-pub keeps-surfaces : (old new : Held) (known : Known) (object version target : ℕ) (action : Action) (request : Request) → entry_of old object ≡ Some (record { interface = (request_message request).interface; version = version; target = target }) → IfSome (new_id_in (request_message request)) (λ n. is_free (objects_in old) n.id ≡ true) → is_own (request_message request).interface ≡ true → Ok action ≡ action_of known object version (request_of (request_message request)) → ChangesTable action old new → KeepsSurfaces old new
+pub keeps-surfaces : (old new : Held) (known : Known) (object version target : ℕ) (action : Action) (request : Request)
+    → entry_of old object ≡ Some (record { interface = (request_message request).interface; version = version; target = target })
+    → IfSome (new_id_in (request_message request)) (λ n. is_free (objects_in old) n.id ≡ true) → is_own (request_message request).interface ≡ true
+    → Ok action ≡ action_of known object version (request_of (request_message request)) → ChangesTable action old new → KeepsSurfaces old new
 keeps-surfaces old new known object version target action (requests.WlDisplay (displays.Sync callback)) there free own is changes =
     keeps-display old new action (displays.Sync callback) free is changes
 keeps-surfaces old new known object version target action (requests.WlDisplay (displays.GetRegistry registry)) there free own is changes =

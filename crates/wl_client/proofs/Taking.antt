@@ -11,7 +11,8 @@ use Rattle.wl_table.specs.Objects.{Held}
 use Rattle.wl_surface.specs.Kept.{IsAny, Numbered, Slots, StandForAll, has_at}
 use Rattle.wl_surface.specs.Surfaces.{Surface}
 use Rattle.wl_peer.specs.declared.actions.Action.{Action}
-use Rattle.wl_peer.specs.declared.actions.Action.TheVariants.{Sync, GetRegistry, Bind, CreateRegion, AddToRegion, SubtractFromRegion, DestroyRegion, CreatePool, CreateBuffer, ResizePool, DestroyPool, DestroyBuffer}
+use Rattle.wl_peer.specs.declared.actions.Action.TheVariants.{Sync, GetRegistry, Bind, CreateRegion, AddToRegion, SubtractFromRegion, DestroyRegion, CreatePool, CreateBuffer, ResizePool, DestroyPool}
+use Rattle.wl_peer.specs.declared.actions.Action.TheVariants.{DestroyBuffer}
 use Rattle.wl_peer.specs.declared.cause.Cause.TheVariants.{Protocol}
 use Rattle.wl_peer.specs.declared.refusals.ErrorCode.TheVariants.{InvalidMethod}
 use Rattle.wl_peer.specs.declared.refusals.Refusal.{Refusal}
@@ -43,7 +44,8 @@ used-same slots used number b are is = any-same (has_at number) are.0 b (used nu
 -- ---- a wl_buffer goes
 
 -- a surface uses its buffer
-pub ActsWith-used : (used : ℕ → Bool) (id store : ℕ) (p q : Peer) → has_used used (p.buffers id) ≡ true → Queues (id_deleted id ∷ []) (removed id (record p { buffers = with_id id None p.buffers })) q → ActsWith used (DestroyBuffer id store) p q
+pub ActsWith-used : (used : ℕ → Bool) (id store : ℕ) (p q : Peer) → has_used used (p.buffers id) ≡ true → Queues (id_deleted id ∷ []) (removed id (record p { buffers = with_id id None p.buffers })) q
+    → ActsWith used (DestroyBuffer id store) p q
 ActsWith-used used id store p q is queues = subst (λ (b : Bool). Queues (id_deleted id ∷ []) (keeps_store b p.stores (changed (DestroyBuffer id store) p)) q) (sym is) queues
 
 -- none does
@@ -67,13 +69,15 @@ ActsWith-other used (DestroyBuffer id store) p q other acts = absurd (other id s
 
 -- ---- the first message is taken
 
-judged-is : (v : ClientView) (p : Peer) (object opcode size : ℕ) → IsPeer v p → judge (known_in v) object opcode (take (size - 8) (drop 8 v.rest)) ≡ judge (known_of p) object opcode (take (size - 8) (drop 8 p.rest))
+judged-is : (v : ClientView) (p : Peer) (object opcode size : ℕ) → IsPeer v p → judge (known_in v) object opcode (take (size - 8) (drop 8 v.rest)) ≡ judge (known_of p) object opcode
+    (take (size - 8) (drop 8 p.rest))
 judged-is v p object opcode size is =
     ap (λ (r : List ℕ). judge (known_in v) object opcode (take (size - 8) (drop 8 r))) is.rest
     ∙ ap (λ (known : Known). judge known object opcode (take (size - 8) (drop 8 p.rest))) (known-is v p is)
 
 -- by what it is judged
-serves-judged : (used : ℕ → Bool) (v : ClientView) (p q : Peer) (object opcode size : ℕ) (judged : Result Action Refusal) → IsPeer v p → v.ended ≡ None → split_of v.rest ≡ Whole object opcode size → judge (known_in v) object opcode (take (size - 8) (drop 8 v.rest)) ≡ judged → AnswersWith used judged (with_rest (drop size v.rest) p) q → ServesWith used p q
+serves-judged : (used : ℕ → Bool) (v : ClientView) (p q : Peer) (object opcode size : ℕ) (judged : Result Action Refusal) → IsPeer v p → v.ended ≡ None → split_of v.rest ≡ Whole object opcode size
+    → judge (known_in v) object opcode (take (size - 8) (drop 8 v.rest)) ≡ judged → AnswersWith used judged (with_rest (drop size v.rest) p) q → ServesWith used p q
 serves-judged used v p q object opcode size judged is alive whole asked answers =
     let at : split_of p.rest ≡ Whole object opcode size = sym (ap split_of is.rest) ∙ whole in
     let left : AnswersWith used judged (with_rest (drop size p.rest) p) q = subst (λ (r : List ℕ). AnswersWith used judged (with_rest (drop size r) p) q) is.rest answers in
@@ -82,13 +86,15 @@ serves-judged used v p q object opcode size judged is alive whole asked answers 
     (sym is.status ∙ alive, subst (λ (s : Split). TakesWith used s p q) (sym at) taken)
 
 -- one of the client's own interfaces
-pub serves-own : (used : ℕ → Bool) (v : ClientView) (p q : Peer) (size : ℕ) (judged : Result Action Refusal) → IsPeer v p → v.ended ≡ None → IsOwnMessage v size judged → AnswersWith used judged (with_rest (drop size v.rest) p) q → ServesWith used p q
+pub serves-own : (used : ℕ → Bool) (v : ClientView) (p q : Peer) (size : ℕ) (judged : Result Action Refusal) → IsPeer v p → v.ended ≡ None → IsOwnMessage v size judged
+    → AnswersWith used judged (with_rest (drop size v.rest) p) q → ServesWith used p q
 serves-own used v p q size judged is alive own answers =
     let m = request_message own.request in
     let o : Object = record { interface = m.interface; version = own.version } in
     let body = take (size - 8) (drop 8 v.rest) in
     let there : objects_in v.objects own.object ≡ Some o = ap (λ (e : Option Entry). option_map object_of e) own.passes.entry in
-    let passes : passing (objects_in v.objects) (length v.objects) m.opcode body (Some o) ≡ Ok m = subst (λ (e : Option Object). passing (objects_in v.objects) (length v.objects) m.opcode body e ≡ Ok m) there own.passes.passes in
+    let passes : passing (objects_in v.objects) (length v.objects) m.opcode body (Some o) ≡ Ok m =
+        subst (λ (e : Option Object). passing (objects_in v.objects) (length v.objects) m.opcode body e ≡ Ok m) there own.passes.passes in
     let asks : ℕ → Message → Result Action Refusal = λ version m. action_of (known_in v) own.object version (request_of m) in
     let asked : judge (known_in v) own.object m.opcode body ≡ judged =
     ap (λ (e : Option Object). judged_at (objects_in v.objects) (length v.objects) asks m.opcode body e) there
@@ -113,7 +119,8 @@ serves-refused used v p q refusal is alive refused errs = at (split_of v.rest) r
     at : (s : Split) → split_of v.rest ≡ s → IsRefused s v refusal → ServesWith used p q
     at (Whole object opcode size) whole h =
         serves-judged used v p q object opcode size (Err refusal) is alive whole
-        (judged-refused (objects_in v.objects) (length v.objects) (λ version m. action_of (known_in v) object version (request_of m)) opcode (take (size - 8) (drop 8 v.rest)) (objects_in v.objects object) refusal h) (Errs-rest refusal p q (drop size v.rest) errs)
+        (judged-refused (objects_in v.objects) (length v.objects) (λ version m. action_of (known_in v) object version (request_of m)) opcode (take (size - 8) (drop 8 v.rest))
+            (objects_in v.objects object) refusal h) (Errs-rest refusal p q (drop size v.rest) errs)
     at Bad bad h =
         let here : split_of p.rest ≡ Bad = sym (ap split_of is.rest) ∙ bad in
         let told : Errs (display_error InvalidMethod) p q = subst (λ (r : Refusal). Errs r p q) h errs in
@@ -121,6 +128,7 @@ serves-refused used v p q refusal is alive refused errs = at (split_of v.rest) r
     at More none h = absurd h
 
 -- an own message leaves the objects that name surfaces
-pub keeps-own : (v : ClientView) (size : ℕ) (action : Action) (judged : Result Action Refusal) (new : Held) → judged ≡ Ok action → IsOwnMessage v size judged → ChangesTable action v.objects new → KeepsSurfaces v.objects new
+pub keeps-own : (v : ClientView) (size : ℕ) (action : Action) (judged : Result Action Refusal) (new : Held) → judged ≡ Ok action → IsOwnMessage v size judged → ChangesTable action v.objects new
+    → KeepsSurfaces v.objects new
 keeps-own v size action judged new is own changes =
     keeps-surfaces v.objects new (known_in v) own.object own.version own.target action own.request own.passes.entry own.passes.free own.own (sym is ∙ own.is_judged) changes

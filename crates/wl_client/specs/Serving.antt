@@ -1,5 +1,6 @@
 -- One message of a client whose surfaces use some of its buffers.
-use Rattle.std.specs.Prelude.{ℕ, ◌≡◌, ◌≢◌, ◌-◌, ◌==◌, Bool, true, false, if◌then◌else◌, List, take, drop, Option, Some, None, Result, Ok, Err, ◌⊎◌}
+use Rattle.std.specs.Prelude.{ℕ, ◌≡◌, ◌≢◌, ◌-◌, ◌==◌, Bool, true, false, if◌then◌else◌, List, take, drop, Option, Some, None, Result, Ok}
+use Rattle.std.specs.Prelude.{Err, ◌⊎◌}
 use Rattle.std.specs.List.{list_any}
 use Rattle.wl_wire.specs.declared.header.Split.{Split}
 use Rattle.wl_wire.specs.declared.header.Split.TheVariants.{Message as Whole, More, Bad}
@@ -11,7 +12,8 @@ use Rattle.wl_wire.specs.Wire.{split_of}
 use Rattle.wl_surface.specs.Kept.{IsAny, Numbered, Slots, StandForAll, has_at}
 use Rattle.wl_table.specs.Objects.{Held, HoldsAt, entry_of}
 use Rattle.wl_peer.specs.declared.actions.Action.{Action}
-use Rattle.wl_peer.specs.declared.actions.Action.TheVariants.{GetRegistry, Bind, CreateRegion, DestroyRegion, CreatePool, CreateBuffer, DestroyPool, DestroyBuffer}
+use Rattle.wl_peer.specs.declared.actions.Action.TheVariants.{GetRegistry, Bind, CreateRegion, DestroyRegion, CreatePool, CreateBuffer}
+use Rattle.wl_peer.specs.declared.actions.Action.TheVariants.{DestroyPool, DestroyBuffer}
 use Rattle.wl_peer.specs.declared.cause.Cause.{Cause}
 use Rattle.wl_peer.specs.declared.cause.Cause.TheVariants.{Protocol, Memory, Slow}
 use Rattle.wl_peer.specs.declared.refusals.ErrorCode.TheVariants.{InvalidMethod}
@@ -46,7 +48,8 @@ AreUsed slots used = (all : Numbered) × StandForAll slots all × ((number : ℕ
 
 -- what an accepted message asks is done, and then answered
 abbrev pub ActsWith : (ℕ → Bool) → Action → Peer → Peer → Type 0
-ActsWith used action old new = WantsOr (takes_memory action) (Queues (answers_to old.output action) (changed_with used action old) new) old new
+ActsWith used action old new = WantsOr (takes_memory action) (Queues (answers_to old.output action) (changed_with used action old) new) old
+    new
 
 -- a message is answered, or refused
 abbrev pub AnswersWith : (ℕ → Bool) → Result Action Refusal → Peer → Peer → Type 0
@@ -79,7 +82,8 @@ HoldsWithout old new ids = (other : ℕ) → entry_of new other ≡ (if list_any
 -- the first message passes, and is to an object of this kind
 abbrev pub PassesTo : Bool → ClientView → Type 0
 PassesTo own v =
-    (object : ℕ) × (version : ℕ) × (size : ℕ) × (target : ℕ) × (m : Message) × Passes v object version size target m × (is_own m.interface ≡ own)
+    (object : ℕ) × (version : ℕ) × (size : ℕ) × (target : ℕ) × (m : Message) × Passes v object version size target m
+        × (is_own m.interface ≡ own)
 
 -- The first message passes, is of one of these, and is judged so.
 pub record IsOwnMessage (v : ClientView) (size : ℕ) (judged : Result Action Refusal) : Type 0 where

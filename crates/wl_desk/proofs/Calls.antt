@@ -97,7 +97,8 @@ pub closed-none : (s : Option Cause) (p : Peer) → is_some s ≡ true → close
 closed-none None p e = absurd (differ (sym e))
 closed-none (Some cause) p e = refl
 
-module _ {A : Type 0} (output : Output) (us : List (Option ClientView)) (os : List (Option (Owned A))) (stack : Stack) (c k : ℕ) (is : IsFound us os c k) (d : Desktop) (a : Matches (view_of output us os stack) d) where
+module _ {A : Type 0} (output : Output) (us : List (Option ClientView)) (os : List (Option (Owned A))) (stack : Stack) (c k : ℕ) (is : IsFound us os c k) (d : Desktop)
+    (a : Matches (view_of output us os stack) d) where
   pub client-here : (x : Option ClientView) → x ≡ get_or us k x → at us k ≡ x
   client-here x e = sym (e ∙ at-within us k x is.client)
 
@@ -108,7 +109,8 @@ module _ {A : Type 0} (output : Output) (us : List (Option ClientView)) (os : Li
   pub place-here : (x : Option ClientView) (y : Option (Owned A)) → x ≡ get_or us k x → y ≡ get_or os k y → IsPlace x (option_map owned_view y) (client_at c d)
   place-here x y e f = rw is.number (rw (client-here x e, owned-here y f) at (place-at (view_of output us os stack) d k a))
 
-  pub out : (v : Kept A) (x : Option ClientView) (y : Option (Owned A)) → x ≡ get_or us k x → y ≡ get_or os k y → (x ≡ Some v.client) × (y ≡ Some v.owned) → (s : Resident) × (client_at c d ≡ Some s) × IsSeated c (numbers_in us) d v stack d s
+  pub out : (v : Kept A) (x : Option ClientView) (y : Option (Owned A)) → x ≡ get_or us k x → y ≡ get_or os k y → (x ≡ Some v.client) × (y ≡ Some v.owned) → (s : Resident) × (client_at c d ≡ Some s)
+      × IsSeated c (numbers_in us) d v stack d s
   out v x y e f taken =
       rw is.number (seated-out (view_of output us os stack) d k v (client-here x e ∙ taken.0) (owned-here y f ∙ ap (λ (o : Option (Owned A)). option_map owned_view o) taken.1) a)
 
@@ -128,7 +130,8 @@ module _ {A : Type 0} (output : Output) (us : List (Option ClientView)) (os : Li
       (n.0, n.2, back new x2 y2 now n.0 n.1 n.3)
 
   -- a client that is told something
-  pub changes : (R : Peer → Done → Option Peer → Type 0) (absent done : Done) (v new : Kept A) (x x2 : Option ClientView) (y y2 : Option (Owned A)) (now : Stack) → x ≡ get_or us k x → y ≡ get_or os k y → (x ≡ Some v.client) × (y ≡ Some v.owned)
+  pub changes : (R : Peer → Done → Option Peer → Type 0) (absent done : Done) (v new : Kept A) (x x2 : Option ClientView) (y y2 : Option (Owned A)) (now : Stack) → x ≡ get_or us k x
+      → y ≡ get_or os k y → (x ≡ Some v.client) × (y ≡ Some v.owned)
       → IsChangedSo c R done v new stack now
       → (e : Desktop) × Changes c R absent d done e × Matches (view_of output (set (set us k x2) k (Some new.client)) (set (set os k y2) k (Some new.owned)) now) e
   changes R absent done v new x x2 y y2 now e f taken changed =
@@ -147,7 +150,8 @@ module _ {A : Type 0} (output : Output) (us : List (Option ClientView)) (os : Li
       let free : client_at (suc k) d ≡ None = subst (λ (n : ℕ). client_at n d ≡ None) is.number nobody.1 in (
         nobody.1,
         rw (left.0, left.1) (agrees-put (view_of output us os stack) k None None None (set us k None) (map (option_map owned_view) (set os k None)) stack d d a is.client (put-set k None us is.client)
-            (put-map owned_view k None os (set os k None) (put-set k None os is.owned)) refl (sym (ap (λ (r : Option Resident). with_number (suc k) r d.clients) (sym free) ∙ number-kept d.clients (suc k))) tt
+            (put-map owned_view k None os (set os k None) (put-set k None os is.owned)) refl (sym (ap (λ (r : Option Resident). with_number (suc k) r d.clients) (sym free)
+                ∙ number-kept d.clients (suc k))) tt
             (scene-out k None us stack d (client-here x e ∙ nobody.0) a.scene) a.mapped),
       )
     where
@@ -155,7 +159,8 @@ module _ {A : Type 0} (output : Output) (us : List (Option ClientView)) (os : Li
       owned-none (inl h) = inl h
       owned-none (inr h) = inr (ap (λ (o : Option (Owned A)). option_map owned_view o) h)
 
-  pub changes-untaken : (R : Peer → Done → Option Peer → Type 0) (absent : Done) (x x2 : Option ClientView) (y y2 : Option (Owned A)) → x ≡ get_or us k x → y ≡ get_or os k y → (x ≡ None) ⊎ (y ≡ None) → (x2 ≡ None) × (y2 ≡ None)
+  pub changes-untaken : (R : Peer → Done → Option Peer → Type 0) (absent : Done) (x x2 : Option ClientView) (y y2 : Option (Owned A)) → x ≡ get_or us k x → y ≡ get_or os k y → (x ≡ None) ⊎ (y ≡ None)
+      → (x2 ≡ None) × (y2 ≡ None)
       → (e : Desktop) × Changes c R absent d absent e × Matches (view_of output (set us k x2) (set os k y2) stack) e
   changes-untaken R absent x x2 y y2 e f none left =
       let free = untaken x x2 y y2 e f none left in
@@ -169,10 +174,12 @@ module _ {A : Type 0} (output : Output) (us : List (Option ClientView)) (os : Li
   -- ---- a number is given back
 
   -- there is nobody, or the client lives
-  pub unclosed : (x : Option ClientView) → x ≡ get_or us k x → has_ended_in x ≡ false → (e : Desktop) × Changes c IsClosed (gave.Close false) d (gave.Close false) e × Matches (view_of output us os stack) e
+  pub unclosed : (x : Option ClientView) → x ≡ get_or us k x → has_ended_in x ≡ false → (e : Desktop) × Changes c IsClosed (gave.Close false) d (gave.Close false) e
+      × Matches (view_of output us os stack) e
   unclosed x e alive = (d, by x (at (map (option_map owned_view) os) k) (client_at c d) refl (rw is.number (rw (client-here x e) at (place-at (view_of output us os stack) d k a))) alive, a)
     where
-      by : (x : Option ClientView) (o : Option OwnedView) (r : Option Resident) → client_at c d ≡ r → IsPlace x o r → has_ended_in x ≡ false → ChangesAt IsClosed (gave.Close false) c r d (gave.Close false) d
+      by : (x : Option ClientView) (o : Option OwnedView) (r : Option Resident) → client_at c d ≡ r → IsPlace x o r → has_ended_in x ≡ false
+          → ChangesAt IsClosed (gave.Close false) c r d (gave.Close false) d
       by None None None there here alive = (refl, refl)
       by (Some v) (Some o) (Some s) there here alive =
           let status : s.peer.status ≡ None = sym here.peer.status ∙ lives-of v.ended alive in (
@@ -216,15 +223,18 @@ slot-there : (x : Option ClientView) (o : Option Peer) (v : ClientView) → x �
 slot-there x None v e here = absurd (rw e at here)
 slot-there x (Some p) v e here = (p, refl, rw e at here)
 
-pub client-there : {A : Type 0} (output : Output) (us : List (Option ClientView)) (os : List (Option (Owned A))) (c k : ℕ) → IsFound us os c k → (new : Kept A) (x2 : Option ClientView) (y2 : Option (Owned A)) (now : Stack) (e : Desktop)
+pub client-there : {A : Type 0} (output : Output) (us : List (Option ClientView)) (os : List (Option (Owned A))) (c k : ℕ) → IsFound us os c k
+    → (new : Kept A) (x2 : Option ClientView) (y2 : Option (Owned A)) (now : Stack) (e : Desktop)
     → Matches (view_of output (set (set us k x2) k (Some new.client)) (set (set os k y2) k (Some new.owned)) now) e → (p : Peer) × (peer_at c e ≡ Some p) × IsPeer new.client p
 client-there output us os c k is new x2 y2 now e b =
     let view = view_of output (set (set us k x2) k (Some new.client)) (set (set os k y2) k (Some new.owned)) now in
-    rw is.number (slot-there (at view.clients k) (peer_at (suc k) e) new.client (put-twice k (Some new.client) x2 us is.client).here (slot-peer (at view.clients k) (at view.owned k) (client_at (suc k) e) (place-at view e k b)))
+    rw is.number (slot-there (at view.clients k) (peer_at (suc k) e) new.client (put-twice k (Some new.client) x2 us is.client).here
+        (slot-peer (at view.clients k) (at view.owned k) (client_at (suc k) e) (place-at view e k b)))
 
 -- ---- nobody is there
 
-pub Changes-none : (R : Peer → Done → Option Peer → Type 0) (absent : Done) (us : List (Option ClientView)) (w : DeskView) (d : Desktop) (c : ℕ) → us ≡ w.clients → (c ≡ 0) ⊎ (length us < c) → Matches w d → (e : Desktop) × Changes c R absent d absent e × Matches w e
+pub Changes-none : (R : Peer → Done → Option Peer → Type 0) (absent : Done) (us : List (Option ClientView)) (w : DeskView) (d : Desktop) (c : ℕ) → us ≡ w.clients → (c ≡ 0) ⊎ (length us < c)
+    → Matches w d → (e : Desktop) × Changes c R absent d absent e × Matches w e
 Changes-none R absent us w d c same h a =
     (d, subst (λ (o : Option Resident). ChangesAt R absent c o d absent d) (sym (client-past us w d c same h a)) (refl, refl), a)
 
@@ -245,12 +255,15 @@ lowest-same (v ∷ us) [] count same = absurd (omega (arith, count))
 -- the lowest free number is free in both
 lowest-agrees : (us : List (Option ClientView)) (w : DeskView) (d : Desktop) (o : Option ℕ) → us ≡ w.clients → o ≡ lowest us → Matches w d → lowest d.clients ≡ o
 lowest-agrees us w d o same found a =
-    sym (lowest-same w.clients d.clients a.count (λ k. place-some (at w.clients k) (at w.owned k) (place d.clients k) (a.clients k))) ∙ sym (found ∙ ap (λ (xs : List (Option ClientView)). lowest xs) same)
+    sym (lowest-same w.clients d.clients a.count (λ k. place-some (at w.clients k) (at w.owned k) (place d.clients k) (a.clients k)))
+        ∙ sym (found ∙ ap (λ (xs : List (Option ClientView)). lowest xs) same)
 
-pub Connects-full : (us : List (Option ClientView)) (w : DeskView) (d : Desktop) → us ≡ w.clients → None ≡ lowest us → Matches w d → (e : Desktop) × ConnectsAt (lowest d.clients) d (gave.Connect (Err Full)) e × Matches w e
+pub Connects-full : (us : List (Option ClientView)) (w : DeskView) (d : Desktop) → us ≡ w.clients → None ≡ lowest us → Matches w d → (e : Desktop)
+    × ConnectsAt (lowest d.clients) d (gave.Connect (Err Full)) e × Matches w e
 Connects-full us w d same none a = let free = lowest-agrees us w d None same none a in (d, rw free (refl, refl), a)
 
-pub Connects-refused : (us : List (Option ClientView)) (w : DeskView) (d : Desktop) (k : ℕ) → us ≡ w.clients → Some k ≡ lowest us → Matches w d → (e : Desktop) × ConnectsAt (lowest d.clients) d (gave.Connect (Err Memory)) e × Matches w e
+pub Connects-refused : (us : List (Option ClientView)) (w : DeskView) (d : Desktop) (k : ℕ) → us ≡ w.clients → Some k ≡ lowest us → Matches w d → (e : Desktop)
+    × ConnectsAt (lowest d.clients) d (gave.Connect (Err Memory)) e × Matches w e
 Connects-refused us w d k same found a = let free = lowest-agrees us w d (Some k) same found a in (d, rw free (inl (refl, refl)), a)
 
 pub lowest-at : {X : Type 0} (xs : List (Option X)) (k : ℕ) → lowest xs ≡ Some k → at xs k ≡ None
@@ -266,7 +279,8 @@ lowest-at (Some x ∷ xs) k e = by (lowest xs) (lowest-at xs) e
         subst (λ (n : ℕ). at (Some x ∷ xs) n ≡ None) next (later j refl)
 
 -- the client that came has the place
-pub Connects-new : {A : Type 0} (output : Output) (us vs : List (Option ClientView)) (os : List (Option (Owned A))) (stack : Stack) (k : ℕ) (v : ClientView) (owned : Owned A) (d : Desktop) → vs ≡ us → Some k ≡ lowest vs → k < length us → k < length os
+pub Connects-new : {A : Type 0} (output : Output) (us vs : List (Option ClientView)) (os : List (Option (Owned A))) (stack : Stack) (k : ℕ) (v : ClientView) (owned : Owned A) (d : Desktop) → vs ≡ us
+    → Some k ≡ lowest vs → k < length us → k < length os
     → IsPeer v (newcomer (output_of output)) → IsBare owned → Matches (view_of output us os stack) d
     → (e : Desktop) × ConnectsAt (lowest d.clients) d (gave.Connect (Ok (k + 1))) e × Matches (view_of output (set us k (Some v)) (set os k (Some owned)) stack) e
 Connects-new output us vs os stack k v owned d same found within owned_within is bare a =
@@ -280,8 +294,10 @@ Connects-new output us vs os stack k v owned d same found within owned_within is
     let scene = scene-out k None us stack d nobody a.scene in (
       after,
       connects,
-      agrees-put (view_of output us os stack) k (Some v) (Some (owned_view owned)) (Some (arrival d.output)) (set us k (Some v)) (map (option_map owned_view) (set os k (Some owned))) stack d after a within
-          (put-set k (Some v) us within) (put-map owned_view k (Some owned) os (set os k (Some owned)) (put-set k (Some owned) os owned_within)) refl (ap (λ (n : ℕ). with_number n (Some (arrival d.output)) d.clients) number)
+      agrees-put (view_of output us os stack) k (Some v) (Some (owned_view owned)) (Some (arrival d.output)) (set us k (Some v)) (map (option_map owned_view) (set os k (Some owned))) stack d after a
+          within
+          (put-set k (Some v) us within) (put-map owned_view k (Some owned) os (set os k (Some owned)) (put-set k (Some owned) os owned_within)) refl
+              (ap (λ (n : ℕ). with_number n (Some (arrival d.output)) d.clients) number)
           (record {
             peer = next;
             owns = owns-nothing v.objects owned none bare;
@@ -309,12 +325,14 @@ place-nobody zero k = refl
 place-nobody (suc n) zero = refl
 place-nobody (suc n) (suc k) = place-nobody n k
 
-pub Agrees-empty : {A : Type 0} (output : Output) (us : List (Option ClientView)) (os : List (Option (Owned A))) → us ≡ replicate 32 None → os ≡ replicate 32 None → Matches (view_of output us os (record { standing = []; next = 0 })) (empty (output_of output))
+pub Agrees-empty : {A : Type 0} (output : Output) (us : List (Option ClientView)) (os : List (Option (Owned A))) → us ≡ replicate 32 None → os ≡ replicate 32 None
+    → Matches (view_of output us os (record { standing = []; next = 0 })) (empty (output_of output))
 Agrees-empty {A} output us os nobody nothing =
     record {
       output = refl;
       count = ap (λ (xs : List (Option ClientView)). length xs) nobody;
-      clients = λ k. each k (at us k) (at (map (option_map owned_view) os) k) (ap (λ (xs : List (Option ClientView)). at xs k) nobody ∙ at-none 32 k) (at-map owned_view os k ∙ ap (λ (xs : List (Option (Owned A))). option_map owned_view (at xs k)) nothing ∙ ap (λ (o : Option (Owned A)). option_map owned_view o) (at-none 32 k));
+      clients = λ k. each k (at us k) (at (map (option_map owned_view) os) k) (ap (λ (xs : List (Option ClientView)). at xs k) nobody ∙ at-none 32 k) (at-map owned_view os k
+          ∙ ap (λ (xs : List (Option (Owned A))). option_map owned_view (at xs k)) nothing ∙ ap (λ (o : Option (Owned A)). option_map owned_view o) (at-none 32 k));
       scene = record { standing = tt; next = refl };
       mapped = empty-stand (output_of output);
     }

@@ -90,7 +90,8 @@ place-count (x ∷ rs) (suc k) r = ap (λ (n : ℕ). suc n) (place-count rs k r)
 -- ---- one place of the desk changes
 
 -- the numbers of the surfaces of all but client k + 1
-pub numbers-put : (k : ℕ) (x : Option ClientView) (us vs : List (Option ClientView)) (a surface : ℕ) → IsPut k x us vs → numbers_in vs a surface ≡ with_numbers (suc k) (numbers_of x) (numbers_in us) a surface
+pub numbers-put : (k : ℕ) (x : Option ClientView) (us vs : List (Option ClientView)) (a surface : ℕ) → IsPut k x us vs
+    → numbers_in vs a surface ≡ with_numbers (suc k) (numbers_of x) (numbers_in us) a surface
 numbers-put k x us vs zero surface put = by (zero == suc k) refl
   where
     by : (b : Bool) → (zero == suc k) ≡ b → None ≡ (if b then numbers_of x else numbers_in us zero) surface
@@ -106,21 +107,26 @@ numbers-put k x us vs (suc j) surface put = by (suc j == suc k) refl
         let differ : j ≢ k = λ h. eqb-false (suc j) (suc k) e (ap (λ (n : ℕ). suc n) h) in
         ap (λ (o : Option ClientView). numbers_of o surface) (put.others j differ)
 
-pub scene-put : (k : ℕ) (x : Option ClientView) (us vs : List (Option ClientView)) (stack : Stack) (d : Desktop) → IsPut k x us vs → IsScene (with_numbers (suc k) (numbers_of x) (numbers_in us)) stack d → IsScene (numbers_in vs) stack d
+pub scene-put : (k : ℕ) (x : Option ClientView) (us vs : List (Option ClientView)) (stack : Stack) (d : Desktop) → IsPut k x us vs
+    → IsScene (with_numbers (suc k) (numbers_of x) (numbers_in us)) stack d → IsScene (numbers_in vs) stack d
 scene-put k x us vs stack d put scene =
     record { standing = stack-by _ (numbers_in vs) stack.standing d.standing (λ a surface n has is. numbers-put k x us vs a surface put ∙ is) scene.standing; next = scene.next }
 
 -- the other way: the place is as it is
-pub scene-out : (k : ℕ) (x : Option ClientView) (us : List (Option ClientView)) (stack : Stack) (d : Desktop) → at us k ≡ x → IsScene (numbers_in us) stack d → IsScene (with_numbers (suc k) (numbers_of x) (numbers_in us)) stack d
+pub scene-out : (k : ℕ) (x : Option ClientView) (us : List (Option ClientView)) (stack : Stack) (d : Desktop) → at us k ≡ x → IsScene (numbers_in us) stack d
+    → IsScene (with_numbers (suc k) (numbers_of x) (numbers_in us)) stack d
 scene-out k x us stack d here scene =
     record {
-      standing = stack-by (numbers_in us) _ stack.standing d.standing (λ a surface n has is. sym (numbers-put k x us us a surface (record { here = here; others = λ j differ. refl; count = refl })) ∙ is) scene.standing;
+      standing = stack-by (numbers_in us) _ stack.standing d.standing (λ a surface n has is. sym (numbers-put k x us us a surface (record { here = here; others = λ j differ. refl; count = refl }))
+          ∙ is) scene.standing;
       next = scene.next;
     }
 
 -- one place and the toplevels become others
-pub agrees-put : (w : DeskView) (k : ℕ) (x : Option ClientView) (o : Option OwnedView) (r : Option Resident) (us : List (Option ClientView)) (os : List (Option OwnedView)) (stack : Stack) (d e : Desktop) → Matches w d → k < length w.clients
-    → IsPut k x w.clients us → IsPut k o w.owned os → e.output ≡ d.output → e.clients ≡ with_number (suc k) r d.clients → IsPlace x o r → IsScene (with_numbers (suc k) (numbers_of x) (numbers_in w.clients)) stack e → MappedStand e
+pub agrees-put : (w : DeskView) (k : ℕ) (x : Option ClientView) (o : Option OwnedView) (r : Option Resident) (us : List (Option ClientView)) (os : List (Option OwnedView)) (stack : Stack)
+    (d e : Desktop) → Matches w d → k < length w.clients
+    → IsPut k x w.clients us → IsPut k o w.owned os → e.output ≡ d.output → e.clients ≡ with_number (suc k) r d.clients → IsPlace x o r
+        → IsScene (with_numbers (suc k) (numbers_of x) (numbers_in w.clients)) stack e → MappedStand e
     → Matches (record { output = w.output; clients = us; owned = os; scene = stack }) e
 agrees-put w k x o r us os stack d e a within puts owns output clients is scene mapped =
     record {
@@ -152,7 +158,8 @@ client-past us w d (suc k) same (inr h) a =
     let past : length d.clients ≤ k = let h2 = rw (same, a.count) at h in omega (arith, h2) in
     place-past d.clients k past
 
-seat-of : {A : Type 0} (x : Option ClientView) (o : Option OwnedView) (r : Option Resident) (v : Kept A) → x ≡ Some v.client → o ≡ Some (owned_view v.owned) → IsPlace x o r → (s : Resident) × (r ≡ Some s) × IsSeat v.client (owned_view v.owned) s
+seat-of : {A : Type 0} (x : Option ClientView) (o : Option OwnedView) (r : Option Resident) (v : Kept A) → x ≡ Some v.client → o ≡ Some (owned_view v.owned) → IsPlace x o r → (s : Resident)
+    × (r ≡ Some s) × IsSeat v.client (owned_view v.owned) s
 seat-of x o None v e f is = absurd (rw (e, f) at is)
 seat-of x o (Some s) v e f is = (s, refl, rw (e, f) at is)
 
@@ -172,8 +179,10 @@ seated-out w d k v x o a =
     )
 
 -- put back as it is now
-pub seated-back : {A : Type 0} (w : DeskView) (k : ℕ) (v : Kept A) (s : Resident) (us : List (Option ClientView)) (os : List (Option OwnedView)) (stack : Stack) (d e : Desktop) → Matches w d → k < length w.clients
-    → IsPut k (Some v.client) w.clients us → IsPut k (Some (owned_view v.owned)) w.owned os → IsSeated (suc k) (numbers_in w.clients) d v stack e s → Matches (record { output = w.output; clients = us; owned = os; scene = stack }) e
+pub seated-back : {A : Type 0} (w : DeskView) (k : ℕ) (v : Kept A) (s : Resident) (us : List (Option ClientView)) (os : List (Option OwnedView)) (stack : Stack) (d e : Desktop) → Matches w d
+    → k < length w.clients
+    → IsPut k (Some v.client) w.clients us → IsPut k (Some (owned_view v.owned)) w.owned os → IsSeated (suc k) (numbers_in w.clients) d v stack e s
+        → Matches (record { output = w.output; clients = us; owned = os; scene = stack }) e
 seated-back w k v s us os stack d e a within puts owns is =
     agrees-put w k (Some v.client) (Some (owned_view v.owned)) (Some s) us os stack d e a within puts owns is.based.output is.based.clients is.seat is.scene is.mapped
 

@@ -45,7 +45,8 @@ abbrev pub IsSized : MarkedDesk → Desktop → Type 0
 IsSized v d = (v.damage.width ≡ d.output.width) × (v.damage.height ≡ d.output.height)
 
 -- nothing changes, and the same is to be painted
-pub nothing-told : (time c : ℕ) (old new : MarkedDesk) (d : Desktop) → FramesToldAt time c (client_at c d) d d → Agrees old.desk d → Agrees new.desk d → new.damage ≡ old.damage → IsSized old d → WasTold time c old new d d
+pub nothing-told : (time c : ℕ) (old new : MarkedDesk) (d : Desktop) → FramesToldAt time c (client_at c d) d d → Agrees old.desk d → Agrees new.desk d → new.damage ≡ old.damage → IsSized old d
+    → WasTold time c old new d d
 nothing-told time c old new d told a b same sized =
     record {
       told = told;
@@ -56,7 +57,8 @@ nothing-told time c old new d told a b same sized =
       quiet = λ stays x y wide high. ap (λ (w : Damaged). has w x y) same;
     }
 
-pub nobody-told : (time c : ℕ) (old new : MarkedDesk) (d : Desktop) → client_at c d ≡ None → Agrees old.desk d → Agrees new.desk d → new.damage ≡ old.damage → IsSized old d → WasTold time c old new d d
+pub nobody-told : (time c : ℕ) (old new : MarkedDesk) (d : Desktop) → client_at c d ≡ None → Agrees old.desk d → Agrees new.desk d → new.damage ≡ old.damage → IsSized old d
+    → WasTold time c old new d d
 nobody-told time c old new d nobody a b same sized = nothing-told time c old new d (subst (λ (o : Option Resident). FramesToldAt time c o d d) (sym nobody) refl) a b same sized
 
 -- ---- one client is told
@@ -69,7 +71,8 @@ same-end c made r q cause d status = ap (λ s. become_by s c made q d) status �
 abbrev AddsOwn : Option Cause → ℕ → Desktop → Damaged → Damaged → Type 0
 AddsOwn ended c d old new = (x y : ℕ) → x < old.width → y < old.height → has new x y ≡ (has old x y || (is_some ended && has_window_at c (pos x) (pos y) d))
 
-marks-told : (c : ℕ) (r : Resident) (v : DeskView) (d : Desktop) (q : Peer) (ended : Option Cause) (old new : Damaged) → client_at c d ≡ Some r → Matches v d → q.status ≡ ended → AddsOwn ended c d old new
+marks-told : (c : ℕ) (r : Resident) (v : DeskView) (d : Desktop) (q : Peer) (ended : Option Cause) (old new : Damaged) → client_at c d ≡ Some r → Matches v d → q.status ≡ ended
+    → AddsOwn ended c d old new
     → MarksToplevels d (become c (done_due r) q d) old new
 marks-told c r v d q (Some cause) old new there a status adds =
     subst (λ (e : Desktop). MarksToplevels d e old new) (sym (same-end c (done_due r) r q cause d status)) (own-marks c r v d q old new there a adds)
@@ -79,7 +82,8 @@ marks-told c r v d q None old new there a status adds = λ x y wide high clean. 
 )
 
 -- a client that lives is told
-pub one-told : (time c : ℕ) (r : Resident) (old new : MarkedDesk) (d e : Desktop) (ended : Option Cause) → client_at c d ≡ Some r → r.peer.status ≡ None → Agrees old.desk d → Matches new.desk e → FramesToldAt time c (Some r) d e → status_in c e ≡ ended
+pub one-told : (time c : ℕ) (r : Resident) (old new : MarkedDesk) (d e : Desktop) (ended : Option Cause) → client_at c d ≡ Some r → r.peer.status ≡ None → Agrees old.desk d → Matches new.desk e
+    → FramesToldAt time c (Some r) d e → status_in c e ≡ ended
     → AddsOwn ended c d old.damage new.damage → IsSized old d → WasTold time c old new d e
 one-told time c r old new d e ended there alive a b told status marks sized =
     let at : FramesToldAt time c (client_at c d) d e = subst (λ (o : Option Resident). FramesToldAt time c o d e) (sym there) told in
@@ -92,7 +96,8 @@ one-told time c r old new d e ended there alive a b told status marks sized =
       agrees = record { matches = b; no_more = later };
       marks = marks-all d e old.damage new.damage a.no_more later
           (subst (λ (x : Desktop). MarksToplevels d x old.damage new.damage) (sym so.2) (marks-told c r old.desk d so.0 ended old.damage new.damage there a.matches is marks));
-      within = λ x y wide high marked. own-or (has old.damage x y) (is_some ended) (has_window_at c (pos x) (pos y) d) (ap (λ (o : Option Cause). is_some o) status) (sym (marks x y wide high) ∙ marked);
+      within = λ x y wide high marked. own-or (has old.damage x y) (is_some ended) (has_window_at c (pos x) (pos y) d) (ap (λ (o : Option Cause). is_some o) status) (sym (marks x y wide high)
+          ∙ marked);
       quiet = λ stays x y wide high.
           let lives : ended ≡ None = sym status ∙ stays ∙ ap status_of there ∙ alive in
           subst (λ s. AddsOwn s c d old.damage new.damage) lives marks x y wide high ∙ sym (or-none (has old.damage x y));
@@ -143,7 +148,8 @@ told-others time c (Some r) d e h k apart = by r.peer.status h
     by (Some cause) h = ap (λ (x : Desktop). client_at k x) h
     by None h = ap (λ (x : Desktop). client_at k x) h.2 ∙ other-become c k (done_due r) h.0 d apart
 
-pub more-told : (time n : ℕ) (old mid new : MarkedDesk) (d m e : Desktop) → IsAsLarge old.damage mid.damage → Agrees old.desk d → HasTold time n old mid d m → WasTold time (n + 1) mid new m e → HasTold time (n + 1) old new d e
+pub more-told : (time n : ℕ) (old mid new : MarkedDesk) (d m e : Desktop) → IsAsLarge old.damage mid.damage → Agrees old.desk d → HasTold time n old mid d m → WasTold time (n + 1) mid new m e
+    → HasTold time (n + 1) old new d e
 more-told time n old mid new d m e large a before here =
     let next : suc n ≡ n + 1 = omega arith in
     let number : n + 1 ≡ 1 + n = omega arith in
@@ -159,7 +165,8 @@ more-told time n old mid new d m e large a before here =
           let first = before.marks x y wide high second.0 in
           (first.0, unmarked-on d m e (pos x) (pos y) (agrees-apart old.desk d a) owned.output owns.owns first.1 second.1);
       within = λ x y wide high marked. within-on x y wide high (here.within x y (rw large.width wide) (rw large.height high) marked);
-      windows = λ p there. before.windows p (told-windows time (n + 1) (client_at (n + 1) m) m e refl (unlinked mid.desk m before.agrees.matches) (unlinked new.desk e here.agrees.matches) here.told p there);
+      windows = λ p there. before.windows p (told-windows time (n + 1) (client_at (n + 1) m) m e refl (unlinked mid.desk m before.agrees.matches) (unlinked new.desk e here.agrees.matches) here.told p
+          there);
       quiet = λ stays x y wide high.
           let was : (c : ℕ) → status_in c m ≡ status_in c d = λ c. at c (same-or (n + 1) c) stays others in
           let one : status_in (n + 1) e ≡ status_in (n + 1) m = stays (n + 1) ∙ sym (was (n + 1)) in
@@ -187,7 +194,8 @@ more-told time n old mid new d m e large a before here =
 pub told-most : (time n : ℕ) (old new : MarkedDesk) (d e : Desktop) → Agrees old.desk d → HasTold time (suc n) old new d e → MarksMost d e old.damage new.damage
 told-most time n old new d e a told x y wide high marked = sized told.sized
   where
-    by : IsSized old d → (has old.damage x y ≡ true) ⊎ ((c : ℕ) × (is_some (status_in c e) ≡ true) × (has_window_at c (pos x) (pos y) d ≡ true)) → (has old.damage x y || marks_at_most d e None (pos x) (pos y)) ≡ true
+    by : IsSized old d → (has old.damage x y ≡ true) ⊎ ((c : ℕ) × (is_some (status_in c e) ≡ true) × (has_window_at c (pos x) (pos y) d ≡ true))
+        → (has old.damage x y || marks_at_most d e None (pos x) (pos y)) ≡ true
     by sides (inl was) = or_left (has old.damage x y) _ was
     by sides (inr (c, over, there)) =
         or_right (has old.damage x y) _
@@ -200,7 +208,8 @@ told-most time n old new d e a told x y wide high marked = sized told.sized
 
 -- ---- a client of the desk
 
-module _ {A : Type 0} (time : ℕ) (output : Output) (us : List (Option ClientView)) (os : List (Option (Owned A))) (stack : Stack) (c k : ℕ) (is : IsFound us os c k) (d : Desktop) (damage : Damaged) (sides : (damage.width ≡ output.width) × (damage.height ≡ output.height)) (a : Agrees (view_of output us os stack) d) where
+module _ {A : Type 0} (time : ℕ) (output : Output) (us : List (Option ClientView)) (os : List (Option (Owned A))) (stack : Stack) (c k : ℕ) (is : IsFound us os c k) (d : Desktop) (damage : Damaged)
+    (sides : (damage.width ≡ output.width) × (damage.height ≡ output.height)) (a : Agrees (view_of output us os stack) d) where
   sized : IsSized (record { desk = view_of output us os stack; damage = damage }) d
   sized = (sides.0 ∙ ap (λ (o : Sides). o.width) a.matches.output, sides.1 ∙ ap (λ (o : Sides). o.height) a.matches.output)
 
@@ -212,13 +221,16 @@ module _ {A : Type 0} (time : ℕ) (output : Output) (us : List (Option ClientVi
       → WasTold time c (marked (view_of output us os stack) damage) (marked (view_of output (set us k x2) (set os k y2) stack) damage) d d
   untaken-told x x2 y y2 e f none left =
       let free = untaken output us os stack c k is d a.matches x x2 y y2 e f none left in
-      nobody-told time c (marked (view_of output us os stack) damage) (marked (view_of output (set us k x2) (set os k y2) stack) damage) d free.0 a (record { matches = free.1; no_more = a.no_more }) refl sized
+      nobody-told time c (marked (view_of output us os stack) damage) (marked (view_of output (set us k x2) (set os k y2) stack) damage) d free.0 a (record { matches = free.1; no_more = a.no_more })
+          refl sized
 
   -- one was, is told, and is put back
-  pub taken-told : (v new : Kept A) (x x2 : Option ClientView) (y y2 : Option (Owned A)) (now : Stack) (after : Damaged) → x ≡ get_or us k x → y ≡ get_or os k y → (x ≡ Some v.client) × (y ≡ Some v.owned)
+  pub taken-told : (v new : Kept A) (x x2 : Option ClientView) (y y2 : Option (Owned A)) (now : Stack) (after : Damaged) → x ≡ get_or us k x → y ≡ get_or os k y → (x ≡ Some v.client)
+      × (y ≡ Some v.owned)
       → ((r : Resident) → IsSeated c (numbers_in us) d v stack d r → NoMore d → (e : Desktop) × (s : Resident) × FramesToldAt time c (Some r) d e × IsSeated c (numbers_in us) d new now e s)
       → (v.client.ended ≡ None → MarksOwnIf (is_some new.client.ended) c v stack damage after) → (is_some v.client.ended ≡ true → (new ≡ v) × (now ≡ stack) × (after ≡ damage))
-      → (e : Desktop) × WasTold time c (marked (view_of output us os stack) damage) (marked (view_of output (set (set us k x2) k (Some new.client)) (set (set os k y2) k (Some new.owned)) now) after) d e
+      → (e : Desktop) × WasTold time c (marked (view_of output us os stack) damage) (marked (view_of output (set (set us k x2) k (Some new.client)) (set (set os k y2) k (Some new.owned)) now) after) d
+          e
   taken-told v new x x2 y y2 now after e f taken tells marks idle =
       let s = out output us os stack c k is d a.matches v x y e f taken in
       let n = tells s.0 s.2 a.no_more in
@@ -234,7 +246,8 @@ module _ {A : Type 0} (time : ℕ) (output : Output) (us : List (Option ClientVi
           by None h over = absurd (differ (sym over))
           by (Some cause) h over = h
 
-      at : (r : Resident) (x : Desktop) (q : Resident) (later : DeskView) → client_at c d ≡ Some r → IsSeated c (numbers_in us) d v stack d r → FramesToldAt time c (Some r) d x → IsSeated c (numbers_in us) d new now x q → Matches later x
+      at : (r : Resident) (x : Desktop) (q : Resident) (later : DeskView) → client_at c d ≡ Some r → IsSeated c (numbers_in us) d v stack d r → FramesToldAt time c (Some r) d x
+          → IsSeated c (numbers_in us) d new now x q → Matches later x
           → (o : Option Cause) → v.client.ended ≡ o → WasTold time c (marked (view_of output us os stack) damage) (marked later after) d x
       at r x q later there seated told seated_after matches None ended =
           one-told time c r (marked (view_of output us os stack) damage) (marked later after) d x new.client.ended there (sym seated.seat.peer.status ∙ ended) a matches told

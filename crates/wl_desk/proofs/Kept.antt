@@ -93,25 +93,29 @@ serves-else c r d new is more h =
     (one.0, one.1 ∙ ap (λ clients. with_number c one.0 clients) (stacked-clients c ask (with_peer p r) d))) h
 
 -- what is kept of a client isn't touched by the rest
-seat-here : (x : Option ClientView) (o : Option OwnedView) (r : Option Resident) (v : ClientView) (w : OwnedView) → x ≡ Some v → o ≡ Some w → IsPlace x o r → (q : Resident) × (r ≡ Some q) × IsSeat v w q
+seat-here : (x : Option ClientView) (o : Option OwnedView) (r : Option Resident) (v : ClientView) (w : OwnedView) → x ≡ Some v → o ≡ Some w → IsPlace x o r → (q : Resident) × (r ≡ Some q)
+    × IsSeat v w q
 seat-here x o None v w e f here = absurd (rw (e, f) at here)
 seat-here x o (Some q) v w e f here = (q, refl, rw (e, f) at here)
 
 -- how the client is then
-pub serves-told : {A : Type 0} (output : Output) (us : List (Option ClientView)) (os : List (Option (Owned A))) (c k : ℕ) → IsFound us os c k → (new : Kept A) (x2 : Option ClientView) (y2 : Option (Owned A)) (now : Stack) (e : Desktop) (answer : Served)
+pub serves-told : {A : Type 0} (output : Output) (us : List (Option ClientView)) (os : List (Option (Owned A))) (c k : ℕ) → IsFound us os c k
+    → (new : Kept A) (x2 : Option ClientView) (y2 : Option (Owned A)) (now : Stack) (e : Desktop) (answer : Served)
     → answer ≡ served_by new.client.ended → Matches (view_of output (set (set us k x2) k (Some new.client)) (set (set os k y2) k (Some new.owned)) now) e → answer ≡ served_of (status_of (peer_at c e))
 serves-told output us os c k is new x2 y2 now e answer told b =
     let here = client-there output us os c k is new x2 y2 now e b in
     told ∙ (served-told new.client.ended ∙ ap served_of (ap fed_of here.2.status ∙ ap status_of (sym here.1)))
 
-module _ {A : Type 0} (output : Output) (us : List (Option ClientView)) (os : List (Option (Owned A))) (stack : Stack) (c k : ℕ) (is : IsFound us os c k) (d : Desktop) (a : Matches (view_of output us os stack) d) where
+module _ {A : Type 0} (output : Output) (us : List (Option ClientView)) (os : List (Option (Owned A))) (stack : Stack) (c k : ℕ) (is : IsFound us os c k) (d : Desktop)
+    (a : Matches (view_of output us os stack) d) where
   -- ---- a message
 
   abbrev put-back : Kept A → Option ClientView → Option (Owned A) → Stack → DeskView
   put-back new x2 y2 now = view_of output (set (set us k x2) k (Some new.client)) (set (set os k y2) k (Some new.owned)) now
 
   -- who was served and put back is seated in the desktop that agrees
-  seated-new : (new : Kept A) (x2 : Option ClientView) (y2 : Option (Owned A)) (now : Stack) (e : Desktop) (s : Resident) → client_at c d ≡ Some s → NoMore d → Serves served_now c d e → Matches (put-back new x2 y2 now) e
+  seated-new : (new : Kept A) (x2 : Option ClientView) (y2 : Option (Owned A)) (now : Stack) (e : Desktop) (s : Resident) → client_at c d ≡ Some s → NoMore d → Serves served_now c d e
+      → Matches (put-back new x2 y2 now) e
       → (q : Resident) × IsSeated c (numbers_in us) d new now e q
   seated-new new x2 y2 now e s there more serves b =
       let view = put-back new x2 y2 now in
@@ -125,23 +129,28 @@ module _ {A : Type 0} (output : Output) (us : List (Option ClientView)) (os : Li
           based = record { there = seat.1; output = sym b.output ∙ a.output; clients = else.1 ∙ ap (λ x. with_number c x d.clients) same };
           seat = seat.2;
           scene = rw is.number (record {
-            standing = stack-by (numbers_in view.clients) _ now.standing e.standing (λ other surface n has is. sym (numbers-put k (Some new.client) us view.clients other surface puts) ∙ is) b.scene.standing;
+            standing = stack-by (numbers_in view.clients) _ now.standing e.standing (λ other surface n has is. sym (numbers-put k (Some new.client) us view.clients other surface puts)
+                ∙ is) b.scene.standing;
             next = b.scene.next;
           });
           mapped = b.mapped;
         },
       )
 
-  pub serves-marks : (v new : Kept A) (x x2 : Option ClientView) (y y2 : Option (Owned A)) (now : Stack) (e : Desktop) (before after : Damaged) → x ≡ get_or us k x → y ≡ get_or os k y → (x ≡ Some v.client) × (y ≡ Some v.owned) → NoMore d
-      → ((r : Resident) → AreUnlinked d → IsSeated c (numbers_in us) d v stack d r → NoMore d → (e : Desktop) (q : Resident) → Serves served_now c d e → IsSeated c (numbers_in us) d new now e q → MarksAtLeast d e before after)
+  pub serves-marks : (v new : Kept A) (x x2 : Option ClientView) (y y2 : Option (Owned A)) (now : Stack) (e : Desktop) (before after : Damaged) → x ≡ get_or us k x → y ≡ get_or os k y
+      → (x ≡ Some v.client) × (y ≡ Some v.owned) → NoMore d
+      → ((r : Resident) → AreUnlinked d → IsSeated c (numbers_in us) d v stack d r → NoMore d → (e : Desktop) (q : Resident) → Serves served_now c d e → IsSeated c (numbers_in us) d new now e q
+          → MarksAtLeast d e before after)
       → Serves served_now c d e → Matches (put-back new x2 y2 now) e → MarksAtLeast d e before after
   serves-marks v new x x2 y y2 now e before after f g taken more marks serves b =
       let s = out output us os stack c k is d a v x y f g taken in
       let n = seated-new new x2 y2 now e s.0 s.1 more serves b in
       marks s.0 (unlinked (view_of output us os stack) d a) s.2 more e n.0 serves n.1
 
-  pub serves-within : (v new : Kept A) (x x2 : Option ClientView) (y y2 : Option (Owned A)) (now : Stack) (e : Desktop) (before after : Damaged) → x ≡ get_or us k x → y ≡ get_or os k y → (x ≡ Some v.client) × (y ≡ Some v.owned) → NoMore d
-      → ((r : Resident) → before.width ≡ d.output.width → before.height ≡ d.output.height → AreUnlinked d → IsSeated c (numbers_in us) d v stack d r → NoMore d → (e : Desktop) (q : Resident) → Serves served_now c d e → IsSeated c (numbers_in us) d new now e q
+  pub serves-within : (v new : Kept A) (x x2 : Option ClientView) (y y2 : Option (Owned A)) (now : Stack) (e : Desktop) (before after : Damaged) → x ≡ get_or us k x → y ≡ get_or os k y
+      → (x ≡ Some v.client) × (y ≡ Some v.owned) → NoMore d
+      → ((r : Resident) → before.width ≡ d.output.width → before.height ≡ d.output.height → AreUnlinked d → IsSeated c (numbers_in us) d v stack d r → NoMore d → (e : Desktop) (q : Resident)
+          → Serves served_now c d e → IsSeated c (numbers_in us) d new now e q
       → MarksAtMost c d e before after)
       → (before.width ≡ output.width) × (before.height ≡ output.height) → Serves served_now c d e → Matches (put-back new x2 y2 now) e → MarksAtMost c d e before after
   serves-within v new x x2 y y2 now e before after f g taken more marks sides serves b =
@@ -150,10 +159,12 @@ module _ {A : Type 0} (output : Output) (us : List (Option ClientView)) (os : Li
       marks s.0 (sides.0 ∙ ap (λ (o : Shown). o.width) a.output) (sides.1 ∙ ap (λ (o : Shown). o.height) a.output) (unlinked (view_of output us os stack) d a) s.2 more e n.0 serves n.1
 
   -- it leads through desktops along which what is marked is what may be marked
-  pub serves-through : (v new : Kept A) (x x2 : Option ClientView) (y y2 : Option (Owned A)) (now : Stack) (before after : Damaged) → x ≡ get_or us k x → y ≡ get_or os k y → (x ≡ Some v.client) × (y ≡ Some v.owned) → NoMore d
+  pub serves-through : (v new : Kept A) (x x2 : Option ClientView) (y y2 : Option (Owned A)) (now : Stack) (before after : Damaged) → x ≡ get_or us k x → y ≡ get_or os k y → (x ≡ Some v.client)
+      × (y ≡ Some v.owned) → NoMore d
       → ((r : Resident) → before.width ≡ d.output.width → before.height ≡ d.output.height → AreUnlinked d → IsSeated c (numbers_in us) d v stack d r → NoMore d
       → (e : Desktop) × (q : Resident) × (path : List Desktop) × ServesThrough served_now c d path e × IsSeated c (numbers_in us) d new now e q × MarksThrough d path before after)
-      → (before.width ≡ output.width) × (before.height ≡ output.height) → (e : Desktop) × (path : List Desktop) × ServesThrough served_now c d path e × Matches (put-back new x2 y2 now) e × MarksThrough d path before after
+      → (before.width ≡ output.width) × (before.height ≡ output.height) → (e : Desktop) × (path : List Desktop) × ServesThrough served_now c d path e × Matches (put-back new x2 y2 now) e
+          × MarksThrough d path before after
   serves-through v new x x2 y y2 now before after f g taken more through sides =
       let s = out output us os stack c k is d a v x y f g taken in
       let n = through s.0 (sides.0 ∙ ap (λ (o : Shown). o.width) a.output) (sides.1 ∙ ap (λ (o : Shown). o.height) a.output) (unlinked (view_of output us os stack) d a) s.2 more in
@@ -206,7 +217,8 @@ module _ {A : Type 0} (output : Output) (us : List (Option ClientView)) (os : Li
       (record { here = at-map owned_view os k ∙ ap (λ (o : Option (Owned A)). option_map owned_view o) here; others = λ j differ. refl; count = refl })
       (rw is.number at seated)
 
-  come : (piece : List ℕ) (v : ClientView) (o : Owned A) (z : Option ClientView) → Some v ≡ get_or us k (Some v) → Some o ≡ get_or os k (Some o) → v.ended ≡ None → z ≡ Some (record v { rest = v.rest ++ piece }) → Matches (view_of output (set us k z) os stack) (kept_at c piece d)
+  come : (piece : List ℕ) (v : ClientView) (o : Owned A) (z : Option ClientView) → Some v ≡ get_or us k (Some v) → Some o ≡ get_or os k (Some o) → v.ended ≡ None
+      → z ≡ Some (record v { rest = v.rest ++ piece }) → Matches (view_of output (set us k z) os stack) (kept_at c piece d)
   come piece v o z f g lives same =
       let old : Kept A = record { client = v; owned = o } in
       let s = out output us os stack c k is d a old (Some v) (Some o) f g (refl, refl) in
@@ -222,14 +234,16 @@ module _ {A : Type 0} (output : Output) (us : List (Option ClientView)) (os : Li
   pub keeps : (piece : List ℕ) (x z : Option ClientView) → x ≡ get_or us k x → z ≡ kept_in piece x → Matches (view_of output (set us k z) os stack) (kept_at c piece d)
   keeps piece x z f same = by x (at os k) f (sym (at-within os k (at os k) is.owned)) same
     where
-      ended : (v : ClientView) (o : Owned A) (cause : Cause) → Some v ≡ get_or us k (Some v) → Some o ≡ get_or os k (Some o) → v.ended ≡ Some cause → z ≡ Some v → Matches (view_of output (set us k z) os stack) (kept_at c piece d)
+      ended : (v : ClientView) (o : Owned A) (cause : Cause) → Some v ≡ get_or us k (Some v) → Some o ≡ get_or os k (Some o) → v.ended ≡ Some cause → z ≡ Some v
+          → Matches (view_of output (set us k z) os stack) (kept_at c piece d)
       ended v o cause f g over same =
           let s = out output us os stack c k is d a (record { client = v; owned = o }) (Some v) (Some o) f g (refl, refl) in
           let status : s.0.peer.status ≡ Some cause = sym s.2.seat.peer.status ∙ over in
           subst (λ r. Matches (view_of output (set us k z) os stack) (kept_of c piece r d)) (sym s.1)
           (subst (λ t. Matches (view_of output (set us k z) os stack) (kept_by c piece t s.0 d)) (sym status) (stays (Some v) z f same))
 
-      there : (v : ClientView) (o : Owned A) (e : Option Cause) → v.ended ≡ e → Some v ≡ get_or us k (Some v) → Some o ≡ get_or os k (Some o) → z ≡ Some (kept_while piece e v) → Matches (view_of output (set us k z) os stack) (kept_at c piece d)
+      there : (v : ClientView) (o : Owned A) (e : Option Cause) → v.ended ≡ e → Some v ≡ get_or us k (Some v) → Some o ≡ get_or os k (Some o) → z ≡ Some (kept_while piece e v)
+          → Matches (view_of output (set us k z) os stack) (kept_at c piece d)
       there v o None lives f g same = come piece v o z f g lives same
       there v o (Some cause) over f g same = ended v o cause f g over same
 
@@ -253,7 +267,8 @@ lives-there (Some v) (Some p) is lives = by v.ended p.status is.status lives
 
 -- ---- what is left to be taken is less
 
-pub rest-less : {A : Type 0} (output : Output) (us : List (Option ClientView)) (os : List (Option (Owned A))) (stack now : Stack) (c k : ℕ) → IsFound us os c k → (v new : Kept A) (x x2 : Option ClientView) (y2 : Option (Owned A)) → x ≡ get_or us k x
+pub rest-less : {A : Type 0} (output : Output) (us : List (Option ClientView)) (os : List (Option (Owned A))) (stack now : Stack) (c k : ℕ) → IsFound us os c k
+    → (v new : Kept A) (x x2 : Option ClientView) (y2 : Option (Owned A)) → x ≡ get_or us k x
     → x ≡ Some v.client → length new.client.rest < length v.client.rest
     → length (rest_in c (view_of output (set (set us k x2) k (Some new.client)) (set (set os k y2) k (Some new.owned)) now)) < length (rest_in c (view_of output us os stack))
 rest-less output us os stack now c k is v new x x2 y2 f taken less =

@@ -59,7 +59,8 @@ module _ {A : Type 0} (owned : List (Option (Owned A))) (v : DeskView) (d : Desk
   slots-here k =
       slots-seen (slice_index_or owned k None) ∙ ap slots_seen (sym (at-map owned_view owned k) ∙ ap (λ (os : List (Option OwnedView)). slice_index_or os k None) (sym same))
 
-  here : (k : ℕ) → (stores_in (slice_index_or v.clients k None) ≡ stores_of (place d.clients k)) × AreKept (numbers_of (slice_index_or v.clients k None)) (slots_seen (slice_index_or v.owned k None)) (owned_of (place d.clients k)).surfaces
+  here : (k : ℕ) → (stores_in (slice_index_or v.clients k None) ≡ stores_of (place d.clients k)) × AreKept (numbers_of (slice_index_or v.clients k None)) (slots_seen (slice_index_or v.owned k None))
+      (owned_of (place d.clients k)).surfaces
   here k = place-lent (slice_index_or v.clients k None) (slice_index_or v.owned k None) (place d.clients k) (a.clients k)
 
   stores-lent : (c : ℕ) → stores_in (client_lent v.clients c) ≡ stores_of (client_at c d)

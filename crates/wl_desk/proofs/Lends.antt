@@ -24,7 +24,8 @@ client-none clients zero none = refl
 client-none clients (suc n) none = absurd (none (omega arith))
 
 -- what is lent of a client, by a look at its place
-pub client-at : (clients : List (Option ClientView)) (c index : ℕ) (slot : Option ClientView) → 1 ≤ c → index ≡ c - 1 → true ≡ nat_lt index (length clients) → slot ≡ get_or clients index slot → slot ≡ client_lent clients c
+pub client-at : (clients : List (Option ClientView)) (c index : ℕ) (slot : Option ClientView) → 1 ≤ c → index ≡ c - 1 → true ≡ nat_lt index (length clients) → slot ≡ get_or clients index slot
+    → slot ≡ client_lent clients c
 client-at clients zero index slot some is within e = absurd (omega (arith, some))
 client-at clients (suc n) index slot some is within e =
     let same : index ≡ n = omega (arith, is) in
@@ -40,18 +41,21 @@ client-past clients (suc n) index some is past =
     sym (at-past clients index more) ∙ ap (λ (i : ℕ). at clients i) same
 
 -- the window of a toplevel whose surface isn't there
-pub window-absent : (client : Option ClientView) (nowhere : Area) (place : Place) (kept : Option Counting) → None ≡ kept → record { x = place.x; y = place.y; picture = transparent; opaque = nowhere } ≡ window_kept client nowhere place kept
+pub window-absent : (client : Option ClientView) (nowhere : Area) (place : Place) (kept : Option Counting) → None ≡ kept
+    → record { x = place.x; y = place.y; picture = transparent; opaque = nowhere } ≡ window_kept client nowhere place kept
 window-absent client nowhere place None is = refl
 window-absent client nowhere place (Some k) is = absurd (cc)
 
 -- the window of one whose surface is, by what is told of it
-pub window-there : {A : Type 0} (client : Option ClientView) (nowhere : Area) (place : Place) (kept : Option Counting) (current : Current A) (x y : ℤ) (picture : Shown) → Some (counting_in current) ≡ kept
+pub window-there : {A : Type 0} (client : Option ClientView) (nowhere : Area) (place : Place) (kept : Option Counting) (current : Current A) (x y : ℤ) (picture : Shown)
+    → Some (counting_in current) ≡ kept
     → x ≡ within_bounds (place.x +ℤ current.offset.x) → y ≡ within_bounds (place.y +ℤ current.offset.y) → picture ≡ or_transparent (picture_shown client current.transform current.buffer)
     → record { x = x; y = y; picture = picture; opaque = current.opaque.now } ≡ window_kept client nowhere place kept
 window-there client nowhere place kept current x y picture is at-x at-y shown = rw (at-x, at-y, shown, ← is) refl
 
 -- the window of a toplevel, by a look at its place
-pub lent-at : (lent : Standing → Window) (toplevels : List Toplevel) (standing : List Standing) (k : ℕ) (toplevel : Toplevel) (window : Window) → map standing_of toplevels ≡ standing → k < length (map lent standing)
+pub lent-at : (lent : Standing → Window) (toplevels : List Toplevel) (standing : List Standing) (k : ℕ) (toplevel : Toplevel) (window : Window) → map standing_of toplevels ≡ standing
+    → k < length (map lent standing)
     → window ≡ lent (standing_of (get_or toplevels k toplevel)) → slice_get (map lent standing) k ≡ Some window
 lent-at lent toplevels standing k toplevel window same within e =
     let less : k < length toplevels = rw (← same, length-map, length-map) at within in

@@ -102,7 +102,8 @@ owned-places (r ∷ rs) zero (suc j) x same = refl
 owned-places (r ∷ rs) (suc k) zero x same = refl
 owned-places (r ∷ rs) (suc k) (suc j) x same = owned-places rs k j x same
 
-pub owned-numbers : (rs : List (Option Resident)) (c other : ℕ) (x : Option Resident) → owned_of x ≡ owned_of (client_in rs c) → owned_of (client_in (with_number c x rs) other) ≡ owned_of (client_in rs other)
+pub owned-numbers : (rs : List (Option Resident)) (c other : ℕ) (x : Option Resident) → owned_of x ≡ owned_of (client_in rs c)
+    → owned_of (client_in (with_number c x rs) other) ≡ owned_of (client_in rs other)
 owned-numbers rs zero other x same = refl
 owned-numbers rs (suc k) zero x same = refl
 owned-numbers rs (suc k) (suc j) x same = owned-places rs k j x same
@@ -160,7 +161,8 @@ stored-status store from bytes done p q h = ap (λ o. status-then o) h.0 ∙ sto
 -- ---- a client is told something
 
 -- one that lives on or had ended has the windows that it had
-told-marks : (c : ℕ) (there : Resident) (w : DeskView) (d : Desktop) (q : Peer) (damage : Damaged) → client_at c d ≡ Some there → Matches w d → (is_some q.status ≡ true → OwnsNothing there) → MarksToplevels d (become c there q d) damage damage
+told-marks : (c : ℕ) (there : Resident) (w : DeskView) (d : Desktop) (q : Peer) (damage : Damaged) → client_at c d ≡ Some there → Matches w d → (is_some q.status ≡ true → OwnsNothing there)
+    → MarksToplevels d (become c there q d) damage damage
 told-marks c there w d q damage at_c a nothing = λ x y wide high clean. (
   clean,
   same-marks-nothing w d (become c there q d) a (ap (λ (e : Desktop). e.standing) same)
@@ -184,28 +186,35 @@ own-marks c there w d q old new at_c a marks = λ x y wide high clean.
     touched x y marked (Some cause) status = end-touches c there d at_c (unlinked w d a) a.mapped.apart there q cause status x y marked
 
 -- nobody is there
-pub none-marks : (R : Peer → Done → Option Peer → Type 0) (absent done : Done) (c : ℕ) (w : DeskView) (d e : Desktop) (damage : Damaged) → client_at c d ≡ None → Matches w d → Changes c R absent d done e → MarksToplevels d e damage damage
+pub none-marks : (R : Peer → Done → Option Peer → Type 0) (absent done : Done) (c : ℕ) (w : DeskView) (d e : Desktop) (damage : Damaged) → client_at c d ≡ None → Matches w d
+    → Changes c R absent d done e → MarksToplevels d e damage damage
 none-marks R absent done c w d e damage nobody a changes = still-marks w d e damage a (subst (λ (o : Option Resident). ChangesAt R absent c o d done e) nobody changes).1
 
-pub past-marks : (R : Peer → Done → Option Peer → Type 0) (absent done : Done) (us : List (Option ClientView)) (w : DeskView) (d e : Desktop) (c : ℕ) (damage : Damaged) → us ≡ w.clients → (c ≡ 0) ⊎ (length us < c) → Matches w d
+pub past-marks : (R : Peer → Done → Option Peer → Type 0) (absent done : Done) (us : List (Option ClientView)) (w : DeskView) (d e : Desktop) (c : ℕ) (damage : Damaged) → us ≡ w.clients → (c ≡ 0)
+    ⊎ (length us < c) → Matches w d
     → Changes c R absent d done e → MarksToplevels d e damage damage
 past-marks R absent done us w d e c damage same h a changes = none-marks R absent done c w d e damage (client-past us w d c same h a) a changes
 
-pub ends-none-marks : (cause : Cause) (us : List (Option ClientView)) (w : DeskView) (d : Desktop) (c : ℕ) (damage : Damaged) → us ≡ w.clients → (c ≡ 0) ⊎ (length us < c) → Matches w d → MarksToplevels d (ended_at c cause d) damage damage
+pub ends-none-marks : (cause : Cause) (us : List (Option ClientView)) (w : DeskView) (d : Desktop) (c : ℕ) (damage : Damaged) → us ≡ w.clients → (c ≡ 0) ⊎ (length us < c) → Matches w d
+    → MarksToplevels d (ended_at c cause d) damage damage
 ends-none-marks cause us w d c damage same h a = still-marks w d (ended_at c cause d) damage a (ap (λ o. ended_of c cause o d) (client-past us w d c same h a))
 
-module _ {A : Type 0} (output : Output) (us : List (Option ClientView)) (os : List (Option (Owned A))) (stack : Stack) (c k : ℕ) (is : IsFound us os c k) (d : Desktop) (a : Matches (view_of output us os stack) d) where
+module _ {A : Type 0} (output : Output) (us : List (Option ClientView)) (os : List (Option (Owned A))) (stack : Stack) (c k : ℕ) (is : IsFound us os c k) (d : Desktop)
+    (a : Matches (view_of output us os stack) d) where
   abbrev old-view : DeskView
   old-view = view_of output us os stack
 
-  pub untaken-marks : (R : Peer → Done → Option Peer → Type 0) (absent done : Done) (x x2 : Option ClientView) (y y2 : Option (Owned A)) (e : Desktop) (damage : Damaged) → x ≡ get_or us k x → y ≡ get_or os k y → (x ≡ None) ⊎ (y ≡ None)
+  pub untaken-marks : (R : Peer → Done → Option Peer → Type 0) (absent done : Done) (x x2 : Option ClientView) (y y2 : Option (Owned A)) (e : Desktop) (damage : Damaged) → x ≡ get_or us k x
+      → y ≡ get_or os k y → (x ≡ None) ⊎ (y ≡ None)
       → (x2 ≡ None) × (y2 ≡ None) → Changes c R absent d done e → MarksToplevels d e damage damage
   untaken-marks R absent done x x2 y y2 e damage f g none left changes =
       none-marks R absent done c old-view d e damage (untaken output us os stack c k is d a x x2 y y2 f g none left).0 a changes
 
   -- a client that is told something, which leads to one client only, and lives after it as before or had ended
-  pub changes-marks : (R : Peer → Done → Option Peer → Type 0) (absent done : Done) (v new : Kept A) (x : Option ClientView) (y : Option (Owned A)) (e : Desktop) (damage : Damaged) → x ≡ get_or us k x → y ≡ get_or os k y
-      → (x ≡ Some v.client) × (y ≡ Some v.owned) → IsChangedSo c R done v new stack stack → ((p : Peer) (q r : Option Peer) → R p done q → R p done r → q ≡ r) → ((p q : Peer) → R p done (Some q) → q.status ≡ p.status)
+  pub changes-marks : (R : Peer → Done → Option Peer → Type 0) (absent done : Done) (v new : Kept A) (x : Option ClientView) (y : Option (Owned A)) (e : Desktop) (damage : Damaged) → x ≡ get_or us k x
+      → y ≡ get_or os k y
+      → (x ≡ Some v.client) × (y ≡ Some v.owned) → IsChangedSo c R done v new stack stack → ((p : Peer) (q r : Option Peer) → R p done q → R p done r → q ≡ r)
+          → ((p q : Peer) → R p done (Some q) → q.status ≡ p.status)
       → Changes c R absent d done e → MarksToplevels d e damage damage
   changes-marks R absent done v new x y e damage f g taken changed once kept changes =
       let s = out output us os stack c k is d a v x y f g taken in
@@ -234,15 +243,18 @@ module _ {A : Type 0} (output : Output) (us : List (Option ClientView)) (os : Li
       own (Some cause) e = sym (no-window (ap (λ (z : Option Cause). is_some z) (sym e)))
 
   -- no more than those is marked
-  pub own-within : (v : Kept A) (x : Option ClientView) (y : Option (Owned A)) (before after : Damaged) → x ≡ get_or us k x → y ≡ get_or os k y → (x ≡ Some v.client) × (y ≡ Some v.owned) → MarksOwn v.client.ended c v stack before after
+  pub own-within : (v : Kept A) (x : Option ClientView) (y : Option (Owned A)) (before after : Damaged) → x ≡ get_or us k x → y ≡ get_or os k y → (x ≡ Some v.client) × (y ≡ Some v.owned)
+      → MarksOwn v.client.ended c v stack before after
       → (i j : ℕ) → i < before.width → j < before.height → has after i j ≡ true → (has before i j || has_window_at c (pos i) (pos j) d) ≡ true
   own-within v x y before after f g taken marks i j wide high marked =
       let s = out output us os stack c k is d a v x y f g taken in
       sym (own-points v s.0 before after s.1 s.2 marks i j wide high) ∙ marked
 
   -- a client goes, which leads to one client only
-  pub goes-marks : (R : Peer → Done → Option Peer → Type 0) (absent done : Done) (v new : Kept A) (x : Option ClientView) (y : Option (Owned A)) (now : Stack) (e : Desktop) (before after : Damaged) → x ≡ get_or us k x → y ≡ get_or os k y
-      → (x ≡ Some v.client) × (y ≡ Some v.owned) → IsChangedSo c R done v new stack now → ((p : Peer) (q r : Option Peer) → R p done q → R p done r → q ≡ r) → MarksOwn v.client.ended c v stack before after
+  pub goes-marks : (R : Peer → Done → Option Peer → Type 0) (absent done : Done) (v new : Kept A) (x : Option ClientView) (y : Option (Owned A)) (now : Stack) (e : Desktop) (before after : Damaged)
+      → x ≡ get_or us k x → y ≡ get_or os k y
+      → (x ≡ Some v.client) × (y ≡ Some v.owned) → IsChangedSo c R done v new stack now → ((p : Peer) (q r : Option Peer) → R p done q → R p done r → q ≡ r)
+          → MarksOwn v.client.ended c v stack before after
       → Changes c R absent d done e → MarksToplevels d e before after
   goes-marks R absent done v new x y now e before after f g taken changed once marks changes =
       let s = out output us os stack c k is d a v x y f g taken in
@@ -252,11 +264,13 @@ module _ {A : Type 0} (output : Output) (us : List (Option ClientView)) (os : Li
       (own-marks c s.0 old-view d n.0 before after s.1 a (own-points v s.0 before after s.1 s.2 marks))
 
   -- a client ends
-  pub ends-untaken-marks : (cause : Cause) (x x2 : Option ClientView) (y y2 : Option (Owned A)) (damage : Damaged) → x ≡ get_or us k x → y ≡ get_or os k y → (x ≡ None) ⊎ (y ≡ None) → (x2 ≡ None) × (y2 ≡ None) → MarksToplevels d (ended_at c cause d) damage damage
+  pub ends-untaken-marks : (cause : Cause) (x x2 : Option ClientView) (y y2 : Option (Owned A)) (damage : Damaged) → x ≡ get_or us k x → y ≡ get_or os k y → (x ≡ None) ⊎ (y ≡ None) → (x2 ≡ None)
+      × (y2 ≡ None) → MarksToplevels d (ended_at c cause d) damage damage
   ends-untaken-marks cause x x2 y y2 damage f g none left =
       still-marks old-view d (ended_at c cause d) damage a (ap (λ o. ended_of c cause o d) (untaken output us os stack c k is d a x x2 y y2 f g none left).0)
 
-  pub ends-marks : (cause : Cause) (v : Kept A) (x : Option ClientView) (y : Option (Owned A)) (before after : Damaged) → x ≡ get_or us k x → y ≡ get_or os k y → (x ≡ Some v.client) × (y ≡ Some v.owned)
+  pub ends-marks : (cause : Cause) (v : Kept A) (x : Option ClientView) (y : Option (Owned A)) (before after : Damaged) → x ≡ get_or us k x → y ≡ get_or os k y → (x ≡ Some v.client)
+      × (y ≡ Some v.owned)
       → MarksOwn v.client.ended c v stack before after → MarksToplevels d (ended_at c cause d) before after
   ends-marks cause v x y before after f g taken marks =
       let s = out output us os stack c k is d a v x y f g taken in
@@ -265,7 +279,8 @@ module _ {A : Type 0} (output : Output) (us : List (Option ClientView)) (os : Li
 
   -- ---- a number is given back
 
-  unclosed-by : (x : Option ClientView) (o : Option OwnedView) (r : Option Resident) (done : Done) (e : Desktop) (damage : Damaged) → client_at c d ≡ r → IsPlace x o r → has_ended_in x ≡ false → ChangesAt IsClosed (gave.Close false) c r d done e → MarksToplevels d e damage damage
+  unclosed-by : (x : Option ClientView) (o : Option OwnedView) (r : Option Resident) (done : Done) (e : Desktop) (damage : Damaged) → client_at c d ≡ r → IsPlace x o r → has_ended_in x ≡ false
+      → ChangesAt IsClosed (gave.Close false) c r d done e → MarksToplevels d e damage damage
   unclosed-by None None None done e damage there here alive changes = still-marks old-view d e damage a changes.1
   unclosed-by (Some v) (Some o) (Some s) done e damage there here alive changes =
       let status : s.peer.status ≡ None = sym here.peer.status ∙ lives-of v.ended alive in
@@ -283,23 +298,27 @@ module _ {A : Type 0} (output : Output) (us : List (Option ClientView)) (os : Li
   place-of x f = rw is.number (rw (client-here output us os stack c k is d a x f) at (place-at old-view d k a))
 
   -- there is nobody, or the client lives
-  pub unclosed-marks : (x : Option ClientView) (done : Done) (e : Desktop) (damage : Damaged) → x ≡ get_or us k x → has_ended_in x ≡ false → Changes c IsClosed (gave.Close false) d done e → MarksToplevels d e damage damage
+  pub unclosed-marks : (x : Option ClientView) (done : Done) (e : Desktop) (damage : Damaged) → x ≡ get_or us k x → has_ended_in x ≡ false → Changes c IsClosed (gave.Close false) d done e
+      → MarksToplevels d e damage damage
   unclosed-marks x done e damage f alive changes = unclosed-by x (at (map (option_map owned_view) os) k) (client_at c d) done e damage refl (place-of x f) alive changes
 
   -- an ended client owns nothing, and none of its toplevels stands
-  gone-marks : (s : Resident) (e : Desktop) → client_at c d ≡ Some s → OwnsNothing s → e ≡ record d { clients = with_number c None d.clients; standing = without_client c d.standing } → (x y : ℤ) → marks_of_toplevels d e x y ≡ false
+  gone-marks : (s : Resident) (e : Desktop) → client_at c d ≡ Some s → OwnsNothing s → e ≡ record d { clients = with_number c None d.clients; standing = without_client c d.standing } → (x y : ℤ)
+      → marks_of_toplevels d e x y ≡ false
   gone-marks s e there nothing same x y =
       let bare : owned_in d c ≡ nothing_owned = ap owned_of there ∙ ap (λ (r : Resident). r.owned) nothing in
       same-marks-nothing old-view d e a (ap (λ (d : Desktop). d.standing) same ∙ others-all c d.standing (none-stands s there nothing))
       (λ other. ap (λ (d : Desktop). owned_in d other) same ∙ owned-numbers d.clients c other None (sym bare)) x y
 
-  closed-by : (x : Option ClientView) (o : Option OwnedView) (r : Option Resident) (done : Done) (e : Desktop) (stood : Bool) (before after : Damaged) → client_at c d ≡ r → IsPlace x o r → has_ended_in x ≡ true
+  closed-by : (x : Option ClientView) (o : Option OwnedView) (r : Option Resident) (done : Done) (e : Desktop) (stood : Bool) (before after : Damaged) → client_at c d ≡ r → IsPlace x o r
+      → has_ended_in x ≡ true
       → ((i j : ℕ) → i < before.width → j < before.height → has after i j ≡ (has before i j || stood)) → ChangesAt IsClosed (gave.Close false) c r d done e → MarksToplevels d e before after
   closed-by None o r done e stood before after there here over marks changes = absurd (differ over)
   closed-by (Some v) (Some o) (Some s) done e stood before after there here over marks changes =
       let status : is_some s.peer.status ≡ true = ap (λ (z : Option Cause). is_some z) (sym here.peer.status) ∙ over in
       let same : changes.0 ≡ None = changes.1.0 ∙ closed-none s.peer.status s.peer status in
-      λ x y wide high clean. ((neither (has before x y) stood (sym (marks x y wide high) ∙ clean)).0, gone-marks s e there (here.ended status) (changes.2 ∙ ap (λ q. left_so c s q d) same) (pos x) (pos y))
+      λ x y wide high clean. ((neither (has before x y) stood (sym (marks x y wide high) ∙ clean)).0, gone-marks s e there (here.ended status) (changes.2 ∙ ap (λ q. left_so c s q d) same) (pos x)
+          (pos y))
   closed-by (Some v) None None done e stood before after there here over marks changes = absurd here
   closed-by (Some v) None (Some s) done e stood before after there here over marks changes = absurd here
   closed-by (Some v) (Some o) None done e stood before after there here over marks changes = absurd here

@@ -53,14 +53,18 @@ same-windows : (d e : Desktop) → e ≡ d → HasNoNew d e
 same-windows d e same p there = ap (λ (x : Desktop). list_any p (windows_in x)) (sym same) ∙ there
 
 -- a client is told something, by which it may end
-become-windows : (s : Option Cause) (c : ℕ) (made r : Resident) (q : Peer) (d : Desktop) → client_at c d ≡ Some r → made.owned ≡ r.owned → AreUnlinked d → AreUnlinked (become_by s c made q d) → HasNoNew d (become_by s c made q d)
+become-windows : (s : Option Cause) (c : ℕ) (made r : Resident) (q : Peer) (d : Desktop) → client_at c d ≡ Some r → made.owned ≡ r.owned → AreUnlinked d → AreUnlinked (become_by s c made q d)
+    → HasNoNew d (become_by s c made q d)
 become-windows None c made r q d is same unlinked later p there =
-    ap (λ (owned : ℕ → Owns). list_any p (windows_on owned d.standing)) (sym (fun_ext (λ other. owned-numbers d.clients c other (Some (record made { peer = q })) (same ∙ sym (ap owned_of is))))) ∙ there
+    ap (λ (owned : ℕ → Owns). list_any p (windows_on owned d.standing)) (sym (fun_ext (λ other. owned-numbers d.clients c other (Some (record made { peer = q })) (same ∙ sym (ap owned_of is)))))
+        ∙ there
 become-windows (Some cause) c made r q d is same unlinked later p there =
     any-of-filter p (is_else (of_client c)) (windows_in d)
-    (ap (λ ws. list_any p ws) (windows-else (of_client c) (owned_in d) d.standing unlinked ∙ sym (windows-kept (of_client c) (owned_in (become_by (Some cause) c made q d)) (owned_in d) d.standing later unlinked still)) ∙ there)
+    (ap (λ ws. list_any p ws) (windows-else (of_client c) (owned_in d) d.standing unlinked
+        ∙ sym (windows-kept (of_client c) (owned_in (become_by (Some cause) c made q d)) (owned_in d) d.standing later unlinked still)) ∙ there)
   where
-    still : (other surface : ℕ) → list_any (is_of other surface) d.standing ≡ true → of_client c other surface ≡ false → counted (history_in surface (owned_in (become_by (Some cause) c made q d) other).surfaces) ≡ counted (history_in surface (owned_in d other).surfaces)
+    still : (other surface : ℕ) → list_any (is_of other surface) d.standing ≡ true → of_client c other surface ≡ false
+        → counted (history_in surface (owned_in (become_by (Some cause) c made q d) other).surfaces) ≡ counted (history_in surface (owned_in d other).surfaces)
     still other surface here else =
         ap (λ (o : Option Resident). counted (history_in surface (owned_of o).surfaces)) (number-other d.clients c other (Some (resident_of q)) (λ same. differ (sym else ∙ eq-eqb other c (sym same))))
 
@@ -112,7 +116,8 @@ pub own-most : (c : ℕ) (old : MarkedDesk) (v : DeskView) (d e : Desktop) (new 
 own-most c old v d e new a b sides ends within = λ x y wide high marked.
     at x y wide high (has old.damage x y) refl (has_window_at c (pos x) (pos y) d) refl (within x y wide high marked) ends
   where
-    at : (x y : ℕ) → x < old.damage.width → y < old.damage.height → (t : Bool) → has old.damage x y ≡ t → (f : Bool) → has_window_at c (pos x) (pos y) d ≡ f → (t || f) ≡ true → (client_at c d ≡ None) ⊎ (is_some (status_in c e) ≡ true)
+    at : (x y : ℕ) → x < old.damage.width → y < old.damage.height → (t : Bool) → has old.damage x y ≡ t → (f : Bool) → has_window_at c (pos x) (pos y) d ≡ f → (t || f) ≡ true → (client_at c d ≡ None)
+        ⊎ (is_some (status_in c e) ≡ true)
         → (has old.damage x y || marks_at_most d e None (pos x) (pos y)) ≡ true
     at x y wide high true was f there h ends = or_left (has old.damage x y) _ was
     at x y wide high false was false there h ends = absurd (differ h)

@@ -126,7 +126,8 @@ module _ (x y : ℤ) (owner : Owner) (surface : ℕ) (corner : Place) (t : ℕ) 
       ∙ sym (clear-over (contains window x y) under _ (rw (has-bytes a.layout) refl) is)
   over-lent under (Some bytes) is = by (nat_le (a.layout.offset + a.layout.stride * a.layout.h) (length bytes)) refl
     where
-      by : (b : Bool) → nat_le (a.layout.offset + a.layout.stride * a.layout.h) (length bytes) ≡ b → over-one x y under (lent_as (Some bytes)) ≡ cond (contains window x y) (blended under (pixel_at bytes (buffer_of a) point)) under
+      by : (b : Bool) → nat_le (a.layout.offset + a.layout.stride * a.layout.h) (length bytes) ≡ b
+          → over-one x y under (lent_as (Some bytes)) ≡ cond (contains window x y) (blended under (pixel_at bytes (buffer_of a) point)) under
       by true fits = rw fits refl
       by false past = rw past (clear-over (in_window x y (lent_window corner area None)) under _ (transparent-color _ _) is ∙ sym (clear-over (contains window x y) under _ refl is))
 
@@ -137,7 +138,8 @@ abbrev bytes_from : ℕ → Option Stock → Option (List ℕ)
 bytes_from store None = None
 bytes_from store (Some stores) = bytes_of store stores
 
-shown-from : (client : Option ClientView) (t : Transform) (a : Attached) → picture_shown client t (Some a) ≡ option_and_then (λ bytes. lent bytes a.layout t) (bytes_from a.store (option_map (λ (v : ClientView). v.stores) client))
+shown-from : (client : Option ClientView) (t : Transform) (a : Attached) → picture_shown client t (Some a) ≡ option_and_then (λ bytes. lent bytes a.layout t)
+    (bytes_from a.store (option_map (λ (v : ClientView). v.stores) client))
 shown-from None t a = refl
 shown-from (Some v) t a = refl
 
@@ -149,32 +151,39 @@ abbrev buffer-in : Buffer → Option Buffer → Buffer
 buffer-in d None = d
 buffer-in d (Some b) = b
 
-module _ (x y : ℤ) (d : Desktop) (client : Option ClientView) (owner : Owner) (surface : ℕ) (same : option_map (λ (v : ClientView). v.stores) client ≡ option_map (λ (r : Resident). r.peer.stores) (client_at owner.client d)) where
+module _ (x y : ℤ) (d : Desktop) (client : Option ClientView) (owner : Owner) (surface : ℕ) (same : option_map (λ (v : ClientView). v.stores) client ≡ option_map (λ (r : Resident). r.peer.stores)
+    (client_at owner.client d)) where
   -- at its corner, with its transform
-  over-there : (corner : Place) (v : Values) (area : Area) (o : Option Attached) (b : Buffer) (under : Rgb) → option_map buffer_of o ≡ Some b → IsColor under → over-one x y under (lent_window corner area (picture_shown client (transform_of v.transform) o)) ≡ over d x y under (window_showing owner surface corner v b)
+  over-there : (corner : Place) (v : Values) (area : Area) (o : Option Attached) (b : Buffer) (under : Rgb) → option_map buffer_of o ≡ Some b → IsColor under
+      → over-one x y under (lent_window corner area (picture_shown client (transform_of v.transform) o)) ≡ over d x y under (window_showing owner surface corner v b)
   over-there corner v area None b under e is = absurd (cc)
   over-there corner v area (Some a) b under e is =
       let one : buffer_of a ≡ b = ap (buffer-in b) e in
       subst (λ (c : Buffer). over-one x y under (lent_window corner area (picture_shown client (transform_of v.transform) (Some a))) ≡ over d x y under (window_showing owner surface corner v c)) one
       (ap (λ (p : Option Shown). over-one x y under (lent_window corner area p)) (shown-from client (transform_of v.transform) a)
       ∙ over-lent x y owner surface corner v.transform a area v.opaque v.input under (bytes_from a.store (option_map (λ (v : ClientView). v.stores) client)) is
-      ∙ ap (λ (bytes : List ℕ). cond (contains (window x y owner surface corner v.transform a area v.opaque v.input) x y) (blended under (pixel_at bytes (buffer_of a) (point x y owner surface corner v.transform a area v.opaque v.input))) under)
+      ∙ ap (λ (bytes : List ℕ). cond (contains (window x y owner surface corner v.transform a area v.opaque v.input) x y)
+          (blended under (pixel_at bytes (buffer_of a) (point x y owner surface corner v.transform a area v.opaque v.input))) under)
       (ap (λ (o : Option Stock). bytes_or (bytes_from a.store o)) same ∙ sym (now-from (window x y owner surface corner v.transform a area v.opaque v.input) (client_at owner.client d))))
 
   -- as it is kept
-  over-kept : (nowhere : Area) (place : Place) (k : Kept) (h : History) (b : Buffer) (under : Rgb) → Stands k h → (applied h).buffer ≡ Some b → IsColor under → over-one x y under (window_kept client nowhere place (Some (counting_of k))) ≡ over d x y under (window_showing owner surface (corner_at place h) (applied h) b)
+  over-kept : (nowhere : Area) (place : Place) (k : Kept) (h : History) (b : Buffer) (under : Rgb) → Stands k h → (applied h).buffer ≡ Some b → IsColor under
+      → over-one x y under (window_kept client nowhere place (Some (counting_of k))) ≡ over d x y under (window_showing owner surface (corner_at place h) (applied h) b)
   over-kept nowhere place k h b under is there color =
       rw (is.current.transform_is, is.current_place.0, is.current_place.1)
       (over-there (corner_at place h) (applied h) k.current_opaque k.current_buffer b under (is.current.buffer_is ∙ there) color)
 
-  step : (nowhere : Area) (place : Place) (kept : Option Kept) (o : Option Surface) (lents : List Lent) (ws : List Window) (under : Rgb) → StandsAt kept o → shows_buffer (option_map (λ (s : Surface). s.history) o) ≡ true → IsColor under → ((u : Rgb) → IsColor u → fold (over-one x y) u lents ≡ fold (over d x y) u ws)
-      → fold (over-one x y) under (window_kept client nowhere place (option_map counting_of kept) ∷ lents) ≡ fold (over d x y) under ((window_list owner surface place (option_map (λ (s : Surface). s.history) o) ++ []) ++ ws)
+  step : (nowhere : Area) (place : Place) (kept : Option Kept) (o : Option Surface) (lents : List Lent) (ws : List Window) (under : Rgb) → StandsAt kept o
+      → shows_buffer (option_map (λ (s : Surface). s.history) o) ≡ true → IsColor under → ((u : Rgb) → IsColor u → fold (over-one x y) u lents ≡ fold (over d x y) u ws)
+      → fold (over-one x y) under (window_kept client nowhere place (option_map counting_of kept) ∷ lents) ≡ fold (over d x y) under
+          ((window_list owner surface place (option_map (λ (s : Surface). s.history) o) ++ []) ++ ws)
   step nowhere place None None lents ws under is shows color next = absurd (cc)
   step nowhere place None (Some s) lents ws under is shows color next = absurd is
   step nowhere place (Some k) None lents ws under is shows color next = absurd is
   step nowhere place (Some k) (Some s) lents ws under is shows color next = by (applied s.history).buffer refl shows
     where
-      by : (buffer : Option Buffer) → (applied s.history).buffer ≡ buffer → is_there buffer ≡ true → fold (over-one x y) under (window_kept client nowhere place (Some (counting_of k)) ∷ lents) ≡ fold (over d x y) under ((window_with owner surface (corner_at place s.history) (applied s.history) buffer ++ []) ++ ws)
+      by : (buffer : Option Buffer) → (applied s.history).buffer ≡ buffer → is_there buffer ≡ true → fold (over-one x y) under (window_kept client nowhere place (Some (counting_of k)) ∷ lents) ≡ fold
+          (over d x y) under ((window_with owner surface (corner_at place s.history) (applied s.history) buffer ++ []) ++ ws)
       by None e there = absurd (cc)
       by (Some b) e there =
           next (over-one x y under (window_kept client nowhere place (Some (counting_of k)))) (color-over _ under _ color)
@@ -182,7 +191,8 @@ module _ (x y : ℤ) (d : Desktop) (client : Option ClientView) (owner : Owner) 
 
 -- ---- all toplevels
 
-pub on-first : (owned : ℕ → Owned) (t : Standing) (ts : List Standing) → (owned t.client).surfaces.links ≡ [] → Shows owned t → windows_on owned (t ∷ ts) ≡ (window_list (owner_of (root_of owned t)) t.surface t.place (history_in t.surface (owned t.client).surfaces) ++ []) ++ windows_on owned ts
+pub on-first : (owned : ℕ → Owned) (t : Standing) (ts : List Standing) → (owned t.client).surfaces.links ≡ [] → Shows owned t
+    → windows_on owned (t ∷ ts) ≡ (window_list (owner_of (root_of owned t)) t.surface t.place (history_in t.surface (owned t.client).surfaces) ++ []) ++ windows_on owned ts
 on-first owned t ts unlinked shows =
     ap (λ (ws : List Window). (ws ++ []) ++ windows_on owned ts) (one-window 16 (owner_of (root_of owned t)) (owned t.client).surfaces t.surface t.place unlinked shows)
 
@@ -193,14 +203,16 @@ module _ (x y : ℤ) (nowhere : Area) (clients : ℕ → Option ClientView) (slo
   stands c id number named =
       subst (λ (o : Option Surface). StandsAt (kept_at (slots c) number) o) (surface-read (numbers c) (slots c) (owned_in d c).surfaces (kept c) id number named) ((kept c).stand number)
 
-  all-painted : (ss ts : List Standing) → IsStack numbers ss ts → AllShow (owned_in d) ts → (under : Rgb) → IsColor under → fold (over-one x y) under (windows_lent clients slots nowhere ss) ≡ fold (over d x y) under (windows_on (owned_in d) ts)
+  all-painted : (ss ts : List Standing) → IsStack numbers ss ts → AllShow (owned_in d) ts → (under : Rgb) → IsColor under
+      → fold (over-one x y) under (windows_lent clients slots nowhere ss) ≡ fold (over d x y) under (windows_on (owned_in d) ts)
   all-painted [] [] are show under color = refl
   all-painted [] (t ∷ ts) are show under color = absurd are
   all-painted (s ∷ ss) [] are show under color = absurd are
   all-painted (s ∷ ss) (t ∷ ts) are show under color =
       let shows : Shows (owned_in d) t = show 0 t (omega arith) in
       rw (are.0.client, are.0.place)
-      (step x y d (clients t.client) (owner_of (root_of (owned_in d) t)) t.surface (stores t.client) nowhere t.place (kept_at (slots t.client) s.surface) (surface_at t.surface (owned_in d t.client).surfaces)
+      (step x y d (clients t.client) (owner_of (root_of (owned_in d) t)) t.surface (stores t.client) nowhere t.place (kept_at (slots t.client) s.surface)
+          (surface_at t.surface (owned_in d t.client).surfaces)
       (windows_lent clients slots nowhere ss) (windows_on (owned_in d) ts) under (stands t.client t.surface s.surface are.0.surface) shows color
       (λ u is. all-painted ss ts are.1 (λ k e less. show (suc k) e (omega arith)) u is)
       ∙ ap (fold (over d x y) under) (sym (on-first (owned_in d) t ts (kept t.client).links shows)))
@@ -255,8 +267,10 @@ module _ (x y : ℤ) (owner : Owner) (surface : ℕ) (corner : Place) (t : ℕ) 
   unseen : (picture : Argb) → picture ≡ no_color → IsSoOf picture → IsLentSo x y (lent_window corner area None)
   unseen picture none so e =
       let inside = and-left (in_window x y (lent_window corner area None)) _ e in
-      let column = wider corner.x x here.width (one-or-other (is_turned (transform_of t)) a.layout.h a.layout.w a.layout.some_rows a.layout.some_columns) (and-left (in_span corner.x (pos 1) x) _ inside) in
-      let row = wider corner.y y here.height (one-or-other (is_turned (transform_of t)) a.layout.w a.layout.h a.layout.some_columns a.layout.some_rows) (and-right (in_span corner.x (pos 1) x) _ inside) in
+      let column = wider corner.x x here.width (one-or-other (is_turned (transform_of t)) a.layout.h a.layout.w a.layout.some_rows a.layout.some_columns)
+          (and-left (in_span corner.x (pos 1) x) _ inside) in
+      let row = wider corner.y y here.height (one-or-other (is_turned (transform_of t)) a.layout.w a.layout.h a.layout.some_columns a.layout.some_rows)
+          (and-right (in_span corner.x (pos 1) x) _ inside) in
       let contained = and-both (in_span corner.x (pos here.width) x) (in_span corner.y (pos here.height) y) column row in
       let far : 0 ≡ 255 = sym (ap (λ (c : Argb). c.a) none) ∙ so (and-both (contains here x y) held contained (said-held _ e)) in
       absurd (omega (arith, far))
@@ -270,30 +284,38 @@ module _ (x y : ℤ) (owner : Owner) (surface : ℕ) (corner : Place) (t : ℕ) 
       by true so e = so (and-both (contains here x y) held (and-left (contains here x y) _ e) (said-held _ e))
       by false so e = unseen no_color refl so e
 
-module _ (x y : ℤ) (d : Desktop) (client : Option ClientView) (owner : Owner) (surface : ℕ) (same : option_map (λ (v : ClientView). v.stores) client ≡ option_map (λ (r : Resident). r.peer.stores) (client_at owner.client d)) where
-  said-there : (corner : Place) (v : Values) (area : Area) (o : Option Attached) (b : Buffer) → option_map buffer_of o ≡ Some b → Covers area.rects v.opaque → IsSo d x y (window_showing owner surface corner v b) → IsLentSo x y (lent_window corner area (picture_shown client (transform_of v.transform) o))
+module _ (x y : ℤ) (d : Desktop) (client : Option ClientView) (owner : Owner) (surface : ℕ) (same : option_map (λ (v : ClientView). v.stores) client ≡ option_map (λ (r : Resident). r.peer.stores)
+    (client_at owner.client d)) where
+  said-there : (corner : Place) (v : Values) (area : Area) (o : Option Attached) (b : Buffer) → option_map buffer_of o ≡ Some b → Covers area.rects v.opaque
+      → IsSo d x y (window_showing owner surface corner v b) → IsLentSo x y (lent_window corner area (picture_shown client (transform_of v.transform) o))
   said-there corner v area None b e covers so = absurd (cc)
   said-there corner v area (Some a) b e covers so =
       let one : buffer_of a ≡ b = ap (buffer-in b) e in
       let of-a : IsSo d x y (window_showing owner surface corner v (buffer_of a)) = subst (λ (c : Buffer). IsSo d x y (window_showing owner surface corner v c)) (sym one) so in
       let read = now-from (window x y owner surface corner v.transform a area v.opaque v.input) (client_at owner.client d) ∙ ap (λ (o : Option Stock). bytes_or (bytes_from a.store o)) (sym same) in
-      let so-read = subst (λ (bytes : List ℕ). IsSoOf x y owner surface corner v.transform a area v.opaque v.input covers (pixel_at bytes (buffer_of a) (point x y owner surface corner v.transform a area v.opaque v.input))) read of-a in
+      let so-read = subst (λ (bytes : List ℕ). IsSoOf x y owner surface corner v.transform a area v.opaque v.input covers
+          (pixel_at bytes (buffer_of a) (point x y owner surface corner v.transform a area v.opaque v.input))) read of-a in
       subst (λ (p : Option Shown). IsLentSo x y (lent_window corner area p)) (sym (shown-from client (transform_of v.transform) a))
       (said-lent x y owner surface corner v.transform a area v.opaque v.input covers (bytes_from a.store (option_map (λ (v : ClientView). v.stores) client)) so-read)
 
-  said-kept : (nowhere : Area) (place : Place) (k : Kept) (h : History) (b : Buffer) → Stands k h → (applied h).buffer ≡ Some b → IsSo d x y (window_showing owner surface (corner_at place h) (applied h) b) → IsLentSo x y (window_kept client nowhere place (Some (counting_of k)))
+  said-kept : (nowhere : Area) (place : Place) (k : Kept) (h : History) (b : Buffer) → Stands k h → (applied h).buffer ≡ Some b
+      → IsSo d x y (window_showing owner surface (corner_at place h) (applied h) b) → IsLentSo x y (window_kept client nowhere place (Some (counting_of k)))
   said-kept nowhere place k h b is there so =
       rw (is.current.transform_is, is.current_place.0, is.current_place.1)
       (said-there (corner_at place h) (applied h) k.current_opaque k.current_buffer b (is.current.buffer_is ∙ there) is.current.opaque_is.covered so)
 
-  said-step : (nowhere : Area) (place : Place) (kept : Option Kept) (o : Option Surface) (lents : List Lent) (ws : List Window) → StandsAt kept o → shows_buffer (option_map (λ (s : Surface). s.history) o) ≡ true → (All (IsSo d x y) ws → All (IsLentSo x y) lents)
-      → All (IsSo d x y) ((window_list owner surface place (option_map (λ (s : Surface). s.history) o) ++ []) ++ ws) → All (IsLentSo x y) (window_kept client nowhere place (option_map counting_of kept) ∷ lents)
+  said-step : (nowhere : Area) (place : Place) (kept : Option Kept) (o : Option Surface) (lents : List Lent) (ws : List Window) → StandsAt kept o
+      → shows_buffer (option_map (λ (s : Surface). s.history) o) ≡ true → (All (IsSo d x y) ws → All (IsLentSo x y) lents)
+      → All (IsSo d x y) ((window_list owner surface place (option_map (λ (s : Surface). s.history) o) ++ []) ++ ws)
+          → All (IsLentSo x y) (window_kept client nowhere place (option_map counting_of kept) ∷ lents)
   said-step nowhere place None None lents ws is shows next = absurd (cc)
   said-step nowhere place None (Some s) lents ws is shows next = absurd is
   said-step nowhere place (Some k) None lents ws is shows next = absurd is
   said-step nowhere place (Some k) (Some s) lents ws is shows next = by (applied s.history).buffer refl shows
     where
-      by : (buffer : Option Buffer) → (applied s.history).buffer ≡ buffer → is_there buffer ≡ true → All (IsSo d x y) ((window_with owner surface (corner_at place s.history) (applied s.history) buffer ++ []) ++ ws) → All (IsLentSo x y) (window_kept client nowhere place (Some (counting_of k)) ∷ lents)
+      by : (buffer : Option Buffer) → (applied s.history).buffer ≡ buffer → is_there buffer ≡ true
+          → All (IsSo d x y) ((window_with owner surface (corner_at place s.history) (applied s.history) buffer ++ []) ++ ws)
+          → All (IsLentSo x y) (window_kept client nowhere place (Some (counting_of k)) ∷ lents)
       by None e there so = absurd (cc)
       by (Some b) e there so =
           All-cons (IsLentSo x y) (window_kept client nowhere place (Some (counting_of k))) lents
@@ -309,9 +331,11 @@ module _ (x y : ℤ) (nowhere : Area) (clients : ℕ → Option ClientView) (slo
   all-said (s ∷ ss) [] are show so = absurd are
   all-said (s ∷ ss) (t ∷ ts) are show so =
       let shows : Shows (owned_in d) t = show 0 t (omega arith) in
-      let first : window_lent clients slots nowhere s ≡ window_kept (clients t.client) nowhere t.place (option_map counting_of (kept_at (slots t.client) s.surface)) = rw (are.0.client, are.0.place) refl in
+      let first : window_lent clients slots nowhere s ≡ window_kept (clients t.client) nowhere t.place (option_map counting_of (kept_at (slots t.client) s.surface)) =
+          rw (are.0.client, are.0.place) refl in
       subst (λ (w : Lent). All (IsLentSo x y) (w ∷ windows_lent clients slots nowhere ss)) (sym first)
-      (said-step x y d (clients t.client) (owner_of (root_of (owned_in d) t)) t.surface (stores t.client) nowhere t.place (kept_at (slots t.client) s.surface) (surface_at t.surface (owned_in d t.client).surfaces)
+      (said-step x y d (clients t.client) (owner_of (root_of (owned_in d) t)) t.surface (stores t.client) nowhere t.place (kept_at (slots t.client) s.surface)
+          (surface_at t.surface (owned_in d t.client).surfaces)
       (windows_lent clients slots nowhere ss) (windows_on (owned_in d) ts) (stands x y nowhere clients slots numbers d stores kept t.client t.surface s.surface are.0.surface) shows
       (λ rest. all-said ss ts are.1 (λ k e less. show (suc k) e (omega arith)) rest)
       (subst (λ (ws : List Window). All (IsSo d x y) ws) (on-first (owned_in d) t ts (kept t.client).links shows) so))

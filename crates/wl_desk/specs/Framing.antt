@@ -16,7 +16,8 @@ HasSame old new = (x y : ℕ) → x < old.width → y < old.height → has new x
 abbrev pub MarksIfEnds : Desktop → Desktop → Damaged → Damaged → Type 0
 MarksIfEnds d e old new = ((c : ℕ) → status_in c e ≡ status_in c d) → HasSame old new
 
--- Client c was told of a frame. It marks what an end has to, and no more than the windows that the client had; nothing where the client doesn't end.
+-- Client c was told of a frame. It marks what an end has to, and no more than the windows that the client had; nothing where the client
+-- doesn't end.
 pub record WasTold (time c : ℕ) (old new : MarkedDesk) (d e : Desktop) : Type 0 where
   pub told : FramesToldAt time c (client_at c d) d e
   pub sized : (old.damage.width ≡ d.output.width) × (old.damage.height ≡ d.output.height)

@@ -18,7 +18,8 @@ abbrev pub client_lent : List (Option ClientView) → ℕ → Option ClientView
 client_lent clients zero = None
 client_lent clients (suc index) = slice_index_or clients index None
 
--- the picture of a buffer of a client's, turned so: none where the client, the buffer or its store isn't there, or it passes the store's end
+-- the picture of a buffer of a client's, turned so: none where the client, the buffer or its store isn't there, or it passes the store's
+-- end
 abbrev pub picture_shown : Option ClientView → Transform → Option Attached → Option Shown
 picture_shown None transform buffer = None
 picture_shown (Some client) transform None = None

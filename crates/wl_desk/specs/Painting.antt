@@ -20,7 +20,8 @@ use Rattle.wl_plain.specs.Scratch.{color_in, scratch}
 use Rattle.wl_plain.specs.Stacked.{all_windows}
 
 -- What is lent stands for the desktop: the stores and the surfaces of each client, and the toplevels in their order. Each shows a buffer.
-pub record AreLent (clients : ℕ → Option ClientView) (slots : ℕ → Slots) (numbers : ℕ → ById ℕ) (standing : List Standing) (d : Desktop) : Type 0 where
+pub record AreLent (clients : ℕ → Option ClientView) (slots : ℕ → Slots) (numbers : ℕ → ById ℕ) (standing : List Standing)
+    (d : Desktop) : Type 0 where
   pub stores : (c : ℕ) → option_map (λ v. v.stores) (clients c) ≡ option_map (λ r. r.peer.stores) (client_at c d)
   pub surfaces : (c : ℕ) → AreKept (numbers c) (slots c) (owned_in d c).surfaces
   pub toplevels : IsStack numbers standing d.standing
@@ -35,7 +36,8 @@ pub record IsColor (color : Rgb) : Type 0 where
 -- Painted from nothing, what is lent gives each point the colour that the desktop does, where that has no more than is served.
 abbrev pub PaintsTheDesktop : Type 0
 PaintsTheDesktop =
-    (background : Rgb) (nowhere : Area) (clients : ℕ → Option ClientView) (slots : ℕ → Slots) (numbers : ℕ → ById ℕ) (standing : List Standing) (d : Desktop) (x y : ℤ)
+    (background : Rgb) (nowhere : Area) (clients : ℕ → Option ClientView) (slots : ℕ → Slots) (numbers : ℕ
+        → ById ℕ) (standing : List Standing) (d : Desktop) (x y : ℤ)
     → IsColor background → AreLent clients slots numbers standing d → NoMore d
     → painted background (windows_lent clients slots nowhere standing) x y ≡ scratch background d x y
 
@@ -47,5 +49,7 @@ IsOpaqueAsSaid d x y =
 -- What is said opaque of the desktop's windows and is, is so of those that are lent.
 abbrev pub LendsOpaqueAsSaid : Type 0
 LendsOpaqueAsSaid =
-    (nowhere : Area) (clients : ℕ → Option ClientView) (slots : ℕ → Slots) (numbers : ℕ → ById ℕ) (standing : List Standing) (d : Desktop) (x y : ℤ)
-    → AreLent clients slots numbers standing d → NoMore d → IsOpaqueAsSaid d x y → AreOpaqueAsSaid x y (windows_lent clients slots nowhere standing)
+    (nowhere : Area) (clients : ℕ → Option ClientView) (slots : ℕ → Slots) (numbers : ℕ → ById ℕ) (standing : List Standing) (d : Desktop)
+        (x y : ℤ)
+    → AreLent clients slots numbers standing d → NoMore d → IsOpaqueAsSaid d x y
+        → AreOpaqueAsSaid x y (windows_lent clients slots nowhere standing)

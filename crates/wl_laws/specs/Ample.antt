@@ -1,5 +1,6 @@
 -- What happens where every request is served and memory is always there, as a function.
-use Rattle.std.specs.Prelude.{ℕ, zero, suc, ◌+◌, ◌-◌, ◌||◌, Bool, true, false, is_some, Option, Some, None, Result, Ok, Err, List, [], ◌∷◌, ◌++◌, length, take, drop}
+use Rattle.std.specs.Prelude.{ℕ, zero, suc, ◌+◌, ◌-◌, ◌||◌, Bool, true, false, is_some, Option, Some, None, Result, Ok, Err, List, [], ◌∷◌}
+use Rattle.std.specs.Prelude.{◌++◌, length, take, drop}
 use Rattle.wl_wire.specs.Wire.{split_of}
 use Rattle.wl_wire.specs.declared.header.Split.{Split}
 use Rattle.wl_wire.specs.declared.header.Split.TheVariants.{Message, More, Bad}
@@ -19,11 +20,13 @@ use Rattle.wl_plain.specs.Desktop.{Desktop, Resident, arrival, client_at, with_c
 use Rattle.wl_plain.specs.Pointing.{button_told, entered_surface, has_pointers, left_surface, motion_told}
 use Rattle.wl_plain.specs.LeftOut.{LeftOut}
 use Rattle.wl_plain.specs.Replies.{focus_window, popups_done, replies}
-use Rattle.wl_plain.specs.Settling.{Midstep, Strike, becomes, ended_all, ended_by, is_settled, is_struck, leave_drawn, struck_by, target_now, told_drawn, unstruck, with_focus}
+use Rattle.wl_plain.specs.Settling.{Midstep, Strike, becomes, ended_all, ended_by, is_settled, is_struck, leave_drawn, struck_by}
+use Rattle.wl_plain.specs.Settling.{target_now, told_drawn, unstruck, with_focus}
 use Rattle.wl_plain.specs.Stacked.{all_windows}
 use Rattle.wl_plain.specs.Step.{with_peer}
 use Rattle.wl_plain.specs.Acts.{Act, Connect, Feed, Store, Leave, Tick, Send, Close, Motion, Button, closed_by, lowest}
-use Rattle.wl_plain.specs.Happens.{callbacks_due, changed_so, frames_told, hit_now, is_hit_of, noted_if, number_of, point_in, pointed, raised_by, with_press, with_release, without_grabs}
+use Rattle.wl_plain.specs.Happens.{callbacks_due, changed_so, frames_told, hit_now, is_hit_of, noted_if, number_of, point_in, pointed}
+use Rattle.wl_plain.specs.Happens.{raised_by, with_press, with_release, without_grabs}
 
 -- ---- events
 
@@ -103,7 +106,8 @@ answered left (Err refusal) c r d = became c r (refused refusal r.peer) d
 
 abbrev pub taken : LeftOut → Split → ℕ → Resident → Desktop → Desktop
 taken left (Message object opcode size) c r d =
-    answered left (judge_all left r object opcode (take (size - 8) (drop 8 r.peer.rest))) c (with_peer (with_rest (drop size r.peer.rest) r.peer) r) d
+    answered left (judge_all left r object opcode (take (size - 8) (drop 8 r.peer.rest))) c
+        (with_peer (with_rest (drop size r.peer.rest) r.peer) r) d
 taken left Bad c r d = became c r (refused (display_error InvalidMethod) r.peer) d
 taken left More c r d = d
 
@@ -125,7 +129,8 @@ served_all left c (suc n) d = served left c (served_all left c n d)
 
 abbrev pub fed_by : LeftOut → ℕ → List ℕ → Option Cause → Resident → Desktop → Desktop
 fed_by left c piece (Some cause) r d = d
-fed_by left c piece None r d = served_all left c (length (r.peer.rest ++ piece)) (with_client c (Some (with_peer (with_rest (r.peer.rest ++ piece) r.peer) r)) d)
+fed_by left c piece None r d =
+    served_all left c (length (r.peer.rest ++ piece)) (with_client c (Some (with_peer (with_rest (r.peer.rest ++ piece) r.peer) r)) d)
 
 abbrev pub fed_at : LeftOut → ℕ → List ℕ → Option Resident → Desktop → Desktop
 fed_at left c piece None d = d
@@ -169,7 +174,8 @@ shown time d = ends_and_settles (frames_to time 32 (unstruck d))
 
 abbrev pub motion_for : ℕ → Option Target → Option Target → Midstep → Midstep
 motion_for time moves None m = m
-motion_for time None (Some t) m = tells (λ r. r) (motion_told time m.desktop.pointer.place (focus_window (Some t) (all_windows m.desktop))) t.client m
+motion_for time None (Some t) m = tells (λ r. r) (motion_told time m.desktop.pointer.place (focus_window (Some t) (all_windows m.desktop)))
+    t.client m
 motion_for time (Some moved) (Some t) m = m
 
 abbrev pub motion_settles : Bool → ℕ → Midstep → Midstep
@@ -194,7 +200,8 @@ tells_button time button pressed (Some t) m =
 
 abbrev pub pressed_on : Option Window → ℕ → ℕ → Desktop → Desktop
 pressed_on w time button d =
-    settles_ends (settles (tells_button time button true d.pointer.focus (dismisses (grab_holder d) w (unstruck (with_press button (raised_by w d))))))
+    settles_ends (settles
+        (tells_button time button true d.pointer.focus (dismisses (grab_holder d) w (unstruck (with_press button (raised_by w d))))))
 
 abbrev pub pressed_if : Bool → ℕ → ℕ → Desktop → Desktop
 pressed_if true time button d = pressed_on (hit_now d.pointer.place (all_windows d)) time button d

@@ -12,7 +12,8 @@ use Rattle.wl_plain.specs.Stacked.{all_windows}
 use Rattle.wl_plain.specs.declared.answers.Done.{Done}
 use Rattle.wl_laws.specs.Soundness.{IsSound}
 
--- A piece of a client's stream leads where its bytes lead as they come, then the messages that they complete, and want of memory where it was met.
+-- A piece of a client's stream leads where its bytes lead as they come, then the messages that they complete, and want of memory where it
+-- was met.
 abbrev pub PieceIsMessages : Type 0
 PieceIsMessages =
     (left : LeftOut) (c : ℕ) (piece : List ℕ) (done : Done) (d new : Desktop)

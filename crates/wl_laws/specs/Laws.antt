@@ -22,7 +22,8 @@ AreApart (s ∷ ss) = (list_any (is_of s.client s.surface) ss ≡ false) × AreA
 
 -- Where no toplevel stands twice and no surface is linked to another, no surface has two windows.
 abbrev pub WindowsAreDistinct : Type 0
-WindowsAreDistinct = (d : Desktop) → ((c : ℕ) → (owned_in d c).surfaces.links ≡ []) → AreApart d.standing → AreDistinct (windows_on (owned_in d) d.standing)
+WindowsAreDistinct = (d : Desktop) → ((c : ℕ) → (owned_in d c).surfaces.links ≡ []) → AreApart d.standing
+    → AreDistinct (windows_on (owned_in d) d.standing)
 
 -- Windows that keep their records show at this point the colours that they did, where no damage was applied.
 abbrev pub ColorsStay : Showing → Desktop → Desktop → ℤ → ℤ → Type 0

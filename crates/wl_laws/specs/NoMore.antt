@@ -19,8 +19,8 @@ abbrev pub AreToplevels : Shell → Type 0
 AreToplevels [] = Unit {0}
 AreToplevels (x ∷ xs) = IsToplevel x.role × AreToplevels xs
 
--- A client has no links, subsurfaces and pointers, and no popup. Its surfaces are told apart by their ids, which are those of wl_surfaces, and its
--- frame callbacks by theirs, which are those of wl_callbacks.
+-- A client has no links, subsurfaces and pointers, and no popup. Its surfaces are told apart by their ids, which are those of wl_surfaces,
+-- and its frame callbacks by theirs, which are those of wl_callbacks.
 pub record OwnsToplevelsOnly (r : Resident) : Type 0 where
   pub links : r.owned.surfaces.links ≡ []
   pub apart : AreApartBy (λ id s. s.id == id) r.owned.surfaces.surfaces

@@ -1,5 +1,6 @@
 -- What a step of one client leaves of the others, whatever is left out.
-use Rattle.std.specs.Prelude.{ℕ, ℤ, ◌≡◌, ◌≢◌, ◌-◌, true, if◌then◌else◌, Option, Some, None, Result, Ok, Err, List, [], ◌∷◌, ◌++◌, drop, flat_map, take, ◌⊎◌}
+use Rattle.std.specs.Prelude.{ℕ, ℤ, ◌≡◌, ◌≢◌, ◌-◌, true, if◌then◌else◌, Option, Some, None, Result, Ok, Err, List, [], ◌∷◌, ◌++◌, drop}
+use Rattle.std.specs.Prelude.{flat_map, take, ◌⊎◌}
 use Rattle.wl_wire.specs.Wire.{Word, Number, split_of}
 use Rattle.wl_wire.specs.declared.header.Split.{Split}
 use Rattle.wl_wire.specs.declared.header.Split.TheVariants.{Message as Whole, More, Bad}
@@ -35,7 +36,8 @@ IsLeave pointer serial event = (surface : ℕ) × (event ≡ said pointer (says 
 
 -- one of these to one of these wl_pointers
 abbrev pub IsOfFocus : List ℕ → ℕ → Said → Type 0
-IsOfFocus pointers serial event = (pointer : ℕ) × (is_among pointer pointers ≡ true) × (IsEnter pointer serial event ⊎ IsLeave pointer serial event)
+IsOfFocus pointers serial event = (pointer : ℕ) × (is_among pointer pointers ≡ true)
+    × (IsEnter pointer serial event ⊎ IsLeave pointer serial event)
 
 abbrev pub AreOfFocus : List ℕ → ℕ → List Said → Type 0
 AreOfFocus pointers serial [] = Unit {0}
@@ -49,7 +51,8 @@ told_once events r =
 -- The focus came and went, and each time a client that has wl_pointers was told so with its next serial; it is else as it was.
 abbrev pub IsToldTimes : List (List Said) → Resident → Resident → Type 0
 IsToldTimes [] r q = q ≡ r
-IsToldTimes (events ∷ times) r q = (has_pointers r ≡ true) × AreOfFocus r.pointers r.peer.serial events × IsToldTimes times (told_once events r) q
+IsToldTimes (events ∷ times) r q = (has_pointers r ≡ true) × AreOfFocus r.pointers r.peer.serial events
+    × IsToldTimes times (told_once events r) q
 
 abbrev pub IsToldOfFocus : Resident → Resident → Type 0
 IsToldOfFocus r q = (times : List (List Said)) × IsToldTimes times r q
@@ -61,7 +64,8 @@ IsNotQueued cause r =
 
 -- A client was told of the focus until such an event wasn't queued, and has ended for that.
 abbrev pub HasEndedUntold : Resident → Resident → Type 0
-HasEndedUntold r q = (told : Resident) × (cause : Cause) × IsToldOfFocus r told × IsNotQueued cause told × (q ≡ resident_of (ended cause told.peer))
+HasEndedUntold r q = (told : Resident) × (cause : Cause) × IsToldOfFocus r told × IsNotQueued cause told
+    × (q ≡ resident_of (ended cause told.peer))
 
 -- A client that lived, with its toplevels before and after: they stand where they did and in the order that they did, or it has ended.
 abbrev pub IsLeftLiving : Resident → List Standing → Option Resident → List Standing → Type 0
@@ -98,7 +102,8 @@ client_of (Button time button pressed) done = None
 -- A step of a client leaves every other client alone, a message that is refused too.
 abbrev pub OthersAreLeftAlone : Type 0
 OthersAreLeftAlone =
-    (left : LeftOut) (act : Act) (done : Done) (c other : ℕ) (old new : Desktop) → client_of act done ≡ Some c → Happens left act done old new → c ≢ other
+    (left : LeftOut) (act : Act) (done : Done) (c other : ℕ) (old new : Desktop) → client_of act done ≡ Some c
+        → Happens left act done old new → c ≢ other
     → IsLeftAlone other old new
 
 -- ---- a message that is refused
@@ -116,8 +121,8 @@ refused_for left More r = None
 abbrev pub first_refusal : LeftOut → Resident → Option Refusal
 first_refusal left r = refused_for left (split_of r.peer.rest) r
 
--- A client has ended with this error, of which it was told, or with Slow or Memory where that event wasn't queued. Nothing is left of what it
--- owned, and none of its toplevels stands.
+-- A client has ended with this error, of which it was told, or with Slow or Memory where that event wasn't queued. Nothing is left of what
+-- it owned, and none of its toplevels stands.
 abbrev pub HasErred : Refusal → ℕ → Resident → Desktop → Type 0
 HasErred refusal c r new = (q : Peer) × Errs refusal r.peer q × (client_at c new ≡ Some (resident_of q)) × (toplevels_of c new ≡ [])
 
@@ -128,5 +133,6 @@ IsTheLast left c new = (n : ℕ) (mid end : Desktop) → Reaches left c n new mi
 -- A message that is refused ends its client with that error, is the last that is taken of that client, and leaves every other client alone.
 abbrev pub RefusedAlone : Type 0
 RefusedAlone =
-    (left : LeftOut) (c : ℕ) (r : Resident) (refusal : Refusal) (old new : Desktop) → client_at c old ≡ Some r → first_refusal left r ≡ Some refusal
+    (left : LeftOut) (c : ℕ) (r : Resident) (refusal : Refusal) (old new : Desktop) → client_at c old ≡ Some r
+        → first_refusal left r ≡ Some refusal
     → Serves left c old new → HasErred refusal c r new × IsTheLast left c new × ((other : ℕ) → c ≢ other → IsLeftAlone other old new)

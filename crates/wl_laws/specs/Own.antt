@@ -40,8 +40,8 @@ AreSameOrDismissed [] (y ∷ ys) = ⊥
 AreSameOrDismissed (x ∷ xs) [] = ⊥
 AreSameOrDismissed (x ∷ xs) (y ∷ ys) = IsSameOrDismissed x y × AreSameOrDismissed xs ys
 
--- A client has what it had: its surfaces with their requests and cuts, and all else that it owns; but frame callbacks may be done, and popups
--- dismissed.
+-- A client has what it had: its surfaces with their requests and cuts, and all else that it owns; but frame callbacks may be done, and
+-- popups dismissed.
 pub record HasItsOwn (r q : Resident) : Type 0 where
   pub peer : LivesOn r.peer q.peer
   pub objects : (id : ℕ) → is_of_callback id r ≡ false → q.peer.objects id ≡ r.peer.objects id
@@ -78,8 +78,9 @@ KeepsItsOwnSo (Some r) before now after = KeepsItsOwnBy r.peer.status r before n
 abbrev pub KeepsItsOwn : ℕ → Desktop → Desktop → Type 0
 KeepsItsOwn c old new = KeepsItsOwnSo (client_at c old) (toplevels_of c old) (client_at c new) (toplevels_of c new)
 
--- Whatever happens that isn't a step of a client's leaves it what it has, with the same toplevels standing, or ends it for an event that wasn't
--- queued.
+-- Whatever happens that isn't a step of a client's leaves it what it has, with the same toplevels standing, or ends it for an event that
+-- wasn't queued.
 abbrev pub OwnStays : Type 0
 OwnStays =
-    (left : LeftOut) (act : Act) (done : Done) (c : ℕ) (old new : Desktop) → client_of act done ≢ Some c → Happens left act done old new → KeepsItsOwn c old new
+    (left : LeftOut) (act : Act) (done : Done) (c : ℕ) (old new : Desktop) → client_of act done ≢ Some c → Happens left act done old new
+        → KeepsItsOwn c old new

@@ -1,5 +1,6 @@
 -- What is kept of a client's surfaces and xdg_surfaces, under the numbers of the surfaces, and what the client owns, by ids.
-use Rattle.std.specs.Prelude.{ℕ, ◌≡◌, ◌==◌, Bool, true, false, if◌then◌else◌, is_some, Option, Some, None, Result, Ok, Err, List, [], ◌∷◌, find, length}
+use Rattle.std.specs.Prelude.{ℕ, ◌≡◌, ◌==◌, Bool, true, false, if◌then◌else◌, is_some, Option, Some, None, Result, Ok, Err, List, [], ◌∷◌}
+use Rattle.std.specs.Prelude.{find, length}
 use Rattle.std.specs.List.{list_any}
 use Rattle.std.specs.Option.{option_and_then, option_map_or}
 use Rattle.wl_interface.specs.declared.interface.Interface.{Interface}
@@ -80,8 +81,8 @@ AreObjects interface objects has xs = AreApartBy has xs × ((id : ℕ) → list_
 abbrev pub AllCounts : History → Type 0
 AllCounts h = h.cut ≡ committed h.requests
 
--- What is kept stands for the surfaces, each under a number of its own. None of them is linked to another, so that what one commits counts at
--- once.
+-- What is kept stands for the surfaces, each under a number of its own. None of them is linked to another, so that what one commits counts
+-- at once.
 pub record AreKept (numbers : ById ℕ) (slots : Slots) (all : Surfaces) : Type 0 where
   pub links : all.links ≡ []
   pub numbered : (id : ℕ) → is_some (numbers id) ≡ is_some (surface_at id all)

@@ -37,7 +37,8 @@ IsNoChild surface all = (number : ℕ) (link : Link) → IsLive number link all 
 -- the windows are read from hold all of them.
 pub record AreTrees (all : Surfaces) : Type 0 where
   pub once : (k l : ℕ) (a b : Link) → IsLive k a all → IsLive l b all → a.child ≡ b.child → k ≡ l
-  pub ordered : (surface counting : ℕ) (h : History) → history_in surface all ≡ Some h → AreOnce is_member (order (take counting h.requests))
+  pub ordered : (surface counting : ℕ) (h : History) → history_in surface all ≡ Some h
+      → AreOnce is_member (order (take counting h.requests))
   pub parents :
       (surface counting number : ℕ) (h : History) (link : Link) → history_in surface all ≡ Some h
       → list_any (is_member (Child number)) (order (take counting h.requests)) ≡ true → IsLive number link all → link.parent ≡ surface
@@ -57,7 +58,8 @@ pub record IsSound (d : Desktop) : Type 0 where
   pub trees : (c : ℕ) → AreTrees (owned_in d c).surfaces
   pub popups : (c : ℕ) → AreOnce (λ p. has_surface p.surface) (stacked_popups (owned_in d c))
   pub levels :
-      (c surface : ℕ) → list_any (is_of c surface) d.standing ≡ true → list_any (has_surface surface) (stacked_popups (owned_in d c)) ≡ false
+      (c surface : ℕ) → list_any (is_of c surface) d.standing ≡ true
+          → list_any (has_surface surface) (stacked_popups (owned_in d c)) ≡ false
   pub toplevel_roots : (c surface : ℕ) → list_any (is_of c surface) d.standing ≡ true → IsNoChild surface (owned_in d c).surfaces
   pub popup_roots :
       (c surface : ℕ) → list_any (has_surface surface) (stacked_popups (owned_in d c)) ≡ true → IsNoChild surface (owned_in d c).surfaces
@@ -73,4 +75,5 @@ EmptyIsSound = (output : Output) → IsSound (empty output)
 -- Whatever happens from a desktop without clients on, the desktop is sound.
 abbrev pub RunIsSound : Type 0
 RunIsSound =
-    (left : LeftOut) (output : Output) (acts : List Act) (dones : List Done) (d : Desktop) → Lasts left acts dones (empty output) d → IsSound d
+    (left : LeftOut) (output : Output) (acts : List Act) (dones : List Done) (d : Desktop) → Lasts left acts dones (empty output) d
+        → IsSound d

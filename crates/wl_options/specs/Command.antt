@@ -3,7 +3,8 @@
 use Rattle.std.specs.Prelude.{◌≡◌, ◌≢◌, ◌≤◌, ⊤, ℕ, true, false, List, [], ◌∷◌, Option, Some, None, unwrap_or, codes, option_map}
 use Rattle.std.specs.Option.{option_and_then}
 use Rattle.std.specs.Str.{bytes_eq}
-use Rattle.clap.specs.Words.{App, IsAmong, Row, Rule, Text, fault_of, first_of, kind_of, new_app, new_rule, subcommand_of, with_rule, with_subcommand}
+use Rattle.clap.specs.Words.{App, IsAmong, Row, Rule, Text, fault_of, first_of, kind_of, new_app, new_rule, subcommand_of, with_rule}
+use Rattle.clap.specs.Words.{with_subcommand}
 use Rattle.clap.specs.Kinds.{Kinds}
 use Rattle.clap.specs.declared.error.Error.{Error}
 use Rattle.clap.specs.declared.error.kind.ErrorKind.TheVariants.{OutOfMemory}
@@ -51,7 +52,8 @@ replay_command = with_rule (with_rule (with_rule (new_app (codes "replay")) size
 -- `serve --socket PATH --turns N [--size WxH] [--ppm FILE] [--dir DIR] [--pointer FILE]`
 abbrev pub serve_command : App
 serve_command =
-    with_rule (with_rule (with_rule (with_rule (with_rule (with_rule (new_app (codes "serve")) socket_option) turns_option) size_option) ppm_option) dir_option)
+    with_rule (with_rule (with_rule (with_rule (with_rule (with_rule (new_app (codes "serve")) socket_option) turns_option) size_option)
+        ppm_option) dir_option)
     pointer_option
 
 -- a command that does nothing but by a subcommand

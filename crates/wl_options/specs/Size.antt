@@ -14,4 +14,5 @@ is_x b = b == 120
 
 -- Two sides, parted by the first `x`. Where there is none, nothing stands behind it, and that is no number.
 abbrev pub size_of : List ℕ → Option (ℕ × ℕ)
-size_of text = option_and_then (λ width. option_map (λ height. (width, height)) (side_of (after_first is_x text))) (side_of (before_first is_x text))
+size_of text = option_and_then (λ width. option_map (λ height. (width, height)) (side_of (after_first is_x text)))
+    (side_of (before_first is_x text))

@@ -1,5 +1,6 @@
 -- A stream in any pieces.
-use Rattle.std.proofs.Common.{◌≡◌, ℕ, zero, suc, ◌+◌, ◌-◌, List, [], ◌∷◌, ◌++◌, length, take, drop, Bool, true, false, Option, Some, None, Result, refl, ap, subst, sym, ◌∙◌, inl, inr, append_assoc, arith, length-append, length-drop, ◌≢◌, ◌/◌, ◌%◌, ◌≤◌}
+use Rattle.std.proofs.Common.{◌≡◌, ℕ, zero, suc, ◌+◌, ◌-◌, List, [], ◌∷◌, ◌++◌, length, take, drop, Bool, true, false, Option, Some, None, Result, refl, ap, subst, sym, ◌∙◌, inl, inr, append_assoc}
+use Rattle.std.proofs.Common.{arith, length-append, length-drop, ◌≢◌, ◌/◌, ◌%◌, ◌≤◌}
 use Rattle.std.specs.Prelude.{Ok, Err, nat_lt, if◌then◌else◌}
 use Rattle.std.proofs.lemmas.Bool.Decides.{nat_tests}
 use Rattle.std.proofs.lemmas.List.{take-append-le, drop-append-le}
@@ -9,12 +10,14 @@ use Rattle.wl_wire.specs.declared.header.Split.TheVariants.{Message, More, Bad}
 use Rattle.wl_peer.specs.declared.cause.Cause.{Cause}
 use Rattle.wl_peer.specs.declared.cause.Cause.TheVariants.{Protocol, Memory, Slow}
 use Rattle.wl_peer.specs.declared.actions.Action.{Action}
-use Rattle.wl_peer.specs.declared.actions.Action.TheVariants.{Sync, GetRegistry, Bind, CreateRegion, AddToRegion, SubtractFromRegion, DestroyRegion, CreatePool, CreateBuffer, ResizePool, DestroyPool, DestroyBuffer}
+use Rattle.wl_peer.specs.declared.actions.Action.TheVariants.{Sync, GetRegistry, Bind, CreateRegion, AddToRegion, SubtractFromRegion, DestroyRegion, CreatePool, CreateBuffer, ResizePool, DestroyPool}
+use Rattle.wl_peer.specs.declared.actions.Action.TheVariants.{DestroyBuffer}
 use Rattle.wl_peer.specs.declared.refusals.ErrorCode.TheVariants.{InvalidMethod}
 use Rattle.wl_peer.specs.declared.refusals.Refusal.{Refusal}
 use Rattle.wl_peer.specs.Told.{Said, code_number, display_error, error_told}
 use Rattle.wl_peer.specs.Judgement.{judge}
-use Rattle.wl_peer.specs.Peer.{Peer, answers_to, changed, counted, ended, has_room, known_of, queued, takes_memory, with_rest, QueuesOr, Queues, Errs, LacksMemory, WantsOr, Acts, Answers, Takes, Serves, Reaches, IsIdle, Stops, FeedsAt, Feeds}
+use Rattle.wl_peer.specs.Peer.{Peer, answers_to, changed, counted, ended, has_room, known_of, queued, takes_memory, with_rest, QueuesOr, Queues, Errs, LacksMemory, WantsOr, Acts, Answers, Takes}
+use Rattle.wl_peer.specs.Peer.{Serves, Reaches, IsIdle, Stops, FeedsAt, Feeds}
 
 -- more bytes come behind: to a client that lives
 abbrev pub grown_at : Option Cause → List ℕ → Peer → Peer
@@ -41,7 +44,8 @@ QueuesOr-grown true Later Then more p q alive next (inr h) = inr (next h)
 pub Queues-grown : (events : List Said) (more : List ℕ) (p q : Peer) → p.status ≡ None → Queues events p q → Queues events (with_rest (p.rest ++ more) p) (grown more q)
 Queues-grown [] more p q alive h = ap (λ (x : Peer). grown more x) h ∙ grown_alive more p alive
 Queues-grown (e ∷ events) more p q alive h =
-    let next = QueuesOr-grown (has_room p.unsent e) (Queues events (queued e p) q) (Queues events (with_rest (p.rest ++ more) (queued e p)) (grown more q)) more p q alive (Queues-grown events more (queued e p) q alive) h in
+    let next = QueuesOr-grown (has_room p.unsent e) (Queues events (queued e p) q) (Queues events (with_rest (p.rest ++ more) (queued e p)) (grown more q)) more p q alive
+        (Queues-grown events more (queued e p) q alive) h in
     subst (λ (x : Peer). QueuesOr (has_room p.unsent e) (Queues events (with_rest (p.rest ++ more) (queued e p)) (grown more q)) x (grown more q)) (grown_alive more p alive) next
 
 pub Errs-grown : (refusal : Refusal) (more : List ℕ) (p q : Peer) → p.status ≡ None → Errs refusal p q → Errs refusal (with_rest (p.rest ++ more) p) (grown more q)
@@ -226,7 +230,8 @@ Reaches-join n (suc k) p m q r s =
 after_end : (b : List ℕ) (m q : Peer) (cause : Cause) → m.status ≡ Some cause → Feeds b m q → q ≡ m
 after_end b m q cause e k = subst (λ (s : Option Cause). FeedsAt s b m q) e k
 
-go_on : (a b : List ℕ) (p mid q : Peer) (n : ℕ) (s : Option Cause) → mid.status ≡ s → Reaches n (with_rest (p.rest ++ (a ++ b)) p) (grown b mid) → IsIdle mid → Feeds b mid q → FeedsAt None (a ++ b) p q
+go_on : (a b : List ℕ) (p mid q : Peer) (n : ℕ) (s : Option Cause) → mid.status ≡ s → Reaches n (with_rest (p.rest ++ (a ++ b)) p) (grown b mid) → IsIdle mid → Feeds b mid q
+    → FeedsAt None (a ++ b) p q
 go_on a b p mid q n (Some cause) e r idle k =
     let same : grown b mid ≡ mid = ap (λ (s : Option Cause). grown_at s b mid) e in
     (n, mid, subst (λ (x : Peer). Reaches n (with_rest (p.rest ++ (a ++ b)) p) x) same r, inl (after_end b mid q cause e k, idle))

@@ -34,8 +34,11 @@ use Rattle.wl_proto.specs.declared.xdg_popup.XdgPopupRequest.{XdgPopupRequest}
 use Rattle.wl_proto.specs.declared.xdg_popup.XdgPopupRequest.TheVariants as popup
 use Rattle.wl_proto.specs.declared.xdg_toplevel.XdgToplevelRequest.{XdgToplevelRequest}
 use Rattle.wl_proto.specs.declared.xdg_toplevel.XdgToplevelRequest.TheVariants as xdg_toplevel
-use Rattle.wl_proto.specs.Messages.{wl_buffer_request, wl_display_request, wl_region_request, wl_registry_request, wl_shm_request, wl_shm_pool_request, wl_compositor_request, wl_pointer_request, wl_seat_request, wl_subcompositor_request, wl_subsurface_request, wl_surface_request, xdg_popup_request, xdg_positioner_request, xdg_surface_request, xdg_toplevel_request, xdg_wm_base_request}
-use Rattle.wl_peer.specs.Requests.{Request, ToDisplay, ToRegistry, ToRegion, ToShm, ToPool, ToBuffer, ToCompositor, ToSurface, ToSubcompositor, ToSubsurface, ToSeat, ToPointer, ToBase, ToPositioner, ToXdgSurface, ToToplevel, ToPopup, request_of}
+use Rattle.wl_proto.specs.Messages.{wl_buffer_request, wl_display_request, wl_region_request, wl_registry_request, wl_shm_request, wl_shm_pool_request, wl_compositor_request, wl_pointer_request}
+use Rattle.wl_proto.specs.Messages.{wl_seat_request, wl_subcompositor_request, wl_subsurface_request, wl_surface_request, xdg_popup_request, xdg_positioner_request, xdg_surface_request}
+use Rattle.wl_proto.specs.Messages.{xdg_toplevel_request, xdg_wm_base_request}
+use Rattle.wl_peer.specs.Requests.{Request, ToDisplay, ToRegistry, ToRegion, ToShm, ToPool, ToBuffer, ToCompositor, ToSurface, ToSubcompositor, ToSubsurface, ToSeat, ToPointer, ToBase, ToPositioner}
+use Rattle.wl_peer.specs.Requests.{ToXdgSurface, ToToplevel, ToPopup, request_of}
 use Rattle.wl_peer.specs.ToplevelRequest.{ToplevelRequest}
 use Rattle.wl_peer.specs.ToplevelRequest as toplevel
 

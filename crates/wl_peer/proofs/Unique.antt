@@ -11,7 +11,8 @@ use Rattle.wl_peer.specs.declared.refusals.ErrorCode.TheVariants.{InvalidMethod}
 use Rattle.wl_peer.specs.declared.refusals.Refusal.{Refusal}
 use Rattle.wl_peer.specs.Told.{Said, display_error, error_told}
 use Rattle.wl_peer.specs.Judgement.{judge}
-use Rattle.wl_peer.specs.Peer.{Peer, answers_to, changed, counted, has_room, known_of, queued, takes_memory, with_rest, QueuesOr, Queues, Errs, LacksMemory, WantsOr, Acts, Answers, Takes, Serves, Reaches, IsIdle, IsIdleAt, Stops, FeedsAt}
+use Rattle.wl_peer.specs.Peer.{Peer, answers_to, changed, counted, has_room, known_of, queued, takes_memory, with_rest, QueuesOr, Queues, Errs, LacksMemory, WantsOr, Acts, Answers, Takes, Serves}
+use Rattle.wl_peer.specs.Peer.{Reaches, IsIdle, IsIdleAt, Stops, FeedsAt}
 use Rattle.wl_peer.specs.Plain.{acted, answered, or_slow, refused, served, served_all, served_at, taken, told}
 
 choice : (b : Bool) (Later : Type 0) (p q x : Peer) → (Later → q ≡ x) → q.status ≢ Some Memory → QueuesOr b Later p q → q ≡ or_slow b x p

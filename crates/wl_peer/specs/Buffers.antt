@@ -4,8 +4,8 @@ use Rattle.wl_store.specs.Layout.{format_of}
 use Rattle.wl_store.specs.declared.color.Format.{Format}
 use Rattle.wl_store.specs.declared.place.Layout.{Layout}
 
--- Where the pixels of a wl_buffer lie: `height` rows of `width` pixels in this store, the first row at `offset` and each `stride` bytes after
--- the one before (wayland.xml, wl_shm_pool.create_buffer).
+-- Where the pixels of a wl_buffer lie: `height` rows of `width` pixels in this store, the first row at `offset` and each `stride` bytes
+-- after the one before (wayland.xml, wl_shm_pool.create_buffer).
 pub record Laid : Type 0 where
   pub store : ℕ
   pub offset : ℕ

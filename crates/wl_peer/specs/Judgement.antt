@@ -15,7 +15,8 @@ use Rattle.wl_proto.specs.declared.wl_shm.WlShmRequest.{WlShmRequest}
 use Rattle.wl_proto.specs.declared.wl_shm.WlShmRequest.TheVariants as shm
 use Rattle.wl_proto.specs.declared.wl_shm_pool.WlShmPoolRequest.{WlShmPoolRequest}
 use Rattle.wl_proto.specs.declared.wl_shm_pool.WlShmPoolRequest.TheVariants as pool
-use Rattle.wl_peer.specs.Requests.{Request, ToDisplay, ToRegistry, ToCompositor, ToRegion, ToShm, ToPool, ToBuffer, ToSeat, rect, request_of}
+use Rattle.wl_peer.specs.Requests.{Request, ToDisplay, ToRegistry, ToCompositor, ToRegion, ToShm, ToPool, ToBuffer, ToSeat, rect}
+use Rattle.wl_peer.specs.Requests.{request_of}
 use Rattle.wl_interface.specs.declared.interface.Interface.{Interface}
 use Rattle.wl_proto.specs.declared.error.ProtoError.{ProtoError}
 use Rattle.wl_proto.specs.declared.argument.NewId.{NewId}
@@ -28,10 +29,13 @@ use Rattle.wl_store.specs.declared.place.LayoutError.{LayoutError}
 use Rattle.wl_store.specs.declared.place.LayoutError.TheVariants.{Format, Stride}
 use Rattle.wl_store.specs.declared.stores.StoreError.{StoreError}
 use Rattle.wl_store.specs.declared.stores.StoreError.TheVariants.{BadSize, Shrinks}
-use Rattle.wl_peer.specs.declared.refusals.ErrorCode.TheVariants.{InvalidObject, InvalidMethod, Implementation, MissingCapability, InvalidFormat, InvalidStride, InvalidFd}
+use Rattle.wl_peer.specs.declared.refusals.ErrorCode.TheVariants.{InvalidObject, InvalidMethod, Implementation, MissingCapability}
+use Rattle.wl_peer.specs.declared.refusals.ErrorCode.TheVariants.{InvalidFormat, InvalidStride, InvalidFd}
 use Rattle.wl_peer.specs.declared.refusals.Refusal.{Refusal}
 use Rattle.wl_peer.specs.declared.actions.Action.{Action}
-use Rattle.wl_peer.specs.declared.actions.Action.TheVariants.{Sync, GetRegistry, Bind, CreateRegion, AddToRegion, SubtractFromRegion, DestroyRegion, CreatePool, CreateBuffer, ResizePool, DestroyPool, DestroyBuffer}
+use Rattle.wl_peer.specs.declared.actions.Action.TheVariants.{Sync, GetRegistry, Bind, CreateRegion, AddToRegion, SubtractFromRegion}
+use Rattle.wl_peer.specs.declared.actions.Action.TheVariants.{DestroyRegion, CreatePool, CreateBuffer, ResizePool, DestroyPool}
+use Rattle.wl_peer.specs.declared.actions.Action.TheVariants.{DestroyBuffer}
 use Rattle.wl_peer.specs.Buffers.{Buffer, Laid, buffer_asked}
 use Rattle.wl_peer.specs.Objects.{ById, Object, Objects, bound_interface, fits}
 use Rattle.wl_peer.specs.Told.{display_error}
@@ -82,7 +86,8 @@ abbrev pub region_action : ℕ → Option ℕ → WlRegionRequest → Result Act
 region_action object None request = Err (display_error Implementation)
 region_action object (Some changes) region.Destroy = Ok (DestroyRegion object)
 region_action object (Some changes) (region.Add x y width height) = changed_unless_full changes (AddToRegion object (rect x y width height))
-region_action object (Some changes) (region.Subtract x y width height) = changed_unless_full changes (SubtractFromRegion object (rect x y width height))
+region_action object (Some changes) (region.Subtract x y width height) =
+    changed_unless_full changes (SubtractFromRegion object (rect x y width height))
 
 -- wl_shm.create_pool: the limits on stores come first
 abbrev pub pool_created : ℕ → ℕ → ℕ → ℤ → Option StoreError → Result Action Refusal
@@ -106,7 +111,8 @@ buffer_laid object version id laid (Some error) = Err (layout_refused object err
 abbrev pub buffer_created : ℕ → ℕ → ℕ → Stock → ℕ → ℤ → ℤ → ℤ → ℤ → ℕ → Result Action Refusal
 buffer_created object version store stores id offset width height stride format =
     if can_hold store stores
-    then buffer_laid object version id (buffer_asked store offset width height stride format) (layout_refusal (size_of store stores) offset width height stride format)
+    then buffer_laid object version id (buffer_asked store offset width height stride format)
+        (layout_refusal (size_of store stores) offset width height stride format)
     else Err (display_error Implementation)
 
 -- wl_shm_pool.resize: the limit on the bytes of all stores comes first

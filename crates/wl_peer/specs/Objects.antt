@@ -5,7 +5,10 @@ use Rattle.std.specs.Option.{option_map}
 use Rattle.std.specs.Ordering.{nat_cmp, is_eq}
 use Rattle.std.specs.Str.{bytes_eq}
 use Rattle.wl_interface.specs.declared.interface.Interface.{Interface}
-use Rattle.wl_interface.specs.declared.interface.Interface.TheVariants.{WlDisplay, WlRegistry, WlCallback, WlCompositor, WlRegion, WlSurface, WlShm, WlShmPool, WlBuffer, WlSubcompositor, WlSubsurface, WlOutput, WlSeat, WlPointer, XdgWmBase, XdgPositioner, XdgSurface, XdgToplevel, XdgPopup}
+use Rattle.wl_interface.specs.declared.interface.Interface.TheVariants.{WlDisplay, WlRegistry, WlCallback, WlCompositor, WlRegion}
+use Rattle.wl_interface.specs.declared.interface.Interface.TheVariants.{WlSurface, WlShm, WlShmPool, WlBuffer, WlSubcompositor}
+use Rattle.wl_interface.specs.declared.interface.Interface.TheVariants.{WlSubsurface, WlOutput, WlSeat, WlPointer, XdgWmBase, XdgPositioner}
+use Rattle.wl_interface.specs.declared.interface.Interface.TheVariants.{XdgSurface, XdgToplevel, XdgPopup}
 use Rattle.wl_proto.specs.declared.argument.ObjectArg.{ObjectArg}
 use Rattle.wl_table.specs.Objects.{Held, entry_of}
 use Rattle.wl_table.specs.declared.entry.Entry.{Entry}

@@ -1,6 +1,8 @@
 -- One client of the plain desktop: what a compositor holds of it, whatever a program keeps.
 use Rattle.std.specs.Option.{option_map}
-use Rattle.std.specs.Prelude.{ℕ, suc, zero, ◌≡◌, ◌+◌, ◌-◌, List, [], ◌∷◌, ◌++◌, fold, length, take, drop, Bool, true, false, ◌&&◌, nat_le, if◌then◌else◌, is_some, Option, Some, None, Result, Ok, Err, ◌⊎◌, IsTrue, MatchBool, MatchOption, unsigned_abs}
+use Rattle.std.specs.Prelude.{ℕ, suc, zero, ◌≡◌, ◌+◌, ◌-◌, List, [], ◌∷◌, ◌++◌, fold, length, take, drop, Bool, true, false, ◌&&◌, nat_le}
+use Rattle.std.specs.Prelude.{if◌then◌else◌, is_some, Option, Some, None, Result, Ok, Err, ◌⊎◌, IsTrue, MatchBool, MatchOption}
+use Rattle.std.specs.Prelude.{unsigned_abs}
 use Rattle.wl_wire.specs.Wire.{split_of}
 use Rattle.wl_wire.specs.declared.header.Split.{Split}
 use Rattle.wl_wire.specs.declared.header.Split.TheVariants.{Message as Whole, More, Bad}
@@ -15,11 +17,14 @@ use Rattle.wl_peer.specs.declared.cause.Cause.TheVariants.{Protocol, Memory, Slo
 use Rattle.wl_peer.specs.declared.refusals.ErrorCode.TheVariants.{InvalidMethod, NoMemory}
 use Rattle.wl_peer.specs.declared.refusals.Refusal.{Refusal}
 use Rattle.wl_peer.specs.declared.actions.Action.{Action}
-use Rattle.wl_peer.specs.declared.actions.Action.TheVariants.{Sync, GetRegistry, Bind, CreateRegion, AddToRegion, SubtractFromRegion, DestroyRegion, CreatePool, CreateBuffer, ResizePool, DestroyPool, DestroyBuffer}
+use Rattle.wl_peer.specs.declared.actions.Action.TheVariants.{Sync, GetRegistry, Bind, CreateRegion, AddToRegion, SubtractFromRegion}
+use Rattle.wl_peer.specs.declared.actions.Action.TheVariants.{DestroyRegion, CreatePool, CreateBuffer, ResizePool, DestroyPool}
+use Rattle.wl_peer.specs.declared.actions.Action.TheVariants.{DestroyBuffer}
 use Rattle.wl_peer.specs.Buffers.{Buffer, numbered}
 use Rattle.wl_peer.specs.Judgement.{Known, judge}
 use Rattle.wl_peer.specs.Objects.{ById, Object, Objects, nothing, with_id}
-use Rattle.wl_peer.specs.Told.{Output, Said, bind_told, callback_done, code_number, display_error, error_told, id_deleted, registry_told, said_bytes}
+use Rattle.wl_peer.specs.Told.{Output, Said, bind_told, callback_done, code_number, display_error, error_told, id_deleted, registry_told}
+use Rattle.wl_peer.specs.Told.{said_bytes}
 
 -- One client: why it ended, if it did; how many requests it made; its live objects, and how many they are; of the regions, pools and
 -- buffers among them each region's list of changes, each pool's store, and each buffer's number and place; the stores; the next serial; the
@@ -129,7 +134,8 @@ Errs refusal old new =
 abbrev pub LacksMemory : Peer → Peer → Type 0
 LacksMemory old new =
     (new ≡ ended Memory old)
-    ⊎ (IsTrue (has_room old.unsent (error_told (display_error NoMemory))) × (new ≡ ended Memory (queued (error_told (display_error NoMemory)) old)))
+    ⊎ (IsTrue (has_room old.unsent (error_told (display_error NoMemory)))
+        × (new ≡ ended Memory (queued (error_told (display_error NoMemory)) old)))
 
 -- an object goes, if it is there
 abbrev pub removed : ℕ → Peer → Peer

@@ -1,5 +1,6 @@
 -- What a piece leads to where memory is always there, as a function.
-use Rattle.std.specs.Prelude.{ℕ, suc, zero, ◌++◌, ◌-◌, List, [], ◌∷◌, Bool, true, false, length, take, drop, Option, Some, None, Result, Ok, Err}
+use Rattle.std.specs.Prelude.{ℕ, suc, zero, ◌++◌, ◌-◌, List, [], ◌∷◌, Bool, true, false, length, take, drop, Option, Some, None, Result, Ok}
+use Rattle.std.specs.Prelude.{Err}
 use Rattle.wl_wire.specs.Wire.{split_of}
 use Rattle.wl_wire.specs.declared.header.Split.{Split}
 use Rattle.wl_wire.specs.declared.header.Split.TheVariants.{Message, More, Bad}
@@ -23,7 +24,8 @@ told (event ∷ events) p = or_slow (has_room p.unsent event) (told events (queu
 
 abbrev pub refused : Refusal → Peer → Peer
 refused refusal p =
-    or_slow (has_room p.unsent (error_told refusal)) (ended (Protocol refusal.object (code_number refusal.code)) (queued (error_told refusal) p)) p
+    or_slow (has_room p.unsent (error_told refusal))
+        (ended (Protocol refusal.object (code_number refusal.code)) (queued (error_told refusal) p)) p
 
 abbrev pub acted : Action → Peer → Peer
 acted action p = told (answers_to p.output action) (changed action p)

@@ -3,7 +3,10 @@ use Rattle.std.specs.Prelude.{ℕ, ℤ, pos, ◌==◌, if◌then◌else◌, List
 use Rattle.wl_geom.specs.declared.rect.Rect.{Rect}
 use Rattle.wl_wire.specs.Wire.{Field, Word, Number, Text, Block}
 use Rattle.wl_interface.specs.declared.interface.Interface.{Interface}
-use Rattle.wl_interface.specs.declared.interface.Interface.TheVariants.{WlDisplay, WlRegistry, WlCompositor, WlRegion, WlSurface, WlShm, WlShmPool, WlBuffer, WlSubcompositor, WlSubsurface, WlSeat, WlPointer, XdgWmBase, XdgPositioner, XdgSurface, XdgToplevel, XdgPopup}
+use Rattle.wl_interface.specs.declared.interface.Interface.TheVariants.{WlDisplay, WlRegistry, WlCompositor, WlRegion, WlSurface, WlShm}
+use Rattle.wl_interface.specs.declared.interface.Interface.TheVariants.{WlShmPool, WlBuffer, WlSubcompositor, WlSubsurface, WlSeat}
+use Rattle.wl_interface.specs.declared.interface.Interface.TheVariants.{WlPointer, XdgWmBase, XdgPositioner, XdgSurface, XdgToplevel}
+use Rattle.wl_interface.specs.declared.interface.Interface.TheVariants.{XdgPopup}
 use Rattle.wl_proto.specs.declared.wl_compositor.WlCompositorRequest.{WlCompositorRequest}
 use Rattle.wl_proto.specs.declared.wl_compositor.WlCompositorRequest.TheVariants as compositor
 use Rattle.wl_proto.specs.declared.wl_buffer.WlBufferRequest.{WlBufferRequest}
@@ -72,8 +75,8 @@ rect x y w h = record { x = x; y = y; w = w; h = h }
 
 -- ---- requests
 
--- A request, by the interface of the object that it is sent to; wl_registry's is bind, of a global's name, its interface's name, a version and a
--- new id. A wl_callback and a wl_output take none.
+-- A request, by the interface of the object that it is sent to; wl_registry's is bind, of a global's name, its interface's name, a version
+-- and a new id. A wl_callback and a wl_output take none.
 pub data Request : Type 0 where
   ToDisplay : WlDisplayRequest → Request
   ToRegistry : ℕ → List ℕ → ℕ → ℕ → Request
@@ -105,11 +108,13 @@ region_request opcode fields =
 
 abbrev pub pool_request : ℕ → List Field → WlShmPoolRequest
 pool_request opcode fields =
-    if opcode == 0 then pool.CreateBuffer (word_in 0 fields) (number_in 1 fields) (number_in 2 fields) (number_in 3 fields) (number_in 4 fields) (word_in 5 fields) else (
+    if opcode == 0 then pool.CreateBuffer (word_in 0 fields) (number_in 1 fields) (number_in 2 fields) (number_in 3 fields)
+        (number_in 4 fields) (word_in 5 fields) else (
     if opcode == 1 then pool.Destroy else pool.Resize (number_in 0 fields))
 
 abbrev pub compositor_request : ℕ → List Field → WlCompositorRequest
-compositor_request opcode fields = if opcode == 0 then compositor.CreateSurface (word_in 0 fields) else compositor.CreateRegion (word_in 0 fields)
+compositor_request opcode fields = if opcode == 0 then compositor.CreateSurface (word_in 0 fields) else compositor.CreateRegion
+    (word_in 0 fields)
 
 abbrev pub surface_request : ℕ → List Field → WlSurfaceRequest
 surface_request opcode fields =
@@ -154,7 +159,8 @@ positioner_request opcode fields =
     if opcode == 2 then positioner.SetAnchorRect (number_in 0 fields) (number_in 1 fields) (number_in 2 fields) (number_in 3 fields) else (
     if opcode == 3 then positioner.SetAnchor (word_in 0 fields) else (
     if opcode == 4 then positioner.SetGravity (word_in 0 fields) else (
-    if opcode == 5 then positioner.SetConstraintAdjustment (word_in 0 fields) else positioner.SetOffset (number_in 0 fields) (number_in 1 fields))))))
+    if opcode == 5 then positioner.SetConstraintAdjustment (word_in 0 fields) else positioner.SetOffset (number_in 0 fields)
+        (number_in 1 fields))))))
 
 abbrev pub xdg_request : ℕ → List Field → XdgSurfaceRequest
 xdg_request opcode fields =

@@ -2,10 +2,16 @@
 use Rattle.std.specs.Prelude.{ℕ, List, [], ◌∷◌, map, codes, pos, Option, Some, None}
 use Rattle.wl_wire.specs.Wire.{Word, Number, Text, message_bytes}
 use Rattle.wl_interface.specs.declared.interface.Interface.{Interface}
-use Rattle.wl_interface.specs.declared.interface.Interface.TheVariants.{WlBuffer, WlDisplay, WlRegistry, WlCallback, WlShm, WlOutput, WlSeat}
+use Rattle.wl_interface.specs.declared.interface.Interface.TheVariants.{WlBuffer, WlDisplay, WlRegistry, WlCallback, WlShm, WlOutput}
+use Rattle.wl_interface.specs.declared.interface.Interface.TheVariants.{WlSeat}
 use Rattle.wl_proto.specs.Messages.{Message, says}
 use Rattle.wl_peer.specs.declared.refusals.ErrorCode.{ErrorCode}
-use Rattle.wl_peer.specs.declared.refusals.ErrorCode.TheVariants.{InvalidObject, InvalidMethod, NoMemory, Implementation, MissingCapability, InvalidFormat, InvalidStride, InvalidFd, InvalidTransform, SurfaceHasRoleObject, BadSurface, BadParent, Role, DefunctSurfaces, NotTheTopmostPopup, InvalidPopupParent, InvalidSurfaceState, InvalidPositioner, NotConstructed, AlreadyConstructed, UnconfiguredBuffer, InvalidSerial, InvalidSize, DefunctRoleObject, InvalidInput, InvalidGrab}
+use Rattle.wl_peer.specs.declared.refusals.ErrorCode.TheVariants.{InvalidObject, InvalidMethod, NoMemory, Implementation, MissingCapability}
+use Rattle.wl_peer.specs.declared.refusals.ErrorCode.TheVariants.{InvalidFormat, InvalidStride, InvalidFd, InvalidTransform}
+use Rattle.wl_peer.specs.declared.refusals.ErrorCode.TheVariants.{SurfaceHasRoleObject, BadSurface, BadParent, Role, DefunctSurfaces}
+use Rattle.wl_peer.specs.declared.refusals.ErrorCode.TheVariants.{NotTheTopmostPopup, InvalidPopupParent, InvalidSurfaceState}
+use Rattle.wl_peer.specs.declared.refusals.ErrorCode.TheVariants.{InvalidPositioner, NotConstructed, AlreadyConstructed, UnconfiguredBuffer}
+use Rattle.wl_peer.specs.declared.refusals.ErrorCode.TheVariants.{InvalidSerial, InvalidSize, DefunctRoleObject, InvalidInput, InvalidGrab}
 use Rattle.wl_peer.specs.declared.refusals.Refusal.{Refusal}
 use Rattle.wl_peer.specs.Objects.{Global, globals}
 
@@ -121,7 +127,8 @@ capabilities_told seat capabilities = said seat (says WlSeat 0 (Word capabilitie
 
 abbrev pub geometry_told : ℕ → Said
 geometry_told id =
-    said id (says WlOutput 0 (Number (pos 0) ∷ Number (pos 0) ∷ Number (pos 0) ∷ Number (pos 0) ∷ Number (pos 0) ∷ Text (codes "wlframe") ∷ Text (codes "framebuffer") ∷ Number (pos 0) ∷ []))
+    said id (says WlOutput 0 (Number (pos 0) ∷ Number (pos 0) ∷ Number (pos 0) ∷ Number (pos 0) ∷ Number (pos 0) ∷ Text
+        (codes "wlframe") ∷ Text (codes "framebuffer") ∷ Number (pos 0) ∷ []))
 
 abbrev pub mode_told : ℕ → Output → Said
 mode_told id output = said id (says WlOutput 1 (Word 3 ∷ Number (pos output.width) ∷ Number (pos output.height) ∷ Number (pos 0) ∷ []))

@@ -1,5 +1,6 @@
 -- What an accepted message changes of its client, of the stack of toplevels, and of the pointer, where every request is served.
-use Rattle.std.specs.Prelude.{ℕ, pos, suc, ◌+◌, ◌==◌, ◌&&◌, ◌||◌, nat_lt, not, Bool, true, false, if◌then◌else◌, Option, Some, None, List, [], ◌∷◌, ◌++◌, filter, find, flat_map, fold, map}
+use Rattle.std.specs.Prelude.{ℕ, pos, suc, ◌+◌, ◌==◌, ◌&&◌, ◌||◌, nat_lt, not, Bool, true, false, if◌then◌else◌, Option, Some, None, List}
+use Rattle.std.specs.Prelude.{[], ◌∷◌, ◌++◌, filter, find, flat_map, fold, map}
 use Rattle.std.specs.List.{list_any}
 use Rattle.std.specs.Option.{option_and_then, option_map, option_map_or}
 use Rattle.wl_geom.specs.declared.rect.Rect.{Rect}
@@ -13,17 +14,22 @@ use Rattle.wl_surface.specs.Surfaces.{Surfaces, buffers_of, history_in, with_cha
 use Rattle.wl_surface.specs.Trees.{committed_in, desynchronised_in, destroyed_in, linked, synchronised_in, unlinked}
 use Rattle.wl_surface.specs.declared.role.Role.TheVariants.{Popup as AsPopup, Cursor as AsCursor}
 use Rattle.wl_surface.specs.Waiting.{Callback}
-use Rattle.wl_shell.specs.Popups.{dismissing, is_parent_of, is_toplevel, new_popup, orphaning, parent_allows, parent_of, placing, popup_at, popup_changed, popups_of, with_grab, without_grab}
+use Rattle.wl_shell.specs.Popups.{dismissing, is_parent_of, is_toplevel, new_popup, orphaning, parent_allows, parent_of, placing, popup_at}
+use Rattle.wl_shell.specs.Popups.{popup_changed, popups_of, with_grab, without_grab}
 use Rattle.wl_shell.specs.Positioner.{Placed, Positioner, first_positioner, place}
-use Rattle.wl_shell.specs.Shell.{Effect, Stays, Unconfigured, Configures, Maps, Unmaps, Waiting, Mapped, Popup, XdgSurface, in_stage, next_serial, unmapping, with_change, without_role, xdg_at, xdg_of}
+use Rattle.wl_shell.specs.Shell.{Effect, Stays, Unconfigured, Configures, Maps, Unmaps, Waiting, Mapped, Popup, XdgSurface, in_stage}
+use Rattle.wl_shell.specs.Shell.{next_serial, unmapping, with_change, without_role, xdg_at, xdg_of}
 use Rattle.wl_scene.specs.Pointer.{Pointer, Target}
 use Rattle.wl_scene.specs.Stacking.{Standing, is_of, with_mapped, without_surface_of}
 use Rattle.wl_scene.specs.Windows.{Place, Window}
-use Rattle.wl_plain.specs.Demand.{Demand, Asks, EndSurface, AskFrame, CommitTree, EndObject, GetSubsurface, EndSubsurface, SetMode, GetPointer, MakeCursor, CreatePositioner, EndPositioner, SetPositioner, GetPopup, Grab, EndPopup, EndToplevel, Move}
+use Rattle.wl_plain.specs.Demand.{Demand, Asks, EndSurface, AskFrame, CommitTree, EndObject, GetSubsurface, EndSubsurface, SetMode}
+use Rattle.wl_plain.specs.Demand.{GetPointer, MakeCursor, CreatePositioner, EndPositioner, SetPositioner, GetPopup, Grab, EndPopup}
+use Rattle.wl_plain.specs.Demand.{EndToplevel, Move}
 use Rattle.wl_plain.specs.Demanding.{effect_of_commit}
 use Rattle.wl_plain.specs.Desktop.{Desktop, Resident, Subsurface}
 use Rattle.wl_plain.specs.Popups.{parent_corner}
-use Rattle.wl_plain.specs.Step.{asked_of, asked_so_far, changed_by, configured, letting_go, making, removing, with_peer, with_shell, with_surfaces, xdg_changed}
+use Rattle.wl_plain.specs.Step.{asked_of, asked_so_far, changed_by, configured, letting_go, making, removing, with_peer, with_shell}
+use Rattle.wl_plain.specs.Step.{with_surfaces, xdg_changed}
 
 -- ---- surfaces
 
@@ -52,7 +58,8 @@ abbrev pub surface_ended : ℕ → Resident → Resident
 surface_ended surface r =
     removing surface
     (without_callbacks (callbacks_of surface r)
-    (after_all r (with_surfaces (destroyed_in surface r.owned.surfaces) (record r { subsurfaces = map (without_child surface) r.subsurfaces }))))
+    (after_all r (with_surfaces (destroyed_in surface r.owned.surfaces)
+        (record r { subsurfaces = map (without_child surface) r.subsurfaces }))))
 
 -- wl_surface.frame
 abbrev pub frame_asked : ℕ → ℕ → ℕ → Resident → Resident
@@ -80,7 +87,8 @@ unlinked_at (Some number) all = unlinked number all
 abbrev pub subsurface_ended : ℕ → Resident → Resident
 subsurface_ended id r =
     removing id
-    (after_all r (with_surfaces (unlinked_at (link_with_id id r) r.owned.surfaces) (record r { subsurfaces = filter (λ s. not (s.id == id)) r.subsurfaces })))
+    (after_all r (with_surfaces (unlinked_at (link_with_id id r) r.owned.surfaces)
+        (record r { subsurfaces = filter (λ s. not (s.id == id)) r.subsurfaces })))
 
 abbrev pub mode_set : ℕ → Bool → Resident → Resident
 mode_set link true r = with_surfaces (synchronised_in link r.owned.surfaces) r
@@ -103,7 +111,8 @@ abbrev pub effect_done : ℕ → ℕ → Effect → Option XdgSurface → Deskto
 effect_done c surface effect None d r = r
 effect_done c surface Stays (Some x) d r = r
 effect_done c surface Unconfigured (Some x) d r = r
-effect_done c surface Configures (Some x) d r = configured x.id (xdg_changed x.id (λ x. popup_changed (placing (placement_now c r d)) (in_stage Waiting x)) r)
+effect_done c surface Configures (Some x) d r =
+    configured x.id (xdg_changed x.id (λ x. popup_changed (placing (placement_now c r d)) (in_stage Waiting x)) r)
 effect_done c surface Maps (Some x) d r = xdg_changed x.id (in_stage Mapped) r
 effect_done c surface Unmaps (Some x) d r = xdg_changed x.id (λ x. popup_changed without_grab (unmapping (asked_so_far surface r) x)) r
 
@@ -123,7 +132,8 @@ popup_given_to id xdg parent positioner (Some x) r =
     (with_surfaces (with_surface_change x.surface (with_role AsPopup) r.owned.surfaces) r)
 
 abbrev pub popup_given : ℕ → ℕ → ℕ → ℕ → Positioner → Resident → Resident
-popup_given id version xdg parent positioner r = making XdgPopup id version (popup_given_to id xdg parent positioner (xdg_at xdg r.owned.shell) r)
+popup_given id version xdg parent positioner r =
+    making XdgPopup id version (popup_given_to id xdg parent positioner (xdg_at xdg r.owned.shell) r)
 
 -- a client holds a grab
 abbrev pub holds_grab : Option Resident → Bool
@@ -152,7 +162,8 @@ is_latest serial r = is_serial serial r.press || is_serial serial r.release
 
 abbrev pub grab_allowed : ℕ → ℕ → ℕ → Resident → Desktop → Bool
 grab_allowed c xdg serial r d =
-    is_latest serial r && (parent_allows (option_and_then (parent_of r.owned.shell) (popup_at xdg r.owned.shell)) && not (is_held_elsewhere c (grab_holder d)))
+    is_latest serial r && (parent_allows (option_and_then (parent_of r.owned.shell) (popup_at xdg r.owned.shell))
+        && not (is_held_elsewhere c (grab_holder d)))
 
 -- xdg_popup.grab: taken, or the popup is dismissed
 abbrev pub grabbed : Bool → ℕ → Resident → Resident
@@ -197,7 +208,8 @@ changed_for c (EndSubsurface id) r d = subsurface_ended id r
 changed_for c (SetMode link synchronised) r d = mode_set link synchronised r
 changed_for c (GetPointer id version) r d = pointer_given c id version r d
 changed_for c (MakeCursor surface) r d = with_surfaces (with_surface_change surface (with_role AsCursor) r.owned.surfaces) r
-changed_for c (CreatePositioner id version) r d = making XdgPositioner id version (record r { positioners = with_id id (Some first_positioner) r.positioners })
+changed_for c (CreatePositioner id version) r d =
+    making XdgPositioner id version (record r { positioners = with_id id (Some first_positioner) r.positioners })
 changed_for c (EndPositioner id) r d = removing id (record r { positioners = with_id id None r.positioners })
 changed_for c (SetPositioner id p) r d = record r { positioners = with_id id (Some p) r.positioners }
 changed_for c (GetPopup id version xdg parent p) r d = popup_given id version xdg parent p r
@@ -220,10 +232,12 @@ is_focus_in c surface (Some t) windows =
 
 abbrev pub moving_from : ℕ → ℕ → ℕ → List Window → Pointer → Pointer
 moving_from c surface serial windows p =
-    if is_serial serial p.hold && is_focus_in c surface p.focus windows then record p { move = Some (record { client = c; surface = surface }) } else p
+    if is_serial serial p.hold
+        && is_focus_in c surface p.focus windows then record p { move = Some (record { client = c; surface = surface }) } else p
 
 abbrev pub stacked_for : ℕ → Demand → Resident → List Window → Desktop → Desktop
-stacked_for c (CommitTree surface) r windows d = stacked_by (effect_of_commit r surface) (is_toplevel (xdg_of surface r.owned.shell)) c surface d
+stacked_for c (CommitTree surface) r windows d =
+    stacked_by (effect_of_commit r surface) (is_toplevel (xdg_of surface r.owned.shell)) c surface d
 stacked_for c (EndToplevel id xdg surface) r windows d = record d { standing = without_surface_of c surface d.standing }
 stacked_for c (Move surface serial) r windows d = record d { pointer = moving_from c surface serial windows d.pointer }
 stacked_for c demand r windows d = d

@@ -15,19 +15,22 @@ use Rattle.wl_peer.specs.Judgement.{action_of, judged_at}
 use Rattle.wl_peer.specs.Peer.{known_of}
 use Rattle.wl_surface.specs.Request.{Attach, Damage, SetOpaqueRegion, SetInputRegion}
 use Rattle.wl_shell.specs.Popups.{Popped, popped_of}
-use Rattle.wl_shell.specs.Shell.{Effect, Stays, Unconfigured, Configures, XdgSurface as Xdg, is_full, on_commit, stage_of, xdg_at, xdg_of, xdg_with}
+use Rattle.wl_shell.specs.Shell.{Effect, Stays, Unconfigured, Configures, XdgSurface as Xdg, is_full, on_commit, stage_of, xdg_at, xdg_of}
+use Rattle.wl_shell.specs.Shell.{xdg_with}
 use Rattle.wl_plain.specs.Ask.{Ask, AskSurface, Ignore, owns}
 use Rattle.wl_plain.specs.Demand.{Demand, Asks, EndSurface, AskFrame, CommitTree, CreatePositioner, EndToplevel, Move}
 use Rattle.wl_plain.specs.Desktop.{Resident}
 use Rattle.wl_plain.specs.LeftOut.{LeftOut}
-use Rattle.wl_peer.specs.Requests.{Request, ToCompositor, ToSurface, ToSubcompositor, ToSubsurface, ToSeat, ToPointer, ToBase, ToPositioner, ToXdgSurface, ToToplevel, ToPopup, request_of, rect}
+use Rattle.wl_peer.specs.Requests.{Request, ToCompositor, ToSurface, ToSubcompositor, ToSubsurface, ToSeat, ToPointer, ToBase, ToPositioner}
+use Rattle.wl_peer.specs.Requests.{ToXdgSurface, ToToplevel, ToPopup, request_of, rect}
 use Rattle.wl_peer.specs.ToplevelRequest.{ToplevelRequest}
 use Rattle.wl_peer.specs.ToplevelRequest as toplevel
 use Rattle.wl_plain.specs.WlPointer.{pointer_demand, seat_demand}
 use Rattle.wl_plain.specs.WlSubsurface.{past_limit, refuses, subcompositor_demand, subsurface_demand}
 use Rattle.wl_plain.specs.WlSurface.{buffer_named, region_named, surface_created, transform_set, will_show}
 use Rattle.wl_plain.specs.XdgPopup.{popup_demand, popup_made, positioner_demand, positioner_of}
-use Rattle.wl_plain.specs.XdgShell.{acknowledged_by, base_destroyed, geometry_set, state_asked, toplevel_made, xdg_surface_destroyed, xdg_surface_made}
+use Rattle.wl_plain.specs.XdgShell.{acknowledged_by, base_destroyed, geometry_set, state_asked, toplevel_made, xdg_surface_destroyed}
+use Rattle.wl_plain.specs.XdgShell.{xdg_surface_made}
 
 abbrev pub demands : Result Ask Refusal → Result Demand Refusal
 demands (Ok ask) = Ok (Asks ask)
@@ -42,8 +45,8 @@ abbrev pub compositor_demand : Resident → ℕ → ℕ → WlCompositorRequest 
 compositor_demand r object version (compositor.CreateSurface id) = demands (surface_created r id version)
 compositor_demand r object version (compositor.CreateRegion id) = own_demand r object version (ToCompositor (compositor.CreateRegion id))
 
--- A commit by the stage of the role object, and whether the state that it would give has a buffer. The table isn't used for a popup that was
--- dismissed.
+-- A commit by the stage of the role object, and whether the state that it would give has a buffer. The table isn't used for a popup that
+-- was dismissed.
 abbrev pub is_dismissed : List Popped → Bool
 is_dismissed [] = false
 is_dismissed (p ∷ ps) = p.popup.is_dismissed
@@ -95,7 +98,8 @@ abbrev pub xdg_asked : Resident → Option Xdg → ℕ → XdgSurfaceRequest →
 xdg_asked r None version request = past_limit
 xdg_asked r (Some x) version xdg.Destroy = demands (xdg_surface_destroyed x)
 xdg_asked r (Some x) version (xdg.GetToplevel id) = demands (toplevel_made r x version id)
-xdg_asked r (Some x) version (xdg.GetPopup id parent positioner) = popup_made r x version id parent (positioner_of (r.positioners positioner))
+xdg_asked r (Some x) version (xdg.GetPopup id parent positioner) =
+    popup_made r x version id parent (positioner_of (r.positioners positioner))
 xdg_asked r (Some x) version (xdg.SetWindowGeometry a b width height) = demands (geometry_set x (rect a b width height))
 xdg_asked r (Some x) version (xdg.AckConfigure serial) = demands (acknowledged_by x serial)
 

@@ -16,8 +16,9 @@ pub record Subsurface : Type 0 where
   pub link : ℕ
   pub surface : Option ℕ
 
--- One client: its streams and tables; its surfaces and xdg_surfaces; its wl_subsurfaces; by their ids the values of each positioner; its frame
--- callbacks in the order of their requests, and its wl_pointers in rising id; and the serials of the latest press and of the latest release that it was told of.
+-- One client: its streams and tables; its surfaces and xdg_surfaces; its wl_subsurfaces; by their ids the values of each positioner; its
+-- frame callbacks in the order of their requests, and its wl_pointers in rising id; and the serials of the latest press and of the latest
+-- release that it was told of.
 pub record Resident : Type 0 where
   pub peer : Peer
   pub owned : Owned
@@ -86,7 +87,8 @@ with_client c r d = record d { clients = with_number c r d.clients }
 -- What is told to a client leaves it so. One that ended has no surfaces and no windows.
 abbrev pub become_by : Option Cause → ℕ → Resident → Peer → Desktop → Desktop
 become_by None c r q d = with_client c (Some (record r { peer = q })) d
-become_by (Some cause) c r q d = record d { clients = with_number c (Some (resident_of q)) d.clients; standing = without_client c d.standing }
+become_by (Some cause) c r q d = record d { clients = with_number c (Some (resident_of q)) d.clients;
+    standing = without_client c d.standing }
 
 abbrev pub become : ℕ → Resident → Peer → Desktop → Desktop
 become c r q d = become_by q.status c r q d

@@ -1,5 +1,5 @@
--- A frame where nobody points: the clients in rising number are told that the callbacks that are due are done (wayland.xml, wl_surface.frame),
--- and one whose event isn't queued ends at once.
+-- A frame where nobody points: the clients in rising number are told that the callbacks that are due are done (wayland.xml,
+-- wl_surface.frame), and one whose event isn't queued ends at once.
 use Rattle.std.specs.Prelude.{ℕ, zero, suc, ◌≡◌, ◌==◌, ◌<◌, true, Option, Some, None, List}
 use Rattle.std.specs.List.{list_any}
 use Rattle.wl_peer.specs.declared.cause.Cause.{Cause}
@@ -31,7 +31,8 @@ FramesTold time (suc n) c d new = (mid : Desktop) × FramesToldAt time c (client
 
 -- ---- the callbacks that wait
 
--- Those that a client keeps are its callbacks, each requested of the surface under its number; the numbers of frame requests are below this one.
+-- Those that a client keeps are its callbacks, each requested of the surface under its number; the numbers of frame requests are below this
+-- one.
 pub record AreFramed (frames : List Waiting) (all : Numbered) (bound : ℕ) (callbacks : List Callback) : Type 0 where
   pub waits : AreWaiting frames all callbacks
   pub early : (surface number : ℕ) → list_any (λ n. n == number) (frames_at (all surface)) ≡ true → number < bound

@@ -1,5 +1,6 @@
 -- What may happen to the plain desktop where every request is served but those that are left out.
-use Rattle.std.specs.Prelude.{ℕ, ℤ, pos, zero, suc, ◌≡◌, ◌+◌, ◌-◌, ◌==◌, int_lt, Bool, true, false, if◌then◌else◌, is_none, Option, Some, None, Result, Ok, Err, List, [], ◌∷◌, ◌++◌, take, drop, filter, flat_map, ◌⊎◌}
+use Rattle.std.specs.Prelude.{ℕ, ℤ, pos, zero, suc, ◌≡◌, ◌+◌, ◌-◌, ◌==◌, int_lt, Bool, true, false, if◌then◌else◌, is_none, Option, Some}
+use Rattle.std.specs.Prelude.{None, Result, Ok, Err, List, [], ◌∷◌, ◌++◌, take, drop, filter, flat_map, ◌⊎◌}
 use Rattle.std.specs.List.{list_any}
 use Rattle.wl_wire.specs.Wire.{Word, split_of}
 use Rattle.wl_interface.specs.declared.interface.Interface.TheVariants.{WlCallback}
@@ -30,10 +31,12 @@ use Rattle.wl_plain.specs.Desktop.{Desktop, Resident, arrival, client_at, with_c
 use Rattle.wl_plain.specs.LeftOut.{LeftOut}
 use Rattle.wl_plain.specs.Pointing.{button_told, has_pointers, motion_told, moved_with}
 use Rattle.wl_plain.specs.Replies.{focus_window, popups_done, replies}
-use Rattle.wl_plain.specs.Settling.{EndsAndSettles, Midstep, QueuesTo, Settles, SettlesEnds, Tells, becomes, is_settled, struck_by, told_drawn, unstruck}
+use Rattle.wl_plain.specs.Settling.{EndsAndSettles, Midstep, QueuesTo, Settles, SettlesEnds, Tells, becomes, is_settled, struck_by}
+use Rattle.wl_plain.specs.Settling.{told_drawn, unstruck}
 use Rattle.wl_plain.specs.Stacked.{all_windows}
 use Rattle.wl_plain.specs.Step.{takes_memory, with_peer, with_shell}
-use Rattle.wl_plain.specs.Acts.{Act, Connect, Feed, Store, Leave, Tick, Send, Close, Motion, Button, IsClosed, IsSent, IsStored, fed_of, lowest}
+use Rattle.wl_plain.specs.Acts.{Act, Connect, Feed, Store, Leave, Tick, Send, Close, Motion, Button, IsClosed, IsSent, IsStored, fed_of}
+use Rattle.wl_plain.specs.Acts.{lowest}
 
 -- ---- one message
 
@@ -77,7 +80,8 @@ AnswersThen left (Err refusal) c r d Next = BecomesThen (Errs refusal r.peer) c 
 -- The first message of what has come is taken. A header whose size isn't allowed is refused as one.
 abbrev pub TakesThen : LeftOut → Split → ℕ → Resident → Desktop → (Midstep → Type 0) → Type 0
 TakesThen left (Whole object opcode size) c r d Next =
-    AnswersThen left (judge_all left r object opcode (take (size - 8) (drop 8 r.peer.rest))) c (with_peer (with_rest (drop size r.peer.rest) r.peer) r) d Next
+    AnswersThen left (judge_all left r object opcode (take (size - 8) (drop 8 r.peer.rest))) c
+        (with_peer (with_rest (drop size r.peer.rest) r.peer) r) d Next
 TakesThen left Bad c r d Next = BecomesThen (Errs (display_error InvalidMethod) r.peer) c r d Next
 TakesThen left More c r d Next = ⊥
 
@@ -111,7 +115,8 @@ StopsAt c (Some r) d new =
 abbrev pub FeedsAt : LeftOut → ℕ → List ℕ → Option Cause → Resident → Desktop → Desktop → Type 0
 FeedsAt left c piece (Some cause) r d new = new ≡ d
 FeedsAt left c piece None r d new =
-    (n : ℕ) × (mid : Desktop) × Reaches left c n (with_client c (Some (with_peer (with_rest (r.peer.rest ++ piece) r.peer) r)) d) mid × StopsAt c (client_at c mid) mid new
+    (n : ℕ) × (mid : Desktop) × Reaches left c n (with_client c (Some (with_peer (with_rest (r.peer.rest ++ piece) r.peer) r)) d) mid
+        × StopsAt c (client_at c mid) mid new
 
 abbrev pub IsFedAt : LeftOut → ℕ → List ℕ → Option Resident → Desktop → Done → Desktop → Type 0
 IsFedAt left c piece None d done new = (done ≡ gave.Feed NoClient) × (new ≡ d)
@@ -182,7 +187,8 @@ point_in output x y = record { x = within output.width x; y = within output.heig
 
 -- the pointer is there, and a toplevel that it moves is moved with it
 abbrev pub pointed : Place → Desktop → Desktop
-pointed at d = record d { pointer = record d.pointer { place = Some at }; standing = moved_with d.pointer.place at d.pointer.move d.standing }
+pointed at d = record d { pointer = record d.pointer { place = Some at };
+    standing = moved_with d.pointer.place at d.pointer.move d.standing }
 
 -- A surface that keeps the focus is told of the motion, unless a toplevel is moved.
 abbrev pub TellsMotion : ℕ → Option Target → Option Target → Midstep → Midstep → Type 0
@@ -272,7 +278,8 @@ with_release button d = record d { pointer = released_to (without_button button 
 abbrev pub PressedThen : ℕ → ℕ → Desktop → (Midstep → Type 0) → Type 0
 PressedThen time button d Settled =
     (dismissed : Midstep)
-    × Dismisses (grab_holder d) (hit_now d.pointer.place (all_windows d)) (unstruck (with_press button (raised_by (hit_now d.pointer.place (all_windows d)) d))) dismissed
+    × Dismisses (grab_holder d) (hit_now d.pointer.place (all_windows d))
+        (unstruck (with_press button (raised_by (hit_now d.pointer.place (all_windows d)) d))) dismissed
     × (told : Midstep) × TellsButton time button true d.pointer.focus dismissed told
     × (settled : Midstep) × Settles told settled × Settled settled
 

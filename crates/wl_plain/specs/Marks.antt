@@ -1,5 +1,6 @@
 -- Which points of the output a step marks to be painted again, of the windows before it and after it.
-use Rattle.std.specs.Prelude.{ℕ, ◌≡◌, ℤ, pos, ◌-ℤ◌, ◌==◌, ◌&&◌, ◌||◌, int_le, int_lt, not, Bool, true, false, if◌then◌else◌, Option, Some, None, List, [], ◌∷◌, filter}
+use Rattle.std.specs.Prelude.{ℕ, ◌≡◌, ℤ, pos, ◌-ℤ◌, ◌==◌, ◌&&◌, ◌||◌, int_le, int_lt, not, Bool, true, false, if◌then◌else◌, Option, Some}
+use Rattle.std.specs.Prelude.{None, List, [], ◌∷◌, filter}
 use Rattle.std.specs.List.{list_any}
 use Rattle.wl_scene.specs.Windows.{Window, contains}
 
@@ -14,7 +15,8 @@ is_same_surface w v = (w.owner.client == v.owner.client) && (w.surface == v.surf
 abbrev pub has_same_record : Window → Window → Bool
 has_same_record w v =
     is_same_surface w v
-    && ((int_eq w.corner.x v.corner.x && int_eq w.corner.y v.corner.y) && ((w.width == v.width && w.height == v.height) && (w.transform == v.transform)))
+    && ((int_eq w.corner.x v.corner.x && int_eq w.corner.y v.corner.y)
+        && ((w.width == v.width && w.height == v.height) && (w.transform == v.transform)))
 
 -- the window is among these, with the same record
 abbrev pub is_kept_in : List Window → Window → Bool

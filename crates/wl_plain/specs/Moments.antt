@@ -33,8 +33,8 @@ abbrev pub marks_at_most_of : Showing → Desktop → Desktop → Option (ℕ ×
 marks_at_most_of shown old new raised x y =
     at_most old.output.width old.output.height (applied_between old new) raised (shown old) (shown new) x y
 
--- What a step marks that leads through these desktops: by its own change at least and at most, where a press raised this toplevel, and then by each
--- end and each settling.
+-- What a step marks that leads through these desktops: by its own change at least and at most, where a press raised this toplevel, and then
+-- by each end and each settling.
 abbrev pub marks_at_least_through : Showing → Desktop → List Desktop → ℤ → ℤ → Bool
 marks_at_least_through shown d [] x y = false
 marks_at_least_through shown d (e ∷ es) x y = marks_at_least_of shown d e x y || marks_at_least_through shown e es x y

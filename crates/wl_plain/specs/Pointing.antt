@@ -1,5 +1,6 @@
 -- What clients are told of the pointer (wayland.xml, wl_pointer).
-use Rattle.std.specs.Prelude.{ℕ, ℤ, ◌-ℤ◌, ◌==◌, ◌&&◌, Bool, true, false, if◌then◌else◌, Option, Some, None, List, [], ◌∷◌, flat_map, is_some}
+use Rattle.std.specs.Prelude.{ℕ, ℤ, ◌-ℤ◌, ◌==◌, ◌&&◌, Bool, true, false, if◌then◌else◌, Option, Some, None, List, [], ◌∷◌, flat_map}
+use Rattle.std.specs.Prelude.{is_some}
 use Rattle.wl_wire.specs.Wire.{Word, Number}
 use Rattle.wl_interface.specs.declared.interface.Interface.TheVariants.{WlPointer}
 use Rattle.wl_proto.specs.Messages.{says}

@@ -1,5 +1,6 @@
 -- What a client is told of its own message where every request is served, in the order of its events.
-use Rattle.std.specs.Prelude.{ℕ, ◌==◌, ◌&&◌, nat_lt, not, Bool, true, false, if◌then◌else◌, Option, Some, None, List, [], ◌∷◌, ◌++◌, filter, find, flat_map, fold, map}
+use Rattle.std.specs.Prelude.{ℕ, ◌==◌, ◌&&◌, nat_lt, not, Bool, true, false, if◌then◌else◌, Option, Some, None, List, [], ◌∷◌, ◌++◌, filter}
+use Rattle.std.specs.Prelude.{find, flat_map, fold, map}
 use Rattle.std.specs.Option.{option_map}
 use Rattle.wl_wire.specs.Wire.{Word, Number}
 use Rattle.wl_interface.specs.declared.interface.Interface.TheVariants.{WlBuffer, WlPointer, XdgPopup}
@@ -14,7 +15,8 @@ use Rattle.wl_shell.specs.Shell.{Effect, Configures, Kind, Toplevel, IsPopup, Ro
 use Rattle.wl_scene.specs.Pointer.{Target, fixed_from}
 use Rattle.wl_scene.specs.Windows.{Place, Window}
 use Rattle.wl_plain.specs.Changing.{callbacks_of, has_focus, placement_now, tree_committed}
-use Rattle.wl_plain.specs.Demand.{Demand, Asks, EndSurface, CommitTree, EndObject, EndSubsurface, GetPointer, EndPositioner, EndPopup, EndToplevel}
+use Rattle.wl_plain.specs.Demand.{Demand, Asks, EndSurface, CommitTree, EndObject, EndSubsurface, GetPointer, EndPositioner, EndPopup}
+use Rattle.wl_plain.specs.Demand.{EndToplevel}
 use Rattle.wl_plain.specs.Demanding.{effect_of_commit}
 use Rattle.wl_plain.specs.Desktop.{Desktop, Resident}
 use Rattle.wl_plain.specs.LeftOut.{LeftOut}
@@ -52,7 +54,8 @@ focus_window (Some t) windows = find (λ w. (w.owner.client == t.client) && (w.s
 -- wl_pointer.enter: the point relative to the surface's corner
 abbrev pub enter_told : ℕ → ℕ → ℕ → Place → Place → Said
 enter_told pointer serial surface at corner =
-    said pointer (says WlPointer 0 (Word serial ∷ Word surface ∷ Number (fixed_from at.x corner.x) ∷ Number (fixed_from at.y corner.y) ∷ []))
+    said pointer (says WlPointer 0 (Word serial ∷ Word surface ∷ Number (fixed_from at.x corner.x) ∷ Number
+        (fixed_from at.y corner.y) ∷ []))
 
 abbrev pub entered_at : ℕ → ℕ → Option Place → Option Window → List Said
 entered_at pointer serial None w = []
@@ -68,7 +71,8 @@ new_pointer_told true pointer serial windows d = entered_at pointer serial d.poi
 abbrev pub own_answers : ℕ → Demand → Resident → List Window → Desktop → List Said
 own_answers c (Asks ask) r windows d = answers_to ask r
 own_answers c (EndSurface id) r windows d = id_deleted id ∷ map (λ callback. id_deleted callback.id) (callbacks_of id r)
-own_answers c (CommitTree surface) r windows d = commit_told c (effect_of_commit r surface) (xdg_of surface r.owned.shell) (tree_committed surface r) d
+own_answers c (CommitTree surface) r windows d = commit_told c (effect_of_commit r surface) (xdg_of surface r.owned.shell)
+    (tree_committed surface r) d
 own_answers c (EndObject id) r windows d = id_deleted id ∷ []
 own_answers c (EndSubsurface id) r windows d = id_deleted id ∷ []
 own_answers c (GetPointer id version) r windows d = new_pointer_told (has_focus c d.pointer.focus) id r.peer.serial windows d
@@ -102,7 +106,8 @@ by_object b (other ∷ others) = if nat_lt b.object other.object then b ∷ othe
 abbrev pub releases : Resident → Resident → List Said
 releases old new =
     map (λ b. said b.object (says WlBuffer 0 []))
-    (fold (λ bs b. by_object b bs) [] (filter (λ b. not (is_busy b.number new.owned.surfaces) && has_object new b) (buffers_busy old.owned.surfaces)))
+    (fold (λ bs b. by_object b bs) [] (filter (λ b. not (is_busy b.number new.owned.surfaces) && has_object new b)
+        (buffers_busy old.owned.surfaces)))
 
 -- unless they are left out
 abbrev pub releases_unless : Bool → Resident → Resident → List Said

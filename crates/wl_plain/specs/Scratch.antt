@@ -1,5 +1,6 @@
 -- The desktop painted from nothing.
-use Rattle.std.specs.Prelude.{ℕ, ◌+◌, ◌*◌, ℤ, ◌-ℤ◌, unsigned_abs, cond, if◌then◌else◌, fold, length, nat_le, slice_index, List, [], Option, Some, None}
+use Rattle.std.specs.Prelude.{ℕ, ◌+◌, ◌*◌, ℤ, ◌-ℤ◌, unsigned_abs, cond, if◌then◌else◌, fold, length, nat_le, slice_index, List, [], Option}
+use Rattle.std.specs.Prelude.{Some, None}
 use Rattle.std.specs.Option.{option_map_or}
 use Rattle.wl_store.specs.Layout.{alpha_of}
 use Rattle.wl_store.specs.Stores.{bytes_of}
@@ -17,13 +18,14 @@ abbrev pub bytes_now : Window → Option Resident → List ℕ
 bytes_now w None = []
 bytes_now w (Some r) = option_map_or (λ bytes. bytes) (bytes_of w.buffer.store r.peer.stores) []
 
--- The pixel of a buffer in these bytes: blue, green, red and alpha (wayland.xml, wl_shm.format). Nothing is seen of a buffer that passes their
--- end, as where its store isn't there.
+-- The pixel of a buffer in these bytes: blue, green, red and alpha (wayland.xml, wl_shm.format). Nothing is seen of a buffer that passes
+-- their end, as where its store isn't there.
 abbrev pub pixel_at : List ℕ → Buffer → ℕ × ℕ → Argb
 pixel_at bytes b point =
     let at = b.offset + point.1 * b.stride + 4 * point.0 in
     if nat_le (b.offset + b.stride * b.height) (length bytes)
-    then record { a = alpha_of b.format (slice_index bytes (at + 3)); r = slice_index bytes (at + 2); g = slice_index bytes (at + 1); b = slice_index bytes at }
+    then record { a = alpha_of b.format (slice_index bytes (at + 3)); r = slice_index bytes (at + 2); g = slice_index bytes (at + 1);
+        b = slice_index bytes at }
     else record { a = 0; r = 0; g = 0; b = 0 }
 
 -- a window's colour at a point of the output that it contains

@@ -6,15 +6,18 @@ use Rattle.wl_interface.specs.declared.interface.Interface.{Interface}
 use Rattle.wl_interface.specs.declared.interface.Interface.TheVariants.{WlSurface, XdgSurface, XdgToplevel}
 use Rattle.wl_proto.specs.Messages.{says}
 use Rattle.wl_peer.specs.declared.actions.Action.{Action}
-use Rattle.wl_peer.specs.Peer.{Peer, made, object_at_version, released, removed, answers_to as own_answers, takes_memory as own_takes_memory}
+use Rattle.wl_peer.specs.Peer.{Peer, made, object_at_version, released, removed, answers_to as own_answers}
+use Rattle.wl_peer.specs.Peer.{takes_memory as own_takes_memory}
 use Rattle.wl_peer.specs.Used.{changed_with}
 use Rattle.wl_peer.specs.Told.{Said, id_deleted, said}
 use Rattle.wl_surface.specs.Request.{Buffer, Request}
 use Rattle.wl_surface.specs.State.{History}
 use Rattle.wl_surface.specs.Surfaces.{Surfaces, asking, buffers_of, history_in, is_used, with_change, with_new, with_role}
 use Rattle.wl_surface.specs.declared.role.Role.TheVariants.{Toplevel as AsToplevel}
-use Rattle.wl_shell.specs.Shell.{RoleObject, Shell, XdgSurface as Xdg, acknowledging, configuring, new_toplevel, next_serial, xdg_at, without_xdg, with_change as with_xdg_change, with_new as with_new_xdg}
-use Rattle.wl_plain.specs.Ask.{Ask, Own, CreateSurface, AskSurface, DestroyBase, GetXdgSurface, DestroyXdgSurface, GetToplevel, Acknowledge, ConfigureAgain, Ignore}
+use Rattle.wl_shell.specs.Shell.{RoleObject, Shell, XdgSurface as Xdg, acknowledging, configuring, new_toplevel, next_serial, xdg_at}
+use Rattle.wl_shell.specs.Shell.{without_xdg, with_change as with_xdg_change, with_new as with_new_xdg}
+use Rattle.wl_plain.specs.Ask.{Ask, Own, CreateSurface, AskSurface, DestroyBase, GetXdgSurface, DestroyXdgSurface, GetToplevel, Acknowledge}
+use Rattle.wl_plain.specs.Ask.{ConfigureAgain, Ignore}
 use Rattle.wl_plain.specs.Desktop.{Resident}
 
 -- ---- what an accepted message changes
@@ -38,7 +41,8 @@ is_number number None = false
 is_number number (Some other) = other == number
 
 abbrev pub is_over : Resident → Buffer → Bool
-is_over r buffer = not (is_number buffer.number (option_map (λ made. made.number) (r.peer.buffers buffer.object))) && not (is_used buffer.number r.owned.surfaces)
+is_over r buffer = not (is_number buffer.number (option_map (λ made. made.number) (r.peer.buffers buffer.object)))
+    && not (is_used buffer.number r.owned.surfaces)
 
 abbrev pub without_buffer : ℕ → List Buffer → List Buffer
 without_buffer number buffers = filter (λ b. not (b.number == number)) buffers
@@ -54,7 +58,8 @@ each_once (b ∷ bs) = b ∷ without_buffer b.number (each_once bs)
 
 abbrev pub letting_go : List Buffer → Resident → Resident
 letting_go buffers r =
-    with_peer (record r.peer { stores = fold (λ stores b. released b.store stores) r.peer.stores (filter (is_over r) (each_once buffers)) }) r
+    with_peer (record r.peer { stores = fold (λ stores b. released b.store stores) r.peer.stores (filter (is_over r) (each_once buffers)) })
+        r
 
 -- of the buffers that a surface had, those that are over let their stores go
 abbrev pub after_surface : ℕ → Resident → Resident → Resident
@@ -93,7 +98,8 @@ changed_by (Own action) r = own_changed action r
 changed_by (CreateSurface id version) r = making WlSurface id version (with_surfaces (with_new id r.owned.surfaces) r)
 changed_by (AskSurface id request) r = after_surface id r (asked_of id request r)
 changed_by (DestroyBase id) r = removing id r
-changed_by (GetXdgSurface id version base surface) r = making XdgSurface id version (with_shell (with_new_xdg id base surface r.owned.shell) r)
+changed_by (GetXdgSurface id version base surface) r =
+    making XdgSurface id version (with_shell (with_new_xdg id base surface r.owned.shell) r)
 changed_by (DestroyXdgSurface id) r = removing id (with_shell (without_xdg id r.owned.shell) r)
 changed_by (GetToplevel id version xdg) r = making XdgToplevel id version (toplevel_given id xdg (xdg_at xdg r.owned.shell) r)
 changed_by (Acknowledge xdg serial) r = xdg_changed xdg (acknowledging serial) r

@@ -58,7 +58,8 @@ is_topmost client surface (s ∷ (t ∷ ts)) = is_topmost client surface (t ∷ 
 
 abbrev pub raised_from : List Standing → Option Window → Option (ℕ × ℕ)
 raised_from standing None = None
-raised_from standing (Some w) = if is_topmost w.owner.client w.owner.toplevel standing then None else Some (w.owner.client, w.owner.toplevel)
+raised_from standing (Some w) = if is_topmost w.owner.client w.owner.toplevel standing then None else Some
+    (w.owner.client, w.owner.toplevel)
 
 abbrev pub raised_if : Bool → Desktop → Option (ℕ × ℕ)
 raised_if true d = raised_from d.standing (hit_now d.pointer.place (all_windows d))

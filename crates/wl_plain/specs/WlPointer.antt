@@ -7,7 +7,8 @@ use Rattle.wl_proto.specs.declared.wl_seat.WlSeatRequest.TheVariants as seat
 use Rattle.wl_peer.specs.declared.refusals.ErrorCode.TheVariants.{MissingCapability, Role as HasAnotherRole}
 use Rattle.wl_peer.specs.declared.refusals.Refusal.{Refusal}
 use Rattle.wl_surface.specs.declared.role.Role.{Role}
-use Rattle.wl_surface.specs.declared.role.Role.TheVariants.{Toplevel as AsToplevel, Popup as AsPopup, Subsurface as AsSubsurface, Cursor as AsCursor}
+use Rattle.wl_surface.specs.declared.role.Role.TheVariants.{Toplevel as AsToplevel, Popup as AsPopup, Subsurface as AsSubsurface}
+use Rattle.wl_surface.specs.declared.role.Role.TheVariants.{Cursor as AsCursor}
 use Rattle.wl_shell.specs.Shell.{xdg_of}
 use Rattle.wl_plain.specs.Ask.{Ignore}
 use Rattle.wl_plain.specs.Demand.{Demand, Asks, GetPointer, MakeCursor}
@@ -32,7 +33,8 @@ is_no_cursor (Some AsSubsurface) = true
 -- wl_pointer.set_cursor: of a surface without another role and without xdg_surface. No cursor is painted.
 abbrev pub cursor_set : Resident → ℕ → ℕ → Result Demand Refusal
 cursor_set r object surface =
-    if is_no_cursor (role_of r surface) || is_some (xdg_of surface r.owned.shell) then refuses object HasAnotherRole else Ok (MakeCursor surface)
+    if is_no_cursor (role_of r surface) || is_some (xdg_of surface r.owned.shell) then refuses object HasAnotherRole else Ok
+        (MakeCursor surface)
 
 -- null takes the cursor away
 abbrev pub pointer_demand : Resident → ℕ → WlPointerRequest → Result Demand Refusal

@@ -1,5 +1,6 @@
 -- What is asked of subsurfaces (wayland.xml, wl_subcompositor and wl_subsurface).
-use Rattle.std.specs.Prelude.{ℕ, ◌==◌, ◌&&◌, ◌||◌, not, Bool, true, false, if◌then◌else◌, Option, Some, None, Result, Ok, Err, find, is_some}
+use Rattle.std.specs.Prelude.{ℕ, ◌==◌, ◌&&◌, ◌||◌, not, Bool, true, false, if◌then◌else◌, Option, Some, None, Result, Ok, Err, find}
+use Rattle.std.specs.Prelude.{is_some}
 use Rattle.std.specs.List.{list_any}
 use Rattle.std.specs.Option.{option_and_then}
 use Rattle.wl_proto.specs.declared.wl_subcompositor.WlSubcompositorRequest.{WlSubcompositorRequest}
@@ -14,7 +15,8 @@ use Rattle.wl_surface.specs.Request.{Request, Member, Itself, Child, SetPosition
 use Rattle.wl_surface.specs.Surfaces.{Link, Surfaces, link_at}
 use Rattle.wl_surface.specs.Trees.{is_bad_parent, is_too_deep, link_of}
 use Rattle.wl_surface.specs.declared.role.Role.{Role}
-use Rattle.wl_surface.specs.declared.role.Role.TheVariants.{Toplevel as AsToplevel, Popup as AsPopup, Subsurface as AsSubsurface, Cursor as AsCursor}
+use Rattle.wl_surface.specs.declared.role.Role.TheVariants.{Toplevel as AsToplevel, Popup as AsPopup, Subsurface as AsSubsurface}
+use Rattle.wl_surface.specs.declared.role.Role.TheVariants.{Cursor as AsCursor}
 use Rattle.wl_shell.specs.Shell.{xdg_of}
 use Rattle.wl_plain.specs.Ask.{AskSurface, Ignore}
 use Rattle.wl_plain.specs.Demand.{Demand, Asks, EndObject, GetSubsurface, EndSubsurface, SetMode}
@@ -47,7 +49,8 @@ has_subsurface surface r = list_any (λ s. is_of_child surface s.surface) r.subs
 abbrev pub subsurface_made : Resident → ℕ → ℕ → ℕ → ℕ → ℕ → Result Demand Refusal
 subsurface_made r object version id child parent =
     if is_too_deep r.owned.surfaces child parent then past_limit else (
-    if is_no_subsurface (role_of r child) || (has_subsurface child r || is_some (xdg_of child r.owned.shell)) then refuses object BadSurface else (
+    if is_no_subsurface (role_of r child) || (has_subsurface child r || is_some (xdg_of child r.owned.shell)) then refuses object
+        BadSurface else (
     if is_bad_parent r.owned.surfaces child parent then refuses object BadParent else Ok (GetSubsurface id version child parent)))
 
 abbrev pub subcompositor_demand : Resident → ℕ → ℕ → WlSubcompositorRequest → Result Demand Refusal
@@ -81,8 +84,10 @@ abbrev pub demand_by_link : Resident → ℕ → Option Link → WlSubsurfaceReq
 demand_by_link r object l subsurface.Destroy = Ok (EndSubsurface object)
 demand_by_link r object None request = Ok (Asks Ignore)
 demand_by_link r object (Some l) (subsurface.SetPosition x y) = Ok (Asks (AskSurface l.parent (SetPosition l.number x y)))
-demand_by_link r object (Some l) (subsurface.PlaceAbove sibling) = placed_beside object l.parent (PlaceAbove l.number) (beside r.owned.surfaces l sibling)
-demand_by_link r object (Some l) (subsurface.PlaceBelow sibling) = placed_beside object l.parent (PlaceBelow l.number) (beside r.owned.surfaces l sibling)
+demand_by_link r object (Some l) (subsurface.PlaceAbove sibling) =
+    placed_beside object l.parent (PlaceAbove l.number) (beside r.owned.surfaces l sibling)
+demand_by_link r object (Some l) (subsurface.PlaceBelow sibling) =
+    placed_beside object l.parent (PlaceBelow l.number) (beside r.owned.surfaces l sibling)
 demand_by_link r object (Some l) subsurface.SetSync = Ok (SetMode l.number true)
 demand_by_link r object (Some l) subsurface.SetDesync = Ok (SetMode l.number false)
 

@@ -7,7 +7,8 @@ use Rattle.wl_proto.specs.declared.xdg_positioner.XdgPositionerRequest.TheVarian
 use Rattle.wl_peer.specs.declared.refusals.ErrorCode.TheVariants as error
 use Rattle.wl_peer.specs.declared.refusals.Refusal.{Refusal}
 use Rattle.wl_surface.specs.declared.role.Role.{Role}
-use Rattle.wl_surface.specs.declared.role.Role.TheVariants.{Toplevel as AsToplevel, Popup as AsPopup, Subsurface as AsSubsurface, Cursor as AsCursor}
+use Rattle.wl_surface.specs.declared.role.Role.TheVariants.{Toplevel as AsToplevel, Popup as AsPopup, Subsurface as AsSubsurface}
+use Rattle.wl_surface.specs.declared.role.Role.TheVariants.{Cursor as AsCursor}
 use Rattle.wl_shell.specs.Popups.{Popped, is_parent, is_popup_mapped, popup_at}
 use Rattle.wl_shell.specs.Positioner.{Positioner, first_positioner, is_anchor_rect, is_complete, is_size, rect_set}
 use Rattle.wl_shell.specs.Shell.{XdgSurface, xdg_at, xdg_with}
@@ -27,7 +28,8 @@ set_if false object p = refuses object error.InvalidInput
 -- size, anchor rectangle, anchor, gravity, constraint adjustment and offset
 abbrev pub positioner_asked : ℕ → Positioner → XdgPositionerRequest → Result Demand Refusal
 positioner_asked object p positioner.Destroy = Ok (EndPositioner object)
-positioner_asked object p (positioner.SetSize width height) = set_if (is_size width height) object (record p { size = Some (width, height) })
+positioner_asked object p (positioner.SetSize width height) =
+    set_if (is_size width height) object (record p { size = Some (width, height) })
 positioner_asked object p (positioner.SetAnchorRect x y width height) =
     set_if (is_anchor_rect (rect x y width height)) object (record p { anchor_rect = rect_set (rect x y width height) })
 positioner_asked object p (positioner.SetAnchor anchor) = set_if (nat_le anchor 8) object (record p { anchor = anchor })
@@ -62,7 +64,8 @@ abbrev pub popup_made : Resident → XdgSurface → ℕ → ℕ → ℕ → Posi
 popup_made r x version id parent p =
     if is_some x.role then refuses x.id error.AlreadyConstructed else (
     if is_no_popup (role_of r x.surface) then refuses x.base error.Role else (
-    if may_be_parent (xdg_at parent r.owned.shell) then (if is_complete p then Ok (GetPopup id version x.id parent p) else refuses x.base error.InvalidPositioner) else
+    if may_be_parent (xdg_at parent r.owned.shell) then (if is_complete p then Ok (GetPopup id version x.id parent p) else refuses x.base
+        error.InvalidPositioner) else
     refuses x.base error.InvalidPopupParent))
 
 -- ---- xdg_popup
@@ -75,7 +78,8 @@ popup_destroyed r object x = if is_parent x.id r.owned.shell then refuses x.base
 abbrev pub grab_of : ℕ → ℕ → XdgSurface → Option Popped → Result Demand Refusal
 grab_of object serial x None = past_limit
 grab_of object serial x (Some p) =
-    if p.popup.is_dismissed then Ok (Asks Ignore) else (if is_popup_mapped p then refuses object error.InvalidGrab else Ok (Grab x.id serial))
+    if p.popup.is_dismissed then Ok (Asks Ignore) else (if is_popup_mapped p then refuses object error.InvalidGrab else Ok
+        (Grab x.id serial))
 
 abbrev pub popup_asked : Resident → ℕ → Option XdgSurface → XdgPopupRequest → Result Demand Refusal
 popup_asked r object None request = past_limit

@@ -8,15 +8,18 @@ use Rattle.wl_peer.specs.declared.refusals.Refusal.{Refusal}
 use Rattle.wl_surface.specs.Request.{SetWindowGeometry}
 use Rattle.wl_surface.specs.Surfaces.{has_content, history_in, surface_at}
 use Rattle.wl_surface.specs.declared.role.Role.{Role}
-use Rattle.wl_surface.specs.declared.role.Role.TheVariants.{Toplevel as AsToplevel, Popup as AsPopup, Subsurface as AsSubsurface, Cursor as AsCursor}
+use Rattle.wl_surface.specs.declared.role.Role.TheVariants.{Toplevel as AsToplevel, Popup as AsPopup, Subsurface as AsSubsurface}
+use Rattle.wl_surface.specs.declared.role.Role.TheVariants.{Cursor as AsCursor}
 use Rattle.wl_shell.specs.Shell.{XdgSurface, answers_states, is_full, is_waiting, stage_of, xdg_of}
-use Rattle.wl_plain.specs.Ask.{Ask, AskSurface, DestroyBase, GetXdgSurface, DestroyXdgSurface, GetToplevel, Acknowledge, ConfigureAgain, Ignore}
+use Rattle.wl_plain.specs.Ask.{Ask, AskSurface, DestroyBase, GetXdgSurface, DestroyXdgSurface, GetToplevel, Acknowledge, ConfigureAgain}
+use Rattle.wl_plain.specs.Ask.{Ignore}
 use Rattle.wl_plain.specs.Desktop.{Resident}
 use Rattle.wl_plain.specs.WlSurface.{refuse, refuse_limit}
 
 -- xdg_wm_base.destroy: the xdg_surfaces that it made must be gone
 abbrev pub base_destroyed : Resident → ℕ → Result Ask Refusal
-base_destroyed r object = if list_any (λ x. x.base == object) r.owned.shell then refuse object error.DefunctSurfaces else Ok (DestroyBase object)
+base_destroyed r object = if list_any (λ x. x.base == object) r.owned.shell then refuse object error.DefunctSurfaces else Ok
+    (DestroyBase object)
 
 -- a role that isn't one of the shell's
 abbrev pub is_foreign : Option Role → Bool
@@ -62,7 +65,8 @@ toplevel_made r x version id =
 abbrev pub geometry_set : XdgSurface → Rect → Result Ask Refusal
 geometry_set x rect =
     if is_some x.role
-    then (if int_lt (pos 0) rect.w && int_lt (pos 0) rect.h then Ok (AskSurface x.surface (SetWindowGeometry rect)) else refuse x.id error.InvalidSize)
+    then (if int_lt (pos 0) rect.w
+        && int_lt (pos 0) rect.h then Ok (AskSurface x.surface (SetWindowGeometry rect)) else refuse x.id error.InvalidSize)
     else refuse x.id error.NotConstructed
 
 -- xdg_surface.ack_configure: with a role object, and a serial that waits

@@ -47,7 +47,8 @@ known (events.XdgPopup xdg_popup.PopupDone) = (_, refl, refl, lit< tt)
 apart : (r : Result (Unit {0}) PutError) (u : Unit {0}) → r ≡ Ok u → IsErrOf r TooLong → ⊥
 apart r u ok err = cc
 
-pub encoded : (object : ℕ) (event : Message) (result : Result (Unit {0}) PutError) (old new : List ℕ) → object < 2 ^ 32 → IsKnown event → Puts object event result old new → OnOk result (SpellsEvent object event (message_bytes object event.opcode event.fields))
+pub encoded : (object : ℕ) (event : Message) (result : Result (Unit {0}) PutError) (old new : List ℕ) → object < 2 ^ 32 → IsKnown event → Puts object event result old new
+    → OnOk result (SpellsEvent object event (message_bytes object event.opcode event.fields))
 encoded object event (Ok u) old new fits is puts =
     let short : 65532 < 8 + length (fields_bytes event.fields) → ⊥ = λ long. apart _ u refl (puts.too_long.1 long) in
     record {

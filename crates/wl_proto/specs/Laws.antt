@@ -18,7 +18,8 @@ pub record SpellsCall (object : ℕ) (interface : Interface) (version opcode : �
   pub message : SpellsMessage object opcode fields bytes
 
 -- A request at the front of a stream is found, whatever follows, and its body says what was spelled.
-pub record IsFound (object : ℕ) (interface : Interface) (version opcode : ℕ) (fields : List Field) (size : ℕ) (stream : List ℕ) : Type 0 where
+pub record IsFound (object : ℕ) (interface : Interface) (version opcode : ℕ) (fields : List Field) (size : ℕ) (stream : List ℕ) : Type 0
+    where
   pub header : split_of stream ≡ split.Message object opcode size
   pub body : decoded interface version opcode (take (size - 8) (drop 8 stream)) ≡ Ok (says interface opcode fields)
 
@@ -39,7 +40,8 @@ EventsAreFound =
 -- A spelling of a request that begins with a spelling of a request is that spelling.
 abbrev pub NoRequestBeginsAnother : Type 0
 NoRequestBeginsAnother =
-    (object object' : ℕ) (interface interface' : Interface) (version version' opcode opcode' : ℕ) (fields fields' : List Field) (bytes more : List ℕ)
+    (object object' : ℕ) (interface interface' : Interface) (version version' opcode opcode' : ℕ) (fields fields' : List Field)
+        (bytes more : List ℕ)
     → SpellsCall object interface version opcode fields bytes
     → SpellsCall object' interface' version' opcode' fields' (bytes ++ more)
     → more ≡ []

@@ -3,7 +3,10 @@
 use Rattle.std.specs.Prelude.{ℕ, List, [], ◌∷◌}
 use Rattle.wl_wire.specs.Wire.{Field, Word, Number, Text, Block}
 use Rattle.wl_interface.specs.declared.interface.Interface.{Interface}
-use Rattle.wl_interface.specs.declared.interface.Interface.TheVariants.{WlDisplay, WlRegistry, WlCallback, WlCompositor, WlRegion, WlSurface, WlShm, WlShmPool, WlBuffer, WlSubcompositor, WlSubsurface, WlOutput, WlSeat, WlPointer, XdgWmBase, XdgPositioner, XdgSurface, XdgToplevel, XdgPopup}
+use Rattle.wl_interface.specs.declared.interface.Interface.TheVariants.{WlDisplay, WlRegistry, WlCallback, WlCompositor, WlRegion}
+use Rattle.wl_interface.specs.declared.interface.Interface.TheVariants.{WlSurface, WlShm, WlShmPool, WlBuffer, WlSubcompositor}
+use Rattle.wl_interface.specs.declared.interface.Interface.TheVariants.{WlSubsurface, WlOutput, WlSeat, WlPointer, XdgWmBase, XdgPositioner}
+use Rattle.wl_interface.specs.declared.interface.Interface.TheVariants.{XdgSurface, XdgToplevel, XdgPopup}
 use Rattle.wl_proto.specs.declared.wl_display.WlDisplayRequest.{WlDisplayRequest}
 use Rattle.wl_proto.specs.declared.wl_display.WlDisplayRequest.TheVariants as wl_display_requests
 use Rattle.wl_proto.specs.declared.wl_display.WlDisplayEvent.{WlDisplayEvent}
@@ -82,10 +85,12 @@ wl_display_event (wl_display_events.Error object_id code message) = says WlDispl
 wl_display_event (wl_display_events.DeleteId id) = says WlDisplay 1 (Word id ∷ [])
 
 abbrev pub wl_registry_request : WlRegistryRequest → Message
-wl_registry_request (wl_registry_requests.Bind name interface version id) = says WlRegistry 0 (Word name ∷ Text interface.now ∷ Word version ∷ Word id ∷ [])
+wl_registry_request (wl_registry_requests.Bind name interface version id) =
+    says WlRegistry 0 (Word name ∷ Text interface.now ∷ Word version ∷ Word id ∷ [])
 
 abbrev pub wl_registry_event : WlRegistryEvent → Message
-wl_registry_event (wl_registry_events.Global name interface version) = says WlRegistry 0 (Word name ∷ Text interface.now ∷ Word version ∷ [])
+wl_registry_event (wl_registry_events.Global name interface version) =
+    says WlRegistry 0 (Word name ∷ Text interface.now ∷ Word version ∷ [])
 
 abbrev pub wl_callback_event : WlCallbackEvent → Message
 wl_callback_event (wl_callback_events.Done callback_data) = says WlCallback 0 (Word callback_data ∷ [])
@@ -102,7 +107,8 @@ wl_region_request (wl_region_requests.Subtract x y width height) = says WlRegion
 abbrev pub wl_surface_request : WlSurfaceRequest → Message
 wl_surface_request wl_surface_requests.Destroy = says WlSurface 0 []
 wl_surface_request (wl_surface_requests.Attach buffer x y) = says WlSurface 1 (Word buffer ∷ Number x ∷ Number y ∷ [])
-wl_surface_request (wl_surface_requests.Damage x y width height) = says WlSurface 2 (Number x ∷ Number y ∷ Number width ∷ Number height ∷ [])
+wl_surface_request (wl_surface_requests.Damage x y width height) =
+    says WlSurface 2 (Number x ∷ Number y ∷ Number width ∷ Number height ∷ [])
 wl_surface_request (wl_surface_requests.Frame callback) = says WlSurface 3 (Word callback ∷ [])
 wl_surface_request (wl_surface_requests.SetOpaqueRegion region) = says WlSurface 4 (Word region ∷ [])
 wl_surface_request (wl_surface_requests.SetInputRegion region) = says WlSurface 5 (Word region ∷ [])
@@ -116,7 +122,8 @@ abbrev pub wl_shm_event : WlShmEvent → Message
 wl_shm_event (wl_shm_events.Format format) = says WlShm 0 (Word format ∷ [])
 
 abbrev pub wl_shm_pool_request : WlShmPoolRequest → Message
-wl_shm_pool_request (wl_shm_pool_requests.CreateBuffer id offset width height stride format) = says WlShmPool 0 (Word id ∷ Number offset ∷ Number width ∷ Number height ∷ Number stride ∷ Word format ∷ [])
+wl_shm_pool_request (wl_shm_pool_requests.CreateBuffer id offset width height stride format) =
+    says WlShmPool 0 (Word id ∷ Number offset ∷ Number width ∷ Number height ∷ Number stride ∷ Word format ∷ [])
 wl_shm_pool_request wl_shm_pool_requests.Destroy = says WlShmPool 1 []
 wl_shm_pool_request (wl_shm_pool_requests.Resize size) = says WlShmPool 2 (Number size ∷ [])
 
@@ -128,7 +135,8 @@ wl_buffer_event wl_buffer_events.Release = says WlBuffer 0 []
 
 abbrev pub wl_subcompositor_request : WlSubcompositorRequest → Message
 wl_subcompositor_request wl_subcompositor_requests.Destroy = says WlSubcompositor 0 []
-wl_subcompositor_request (wl_subcompositor_requests.GetSubsurface id surface parent) = says WlSubcompositor 1 (Word id ∷ Word surface ∷ Word parent ∷ [])
+wl_subcompositor_request (wl_subcompositor_requests.GetSubsurface id surface parent) =
+    says WlSubcompositor 1 (Word id ∷ Word surface ∷ Word parent ∷ [])
 
 abbrev pub wl_subsurface_request : WlSubsurfaceRequest → Message
 wl_subsurface_request wl_subsurface_requests.Destroy = says WlSubsurface 0 []
@@ -139,8 +147,11 @@ wl_subsurface_request wl_subsurface_requests.SetSync = says WlSubsurface 4 []
 wl_subsurface_request wl_subsurface_requests.SetDesync = says WlSubsurface 5 []
 
 abbrev pub wl_output_event : WlOutputEvent → Message
-wl_output_event (wl_output_events.Geometry x y physical_width physical_height subpixel make model transform) = says WlOutput 0 (Number x ∷ Number y ∷ Number physical_width ∷ Number physical_height ∷ Number subpixel ∷ Text make.now ∷ Text model.now ∷ Number transform ∷ [])
-wl_output_event (wl_output_events.Mode flags width height refresh) = says WlOutput 1 (Word flags ∷ Number width ∷ Number height ∷ Number refresh ∷ [])
+wl_output_event (wl_output_events.Geometry x y physical_width physical_height subpixel make model transform) =
+    says WlOutput 0 (Number x ∷ Number y ∷ Number physical_width ∷ Number physical_height ∷ Number subpixel ∷ Text make.now ∷ Text
+    model.now ∷ Number transform ∷ [])
+wl_output_event (wl_output_events.Mode flags width height refresh) =
+    says WlOutput 1 (Word flags ∷ Number width ∷ Number height ∷ Number refresh ∷ [])
 
 abbrev pub wl_seat_request : WlSeatRequest → Message
 wl_seat_request (wl_seat_requests.GetPointer id) = says WlSeat 0 (Word id ∷ [])
@@ -151,13 +162,17 @@ abbrev pub wl_seat_event : WlSeatEvent → Message
 wl_seat_event (wl_seat_events.Capabilities capabilities) = says WlSeat 0 (Word capabilities ∷ [])
 
 abbrev pub wl_pointer_request : WlPointerRequest → Message
-wl_pointer_request (wl_pointer_requests.SetCursor serial surface hotspot_x hotspot_y) = says WlPointer 0 (Word serial ∷ Word surface ∷ Number hotspot_x ∷ Number hotspot_y ∷ [])
+wl_pointer_request (wl_pointer_requests.SetCursor serial surface hotspot_x hotspot_y) =
+    says WlPointer 0 (Word serial ∷ Word surface ∷ Number hotspot_x ∷ Number hotspot_y ∷ [])
 
 abbrev pub wl_pointer_event : WlPointerEvent → Message
-wl_pointer_event (wl_pointer_events.Enter serial surface surface_x surface_y) = says WlPointer 0 (Word serial ∷ Word surface ∷ Number surface_x.0 ∷ Number surface_y.0 ∷ [])
+wl_pointer_event (wl_pointer_events.Enter serial surface surface_x surface_y) =
+    says WlPointer 0 (Word serial ∷ Word surface ∷ Number surface_x.0 ∷ Number surface_y.0 ∷ [])
 wl_pointer_event (wl_pointer_events.Leave serial surface) = says WlPointer 1 (Word serial ∷ Word surface ∷ [])
-wl_pointer_event (wl_pointer_events.Motion time surface_x surface_y) = says WlPointer 2 (Word time ∷ Number surface_x.0 ∷ Number surface_y.0 ∷ [])
-wl_pointer_event (wl_pointer_events.Button serial time button state) = says WlPointer 3 (Word serial ∷ Word time ∷ Word button ∷ Word state ∷ [])
+wl_pointer_event (wl_pointer_events.Motion time surface_x surface_y) =
+    says WlPointer 2 (Word time ∷ Number surface_x.0 ∷ Number surface_y.0 ∷ [])
+wl_pointer_event (wl_pointer_events.Button serial time button state) =
+    says WlPointer 3 (Word serial ∷ Word time ∷ Word button ∷ Word state ∷ [])
 
 abbrev pub xdg_wm_base_request : XdgWmBaseRequest → Message
 xdg_wm_base_request xdg_wm_base_requests.Destroy = says XdgWmBase 0 []
@@ -168,17 +183,20 @@ xdg_wm_base_request (xdg_wm_base_requests.Pong serial) = says XdgWmBase 3 (Word 
 abbrev pub xdg_positioner_request : XdgPositionerRequest → Message
 xdg_positioner_request xdg_positioner_requests.Destroy = says XdgPositioner 0 []
 xdg_positioner_request (xdg_positioner_requests.SetSize width height) = says XdgPositioner 1 (Number width ∷ Number height ∷ [])
-xdg_positioner_request (xdg_positioner_requests.SetAnchorRect x y width height) = says XdgPositioner 2 (Number x ∷ Number y ∷ Number width ∷ Number height ∷ [])
+xdg_positioner_request (xdg_positioner_requests.SetAnchorRect x y width height) =
+    says XdgPositioner 2 (Number x ∷ Number y ∷ Number width ∷ Number height ∷ [])
 xdg_positioner_request (xdg_positioner_requests.SetAnchor anchor) = says XdgPositioner 3 (Word anchor ∷ [])
 xdg_positioner_request (xdg_positioner_requests.SetGravity gravity) = says XdgPositioner 4 (Word gravity ∷ [])
-xdg_positioner_request (xdg_positioner_requests.SetConstraintAdjustment constraint_adjustment) = says XdgPositioner 5 (Word constraint_adjustment ∷ [])
+xdg_positioner_request (xdg_positioner_requests.SetConstraintAdjustment constraint_adjustment) =
+    says XdgPositioner 5 (Word constraint_adjustment ∷ [])
 xdg_positioner_request (xdg_positioner_requests.SetOffset x y) = says XdgPositioner 6 (Number x ∷ Number y ∷ [])
 
 abbrev pub xdg_surface_request : XdgSurfaceRequest → Message
 xdg_surface_request xdg_surface_requests.Destroy = says XdgSurface 0 []
 xdg_surface_request (xdg_surface_requests.GetToplevel id) = says XdgSurface 1 (Word id ∷ [])
 xdg_surface_request (xdg_surface_requests.GetPopup id parent positioner) = says XdgSurface 2 (Word id ∷ Word parent ∷ Word positioner ∷ [])
-xdg_surface_request (xdg_surface_requests.SetWindowGeometry x y width height) = says XdgSurface 3 (Number x ∷ Number y ∷ Number width ∷ Number height ∷ [])
+xdg_surface_request (xdg_surface_requests.SetWindowGeometry x y width height) =
+    says XdgSurface 3 (Number x ∷ Number y ∷ Number width ∷ Number height ∷ [])
 xdg_surface_request (xdg_surface_requests.AckConfigure serial) = says XdgSurface 4 (Word serial ∷ [])
 
 abbrev pub xdg_surface_event : XdgSurfaceEvent → Message
@@ -189,7 +207,8 @@ xdg_toplevel_request xdg_toplevel_requests.Destroy = says XdgToplevel 0 []
 xdg_toplevel_request (xdg_toplevel_requests.SetParent parent) = says XdgToplevel 1 (Word parent ∷ [])
 xdg_toplevel_request (xdg_toplevel_requests.SetTitle title) = says XdgToplevel 2 (Text title.now ∷ [])
 xdg_toplevel_request (xdg_toplevel_requests.SetAppId app_id) = says XdgToplevel 3 (Text app_id.now ∷ [])
-xdg_toplevel_request (xdg_toplevel_requests.ShowWindowMenu seat serial x y) = says XdgToplevel 4 (Word seat ∷ Word serial ∷ Number x ∷ Number y ∷ [])
+xdg_toplevel_request (xdg_toplevel_requests.ShowWindowMenu seat serial x y) =
+    says XdgToplevel 4 (Word seat ∷ Word serial ∷ Number x ∷ Number y ∷ [])
 xdg_toplevel_request (xdg_toplevel_requests.Move seat serial) = says XdgToplevel 5 (Word seat ∷ Word serial ∷ [])
 xdg_toplevel_request (xdg_toplevel_requests.Resize seat serial edges) = says XdgToplevel 6 (Word seat ∷ Word serial ∷ Word edges ∷ [])
 xdg_toplevel_request (xdg_toplevel_requests.SetMaxSize width height) = says XdgToplevel 7 (Number width ∷ Number height ∷ [])
@@ -201,7 +220,8 @@ xdg_toplevel_request xdg_toplevel_requests.UnsetFullscreen = says XdgToplevel 12
 xdg_toplevel_request xdg_toplevel_requests.SetMinimized = says XdgToplevel 13 []
 
 abbrev pub xdg_toplevel_event : XdgToplevelEvent → Message
-xdg_toplevel_event (xdg_toplevel_events.Configure width height states) = says XdgToplevel 0 (Number width ∷ Number height ∷ Block states.now ∷ [])
+xdg_toplevel_event (xdg_toplevel_events.Configure width height states) =
+    says XdgToplevel 0 (Number width ∷ Number height ∷ Block states.now ∷ [])
 
 abbrev pub xdg_popup_request : XdgPopupRequest → Message
 xdg_popup_request xdg_popup_requests.Destroy = says XdgPopup 0 []

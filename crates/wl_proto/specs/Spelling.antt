@@ -1,5 +1,6 @@
 -- Which bytes spell which request or event.
-use Rattle.std.specs.Prelude.{◌≡◌, ℕ, ◌+◌, List, ◌++◌, map, length, Option, Some, None, Result, Ok, Err, MatchResult, OnOk, OnErr, IsErrOf, ◌<◌, ◌≤◌, ◌↔◌, slice_get}
+use Rattle.std.specs.Prelude.{◌≡◌, ℕ, ◌+◌, List, ◌++◌, map, length, Option, Some, None, Result, Ok, Err, MatchResult, OnOk, OnErr, IsErrOf}
+use Rattle.std.specs.Prelude.{◌<◌, ◌≤◌, ◌↔◌, slice_get}
 use Rattle.std.specs.List.{AllByRecursion}
 use Rattle.wl_wire.specs.declared.error.ArgError.{ArgError}
 use Rattle.wl_wire.specs.declared.error.PutError.{PutError}

@@ -1,5 +1,6 @@
 -- What a line of a recording asks. Here a line stands without its line feed.
-use Rattle.std.specs.Prelude.{ℕ, ◌+◌, ◌-◌, ◌*◌, ◌^◌, Bool, false, ◌==◌, ◌&&◌, ◌||◌, not, nat_le, nat_lt, if◌then◌else◌, List, [], ◌∷◌, length, drop, fold, slice_index, codes, Option, Some, None}
+use Rattle.std.specs.Prelude.{ℕ, ◌+◌, ◌-◌, ◌*◌, ◌^◌, Bool, false, ◌==◌, ◌&&◌, ◌||◌, not, nat_le, nat_lt, if◌then◌else◌, List, [], ◌∷◌}
+use Rattle.std.specs.Prelude.{length, drop, fold, slice_index, codes, Option, Some, None}
 use Rattle.std.specs.List.{prefix_len, take_while, list_all}
 use Rattle.std.specs.Option.{option_and_then, option_map}
 use Rattle.std.specs.Str.{bytes_eq}
@@ -77,7 +78,8 @@ place_at client store at =
 -- the place that the first three words of a text name, and what stands behind them
 abbrev pub place_in : List ℕ → Option Place
 place_in text =
-    place_at (number_of (first_word text)) (number_of (first_word (after_word text))) (number_of (first_word (after_word (after_word text))))
+    place_at (number_of (first_word text)) (number_of (first_word (after_word text)))
+        (number_of (first_word (after_word (after_word text))))
 
 abbrev pub after_place : List ℕ → List ℕ
 after_place text = after_word (after_word (after_word text))

@@ -1,5 +1,6 @@
 -- The lines of a text, each ended by a line feed, which the last may lack.
-use Rattle.std.specs.Prelude.{◌≡◌, ◌≢◌, ◌<◌, ◌-◌, ◌==◌, ℕ, if◌then◌else◌, List, [], ◌∷◌, ◌++◌, ◌⊎◌, All, Option, Some, None, ⊤, length, slice_index}
+use Rattle.std.specs.Prelude.{◌≡◌, ◌≢◌, ◌<◌, ◌-◌, ◌==◌, ℕ, if◌then◌else◌, List, [], ◌∷◌, ◌++◌, ◌⊎◌, All, Option, Some, None, ⊤, length}
+use Rattle.std.specs.Prelude.{slice_index}
 use Rattle.std.specs.Io.KnownBytes.{Consumes, IsAtEnd}
 use Rattle.wl_recording.specs.declared.lines.Part.{Part}
 use Rattle.wl_recording.specs.declared.lines.Part.TheVariants.{More, LineFeed, End}

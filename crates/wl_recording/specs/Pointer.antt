@@ -1,5 +1,6 @@
 -- What a line of a pointer file asks. Here a line stands without its line feed; words and numbers are those of a recording.
-use Rattle.std.specs.Prelude.{ℕ, ◌^◌, ◌==◌, ℤ, pos, neg_ℤ, nat_le, nat_lt, Bool, true, false, if◌then◌else◌, unwrap_or, List, [], ◌∷◌, length, drop, codes, Option, Some, None}
+use Rattle.std.specs.Prelude.{ℕ, ◌^◌, ◌==◌, ℤ, pos, neg_ℤ, nat_le, nat_lt, Bool, true, false, if◌then◌else◌, unwrap_or, List, [], ◌∷◌}
+use Rattle.std.specs.Prelude.{length, drop, codes, Option, Some, None}
 use Rattle.std.specs.Option.{option_and_then, option_map}
 use Rattle.std.specs.Str.{bytes_eq}
 use Rattle.wl_recording.specs.Line.{after_word, first_word, is_blank, is_comment, number_of}
@@ -44,12 +45,14 @@ after_three text = after_word (after_word (after_word text))
 
 abbrev pub motion_in : List ℕ → Option PointerLine
 motion_in text =
-    if is_blank (after_three text) then motion_by (first_word text) (first_word (after_word text)) (first_word (after_word (after_word text)))
+    if is_blank (after_three text) then motion_by (first_word text) (first_word (after_word text))
+        (first_word (after_word (after_word text)))
     else None
 
 abbrev pub button_in : List ℕ → Option PointerLine
 button_in text =
-    if is_blank (after_three text) then button_by (first_word text) (first_word (after_word text)) (first_word (after_word (after_word text)))
+    if is_blank (after_three text) then button_by (first_word text) (first_word (after_word text))
+        (first_word (after_word (after_word text)))
     else None
 
 -- a line by its first word and what follows it

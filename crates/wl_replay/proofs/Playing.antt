@@ -16,7 +16,8 @@ use Rattle.wl_recording.specs.Side.{Files}
 use Rattle.wl_replay.specs.Told.{Counts, IsFirst, Stage, Stands, and_then, words}
 
 -- so many lines were played, with so many frames and clients, and the session stands for the last stage
-pub record PlayedTo {S : Type 0} (files : Files S) (first : Stage) (from to : S) (session : SessionView) (read left report reported images imaged : Option (List ℕ)) (lines frames clients : ℕ) : Type 0 where
+pub record PlayedTo {S : Type 0} (files : Files S) (first : Stage) (from to : S) (session : SessionView) (read left report reported images imaged : Option (List ℕ)) (lines frames clients : ℕ) : Type 0
+    where
   pub run : Reported files first from to read left report reported images imaged
   pub stands : Stands session run.last
   pub lines_told : length run.lines ≡ lines
@@ -71,14 +72,17 @@ PlayedTo-more files first from between to before after read mid left report wrot
     }
 
 -- nothing is left, and nothing more was told or read
-pub IsPlayed-end : {S : Type 0} (files : Files S) (first : Stage) (from between to : S) (session : SessionView) (read left report wrote reported images showed imaged : Option (List ℕ)) (lines frames clients : ℕ)
+pub IsPlayed-end : {S : Type 0} (files : Files S) (first : Stage) (from between to : S) (session : SessionView) (read left report wrote reported images showed imaged : Option (List ℕ))
+    (lines frames clients : ℕ)
     → PlayedTo files first from between session read left report wrote images showed lines frames clients → IsAtEnd left → reported ≡ wrote → imaged ≡ showed → to ≡ between
     → IsPlayed files first from to (record { lines = lines; frames = frames; clients = clients }) read report reported images imaged
-IsPlayed-end files first from between to session read left report wrote reported images showed imaged lines frames clients p ends same_text same_images same_side = rw (same_text, same_images, same_side)
+IsPlayed-end files first from between to session read left report wrote reported images showed imaged lines frames clients p ends same_text same_images same_side =
+    rw (same_text, same_images, same_side)
     (left, p.run, ends, rw (p.lines_told, p.frames_told, p.clients_told) refl)
 
 -- the next line wasn't played
-pub StopsAs-line : {S : Type 0} (files : Files S) (e : ReplayError) (first : Stage) (from between to : S) (session : SessionView) (read left report wrote reported images showed imaged : Option (List ℕ))
+pub StopsAs-line : {S : Type 0} (files : Files S) (e : ReplayError) (first : Stage) (from between to : S) (session : SessionView) (read left report wrote reported images showed imaged : Option
+    (List ℕ))
     (lines frames clients : ℕ) (IsQuiet IsLacking : Type 0) → PlayedTo files first from between session read left report wrote images showed lines frames clients
     → (IsQuiet → (reported ≡ wrote) × (imaged ≡ showed) × (to ≡ between))
     → (IsLacking → (reported ≡ wrote) × (imaged ≡ showed) × ((d : Desktop) → Agrees session.desk d → IsLackingLine files left d between to))

@@ -45,7 +45,8 @@ module _ (act : Act) (done : Done) (old new : SessionView) (stage : Stage) (stan
   }
 
 -- a frame is seen as it is to be
-pub seen-on : (time : ℕ) (old new : SessionView) (stage : Stage) → Stands old stage → (course : Course (Tick time) gave.Tick old new stage.now.desktop) → IsSeenAt stage (after (Tick time) gave.Tick old new stage course)
+pub seen-on : (time : ℕ) (old new : SessionView) (stage : Stage) → Stands old stage → (course : Course (Tick time) gave.Tick old new stage.now.desktop)
+    → IsSeenAt stage (after (Tick time) gave.Tick old new stage course)
 seen-on time old new stage stands course broke x y liars wide high clear =
     let on = stands-on (Tick time) gave.Tick old new stage stands course in
     tick-scratch time stage.first stage.now (moment course.desktop new) stage.events course.events nobody broke stands.right on.led on.apart course.parts
@@ -53,7 +54,8 @@ seen-on time old new stage stands course broke x y liars wide high clear =
 
 -- ---- at first
 
-image_is : (i : Image) (config : Config) (pixels : List ℕ) → i.width ≡ config.width → i.height ≡ config.height → i.background ≡ config.background → i.pixels ≡ pixels → i ≡ record { width = config.width; height = config.height; background = config.background; pixels = pixels }
+image_is : (i : Image) (config : Config) (pixels : List ℕ) → i.width ≡ config.width → i.height ≡ config.height → i.background ≡ config.background → i.pixels ≡ pixels
+    → i ≡ record { width = config.width; height = config.height; background = config.background; pixels = pixels }
 image_is i config pixels a b c d = rw (← a, ← b, ← c, ← d) refl
 
 abbrev pub begun : Config → SessionView → Stage

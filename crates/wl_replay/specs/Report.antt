@@ -113,7 +113,8 @@ images_in contents writer = option_and_then contents writer
 
 -- At most 1,000,000 lines were read, what they lead to was told in a report and in images, no side file failed, and this is
 -- left to be read.
-pub record Reported {S : Type 0} (files : Files S) (first : Stage) (from to : S) (read left report reported images imaged : Option (List ℕ)) : Type 0 where
+pub record Reported {S : Type 0} (files : Files S) (first : Stage) (from to : S)
+    (read left report reported images imaged : Option (List ℕ)) : Type 0 where
   pub lines : List (List ℕ)
   pub told : Told
   pub last : Stage
@@ -145,7 +146,8 @@ IsLackingLine files left d from to =
     × LacksAsked files asked d from to
 
 -- one line was taken and told of
-abbrev pub TakesOne : {S : Type 0} → Files S → S → S → Option (List ℕ) → Option (List ℕ) → SessionView → SessionView → Option (List ℕ) → Option (List ℕ) → (Told → Type 0) → Type 0
+abbrev pub TakesOne : {S : Type 0} → Files S → S → S → Option (List ℕ) → Option (List ℕ) → SessionView → SessionView → Option (List ℕ)
+    → Option (List ℕ) → (Told → Type 0) → Type 0
 TakesOne files from to read left before after report reported P =
     (line : List ℕ) × (asked : Asked) × TakesLine read left line × (length line ≤ 140000) × (asked_by line ≡ Some asked)
     × Leads (TellsLine files asked from to) before after report reported P × (files.faults to ≡ files.faults from)
@@ -159,7 +161,8 @@ FailsAt (error.Side n) number left IsQuiet IsLacking = (n ≡ number) × IsLacki
 FailsAt error.Memory number left IsQuiet IsLacking = ⊤
 
 -- The whole recording was read and told of, and this is its summary.
-abbrev pub IsPlayed : {S : Type 0} → Files S → Stage → S → S → Summary → Option (List ℕ) → Option (List ℕ) → Option (List ℕ) → Option (List ℕ) → Option (List ℕ) → Type 0
+abbrev pub IsPlayed : {S : Type 0} → Files S → Stage → S → S → Summary → Option (List ℕ) → Option (List ℕ) → Option (List ℕ)
+    → Option (List ℕ) → Option (List ℕ) → Type 0
 IsPlayed files first from to summary read report reported images imaged =
     (left : Option (List ℕ)) × (r : Reported files first from to read left report reported images imaged) × IsAtEnd left
     × (summary ≡ record { lines = length r.lines; frames = r.told.frames; clients = r.told.clients })
@@ -167,7 +170,8 @@ IsPlayed files first from to summary read report reported images imaged =
 -- The recording was played up to a line. A bad one is named by its number from 1; the line past the greatest number of lines is
 -- bad too. So is one whose side file isn't there or failed, of which nothing is told. Nothing is said of what was told where the
 -- report or the images could not be written, or memory was wanted.
-abbrev pub StopsAs : {S : Type 0} → Files S → ReplayError → Stage → S → S → Option (List ℕ) → Option (List ℕ) → Option (List ℕ) → Option (List ℕ) → Option (List ℕ) → Type 0
+abbrev pub StopsAs : {S : Type 0} → Files S → ReplayError → Stage → S → S → Option (List ℕ) → Option (List ℕ) → Option (List ℕ)
+    → Option (List ℕ) → Option (List ℕ) → Type 0
 StopsAs {S} files error.Read first from to read report reported images imaged =
     (left : Option (List ℕ)) × Reported files first from to read left report reported images imaged
 StopsAs {S} files error.Write first from to read report reported images imaged = ⊤

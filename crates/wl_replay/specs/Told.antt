@@ -55,7 +55,8 @@ pub record IsFirst (config : Config) (stage : Stage) : Type 0 where
   pub desktop : stage.now.desktop ≡ empty (record { width = config.width; height = config.height })
   pub frame :
       stage.now.frame
-      ≡ record { width = config.width; height = config.height; background = config.background; pixels = filled (config.width * config.height) config.background }
+      ≡ record { width = config.width; height = config.height; background = config.background;
+          pixels = filled (config.width * config.height) config.background }
   pub damage : (x y : ℕ) → has stage.now.damage x y ≡ false
 
 -- A step leads from one stage to another: it happens, and its events are the next ones.
@@ -77,7 +78,8 @@ IsSeenAt old new =
 
 -- A session goes from before to after by R: whatever stage it stands for before, it stands for one that R gives after. What is
 -- told of it was written, and P holds of it.
-abbrev pub Leads : (Stage → Told → Stage → Type 0) → SessionView → SessionView → Option (List ℕ) → Option (List ℕ) → (Told → Type 0) → Type 0
+abbrev pub Leads : (Stage → Told → Stage → Type 0) → SessionView → SessionView → Option (List ℕ) → Option (List ℕ) → (Told → Type 0)
+    → Type 0
 Leads R before after report reported P =
     (old : Stage) → Stands before old → (new : Stage) × (told : Told) × R old told new × Stands after new
     × Appends report reported told.text × P told

@@ -60,7 +60,8 @@ kept-places numbers a b all same is =
       count = ap (λ (ps : List (Option KeptSurface)). count_by is_some ps) same ∙ is.count;
     }
 
-owned-places : (names now : Names) (a b : Slots) (shell other : Book) (o : Owned) → b.places ≡ a.places → now ≡ names → other ≡ shell → IsOwned names a (kept_of shell) o → IsOwned now b (kept_of other) o
+owned-places : (names now : Names) (a b : Slots) (shell other : Book) (o : Owned) → b.places ≡ a.places → now ≡ names → other ≡ shell → IsOwned names a (kept_of shell) o
+    → IsOwned now b (kept_of other) o
 owned-places names now a b shell other o same named kept is =
     rw (named, kept)
     (record { surfaces = kept-places names.surfaces a b o.surfaces same is.surfaces; shell = is.shell; known = is.known; named = is.named; toplevels = is.toplevels; roles = is.roles })
@@ -68,7 +69,8 @@ owned-places names now a b shell other o same named kept is =
 -- ---- one more is answered
 
 module _ {A : Type 0} (time : ℕ) (old now new : Kept A) (r mid : Resident) (a : IsAnswered time r mid) (is : IsResident now mid) (id : ℕ)
-    (due : IsNextDue id (numbered now.client.objects mid) mid.callbacks new.owned.surfaces.frames) (places : new.owned.surfaces.places ≡ now.owned.surfaces.places) (shell : new.owned.shell ≡ now.owned.shell)
+    (due : IsNextDue id (numbered now.client.objects mid) mid.callbacks new.owned.surfaces.frames) (places : new.owned.surfaces.places ≡ now.owned.surfaces.places)
+        (shell : new.owned.shell ≡ now.owned.shell)
     (m : Peer) (queues : Queues (frame_told time id) (removed id mid.peer) m) (peer : IsPeer new.client m) where
   abbrev numbers : ById ℕ
   numbers = targets_in WlSurface now.client.objects
@@ -109,13 +111,15 @@ module _ {A : Type 0} (time : ℕ) (old now new : Kept A) (r mid : Resident) (a 
   heard = subst (λ n. is_of WlCallback (objects_in now.client.objects n) ≡ true) due.has_id (ap (λ objects. is_of WlCallback (objects c.id)) is.peer.objects ∙ a.heard.1 c.id there)
 
   -- it lives on
-  pub next-answered : new.client.ended ≡ None → HoldsAt now.client.objects new.client.objects id None → (next : Resident) × IsAnswered time r next × IsResident new next × (names_in new.client.objects ≡ names_in now.client.objects)
+  pub next-answered : new.client.ended ≡ None → HoldsAt now.client.objects new.client.objects id None → (next : Resident) × IsAnswered time r next × IsResident new next
+      × (names_in new.client.objects ≡ names_in now.client.objects)
   next-answered alive holds =
       let lives : m.status ≡ None = sym peer.status ∙ alive in
       let next : Resident = without_it time mid due.before due.after c m a.status due.all_are nothing-before counts told in
       let names = callback-gone now.client.objects new.client.objects id heard holds in
       let requests = told-requests (frame_told time c.id) (removed c.id mid.peer) m told lives in
-      let left = framed-less now.owned.surfaces.frames new.owned.surfaces.frames (numbered now.client.objects mid) (mid.peer.requests + 1) mid.callbacks (due.before ++ due.after) is.frames due.others in (
+      let left = framed-less now.owned.surfaces.frames new.owned.surfaces.frames (numbered now.client.objects mid) (mid.peer.requests + 1) mid.callbacks (due.before ++ due.after) is.frames due.others
+          in (
         next,
         answered-on time mid due.before due.after c m a.status due.all_are nothing-before counts told r lives a,
         record {

@@ -96,11 +96,13 @@ or-none false b e = e
 apart-middle : (before after : List Callback) (c : Callback) → AreApartBy has_callback (before ++ c ∷ after) → AreApartBy has_callback (before ++ after)
 apart-middle [] after c apart = apart.1
 apart-middle (b ∷ bs) after c apart = (
-  λ key has. any-none (has_callback key) (bs ++ after) (or-none (has_callback key c) (list_any (has_callback key) (bs ++ after)) (sym (any-middle (has_callback key) bs after c) ∙ none-any (has_callback key) (bs ++ c ∷ after) (apart.0 key has))),
+  λ key has. any-none (has_callback key) (bs ++ after) (or-none (has_callback key c) (list_any (has_callback key) (bs ++ after)) (sym (any-middle (has_callback key) bs after c)
+      ∙ none-any (has_callback key) (bs ++ c ∷ after) (apart.0 key has))),
   apart-middle bs after c apart.1,
 )
 
-none-middle : (before after : List Callback) (c : Callback) → AreApartBy has_callback (before ++ c ∷ after) → (key : ℕ) → has_callback key c ≡ true → list_any (has_callback key) (before ++ after) ≡ false
+none-middle : (before after : List Callback) (c : Callback) → AreApartBy has_callback (before ++ c ∷ after) → (key : ℕ) → has_callback key c ≡ true
+    → list_any (has_callback key) (before ++ after) ≡ false
 none-middle [] after c apart key has = none-any (has_callback key) after (apart.0 key has)
 none-middle (b ∷ bs) after c apart key has = at (has_callback key b) refl (none-middle bs after c apart.1 key has)
   where
@@ -186,7 +188,8 @@ module _ (time : ℕ) (mid : Resident) (before after : List Callback) (c : Callb
       let now : Queues rest_told (fold (λ p callback. removed callback.id p) m rest) q =
       subst (λ cs. Queues (flat_map (λ (callback : Callback). frame_told time callback.id) cs) (fold (λ p callback. removed callback.id p) m cs) q) due-now h in
       from-first q
-      (queues-then (frame_told time c.id) rest_told (all_removed (ids_of rest) (removed c.id mid.peer)) (all_removed (ids_of rest) m) q (removed-past (ids_of rest) (frame_told time c.id) (removed c.id mid.peer) m told lives)
+      (queues-then (frame_told time c.id) rest_told (all_removed (ids_of rest) (removed c.id mid.peer)) (all_removed (ids_of rest) m) q
+          (removed-past (ids_of rest) (frame_told time c.id) (removed c.id mid.peer) m told lives)
       (removed-status (ids_of rest) m ∙ lives) (subst (λ (p : Peer). Queues rest_told p q) (sym (fold-ids rest m)) now))
 
   abbrev left : Callback → Bool
@@ -194,7 +197,8 @@ module _ (time : ℕ) (mid : Resident) (before after : List Callback) (c : Callb
 
   left-now : filter left (before ++ after) ≡ filter left mid.callbacks
   left-now =
-      filter-append left before after ∙ ap (λ b. filter left before ++ cond (not b) (c ∷ filter left after) (filter left after)) (sym due) ∙ sym (filter-append left before (c ∷ after)) ∙ ap (filter left) (sym all_are)
+      filter-append left before after ∙ ap (λ b. filter left before ++ cond (not b) (c ∷ filter left after) (filter left after)) (sym due) ∙ sym (filter-append left before (c ∷ after))
+          ∙ ap (filter left) (sym all_are)
 
   pub answered-on : (r : Resident) → m.status ≡ None → IsAnswered time r mid → IsAnswered time r without_it
   answered-on r lives is =

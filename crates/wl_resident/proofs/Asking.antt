@@ -50,7 +50,8 @@ use Rattle.wl_resident.proofs.Numbers.{left-from}
 use Rattle.wl_resident.proofs.Shelling.{meets-from, new-free, refused-whole}
 
 -- a seat has no keyboard and no touch
-pub seat-refused : (r : Resident) (object version : ℕ) (request : WlSeatRequest) → ((id : ℕ) × (request ≡ GetKeyboard id)) ⊎ ((id : ℕ) × (request ≡ GetTouch id)) → demand_of served_now r object version (wl_seat_request request) ≡ Err (record { object = object; code = MissingCapability })
+pub seat-refused : (r : Resident) (object version : ℕ) (request : WlSeatRequest) → ((id : ℕ) × (request ≡ GetKeyboard id)) ⊎ ((id : ℕ) × (request ≡ GetTouch id))
+    → demand_of served_now r object version (wl_seat_request request) ≡ Err (record { object = object; code = MissingCapability })
 seat-refused r object version request (inl is) = rw is.1 refl
 seat-refused r object version request (inr is) = rw is.1 refl
 
@@ -76,12 +77,14 @@ errs-by true refusal p q rest (inr h) = inr h
 errs-dropped : (refusal : Refusal) (p q : Peer) (rest : List ℕ) → Errs refusal p q → Errs refusal (with_rest rest p) q
 errs-dropped refusal p q rest h = errs-by (has_room p.unsent (error_told refusal)) refusal p q rest h
 
-first-refused-by : {A : Type 0} (old new : Kept A) (c : ℕ) (r : Resident) (d : Desktop) (refusal : Refusal) (s : Split) → IsRefused s old.client refusal → IsResident old r → is_some new.client.ended ≡ true
+first-refused-by : {A : Type 0} (old new : Kept A) (c : ℕ) (r : Resident) (d : Desktop) (refusal : Refusal) (s : Split) → IsRefused s old.client refusal → IsResident old r
+    → is_some new.client.ended ≡ true
     → (q : Peer) × Errs refusal r.peer q × IsPeer new.client q → TakesSo s c r d old new Stays
 first-refused-by old new c r d refusal (Whole object opcode size) why is ended errs =
     let body = take (size - 8) (drop 8 r.peer.rest) in
     let judged : judge_all served_now r object opcode body ≡ Err refusal =
-    judged-refused r.peer.objects r.peer.held (λ version m. demand_of served_now r object version m) opcode body (r.peer.objects object) refusal (passing-peer old.client r.peer object opcode size (Err refusal) is.peer why) in (
+    judged-refused r.peer.objects r.peer.held (λ version m. demand_of served_now r object version m) opcode body (r.peer.objects object) refusal
+        (passing-peer old.client r.peer object opcode size (Err refusal) is.peer why) in (
       refused-whole old new c (with_peer (with_rest (drop size r.peer.rest) r.peer) r) d (judge_all served_now r object opcode body) refusal judged ended
           (errs.0, errs-dropped refusal r.peer errs.0 (drop size r.peer.rest) errs.1, errs.2),
       subst (λ (j : Result Demand Refusal). StacksSo old r j Stays) (sym judged) tt,
@@ -89,7 +92,8 @@ first-refused-by old new c r d refusal (Whole object opcode size) why is ended e
 first-refused-by old new c r d refusal Bad why is ended errs = refused-whole old new c r d (Err (display_error InvalidMethod)) refusal (ap (λ (f : Refusal). Err f) (sym why)) ended errs
 first-refused-by old new c r d refusal More why is ended errs = absurd why
 
-pub first-refused : {A : Type 0} (old new : Kept A) (c : ℕ) (r : Resident) (d : Desktop) (refusal : Refusal) → IsRefused (split_of old.client.rest) old.client refusal → IsResident old r → is_some new.client.ended ≡ true
+pub first-refused : {A : Type 0} (old new : Kept A) (c : ℕ) (r : Resident) (d : Desktop) (refusal : Refusal) → IsRefused (split_of old.client.rest) old.client refusal → IsResident old r
+    → is_some new.client.ended ≡ true
     → (q : Peer) × Errs refusal r.peer q × IsPeer new.client q → TakesSo (split_of r.peer.rest) c r d old new Stays
 first-refused old new c r d refusal why is ended errs =
     subst (λ (rest : List ℕ). TakesSo (split_of rest) c r d old new Stays) is.peer.rest (first-refused-by old new c r d refusal (split_of old.client.rest) why is ended errs)
@@ -99,7 +103,8 @@ first-refused old new c r d refusal why is ended errs =
 pub fit-passed : {A : Type 0} (mid old : Kept A) (m : Message) → mid.client.objects ≡ old.client.objects → list_all (fits (objects_in old.client.objects)) (objects_named m) ≡ true → ObjectsFit mid m
 fit-passed mid old m same fit = rw same fit
 
-pub new-passed : {A : Type 0} (mid old : Kept A) (m : Message) → mid.client.objects ≡ old.client.objects → IfSome (new_id_in m) (λ new. is_free (objects_in old.client.objects) new.id ≡ true) → NewIsFree mid m
+pub new-passed : {A : Type 0} (mid old : Kept A) (m : Message) → mid.client.objects ≡ old.client.objects → IfSome (new_id_in m) (λ new. is_free (objects_in old.client.objects) new.id ≡ true)
+    → NewIsFree mid m
 new-passed mid old m same free = new-free mid m (λ new is. at (new_id_in m) new is (rw same free))
   where
     at : (o : Option NewId) (new : NewId) → o ≡ Some new → IfSome o (λ new. is_free (objects_in mid.client.objects) new.id ≡ true) → is_free (objects_in mid.client.objects) new.id ≡ true
@@ -107,37 +112,45 @@ new-passed mid old m same free = new-free mid m (λ new is. at (new_id_in m) new
     at (Some other) new is free = let same : other ≡ new = cc in subst (λ (n : NewId). is_free (objects_in mid.client.objects) n.id ≡ true) same free
 
 -- the client without its first message
-dropped : {A : Type 0} (old mid : Kept A) (r : Resident) (size : ℕ) → mid ≡ record old { client = record old.client { rest = drop size old.client.rest } } → IsResident old r → IsResident mid (with_peer (with_rest (drop size r.peer.rest) r.peer) r)
+dropped : {A : Type 0} (old mid : Kept A) (r : Resident) (size : ℕ) → mid ≡ record old { client = record old.client { rest = drop size old.client.rest } } → IsResident old r
+    → IsResident mid (with_peer (with_rest (drop size r.peer.rest) r.peer) r)
 dropped old mid r size e is = rw e (record {
-  peer = subst (λ (rest : List ℕ). IsPeer (record old.client { rest = drop size rest }) (with_rest (drop size r.peer.rest) r.peer)) (sym is.peer.rest) (IsPeer-with_rest old.client r.peer (drop size r.peer.rest) is.peer);
+  peer = subst (λ (rest : List ℕ). IsPeer (record old.client { rest = drop size rest }) (with_rest (drop size r.peer.rest) r.peer)) (sym is.peer.rest)
+      (IsPeer-with_rest old.client r.peer (drop size r.peer.rest) is.peer);
   owns = is.owns;
   frames = is.frames;
 })
 
 -- what is answered to a client with the same objects before
-answers-from : {A : Type 0} (old mid new : Kept A) (c : ℕ) (r : Resident) (d : Desktop) (judged : Result Demand Refusal) → mid.client.objects ≡ old.client.objects → AnswersSo judged c r d mid new → AnswersSo judged c r d old new
+answers-from : {A : Type 0} (old mid new : Kept A) (c : ℕ) (r : Resident) (d : Desktop) (judged : Result Demand Refusal) → mid.client.objects ≡ old.client.objects → AnswersSo judged c r d mid new
+    → AnswersSo judged c r d old new
 answers-from old mid new c r d (Ok demand) same h = (h.0, h.1, left-from old mid new (changed_for c demand (with_peer (counted r.peer) r) d) h.0 same h.2)
 answers-from old mid new c r d (Err refusal) same h = (h.0, h.1, left-from old mid new r h.0 same h.2)
 
-decided-from : {A : Type 0} (done : Bool) (old mid new : Kept A) (c : ℕ) (r : Resident) (d : Desktop) (judged : Result Demand Refusal) → mid.client.objects ≡ old.client.objects → AnswersAs done judged c r d mid new → AnswersAs done judged c r d old new
+decided-from : {A : Type 0} (done : Bool) (old mid new : Kept A) (c : ℕ) (r : Resident) (d : Desktop) (judged : Result Demand Refusal) → mid.client.objects ≡ old.client.objects
+    → AnswersAs done judged c r d mid new → AnswersAs done judged c r d old new
 decided-from done old mid new c r d (Ok demand) same h = meets-from done demand c (with_peer (counted r.peer) r) d old mid new same h
 decided-from true old mid new c r d (Err refusal) same h = absurd h
 decided-from false old mid new c r d (Err refusal) same h = (h.0, h.1, left-from old mid new r h.0 same h.2)
 
-stacks-to-from : {A : Type 0} (old mid : Kept A) (id : ℕ) (place : ℕ → Stacking) (stacking : Stacking) → mid.client.objects ≡ old.client.objects → StacksTo mid id place stacking → StacksTo old id place stacking
+stacks-to-from : {A : Type 0} (old mid : Kept A) (id : ℕ) (place : ℕ → Stacking) (stacking : Stacking) → mid.client.objects ≡ old.client.objects → StacksTo mid id place stacking
+    → StacksTo old id place stacking
 stacks-to-from old mid id place stacking same h = (h.0, ap (λ (held : Held). targets_in WlSurface held id) (sym same) ∙ h.1, h.2)
 
-stacks-by-from : {A : Type 0} (old mid : Kept A) (id : ℕ) (effect : Effect) (stacking : Stacking) → mid.client.objects ≡ old.client.objects → StacksBy mid id effect stacking → StacksBy old id effect stacking
+stacks-by-from : {A : Type 0} (old mid : Kept A) (id : ℕ) (effect : Effect) (stacking : Stacking) → mid.client.objects ≡ old.client.objects → StacksBy mid id effect stacking
+    → StacksBy old id effect stacking
 stacks-by-from old mid id Maps stacking same h = stacks-to-from old mid id on.ToTop stacking same h
 stacks-by-from old mid id Unmaps stacking same h = stacks-to-from old mid id on.Out stacking same h
 stacks-by-from old mid id effect stacking same h = h
 
-stacks-for-from : {A : Type 0} (old mid : Kept A) (r : Resident) (rest : List ℕ) (demand : Demand) (stacking : Stacking) → mid.client.objects ≡ old.client.objects → StacksFor mid (with_peer (with_rest rest r.peer) r) demand stacking → StacksFor old r demand stacking
+stacks-for-from : {A : Type 0} (old mid : Kept A) (r : Resident) (rest : List ℕ) (demand : Demand) (stacking : Stacking) → mid.client.objects ≡ old.client.objects
+    → StacksFor mid (with_peer (with_rest rest r.peer) r) demand stacking → StacksFor old r demand stacking
 stacks-for-from old mid r rest (CommitTree id) stacking same h = stacks-by-from old mid id (effect_of_commit r id) stacking same h
 stacks-for-from old mid r rest (EndToplevel id xdg top) stacking same h = stacks-to-from old mid top on.Out stacking same h
 stacks-for-from old mid r rest demand stacking same h = h
 
-stacks-from : {A : Type 0} (old mid : Kept A) (r : Resident) (rest : List ℕ) (judged : Result Demand Refusal) (stacking : Stacking) → mid.client.objects ≡ old.client.objects → StacksSo mid (with_peer (with_rest rest r.peer) r) judged stacking → StacksSo old r judged stacking
+stacks-from : {A : Type 0} (old mid : Kept A) (r : Resident) (rest : List ℕ) (judged : Result Demand Refusal) (stacking : Stacking) → mid.client.objects ≡ old.client.objects
+    → StacksSo mid (with_peer (with_rest rest r.peer) r) judged stacking → StacksSo old r judged stacking
 stacks-from old mid r rest (Ok demand) stacking same h = stacks-for-from old mid r rest demand stacking same h
 stacks-from old mid r rest (Err refusal) stacking same h = tt
 
@@ -165,39 +178,30 @@ module _ {A : Type 0} (old : Kept A) (r : Resident) (object version size target 
   pub whole-first : split_of r.peer.rest ≡ Whole object m.opcode size
   whole-first = ap split_of (sym is.peer.rest) ∙ passes.first
 
-  pub first-taken : (mid new : Kept A) (stacking : Stacking) → mid ≡ record old { client = record old.client { rest = drop size old.client.rest } } → AnswersDemand (λ r. demand_of served_now r object version m) mid new
+  pub first-taken : (mid new : Kept A) (stacking : Stacking) → mid ≡ record old { client = record old.client { rest = drop size old.client.rest } }
+      → AnswersDemand (λ r. demand_of served_now r object version m) mid new
       → Stacks (λ r. demand_of served_now r object version m) mid stacking → (c : ℕ) (d : Desktop) → OwnsToplevelsOnly r → TakesSo (split_of r.peer.rest) c r d old new stacking
   first-taken mid new stacking same answers stacks c d only =
       let there = dropped old mid r size same is in
       let objects : mid.client.objects ≡ old.client.objects = ap (λ (k : Kept A). k.client.objects) same in
       let has : OwnsToplevelsOnly left = only-peer r left.peer refl only in
       subst (λ (s : Split). TakesSo s c r d old new stacking) (sym whole-first) (
-        subst (λ (j : Result Demand Refusal). AnswersSo j c left d old new) (sym demanded-first) (answers-from old mid new c left d (demand_of served_now left object version m) objects (answers c left d there has)),
-        subst (λ (j : Result Demand Refusal). StacksSo old r j stacking) (sym demanded-first) (stacks-from old mid r (drop size r.peer.rest) (demand_of served_now left object version m) stacking objects (stacks left there has)),
+        subst (λ (j : Result Demand Refusal). AnswersSo j c left d old new) (sym demanded-first) (answers-from old mid new c left d (demand_of served_now left object version m) objects
+            (answers c left d there has)),
+        subst (λ (j : Result Demand Refusal). StacksSo old r j stacking) (sym demanded-first) (stacks-from old mid r (drop size r.peer.rest) (demand_of served_now left object version m) stacking
+            objects (stacks left there has)),
       )
 
   -- the same where it is known whether it was done
-  pub first-decided : (mid new : Kept A) (done : Bool) → mid ≡ record old { client = record old.client { rest = drop size old.client.rest } } → AnswersDemandAs done (λ r. demand_of served_now r object version m) mid new
+  pub first-decided : (mid new : Kept A) (done : Bool) → mid ≡ record old { client = record old.client { rest = drop size old.client.rest } }
+      → AnswersDemandAs done (λ r. demand_of served_now r object version m) mid new
       → (c : ℕ) (d : Desktop) → OwnsToplevelsOnly r → TakesAs done (split_of r.peer.rest) c r d old new
   first-decided mid new done same answers c d only =
       let there = dropped old mid r size same is in
       let objects : mid.client.objects ≡ old.client.objects = ap (λ (k : Kept A). k.client.objects) same in
       let has : OwnsToplevelsOnly left = only-peer r left.peer refl only in
       subst (λ (s : Split). TakesAs done s c r d old new) (sym whole-first)
-      (subst (λ (j : Result Demand Refusal). AnswersAs done j c left d old new) (sym demanded-first) (decided-from done old mid new c left d (demand_of served_now left object version m) objects (answers c left d there has)))
+      (subst (λ (j : Result Demand Refusal). AnswersAs done j c left d old new) (sym demanded-first) (decided-from done old mid new c left d (demand_of served_now left object version m) objects
+          (answers c left d there has)))
 
 -- ---- where there is no whole message
-
-pub idle-more : (o : Option Cause) (rest : List ℕ) → is_some o ≡ false → IsIdleAt o rest → split_of rest ≡ More
-idle-more None rest e idle = idle
-idle-more (Some cause) rest e idle = absurd (cc)
-
--- no window is touched by it
-pub idle-unmarked : (v : ClientView) (asked : Asked) → IsAsked v asked → split_of v.rest ≡ More → marked_by asked ≡ None
-idle-unmarked v asks.More is more = refl
-idle-unmarked v (asks.Refused refusal) is more = refl
-idle-unmarked v asks.Own is more = refl
-idle-unmarked v (asks.Request object version size target kind) is more = absurd (apart object is.0.opcode size (sym more ∙ is.1.first))
-  where
-    apart : (object opcode size : ℕ) → More ≡ Whole object opcode size → ⊥
-    apart object opcode size e = absurd (cc)

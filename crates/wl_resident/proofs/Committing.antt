@@ -31,7 +31,8 @@ still-peer id None r = refl
 still-peer id (Some x) r = refl
 
 -- the role object keeps its id
-same-told : (serial id : ℕ) (change : RoleObject → RoleObject) (o : Option RoleObject) → ((r : RoleObject) → (change r).id ≡ r.id) → role_configured serial id (option_map change o) ≡ role_configured serial id o
+same-told : (serial id : ℕ) (change : RoleObject → RoleObject) (o : Option RoleObject) → ((r : RoleObject) → (change r).id ≡ r.id)
+    → role_configured serial id (option_map change o) ≡ role_configured serial id o
 same-told serial id change None keeps = refl
 same-told serial id change (Some object) keeps = ap (λ (i : ℕ). role_configured serial id (Some (record object { id = i }))) (keeps object)
 
@@ -41,7 +42,8 @@ unconfigured shows None placed e = absurd (cc)
 unconfigured shows (Some k) placed e = (k, refl)
 
 module _ (names : Names) (slots : Slots) (kept : ℕ → Option Kept) (r : Resident) (is : IsOwned names slots kept r.owned) (id number : ℕ) (named : names.surfaces id ≡ Some number) (shows : Bool) where
-  pub commit-peer : (act : ShellAct) → commit_answer shows (kept number) ≡ Ok act → (changed_simply (CommitSurface id (effect_by act)) r).peer ≡ drawn_by act (after_surface id r (committed_on id r)).peer
+  pub commit-peer : (act : ShellAct) → commit_answer shows (kept number) ≡ Ok act → (changed_simply (CommitSurface id (effect_by act)) r).peer ≡ drawn_by act
+      (after_surface id r (committed_on id r)).peer
   commit-peer (Configure placed) answer =
       let k = unconfigured shows (kept number) placed answer in
       let xdg = xdg-of names slots kept r.owned is id number k.0 named k.1 in
@@ -50,12 +52,14 @@ module _ (names : Names) (slots : Slots) (kept : ℕ → Option Kept) (r : Resid
   commit-peer Unmap answer = unmapped-peer id (xdg_of id r.owned.shell) (after_surface id r (committed_on id r))
   commit-peer Nothing answer = still-peer id (xdg_of id r.owned.shell) (after_surface id r (committed_on id r))
 
-  pub commit-told : (act : ShellAct) (serial : ℕ) → commit_answer shows (kept number) ≡ Ok act → serial ≡ r.peer.serial → told_by act serial (changing number (kept_after serial act) kept number) ≡ answers_simply (CommitSurface id (effect_by act)) r
+  pub commit-told : (act : ShellAct) (serial : ℕ) → commit_answer shows (kept number) ≡ Ok act → serial ≡ r.peer.serial
+      → told_by act serial (changing number (kept_after serial act) kept number) ≡ answers_simply (CommitSurface id (effect_by act)) r
   commit-told (Configure placed) serial answer same =
       let k = unconfigured shows (kept number) placed answer in
       let xdg = xdg-of names slots kept r.owned is id number k.0 named k.1 in
       let now : changing number (kept_after serial (Configure placed)) kept number ≡ Some (kept_after serial (Configure placed) k.0) =
-      ap (λ (b : Bool). if b then option_map (kept_after serial (Configure placed)) (kept number) else kept number) (eq-eqb number number refl) ∙ ap (option_map (kept_after serial (Configure placed))) k.1 in
+      ap (λ (b : Bool). if b then option_map (kept_after serial (Configure placed)) (kept number) else kept number) (eq-eqb number number refl)
+          ∙ ap (option_map (kept_after serial (Configure placed))) k.1 in
       ap (told_of serial) now
       ∙ same-told serial k.0.id (at_stage Waiting) k.0.role (λ object. refl)
       ∙ sym (configures-read names kept r number k.0 xdg.0 xdg.1 xdg.2 0 serial)

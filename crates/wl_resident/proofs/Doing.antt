@@ -41,7 +41,8 @@ gone None some none = cc
 gone (Some x) some none = cc
 
 -- There was no memory: of a client that ended nothing more is said.
-pub lacked : {A : Type 0} (old v : Kept A) (after r : Resident) → (q : Peer) × LacksMemory r.peer q × IsPeer v.client q → is_some v.client.ended ≡ true → (q : Peer) × LacksMemory r.peer q × IsLeft old v after q
+pub lacked : {A : Type 0} (old v : Kept A) (after r : Resident) → (q : Peer) × LacksMemory r.peer q × IsPeer v.client q → is_some v.client.ended ≡ true → (q : Peer) × LacksMemory r.peer q
+    × IsLeft old v after q
 lacked old v after r lacks ended = (
   lacks.0,
   lacks.1,
@@ -59,8 +60,10 @@ cut-bounds None s stands = absurd stands
 cut-bounds (Some k) s stands = (stands.history.cut_within, stands.history.commits_within)
 
 -- A request of a surface that is no commit, attaches nothing and asks for no window geometry.
-pub asked-so : {A : Type 0} (old new : Kept A) (r : Resident) (id number : ℕ) (request : Request) → IsResident old r → IsSurface old id number → is_commit request ≡ false → ((v : Values) → (asked v request).buffer ≡ v.buffer)
-    → ((g : Option Rect) → geometry_asked g request ≡ g) → frames_of (request ∷ []) ≡ [] → new.owned.surfaces.frames ≡ old.owned.surfaces.frames → Changes old.owned.surfaces new.owned.surfaces number (asking request) → new.client ≡ old.client → kept_of new.owned.shell ≡ kept_of old.owned.shell
+pub asked-so : {A : Type 0} (old new : Kept A) (r : Resident) (id number : ℕ) (request : Request) → IsResident old r → IsSurface old id number → is_commit request ≡ false
+    → ((v : Values) → (asked v request).buffer ≡ v.buffer)
+    → ((g : Option Rect) → geometry_asked g request ≡ g) → frames_of (request ∷ []) ≡ [] → new.owned.surfaces.frames ≡ old.owned.surfaces.frames
+        → Changes old.owned.surfaces new.owned.surfaces number (asking request) → new.client ≡ old.client → kept_of new.owned.shell ≡ kept_of old.owned.shell
     → ((changed_by (AskSurface id request) r).peer ≡ r.peer) × IsLeft old new (changed_by (AskSurface id request) r) r.peer
 asked-so old new r id number request is named plain keeps other asks_none frames changes same shell =
     let names = names_in old.client.objects in
@@ -75,7 +78,8 @@ asked-so old new r id number request is named plain keeps other asks_none frames
         frames = λ alive.
             let table : new.client.objects ≡ old.client.objects = ap (λ (w : ClientView). w.objects) same in
             subst (λ (ws : List Waiting). IsFramed ws new.client.objects (changed_by (AskSurface id request) r)) (sym frames)
-            (framed-asked old.owned.surfaces.frames old.client.objects new.client.objects r (changed_by (AskSurface id request) r) refl (no-more r.peer.requests) is.frames old.owned.surfaces is.owns.surfaces id number request asks_none named
+            (framed-asked old.owned.surfaces.frames old.client.objects new.client.objects r (changed_by (AskSurface id request) r) refl (no-more r.peer.requests) is.frames old.owned.surfaces
+                is.owns.surfaces id number request asks_none named
             (ap names_in table) refl);
         numbers = λ alive. keeps-same old.client.objects new.client.objects (ap (λ (w : ClientView). w.objects) same);
       },
@@ -92,14 +96,16 @@ pub copied-named : (v : ClientView) (p : Peer) (id : ℕ) (area : Option Area) �
 copied-named v p id area same is = subst (λ (a : Option Area). IsCopied a (p.regions id)) (sym same) (copied-of (held_at v.regions id) (p.regions id) (is.regions id))
 
 -- its store went, or not
-pub one-let : (v w : ClientView) (r : Resident) (change : Stock → Stock) → IsPeer v r.peer → w ≡ record v { stores = w.stores } → w.stores ≡ change v.stores → IsPeer w (record r.peer { stores = change r.peer.stores })
+pub one-let : (v w : ClientView) (r : Resident) (change : Stock → Stock) → IsPeer v r.peer → w ≡ record v { stores = w.stores } → w.stores ≡ change v.stores
+    → IsPeer w (record r.peer { stores = change r.peer.stores })
 one-let v w r change is only stores = subst (λ (x : ClientView). IsPeer x (record r.peer { stores = change r.peer.stores })) (sym only) (IsPeer-stores v r.peer change w.stores stores is)
 
 pub kept-there : {A : Type 0} (v w : Lent A) (numbers : ById ℕ) (all : Surfaces) → w ≡ v → AreKept numbers v.surfaces all → AreKept numbers w.surfaces all
 kept-there v w numbers all same kept = rw same kept
 
 -- The buffers that a surface had are let go of, once what was asked of it stands: so it was done.
-pub let-go-so : {A : Type 0} (old v w : Kept A) (after : Resident) → v.client ≡ old.client → Owns v after → KeepsFrames v after → w.client ≡ record v.client { stores = w.client.stores } → w.owned ≡ v.owned → IsPeer w.client after.peer → IsLeft old w after after.peer
+pub let-go-so : {A : Type 0} (old v w : Kept A) (after : Resident) → v.client ≡ old.client → Owns v after → KeepsFrames v after → w.client ≡ record v.client { stores = w.client.stores }
+    → w.owned ≡ v.owned → IsPeer w.client after.peer → IsLeft old w after after.peer
 let-go-so old v w after still owns frames only same peer =
     let objects = ap (λ (c : ClientView). c.objects) only in
     record {

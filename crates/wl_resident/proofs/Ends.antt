@@ -129,7 +129,8 @@ abbrev interface_or : Interface → Option Object → Interface
 interface_or interface None = interface
 interface_or interface (Some object) = object.interface
 
-target-same : (interface : Interface) (o p : Option Entry) → option_map object_of o ≡ option_map object_of p → option_and_then (target_as interface) o ≡ None → option_and_then (target_as interface) p ≡ None
+target-same : (interface : Interface) (o p : Option Entry) → option_map object_of o ≡ option_map object_of p → option_and_then (target_as interface) o ≡ None
+    → option_and_then (target_as interface) p ≡ None
 target-same interface o None same none = refl
 target-same interface None (Some entry) same none = absurd (cc)
 target-same interface (Some a) (Some b) same none = at (interface_number b.interface == interface_number interface) refl
@@ -170,13 +171,15 @@ nameless-seat v o r seat gone =
 
 -- ---- a newcomer
 
-target-display : (interface : Interface) (o : Option Entry) → (interface_number WlDisplay == interface_number interface) ≡ false → option_map object_of o ≡ Some (object_at_version WlDisplay 1) → option_and_then (target_as interface) o ≡ None
+target-display : (interface : Interface) (o : Option Entry) → (interface_number WlDisplay == interface_number interface) ≡ false → option_map object_of o ≡ Some (object_at_version WlDisplay 1)
+    → option_and_then (target_as interface) o ≡ None
 target-display interface None other e = refl
 target-display interface (Some entry) other e =
     let is : entry.interface ≡ WlDisplay = ap (λ (o : Option Object). interface_or WlDisplay o) e in
     rw (is, other) refl
 
-newcomer-at : (interface : Interface) (id : ℕ) (o : Option Entry) → (interface_number WlDisplay == interface_number interface) ≡ false → option_map object_of o ≡ with_id 1 (Some (object_at_version WlDisplay 1)) nothing id → option_and_then (target_as interface) o ≡ None
+newcomer-at : (interface : Interface) (id : ℕ) (o : Option Entry) → (interface_number WlDisplay == interface_number interface) ≡ false
+    → option_map object_of o ≡ with_id 1 (Some (object_at_version WlDisplay 1)) nothing id → option_and_then (target_as interface) o ≡ None
 newcomer-at interface id o other e = by (id == 1) e
   where
     by : (b : Bool) → option_map object_of o ≡ (if b then Some (object_at_version WlDisplay 1) else None) → option_and_then (target_as interface) o ≡ None

@@ -47,7 +47,8 @@ no-more n = omega arith
 
 module _ (frames : List Waiting) (old new : Held) (r after : Resident) (callbacks : after.callbacks ≡ r.callbacks) (more : r.peer.requests ≤ after.peer.requests) (f : IsFramed frames old r) where
   -- neither what was asked for nor what counts changes
-  pub framed-left : ((number : ℕ) → frames_at (numbered new after number) ≡ frames_at (numbered old r number)) → ((number : ℕ) → applied_at (numbered new after number) ≡ applied_at (numbered old r number))
+  pub framed-left : ((number : ℕ) → frames_at (numbered new after number) ≡ frames_at (numbered old r number))
+      → ((number : ℕ) → applied_at (numbered new after number) ≡ applied_at (numbered old r number))
       → IsFramed frames new after
   framed-left asked counts =
       let le : r.peer.requests + 1 ≤ after.peer.requests + 1 = omega (arith, more) in
@@ -89,7 +90,8 @@ module _ (frames : List Waiting) (old new : Held) (r after : Resident) (callback
         framed-changed (with_role role) (λ s. refl) (asked-in-role role (numbered old r number)) (counts-in-role role (numbered old r number)) named names surfaces
 
     -- one comes
-    pub framed-made : (made : Slots) → ((named : Numbered) (id : ℕ) → StandForAll slots named → (named number ≡ None) × StandForAll made (with_at number (Some (new_surface id)) named)) → targets_in WlSurface old id ≡ None
+    pub framed-made : (made : Slots) → ((named : Numbered) (id : ℕ) → StandForAll slots named → (named number ≡ None) × StandForAll made (with_at number (Some (new_surface id)) named))
+        → targets_in WlSurface old id ≡ None
         → targets_in WlSurface new ≡ with_id id (Some number) (targets_in WlSurface old) → after.owned.surfaces ≡ with_new id r.owned.surfaces → IsFramed frames new after
     framed-made made created free names surfaces =
         let same : numbered new after ≡ with_at number (Some (new_surface id)) (numbered old r) =
@@ -153,7 +155,8 @@ module _ (old new : Held) (r after : Resident) (slots : Slots) (is : AreKept (ta
   there : is_some (numbered old r number) ≡ true
   there = ap is_some (surface-read (targets_in WlSurface old) slots r.owned.surfaces is id number named) ∙ sym (is.numbered id) ∙ ap is_some named
 
-  changed-so : (change : Surface → Surface) → ((s : Surface) → (change s).id ≡ s.id) → targets_in WlSurface new ≡ targets_in WlSurface old → after.owned.surfaces ≡ with_change id change r.owned.surfaces
+  changed-so : (change : Surface → Surface) → ((s : Surface) → (change s).id ≡ s.id) → targets_in WlSurface new ≡ targets_in WlSurface old
+      → after.owned.surfaces ≡ with_change id change r.owned.surfaces
       → numbered new after ≡ changed_at number change (numbered old r)
   changed-so change keeps names surfaces =
       ap (λ n. by_number n after.owned.surfaces) names ∙ ap (λ all. by_number (targets_in WlSurface old) all) surfaces
@@ -163,7 +166,8 @@ module _ (old new : Held) (r after : Resident) (slots : Slots) (is : AreKept (ta
   pub framed-frame : (frames : List Waiting) (n callback : ℕ) → n ≡ r.peer.requests + 1 → after.peer.requests ≡ n
       → ((all : Numbered) (cs : List Callback) → StandForAll slots all → AreWaiting slots.frames all cs → is_some (all number) ≡ true → (n : ℕ) → IsNewNumber n all cs
       → AreWaiting frames (changed_at number (asking (Frame n)) all) (cs ++ record { number = n; id = callback } ∷ []))
-      → after.callbacks ≡ r.callbacks ++ record { number = n; id = callback } ∷ [] → names_in new ≡ names_in old → after.owned.surfaces ≡ with_change id (asking (Frame n)) r.owned.surfaces → IsFramed frames new after
+      → after.callbacks ≡ r.callbacks ++ record { number = n; id = callback } ∷ [] → names_in new ≡ names_in old → after.owned.surfaces ≡ with_change id (asking (Frame n)) r.owned.surfaces
+          → IsFramed frames new after
   framed-frame frames n callback numbered_so counted waits calls names surfaces =
       let all = numbered old r in
       let le : r.peer.requests + 1 ≤ n = omega (arith, numbered_so) in
@@ -173,7 +177,8 @@ module _ (old new : Held) (r after : Resident) (slots : Slots) (is : AreKept (ta
 
   pub framed-commit : (frames : List Waiting)
       → ((all : Numbered) (cs : List Callback) → AreWaiting slots.frames all cs → AreWaiting frames (changed_at number (λ s. applying (asking Commit s)) all) cs)
-      → after.peer.requests ≡ r.peer.requests → after.callbacks ≡ r.callbacks → names_in new ≡ names_in old → after.owned.surfaces ≡ with_change id (λ s. applying (asking Commit s)) r.owned.surfaces → IsFramed frames new after
+      → after.peer.requests ≡ r.peer.requests → after.callbacks ≡ r.callbacks → names_in new ≡ names_in old → after.owned.surfaces ≡ with_change id (λ s. applying (asking Commit s)) r.owned.surfaces
+          → IsFramed frames new after
   framed-commit frames waits counted calls names surfaces =
       let all = numbered old r in
       rw (changed-so (λ s. applying (asking Commit s)) (λ s. refl) (ap (λ (x : Names). x.surfaces) names) surfaces, calls, counted)
@@ -181,7 +186,8 @@ module _ (old new : Held) (r after : Resident) (slots : Slots) (is : AreKept (ta
 
   pub framed-destroy : (left : Slots)
       → ((all : Numbered) (cs : List Callback) → AreWaiting slots.frames all cs → AreWaiting left.frames (with_at number None all) (filter (λ c. not (is_in (frames_at (all number)) c)) cs))
-      → after.peer.requests ≡ r.peer.requests → after.callbacks ≡ filter (λ c. not (is_in (frames_at (numbered old r number)) c)) r.callbacks → targets_in WlSurface new ≡ with_id id None (targets_in WlSurface old)
+      → after.peer.requests ≡ r.peer.requests → after.callbacks ≡ filter (λ c. not (is_in (frames_at (numbered old r number)) c)) r.callbacks
+          → targets_in WlSurface new ≡ with_id id None (targets_in WlSurface old)
       → after.owned.surfaces ≡ without_surface id r.owned.surfaces → IsFramed left.frames new after
   framed-destroy left waits counted calls names surfaces =
       let all = numbered old r in
@@ -208,7 +214,8 @@ effect-requests surface Maps (Some x) r = refl
 effect-requests surface Unmaps (Some x) r = refl
 
 -- whatever a commit comes to for the shell
-pub framed-applied : (old new : Held) (names : Names) (r : Resident) (id number : ℕ) (effect : Effect) (slots now : Slots) → names_in old ≡ names → new ≡ old → AreKept names.surfaces slots r.owned.surfaces → names.surfaces id ≡ Some number
+pub framed-applied : (old new : Held) (names : Names) (r : Resident) (id number : ℕ) (effect : Effect) (slots now : Slots) → names_in old ≡ names → new ≡ old
+    → AreKept names.surfaces slots r.owned.surfaces → names.surfaces id ≡ Some number
     → AreFramed slots.frames (by_number names.surfaces r.owned.surfaces) (r.peer.requests + 1) r.callbacks
     → ((all : Numbered) (cs : List Callback) → AreWaiting slots.frames all cs → AreWaiting now.frames (changed_at number (λ s. applying (asking Commit s)) all) cs)
     → IsFramed now.frames new (changed_simply (CommitSurface id effect) r)
@@ -218,7 +225,8 @@ framed-applied old new names r id number effect slots now are table is named f w
     let framed = subst (λ (n : Names). AreFramed slots.frames (by_number n.surfaces r.owned.surfaces) (r.peer.requests + 1) r.callbacks) (sym are) f in
     let o = xdg_of id r.owned.shell in
     let after = after_surface id r (committed_on id r) in
-    framed-commit old new r (effect_on id effect o after) slots kept framed id number there now.frames waits (effect-requests id effect o after) (effect-callbacks id effect o after) (ap names_in table)
+    framed-commit old new r (effect_on id effect o after) slots kept framed id number there now.frames waits (effect-requests id effect o after) (effect-callbacks id effect o after)
+        (ap names_in table)
     (effect-surfaces id effect o after)
 
 -- ---- what is told

@@ -32,22 +32,27 @@ use Rattle.wl_resident.proofs.Shelling.{entry-named}
 -- ---- the table
 
 -- an object of one interface is none of another
-unnamed : (one interface : Interface) (o : Option Entry) → (interface_number one == interface_number interface) ≡ false → is_of one (option_map object_of o) ≡ true → option_and_then (target_as interface) o ≡ None
+unnamed : (one interface : Interface) (o : Option Entry) → (interface_number one == interface_number interface) ≡ false → is_of one (option_map object_of o) ≡ true
+    → option_and_then (target_as interface) o ≡ None
 unnamed one interface None apart is = refl
 unnamed one interface (Some entry) apart is =
     ap (λ (b : Bool). if b then Some entry.target else None) (ap (λ n. n == interface_number interface) (eqb-true (interface_number entry.interface) (interface_number one) is) ∙ apart)
 
-module _ (old new : Held) (id : ℕ) (calls : List ℕ) (heard : (other : ℕ) → list_any (λ i. other == i) calls ≡ true → is_of WlCallback (objects_in old other) ≡ true) (holds : HoldsWithout old new (id ∷ calls)) where
-  targets-but : (interface : Interface) → (interface_number WlCallback == interface_number interface) ≡ false → (other : ℕ) → targets_in interface new other ≡ (if other == id then None else targets_in interface old other)
+module _ (old new : Held) (id : ℕ) (calls : List ℕ) (heard : (other : ℕ) → list_any (λ i. other == i) calls ≡ true → is_of WlCallback (objects_in old other) ≡ true)
+    (holds : HoldsWithout old new (id ∷ calls)) where
+  targets-but : (interface : Interface) → (interface_number WlCallback == interface_number interface) ≡ false → (other : ℕ)
+      → targets_in interface new other ≡ (if other == id then None else targets_in interface old other)
   targets-but interface apart other = ap (option_and_then (target_as interface)) (holds other) ∙ at (other == id) (list_any (λ i. other == i) calls) refl
     where
-      at : (a b : Bool) → list_any (λ i. other == i) calls ≡ b → option_and_then (target_as interface) (if a || b then None else entry_of old other) ≡ (if a then None else targets_in interface old other)
+      at : (a b : Bool) → list_any (λ i. other == i) calls ≡ b
+          → option_and_then (target_as interface) (if a || b then None else entry_of old other) ≡ (if a then None else targets_in interface old other)
       at true b e = refl
       at false true e = sym (unnamed WlCallback interface (entry_of old other) apart (heard other e))
       at false false e = refl
 
   -- what it didn't name it doesn't name now
-  targets-still : (interface : Interface) → (interface_number WlCallback == interface_number interface) ≡ false → targets_in interface old id ≡ None → targets_in interface new ≡ targets_in interface old
+  targets-still : (interface : Interface) → (interface_number WlCallback == interface_number interface) ≡ false → targets_in interface old id ≡ None
+      → targets_in interface new ≡ targets_in interface old
   targets-still interface apart none = fun_ext (λ other. targets-but interface apart other ∙ at other (other == id) refl)
     where
       at : (other : ℕ) (b : Bool) → (other == id) ≡ b → (if b then None else targets_in interface old other) ≡ targets_in interface old other
@@ -107,7 +112,8 @@ release-told (Some buffer) = refl
 pub going-told : (id : ℕ) (cs : List Callback) (calls : List ℕ) (released : Option ℕ) (releases : List Said) → calls ≡ map (λ c. c.id) cs → release_told released ≡ releases
     → (id_deleted id ∷ map id_deleted calls ++ released_told released) ≡ ((id_deleted id ∷ map (λ (c : Callback). id_deleted c.id) cs) ++ releases)
 going-told id cs calls released releases ids same =
-    ap (λ es. id_deleted id ∷ es ++ released_told released) (ap (map id_deleted) ids ∙ ids-told cs) ∙ ap (λ es. (id_deleted id ∷ map (λ (c : Callback). id_deleted c.id) cs) ++ es) (release-told released ∙ same)
+    ap (λ es. id_deleted id ∷ es ++ released_told released) (ap (map id_deleted) ids ∙ ids-told cs) ∙ ap (λ es. (id_deleted id ∷ map (λ (c : Callback). id_deleted c.id) cs) ++ es)
+        (release-told released ∙ same)
 
 -- ---- what becomes of the client's table
 

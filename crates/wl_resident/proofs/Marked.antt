@@ -95,7 +95,8 @@ find-later p (x ∷ xs) ys none = at (p x) none (find-later p xs ys)
 find-first : {X : Type 0} (p : X → Bool) (x : X) (xs : List X) → p x ≡ true → find p (x ∷ xs) ≡ Some x
 find-first p x xs passes = ap (λ (b : Bool). cond b (Some x) (find p xs)) passes
 
-module _ {A : Type 0} (c id number : ℕ) (current : Current A) (h : History) (is : IsCurrent current h) (turned : nat_lt (applied h).transform 8 ≡ true) (owned : ℕ → Owned) (links : (owned c).surfaces.links ≡ []) (found : history_in id (owned c).surfaces ≡ Some h)
+module _ {A : Type 0} (c id number : ℕ) (current : Current A) (h : History) (is : IsCurrent current h) (turned : nat_lt (applied h).transform 8 ≡ true) (owned : ℕ
+    → Owned) (links : (owned c).surfaces.links ≡ []) (found : history_in id (owned c).surfaces ≡ Some h)
     (numbers : ℕ → ById ℕ) (once : AreOnce (numbers c)) (named : numbers c id ≡ Some number) where
   abbrev owner_at : Standing → Owner
   owner_at s = owner_of (root_of owned s)
@@ -138,7 +139,8 @@ module _ {A : Type 0} (c id number : ℕ) (current : Current A) (h : History) (i
   FoundFirst k s later rest b = Found (cond b (Some k) later) (tree_at s ++ rest)
 
   -- what the first of the toplevels brings
-  first-found : (k s : Standing) → IsStanding numbers k s → Shows owned s → (later : Option Standing) (rest : List Window) → Found later rest → Found (cond (is_of c number k) (Some k) later) (tree_at s ++ rest)
+  first-found : (k s : Standing) → IsStanding numbers k s → Shows owned s → (later : Option Standing) (rest : List Window) → Found later rest
+      → Found (cond (is_of c number k) (Some k) later) (tree_at s ++ rest)
   first-found k s one shows later rest after = at (s.client == c) refl
     where
       same : is_of c number k ≡ is_of c id s
@@ -180,7 +182,8 @@ module _ {A : Type 0} (c id number : ℕ) (current : Current A) (h : History) (i
       at true e = by e (s.surface == id) refl
       at false e =
           passed (and_left (s.client == c) (s.surface == id) e)
-          (none-tree (is_window_of c id) (owner_at s) (λ w f. and_left (w.owner.client == c) (w.surface == id) (ap (λ (o : Owner). o.client == c) f ∙ e)) 17 (owned s.client).surfaces s.surface s.place)
+          (none-tree (is_window_of c id) (owner_at s) (λ w f. and_left (w.owner.client == c) (w.surface == id) (ap (λ (o : Owner). o.client == c) f ∙ e)) 17 (owned s.client).surfaces s.surface
+              s.place)
 
   -- those of all toplevels
   pub windows-found : (ks ss : List Standing) → IsStack numbers ks ss → AllShow owned ss → Found (find (is_of c number) ks) (windows_on owned ss)
@@ -197,7 +200,8 @@ module _ {A : Type 0} (c id number : ℕ) (current : Current A) (h : History) (i
 abbrev pub IsTold : {A : Type 0} → Kept A → ℕ → Option (Current A) → Type 0
 IsTold v number told = (all : Numbered) → StandForAll v.owned.surfaces all → IsCurrentAt told (all number)
 
-module _ {A : Type 0} (c : ℕ) (others : ℕ → ById ℕ) (base d : Desktop) (r : Resident) (v : Kept A) (stack : Stack) (seated : IsSeated c others base v stack d r) (id number : ℕ) (named : targets_in WlSurface v.client.objects id ≡ Some number) where
+module _ {A : Type 0} (c : ℕ) (others : ℕ → ById ℕ) (base d : Desktop) (r : Resident) (v : Kept A) (stack : Stack) (seated : IsSeated c others base v stack d r) (id number : ℕ)
+    (named : targets_in WlSurface v.client.objects id ≡ Some number) where
   kept : AreKept (targets_in WlSurface v.client.objects) v.owned.surfaces r.owned.surfaces
   kept = seated.seat.owns.surfaces
 
@@ -222,7 +226,8 @@ module _ {A : Type 0} (c : ℕ) (others : ℕ → ById ℕ) (base d : Desktop) (
   -- the record of the toplevel that is kept is that of the window
   pub seated-found : (current : Current A) → IsTold v number (Some current) → IsRecordOf (option_map (record_showing current) (find (is_of c number) stack.standing)) (window_at c id d)
   seated-found current is =
-      windows-found c id number current there.0.history (told-there (Some current) is) (desk-turned d seated.mapped c id there.0.history history-is) (owned_in d) (ap (λ (o : Owned). o.surfaces.links) owned-is ∙ kept.links)
+      windows-found c id number current there.0.history (told-there (Some current) is) (desk-turned d seated.mapped c id there.0.history history-is) (owned_in d)
+          (ap (λ (o : Owned). o.surfaces.links) owned-is ∙ kept.links)
       history-is
       (with_numbers c (targets_in WlSurface v.client.objects) others) (subst AreOnce (sym (numbers-same c (targets_in WlSurface v.client.objects) others)) kept.once)
       (ap (λ (numbers : ById ℕ). numbers id) (numbers-same c (targets_in WlSurface v.client.objects) others) ∙ named)

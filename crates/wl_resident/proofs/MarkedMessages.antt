@@ -42,11 +42,13 @@ use Rattle.wl_scene.specs.Stacking.{Owned, Stack}
 use Rattle.wl_scene.specs.Windows.{Window, contains}
 use Rattle.wl_plain.specs.Ask.{Ask, Ignore, owns}
 use Rattle.wl_plain.specs.Demand.{Demand, Asks, EndSurface, AskFrame, CommitTree, EndToplevel, Move}
-use Rattle.wl_plain.specs.Demanding.{base_demand, committed_by, demand_by, demand_of, demands, effect_of_commit, judge_all, moved_by_pointer, own_demand, surface_demand, toplevel_asked, toplevel_demand, toplevel_destroyed, xdg_asked}
+use Rattle.wl_plain.specs.Demanding.{base_demand, committed_by, demand_by, demand_of, demands, effect_of_commit, judge_all, moved_by_pointer, own_demand, surface_demand, toplevel_asked}
+use Rattle.wl_plain.specs.Demanding.{toplevel_demand, toplevel_destroyed, xdg_asked}
 use Rattle.wl_laws.proofs.Toplevels.Judged.{simple-peer, simply-ok}
 use Rattle.wl_plain.specs.Desktop.{Desktop, Resident, client_in, owned_in, owned_of, status_in, status_of}
 use Rattle.wl_resident.proofs.Toplevels.{MarksToplevels}
-use Rattle.wl_resident.specs.Marking.{AddsPoints, AreUnlinked, IsRecordOf, MarksChange, TellsChange, any_record_has, commit_by, commit_in, is_record_damaged, marked_by, marked_in, record_has, rects_applied, rects_changed}
+use Rattle.wl_resident.specs.Marking.{AddsPoints, AreUnlinked, IsRecordOf, MarksChange, TellsChange, any_record_has, commit_by, commit_in, is_record_damaged, marked_by, marked_in, record_has}
+use Rattle.wl_resident.specs.Marking.{rects_applied, rects_changed}
 use Rattle.wl_resident.specs.declared.marking.WindowRecord.{WindowRecord}
 use Rattle.wl_resident.specs.Messages.{IsAsked, IsKind}
 use Rattle.wl_laws.specs.Owning.{by_number, names_in, target_as, targets_in}
@@ -62,7 +64,8 @@ use Rattle.wl_plain.specs.Happens.{Serves}
 use Rattle.wl_plain.specs.Step.{with_peer}
 use Rattle.wl_laws.proofs.Toplevels.Simply.{Simple, Asking, AskingFrame, CommitSurface, DestroySurface, DestroyToplevel, changed_simply, effect_of, judge, simple_of, simply, touched}
 use Rattle.wl_laws.specs.Touching.{changes_at, is_window_damaged, is_window_of, window_at}
-use Rattle.wl_peer.specs.Requests.{Request as AnyRequest, ToCompositor, ToSurface, ToSubcompositor, ToSubsurface, ToSeat, ToPointer, ToBase, ToPositioner, ToXdgSurface, ToToplevel, ToPopup, request_in, request_of, toplevel_request, rect}
+use Rattle.wl_peer.specs.Requests.{Request as AnyRequest, ToCompositor, ToSurface, ToSubcompositor, ToSubsurface, ToSeat, ToPointer, ToBase, ToPositioner, ToXdgSurface, ToToplevel, ToPopup}
+use Rattle.wl_peer.specs.Requests.{request_in, request_of, toplevel_request, rect}
 use Rattle.wl_plain.specs.Served.{unserved_now}
 use Rattle.wl_peer.specs.ToplevelRequest.{ToplevelRequest}
 use Rattle.wl_peer.specs.ToplevelRequest as toplevel
@@ -199,7 +202,8 @@ module _ (r : Resident) (P : Simple → ℕ → Type 0) where
   own-touches : (object version : ℕ) (request : AnyRequest) → TouchesSo r P (own_demand r object version request)
   own-touches object version request = asks-touch-none (owns (action_of (known_of r.peer) object version request))
 
-  request-touches : (request : AnyRequest) (object version : ℕ) → unserved_now request ≡ false → (request ≡ ToSurface surface.Commit → Commits object) → (request ≡ ToToplevel toplevel.Destroy → Destroys object)
+  request-touches : (request : AnyRequest) (object version : ℕ) → unserved_now request ≡ false → (request ≡ ToSurface surface.Commit → Commits object)
+      → (request ≡ ToToplevel toplevel.Destroy → Destroys object)
       → TouchesSo r P (demand_by request r object version)
   request-touches (ToCompositor (compositor.CreateSurface id)) object version served commits destroys = asks-touch-none (surface_created r id version)
   request-touches (ToCompositor (compositor.CreateRegion id)) object version served commits destroys = own-touches object version (ToCompositor (compositor.CreateRegion id))
@@ -217,7 +221,8 @@ module _ (r : Resident) (P : Simple → ℕ → Type 0) where
   request-touches (ToPopup request) object version served commits destroys = absurd (cc)
   request-touches request object version served commits destroys = own-touches object version request
 
-  pub demand-touches : (object version : ℕ) (m : Message) → (request_of m ≡ ToSurface surface.Commit → Commits object) → (request_of m ≡ ToToplevel toplevel.Destroy → Destroys object) → TouchesSo r P (demand_of served_now r object version m)
+  pub demand-touches : (object version : ℕ) (m : Message) → (request_of m ≡ ToSurface surface.Commit → Commits object) → (request_of m ≡ ToToplevel toplevel.Destroy → Destroys object)
+      → TouchesSo r P (demand_of served_now r object version m)
   demand-touches object version m commits destroys =
       either (unserved_now (request_of m)) _ _ (λ left_out. refused _) (λ served. request-touches (request_of m) object version served commits destroys)
 
@@ -272,7 +277,8 @@ IsMarkedBy v asked ask id = (number : ℕ) × (marked_by asked ≡ Some number) 
 
 module _ {A : Type 0} (v : Kept A) (r : Resident) (is : IsResident v r) where
   -- a message that passes
-  pub passed-touches : (P : Simple → ℕ → Type 0) (object version size target : ℕ) (m : Message) → Passes v.client object version size target m → (request_of m ≡ ToSurface surface.Commit → Commits r P object)
+  pub passed-touches : (P : Simple → ℕ → Type 0) (object version size target : ℕ) (m : Message) → Passes v.client object version size target m
+      → (request_of m ≡ ToSurface surface.Commit → Commits r P object)
       → (request_of m ≡ ToToplevel toplevel.Destroy → Destroys r P object) → (ask : Simple) (id : ℕ) → AsksBy r (split_of r.peer.rest) ask → touched ask r ≡ Some id → P ask id
   passed-touches P object version size target m passes commits destroys ask id asks t =
       let left = with_peer (with_rest (drop size r.peer.rest) r.peer) r in
@@ -350,7 +356,8 @@ cleared-lives None c old new was now e h lives = h.0
 cleared-lives (Some cause) c old new was now e h lives = absurd (let both = sym e ∙ (ap (λ v. v.ended) (sym h.0) ∙ lives) in cc)
 
 -- one that lives after the stack was done is the same
-restacked-lives : {A : Type 0} (c : ℕ) (stacking : Stacking) (old new : Kept A) (was now : Stack) (q : Peer) → IsPeer old.client q → IsRestacked c stacking old new was now → new.client.ended ≡ None → new ≡ old
+restacked-lives : {A : Type 0} (c : ℕ) (stacking : Stacking) (old new : Kept A) (was now : Stack) (q : Peer) → IsPeer old.client q → IsRestacked c stacking old new was now → new.client.ended ≡ None
+    → new ≡ old
 restacked-lives c on.Stays old new was now q peer h lives = h.0
 restacked-lives c (on.Out number) old new was now q peer h lives = h.0
 restacked-lives c (on.ToTop number) old new was now q peer (inl h) lives = h.0
@@ -358,14 +365,16 @@ restacked-lives c (on.ToTop number) old new was now q peer (inr h) lives =
     let gone = h.0 q peer in
     absurd (differ (sym (none-is gone.0.status (sym gone.2.status ∙ lives) (over-ended gone.0 (lacks-over q gone.0 gone.1)))))
 
-settled-lives-on : {A : Type 0} (o : Option Cause) (c : ℕ) (stacking : Stacking) (mid new : Kept A) (was now : Stack) (q : Peer) → mid.client.ended ≡ o → IsPeer mid.client q → IsSettledBy o c stacking mid new was now → new.client.ended ≡ None → new ≡ mid
+settled-lives-on : {A : Type 0} (o : Option Cause) (c : ℕ) (stacking : Stacking) (mid new : Kept A) (was now : Stack) (q : Peer) → mid.client.ended ≡ o → IsPeer mid.client q
+    → IsSettledBy o c stacking mid new was now → new.client.ended ≡ None → new ≡ mid
 settled-lives-on (Some cause) c stacking mid new was now q e peer h lives = cleared-lives (Some cause) c mid new was now e h lives
 settled-lives-on None c stacking mid new was now q e peer h lives =
     let same = cleared-lives h.0.client.ended c h.0 new h.1 now refl h.3 lives in
     same ∙ restacked-lives c stacking mid h.0 was h.1 q peer h.2 (ap (λ k. k.client.ended) (sym same) ∙ lives)
 
 -- The surfaces of a client that still lives after a message keep their numbers.
-pub keeps-numbers : {A : Type 0} (s : Split) (r : Resident) (c : ℕ) (stacking : Stacking) (old mid new : Kept A) (was now : Stack) → TakesSo s r old mid stacking → IsSettledBy mid.client.ended c stacking mid new was now
+pub keeps-numbers : {A : Type 0} (s : Split) (r : Resident) (c : ℕ) (stacking : Stacking) (old mid new : Kept A) (was now : Stack) → TakesSo s r old mid stacking
+    → IsSettledBy mid.client.ended c stacking mid new was now
     → new.client.ended ≡ None → KeepsNumbers old.client.objects new.client.objects
 keeps-numbers {A} s r c stacking old mid new was now takes settled lives =
     let left = takes-left s r old mid stacking takes in
@@ -373,7 +382,8 @@ keeps-numbers {A} s r c stacking old mid new was now takes settled lives =
     subst (λ (k : Kept A). KeepsNumbers old.client.objects k.client.objects) (sym same) (left.2.numbers (ap (λ (k : Kept A). k.client.ended) (sym same) ∙ lives))
 
 -- where it lives after the stack is settled, it lived before
-pub lived-before : {A : Type 0} (s : Split) (r : Resident) (c : ℕ) (stacking : Stacking) (old mid new : Kept A) (was now : Stack) → TakesSo s r old mid stacking → IsSettledBy mid.client.ended c stacking mid new was now
+pub lived-before : {A : Type 0} (s : Split) (r : Resident) (c : ℕ) (stacking : Stacking) (old mid new : Kept A) (was now : Stack) → TakesSo s r old mid stacking
+    → IsSettledBy mid.client.ended c stacking mid new was now
     → new.client.ended ≡ None → mid.client.ended ≡ None
 lived-before s r c stacking old mid new was now takes settled lives =
     let left = takes-left s r old mid stacking takes in
@@ -392,7 +402,8 @@ pub found-of : (c id : ℕ) (ws : List Window) (w : Window) → find (is_window_
 found-of c id [] w e = absurd (cc)
 found-of c id (v ∷ ws) w e = at (is_window_of c id v) refl e (found-of c id ws w)
   where
-    at : (b : Bool) → is_window_of c id v ≡ b → cond b (Some v) (find (is_window_of c id) ws) ≡ Some w → (find (is_window_of c id) ws ≡ Some w → is_window_of c id w ≡ true) → is_window_of c id w ≡ true
+    at : (b : Bool) → is_window_of c id v ≡ b → cond b (Some v) (find (is_window_of c id) ws) ≡ Some w → (find (is_window_of c id) ws ≡ Some w → is_window_of c id w ≡ true)
+        → is_window_of c id w ≡ true
     at true is e later = let same : v ≡ w = cc in subst (λ x. is_window_of c id x ≡ true) same is
     at false is e later = later e
 
@@ -407,7 +418,8 @@ records k j x y w h t =
     ∙ ap (λ n. record_with j.x j.y j.w n k.transform) h ∙ ap (λ m. record_with j.x j.y j.w j.h m) t
 
 -- two windows of one surface whose records are the same
-module _ (c id : ℕ) (w v : Window) (of_w : is_window_of c id w ≡ true) (of_v : is_window_of c id v ≡ true) (k j : WindowRecord) (first : IsRecordOf (Some k) (Some w)) (second : IsRecordOf (Some j) (Some v)) where
+module _ (c id : ℕ) (w v : Window) (of_w : is_window_of c id w ≡ true) (of_v : is_window_of c id v ≡ true) (k j : WindowRecord) (first : IsRecordOf (Some k) (Some w))
+    (second : IsRecordOf (Some j) (Some v)) where
   pub record-same : has_same_record w v ≡ true → k ≡ j
   record-same e =
       let is = fields w v e in
@@ -443,7 +455,8 @@ has-so x y k w so = rw (sym so.0.0, sym so.0.1, sym so.1.0, sym so.1.1) refl
 pub damaged-so : (rects : List Rect) (x y : ℤ) (j : WindowRecord) (v : Window) → IsRecordOf (Some j) (Some v) → is_record_damaged rects x y j ≡ is_window_damaged rects x y v
 damaged-so rects x y j v so = rw (so.0.0, so.0.1, so.1.0, so.1.1) refl
 
-module _ (c id : ℕ) (d e : Desktop) (was is : Option WindowRecord) (first : IsRecordOf was (window_at c id d)) (second : IsRecordOf is (window_at c id e)) (rects : List Rect) (old new : Damaged) (changes : MarksChange was is rects old new)
+module _ (c id : ℕ) (d e : Desktop) (was is : Option WindowRecord) (first : IsRecordOf was (window_at c id d)) (second : IsRecordOf is (window_at c id e)) (rects : List Rect) (old new : Damaged)
+    (changes : MarksChange was is rects old new)
     (x y : ℕ) (wide : x < old.width) (high : y < old.height) (unmarked : has new x y ≡ false) where
   abbrev Unchanged : Option WindowRecord → Option WindowRecord → Option Window → Option Window → Type 0
   Unchanged was is w v = changes_at rects (pos x) (pos y) w v ≡ true → ⊥
@@ -451,15 +464,18 @@ module _ (c id : ℕ) (d e : Desktop) (was is : Option WindowRecord) (first : Is
   came : (w v : Option Window) (k j : Option WindowRecord) → was ≡ k → is ≡ j → (k ≡ j → ⊥) → (any_record_has (pos x) (pos y) k || any_record_has (pos x) (pos y) j) ≡ true → ⊥
   came w v k j a b other there =
       none-added (λ x y. any_record_has x y was || any_record_has x y is) old new (changes.changed (λ same. other (sym a ∙ same ∙ b))) x y wide high unmarked
-      (ap (λ (n : Option WindowRecord). any_record_has (pos x) (pos y) n || any_record_has (pos x) (pos y) is) a ∙ ap (λ (n : Option WindowRecord). any_record_has (pos x) (pos y) k || any_record_has (pos x) (pos y) n) b ∙ there)
+      (ap (λ (n : Option WindowRecord). any_record_has (pos x) (pos y) n || any_record_has (pos x) (pos y) is) a
+          ∙ ap (λ (n : Option WindowRecord). any_record_has (pos x) (pos y) k || any_record_has (pos x) (pos y) n) b ∙ there)
 
-  both : (w v : Window) (k j : WindowRecord) → window_at c id d ≡ Some w → window_at c id e ≡ Some v → was ≡ Some k → is ≡ Some j → IsRecordOf (Some k) (Some w) → IsRecordOf (Some j) (Some v) → (b : Bool) → has_same_record w v ≡ b
+  both : (w v : Window) (k j : WindowRecord) → window_at c id d ≡ Some w → window_at c id e ≡ Some v → was ≡ Some k → is ≡ Some j → IsRecordOf (Some k) (Some w) → IsRecordOf (Some j) (Some v)
+      → (b : Bool) → has_same_record w v ≡ b
       → (if b then is_window_damaged rects (pos x) (pos y) v else contains w (pos x) (pos y) || contains v (pos x) (pos y)) ≡ true → ⊥
   both w v k j at_d at_e a b so after true same there =
       let of_w = found-of c id _ w at_d in
       let of_v = found-of c id _ v at_e in
       let equal : k ≡ j = record-same c id w v of_w of_v k j so after same in
-      none-added (λ x y. is_record_damaged rects x y j) old new (changes.stayed j (a ∙ ap (λ (n : WindowRecord). Some n) equal) b) x y wide high unmarked (damaged-so rects (pos x) (pos y) j v after ∙ there)
+      none-added (λ x y. is_record_damaged rects x y j) old new (changes.stayed j (a ∙ ap (λ (n : WindowRecord). Some n) equal) b) x y wide high unmarked (damaged-so rects (pos x) (pos y) j v after
+          ∙ there)
   both w v k j at_d at_e a b so after false other there =
       let of_w = found-of c id _ w at_d in
       let of_v = found-of c id _ v at_e in
@@ -467,7 +483,8 @@ module _ (c id : ℕ) (d e : Desktop) (was is : Option WindowRecord) (first : Is
       (λ same. let equal : k ≡ j = cc in differ (sym other ∙ same-record c id w v of_w of_v k j so after equal))
       (sym (ap (λ (t : Bool). t || contains v (pos x) (pos y)) (has-so (pos x) (pos y) k w so) ∙ ap (λ (t : Bool). record_has (pos x) (pos y) k || t) (has-so (pos x) (pos y) j v after)) ∙ there)
 
-  unchanged : (w v : Option Window) (k j : Option WindowRecord) → window_at c id d ≡ w → window_at c id e ≡ v → was ≡ k → is ≡ j → IsRecordOf k w → IsRecordOf j v → changes_at rects (pos x) (pos y) w v ≡ true → ⊥
+  unchanged : (w v : Option Window) (k j : Option WindowRecord) → window_at c id d ≡ w → window_at c id e ≡ v → was ≡ k → is ≡ j → IsRecordOf k w → IsRecordOf j v
+      → changes_at rects (pos x) (pos y) w v ≡ true → ⊥
   unchanged None None k j at_d at_e a b so after there = differ there
   unchanged (Some w) None (Some k) None at_d at_e a b so after there =
       came (Some w) None (Some k) None a b (λ same. absurd (cc)) (or_left (record_has (pos x) (pos y) k) false (sym (has-so (pos x) (pos y) k w so) ∙ there))
@@ -483,7 +500,8 @@ module _ (c id : ℕ) (d e : Desktop) (was is : Option WindowRecord) (first : Is
   pub never-changed : changes_at rects (pos x) (pos y) (window_at c id d) (window_at c id e) ≡ true → ⊥
   never-changed there = unchanged (window_at c id d) (window_at c id e) was is refl refl refl refl first second there
 
-module _ {A : Type 0} (c : ℕ) (others : ℕ → ById ℕ) (base d e : Desktop) (r q : Resident) (old new : Kept A) (was now : Stack) (before : IsSeated c others base old was d r) (after : IsSeated c others base new now e q) where
+module _ {A : Type 0} (c : ℕ) (others : ℕ → ById ℕ) (base d e : Desktop) (r q : Resident) (old new : Kept A) (was now : Stack) (before : IsSeated c others base old was d r)
+    (after : IsSeated c others base new now e q) where
   pub status : status_in c e ≡ new.client.ended
   status = ap status_of after.based.there ∙ sym after.seat.peer.status
 
@@ -491,7 +509,8 @@ module _ {A : Type 0} (c : ℕ) (others : ℕ → ById ℕ) (base d e : Desktop)
   owned-then = ap owned_of before.based.there
 
   -- the damage that a commit applied is the one that is told
-  module _ (a : Asked) (applied : Option (Applied A)) (commits : (number : ℕ) → commit_by a ≡ Some number → TellsChange old new number applied) (id number : ℕ) (named : targets_in WlSurface old.client.objects id ≡ Some number) (lives : new.client.ended ≡ None) where
+  module _ (a : Asked) (applied : Option (Applied A)) (commits : (number : ℕ) → commit_by a ≡ Some number → TellsChange old new number applied) (id number : ℕ)
+      (named : targets_in WlSurface old.client.objects id ≡ Some number) (lives : new.client.ended ≡ None) where
     abbrev numbers_then : ById ℕ
     numbers_then = targets_in WlSurface old.client.objects
 
@@ -505,7 +524,8 @@ module _ {A : Type 0} (c : ℕ) (others : ℕ → ById ℕ) (base d e : Desktop)
     told-rects commit =
         let told = commits number commit lives (by_number numbers_then r.owned.surfaces) before.seat.owns.surfaces.stand in
         let change : AreChanges number (Some there.0) told.0.changes.items =
-        subst (λ (o : Option Surface). AreChanges number o told.0.changes.items) (surface-read numbers_then old.owned.surfaces r.owned.surfaces before.seat.owns.surfaces id number named ∙ there.1) told.2 in
+        subst (λ (o : Option Surface). AreChanges number o told.0.changes.items) (surface-read numbers_then old.owned.surfaces r.owned.surfaces before.seat.owns.surfaces id number named
+            ∙ there.1) told.2 in
         ap rects_applied told.1 ∙ ap rects_changed change.1 ∙ change.2.rects
 
     pub applied-by : (ask : Simple) → IsCommitOf a ask number → IsAppliedBy ask (history_of d c id) (rects_applied applied)
@@ -517,16 +537,20 @@ module _ {A : Type 0} (c : ℕ) (others : ℕ → ById ℕ) (base d e : Desktop)
     applied-by (DestroyToplevel toplevel xdg top) commit = tt
 
   -- a surface that is touched is there afterwards, with its number
-  pub still-named : (more : NoMore d) → Serves served_now c d e → (new.client.ended ≡ None → KeepsNumbers old.client.objects new.client.objects) → (ask : Simple) (id number : ℕ) → AsksBy r (split_of r.peer.rest) ask → touched ask r ≡ Some id → targets_in WlSurface old.client.objects id ≡ Some number → new.client.ended ≡ None → targets_in WlSurface new.client.objects id ≡ Some number
+  pub still-named : (more : NoMore d) → Serves served_now c d e → (new.client.ended ≡ None → KeepsNumbers old.client.objects new.client.objects) → (ask : Simple) (id number : ℕ)
+      → AsksBy r (split_of r.peer.rest) ask → touched ask r ≡ Some id → targets_in WlSurface old.client.objects id ≡ Some number → new.client.ended ≡ None
+      → targets_in WlSurface new.client.objects id ≡ Some number
   still-named more serves keeps ask id number told t named lives =
       let stays : is_some (surface_at id (owned_in e c).surfaces) ≡ true =
       serves-keeps c r d before.based.there e more serves (status ∙ lives) ask told id t (sym (before.seat.owns.surfaces.numbered id) ∙ ap (λ (o : Option ℕ). is_some o) named) in
-      let here = some-number (targets_in WlSurface new.client.objects id) (after.seat.owns.surfaces.numbered id ∙ ap (λ (o : Option Resident). is_some (surface_at id (owned_of o).surfaces)) (sym after.based.there) ∙ stays) in
+      let here = some-number (targets_in WlSurface new.client.objects id) (after.seat.owns.surfaces.numbered id ∙ ap (λ (o : Option Resident). is_some (surface_at id (owned_of o).surfaces))
+          (sym after.based.there) ∙ stays) in
       here.1 ∙ ap (λ n. Some n) (sym (keeps lives id number here.0 named here.1))
 
   module _ (unlinked : AreUnlinked base) (more : NoMore d) (serves : Serves served_now c d e) (a : Asked) (asks : IsAsked old.client a)
       (keeps : new.client.ended ≡ None → KeepsNumbers old.client.objects new.client.objects) (surface_number : Option ℕ) (by_asked : surface_number ≡ marked_by a)
-      (record_was record_is : Option WindowRecord) (first : (id number : ℕ) → surface_number ≡ Some number → targets_in WlSurface old.client.objects id ≡ Some number → IsRecordOf record_was (window_at c id d))
+      (record_was record_is : Option WindowRecord) (first : (id number : ℕ) → surface_number ≡ Some number → targets_in WlSurface old.client.objects id ≡ Some number
+          → IsRecordOf record_was (window_at c id d))
       (second : (id number : ℕ) → surface_number ≡ Some number → targets_in WlSurface new.client.objects id ≡ Some number → IsRecordOf record_is (window_at c id e))
       (applied : Option (Applied A)) (commits : (number : ℕ) → commit_by a ≡ Some number → TellsChange old new number applied)
       (lives : new.client.ended ≡ None) (d0 d2 : Damaged) (changes : MarksChange record_was record_is (rects_applied applied) d0 d2) where

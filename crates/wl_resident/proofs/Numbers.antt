@@ -31,7 +31,8 @@ pub keeps-toplevel : (old new : Held) (id : ℕ) (number : Option ℕ) → names
 keeps-toplevel old new id number same = keeps-named old new (ap (λ (names : Names). names.surfaces) same)
 
 -- one goes, or is made that wasn't there
-keeps-one : (numbers now : ById ℕ) (id : ℕ) (number : Option ℕ) → now ≡ with_id id number numbers → ((a b : ℕ) → numbers id ≡ Some a → number ≡ Some b → a ≡ b) → (other a b : ℕ) → numbers other ≡ Some a → now other ≡ Some b → a ≡ b
+keeps-one : (numbers now : ById ℕ) (id : ℕ) (number : Option ℕ) → now ≡ with_id id number numbers → ((a b : ℕ) → numbers id ≡ Some a → number ≡ Some b → a ≡ b) → (other a b : ℕ)
+    → numbers other ≡ Some a → now other ≡ Some b → a ≡ b
 keeps-one numbers now id number same at other a b was is = by (other == id) refl (ap (λ (n : ById ℕ). n other) (sym same) ∙ is)
   where
     by : (e : Bool) → (other == id) ≡ e → cond e number (numbers other) ≡ Some b → a ≡ b

@@ -22,7 +22,8 @@ use Rattle.wl_peer.specs.declared.actions.Action.{Action}
 use Rattle.wl_peer.specs.declared.refusals.Refusal.{Refusal}
 use Rattle.wl_client.specs.declared.served.Served.{Served}
 use Rattle.wl_client.specs.declared.served.Served.TheVariants as served
-use Rattle.wl_peer.specs.declared.actions.Action.TheVariants.{Sync, GetRegistry, Bind, CreateRegion, AddToRegion, SubtractFromRegion, DestroyRegion, CreatePool, CreateBuffer, ResizePool, DestroyPool, DestroyBuffer}
+use Rattle.wl_peer.specs.declared.actions.Action.TheVariants.{Sync, GetRegistry, Bind, CreateRegion, AddToRegion, SubtractFromRegion, DestroyRegion, CreatePool, CreateBuffer, ResizePool, DestroyPool}
+use Rattle.wl_peer.specs.declared.actions.Action.TheVariants.{DestroyBuffer}
 use Rattle.wl_surface.specs.Kept.{has_at}
 use Rattle.wl_surface.specs.Surfaces.{has, is_used}
 use Rattle.wl_table.specs.Objects.{Held, entry_of}
@@ -64,7 +65,8 @@ one-passes v (object, version, size, target, m, passes, own) (object2, version2,
     let both = sym own ∙ ap (λ (n : Message). is_own n.interface) it ∙ other in
     cc
 
-pub own-taken : (v : ClientView) (s : Served) → v.ended ≡ None → PassesTo true v → (s ≡ served.More → IsIdleAt v.ended v.rest) → (s ≡ served.Other → (v.ended ≡ None) × PassesTo false v) → was_taken s ≡ true
+pub own-taken : (v : ClientView) (s : Served) → v.ended ≡ None → PassesTo true v → (s ≡ served.More → IsIdleAt v.ended v.rest) → (s ≡ served.Other → (v.ended ≡ None) × PassesTo false v)
+    → was_taken s ≡ true
 own-taken v served.Done alive own more other = refl
 own-taken v (served.Refused object code) alive own more other = refl
 own-taken v served.More alive (object, version, size, target, m, passes, own) more other =
@@ -73,19 +75,22 @@ own-taken v served.Other alive own more other = absurd (one-passes v own (other 
 
 -- ---- what names surfaces stays
 
-seen-surface : (i : Interface) (version target : ℕ) → option_and_then (target_as WlSurface) (of_surface (Some (record { interface = i; version = version; target = target }))) ≡ target_as WlSurface (record { interface = i; version = version; target = target })
+seen-surface : (i : Interface) (version target : ℕ) → option_and_then (target_as WlSurface) (of_surface (Some (record { interface = i; version = version; target = target }))) ≡ target_as WlSurface
+    (record { interface = i; version = version; target = target })
 seen-surface WlSurface version target = refl
 seen-surface XdgSurface version target = refl
 seen-surface XdgToplevel version target = refl
 seen-surface i version target = refl
 
-seen-xdg : (i : Interface) (version target : ℕ) → option_and_then (target_as XdgSurface) (of_surface (Some (record { interface = i; version = version; target = target }))) ≡ target_as XdgSurface (record { interface = i; version = version; target = target })
+seen-xdg : (i : Interface) (version target : ℕ) → option_and_then (target_as XdgSurface) (of_surface (Some (record { interface = i; version = version; target = target }))) ≡ target_as XdgSurface
+    (record { interface = i; version = version; target = target })
 seen-xdg WlSurface version target = refl
 seen-xdg XdgSurface version target = refl
 seen-xdg XdgToplevel version target = refl
 seen-xdg i version target = refl
 
-seen-toplevel : (i : Interface) (version target : ℕ) → option_and_then (target_as XdgToplevel) (of_surface (Some (record { interface = i; version = version; target = target }))) ≡ target_as XdgToplevel (record { interface = i; version = version; target = target })
+seen-toplevel : (i : Interface) (version target : ℕ) → option_and_then (target_as XdgToplevel) (of_surface (Some (record { interface = i; version = version; target = target }))) ≡ target_as
+    XdgToplevel (record { interface = i; version = version; target = target })
 seen-toplevel WlSurface version target = refl
 seen-toplevel XdgSurface version target = refl
 seen-toplevel XdgToplevel version target = refl
@@ -113,7 +118,8 @@ targets-kept interface old new seen keeps =
 
 names-kept : (old new : Held) → KeepsSurfaces old new → names_in new ≡ names_in old
 names-kept old new keeps =
-    names-with old new (targets_in WlSurface old) (targets_in XdgSurface old) (targets_in XdgToplevel old) (targets-kept WlSurface old new surface-seen keeps) (targets-kept XdgSurface old new xdg-seen keeps) (targets-kept XdgToplevel old new toplevel-seen keeps)
+    names-with old new (targets_in WlSurface old) (targets_in XdgSurface old) (targets_in XdgToplevel old) (targets-kept WlSurface old new surface-seen keeps)
+        (targets-kept XdgSurface old new xdg-seen keeps) (targets-kept XdgToplevel old new toplevel-seen keeps)
 
 -- ---- it is answered
 
@@ -128,17 +134,20 @@ own-asked WlShmPool r object version m own is = rw is refl
 own-asked WlBuffer r object version m own is = rw is refl
 own-asked interface r object version m own is = absurd (cc)
 
-own-demand-of : (r : Resident) (object version : ℕ) (m : Message) → is_own m.interface ≡ true → demand_of served_now r object version m ≡ demands (owns (action_of (known_of r.peer) object version (request_of m)))
+own-demand-of : (r : Resident) (object version : ℕ) (m : Message) → is_own m.interface ≡ true
+    → demand_of served_now r object version m ≡ demands (owns (action_of (known_of r.peer) object version (request_of m)))
 own-demand-of r object version m own = own-asked m.interface r object version m own refl
 
 -- what it leaves
-own-left : {A : Type 0} (old new : Kept A) (r then : Resident) (q : Peer) → IsResident old r → then.owned ≡ r.owned → then.callbacks ≡ r.callbacks → r.peer.requests ≤ then.peer.requests → new.owned ≡ old.owned → (new.client.ended ≡ None → KeepsSurfaces old.client.objects new.client.objects) → IsPeer new.client q → IsLeft old new then q
+own-left : {A : Type 0} (old new : Kept A) (r then : Resident) (q : Peer) → IsResident old r → then.owned ≡ r.owned → then.callbacks ≡ r.callbacks → r.peer.requests ≤ then.peer.requests
+    → new.owned ≡ old.owned → (new.client.ended ≡ None → KeepsSurfaces old.client.objects new.client.objects) → IsPeer new.client q → IsLeft old new then q
 own-left {A} old new r then q is owned callbacks more same keeps peer = record {
   peer = peer;
   owns = λ alive. rw (names-kept old.client.objects new.client.objects (keeps alive), same, owned) is.owns;
   frames = λ alive.
       subst (λ (o : Lent A). IsFramed o.surfaces.frames new.client.objects then) (sym same)
-      (framed-names old.owned.surfaces.frames old.client.objects new.client.objects r then callbacks more is.frames (names-kept old.client.objects new.client.objects (keeps alive)) (ap (λ (o : Owned). o.surfaces) owned));
+      (framed-names old.owned.surfaces.frames old.client.objects new.client.objects r then callbacks more is.frames (names-kept old.client.objects new.client.objects (keeps alive))
+          (ap (λ (o : Owned). o.surfaces) owned));
   numbers = λ alive. keeps-names old.client.objects new.client.objects (names-kept old.client.objects new.client.objects (keeps alive));
 }
 
@@ -159,9 +168,12 @@ own-requests (CreateBuffer id version buffer) left n le = omega (arith, le)
 own-requests (ResizePool store size) left n le = omega (arith, le)
 own-requests (DestroyPool id store) left n le = omega (arith, le)
 own-requests (DestroyBuffer id store) left n le =
-    subst (λ (m : ℕ). n ≤ m) (sym (kept-requests (has_used (λ number. is_used number left.owned.surfaces) (left.peer.buffers id)) left.peer.stores (changed (DestroyBuffer id store) (counted left.peer)))) (omega (arith, le))
+    subst (λ (m : ℕ). n ≤ m)
+        (sym (kept-requests (has_used (λ number. is_used number left.owned.surfaces) (left.peer.buffers id)) left.peer.stores (changed (DestroyBuffer id store) (counted left.peer))))
+        (omega (arith, le))
 
-own-answered : {A : Type 0} (old new : Kept A) (r left : Resident) (judged : Result Action Refusal) (q : Peer) → IsResident old r → left.owned ≡ r.owned → left.callbacks ≡ r.callbacks → r.peer.requests ≤ left.peer.requests → new.owned ≡ old.owned → (new.client.ended ≡ None → KeepsSurfaces old.client.objects new.client.objects)
+own-answered : {A : Type 0} (old new : Kept A) (r left : Resident) (judged : Result Action Refusal) (q : Peer) → IsResident old r → left.owned ≡ r.owned → left.callbacks ≡ r.callbacks
+    → r.peer.requests ≤ left.peer.requests → new.owned ≡ old.owned → (new.client.ended ≡ None → KeepsSurfaces old.client.objects new.client.objects)
     → AnswersWith (λ number. is_used number left.owned.surfaces) judged left.peer q → IsPeer new.client q → AnswersSo (owns judged) left old new
 own-answered old new r left (Ok action) q is owned callbacks more same keeps acts peer =
     (q, acts, own-left old new r (changed_by (Own action) (with_peer (counted left.peer) left)) q is owned callbacks (own-requests action left r.peer.requests more) same keeps peer)
@@ -174,7 +186,8 @@ used-of old r is =
     let slots = old.owned.surfaces in
     (by_number numbers r.owned.surfaces, is.owns.surfaces.stand, λ number. any-is numbers slots r.owned.surfaces is.owns.surfaces (λ s. has number s.history) (has_at number) refl (λ s. refl))
 
-pub own-served : {A : Type 0} (old new : Kept A) (r : Resident) (q : Peer) → IsResident old r → PassesTo true old.client → new.owned ≡ old.owned → (new.client.ended ≡ None → KeepsSurfaces old.client.objects new.client.objects)
+pub own-served : {A : Type 0} (old new : Kept A) (r : Resident) (q : Peer) → IsResident old r → PassesTo true old.client → new.owned ≡ old.owned
+    → (new.client.ended ≡ None → KeepsSurfaces old.client.objects new.client.objects)
     → ServesWith (λ number. is_used number r.owned.surfaces) r.peer q → IsPeer new.client q → (c : ℕ) (d : Desktop) → OwnsToplevelsOnly r → TakesSo (split_of r.peer.rest) c r d old new Stays
 own-served old new r q is (object, version, size, target, m, passes, own) same keeps serves peer c d only =
     let whole = whole-first old r object version size target m passes is in
@@ -183,7 +196,8 @@ own-served old new r q is (object, version, size, target, m, passes, own) same k
     let action : Result Action Refusal = action_of (known_of r.peer) object version (request_of m) in
     let used : ℕ → Bool = λ number. is_used number r.owned.surfaces in
     let judged : judge_all served_now r object m.opcode body ≡ demands (owns action) = demanded-first old r object version size target m passes is ∙ own-demand-of left object version m own in
-    let judged_own : judge_own (known_of r.peer) object m.opcode body ≡ action = judged-by old r object version size target m passes is (λ version m. action_of (known_of r.peer) object version (request_of m)) in
+    let judged_own : judge_own (known_of r.peer) object m.opcode body ≡ action =
+        judged-by old r object version size target m passes is (λ version m. action_of (known_of r.peer) object version (request_of m)) in
     let taken : TakesWith used (Whole object m.opcode size) r.peer q = subst (λ (s : Split). TakesWith used s r.peer q) whole serves.1 in
     let answers : AnswersWith used action left.peer q = subst (λ (j : Result Action Refusal). AnswersWith used j left.peer q) judged_own taken in
     subst (λ (s : Split). TakesSo s c r d old new Stays) (sym whole) (

@@ -33,7 +33,8 @@ use Rattle.wl_resident.proofs.Marked.{none-tree}
 use Rattle.wl_resident.proofs.Scenes.{numbers-same}
 
 -- what the surface of a toplevel of the client's is told to show
-pub shown-here : {A : Type 0} (c : ℕ) (all : Numbered) (current : Current A) (k : Standing) (x y : ℤ) → (k.client == c) ≡ true → IsCurrentAt (Some current) (all k.surface) → record_has x y (record_showing current k) ≡ is_shown_by c all x y k
+pub shown-here : {A : Type 0} (c : ℕ) (all : Numbered) (current : Current A) (k : Standing) (x y : ℤ) → (k.client == c) ≡ true → IsCurrentAt (Some current) (all k.surface)
+    → record_has x y (record_showing current k) ≡ is_shown_by c all x y k
 shown-here {A} c all current k x y own is = by (all k.surface) is
   where
     by : (o : Option Surface) → IsCurrentAt (Some current) o → record_has x y (record_showing current k) ≡ ((k.client == c) && shows_point x y k.place (option_map (λ (s : Surface). s.history) o))
@@ -42,7 +43,8 @@ shown-here {A} c all current k x y own is = by (all k.surface) is
 
 -- ---- those of all toplevels
 
-module _ (c : ℕ) (x y : ℤ) (owned : ℕ → Owned) (links : (owned c).surfaces.links ≡ []) (numbers : ℕ → ById ℕ) (all : Numbered) (read : (id number : ℕ) → numbers c id ≡ Some number → all number ≡ surface_at id (owned c).surfaces) where
+module _ (c : ℕ) (x y : ℤ) (owned : ℕ → Owned) (links : (owned c).surfaces.links ≡ []) (numbers : ℕ → ById ℕ) (all : Numbered) (read : (id number : ℕ) → numbers c id ≡ Some number
+    → all number ≡ surface_at id (owned c).surfaces) where
   abbrev is_own : Window → Bool
   is_own w = (w.owner.client == c) && contains w x y
 
@@ -55,10 +57,12 @@ module _ (c : ℕ) (x y : ℤ) (owned : ℕ → Owned) (links : (owned c).surfac
   abbrev history_at : Standing → Option History
   history_at s = history_in s.surface (owned s.client).surfaces
 
-  window-here : (s : Standing) → s.client ≡ c → (h : History) → shows_buffer (Some h) ≡ true → list_any is_own (window_of (owner_at s) s.surface (corner_at s.place h) h) ≡ shows_point x y s.place (Some h)
+  window-here : (s : Standing) → s.client ≡ c → (h : History) → shows_buffer (Some h) ≡ true → list_any is_own (window_of (owner_at s) s.surface (corner_at s.place h) h) ≡ shows_point x y s.place
+      (Some h)
   window-here s own h shows = by (applied h).buffer refl shows
     where
-      by : (buffer : Option Buffer) → (applied h).buffer ≡ buffer → is_there buffer ≡ true → list_any is_own (window_with (owner_at s) s.surface (corner_at s.place h) (applied h) buffer) ≡ shows_point x y s.place (Some h)
+      by : (buffer : Option Buffer) → (applied h).buffer ≡ buffer → is_there buffer ≡ true → list_any is_own (window_with (owner_at s) s.surface (corner_at s.place h) (applied h) buffer) ≡ shows_point
+          x y s.place (Some h)
       by None e there = absurd (cc)
       by (Some b) e there =
           or-false (is_own (window_showing (owner_at s) s.surface (corner_at s.place h) (applied h) b)) ∙ rw (eq-eqb s.client c own, e) refl
@@ -121,7 +125,8 @@ module _ {A : Type 0} (c : ℕ) (others : ℕ → ById ℕ) (base d : Desktop) (
 
   read : (id number : ℕ) → with_numbers c (targets_in WlSurface v.client.objects) others c id ≡ Some number → numbered number ≡ surface_at id (owned_in d c).surfaces
   read id number named =
-      surface-read (targets_in WlSurface v.client.objects) v.owned.surfaces r.owned.surfaces kept id number (sym (ap (λ (numbers : ById ℕ). numbers id) (numbers-same c (targets_in WlSurface v.client.objects) others)) ∙ named)
+      surface-read (targets_in WlSurface v.client.objects) v.owned.surfaces r.owned.surfaces kept id number
+          (sym (ap (λ (numbers : ById ℕ). numbers id) (numbers-same c (targets_in WlSurface v.client.objects) others)) ∙ named)
       ∙ sym (ap (λ (o : Owned). surface_at id o.surfaces) owned-is)
 
   -- the toplevels that are kept lie where its windows do
@@ -144,7 +149,8 @@ any-standing p (t ∷ ts) = ap (λ (b : Bool). p (standing_of t) || b) (any-stan
 
 -- one more of them
 pub marked-more : (slots : Slots) (c : ℕ) (toplevels : List Toplevel) (k : ℕ) (t : Toplevel) (old was new : Damaged) → k < length toplevels → AreMarked slots c (take k toplevels) old was
-    → ((all : Numbered) → StandForAll slots all → (x y : ℕ) → x < was.width → y < was.height → has new x y ≡ (has was x y || is_shown_by c all (pos x) (pos y) (standing_of (get_or toplevels k t)))) → IsAsLarge was new
+    → ((all : Numbered) → StandForAll slots all → (x y : ℕ) → x < was.width → y < was.height → has new x y ≡ (has was x y || is_shown_by c all (pos x) (pos y) (standing_of (get_or toplevels k t))))
+        → IsAsLarge was new
     → AreMarked slots c (take (k + 1) toplevels) old new
 marked-more slots c toplevels k t old was new less is more sides = record {
   points = λ all stand x y wide high.
@@ -163,7 +169,8 @@ scene-shown c slots toplevels stack old new same are all stand x y wide high =
     ∙ ap (λ (b : Bool). has old x y || b) (any-standing (is_shown_by c all (pos x) (pos y)) toplevels ∙ ap (λ (ss : List Standing). list_any (is_shown_by c all (pos x) (pos y)) ss) same)
 
 -- and so the client's windows
-pub scene-marked : {A : Type 0} (c : ℕ) (others : ℕ → ById ℕ) (base d : Desktop) (r : Resident) (v : Kept A) (stack : Stack) → IsSeated c others base v stack d r → (toplevels : List Toplevel) (old new : Damaged) → map standing_of toplevels ≡ stack.standing
+pub scene-marked : {A : Type 0} (c : ℕ) (others : ℕ → ById ℕ) (base d : Desktop) (r : Resident) (v : Kept A) (stack : Stack) → IsSeated c others base v stack d r
+    → (toplevels : List Toplevel) (old new : Damaged) → map standing_of toplevels ≡ stack.standing
     → AreMarked v.owned.surfaces c toplevels old new → (x y : ℕ) → x < old.width → y < old.height → has new x y ≡ (has old x y || has_window_at c (pos x) (pos y) d)
 scene-marked c others base d r v stack seated toplevels old new same are x y wide high =
     let all = numbered c others base d r v stack seated in

@@ -30,7 +30,8 @@ third : (at : Option Surface) (d : Option Buffer) → slice_index_or (had_at at)
 third None d = refl
 third (Some s) d = refl
 
-pub shown-had : (had : List (Option Attached)) (shown : Option Attached) (at : Option Surface) → shown ≡ slice_index_or had 2 shown → map (option_map buffer_of) had ≡ had_at at → option_map buffer_of shown ≡ shown_at at
+pub shown-had : (had : List (Option Attached)) (shown : Option Attached) (at : Option Surface) → shown ≡ slice_index_or had 2 shown → map (option_map buffer_of) had ≡ had_at at
+    → option_map buffer_of shown ≡ shown_at at
 shown-had had shown at is same =
     ap (option_map buffer_of) is
     ∙ index-map (option_map buffer_of) had 2 shown
@@ -64,7 +65,8 @@ shows-none (Some s) e = at (shown_at (Some s)) e
     at (Some b) e = absurd (cc)
 
 -- it showed no buffer, so that none is released
-pub maps-quiet : (numbers : ById ℕ) (slots : Slots) (r : Resident) (id : ℕ) (p : Peer) → AreKept numbers slots r.owned.surfaces → AreBare r.owned → effect_of r id ≡ Maps → told_simply (CommitSurface id Maps) (with_peer p r) ≡ []
+pub maps-quiet : (numbers : ById ℕ) (slots : Slots) (r : Resident) (id : ℕ) (p : Peer) → AreKept numbers slots r.owned.surfaces → AreBare r.owned → effect_of r id ≡ Maps
+    → told_simply (CommitSurface id Maps) (with_peer p r) ≡ []
 maps-quiet numbers slots r id p kept bare maps =
     committed-released id Maps (with_peer p r) kept.apart (kept.counts id)
     ∙ ap (λ (o : Option Buffer). release_told (release_of o (committed_on id (with_peer p r))))

@@ -25,7 +25,8 @@ first-has s ss =
     rw (and-both (s.client == s.client) (s.surface == s.surface) (same-number s.client) (same-number s.surface)) refl
 
 -- the numbers of the surfaces that stand are all that counts
-pub stack-by : (numbers others : ℕ → ById ℕ) (ks ss : List Standing) → ((c surface n : ℕ) → Has ss c surface → numbers c surface ≡ Some n → others c surface ≡ Some n) → IsStack numbers ks ss → IsStack others ks ss
+pub stack-by : (numbers others : ℕ → ById ℕ) (ks ss : List Standing) → ((c surface n : ℕ) → Has ss c surface → numbers c surface ≡ Some n → others c surface ≡ Some n) → IsStack numbers ks ss
+    → IsStack others ks ss
 stack-by numbers others [] [] same is = tt
 stack-by numbers others (k ∷ ks) (s ∷ ss) same is = (
   record { client = is.0.client; place = is.0.place; surface = same s.client s.surface k.surface (first-has s ss) is.0.surface },
@@ -37,7 +38,8 @@ stack-by numbers others (k ∷ ks) [] same is = absurd is
 -- ---- toplevels go
 
 -- What is left out by one test of what is kept, and by another of what is meant, agrees where the tests do.
-pub stack-left : (numbers : ℕ → ById ℕ) (p q : Standing → Bool) → ((k s : Standing) → IsStanding numbers k s → p k ≡ q s) → (ks ss : List Standing) → IsStack numbers ks ss → IsStack numbers (filter p ks) (filter q ss)
+pub stack-left : (numbers : ℕ → ById ℕ) (p q : Standing → Bool) → ((k s : Standing) → IsStanding numbers k s → p k ≡ q s) → (ks ss : List Standing) → IsStack numbers ks ss
+    → IsStack numbers (filter p ks) (filter q ss)
 stack-left numbers p q same [] [] is = tt
 stack-left numbers p q same (k ∷ ks) (s ∷ ss) is = at (p k) (q s) (same k s is.0) (stack-left numbers p q same ks ss is.1)
   where
@@ -83,7 +85,8 @@ number-is numbers c surface n k s once is one = at (s.client == c) refl
     at false e = rw (one.client, e) refl
 
 -- that of a surface
-pub stack-out : (numbers : ℕ → ById ℕ) (c surface n : ℕ) (ks ss : List Standing) → AreOnce (numbers c) → numbers c surface ≡ Some n → IsStack numbers ks ss → IsStack numbers (without_surface_of c n ks) (without_surface_of c surface ss)
+pub stack-out : (numbers : ℕ → ById ℕ) (c surface n : ℕ) (ks ss : List Standing) → AreOnce (numbers c) → numbers c surface ≡ Some n → IsStack numbers ks ss
+    → IsStack numbers (without_surface_of c n ks) (without_surface_of c surface ss)
 stack-out numbers c surface n ks ss once is stack =
     stack-left numbers (λ s. not (is_of c n s)) (λ s. not (is_of c surface s)) (λ k s one. ap (λ (b : Bool). not b) (number-is numbers c surface n k s once is one)) ks ss stack
 

@@ -31,7 +31,8 @@ settled-by {A} (Some cause) c stacking old mid new was between is ended restacke
     (gone.0 ∙ ap (λ (k : Kept A). k.client) restacked.0, gone.1, gone.2 ∙ ap (λ (k : Stack). without_client c k.standing) restacked.1, gone.3 ∙ ap (λ (k : Stack). k.next) restacked.1)
 
 -- who ended by it, or had before, has the stack as it was
-pub ended-stack : {A : Type 0} (o : Option Cause) (c : ℕ) (stacking : Stacking) (old mid : Kept A) (was between : Stack) → old.client.ended ≡ o → IsRestackedBy o c stacking old mid was between → is_some mid.client.ended ≡ true → between ≡ was
+pub ended-stack : {A : Type 0} (o : Option Cause) (c : ℕ) (stacking : Stacking) (old mid : Kept A) (was between : Stack) → old.client.ended ≡ o → IsRestackedBy o c stacking old mid was between
+    → is_some mid.client.ended ≡ true → between ≡ was
 ended-stack (Some cause) c stacking old mid was between ended restacked over = restacked.1
 ended-stack {A} None c stacking old mid was between ended restacked over = at stacking restacked
   where

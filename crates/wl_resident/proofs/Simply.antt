@@ -129,7 +129,8 @@ module _ {A : Type 0} (old new : Kept A) (c : ℕ) (d : Desktop) where
     as-meets false h =
         (sym (wants-same ask demand r same) ∙ h.0, h.1, h.2, subst (λ (m : Resident). IsLeft old new m h.1) (changed-same c ask demand r d only same) h.3)
 
-  pub answers-simply : (judged : Result Simple Refusal) (demanded : Result Demand Refusal) (r : Resident) → OwnsToplevelsOnly r → Pairs r judged demanded → AnswersSimply judged r old new → AnswersWhole demanded c r d old new
+  pub answers-simply : (judged : Result Simple Refusal) (demanded : Result Demand Refusal) (r : Resident) → OwnsToplevelsOnly r → Pairs r judged demanded → AnswersSimply judged r old new
+      → AnswersWhole demanded c r d old new
   answers-simply (Ok ask) (Ok demand) r only same h =
       let p : Peer = counted r.peer in
       meets-simply ask demand (with_peer p r) (only-peer r p refl only) (same-peer r p ask demand same) h
@@ -137,7 +138,8 @@ module _ {A : Type 0} (old new : Kept A) (c : ℕ) (d : Desktop) where
   answers-simply (Ok ask) (Err other) r only same h = absurd same
   answers-simply (Err refusal) (Ok demand) r only same h = absurd same
 
-  pub simply-answers : (judged : Result Simple Refusal) (demanded : Result Demand Refusal) (r : Resident) → OwnsToplevelsOnly r → Pairs r judged demanded → AnswersWhole demanded c r d old new → AnswersSimply judged r old new
+  pub simply-answers : (judged : Result Simple Refusal) (demanded : Result Demand Refusal) (r : Resident) → OwnsToplevelsOnly r → Pairs r judged demanded → AnswersWhole demanded c r d old new
+      → AnswersSimply judged r old new
   simply-answers (Ok ask) (Ok demand) r only same h =
       let p : Peer = counted r.peer in
       simply-meets ask demand (with_peer p r) (only-peer r p refl only) (same-peer r p ask demand same) h
@@ -145,7 +147,8 @@ module _ {A : Type 0} (old new : Kept A) (c : ℕ) (d : Desktop) where
   simply-answers (Ok ask) (Err other) r only same h = absurd same
   simply-answers (Err refusal) (Ok demand) r only same h = absurd same
 
-  pub answers-as : (done : Bool) (judged : Result Simple Refusal) (demanded : Result Demand Refusal) (r : Resident) → OwnsToplevelsOnly r → Pairs r judged demanded → AnswersAs done demanded c r d old new
+  pub answers-as : (done : Bool) (judged : Result Simple Refusal) (demanded : Result Demand Refusal) (r : Resident) → OwnsToplevelsOnly r → Pairs r judged demanded
+      → AnswersAs done demanded c r d old new
       → AnswersSimplyAs done judged r old new
   answers-as done (Ok ask) (Ok demand) r only same h =
       let p : Peer = counted r.peer in
@@ -170,13 +173,15 @@ wants-lacks true Later p q e h = inl h
 wants-lacks false Later p q e h = absurd (cc)
 
 -- What is done, or not, is answered.
-pub answered-so : {A : Type 0} (done : Bool) (demanded : Result Demand Refusal) (c : ℕ) (r : Resident) (d : Desktop) (old new : Kept A) → AnswersAs done demanded c r d old new → AnswersWhole demanded c r d old new
+pub answered-so : {A : Type 0} (done : Bool) (demanded : Result Demand Refusal) (c : ℕ) (r : Resident) (d : Desktop) (old new : Kept A) → AnswersAs done demanded c r d old new
+    → AnswersWhole demanded c r d old new
 answered-so true (Ok demand) c r d old new h = (h.0, wants-later (wants_memory demand) _ _ h.0 h.1, h.2)
 answered-so false (Ok demand) c r d old new h = (h.1, wants-lacks (wants_memory demand) _ _ h.1 h.0 h.2, h.3)
 answered-so true (Err refusal) c r d old new h = absurd h
 answered-so false (Err refusal) c r d old new h = h
 
-acts-so : {A : Type 0} (b : Bool) (ask : Simple) (r : Resident) (old new : Kept A) (q : Peer) → wants_simply ask ≡ b → WantsOr b (Queues (told_simply ask r) (changed_simply ask r).peer q) r.peer q → IsLeft old new (changed_simply ask r) q
+acts-so : {A : Type 0} (b : Bool) (ask : Simple) (r : Resident) (old new : Kept A) (q : Peer) → wants_simply ask ≡ b → WantsOr b (Queues (told_simply ask r) (changed_simply ask r).peer q) r.peer q
+    → IsLeft old new (changed_simply ask r) q
     → (done : Bool) × ActsAs done ask r old new
 acts-so false ask r old new q e h left = (true, (q, h, left))
 acts-so true ask r old new q e (inl h) left = (false, (e, q, h, left))
@@ -205,7 +210,8 @@ takes-stacks More r old new stacking h = tt
 
 -- ---- the stack of toplevels
 
-for-stacks : {A : Type 0} (old : Kept A) (ask : Simple) (demand : Demand) (r : Resident) (stacking : Stacking) → AreToplevels r.owned.shell → Same r ask demand → StacksFor old r demand stacking → StacksOne old r ask stacking
+for-stacks : {A : Type 0} (old : Kept A) (ask : Simple) (demand : Demand) (r : Resident) (stacking : Stacking) → AreToplevels r.owned.shell → Same r ask demand → StacksFor old r demand stacking
+    → StacksOne old r ask stacking
 for-stacks old ask demand r stacking top (asks other) h = h
 for-stacks old ask demand r stacking top (ends id) h = h
 for-stacks old ask demand r stacking top (frames id version surface) h = h
@@ -214,7 +220,8 @@ for-stacks old ask demand r stacking top (commit id effect e) h =
 for-stacks old ask demand r stacking top (goes id xdg surface) h = h
 for-stacks old ask demand r stacking top (move id serial) h = h
 
-pub simply-stacks : {A : Type 0} (old : Kept A) (judged : Result Simple Refusal) (demanded : Result Demand Refusal) (r : Resident) (stacking : Stacking) → AreToplevels r.owned.shell → Pairs r judged demanded → StacksWhole old r demanded stacking → StacksSimply old r judged stacking
+pub simply-stacks : {A : Type 0} (old : Kept A) (judged : Result Simple Refusal) (demanded : Result Demand Refusal) (r : Resident) (stacking : Stacking) → AreToplevels r.owned.shell
+    → Pairs r judged demanded → StacksWhole old r demanded stacking → StacksSimply old r judged stacking
 simply-stacks old (Ok ask) (Ok demand) r stacking top same h = for-stacks old ask demand r stacking top same h
 simply-stacks old (Err refusal) (Err other) r stacking top same h = tt
 simply-stacks old (Ok ask) (Err other) r stacking top same h = absurd same
@@ -227,7 +234,8 @@ asks-stay old r (Err refusal) = tt
 
 -- ---- a message
 
-pub simply-takes : {A : Type 0} (s : Split) (c : ℕ) (r : Resident) (d : Desktop) (old new : Kept A) (stacking : Stacking) → OwnsToplevelsOnly r → TakesWhole s c r d old new stacking → TakesSo s r old new stacking
+pub simply-takes : {A : Type 0} (s : Split) (c : ℕ) (r : Resident) (d : Desktop) (old new : Kept A) (stacking : Stacking) → OwnsToplevelsOnly r → TakesWhole s c r d old new stacking
+    → TakesSo s r old new stacking
 simply-takes (Whole object opcode size) c r d old new stacking only h =
     let body = take (size - 8) (drop 8 r.peer.rest) in
     let left : Resident = with_peer (with_rest (drop size r.peer.rest) r.peer) r in
@@ -250,6 +258,7 @@ simply-as false Bad c r d old new only h = h
 simply-as done More c r d old new only h = absurd h
 
 -- a client that is stood for and lives has no more than toplevels
-pub seated-only : {A : Type 0} (c : ℕ) (others : ℕ → ById ℕ) (base d : Desktop) (v : Kept A) (stack : Stack) (r : Resident) → IsSeated c others base v stack d r → v.client.ended ≡ None → NoMore d → OwnsToplevelsOnly r
+pub seated-only : {A : Type 0} (c : ℕ) (others : ℕ → ById ℕ) (base d : Desktop) (v : Kept A) (stack : Stack) (r : Resident) → IsSeated c others base v stack d r → v.client.ended ≡ None → NoMore d
+    → OwnsToplevelsOnly r
 seated-only c others base d v stack r is lives more =
     living r.peer.status r (toplevels_of c d) (sym is.seat.peer.status ∙ lives) (subst (λ (o : Option Resident). OwnsToplevelsAt o (toplevels_of c d)) is.based.there (more.each c))

@@ -28,7 +28,8 @@ four true false false d = refl
 four false b c d = refl
 
 -- a part of a rectangle on the output
-pub part-of : (left wide top high : ℤ) (k : WindowRecord) (rect : Rect) (x y : ℤ) → in_span left wide x ≡ (in_span k.x (pos k.w) x && in_span rect.x rect.w (x -ℤ k.x)) → in_span top high y ≡ (in_span k.y (pos k.h) y && in_span rect.y rect.h (y -ℤ k.y))
+pub part-of : (left wide top high : ℤ) (k : WindowRecord) (rect : Rect) (x y : ℤ) → in_span left wide x ≡ (in_span k.x (pos k.w) x && in_span rect.x rect.w (x -ℤ k.x))
+    → in_span top high y ≡ (in_span k.y (pos k.h) y && in_span rect.y rect.h (y -ℤ k.y))
     → (in_span left wide x && in_span top high y) ≡ (record_has x y k && in_rect (x -ℤ k.x) (y -ℤ k.y) rect)
 part-of left wide top high k rect x y across down =
     ap (λ b. b && in_span top high y) across ∙ ap (λ b. (in_span k.x (pos k.w) x && in_span rect.x rect.w (x -ℤ k.x)) && b) down
@@ -115,14 +116,6 @@ pub record IsPartlyMarked (k : WindowRecord) (rects : List Rect) (old new : Dama
   pub points : AddsPoints (λ x y. record_has x y k && list_any (in_rect (x -ℤ k.x) (y -ℤ k.y)) rects) old new
   pub sides : IsAsLarge old new
 
-pub none-marked : (k : WindowRecord) (damage : Damaged) → IsPartlyMarked k [] damage damage
-none-marked k damage = record { points = λ x y wide high. none (has damage x y) (record_has (pos x) (pos y) k); sides = record { width = refl; height = refl } }
-  where
-    none : (a b : Bool) → a ≡ (a || (b && false))
-    none true b = refl
-    none false true = refl
-    none false false = refl
-
 -- one of them more
 pub partly-more : (k : WindowRecord) (rects : List Rect) (n : ℕ) (rect part : Rect) (old was new : Damaged) → n < length rects → IsPartlyMarked k (take n rects) old was
     → ((x y : ℕ) → x < was.width → y < was.height → has new x y ≡ (has was x y || in_rect (pos x) (pos y) part))
@@ -153,23 +146,15 @@ more-points : (p : ℤ → ℤ → Bool) (old new : Damaged) → AddsPoints p ol
 more-points p old new adds x y wide high there = adds x y wide high ∙ ap (λ b. b || p (pos x) (pos y)) there
 
 -- where the record didn't stay, both windows are marked
-pub change-marked : (was is : Option WindowRecord) (rects : List Rect) (old mid new : Damaged) → ((k : WindowRecord) → was ≡ Some k → is ≡ Some k → ⊥) → AddsPoints (λ x y. any_record_has x y was) old mid → IsAsLarge old mid
+pub change-marked : (was is : Option WindowRecord) (rects : List Rect) (old mid new : Damaged) → ((k : WindowRecord) → was ≡ Some k → is ≡ Some k → ⊥)
+    → AddsPoints (λ x y. any_record_has x y was) old mid → IsAsLarge old mid
     → AddsPoints (λ x y. any_record_has x y is) mid new → IsAsLarge mid new → MarksChange was is rects old new
 change-marked was is rects old mid new never first large second larger =
     let both = both-marked (λ x y. any_record_has x y was) (λ x y. any_record_has x y is) old mid new large first second in record {
       stayed = λ k a b. absurd (never k a b);
       changed = λ other. both;
-      nothing = λ a b x y wide high. both x y wide high ∙ ap (λ k. has old x y || (any_record_has (pos x) (pos y) k || any_record_has (pos x) (pos y) is)) a ∙ ap (λ k. has old x y || any_record_has (pos x) (pos y) k) b;
+      nothing = λ a b x y wide high. both x y wide high ∙ ap (λ k. has old x y || (any_record_has (pos x) (pos y) k || any_record_has (pos x) (pos y) is)) a
+          ∙ ap (λ k. has old x y || any_record_has (pos x) (pos y) k) b;
       more = more-points (λ x y. any_record_has x y was || any_record_has x y is) old new both;
       sides = record { width = larger.width ∙ large.width; height = larger.height ∙ large.height };
     }
-
--- where it stayed, the damage is
-pub stay-marked : (was is : Option WindowRecord) (rects : List Rect) (old new : Damaged) (k : WindowRecord) → was ≡ Some k → is ≡ Some k → AddsPoints (λ x y. is_record_damaged rects x y k) old new → IsAsLarge old new → MarksChange was is rects old new
-stay-marked was is rects old new k a b adds sides = record {
-  stayed = λ j c d. let same : k ≡ j = (let both = sym a ∙ c in cc) in subst (λ n. AddsPoints (λ x y. is_record_damaged rects x y n) old new) same adds;
-  changed = λ other. absurd (other (a ∙ sym b));
-  nothing = λ c d. absurd (let both = sym a ∙ c in cc);
-  more = more-points (λ x y. is_record_damaged rects x y k) old new adds;
-  sides = sides;
-}

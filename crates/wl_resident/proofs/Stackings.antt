@@ -39,7 +39,8 @@ stacks-by-act old id number Map named = (number, named, refl)
 stacks-by-act old id number Unmap named = (number, named, refl)
 stacks-by-act old id number Nothing named = refl
 
-pub commit-stacks : {A : Type 0} (old : Kept A) (r : Resident) (id number : ℕ) (act : ShellAct) (judged : Result Demand Refusal) (stacking : Stacking) → IsSurface old id number → judged ≡ Ok (CommitTree id) → effect_of_commit r id ≡ effect_by act
+pub commit-stacks : {A : Type 0} (old : Kept A) (r : Resident) (id number : ℕ) (act : ShellAct) (judged : Result Demand Refusal) (stacking : Stacking) → IsSurface old id number
+    → judged ≡ Ok (CommitTree id) → effect_of_commit r id ≡ effect_by act
     → stacking ≡ stacking_by act number → StacksSo old r judged stacking
 commit-stacks old r id number act judged stacking named e comes is =
     subst (λ (j : Result Demand Refusal). StacksSo old r j stacking) (sym e)
@@ -47,7 +48,8 @@ commit-stacks old r id number act judged stacking named e comes is =
     (subst (λ (s : Stacking). StacksBy old id (effect_by act) s) (sym is) (stacks-by-act old id number act named)))
 
 -- a toplevel that goes
-pub toplevel-out : {A : Type 0} (old : Kept A) (r : Resident) (object number : ℕ) → IsResident old r → IsToplevel old object number → StacksSo old r (toplevel_destroyed object (xdg_with object r.owned.shell)) (Out number)
+pub toplevel-out : {A : Type 0} (old : Kept A) (r : Resident) (object number : ℕ) → IsResident old r → IsToplevel old object number
+    → StacksSo old r (toplevel_destroyed object (xdg_with object r.owned.shell)) (Out number)
 toplevel-out old r object number is named =
     let one = toplevel-named (names_in old.client.objects) old.owned.surfaces (kept_of old.owned.shell) r.owned is.owns object number named in
     subst (λ (o : Option Xdg). StacksSo old r (toplevel_destroyed object o) (Out number)) (sym one.4)
@@ -61,7 +63,8 @@ state-stays : {A : Type 0} (old : Kept A) (r : Resident) (o : Option Xdg) → St
 state-stays old r o = asks-stay old r (state_asked o)
 
 -- any other request of a toplevel
-pub toplevel-stays : {A : Type 0} (old : Kept A) (r : Resident) (object : ℕ) (o : Option Xdg) (request : ToplevelRequest) → (asked_by request ≡ Destruction → ⊥) → StacksSo old r (toplevel_asked object o request) Stays
+pub toplevel-stays : {A : Type 0} (old : Kept A) (r : Resident) (object : ℕ) (o : Option Xdg) (request : ToplevelRequest) → (asked_by request ≡ Destruction → ⊥)
+    → StacksSo old r (toplevel_asked object o request) Stays
 toplevel-stays old r object o toplevel.Destroy other = absurd (other refl)
 toplevel-stays old r object o (toplevel.Move seat serial) other = moved-stays old r serial o
 toplevel-stays old r object o toplevel.SetMaximized other = state-stays old r o
@@ -84,7 +87,8 @@ toplevel-state object o toplevel.UnsetFullscreen is = refl
 toplevel-state object o request is = absurd (cc)
 
 -- what is demanded of a toplevel
-pub toplevel-of : (r : Resident) (object version : ℕ) (m : Message) → m.interface ≡ XdgToplevel → demand_of served_now r object version m ≡ toplevel_demand r object (toplevel_request m.opcode m.fields)
+pub toplevel-of : (r : Resident) (object version : ℕ) (m : Message) → m.interface ≡ XdgToplevel
+    → demand_of served_now r object version m ≡ toplevel_demand r object (toplevel_request m.opcode m.fields)
 toplevel-of r object version m is = rw is refl
 
 -- one that isn't destroyed and asks for no other state: no pointer moves it yet
@@ -98,7 +102,8 @@ toplevel-ignored r object x (toplevel.Move seat serial) is = refl
 toplevel-ignored r object x request is = refl
 
 -- a request of an xdg_surface
-xdg-asked-stays : {A : Type 0} (old : Kept A) (r : Resident) (o : Option Xdg) (version : ℕ) (request : XdgSurfaceRequest) → unserved_now (ToXdgSurface request) ≡ false → StacksSo old r (xdg_asked r o version request) Stays
+xdg-asked-stays : {A : Type 0} (old : Kept A) (r : Resident) (o : Option Xdg) (version : ℕ) (request : XdgSurfaceRequest) → unserved_now (ToXdgSurface request) ≡ false
+    → StacksSo old r (xdg_asked r o version request) Stays
 xdg-asked-stays old r None version request served = tt
 xdg-asked-stays old r (Some x) version requests.Destroy served = asks-stay old r (xdg_surface_destroyed x)
 xdg-asked-stays old r (Some x) version (requests.GetToplevel id) served = asks-stay old r (toplevel_made r x version id)
@@ -106,7 +111,8 @@ xdg-asked-stays old r (Some x) version (requests.GetPopup id parent positioner) 
 xdg-asked-stays old r (Some x) version (requests.SetWindowGeometry a b width height) served = asks-stay old r (geometry_set x (rect a b width height))
 xdg-asked-stays old r (Some x) version (requests.AckConfigure serial) served = asks-stay old r (acknowledged_by x serial)
 
-pub xdg-stays : {A : Type 0} (old : Kept A) (r : Resident) (object version : ℕ) (request : XdgSurfaceRequest) → StacksSo old r (demand_of served_now r object version (xdg_surface_request request)) Stays
+pub xdg-stays : {A : Type 0} (old : Kept A) (r : Resident) (object version : ℕ) (request : XdgSurfaceRequest)
+    → StacksSo old r (demand_of served_now r object version (xdg_surface_request request)) Stays
 xdg-stays old r object version (requests.GetPopup id parent positioner) = tt
 xdg-stays old r object version requests.Destroy = xdg-asked-stays old r (xdg_at object r.owned.shell) version requests.Destroy refl
 xdg-stays old r object version (requests.GetToplevel id) = xdg-asked-stays old r (xdg_at object r.owned.shell) version (requests.GetToplevel id) refl
@@ -114,7 +120,8 @@ xdg-stays old r object version (requests.SetWindowGeometry a b width height) = x
 xdg-stays old r object version (requests.AckConfigure serial) = xdg-asked-stays old r (xdg_at object r.owned.shell) version (requests.AckConfigure serial) refl
 
 -- a request of an xdg_wm_base
-pub base-stays : {A : Type 0} (old : Kept A) (r : Resident) (object version : ℕ) (request : XdgWmBaseRequest) → StacksSo old r (demand_of served_now r object version (xdg_wm_base_request request)) Stays
+pub base-stays : {A : Type 0} (old : Kept A) (r : Resident) (object version : ℕ) (request : XdgWmBaseRequest)
+    → StacksSo old r (demand_of served_now r object version (xdg_wm_base_request request)) Stays
 base-stays old r object version base.Destroy = asks-stay old r _
 base-stays old r object version (base.CreatePositioner id) = tt
 base-stays old r object version (base.GetXdgSurface id surface) = asks-stay old r _

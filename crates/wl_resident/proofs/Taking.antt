@@ -37,7 +37,8 @@ use Rattle.wl_plain.specs.Happens.{Serves}
 use Rattle.wl_plain.specs.Step.{after_surface, with_peer}
 use Rattle.wl_laws.proofs.Keeping.StandingFound.{judge-finds}
 use Rattle.wl_resident.proofs.Releasing.{maps-quiet}
-use Rattle.wl_laws.proofs.Toplevels.Simply.{Asking, AskingFrame, Becomes, CommitSurface, DestroySurface, DestroyToplevel, Simple, changed_simply, committed_on, effect_on, judge, stacked_simply, told_simply, wants_simply}
+use Rattle.wl_laws.proofs.Toplevels.Simply.{Asking, AskingFrame, Becomes, CommitSurface, DestroySurface, DestroyToplevel, Simple, changed_simply, committed_on, effect_on, judge, stacked_simply}
+use Rattle.wl_laws.proofs.Toplevels.Simply.{told_simply, wants_simply}
 use Rattle.wl_laws.specs.Standing.{AreMapped, MappedStand, is_mapped}
 use Rattle.wl_plain.specs.Framing.{AreFramed}
 use Rattle.wl_resident.specs.View.{owned_view}
@@ -58,7 +59,8 @@ use Rattle.wl_resident.proofs.Framing.{told-requests}
 abbrev placed : Option Cause → Resident → Peer → Resident
 placed s x q = left_by s x q
 
-pub based-at : (s : Option Cause) (c : ℕ) (base d y : Desktop) (r x : Resident) (q : Peer) → IsBased c base d r → y.clients ≡ d.clients → y.output ≡ d.output → IsBased c base (become_by s c x q y) (left_by s x q)
+pub based-at : (s : Option Cause) (c : ℕ) (base d y : Desktop) (r x : Resident) (q : Peer) → IsBased c base d r → y.clients ≡ d.clients → y.output ≡ d.output
+    → IsBased c base (become_by s c x q y) (left_by s x q)
 based-at None c base d y r x q b clients output =
     record {
       there = number-same y.clients c _ r (ap (λ (rs : List (Option Resident)). client_in rs c) clients ∙ b.there);
@@ -87,7 +89,8 @@ pub record Sits {A : Type 0} (c : ℕ) (others : ℕ → ById ℕ) (base : Deskt
   pub seat : IsSeat v.client (owned_view v.owned) s
   pub scene : Known c v e → IsScene (with_numbers c (numbers v) others) stack e
 
-pub sits-same : {A : Type 0} (c : ℕ) (others : ℕ → ById ℕ) (base : Desktop) (u v : Kept A) (was is : Stack) (e : Desktop) (s : Resident) → v ≡ u → is ≡ was → Sits c others base u was e s → Sits c others base v is e s
+pub sits-same : {A : Type 0} (c : ℕ) (others : ℕ → ById ℕ) (base : Desktop) (u v : Kept A) (was is : Stack) (e : Desktop) (s : Resident) → v ≡ u → is ≡ was → Sits c others base u was e s
+    → Sits c others base v is e s
 sits-same {A} c others base u v was is e s same stays sits =
     subst (λ (k : Kept A). Sits c others base k is e s) (sym same) (subst (λ (k : Stack). Sits c others base u k e s) (sym stays) sits)
 
@@ -162,7 +165,8 @@ commit-stacks c id Configures old r p d stacking h = inl (h, refl)
 commit-stacks c id Maps old r p d stacking h = inr (inr (id, h.0, h.1, h.2, refl))
 commit-stacks c id Unmaps old r p d stacking h = inr (inl (id, h.0, h.1, h.2, refl))
 
-stacks-so : {A : Type 0} (c : ℕ) (ask : Simple) (old : Kept A) (r : Resident) (p : Peer) (d : Desktop) (stacking : Stacking) → StacksOne old r ask stacking → Stacks c (numbers old) ask (with_peer p r) d stacking
+stacks-so : {A : Type 0} (c : ℕ) (ask : Simple) (old : Kept A) (r : Resident) (p : Peer) (d : Desktop) (stacking : Stacking) → StacksOne old r ask stacking
+    → Stacks c (numbers old) ask (with_peer p r) d stacking
 stacks-so c (Asking ask) old r p d stacking h = inl (h, refl)
 stacks-so c (DestroySurface id) old r p d stacking h = inl (h, refl)
 stacks-so c (AskingFrame id version surface) old r p d stacking h = inl (h, refl)
@@ -211,7 +215,8 @@ PeerActs true ask r p q = Queues (told_simply ask (with_peer p r)) (changed_simp
 PeerActs false ask r p q = (wants_simply ask ≡ true) × LacksMemory p q
 
 -- What a request asks was done, told and counted for a client of the desktop, or there was no memory for it.
-pub record Asked {A : Type 0} (c : ℕ) (others : ℕ → ById ℕ) (base d : Desktop) (r : Resident) (p : Peer) (ask : Simple) (done : Bool) (q : Peer) (stacking : Stacking) (old mid : Kept A) (was : Stack) : Type 0 where
+pub record Asked {A : Type 0} (c : ℕ) (others : ℕ → ById ℕ) (base d : Desktop) (r : Resident) (p : Peer) (ask : Simple) (done : Bool) (q : Peer) (stacking : Stacking) (old mid : Kept A)
+    (was : Stack) : Type 0 where
   pub based : IsBased c base d r
   pub once : AreOnce (numbers old)
   pub scene : IsScene (with_numbers c (numbers old) others) was d
@@ -243,7 +248,8 @@ acts-told : (done : Bool) (ask : Simple) (r : Resident) (p q : Peer) → PeerAct
 acts-told true ask r p q h none = (refl, h)
 acts-told false ask r p q h none = absurd (differ (lacks-status p q h.1 none))
 
-module _ {A : Type 0} (c : ℕ) (others : ℕ → ById ℕ) (base d : Desktop) (r : Resident) (p : Peer) (ask : Simple) (done : Bool) (q : Peer) (stacking : Stacking) (old mid : Kept A) (was : Stack) (is : Asked c others base d r p ask done q stacking old mid was) where
+module _ {A : Type 0} (c : ℕ) (others : ℕ → ById ℕ) (base d : Desktop) (r : Resident) (p : Peer) (ask : Simple) (done : Bool) (q : Peer) (stacking : Stacking) (old mid : Kept A) (was : Stack)
+    (is : Asked c others base d r p ask done q stacking old mid was) where
   abbrev changed : Resident
   changed = changed_simply ask (with_peer p r)
 
@@ -324,7 +330,8 @@ module _ {A : Type 0} (c : ℕ) (others : ℕ → ById ℕ) (base d : Desktop) (
         inl refl,
         (h.0, (q, h.1, refl)),
         become-gone q.status s c others base d (with_peer p r) q new now ended
-            (sits-gone s c (numbers old) others base d d r (with_peer p r) q mid new was now is.based (itself c d) is.scene is.left.peer (nameless-over mid.client q is.left.peer (lacks-over p q h.1)) left),
+            (sits-gone s c (numbers old) others base d d r (with_peer p r) q mid new was now is.based (itself c d) is.scene is.left.peer (nameless-over mid.client q is.left.peer (lacks-over p q h.1))
+                left),
       )
 
   -- ---- one that lives
@@ -334,14 +341,16 @@ module _ {A : Type 0} (c : ℕ) (others : ℕ → ById ℕ) (base d : Desktop) (
       (acted.0, acted.1, acted.2, acted.3, acted.4, sits-same c others base mid new stack now acted.0 acted.1 same stays acted.5)
 
   -- it still lives after the stack was done
-  lived-on : mid.client.ended ≡ None → q.status ≡ None → (on new : Kept A) (between now : Stack) → on ≡ mid → IsClearedBy on.client.ended c on new between now → IsScene (with_numbers c (numbers old) others) between after
+  lived-on : mid.client.ended ≡ None → q.status ≡ None → (on new : Kept A) (between now : Stack) → on ≡ mid → IsClearedBy on.client.ended c on new between now
+      → IsScene (with_numbers c (numbers old) others) between after
       → Acted c others base d r p ask done new now
   lived-on none told on new between now same left scene =
       let stays = cleared-none on.client.ended c on new between now (ap (λ (k : Kept A). k.client.ended) same ∙ none) left in
       acted-same new between now (stays.0 ∙ same) stays.1 (lives-on none told between scene)
 
   -- there was no memory for the stack
-  lacked : (id : ℕ) (on new : Kept A) (now : Stack) → q.status ≡ None → ask ≡ CommitSurface id Maps → Lacks mid.client on.client → IsClearedBy on.client.ended c on new was now → Acted c others base d r p ask done new now
+  lacked : (id : ℕ) (on new : Kept A) (now : Stack) → q.status ≡ None → ask ≡ CommitSurface id Maps → Lacks mid.client on.client → IsClearedBy on.client.ended c on new was now
+      → Acted c others base d r p ask done new now
   lacked id on new now told e lacks left =
       let acts = acts-told done ask r p q is.acts told in
       let gone = lacks q is.left.peer in
@@ -360,16 +369,19 @@ module _ {A : Type 0} (c : ℕ) (others : ℕ → ById ℕ) (base d : Desktop) (
             (subst (λ (o : Option Cause). IsClearedBy o c on new was now) (gone.2.status ∙ cause) left)),
       )
 
-  acted-lives : mid.client.ended ≡ None → q.status ≡ None → (on new : Kept A) (between now : Stack) → IsRestacked c stacking mid on was between → IsClearedBy on.client.ended c on new between now → Acted c others base d r p ask done new now
+  acted-lives : mid.client.ended ≡ None → q.status ≡ None → (on new : Kept A) (between now : Stack) → IsRestacked c stacking mid on was between → IsClearedBy on.client.ended c on new between now
+      → Acted c others base d r p ask done new now
   acted-lives none told on new between now restacked left = at is.stacks
     where
-      mapped : (id n : ℕ) → numbers old id ≡ Some n → ask ≡ CommitSurface id Maps → ((on ≡ mid) × (between ≡ mapped_on c n was)) ⊎ (Lacks mid.client on.client × (between ≡ was)) → Acted c others base d r p ask done new now
+      mapped : (id n : ℕ) → numbers old id ≡ Some n → ask ≡ CommitSurface id Maps → ((on ≡ mid) × (between ≡ mapped_on c n was)) ⊎ (Lacks mid.client on.client × (between ≡ was))
+          → Acted c others base d r p ask done new now
       mapped id n number e (inl h) =
           lived-on none told on new between now h.0 left
           (subst (λ (k : Stack). IsScene (with_numbers c (numbers old) others) k after) (sym h.1)
           (subst (λ (a : Simple). IsScene (with_numbers c (numbers old) others) (mapped_on c n was) (stacked_simply c a (with_peer p r) d)) (sym e)
           (record {
-            standing = stack-mapped (with_numbers c (numbers old) others) c id n was.next d.mappings was.standing d.standing (ap (λ (f : ById ℕ). f id) (numbers-same c (numbers old) others) ∙ number) is.scene.next is.scene.standing;
+            standing = stack-mapped (with_numbers c (numbers old) others) c id n was.next d.mappings was.standing d.standing (ap (λ (f : ById ℕ). f id) (numbers-same c (numbers old) others)
+                ∙ number) is.scene.next is.scene.standing;
             next = next-of was.next d.mappings is.scene.next;
           })))
       mapped id n number e (inr h) = lacked id on new now told e h.0 (subst (λ (k : Stack). IsClearedBy on.client.ended c on new k now) h.1 left)
@@ -406,7 +418,8 @@ abbrev pub TurnedIn : Bool → Bool → Split → Resident → Type 0
 TurnedIn done b split r = (b ≡ done) ⊎ ((done ≡ true) × (b ≡ false) × ((id : ℕ) × AsksBy r split (CommitSurface id Maps)))
 
 -- what becomes of the peer
-acted-peer : {A : Type 0} (done : Bool) (ask : Simple) (r : Resident) (p : Peer) (old mid : Kept A) → ActsAs done ask (with_peer p r) old mid → (q : Peer) × PeerActs done ask r p q × IsLeft old mid (changed_simply ask (with_peer p r)) q
+acted-peer : {A : Type 0} (done : Bool) (ask : Simple) (r : Resident) (p : Peer) (old mid : Kept A) → ActsAs done ask (with_peer p r) old mid → (q : Peer) × PeerActs done ask r p q
+    × IsLeft old mid (changed_simply ask (with_peer p r)) q
 acted-peer true ask r p old mid h = h
 acted-peer false ask r p old mid h = (h.1, (h.0, h.2), h.3)
 
@@ -414,15 +427,19 @@ done-so : (b : Bool) (ask : Simple) (c : ℕ) (r : Resident) (d e : Desktop) →
 done-so true ask c r d e h = h
 done-so false ask c r d e h = h
 
-module _ {A : Type 0} (c : ℕ) (others : ℕ → ById ℕ) (base d : Desktop) (r : Resident) (stacking : Stacking) (old mid new : Kept A) (was now : Stack) (based : IsBased c base d r) (once : AreOnce (numbers old)) (scene : IsScene (with_numbers c (numbers old) others) was d) (settled : IsSettledBy mid.client.ended c stacking mid new was now) where
+module _ {A : Type 0} (c : ℕ) (others : ℕ → ById ℕ) (base d : Desktop) (r : Resident) (stacking : Stacking) (old mid new : Kept A) (was now : Stack) (based : IsBased c base d r)
+    (once : AreOnce (numbers old)) (scene : IsScene (with_numbers c (numbers old) others) was d) (settled : IsSettledBy mid.client.ended c stacking mid new was now) where
   -- what is judged of it is answered
-  answered : (done : Bool) (judged : Result Simple Refusal) (p : Peer) → p.status ≡ None → ((id : ℕ) → judged ≡ Ok (CommitSurface id Maps) → told_simply (CommitSurface id Maps) (with_peer (counted p) r) ≡ [])
+  answered : (done : Bool) (judged : Result Simple Refusal) (p : Peer) → p.status ≡ None
+      → ((id : ℕ) → judged ≡ Ok (CommitSurface id Maps) → told_simply (CommitSurface id Maps) (with_peer (counted p) r) ≡ [])
       → AnswersSimplyAs done judged (with_peer p r) old mid → StacksSimply old r judged stacking
-      → (e : Desktop) × (s : Resident) × (b : Bool) × ((b ≡ done) ⊎ ((done ≡ true) × (b ≡ false) × ((id : ℕ) × (judged ≡ Ok (CommitSurface id Maps))))) × AnswersAs b judged c (with_peer p r) d e × Sits c others base new now e s
+      → (e : Desktop) × (s : Resident) × (b : Bool) × ((b ≡ done) ⊎ ((done ≡ true) × (b ≡ false) × ((id : ℕ) × (judged ≡ Ok (CommitSurface id Maps))))) × AnswersAs b judged c (with_peer p r) d e
+          × Sits c others base new now e s
   answered done (Ok ask) p lives quiet answers stacks =
       let acts = acted-peer done ask r (counted p) old mid answers in
       let a = acted c others base d r (counted p) ask done acts.0 stacking old mid was
-      (record { based = based; once = once; scene = scene; lives = lives; acts = acts.1; left = acts.2; stacks = stacks-so c ask old r (counted p) d stacking stacks; quiet = λ id e. quiet id (ap (λ (a : Simple). Ok a) e) })
+      (record { based = based; once = once; scene = scene; lives = lives; acts = acts.1; left = acts.2; stacks = stacks-so c ask old r (counted p) d stacking stacks;
+          quiet = λ id e. quiet id (ap (λ (a : Simple). Ok a) e) })
       new now settled in
       (a.0, a.1, a.2, turned a.2 a.3, done-so a.2 ask c (with_peer p r) d a.0 a.4, a.5)
     where
@@ -445,11 +462,13 @@ module _ {A : Type 0} (c : ℕ) (others : ℕ → ById ℕ) (base d : Desktop) (
       )
 
   taken : (done : Bool) (split : Split) → r.peer.status ≡ None
-      → ((id object opcode : ℕ) (body : List ℕ) (p : Peer) → judge r object opcode body ≡ Ok (CommitSurface id Maps) → told_simply (CommitSurface id Maps) (with_peer p r) ≡ []) → TakesSimplyAs done split r old mid → StacksIn split old r stacking
+      → ((id object opcode : ℕ) (body : List ℕ) (p : Peer) → judge r object opcode body ≡ Ok (CommitSurface id Maps) → told_simply (CommitSurface id Maps) (with_peer p r) ≡ [])
+          → TakesSimplyAs done split r old mid → StacksIn split old r stacking
       → (e : Desktop) × (s : Resident) × (b : Bool) × TurnedIn done b split r × TakesAs b split c r d e × Sits c others base new now e s
   taken done (Whole object opcode size) lives quiet takes stacks =
       let left : Resident = with_peer (with_rest (drop size r.peer.rest) r.peer) r in
-      answered done (judge r object opcode (take (size - 8) (drop 8 r.peer.rest))) left.peer lives (λ id e. quiet id object opcode (take (size - 8) (drop 8 r.peer.rest)) (counted left.peer) e) takes stacks
+      answered done (judge r object opcode (take (size - 8) (drop 8 r.peer.rest))) left.peer lives (λ id e. quiet id object opcode (take (size - 8) (drop 8 r.peer.rest)) (counted left.peer) e) takes
+          stacks
   taken true Bad lives quiet takes stacks = absurd takes
   taken false Bad lives quiet takes stacks =
       let a = answered false (Err (display_error InvalidMethod)) r.peer lives (λ id e. absurd (cc)) takes tt in
@@ -461,7 +480,8 @@ module _ {A : Type 0} (c : ℕ) (others : ℕ → ById ℕ) (base d : Desktop) (
   taken done More lives quiet takes stacks = absurd takes
 
 -- a surface that is mapped has a number
-known-by : {N : Type 0} (kept : ℕ → Option N) (n : Option ℕ) (x : Option Xdg) (is_kept : Option N → Option Xdg → Type 0) → is_kept (option_and_then kept n) x → ((y : Xdg) → is_kept None (Some y) → ⊥) → is_mapped x ≡ true → is_some n ≡ true
+known-by : {N : Type 0} (kept : ℕ → Option N) (n : Option ℕ) (x : Option Xdg) (is_kept : Option N → Option Xdg → Type 0) → is_kept (option_and_then kept n) x → ((y : Xdg) → is_kept None (Some y) → ⊥)
+    → is_mapped x ≡ true → is_some n ≡ true
 known-by kept (Some n) x is_kept h none mapped = refl
 known-by kept None None is_kept h none mapped = absurd (differ (sym mapped))
 known-by kept None (Some y) is_kept h none mapped = absurd (none y h)
@@ -471,17 +491,21 @@ known-mapped c v e s there seat mapped surface has =
     known-by (kept_of v.owned.shell) (numbers v surface) (xdg_of surface s.owned.shell) (λ k x. IsKept k x (history_in surface s.owned.surfaces)) (seat.owns.shell.each surface) (λ y h. h)
     (ap (λ (o : Owned). is_mapped (xdg_of surface o.shell)) (sym (ap (λ (o : Option Resident). owned_of o) there)) ∙ (sym ((mapped.each c).stands surface) ∙ has))
 
-pub sits-seated : {A : Type 0} (c : ℕ) (others : ℕ → ById ℕ) (base : Desktop) (v : Kept A) (stack : Stack) (e : Desktop) (s : Resident) → Sits c others base v stack e s → MappedStand e → IsSeated c others base v stack e s
+pub sits-seated : {A : Type 0} (c : ℕ) (others : ℕ → ById ℕ) (base : Desktop) (v : Kept A) (stack : Stack) (e : Desktop) (s : Resident) → Sits c others base v stack e s → MappedStand e
+    → IsSeated c others base v stack e s
 sits-seated c others base v stack e s sits mapped =
     record { based = sits.based; seat = sits.seat; scene = sits.scene (known-mapped c v e s sits.based.there sits.seat mapped); mapped = mapped }
 
 -- The first message of a client is taken, and the stack is settled: it leads through these desktops.
 abbrev pub Served : {A : Type 0} → Bool → ℕ → (ℕ → ById ℕ) → Desktop → Desktop → Resident → Kept A → Stack → Type 0
 Served done c others base d r new now =
-    (e : Desktop) × (s : Resident) × (path : List Desktop) × (b : Bool) × TurnedIn done b (split_of r.peer.rest) r × ServesThrough served_now c d path e × RouteBy b c r d path e × IsSeated c others base new now e s
+    (e : Desktop) × (s : Resident) × (path : List Desktop) × (b : Bool) × TurnedIn done b (split_of r.peer.rest) r × ServesThrough served_now c d path e × RouteBy b c r d path e
+        × IsSeated c others base new now e s
 
-pub served : {A : Type 0} (done : Bool) (c : ℕ) (others : ℕ → ById ℕ) (base d : Desktop) (r : Resident) (stacking : Stacking) (old mid new : Kept A) (was now : Stack) → IsSeated c others base old was d r → old.client.ended ≡ None → NoMore d
-    → TakesSimplyAs done (split_of r.peer.rest) r old mid → StacksIn (split_of r.peer.rest) old r stacking → IsSettledBy mid.client.ended c stacking mid new was now → Served done c others base d r new now
+pub served : {A : Type 0} (done : Bool) (c : ℕ) (others : ℕ → ById ℕ) (base d : Desktop) (r : Resident) (stacking : Stacking) (old mid new : Kept A) (was now : Stack)
+    → IsSeated c others base old was d r → old.client.ended ≡ None → NoMore d
+    → TakesSimplyAs done (split_of r.peer.rest) r old mid → StacksIn (split_of r.peer.rest) old r stacking → IsSettledBy mid.client.ended c stacking mid new was now
+        → Served done c others base d r new now
 served done c others base d r stacking old mid new was now is lives more takes stacks settled =
     let alive : r.peer.status ≡ None = sym is.seat.peer.status ∙ lives in
     let owns = is.seat.owns in

@@ -44,7 +44,8 @@ pub record Told {A : Type 0} (old mid : Kept A) (r : Resident) (q : Peer) : Type
   pub requests : q.status ≡ None → q.requests ≡ r.peer.requests
   pub gone : is_some q.status ≡ true → IsOver q ⊎ ((is_some r.peer.status ≡ true) × (q.objects ≡ r.peer.objects))
 
-module _ {A : Type 0} (c : ℕ) (others : ℕ → ById ℕ) (base d : Desktop) (r : Resident) (old mid new : Kept A) (was now : Stack) (is : IsSeated c others base old was d r) (q : Peer) (told : Told old mid r q) where
+module _ {A : Type 0} (c : ℕ) (others : ℕ → ById ℕ) (base d : Desktop) (r : Resident) (old mid new : Kept A) (was now : Stack) (is : IsSeated c others base old was d r) (q : Peer)
+    (told : Told old mid r q) where
   lives-on : q.status ≡ None → new ≡ mid → now ≡ was → Sits c others base new now (become c r q d) (left_by q.status r q)
   lives-on none same stays =
       sits-same c others base mid new was now _ _ same stays
@@ -99,13 +100,15 @@ become-kept (Some cause) c r q d there stand nothing =
 
 -- A client is told what leaves its table, its count of requests and whether it lives as they were.
 module _ {A : Type 0} (c : ℕ) (others : ℕ → ById ℕ) (base d : Desktop) (r : Resident) (q : Peer) (old mid : Kept A) (stack : Stack) (is : IsSeated c others base old stack d r) where
-  pub kept-seated : IsPeer mid.client q → mid.owned ≡ old.owned → mid.client.objects ≡ old.client.objects → q.status ≡ r.peer.status → q.requests ≡ r.peer.requests → IsSeated c others base mid stack (become c r q d) (left_by q.status r q)
+  pub kept-seated : IsPeer mid.client q → mid.owned ≡ old.owned → mid.client.objects ≡ old.client.objects → q.status ≡ r.peer.status → q.requests ≡ r.peer.requests
+      → IsSeated c others base mid stack (become c r q d) (left_by q.status r q)
   kept-seated peer owned table status requests =
       subst (λ (e : Desktop). IsSeated c others base mid stack e (left_by q.status r q)) (sym kept.0)
       (subst (λ (s : Resident). IsSeated c others base mid stack (become_by None c r q d) s) (sym kept.1) (record {
         based = based-at None c base d d r r q is.based refl refl;
         seat = record { peer = peer; owns = owns; frames = rw (table, owned, requests) is.seat.frames; ended = λ some. ap (λ (x : Resident). record x { peer = q }) (nothing some) };
-        scene = subst (λ (held : Held). IsScene (with_numbers c (targets_in WlSurface held) others) stack (become_by None c r q d)) (sym table) (record { standing = is.scene.standing; next = is.scene.next });
+        scene = subst (λ (held : Held). IsScene (with_numbers c (targets_in WlSurface held) others) stack (become_by None c r q d)) (sym table)
+            (record { standing = is.scene.standing; next = is.scene.next });
         mapped = subst (λ (e : Desktop). MappedStand e) kept.0 (become-stand c r r q d is.based.there refl is.mapped);
       }))
     where
@@ -143,7 +146,8 @@ ended-over : (s : Option Cause) (cause : Cause) (p : Peer) → p.status ≡ s �
 ended-over None cause p e = inl (cause, p, refl)
 ended-over (Some was) cause p e = inr (ap (λ (o : Option Cause). is_some o) e, refl)
 
-pub told-ended : {A : Type 0} (cause : Cause) (old mid : Kept A) (r : Resident) → IsPeer mid.client (ended_by r.peer.status cause r.peer) → mid.owned ≡ old.owned → Told old mid r (ended_by r.peer.status cause r.peer)
+pub told-ended : {A : Type 0} (cause : Cause) (old mid : Kept A) (r : Resident) → IsPeer mid.client (ended_by r.peer.status cause r.peer) → mid.owned ≡ old.owned
+    → Told old mid r (ended_by r.peer.status cause r.peer)
 told-ended cause old mid r peer owned =
     record {
       peer = peer;
@@ -180,7 +184,8 @@ ends-ended v cause p ended is = at p.status (ap (λ (o : Option Cause). is_some 
 -- ---- a frame
 
 -- A client that was told of a frame agrees with what becomes of the desktop's.
-module _ {A : Type 0} (c : ℕ) (others : ℕ → ById ℕ) (base d : Desktop) (r : Resident) (time : ℕ) (old mid new : Kept A) (was now : Stack) (is : IsSeated c others base old was d r) (alive : r.peer.status ≡ None) (q : Peer)
+module _ {A : Type 0} (c : ℕ) (others : ℕ → ById ℕ) (base d : Desktop) (r : Resident) (time : ℕ) (old mid new : Kept A) (was now : Stack) (is : IsSeated c others base old was d r)
+    (alive : r.peer.status ≡ None) (q : Peer)
     (told : Queues (frames_told time r) (done_due r).peer q) (left : IsLeft old mid (done_due r) q) (names : mid.client.ended ≡ None → names_in mid.client.objects ≡ names_in old.client.objects) where
   done-alive : (done_due r).peer.status ≡ None
   done-alive = callbacks-status (callbacks_due r) r ∙ alive
@@ -213,7 +218,8 @@ module _ {A : Type 0} (c : ℕ) (others : ℕ → ById ℕ) (base d : Desktop) (
           (nameless-over mid.client q left.peer (queues-over (frames_told time r) (done_due r).peer q done-alive told (ap (λ (o : Option Cause). is_some o) status))) cleared)
 
   pub frames-seated : IsClearedBy mid.client.ended c mid new was now → IsSeated c others base new now (become c (done_due r) q d) (left_by q.status (done_due r) q)
-  frames-seated cleared = sits-seated c others base new now (become c (done_due r) q d) (left_by q.status (done_due r) q) (frames-sit cleared) (become-stand c (done_due r) r q d is.based.there refl is.mapped)
+  frames-seated cleared = sits-seated c others base new now (become c (done_due r) q d) (left_by q.status (done_due r) q) (frames-sit cleared)
+      (become-stand c (done_due r) r q d is.based.there refl is.mapped)
 
 -- one that ended is told nothing
 pub frames-untold : (time c : ℕ) (r : Resident) (d : Desktop) → is_some r.peer.status ≡ true → FramesToldAt time c (Some r) d d
@@ -234,7 +240,8 @@ abbrev pub come_to : List ℕ → Resident → Peer
 come_to piece r = with_rest (r.peer.rest ++ piece) r.peer
 
 -- a piece is kept of a client that lives
-pub come-seated : {A : Type 0} (c : ℕ) (others : ℕ → ById ℕ) (base d : Desktop) (r : Resident) (piece : List ℕ) (old : Kept A) (was : Stack) → IsSeated c others base old was d r → old.client.ended ≡ None
+pub come-seated : {A : Type 0} (c : ℕ) (others : ℕ → ById ℕ) (base d : Desktop) (r : Resident) (piece : List ℕ) (old : Kept A) (was : Stack) → IsSeated c others base old was d r
+    → old.client.ended ≡ None
     → IsSeated c others base (come_on piece old) was (become c r (come_to piece r) d) (record r { peer = come_to piece r })
 come-seated c others base d r piece old was is lives =
     let none : r.peer.status ≡ None = sym is.seat.peer.status ∙ lives in

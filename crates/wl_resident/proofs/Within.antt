@@ -44,7 +44,8 @@ use Rattle.wl_laws.proofs.Marks.Stacks.{differ}
 use Rattle.wl_laws.proofs.Marks.TouchingDamage.{serves-within}
 use Rattle.wl_laws.proofs.Marks.TouchingMarks.{either-of}
 use Rattle.wl_laws.proofs.Marks.TouchingMessages.{touched-peer}
-use Rattle.wl_resident.specs.Marking.{AddsPoints, AreUnlinked, IsRecordOf, MarksAtMost, MarksChange, TellsChange, any_record_has, commit_by, is_record_damaged, marked_by, marked_in, record_has, rects_applied}
+use Rattle.wl_resident.specs.Marking.{AddsPoints, AreUnlinked, IsRecordOf, MarksAtMost, MarksChange, TellsChange, any_record_has, commit_by, is_record_damaged, marked_by, marked_in, record_has}
+use Rattle.wl_resident.specs.Marking.{rects_applied}
 use Rattle.wl_resident.specs.Messages.{IsAsked, IsKind}
 use Rattle.wl_resident.specs.Residents.{IsResident, KeepsNumbers, asked_by}
 use Rattle.wl_resident.specs.Seats.{IsSeated}
@@ -112,7 +113,8 @@ kind-touches (kind.Toplevel Destruction) m target number is marked =
 kind-touches k m target number is marked = absurd (cc)
 
 module _ {A : Type 0} (v : Kept A) (r : Resident) (is : IsResident v r) where
-  passed-one : (object version size target : ℕ) (m : Message) → Passes v.client object version size target m → IsTouching (request_of m) → (ask : Simple) → AsksBy r (split_of r.peer.rest) ask → (id : ℕ) × (touched ask r ≡ Some id)
+  passed-one : (object version size target : ℕ) (m : Message) → Passes v.client object version size target m → IsTouching (request_of m) → (ask : Simple) → AsksBy r (split_of r.peer.rest) ask
+      → (id : ℕ) × (touched ask r ≡ Some id)
   passed-one object version size target m passes touching ask asks =
       let behind = with_rest (drop size r.peer.rest) r.peer in
       let left = with_peer behind r in
@@ -136,17 +138,20 @@ module _ {A : Type 0} (v : Kept A) (r : Resident) (is : IsResident v r) where
 added : (p : ℤ → ℤ → Bool) (old new : Damaged) → AddsPoints p old new → (x y : ℕ) → x < old.width → y < old.height → has old x y ≡ false → has new x y ≡ true → p (pos x) (pos y) ≡ true
 added p old new adds x y wide high clean marked = sym (ap (λ b. b || p (pos x) (pos y)) clean) ∙ sym (adds x y wide high) ∙ marked
 
-module _ (c id : ℕ) (d e : Desktop) (was is : Option WindowRecord) (first : IsRecordOf was (window_at c id d)) (second : IsRecordOf is (window_at c id e)) (rects : List Rect) (old new : Damaged) (changes : MarksChange was is rects old new)
+module _ (c id : ℕ) (d e : Desktop) (was is : Option WindowRecord) (first : IsRecordOf was (window_at c id d)) (second : IsRecordOf is (window_at c id e)) (rects : List Rect) (old new : Damaged)
+    (changes : MarksChange was is rects old new)
     (x y : ℕ) (wide : x < old.width) (high : y < old.height) (clean : has old x y ≡ false) (marked : has new x y ≡ true) where
   abbrev ChangedAt : Option Window → Option Window → Type 0
   ChangedAt w v = changes_at rects (pos x) (pos y) w v ≡ true
 
   came : (k j : Option WindowRecord) → was ≡ k → is ≡ j → (k ≡ j → ⊥) → (any_record_has (pos x) (pos y) k || any_record_has (pos x) (pos y) j) ≡ true
   came k j a b other =
-      sym (ap (λ (n : Option WindowRecord). any_record_has (pos x) (pos y) n || any_record_has (pos x) (pos y) is) a ∙ ap (λ (n : Option WindowRecord). any_record_has (pos x) (pos y) k || any_record_has (pos x) (pos y) n) b)
+      sym (ap (λ (n : Option WindowRecord). any_record_has (pos x) (pos y) n || any_record_has (pos x) (pos y) is) a
+          ∙ ap (λ (n : Option WindowRecord). any_record_has (pos x) (pos y) k || any_record_has (pos x) (pos y) n) b)
       ∙ added (λ x y. any_record_has x y was || any_record_has x y is) old new (changes.changed (λ same. other (sym a ∙ same ∙ b))) x y wide high clean marked
 
-  both : (w v : Window) (k j : WindowRecord) → window_at c id d ≡ Some w → window_at c id e ≡ Some v → was ≡ Some k → is ≡ Some j → IsRecordOf (Some k) (Some w) → IsRecordOf (Some j) (Some v) → (b : Bool) → has_same_record w v ≡ b
+  both : (w v : Window) (k j : WindowRecord) → window_at c id d ≡ Some w → window_at c id e ≡ Some v → was ≡ Some k → is ≡ Some j → IsRecordOf (Some k) (Some w) → IsRecordOf (Some j) (Some v)
+      → (b : Bool) → has_same_record w v ≡ b
       → (if b then is_window_damaged rects (pos x) (pos y) v else contains w (pos x) (pos y) || contains v (pos x) (pos y)) ≡ true
   both w v k j at_d at_e a b so after true same =
       let equal : k ≡ j = record-same c id w v (found-of c id _ w at_d) (found-of c id _ v at_e) k j so after same in
@@ -176,7 +181,8 @@ module _ (c id : ℕ) (d e : Desktop) (was is : Option WindowRecord) (first : Is
 pub within-output : (width height x y : ℕ) → x < width → y < height → in_output width height (pos x) (pos y) ≡ true
 within-output width height x y w h = grind (arith, ints)
 
-module _ {A : Type 0} (c : ℕ) (others : ℕ → ById ℕ) (base d e : Desktop) (r q : Resident) (old new : Kept A) (was now : Stack) (before : IsSeated c others base old was d r) (after : IsSeated c others base new now e q)
+module _ {A : Type 0} (c : ℕ) (others : ℕ → ById ℕ) (base d e : Desktop) (r q : Resident) (old new : Kept A) (was now : Stack) (before : IsSeated c others base old was d r)
+    (after : IsSeated c others base new now e q)
     (unlinked : AreUnlinked base) (more : NoMore d) (serves : Serves served_now c d e) (a : Asked) (asks : IsAsked old.client a)
     (keeps : new.client.ended ≡ None → KeepsNumbers old.client.objects new.client.objects) (surface_number : Option ℕ) (by_asked : surface_number ≡ marked_by a)
     (record_was record_is : Option WindowRecord) (none_was : surface_number ≡ None → record_was ≡ None) (none_is : surface_number ≡ None → record_is ≡ None)
@@ -211,7 +217,8 @@ module _ {A : Type 0} (c : ℕ) (others : ℕ → ById ℕ) (base d e : Desktop)
           let m : IsMarkedBy old a told.0 id = asked-marks old r resident a asks told.0 id told.1 t.1 in
           let asked_number : surface_number ≡ Some m.0 = by_asked ∙ m.1 in
           let named = still-named c others base d e r q old new was now before after more serves keeps told.0 id m.0 told.1 t.1 m.2 lives in
-          serves-within c r d before.based.there _ _ _ before.seat.owns before.mapped (seated-unlinked c others base d old was r before unlinked) (pos x) (pos y) e more serves alive told.0 told.1 id t.1
+          serves-within c r d before.based.there _ _ _ before.seat.owns before.mapped (seated-unlinked c others base d old was r before unlinked) (pos x) (pos y) e more serves alive told.0 told.1 id
+              t.1
           (rects_applied applied) (applied-by c others base d e r q old new was now before after a applied commits id m.0 m.2 lives told.0 m.3) inside
           (changes-there c id d e record_was record_is (first id m.0 asked_number m.2) (second id m.0 asked_number named) (rects_applied applied) d0 d2 changes x y wide high clean marked)
 

@@ -1,5 +1,6 @@
 -- What the desk marks to be painted again.
-use Rattle.std.specs.Prelude.{ℕ, ℤ, List, [], ◌∷◌, ◌≡◌, ◌≢◌, ◌==◌, ◌<◌, ◌+ℤ◌, ◌-ℤ◌, ◌&&◌, ◌||◌, nat_lt, pos, unsigned_abs, Bool, false, true, Option, Some, None, is_none, is_some}
+use Rattle.std.specs.Prelude.{ℕ, ℤ, List, [], ◌∷◌, ◌≡◌, ◌≢◌, ◌==◌, ◌<◌, ◌+ℤ◌, ◌-ℤ◌, ◌&&◌, ◌||◌, nat_lt, pos, unsigned_abs, Bool, false}
+use Rattle.std.specs.Prelude.{true, Option, Some, None, is_none, is_some}
 use Rattle.wl_proto.specs.declared.wl_surface.WlSurfaceRequest.TheVariants.{Commit}
 use Rattle.wl_geom.specs.declared.rect.Rect.{Rect}
 use Rattle.wl_geom.specs.Rect.{in_span}
@@ -46,7 +47,8 @@ abbrev pub MarksAtLeast : Desktop → Desktop → Damaged → Damaged → Type 0
 MarksAtLeast d e old new =
     (x y : ℕ) → x < old.width → y < old.height → has new x y ≡ false → (has old x y ≡ false) × (marks_at_least d e (pos x) (pos y) ≡ false)
 
--- A step in which a press raised this toplevel marks no more than it may: what is to be painted was before, or is among what it marks at most.
+-- A step in which a press raised this toplevel marks no more than it may: what is to be painted was before, or is among what it marks at
+-- most.
 abbrev pub MarksMostBy : Option (ℕ × ℕ) → Desktop → Desktop → Damaged → Damaged → Type 0
 MarksMostBy raised d e old new =
     (x y : ℕ) → x < old.width → y < old.height → has new x y ≡ true → (has old x y || marks_at_most d e raised (pos x) (pos y)) ≡ true
@@ -81,7 +83,8 @@ abbrev pub IsStill : {A : Type 0} → Kept A → Kept A → Type 0
 IsStill old new =
     (all : Numbered) → StandForAll old.owned.surfaces all
     → (later : Numbered) × StandForAll new.owned.surfaces later
-    × ((number : ℕ) (s : Surface) → all number ≡ Some s → is_some (kept_of old.owned.shell number) ≡ true → counted_at (later number) ≡ Some (counting s.history))
+    × ((number : ℕ) (s : Surface) → all number ≡ Some s → is_some (kept_of old.owned.shell number) ≡ true
+        → counted_at (later number) ≡ Some (counting s.history))
 
 -- ---- the window of a surface
 
@@ -99,7 +102,8 @@ record_showing current s =
 -- it is the record of this window, whose transform is one of the eight, or of none
 abbrev pub IsRecordOf : Option WindowRecord → Option Window → Type 0
 IsRecordOf None None = Unit {0}
-IsRecordOf (Some k) (Some w) = ((k.x ≡ w.corner.x) × (k.y ≡ w.corner.y)) × ((k.w ≡ w.width) × (k.h ≡ w.height)) × (k.transform ≡ transform_of w.transform) × (nat_lt w.transform 8 ≡ true)
+IsRecordOf (Some k) (Some w) = ((k.x ≡ w.corner.x) × (k.y ≡ w.corner.y)) × ((k.w ≡ w.width) × (k.h ≡ w.height))
+    × (k.transform ≡ transform_of w.transform) × (nat_lt w.transform 8 ≡ true)
 IsRecordOf k w = ⊥
 
 -- its window contains the point
@@ -142,8 +146,8 @@ rects_applied (Some applied) = rects_changed applied.changes.items
 abbrev pub AddsPoints : (ℤ → ℤ → Bool) → Damaged → Damaged → Type 0
 AddsPoints p old new = (x y : ℕ) → x < old.width → y < old.height → has new x y ≡ (has old x y || p (pos x) (pos y))
 
--- What changes of a surface's window is marked, whose record was this and is that: where the record stayed, the applied damage; else all of the
--- window, as it was and as it is.
+-- What changes of a surface's window is marked, whose record was this and is that: where the record stayed, the applied damage; else all of
+-- the window, as it was and as it is.
 pub record MarksChange (was is : Option WindowRecord) (rects : List Rect) (old new : Damaged) : Type 0 where
   pub stayed : (k : WindowRecord) → was ≡ Some k → is ≡ Some k → AddsPoints (λ x y. is_record_damaged rects x y k) old new
   pub changed : was ≢ is → AddsPoints (λ x y. any_record_has x y was || any_record_has x y is) old new
@@ -173,15 +177,16 @@ commit_by asked = None
 -- A client that lives on was told this of a commit of the surface with this number.
 abbrev pub TellsChange : {A : Type 0} → Kept A → Kept A → ℕ → Option (Applied A) → Type 0
 TellsChange {A} old new number applied =
-    new.client.ended ≡ None → (all : Numbered) → StandForAll old.owned.surfaces all → (a : Applied A) × (applied ≡ Some a) × AreChanges number (all number) a.changes.items
+    new.client.ended ≡ None → (all : Numbered) → StandForAll old.owned.surfaces all → (a : Applied A) × (applied ≡ Some a)
+        × AreChanges number (all number) a.changes.items
 
 -- What a commit of the surface with this number, which told this, made of what is kept of the client's surfaces.
 abbrev pub IsCommitted : {A : Type 0} → Slots → Slots → ℕ → Option (Applied A) → Type 0
 IsCommitted old new number None = new ≡ old
 IsCommitted old new number (Some applied) = Changes old new number (λ s. applying (asking CommitAsked s))
 
--- What is to be painted stays so. What a step through these desktops marks at least is to be painted too, and nothing else than what it marks at
--- most.
+-- What is to be painted stays so. What a step through these desktops marks at least is to be painted too, and nothing else than what it
+-- marks at most.
 abbrev pub MarksThrough : Desktop → List Desktop → Damaged → Damaged → Type 0
 MarksThrough d path old new =
     (x y : ℕ) → x < old.width → y < old.height

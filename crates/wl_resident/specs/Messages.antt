@@ -3,7 +3,8 @@ use Rattle.std.specs.Prelude.{◌≡◌, true}
 use Rattle.wl_wire.specs.Wire.{split_of}
 use Rattle.wl_wire.specs.declared.header.Split.TheVariants.{More}
 use Rattle.wl_interface.specs.declared.interface.Interface.TheVariants.{XdgToplevel}
-use Rattle.wl_proto.specs.Messages.{Message, wl_compositor_request, wl_seat_request, wl_surface_request, xdg_surface_request, xdg_wm_base_request}
+use Rattle.wl_proto.specs.Messages.{Message, wl_compositor_request, wl_seat_request, wl_surface_request, xdg_surface_request}
+use Rattle.wl_proto.specs.Messages.{xdg_wm_base_request}
 use Rattle.wl_client.specs.First.{IsRefused, Passes}
 use Rattle.wl_client.specs.Serving.{PassesTo}
 use Rattle.wl_client.specs.View.{ClientView}

@@ -20,7 +20,8 @@ use Rattle.wl_shell.specs.declared.acts.ShellAct.{ShellAct}
 use Rattle.wl_shell.specs.declared.acts.ShellAct.TheVariants.{Configure, Map, Unmap}
 use Rattle.wl_resident.specs.declared.residents.Resident.{Resident as Kept}
 use Rattle.wl_resident.specs.declared.xdg_toplevel.ToplevelAsked.{ToplevelAsked}
-use Rattle.wl_resident.specs.declared.xdg_toplevel.ToplevelAsked.TheVariants.{Destruction, Configure as AskedConfigure, Nothing as AskedNothing}
+use Rattle.wl_resident.specs.declared.xdg_toplevel.ToplevelAsked.TheVariants.{Destruction, Configure as AskedConfigure}
+use Rattle.wl_resident.specs.declared.xdg_toplevel.ToplevelAsked.TheVariants.{Nothing as AskedNothing}
 use Rattle.wl_resident.specs.declared.residents.Stacking.{Stacking}
 use Rattle.wl_resident.specs.declared.residents.Stacking.TheVariants.{Stays, ToTop, Out}
 use Rattle.wl_plain.specs.Ask.{Ask}
@@ -93,14 +94,17 @@ AnswersSo (Ok demand) c r d old new = MeetsSo c demand (with_peer (counted r.pee
 AnswersSo (Err refusal) c r d old new = (q : Peer) × Errs refusal r.peer q × IsLeft old new r q
 
 abbrev pub AnswersDemand : {A : Type 0} → (Resident → Result Demand Refusal) → Kept A → Kept A → Type 0
-AnswersDemand judged old new = (c : ℕ) (r : Resident) (d : Desktop) → IsResident old r → OwnsToplevelsOnly r → AnswersSo (judged r) c r d old new
+AnswersDemand judged old new = (c : ℕ) (r : Resident) (d : Desktop) → IsResident old r → OwnsToplevelsOnly r
+    → AnswersSo (judged r) c r d old new
 
--- The same where it is known which of the two it was: done and told, though an event that isn't queued may end the client; or without memory.
+-- The same where it is known which of the two it was: done and told, though an event that isn't queued may end the client; or without
+-- memory.
 abbrev pub MeetsAs : {A : Type 0} → Bool → ℕ → Demand → Resident → Desktop → Kept A → Kept A → Type 0
 MeetsAs true c demand r d old new =
     (q : Peer) × Queues (replies served_now c demand r (changed_for c demand r d) (all_windows d) d) (changed_for c demand r d).peer q
     × IsLeft old new (changed_for c demand r d) q
-MeetsAs false c demand r d old new = (wants_memory demand ≡ true) × (q : Peer) × LacksMemory r.peer q × IsLeft old new (changed_for c demand r d) q
+MeetsAs false c demand r d old new = (wants_memory demand ≡ true) × (q : Peer) × LacksMemory r.peer q
+    × IsLeft old new (changed_for c demand r d) q
 
 -- done, or refused or without memory
 abbrev pub AnswersAs : {A : Type 0} → Bool → Result Demand Refusal → ℕ → Resident → Desktop → Kept A → Kept A → Type 0
@@ -109,7 +113,8 @@ AnswersAs true (Err refusal) c r d old new = ⊥
 AnswersAs false (Err refusal) c r d old new = (q : Peer) × Errs refusal r.peer q × IsLeft old new r q
 
 abbrev pub AnswersDemandAs : {A : Type 0} → Bool → (Resident → Result Demand Refusal) → Kept A → Kept A → Type 0
-AnswersDemandAs done judged old new = (c : ℕ) (r : Resident) (d : Desktop) → IsResident old r → OwnsToplevelsOnly r → AnswersAs done (judged r) c r d old new
+AnswersDemandAs done judged old new = (c : ℕ) (r : Resident) (d : Desktop) → IsResident old r → OwnsToplevelsOnly r
+    → AnswersAs done (judged r) c r d old new
 
 -- the wl_surface with this id has the surface of this number
 abbrev pub IsSurface : {A : Type 0} → Kept A → ℕ → ℕ → Type 0
@@ -152,8 +157,8 @@ abbrev pub told_by : ShellAct → ℕ → Option KeptXdg → List Said
 told_by (Configure placed) serial k = told_of serial k
 told_by act serial k = []
 
--- What a request does to the stack of toplevels, by the number of its toplevel's surface: one that is mapped comes to the top, and one that is
--- unmapped or goes is taken out.
+-- What a request does to the stack of toplevels, by the number of its toplevel's surface: one that is mapped comes to the top, and one that
+-- is unmapped or goes is taken out.
 abbrev pub StacksTo : {A : Type 0} → Kept A → ℕ → (ℕ → Stacking) → Stacking → Type 0
 StacksTo old id place stacking = (number : ℕ) × (targets_in WlSurface old.client.objects id ≡ Some number) × (stacking ≡ place number)
 
@@ -185,7 +190,8 @@ Stacks judged old stacking = (r : Resident) → IsResident old r → OwnsTopleve
 -- The first message of what has come is taken and answered.
 abbrev pub TakesSo : {A : Type 0} → Split → ℕ → Resident → Desktop → Kept A → Kept A → Stacking → Type 0
 TakesSo (Whole object opcode size) c r d old new stacking =
-    AnswersSo (judge_all served_now r object opcode (take (size - 8) (drop 8 r.peer.rest))) c (with_peer (with_rest (drop size r.peer.rest) r.peer) r) d old new
+    AnswersSo (judge_all served_now r object opcode (take (size - 8) (drop 8 r.peer.rest))) c
+        (with_peer (with_rest (drop size r.peer.rest) r.peer) r) d old new
     × StacksSo old r (judge_all served_now r object opcode (take (size - 8) (drop 8 r.peer.rest))) stacking
 TakesSo Bad c r d old new stacking = AnswersSo (Err (display_error InvalidMethod)) c r d old new
 TakesSo More c r d old new stacking = ⊥
@@ -193,12 +199,14 @@ TakesSo More c r d old new stacking = ⊥
 -- The same where it is known whether it was done.
 abbrev pub TakesAs : {A : Type 0} → Bool → Split → ℕ → Resident → Desktop → Kept A → Kept A → Type 0
 TakesAs done (Whole object opcode size) c r d old new =
-    AnswersAs done (judge_all served_now r object opcode (take (size - 8) (drop 8 r.peer.rest))) c (with_peer (with_rest (drop size r.peer.rest) r.peer) r) d old new
+    AnswersAs done (judge_all served_now r object opcode (take (size - 8) (drop 8 r.peer.rest))) c
+        (with_peer (with_rest (drop size r.peer.rest) r.peer) r) d old new
 TakesAs done Bad c r d old new = AnswersAs done (Err (display_error InvalidMethod)) c r d old new
 TakesAs done More c r d old new = ⊥
 
 abbrev pub TakesMessageAs : {A : Type 0} → Bool → Kept A → Kept A → Type 0
-TakesMessageAs done old new = (c : ℕ) (r : Resident) (d : Desktop) → IsResident old r → OwnsToplevelsOnly r → TakesAs done (split_of r.peer.rest) c r d old new
+TakesMessageAs done old new = (c : ℕ) (r : Resident) (d : Desktop) → IsResident old r → OwnsToplevelsOnly r
+    → TakesAs done (split_of r.peer.rest) c r d old new
 
 abbrev pub TakesMessage : {A : Type 0} → Kept A → Kept A → Stacking → Type 0
 TakesMessage old new stacking =

@@ -26,7 +26,8 @@ pub record IsBased (c : ℕ) (base d : Desktop) (r : Resident) : Type 0 where
   pub clients : d.clients ≡ with_number c (Some r) base.clients
 
 -- What is kept of client c and of the toplevels agrees with such a desktop. The others' numbers are those of the other clients' surfaces.
-pub record IsSeated {A : Type 0} (c : ℕ) (others : ℕ → ById ℕ) (base : Desktop) (v : Kept A) (stack : Stack) (d : Desktop) (r : Resident) : Type 0 where
+pub record IsSeated {A : Type 0} (c : ℕ) (others : ℕ → ById ℕ) (base : Desktop) (v : Kept A) (stack : Stack) (d : Desktop)
+    (r : Resident) : Type 0 where
   pub based : IsBased c base d r
   pub seat : IsSeat v.client (owned_view v.owned) r
   pub scene : IsScene (with_numbers c (targets_in WlSurface v.client.objects) others) stack d

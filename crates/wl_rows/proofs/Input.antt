@@ -7,7 +7,8 @@ use Rattle.wl_surface.specs.Trees.{applied_tree, behaves_synchronised, depth, de
 use Rattle.wl_scene.specs.Windows.{tree}
 use Rattle.wl_plain.specs.Desktop.{Desktop}
 use Rattle.wl_plain.specs.Popups.{geometry_corner_at}
-use Rattle.wl_rows.proofs.Steps.{acknowledge, asks, at, attach, bind, button, commit, corners, create_surface, delete_id, done, enter, event, leave, motion, moved, press, release, sent, shown, start, status, tick, u32, unsent, with_pointer}
+use Rattle.wl_rows.proofs.Steps.{acknowledge, asks, at, attach, bind, button, commit, corners, create_surface, delete_id, done, enter, event, leave, motion, moved, press, release, sent, shown, start}
+use Rattle.wl_rows.proofs.Steps.{status, tick, u32, unsent, with_pointer}
 use Rattle.wl_rows.proofs.Subsurfaces.{first}
 use Rattle.wl_rows.proofs.Pointer.{both, entered, moving, on_popup, pointed_at, pressed}
 

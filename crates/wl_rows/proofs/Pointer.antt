@@ -7,7 +7,8 @@ use Rattle.wl_surface.specs.Trees.{applied_tree, behaves_synchronised}
 use Rattle.wl_scene.specs.Windows.{tree}
 use Rattle.wl_plain.specs.Desktop.{Desktop}
 use Rattle.wl_plain.specs.Popups.{geometry_corner_at}
-use Rattle.wl_rows.proofs.Steps.{acknowledge, asks, at, attach, black, button, buffer_release, color, commit, corners, create_buffer, create_surface, damage, enter, event, get_xdg_surface, leave, leaves, motion, moved, press, red, release, sent, showing, shown, start, status, stores, u32, unsent, with_pointer, xdg_configure}
+use Rattle.wl_rows.proofs.Steps.{acknowledge, asks, at, attach, black, button, buffer_release, color, commit, corners, create_buffer, create_surface, damage, enter, event, get_xdg_surface, leave}
+use Rattle.wl_rows.proofs.Steps.{leaves, motion, moved, press, red, release, sent, showing, shown, start, status, stores, u32, unsent, with_pointer, xdg_configure}
 
 -- one window of 40 by 40 pixels in the corner, of a client with a wl_pointer
 abbrev pub pointed_at : Desktop

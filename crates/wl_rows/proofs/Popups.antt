@@ -7,7 +7,8 @@ use Rattle.wl_surface.specs.Trees.{applied_tree, behaves_synchronised}
 use Rattle.wl_scene.specs.Windows.{tree}
 use Rattle.wl_plain.specs.Desktop.{Desktop}
 use Rattle.wl_plain.specs.Popups.{geometry_corner_at}
-use Rattle.wl_rows.proofs.Steps.{acknowledge, asks, at, attach, bind, commit, corners, create_buffer, create_surface, delete_id, event, get_xdg_surface, sent, shown, start, status, u32, unsent, xdg_configure}
+use Rattle.wl_rows.proofs.Steps.{acknowledge, asks, at, attach, bind, commit, corners, create_buffer, create_surface, delete_id, event, get_xdg_surface, sent, shown, start, status, u32, unsent}
+use Rattle.wl_rows.proofs.Steps.{xdg_configure}
 
 -- a positioner 16 of 8 by 8 pixels, at the lower right corner of (0, 0, 40, 40)
 abbrev pub with_positioner : Desktop → Desktop

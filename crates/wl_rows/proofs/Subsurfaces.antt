@@ -5,7 +5,8 @@ use Rattle.wl_wire.specs.Wire.{Word, Number}
 use Rattle.wl_surface.specs.Trees.{applied_tree, behaves_synchronised, depth, descends_from, height}
 use Rattle.wl_scene.specs.Windows.{tree}
 use Rattle.wl_plain.specs.Desktop.{Desktop}
-use Rattle.wl_rows.proofs.Steps.{asks, at, attach, bind, black, buffer_release, color, commit, corners, create_buffer, create_surface, damage, delete_id, done, green, red, sent, shown, start, status, stores, tick, unsent}
+use Rattle.wl_rows.proofs.Steps.{asks, at, attach, bind, black, buffer_release, color, commit, corners, create_buffer, create_surface, damage, delete_id, done, green, red, sent, shown, start, status}
+use Rattle.wl_rows.proofs.Steps.{stores, tick, unsent}
 
 -- a window of 40 by 40 pixels with a subsurface 16 of 4 by 4, surface 14, at (4, 4), and its buffers 18, 19 and 20
 abbrev pub with_subsurface : Desktop

@@ -56,6 +56,3 @@ pub served-told : {T E : Type 0} (P : List Act → Type 0) (old new : SessionVie
     → OnOk r (Tells P old new report told images imaged) → OnOk r (IsServed P (IsToldOf report told images imaged) old new)
 served-told P old new report told images imaged (Ok x) tells = served-as P (IsToldOf report told images imaged) old new tells
 served-told P old new report told images imaged (Err e) tells = tt
-
-pub served-takes : (P : List Act → Type 0) (Q : List Event → Type 0) (old new : SessionView) → IsServed P Q old new → Takes P old new
-served-takes P Q old new served = λ d agrees. let s = served d agrees in (s.0, s.1, s.2)

@@ -1,5 +1,6 @@
 -- What is told of what a session does, joined of what is told one after another.
-use Rattle.std.proofs.Common.{◌≡◌, ◌<◌, ℕ, zero, suc, Bool, true, false, Option, Result, Ok, Err, List, length, ◌⊎◌, ◌+◌, [], ◌∷◌, ◌++◌, refl, ap, sym, subst, ◌∙◌, inl, inr, arith, append-nil, append_assoc}
+use Rattle.std.proofs.Common.{◌≡◌, ◌<◌, ℕ, zero, suc, Bool, true, false, Option, Result, Ok, Err, List, length, ◌⊎◌, ◌+◌, [], ◌∷◌, ◌++◌, refl, ap, sym, subst, ◌∙◌, inl, inr, arith, append-nil}
+use Rattle.std.proofs.Common.{append_assoc}
 use Rattle.std.specs.Prelude.{OnOk, is_ok, replicate, map}
 use Rattle.std.proofs.lemmas.Bool.{true≢false}
 use Rattle.std.specs.List.{AllPass}
@@ -230,7 +231,8 @@ pub Reports-none : (P : List Act → Type 0) (old new : SessionView) (report : O
 Reports-none P old new report same p = λ d agrees. ([], p, went-none old new d same agrees, Appends-nil report)
 
 -- a step that is one event, and its line
-pub Reports-one : (P : List Act → Type 0) (act : Act) (done : Done) (old new : SessionView) (report told : Option (List ℕ)) (parts : (hs : List Happening) → AreParts act done hs → hs ≡ Single act done ∷ [])
+pub Reports-one : (P : List Act → Type 0) (act : Act) (done : Done) (old new : SessionView) (report told : Option (List ℕ)) (parts : (hs : List Happening) → AreParts act done hs
+    → hs ≡ Single act done ∷ [])
     → TakesCourse act done old new → P (act ∷ []) → ((d e : Desktop) → Agrees old.desk d → Appends report told (reported (Single act done) (moment d old) (moment e new)))
     → Reports P old new report told
 Reports-one P act done old new report told parts takes p line = λ d agrees.
@@ -294,9 +296,11 @@ pub Tells-weaker : (P Q : List Act → Type 0) (old new : SessionView) (x y i j 
 Tells-weaker P Q old new x y i j tells weaker = λ d agrees. let a = tells d agrees in (a.0, weaker a.0 a.1, a.2, a.3)
 
 -- a step that is one event, with its line and its picture
-pub Tells-one : (P : List Act → Type 0) (act : Act) (done : Done) (old new : SessionView) (report told images imaged : Option (List ℕ)) (parts : (hs : List Happening) → AreParts act done hs → hs ≡ Single act done ∷ [])
+pub Tells-one : (P : List Act → Type 0) (act : Act) (done : Done) (old new : SessionView) (report told images imaged : Option (List ℕ)) (parts : (hs : List Happening) → AreParts act done hs
+    → hs ≡ Single act done ∷ [])
     → TakesCourse act done old new → P (act ∷ [])
-    → ((d e : Desktop) → Agrees old.desk d → Appends report told (reported (Single act done) (moment d old) (moment e new)) × Appends images imaged (pictured (Single act done) (moment d old) (moment e new)))
+    → ((d e : Desktop) → Agrees old.desk d → Appends report told (reported (Single act done) (moment d old) (moment e new))
+        × Appends images imaged (pictured (Single act done) (moment d old) (moment e new)))
     → Tells P old new report told images imaged
 Tells-one P act done old new report told images imaged parts takes p shown = λ d agrees.
     let course = takes d agrees in

@@ -99,14 +99,18 @@ images_in contents writer = option_and_then contents writer
 
 -- a report went from one to another, and the images
 abbrev pub IsToldOf : Option (List ℕ) → Option (List ℕ) → Option (List ℕ) → Option (List ℕ) → List Event → Type 0
-IsToldOf report told images imaged events = Appends report told (gathered reported events) × Appends images imaged (gathered pictured events)
+IsToldOf report told images imaged events = Appends report told (gathered reported events)
+    × Appends images imaged (gathered pictured events)
 
 -- A session went from old to new by acts of which P holds, and the report tells of them.
 abbrev pub Reports : (List Act → Type 0) → SessionView → SessionView → Option (List ℕ) → Option (List ℕ) → Type 0
 Reports P old new report told =
-    (d : Desktop) → Agrees old.desk d → (acts : List Act) × P acts × (went : Went acts old new d) × Appends report told (gathered reported went.events)
+    (d : Desktop) → Agrees old.desk d → (acts : List Act) × P acts × (went : Went acts old new d)
+        × Appends report told (gathered reported went.events)
 
 -- The same, and the images show them.
-abbrev pub Tells : (List Act → Type 0) → SessionView → SessionView → Option (List ℕ) → Option (List ℕ) → Option (List ℕ) → Option (List ℕ) → Type 0
+abbrev pub Tells : (List Act → Type 0) → SessionView → SessionView → Option (List ℕ) → Option (List ℕ) → Option (List ℕ) → Option (List ℕ)
+    → Type 0
 Tells P old new report told images imaged =
-    (d : Desktop) → Agrees old.desk d → (acts : List Act) × P acts × (went : Went acts old new d) × IsToldOf report told images imaged went.events
+    (d : Desktop) → Agrees old.desk d → (acts : List Act) × P acts × (went : Went acts old new d)
+        × IsToldOf report told images imaged went.events

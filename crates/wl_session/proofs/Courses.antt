@@ -47,7 +47,8 @@ right-so : (old new : SessionView) (d e : Desktop) (events : List Event) → Are
     → (liars last : ℕ → Bool) → AreLiars liars events last → IsRightBut liars (moment d old) → IsRightBut last (moment e new)
 right-so old new d e events apart leads liars last broke right = stays_right served_now (moment d old) (moment e new) events liars last apart leads broke right
 
-pub course-of : (act : Act) (done : Done) (old new : SessionView) (d e : Desktop) → IsSingle act → AreParts act done (Single act done ∷ []) → Agrees old.desk d → Happens served_now act done d e → Agrees new.desk e
+pub course-of : (act : Act) (done : Done) (old new : SessionView) (d e : Desktop) → IsSingle act → AreParts act done (Single act done ∷ []) → Agrees old.desk d → Happens served_now act done d e
+    → Agrees new.desk e
     → ((path : List Desktop) → Leads served_now (Single act done) d path e → PaintsIf (is_tick act) (Single act done) (moment d old) path (moment e new)) → Course act done old new d
 course-of act done old new d e single parts a happens b paints =
     let through = (happens_leads_through served_now act done d e).1 single happens in
@@ -76,18 +77,22 @@ nothing-more act done old new nothing = λ d e a step b x y wide high again.
     ap (λ t. t || marks_at_most d e None (pos x) (pos y)) (sym (nothing d a x y wide high) ∙ again)
 
 -- where it is no more from the first to the last, it is no more along the desktops between
-few-through : (h : Happening) (old new : MarkedDesk) (d e : Desktop) (path : List Desktop) (raised : Option (ℕ × ℕ)) → Agrees old.desk d → Agrees new.desk e → Leads served_now h d path e → MarksMost d e old.damage new.damage
+few-through : (h : Happening) (old new : MarkedDesk) (d e : Desktop) (path : List Desktop) (raised : Option (ℕ × ℕ)) → Agrees old.desk d → Agrees new.desk e → Leads served_now h d path e
+    → MarksMost d e old.damage new.damage
     → MarksFew raised d path old.damage new.damage
 few-through h old new d e path raised a b leads most = λ x y wide high again. at x y (has old.damage x y) refl (most x y wide high again)
   where
-    at : (x y : ℕ) (t : Bool) → has old.damage x y ≡ t → (t || marks_at_most d e None (pos x) (pos y)) ≡ true → (has old.damage x y || marks_at_most_through all_windows raised d path (pos x) (pos y)) ≡ true
+    at : (x y : ℕ) (t : Bool) → has old.damage x y ≡ t → (t || marks_at_most d e None (pos x) (pos y)) ≡ true
+        → (has old.damage x y || marks_at_most_through all_windows raised d path (pos x) (pos y)) ≡ true
     at x y true was either = or_left (has old.damage x y) _ was
     at x y false was either =
         or_right (has old.damage x y) _ (most-through served_now h d path e raised (pos x) (pos y) a.no_more b.no_more a.matches.mapped.apart b.matches.mapped.apart leads either)
 
 -- what shows no frame
-pub marked-course : (act : Act) (done : Done) (old new : SessionView) → is_tick act ≡ false → IsSingle act → AreParts act done (Single act done ∷ []) → new.frame ≡ old.frame → HasItsSides old.damage new.damage
-    → TakesStep act done old.desk new.desk → MarksStep act done (marked old) (marked new) → MarksNoMore act done (marked old) (marked new) → (is_quiet_act act ≡ true → MarksNothing (marked old) (marked new)) → TakesCourse act done old new
+pub marked-course : (act : Act) (done : Done) (old new : SessionView) → is_tick act ≡ false → IsSingle act → AreParts act done (Single act done ∷ []) → new.frame ≡ old.frame
+    → HasItsSides old.damage new.damage
+    → TakesStep act done old.desk new.desk → MarksStep act done (marked old) (marked new) → MarksNoMore act done (marked old) (marked new)
+        → (is_quiet_act act ≡ true → MarksNothing (marked old) (marked new)) → TakesCourse act done old new
 marked-course act done old new tick single parts frame sides step marks most quiet = λ d a.
     let e = step d a in
     course-of act done old new d e.0 single parts a e.1 e.2
@@ -141,7 +146,8 @@ pub served-none : (client : ℕ) (v : SessionView) (d : Desktop) → Agrees v.de
 served-none client v d a = record { count = zero; desktop = d; events = []; reaches = refl; parts = refl; leads = refl; apart = tt; agrees = a }
 
 -- one more
-pub served-more : (client : ℕ) (old mid new : SessionView) (d e : Desktop) → (s : Took client old mid d) → new.frame ≡ mid.frame → HasItsSides mid.damage new.damage → (path : List Desktop) → ServesThrough served_now client s.desktop path e → Agrees new.desk e
+pub served-more : (client : ℕ) (old mid new : SessionView) (d e : Desktop) → (s : Took client old mid d) → new.frame ≡ mid.frame → HasItsSides mid.damage new.damage → (path : List Desktop)
+    → ServesThrough served_now client s.desktop path e → Agrees new.desk e
     → MarksThrough s.desktop path mid.damage new.damage → Took client old new d
 served-more client old mid new d e s frame sides path through agrees marks =
     let serves : Serves served_now client s.desktop e = (messages_lead_through served_now client s.desktop e).0 path through in
@@ -176,10 +182,12 @@ served-more client old mid new d e s frame sides path through agrees marks =
     }
 
 -- the same, where what is kept besides changed
-pub took-then : (client : ℕ) (old mid new : SessionView) (d : Desktop) → (s : Took client old mid d) → new.damage ≡ mid.damage → new.frame ≡ mid.frame → Agrees new.desk s.desktop → (t : Took client old new d) × (t.desktop ≡ s.desktop)
+pub took-then : (client : ℕ) (old mid new : SessionView) (d : Desktop) → (s : Took client old mid d) → new.damage ≡ mid.damage → new.frame ≡ mid.frame → Agrees new.desk s.desktop
+    → (t : Took client old new d) × (t.desktop ≡ s.desktop)
 took-then client old mid new d s damage frame agrees =
     let same : moment s.desktop mid ≡ moment s.desktop new =
-    ap (λ (m : Damaged). record { desktop = s.desktop; damage = m; frame = mid.frame }) (sym damage) ∙ ap (λ (i : Image). record { desktop = s.desktop; damage = new.damage; frame = i }) (sym frame) in (
+    ap (λ (m : Damaged). record { desktop = s.desktop; damage = m; frame = mid.frame }) (sym damage) ∙ ap (λ (i : Image). record { desktop = s.desktop; damage = new.damage; frame = i }) (sym frame) in
+        (
       record {
         count = s.count;
         desktop = s.desktop;
@@ -212,7 +220,8 @@ no-message-ended c (suc n) s r d new there over h =
     absurd (cc)
 
 -- a piece that was kept, and then so many messages
-pub fed-course : (client : ℕ) (piece : List ℕ) (done : Done) (old kept new : SessionView) (d : Desktop) → kept.frame ≡ old.frame → kept.damage ≡ old.damage → Agrees old.desk d → (s : Took client kept new (kept_at client piece d))
+pub fed-course : (client : ℕ) (piece : List ℕ) (done : Done) (old kept new : SessionView) (d : Desktop) → kept.frame ≡ old.frame → kept.damage ≡ old.damage → Agrees old.desk d
+    → (s : Took client kept new (kept_at client piece d))
     → Happens served_now (Feed client piece) done d s.desktop → Agrees kept.desk (kept_at client piece d) → Course (Feed client piece) done old new d
 fed-course client piece done old kept new d frame damage a s happens b = at (client_at client d) refl
   where
@@ -268,8 +277,10 @@ fed-course client piece done old kept new d frame damage a s happens b = at (cli
     at (Some r) there = by r.peer.status r there refl
 
 -- there was no memory to keep it
-pub lacking-course : (client : ℕ) (piece : List ℕ) (done : Done) (old new : SessionView) (d e : Desktop) → new.frame ≡ old.frame → HasItsSides old.damage new.damage → Agrees old.desk d → status_of (peer_at client d) ≡ fed.Alive
-    → Ends client cause.Memory d e → MarksAtLeast d e old.damage new.damage → MarksMost d e old.damage new.damage → Happens served_now (Feed client piece) done d e → Agrees new.desk e → Course (Feed client piece) done old new d
+pub lacking-course : (client : ℕ) (piece : List ℕ) (done : Done) (old new : SessionView) (d e : Desktop) → new.frame ≡ old.frame → HasItsSides old.damage new.damage → Agrees old.desk d
+    → status_of (peer_at client d) ≡ fed.Alive
+    → Ends client cause.Memory d e → MarksAtLeast d e old.damage new.damage → MarksMost d e old.damage new.damage → Happens served_now (Feed client piece) done d e → Agrees new.desk e
+        → Course (Feed client piece) done old new d
 lacking-course client piece done old new d e frame sides a alive ends marks most happens b = at (client_at client d) refl
   where
     by : (t : Option Cause) (r : Resident) → client_at client d ≡ Some r → r.peer.status ≡ t → Course (Feed client piece) done old new d

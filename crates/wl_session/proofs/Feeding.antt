@@ -69,7 +69,8 @@ reaches-none c (suc n) d new none h =
 reaches-ended : (c n : ℕ) (s : Cause) (r : Resident) (d new : Desktop) → client_at c d ≡ Some r → r.peer.status ≡ Some s → Reaches served_now c n d new → new ≡ d
 reaches-ended c zero s r d new is over h = h
 reaches-ended c (suc n) s r d new is over h =
-    let served : StepServesAt served_now c (Some r) h.0 new = subst (λ (o : Option Resident). StepServesAt served_now c o h.0 new) (ap (λ (x : Desktop). client_at c x) (reaches-ended c n s r d h.0 is over h.1) ∙ is) h.2 in
+    let served : StepServesAt served_now c (Some r) h.0 new = subst (λ (o : Option Resident). StepServesAt served_now c o h.0 new)
+        (ap (λ (x : Desktop). client_at c x) (reaches-ended c n s r d h.0 is over h.1) ∙ is) h.2 in
     let clash : Some s ≡ None = sym over ∙ served.0 in
     absurd (cc)
 
@@ -119,7 +120,8 @@ pub fed-served : (c n : ℕ) (piece : List ℕ) (d mid : Desktop) (answer : Fed)
 fed-served c n piece d mid answer more reaches idle told =
     subst (λ (f : Fed). IsFedAt served_now c piece (client_at c d) d (gave.Feed f) mid) (sym told) (at (client_at c d) refl (kept-has c piece d more) reaches)
   where
-    at : (o : Option Resident) → client_at c d ≡ o → NoMore (kept_of c piece o d) → Reaches served_now c n (kept_of c piece o d) mid → IsFedAt served_now c piece o d (gave.Feed (status_of (peer_at c mid))) mid
+    at : (o : Option Resident) → client_at c d ≡ o → NoMore (kept_of c piece o d) → Reaches served_now c n (kept_of c piece o d) mid
+        → IsFedAt served_now c piece o d (gave.Feed (status_of (peer_at c mid))) mid
     at None is begun reaches =
         let same = reaches-none c n d mid is reaches in
         (ap (λ (x : Desktop). gave.Feed (status_of (peer_at c x))) same ∙ ap (λ (o : Option Resident). gave.Feed (status_of (peer_of o))) is, same)

@@ -92,7 +92,8 @@ user-hides-nothing left act done old new c user h =
     (own-kept c old new (own_stays left act done c old new (λ e. none-some c (sym user ∙ e)) h))
 
 -- what is asked of the others is what is wanted
-enough : (left : LeftOut) (liars : ℕ → Bool) (act : Act) (done : Done) (old new : Desktop) → Happens left act done old new → KeepBut all_windows liars (Single act done) old new → AllDamageBut all_windows liars old new
+enough : (left : LeftOut) (liars : ℕ → Bool) (act : Act) (done : Done) (old new : Desktop) → Happens left act done old new → KeepBut all_windows liars (Single act done) old new
+    → AllDamageBut all_windows liars old new
 enough left liars (Store client store at bytes) done old new happens keep = λ c honest. write_hides_nothing left old new client store at c bytes done happens (keep c honest)
 enough left liars (Tick time) done old new happens keep = λ c honest. (keep c honest).0
 enough left liars Connect done old new happens keep = keep
@@ -104,7 +105,8 @@ enough left liars (Motion time x y) done old new happens keep = λ c honest. use
 enough left liars (Button time button pressed) done old new happens keep = λ c honest. user-hides-nothing left (Button time button pressed) done old new c refl happens
 
 -- Nor do bytes that come and are kept.
-receive-hides-nothing : (client : ℕ) (piece : List ℕ) (o : Option Resident) (old : Desktop) (path : List Desktop) (new : Desktop) (c : ℕ) → client_at client old ≡ o → ReceivesAt client piece o old path new → KeepsDamage all_windows old new c
+receive-hides-nothing : (client : ℕ) (piece : List ℕ) (o : Option Resident) (old : Desktop) (path : List Desktop) (new : Desktop) (c : ℕ) → client_at client old ≡ o
+    → ReceivesAt client piece o old path new → KeepsDamage all_windows old new c
 receive-hides-nothing client piece None old path new c there h = absurd h
 receive-hides-nothing client piece (Some r) old path new c there h =
     let come : Resident = with_peer (with_rest (r.peer.rest ++ piece) r.peer) r in

@@ -62,7 +62,8 @@ none-beyond y from x (r ∷ rs) ends h = rw (by ends.0, none-beyond y from x rs 
     by (inr here) = past-end x y r (omega (arith, here.1, h))
 
 -- each is before a run that begins beyond
-before-last : (width height y from : ℕ) (runs : List Run) (run : Run) → run.y ≡ y → AllLieIn width height runs → (0 < from → from < run.x) → EndsBy y from runs → AreInOrder runs → AreInOrder (runs ++ run ∷ [])
+before-last : (width height y from : ℕ) (runs : List Run) (run : Run) → run.y ≡ y → AllLieIn width height runs → (0 < from → from < run.x) → EndsBy y from runs → AreInOrder runs
+    → AreInOrder (runs ++ run ∷ [])
 before-last width height y from [] run is all begins ends order = (tt, tt)
 before-last width height y from (r ∷ rs) run is all begins ends order =
     (at rs order.0, before-last width height y from rs run is all.1 begins ends.1 order.1)
@@ -108,7 +109,8 @@ row-none runs p width y are = record {
 }
 
 -- one more
-pub row-more : (now : List Run) (p : ℕ → ℕ → Bool) (width y from x w : ℕ) → IsFirstRun (λ k. p k y) width from (x, w) → RowTo now p width y from → RowTo (now ++ record { x = x; y = y; w = w } ∷ []) p width y (x + w)
+pub row-more : (now : List Run) (p : ℕ → ℕ → Bool) (width y from x w : ℕ) → IsFirstRun (λ k. p k y) width from (x, w) → RowTo now p width y from
+    → RowTo (now ++ record { x = x; y = y; w = w } ∷ []) p width y (x + w)
 row-more now p width y from x w first to = record {
   above = λ k z wide h.
       any-last (is_in k z) now run ∙ (ap (λ b. in_runs now k z || b) (row-else k z run (after y z h)) ∙ (or-false (in_runs now k z) ∙ to.above k z wide h));
@@ -159,7 +161,3 @@ row-all now p width y from none to = record {
       | inl l ↦ to.here x wide l
       | inr g ↦ none-beyond y from x now to.ends g ∙ sym (none x g wide)
     ]
-
--- no row
-pub no-rows : (p : ℕ → ℕ → Bool) (width : ℕ) → AreRuns width 0 p []
-no-rows p width = record { points = λ x y wide high. absurd (omega (arith, high)); order = tt; within = tt }

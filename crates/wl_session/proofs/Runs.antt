@@ -31,7 +31,8 @@ use Rattle.wl_session.proofs.Stays.{stays_right}
 
 -- ---- steps one after another
 
-runs-last : (left : LeftOut) (acts : List Act) (act : Act) (from mid to : Moment) (events last : List Event) (done : Done) → Runs left from acts events mid → Happens left act done mid.desktop to.desktop
+runs-last : (left : LeftOut) (acts : List Act) (act : Act) (from mid to : Moment) (events last : List Event) (done : Done) → Runs left from acts events mid
+    → Happens left act done mid.desktop to.desktop
     → AreParts act done (happenings last) → AreEvents left mid last to → Runs left from (acts ++ act ∷ []) (events ++ last) to
 runs-last left [] act from mid to events last done run happens parts leads = (
   to,
@@ -132,22 +133,26 @@ tick-shown time from to (e ∷ []) film parts leads shown runs pixels =
     } in
     rw (ap is_frame is) (shot, tt)
 
-pub tick-leads : (time : ℕ) (old new : SessionView) (film : Film) → TakesCourse (Tick time) gave.Tick old new → film.time ≡ time → AreRuns old.frame.width old.frame.height (has old.damage) film.runs → film.pixels ≡ new.frame.pixels
+pub tick-leads : (time : ℕ) (old new : SessionView) (film : Film) → TakesCourse (Tick time) gave.Tick old new → film.time ≡ time → AreRuns old.frame.width old.frame.height (has old.damage) film.runs
+    → film.pixels ≡ new.frame.pixels
     → LeadsTo (Tick time) (film ∷ []) old new
 tick-leads time old new film takes shown runs pixels = λ d a.
     let course = takes d a in
     (gave.Tick, course, tick-shown time (moment d old) (moment course.desktop new) course.events film course.parts course.leads shown runs pixels)
 
 -- what it shows, after whatever came before it
-pub tick-scratch : (time : ℕ) (first from to : Moment) (past more : List Event) (liars broke : ℕ → Bool) → IsRightBut liars first → AreEvents served_now first (past ++ more) to → AreApart (past ++ more)
+pub tick-scratch : (time : ℕ) (first from to : Moment) (past more : List Event) (liars broke : ℕ → Bool) → IsRightBut liars first → AreEvents served_now first (past ++ more) to
+    → AreApart (past ++ more)
     → happenings more ≡ Single (Tick time) gave.Tick ∷ [] → AreEvents served_now from more to → AreLiars liars (past ++ more) broke → (x y : ℕ) → x < from.frame.width → y < from.frame.height
     → is_covered all_windows broke from.desktop (pos x) (pos y) ≡ false → color_at to.frame x y ≡ scratch from.frame.background from.desktop (pos x) (pos y)
 tick-scratch time begun from to past [] liars broke right all apart parts leads holds x y w h clear = absurd (cc)
 tick-scratch time begun from to past (e ∷ (f ∷ fs)) liars broke right all apart parts leads holds x y w h clear = absurd (cc)
 tick-scratch time begun from to past (e ∷ []) liars broke right all apart parts leads holds x y w h clear =
     let is : e.happening ≡ Single (Tick time) gave.Tick = first time e.happening parts in
-    let shows : (m : Moment) → e.before ≡ m → x < m.frame.width → y < m.frame.height → is_covered all_windows broke m.desktop (pos x) (pos y) ≡ false → color_at e.after.frame x y ≡ scratch m.frame.background m.desktop (pos x) (pos y) =
-    λ m same. subst (λ (n : Moment). x < n.frame.width → y < n.frame.height → is_covered all_windows broke n.desktop (pos x) (pos y) ≡ false → color_at e.after.frame x y ≡ scratch n.frame.background n.desktop (pos x) (pos y)) same
+    let shows : (m : Moment) → e.before ≡ m → x < m.frame.width → y < m.frame.height → is_covered all_windows broke m.desktop (pos x) (pos y) ≡ false
+        → color_at e.after.frame x y ≡ scratch m.frame.background m.desktop (pos x) (pos y) =
+    λ m same. subst (λ (n : Moment). x < n.frame.width → y < n.frame.height → is_covered all_windows broke n.desktop (pos x) (pos y) ≡ false
+        → color_at e.after.frame x y ≡ scratch n.frame.background n.desktop (pos x) (pos y)) same
     (frame-scratch served_now past e begun to liars broke all apart (ap is_frame is) holds right x y) in
     ap (λ (m : Moment). color_at m.frame x y) leads.2 ∙ shows from leads.0 w h clear
 
@@ -168,7 +173,8 @@ ran-more steps i x old mid new films first d h ran leads =
       desktop = course.desktop;
       events = ran.events ++ course.events;
       runs = subst (λ acts. Runs served_now (moment d old) acts (ran.events ++ course.events) (moment course.desktop new)) (sym acts)
-          (runs-last served_now (map act_of (take i steps)) (act_of (get_or steps i x)) (moment d old) (moment ran.desktop mid) (moment course.desktop new) ran.events course.events next.0 ran.runs course.happens course.parts course.leads);
+          (runs-last served_now (map act_of (take i steps)) (act_of (get_or steps i x)) (moment d old) (moment ran.desktop mid) (moment course.desktop new) ran.events course.events next.0 ran.runs
+              course.happens course.parts course.leads);
       apart = apart-then ran.events course.events ran.apart course.apart;
       shots = subst (λ es. AreShots es (films ++ first)) (sym (frames-then ran.events course.events)) (shots-then (frames_of ran.events) (frames_of course.events) films first ran.shots next.2);
       agrees = course.agrees;

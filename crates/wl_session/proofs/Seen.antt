@@ -151,7 +151,8 @@ module _ (left : LeftOut) (width height : ℕ) (background : Rgb) (to : Moment) 
 -- ---- what a frame shows
 
 -- A frame shows the desktop as it began, painted from nothing, after whatever came before it.
-pub frame-scratch : (left : LeftOut) (past : List Event) (frame : Event) (from to : Moment) (liars broke : ℕ → Bool) → AreEvents left from (past ++ frame ∷ []) to → AreApart (past ++ frame ∷ []) → is_frame frame.happening ≡ true
+pub frame-scratch : (left : LeftOut) (past : List Event) (frame : Event) (from to : Moment) (liars broke : ℕ → Bool) → AreEvents left from (past ++ frame ∷ []) to → AreApart (past ++ frame ∷ [])
+    → is_frame frame.happening ≡ true
     → AreLiars liars (past ++ frame ∷ []) broke → IsRightBut liars from → (x y : ℕ) → x < frame.before.frame.width → y < frame.before.frame.height
     → is_covered all_windows broke frame.before.desktop (pos x) (pos y) ≡ false → color_at frame.after.frame x y ≡ scratch frame.before.frame.background frame.before.desktop (pos x) (pos y)
 frame-scratch left [] frame from to liars broke leads apart tick holds right x y w h clear =
@@ -166,7 +167,8 @@ frame-scratch left (e ∷ es) frame from to liars broke leads apart tick holds r
     let at : IsRightBut liars e.before = subst (λ (m : Moment). IsRightBut liars m) (sym leads.0) right in
     frame-scratch left es frame e.after to holds.0 broke leads.2 apart.2 tick holds.2 (event-right left e liars holds.0 leads.1 (apart.0, apart.1) holds.1 at) x y w h clear
 
-pub sees-scratch : (left : LeftOut) (from to : Moment) (events : List Event) (films : List Film) (liars : ℕ → Bool) (sight : Sight) → AreApart events → AreEvents left from events to → AreShots (frames_of events) films
+pub sees-scratch : (left : LeftOut) (from to : Moment) (events : List Event) (films : List Film) (liars : ℕ → Bool) (sight : Sight) → AreApart events → AreEvents left from events to
+    → AreShots (frames_of events) films
     → IsRightBut liars from → Holds sight from.frame → SeesScratch liars sight from.frame events films
 sees-scratch left from to events films liars sight apart leads shots right held before frame later broke x y same tick holds w h clear =
     sees-each left from.frame.width from.frame.height from.frame.background to before frame later from films liars broke sight x y

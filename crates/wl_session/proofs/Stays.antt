@@ -67,7 +67,8 @@ module _ (k : ℕ) (d : Desktop) (path : List Desktop) (new : Desktop) (done : D
   ended-goes (Some r) there (None, is, later) =
       ap (λ (x : Desktop). client_at k x) later.2.1 ∙ number-same d.clients k None r there
 
-closing : (left : LeftOut) (act : Act) (done : Done) (c : ℕ) (d : Desktop) (path : List Desktop) (new : Desktop) → Leads left (Single act done) d path new → closes act done c ≡ true → client_at c new ≡ None
+closing : (left : LeftOut) (act : Act) (done : Done) (c : ℕ) (d : Desktop) (path : List Desktop) (new : Desktop) → Leads left (Single act done) d path new → closes act done c ≡ true
+    → client_at c new ≡ None
 closing left Connect done c d path new h e = absurd (differ e)
 closing left (Feed client piece) done c d path new h e = absurd (differ e)
 closing left (Store client store at bytes) done c d path new h e = absurd (differ e)
@@ -111,7 +112,8 @@ covers-both before after x y (w ∷ ws) clear none =
     either-none false b e f = f
 
 -- fewer clients cover less
-pub covers-less : (less more : ℕ → Bool) (x y : ℤ) (ws : List Window) → ((c : ℕ) → more c ≡ false → less c ≡ false) → list_any (covers_at more x y) ws ≡ false → list_any (covers_at less x y) ws ≡ false
+pub covers-less : (less more : ℕ → Bool) (x y : ℤ) (ws : List Window) → ((c : ℕ) → more c ≡ false → less c ≡ false) → list_any (covers_at more x y) ws ≡ false
+    → list_any (covers_at less x y) ws ≡ false
 covers-less less more x y [] fewer clear = refl
 covers-less less more x y (w ∷ ws) fewer clear =
     either-none (less w.owner.client && contains w x y) (list_any (covers_at less x y) ws)
@@ -270,7 +272,8 @@ keeps-opaque (Single (Close client) done) old new c e keeps = absurd (differ e)
 keeps-opaque (Single (Motion time x y) done) old new c e keeps = absurd (differ e)
 keeps-opaque (Single (Button time button pressed) done) old new c e keeps = absurd (differ e)
 
-pub event-right : (left : LeftOut) (e : Event) (liars next : ℕ → Bool) → IsEvent left e → AreDistinct (all_windows e.before.desktop) × AreDistinct (all_windows e.after.desktop) → HoldsLiars e liars next
+pub event-right : (left : LeftOut) (e : Event) (liars next : ℕ → Bool) → IsEvent left e → AreDistinct (all_windows e.before.desktop) × AreDistinct (all_windows e.after.desktop)
+    → HoldsLiars e liars next
     → IsRightBut liars e.before → IsRightBut next e.after
 event-right left e liars next is apart broke right = by (is_frame e.happening) refl is.paints
   where

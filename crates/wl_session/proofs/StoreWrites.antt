@@ -59,13 +59,15 @@ put k c r q old true e there =
     inl (subst (λ n. owned_in (with_client k (Some (with_peer q r)) old) n ≡ owned_in old n) (eqb-true k c e) now)
 put k c r q old false e there = inl (ap owned_of (number-other old.clients k c (Some (with_peer q r)) (λ same. eqb-false k c e same)))
 
-put-after : (k store at c : ℕ) (bytes : List ℕ) (r : Resident) (old new : Desktop) (done : Done) → client_at k old ≡ Some r → ChangesAt (IsStored store at bytes) (gave.Store stored.NoClient) k (Some r) old done new → Owns c old new
+put-after : (k store at c : ℕ) (bytes : List ℕ) (r : Resident) (old new : Desktop) (done : Done) → client_at k old ≡ Some r
+    → ChangesAt (IsStored store at bytes) (gave.Store stored.NoClient) k (Some r) old done new → Owns c old new
 put-after k store at c bytes r old new done e (Some q, h, becomes) = subst (λ (d : Desktop). Owns c old d) (sym becomes) (put k c r q old (k == c) refl e)
 put-after k store at c bytes r old new done e (None, h, becomes) = absurd (nothing-put (stored_at r.peer.status store at bytes r.peer) h.0) where
   nothing-put : (q : Peer) → None ≡ Some q → ⊥
   nothing-put q f = absurd (cc)
 
-owned-after : (k store at c : ℕ) (bytes : List ℕ) (client : Option Resident) (old new : Desktop) (done : Done) → client_at k old ≡ client → ChangesAt (IsStored store at bytes) (gave.Store stored.NoClient) k client old done new → Owns c old new
+owned-after : (k store at c : ℕ) (bytes : List ℕ) (client : Option Resident) (old new : Desktop) (done : Done) → client_at k old ≡ client
+    → ChangesAt (IsStored store at bytes) (gave.Store stored.NoClient) k client old done new → Owns c old new
 owned-after k store at c bytes None old new done e h = subst (λ (d : Desktop). Owns c old d) (sym h.1) (inl refl)
 owned-after k store at c bytes (Some r) old new done e h = put-after k store at c bytes r old new done e h
 
@@ -77,7 +79,8 @@ value-in d (Some x) = x
 
 same-buffer : (before after : ℕ → Owned) (w v : Window) → Fields w v → (after v.owner.client).surfaces ≡ (before v.owner.client).surfaces → IsShown before w → IsShown after v → w.buffer ≡ v.buffer
 same-buffer before after w v f same s t =
-    let there : history_in v.surface (before v.owner.client).surfaces ≡ Some s.0 = subst (λ n. history_in n (before v.owner.client).surfaces ≡ Some s.0) f.surface (subst (λ n. history_in w.surface (before n).surfaces ≡ Some s.0) f.client s.1) in
+    let there : history_in v.surface (before v.owner.client).surfaces ≡ Some s.0 = subst (λ n. history_in n (before v.owner.client).surfaces ≡ Some s.0) f.surface
+        (subst (λ n. history_in w.surface (before n).surfaces ≡ Some s.0) f.client s.1) in
     let here : history_in v.surface (before v.owner.client).surfaces ≡ Some t.0 = subst (λ (a : Surfaces). history_in v.surface a ≡ Some t.0) same t.1 in
     let histories : s.0 ≡ t.0 = ap (value-in s.0) (sym there ∙ here) in
     let buffers : Some w.buffer ≡ Some v.buffer = sym s.2 ∙ ap (λ (h : History). (applied h).buffer) histories ∙ t.2 in
@@ -99,7 +102,8 @@ color-is d w v x y f b =
     ap (λ (bytes : List ℕ). pixel_at bytes w.buffer (point_at w x y)) (bytes-same w (client_at w.owner.client d))
     ∙ ap (λ c. pixel_at (bytes_in d c w.buffer.store) w.buffer (point_at w x y)) f.client
     ∙ ap (λ (a : Buffer). pixel_at (bytes_in d v.owner.client a.store) a (point_at w x y)) b
-    ∙ ap (λ (p : ℕ × ℕ). pixel_at (bytes_in d v.owner.client v.buffer.store) v.buffer p) (points-same x y w.transform v.transform w.width v.width w.height v.height w.corner.x v.corner.x w.corner.y v.corner.y f.transform f.width f.height f.x f.y)
+    ∙ ap (λ (p : ℕ × ℕ). pixel_at (bytes_in d v.owner.client v.buffer.store) v.buffer p) (points-same x y w.transform v.transform w.width v.width w.height v.height w.corner.x v.corner.x w.corner.y
+        v.corner.y f.transform f.width f.height f.x f.y)
 
 -- ---- a busy buffer keeps its colours
 
@@ -114,10 +118,12 @@ any-first p (x ∷ xs) ys e = go (p x) (or-left (p x) (list_any p (xs ++ ys)) e)
   go true f g = absurd (differ (sym f))
   go false f g = g
 
-found-none : (p : Buffer → Bool) (ss : List Surface) (t : Surface → Bool) (h : History) (b : Buffer) → list_any p (flat_map busy_of ss) ≡ false → option_map (λ (s : Surface). s.history) (find t ss) ≡ Some h → (applied h).buffer ≡ Some b → p b ≡ false
+found-none : (p : Buffer → Bool) (ss : List Surface) (t : Surface → Bool) (h : History) (b : Buffer) → list_any p (flat_map busy_of ss) ≡ false
+    → option_map (λ (s : Surface). s.history) (find t ss) ≡ Some h → (applied h).buffer ≡ Some b → p b ≡ false
 found-none p [] t h b e f g = absurd (cc)
 found-none p (s ∷ ss) t h b e f g = go (t s) f (found-none p ss t h b (any-second p (busy_of s) (flat_map busy_of ss) e)) where
-  go : (same : Bool) → option_map (λ (z : Surface). z.history) (cond same (Some s) (find t ss)) ≡ Some h → (option_map (λ (z : Surface). z.history) (find t ss) ≡ Some h → (applied h).buffer ≡ Some b → p b ≡ false) → p b ≡ false
+  go : (same : Bool) → option_map (λ (z : Surface). z.history) (cond same (Some s) (find t ss)) ≡ Some h → (option_map (λ (z : Surface). z.history) (find t ss) ≡ Some h → (applied h).buffer ≡ Some b
+      → p b ≡ false) → p b ≡ false
   go true i next =
       let same : s.history ≡ h = ap (value-in h) i in
       let one : (applied s.history).buffer ≡ Some b = ap (λ (z : History). (applied z).buffer) same ∙ g in
@@ -151,7 +157,8 @@ kept-by c old new (inl e) keeps = inl (ap (λ (o : Owned). o.surfaces) e, keeps)
 kept-by c old new (inr e) keeps = inr e
 
 -- a window that kept its record shows the colour that it did
-same-colors : (old new : Desktop) (x y : ℤ) (w v : Window) → KeepsBuffers old new v.owner.client → Fields w v → w.buffer ≡ v.buffer → IsShown (owned_in old) w → IsShown (owned_in new) v → contains v x y ≡ true → is_same_color (color_in old w x y) (color_in new v x y) ≡ true
+same-colors : (old new : Desktop) (x y : ℤ) (w v : Window) → KeepsBuffers old new v.owner.client → Fields w v → w.buffer ≡ v.buffer → IsShown (owned_in old) w → IsShown (owned_in new) v
+    → contains v x y ≡ true → is_same_color (color_in old w x y) (color_in new v x y) ≡ true
 same-colors old new x y w v keeps f b s t here =
     let c = v.owner.client in
     let p = point_at v x y in
@@ -159,11 +166,13 @@ same-colors old new x y w v keeps f b s t here =
     let down = far-within y v.corner.y v.height (y -ℤ v.corner.y) refl (and-right (in_span v.corner.x (pos v.width) x) (in_span v.corner.y (pos v.height) y) here) in
     let within = point-within (transform_of v.transform) v.width v.height (unsigned_abs (x -ℤ v.corner.x)) (unsigned_abs (y -ℤ v.corner.y)) v.buffer.width v.buffer.height t.3 t.4 across down in
     let there : history_in w.surface (owned_in old c).surfaces ≡ Some s.0 = subst (λ n. history_in w.surface (owned_in old n).surfaces ≡ Some s.0) f.client s.1 in
-    let unwritten = found-none (is_rewritten_at old new c p.0 p.1) (owned_in old c).surfaces.surfaces (λ (z : Surface). z.id == w.surface) s.0 v.buffer (keeps p.0 p.1) there (s.2 ∙ ap (λ (a : Buffer). Some a) b) in
+    let unwritten = found-none (is_rewritten_at old new c p.0 p.1) (owned_in old c).surfaces.surfaces (λ (z : Surface). z.id == w.surface) s.0 v.buffer (keeps p.0 p.1) there (s.2
+        ∙ ap (λ (a : Buffer). Some a) b) in
     let was = pixel_at (bytes_in old c v.buffer.store) v.buffer p in
     subst (λ (q : Argb). is_same_color q (color_in new v x y) ≡ true) (sym (color-is old w v x y f b))
     (subst (λ (q : Argb). is_same_color was q ≡ true) (sym (color-is new v v x y (self v) refl))
-    (not-rewritten (nat_lt p.0 v.buffer.width) (nat_lt p.1 v.buffer.height) (is_same_color (pixel_at (bytes_in old c v.buffer.store) v.buffer p) (pixel_at (bytes_in new c v.buffer.store) v.buffer p)) unwritten (fits p.0 v.buffer.width within.0) (fits p.1 v.buffer.height within.1)))
+    (not-rewritten (nat_lt p.0 v.buffer.width) (nat_lt p.1 v.buffer.height) (is_same_color (pixel_at (bytes_in old c v.buffer.store) v.buffer p) (pixel_at (bytes_in new c v.buffer.store) v.buffer p))
+        unwritten (fits p.0 v.buffer.width within.0) (fits p.1 v.buffer.height within.1)))
 
 pub any-none : {X : Type 0} (p : X → Bool) (xs : List X) → Each (λ x. p x ≡ false) xs → list_any p xs ≡ false
 any-none p [] e = refl
@@ -172,7 +181,8 @@ any-none p (x ∷ xs) e = go (p x) e.0 (any-none p xs e.1) where
   go true f g = absurd (differ (sym f))
   go false f g = g
 
-not-hidden : (old new : Desktop) (c : ℕ) (x y : ℤ) (w v : Window) → IsKept c old new → (w.owner.client == c) ≡ true → (v.owner.client == c) ≡ true → IsShown (owned_in old) w → IsShown (owned_in new) v → is_hidden_in old new x y w v ≡ false
+not-hidden : (old new : Desktop) (c : ℕ) (x y : ℤ) (w v : Window) → IsKept c old new → (w.owner.client == c) ≡ true → (v.owner.client == c) ≡ true → IsShown (owned_in old) w → IsShown (owned_in new) v
+    → is_hidden_in old new x y w v ≡ false
 not-hidden old new c x y w v keeps of of' s t =
     unless (is_hidden_in old new x y w v)
     (λ e. let rest = and-right (has_same_record w v) _ e in
@@ -186,14 +196,16 @@ not-hidden old new c x y w v keeps of of' s t =
     one f here (inr k) = absurd (nothing-shown v (owned_in new v.owner.client) t.0 k t.1)
 
 -- whichever windows are shown, if each shows the buffer that its surface has applied
-pub hides-nothing : (shown : Showing) (old new : Desktop) (c : ℕ) → Each (IsShown (owned_in old)) (shown old) → Each (IsShown (owned_in new)) (shown new) → IsKept c old new → KeepsDamage shown old new c
+pub hides-nothing : (shown : Showing) (old new : Desktop) (c : ℕ) → Each (IsShown (owned_in old)) (shown old) → Each (IsShown (owned_in new)) (shown new) → IsKept c old new
+    → KeepsDamage shown old new c
 hides-nothing shown old new c here there keeps = λ x y.
     let before = each-kept (λ (w : Window). w.owner.client == c) (IsShown (owned_in old)) (shown old) here in
     let after = each-kept (λ (w : Window). w.owner.client == c) (IsShown (owned_in new)) (shown new) there in
     any-none (λ v. list_any (λ w. is_hidden_in old new x y w v) (windows_by shown c old)) (windows_by shown c new)
     (each-map (λ (v : Window). ((v.owner.client == c) ≡ true) × IsShown (owned_in new) v) (λ v. list_any (λ w. is_hidden_in old new x y w v) (windows_by shown c old) ≡ false)
     (λ v t. any-none (λ w. is_hidden_in old new x y w v) (windows_by shown c old)
-    (each-map (λ (w : Window). ((w.owner.client == c) ≡ true) × IsShown (owned_in old) w) (λ w. is_hidden_in old new x y w v ≡ false) (λ w s. not-hidden old new c x y w v keeps s.0 t.0 s.1 t.1) (windows_by shown c old) before))
+    (each-map (λ (w : Window). ((w.owner.client == c) ≡ true) × IsShown (owned_in old) w) (λ w. is_hidden_in old new x y w v ≡ false) (λ w s. not-hidden old new c x y w v keeps s.0 t.0 s.1 t.1)
+        (windows_by shown c old) before))
     (windows_by shown c new) after)
 
 pub write_hides_nothing : WriteHidesNothing

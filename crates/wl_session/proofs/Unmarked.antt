@@ -61,7 +61,8 @@ same-color c d e =
     let first = and-left ((c.a == d.a) && (c.r == d.r)) _ e in
     let second = and-right ((c.a == d.a) && (c.r == d.r)) _ e in
     color-is c.a d.a c.r d.r c.g d.g c.b d.b
-    (eqb-true c.a d.a (and-left (c.a == d.a) _ first)) (eqb-true c.r d.r (and-right (c.a == d.a) _ first)) (eqb-true c.g d.g (and-left (c.g == d.g) _ second)) (eqb-true c.b d.b (and-right (c.g == d.g) _ second))
+    (eqb-true c.a d.a (and-left (c.a == d.a) _ first)) (eqb-true c.r d.r (and-right (c.a == d.a) _ first)) (eqb-true c.g d.g (and-left (c.g == d.g) _ second))
+        (eqb-true c.b d.b (and-right (c.g == d.g) _ second))
 
 not-hidden : (a b s n : Bool) → (a && (b && (not s && not n))) ≡ false → a ≡ true → b ≡ true → n ≡ false → s ≡ true
 not-hidden true true true false e f g h = refl
@@ -73,10 +74,13 @@ not-hidden true true s true e f g h = absurd (differ (sym h))
 colors-stay : (shown : Showing) (liars : ℕ → Bool) (old new : Desktop) (x y : ℤ) → AllDamageBut shown liars old new → is_covered shown liars new x y ≡ false → ColorsStay shown old new x y
 colors-stay shown liars old new x y keep clear i j w v before after same here none =
     let honest = without (liars v.owner.client) (contains v x y) (none-at (covers_at liars x y) (shown new) j v after clear) here in
-    let unhidden = none-kept (λ z. z.owner.client == v.owner.client) (λ z. list_any (λ b. is_hidden_in old new x y b z) (windows_by shown v.owner.client old)) (shown new) j v after (same-number v.owner.client) (keep v.owner.client honest x y) in
-    let seen = none-kept (λ z. z.owner.client == v.owner.client) (λ b. is_hidden_in old new x y b v) (shown old) i w before (equal-numbers w.owner.client v.owner.client (fields w v same).client) unhidden in
+    let unhidden = none-kept (λ z. z.owner.client == v.owner.client) (λ z. list_any (λ b. is_hidden_in old new x y b z) (windows_by shown v.owner.client old)) (shown new) j v after
+        (same-number v.owner.client) (keep v.owner.client honest x y) in
+    let seen = none-kept (λ z. z.owner.client == v.owner.client) (λ b. is_hidden_in old new x y b v) (shown old) i w before (equal-numbers w.owner.client v.owner.client (fields w v same).client)
+        unhidden in
     same-color (color_in old w x y) (color_in new v x y)
-    (not-hidden (has_same_record w v) (contains v x y) (is_same_color (color_in old w x y) (color_in new v x y)) (applied_between old new v.owner.client v.surface (x -ℤ v.corner.x) (y -ℤ v.corner.y)) seen same here none) where
+    (not-hidden (has_same_record w v) (contains v x y) (is_same_color (color_in old w x y) (color_in new v x y)) (applied_between old new v.owner.client v.surface (x -ℤ v.corner.x) (y -ℤ v.corner.y))
+        seen same here none) where
       without : (a b : Bool) → (a && b) ≡ false → b ≡ true → a ≡ false
       without true b e f = absurd (differ (sym e ∙ f))
       without false b e f = refl
@@ -88,7 +92,8 @@ unmarked_stays shown liars background old new x y apart keep inside unmarked cle
 -- ---- what is covered
 
 -- what such a window covered is covered still, or marked
-pub covered-still : (shown : Showing) (liars : ℕ → Bool) (old new : Desktop) (x y : ℤ) → in_output_of old x y ≡ true → marks_at_least_of shown old new x y ≡ false → is_covered shown liars new x y ≡ false → is_covered shown liars old x y ≡ false
+pub covered-still : (shown : Showing) (liars : ℕ → Bool) (old new : Desktop) (x y : ℤ) → in_output_of old x y ≡ true → marks_at_least_of shown old new x y ≡ false
+    → is_covered shown liars new x y ≡ false → is_covered shown liars old x y ≡ false
 covered-still shown liars old new x y inside unmarked clear =
     let all = marked-none (in_output_of old x y) _ unmarked inside in
     let changed = or-left (list_any (is_changed_at (shown new) x y) (shown old) || list_any (is_changed_at (shown old) x y) (shown new)) _ all in
@@ -97,5 +102,6 @@ covered-still shown liars old new x y inside unmarked clear =
     (λ covered. any-each (covers_at liars x y) (is_changed_at (shown new) x y) (shown old) covered (each-false (is_changed_at (shown new) x y) (shown old) gone)
     (λ w e. and-both (contains w x y) (not (is_kept_in (shown new) w)) (and-right (liars w.owner.client) (contains w x y) e)
     (ap not (unless (is_kept_in (shown new) w) (λ kept. differ (sym clear ∙ any-more (has_same_record w) (covers_at liars x y)
-    (λ v same. and-both (liars v.owner.client) (contains v x y) (sym (ap liars (fields w v same).client) ∙ and-left (liars w.owner.client) (contains w x y) e) (sym (contains-same x y w v same) ∙ and-right (liars w.owner.client) (contains w x y) e))
+    (λ v same. and-both (liars v.owner.client) (contains v x y) (sym (ap liars (fields w v same).client) ∙ and-left (liars w.owner.client) (contains w x y) e) (sym (contains-same x y w v same)
+        ∙ and-right (liars w.owner.client) (contains w x y) e))
     (shown new) kept))))))

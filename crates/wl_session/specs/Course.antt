@@ -18,8 +18,8 @@ use Rattle.wl_session.specs.Viewer.{Sight}
 abbrev pub moment : Desktop → SessionView → Moment
 moment d v = record { desktop = d; damage = v.damage; frame = v.frame }
 
--- What a step is: a piece of a stream is its bytes as they come and then so many messages, or want of memory to keep it, or nothing, as where
--- its client ended; any other step is by itself.
+-- What a step is: a piece of a stream is its bytes as they come and then so many messages, or want of memory to keep it, or nothing, as
+-- where its client ended; any other step is by itself.
 abbrev pub AreParts : Act → Done → List Happening → Type 0
 AreParts Connect done parts = parts ≡ Single Connect done ∷ []
 AreParts (Feed client piece) done parts =
@@ -86,11 +86,13 @@ pub record Ran (acts : List Act) (films : List Film) (old new : SessionView) (d 
 abbrev pub TakesSteps : List Act → List Film → SessionView → SessionView → Type 0
 TakesSteps acts films old new = (d : Desktop) → Agrees old.desk d → Ran acts films old new d
 
--- The same, and a viewer that held the frame before it sees each frame painted from nothing, but where those clients' windows cover it for which
--- it wasn't right before, or of which it saw a promise broken.
+-- The same, and a viewer that held the frame before it sees each frame painted from nothing, but where those clients' windows cover it for
+-- which it wasn't right before, or of which it saw a promise broken.
 abbrev pub IsSeen : List Act → List Film → SessionView → SessionView → Type 0
 IsSeen acts films old new =
     (d : Desktop) → Agrees old.desk d
     → (ran : Ran acts films old new d)
-    × ((liars : ℕ → Bool) (sight : Sight) → IsRightBut liars (moment d old) → Holds sight old.frame → SeesScratch liars sight old.frame ran.events films)
-    × ((liars last : ℕ → Bool) → AreLiars liars ran.events last → IsRightBut liars (moment d old) → IsRightBut last (moment ran.desktop new))
+    × ((liars : ℕ → Bool) (sight : Sight) → IsRightBut liars (moment d old) → Holds sight old.frame
+        → SeesScratch liars sight old.frame ran.events films)
+    × ((liars last : ℕ → Bool) → AreLiars liars ran.events last → IsRightBut liars (moment d old)
+        → IsRightBut last (moment ran.desktop new))

@@ -60,7 +60,8 @@ raised_by happening d = None
 -- Nothing is marked but what was, and what may be: by the step's own change, and by each end and each settling in turn.
 abbrev pub MarksFew : Option (ℕ × ℕ) → Desktop → List Desktop → Damaged → Damaged → Type 0
 MarksFew raised d path old new =
-    (x y : ℕ) → x < old.width → y < old.height → has new x y ≡ true → (has old x y || marks_at_most_through all_windows raised d path (pos x) (pos y)) ≡ true
+    (x y : ℕ) → x < old.width → y < old.height → has new x y ≡ true
+        → (has old x y || marks_at_most_through all_windows raised d path (pos x) (pos y)) ≡ true
 
 -- A message marks what it has to by its own change, and by each end and each settling in turn.
 abbrev pub MarksEach : Happening → Desktop → List Desktop → Damaged → Damaged → Type 0
@@ -68,8 +69,8 @@ MarksEach (Message client) d path old new =
     (x y : ℕ) → x < old.width → y < old.height → has new x y ≡ false → marks_at_least_through all_windows d path (pos x) (pos y) ≡ false
 MarksEach happening d path old new = Unit {0}
 
--- Whatever happens but a frame leaves the last frame. What was to be painted again still is, and so is what has to be marked; nothing else is
--- where nothing new is shown, and no more than may be along the desktops that it leads through.
+-- Whatever happens but a frame leaves the last frame. What was to be painted again still is, and so is what has to be marked; nothing else
+-- is where nothing new is shown, and no more than may be along the desktops that it leads through.
 pub record IsMarked (happening : Happening) (before : Moment) (path : List Desktop) (after : Moment) : Type 0 where
   pub frame : after.frame ≡ before.frame
   pub sides : HasItsSides before.damage after.damage
@@ -78,8 +79,8 @@ pub record IsMarked (happening : Happening) (before : Moment) (path : List Deskt
   pub most : MarksFew (raised_by happening before.desktop) before.desktop path before.damage after.damage
   pub quiet : is_quiet happening ≡ true → IsAsDamaged before.damage after.damage
 
--- A frame is shown of the desktop as it was: what was to be painted again is painted, and nothing else. Then clients are told of it, and nothing
--- is to be painted but what that has to mark and may, which is nothing where no client ends.
+-- A frame is shown of the desktop as it was: what was to be painted again is painted, and nothing else. Then clients are told of it, and
+-- nothing is to be painted but what that has to mark and may, which is nothing where no client ends.
 pub record IsShown (before : Moment) (path : List Desktop) (after : Moment) : Type 0 where
   pub frame : IsNextFrame before.desktop before.frame after.frame (has before.damage)
   pub sides : HasItsSides before.damage after.damage

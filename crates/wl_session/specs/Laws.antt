@@ -8,11 +8,12 @@ use Rattle.wl_plain.specs.Acts.{Act, is_tick}
 use Rattle.wl_plain.specs.Happens.{Happens}
 use Rattle.wl_laws.specs.Others.{client_of}
 
--- Whatever happens but a frame leaves each client that it isn't a step of as it was: its status, requests, objects, serials, unsent bytes and rest, what
--- it owns, and the places and the order of its toplevels; where what isn't served has left no trace.
+-- Whatever happens but a frame leaves each client that it isn't a step of as it was: its status, requests, objects, serials, unsent bytes
+-- and rest, what it owns, and the places and the order of its toplevels; where what isn't served has left no trace.
 abbrev pub OthersStay : Type 0
 OthersStay =
-    (act : Act) (old new : Desktop) (done : Done) (other : ℕ) → is_tick act ≡ false → NoMore old → Happens served_now act done old new → client_of act done ≢ Some other
+    (act : Act) (old new : Desktop) (done : Done) (other : ℕ) → is_tick act ≡ false → NoMore old → Happens served_now act done old new
+        → client_of act done ≢ Some other
     → (client_at other new ≡ client_at other old) × (toplevels_of other new ≡ toplevels_of other old)
 
 -- Whatever happens leaves the output as it was.

@@ -34,8 +34,8 @@ gives_back (Message client) c = false
 gives_back (Starve client) c = false
 gives_back (Single act done) c = closes act done c
 
--- A set of clients after an event: it holds each that breaks a promise in the event, and each that was in the set before it, unless its number
--- is given back.
+-- A set of clients after an event: it holds each that breaks a promise in the event, and each that was in the set before it, unless its
+-- number is given back.
 abbrev pub HoldsLiars : Event → (ℕ → Bool) → (ℕ → Bool) → Type 0
 HoldsLiars e before after =
     (c : ℕ) → after c ≡ false
@@ -46,8 +46,8 @@ abbrev pub AreLiars : (ℕ → Bool) → List Event → (ℕ → Bool) → Type 
 AreLiars liars [] last = (c : ℕ) → last c ≡ false → liars c ≡ false
 AreLiars liars (e ∷ es) last = (next : ℕ → Bool) × HoldsLiars e liars next × AreLiars next es last
 
--- Each point of the output is to be painted again, or covered by a window of one of these clients, or in the last frame as the desktop painted
--- from nothing.
+-- Each point of the output is to be painted again, or covered by a window of one of these clients, or in the last frame as the desktop
+-- painted from nothing.
 pub record IsRightBut (liars : ℕ → Bool) (m : Moment) : Type 0 where
   pub wide : m.frame.width ≡ m.desktop.output.width
   pub high : m.frame.height ≡ m.desktop.output.height
@@ -55,7 +55,8 @@ pub record IsRightBut (liars : ℕ → Bool) (m : Moment) : Type 0 where
   pub damage_high : m.damage.height ≡ m.desktop.output.height
   pub points :
       (x y : ℕ) → x < m.desktop.output.width → y < m.desktop.output.height → has m.damage x y ≡ false
-      → is_covered all_windows liars m.desktop (pos x) (pos y) ≡ false → color_at m.frame x y ≡ scratch m.frame.background m.desktop (pos x) (pos y)
+      → is_covered all_windows liars m.desktop (pos x) (pos y) ≡ false
+          → color_at m.frame x y ≡ scratch m.frame.background m.desktop (pos x) (pos y)
 
 -- no client
 abbrev pub nobody : ℕ → Bool

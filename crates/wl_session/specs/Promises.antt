@@ -85,8 +85,8 @@ KeepsOpaque shown d c = (x y : ℤ) → feigns_at shown d c x y ≡ false
 
 -- ---- in a step
 
--- A client keeps its promises in a step: in a store write that on buffers, in any other that on damage, in a tick that on opaque regions too.
--- A motion of the pointer and a button are the user's: nothing of a client's changes in them, and nothing is asked of it.
+-- A client keeps its promises in a step: in a store write that on buffers, in any other that on damage, in a tick that on opaque regions
+-- too. A motion of the pointer and a button are the user's: nothing of a client's changes in them, and nothing is asked of it.
 abbrev pub Keeps : Showing → Act → Desktop → Desktop → ℕ → Type 0
 Keeps shown (Store client store at bytes) old new c = KeepsBuffers old new c
 Keeps shown (Tick time) old new c = KeepsDamage shown old new c × KeepsOpaque shown old c

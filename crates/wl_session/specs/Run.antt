@@ -1,6 +1,7 @@
 -- Frames and their reports, and why a run of steps stops.
 use Rattle.std.specs.List.{list_any}
-use Rattle.std.specs.Prelude.{ℕ, ◌≡◌, ◌+◌, ◌<◌, ◌≤◌, ◌⊎◌, pos, List, [], ◌∷◌, slice_get, Bool, true, false, ◌&&◌, ◌==◌, nat_le, nat_lt, IsTrue, IsSomeAnd}
+use Rattle.std.specs.Prelude.{ℕ, ◌≡◌, ◌+◌, ◌<◌, ◌≤◌, ◌⊎◌, pos, List, [], ◌∷◌, slice_get, Bool, true, false, ◌&&◌, ◌==◌, nat_le, nat_lt}
+use Rattle.std.specs.Prelude.{IsTrue, IsSomeAnd}
 use Rattle.wl_paint.specs.Frame.{Image, color_at}
 use Rattle.wl_plain.specs.Desktop.{Desktop}
 use Rattle.wl_desk.specs.Painting.{IsOpaqueAsSaid}
@@ -19,11 +20,12 @@ pub record IsAsLarge (before after : Image) : Type 0 where
   pub height : after.height ≡ before.height
   pub background : after.background ≡ before.background
 
--- A frame of a desktop follows another: what is damaged is painted from nothing, where each window is opaque that is said to be, and the pixels
--- outside the damage are those of the frame before.
+-- A frame of a desktop follows another: what is damaged is painted from nothing, where each window is opaque that is said to be, and the
+-- pixels outside the damage are those of the frame before.
 pub record IsNextFrame (d : Desktop) (before after : Image) (damaged : ℕ → ℕ → Bool) : Type 0 where
   pub large : IsAsLarge before after
-  pub painted : (x y : ℕ) → x < before.width → y < before.height → damaged x y ≡ true → IsOpaqueAsSaid d (pos x) (pos y) → color_at after x y ≡ scratch before.background d (pos x) (pos y)
+  pub painted : (x y : ℕ) → x < before.width → y < before.height → damaged x y ≡ true → IsOpaqueAsSaid d (pos x) (pos y)
+      → color_at after x y ≡ scratch before.background d (pos x) (pos y)
   pub kept : (x y : ℕ) → x < before.width → y < before.height → damaged x y ≡ false → color_at after x y ≡ color_at before x y
 
 -- a frame as it is reported: when, which runs of pixels were painted, and the bytes of the whole image
@@ -62,8 +64,8 @@ abbrev pub AllLieIn : ℕ → ℕ → List Run → Type 0
 AllLieIn width height [] = Unit {0}
 AllLieIn width height (r ∷ rs) = LiesIn width height r × AllLieIn width height rs
 
--- The runs of a set of points: they are disjoint, in reading order, within the output and as long as they can be, and hold those points and no
--- others.
+-- The runs of a set of points: they are disjoint, in reading order, within the output and as long as they can be, and hold those points and
+-- no others.
 pub record AreRuns (width height : ℕ) (damaged : ℕ → ℕ → Bool) (runs : List Run) : Type 0 where
   pub points : (x y : ℕ) → x < width → y < height → in_runs runs x y ≡ damaged x y
   pub order : AreInOrder runs

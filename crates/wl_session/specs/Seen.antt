@@ -37,9 +37,9 @@ Holds sight image = (x y : ℕ) → x < image.width → y < image.height → sig
 abbrev pub seen_after : Image → Sight → List Event → List Film → Sight
 seen_after first sight events films = fold (copied first.width) sight (take (length (frames_of events)) films)
 
--- At each frame among these events a viewer that copied only the runs of each report, up to that frame's own, holds every window painted from
--- nothing in stacking order, subsurfaces and popups too, of the desktop as the frame began: at each point of the output that no window covers
--- of a client that broke its promises since it connected.
+-- At each frame among these events a viewer that copied only the runs of each report, up to that frame's own, holds every window painted
+-- from nothing in stacking order, subsurfaces and popups too, of the desktop as the frame began: at each point of the output that no window
+-- covers of a client that broke its promises since it connected.
 abbrev pub SeesScratch : (ℕ → Bool) → Sight → Image → List Event → List Film → Type 0
 SeesScratch liars sight first events films =
     (before : List Event) (frame : Event) (later : List Event) (broke : ℕ → Bool) (x y : ℕ)

@@ -1,5 +1,5 @@
--- What stays right at points that aren't marked, for clients that keep their promises. These laws name no request, and hold whichever windows
--- are `shown` of a desktop, as `all_windows`.
+-- What stays right at points that aren't marked, for clients that keep their promises. These laws name no request, and hold whichever
+-- windows are `shown` of a desktop, as `all_windows`.
 use Rattle.std.specs.Prelude.{ℕ, ℤ, ◌≡◌, ◌&&◌, Bool, true, false}
 use Rattle.std.specs.List.{list_any}
 use Rattle.wl_blend.specs.declared.color.Rgb.{Rgb}
@@ -28,7 +28,8 @@ AllDamageBut shown liars old new = (c : ℕ) → liars c ≡ false → KeepsDama
 abbrev pub BothDistinct : Showing → Desktop → Desktop → Type 0
 BothDistinct shown old new = AreDistinct (shown old) × AreDistinct (shown new)
 
--- A point of the output that a step doesn't mark, and that no window of a client that hid a change covers, is painted from nothing as before.
+-- A point of the output that a step doesn't mark, and that no window of a client that hid a change covers, is painted from nothing as
+-- before.
 abbrev pub UnmarkedStays : Type 0
 UnmarkedStays =
     (shown : Showing) (liars : ℕ → Bool) (background : Rgb) (old new : Desktop) (x y : ℤ)

@@ -48,7 +48,8 @@ none_from : (o : Option Entry) → (IsSome o → ⊥) → o ≡ None
 none_from None h = refl
 none_from (Some e) h = absurd (h refl)
 
-pub next_held : (held : Held) (map : BTreeMap ℕ Entry) (id next : ℕ) (entry : Entry) (above rest : List (ℕ × Entry)) → map.entries ≡ held → IsRangeOf nat_cmp (Excluded id) Unbounded map above → above ≡ (next, entry) ∷ rest → (id < next) × IsSome (entry_of held next) × ((other : ℕ) → id < other → other < next → entry_of held other ≡ None)
+pub next_held : (held : Held) (map : BTreeMap ℕ Entry) (id next : ℕ) (entry : Entry) (above rest : List (ℕ × Entry)) → map.entries ≡ held → IsRangeOf nat_cmp (Excluded id) Unbounded map above
+    → above ≡ (next, entry) ∷ rest → (id < next) × IsSome (entry_of held next) × ((other : ℕ) → id < other → other < next → entry_of held other ≡ None)
 next_held held map id next entry above rest is range first =
     let r : IsRangeOf nat_cmp (Excluded id) Unbounded map ((next, entry) ∷ rest) = subst (λ (u : List (ℕ × Entry)). IsRangeOf nat_cmp (Excluded id) Unbounded map u) first range in (
       below id next r.1.0.0,
@@ -59,12 +60,7 @@ next_held held map id next entry above rest is range first =
           omega arith),
     )
 
-pub none_held : (held : Held) (map : BTreeMap ℕ Entry) (id : ℕ) (above : List (ℕ × Entry)) → map.entries ≡ held → IsRangeOf nat_cmp (Excluded id) Unbounded map above → above ≡ [] → (other : ℕ) → id < other → entry_of held other ≡ None
+pub none_held : (held : Held) (map : BTreeMap ℕ Entry) (id : ℕ) (above : List (ℕ × Entry)) → map.entries ≡ held → IsRangeOf nat_cmp (Excluded id) Unbounded map above → above ≡ [] → (other : ℕ)
+    → id < other → entry_of held other ≡ None
 none_held held map id above is range none other over =
     ap (λ (u : Held). entry_of u other) (sym is) ∙ range.5 none other (less id other over, tt)
-
-pub set_held : (held : Held) (old new : BTreeMap ℕ Entry) (id target : ℕ) (entry : Entry) → old.entries ≡ held → Some entry ≡ entry_of old.entries id → (IsSome (entry_of old.entries id) → UpdatesBy nat_cmp (nat_cmp id) old new (Some (with_target target entry))) → HoldsAt held new.entries id (option_map (with_target target) (entry_of held id))
-set_held held old new id target entry is found updates =
-    let there : IsSome (entry_of old.entries id) = ap is_some (sym found) in
-    let e : Some (with_target target entry) ≡ option_map (with_target target) (entry_of held id) = ap (option_map (with_target target)) (found ∙ ap (λ (u : Held). entry_of u id) is) in
-    subst (λ (u : Option Entry). HoldsAt held new.entries id u) e (HoldsAt-updates held old new id (Some (with_target target entry)) is (updates there))

@@ -1,5 +1,6 @@
 -- What stands in a row, and what beside it.
-use Rattle.std.proofs.Common.{◌≡◌, ◌≢◌, ℕ, zero, suc, ◌+◌, ◌-◌, ◌<◌, ◌≤◌, ◌⊎◌, inl, inr, ⊎_elim, Bool, true, false, cond, is_some, Option, Some, None, IsSome, List, [], ◌∷◌, ◌++◌, length, get_or, replicate, refl, subst, sym, ◌∙◌, ap, arith, length-append}
+use Rattle.std.proofs.Common.{◌≡◌, ◌≢◌, ℕ, zero, suc, ◌+◌, ◌-◌, ◌<◌, ◌≤◌, ◌⊎◌, inl, inr, ⊎_elim, Bool, true, false, cond, is_some, Option, Some, None, IsSome, List, [], ◌∷◌, ◌++◌, length, get_or}
+use Rattle.std.proofs.Common.{replicate, refl, subst, sym, ◌∙◌, ap, arith, length-append}
 use Rattle.std.proofs.Math.ListN.{set}
 use Rattle.std.proofs.lemmas.List.{get_or-set_same, get_or-set_other, get_or_past, length-set, length-replicate}
 use Rattle.std.proofs.lemmas.Bool.Decides.{nat_tests}
@@ -54,7 +55,8 @@ alone : (o other : Option Entry) → other ≡ None → either o other ≡ o
 alone None other e = e
 alone (Some x) other e = refl
 
-pub in_row : (row : List (Option Entry)) (others : BTreeMap ℕ Entry) (count id k : ℕ) → IsTable row others count → id ≡ k + 1 → k < length row → entry_of (placed 1 row ++ others.entries) id ≡ get_or row k None
+pub in_row : (row : List (Option Entry)) (others : BTreeMap ℕ Entry) (count id k : ℕ) → IsTable row others count → id ≡ k + 1 → k < length row
+    → entry_of (placed 1 row ++ others.entries) id ≡ get_or row k None
 in_row row others count id k table e h = entry_at row others.entries id k e ∙ alone (get_or row k None) (entry_of others.entries id) (table.apart id (omega (arith, table.short)))
 
 pub beside : (row : List (Option Entry)) (others : Held) (id : ℕ) → (id ≡ 0) ⊎ (length row < id) → entry_of (placed 1 row ++ others) id ≡ entry_of others id
@@ -63,7 +65,8 @@ beside row others (suc k) (inl e) = cc
 beside row others (suc k) (inr h) = entry_at row others (suc k) k (omega arith) ∙ ap (λ (u : Option Entry). either u (entry_of others (suc k))) (get_or_past row k None (omega arith))
 
 -- a change of the row at one place
-pub HoldsAt-row : (old new : List (Option Entry)) (others : Held) (id k : ℕ) (entry : Option Entry) → id ≡ k + 1 → get_or new k None ≡ entry → ((j : ℕ) → j ≢ k → get_or new j None ≡ get_or old j None) → entry_of others id ≡ None → HoldsAt (placed 1 old ++ others) (placed 1 new ++ others) id entry
+pub HoldsAt-row : (old new : List (Option Entry)) (others : Held) (id k : ℕ) (entry : Option Entry) → id ≡ k + 1 → get_or new k None ≡ entry → ((j : ℕ) → j ≢ k → get_or new j None ≡ get_or old j None)
+    → entry_of others id ≡ None → HoldsAt (placed 1 old ++ others) (placed 1 new ++ others) id entry
 HoldsAt-row old new others id k entry e here rest none = record {
   here = entry_at new others id k e ∙ alone (get_or new k None) (entry_of others id) none ∙ here;
   others = at_other;
@@ -72,13 +75,16 @@ HoldsAt-row old new others id k entry e here rest none = record {
     at_other : (other : ℕ) → other ≢ id → entry_of (placed 1 new ++ others) other ≡ entry_of (placed 1 old ++ others) other
     at_other zero apart = entry_of_0 new others zero refl ∙ sym (entry_of_0 old others zero refl)
     at_other (suc j) apart =
-        entry_at new others (suc j) j (omega arith) ∙ ap (λ (u : Option Entry). either u (entry_of others (suc j))) (rest j (λ (same_place : j ≡ k). apart (omega arith))) ∙ sym (entry_at old others (suc j) j (omega arith))
+        entry_at new others (suc j) j (omega arith) ∙ ap (λ (u : Option Entry). either u (entry_of others (suc j))) (rest j (λ (same_place : j ≡ k). apart (omega arith)))
+            ∙ sym (entry_at old others (suc j) j (omega arith))
 
 -- a change beside the row
-pub HoldsAt-beside : (row : List (Option Entry)) (old new : Held) (id : ℕ) (entry : Option Entry) → (id ≡ 0) ⊎ (length row < id) → HoldsAt old new id entry → HoldsAt (placed 1 row ++ old) (placed 1 row ++ new) id entry
+pub HoldsAt-beside : (row : List (Option Entry)) (old new : Held) (id : ℕ) (entry : Option Entry) → (id ≡ 0) ⊎ (length row < id) → HoldsAt old new id entry
+    → HoldsAt (placed 1 row ++ old) (placed 1 row ++ new) id entry
 HoldsAt-beside row old new id entry out holds = record {
   here = beside row new id out ∙ holds.here;
-  others = λ other apart. entry_of-append (placed 1 row) new other ∙ ap (λ (u : Option Entry). either (entry_of (placed 1 row) other) u) (holds.others other apart) ∙ sym (entry_of-append (placed 1 row) old other);
+  others = λ other apart. entry_of-append (placed 1 row) new other ∙ ap (λ (u : Option Entry). either (entry_of (placed 1 row) other) u) (holds.others other apart)
+      ∙ sym (entry_of-append (placed 1 row) old other);
 }
 
 abbrev size : Option Entry → ℕ
@@ -118,17 +124,20 @@ pub record Changed (held : Held) (id : ℕ) (o : Option Entry) (row : List (Opti
   pub was : count ≡ length held
   pub few : count ≤ 8192
 
-pub changed_at : (row : List (Option Entry)) (others : BTreeMap ℕ Entry) (held : Held) (count id k : ℕ) (o : Option Entry) → placed 1 row ++ others.entries ≡ held → IsTable row others count → id ≡ k + 1 → k < length row → Changed held id o (set row k o) others count
+pub changed_at : (row : List (Option Entry)) (others : BTreeMap ℕ Entry) (held : Held) (count id k : ℕ) (o : Option Entry) → placed 1 row ++ others.entries ≡ held → IsTable row others count
+    → id ≡ k + 1 → k < length row → Changed held id o (set row k o) others count
 changed_at row others held count id k o is table e h = subst (λ (u : Held). Changed u id o (set row k o) others count) is (record {
   holds = HoldsAt-row row (set row k o) others.entries id k o e (get_or-set_same row k o None h) (λ j apart. get_or-set_other row k j o None apart) (table.apart id (omega (arith, table.short)));
-  sized = omega (arith, length-append (placed 1 row) others.entries, length-append (placed 1 (set row k o)) others.entries, length-placed_set 1 k row o h, ap size (in_row row others count id k table e h));
+  sized = omega (arith, length-append (placed 1 row) others.entries, length-append (placed 1 (set row k o)) others.entries, length-placed_set 1 k row o h,
+      ap size (in_row row others count id k table e h));
   short = omega (arith, table.short, length-set row k o);
   apart = table.apart;
   was = table.counted;
   few = table.few;
 })
 
-pub changed_in_row : (row extended : List (Option Entry)) (others : BTreeMap ℕ Entry) (held : Held) (count id k : ℕ) (o : Option Entry) → placed 1 row ++ others.entries ≡ held → IsTable row others count → extended ≡ row ++ replicate (id - length row) None → id ≡ k + 1 → id ≤ 8192 → Changed held id o (set extended k o) others count
+pub changed_in_row : (row extended : List (Option Entry)) (others : BTreeMap ℕ Entry) (held : Held) (count id k : ℕ) (o : Option Entry) → placed 1 row ++ others.entries ≡ held
+    → IsTable row others count → extended ≡ row ++ replicate (id - length row) None → id ≡ k + 1 → id ≤ 8192 → Changed held id o (set extended k o) others count
 changed_in_row row extended others held count id k o is table extends e low =
     changed_at extended others held count id k o (same_held ∙ is) (record {
       counted = table.counted ∙ ap length (sym same_held);
@@ -143,7 +152,8 @@ changed_in_row row extended others held count id k o is table extends e low =
     long : length extended ≡ length row + (id - length row)
     long = ap length extends ∙ length-append row (replicate (id - length row) None) ∙ ap (λ (n : ℕ). length row + n) (length-replicate (id - length row) None)
 
-pub changed_beside : (row : List (Option Entry)) (others new : BTreeMap ℕ Entry) (held : Held) (count id : ℕ) (o : Option Entry) → placed 1 row ++ others.entries ≡ held → IsTable row others count → 8192 < id → UpdatesBy nat_cmp (nat_cmp id) others new o → length new.entries + size (entry_of others.entries id) ≡ length others.entries + size o → Changed held id o row new count
+pub changed_beside : (row : List (Option Entry)) (others new : BTreeMap ℕ Entry) (held : Held) (count id : ℕ) (o : Option Entry) → placed 1 row ++ others.entries ≡ held → IsTable row others count
+    → 8192 < id → UpdatesBy nat_cmp (nat_cmp id) others new o → length new.entries + size (entry_of others.entries id) ≡ length others.entries + size o → Changed held id o row new count
 changed_beside row others new held count id o is table far updates sized = subst (λ (u : Held). Changed u id o row new count) is (record {
   holds = HoldsAt-beside row others.entries new.entries id o (inr (omega (arith, table.short))) (HoldsAt-updates others.entries others new id o refl updates);
   sized = omega (arith, length-append (placed 1 row) others.entries, length-append (placed 1 row) new.entries, sized, ap size (beside row others.entries id (inr (omega (arith, table.short)))));
@@ -154,7 +164,8 @@ changed_beside row others new held count id o is table far updates sized = subst
 })
 
 -- an id whose object has no place
-pub beyond : (row : List (Option Entry)) (others : BTreeMap ℕ Entry) (held : Held) (count id : ℕ) (x : Entry) → placed 1 row ++ others.entries ≡ held → IsTable row others count → (id ≡ 0) ⊎ (length row < id) → Some x ≡ entry_of held id → 8192 < id
+pub beyond : (row : List (Option Entry)) (others : BTreeMap ℕ Entry) (held : Held) (count id : ℕ) (x : Entry) → placed 1 row ++ others.entries ≡ held → IsTable row others count → (id ≡ 0)
+    ⊎ (length row < id) → Some x ≡ entry_of held id → 8192 < id
 beyond row others held count id x is table out some = ⊎_elim (λ (far : 8192 < id). far) (λ (low : id ≤ 8192). absurd (none_there (none low ∙ sym some))) (far_or_low id)
   where
     far_or_low : (n : ℕ) → (8192 < n) ⊎ (n ≤ 8192)
@@ -166,20 +177,26 @@ beyond row others held count id x is table out some = ⊎_elim (λ (far : 8192 <
     none_there : (◌≡◌ {A = Option Entry} None (Some x)) → ⊥
     none_there h = cc
 
-pub found_at : (row : List (Option Entry)) (others : BTreeMap ℕ Entry) (held : Held) (count id k : ℕ) (o : Option Entry) → placed 1 row ++ others.entries ≡ held → IsTable row others count → id ≡ k + 1 → k < length row → o ≡ get_or row k o → o ≡ entry_of held id
+pub found_at : (row : List (Option Entry)) (others : BTreeMap ℕ Entry) (held : Held) (count id k : ℕ) (o : Option Entry) → placed 1 row ++ others.entries ≡ held → IsTable row others count → id ≡ k + 1
+    → k < length row → o ≡ get_or row k o → o ≡ entry_of held id
 found_at row others held count id k o is table e h read =
     read ∙ get_or-any row k o None h ∙ sym (in_row row others count id k table e h) ∙ ap (λ (u : Held). entry_of u id) is
 
-pub found_beside : (row : List (Option Entry)) (others : BTreeMap ℕ Entry) (held : Held) (id : ℕ) → placed 1 row ++ others.entries ≡ held → (id ≡ 0) ⊎ (length row < id) → entry_of others.entries id ≡ entry_of held id
+pub found_beside : (row : List (Option Entry)) (others : BTreeMap ℕ Entry) (held : Held) (id : ℕ) → placed 1 row ++ others.entries ≡ held → (id ≡ 0) ⊎ (length row < id)
+    → entry_of others.entries id ≡ entry_of held id
 found_beside row others held id is out = sym (beside row others.entries id out) ∙ ap (λ (u : Held). entry_of u id) is
 
 -- what is beside the row is written to
-pub changed_written : (row : List (Option Entry)) (others new : BTreeMap ℕ Entry) (held : Held) (count id : ℕ) (x y : Entry) → placed 1 row ++ others.entries ≡ held → IsTable row others count → (id ≡ 0) ⊎ (length row < id) → Some x ≡ entry_of others.entries id → UpdatesBy nat_cmp (nat_cmp id) others new (Some y) → length new.entries ≡ length others.entries → Changed held id (Some y) row new count
+pub changed_written : (row : List (Option Entry)) (others new : BTreeMap ℕ Entry) (held : Held) (count id : ℕ) (x y : Entry) → placed 1 row ++ others.entries ≡ held → IsTable row others count
+    → (id ≡ 0) ⊎ (length row < id) → Some x ≡ entry_of others.entries id → UpdatesBy nat_cmp (nat_cmp id) others new (Some y) → length new.entries ≡ length others.entries
+    → Changed held id (Some y) row new count
 changed_written row others new held count id x y is table out some updates as_many =
-    changed_beside row others new held count id (Some y) is table (beyond row others held count id x is table out (some ∙ found_beside row others held id is out)) updates (omega (arith, as_many, sym (ap size some)))
+    changed_beside row others new held count id (Some y) is table (beyond row others held count id x is table out (some ∙ found_beside row others held id is out)) updates
+        (omega (arith, as_many, sym (ap size some)))
 
 -- one object more
-pub whole_more : (held : Held) (id : ℕ) (x : Entry) (row : List (Option Entry)) (others : BTreeMap ℕ Entry) (count : ℕ) → Changed held id (Some x) row others count → entry_of held id ≡ None → length held < 8192 → IsTable row others (count + 1)
+pub whole_more : (held : Held) (id : ℕ) (x : Entry) (row : List (Option Entry)) (others : BTreeMap ℕ Entry) (count : ℕ) → Changed held id (Some x) row others count → entry_of held id ≡ None
+    → length held < 8192 → IsTable row others (count + 1)
 whole_more held id x row others count changed free room = record {
   counted = omega (arith, changed.sized, changed.was, ap size free);
   few = omega (arith, changed.was);
@@ -187,7 +204,8 @@ whole_more held id x row others count changed free room = record {
   apart = changed.apart;
 }
 
-pub longer : (held : Held) (id : ℕ) (x : Entry) (row : List (Option Entry)) (others : BTreeMap ℕ Entry) (count : ℕ) → Changed held id (Some x) row others count → entry_of held id ≡ None → length (placed 1 row ++ others.entries) ≡ length held + 1
+pub longer : (held : Held) (id : ℕ) (x : Entry) (row : List (Option Entry)) (others : BTreeMap ℕ Entry) (count : ℕ) → Changed held id (Some x) row others count → entry_of held id ≡ None
+    → length (placed 1 row ++ others.entries) ≡ length held + 1
 longer held id x row others count changed free = omega (arith, changed.sized, ap size free)
 
 -- one object less
@@ -195,7 +213,8 @@ pub not_empty : (held : Held) (id : ℕ) (x : Entry) → Some x ≡ entry_of hel
 not_empty [] id x e = cc
 not_empty (y ∷ held) id x e = omega arith
 
-pub whole_less : (held : Held) (id : ℕ) (x : Entry) (row : List (Option Entry)) (others : BTreeMap ℕ Entry) (count : ℕ) → Changed held id None row others count → Some x ≡ entry_of held id → IsTable row others (count - 1)
+pub whole_less : (held : Held) (id : ℕ) (x : Entry) (row : List (Option Entry)) (others : BTreeMap ℕ Entry) (count : ℕ) → Changed held id None row others count → Some x ≡ entry_of held id
+    → IsTable row others (count - 1)
 whole_less held id x row others count changed some = record {
   counted = omega (arith, changed.sized, changed.was, ap size some, not_empty held id x some);
   few = omega (arith, changed.few);
@@ -203,11 +222,13 @@ whole_less held id x row others count changed some = record {
   apart = changed.apart;
 }
 
-pub shorter : (held : Held) (id : ℕ) (x : Entry) (row : List (Option Entry)) (others : BTreeMap ℕ Entry) (count : ℕ) → Changed held id None row others count → Some x ≡ entry_of held id → length (placed 1 row ++ others.entries) + 1 ≡ length held
+pub shorter : (held : Held) (id : ℕ) (x : Entry) (row : List (Option Entry)) (others : BTreeMap ℕ Entry) (count : ℕ) → Changed held id None row others count → Some x ≡ entry_of held id
+    → length (placed 1 row ++ others.entries) + 1 ≡ length held
 shorter held id x row others count changed some = omega (arith, changed.sized, ap size some)
 
 -- as many objects
-pub whole_same : (held : Held) (id : ℕ) (x y : Entry) (row : List (Option Entry)) (others : BTreeMap ℕ Entry) (count : ℕ) → Changed held id (Some y) row others count → Some x ≡ entry_of held id → IsTable row others count
+pub whole_same : (held : Held) (id : ℕ) (x y : Entry) (row : List (Option Entry)) (others : BTreeMap ℕ Entry) (count : ℕ) → Changed held id (Some y) row others count → Some x ≡ entry_of held id
+    → IsTable row others count
 whole_same held id x y row others count changed some = record {
   counted = omega (arith, changed.sized, changed.was, ap size some);
   few = changed.few;
@@ -215,7 +236,8 @@ whole_same held id x y row others count changed some = record {
   apart = changed.apart;
 }
 
-pub as_long : (held : Held) (id : ℕ) (x y : Entry) (row : List (Option Entry)) (others : BTreeMap ℕ Entry) (count : ℕ) → Changed held id (Some y) row others count → Some x ≡ entry_of held id → length (placed 1 row ++ others.entries) ≡ length held
+pub as_long : (held : Held) (id : ℕ) (x y : Entry) (row : List (Option Entry)) (others : BTreeMap ℕ Entry) (count : ℕ) → Changed held id (Some y) row others count → Some x ≡ entry_of held id
+    → length (placed 1 row ++ others.entries) ≡ length held
 as_long held id x y row others count changed some = omega (arith, changed.sized, ap size some)
 
 -- nothing changes where there is none
@@ -236,7 +258,9 @@ out_of id n m (inl z) e = inl z
 out_of id n m (inr far) e = inr (omega arith)
 
 -- the next id, where it has a place
-pub next_placed : (row : List (Option Entry)) (others : BTreeMap ℕ Entry) (held : Held) (count id place : ℕ) → placed 1 row ++ others.entries ≡ held → IsTable row others count → id ≤ place → place < length row → IsSome (get_or row place None) → ((other : ℕ) → id ≤ other → other < place → get_or row other None ≡ None) → (id < place + 1) × IsSome (entry_of held (place + 1)) × ((other : ℕ) → id < other → other < place + 1 → entry_of held other ≡ None)
+pub next_placed : (row : List (Option Entry)) (others : BTreeMap ℕ Entry) (held : Held) (count id place : ℕ) → placed 1 row ++ others.entries ≡ held → IsTable row others count → id ≤ place
+    → place < length row → IsSome (get_or row place None) → ((other : ℕ) → id ≤ other → other < place → get_or row other None ≡ None) → (id < place + 1) × IsSome (entry_of held (place + 1))
+    × ((other : ℕ) → id < other → other < place + 1 → entry_of held other ≡ None)
 next_placed row others held count id place is table least within some none = (
   omega arith,
   ap (λ (u : Held). is_some (entry_of u (place + 1))) (sym is) ∙ ap is_some (in_row row others count (place + 1) place table refl within) ∙ some,
@@ -249,12 +273,14 @@ next_placed row others held count id place is table least within some none = (
         ap (λ (u : Held). entry_of u (suc j)) (sym is) ∙ in_row row others count (suc j) j table (omega arith) (omega arith) ∙ none j (omega arith) (omega arith)
 
 -- above the last place at which an object stands
-pub above_places : (row : List (Option Entry)) (others held : Held) (id : ℕ) → placed 1 row ++ others ≡ held → ((other : ℕ) → id ≤ other → get_or row other None ≡ None) → (other : ℕ) → id < other → entry_of held other ≡ entry_of others other
+pub above_places : (row : List (Option Entry)) (others held : Held) (id : ℕ) → placed 1 row ++ others ≡ held → ((other : ℕ) → id ≤ other → get_or row other None ≡ None) → (other : ℕ) → id < other
+    → entry_of held other ≡ entry_of others other
 above_places row others held id is none zero over = absurd (omega arith)
 above_places row others held id is none (suc j) over =
     ap (λ (u : Held). entry_of u (suc j)) (sym is) ∙ entry_at row others (suc j) j (omega arith) ∙ ap (λ (u : Option Entry). either u (entry_of others (suc j))) (none j (omega arith))
 
-pub next_beside : (others held : Held) (id next : ℕ) → ((other : ℕ) → id < other → entry_of held other ≡ entry_of others other) → (id < next) × IsSome (entry_of others next) × ((other : ℕ) → id < other → other < next → entry_of others other ≡ None) → (id < next) × IsSome (entry_of held next) × ((other : ℕ) → id < other → other < next → entry_of held other ≡ None)
+pub next_beside : (others held : Held) (id next : ℕ) → ((other : ℕ) → id < other → entry_of held other ≡ entry_of others other) → (id < next) × IsSome (entry_of others next)
+    × ((other : ℕ) → id < other → other < next → entry_of others other ≡ None) → (id < next) × IsSome (entry_of held next) × ((other : ℕ) → id < other → other < next → entry_of held other ≡ None)
 next_beside others held id next same_above is = (
   is.0,
   ap is_some (same_above next is.0) ∙ is.1,

@@ -76,7 +76,8 @@ living-stays r before = record {
     untold p q tops cause alive (inr known) so = absurd (over p alive known.0)
 
 -- what leaves to a client whatever stays of it leaves it alone
-pub left_alone : (other : ℕ) (old new : Desktop) → ((A : Option Resident → List Standing → Type 0) (P : Resident → Cause → Type 0) → Stays ToldSo A P → A (client_at other old) (toplevels_of other old) → A (client_at other new) (toplevels_of other new)) → IsLeftAlone other old new
+pub left_alone : (other : ℕ) (old new : Desktop) → ((A : Option Resident → List Standing → Type 0) (P : Resident → Cause → Type 0) → Stays ToldSo A P → A (client_at other old) (toplevels_of other old)
+    → A (client_at other new) (toplevels_of other new)) → IsLeftAlone other old new
 left_alone other old new carry = at (client_at other old) refl
   where
     by : (r : Resident) → client_at other old ≡ Some r → (s : Option Cause) → r.peer.status ≡ s → IsLeftBy s r (toplevels_of other old) (client_at other new) (toplevels_of other new)
@@ -102,7 +103,8 @@ connects c other (Some k) d done new of (inr h) differ =
 
 -- ---- all steps
 
-carried : (other : ℕ) (old new : Desktop) → IsLeft other old new → (A : Option Resident → List Standing → Type 0) (P : Resident → Cause → Type 0) → Stays ToldSo A P → A (client_at other old) (toplevels_of other old) → A (client_at other new) (toplevels_of other new)
+carried : (other : ℕ) (old new : Desktop) → IsLeft other old new → (A : Option Resident → List Standing → Type 0) (P : Resident → Cause → Type 0) → Stays ToldSo A P
+    → A (client_at other old) (toplevels_of other old) → A (client_at other new) (toplevels_of other new)
 carried other old new left A P stays known = rw (left.0, left.1) known
 
 -- another than the one is another than the other

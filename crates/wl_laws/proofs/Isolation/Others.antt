@@ -21,7 +21,8 @@ apart a c other differ h = at (a == c) refl
     at false e = e
     at true e = absurd (differ (sym (eqb-true a c e) ∙ eqb-true a other h))
 
-left_out-at : (b o : Bool) (s : Standing) (xs ys : List Standing) (other : ℕ) → (s.client == other) ≡ o → (o ≡ true → b ≡ true) → of other xs ≡ of other ys → of other (cond b (s ∷ xs) xs) ≡ cond o (s ∷ of other ys) (of other ys)
+left_out-at : (b o : Bool) (s : Standing) (xs ys : List Standing) (other : ℕ) → (s.client == other) ≡ o → (o ≡ true → b ≡ true) → of other xs ≡ of other ys
+    → of other (cond b (s ∷ xs) xs) ≡ cond o (s ∷ of other ys) (of other ys)
 left_out-at true true s xs ys other f keeps e = rw f (ap (λ (zs : List Standing). s ∷ zs) e)
 left_out-at true false s xs ys other f keeps e = rw f e
 left_out-at false false s xs ys other f keeps e = e

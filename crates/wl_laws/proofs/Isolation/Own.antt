@@ -19,7 +19,8 @@ use Rattle.wl_plain.specs.Settling.{Midstep, SettlesEnds, Settles, is_settled, u
 use Rattle.wl_plain.specs.Stacked.{all_windows}
 use Rattle.wl_plain.specs.Acts.{Act, Connect, Feed, Store, Leave, Tick, Send, Close, Motion, Button, lowest}
 use Rattle.wl_laws.proofs.Runs.Forms.{ConnectsAt, MovesTo, PressedSo, PressesIf, ReleasedSo, ReleasesIf, Shows}
-use Rattle.wl_plain.specs.Happens.{Dismisses, DismissesUnless, Happens, MotionSettles, MovesThen, PressedThen, ReleasedThen, ShowsThen, TellsButton, TellsFrames, TellsMotion, callbacks_due, ending, frames_told, hit_now, is_hit_of, noted_if, number_of, point_in, pointed, raised_by, settling, with_press, with_release, without_grabs}
+use Rattle.wl_plain.specs.Happens.{Dismisses, DismissesUnless, Happens, MotionSettles, MovesThen, PressedThen, ReleasedThen, ShowsThen, TellsButton, TellsFrames, TellsMotion, callbacks_due, ending}
+use Rattle.wl_plain.specs.Happens.{frames_told, hit_now, is_hit_of, noted_if, number_of, point_in, pointed, raised_by, settling, with_press, with_release, without_grabs}
 use Rattle.wl_laws.specs.Others.{IsLeftAlone, IsLeftBy, IsLeftSo, IsNotQueued, IsToldTimes, client_of, told_once}
 use Rattle.wl_laws.specs.Own.{HasEndedLate, HasItsOwn, KeepsItsOwn, KeepsItsOwnBy, KeepsItsOwnSo, LivesOrEnds, StandTheSame, OwnStays}
 use Rattle.wl_laws.proofs.Keeping.OwningKeys.{some-same}
@@ -89,7 +90,9 @@ living-stays r before = record {
     untold p q tops cause alive (inr known) so = absurd (over p alive known.0)
 
 -- From a desktop where a client is as it was and the same toplevels of its stand, what leaves to it whatever stays leaves it what it has.
-kept : (c : ℕ) (old start new : Desktop) → client_at c start ≡ client_at c old → StandTheSame (toplevels_of c old) (toplevels_of c start) → ((A : Option Resident → List Standing → Type 0) (P : Resident → Cause → Type 0) → Stays StaysOwn A P → A (client_at c start) (toplevels_of c start) → A (client_at c new) (toplevels_of c new)) → KeepsItsOwn c old new
+kept : (c : ℕ) (old start new : Desktop) → client_at c start ≡ client_at c old → StandTheSame (toplevels_of c old) (toplevels_of c start)
+    → ((A : Option Resident → List Standing → Type 0) (P : Resident → Cause → Type 0) → Stays StaysOwn A P → A (client_at c start) (toplevels_of c start) → A (client_at c new) (toplevels_of c new))
+    → KeepsItsOwn c old new
 kept c old start new left stand carry = at (client_at c old) refl
   where
     by : (r : Resident) → client_at c old ≡ Some r → (s : Option Cause) → r.peer.status ≡ s → KeepsItsOwnBy s r (toplevels_of c old) (client_at c new) (toplevels_of c new)
@@ -136,7 +139,8 @@ any-raised p c surface (s ∷ ss) = at (is_of c surface s) (any-raised p c surfa
     at true e = any-last p ss s ∙ or-turned (list_any p ss) (p s)
     at false e = ap (λ (b : Bool). p s || b) e
 
-pub any-moved : (p : Standing → Bool) → ((s : Standing) (place : Place) → p (record s { place = place }) ≡ p s) → (c surface : ℕ) (place : Place) (ss : List Standing) → list_any p (moved_to c surface place ss) ≡ list_any p ss
+pub any-moved : (p : Standing → Bool) → ((s : Standing) (place : Place) → p (record s { place = place }) ≡ p s) → (c surface : ℕ) (place : Place) (ss : List Standing)
+    → list_any p (moved_to c surface place ss) ≡ list_any p ss
 any-moved p same c surface place [] = refl
 any-moved p same c surface place (s ∷ ss) = at (is_of c surface s) (any-moved p same c surface place ss)
   where

@@ -13,7 +13,8 @@ use Rattle.wl_peer.specs.declared.actions.Action.{Action}
 use Rattle.wl_peer.specs.declared.refusals.ErrorCode.TheVariants.{Implementation, InvalidMethod, InvalidObject}
 use Rattle.wl_peer.specs.declared.refusals.Refusal.{Refusal}
 use Rattle.wl_peer.specs.Judgement.{action_of, after_new_id, is_free, judged, judged_at, judge as judge_alone}
-use Rattle.wl_peer.specs.Requests.{Request, ToDisplay, ToRegistry, ToCompositor, ToRegion, ToSurface, ToShm, ToPool, ToBuffer, ToSubcompositor, ToSubsurface, ToSeat, ToPointer, ToBase, ToPositioner, ToXdgSurface, ToToplevel, ToPopup, ToNothing, request_of}
+use Rattle.wl_peer.specs.Requests.{Request, ToDisplay, ToRegistry, ToCompositor, ToRegion, ToSurface, ToShm, ToPool, ToBuffer, ToSubcompositor, ToSubsurface, ToSeat, ToPointer, ToBase, ToPositioner}
+use Rattle.wl_peer.specs.Requests.{ToXdgSurface, ToToplevel, ToPopup, ToNothing, request_of}
 use Rattle.wl_peer.specs.Objects.{Object, Objects, fits}
 use Rattle.wl_peer.specs.Told.{display_error}
 use Rattle.wl_plain.specs.Ask.{owns}
@@ -30,7 +31,8 @@ use Rattle.wl_peer.specs.Peer.{known_of}
 abbrev pub as_own : Result Action Refusal → Result Demand Refusal
 as_own judged = demands (owns judged)
 
-asked : (request : Request) (r : Resident) (object version : ℕ) → (if beyond_clients request then past_limit else demand_by request r object version) ≡ as_own (action_of (known_of r.peer) object version request)
+asked : (request : Request) (r : Resident) (object version : ℕ) → (if beyond_clients request then past_limit else demand_by request r object version) ≡ as_own
+    (action_of (known_of r.peer) object version request)
 asked (ToDisplay request) r object version = refl
 asked (ToRegistry name interface bound id) r object version = refl
 asked (ToCompositor (compositor.CreateSurface id)) r object version = refl
@@ -53,25 +55,30 @@ asked (ToToplevel request) r object version = refl
 asked (ToPopup request) r object version = refl
 asked ToNothing r object version = refl
 
-new_id-owns : (objects : Objects) (held : ℕ) (new : Option NewId) (ask : Result Demand Refusal) (action : Result Action Refusal) → ask ≡ as_own action → after_new_id objects held new ask ≡ as_own (after_new_id objects held new action)
+new_id-owns : (objects : Objects) (held : ℕ) (new : Option NewId) (ask : Result Demand Refusal) (action : Result Action Refusal) → ask ≡ as_own action
+    → after_new_id objects held new ask ≡ as_own (after_new_id objects held new action)
 new_id-owns objects held None ask action e = e
 new_id-owns objects held (Some new) ask action e =
     at (is_free objects new.id) (nat_le 8192 held)
   where
-    at : (free full : Bool) → (if free then (if full then Err (display_error Implementation) else ask) else Err (display_error InvalidObject)) ≡ as_own (if free then (if full then Err (display_error Implementation) else action) else Err (display_error InvalidObject))
+    at : (free full : Bool) → (if free then (if full then Err (display_error Implementation) else ask) else Err (display_error InvalidObject)) ≡ as_own
+        (if free then (if full then Err (display_error Implementation) else action) else Err (display_error InvalidObject))
     at false full = refl
     at true true = refl
     at true false = e
 
-judged-owns : (objects : Objects) (held : ℕ) (ask : Message → Result Demand Refusal) (action : Message → Result Action Refusal) (request : Result Message ProtoError) → ((m : Message) → ask m ≡ as_own (action m)) → judged objects held ask request ≡ as_own (judged objects held action request)
+judged-owns : (objects : Objects) (held : ℕ) (ask : Message → Result Demand Refusal) (action : Message → Result Action Refusal) (request : Result Message ProtoError)
+    → ((m : Message) → ask m ≡ as_own (action m)) → judged objects held ask request ≡ as_own (judged objects held action request)
 judged-owns objects held ask action (Err error) e = refl
 judged-owns objects held ask action (Ok m) e = at (list_all (fits objects) (objects_named m))
   where
-    at : (b : Bool) → (if b then after_new_id objects held (new_id_in m) (ask m) else Err (display_error InvalidMethod)) ≡ as_own (if b then after_new_id objects held (new_id_in m) (action m) else Err (display_error InvalidMethod))
+    at : (b : Bool) → (if b then after_new_id objects held (new_id_in m) (ask m) else Err (display_error InvalidMethod)) ≡ as_own (if b then after_new_id objects held (new_id_in m) (action m) else Err
+        (display_error InvalidMethod))
     at true = new_id-owns objects held (new_id_in m) (ask m) (action m) (e m)
     at false = refl
 
-judged_at-owns : (r : Resident) (object opcode : ℕ) (body : List ℕ) (o : Option Object) → judged_at r.peer.objects r.peer.held (λ version m. demand_of own_only r object version m) opcode body o ≡ as_own (judged_at r.peer.objects r.peer.held (λ version m. action_of (known_of r.peer) object version (request_of m)) opcode body o)
+judged_at-owns : (r : Resident) (object opcode : ℕ) (body : List ℕ) (o : Option Object) → judged_at r.peer.objects r.peer.held (λ version m. demand_of own_only r object version m) opcode body
+    o ≡ as_own (judged_at r.peer.objects r.peer.held (λ version m. action_of (known_of r.peer) object version (request_of m)) opcode body o)
 judged_at-owns r object opcode body None = refl
 judged_at-owns r object opcode body (Some o) =
     judged-owns r.peer.objects r.peer.held _ (λ m. action_of (known_of r.peer) object o.version (request_of m)) (decoded o.interface o.version opcode body)

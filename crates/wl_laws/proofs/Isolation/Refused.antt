@@ -39,34 +39,39 @@ over refusal p q h = at (has_room p.unsent (error_told refusal)) h
 rest-apart : (refusal : Refusal) (rest : List ℕ) (p q : Peer) → Errs refusal (with_rest rest p) q → Errs refusal p q
 rest-apart refusal rest p q h = at (has_room p.unsent (error_told refusal)) h
   where
-    at : (b : Bool) → QueuesOr b (q ≡ ended (Protocol refusal.object (code_number refusal.code)) (queued (error_told refusal) (with_rest rest p))) (with_rest rest p) q → QueuesOr b (q ≡ ended (Protocol refusal.object (code_number refusal.code)) (queued (error_told refusal) p)) p q
+    at : (b : Bool) → QueuesOr b (q ≡ ended (Protocol refusal.object (code_number refusal.code)) (queued (error_told refusal) (with_rest rest p))) (with_rest rest p) q
+        → QueuesOr b (q ≡ ended (Protocol refusal.object (code_number refusal.code)) (queued (error_told refusal) p)) p q
     at false e = e
     at true (inl e) = inl e
     at true (inr e) = inr e
 
 -- a client that has ended is there, and none of its toplevels stands
-ended-there : (c : ℕ) (r there : Resident) (q : Peer) (cause : Cause) (d : Desktop) → client_at c d ≡ Some there → q.status ≡ Some cause → (client_at c (becomes c r q d) ≡ Some (resident_of q)) × (toplevels_of c (becomes c r q d) ≡ [])
+ended-there : (c : ℕ) (r there : Resident) (q : Peer) (cause : Cause) (d : Desktop) → client_at c d ≡ Some there → q.status ≡ Some cause → (client_at c (becomes c r q d) ≡ Some (resident_of q))
+    × (toplevels_of c (becomes c r q d) ≡ [])
 ended-there c r there q cause d found e = at q.status e
   where
     at : (s : Option Cause) → s ≡ Some cause → (client_at c (after_status s c (become_by s c r q d)) ≡ Some (resident_of q)) × (toplevels_of c (after_status s c (become_by s c r q d)) ≡ [])
     at None none = absurd (cc)
     at (Some why) is = (number-same d.clients c (Some (resident_of q)) there found, none_of c d.standing)
 
-erred : (refusal : Refusal) (c : ℕ) (r there : Resident) (p : Peer) (d new : Desktop) → client_at c d ≡ Some there → Becomes (Errs refusal p) c r d new → (q : Peer) × Errs refusal p q × (client_at c new ≡ Some (resident_of q)) × (toplevels_of c new ≡ [])
+erred : (refusal : Refusal) (c : ℕ) (r there : Resident) (p : Peer) (d new : Desktop) → client_at c d ≡ Some there → Becomes (Errs refusal p) c r d new → (q : Peer) × Errs refusal p q
+    × (client_at c new ≡ Some (resident_of q)) × (toplevels_of c new ≡ [])
 erred refusal c r there p d new found h =
     let end = over refusal p h.0 h.1 in
     let mid = ended-there c r there h.0 end.0 d found end.1 in
     let known = settled-in c ToldSo told-focus (Is (Some (resident_of h.0)) []) Never (gone-stays (resident_of h.0) end.0 [] end.1) (becomes c r h.0 d) new (mid.0, mid.1) h.2 in
     (h.0, h.1, known.0, known.1)
 
-answered-so : (out : LeftOut) (judged : Result Demand Refusal) (refusal : Refusal) (c : ℕ) (r there : Resident) (d new : Desktop) → refusal_of judged ≡ Some refusal → client_at c d ≡ Some there → Answers out judged c r d new → (q : Peer) × Errs refusal r.peer q × (client_at c new ≡ Some (resident_of q)) × (toplevels_of c new ≡ [])
+answered-so : (out : LeftOut) (judged : Result Demand Refusal) (refusal : Refusal) (c : ℕ) (r there : Resident) (d new : Desktop) → refusal_of judged ≡ Some refusal → client_at c d ≡ Some there
+    → Answers out judged c r d new → (q : Peer) × Errs refusal r.peer q × (client_at c new ≡ Some (resident_of q)) × (toplevels_of c new ≡ [])
 answered-so out (Ok demand) refusal c r there d new is found h = absurd (cc)
 answered-so out (Err other) refusal c r there d new is found h =
     let same : other ≡ refusal = some-same other refusal is in
     let k = erred other c r there r.peer d new found h in
     (k.0, subst (λ (x : Refusal). Errs x r.peer k.0) same k.1, k.2, k.3)
 
-taken-so : (out : LeftOut) (s : Split) (refusal : Refusal) (c : ℕ) (r : Resident) (d new : Desktop) → refused_for out s r ≡ Some refusal → client_at c d ≡ Some r → Takes out s c r d new → HasErred refusal c r new
+taken-so : (out : LeftOut) (s : Split) (refusal : Refusal) (c : ℕ) (r : Resident) (d new : Desktop) → refused_for out s r ≡ Some refusal → client_at c d ≡ Some r → Takes out s c r d new
+    → HasErred refusal c r new
 taken-so out (Message object opcode size) refusal c r d new is found h =
     let k = answered-so out (judge_all out r object opcode (take (size - 8) (drop 8 r.peer.rest))) refusal c (with_peer (with_rest (drop size r.peer.rest) r.peer) r) r d new is found h in
     (k.0, rest-apart refusal (drop size r.peer.rest) r.peer k.0 k.1, k.2, k.3)

@@ -5,13 +5,15 @@ use Rattle.wl_wire.specs.Wire.{split_of}
 use Rattle.wl_wire.specs.declared.header.Split.{Split}
 use Rattle.wl_wire.specs.declared.header.Split.TheVariants.{Message as Whole, More, Bad}
 use Rattle.wl_peer.specs.declared.actions.Action.{Action}
-use Rattle.wl_peer.specs.declared.actions.Action.TheVariants.{Sync, GetRegistry, Bind, CreateRegion, AddToRegion, SubtractFromRegion, DestroyRegion, CreatePool, CreateBuffer, ResizePool, DestroyPool, DestroyBuffer}
+use Rattle.wl_peer.specs.declared.actions.Action.TheVariants.{Sync, GetRegistry, Bind, CreateRegion, AddToRegion, SubtractFromRegion, DestroyRegion, CreatePool, CreateBuffer, ResizePool, DestroyPool}
+use Rattle.wl_peer.specs.declared.actions.Action.TheVariants.{DestroyBuffer}
 use Rattle.wl_peer.specs.declared.cause.Cause.{Cause}
 use Rattle.wl_peer.specs.declared.cause.Cause.TheVariants.{Memory}
 use Rattle.wl_peer.specs.declared.refusals.Refusal.{Refusal}
 use Rattle.wl_peer.specs.Buffers.{Buffer as Made}
 use Rattle.wl_peer.specs.Judgement.{judge as judge_alone}
-use Rattle.wl_peer.specs.Peer.{Errs, LacksMemory, Peer, Queues, changed, counted, ended, known_of, with_rest, Answers as AnswersAlone, FeedsAt as FeedsAloneAt, Reaches as ReachesAlone, Serves as ServesAlone, Stops as StopsAlone, Takes as TakesAlone, WantsOr as WantsOrAlone, answers_to as own_answers, takes_memory as own_takes_memory}
+use Rattle.wl_peer.specs.Peer.{Errs, LacksMemory, Peer, Queues, changed, counted, ended, known_of, with_rest, Answers as AnswersAlone, FeedsAt as FeedsAloneAt, Reaches as ReachesAlone}
+use Rattle.wl_peer.specs.Peer.{Serves as ServesAlone, Stops as StopsAlone, Takes as TakesAlone, WantsOr as WantsOrAlone, answers_to as own_answers, takes_memory as own_takes_memory}
 use Rattle.wl_surface.specs.Surfaces.{no_surfaces, is_used}
 use Rattle.wl_scene.specs.Pointer.{first_pointer}
 use Rattle.wl_scene.specs.Stacking.{Standing, without_client}
@@ -44,7 +46,8 @@ unused (Some n) = refl
 
 unkept : (r : Resident) (id store : ℕ) → OwnsNothing r → (own_changed (DestroyBuffer id store) r).peer ≡ changed (DestroyBuffer id store) r.peer
 unkept r id store alone =
-    ap (λ (b : Bool). keeps_store b r.peer.stores (changed (DestroyBuffer id store) r.peer)) (ap (λ (x : Resident). has_used (λ number. is_used number x.owned.surfaces) (r.peer.buffers id)) alone ∙ unused (r.peer.buffers id))
+    ap (λ (b : Bool). keeps_store b r.peer.stores (changed (DestroyBuffer id store) r.peer)) (ap (λ (x : Resident). has_used (λ number. is_used number x.owned.surfaces) (r.peer.buffers id)) alone
+        ∙ unused (r.peer.buffers id))
 
 changed-alone : (action : Action) (r : Resident) → OwnsNothing r → (own_changed action r).peer ≡ changed action r.peer
 changed-alone (Sync callback) r alone = refl
@@ -131,11 +134,13 @@ own-replies c action r made d alone =
     nothing-between told (popups_done r made) ∙ ap (λ more. told ++ more) (none-done r made (subst (λ (x : Resident). AreToplevels x.owned.shell) (sym alone) tt)) ∙ nothing-after told
 
 module _ (c : ℕ) (there : Resident) (d : Desktop) (is : client_at c d ≡ Some there) (still : d.pointer ≡ first_pointer) where
-  does-alone : (action : Action) (r : Resident) (q : Peer) → r.peer.status ≡ None → OwnsNothing r → Queues (own_answers r.peer.output action) (own_changed action r).peer q → Does own_only c (Asks (Own action)) r d (become c (own_changed action r) q d)
+  does-alone : (action : Action) (r : Resident) (q : Peer) → r.peer.status ≡ None → OwnsNothing r → Queues (own_answers r.peer.output action) (own_changed action r).peer q
+      → Does own_only c (Asks (Own action)) r d (become c (own_changed action r) q d)
   does-alone action r q alive alone told =
       let made : Resident = own_changed action r in
       let new = become c made q d in
-      let first : IsDone (own_answers r.peer.output action) c made d new = is-done (own_answers r.peer.output action) c made there d new is still (changed-status (Asking (Own action)) r ∙ alive) (q, told, refl) in
+      let first : IsDone (own_answers r.peer.output action) c made d new = is-done (own_answers r.peer.output action) c made there d new is still (changed-status (Asking (Own action)) r
+          ∙ alive) (q, told, refl) in
       let second : IsDone (replies own_only c (Asks (Own action)) r made (all_windows d) d) c made d new =
       subst (λ events. IsDone events c made d new) (sym (own-replies c action r made d (owned-alone action r alone))) first in
       subst (λ e. IsDone (replies own_only c (Asks (Own action)) r made (all_windows d) d) c made e new) (sym (kept-still d still)) second
@@ -143,13 +148,15 @@ module _ (c : ℕ) (there : Resident) (d : Desktop) (is : client_at c d ≡ Some
   told-alone : (Q : Peer → Type 0) (r : Resident) (q : Peer) → Q q → StepBecomes Q c r d (become c r q d)
   told-alone Q r q w = becomes-whole Q c r d (become c r q d) still (q, w, refl)
 
-  wants-alone : (b : Bool) (Later : Type 0) (r made : Resident) (q : Peer) (Then : Desktop → Type 0) → OwnsNothing r → OwnsNothing made → (Later → Then (become c made q d)) → WantsOrAlone b Later r.peer q
+  wants-alone : (b : Bool) (Later : Type 0) (r made : Resident) (q : Peer) (Then : Desktop → Type 0) → OwnsNothing r → OwnsNothing made → (Later → Then (become c made q d))
+      → WantsOrAlone b Later r.peer q
       → (new : Desktop) × StepWantsOr b (Then new) c r d new × IsServed c q d new
   wants-alone false Later r made q Then alone so next w = (become c made q d, next w, becomes-alone c made q d there is so)
   wants-alone true Later r made q Then alone so next (inl w) = (become c r q d, inl (told-alone (LacksMemory r.peer) r q w), becomes-alone c r q d there is alone)
   wants-alone true Later r made q Then alone so next (inr w) = (become c made q d, inr (next w), becomes-alone c made q d there is so)
 
-  answers-alone : (judged : Result Action Refusal) (r : Resident) (q : Peer) → r.peer.status ≡ None → OwnsNothing r → AnswersAlone judged r.peer q → (new : Desktop) × StepAnswers own_only (as_own judged) c r d new × IsServed c q d new
+  answers-alone : (judged : Result Action Refusal) (r : Resident) (q : Peer) → r.peer.status ≡ None → OwnsNothing r → AnswersAlone judged r.peer q → (new : Desktop)
+      × StepAnswers own_only (as_own judged) c r d new × IsServed c q d new
   answers-alone (Ok action) r q alive alone answers =
       let counting : Resident = with_peer (counted r.peer) r in
       let so = owns-on (counted r.peer) r alone in
@@ -166,7 +173,8 @@ module _ (c : ℕ) (there : Resident) (d : Desktop) (is : client_at c d ≡ Some
   takes-alone Bad q alive alone takes = (become c there q d, told-alone _ there q takes, becomes-alone c there q d there is alone)
   takes-alone More q alive alone takes = absurd takes
 
-serves-alone : (c : ℕ) (r : Resident) (q : Peer) (d : Desktop) → client_at c d ≡ Some r → d.pointer ≡ first_pointer → OwnsNothing r → ServesAlone r.peer q → (new : Desktop) × Serves own_only c d new × IsServed c q d new
+serves-alone : (c : ℕ) (r : Resident) (q : Peer) (d : Desktop) → client_at c d ≡ Some r → d.pointer ≡ first_pointer → OwnsNothing r → ServesAlone r.peer q → (new : Desktop) × Serves own_only c d new
+    × IsServed c q d new
 serves-alone c r q d h still alone serves =
     let t = takes-alone c r d h still (split_of r.peer.rest) q serves.0 alone serves.1 in
     (t.0, subst (λ (o : Option Resident). ServesAt own_only c o d t.0) (sym h) (serves.0, t.1), t.2)
@@ -179,7 +187,8 @@ reaches-alone (suc n) c p q d still h reaches =
     let last = serves-alone c there.0 q before.0 there.1 (before.2.1.1 ∙ still) there.3 (subst (λ (x : Peer). ServesAlone x q) (sym there.2) reaches.2) in
     (last.0, (before.0, before.1, last.1), (last.2.0, then-served c d before.0 last.0 before.2.1 last.2.1))
 
-stops-alone : (c : ℕ) (r : Resident) (q : Peer) (d : Desktop) → client_at c d ≡ Some r → d.pointer ≡ first_pointer → OwnsNothing r → StopsAlone r.peer q → (new : Desktop) × StopsAt c (Some r) d new × IsServed c q d new
+stops-alone : (c : ℕ) (r : Resident) (q : Peer) (d : Desktop) → client_at c d ≡ Some r → d.pointer ≡ first_pointer → OwnsNothing r → StopsAlone r.peer q → (new : Desktop) × StopsAt c (Some r) d new
+    × IsServed c q d new
 stops-alone c r q d h still alone (inl stops) =
     (d, inl (refl, stops.1), (subst (λ (o : Option Resident). IsAlone q o) (sym h) (sym stops.0, alone), same-served c d))
 stops-alone c r q d h still alone (inr stops) =
@@ -190,7 +199,8 @@ stops-alone c r q d h still alone (inr stops) =
       subst (λ (x : Peer). IsServed c x d new) (sym stops.1) (becomes-alone c r gone d r h alone),
     )
 
-feeds-alone : (c : ℕ) (piece : List ℕ) (s : Option Cause) (r : Resident) (q : Peer) (old : Desktop) → r.peer.status ≡ s → client_at c old ≡ Some r → old.pointer ≡ first_pointer → OwnsNothing r → FeedsAloneAt s piece r.peer q
+feeds-alone : (c : ℕ) (piece : List ℕ) (s : Option Cause) (r : Resident) (q : Peer) (old : Desktop) → r.peer.status ≡ s → client_at c old ≡ Some r → old.pointer ≡ first_pointer → OwnsNothing r
+    → FeedsAloneAt s piece r.peer q
     → (new : Desktop) × FeedsAt own_only c piece s r old new × IsServed c q old new
 feeds-alone c piece (Some cause) r q old status h still alone feeds =
     (old, refl, (subst (λ (o : Option Resident). IsAlone q o) (sym h) (sym feeds, alone), same-served c old))

@@ -10,7 +10,8 @@ use Rattle.wl_scene.specs.Stacking.{Standing, without_client}
 use Rattle.wl_scene.specs.Windows.{Window}
 use Rattle.wl_plain.specs.Desktop.{Desktop, Resident, client_at, client_in, resident_of, with_number, toplevels_of}
 use Rattle.wl_plain.specs.Replies.{focus_window}
-use Rattle.wl_plain.specs.Settling.{Enters, EndsAndSettles, EndsFirst, Leaves, MovesUnless, Midstep, Settles, SettlesAll, SettlesEnds, Strike, Tells, TellsAt, TellsUnless, ended_all, ended_at, ended_by, in_order, is_settled, is_struck, struck_by, target_now, unstruck}
+use Rattle.wl_plain.specs.Settling.{Enters, EndsAndSettles, EndsFirst, Leaves, MovesUnless, Midstep, Settles, SettlesAll, SettlesEnds, Strike, Tells, TellsAt, TellsUnless, ended_all, ended_at}
+use Rattle.wl_plain.specs.Settling.{ended_by, in_order, is_settled, is_struck, struck_by, target_now, unstruck}
 use Rattle.wl_plain.specs.Stacked.{all_windows}
 use Rattle.wl_laws.proofs.Isolation.Others.{left_out, one_client}
 use Rattle.wl_laws.proofs.Runs.Places.{number-other, number-same}
@@ -30,7 +31,8 @@ lives None e = refl
 lives (Some cause) e = absurd (cc)
 
 -- no toplevel of a client is left as that ends
-none_of-at : (c : ℕ) (s : Standing) (ss : List Standing) (b : Bool) → (s.client == c) ≡ b → filter (λ s. s.client == c) (without_client c ss) ≡ [] → filter (λ s. s.client == c) (cond (not b) (s ∷ without_client c ss) (without_client c ss)) ≡ []
+none_of-at : (c : ℕ) (s : Standing) (ss : List Standing) (b : Bool) → (s.client == c) ≡ b → filter (λ s. s.client == c) (without_client c ss) ≡ []
+    → filter (λ s. s.client == c) (cond (not b) (s ∷ without_client c ss) (without_client c ss)) ≡ []
 none_of-at c s ss true e rest = rest
 none_of-at c s ss false e rest = ap (λ (b : Bool). cond b (s ∷ filter (λ s. s.client == c) (without_client c ss)) (filter (λ s. s.client == c) (without_client c ss))) e ∙ rest
 
@@ -112,7 +114,8 @@ module _ (other : ℕ) (T : Resident → Resident → Option Cause → Type 0) (
   -- ---- a client is told
 
   -- the one that is known of is told
-  tells-it : (change : Resident → Resident) (events : Resident → List Said) → TellsBy T change events → (r : Resident) (old new : Midstep) → client_at other old.desktop ≡ Some r → r.peer.status ≡ None → is_struck other old.struck ≡ false → IsWithin old → TellsUnless false change events other r old new → IsWithin new
+  tells-it : (change : Resident → Resident) (events : Resident → List Said) → TellsBy T change events → (r : Resident) (old new : Midstep) → client_at other old.desktop ≡ Some r → r.peer.status ≡ None
+      → is_struck other old.struck ≡ false → IsWithin old → TellsUnless false change events other r old new → IsWithin new
   tells-it change events tells r old new there alive unstruck known h =
       let told : Resident = record (change r) { peer = h.0 } in
       let so : T r told h.1 = tells r h.0 h.1 h.2 in
@@ -127,7 +130,8 @@ module _ (other : ℕ) (T : Resident → Resident → Option Cause → Type 0) (
       )
 
   -- another is told
-  tells-another : (change : Resident → Resident) (events : Resident → List Said) (c : ℕ) (r : Resident) (old new : Midstep) → c ≢ other → IsWithin old → TellsUnless false change events c r old new → IsWithin new
+  tells-another : (change : Resident → Resident) (events : Resident → List Said) (c : ℕ) (r : Resident) (old new : Midstep) → c ≢ other → IsWithin old → TellsUnless false change events c r old new
+      → IsWithin new
   tells-another change events c r old new differ known h =
       let told : Resident = record (change r) { peer = h.0 } in
       let found : client_in (with_number c (Some told) old.desktop.clients) other ≡ client_at other old.desktop = number-other old.desktop.clients c other (Some told) differ in
@@ -183,7 +187,8 @@ module _ (other : ℕ) (T : Resident → Resident → Option Cause → Type 0) (
   again-in r cause known [] rest = tt
   again-in r cause known (s ∷ ss) rest = (λ same. stays.again r cause s.cause known (rest.0 same), again-in r cause known ss rest.1)
 
-  pub ended-in : (c : ℕ) (cause : Cause) (ss : List Strike) (d : Desktop) → IsIn d → (c ≡ other → PAt (client_at other d) cause) → AreIn (client_at other d) ss → IsWithin (record { desktop = ended_at c cause (client_at c d) d; struck = ss })
+  pub ended-in : (c : ℕ) (cause : Cause) (ss : List Strike) (d : Desktop) → IsIn d → (c ≡ other → PAt (client_at other d) cause) → AreIn (client_at other d) ss
+      → IsWithin (record { desktop = ended_at c cause (client_at c d) d; struck = ss })
   ended-in c cause ss d known why rest = at (client_at c d) refl
     where
       it : (r : Resident) → client_at c d ≡ Some r → IsOrNot c other → IsWithin (record { desktop = ended_at c cause (Some r) d; struck = ss })
@@ -210,7 +215,8 @@ module _ (other : ℕ) (T : Resident → Resident → Option Cause → Type 0) (
       at None there = (known, rest)
       at (Some r) there = it r there (is-or-not c other)
 
-  pub ends-in : (Next : Midstep → Desktop → Type 0) → ((m : Midstep) (new : Desktop) → IsWithin m → Next m new → IsIn new) → (ss : List Strike) (d new : Desktop) → IsIn d → AreIn (client_at other d) ss → EndsFirst Next ss d new → IsIn new
+  pub ends-in : (Next : Midstep → Desktop → Type 0) → ((m : Midstep) (new : Desktop) → IsWithin m → Next m new → IsIn new) → (ss : List Strike) (d new : Desktop) → IsIn d
+      → AreIn (client_at other d) ss → EndsFirst Next ss d new → IsIn new
   ends-in Next then [] d new known rest h = in-same d new h known
   ends-in Next then (s ∷ ss) d new known rest h = then _ new (ended-in s.client s.cause ss d known rest.0 rest.1) h
 

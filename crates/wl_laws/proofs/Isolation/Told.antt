@@ -55,7 +55,8 @@ past_limit pointers serial event unsent f e = (serial, event, f, sym (ap (λ (b 
 no_memory : (pointers : List ℕ) (serial : ℕ) (event : Said) (unsent : List ℕ) → IsOfFocus pointers serial event → has_room unsent event ≡ true → Unqueued (Some Memory) pointers unsent
 no_memory pointers serial event unsent f e = (serial, event, f, sym (ap (λ (b : Bool). if b then Memory else Slow) e))
 
-one-more : (pointers : List ℕ) (serial : ℕ) (event : Said) (p q : Peer) (why : Option Cause) → IsOfFocus pointers serial event → IsQueuedTo pointers serial (queued event p) q why → IsQueuedTo pointers serial p q why
+one-more : (pointers : List ℕ) (serial : ℕ) (event : Said) (p q : Peer) (why : Option Cause) → IsOfFocus pointers serial event → IsQueuedTo pointers serial (queued event p) q why
+    → IsQueuedTo pointers serial p q why
 one-more pointers serial event p q why f h =
     (event ∷ h.0, (f, h.1), h.2 ∙ ap (λ bytes. record p { unsent = bytes }) (append_assoc p.unsent (said_bytes event) (flat_map said_bytes h.0)), h.3)
 
@@ -64,7 +65,8 @@ queued-to pointers serial [] p q why f h = stops-here pointers serial p q why No
 queued-to pointers serial (event ∷ events) p q why f h =
     at (has_room p.unsent event) refl (λ k. queued-to pointers serial events (queued event p) q why f.1 k) h
   where
-    at : (b : Bool) → has_room p.unsent event ≡ b → (QueuesTo events (queued event p) q why → IsQueuedTo pointers serial (queued event p) q why) → QueuesFirst b (QueuesTo events (queued event p) q why) p q why → IsQueuedTo pointers serial p q why
+    at : (b : Bool) → has_room p.unsent event ≡ b → (QueuesTo events (queued event p) q why → IsQueuedTo pointers serial (queued event p) q why)
+        → QueuesFirst b (QueuesTo events (queued event p) q why) p q why → IsQueuedTo pointers serial p q why
     at false e more k = stops-here pointers serial p q why (Some Slow) k.0 k.1 (past_limit pointers serial event p.unsent f.0 e)
     at true e more (inl k) = stops-here pointers serial p q why (Some Memory) k.0 k.1 (no_memory pointers serial event p.unsent f.0 e)
     at true e more (inr k) = one-more pointers serial event p q why f.0 (more k)
@@ -76,7 +78,8 @@ abbrev pub ToldSo : Resident → Resident → Option Cause → Type 0
 ToldSo r q why = IsToldOfFocus r q × Unqueued why q.pointers q.peer.unsent
 
 -- with a serial, or of nothing
-drawn-told : (b : Bool) (events : List Said) (r : Resident) (q : Peer) (why : Option Cause) → AreOfFocus r.pointers r.peer.serial events → (b ≡ true → has_pointers r ≡ true) → (b ≡ false → events ≡ []) → QueuesTo events (drawing b r).peer q why → ToldSo r (record (drawing b r) { peer = q }) why
+drawn-told : (b : Bool) (events : List Said) (r : Resident) (q : Peer) (why : Option Cause) → AreOfFocus r.pointers r.peer.serial events → (b ≡ true → has_pointers r ≡ true)
+    → (b ≡ false → events ≡ []) → QueuesTo events (drawing b r).peer q why → ToldSo r (record (drawing b r) { peer = q }) why
 drawn-told true events r q why f has none h =
     let k = queued-to r.pointers r.peer.serial events (drawing true r).peer q why f h in
     ((k.0 ∷ [], (has refl, k.1, ap (λ (p : Peer). record r { peer = p }) k.2)), k.3)
@@ -92,7 +95,8 @@ or-later false b e = e
 abbrev MakesFocus : List ℕ → ℕ → (ℕ → List Said) → Type 0
 MakesFocus pointers serial event = (p : ℕ) → is_among p pointers ≡ true → AreOfFocus pointers serial (event p)
 
-to-pointers : (all : List ℕ) (serial : ℕ) (event : ℕ → List Said) → MakesFocus all serial event → (ps : List ℕ) → ((p : ℕ) → is_among p ps ≡ true → is_among p all ≡ true) → AreOfFocus all serial (flat_map event ps)
+to-pointers : (all : List ℕ) (serial : ℕ) (event : ℕ → List Said) → MakesFocus all serial event → (ps : List ℕ) → ((p : ℕ) → is_among p ps ≡ true → is_among p all ≡ true)
+    → AreOfFocus all serial (flat_map event ps)
 to-pointers all serial event makes [] among = tt
 to-pointers all serial event makes (p ∷ ps) among =
     focus-append all serial (event p) (flat_map event ps) (makes p (among p (ap (λ (b : Bool). b || is_among p ps) (equal-numbers p p refl))))
@@ -151,7 +155,8 @@ both-of false b e = absurd (cc)
 pub told-focus : TellsFocus ToldSo
 told-focus = record {
   leave = λ surface r q why h.
-      drawn-told (is_some (history_in surface r.owned.surfaces) && has_pointers r) (left_surface surface r) r q why (left-focus surface r) (both-of (is_some (history_in surface r.owned.surfaces)) (has_pointers r)) (left-none surface r) h;
+      drawn-told (is_some (history_in surface r.owned.surfaces) && has_pointers r) (left_surface surface r) r q why (left-focus surface r)
+          (both-of (is_some (history_in surface r.owned.surfaces)) (has_pointers r)) (left-none surface r) h;
   enter = λ at w r q why h.
       drawn-told (has_pointers r) (entered_surface at w r) r q why (entered-focus at w r) (λ has. has) (λ none. unless_pointers (λ pointer. entered_at pointer r.peer.serial at w) r none) h;
 }

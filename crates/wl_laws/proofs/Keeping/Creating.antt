@@ -11,7 +11,8 @@ use Rattle.wl_laws.specs.Owning.{AreKept, Names}
 use Rattle.wl_plain.specs.WlSurface.{refuse_limit, surface_created}
 
 module _ (names : Names) (slots : Slots) (r : Resident) (id version : ℕ) where
-  created-when : (b : Bool) → AreKept names.surfaces slots r.owned.surfaces → nat_le 256 (count_kept slots) ≡ b → surface_created r id version ≡ (if b then refuse_limit else Ok (CreateSurface id version))
+  created-when : (b : Bool) → AreKept names.surfaces slots r.owned.surfaces → nat_le 256 (count_kept slots) ≡ b
+      → surface_created r id version ≡ (if b then refuse_limit else Ok (CreateSurface id version))
   created-when b kept e =
       ap (λ (c : Bool). if c then refuse_limit else Ok (CreateSurface id version)) (sym (ap (λ n. nat_le 256 n) kept.count) ∙ e)
 
@@ -22,14 +23,16 @@ module _ (names : Names) (slots : Slots) (r : Resident) (id version : ℕ) where
       by false e = e
       by true e = absurd (let past = leb-true 256 (count_kept slots) e in omega arith)
 
-  pub created-past : (error : SurfaceError) → AreKept names.surfaces slots r.owned.surfaces → MatchBool (nat_le 256 (count_kept slots)) (error ≡ TooMany) (error ≡ Memory) → error ≡ TooMany → surface_created r id version ≡ refuse_limit
+  pub created-past : (error : SurfaceError) → AreKept names.surfaces slots r.owned.surfaces → MatchBool (nat_le 256 (count_kept slots)) (error ≡ TooMany) (error ≡ Memory) → error ≡ TooMany
+      → surface_created r id version ≡ refuse_limit
   created-past error kept cause many = created-when true kept (by (nat_le 256 (count_kept slots)) refl cause)
     where
       by : (b : Bool) → nat_le 256 (count_kept slots) ≡ b → MatchBool b (error ≡ TooMany) (error ≡ Memory) → nat_le 256 (count_kept slots) ≡ true
       by true e cause = e
       by false e cause = absurd (let both = sym many ∙ cause in cc)
 
-  pub created-short : (error : SurfaceError) → AreKept names.surfaces slots r.owned.surfaces → MatchBool (nat_le 256 (count_kept slots)) (error ≡ TooMany) (error ≡ Memory) → (error ≡ TooMany → ⊥) → surface_created r id version ≡ Ok (CreateSurface id version)
+  pub created-short : (error : SurfaceError) → AreKept names.surfaces slots r.owned.surfaces → MatchBool (nat_le 256 (count_kept slots)) (error ≡ TooMany) (error ≡ Memory) → (error ≡ TooMany → ⊥)
+      → surface_created r id version ≡ Ok (CreateSurface id version)
   created-short error kept cause few = created-when false kept (by (nat_le 256 (count_kept slots)) refl cause)
     where
       by : (b : Bool) → nat_le 256 (count_kept slots) ≡ b → MatchBool b (error ≡ TooMany) (error ≡ Memory) → nat_le 256 (count_kept slots) ≡ false

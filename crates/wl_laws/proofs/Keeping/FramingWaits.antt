@@ -17,7 +17,8 @@ use Rattle.wl_plain.specs.Framing.{AreFramed}
 use Rattle.wl_laws.proofs.Keeping.OwningKeys.{differ}
 
 -- where neither what was asked for nor what counts changes
-pub framed-same : (frames : List Waiting) (all now : Numbered) (bound more : ℕ) (cs : List Callback) → ((number : ℕ) → frames_at (now number) ≡ frames_at (all number)) → ((number : ℕ) → applied_at (now number) ≡ applied_at (all number)) → bound ≤ more
+pub framed-same : (frames : List Waiting) (all now : Numbered) (bound more : ℕ) (cs : List Callback) → ((number : ℕ) → frames_at (now number) ≡ frames_at (all number))
+    → ((number : ℕ) → applied_at (now number) ≡ applied_at (all number)) → bound ≤ more
     → AreFramed frames all bound cs → AreFramed frames now more cs
 framed-same frames all now bound more cs asked counts le f =
     record {
@@ -92,7 +93,8 @@ commit-asks (Some s) = asked-still Commit refl (Some s)
 pub framed-committed : (frames new : List Waiting) (all : Numbered) (surface bound : ℕ) (cs : List Callback) → AreFramed frames all bound cs
     → AreWaiting new (changed_at surface (λ s. applying (asking Commit s)) all) cs → AreFramed new (changed_at surface (λ s. applying (asking Commit s)) all) bound cs
 framed-committed frames new all surface bound cs f waits =
-    record { waits = waits; early = λ other number any. f.early other number (sym (ap (λ ns. has number ns) (at-one frames_at surface (λ s. applying (asking Commit s)) all (commit-asks (all surface)) other)) ∙ any) }
+    record { waits = waits;
+        early = λ other number any. f.early other number (sym (ap (λ ns. has number ns) (at-one frames_at surface (λ s. applying (asking Commit s)) all (commit-asks (all surface)) other)) ∙ any) }
 
 pub framed-gone : (frames new : List Waiting) (all : Numbered) (surface bound : ℕ) (cs less : List Callback) → AreFramed frames all bound cs
     → AreWaiting new (with_at surface None all) less → AreFramed new (with_at surface None all) bound less

@@ -69,8 +69,10 @@ had-each h =
     each-more Had (listed (pending h).buffer ++ listed (held h).buffer) (listed (applied h).buffer)
     (each-more Had (listed (pending h).buffer) (listed (held h).buffer)
     (listed-each Had (pending h).buffer (λ b e. ap (λ x. x || shows b.number h) (ap (names b.number) e ∙ named-so b)))
-    (listed-each Had (held h).buffer (λ b e. ap (λ x. names b.number (pending h).buffer || (names b.number (applied h).buffer || x)) (ap (names b.number) e ∙ named-so b) ∙ ap (λ x. names b.number (pending h).buffer || x) (or-any (names b.number (applied h).buffer)) ∙ or-any (names b.number (pending h).buffer))))
-    (listed-each Had (applied h).buffer (λ b e. ap (λ x. names b.number (pending h).buffer || (x || names b.number (held h).buffer)) (ap (names b.number) e ∙ named-so b) ∙ or-any (names b.number (pending h).buffer)))
+    (listed-each Had (held h).buffer (λ b e. ap (λ x. names b.number (pending h).buffer || (names b.number (applied h).buffer || x)) (ap (names b.number) e ∙ named-so b)
+        ∙ ap (λ x. names b.number (pending h).buffer || x) (or-any (names b.number (applied h).buffer)) ∙ or-any (names b.number (pending h).buffer))))
+    (listed-each Had (applied h).buffer (λ b e. ap (λ x. names b.number (pending h).buffer || (x || names b.number (held h).buffer)) (ap (names b.number) e ∙ named-so b)
+        ∙ or-any (names b.number (pending h).buffer)))
   where
     Had : Buffer → Type 0
     Had b = has b.number h ≡ true
@@ -84,7 +86,8 @@ module _ (r : Request) (plain : is_commit r ≡ false) (keeps : (v : Values) →
       ∙ ap (λ (rs : List Request). names n (pending s.history).buffer || (names n (applied s.history).buffer || names n (values rs).buffer)) (held-kept s.history.requests r plain within)
 
   -- so none of them is over
-  pub asked-keeps : (id : ℕ) (q : Resident) (s : Surface) → surface_at id q.owned.surfaces ≡ Some s → s.history.cut ≤ committed s.history.requests → committed s.history.requests ≤ length s.history.requests → after_surface id q (asked_of id r q) ≡ asked_of id r q
+  pub asked-keeps : (id : ℕ) (q : Resident) (s : Surface) → surface_at id q.owned.surfaces ≡ Some s → s.history.cut ≤ committed s.history.requests
+      → committed s.history.requests ≤ length s.history.requests → after_surface id q (asked_of id r q) ≡ asked_of id r q
   asked-keeps id q s there cut within =
       letting-none (buffers_had (history_in id q.owned.surfaces)) (asked_of id r q)
       (subst (λ (o : Option Surface). Each (λ b. is_over (asked_of id r q) b ≡ false) (buffers_had (option_map (λ (x : Surface). x.history) o))) (sym there)
@@ -101,5 +104,6 @@ module _ (r : Request) (plain : is_commit r ≡ false) (keeps : (v : Values) →
       stays b has_it =
           used-stays (asked_of id r q) b
           (found-any (λ x. x.id == id) (λ x. has b.number x.history) (map one q.owned.surfaces.surfaces) (asking r s)
-          (found-map (λ x. x.id == id) one q.owned.surfaces.surfaces (λ x. ap (λ i. i == id) (one-id x (x.id == id))) ∙ ap (λ o. option_map one o) there ∙ ap (λ c. Some (cond c (asking r s) s)) (found-passes (λ y. y.id == id) q.owned.surfaces.surfaces s there))
+          (found-map (λ x. x.id == id) one q.owned.surfaces.surfaces (λ x. ap (λ i. i == id) (one-id x (x.id == id))) ∙ ap (λ o. option_map one o) there
+              ∙ ap (λ c. Some (cond c (asking r s) s)) (found-passes (λ y. y.id == id) q.owned.surfaces.surfaces s there))
           (still-has b.number s cut within ∙ has_it))

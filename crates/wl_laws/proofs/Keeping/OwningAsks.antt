@@ -9,9 +9,11 @@ use Rattle.wl_surface.specs.State.{History, apply, geometry_asked, is_commit}
 use Rattle.wl_surface.specs.Surfaces.{Surface, Surfaces, applying, asking, history_in, new_surface, surface_at, with_role, with_change as with_surface_change}
 use Rattle.wl_surface.specs.declared.role.Role.TheVariants.{Toplevel as AsToplevel}
 use Rattle.wl_shell.specs.Agreement.{with_history}
-use Rattle.wl_shell.specs.Kept.{Kept, Stands, changing, commit_answer, effect_answer, first_kept, kept_acknowledging, kept_after, kept_asking, kept_configuring, kept_toplevel, kept_without_role, stage_in, with_kept}
+use Rattle.wl_shell.specs.Kept.{Kept, Stands, changing, commit_answer, effect_answer, first_kept, kept_acknowledging, kept_after, kept_asking, kept_configuring, kept_toplevel, kept_without_role}
+use Rattle.wl_shell.specs.Kept.{stage_in, with_kept}
 use Rattle.wl_shell.specs.Laws.{one_more}
-use Rattle.wl_shell.specs.Shell.{Effect, Stays, Unconfigured, Configures, Maps, Unmaps, Fresh, Waiting, Mapped, RoleObject, Shell, XdgSurface, acknowledging, at_stage, configuring, in_stage, is_full, is_role, new_toplevel, on_commit, role_acknowledged, stage_of, with_change, with_effect, without_role, xdg_of}
+use Rattle.wl_shell.specs.Shell.{Effect, Stays, Unconfigured, Configures, Maps, Unmaps, Fresh, Waiting, Mapped, RoleObject, Shell, XdgSurface, acknowledging, at_stage, configuring, in_stage, is_full}
+use Rattle.wl_shell.specs.Shell.{is_role, new_toplevel, on_commit, role_acknowledged, stage_of, with_change, with_effect, without_role, xdg_of}
 use Rattle.wl_shell.specs.declared.acts.ShellAct.{ShellAct}
 use Rattle.wl_shell.specs.declared.acts.ShellAct.TheVariants.{Configure, Map, Unmap, Nothing}
 use Rattle.wl_shell.specs.declared.error.ShellError.{ShellError}
@@ -22,7 +24,8 @@ use Rattle.wl_plain.specs.Ask.{CreateSurface, AskSurface, GetXdgSurface, Destroy
 use Rattle.wl_plain.specs.Desktop.{Resident}
 use Rattle.wl_laws.specs.Owning.{IsOwned, IsXdg, KeepsRole, Names, effect_by, with_surface, with_toplevel, with_xdg}
 use Rattle.wl_plain.specs.Step.{after_surface, asked_so_far, toplevel_given}
-use Rattle.wl_laws.proofs.Keeping.OwningChanges.{IsOwned-history, IsOwned-left, IsOwned-made, IsOwned-shelled, IsOwned-stepped, IsOwned-toplevel, IsOwned-unshelled, IsOwned-untoplevel, changing-none, renumbered}
+use Rattle.wl_laws.proofs.Keeping.OwningChanges.{IsOwned-history, IsOwned-left, IsOwned-made, IsOwned-shelled, IsOwned-stepped, IsOwned-toplevel, IsOwned-unshelled, IsOwned-untoplevel, changing-none}
+use Rattle.wl_laws.proofs.Keeping.OwningChanges.{renumbered}
 use Rattle.wl_laws.proofs.Keeping.OwningSurfaces.{AreKept-changed, counts-asking, geometry-asked, surface-named}
 use Rattle.wl_laws.proofs.Keeping.OwningXdg.{histories-changed, histories-same, xdg-of, xdg-of-none}
 use Rattle.wl_laws.proofs.Toplevels.Simply.{Asking, CommitSurface, DestroySurface, DestroyToplevel, changed_simply, committed_on, effect_for, effect_on}
@@ -33,7 +36,8 @@ surface-of : (o : Option Surface) (h : History) → option_map (λ (s : Surface)
 surface-of None h e = absurd (cc)
 surface-of (Some s) h e = (s, refl, cc)
 
-histories-to : (id : ℕ) (change : Surface → Surface) (to : History → History) (all : Surfaces) (h : History) → ((s : Surface) → (change s).id ≡ s.id) → ((s : Surface) → (change s).history ≡ to s.history) → history_in id all ≡ Some h
+histories-to : (id : ℕ) (change : Surface → Surface) (to : History → History) (all : Surfaces) (h : History) → ((s : Surface) → (change s).id ≡ s.id)
+    → ((s : Surface) → (change s).history ≡ to s.history) → history_in id all ≡ Some h
     → (λ other. history_in other (with_surface_change id change all)) ≡ with_history id (Some (to h)) (λ other. history_in other all)
 histories-to id change to all h keeps moves there =
     let one = surface-of (surface_at id all) h there in
@@ -74,16 +78,19 @@ changed-same id (x ∷ xs) = ap (λ y. y ∷ with_change id (λ x. x) xs) (eithe
     either false = refl
 
 -- one changes twice
-changed-twice : (id : ℕ) (first second : XdgSurface → XdgSurface) (shell : Shell) → ((x : XdgSurface) → (first x).id ≡ x.id) → with_change id second (with_change id first shell) ≡ with_change id (λ x. second (first x)) shell
+changed-twice : (id : ℕ) (first second : XdgSurface → XdgSurface) (shell : Shell) → ((x : XdgSurface) → (first x).id ≡ x.id)
+    → with_change id second (with_change id first shell) ≡ with_change id (λ x. second (first x)) shell
 changed-twice id first second [] keeps = refl
-changed-twice id first second (x ∷ xs) keeps = ap (λ y. y ∷ with_change id second (with_change id first xs)) (both (x.id == id) refl) ∙ ap (λ ys. cond (x.id == id) (second (first x)) x ∷ ys) (changed-twice id first second xs keeps)
+changed-twice id first second (x ∷ xs) keeps = ap (λ y. y ∷ with_change id second (with_change id first xs)) (both (x.id == id) refl)
+    ∙ ap (λ ys. cond (x.id == id) (second (first x)) x ∷ ys) (changed-twice id first second xs keeps)
   where
     both : (b : Bool) → (x.id == id) ≡ b → cond ((cond b (first x) x).id == id) (second (cond b (first x) x)) (cond b (first x) x) ≡ cond b (second (first x)) x
     both true here = ap (λ c. cond c (second (first x)) (first x)) (ap (λ i. i == id) (keeps x) ∙ here)
     both false here = ap (λ c. cond c (second x) x) here
 
 -- what a commit comes to, as one change
-effect-owned : (id : ℕ) (effect : Effect) (x : XdgSurface) (r : Resident) → (effect_on id effect (Some x) r).owned ≡ record r.owned { shell = with_change x.id (with_effect r.peer.serial (asked_so_far id r) effect) r.owned.shell }
+effect-owned : (id : ℕ) (effect : Effect) (x : XdgSurface) (r : Resident)
+    → (effect_on id effect (Some x) r).owned ≡ record r.owned { shell = with_change x.id (with_effect r.peer.serial (asked_so_far id r) effect) r.owned.shell }
 effect-owned id Stays x r = ap (λ (s : Shell). record r.owned { shell = s }) (sym (changed-same x.id r.owned.shell))
 effect-owned id Unconfigured x r = ap (λ (s : Shell). record r.owned { shell = s }) (sym (changed-same x.id r.owned.shell))
 effect-owned id Configures x r = ap (λ (s : Shell). record r.owned { shell = s }) (changed-twice x.id (in_stage Waiting) (configuring r.peer.serial) r.owned.shell (λ y. refl))
@@ -112,7 +119,8 @@ module _ (names : Names) (slots : Slots) (kept : ℕ → Option Kept) (r : Resid
       (one.0.history, ap (option_map (λ (s : Surface). s.history)) one.1)
 
   -- of a surface all but a window geometry
-  pub owned-asked : (id number : ℕ) (request : Request) (new : Slots) → names.surfaces id ≡ Some number → is_commit request ≡ false → ((asked : Option Rect) → geometry_asked asked request ≡ asked) → Changes slots new number (asking request)
+  pub owned-asked : (id number : ℕ) (request : Request) (new : Slots) → names.surfaces id ≡ Some number → is_commit request ≡ false → ((asked : Option Rect) → geometry_asked asked request ≡ asked)
+      → Changes slots new number (asking request)
       → IsOwned names new kept (changed_simply (Asking (AskSurface id request)) r).owned
   owned-asked id number request new named plain other changes =
       let one = there id number named in
@@ -123,7 +131,8 @@ module _ (names : Names) (slots : Slots) (kept : ℕ → Option Kept) (r : Resid
       (λ k x stands. changes_stand.other request k x one.0 other stands)
 
   pub owned-xdg-made : (id version base surface number : ℕ) (after : ℕ → Option Kept) (now : Names) → names.surfaces surface ≡ Some number → kept number ≡ None → names.shell id ≡ None
-      → after ≡ with_kept number (Some (first_kept id base)) kept → now ≡ with_xdg id (Some number) names → IsOwned now slots after (changed_simply (Asking (GetXdgSurface id version base surface)) r).owned
+      → after ≡ with_kept number (Some (first_kept id base)) kept → now ≡ with_xdg id (Some number) names
+          → IsOwned now slots after (changed_simply (Asking (GetXdgSurface id version base surface)) r).owned
   owned-xdg-made id version base surface number after now named free unnamed keeps same =
       subst (λ (n : Names). IsOwned n slots after (changed_simply (Asking (GetXdgSurface id version base surface)) r).owned) (sym same)
       (subst (λ (ks : ℕ → Option Kept). IsOwned (with_xdg id (Some number) names) slots ks (changed_simply (Asking (GetXdgSurface id version base surface)) r).owned) (sym keeps)
@@ -131,24 +140,28 @@ module _ (names : Names) (slots : Slots) (kept : ℕ → Option Kept) (r : Resid
 
   module _ (number : ℕ) (k : Kept) (x : XdgSurface) (h : History) (one : IsXdg names kept r.owned number k x h) where
     -- its surface stays
-    stepped-still : (change : Kept → Kept) (step : XdgSurface → XdgSurface) → KeepsRole step → Stands (change k) (step x) h → IsOwned names slots (changing number change kept) (record r.owned { shell = with_change x.id step r.owned.shell })
+    stepped-still : (change : Kept → Kept) (step : XdgSurface → XdgSurface) → KeepsRole step → Stands (change k) (step x) h
+        → IsOwned names slots (changing number change kept) (record r.owned { shell = with_change x.id step r.owned.shell })
     stepped-still change step keeps stands =
         IsOwned-stepped names slots kept r.owned is number k x h one change step h slots r.owned.surfaces keeps is.surfaces
         (sym (histories-same x.surface (Some h) (λ other. history_in other r.owned.surfaces) one.history)) stands
 
-    pub owned-geometry : (rect : Rect) (after : ℕ → Option Kept) → after ≡ changing number (kept_asking rect) kept → IsOwned names slots after (changed_simply (Asking (AskSurface x.surface (SetWindowGeometry rect))) r).owned
+    pub owned-geometry : (rect : Rect) (after : ℕ → Option Kept) → after ≡ changing number (kept_asking rect) kept
+        → IsOwned names slots after (changed_simply (Asking (AskSurface x.surface (SetWindowGeometry rect))) r).owned
     owned-geometry rect after keeps =
         let request = SetWindowGeometry rect in
         let all = with_surface_change x.surface (asking request) r.owned.surfaces in
         let stepped : IsOwned names slots (changing number (kept_asking rect) kept) (record { surfaces = all; shell = with_change x.id (λ y. y) r.owned.shell }) =
         IsOwned-stepped names slots kept r.owned is number k x h one (kept_asking rect) (λ y. y) (one_more request h) slots all itself-keeps
-        (AreKept-changed names.surfaces slots r.owned.surfaces is.surfaces x.surface number one.surface (asking request) (λ s. refl) slots (counts-asking request refl) (geometry-asked slots number rect))
+        (AreKept-changed names.surfaces slots r.owned.surfaces is.surfaces x.surface number one.surface (asking request) (λ s. refl) slots (counts-asking request refl)
+            (geometry-asked slots number rect))
         (histories-to x.surface (asking request) (one_more request) r.owned.surfaces h (λ s. refl) (λ s. refl) one.history)
         (changes_stand.geometry rect k x h one.stands) in
         subst (λ (ks : ℕ → Option Kept). IsOwned names slots ks (changed_simply (Asking (AskSurface x.surface request)) r).owned) (sym keeps)
         (subst (λ (s : Shell). IsOwned names slots (changing number (kept_asking rect) kept) (record { surfaces = all; shell = s })) (changed-same x.id r.owned.shell) stepped)
 
-    pub owned-xdg-gone : (after : ℕ → Option Kept) (now : Names) → x.role ≡ None → after ≡ with_kept number None kept → now ≡ with_xdg x.id None names → IsOwned now slots after (changed_simply (Asking (DestroyXdgSurface x.id)) r).owned
+    pub owned-xdg-gone : (after : ℕ → Option Kept) (now : Names) → x.role ≡ None → after ≡ with_kept number None kept → now ≡ with_xdg x.id None names
+        → IsOwned now slots after (changed_simply (Asking (DestroyXdgSurface x.id)) r).owned
     owned-xdg-gone after now bare keeps same =
         subst (λ (n : Names). IsOwned n slots after (changed_simply (Asking (DestroyXdgSurface x.id)) r).owned) (sym same)
         (subst (λ (ks : ℕ → Option Kept). IsOwned (with_xdg x.id None names) slots ks (changed_simply (Asking (DestroyXdgSurface x.id)) r).owned) (sym keeps)
@@ -169,7 +182,8 @@ module _ (names : Names) (slots : Slots) (kept : ℕ → Option Kept) (r : Resid
         (histories-to x.surface (with_role AsToplevel) (λ g. g) r.owned.surfaces h (λ s. refl) (λ s. refl) one.history)
         stands)))
 
-    pub owned-acknowledged : (serial : ℕ) (after : ℕ → Option Kept) → after ≡ changing number (kept_acknowledging serial) kept → IsOwned names slots after (changed_simply (Asking (Acknowledge x.id serial)) r).owned
+    pub owned-acknowledged : (serial : ℕ) (after : ℕ → Option Kept) → after ≡ changing number (kept_acknowledging serial) kept
+        → IsOwned names slots after (changed_simply (Asking (Acknowledge x.id serial)) r).owned
     owned-acknowledged serial after keeps =
         subst (λ (ks : ℕ → Option Kept). IsOwned names slots ks (changed_simply (Asking (Acknowledge x.id serial)) r).owned) (sym keeps)
         (stepped-still (kept_acknowledging serial) (acknowledging serial) (acknowledging-keeps serial) (changes_stand.acknowledgement serial k x h one.stands))
@@ -189,7 +203,8 @@ module _ (names : Names) (slots : Slots) (kept : ℕ → Option Kept) (r : Resid
 
     -- a commit of its surface
     committed-with : (shows : Bool) (act : ShellAct) (new : Slots) → Changes slots new number (λ s. applying (asking Commit s)) → commit_answer shows (Some k) ≡ Ok act
-        → IsOwned names new (changing number (kept_after r.peer.serial act) kept) (effect_on x.surface (on_commit (stage_of x) shows) (Some x) (after_surface x.surface r (committed_on x.surface r))).owned
+        → IsOwned names new (changing number (kept_after r.peer.serial act) kept)
+            (effect_on x.surface (on_commit (stage_of x) shows) (Some x) (after_surface x.surface r (committed_on x.surface r))).owned
     committed-with shows act new changes answer =
         let commits : Surface → Surface = λ s. applying (asking Commit s) in
         let all = with_surface_change x.surface commits r.owned.surfaces in
@@ -208,7 +223,8 @@ module _ (names : Names) (slots : Slots) (kept : ℕ → Option Kept) (r : Resid
         (AreKept-changed names.surfaces slots r.owned.surfaces is.surfaces x.surface number one.surface commits (λ s. refl) new (λ s counts. refl) changes)
         histories stands)
 
-  pub owned-committed : (id number : ℕ) (shows : Bool) (act : ShellAct) (new : Slots) (after : ℕ → Option Kept) → names.surfaces id ≡ Some number → Changes slots new number (λ s. applying (asking Commit s))
+  pub owned-committed : (id number : ℕ) (shows : Bool) (act : ShellAct) (new : Slots) (after : ℕ → Option Kept) → names.surfaces id ≡ Some number
+      → Changes slots new number (λ s. applying (asking Commit s))
       → commit_answer shows (kept number) ≡ Ok act → after ≡ changing number (kept_after r.peer.serial act) kept
       → IsOwned names new after (changed_simply (CommitSurface id (effect_for shows (xdg_of id r.owned.shell))) r).owned
   owned-committed id number shows act new after named changes answer keeps =
@@ -217,12 +233,15 @@ module _ (names : Names) (slots : Slots) (kept : ℕ → Option Kept) (r : Resid
       commits : Surface → Surface
       commits s = applying (asking Commit s)
 
-      at : (o : Option Kept) → kept number ≡ o → IsOwned names new (changing number (kept_after r.peer.serial act) kept) (changed_simply (CommitSurface id (effect_for shows (xdg_of id r.owned.shell))) r).owned
+      at : (o : Option Kept) → kept number ≡ o
+          → IsOwned names new (changing number (kept_after r.peer.serial act) kept) (changed_simply (CommitSurface id (effect_for shows (xdg_of id r.owned.shell))) r).owned
       at None here =
           let none = xdg-of-none names slots kept r.owned is id number named here in
           let history = there id number named in
-          subst (λ (o : Option XdgSurface). IsOwned names new (changing number (kept_after r.peer.serial act) kept) (effect_on id (effect_for shows o) o (after_surface id r (committed_on id r))).owned) (sym none)
-          (subst (λ (ks : ℕ → Option Kept). IsOwned names new ks (record r.owned { surfaces = with_surface_change id commits r.owned.surfaces })) (sym (changing-none number (kept_after r.peer.serial act) kept here))
+          subst (λ (o : Option XdgSurface). IsOwned names new (changing number (kept_after r.peer.serial act) kept)
+              (effect_on id (effect_for shows o) o (after_surface id r (committed_on id r))).owned) (sym none)
+          (subst (λ (ks : ℕ → Option Kept). IsOwned names new ks (record r.owned { surfaces = with_surface_change id commits r.owned.surfaces }))
+              (sym (changing-none number (kept_after r.peer.serial act) kept here))
           (renumbered names slots kept r.owned is names.surfaces new (with_surface_change id commits r.owned.surfaces) id (Some (apply (one_more Commit history.0)))
           (AreKept-changed names.surfaces slots r.owned.surfaces is.surfaces id number named commits (λ s. refl) new (λ s counts. refl) changes)
           none
@@ -231,11 +250,14 @@ module _ (names : Names) (slots : Slots) (kept : ℕ → Option Kept) (r : Resid
       at (Some k) here =
           let xdg = xdg-of names slots kept r.owned is id number k named here in
           let done = committed-with number k xdg.0 xdg.1 xdg.2 shows act new changes (ap (commit_answer shows) (sym here) ∙ answer) in
-          subst (λ (o : Option XdgSurface). IsOwned names new (changing number (kept_after r.peer.serial act) kept) (effect_on id (effect_for shows o) o (after_surface id r (committed_on id r))).owned) (sym xdg.3)
-          (subst (λ i. IsOwned names new (changing number (kept_after r.peer.serial act) kept) (effect_on i (on_commit (stage_of xdg.0) shows) (Some xdg.0) (after_surface i r (committed_on i r))).owned) xdg.4 done)
+          subst (λ (o : Option XdgSurface). IsOwned names new (changing number (kept_after r.peer.serial act) kept)
+              (effect_on id (effect_for shows o) o (after_surface id r (committed_on id r))).owned) (sym xdg.3)
+          (subst (λ i. IsOwned names new (changing number (kept_after r.peer.serial act) kept)
+              (effect_on i (on_commit (stage_of xdg.0) shows) (Some xdg.0) (after_surface i r (committed_on i r))).owned) xdg.4 done)
 
   -- the same by what the shell answered
-  pub owned-committed-by : (id number : ℕ) (shows : Bool) (act : ShellAct) (new : Slots) (after : ℕ → Option Kept) → names.surfaces id ≡ Some number → Changes slots new number (λ s. applying (asking Commit s))
+  pub owned-committed-by : (id number : ℕ) (shows : Bool) (act : ShellAct) (new : Slots) (after : ℕ → Option Kept) → names.surfaces id ≡ Some number
+      → Changes slots new number (λ s. applying (asking Commit s))
       → commit_answer shows (kept number) ≡ Ok act → after ≡ changing number (kept_after r.peer.serial act) kept → IsOwned names new after (changed_simply (CommitSurface id (effect_by act)) r).owned
   owned-committed-by id number shows act new after named changes answer keeps =
       subst (λ effect. IsOwned names new after (changed_simply (CommitSurface id effect) r).owned) (at (kept number) refl) (owned-committed id number shows act new after named changes answer keeps)

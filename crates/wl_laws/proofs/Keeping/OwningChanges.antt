@@ -15,10 +15,12 @@ use Rattle.wl_shell.proofs.Agreeing.{newest}
 use Rattle.wl_shell.proofs.Shells.{shells_stand}
 use Rattle.wl_scene.specs.Stacking.{Owned}
 use Rattle.wl_laws.specs.Owning.{AreApartBy, AreKept, IsOwned, IsXdg, KeepsRole, Names, by_id, by_number, number_of, with_surface, with_toplevel, with_xdg}
-use Rattle.wl_laws.proofs.Keeping.OwningKeys.{apart-left, apart-map, changed-apart, changed-elsewhere, changed-gone, changed-here, differ, found-map, gone, left-elsewhere, new-apart, new-elsewhere, new-here, none-some, some-same}
+use Rattle.wl_laws.proofs.Keeping.OwningKeys.{apart-left, apart-map, changed-apart, changed-elsewhere, changed-gone, changed-here, differ, found-map, gone, left-elsewhere, new-apart, new-elsewhere}
+use Rattle.wl_laws.proofs.Keeping.OwningKeys.{new-here, none-some, some-same}
 use Rattle.wl_laws.proofs.Keeping.OwningNames.{with_id-other}
 use Rattle.wl_laws.proofs.Keeping.OwningSurfaces.{AreKept-left, AreKept-made, surface-absent, surface-named, surface-read, unnumbered}
-use Rattle.wl_laws.proofs.Keeping.OwningXdg.{by_id-changing, by_id-with, has_role, has_xdg, histories-left, histories-made, toplevel-unnamed, xdg-found, xdg-kept-none, xdg-of-nobody, xdg-unnamed, xdgs-apart}
+use Rattle.wl_laws.proofs.Keeping.OwningXdg.{by_id-changing, by_id-with, has_role, has_xdg, histories-left, histories-made, toplevel-unnamed, xdg-found, xdg-kept-none, xdg-of-nobody, xdg-unnamed}
+use Rattle.wl_laws.proofs.Keeping.OwningXdg.{xdgs-apart}
 
 -- ---- what is kept of nobody stays
 
@@ -65,7 +67,8 @@ module _ (names : Names) (slots : Slots) (kept : ℕ → Option Kept) (o : Owned
   -- ---- surfaces
 
   -- other numbers of surfaces, by which what is kept of the xdg_surfaces is the same
-  pub renumbered : (numbers : ById ℕ) (new : Slots) (all : Surfaces) (id : ℕ) (h : Option History) → AreKept numbers new all → xdg_of id o.shell ≡ None → (λ other. history_in other all) ≡ with_history id h (λ other. history_in other o.surfaces)
+  pub renumbered : (numbers : ById ℕ) (new : Slots) (all : Surfaces) (id : ℕ) (h : Option History) → AreKept numbers new all → xdg_of id o.shell ≡ None
+      → (λ other. history_in other all) ≡ with_history id h (λ other. history_in other o.surfaces)
       → by_id numbers kept ≡ by_id names.surfaces kept → ((x : XdgSurface) → names.surfaces x.surface ≢ None → xdg_of x.surface o.shell ≡ Some x → names.surfaces x.surface ≡ numbers x.surface)
       → ((number : ℕ) → is_some (kept number) ≡ true → (id : ℕ) × (numbers id ≡ Some number))
       → IsOwned (record names { surfaces = numbers }) new kept (record o { surfaces = all })
@@ -87,7 +90,8 @@ module _ (names : Names) (slots : Slots) (kept : ℕ → Option Kept) (o : Owned
           reads x (λ none. none-some one.0 (sym none ∙ one.3.surface)) one.3.of_surface
 
   -- one comes
-  pub IsOwned-made : (id number : ℕ) (new : Slots) → names.surfaces id ≡ None → ((named : Numbered) (id : ℕ) → StandForAll slots named → (named number ≡ None) × StandForAll new (with_at number (Some (new_surface id)) named)) → count_kept new ≡ count_kept slots + 1
+  pub IsOwned-made : (id number : ℕ) (new : Slots) → names.surfaces id ≡ None → ((named : Numbered) (id : ℕ) → StandForAll slots named → (named number ≡ None)
+      × StandForAll new (with_at number (Some (new_surface id)) named)) → count_kept new ≡ count_kept slots + 1
       → IsOwned (with_surface id (Some number) names) new kept (record o { surfaces = with_new id o.surfaces })
   IsOwned-made id number new free created counted =
       renumbered (with_id id (Some number) names.surfaces) new (with_new id o.surfaces) id (Some (new_surface id).history)
@@ -96,7 +100,8 @@ module _ (names : Names) (slots : Slots) (kept : ℕ → Option Kept) (o : Owned
       (histories-made id o.surfaces (surface-absent names.surfaces slots o.surfaces is.surfaces id free))
       (fun_ext (λ other. same other (other == id) refl))
       (λ x there found. sym (with_id-other id x.surface (Some number) names.surfaces (ne_eqb x.surface id (λ e. there (ap names.surfaces e ∙ free)))))
-      (λ other some. let was = is.known other some in (was.0, with_id-other id was.0 (Some number) names.surfaces (ne_eqb was.0 id (λ e. none-some other (sym free ∙ ap names.surfaces (sym e) ∙ was.1))) ∙ was.1))
+      (λ other some. let was = is.known other some in
+          (was.0, with_id-other id was.0 (Some number) names.surfaces (ne_eqb was.0 id (λ e. none-some other (sym free ∙ ap names.surfaces (sym e) ∙ was.1))) ∙ was.1))
     where
       nobody : kept number ≡ None
       nobody = at (kept number) refl
@@ -110,7 +115,8 @@ module _ (names : Names) (slots : Slots) (kept : ℕ → Option Kept) (o : Owned
       same other false here = refl
 
   -- one without an xdg_surface goes
-  pub IsOwned-left : (id number : ℕ) (new : Slots) → names.surfaces id ≡ Some number → xdg_of id o.shell ≡ None → ((named : Numbered) → StandForAll slots named → StandForAll new (with_at number None named)) → count_kept new + one_if_kept (kept_at slots number) ≡ count_kept slots
+  pub IsOwned-left : (id number : ℕ) (new : Slots) → names.surfaces id ≡ Some number → xdg_of id o.shell ≡ None
+      → ((named : Numbered) → StandForAll slots named → StandForAll new (with_at number None named)) → count_kept new + one_if_kept (kept_at slots number) ≡ count_kept slots
       → IsOwned (with_surface id None names) new kept (record o { surfaces = without_surface id o.surfaces })
   IsOwned-left id number new named none_of left counted =
       renumbered (with_id id None names.surfaces) new (without_surface id o.surfaces) id None
@@ -119,7 +125,8 @@ module _ (names : Names) (slots : Slots) (kept : ℕ → Option Kept) (o : Owned
       (let there = surface-named names.surfaces slots o.surfaces is.surfaces id number named in histories-left id o.surfaces there.0 is.surfaces.apart there.1)
       (fun_ext (λ other. same other (other == id) refl))
       (λ x there found. sym (with_id-other id x.surface None names.surfaces (ne_eqb x.surface id (λ e. none-some x (sym none_of ∙ ap (λ i. xdg_of i o.shell) (sym e) ∙ found)))))
-      (λ other some. let was = is.known other some in (was.0, with_id-other id was.0 None names.surfaces (ne_eqb was.0 id (λ e. away other some (some-same other number (sym was.1 ∙ ap names.surfaces e ∙ named)))) ∙ was.1))
+      (λ other some. let was = is.known other some in
+          (was.0, with_id-other id was.0 None names.surfaces (ne_eqb was.0 id (λ e. away other some (some-same other number (sym was.1 ∙ ap names.surfaces e ∙ named)))) ∙ was.1))
     where
       nobody : kept number ≡ None
       nobody = xdg-kept-none names slots kept o is id number named none_of
@@ -132,7 +139,8 @@ module _ (names : Names) (slots : Slots) (kept : ℕ → Option Kept) (o : Owned
       same other false here = refl
 
   -- one has another history, which what is kept of its xdg_surface stands for too
-  pub IsOwned-history : (id : ℕ) (h g : History) (new : Slots) (all : Surfaces) → AreKept names.surfaces new all → history_in id o.surfaces ≡ Some h → (λ other. history_in other all) ≡ with_history id (Some g) (λ other. history_in other o.surfaces)
+  pub IsOwned-history : (id : ℕ) (h g : History) (new : Slots) (all : Surfaces) → AreKept names.surfaces new all → history_in id o.surfaces ≡ Some h
+      → (λ other. history_in other all) ≡ with_history id (Some g) (λ other. history_in other o.surfaces)
       → ((k : Kept) (x : XdgSurface) → Stands k x h → Stands k x g) → IsOwned names new kept (record o { surfaces = all })
   IsOwned-history id h g new all are there histories stands = record {
     surfaces = are;
@@ -185,7 +193,8 @@ module _ (names : Names) (slots : Slots) (kept : ℕ → Option Kept) (o : Owned
         (shells_stand.changed x.surface change step k x g (by_id names.surfaces kept) (λ other. history_in other o.surfaces) o.shell keeps_id keeps_surface is.shell
         (ap (option_and_then kept) one.surface ∙ one.here) one.of_surface stands))
 
-    named-after : (step : XdgSurface → XdgSurface) → ((y : XdgSurface) → (step y).id ≡ y.id) → ((y : XdgSurface) → (step y).surface ≡ y.surface) → (other : ℕ) → names.shell other ≡ number_of names.surfaces (xdg_at other (with_change x.id step o.shell))
+    named-after : (step : XdgSurface → XdgSurface) → ((y : XdgSurface) → (step y).id ≡ y.id) → ((y : XdgSurface) → (step y).surface ≡ y.surface) → (other : ℕ)
+        → names.shell other ≡ number_of names.surfaces (xdg_at other (with_change x.id step o.shell))
     named-after step keeps_id keeps_surface other =
         is.named other
         ∙ sym (ap (number_of names.surfaces) (found-map (has_xdg other) (stepped step) o.shell (λ y. ap (λ i. i == other) (stepped-keeps (λ z. z.id) step keeps_id y)))
@@ -208,7 +217,8 @@ module _ (names : Names) (slots : Slots) (kept : ℕ → Option Kept) (o : Owned
     }
 
     -- it gets a toplevel
-    pub IsOwned-toplevel : (id : ℕ) (change : Kept → Kept) (step : XdgSurface → XdgSurface) (object : RoleObject) (g : History) (new : Slots) (all : Surfaces) → ((y : XdgSurface) → (step y).id ≡ y.id) → ((y : XdgSurface) → (step y).surface ≡ y.surface)
+    pub IsOwned-toplevel : (id : ℕ) (change : Kept → Kept) (step : XdgSurface → XdgSurface) (object : RoleObject) (g : History) (new : Slots) (all : Surfaces) → ((y : XdgSurface) → (step y).id ≡ y.id)
+        → ((y : XdgSurface) → (step y).surface ≡ y.surface)
         → x.role ≡ None → (step x).role ≡ Some object → object.id ≡ id → names.toplevels id ≡ None → AreKept names.surfaces new all
         → (λ other. history_in other all) ≡ with_history x.surface (Some g) (λ other. history_in other o.surfaces) → Stands (change k) (step x) g
         → IsOwned (with_toplevel id (Some number) names) new (changing number change kept) (record { surfaces = all; shell = with_change x.id step o.shell })
@@ -218,7 +228,8 @@ module _ (names : Names) (slots : Slots) (kept : ℕ → Option Kept) (o : Owned
       known = known-after change;
       named = named-after step keeps_id keeps_surface;
       toplevels = λ other. at other (other == id) refl;
-      roles = changed-apart has_xdg x.id x step has_role o.shell apart one.at_id is.roles (λ other here. ap (λ i. xdg_with i o.shell) (sym (eqb-true object.id other (sym (ap (is_role other) now) ∙ here)) ∙ it) ∙ none);
+      roles = changed-apart has_xdg x.id x step has_role o.shell apart one.at_id is.roles
+          (λ other here. ap (λ i. xdg_with i o.shell) (sym (eqb-true object.id other (sym (ap (is_role other) now) ∙ here)) ∙ it) ∙ none);
     }
       where
         apart : AreApartBy has_xdg o.shell
@@ -230,14 +241,17 @@ module _ (names : Names) (slots : Slots) (kept : ℕ → Option Kept) (o : Owned
         at : (other : ℕ) (b : Bool) → (other == id) ≡ b → cond b (Some number) (names.toplevels other) ≡ number_of names.surfaces (xdg_with other (with_change x.id step o.shell))
         at other true here =
             let same = eqb-true other id here in
-            sym (ap (number_of names.surfaces) (changed-here has_xdg x.id x step (has_role other) o.shell apart one.at_id (ap (λ i. xdg_with i o.shell) same ∙ none) (ap (is_role other) now ∙ eq-eqb object.id other (it ∙ sym same)))
+            sym (ap (number_of names.surfaces) (changed-here has_xdg x.id x step (has_role other) o.shell apart one.at_id (ap (λ i. xdg_with i o.shell) same ∙ none) (ap (is_role other) now
+                ∙ eq-eqb object.id other (it ∙ sym same)))
             ∙ ap names.surfaces (keeps_surface x) ∙ one.surface)
         at other false here =
             is.toplevels other
-            ∙ sym (ap (number_of names.surfaces) (changed-elsewhere has_xdg x.id x step (has_role other) o.shell apart one.at_id (ap (is_role other) was) (ap (is_role other) now ∙ ne_eqb object.id other (λ same. eqb-false other id here (sym same ∙ it)))))
+            ∙ sym (ap (number_of names.surfaces) (changed-elsewhere has_xdg x.id x step (has_role other) o.shell apart one.at_id (ap (is_role other) was) (ap (is_role other) now
+                ∙ ne_eqb object.id other (λ same. eqb-false other id here (sym same ∙ it)))))
 
     -- its toplevel goes
-    pub IsOwned-untoplevel : (id : ℕ) (change : Kept → Kept) (step : XdgSurface → XdgSurface) (g : History) (new : Slots) (all : Surfaces) → ((y : XdgSurface) → (step y).id ≡ y.id) → ((y : XdgSurface) → (step y).surface ≡ y.surface)
+    pub IsOwned-untoplevel : (id : ℕ) (change : Kept → Kept) (step : XdgSurface → XdgSurface) (g : History) (new : Slots) (all : Surfaces) → ((y : XdgSurface) → (step y).id ≡ y.id)
+        → ((y : XdgSurface) → (step y).surface ≡ y.surface)
         → is_role id x.role ≡ true → (step x).role ≡ None → AreKept names.surfaces new all
         → (λ other. history_in other all) ≡ with_history x.surface (Some g) (λ other. history_in other o.surfaces) → Stands (change k) (step x) g
         → IsOwned (with_toplevel id None names) new (changing number change kept) (record { surfaces = all; shell = with_change x.id step o.shell })
@@ -259,16 +273,19 @@ module _ (names : Names) (slots : Slots) (kept : ℕ → Option Kept) (o : Owned
 
         at : (other : ℕ) (b : Bool) → (other == id) ≡ b → cond b None (names.toplevels other) ≡ number_of names.surfaces (xdg_with other (with_change x.id step o.shell))
         at other true here =
-            sym (ap (number_of names.surfaces) (changed-gone has_xdg x.id x step has_role other o.shell apart is.roles one.at_id (ap (λ i. is_role i x.role) (eqb-true other id here) ∙ was) (ap (is_role other) now)))
+            sym (ap (number_of names.surfaces) (changed-gone has_xdg x.id x step has_role other o.shell apart is.roles one.at_id (ap (λ i. is_role i x.role) (eqb-true other id here)
+                ∙ was) (ap (is_role other) now)))
         at other false here =
-            is.toplevels other ∙ sym (ap (number_of names.surfaces) (changed-elsewhere has_xdg x.id x step (has_role other) o.shell apart one.at_id (only other x.role was here) (ap (is_role other) now)))
+            is.toplevels other ∙ sym (ap (number_of names.surfaces) (changed-elsewhere has_xdg x.id x step (has_role other) o.shell apart one.at_id (only other x.role was here)
+                (ap (is_role other) now)))
 
     -- it goes, without a role object
     pub IsOwned-unshelled : x.role ≡ None → IsOwned (with_xdg x.id None names) slots (with_kept number None kept) (record o { shell = without_xdg x.id o.shell })
     IsOwned-unshelled bare = record {
       surfaces = is.surfaces;
       shell =
-          subst (λ (ks : ℕ → Option Kept). IsShell ks (λ other. history_in other o.surfaces) (without_xdg x.id o.shell)) (sym (by_id-with names.surfaces is.surfaces.once x.surface number one.surface None kept))
+          subst (λ (ks : ℕ → Option Kept). IsShell ks (λ other. history_in other o.surfaces) (without_xdg x.id o.shell))
+              (sym (by_id-with names.surfaces is.surfaces.once x.surface number one.surface None kept))
           (shells_stand.gone x.surface x (by_id names.surfaces kept) (λ other. history_in other o.surfaces) o.shell is.shell one.of_surface);
       known = λ other some. known other (other == number) refl some;
       named = λ other. at other (other == x.id) refl;
@@ -286,7 +303,8 @@ module _ (names : Names) (slots : Slots) (kept : ℕ → Option Kept) (o : Owned
         at : (other : ℕ) (b : Bool) → (other == x.id) ≡ b → cond b None (names.shell other) ≡ number_of names.surfaces (xdg_at other (without_xdg x.id o.shell))
         at other true here = sym (ap (number_of names.surfaces) (ap (λ i. xdg_at i (without_xdg x.id o.shell)) (eqb-true other x.id here) ∙ gone (has_xdg x.id) o.shell))
         at other false here =
-            is.named other ∙ sym (ap (number_of names.surfaces) (left-elsewhere has_xdg x.id x (has_xdg other) o.shell apart one.at_id (ne_eqb x.id other (λ same. eqb-false other x.id here (sym same)))))
+            is.named other ∙ sym (ap (number_of names.surfaces) (left-elsewhere has_xdg x.id x (has_xdg other) o.shell apart one.at_id
+                (ne_eqb x.id other (λ same. eqb-false other x.id here (sym same)))))
 
   -- ---- an xdg_surface comes
 
@@ -295,9 +313,11 @@ module _ (names : Names) (slots : Slots) (kept : ℕ → Option Kept) (o : Owned
   IsOwned-shelled id base surface number named free unnamed = record {
     surfaces = is.surfaces;
     shell =
-        subst (λ (ks : ℕ → Option Kept). IsShell ks (λ other. history_in other o.surfaces) (with_new_xdg id base surface o.shell)) (sym (by_id-with names.surfaces is.surfaces.once surface number named (Some (first_kept id base)) kept))
+        subst (λ (ks : ℕ → Option Kept). IsShell ks (λ other. history_in other o.surfaces) (with_new_xdg id base surface o.shell))
+            (sym (by_id-with names.surfaces is.surfaces.once surface number named (Some (first_kept id base)) kept))
         (shells_stand.made id base surface there.0.history (by_id names.surfaces kept) (λ other. history_in other o.surfaces) o.shell is.shell (ap (option_and_then kept) named ∙ free) none history
-        (cut-within (kept_at slots number) (by_number names.surfaces o.surfaces number) there.0.history (is.surfaces.stand number) (ap (option_map (λ (s : Surface). s.history)) (surface-read names.surfaces slots o.surfaces is.surfaces surface number named) ∙ history)));
+        (cut-within (kept_at slots number) (by_number names.surfaces o.surfaces number) there.0.history (is.surfaces.stand number)
+            (ap (option_map (λ (s : Surface). s.history)) (surface-read names.surfaces slots o.surfaces is.surfaces surface number named) ∙ history)));
     known = λ other some. known other (other == number) refl some;
     named = λ other. at other (other == id) refl;
     toplevels = λ other. is.toplevels other ∙ sym (ap (number_of names.surfaces) (new-elsewhere (has_role other) o.shell (newest id base surface) refl));

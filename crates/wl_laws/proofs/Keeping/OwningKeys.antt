@@ -70,7 +70,8 @@ found-any p r (y ∷ ys) x found is = at (p y) found (λ e. found-any p r ys x e
     at false e rest = or_right (r y) (list_any r ys) (rest e)
 
 -- one of them is found by its key
-pub any-found : {X : Type 0} (has : ℕ → X → Bool) (r : X → Bool) (xs : List X) → AreApartBy has xs → list_any r xs ≡ true → (x : X) × (r x ≡ true) × ((key : ℕ) → has key x ≡ true → find (has key) xs ≡ Some x)
+pub any-found : {X : Type 0} (has : ℕ → X → Bool) (r : X → Bool) (xs : List X) → AreApartBy has xs → list_any r xs ≡ true → (x : X) × (r x ≡ true)
+    × ((key : ℕ) → has key x ≡ true → find (has key) xs ≡ Some x)
 any-found has r [] apart any = absurd (cc)
 any-found {X} has r (y ∷ ys) apart any = at (r y) refl any (λ e. any-found has r ys apart.1 e)
   where
@@ -239,7 +240,8 @@ module _ {X : Type 0} (ids : ℕ → X → Bool) (id : ℕ) (x : X) where
         ∙ rest (none-later (p y) y (find p ys) none)) none
 
     -- it doesn't pass any more, and no other does
-    pub changed-gone : (has : ℕ → X → Bool) (key : ℕ) (xs : List X) → AreApartBy ids xs → AreApartBy has xs → find (ids id) xs ≡ Some x → has key x ≡ true → has key (change x) ≡ false → find (has key) (changed xs) ≡ None
+    pub changed-gone : (has : ℕ → X → Bool) (key : ℕ) (xs : List X) → AreApartBy ids xs → AreApartBy has xs → find (ids id) xs ≡ Some x → has key x ≡ true → has key (change x) ≡ false
+        → find (has key) (changed xs) ≡ None
     changed-gone has key xs apart told found was is =
         found-once (λ xs. AreApartBy has xs → find (has key) (changed xs) ≡ None) xs apart found
         (λ ys here none told. ap (find (has key)) (changed-first ys here none) ∙ ap (λ b. cond b (Some (change x)) (find (has key) ys)) is ∙ told.0 key was)
@@ -249,7 +251,8 @@ module _ {X : Type 0} (ids : ℕ → X → Bool) (id : ℕ) (x : X) where
         ∙ rest told.1) told
 
     -- its new keys are nobody's
-    pub changed-apart : (has : ℕ → X → Bool) (xs : List X) → AreApartBy ids xs → find (ids id) xs ≡ Some x → AreApartBy has xs → ((key : ℕ) → has key (change x) ≡ true → find (has key) xs ≡ None) → AreApartBy has (changed xs)
+    pub changed-apart : (has : ℕ → X → Bool) (xs : List X) → AreApartBy ids xs → find (ids id) xs ≡ Some x → AreApartBy has xs → ((key : ℕ) → has key (change x) ≡ true → find (has key) xs ≡ None)
+        → AreApartBy has (changed xs)
     changed-apart has xs apart found told new =
         found-once (λ xs. AreApartBy ids xs → AreApartBy has xs → ((key : ℕ) → has key (change x) ≡ true → find (has key) xs ≡ None) → AreApartBy has (changed xs)) xs apart found
         (λ ys here none apart told new. subst (AreApartBy has) (sym (changed-first ys here none)) (λ key is. none-later (has key x) x (find (has key) ys) (new key is), told.1))

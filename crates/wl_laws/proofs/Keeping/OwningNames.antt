@@ -28,7 +28,8 @@ with_id-other id other x all e = ap (λ b. cond b x (all other)) e
 
 -- ---- the numbers of one interface
 
-pub targets-with : (interface : Interface) (old new : Held) (id : ℕ) (entry : Option Entry) → HoldsAt old new id entry → targets_in interface new ≡ with_id id (option_and_then (target_as interface) entry) (targets_in interface old)
+pub targets-with : (interface : Interface) (old new : Held) (id : ℕ) (entry : Option Entry) → HoldsAt old new id entry
+    → targets_in interface new ≡ with_id id (option_and_then (target_as interface) entry) (targets_in interface old)
 targets-with interface old new id entry holds = fun_ext (λ other. at other (other == id) refl)
   where
     at : (other : ℕ) (b : Bool) → (other == id) ≡ b → targets_in interface new other ≡ cond b (option_and_then (target_as interface) entry) (targets_in interface old other)
@@ -54,7 +55,8 @@ targets-free interface held id free = ap (option_and_then (target_as interface))
 abbrev three : ById ℕ → ById ℕ → ById ℕ → Names
 three surfaces shell toplevels = record { surfaces = surfaces; shell = shell; toplevels = toplevels }
 
-pub names-with : (old new : Held) (surfaces shell toplevels : ById ℕ) → targets_in WlSurface new ≡ surfaces → targets_in XdgSurface new ≡ shell → targets_in XdgToplevel new ≡ toplevels → names_in new ≡ three surfaces shell toplevels
+pub names-with : (old new : Held) (surfaces shell toplevels : ById ℕ) → targets_in WlSurface new ≡ surfaces → targets_in XdgSurface new ≡ shell → targets_in XdgToplevel new ≡ toplevels
+    → names_in new ≡ three surfaces shell toplevels
 names-with old new surfaces shell toplevels a b c =
     ap (λ (x : ById ℕ). three x (targets_in XdgSurface new) (targets_in XdgToplevel new)) a
     ∙ ap (λ (x : ById ℕ). three surfaces x (targets_in XdgToplevel new)) b
@@ -62,16 +64,19 @@ names-with old new surfaces shell toplevels a b c =
 
 module _ (old new : Held) (id : ℕ) where
   -- it is of another interface, or there is none
-  unnamed : (interface : Interface) (entry : Option Entry) → option_and_then (target_as interface) entry ≡ targets_in interface old id → HoldsAt old new id entry → targets_in interface new ≡ targets_in interface old
+  unnamed : (interface : Interface) (entry : Option Entry) → option_and_then (target_as interface) entry ≡ targets_in interface old id → HoldsAt old new id entry
+      → targets_in interface new ≡ targets_in interface old
   unnamed interface entry same holds = targets-with interface old new id entry holds ∙ with_id-same id (option_and_then (target_as interface) entry) (targets_in interface old) (sym same)
 
-  none-made : (interface : Interface) (entry : Entry) → entry_of old id ≡ None → (interface_number entry.interface == interface_number interface) ≡ false → HoldsAt old new id (Some entry) → targets_in interface new ≡ targets_in interface old
+  none-made : (interface : Interface) (entry : Entry) → entry_of old id ≡ None → (interface_number entry.interface == interface_number interface) ≡ false → HoldsAt old new id (Some entry)
+      → targets_in interface new ≡ targets_in interface old
   none-made interface entry free other holds = unnamed interface (Some entry) (target-not interface entry other ∙ sym (targets-free interface old id free)) holds
 
   made : (interface : Interface) (entry : Entry) → entry.interface ≡ interface → HoldsAt old new id (Some entry) → targets_in interface new ≡ with_id id (Some entry.target) (targets_in interface old)
   made interface entry is holds = targets-with interface old new id (Some entry) holds ∙ ap (λ o. with_id id o (targets_in interface old)) (target-of interface entry is)
 
-  none-gone : (interface : Interface) (entry : Entry) → entry_of old id ≡ Some entry → (interface_number entry.interface == interface_number interface) ≡ false → HoldsAt old new id None → targets_in interface new ≡ targets_in interface old
+  none-gone : (interface : Interface) (entry : Entry) → entry_of old id ≡ Some entry → (interface_number entry.interface == interface_number interface) ≡ false → HoldsAt old new id None
+      → targets_in interface new ≡ targets_in interface old
   none-gone interface entry found other holds = unnamed interface None (sym (ap (option_and_then (target_as interface)) found ∙ target-not interface entry other)) holds
 
   apart : (a b : Interface) (c : Bool) → (interface_number a == interface_number b) ≡ c → (entry : Entry) → entry.interface ≡ a → (interface_number entry.interface == interface_number b) ≡ c
@@ -80,15 +85,19 @@ module _ (old new : Held) (id : ℕ) where
   -- a new object under a free id
   pub names-surface-made : (entry : Entry) → entry_of old id ≡ None → entry.interface ≡ WlSurface → HoldsAt old new id (Some entry) → names_in new ≡ with_surface id (Some entry.target) (names_in old)
   names-surface-made entry free is holds =
-      names-with old new _ _ _ (made WlSurface entry is holds) (none-made XdgSurface entry free (apart WlSurface XdgSurface false refl entry is) holds) (none-made XdgToplevel entry free (apart WlSurface XdgToplevel false refl entry is) holds)
+      names-with old new _ _ _ (made WlSurface entry is holds) (none-made XdgSurface entry free (apart WlSurface XdgSurface false refl entry is) holds)
+          (none-made XdgToplevel entry free (apart WlSurface XdgToplevel false refl entry is) holds)
 
   pub names-xdg-made : (entry : Entry) → entry_of old id ≡ None → entry.interface ≡ XdgSurface → HoldsAt old new id (Some entry) → names_in new ≡ with_xdg id (Some entry.target) (names_in old)
   names-xdg-made entry free is holds =
-      names-with old new _ _ _ (none-made WlSurface entry free (apart XdgSurface WlSurface false refl entry is) holds) (made XdgSurface entry is holds) (none-made XdgToplevel entry free (apart XdgSurface XdgToplevel false refl entry is) holds)
+      names-with old new _ _ _ (none-made WlSurface entry free (apart XdgSurface WlSurface false refl entry is) holds) (made XdgSurface entry is holds)
+          (none-made XdgToplevel entry free (apart XdgSurface XdgToplevel false refl entry is) holds)
 
-  pub names-toplevel-made : (entry : Entry) → entry_of old id ≡ None → entry.interface ≡ XdgToplevel → HoldsAt old new id (Some entry) → names_in new ≡ with_toplevel id (Some entry.target) (names_in old)
+  pub names-toplevel-made : (entry : Entry) → entry_of old id ≡ None → entry.interface ≡ XdgToplevel → HoldsAt old new id (Some entry)
+      → names_in new ≡ with_toplevel id (Some entry.target) (names_in old)
   names-toplevel-made entry free is holds =
-      names-with old new _ _ _ (none-made WlSurface entry free (apart XdgToplevel WlSurface false refl entry is) holds) (none-made XdgSurface entry free (apart XdgToplevel XdgSurface false refl entry is) holds) (made XdgToplevel entry is holds)
+      names-with old new _ _ _ (none-made WlSurface entry free (apart XdgToplevel WlSurface false refl entry is) holds)
+          (none-made XdgSurface entry free (apart XdgToplevel XdgSurface false refl entry is) holds) (made XdgToplevel entry is holds)
 
   not-surface : (interface : Interface) → names_surface interface ≡ false → (interface_number interface == interface_number WlSurface) ≡ false
   not-surface WlSurface e = absurd (cc)
@@ -104,21 +113,26 @@ module _ (old new : Held) (id : ℕ) where
 
   pub names-other-made : (entry : Entry) → entry_of old id ≡ None → names_surface entry.interface ≡ false → HoldsAt old new id (Some entry) → names_in new ≡ names_in old
   names-other-made entry free other holds =
-      names-with old new _ _ _ (none-made WlSurface entry free (not-surface entry.interface other) holds) (none-made XdgSurface entry free (not-xdg entry.interface other) holds) (none-made XdgToplevel entry free (not-toplevel entry.interface other) holds)
+      names-with old new _ _ _ (none-made WlSurface entry free (not-surface entry.interface other) holds) (none-made XdgSurface entry free (not-xdg entry.interface other) holds)
+          (none-made XdgToplevel entry free (not-toplevel entry.interface other) holds)
 
   -- an object goes
   pub names-surface-gone : (entry : Entry) → entry_of old id ≡ Some entry → entry.interface ≡ WlSurface → HoldsAt old new id None → names_in new ≡ with_surface id None (names_in old)
   names-surface-gone entry found is holds =
-      names-with old new _ _ _ (targets-with WlSurface old new id None holds) (none-gone XdgSurface entry found (apart WlSurface XdgSurface false refl entry is) holds) (none-gone XdgToplevel entry found (apart WlSurface XdgToplevel false refl entry is) holds)
+      names-with old new _ _ _ (targets-with WlSurface old new id None holds) (none-gone XdgSurface entry found (apart WlSurface XdgSurface false refl entry is) holds)
+          (none-gone XdgToplevel entry found (apart WlSurface XdgToplevel false refl entry is) holds)
 
   pub names-xdg-gone : (entry : Entry) → entry_of old id ≡ Some entry → entry.interface ≡ XdgSurface → HoldsAt old new id None → names_in new ≡ with_xdg id None (names_in old)
   names-xdg-gone entry found is holds =
-      names-with old new _ _ _ (none-gone WlSurface entry found (apart XdgSurface WlSurface false refl entry is) holds) (targets-with XdgSurface old new id None holds) (none-gone XdgToplevel entry found (apart XdgSurface XdgToplevel false refl entry is) holds)
+      names-with old new _ _ _ (none-gone WlSurface entry found (apart XdgSurface WlSurface false refl entry is) holds) (targets-with XdgSurface old new id None holds)
+          (none-gone XdgToplevel entry found (apart XdgSurface XdgToplevel false refl entry is) holds)
 
   pub names-toplevel-gone : (entry : Entry) → entry_of old id ≡ Some entry → entry.interface ≡ XdgToplevel → HoldsAt old new id None → names_in new ≡ with_toplevel id None (names_in old)
   names-toplevel-gone entry found is holds =
-      names-with old new _ _ _ (none-gone WlSurface entry found (apart XdgToplevel WlSurface false refl entry is) holds) (none-gone XdgSurface entry found (apart XdgToplevel XdgSurface false refl entry is) holds) (targets-with XdgToplevel old new id None holds)
+      names-with old new _ _ _ (none-gone WlSurface entry found (apart XdgToplevel WlSurface false refl entry is) holds)
+          (none-gone XdgSurface entry found (apart XdgToplevel XdgSurface false refl entry is) holds) (targets-with XdgToplevel old new id None holds)
 
   pub names-other-gone : (entry : Entry) → entry_of old id ≡ Some entry → names_surface entry.interface ≡ false → HoldsAt old new id None → names_in new ≡ names_in old
   names-other-gone entry found other holds =
-      names-with old new _ _ _ (none-gone WlSurface entry found (not-surface entry.interface other) holds) (none-gone XdgSurface entry found (not-xdg entry.interface other) holds) (none-gone XdgToplevel entry found (not-toplevel entry.interface other) holds)
+      names-with old new _ _ _ (none-gone WlSurface entry found (not-surface entry.interface other) holds) (none-gone XdgSurface entry found (not-xdg entry.interface other) holds)
+          (none-gone XdgToplevel entry found (not-toplevel entry.interface other) holds)

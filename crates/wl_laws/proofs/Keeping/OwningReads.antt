@@ -12,7 +12,8 @@ use Rattle.wl_surface.specs.declared.content.Attached.{Attached}
 use Rattle.wl_surface.specs.declared.role.Role.{Role}
 use Rattle.wl_surface.specs.declared.role.Role.TheVariants.{Toplevel as AsToplevel, Popup as AsPopup, Subsurface as AsSubsurface, Cursor as AsCursor}
 use Rattle.wl_surface.specs.declared.surface.Current.{Current}
-use Rattle.wl_surface.specs.Kept.{Changes, IsAny, IsCurrentAt, Numbered, Slots, StandForAll, buffer_of, changed_at, content_at, has_at, kept_at, one_if_kept, pending_at, role_at, shows_at, with_at, count as count_kept}
+use Rattle.wl_surface.specs.Kept.{Changes, IsAny, IsCurrentAt, Numbered, Slots, StandForAll, buffer_of, changed_at, content_at, has_at, kept_at, one_if_kept, pending_at, role_at, shows_at, with_at}
+use Rattle.wl_surface.specs.Kept.{count as count_kept}
 use Rattle.wl_surface.specs.Applied.{AreFreed}
 use Rattle.wl_surface.specs.Request.{Buffer, Commit, SetWindowGeometry}
 use Rattle.wl_surface.specs.State.{History, applied, held, pending, values}
@@ -22,7 +23,8 @@ use Rattle.wl_shell.specs.declared.acts.ShellAct.TheVariants.{Configure, Map, Un
 use Rattle.wl_shell.specs.declared.error.ShellError.{ShellError}
 use Rattle.wl_shell.specs.declared.error.ShellError.TheVariants as failed
 use Rattle.wl_shell.specs.declared.stage.Stage.{Stage}
-use Rattle.wl_shell.specs.Kept.{Kept, acknowledgement_answer, commit_answer, configure_answer, destruction_answer, effect_answer, geometry_answer, making_refused, stage_configured, stage_in, toplevel_answer}
+use Rattle.wl_shell.specs.Kept.{Kept, acknowledgement_answer, commit_answer, configure_answer, destruction_answer, effect_answer, geometry_answer, making_refused, stage_configured, stage_in}
+use Rattle.wl_shell.specs.Kept.{toplevel_answer}
 use Rattle.wl_shell.specs.Shell.{Effect, Stays, Unconfigured, Configures, Maps, Unmaps, RoleObject, XdgSurface, answers_states, is_full, is_waiting, on_commit, stage_of, xdg_of}
 use Rattle.wl_shell.proofs.Shells.{shells_stand}
 use Rattle.wl_plain.specs.Ask.{AskSurface, DestroyBase, GetXdgSurface, DestroyXdgSurface, GetToplevel, Acknowledge, ConfigureAgain, Ignore}
@@ -30,7 +32,8 @@ use Rattle.wl_plain.specs.Desktop.{Resident}
 use Rattle.wl_laws.specs.Owning.{AllCounts, IsOwned, IsXdg, Names, asks_by, asks_unless, by_id, by_number, configuring_if, effect_by, kept_id, shell_refusal}
 use Rattle.wl_plain.specs.Step.{buffers_had, configures_told, each_once, role_configured, without_buffer}
 use Rattle.wl_plain.specs.WlSurface.{refuse, refuse_limit, will_show}
-use Rattle.wl_plain.specs.XdgShell.{acknowledged_by, base_destroyed, configured_again, geometry_set, has_any, is_foreign, is_no_toplevel, role_of, toplevel_made, xdg_surface_destroyed, xdg_surface_made}
+use Rattle.wl_plain.specs.XdgShell.{acknowledged_by, base_destroyed, configured_again, geometry_set, has_any, is_foreign, is_no_toplevel, role_of, toplevel_made, xdg_surface_destroyed}
+use Rattle.wl_plain.specs.XdgShell.{xdg_surface_made}
 use Rattle.wl_laws.proofs.Keeping.OwningKeys.{none-some, some-same}
 use Rattle.wl_laws.proofs.Keeping.OwningSurfaces.{AreKept-changed, AreKept-left, busy-is, busy-read, surfaces-changed, surfaces-left, surface-read, used-read}
 use Rattle.wl_laws.proofs.Keeping.OwningXdg.{xdg-of, xdg-of-none, xdg-there}
@@ -76,22 +79,27 @@ module _ (names : Names) (slots : Slots) (kept : ℕ → Option Kept) (r : Resid
       at None = refl
       at (Some s) = refl
 
-  pub pending-read : (id number : ℕ) (result : Option Attached) → names.surfaces id ≡ Some number → ((all : Numbered) → StandForAll slots all → option_map buffer_of result ≡ pending_at (all number)) → is_some result ≡ will_show r id
-  pending-read id number result named told = sym (there-mapped buffer_of result) ∙ ap is_there (read (λ at. option_map buffer_of result ≡ pending_at at) id number named told) ∙ at (surface_at id r.owned.surfaces)
+  pub pending-read : (id number : ℕ) (result : Option Attached) → names.surfaces id ≡ Some number → ((all : Numbered) → StandForAll slots all → option_map buffer_of result ≡ pending_at (all number))
+      → is_some result ≡ will_show r id
+  pending-read id number result named told = sym (there-mapped buffer_of result) ∙ ap is_there (read (λ at. option_map buffer_of result ≡ pending_at at) id number named told)
+      ∙ at (surface_at id r.owned.surfaces)
     where
       at : (o : Option Surface) → is_there (pending_at o) ≡ is_there (option_and_then (λ h. (pending h).buffer) (option_map (λ (s : Surface). s.history) o))
       at None = refl
       at (Some s) = refl
 
   -- The buffers that a surface has: the pending one, and the one that is applied, which is the held one too.
-  pub buffers-read : {A : Type 0} (id number : ℕ) (next : Option Attached) (current : Option (Current A)) → names.surfaces id ≡ Some number → ((all : Numbered) → StandForAll slots all → option_map buffer_of next ≡ pending_at (all number))
+  pub buffers-read : {A : Type 0} (id number : ℕ) (next : Option Attached) (current : Option (Current A)) → names.surfaces id ≡ Some number
+      → ((all : Numbered) → StandForAll slots all → option_map buffer_of next ≡ pending_at (all number))
       → ((all : Numbered) → StandForAll slots all → IsCurrentAt current (all number))
-      → each_once (buffers_had (history_in id r.owned.surfaces)) ≡ each_once (listed (option_map buffer_of next) ++ listed (option_map buffer_of (option_and_then (λ (c : Current A). c.buffer) current)))
+      → each_once (buffers_had (history_in id r.owned.surfaces)) ≡ each_once
+          (listed (option_map buffer_of next) ++ listed (option_map buffer_of (option_and_then (λ (c : Current A). c.buffer) current)))
   buffers-read {A} id number next current named waits told =
       at (surface_at id r.owned.surfaces) current refl (read (λ at. option_map buffer_of next ≡ pending_at at) id number named waits) (read (λ at. IsCurrentAt current at) id number named told)
     where
       at : (o : Option Surface) (c : Option (Current A)) → surface_at id r.owned.surfaces ≡ o → option_map buffer_of next ≡ pending_at o → IsCurrentAt c o
-          → each_once (buffers_had (option_map (λ (s : Surface). s.history) o)) ≡ each_once (listed (option_map buffer_of next) ++ listed (option_map buffer_of (option_and_then (λ (c : Current A). c.buffer) c)))
+          → each_once (buffers_had (option_map (λ (s : Surface). s.history) o)) ≡ each_once
+              (listed (option_map buffer_of next) ++ listed (option_map buffer_of (option_and_then (λ (c : Current A). c.buffer) c)))
       at None None found waits told = rw waits refl
       at None (Some c) found waits told = absurd told
       at (Some s) None found waits told = absurd told
@@ -122,7 +130,8 @@ module _ (names : Names) (slots : Slots) (kept : ℕ → Option Kept) (r : Resid
       (subst (λ (all : Numbered). IsAny (shows_at buffer) all (is_busy buffer after)) (fun_ext (surfaces-changed names.surfaces slots r.owned.surfaces is.surfaces id number named commits (λ s. refl)))
       (busy-is names.surfaces new after now buffer))
 
-  pub freed-left : (id number : ℕ) (new : Slots) (freed : List ℕ) → names.surfaces id ≡ Some number → ((all : Numbered) → StandForAll slots all → StandForAll new (with_at number None all)) → count_kept new + one_if_kept (kept_at slots number) ≡ count_kept slots
+  pub freed-left : (id number : ℕ) (new : Slots) (freed : List ℕ) → names.surfaces id ≡ Some number → ((all : Numbered) → StandForAll slots all → StandForAll new (with_at number None all))
+      → count_kept new + one_if_kept (kept_at slots number) ≡ count_kept slots
       → ((all : Numbered) → StandForAll slots all → AreFreed freed all (with_at number None all))
       → (buffer : ℕ) → count_by (λ n. n == buffer) freed ≡ cond (is_busy buffer r.owned.surfaces && not (is_busy buffer (without_surface id r.owned.surfaces))) 1 0
   freed-left id number new freed named left counted told buffer =
@@ -161,7 +170,8 @@ module _ (names : Names) (slots : Slots) (kept : ℕ → Option Kept) (r : Resid
       by-effect x Configures false e = rw e refl
 
       at : (o : Option Kept) → kept number ≡ o
-          → committed_by (xdg_of id r.owned.shell) id (effect_for (will_show r id) (xdg_of id r.owned.shell)) ≡ asks_by (λ act. CommitTree id) (shell_refusal base (kept_id o) object) (commit_answer (will_show r id) o)
+          → committed_by (xdg_of id r.owned.shell) id (effect_for (will_show r id) (xdg_of id r.owned.shell)) ≡ asks_by (λ act. CommitTree id) (shell_refusal base (kept_id o) object)
+              (commit_answer (will_show r id) o)
       at None here = ap (λ (o : Option XdgSurface). committed_by o id (effect_for (will_show r id) o)) (xdg-of-none names slots kept r.owned is id number named here)
       at (Some k) here =
           let xdg = xdg-of names slots kept r.owned is id number k named here in
@@ -170,11 +180,13 @@ module _ (names : Names) (slots : Slots) (kept : ℕ → Option Kept) (r : Resid
           ap (λ (o : Option XdgSurface). committed_by o id (effect_for (will_show r id) o)) xdg.3
           ∙ by-effect x (on_commit (stage_of x) (will_show r id)) (is_full x.serials) refl
           ∙ sym (ap (λ (i : ℕ). asks_by (λ act. CommitTree id) (shell_refusal base i object) (effect_answer (on_commit (stage_in k) (will_show r id)) k.serials)) stands.id
-          ∙ ap (λ (role : Option RoleObject). asks_by (λ act. CommitTree id) (shell_refusal base x.id object) (effect_answer (on_commit (option_map (λ object. object.stage) role) (will_show r id)) k.serials)) stands.role
+          ∙ ap (λ (role : Option RoleObject). asks_by (λ act. CommitTree id) (shell_refusal base x.id object)
+              (effect_answer (on_commit (option_map (λ object. object.stage) role) (will_show r id)) k.serials)) stands.role
           ∙ ap (λ serials. asks_by (λ act. CommitTree id) (shell_refusal base x.id object) (effect_answer (on_commit (stage_of x) (will_show r id)) serials)) stands.serials)
 
   -- an answer tells what it comes to
-  pub accepted-effect : (id number : ℕ) (act : ShellAct) → AreToplevels r.owned.shell → names.surfaces id ≡ Some number → commit_answer (will_show r id) (kept number) ≡ Ok act → effect_of_commit r id ≡ effect_by act
+  pub accepted-effect : (id number : ℕ) (act : ShellAct) → AreToplevels r.owned.shell → names.surfaces id ≡ Some number → commit_answer (will_show r id) (kept number) ≡ Ok act
+      → effect_of_commit r id ≡ effect_by act
   accepted-effect id number act top named answer = effect-same r id top ∙ effect-read id number named ∙ at (kept number) answer
     where
       by : (effect : Effect) (serials : List ℕ) → effect_answer effect serials ≡ Ok act → effect ≡ effect_by act
@@ -195,9 +207,11 @@ module _ (names : Names) (slots : Slots) (kept : ℕ → Option Kept) (r : Resid
   -- ---- xdg_wm_base
 
   pub made-by : (base version id surface number xdg object : ℕ) → names.surfaces surface ≡ Some number
-      → xdg_surface_made r base version id surface ≡ asks_unless (GetXdgSurface id version base surface) (shell_refusal base xdg object) (making_refused (is_foreign (role_of r surface)) (has_any r surface) (kept number))
+      → xdg_surface_made r base version id surface ≡ asks_unless (GetXdgSurface id version base surface) (shell_refusal base xdg object)
+          (making_refused (is_foreign (role_of r surface)) (has_any r surface) (kept number))
   made-by base version id surface number xdg object named =
-      ap (λ b. if is_foreign (role_of r surface) || b then refuse base error.Role else (if has_any r surface then refuse base error.InvalidSurfaceState else Ok (GetXdgSurface id version base surface))) (sym (xdg-there names slots kept r.owned is surface number named))
+      ap (λ b. if is_foreign (role_of r surface) || b then refuse base error.Role else (if has_any r surface then refuse base error.InvalidSurfaceState else Ok
+          (GetXdgSurface id version base surface))) (sym (xdg-there names slots kept r.owned is surface number named))
       ∙ at (is_foreign (role_of r surface) || is_some (kept number)) (has_any r surface)
     where
       at : (b c : Bool) → (if b then refuse base error.Role else (if c then refuse base error.InvalidSurfaceState else Ok (GetXdgSurface id version base surface)))
@@ -208,7 +222,8 @@ module _ (names : Names) (slots : Slots) (kept : ℕ → Option Kept) (r : Resid
 
   -- it made an xdg_surface, or none
   pub base-used : (base surface : ℕ) → IsSomeAnd (kept surface) (λ k. k.base ≡ base) → base_destroyed r base ≡ refuse base error.DefunctSurfaces
-  base-used base surface made = ap (λ b. if b then refuse base error.DefunctSurfaces else Ok (DestroyBase base)) (by_base.0 named.0 (subst (λ (o : Option Kept). IsSomeAnd o (λ k. k.base ≡ base)) (sym (ap (option_and_then kept) named.1)) made))
+  base-used base surface made = ap (λ b. if b then refuse base error.DefunctSurfaces else Ok (DestroyBase base))
+      (by_base.0 named.0 (subst (λ (o : Option Kept). IsSomeAnd o (λ k. k.base ≡ base)) (sym (ap (option_and_then kept) named.1)) made))
     where
       some-made : (o : Option Kept) → IsSomeAnd o (λ k. k.base ≡ base) → is_some o ≡ true
       some-made None made = absurd made
@@ -217,12 +232,14 @@ module _ (names : Names) (slots : Slots) (kept : ℕ → Option Kept) (r : Resid
       named : (id : ℕ) × (names.surfaces id ≡ Some surface)
       named = is.known surface (some-made (kept surface) made)
 
-      by_base : ((id : ℕ) → IsSomeAnd (by_id names.surfaces kept id) (λ k. k.base ≡ base) → list_any (λ x. x.base == base) r.owned.shell ≡ true) × (((id : ℕ) → IfSome (by_id names.surfaces kept id) (λ k. k.base ≢ base)) → list_any (λ x. x.base == base) r.owned.shell ≡ false)
+      by_base : ((id : ℕ) → IsSomeAnd (by_id names.surfaces kept id) (λ k. k.base ≡ base) → list_any (λ x. x.base == base) r.owned.shell ≡ true)
+          × (((id : ℕ) → IfSome (by_id names.surfaces kept id) (λ k. k.base ≢ base)) → list_any (λ x. x.base == base) r.owned.shell ≡ false)
       by_base = shells_stand.base base (by_id names.surfaces kept) (λ id. history_in id r.owned.surfaces) r.owned.shell is.shell
 
   pub base-unused : (base : ℕ) → ((surface : ℕ) → IfSome (kept surface) (λ k. k.base ≢ base)) → base_destroyed r base ≡ Ok (DestroyBase base)
   base-unused base none =
-      ap (λ b. if b then refuse base error.DefunctSurfaces else Ok (DestroyBase base)) ((shells_stand.base base (by_id names.surfaces kept) (λ id. history_in id r.owned.surfaces) r.owned.shell is.shell).1 (λ id. at (names.surfaces id)))
+      ap (λ b. if b then refuse base error.DefunctSurfaces else Ok (DestroyBase base))
+          ((shells_stand.base base (by_id names.surfaces kept) (λ id. history_in id r.owned.surfaces) r.owned.shell is.shell).1 (λ id. at (names.surfaces id)))
     where
       at : (o : Option ℕ) → IfSome (option_and_then kept o) (λ k. k.base ≢ base)
       at None = tt
@@ -237,11 +254,13 @@ module _ (names : Names) (kept : ℕ → Option Kept) (r : Resident) (number : �
   pub xdg-destroyed-by : xdg_surface_destroyed x ≡ asks_by {X = Unit {0}} (λ u. DestroyXdgSurface x.id) refusal (destruction_answer (kept number))
   xdg-destroyed-by = rw (one.here, one.stands.role) (at (is_some x.role))
     where
-      at : (b : Bool) → (if b then refuse x.id error.DefunctRoleObject else Ok (DestroyXdgSurface x.id)) ≡ asks_by {X = Unit {0}} (λ u. DestroyXdgSurface x.id) refusal (if b then Err failed.DefunctRoleObject else Ok tt)
+      at : (b : Bool) → (if b then refuse x.id error.DefunctRoleObject else Ok (DestroyXdgSurface x.id)) ≡ asks_by {X = Unit {0}} (λ u. DestroyXdgSurface x.id) refusal
+          (if b then Err failed.DefunctRoleObject else Ok tt)
       at true = refl
       at false = refl
 
-  pub toplevel-made-by : (version id : ℕ) → toplevel_made r x version id ≡ asks_by {X = Unit {0}} (λ u. GetToplevel id version x.id) refusal (toplevel_answer (is_no_toplevel (role_of r x.surface)) (kept number))
+  pub toplevel-made-by : (version id : ℕ) → toplevel_made r x version id ≡ asks_by {X = Unit {0}} (λ u. GetToplevel id version x.id) refusal
+      (toplevel_answer (is_no_toplevel (role_of r x.surface)) (kept number))
   toplevel-made-by version id = rw (one.here, one.stands.role) (at (is_some x.role) (is_no_toplevel (role_of r x.surface)))
     where
       at : (b c : Bool) → (if b then refuse x.id error.AlreadyConstructed else (if c then refuse x.base error.Role else Ok (GetToplevel id version x.id)))
@@ -271,7 +290,8 @@ module _ (names : Names) (kept : ℕ → Option Kept) (r : Resident) (number : �
   pub configured-by : configured_again x ≡ asks_by (λ sent. configuring_if sent x.id) refusal (configure_answer (kept number))
   configured-by = rw (one.here, one.stands.role, one.stands.serials) (at (stage_of x))
     where
-      by : (b c : Bool) → (if b then (if c then refuse_limit else Ok (ConfigureAgain x.id)) else Ok Ignore) ≡ asks_by (λ sent. configuring_if sent x.id) refusal (if b then (if c then Err failed.TooMany else Ok true) else Ok false)
+      by : (b c : Bool) → (if b then (if c then refuse_limit else Ok (ConfigureAgain x.id)) else Ok Ignore) ≡ asks_by (λ sent. configuring_if sent x.id) refusal
+          (if b then (if c then Err failed.TooMany else Ok true) else Ok false)
       by true true = refl
       by true false = refl
       by false c = refl

@@ -13,7 +13,8 @@ use Rattle.wl_surface.specs.Surfaces.{Surface, Surfaces, asking, has, history_in
 use Rattle.wl_surface.proofs.Records.{For-asked, still, undamaged}
 use Rattle.wl_laws.specs.Owning.{AllCounts, AreApartBy, AreKept, by_number}
 use Rattle.wl_plain.specs.Step.{is_number}
-use Rattle.wl_laws.proofs.Keeping.OwningKeys.{any-found, apart-left, apart-map, differ, found-any, found-by, found-fails, found-map, found-none, found-passes, left-elsewhere, left-here, length-left, length-map, length-new, new-apart, new-elsewhere, new-here, none-first, none-later, none-some, some-same, gone}
+use Rattle.wl_laws.proofs.Keeping.OwningKeys.{any-found, apart-left, apart-map, differ, found-any, found-by, found-fails, found-map, found-none, found-passes, left-elsewhere, left-here, length-left}
+use Rattle.wl_laws.proofs.Keeping.OwningKeys.{length-map, length-new, new-apart, new-elsewhere, new-here, none-first, none-later, none-some, some-same, gone}
 use Rattle.wl_laws.proofs.Keeping.OwningNames.{with_id-here, with_id-other}
 
 -- ---- numbers
@@ -82,7 +83,8 @@ module _ (numbers : ById ℕ) (slots : Slots) (all : Surfaces) (is : AreKept num
       at (Some s) e = absurd (differ e)
 
   -- whether one of them has a property is whether one under some number does
-  pub any-read : (property : Surface → Bool) (at : Option Surface → Bool) (b : Bool) → at None ≡ false → ((s : Surface) → at (Some s) ≡ property s) → IsAny at (by_number numbers all) b → list_any property all.surfaces ≡ b
+  pub any-read : (property : Surface → Bool) (at : Option Surface → Bool) (b : Bool) → at None ≡ false → ((s : Surface) → at (Some s) ≡ property s) → IsAny at (by_number numbers all) b
+      → list_any property all.surfaces ≡ b
   any-read property at true none some any = one (by_number numbers all any.0) refl any.1
     where
       one : (o : Option Surface) → by_number numbers all any.0 ≡ o → at o ≡ true → list_any property all.surfaces ≡ true
@@ -104,7 +106,8 @@ module _ (numbers : ById ℕ) (slots : Slots) (all : Surfaces) (is : AreKept num
   busy-read buffer b any = any-read (λ s. shows buffer s.history) (shows_at buffer) b refl (λ s. refl) any
 
   -- whether one of them has it is so of what is kept
-  pub any-is : (property : Surface → Bool) (at : Option Surface → Bool) → at None ≡ false → ((s : Surface) → at (Some s) ≡ property s) → IsAny at (by_number numbers all) (list_any property all.surfaces)
+  pub any-is : (property : Surface → Bool) (at : Option Surface → Bool) → at None ≡ false → ((s : Surface) → at (Some s) ≡ property s)
+      → IsAny at (by_number numbers all) (list_any property all.surfaces)
   any-is property at none some = either (list_any property all.surfaces) refl
     where
       either : (b : Bool) → list_any property all.surfaces ≡ b → IsAny at (by_number numbers all) b
@@ -150,7 +153,8 @@ module _ (numbers : ById ℕ) (slots : Slots) (all : Surfaces) (is : AreKept num
             ap (λ b. Some (cond b (change s) s)) (ne_eqb s.id id another)
 
     counts-changed : ((s : Surface) → AllCounts s.history → AllCounts (change s).history) → (other : ℕ) (h : History) → history_in other (with_change id change all) ≡ Some h → AllCounts h
-    counts-changed counts other h found = at (surface_at other all) refl (sym (ap (option_map (λ (s : Surface). s.history)) (found-map (has_id other) one all.surfaces (λ s. ap (λ i. i == other) (one-id s)))) ∙ found)
+    counts-changed counts other h found =
+        at (surface_at other all) refl (sym (ap (option_map (λ (s : Surface). s.history)) (found-map (has_id other) one all.surfaces (λ s. ap (λ i. i == other) (one-id s)))) ∙ found)
       where
         still : (b : Bool) (s : Surface) → AllCounts s.history → AllCounts (cond b (change s) s).history
         still true s e = counts s e
@@ -174,7 +178,8 @@ module _ (numbers : ById ℕ) (slots : Slots) (all : Surfaces) (is : AreKept num
 
   -- ---- one comes
 
-  module _ (id number : ℕ) (free : numbers id ≡ None) (new : Slots) (created : (named : Numbered) (id : ℕ) → StandForAll slots named → (named number ≡ None) × StandForAll new (with_at number (Some (new_surface id)) named)) where
+  module _ (id number : ℕ) (free : numbers id ≡ None) (new : Slots) (created : (named : Numbered) (id : ℕ) → StandForAll slots named → (named number ≡ None)
+      × StandForAll new (with_at number (Some (new_surface id)) named)) where
     abbrev now : ById ℕ
     now = with_id id (Some number) numbers
 
@@ -220,7 +225,8 @@ module _ (numbers : ById ℕ) (slots : Slots) (all : Surfaces) (is : AreKept num
             let none = same-numbers all.surfaces other (surface-absent id free) ∙ ap (by_number numbers all) same ∙ (created (by_number numbers all) id is.stand).0 in
             new-here (has_number now other) all.surfaces (new_surface id) none (is-number other (now id) (with_id-here id (Some number) numbers ∙ ap Some (sym same)))
         at false here =
-            new-elsewhere (has_number now other) all.surfaces (new_surface id) (ap (is_number other) (with_id-here id (Some number) numbers) ∙ ne_eqb number other (λ same. eqb-false other number here (sym same)))
+            new-elsewhere (has_number now other) all.surfaces (new_surface id) (ap (is_number other) (with_id-here id (Some number) numbers)
+                ∙ ne_eqb number other (λ same. eqb-false other number here (sym same)))
             ∙ same-numbers all.surfaces other (surface-absent id free)
 
     counts-made : (other : ℕ) (h : History) → history_in other (with_new id all) ≡ Some h → AllCounts h
@@ -233,7 +239,8 @@ module _ (numbers : ById ℕ) (slots : Slots) (all : Surfaces) (is : AreKept num
             ap (option_map (λ (s : Surface). s.history)) (new-here (has_id other) all.surfaces (new_surface id) (surface-absent other (ap numbers same ∙ free)) (eq-eqb id other (sym same))) in
             subst (λ (g : History). AllCounts g) (some-same (new_surface id).history h (sym first ∙ found)) refl
         at false here =
-            is.counts other h (ap (option_map (λ (s : Surface). s.history)) (sym (new-elsewhere (has_id other) all.surfaces (new_surface id) (ne_eqb id other (λ same. eqb-false other id here (sym same))))) ∙ found)
+            is.counts other h (ap (option_map (λ (s : Surface). s.history))
+                (sym (new-elsewhere (has_id other) all.surfaces (new_surface id) (ne_eqb id other (λ same. eqb-false other id here (sym same))))) ∙ found)
 
     pub AreKept-made : count_kept new ≡ count_kept slots + 1 → AreKept now new (with_new id all)
     AreKept-made counted = record {
@@ -304,7 +311,8 @@ module _ (numbers : ById ℕ) (slots : Slots) (all : Surfaces) (is : AreKept num
             left-elsewhere has_id id there.0 (has_number numbers other) all.surfaces is.apart there.1
             (ap (is_number other) (ap numbers there.2 ∙ named) ∙ ne_eqb number other (λ same. eqb-false other number here (sym same)))
 
-    pub AreKept-left : ((named : Numbered) → StandForAll slots named → StandForAll new (with_at number None named)) → count_kept new + one_if_kept (kept_at slots number) ≡ count_kept slots → AreKept after new (without_surface id all)
+    pub AreKept-left : ((named : Numbered) → StandForAll slots named → StandForAll new (with_at number None named)) → count_kept new + one_if_kept (kept_at slots number) ≡ count_kept slots
+        → AreKept after new (without_surface id all)
     AreKept-left left counted = record {
       counts = counts-left;
       links = is.links;
@@ -343,12 +351,14 @@ geometry-stands rect None None t = tt
 geometry-stands rect (Some k) None t = absurd t
 geometry-stands rect None (Some s) t = absurd t
 geometry-stands rect (Some k) (Some s) t =
-    For-asked k s (SetWindowGeometry rect) k.pending_buffer k.pending_transform k.pending_opaque k.pending_input k.pending_offset k.pending_damage refl t t.history.pending (still k s.history t.history)
+    For-asked k s (SetWindowGeometry rect) k.pending_buffer k.pending_transform k.pending_opaque k.pending_input k.pending_offset k.pending_damage refl t t.history.pending
+        (still k s.history t.history)
     (undamaged k s.history (SetWindowGeometry rect) refl t.history)
 
 pub geometry-asked : (slots : Slots) (number : ℕ) (rect : Rect) → Changes slots slots number (asking (SetWindowGeometry rect))
 geometry-asked slots number rect = record { stand = λ all stand other. at all other (other == number) (stand other); count = refl }
   where
-    at : (all : Numbered) (other : ℕ) (b : Bool) → StandsAt (kept_at slots other) (all other) → StandsAt (kept_at slots other) (cond b (option_map (asking (SetWindowGeometry rect)) (all other)) (all other))
+    at : (all : Numbered) (other : ℕ) (b : Bool) → StandsAt (kept_at slots other) (all other)
+        → StandsAt (kept_at slots other) (cond b (option_map (asking (SetWindowGeometry rect)) (all other)) (all other))
     at all other true t = geometry-stands rect (kept_at slots other) (all other) t
     at all other false t = t

@@ -37,7 +37,8 @@ surfaces-apart (x ∷ xs) apart = (λ surface is. ap (λ s. xdg_of s xs) (sym (e
 
 -- ---- what is kept by numbers, by ids
 
-pub by_id-with : (numbers : ById ℕ) → ((a b number : ℕ) → numbers a ≡ Some number → numbers b ≡ Some number → a ≡ b) → (id number : ℕ) → numbers id ≡ Some number → (k : Option Kept) (kept : ℕ → Option Kept) → by_id numbers (with_kept number k kept) ≡ with_kept id k (by_id numbers kept)
+pub by_id-with : (numbers : ById ℕ) → ((a b number : ℕ) → numbers a ≡ Some number → numbers b ≡ Some number → a ≡ b) → (id number : ℕ) → numbers id ≡ Some number
+    → (k : Option Kept) (kept : ℕ → Option Kept) → by_id numbers (with_kept number k kept) ≡ with_kept id k (by_id numbers kept)
 by_id-with numbers once id number named k kept = fun_ext (λ other. at other (other == id) refl)
   where
     away : (other : ℕ) (o : Option ℕ) → numbers other ≡ o → other ≢ id → option_and_then (with_kept number k kept) o ≡ option_and_then kept o
@@ -48,7 +49,8 @@ by_id-with numbers once id number named k kept = fun_ext (λ other. at other (ot
     at other true here = ap (option_and_then (with_kept number k kept)) (ap numbers (eqb-true other id here) ∙ named) ∙ ap (λ b. cond b k (kept number)) (eq-eqb number number refl)
     at other false here = away other (numbers other) refl (eqb-false other id here)
 
-pub by_id-changing : (numbers : ById ℕ) → ((a b number : ℕ) → numbers a ≡ Some number → numbers b ≡ Some number → a ≡ b) → (id number : ℕ) → numbers id ≡ Some number → (change : Kept → Kept) (kept : ℕ → Option Kept) → by_id numbers (changing number change kept) ≡ changing id change (by_id numbers kept)
+pub by_id-changing : (numbers : ById ℕ) → ((a b number : ℕ) → numbers a ≡ Some number → numbers b ≡ Some number → a ≡ b) → (id number : ℕ) → numbers id ≡ Some number
+    → (change : Kept → Kept) (kept : ℕ → Option Kept) → by_id numbers (changing number change kept) ≡ changing id change (by_id numbers kept)
 by_id-changing numbers once id number named change kept =
     by_id-with numbers once id number named (option_map change (kept number)) kept
     ∙ ap (λ (o : Option ℕ). with_kept id (option_map change (option_and_then kept o)) (by_id numbers kept)) (sym named)
@@ -75,7 +77,8 @@ one-id id change keeps x = at (x.id == id)
 pub histories-changed : (id : ℕ) (change : Surface → Surface) (all : Surfaces) (s : Surface) → ((s : Surface) → (change s).id ≡ s.id) → surface_at id all ≡ Some s
     → (λ other. history_in other (with_change id change all)) ≡ with_history id (Some (change s).history) (λ other. history_in other all)
 histories-changed id change all s keeps found =
-    fun_ext (λ other. ap (option_map (λ (x : Surface). x.history)) (found-map (has_id other) (one_changed id change) all.surfaces (λ x. ap (λ i. i == other) (one-id id change keeps x))) ∙ at other (surface_at other all) (other == id) refl refl)
+    fun_ext (λ other. ap (option_map (λ (x : Surface). x.history)) (found-map (has_id other) (one_changed id change) all.surfaces (λ x. ap (λ i. i == other) (one-id id change keeps x)))
+        ∙ at other (surface_at other all) (other == id) refl refl)
   where
     at : (other : ℕ) (o : Option Surface) (b : Bool) → surface_at other all ≡ o → (other == id) ≡ b
         → option_map (λ (x : Surface). x.history) (option_map (one_changed id change) o) ≡ cond b (Some (change s).history) (option_map (λ (x : Surface). x.history) o)
@@ -89,7 +92,8 @@ histories-changed id change all s keeps found =
         ap (λ b. Some (cond b (change x) x).history)
         (ne_eqb x.id id (λ same. eqb-false other id here (sym (eqb-true x.id other (found-passes (has_id other) all.surfaces x e)) ∙ same)))
 
-pub histories-made : (id : ℕ) (all : Surfaces) → surface_at id all ≡ None → (λ other. history_in other (with_new id all)) ≡ with_history id (Some (new_surface id).history) (λ other. history_in other all)
+pub histories-made : (id : ℕ) (all : Surfaces) → surface_at id all ≡ None → (λ other. history_in other (with_new id all)) ≡ with_history id (Some (new_surface id).history)
+    (λ other. history_in other all)
 histories-made id all none = fun_ext (λ other. at other (other == id) refl)
   where
     at : (other : ℕ) (b : Bool) → (other == id) ≡ b → history_in other (with_new id all) ≡ cond b (Some (new_surface id).history) (history_in other all)
@@ -99,7 +103,8 @@ histories-made id all none = fun_ext (λ other. at other (other == id) refl)
     at other false here =
         ap (option_map (λ (x : Surface). x.history)) (new-elsewhere (has_id other) all.surfaces (new_surface id) (ne_eqb id other (λ same. eqb-false other id here (sym same))))
 
-pub histories-left : (id : ℕ) (all : Surfaces) (s : Surface) → AreApartBy has_id all.surfaces → surface_at id all ≡ Some s → (λ other. history_in other (without_surface id all)) ≡ with_history id None (λ other. history_in other all)
+pub histories-left : (id : ℕ) (all : Surfaces) (s : Surface) → AreApartBy has_id all.surfaces → surface_at id all ≡ Some s → (λ other. history_in other (without_surface id all)) ≡ with_history id None
+    (λ other. history_in other all)
 histories-left id all s apart found = fun_ext (λ other. at other (other == id) refl)
   where
     at : (other : ℕ) (b : Bool) → (other == id) ≡ b → history_in other (without_surface id all) ≡ cond b None (history_in other all)
@@ -141,7 +146,8 @@ module _ (names : Names) (slots : Slots) (kept : ℕ → Option Kept) (o : Owned
   pub xdg-found : (p : XdgSurface → Bool) (x : XdgSurface) → find p o.shell ≡ Some x → (number : ℕ) × (k : Kept) × (h : History) × IsXdg names kept o number k x h
   xdg-found p x found =
       let of_surface : xdg_of x.surface o.shell ≡ Some x = found-by has_surface p x.surface o.shell x (surfaces-apart o.shell is.shell.apart) found (eq-eqb x.surface x.surface refl) in
-      let there = kept-some (by_id names.surfaces kept x.surface) x (history_in x.surface o.surfaces) (subst (λ (y : Option XdgSurface). IsKept (by_id names.surfaces kept x.surface) y (history_in x.surface o.surfaces)) of_surface (is.shell.each x.surface)) in
+      let there = kept-some (by_id names.surfaces kept x.surface) x (history_in x.surface o.surfaces)
+          (subst (λ (y : Option XdgSurface). IsKept (by_id names.surfaces kept x.surface) y (history_in x.surface o.surfaces)) of_surface (is.shell.each x.surface)) in
       let number = reached kept (names.surfaces x.surface) there.0 there.2 in (
         number.0,
         there.0,
@@ -157,7 +163,8 @@ module _ (names : Names) (slots : Slots) (kept : ℕ → Option Kept) (o : Owned
       )
 
   -- one that is found, under the number of its surface
-  xdg-numbered : (p : XdgSurface → Bool) (number : ℕ) → number_of names.surfaces (find p o.shell) ≡ Some number → (k : Kept) × (x : XdgSurface) × (h : History) × IsXdg names kept o number k x h × (find p o.shell ≡ Some x)
+  xdg-numbered : (p : XdgSurface → Bool) (number : ℕ) → number_of names.surfaces (find p o.shell) ≡ Some number → (k : Kept) × (x : XdgSurface) × (h : History) × IsXdg names kept o number k x h
+      × (find p o.shell ≡ Some x)
   xdg-numbered p number e =
       let at = numbered-xdg names.surfaces (find p o.shell) number e in
       let one = xdg-found p at.0 at.1 in
@@ -177,7 +184,8 @@ module _ (names : Names) (slots : Slots) (kept : ℕ → Option Kept) (o : Owned
   xdg-unnamed id none = xdg-unnumbered (has_xdg id) (sym (is.named id) ∙ none)
 
   -- by the id of its toplevel
-  pub toplevel-named : (id number : ℕ) → names.toplevels id ≡ Some number → (k : Kept) × (x : XdgSurface) × (h : History) × IsXdg names kept o number k x h × (xdg_with id o.shell ≡ Some x) × (is_role id x.role ≡ true)
+  pub toplevel-named : (id number : ℕ) → names.toplevels id ≡ Some number → (k : Kept) × (x : XdgSurface) × (h : History) × IsXdg names kept o number k x h × (xdg_with id o.shell ≡ Some x)
+      × (is_role id x.role ≡ true)
   toplevel-named id number named =
       let one = xdg-numbered (has_role id) number (sym (is.toplevels id) ∙ named) in
       (one.0, one.1, one.2, one.3, one.4, found-passes (has_role id) o.shell one.1 one.4)
@@ -186,9 +194,11 @@ module _ (names : Names) (slots : Slots) (kept : ℕ → Option Kept) (o : Owned
   toplevel-unnamed id none = xdg-unnumbered (has_role id) (sym (is.toplevels id) ∙ none)
 
   -- by its surface
-  pub xdg-of : (id number : ℕ) (k : Kept) → names.surfaces id ≡ Some number → kept number ≡ Some k → (x : XdgSurface) × (h : History) × IsXdg names kept o number k x h × (xdg_of id o.shell ≡ Some x) × (x.surface ≡ id)
+  pub xdg-of : (id number : ℕ) (k : Kept) → names.surfaces id ≡ Some number → kept number ≡ Some k → (x : XdgSurface) × (h : History) × IsXdg names kept o number k x h × (xdg_of id o.shell ≡ Some x)
+      × (x.surface ≡ id)
   xdg-of id number k named here =
-      let there = kept-there k (xdg_of id o.shell) (history_in id o.surfaces) (subst (λ (y : Option Kept). IsKept y (xdg_of id o.shell) (history_in id o.surfaces)) (ap (option_and_then kept) named ∙ here) (is.shell.each id)) in
+      let there = kept-there k (xdg_of id o.shell) (history_in id o.surfaces) (subst (λ (y : Option Kept). IsKept y (xdg_of id o.shell) (history_in id o.surfaces)) (ap (option_and_then kept) named
+          ∙ here) (is.shell.each id)) in
       let one = xdg-found (has_surface id) there.0 there.1 in
       let surface : there.0.surface ≡ id = found-surface id o.shell there.0 there.1 in
       let same : one.0 ≡ number = some-same one.0 number (sym one.3.surface ∙ ap names.surfaces surface ∙ named) in
@@ -197,12 +207,14 @@ module _ (names : Names) (slots : Slots) (kept : ℕ → Option Kept) (o : Owned
 
   pub xdg-of-none : (id number : ℕ) → names.surfaces id ≡ Some number → kept number ≡ None → xdg_of id o.shell ≡ None
   xdg-of-none id number named none =
-      kept-none (xdg_of id o.shell) (history_in id o.surfaces) (subst (λ (y : Option Kept). IsKept y (xdg_of id o.shell) (history_in id o.surfaces)) (ap (option_and_then kept) named ∙ none) (is.shell.each id))
+      kept-none (xdg_of id o.shell) (history_in id o.surfaces) (subst (λ (y : Option Kept). IsKept y (xdg_of id o.shell) (history_in id o.surfaces)) (ap (option_and_then kept) named
+          ∙ none) (is.shell.each id))
 
   -- without a surface there is none
   pub xdg-of-nobody : (id : ℕ) → names.surfaces id ≡ None → xdg_of id o.shell ≡ None
   xdg-of-nobody id none =
-      kept-none (xdg_of id o.shell) (history_in id o.surfaces) (subst (λ (y : Option Kept). IsKept y (xdg_of id o.shell) (history_in id o.surfaces)) (ap (option_and_then kept) none) (is.shell.each id))
+      kept-none (xdg_of id o.shell) (history_in id o.surfaces) (subst (λ (y : Option Kept). IsKept y (xdg_of id o.shell) (history_in id o.surfaces)) (ap (option_and_then kept) none)
+          (is.shell.each id))
 
   -- none is kept of a surface that has none
   pub xdg-kept-none : (id number : ℕ) → names.surfaces id ≡ Some number → xdg_of id o.shell ≡ None → kept number ≡ None

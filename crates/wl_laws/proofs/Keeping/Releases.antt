@@ -20,15 +20,18 @@ going-if true s x xs = refl
 going-if false s x xs = refl
 
 -- one of them, unless it goes already
-one-goes : (over : Buffer → Bool) (again : Bool) (s : Stock) (x : Buffer) (xs : List Buffer) → going s (filter over (cond (not again) (x ∷ xs) xs)) ≡ going (let_if over again (Some x) s) (filter over xs)
+one-goes : (over : Buffer → Bool) (again : Bool) (s : Stock) (x : Buffer) (xs : List Buffer) → going s (filter over (cond (not again) (x ∷ xs) xs)) ≡ going (let_if over again (Some x) s)
+    (filter over xs)
 one-goes over true s x xs = refl
 one-goes over false s x xs = going-if (over x) s x (filter over xs)
 
-last-goes : (over : Buffer → Bool) (x y z : Buffer) (again : Bool) (s : Stock) → going s (filter over (without_buffer x.number (cond (not again) (z ∷ []) []))) ≡ let_if over (again || (z.number == x.number)) (Some z) s
+last-goes : (over : Buffer → Bool) (x y z : Buffer) (again : Bool) (s : Stock) → going s (filter over (without_buffer x.number (cond (not again) (z ∷ []) []))) ≡ let_if over
+    (again || (z.number == x.number)) (Some z) s
 last-goes over x y z true s = refl
 last-goes over x y z false s = one-goes over (z.number == x.number) s z []
 
-pub three-go : (over : Buffer → Bool) (s : Stock) (a b c : Option Buffer) → going s (filter over (each_once (listed a ++ listed b ++ listed c))) ≡ let_if over (same_number c b || same_number c a) c (let_if over (same_number b a) b (let_if over false a s))
+pub three-go : (over : Buffer → Bool) (s : Stock) (a b c : Option Buffer) → going s (filter over (each_once (listed a ++ listed b ++ listed c))) ≡ let_if over (same_number c b || same_number c a) c
+    (let_if over (same_number b a) b (let_if over false a s))
 three-go over s None None None = refl
 three-go over s None None (Some z) = one-goes over false s z []
 three-go over s None (Some y) None = one-goes over false s y []
@@ -66,7 +69,8 @@ had-three (Some s) x y z a b c =
     ∙ ap (λ o. listed (pending s.history).buffer ++ listed o ++ listed z) b
     ∙ ap (λ o. listed (pending s.history).buffer ++ listed (held s.history).buffer ++ listed o) c
 
-pub three-had : (had : List (Option Attached)) (x y z : Option Attached) (at : Option Surface) → x ≡ slice_index_or had 0 x → y ≡ slice_index_or had 1 y → z ≡ slice_index_or had 2 z → map (option_map buffer_of) had ≡ had_at at
+pub three-had : (had : List (Option Attached)) (x y z : Option Attached) (at : Option Surface) → x ≡ slice_index_or had 0 x → y ≡ slice_index_or had 1 y → z ≡ slice_index_or had 2 z
+    → map (option_map buffer_of) had ≡ had_at at
     → listed (option_map buffer_of x) ++ listed (option_map buffer_of y) ++ listed (option_map buffer_of z) ≡ buffers_had (option_map (λ (s : Surface). s.history) at)
 three-had had x y z at a b c same = had-three at (option_map buffer_of x) (option_map buffer_of y) (option_map buffer_of z) (read x 0 a) (read y 1 b) (read z 2 c)
   where

@@ -10,7 +10,8 @@ use Rattle.wl_surface.specs.State.{History}
 use Rattle.wl_surface.specs.Surfaces.{Surfaces, history_in, with_change, with_new, with_role, without_surface, asking}
 use Rattle.wl_surface.specs.declared.role.Role.TheVariants.{Toplevel as AsToplevel}
 use Rattle.wl_shell.specs.Agreement.{AreApart as AreToldApart}
-use Rattle.wl_shell.specs.Shell.{Effect, Stays, RoleObject, Shell, XdgSurface, acknowledging, configuring, forgetting, in_stage, new_toplevel, on_commit, stage_of, unmapping, without_role, without_xdg, xdg_at, xdg_of, with_change as with_xdg_change, with_new as with_new_xdg}
+use Rattle.wl_shell.specs.Shell.{Effect, Stays, RoleObject, Shell, XdgSurface, acknowledging, configuring, forgetting, in_stage, new_toplevel, on_commit, stage_of, unmapping, without_role}
+use Rattle.wl_shell.specs.Shell.{without_xdg, xdg_at, xdg_of, with_change as with_xdg_change, with_new as with_new_xdg}
 use Rattle.wl_shell.specs.declared.stage.Stage.{Stage}
 use Rattle.wl_shell.specs.declared.stage.Stage.TheVariants as stage
 use Rattle.wl_scene.specs.Lent.{shows_buffer}
@@ -26,7 +27,8 @@ use Rattle.wl_plain.specs.WlSurface.{will_show}
 use Rattle.wl_laws.proofs.Keeping.OwningKeys.{found-passes}
 use Rattle.wl_laws.proofs.Keeping.OwningXdg.{has_surface}
 use Rattle.wl_laws.proofs.Keeping.StandingBare.{bare-after}
-use Rattle.wl_laws.proofs.Keeping.StandingClients.{AreShown, IsAt, IsFound, acknowledging-same, fresh-unmapped, left-else, left-none, mapped-at, mapped-but, mapped-kept, new-unmapped, ready-mapped, stepped-else, stepped-here, stepped-same, unmapped-at, waiting-unmapped}
+use Rattle.wl_laws.proofs.Keeping.StandingClients.{AreShown, IsAt, IsFound, acknowledging-same, fresh-unmapped, left-else, left-none, mapped-at, mapped-but, mapped-kept, new-unmapped, ready-mapped}
+use Rattle.wl_laws.proofs.Keeping.StandingClients.{stepped-else, stepped-here, stepped-same, unmapped-at, waiting-unmapped}
 use Rattle.wl_laws.proofs.Keeping.StandingFound.{Finds, FindsBare, FindsTop, found-so}
 use Rattle.wl_laws.proofs.Keeping.StandingLists.{apart-left, mapped-another, mapped-apart, mapped-here, without-another, without-here}
 use Rattle.wl_laws.proofs.Keeping.StandingSurfaces.{committing, history-else, history-left, shown-asked, shown-committed, shown-made, shown-role}
@@ -103,7 +105,8 @@ module _ (c : ℕ) (r : Resident) (d : Desktop) (is : AreShown c r.owned d.stand
         let new = with_mapped d.mappings c x.surface d.standing in (
           finished shell new (λ surface other. mapped-another d.mappings c x.surface surface d.standing other)
               (λ surface other. ap is_mapped (stepped-else x surface (in_stage stage.Mapped) r.owned.shell found (λ y. refl) other))
-              (mapped-at c x.surface (done shell) new (mapped-here d.mappings c x.surface d.standing) (ap is_mapped (stepped-here x (in_stage stage.Mapped) r.owned.shell found (λ y. refl)) ∙ ready-mapped x s at)
+              (mapped-at c x.surface (done shell) new (mapped-here d.mappings c x.surface d.standing) (ap is_mapped (stepped-here x (in_stage stage.Mapped) r.owned.shell found (λ y. refl))
+                  ∙ ready-mapped x s at)
               (shown-committed x.surface r.owned.surfaces ∙ shows)),
           mapped-apart d.mappings c x.surface d.standing apart (stands-now ∙ not_mapped),
         )
@@ -114,13 +117,15 @@ module _ (c : ℕ) (r : Resident) (d : Desktop) (is : AreShown c r.owned d.stand
         let new = without_surface_of c x.surface d.standing in
         finished shell new (λ surface other. without-another c x.surface surface d.standing other)
         (λ surface other. ap is_mapped (stepped-else x surface (unmapping since) r.owned.shell found (λ y. refl) other))
-        (unmapped-at c x.surface (done shell) new (without-here c x.surface d.standing) (ap is_mapped (stepped-here x (unmapping since) r.owned.shell found (λ y. refl)) ∙ fresh-unmapped (forgetting since x)))
+        (unmapped-at c x.surface (done shell) new (without-here c x.surface d.standing) (ap is_mapped (stepped-here x (unmapping since) r.owned.shell found (λ y. refl))
+            ∙ fresh-unmapped (forgetting since x)))
 
     abbrev gone_on : Resident
     gone_on = after_surface x.surface r (committed_on x.surface r)
 
     abbrev Commits : Effect → Type 0
-    Commits effect = AreShown c (effect_on x.surface effect (Some x) gone_on).owned (stacked_simply c (CommitSurface x.surface effect) r d).standing × AreApart (stacked_simply c (CommitSurface x.surface effect) r d).standing
+    Commits effect = AreShown c (effect_on x.surface effect (Some x) gone_on).owned (stacked_simply c (CommitSurface x.surface effect) r d).standing
+        × AreApart (stacked_simply c (CommitSurface x.surface effect) r d).standing
 
     without-apart : AreApart (without_surface_of c x.surface d.standing)
     without-apart = apart-left _ d.standing apart
@@ -138,7 +143,8 @@ module _ (c : ℕ) (r : Resident) (d : Desktop) (is : AreShown c r.owned d.stand
     by-stage (Some stage.Mapped) true at shows = (still-mapped (ap is_mapped_at at) shows, apart)
 
   abbrev After : ℕ → Effect → Option XdgSurface → Type 0
-  After id effect o = AreShown c (effect_on id effect o (after_surface id r (committed_on id r))).owned (stacked_simply c (CommitSurface id effect) r d).standing × AreApart (stacked_simply c (CommitSurface id effect) r d).standing
+  After id effect o = AreShown c (effect_on id effect o (after_surface id r (committed_on id r))).owned (stacked_simply c (CommitSurface id effect) r d).standing
+      × AreApart (stacked_simply c (CommitSurface id effect) r d).standing
 
   -- a surface without xdg_surface doesn't stand
   committed-none : (id : ℕ) → xdg_of id r.owned.shell ≡ None → After id Stays None
@@ -184,7 +190,8 @@ module _ (c : ℕ) (r : Resident) (d : Desktop) (is : AreShown c r.owned d.stand
       mapped-but c id r.owned now d.standing d.standing is (unmapped-at c id now d.standing (is.stands id ∙ ap is_mapped none) (ap is_mapped none))
       (λ surface other. record { stands = refl; mapped = refl; shows = λ was shows. ap shows_buffer (history-left id surface r.owned.surfaces other) ∙ shows })
 
-  asked : (id : ℕ) (request : Request) → ((s : ℕ) (h : History) → history_in s r.owned.surfaces ≡ Some h → AllCounts h) → AreShown c (with_all (with_change id (asking request) r.owned.surfaces)) d.standing
+  asked : (id : ℕ) (request : Request) → ((s : ℕ) (h : History) → history_in s r.owned.surfaces ≡ Some h → AllCounts h)
+      → AreShown c (with_all (with_change id (asking request) r.owned.surfaces)) d.standing
   asked id request counts =
       mapped-kept c r.owned (with_all (with_change id (asking request) r.owned.surfaces)) d.standing d.standing is
       (λ surface. record { stands = refl; mapped = refl; shows = λ was shows. shown-asked id surface request r.owned.surfaces counts ∙ shows })
@@ -214,7 +221,8 @@ module _ (c : ℕ) (r : Resident) (d : Desktop) (is : AreShown c r.owned d.stand
       subst (λ n. AreShown c (toplevel_given id n (xdg_at n r.owned.shell) r).owned d.standing) finds.1
       (subst (λ o. AreShown c (toplevel_given id x.id o r).owned d.standing) (sym finds.2.at_id)
       (mapped-but c x.surface r.owned now d.standing d.standing is
-      (unmapped-at c x.surface now d.standing (stands-now x finds.2 ∙ bare-unmapped x finds.3) (ap is_mapped (stepped-here x (new_toplevel id (asked_so_far x.surface r)) r.owned.shell finds.2 (λ y. refl))))
+      (unmapped-at c x.surface now d.standing (stands-now x finds.2 ∙ bare-unmapped x finds.3)
+          (ap is_mapped (stepped-here x (new_toplevel id (asked_so_far x.surface r)) r.owned.shell finds.2 (λ y. refl))))
       (λ surface other. record {
         stands = refl;
         mapped = ap is_mapped (stepped-else x surface (new_toplevel id (asked_so_far x.surface r)) r.owned.shell finds.2 (λ y. refl) other);
@@ -255,14 +263,17 @@ shown-after c (Asking (GetXdgSurface id version base surface)) r d told counts i
 shown-after c (Asking (DestroyXdgSurface id)) r d told counts is apart finds = (xdg-destroyed c r d is apart id finds, apart)
 shown-after c (Asking (GetToplevel id version xdg)) r d told counts is apart finds = (toplevel-made c r d is apart id version xdg finds, apart)
 shown-after c (Asking (Acknowledge xdg serial)) r d told counts is apart finds =
-    (shell-kept c r d is apart (with_xdg_change xdg (acknowledging serial) r.owned.shell) (λ surface. stepped-same xdg surface (acknowledging serial) r.owned.shell (λ y. refl) (acknowledging-same serial)), apart)
+    (shell-kept c r d is apart (with_xdg_change xdg (acknowledging serial) r.owned.shell) (λ surface. stepped-same xdg surface (acknowledging serial) r.owned.shell (λ y. refl)
+        (acknowledging-same serial)), apart)
 shown-after c (Asking (ConfigureAgain xdg)) r d told counts is apart finds =
-    (shell-kept c r d is apart (with_xdg_change xdg (configuring r.peer.serial) r.owned.shell) (λ surface. stepped-same xdg surface (configuring r.peer.serial) r.owned.shell (λ y. refl) (λ y. refl)), apart)
+    (shell-kept c r d is apart (with_xdg_change xdg (configuring r.peer.serial) r.owned.shell) (λ surface. stepped-same xdg surface (configuring r.peer.serial) r.owned.shell (λ y. refl) (λ y. refl)),
+        apart)
 shown-after c (DestroyToplevel id xdg top) r d told counts is apart finds = (toplevel-destroyed c r d is apart xdg top finds, apart-left _ d.standing apart)
 shown-after c (Asking Ignore) r d told counts is apart finds = (is, apart)
 
 -- What is asked leaves the mapped toplevels of the client standing, those that wait bare, and each transform one of the eight.
-pub stand-after : (c : ℕ) (ask : Simple) (r : Resident) (d : Desktop) → AreToldApart r.owned.shell → ((s : ℕ) (h : History) → history_in s r.owned.surfaces ≡ Some h → AllCounts h) → AreToplevels r.owned.shell
+pub stand-after : (c : ℕ) (ask : Simple) (r : Resident) (d : Desktop) → AreToldApart r.owned.shell → ((s : ℕ) (h : History) → history_in s r.owned.surfaces ≡ Some h → AllCounts h)
+    → AreToplevels r.owned.shell
     → AreMapped c r.owned d.standing → AreApart d.standing → Finds ask r → StandAfter c ask r d
 stand-after c ask r d told counts top is apart finds =
     let s = shown-after c ask r d told counts (record { stands = is.stands; shows = is.shows }) apart finds in

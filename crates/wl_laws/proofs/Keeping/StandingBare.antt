@@ -10,7 +10,8 @@ use Rattle.wl_surface.specs.Surfaces.{Surface, Surfaces, history_in, new_surface
 use Rattle.wl_surface.specs.declared.role.Role.TheVariants.{Toplevel as AsToplevel}
 use Rattle.wl_surface.specs.Request.{Frame}
 use Rattle.wl_shell.specs.Agreement.{AreApart as AreToldApart}
-use Rattle.wl_shell.specs.Shell.{Effect, Unconfigured, RoleObject, Shell, XdgSurface, acknowledged, acknowledging, configuring, in_stage, new_toplevel, on_commit, stage_of, unmapping, without_role, without_xdg, xdg_at, xdg_of, with_change as with_xdg_change, with_new as with_new_xdg}
+use Rattle.wl_shell.specs.Shell.{Effect, Unconfigured, RoleObject, Shell, XdgSurface, acknowledged, acknowledging, configuring, in_stage, new_toplevel, on_commit, stage_of, unmapping, without_role}
+use Rattle.wl_shell.specs.Shell.{without_xdg, xdg_at, xdg_of, with_change as with_xdg_change, with_new as with_new_xdg}
 use Rattle.wl_shell.specs.declared.stage.Stage.{Stage}
 use Rattle.wl_shell.specs.declared.stage.Stage.TheVariants as stage
 use Rattle.wl_scene.specs.Lent.{shows_buffer}
@@ -47,7 +48,8 @@ bare-but id o p is here still = λ surface. at surface (id == surface) refl
 
 -- ---- one comes
 
-made-shows : (id surface : ℕ) (ss : List Surface) → shows_buffer (option_map (λ (s : Surface). s.history) (find (has_id surface) (ss ++ new_surface id ∷ []))) ≡ shows_buffer (option_map (λ (s : Surface). s.history) (find (has_id surface) ss))
+made-shows : (id surface : ℕ) (ss : List Surface) → shows_buffer (option_map (λ (s : Surface). s.history) (find (has_id surface) (ss ++ new_surface id ∷ []))) ≡ shows_buffer
+    (option_map (λ (s : Surface). s.history) (find (has_id surface) ss))
 made-shows id surface [] = at (id == surface)
   where
     at : (b : Bool) → shows_buffer (option_map (λ (s : Surface). s.history) (cond b (Some (new_surface id)) None)) ≡ false
@@ -55,8 +57,10 @@ made-shows id surface [] = at (id == surface)
     at false = refl
 made-shows id surface (s ∷ ss) = at (s.id == surface) (made-shows id surface ss)
   where
-    at : (b : Bool) → shows_buffer (option_map (λ (s : Surface). s.history) (find (has_id surface) (ss ++ new_surface id ∷ []))) ≡ shows_buffer (option_map (λ (s : Surface). s.history) (find (has_id surface) ss))
-        → shows_buffer (option_map (λ (s : Surface). s.history) (cond b (Some s) (find (has_id surface) (ss ++ new_surface id ∷ [])))) ≡ shows_buffer (option_map (λ (s : Surface). s.history) (cond b (Some s) (find (has_id surface) ss)))
+    at : (b : Bool) → shows_buffer (option_map (λ (s : Surface). s.history) (find (has_id surface) (ss ++ new_surface id ∷ []))) ≡ shows_buffer
+        (option_map (λ (s : Surface). s.history) (find (has_id surface) ss))
+        → shows_buffer (option_map (λ (s : Surface). s.history) (cond b (Some s) (find (has_id surface) (ss ++ new_surface id ∷ [])))) ≡ shows_buffer
+            (option_map (λ (s : Surface). s.history) (cond b (Some s) (find (has_id surface) ss)))
     at true rest = refl
     at false rest = rest
 
@@ -133,7 +137,8 @@ module _ (r : Resident) (is : AreBare r.owned) where
     abbrev Shown : Bool → Type 0
     Shown b = shows_buffer (history_in x.surface (with_change x.surface committing r.owned.surfaces)) ≡ b
 
-    finished : (shell : Shell) → (waits (xdg_of x.surface shell) ≡ true → Shown false) → ((surface : ℕ) → x.surface ≢ surface → waits (xdg_of surface shell) ≡ waits (xdg_of surface r.owned.shell)) → AreBare (done shell)
+    finished : (shell : Shell) → (waits (xdg_of x.surface shell) ≡ true → Shown false) → ((surface : ℕ) → x.surface ≢ surface → waits (xdg_of surface shell) ≡ waits (xdg_of surface r.owned.shell))
+        → AreBare (done shell)
     finished shell here else =
         bare-but x.surface r.owned (done shell) is here (λ surface other. (else surface other, ap shows_buffer (history-else x.surface committing (λ s. refl) r.owned.surfaces surface other)))
 
@@ -144,7 +149,8 @@ module _ (r : Resident) (is : AreBare r.owned) where
     same-shell : (waits (Some x) ≡ true → Shown false) → AreBare (done r.owned.shell)
     same-shell here = finished r.owned.shell (λ waiting. here (sym (ap waits found.of_surface) ∙ waiting)) (λ surface other. refl)
 
-    else-stepped : (step : XdgSurface → XdgSurface) → ((y : XdgSurface) → (step y).surface ≡ y.surface) → (surface : ℕ) → x.surface ≢ surface → waits (xdg_of surface (with_xdg_change x.id step r.owned.shell)) ≡ waits (xdg_of surface r.owned.shell)
+    else-stepped : (step : XdgSurface → XdgSurface) → ((y : XdgSurface) → (step y).surface ≡ y.surface) → (surface : ℕ) → x.surface ≢ surface
+        → waits (xdg_of surface (with_xdg_change x.id step r.owned.shell)) ≡ waits (xdg_of surface r.owned.shell)
     else-stepped step keeps surface other = ap waits (stepped-else x surface step r.owned.shell found keeps other)
 
     configured-bare : (serial : ℕ) → Shown false → AreBare (done (with_xdg_change x.id (configuring serial) (with_xdg_change x.id (in_stage stage.Waiting) r.owned.shell)))
@@ -188,7 +194,8 @@ module _ (r : Resident) (is : AreBare r.owned) where
       bare-but id r.owned (with_all (with_change id committing r.owned.surfaces)) is (never _ (ap waits none))
       (λ surface other. (refl, ap shows_buffer (history-else id committing (λ s. refl) r.owned.surfaces surface other)))
 
-  committed-some : (id : ℕ) (x : XdgSurface) → AreToldApart r.owned.shell → xdg_of id r.owned.shell ≡ Some x → IsNot (on_commit (stage_of x) (will_show r id)) → After id (on_commit (stage_of x) (will_show r id)) (Some x)
+  committed-some : (id : ℕ) (x : XdgSurface) → AreToldApart r.owned.shell → xdg_of id r.owned.shell ≡ Some x → IsNot (on_commit (stage_of x) (will_show r id))
+      → After id (on_commit (stage_of x) (will_show r id)) (Some x)
   committed-some id x told e =
       let same : x.surface ≡ id = eqb-true x.surface id (found-passes (has_surface id) r.owned.shell x e) in
       subst (λ n. IsNot (on_commit (stage_of x) (will_show r n)) → After n (on_commit (stage_of x) (will_show r n)) (Some x)) same
@@ -204,7 +211,8 @@ module _ (r : Resident) (is : AreBare r.owned) where
           subst (λ f. After id f (Some x)) comes (committed-some id x told here (subst IsNot (sym comes) not))
 
 -- What is asked leaves them so, where the client has no more than toplevels.
-pub bare-after : (ask : Simple) (r : Resident) → AreToldApart r.owned.shell → ((s : ℕ) (h : History) → history_in s r.owned.surfaces ≡ Some h → AllCounts h) → AreToplevels r.owned.shell → AreBare r.owned → Finds ask r
+pub bare-after : (ask : Simple) (r : Resident) → AreToldApart r.owned.shell → ((s : ℕ) (h : History) → history_in s r.owned.surfaces ≡ Some h → AllCounts h) → AreToplevels r.owned.shell
+    → AreBare r.owned → Finds ask r
     → AreBare (changed_simply ask r).owned
 bare-after (Asking (Own action)) r told counts top is finds = subst AreBare (sym (own-owned action r)) is
 bare-after (Asking (CreateSurface id version)) r told counts top is finds =
@@ -234,9 +242,11 @@ bare-after (Asking (GetToplevel id version xdg)) r told counts top is finds =
     (bare-but x.surface r.owned now is (never _ (ap waits (stepped-here x step r.owned.shell finds.2 (λ y. refl))))
     (λ surface other. (ap waits (stepped-else x surface step r.owned.shell finds.2 (λ y. refl) other), ap shows_buffer (shown-role x.surface surface AsToplevel r.owned.surfaces)))))
 bare-after (Asking (Acknowledge xdg serial)) r told counts top is finds =
-    bare-kept r.owned (with_xdgs r is (with_xdg_change xdg (acknowledging serial) r.owned.shell)) is (λ surface. (stepped-waits xdg surface (acknowledging serial) r.owned.shell (λ y. refl) (acknowledging-waits serial), refl))
+    bare-kept r.owned (with_xdgs r is (with_xdg_change xdg (acknowledging serial) r.owned.shell)) is
+        (λ surface. (stepped-waits xdg surface (acknowledging serial) r.owned.shell (λ y. refl) (acknowledging-waits serial), refl))
 bare-after (Asking (ConfigureAgain xdg)) r told counts top is finds =
-    bare-kept r.owned (with_xdgs r is (with_xdg_change xdg (configuring r.peer.serial) r.owned.shell)) is (λ surface. (stepped-waits xdg surface (configuring r.peer.serial) r.owned.shell (λ y. refl) (λ y. refl), refl))
+    bare-kept r.owned (with_xdgs r is (with_xdg_change xdg (configuring r.peer.serial) r.owned.shell)) is
+        (λ surface. (stepped-waits xdg surface (configuring r.peer.serial) r.owned.shell (λ y. refl) (λ y. refl), refl))
 bare-after (DestroyToplevel id xdg surface) r told counts top is finds =
     let x = finds.0 in
     subst (λ n. AreBare (with_xdgs r is (with_xdg_change n without_role r.owned.shell))) finds.1

@@ -60,7 +60,8 @@ mapped-but c id o p old new is here stays = record { stands = λ surface. (all s
 pub unmapped-at : (c surface : ℕ) (o : Owned) (standing : List Standing) → list_any (is_of c surface) standing ≡ false → is_mapped (xdg_of surface o.shell) ≡ false → IsAt c surface o standing
 unmapped-at c surface o standing stands mapped = (stands ∙ sym mapped, λ is. absurd (differ (sym is ∙ mapped)))
 
-pub mapped-at : (c surface : ℕ) (o : Owned) (standing : List Standing) → list_any (is_of c surface) standing ≡ true → is_mapped (xdg_of surface o.shell) ≡ true → shows_buffer (history_in surface o.surfaces) ≡ true → IsAt c surface o standing
+pub mapped-at : (c surface : ℕ) (o : Owned) (standing : List Standing) → list_any (is_of c surface) standing ≡ true → is_mapped (xdg_of surface o.shell) ≡ true
+    → shows_buffer (history_in surface o.surfaces) ≡ true → IsAt c surface o standing
 mapped-at c surface o standing stands mapped shows = (stands ∙ sym mapped, λ is. shows)
 
 -- ---- xdg_surfaces
@@ -72,11 +73,13 @@ one-surface : (id : ℕ) (step : XdgSurface → XdgSurface) → ((y : XdgSurface
 one-surface id step keeps x true = keeps x
 one-surface id step keeps x false = refl
 
-pub stepped-found : (id surface : ℕ) (step : XdgSurface → XdgSurface) (shell : Shell) → ((y : XdgSurface) → (step y).surface ≡ y.surface) → xdg_of surface (with_xdg_change id step shell) ≡ option_map (one_stepped id step) (xdg_of surface shell)
+pub stepped-found : (id surface : ℕ) (step : XdgSurface → XdgSurface) (shell : Shell) → ((y : XdgSurface) → (step y).surface ≡ y.surface)
+    → xdg_of surface (with_xdg_change id step shell) ≡ option_map (one_stepped id step) (xdg_of surface shell)
 stepped-found id surface step shell keeps = found-map (has_surface surface) (one_stepped id step) shell (λ x. ap (λ n. n == surface) (one-surface id step keeps x (x.id == id)))
 
 -- a step that maps and unmaps none
-pub stepped-same : (id surface : ℕ) (step : XdgSurface → XdgSurface) (shell : Shell) → ((y : XdgSurface) → (step y).surface ≡ y.surface) → ((y : XdgSurface) → is_mapped (Some (step y)) ≡ is_mapped (Some y))
+pub stepped-same : (id surface : ℕ) (step : XdgSurface → XdgSurface) (shell : Shell) → ((y : XdgSurface) → (step y).surface ≡ y.surface)
+    → ((y : XdgSurface) → is_mapped (Some (step y)) ≡ is_mapped (Some y))
     → is_mapped (xdg_of surface (with_xdg_change id step shell)) ≡ is_mapped (xdg_of surface shell)
 stepped-same id surface step shell keeps same = ap is_mapped (stepped-found id surface step shell keeps) ∙ at (xdg_of surface shell)
   where
@@ -94,13 +97,16 @@ pub record IsFound (x : XdgSurface) (shell : Shell) : Type 0 where
   pub at_id : xdg_at x.id shell ≡ Some x
   pub of_surface : xdg_of x.surface shell ≡ Some x
 
-pub stepped-here : (x : XdgSurface) (step : XdgSurface → XdgSurface) (shell : Shell) → IsFound x shell → ((y : XdgSurface) → (step y).surface ≡ y.surface) → xdg_of x.surface (with_xdg_change x.id step shell) ≡ Some (step x)
+pub stepped-here : (x : XdgSurface) (step : XdgSurface → XdgSurface) (shell : Shell) → IsFound x shell → ((y : XdgSurface) → (step y).surface ≡ y.surface)
+    → xdg_of x.surface (with_xdg_change x.id step shell) ≡ Some (step x)
 stepped-here x step shell is keeps =
     stepped-found x.id x.surface step shell keeps ∙ ap (option_map (one_stepped x.id step)) is.of_surface ∙ ap (λ b. Some (cond b (step x) x)) (eq-eqb x.id x.id refl)
 
-pub stepped-else : (x : XdgSurface) (surface : ℕ) (step : XdgSurface → XdgSurface) (shell : Shell) → IsFound x shell → ((y : XdgSurface) → (step y).surface ≡ y.surface) → x.surface ≢ surface → xdg_of surface (with_xdg_change x.id step shell) ≡ xdg_of surface shell
+pub stepped-else : (x : XdgSurface) (surface : ℕ) (step : XdgSurface → XdgSurface) (shell : Shell) → IsFound x shell → ((y : XdgSurface) → (step y).surface ≡ y.surface) → x.surface ≢ surface
+    → xdg_of surface (with_xdg_change x.id step shell) ≡ xdg_of surface shell
 stepped-else x surface step shell is keeps other =
-    changed-elsewhere has_xdg x.id x step (has_surface surface) shell (ids-apart shell is.apart) is.at_id (ne_eqb x.surface surface other) (ne_eqb (step x).surface surface (λ e. other (sym (keeps x) ∙ e)))
+    changed-elsewhere has_xdg x.id x step (has_surface surface) shell (ids-apart shell is.apart) is.at_id (ne_eqb x.surface surface other)
+        (ne_eqb (step x).surface surface (λ e. other (sym (keeps x) ∙ e)))
 
 -- one goes
 pub left-else : (x : XdgSurface) (surface : ℕ) (shell : Shell) → IsFound x shell → x.surface ≢ surface → xdg_of surface (without_xdg x.id shell) ≡ xdg_of surface shell
@@ -120,7 +126,8 @@ new-unmapped x surface [] none = at (x.surface == surface)
     at false = refl
 new-unmapped x surface (y ∷ ys) none = at (y.surface == surface) (new-unmapped x surface ys none)
   where
-    at : (b : Bool) → is_mapped (xdg_of surface (ys ++ x ∷ [])) ≡ is_mapped (xdg_of surface ys) → is_mapped (cond b (Some y) (xdg_of surface (ys ++ x ∷ []))) ≡ is_mapped (cond b (Some y) (xdg_of surface ys))
+    at : (b : Bool) → is_mapped (xdg_of surface (ys ++ x ∷ [])) ≡ is_mapped (xdg_of surface ys)
+        → is_mapped (cond b (Some y) (xdg_of surface (ys ++ x ∷ []))) ≡ is_mapped (cond b (Some y) (xdg_of surface ys))
     at true rest = refl
     at false rest = rest
 

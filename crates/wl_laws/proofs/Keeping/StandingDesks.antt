@@ -23,7 +23,8 @@ use Rattle.wl_laws.proofs.Toplevels.Simply.{CommitSurface, DestroyToplevel, Simp
 pub mapped-same : (c : ℕ) (o : Owned) (old new : List Standing) → ((surface : ℕ) → list_any (is_of c surface) new ≡ list_any (is_of c surface) old) → AreMapped c o old → AreMapped c o new
 mapped-same c o old new same is = record { stands = λ surface. same surface ∙ is.stands surface; shows = is.shows; bare = is.bare; turned = is.turned }
 
-effect-other : (c other surface id : ℕ) (effect : Effect) (r : Resident) (d : Desktop) → c ≢ other → list_any (is_of other surface) (stacked_simply c (CommitSurface id effect) r d).standing ≡ list_any (is_of other surface) d.standing
+effect-other : (c other surface id : ℕ) (effect : Effect) (r : Resident) (d : Desktop) → c ≢ other → list_any (is_of other surface) (stacked_simply c (CommitSurface id effect) r d).standing ≡ list_any
+    (is_of other surface) d.standing
 effect-other c other surface id Stays r d apart = refl
 effect-other c other surface id Unconfigured r d apart = refl
 effect-other c other surface id Configures r d apart = refl
@@ -31,7 +32,8 @@ effect-other c other surface id Maps r d apart = mapped-other d.mappings c id ot
 effect-other c other surface id Unmaps r d apart = without-other c id other surface d.standing apart
 
 -- a request takes no other client's toplevel away, and brings none
-pub stacked-other : (c other surface : ℕ) (ask : Simple) (r : Resident) (d : Desktop) → c ≢ other → list_any (is_of other surface) (stacked_simply c ask r d).standing ≡ list_any (is_of other surface) d.standing
+pub stacked-other : (c other surface : ℕ) (ask : Simple) (r : Resident) (d : Desktop) → c ≢ other → list_any (is_of other surface) (stacked_simply c ask r d).standing ≡ list_any
+    (is_of other surface) d.standing
 stacked-other c other surface (CommitSurface id effect) r d apart = effect-other c other surface id effect r d apart
 stacked-other c other surface (DestroyToplevel id xdg top) r d apart = without-other c _ other surface d.standing apart
 stacked-other c other surface ask r d apart = refl
@@ -58,7 +60,8 @@ ended-apart c standing apart = apart-left _ standing apart
 -- ---- the desktop
 
 -- one client, and the others
-module _ (c : ℕ) (new : Desktop) (apart : AreApart new.standing) (here : AreMapped c (owned_in new c) new.standing) (others : (other : ℕ) → c ≢ other → AreMapped other (owned_in new other) new.standing) where
+module _ (c : ℕ) (new : Desktop) (apart : AreApart new.standing) (here : AreMapped c (owned_in new c) new.standing) (others : (other : ℕ) → c ≢ other
+    → AreMapped other (owned_in new other) new.standing) where
   pub each-mapped : MappedStand new
   each-mapped = record { apart = apart; each = λ other. at other (c == other) refl }
     where
@@ -67,7 +70,8 @@ module _ (c : ℕ) (new : Desktop) (apart : AreApart new.standing) (here : AreMa
       at other false e = others other (eqb-false c other e)
 
 -- a client is told something, where its mapped toplevels and those of the others stand
-pub told-stand : (c : ℕ) (r there : Resident) (q : Peer) (d : Desktop) → client_at c d ≡ Some there → AreApart d.standing → AreMapped c r.owned d.standing → ((other : ℕ) → c ≢ other → AreMapped other (owned_in d other) d.standing)
+pub told-stand : (c : ℕ) (r there : Resident) (q : Peer) (d : Desktop) → client_at c d ≡ Some there → AreApart d.standing → AreMapped c r.owned d.standing
+    → ((other : ℕ) → c ≢ other → AreMapped other (owned_in d other) d.standing)
     → MappedStand (become c r q d)
 told-stand c r there q d is apart here others = by q.status
   where
@@ -84,7 +88,8 @@ told-stand c r there q d is apart here others = by q.status
     by (Some cause) =
         each-mapped c (become_by (Some cause) c r q d) (ended-apart c d.standing apart)
         (subst (λ o. AreMapped c o (without_client c d.standing)) (sym (owned-here (Some cause))) (ended-mapped c d.standing))
-        (λ other differ. subst (λ o. AreMapped other o (without_client c d.standing)) (sym (owned-other (Some (resident_of q)) other differ)) (ended-stay c other (owned_in d other) d.standing differ (others other differ)))
+        (λ other differ. subst (λ o. AreMapped other o (without_client c d.standing)) (sym (owned-other (Some (resident_of q)) other differ))
+            (ended-stay c other (owned_in d other) d.standing differ (others other differ)))
 
 -- a client is told something
 pub become-stand : (c : ℕ) (r there : Resident) (q : Peer) (d : Desktop) → client_at c d ≡ Some there → r.owned ≡ there.owned → MappedStand d → MappedStand (become c r q d)
@@ -92,7 +97,8 @@ become-stand c r there q d is same stand =
     told-stand c r there q d is stand.apart (subst (λ o. AreMapped c o d.standing) (ap owned_of is ∙ sym same) (stand.each c)) (λ other differ. stand.each other)
 
 -- what is asked is done, and told
-pub done-stand : (c : ℕ) (ask : Simple) (r there : Resident) (q : Peer) (d : Desktop) → client_at c d ≡ Some there → StandAfter c ask r d → MappedStand d → MappedStand (become c (changed_simply ask r) q (stacked_simply c ask r d))
+pub done-stand : (c : ℕ) (ask : Simple) (r there : Resident) (q : Peer) (d : Desktop) → client_at c d ≡ Some there → StandAfter c ask r d → MappedStand d
+    → MappedStand (become c (changed_simply ask r) q (stacked_simply c ask r d))
 done-stand c ask r there q d is after stand =
     told-stand c (changed_simply ask r) there q (stacked_simply c ask r d) (ap (λ clients. client_in clients c) (stacked-clients c ask r d) ∙ is) after.1 after.0
     (λ other differ. subst (λ o. AreMapped other o (stacked_simply c ask r d).standing) (sym (ap (λ clients. owned_of (client_in clients other)) (stacked-clients c ask r d)))
@@ -100,7 +106,8 @@ done-stand c ask r there q d is after stand =
 
 -- ---- every surface that stands shows a buffer
 
-all-shown : (owned : ℕ → Owned) (standing : List Standing) → ((c surface : ℕ) → list_any (is_of c surface) standing ≡ true → shows_buffer (history_in surface (owned c).surfaces) ≡ true) → AllShow owned standing
+all-shown : (owned : ℕ → Owned) (standing : List Standing) → ((c surface : ℕ) → list_any (is_of c surface) standing ≡ true → shows_buffer (history_in surface (owned c).surfaces) ≡ true)
+    → AllShow owned standing
 all-shown owned [] shows k d less = absurd (omega arith)
 all-shown owned (s ∷ ss) shows zero d less = shows s.client s.surface (first (is_of s.client s.surface s) (of-it s.client s.surface s refl refl))
   where

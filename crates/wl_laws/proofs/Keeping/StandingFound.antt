@@ -28,7 +28,8 @@ use Rattle.wl_shell.specs.Agreement.{AreApart}
 use Rattle.wl_shell.specs.Shell.{Effect, Stays, Unconfigured, Configures, Maps, Unmaps, RoleObject, answers_states, is_full, is_waiting, stage_of, xdg_at, xdg_of, xdg_with, XdgSurface as Xdg}
 use Rattle.wl_plain.specs.Ask.{Ask, Own, CreateSurface, AskSurface, DestroyBase, GetXdgSurface, DestroyXdgSurface, GetToplevel, Acknowledge, ConfigureAgain, Ignore, owns}
 use Rattle.wl_plain.specs.Demand.{Demand, Asks, EndSurface, CommitTree, EndToplevel, Move, AskFrame}
-use Rattle.wl_plain.specs.Demanding.{base_demand, committed_by, demand_by, demand_of, demands, effect_of_commit, judge_all, moved_by_pointer, own_demand, surface_demand, surface_destroyed, toplevel_asked, toplevel_demand, toplevel_destroyed, xdg_asked, xdg_demand}
+use Rattle.wl_plain.specs.Demanding.{base_demand, committed_by, demand_by, demand_of, demands, effect_of_commit, judge_all, moved_by_pointer, own_demand, surface_demand, surface_destroyed}
+use Rattle.wl_plain.specs.Demanding.{toplevel_asked, toplevel_demand, toplevel_destroyed, xdg_asked, xdg_demand}
 use Rattle.wl_plain.specs.LeftOut.{served_now}
 use Rattle.wl_peer.specs.Requests.{Request, ToCompositor, ToSurface, ToSubcompositor, ToSubsurface, ToSeat, ToPointer, ToBase, ToPositioner, ToXdgSurface, ToToplevel, ToPopup, request_of, rect}
 use Rattle.wl_peer.specs.ToplevelRequest.{ToplevelRequest}
@@ -168,7 +169,8 @@ bare : (o : Option RoleObject) → is_some o ≡ false → o ≡ None
 bare None e = refl
 bare (Some object) e = absurd (cc)
 
-some-finds : (r : Resident) (x : Xdg) (version : ℕ) (request : XdgSurfaceRequest) → unserved_now (ToXdgSurface request) ≡ false → IsFound x r.owned.shell → Accepts (xdg_asked r (Some x) version request) r
+some-finds : (r : Resident) (x : Xdg) (version : ℕ) (request : XdgSurfaceRequest) → unserved_now (ToXdgSurface request) ≡ false → IsFound x r.owned.shell
+    → Accepts (xdg_asked r (Some x) version request) r
 some-finds r x version xdg.Destroy served is = asks-either (is_some x.role) _ _ r (λ there. unasked _ r) (λ none. asked (DestroyXdgSurface x.id) r (x, refl, is, bare x.role none))
 some-finds r x version (xdg.GetToplevel id) served is =
     asks-either (is_some x.role) _ _ r (λ there. unasked _ r) (λ none. asks-either (is_no_toplevel (role_of r x.surface)) (refuse x.base error.Role) (Ok (GetToplevel id version x.id)) r

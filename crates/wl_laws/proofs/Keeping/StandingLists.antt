@@ -113,7 +113,8 @@ mapped-here m c surface ss =
     ∙ or-true (list_any (is_of c surface) ss)
 
 -- what is found but the newest
-mapped-else : (m c surface client other : ℕ) (ss : List Standing) → is_of client other (newest m c surface) ≡ false → list_any (is_of client other) (with_mapped m c surface ss) ≡ list_any (is_of client other) ss
+mapped-else : (m c surface client other : ℕ) (ss : List Standing) → is_of client other (newest m c surface) ≡ false
+    → list_any (is_of client other) (with_mapped m c surface ss) ≡ list_any (is_of client other) ss
 mapped-else m c surface client other ss not_it =
     any-last (is_of client other) ss (newest m c surface) ∙ ap (λ b. list_any (is_of client other) ss || b) not_it ∙ or-false (list_any (is_of client other) ss)
 

@@ -28,7 +28,8 @@ use Rattle.wl_laws.proofs.Keeping.StandingDesks.{become-stand, done-stand, each-
 use Rattle.wl_laws.proofs.Keeping.StandingFound.{Finds, finds-peer, judge-finds}
 use Rattle.wl_laws.proofs.Toplevels.Simply.{Simple}
 
-module _ (c : ℕ) (there : Resident) (d : Desktop) (is : client_at c d ≡ Some there) (names : Names) (slots : Slots) (kept : ℕ → Option Kept) (owned : IsOwned names slots kept there.owned) (stand : MappedStand d) where
+module _ (c : ℕ) (there : Resident) (d : Desktop) (is : client_at c d ≡ Some there) (names : Names) (slots : Slots) (kept : ℕ → Option Kept) (owned : IsOwned names slots kept there.owned)
+    (stand : MappedStand d) where
   -- ---- a message
 
   asks-find : (split : Split) (ask : Simple) (p : Peer) → AsksBy there split ask → Finds ask (with_peer p there)
@@ -67,7 +68,8 @@ empty-stand output = record { apart = tt; each = λ c. subst (λ o. AreMapped c 
     nobody (suc k) = none-owned 32 k
 
 -- where a place may be without a client, none is found
-put : (clients : List (Option Resident)) (c : ℕ) (x : Option Resident) → owned_of (client_in clients c) ≡ nothing_owned → owned_of x ≡ nothing_owned → owned_of (client_in (with_number c x clients) c) ≡ nothing_owned
+put : (clients : List (Option Resident)) (c : ℕ) (x : Option Resident) → owned_of (client_in clients c) ≡ nothing_owned → owned_of x ≡ nothing_owned
+    → owned_of (client_in (with_number c x clients) c) ≡ nothing_owned
 put clients zero x none same = none
 put [] (suc k) x none same = none
 put (r ∷ rs) (suc zero) x none same = same
@@ -85,7 +87,8 @@ pub closed-stand : (c : ℕ) (d : Desktop) → MappedStand d → MappedStand (re
 closed-stand c d stand =
     each-mapped c (record d { clients = with_number c None d.clients; standing = without_client c d.standing }) (ended-apart c d.standing stand.apart)
     (subst (λ o. AreMapped c o (without_client c d.standing)) (sym (gone d.clients c)) (ended-mapped c d.standing))
-    (λ other differ. subst (λ o. AreMapped other o (without_client c d.standing)) (sym (ap owned_of (number-other d.clients c other None differ))) (ended-stay c other (owned_in d other) d.standing differ (stand.each other)))
+    (λ other differ. subst (λ o. AreMapped other o (without_client c d.standing)) (sym (ap owned_of (number-other d.clients c other None differ)))
+        (ended-stay c other (owned_in d other) d.standing differ (stand.each other)))
   where
     gone : (clients : List (Option Resident)) (c : ℕ) → owned_of (client_in (with_number c None clients) c) ≡ nothing_owned
     gone clients zero = refl

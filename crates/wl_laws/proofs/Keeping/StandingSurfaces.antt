@@ -90,7 +90,8 @@ asked-counts h request counts =
     let within = committed-within h.requests 0 0 (omega arith) in
     take-append-le h.cut h.requests (request ∷ []) (omega (arith, counts, within))
 
-pub shown-asked : (id surface : ℕ) (request : Request) (all : Surfaces) → ((s : ℕ) (h : History) → history_in s all ≡ Some h → AllCounts h) → shows_buffer (history_in surface (with_change id (asking request) all)) ≡ shows_buffer (history_in surface all)
+pub shown-asked : (id surface : ℕ) (request : Request) (all : Surfaces) → ((s : ℕ) (h : History) → history_in s all ≡ Some h → AllCounts h)
+    → shows_buffer (history_in surface (with_change id (asking request) all)) ≡ shows_buffer (history_in surface all)
 shown-asked id surface request all counts =
     ap (λ (o : Option Surface). shows_buffer (option_map (λ (s : Surface). s.history) o)) (changed-found id (asking request) (λ s. refl) all surface) ∙ at (surface_at surface all) refl
   where
@@ -98,7 +99,8 @@ shown-asked id surface request all counts =
     by s true counts = ap (λ (rs : List Request). is_there (values rs).buffer) (asked-counts s.history request counts)
     by s false counts = refl
 
-    at : (o : Option Surface) → surface_at surface all ≡ o → shows_buffer (option_map (λ (s : Surface). s.history) (option_map (one_changed id (asking request)) o)) ≡ shows_buffer (option_map (λ (s : Surface). s.history) o)
+    at : (o : Option Surface) → surface_at surface all ≡ o → shows_buffer (option_map (λ (s : Surface). s.history) (option_map (one_changed id (asking request)) o)) ≡ shows_buffer
+        (option_map (λ (s : Surface). s.history) o)
     at None found = refl
     at (Some s) found = by s (s.id == id) (counts surface s.history (ap (option_map (λ (s : Surface). s.history)) found))
 

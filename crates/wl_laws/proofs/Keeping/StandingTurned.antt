@@ -76,7 +76,8 @@ left-turned id all is = λ surface. at surface (id == surface) refl
 changed-turned : (id : ℕ) (change : Surface → Surface) (all : Surfaces) → ((s : Surface) → (change s).id ≡ s.id)
     → ((s : Surface) → list_all turns_well s.history.requests ≡ true → list_all turns_well (change s).history.requests ≡ true)
     → AreTurned all → AreTurned (with_change id change all)
-changed-turned id change all keeps more is = λ surface. subst (λ (o : Option Surface). IsTurned (history_of o)) (sym (changed-found id change keeps all surface)) (at (surface_at surface all) (is surface))
+changed-turned id change all keeps more is = λ surface. subst (λ (o : Option Surface). IsTurned (history_of o)) (sym (changed-found id change keeps all surface))
+    (at (surface_at surface all) (is surface))
   where
     by : (s : Surface) (b : Bool) → list_all turns_well s.history.requests ≡ true → IsTurned (Some (cond b (change s) s).history)
     by s true well = turned-some (change s).history (more s well)

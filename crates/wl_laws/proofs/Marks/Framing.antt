@@ -148,7 +148,8 @@ nothing-told : (time c : ℕ) (r : Resident) (d : Desktop) → client_at c d ≡
 nothing-told time c r d is alive = (
   r.peer,
   refl,
-  sym (ap (λ s. become_by s c (without_callbacks [] r) r.peer d) alive ∙ ap (λ cs. with_client c (Some (record r { callbacks = cs })) d) (all-left r.callbacks) ∙ ap (λ o. with_client c o d) (sym is) ∙ client-kept c d),
+  sym (ap (λ s. become_by s c (without_callbacks [] r) r.peer d) alive ∙ ap (λ cs. with_client c (Some (record r { callbacks = cs })) d) (all-left r.callbacks) ∙ ap (λ o. with_client c o d) (sym is)
+      ∙ client-kept c d),
 )
 
 pub told-none : (time c : ℕ) (r : Resident) (d : Desktop) → client_at c d ≡ Some r → callbacks_due r ≡ [] → FramesToldAt time c (Some r) d d

@@ -15,7 +15,8 @@ use Rattle.wl_laws.proofs.Marks.Stacks.{AreSame, Each, and-both, before-cons, di
 
 -- ---- the windows that hold the point
 
-in-same : (px py : ℤ) (x x' y y' : ℤ) (w w' h h' : ℕ) → x ≡ x' → y ≡ y' → w ≡ w' → h ≡ h' → in_rect px py (record { x = x; y = y; w = pos w; h = pos h }) ≡ in_rect px py (record { x = x'; y = y'; w = pos w'; h = pos h' })
+in-same : (px py : ℤ) (x x' y y' : ℤ) (w w' h h' : ℕ) → x ≡ x' → y ≡ y' → w ≡ w' → h ≡ h' → in_rect px py (record { x = x; y = y; w = pos w; h = pos h }) ≡ in_rect px py
+    (record { x = x'; y = y'; w = pos w'; h = pos h' })
 in-same px py x x' y y' w w' h h' a b c d = rw (a, b, c, d) refl
 
 pub contains-same : (px py : ℤ) (w v : Window) → has_same_record w v ≡ true → contains w px py ≡ contains v px py
@@ -54,7 +55,8 @@ any-whole c p (x ∷ xs) e = go (c x) (p x) refl e (any-whole c p xs) where
 before-whole : (c : Window → Bool) (w v : Window) (xs : List Window) → is_before w v (filter c xs) ≡ true → is_before w v xs ≡ true
 before-whole c w v [] e = e
 before-whole c w v (x ∷ xs) e = go (c x) e (before-whole c w v xs) where
-  same : (b : Bool) → (if b then list_any (is_same_surface v) (filter c xs) else is_before w v (filter c xs)) ≡ true → (is_before w v (filter c xs) ≡ true → is_before w v xs ≡ true) → (if b then list_any (is_same_surface v) xs else is_before w v xs) ≡ true
+  same : (b : Bool) → (if b then list_any (is_same_surface v) (filter c xs) else is_before w v (filter c xs)) ≡ true → (is_before w v (filter c xs) ≡ true → is_before w v xs ≡ true)
+      → (if b then list_any (is_same_surface v) xs else is_before w v xs) ≡ true
   same true g next = any-whole c (is_same_surface v) xs g
   same false g next = next g
 
@@ -79,7 +81,8 @@ members c (x ∷ xs) = go (c x) refl (members c xs) where
     more true b f = refl
     more false b f = f
 
-  go : (b : Bool) → c x ≡ b → Each (λ w. list_any (λ a. is_same_surface w a && c a) xs ≡ true) (filter c xs) → Each (λ w. ((is_same_surface w x && c x) || list_any (λ a. is_same_surface w a && c a) xs) ≡ true) (cond b (x ∷ filter c xs) (filter c xs))
+  go : (b : Bool) → c x ≡ b → Each (λ w. list_any (λ a. is_same_surface w a && c a) xs ≡ true) (filter c xs)
+      → Each (λ w. ((is_same_surface w x && c x) || list_any (λ a. is_same_surface w a && c a) xs) ≡ true) (cond b (x ∷ filter c xs) (filter c xs))
   go true is rest = (first (is_same_surface x x && c x) (and-both (is_same_surface x x) (c x) (surface-self x) is), each-map _ _ further (filter c xs) rest) where
     first : (a : Bool) → a ≡ true → (a || list_any (λ b. is_same_surface x b && c b) xs) ≡ true
     first true f = refl
@@ -89,7 +92,8 @@ members c (x ∷ xs) = go (c x) refl (members c xs) where
 -- ---- the same windows hold the point before and after
 
 -- what changed and holds the point would be marked
-kept-ones : (x y : ℤ) (others ws : List Window) → list_any (is_changed_at others x y) ws ≡ false → Each (λ w. list_any (has_same_record w) (filter (λ v. contains v x y) others) ≡ true) (filter (λ w. contains w x y) ws)
+kept-ones : (x y : ℤ) (others ws : List Window) → list_any (is_changed_at others x y) ws ≡ false → Each (λ w. list_any (has_same_record w) (filter (λ v. contains v x y) others) ≡ true)
+    (filter (λ w. contains w x y) ws)
 kept-ones x y others ws e =
     each-map (λ w. (contains w x y ≡ true) × ((contains w x y && not (is_kept_in others w)) ≡ false)) (λ w. list_any (has_same_record w) (filter (λ v. contains v x y) others) ≡ true)
     (λ w h. any-kept (λ v. contains v x y) (has_same_record w) (λ v g. sym (contains-same x y w v g) ∙ h.0) others (is-kept (contains w x y) (is_kept_in others w) h.0 h.1))
@@ -143,13 +147,16 @@ module _ (x y : ℤ) (old new : List Window) where
   unmoved-ones : is_restacked_at old new x y ≡ false → Each (λ a. Each (Stays a) (filter holds-point old)) (filter holds-point old)
   unmoved-ones e =
       each-both (λ a. (holds-point a ≡ true) × Each (λ b. moves a b ≡ false) old) There (λ a. Each (Stays a) (filter holds-point old)) (λ a h at. all-stay a h.1 at) (filter holds-point old)
-      (each-kept holds-point (λ a. Each (λ b. moves a b ≡ false) old) old (each-map (λ a. list_any (moves a) old ≡ false) (λ a. Each (λ b. moves a b ≡ false) old) (λ a h. each-false (moves a) old h) old (each-false (λ a. list_any (moves a) old) old e)))
+      (each-kept holds-point (λ a. Each (λ b. moves a b ≡ false) old) old (each-map (λ a. list_any (moves a) old ≡ false) (λ a. Each (λ b. moves a b ≡ false) old) (λ a h. each-false (moves a) old h)
+          old (each-false (λ a. list_any (moves a) old) old e)))
       (members holds-point old)
 
   -- where nothing is marked
-  stack-stays : AreDistinct old → AreDistinct new → list_any (is_changed_at new x y) old ≡ false → list_any (is_changed_at old x y) new ≡ false → is_restacked_at old new x y ≡ false → AreSame (filter holds-point old) (filter holds-point new)
+  stack-stays : AreDistinct old → AreDistinct new → list_any (is_changed_at new x y) old ≡ false → list_any (is_changed_at old x y) new ≡ false → is_restacked_at old new x y ≡ false
+      → AreSame (filter holds-point old) (filter holds-point new)
   stack-stays apart apart' gone came moved =
-      same-stack (filter holds-point old) (filter holds-point new) (kept-ones x y new old gone) (kept-ones x y old new came) (unmoved-ones moved) (distinct-kept holds-point old apart) (distinct-kept holds-point new apart')
+      same-stack (filter holds-point old) (filter holds-point new) (kept-ones x y new old gone) (kept-ones x y old new came) (unmoved-ones moved) (distinct-kept holds-point old apart)
+          (distinct-kept holds-point new apart')
 
 -- ---- painting
 
@@ -161,10 +168,12 @@ fold-kept d x y background (w ∷ ws) = go (contains w x y) refl (λ start. fold
   go true is next = next (over d x y background w)
   go false is next = next (over d x y background w) ∙ ap (λ start. fold (over d x y) start (filter (λ v. contains v x y) ws)) (rw is refl)
 
-fold-same : (d e : Desktop) (x y : ℤ) (ws vs : List Window) → AreSame ws vs → Each (λ w. Each (λ v. has_same_record w v ≡ true → (under : Rgb) → over d x y under w ≡ over e x y under v) vs) ws → (background : Rgb) → fold (over d x y) background ws ≡ fold (over e x y) background vs
+fold-same : (d e : Desktop) (x y : ℤ) (ws vs : List Window) → AreSame ws vs → Each (λ w. Each (λ v. has_same_record w v ≡ true → (under : Rgb) → over d x y under w ≡ over e x y under v) vs) ws
+    → (background : Rgb) → fold (over d x y) background ws ≡ fold (over e x y) background vs
 fold-same d e x y [] [] same alike background = refl
 fold-same d e x y (w ∷ ws) (v ∷ vs) same alike background =
-    fold-same d e x y ws vs same.1 (each-map _ (λ a. Each (λ b. has_same_record a b ≡ true → (under : Rgb) → over d x y under a ≡ over e x y under b) vs) (λ a h. h.1) ws alike.1) (over d x y background w)
+    fold-same d e x y ws vs same.1 (each-map _ (λ a. Each (λ b. has_same_record a b ≡ true → (under : Rgb) → over d x y under a ≡ over e x y under b) vs) (λ a h. h.1) ws alike.1)
+        (over d x y background w)
     ∙ ap (λ start. fold (over e x y) start vs) (alike.0.0 same.0 background)
 fold-same d e x y [] (v ∷ vs) same alike background = absurd (same)
 fold-same d e x y (w ∷ ws) [] same alike background = absurd (same)
@@ -186,7 +195,8 @@ module _ (shown : Showing) (old new : Desktop) (x y : ℤ) where
   abbrev Colored : Window → Window → Type 0
   Colored w v = has_same_record w v ≡ true → contains v x y ≡ true → is_applied v ≡ false → color_in old w x y ≡ color_in new v x y
 
-  undamaged : (v : Window) → list_any (has_same_record v) (filter at-point (shown old)) ≡ true → (at-point v ≡ true) × (is_damaged_at (applied_between old new) (shown old) x y v ≡ false) → is_applied v ≡ false
+  undamaged : (v : Window) → list_any (has_same_record v) (filter at-point (shown old)) ≡ true → (at-point v ≡ true) × (is_damaged_at (applied_between old new) (shown old) x y v ≡ false)
+      → is_applied v ≡ false
   undamaged v kept h =
       marked-none (contains v x y) (is_applied v) (marked-none (is_kept_in (shown old) v) (contains v x y && is_applied v) h.1 (any-whole at-point (has_same_record v) (shown old) kept)) h.0
 
@@ -196,11 +206,14 @@ module _ (shown : Showing) (old new : Desktop) (x y : ℤ) where
   all-alike : list_any (is_changed_at (shown old) x y) (shown new) ≡ false → list_any (is_damaged_at (applied_between old new) (shown old) x y) (shown new) ≡ false → ColorsStay shown old new x y
       → Each (λ w. Each (Alike w) (filter at-point (shown new))) (filter at-point (shown old))
   all-alike came damaged colors =
-      let unapplied = each-both (λ v. list_any (has_same_record v) (filter at-point (shown old)) ≡ true) (λ v. (at-point v ≡ true) × (is_damaged_at (applied_between old new) (shown old) x y v ≡ false)) (λ v. is_applied v ≡ false) undamaged (filter at-point (shown new))
+      let unapplied = each-both (λ v. list_any (has_same_record v) (filter at-point (shown old)) ≡ true) (λ v. (at-point v ≡ true)
+          × (is_damaged_at (applied_between old new) (shown old) x y v ≡ false)) (λ v. is_applied v ≡ false) undamaged (filter at-point (shown new))
       (kept-ones x y (shown old) (shown new) came)
-      (each-kept at-point (λ v. is_damaged_at (applied_between old new) (shown old) x y v ≡ false) (shown new) (each-false (is_damaged_at (applied_between old new) (shown old) x y) (shown new) damaged)) in
+      (each-kept at-point (λ v. is_damaged_at (applied_between old new) (shown old) x y v ≡ false) (shown new) (each-false (is_damaged_at (applied_between old new) (shown old) x y)
+          (shown new) damaged)) in
       each-map (λ w. (at-point w ≡ true) × Each (Colored w) (shown new)) (λ w. Each (Alike w) (filter at-point (shown new)))
-      (λ w h. each-both (λ v. (at-point v ≡ true) × Colored w v) (λ v. is_applied v ≡ false) (Alike w) (λ v a b. alike w v h.0 a b) (filter at-point (shown new)) (each-kept at-point (Colored w) (shown new) h.1) unapplied)
+      (λ w h. each-both (λ v. (at-point v ≡ true) × Colored w v) (λ v. is_applied v ≡ false) (Alike w) (λ v a b. alike w v h.0 a b) (filter at-point (shown new))
+          (each-kept at-point (Colored w) (shown new) h.1) unapplied)
       (filter at-point (shown old))
       (each-kept at-point (λ w. Each (Colored w) (shown new)) (shown old)
       (each-at (λ w. Each (Colored w) (shown new)) (shown old) (λ i w is. each-at (Colored w) (shown new) (λ j v is'. colors i j w v is is'))))

@@ -4,7 +4,8 @@ use Rattle.std.specs.Prelude.{ℤ, ◌==◌, ◌&&◌, ◌||◌, if◌then◌els
 use Rattle.std.specs.List.{list_any}
 use Rattle.std.proofs.lemmas.Bool.{or_left, or_right}
 use Rattle.wl_scene.specs.Windows.{Window, contains}
-use Rattle.wl_plain.specs.Marks.{Applied, AreDistinct, at_least, has_moved_past, has_same_record, in_output, is_before, is_changed_at, is_damaged_at, is_kept_in, is_restacked_at, is_same_surface, shared_by}
+use Rattle.wl_plain.specs.Marks.{Applied, AreDistinct, at_least, has_moved_past, has_same_record, in_output, is_before, is_changed_at, is_damaged_at, is_kept_in, is_restacked_at, is_same_surface}
+use Rattle.wl_plain.specs.Marks.{shared_by}
 use Rattle.wl_laws.proofs.Marks.Stacks.{AreSame, and-left, and-right, differ, fields, recorded}
 use Rattle.wl_laws.proofs.Marks.TouchingMarks.{any-gives, either-of, one-before}
 

@@ -5,7 +5,8 @@ use Rattle.wl_surface.specs.Request.{Buffer, Member, Itself, Child}
 use Rattle.wl_surface.specs.State.{History, applied, counting, height_of, order, position, width_of}
 use Rattle.wl_surface.specs.Surfaces.{Link, history_in, link_at}
 use Rattle.wl_scene.specs.Stacking.{Owned, root_of}
-use Rattle.wl_scene.specs.Windows.{Owner, Place, Root, StackedPopup, Window, child_windows, corner_at, member_windows, owner_of, roots_of, shown_windows, surface_windows, tree, window_with, windows, windows_of}
+use Rattle.wl_scene.specs.Windows.{Owner, Place, Root, StackedPopup, Window, child_windows, corner_at, member_windows, owner_of, roots_of, shown_windows, surface_windows, tree, window_with, windows}
+use Rattle.wl_scene.specs.Windows.{windows_of}
 use Rattle.wl_plain.specs.Desktop.{Desktop, owned_in}
 use Rattle.wl_plain.specs.Popups.{stacked_popups}
 use Rattle.wl_plain.specs.Stacked.{all_windows}
@@ -24,30 +25,35 @@ each-flat : {X Y : Type 0} (P : Y → Type 0) (f : X → List Y) → ((x : X) �
 each-flat P f e [] = tt
 each-flat P f e (x ∷ xs) = each-append P (f x) (flat_map f xs) (e x) (each-flat P f e xs)
 
-shown-window : (owned : ℕ → Owned) (owner : Owner) (surface : ℕ) (corner : Place) (h : History) (buffer : Option Buffer) → history_in surface (owned owner.client).surfaces ≡ Some h → (applied h).buffer ≡ buffer
+shown-window : (owned : ℕ → Owned) (owner : Owner) (surface : ℕ) (corner : Place) (h : History) (buffer : Option Buffer) → history_in surface (owned owner.client).surfaces ≡ Some h
+    → (applied h).buffer ≡ buffer
     → Each (IsShown owned) (window_with owner surface corner (applied h) buffer)
 shown-window owned owner surface corner h None e f = tt
 shown-window owned owner surface corner h (Some buffer) e f = ((h, e, f, refl, refl), tt)
 
-shown-child : (owned : ℕ → Owned) (next : ℕ → Place → List Window) → ((child : ℕ) (at : Place) → Each (IsShown owned) (next child at)) → (h : History) (corner : Place) (l : ℕ) (link : Option Link) → Each (IsShown owned) (child_windows next h corner l link)
+shown-child : (owned : ℕ → Owned) (next : ℕ → Place → List Window) → ((child : ℕ) (at : Place) → Each (IsShown owned) (next child at)) → (h : History) (corner : Place) (l : ℕ) (link : Option Link)
+    → Each (IsShown owned) (child_windows next h corner l link)
 shown-child owned next e h corner l None = tt
 shown-child owned next e h corner l (Some link) = go link.has_ended where
   go : (b : Bool) → Each (IsShown owned) (cond b [] (next link.child (record { x = corner.x +ℤ (position l (counting h)).0; y = corner.y +ℤ (position l (counting h)).1 })))
   go true = tt
   go false = e link.child _
 
-shown-member : (owned : ℕ → Owned) (next : ℕ → Place → List Window) → ((child : ℕ) (at : Place) → Each (IsShown owned) (next child at)) → (owner : Owner) (surface : ℕ) (h : History) (corner : Place) → history_in surface (owned owner.client).surfaces ≡ Some h
+shown-member : (owned : ℕ → Owned) (next : ℕ → Place → List Window) → ((child : ℕ) (at : Place) → Each (IsShown owned) (next child at)) → (owner : Owner) (surface : ℕ) (h : History) (corner : Place)
+    → history_in surface (owned owner.client).surfaces ≡ Some h
     → (m : Member) → Each (IsShown owned) (member_windows next owner (owned owner.client).surfaces surface h corner m)
 shown-member owned next e owner surface h corner is Itself = shown-window owned owner surface corner h (applied h).buffer is refl
 shown-member owned next e owner surface h corner is (Child l) = shown-child owned next e h corner l (link_at l (owned owner.client).surfaces)
 
-shown-all : (owned : ℕ → Owned) (next : ℕ → Place → List Window) → ((child : ℕ) (at : Place) → Each (IsShown owned) (next child at)) → (owner : Owner) (surface : ℕ) (h : History) (corner : Place) (buffer : Option Buffer) → history_in surface (owned owner.client).surfaces ≡ Some h
+shown-all : (owned : ℕ → Owned) (next : ℕ → Place → List Window) → ((child : ℕ) (at : Place) → Each (IsShown owned) (next child at))
+    → (owner : Owner) (surface : ℕ) (h : History) (corner : Place) (buffer : Option Buffer) → history_in surface (owned owner.client).surfaces ≡ Some h
     → Each (IsShown owned) (shown_windows next owner (owned owner.client).surfaces surface h corner buffer)
 shown-all owned next e owner surface h corner None is = tt
 shown-all owned next e owner surface h corner (Some buffer) is =
     each-flat (IsShown owned) (member_windows next owner (owned owner.client).surfaces surface h corner) (shown-member owned next e owner surface h corner is) (order (counting h))
 
-shown-surface : (owned : ℕ → Owned) (next : ℕ → Place → List Window) → ((child : ℕ) (at : Place) → Each (IsShown owned) (next child at)) → (owner : Owner) (surface : ℕ) (place : Place) (h : Option History) → history_in surface (owned owner.client).surfaces ≡ h
+shown-surface : (owned : ℕ → Owned) (next : ℕ → Place → List Window) → ((child : ℕ) (at : Place) → Each (IsShown owned) (next child at))
+    → (owner : Owner) (surface : ℕ) (place : Place) (h : Option History) → history_in surface (owned owner.client).surfaces ≡ h
     → Each (IsShown owned) (surface_windows next owner (owned owner.client).surfaces surface place h)
 shown-surface owned next e owner surface place None is = tt
 shown-surface owned next e owner surface place (Some h) is = shown-all owned next e owner surface h (corner_at place h) (applied h).buffer is
@@ -56,7 +62,8 @@ shown-tree : (levels : ℕ) (owned : ℕ → Owned) (owner : Owner) (surface : �
 unfolding tree
 shown-tree zero owned owner surface place = tt
 shown-tree (suc n) owned owner surface place =
-    shown-surface owned (λ child at. tree n owner (owned owner.client).surfaces child at) (λ child at. shown-tree n owned owner child at) owner surface place (history_in surface (owned owner.client).surfaces) refl
+    shown-surface owned (λ child at. tree n owner (owned owner.client).surfaces child at) (λ child at. shown-tree n owned owner child at) owner surface place
+        (history_in surface (owned owner.client).surfaces) refl
 
 shown-roots : (owned : ℕ → Owned) (popups : ℕ → List StackedPopup) (toplevels : List Root) → Each (IsShown owned) (windows (λ client. (owned client).surfaces) popups toplevels)
 shown-roots owned popups toplevels =

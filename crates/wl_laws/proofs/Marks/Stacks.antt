@@ -176,7 +176,8 @@ before-at false rest later e f = absurd (differ e)
 before-there : (w v : Window) (xs : List Window) → is_before w v xs ≡ true → list_any (is_same_surface v) xs ≡ true
 before-there w v [] e = e
 before-there w v (x ∷ xs) e = at (is_same_surface w x) e (before-there w v xs) where
-  at : (same : Bool) → (if same then list_any (is_same_surface v) xs else is_before w v xs) ≡ true → (is_before w v xs ≡ true → list_any (is_same_surface v) xs ≡ true) → (is_same_surface v x || list_any (is_same_surface v) xs) ≡ true
+  at : (same : Bool) → (if same then list_any (is_same_surface v) xs else is_before w v xs) ≡ true → (is_before w v xs ≡ true → list_any (is_same_surface v) xs ≡ true)
+      → (is_same_surface v x || list_any (is_same_surface v) xs) ≡ true
   at true f later = or-more (is_same_surface v x) (list_any (is_same_surface v) xs) f
   at false f later = or-more (is_same_surface v x) (list_any (is_same_surface v) xs) (later f)
 
@@ -194,22 +195,26 @@ Unmoved old new a b = (is_before a b old && is_before b a new) ≡ false
 unmoved-later : (w v a b : Window) (old new : List Window) → Unmoved (w ∷ old) (v ∷ new) a b → Unmoved old new a b
 unmoved-later w v a b old new e =
     unless (is_before a b old && is_before b a new)
-    (λ f. differ (sym e ∙ and-both (is_before a b (w ∷ old)) (is_before b a (v ∷ new)) (before-cons a b w old (and-left (is_before a b old) _ f)) (before-cons b a v new (and-right (is_before a b old) _ f))))
+    (λ f. differ (sym e ∙ and-both (is_before a b (w ∷ old)) (is_before b a (v ∷ new)) (before-cons a b w old (and-left (is_before a b old) _ f))
+        (before-cons b a v new (and-right (is_before a b old) _ f))))
 
 -- what is kept is kept by the rest, where it isn't of the first window's surface
-kept-later : (v w o : Window) (vs : List Window) → is_same_surface w v ≡ true → is_same_surface w o ≡ false → (has_same_record o v || list_any (has_same_record o) vs) ≡ true → list_any (has_same_record o) vs ≡ true
+kept-later : (v w o : Window) (vs : List Window) → is_same_surface w v ≡ true → is_same_surface w o ≡ false → (has_same_record o v || list_any (has_same_record o) vs) ≡ true
+    → list_any (has_same_record o) vs ≡ true
 kept-later v w o vs same other e =
     or-second (has_same_record o v) (list_any (has_same_record o) vs) e
     (unless (has_same_record o v) (λ f. differ (sym other ∙ surface-as v w o (surface-turned w v same) (surface-turned o v (record-surface o v f)))))
 
-pub first-same : (w v : Window) (vs : List Window) → is_same_surface w v ≡ true → list_any (is_same_surface v) vs ≡ false → (has_same_record w v || list_any (has_same_record w) vs) ≡ true → has_same_record w v ≡ true
+pub first-same : (w v : Window) (vs : List Window) → is_same_surface w v ≡ true → list_any (is_same_surface v) vs ≡ false → (has_same_record w v || list_any (has_same_record w) vs) ≡ true
+    → has_same_record w v ≡ true
 first-same w v vs same apart e = at (has_same_record w v) e where
   at : (b : Bool) → (b || list_any (has_same_record w) vs) ≡ true → b ≡ true
   at true f = refl
   at false f = absurd (differ (sym apart ∙ any-surface w v vs same (any-recorded w vs f)))
 
 -- two different windows first: each stands before the other
-crossed : (w v : Window) (ws vs : List Window) → is_same_surface w v ≡ false → (has_same_record w v || list_any (has_same_record w) vs) ≡ true → (has_same_record v w || list_any (has_same_record v) ws) ≡ true
+crossed : (w v : Window) (ws vs : List Window) → is_same_surface w v ≡ false → (has_same_record w v || list_any (has_same_record w) vs) ≡ true
+    → (has_same_record v w || list_any (has_same_record v) ws) ≡ true
     → Each (λ b. Unmoved (w ∷ ws) (v ∷ vs) w b) ws → ⊥
 crossed w v ws vs apart e f unmoved =
     let there = or-second (has_same_record w v) (list_any (has_same_record w) vs) e (unless (has_same_record w v) (λ g. differ (sym apart ∙ record-surface w v g))) in
@@ -235,7 +240,10 @@ same-stack (w ∷ ws) (v ∷ vs) kept found unmoved apart apart' =
       go true is next = (
         first-same w v vs is apart'.0 kept.0,
         next
-            (each-both (λ o. is_same_surface w o ≡ false) (λ o. (has_same_record o v || list_any (has_same_record o) vs) ≡ true) (λ o. list_any (has_same_record o) vs ≡ true) (λ o d e. kept-later v w o vs is d e) ws (each-false (is_same_surface w) ws apart.0) kept.1)
-            (each-both (λ n. is_same_surface v n ≡ false) (λ n. (has_same_record n w || list_any (has_same_record n) ws) ≡ true) (λ n. list_any (has_same_record n) ws ≡ true) (λ n d e. kept-later w v n ws (surface-turned w v is) d e) vs (each-false (is_same_surface v) vs apart'.0) found.1)
-            (each-map (λ a. Each (λ b. Unmoved (w ∷ ws) (v ∷ vs) a b) (w ∷ ws)) (λ a. Each (λ b. Unmoved ws vs a b) ws) (λ a e. each-map (λ b. Unmoved (w ∷ ws) (v ∷ vs) a b) (λ b. Unmoved ws vs a b) (λ b g. unmoved-later w v a b ws vs g) ws e.1) ws unmoved.1),
+            (each-both (λ o. is_same_surface w o ≡ false) (λ o. (has_same_record o v || list_any (has_same_record o) vs) ≡ true) (λ o. list_any (has_same_record o) vs ≡ true)
+                (λ o d e. kept-later v w o vs is d e) ws (each-false (is_same_surface w) ws apart.0) kept.1)
+            (each-both (λ n. is_same_surface v n ≡ false) (λ n. (has_same_record n w || list_any (has_same_record n) ws) ≡ true) (λ n. list_any (has_same_record n) ws ≡ true)
+                (λ n d e. kept-later w v n ws (surface-turned w v is) d e) vs (each-false (is_same_surface v) vs apart'.0) found.1)
+            (each-map (λ a. Each (λ b. Unmoved (w ∷ ws) (v ∷ vs) a b) (w ∷ ws)) (λ a. Each (λ b. Unmoved ws vs a b) ws) (λ a e. each-map (λ b. Unmoved (w ∷ ws) (v ∷ vs) a b) (λ b. Unmoved ws vs a b)
+                (λ b g. unmoved-later w v a b ws vs g) ws e.1) ws unmoved.1),
       )

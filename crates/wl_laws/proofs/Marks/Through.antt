@@ -74,7 +74,8 @@ not-applied d m p c surface x y same none =
 -- ---- along the way
 
 -- one end or settling more
-pub unmarked-on : (d m p : Desktop) (x y : ℤ) → AreDistinct (all_windows d) → m.output ≡ d.output → ((c : ℕ) → Owns c m p) → marks_at_least_of all_windows d m x y ≡ false → marks_at_least_of all_windows m p x y ≡ false → marks_at_least_of all_windows d p x y ≡ false
+pub unmarked-on : (d m p : Desktop) (x y : ℤ) → AreDistinct (all_windows d) → m.output ≡ d.output → ((c : ℕ) → Owns c m p) → marks_at_least_of all_windows d m x y ≡ false
+    → marks_at_least_of all_windows m p x y ≡ false → marks_at_least_of all_windows d p x y ≡ false
 unmarked-on d m p x y apart sized owns before here =
     unmarked-together d.output.width d.output.height (applied_between d m) (applied_between m p) (applied_between d p) (all_windows d) (all_windows m) (all_windows p) x y apart
     (each-map (IsShown (owned_in p)) _
@@ -83,7 +84,8 @@ unmarked-on d m p x y apart sized owns before here =
     before
     (subst (λ (o : Output). at_least o.width o.height (applied_between m p) (all_windows m) (all_windows p) x y ≡ false) sized here)
 
-unmarked-along : (d m : Desktop) (path : List Desktop) (new : Desktop) (x y : ℤ) → AreDistinct (all_windows d) → m.output ≡ d.output → Along m path new → marks_at_least_of all_windows d m x y ≡ false → marks_at_least_through all_windows m path x y ≡ false → marks_at_least_of all_windows d new x y ≡ false
+unmarked-along : (d m : Desktop) (path : List Desktop) (new : Desktop) (x y : ℤ) → AreDistinct (all_windows d) → m.output ≡ d.output → Along m path new → marks_at_least_of all_windows d m x y ≡ false
+    → marks_at_least_through all_windows m path x y ≡ false → marks_at_least_of all_windows d new x y ≡ false
 unmarked-along d m [] new x y apart sized h before rest = subst (λ (e : Desktop). marks_at_least_of all_windows d e x y ≡ false) (sym h) before
 unmarked-along d m (p ∷ ps) new x y apart sized h before rest =
     unmarked-along d p ps new x y apart (h.0 ∙ sized) h.2

@@ -104,7 +104,8 @@ found-first p (z ∷ zs) x y found = at (p z) found (found-first p zs x y)
     at false found rest = rest found
 
 -- one comes
-pub made-stays : (stands : Bool) (id surface : ℕ) (all : Surfaces) → (stands ≡ true → shows_buffer (history_in surface all) ≡ true) → StaysAt stands (history_in surface all) (history_in surface (with_new id all))
+pub made-stays : (stands : Bool) (id surface : ℕ) (all : Surfaces) → (stands ≡ true → shows_buffer (history_in surface all) ≡ true)
+    → StaysAt stands (history_in surface all) (history_in surface (with_new id all))
 made-stays stands id surface all shows = at (surface_at surface all) refl shows
   where
     at : (o : Option Surface) → surface_at surface all ≡ o → (stands ≡ true → shows_buffer (option_map (λ (s : Surface). s.history) o) ≡ true)
@@ -129,14 +130,17 @@ asked-counts h request counts =
     let within = committed-within h.requests 0 0 (omega arith) in
     take-append-le h.cut h.requests (request ∷ []) (omega (arith, counts, within))
 
-pub asked-stays : (stands : Bool) (id surface : ℕ) (request : Request) (all : Surfaces) → ((s : ℕ) (h : History) → history_in s all ≡ Some h → AllCounts h) → StaysAt stands (history_in surface all) (history_in surface (with_change id (asking request) all))
+pub asked-stays : (stands : Bool) (id surface : ℕ) (request : Request) (all : Surfaces) → ((s : ℕ) (h : History) → history_in s all ≡ Some h → AllCounts h)
+    → StaysAt stands (history_in surface all) (history_in surface (with_change id (asking request) all))
 asked-stays stands id surface request all counts =
-    subst (λ (o : Option Surface). StaysAt stands (history_in surface all) (option_map (λ (s : Surface). s.history) o)) (sym (changed-found id (asking request) (λ s. refl) all surface)) (at (surface_at surface all) refl)
+    subst (λ (o : Option Surface). StaysAt stands (history_in surface all) (option_map (λ (s : Surface). s.history) o)) (sym (changed-found id (asking request) (λ s. refl) all surface))
+        (at (surface_at surface all) refl)
   where
     by : (s : Surface) (b : Bool) → AllCounts s.history → StaysAt stands (Some s.history) (Some (cond b (asking request s) s).history)
     by s true counts = (λ there. ap Some (sym (asked-counts s.history request counts)), λ x y. unapplied s.history (asking request s).history refl x y)
     by s false counts = same-stays stands (Some s.history) (Some s.history) refl
 
-    at : (o : Option Surface) → surface_at surface all ≡ o → StaysAt stands (option_map (λ (s : Surface). s.history) o) (option_map (λ (s : Surface). s.history) (option_map (λ (s : Surface). cond (s.id == id) (asking request s) s) o))
+    at : (o : Option Surface) → surface_at surface all ≡ o
+        → StaysAt stands (option_map (λ (s : Surface). s.history) o) (option_map (λ (s : Surface). s.history) (option_map (λ (s : Surface). cond (s.id == id) (asking request s) s) o))
     at None found = same-stays stands None None refl
     at (Some s) found = by s (s.id == id) (counts surface s.history (ap (option_map (λ (s : Surface). s.history)) found))

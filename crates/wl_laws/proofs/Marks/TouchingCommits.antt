@@ -152,7 +152,8 @@ module _ (c : ℕ) (there : Resident) (d : Desktop) (at_c : client_at c d ≡ So
       all-stay c there d at_c unlinked apart (is_touched c (Some id)) (changed_simply ask r) q (stacked_simply c ask r d) (stacked-clients c ask r d) links stack stays client surface other
 
   -- a commit that leaves the stack applies its damage
-  kept-applies : (rects : List Rect) → history_in id (changed_simply ask r).owned.surfaces ≡ option_map committed_now (history_in id r.owned.surfaces) → AreNew (history_of d c id) rects → Applies c id rects d lived
+  kept-applies : (rects : List Rect) → history_in id (changed_simply ask r).owned.surfaces ≡ option_map committed_now (history_in id r.owned.surfaces) → AreNew (history_of d c id) rects
+      → Applies c id rects d lived
   kept-applies rects commits are v found x y =
       let passes = found-passes (is_window_of c id) (windows_in lived) v found in
       let sized : IsSized (owned_in lived) v =
@@ -181,11 +182,13 @@ module _ (c : ℕ) (there : Resident) (d : Desktop) (at_c : client_at c d ≡ So
     -- A point that the message marks at least is changed.
     pub done-exactly : marks_of_toplevels d done x y ≡ true → changes_at rects x y (window_at c id d) (window_at c id done) ≡ true
     done-exactly =
-        subst (λ s. marks_of_toplevels d (become_by s c (changed_simply ask r) q (stacked_simply c ask r d)) x y ≡ true → changes_at rects x y (window_at c id d) (window_at c id (become_by s c (changed_simply ask r) q (stacked_simply c ask r d))) ≡ true) (sym alive)
+        subst (λ s. marks_of_toplevels d (become_by s c (changed_simply ask r) q (stacked_simply c ask r d)) x y ≡ true
+            → changes_at rects x y (window_at c id d) (window_at c id (become_by s c (changed_simply ask r) q (stacked_simply c ask r d))) ≡ true) (sym alive)
         (λ marked. changes-exactly c id rects d lived unlinked unlinked-now apart (asked-apart c r d is ask apart finds) (fares rects applied) x y stack others-stay marked)
 
     -- A point of the output that is changed is marked at least.
     pub done-within : in_output d.output.width d.output.height x y ≡ true → changes_at rects x y (window_at c id d) (window_at c id done) ≡ true → marks_of_toplevels d done x y ≡ true
     done-within inside =
-        subst (λ s. changes_at rects x y (window_at c id d) (window_at c id (become_by s c (changed_simply ask r) q (stacked_simply c ask r d))) ≡ true → marks_of_toplevels d (become_by s c (changed_simply ask r) q (stacked_simply c ask r d)) x y ≡ true) (sym alive)
+        subst (λ s. changes_at rects x y (window_at c id d) (window_at c id (become_by s c (changed_simply ask r) q (stacked_simply c ask r d))) ≡ true
+            → marks_of_toplevels d (become_by s c (changed_simply ask r) q (stacked_simply c ask r d)) x y ≡ true) (sym alive)
         (λ changes. changes-within c id rects d lived unlinked unlinked-now apart (asked-apart c r d is ask apart finds) (fares rects applied) x y inside changes)

@@ -57,7 +57,8 @@ asks-one r (Whole object opcode size) ask other asks too = same ask other (sym a
 asks-one r Bad ask other asks too = absurd asks
 asks-one r More ask other asks too = absurd asks
 
-module _ (c : ℕ) (there : Resident) (d : Desktop) (is : client_at c d ≡ Some there) (names : Names) (slots : Slots) (kept : ℕ → Option Kept) (owned : IsOwned names slots kept there.owned) (stand : MappedStand d)
+module _ (c : ℕ) (there : Resident) (d : Desktop) (is : client_at c d ≡ Some there) (names : Names) (slots : Slots) (kept : ℕ → Option Kept) (owned : IsOwned names slots kept there.owned)
+    (stand : MappedStand d)
     (unlinked : (c : ℕ) → (owned_in d c).surfaces.links ≡ []) (x y : ℤ) where
   -- what becomes of the desktop where this is done
   abbrev done : Simple → Peer → Peer → Desktop
@@ -81,18 +82,22 @@ module _ (c : ℕ) (there : Resident) (d : Desktop) (is : client_at c d ≡ Some
     where
       lives : q.status ≡ None → (o : Option ℕ) → touched ask (with_peer p there) ≡ o → IsMarkedSo (done ask p q)
       lives alive None none f =
-          absurd (differ (sym (untouched-marks-nothing c there d is unlinked stand.apart ask (with_peer p there) q refl alive x y (here-mapped c there d is names slots kept owned stand unlinked) owned.surfaces.counts (asks-find c there d is names slots kept owned stand unlinked (split_of there.peer.rest) ask p asks) none) ∙ f))
+          absurd (differ (sym (untouched-marks-nothing c there d is unlinked stand.apart ask (with_peer p there) q refl alive x y (here-mapped c there d is names slots kept owned stand unlinked)
+              owned.surfaces.counts (asks-find c there d is names slots kept owned stand unlinked (split_of there.peer.rest) ask p asks) none) ∙ f))
       lives alive (Some id) t f =
           inr (
             done-status c there d is names slots kept owned stand unlinked ask p q ∙ alive,
             ask,
             asks,
-            (id, sym (touched-peer ask p there) ∙ t, λ rects applied. done-exactly c there d is unlinked stand.apart ask (with_peer p there) q refl alive (here-mapped c there d is names slots kept owned stand unlinked) owned.surfaces.counts (asks-find c there d is names slots kept owned stand unlinked (split_of there.peer.rest) ask p asks) id t rects applied x y f),
+            (id, sym (touched-peer ask p there) ∙ t, λ rects applied. done-exactly c there d is unlinked stand.apart ask (with_peer p there) q refl alive
+                (here-mapped c there d is names slots kept owned stand unlinked) owned.surfaces.counts (asks-find c there d is names slots kept owned stand unlinked (split_of there.peer.rest) ask p
+                asks) id t rects applied x y f),
           )
 
       at : (s : Option Cause) → q.status ≡ s → IsMarkedSo (done ask p q)
       at None alive = lives alive (touched ask (with_peer p there)) refl
-      at (Some cause) over = λ f. inl (ap (λ s. is_some s) (done-status c there d is names slots kept owned stand unlinked ask p q ∙ over), asked-end-touches c there d is unlinked stand.apart ask (with_peer p there) q cause over x y f)
+      at (Some cause) over = λ f. inl (ap (λ s. is_some s) (done-status c there d is names slots kept owned stand unlinked ask p q ∙ over), asked-end-touches c there d is unlinked stand.apart ask
+          (with_peer p there) q cause over x y f)
 
   -- A point that a message marks at least is changed of the window of the surface that it touches, or the client ended and the point lies in a
   -- window that it had.
@@ -117,16 +122,19 @@ module _ (c : ℕ) (there : Resident) (d : Desktop) (is : client_at c d ≡ Some
       (subst (λ a. (touched a there ≡ Some id) × IsAppliedBy a (history_of d c id) rects) (asks-one there (split_of there.peer.rest) other ask too asks) (t, applied))
     where
       by : q.status ≡ None → (id : ℕ) (rects : List Rect) → in_output d.output.width d.output.height x y ≡ true
-          → changes_at rects x y (window_at c id d) (window_at c id (done ask p q)) ≡ true → (touched ask there ≡ Some id) × IsAppliedBy ask (history_of d c id) rects → marks_of_toplevels d (done ask p q) x y ≡ true
+          → changes_at rects x y (window_at c id d) (window_at c id (done ask p q)) ≡ true → (touched ask there ≡ Some id) × IsAppliedBy ask (history_of d c id) rects
+              → marks_of_toplevels d (done ask p q) x y ≡ true
       by alive id rects inside changes so =
-          done-within c there d is unlinked stand.apart ask (with_peer p there) q refl alive (here-mapped c there d is names slots kept owned stand unlinked) owned.surfaces.counts (asks-find c there d is names slots kept owned stand unlinked (split_of there.peer.rest) ask p asks) id (touched-peer ask p there ∙ so.0) rects so.1 x y inside changes
+          done-within c there d is unlinked stand.apart ask (with_peer p there) q refl alive (here-mapped c there d is names slots kept owned stand unlinked) owned.surfaces.counts
+              (asks-find c there d is names slots kept owned stand unlinked (split_of there.peer.rest) ask p asks) id (touched-peer ask p there ∙ so.0) rects so.1 x y inside changes
 
   -- A point of the output at which the message of a client that lives on changes the window of the surface that it touches is marked at least,
   pub serves-least : (new : Desktop) → NoMore d → Serves served_now c d new → IsWithinSo new
   serves-least new more h = message-by c there d new is more IsWithinSo told-within (λ ask asks p q objects told. done-marks ask asks p q) h
 
   -- and so among what is marked at most.
-  pub serves-within : (new : Desktop) → NoMore d → Serves served_now c d new → status_in c new ≡ None → (ask : Simple) → AsksBy there (split_of there.peer.rest) ask → (id : ℕ) → touched ask there ≡ Some id
+  pub serves-within : (new : Desktop) → NoMore d → Serves served_now c d new → status_in c new ≡ None → (ask : Simple) → AsksBy there (split_of there.peer.rest) ask → (id : ℕ)
+      → touched ask there ≡ Some id
       → (rects : List Rect) → IsAppliedBy ask (history_of d c id) rects → in_output d.output.width d.output.height x y ≡ true
       → changes_at rects x y (window_at c id d) (window_at c id new) ≡ true → marks_at_most d new None x y ≡ true
   serves-within new more h alive ask asks id t rects applied inside changes =

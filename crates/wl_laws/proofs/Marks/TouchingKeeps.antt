@@ -79,9 +79,11 @@ module _ (c : ℕ) (there : Resident) (d : Desktop) (is : client_at c d ≡ Some
             peer-touched (AskingFrame new version surface) p = refl
 
   -- The surface that a message touches is there afterwards, if it was before and the client lives on.
-  pub serves-keeps : (new : Desktop) → NoMore d → Serves served_now c d new → status_in c new ≡ None → (ask : Simple) → AsksBy there (split_of there.peer.rest) ask → (id : ℕ) → touched ask there ≡ Some id
+  pub serves-keeps : (new : Desktop) → NoMore d → Serves served_now c d new → status_in c new ≡ None → (ask : Simple) → AsksBy there (split_of there.peer.rest) ask → (id : ℕ)
+      → touched ask there ≡ Some id
       → is_some (surface_at id there.owned.surfaces) ≡ true → is_some (surface_at id (owned_in new c).surfaces) ≡ true
   serves-keeps new more serves alive ask asks id t has =
       message-by c there d new is more (StillThere ask asks id t has) (told-so ask asks id t has)
-      (λ other also p q objects queued. subst (λ a. StillThere ask asks id t has (become c (changed_simply a (with_peer p there)) q (stacked_simply c a (with_peer p there) d))) (same-ask there (split_of there.peer.rest) ask other asks also) (done-so ask asks id t has p q))
+      (λ other also p q objects queued. subst (λ a. StillThere ask asks id t has (become c (changed_simply a (with_peer p there)) q (stacked_simply c a (with_peer p there) d)))
+          (same-ask there (split_of there.peer.rest) ask other asks also) (done-so ask asks id t has p q))
       serves alive

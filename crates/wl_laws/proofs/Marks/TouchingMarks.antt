@@ -4,7 +4,8 @@ use Rattle.std.specs.Prelude.{ℤ, ◌-ℤ◌, ◌==◌, ◌&&◌, ◌||◌, not
 use Rattle.std.specs.List.{list_any}
 use Rattle.std.proofs.lemmas.Bool.{eqb-true, or_left, or_right}
 use Rattle.wl_scene.specs.Windows.{Window, contains}
-use Rattle.wl_plain.specs.Marks.{Applied, AreDistinct, at_least, has_moved_past, has_same_record, in_output, is_before, is_changed_at, is_damaged_at, is_kept_in, is_restacked_at, is_same_surface, shared_by}
+use Rattle.wl_plain.specs.Marks.{Applied, AreDistinct, at_least, has_moved_past, has_same_record, in_output, is_before, is_changed_at, is_damaged_at, is_kept_in, is_restacked_at, is_same_surface}
+use Rattle.wl_plain.specs.Marks.{shared_by}
 use Rattle.wl_laws.specs.Touching.{any_window_at}
 use Rattle.wl_laws.proofs.Keeping.StandingLists.{any-left, none-left}
 use Rattle.wl_laws.proofs.Marks.Stacks.{and-both, and-left, and-right, any-more, any-surface, differ, recorded}
@@ -38,7 +39,8 @@ before-there : (w v : Window) (xs : List Window) → is_before w v xs ≡ true �
 before-there w v [] e = e
 before-there w v (x ∷ xs) e = at (is_same_surface w x) e (before-there w v xs)
   where
-    at : (same : Bool) → (if same then list_any (is_same_surface v) xs else is_before w v xs) ≡ true → (is_before w v xs ≡ true → list_any (is_same_surface v) xs ≡ true) → (is_same_surface v x || list_any (is_same_surface v) xs) ≡ true
+    at : (same : Bool) → (if same then list_any (is_same_surface v) xs else is_before w v xs) ≡ true → (is_before w v xs ≡ true → list_any (is_same_surface v) xs ≡ true)
+        → (is_same_surface v x || list_any (is_same_surface v) xs) ≡ true
     at true f later = or_right (is_same_surface v x) (list_any (is_same_surface v) xs) f
     at false f later = or_right (is_same_surface v x) (list_any (is_same_surface v) xs) (later f)
 
@@ -47,7 +49,8 @@ pub one-before : (w v : Window) (xs : List Window) → AreDistinct xs → is_bef
 one-before w v [] apart e f = differ e
 one-before w v (x ∷ xs) apart e f = at (is_same_surface w x) (is_same_surface v x) refl refl e f (one-before w v xs apart.1)
   where
-    at : (a b : Bool) → is_same_surface w x ≡ a → is_same_surface v x ≡ b → (if a then list_any (is_same_surface v) xs else is_before w v xs) ≡ true → (if b then list_any (is_same_surface w) xs else is_before v w xs) ≡ true
+    at : (a b : Bool) → is_same_surface w x ≡ a → is_same_surface v x ≡ b → (if a then list_any (is_same_surface v) xs else is_before w v xs) ≡ true
+        → (if b then list_any (is_same_surface w) xs else is_before v w xs) ≡ true
         → (is_before w v xs ≡ true → is_before v w xs ≡ true → ⊥) → ⊥
     at true true p q e f rest = same-here w x xs apart.0 p f
     at true false p q e f rest = same-here w x xs apart.0 p (before-there v w xs f)

@@ -82,7 +82,8 @@ module _ (c : ℕ) (there : Resident) (d : Desktop) (at_c : client_at c d ≡ So
   -- ---- what leaves the windows as they are
 
   -- it marks nothing
-  nothing-marked : (new : Desktop) (x y : ℤ) → (marks_of_toplevels d new x y ≡ true → (any_window_at none_of x y (windows_in d) || any_window_at none_of x y (windows_in new)) ≡ true) → marks_of_toplevels d new x y ≡ false
+  nothing-marked : (new : Desktop) (x y : ℤ) → (marks_of_toplevels d new x y ≡ true → (any_window_at none_of x y (windows_in d) || any_window_at none_of x y (windows_in new)) ≡ true)
+      → marks_of_toplevels d new x y ≡ false
   nothing-marked new x y touches = at (marks_of_toplevels d new x y) refl
     where
       at : (b : Bool) → marks_of_toplevels d new x y ≡ b → b ≡ false

@@ -28,16 +28,20 @@ abbrev pub lone : Owner → ℕ → Place → Option (List Request) → List Win
 lone owner surface place None = []
 lone owner surface place (Some requests) = lone_of owner surface place requests
 
-shown-lone : (next : ℕ → Place → List Window) (owner : Owner) (surfaces : Surfaces) (surface : ℕ) (h : History) (corner : Place) (buffer : Option Buffer) → surfaces.links ≡ [] → (applied h).buffer ≡ buffer → shown_windows next owner surfaces surface h corner buffer ≡ window_with owner surface corner (applied h) buffer
+shown-lone : (next : ℕ → Place → List Window) (owner : Owner) (surfaces : Surfaces) (surface : ℕ) (h : History) (corner : Place) (buffer : Option Buffer) → surfaces.links ≡ []
+    → (applied h).buffer ≡ buffer → shown_windows next owner surfaces surface h corner buffer ≡ window_with owner surface corner (applied h) buffer
 shown-lone next owner surfaces surface h corner None unlinked e = refl
 shown-lone next owner surfaces surface h corner (Some buffer) unlinked e =
-    order-once (member_windows next owner surfaces surface h corner) (no-child next owner surfaces surface h corner unlinked) (counting h) ∙ ap (λ (b : Option Buffer). window_with owner surface corner (applied h) b) e
+    order-once (member_windows next owner surfaces surface h corner) (no-child next owner surfaces surface h corner unlinked) (counting h)
+        ∙ ap (λ (b : Option Buffer). window_with owner surface corner (applied h) b) e
 
-surface-lone : (next : ℕ → Place → List Window) (owner : Owner) (surfaces : Surfaces) (surface : ℕ) (place : Place) (h : Option History) → surfaces.links ≡ [] → surface_windows next owner surfaces surface place h ≡ lone owner surface place (counted h)
+surface-lone : (next : ℕ → Place → List Window) (owner : Owner) (surfaces : Surfaces) (surface : ℕ) (place : Place) (h : Option History) → surfaces.links ≡ []
+    → surface_windows next owner surfaces surface place h ≡ lone owner surface place (counted h)
 surface-lone next owner surfaces surface place None unlinked = refl
 surface-lone next owner surfaces surface place (Some h) unlinked = shown-lone next owner surfaces surface h (corner_at place h) (applied h).buffer unlinked refl
 
-tree-lone : (levels : ℕ) (owner : Owner) (surfaces : Surfaces) (surface : ℕ) (place : Place) → surfaces.links ≡ [] → tree (suc levels) owner surfaces surface place ≡ lone owner surface place (counted (history_in surface surfaces))
+tree-lone : (levels : ℕ) (owner : Owner) (surfaces : Surfaces) (surface : ℕ) (place : Place) → surfaces.links ≡ [] → tree (suc levels) owner surfaces surface place ≡ lone owner surface place
+    (counted (history_in surface surfaces))
 unfolding tree
 tree-lone levels owner surfaces surface place unlinked = surface-lone (λ child at. tree levels owner surfaces child at) owner surfaces surface place (history_in surface surfaces) unlinked
 
@@ -57,7 +61,8 @@ module _ (is : ℕ → ℕ → Bool) where
   abbrev pub stands_else : Standing → Bool
   stands_else s = not (is s.client s.surface)
 
-  lone-else : (owner : Owner) (surface : ℕ) (place : Place) (requests : Option (List Request)) (b : Bool) → not (is owner.client surface) ≡ b → filter (is_else is) (lone owner surface place requests) ≡ cond b (lone owner surface place requests) []
+  lone-else : (owner : Owner) (surface : ℕ) (place : Place) (requests : Option (List Request)) (b : Bool) → not (is owner.client surface) ≡ b
+      → filter (is_else is) (lone owner surface place requests) ≡ cond b (lone owner surface place requests) []
   lone-else owner surface place None true e = refl
   lone-else owner surface place None false e = refl
   lone-else owner surface place (Some requests) b e = at (values requests).buffer b e
@@ -79,9 +84,11 @@ module _ (is : ℕ → ℕ → Bool) where
       at : (b : Bool) → stands_else s ≡ b → filter (is_else is) (windows_on owned ss) ≡ windows_on owned (filter stands_else ss)
           → filter (is_else is) (window_by owned s) ++ filter (is_else is) (windows_on owned ss) ≡ windows_on owned (cond b (s ∷ filter stands_else ss) (filter stands_else ss))
       at true e rest =
-          ap (λ ws. ws ++ filter (is_else is) (windows_on owned ss)) (lone-else (owner_of (root_of owned s)) s.surface s.place (counted (history_in s.surface (owned s.client).surfaces)) true e) ∙ ap (λ ws. window_by owned s ++ ws) rest
+          ap (λ ws. ws ++ filter (is_else is) (windows_on owned ss)) (lone-else (owner_of (root_of owned s)) s.surface s.place (counted (history_in s.surface (owned s.client).surfaces)) true e)
+              ∙ ap (λ ws. window_by owned s ++ ws) rest
           ∙ sym (windows-first owned s (filter stands_else ss) unlinked)
-      at false e rest = ap (λ ws. ws ++ filter (is_else is) (windows_on owned ss)) (lone-else (owner_of (root_of owned s)) s.surface s.place (counted (history_in s.surface (owned s.client).surfaces)) false e) ∙ rest
+      at false e rest = ap (λ ws. ws ++ filter (is_else is) (windows_on owned ss)) (lone-else (owner_of (root_of owned s)) s.surface s.place (counted (history_in s.surface (owned s.client).surfaces))
+          false e) ∙ rest
 
   -- of the others the same counts
   pub windows-same : (owned owned' : ℕ → Owned) (ss : List Standing) → ((c : ℕ) → (owned c).surfaces.links ≡ []) → ((c : ℕ) → (owned' c).surfaces.links ≡ [])

@@ -4,7 +4,8 @@ use Rattle.std.specs.Prelude.{fold}
 use Rattle.wl_interface.specs.declared.interface.Interface.TheVariants.{XdgToplevel}
 use Rattle.wl_store.specs.Stores.{Stock}
 use Rattle.wl_peer.specs.declared.actions.Action.{Action}
-use Rattle.wl_peer.specs.declared.actions.Action.TheVariants.{Sync, GetRegistry, Bind, CreateRegion, AddToRegion, SubtractFromRegion, DestroyRegion, CreatePool, CreateBuffer, ResizePool, DestroyPool, DestroyBuffer}
+use Rattle.wl_peer.specs.declared.actions.Action.TheVariants.{Sync, GetRegistry, Bind, CreateRegion, AddToRegion, SubtractFromRegion, DestroyRegion, CreatePool, CreateBuffer, ResizePool, DestroyPool}
+use Rattle.wl_peer.specs.declared.actions.Action.TheVariants.{DestroyBuffer}
 use Rattle.wl_peer.specs.declared.cause.Cause.{Cause}
 use Rattle.wl_peer.specs.Peer.{Peer, changed, with_rest, removed}
 use Rattle.wl_shell.specs.Shell.{Effect, Stays, Unconfigured, Configures, Maps, Unmaps, XdgSurface as Xdg, xdg_at, xdg_of}
@@ -27,7 +28,8 @@ with_behind rest r = with_peer (with_rest rest r.peer) r
 abbrev with_stream : Option Cause → List ℕ → Resident → Resident
 with_stream s rest r = with_peer (record r.peer { status = s; rest = rest }) r
 
-keeps-stream : (b : Bool) (stores : Stock) (p : Peer) (s : Option Cause) (rest : List ℕ) → keeps_store b stores (record p { status = s; rest = rest }) ≡ record (keeps_store b stores p) { status = s; rest = rest }
+keeps-stream : (b : Bool) (stores : Stock) (p : Peer) (s : Option Cause) (rest : List ℕ) → keeps_store b stores (record p { status = s; rest = rest }) ≡ record (keeps_store b stores p) { status = s;
+    rest = rest }
 keeps-stream true stores p s rest = refl
 keeps-stream false stores p s rest = refl
 
@@ -47,7 +49,8 @@ own-stream (DestroyBuffer id store) r s rest =
     ap (λ (p : Peer). record r { peer = p })
     (keeps-stream (has_used (λ number. is_used number r.owned.surfaces) (r.peer.buffers id)) r.peer.stores (changed (DestroyBuffer id store) r.peer) s rest)
 
-effect-stream : (id : ℕ) (effect : Effect) (x : Option Xdg) (r : Resident) (s : Option Cause) (rest : List ℕ) → effect_on id effect x (with_stream s rest r) ≡ with_stream s rest (effect_on id effect x r)
+effect-stream : (id : ℕ) (effect : Effect) (x : Option Xdg) (r : Resident) (s : Option Cause) (rest : List ℕ)
+    → effect_on id effect x (with_stream s rest r) ≡ with_stream s rest (effect_on id effect x r)
 effect-stream id effect None r s rest = refl
 effect-stream id Stays (Some x) r s rest = refl
 effect-stream id Unconfigured (Some x) r s rest = refl

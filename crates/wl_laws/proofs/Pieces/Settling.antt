@@ -12,7 +12,8 @@ use Rattle.wl_plain.specs.Changing.{drawing}
 use Rattle.wl_plain.specs.Desktop.{Desktop, Resident, client_at, resident_of, with_client}
 use Rattle.wl_plain.specs.Pointing.{entered_surface, has_pointers, is_same, left_surface}
 use Rattle.wl_plain.specs.Replies.{focus_window}
-use Rattle.wl_plain.specs.Settling.{EndsAndSettles, EndsFirst, Enters, Leaves, MovesUnless, Midstep, QueuesFirst, QueuesTo, Settles, SettlesAll, Strike, Tells, TellsAt, TellsResident, TellsUnless, ended_at, ended_by, is_settled, is_struck, leave_drawn, pointer_without, struck_by, target_now, told_drawn, unstruck}
+use Rattle.wl_plain.specs.Settling.{EndsAndSettles, EndsFirst, Enters, Leaves, MovesUnless, Midstep, QueuesFirst, QueuesTo, Settles, SettlesAll, Strike, Tells, TellsAt, TellsResident, TellsUnless}
+use Rattle.wl_plain.specs.Settling.{ended_at, ended_by, is_settled, is_struck, leave_drawn, pointer_without, struck_by, target_now, told_drawn, unstruck}
 use Rattle.wl_plain.specs.Stacked.{all_windows}
 use Rattle.wl_plain.specs.Step.{with_peer}
 use Rattle.wl_laws.proofs.Pieces.Behind.{with_behind}

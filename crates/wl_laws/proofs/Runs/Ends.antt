@@ -11,7 +11,8 @@ use Rattle.wl_plain.specs.Changing.{drawing}
 use Rattle.wl_plain.specs.Desktop.{Desktop, Resident, client_at, resident_of, with_client, with_number}
 use Rattle.wl_plain.specs.Pointing.{entered_surface, has_pointers, left_surface}
 use Rattle.wl_plain.specs.Replies.{focus_window}
-use Rattle.wl_plain.specs.Settling.{EndsAndSettles, EndsFirst, Enters, Leaves, Midstep, MovesFocus, MovesUnless, QueuesFirst, QueuesTo, Settles, SettlesAll, SettlesEnds, Strike, Tells, TellsAt, TellsUnless, ended_all, ended_at, ended_by, is_settled, is_struck, leave_drawn, struck_by, target_now, told_drawn, unstruck, with_focus}
+use Rattle.wl_plain.specs.Settling.{EndsAndSettles, EndsFirst, Enters, Leaves, Midstep, MovesFocus, MovesUnless, QueuesFirst, QueuesTo, Settles, SettlesAll, SettlesEnds, Strike, Tells, TellsAt}
+use Rattle.wl_plain.specs.Settling.{TellsUnless, ended_all, ended_at, ended_by, is_settled, is_struck, leave_drawn, struck_by, target_now, told_drawn, unstruck, with_focus}
 use Rattle.wl_plain.specs.Stacked.{all_windows}
 use Rattle.wl_laws.proofs.Keeping.OwningKeys.{none-some}
 use Rattle.wl_laws.proofs.Marks.Stacks.{or-right}
@@ -31,7 +32,8 @@ queues-status (event ∷ events) p q why h = at (has_room p.unsent event) (queue
     at true later (inr h) = later h
 
 -- where memory is there, events are queued in one way
-pub queues-once : (events : List Said) (p q r : Peer) (why other : Option Cause) → QueuesTo events p q why → QueuesTo events p r other → why ≢ Some Memory → other ≢ Some Memory → (q ≡ r) × (why ≡ other)
+pub queues-once : (events : List Said) (p q r : Peer) (why other : Option Cause) → QueuesTo events p q why → QueuesTo events p r other → why ≢ Some Memory → other ≢ Some Memory → (q ≡ r)
+    × (why ≡ other)
 queues-once [] p q r why other h k fine well = (h.0 ∙ sym k.0, h.1 ∙ sym k.1)
 queues-once (event ∷ events) p q r why other h k fine well = at (has_room p.unsent event) (λ h k. queues-once events (queued event p) q r why other h k fine well) h k
   where
@@ -54,7 +56,8 @@ same-pair y z e f =
 abbrev told_to : Resident → ℕ → Midstep → Peer × Option Cause → Midstep
 told_to now c old y = record { desktop = with_client c (Some (record now { peer = y.0 })) old.desktop; struck = struck_by c y.1 old.struck }
 
-module _ (c : ℕ) (now : Resident) (events : List Said) (old : Midstep) (sound : Sound old) (lives : Lives c old.desktop.clients) (alive : now.peer.status ≡ None) (fresh : is_struck c old.struck ≡ false) where
+module _ (c : ℕ) (now : Resident) (events : List Said) (old : Midstep) (sound : Sound old) (lives : Lives c old.desktop.clients) (alive : now.peer.status ≡ None)
+    (fresh : is_struck c old.struck ≡ false) where
   Told : Peer × Option Cause → Type 0
   Told y = QueuesTo events now.peer y.0 y.1
 
@@ -95,7 +98,8 @@ none-of None b e = refl
 none-of (Some cause) b e = absurd (cc)
 
 -- a client is told something, unless it ended or is to end
-pub tells-leads : (change : Resident → Resident) (events : Resident → List Said) → ((r : Resident) → (change r).peer.status ≡ r.peer.status) → (c : ℕ) (old : Midstep) → Sound old → Leads Midstep moving old (Tells change events c old)
+pub tells-leads : (change : Resident → Resident) (events : Resident → List Said) → ((r : Resident) → (change r).peer.status ≡ r.peer.status) → (c : ℕ) (old : Midstep) → Sound old
+    → Leads Midstep moving old (Tells change events c old)
 tells-leads change events keeps c old sound = at (client_at c old.desktop) refl
   where
     unless : (r : Resident) (b : Bool) → client_at c old.desktop ≡ Some r → (is_some r.peer.status || is_struck c old.struck) ≡ b → Leads Midstep moving old (TellsUnless b change events c r old)
@@ -157,7 +161,8 @@ ended-one s ss d sound =
     ap (λ rs. suc (lasting rs)) (ended-clients s d sound.0.there sound.0.is)
     ∙ number-ends d.clients s.client (Some (resident_of (ended s.cause sound.0.there.peer))) s.cause sound.0 refl
 
-first-leads : (n : ℕ) (Next : Midstep → Desktop → Type 0) → ((m : Midstep) → Sound m → lasting m.desktop.clients < n → Leads Desktop unstruck m (Next m)) → (ss : List Strike) (d : Desktop) → AreStruck ss d.clients → lasting d.clients ≤ n → Leads Desktop unstruck (record { desktop = d; struck = ss }) (EndsFirst Next ss d)
+first-leads : (n : ℕ) (Next : Midstep → Desktop → Type 0) → ((m : Midstep) → Sound m → lasting m.desktop.clients < n → Leads Desktop unstruck m (Next m)) → (ss : List Strike) (d : Desktop)
+    → AreStruck ss d.clients → lasting d.clients ≤ n → Leads Desktop unstruck (record { desktop = d; struck = ss }) (EndsFirst Next ss d)
 first-leads n Next next [] d sound few = only Desktop unstruck (record { desktop = d; struck = [] }) d (still [] d.clients tt)
 first-leads n Next next (s ∷ ss) d sound few =
     let after = ended-after s ss d sound in

@@ -86,7 +86,8 @@ more-one : (s : Option Cause) (n m : ℕ) → suc n ≡ m → suc (one_more s n)
 more-one None n m e = ap (λ k. suc k) e
 more-one (Some cause) n m e = e
 
-place-ends : (rs : List (Option Resident)) (k : ℕ) (x : Option Resident) (r : Resident) (cause : Cause) → place rs k ≡ Some r → r.peer.status ≡ None → status_of x ≡ Some cause → suc (lasting (with_place k x rs)) ≡ lasting rs
+place-ends : (rs : List (Option Resident)) (k : ℕ) (x : Option Resident) (r : Resident) (cause : Cause) → place rs k ≡ Some r → r.peer.status ≡ None → status_of x ≡ Some cause
+    → suc (lasting (with_place k x rs)) ≡ lasting rs
 place-ends [] k x r cause is alive end = absurd (none-some r is)
 place-ends (y ∷ rs) zero x r cause is alive end = more-ends (status_of x) (status_of y) (lasting rs) cause end (ap status_of is ∙ alive)
 place-ends (y ∷ rs) (suc k) x r cause is alive end = more-one (status_of y) (lasting (with_place k x rs)) (lasting rs) (place-ends rs k x r cause is alive end)
@@ -258,7 +259,8 @@ sound-end (t ∷ ts) rs c x fresh sound = (
   sound-end ts rs c x (or-right (t.client == c) (is_struck c ts) fresh) sound.2,
 )
 
-pub ended-follows : (s : Strike) (ss : List Strike) (rs : List (Option Resident)) (x : Option Resident) → AreStruck (s ∷ ss) rs → status_of x ≡ Some s.cause → Follows (s ∷ ss) rs ss (with_number s.client x rs)
+pub ended-follows : (s : Strike) (ss : List Strike) (rs : List (Option Resident)) (x : Option Resident) → AreStruck (s ∷ ss) rs → status_of x ≡ Some s.cause
+    → Follows (s ∷ ss) rs ss (with_number s.client x rs)
 ended-follows s ss rs x sound end =
     record {
       sound = sound-end ss rs s.client x sound.1 sound.2;

@@ -44,7 +44,8 @@ AllOwn old new = (k : ℕ) → owned_in new.desktop k ≡ owned_in old.desktop k
 same-own : (old new : Midstep) → new ≡ old → AllOwn old new
 same-own old new e k = ap (λ (m : Midstep). owned_in m.desktop k) e
 
-tells-owned : (change : Resident → Resident) (events : Resident → List Said) → ((r : Resident) → (change r).owned ≡ r.owned) → (c : ℕ) (old new : Midstep) → Tells change events c old new → AllOwn old new
+tells-owned : (change : Resident → Resident) (events : Resident → List Said) → ((r : Resident) → (change r).owned ≡ r.owned) → (c : ℕ) (old new : Midstep) → Tells change events c old new
+    → AllOwn old new
 tells-owned change events same c old new h = at (client_at c old.desktop) refl h
   where
     unless : (b : Bool) (r : Resident) → client_at c old.desktop ≡ Some r → TellsUnless b change events c r old new → AllOwn old new
@@ -101,7 +102,8 @@ along-ends (s ∷ ss) d later new k = (
   along-ends ss (ended_by s d) later new k,
 )
 
-along-first : (Next : Midstep → List Desktop → Desktop → Type 0) → ((m : Midstep) (path : List Desktop) (new : Desktop) → Next m path new → Along m.desktop path new) → (ss : List Strike) (d : Desktop) (path : List Desktop) (new : Desktop) → EndsFirstThrough Next ss d path new → Along d path new
+along-first : (Next : Midstep → List Desktop → Desktop → Type 0) → ((m : Midstep) (path : List Desktop) (new : Desktop) → Next m path new → Along m.desktop path new)
+    → (ss : List Strike) (d : Desktop) (path : List Desktop) (new : Desktop) → EndsFirstThrough Next ss d path new → Along d path new
 along-first Next next [] d path new h = subst (λ (p : List Desktop). Along d p new) (sym h.0) h.1
 along-first Next next (s ∷ ss) d path new h =
     let it : Along d (ended_by s d ∷ h.0) new = (

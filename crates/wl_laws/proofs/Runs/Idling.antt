@@ -1,5 +1,6 @@
 -- Where memory is always there, all whole messages of what has come are taken.
-use Rattle.std.proofs.Common.{◌≡◌, ℕ, zero, suc, ◌+◌, ◌-◌, ◌/◌, ◌%◌, ◌≤◌, ap, arith, take, drop, List, [], ◌∷◌, length, Bool, true, false, Option, Some, None, Result, refl, subst, sym, ◌∙◌, inl, inr, length-drop}
+use Rattle.std.proofs.Common.{◌≡◌, ℕ, zero, suc, ◌+◌, ◌-◌, ◌/◌, ◌%◌, ◌≤◌, ap, arith, take, drop, List, [], ◌∷◌, length, Bool, true, false, Option, Some, None, Result, refl, subst, sym, ◌∙◌, inl, inr}
+use Rattle.std.proofs.Common.{length-drop}
 use Rattle.std.specs.Prelude.{Ok, Err, ◌||◌, ◌⊎◌, nat_lt, fold, if◌then◌else◌, is_some}
 use Rattle.std.proofs.lemmas.Bool.Decides.{nat_tests}
 use Rattle.wl_wire.specs.Wire.{is_size, split_of, word_of}
@@ -14,12 +15,15 @@ use Rattle.wl_peer.specs.Told.{Said, display_error, error_told}
 use Rattle.wl_surface.specs.Waiting.{Callback}
 use Rattle.wl_scene.specs.Pointer.{Target}
 use Rattle.wl_scene.specs.Windows.{Window}
-use Rattle.wl_laws.specs.Ample.{answered, became, done, ends_and_settles, ends_first, enters, leaves, moves_unless, or_slow, queued_to, served, served_all, served_at, served_by, settles, settles_all, taken, tells, tells_at, tells_unless}
+use Rattle.wl_laws.specs.Ample.{answered, became, done, ends_and_settles, ends_first, enters, leaves, moves_unless, or_slow, queued_to, served, served_all, served_at, served_by, settles, settles_all}
+use Rattle.wl_laws.specs.Ample.{taken, tells, tells_at, tells_unless}
 use Rattle.wl_shell.specs.Popups.{is_toplevel}
 use Rattle.wl_shell.specs.Positioner.{Positioner}
 use Rattle.wl_shell.specs.Shell.{Effect, Stays, Unconfigured, Configures, Maps, Unmaps, XdgSurface, xdg_at, xdg_of}
-use Rattle.wl_plain.specs.Changing.{callbacks_of, changed_for, drawing, effect_done, grab_allowed, grabbed, has_focus, in_rising_order, mode_set, popup_given_to, stacked_by, stacked_for, tree_committed}
-use Rattle.wl_plain.specs.Demand.{Demand, Asks, EndSurface, AskFrame, CommitTree, EndObject, GetSubsurface, EndSubsurface, SetMode, GetPointer, MakeCursor, CreatePositioner, EndPositioner, SetPositioner, GetPopup, Grab, EndPopup, EndToplevel, Move}
+use Rattle.wl_plain.specs.Changing.{callbacks_of, changed_for, drawing, effect_done, grab_allowed, grabbed, has_focus, in_rising_order, mode_set, popup_given_to, stacked_by, stacked_for}
+use Rattle.wl_plain.specs.Changing.{tree_committed}
+use Rattle.wl_plain.specs.Demand.{Demand, Asks, EndSurface, AskFrame, CommitTree, EndObject, GetSubsurface, EndSubsurface, SetMode, GetPointer, MakeCursor, CreatePositioner, EndPositioner}
+use Rattle.wl_plain.specs.Demand.{SetPositioner, GetPopup, Grab, EndPopup, EndToplevel, Move}
 use Rattle.wl_plain.specs.Demanding.{effect_of_commit, judge_all}
 use Rattle.wl_plain.specs.Desktop.{Desktop, Resident, become_by, client_at, client_in, place, resident_of, with_client, with_number, with_place}
 use Rattle.wl_plain.specs.LeftOut.{LeftOut}
@@ -53,14 +57,16 @@ place-leaves rest (r ∷ rs) zero (suc j) x h f = h
 place-leaves rest (r ∷ rs) (suc k) zero x h f = h
 place-leaves rest (r ∷ rs) (suc k) (suc j) x h f = place-leaves rest rs k j x h (λ e. f (ap (λ (n : ℕ). suc n) e))
 
-number-leaves : (rest : List ℕ) (clients : List (Option Resident)) (k c : ℕ) (x : Option Resident) → LeavesAt rest (client_in clients c) → (k ≡ c → LeavesAt rest x) → LeavesAt rest (client_in (with_number k x clients) c)
+number-leaves : (rest : List ℕ) (clients : List (Option Resident)) (k c : ℕ) (x : Option Resident) → LeavesAt rest (client_in clients c) → (k ≡ c → LeavesAt rest x)
+    → LeavesAt rest (client_in (with_number k x clients) c)
 number-leaves rest clients k zero x h f = h
 number-leaves rest clients zero (suc j) x h f = h
 number-leaves rest clients (suc k) (suc j) x h f = place-leaves rest clients k j x h (λ e. f (ap (λ (n : ℕ). suc n) e))
 
 -- ---- events
 
-queued-by : (rest : List ℕ) (b : Bool) (next : Peer × Option Cause) (p : Peer) → LeavesBy rest p.status p.rest → LeavesBy rest next.0.status next.0.rest → LeavesBy rest (or_slow b next p).0.status (or_slow b next p).0.rest
+queued-by : (rest : List ℕ) (b : Bool) (next : Peer × Option Cause) (p : Peer) → LeavesBy rest p.status p.rest → LeavesBy rest next.0.status next.0.rest
+    → LeavesBy rest (or_slow b next p).0.status (or_slow b next p).0.rest
 queued-by rest true next p h k = k
 queued-by rest false next p h k = h
 
@@ -76,7 +82,8 @@ IsQuiet change = (r : Resident) → ((change r).peer.status ≡ r.peer.status) �
 moved-leaves : (rest : List ℕ) (s t : Option Cause) (a b : List ℕ) → t ≡ s → b ≡ a → LeavesBy rest s a → LeavesBy rest t b
 moved-leaves rest s t a b e f h = subst (λ (t : Option Cause). LeavesBy rest t b) (sym e) (subst (λ (b : List ℕ). LeavesBy rest s b) (sym f) h)
 
-tells-leaves-by : (rest : List ℕ) (b : Bool) (change : Resident → Resident) (events : Resident → List Said) (k c : ℕ) (r : Resident) (m : Midstep) → IsQuiet change → client_at k m.desktop ≡ Some r → Leaves rest c m.desktop → Leaves rest c (tells_unless b change events k r m).desktop
+tells-leaves-by : (rest : List ℕ) (b : Bool) (change : Resident → Resident) (events : Resident → List Said) (k c : ℕ) (r : Resident) (m : Midstep) → IsQuiet change → client_at k m.desktop ≡ Some r
+    → Leaves rest c m.desktop → Leaves rest c (tells_unless b change events k r m).desktop
 tells-leaves-by rest true change events k c r m quiet e h = h
 tells-leaves-by rest false change events k c r m quiet e h =
     number-leaves rest m.desktop.clients k c _ h
@@ -84,11 +91,13 @@ tells-leaves-by rest false change events k c r m quiet e h =
     (moved-leaves rest r.peer.status (change r).peer.status r.peer.rest (change r).peer.rest (quiet r).0 (quiet r).1
     (subst (λ (o : Option Resident). LeavesAt rest o) e (subst (λ (n : ℕ). Leaves rest n m.desktop) (sym same) h))))
 
-tells-leaves-at : (rest : List ℕ) (change : Resident → Resident) (events : Resident → List Said) (k c : ℕ) (o : Option Resident) (m : Midstep) → IsQuiet change → client_at k m.desktop ≡ o → Leaves rest c m.desktop → Leaves rest c (tells_at change events k o m).desktop
+tells-leaves-at : (rest : List ℕ) (change : Resident → Resident) (events : Resident → List Said) (k c : ℕ) (o : Option Resident) (m : Midstep) → IsQuiet change → client_at k m.desktop ≡ o
+    → Leaves rest c m.desktop → Leaves rest c (tells_at change events k o m).desktop
 tells-leaves-at rest change events k c None m quiet e h = h
 tells-leaves-at rest change events k c (Some r) m quiet e h = tells-leaves-by rest (is_some r.peer.status || is_struck k m.struck) change events k c r m quiet e h
 
-tells-leaves : (rest : List ℕ) (change : Resident → Resident) (events : Resident → List Said) (k c : ℕ) (m : Midstep) → IsQuiet change → Leaves rest c m.desktop → Leaves rest c (tells change events k m).desktop
+tells-leaves : (rest : List ℕ) (change : Resident → Resident) (events : Resident → List Said) (k c : ℕ) (m : Midstep) → IsQuiet change → Leaves rest c m.desktop
+    → Leaves rest c (tells change events k m).desktop
 tells-leaves rest change events k c m quiet h = tells-leaves-at rest change events k c (client_at k m.desktop) m quiet refl h
 
 -- ---- the focus, and ends
@@ -109,7 +118,8 @@ moves-leaves : (rest : List ℕ) (c : ℕ) (b : Bool) (t : Option Target) (m : M
 moves-leaves rest c true t m h = h
 moves-leaves rest c false t m h = entered-leaves rest c t (all_windows m.desktop) (leaves m.desktop.pointer.focus m) (left-leaves rest c m.desktop.pointer.focus m h)
 
-become-leaves : (rest : List ℕ) (s : Option Cause) (k c : ℕ) (r : Resident) (q : Peer) (d : Desktop) → (k ≡ c → LeavesBy rest q.status q.rest) → Leaves rest c d → Leaves rest c (after_status s k (become_by s k r q d))
+become-leaves : (rest : List ℕ) (s : Option Cause) (k c : ℕ) (r : Resident) (q : Peer) (d : Desktop) → (k ≡ c → LeavesBy rest q.status q.rest) → Leaves rest c d
+    → Leaves rest c (after_status s k (become_by s k r q d))
 become-leaves rest None k c r q d f h = number-leaves rest d.clients k c (Some (record r { peer = q })) h f
 become-leaves rest (Some why) k c r q d f h = number-leaves rest d.clients k c _ h f
 
@@ -117,7 +127,8 @@ ended-leaves-at : (rest : List ℕ) (why : Cause) (k c : ℕ) (o : Option Reside
 ended-leaves-at rest why k c None d h = h
 ended-leaves-at rest why k c (Some r) d h = become-leaves rest (Some why) k c r (ended why r.peer) d (λ same. tt) h
 
-first-leaves : (rest : List ℕ) (c : ℕ) (next : Midstep → Desktop) → ((m : Midstep) → Leaves rest c m.desktop → Leaves rest c (next m)) → (ss : List Strike) (d : Desktop) → Leaves rest c d → Leaves rest c (ends_first next ss d)
+first-leaves : (rest : List ℕ) (c : ℕ) (next : Midstep → Desktop) → ((m : Midstep) → Leaves rest c m.desktop → Leaves rest c (next m)) → (ss : List Strike) (d : Desktop) → Leaves rest c d
+    → Leaves rest c (ends_first next ss d)
 first-leaves rest c next keeps [] d h = h
 first-leaves rest c next keeps (s ∷ ss) d h = keeps _ (ended-leaves-at rest s.cause s.client c (client_at s.client d) d h)
 
@@ -137,7 +148,8 @@ without-quiet : (gone : List Callback) (p : Peer) → ((fold (λ p callback. rem
 without-quiet [] p = (refl, refl)
 without-quiet (callback ∷ gone) p = without-quiet gone (removed callback.id p)
 
-effect-quiet : (c surface : ℕ) (effect : Effect) (x : Option XdgSurface) (d : Desktop) (r : Resident) → ((effect_done c surface effect x d r).peer.status ≡ r.peer.status) × ((effect_done c surface effect x d r).peer.rest ≡ r.peer.rest)
+effect-quiet : (c surface : ℕ) (effect : Effect) (x : Option XdgSurface) (d : Desktop) (r : Resident) → ((effect_done c surface effect x d r).peer.status ≡ r.peer.status)
+    × ((effect_done c surface effect x d r).peer.rest ≡ r.peer.rest)
 effect-quiet c surface effect None d r = (refl, refl)
 effect-quiet c surface Stays (Some x) d r = (refl, refl)
 effect-quiet c surface Unconfigured (Some x) d r = (refl, refl)
@@ -149,7 +161,8 @@ mode-quiet : (link : ℕ) (b : Bool) (r : Resident) → ((mode_set link b r).pee
 mode-quiet link true r = (refl, refl)
 mode-quiet link false r = (refl, refl)
 
-popup-quiet : (id xdg parent : ℕ) (p : Positioner) (x : Option XdgSurface) (r : Resident) → ((popup_given_to id xdg parent p x r).peer.status ≡ r.peer.status) × ((popup_given_to id xdg parent p x r).peer.rest ≡ r.peer.rest)
+popup-quiet : (id xdg parent : ℕ) (p : Positioner) (x : Option XdgSurface) (r : Resident) → ((popup_given_to id xdg parent p x r).peer.status ≡ r.peer.status)
+    × ((popup_given_to id xdg parent p x r).peer.rest ≡ r.peer.rest)
 popup-quiet id xdg parent p None r = (refl, refl)
 popup-quiet id xdg parent p (Some x) r = (refl, refl)
 
@@ -217,7 +230,8 @@ why-leaves rest c None d h = h
 why-leaves rest c (Some why) d h = ended-leaves-at rest why c c (client_at c d) d h
 
 module _ (out : LeftOut) where
-  done-leaves : (rest : List ℕ) (c : ℕ) (demand : Demand) (r : Resident) (d : Desktop) (there : Resident) → client_at c d ≡ Some there → LeavesBy rest r.peer.status r.peer.rest → Leaves rest c (done out c demand r d)
+  done-leaves : (rest : List ℕ) (c : ℕ) (demand : Demand) (r : Resident) (d : Desktop) (there : Resident) → client_at c d ≡ Some there → LeavesBy rest r.peer.status r.peer.rest
+      → Leaves rest c (done out c demand r d)
   done-leaves rest c demand r d there e h =
       let new : Resident = changed_for c demand r d in
       let told : Peer × Option Cause = queued_to (replies out c demand r new (all_windows d) d) new.peer in
@@ -232,7 +246,8 @@ module _ (out : LeftOut) where
   refused-by rest true cause p q = tt
   refused-by rest false cause p q = tt
 
-  become-put : (rest : List ℕ) (s : Option Cause) (c : ℕ) (r : Resident) (q : Peer) (d : Desktop) (there : Resident) → client_at c d ≡ Some there → LeavesBy rest q.status q.rest → Leaves rest c (after_status s c (become_by s c r q d))
+  become-put : (rest : List ℕ) (s : Option Cause) (c : ℕ) (r : Resident) (q : Peer) (d : Desktop) (there : Resident) → client_at c d ≡ Some there → LeavesBy rest q.status q.rest
+      → Leaves rest c (after_status s c (become_by s c r q d))
   become-put rest None c r q d there e h = put-leaves rest c (Some (record r { peer = q })) d there e h
   become-put rest (Some why) c r q d there e h =
       subst (λ (o : Option Resident). LeavesAt rest o) (sym (number-same d.clients c (Some (resident_of q)) there e)) h
@@ -243,7 +258,8 @@ module _ (out : LeftOut) where
       all-leaves rest c (becomes c r q d)
       (become-put rest q.status c r q d there e (refused-by rest (has_room r.peer.unsent (error_told refusal)) _ r.peer (queued (error_told refusal) r.peer)))
 
-  answered-leaves : (rest : List ℕ) (judged : Result Demand Refusal) (c : ℕ) (r : Resident) (d : Desktop) (there : Resident) → client_at c d ≡ Some there → LeavesBy rest r.peer.status r.peer.rest → Leaves rest c (answered out judged c r d)
+  answered-leaves : (rest : List ℕ) (judged : Result Demand Refusal) (c : ℕ) (r : Resident) (d : Desktop) (there : Resident) → client_at c d ≡ Some there → LeavesBy rest r.peer.status r.peer.rest
+      → Leaves rest c (answered out judged c r d)
   answered-leaves rest (Ok demand) c r d there e h = done-leaves rest c demand (with_peer (counted r.peer) r) d there e h
   answered-leaves rest (Err refusal) c r d there e h = refused-leaves rest refusal c r d there e
 
@@ -287,7 +303,8 @@ module _ (out : LeftOut) where
       let h = sized-by (nat_lt (length r) 8) (is_size (word_of 4 r / 65536)) (nat_lt (length r) (word_of 4 r / 65536)) (word_of 0 r) (word_of 4 r % 65536) (word_of 4 r / 65536) a b size e in
       subst (λ (n : ℕ). 1 ≤ n) h.1 (is_size-some (word_of 4 r / 65536) h.0)
 
-  taken-within : (n c : ℕ) (s : Split) (r : Resident) (d : Desktop) → client_at c d ≡ Some r → r.peer.status ≡ None → split_of r.peer.rest ≡ s → (split_of r.peer.rest ≡ More) ⊎ (length r.peer.rest ≤ suc n) → IsWithin n c (taken out s c r d)
+  taken-within : (n c : ℕ) (s : Split) (r : Resident) (d : Desktop) → client_at c d ≡ Some r → r.peer.status ≡ None → split_of r.peer.rest ≡ s → (split_of r.peer.rest ≡ More)
+      ⊎ (length r.peer.rest ≤ suc n) → IsWithin n c (taken out s c r d)
   taken-within n c More r d e alive split h =
       subst (λ (o : Option Resident). IsWithinAt n o) (sym e) (subst (λ (s : Option Cause). IsWithinBy n s r.peer.rest) (sym alive) (inl split))
   taken-within n c Bad r d e alive split h = short-within n c [] (became c r (refused (display_error InvalidMethod) r.peer) d) (omega arith) (refused-leaves [] (display_error InvalidMethod) c r d r e)

@@ -39,7 +39,8 @@ only X to old x after =
     }
 
 -- a choice, and what comes then
-pub chained : (Y X : Type 0) (by : Y → Midstep) (to : X → Midstep) (old : Midstep) (P : Y → Type 0) (Q : Y → X → Type 0) → Leads Y by old P → ((y : Y) → P y → Leads X to (by y) (Q y)) → Leads X to old (λ new. (y : Y) × P y × Q y new)
+pub chained : (Y X : Type 0) (by : Y → Midstep) (to : X → Midstep) (old : Midstep) (P : Y → Type 0) (Q : Y → X → Type 0) → Leads Y by old P → ((y : Y) → P y → Leads X to (by y) (Q y))
+    → Leads X to old (λ new. (y : Y) × P y × Q y new)
 chained Y X by to old P Q first next =
     record {
       follows = λ new h. follows-on (first.follows h.0 h.1) ((next h.0 h.1).follows new h.2);
@@ -80,7 +81,8 @@ given X to old A P leads =
     }
 
 -- what isn't spared, or else
-pub unless : (X : Type 0) (to : X → Midstep) (old : Midstep) (P Q : X → Type 0) → Leads X to old P → ((new : X) → P new → Spares old (to new) → ⊥) → Leads X to old Q → Leads X to old (λ new. P new ⊎ Q new)
+pub unless : (X : Type 0) (to : X → Midstep) (old : Midstep) (P Q : X → Type 0) → Leads X to old P → ((new : X) → P new → Spares old (to new) → ⊥) → Leads X to old Q
+    → Leads X to old (λ new. P new ⊎ Q new)
 unless X to old P Q first never second = record { follows = after; once = alike }
   where
     after : (new : X) → P new ⊎ Q new → After old (to new)

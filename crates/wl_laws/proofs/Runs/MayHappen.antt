@@ -14,7 +14,9 @@ use Rattle.wl_peer.specs.Plain.{or_slow as refused_or, refused}
 use Rattle.wl_peer.specs.Told.{Said, code_number, display_error, error_told}
 use Rattle.wl_scene.specs.Pointer.{Target, is_down, is_press}
 use Rattle.wl_scene.specs.Windows.{Window}
-use Rattle.wl_laws.specs.Ample.{answered, became, buttons, changes_at, connects_at, dismisses, dismisses_unless, done, ends_and_settles, ends_first, enters, fed_at, fed_by, frames_to, happened, held_so, leaves, left_at, left_by, motion_for, motion_settles, moved_to, moves_unless, or_slow, pressed_if, queued_to, released_if, served_all, served_at, served_by, settles, settles_all, settles_ends, shown, taken, tells, tells_at, tells_button, tells_unless}
+use Rattle.wl_laws.specs.Ample.{answered, became, buttons, changes_at, connects_at, dismisses, dismisses_unless, done, ends_and_settles, ends_first, enters, fed_at, fed_by, frames_to, happened}
+use Rattle.wl_laws.specs.Ample.{held_so, leaves, left_at, left_by, motion_for, motion_settles, moved_to, moves_unless, or_slow, pressed_if, queued_to, released_if, served_all, served_at, served_by}
+use Rattle.wl_laws.specs.Ample.{settles, settles_all, settles_ends, shown, taken, tells, tells_at, tells_button, tells_unless}
 use Rattle.wl_plain.specs.declared.answers.ConnectError.TheVariants.{Full}
 use Rattle.wl_plain.specs.declared.answers.Done.{Done}
 use Rattle.wl_plain.specs.declared.answers.Done.TheVariants as gave
@@ -26,17 +28,21 @@ use Rattle.wl_plain.specs.Demanding.{judge_all}
 use Rattle.wl_plain.specs.Desktop.{Desktop, Resident, client_at, with_client, status_in}
 use Rattle.wl_plain.specs.LeftOut.{LeftOut}
 use Rattle.wl_plain.specs.Replies.{replies}
-use Rattle.wl_plain.specs.Settling.{EndsAndSettles, EndsFirst, Enters, Leaves, MovesUnless, Midstep, QueuesFirst, QueuesTo, Settles, SettlesAll, SettlesEnds, Strike, Tells, TellsAt, TellsUnless, becomes, ended_all, is_settled, is_struck, target_now, unstruck}
+use Rattle.wl_plain.specs.Settling.{EndsAndSettles, EndsFirst, Enters, Leaves, MovesUnless, Midstep, QueuesFirst, QueuesTo, Settles, SettlesAll, SettlesEnds, Strike, Tells, TellsAt, TellsUnless}
+use Rattle.wl_plain.specs.Settling.{becomes, ended_all, is_settled, is_struck, target_now, unstruck}
 use Rattle.wl_plain.specs.Stacked.{all_windows}
 use Rattle.wl_plain.specs.Step.{with_peer}
 use Rattle.wl_laws.proofs.Runs.Idling.{IsTaken, all-taken}
 use Rattle.wl_plain.specs.Acts.{Act, Connect, Feed, Store, Leave, Tick, Send, Close, Motion, Button, IsClosed, IsSent, IsStored, closed_by, fed_of, lowest, stored_of}
 use Rattle.wl_laws.proofs.Runs.Forms.{ConnectsAt, Answers, Becomes, Buttons, ChangesAt, Does, LeavesAt, MovesTo, PressesIf, ReleasesIf, ServesAt, Shows, Takes, WantsOr, after_why}
-use Rattle.wl_plain.specs.Happens.{Dismisses, DismissesUnless, FeedsAt, Happens, IsFedAt, MotionSettles, Reaches, StopsAt, TellsButton, TellsFrames, TellsMotion, done_for, hit_now, is_hit_of, point_in, pointed, raised_by, wants_memory, with_press, with_release}
+use Rattle.wl_plain.specs.Happens.{Dismisses, DismissesUnless, FeedsAt, Happens, IsFedAt, MotionSettles, Reaches, StopsAt, TellsButton, TellsFrames, TellsMotion, done_for, hit_now, is_hit_of}
+use Rattle.wl_plain.specs.Happens.{point_in, pointed, raised_by, wants_memory, with_press, with_release}
 
 -- ---- events
 
-queues-first : (b : Bool) (events : List Said) (next p : Peer) → QueuesTo events next (queued_to events next).0 (queued_to events next).1 → QueuesFirst b (QueuesTo events next (or_slow b (queued_to events next) p).0 (or_slow b (queued_to events next) p).1) p (or_slow b (queued_to events next) p).0 (or_slow b (queued_to events next) p).1
+queues-first : (b : Bool) (events : List Said) (next p : Peer) → QueuesTo events next (queued_to events next).0 (queued_to events next).1
+    → QueuesFirst b (QueuesTo events next (or_slow b (queued_to events next) p).0 (or_slow b (queued_to events next) p).1) p (or_slow b (queued_to events next) p).0
+    (or_slow b (queued_to events next) p).1
 queues-first false events next p h = (refl, refl)
 queues-first true events next p h = inr h
 
@@ -92,7 +98,9 @@ ends-and-settles mid = settles-all 33 (unstruck (ended_all mid.struck mid.deskto
 
 -- ---- messages
 
-errs-first : (b : Bool) (refusal : Refusal) (p : Peer) → QueuesOr b (refused_or b (ended (cause.Protocol refusal.object (code_number refusal.code)) (queued (error_told refusal) p)) p ≡ ended (cause.Protocol refusal.object (code_number refusal.code)) (queued (error_told refusal) p)) p (refused_or b (ended (cause.Protocol refusal.object (code_number refusal.code)) (queued (error_told refusal) p)) p)
+errs-first : (b : Bool) (refusal : Refusal) (p : Peer)
+    → QueuesOr b (refused_or b (ended (cause.Protocol refusal.object (code_number refusal.code)) (queued (error_told refusal) p)) p ≡ ended (cause.Protocol refusal.object (code_number refusal.code))
+    (queued (error_told refusal) p)) p (refused_or b (ended (cause.Protocol refusal.object (code_number refusal.code)) (queued (error_told refusal) p)) p)
 errs-first false refusal p = refl
 errs-first true refusal p = inr refl
 
@@ -124,7 +132,8 @@ module _ (out : LeftOut) where
   answers-so (Err refusal) c r d = becomes-so refusal c r d
 
   -- a message that is there is taken, or the client is done
-  extended : (c n k : ℕ) (d mid : Desktop) (r : Resident) (s : Split) → Reaches out c k d mid → client_at c mid ≡ Some r → r.peer.status ≡ None → split_of r.peer.rest ≡ s → (j : ℕ) × Reaches out c j d (taken out s c r mid)
+  extended : (c n k : ℕ) (d mid : Desktop) (r : Resident) (s : Split) → Reaches out c k d mid → client_at c mid ≡ Some r → r.peer.status ≡ None → split_of r.peer.rest ≡ s → (j : ℕ)
+      × Reaches out c j d (taken out s c r mid)
   extended c n k d mid r (Message object opcode size) h e alive split = (
     suc k,
     (
@@ -148,7 +157,8 @@ module _ (out : LeftOut) where
   )
   extended c n k d mid r More h e alive split = (k, h)
 
-  reached-by : (c n k : ℕ) (d mid : Desktop) (r : Resident) (s : Option Cause) → Reaches out c k d mid → client_at c mid ≡ Some r → r.peer.status ≡ s → (j : ℕ) × Reaches out c j d (served_by out c s r mid)
+  reached-by : (c n k : ℕ) (d mid : Desktop) (r : Resident) (s : Option Cause) → Reaches out c k d mid → client_at c mid ≡ Some r → r.peer.status ≡ s → (j : ℕ)
+      × Reaches out c j d (served_by out c s r mid)
   reached-by c n k d mid r None h e alive = extended c n k d mid r (split_of r.peer.rest) h e alive refl
   reached-by c n k d mid r (Some cause) h e alive = (k, h)
 
@@ -184,11 +194,13 @@ module _ (out : LeftOut) where
   connects-so None d = (gave.Connect (Err Full), (refl, refl))
   connects-so (Some k) d = (gave.Connect (Ok (k + 1)), inr (refl, refl))
 
-  changes-by : (R : Peer → Done → Option Peer → Type 0) (absent done : Done) (c : ℕ) (r : Resident) (q : Option Peer) (d : Desktop) → R r.peer done q → ChangesAt R absent c (Some r) d done (held_so c r q d)
+  changes-by : (R : Peer → Done → Option Peer → Type 0) (absent done : Done) (c : ℕ) (r : Resident) (q : Option Peer) (d : Desktop) → R r.peer done q
+      → ChangesAt R absent c (Some r) d done (held_so c r q d)
   changes-by R absent done c r None d h = (None, h, refl)
   changes-by R absent done c r (Some q) d h = (Some q, h, refl)
 
-  changes-so : (R : Peer → Done → Option Peer → Type 0) (absent : Done) (answer : Peer → Done) (change : Peer → Option Peer) → ((p : Peer) → R p (answer p) (change p)) → (c : ℕ) (o : Option Resident) (d : Desktop) → (done : Done) × ChangesAt R absent c o d done (changes_at change c o d)
+  changes-so : (R : Peer → Done → Option Peer → Type 0) (absent : Done) (answer : Peer → Done) (change : Peer → Option Peer) → ((p : Peer) → R p (answer p) (change p))
+      → (c : ℕ) (o : Option Resident) (d : Desktop) → (done : Done) × ChangesAt R absent c o d done (changes_at change c o d)
   changes-so R absent answer change so c None d = (absent, (refl, refl))
   changes-so R absent answer change so c (Some r) d = (answer r.peer, changes-by R absent (answer r.peer) c r (change r.peer) d (so r.peer))
 

@@ -11,7 +11,8 @@ use Rattle.wl_plain.specs.Pointing.{button_told, has_pointers, motion_told}
 use Rattle.wl_plain.specs.Replies.{focus_window, popups_done}
 use Rattle.wl_plain.specs.Settling.{EndsAndSettles, Midstep, Settles, SettlesEnds, is_settled, unstruck}
 use Rattle.wl_plain.specs.Stacked.{all_windows}
-use Rattle.wl_plain.specs.Happens.{Dismisses, DismissesUnless, MotionSettles, TellsButton, TellsFrames, TellsMotion, callbacks_due, frames_told, hit_now, is_hit_of, noted, noted_if, number_of, raised_by, with_press, with_release, without_grabs}
+use Rattle.wl_plain.specs.Happens.{Dismisses, DismissesUnless, MotionSettles, TellsButton, TellsFrames, TellsMotion, callbacks_due, frames_told, hit_now, is_hit_of, noted, noted_if, number_of}
+use Rattle.wl_plain.specs.Happens.{raised_by, with_press, with_release, without_grabs}
 use Rattle.wl_laws.proofs.Runs.Forms.{Buttons, MovesTo, PressedSo, PressesIf, ReleasedSo, ReleasesIf, Shows}
 use Rattle.wl_laws.proofs.Runs.Ends.{drawn-status, end_all-leads, ends-leads, settles-leads, tells-leads}
 use Rattle.wl_laws.proofs.Runs.Fates.{Follows, lasting, still}

@@ -25,7 +25,8 @@ Same : Done → Done → Desktop → Desktop → Type 0
 Same done other new end = (done ≡ other) × (new ≡ end)
 
 -- the answer goes by what happened
-answered-once : (P : Desktop → Type 0) (answer : Desktop → Done) (d new end : Desktop) (done other : Done) → Leads Desktop unstruck (unstruck d) P → P new → P end → done ≡ answer new → other ≡ answer end → Spares (unstruck d) (unstruck new) → Spares (unstruck d) (unstruck end) → Same done other new end
+answered-once : (P : Desktop → Type 0) (answer : Desktop → Done) (d new end : Desktop) (done other : Done) → Leads Desktop unstruck (unstruck d) P → P new → P end → done ≡ answer new
+    → other ≡ answer end → Spares (unstruck d) (unstruck new) → Spares (unstruck d) (unstruck end) → Same done other new end
 unfolding Same
 answered-once P answer d new end done other leads h k e f fine well =
     let same = leads.once new end h k fine well in (e ∙ ap answer same ∙ sym f, same)
@@ -35,7 +36,8 @@ stays-leads d = only Desktop unstruck (unstruck d) d (still _ d.clients tt)
 
 -- ---- a client connects
 
-connects-once : (k : Option ℕ) (d new end : Desktop) (done other : Done) → ConnectsAt k d done new → ConnectsAt k d other end → HadMemory Connect done d new → HadMemory Connect other d end → Same done other new end
+connects-once : (k : Option ℕ) (d new end : Desktop) (done other : Done) → ConnectsAt k d done new → ConnectsAt k d other end → HadMemory Connect done d new → HadMemory Connect other d end
+    → Same done other new end
 unfolding Same
 connects-once None d new end done other h k fine well = (h.0 ∙ sym k.0, h.1 ∙ sym k.1)
 connects-once (Some n) d new end done other (inl h) k fine well = absurd (fine.0 refl h.0)
@@ -49,13 +51,15 @@ connects-long (Some n) d new done (inr h) = ap (λ x. length x.clients) h.1 ∙ 
 
 -- ---- a client is fed
 
-fed-once : (out : LeftOut) (c : ℕ) (piece : List ℕ) (o : Option Resident) (d new end : Desktop) (done other : Done) → client_at c d ≡ o → lasting d.clients ≤ 32 → IsFedAt out c piece o d done new → IsFedAt out c piece o d other end → Spares (unstruck d) (unstruck new) → Spares (unstruck d) (unstruck end) → Same done other new end
+fed-once : (out : LeftOut) (c : ℕ) (piece : List ℕ) (o : Option Resident) (d new end : Desktop) (done other : Done) → client_at c d ≡ o → lasting d.clients ≤ 32 → IsFedAt out c piece o d done new
+    → IsFedAt out c piece o d other end → Spares (unstruck d) (unstruck new) → Spares (unstruck d) (unstruck end) → Same done other new end
 fed-once out c piece None d new end done other is few h k fine well =
     answered-once (λ new. new ≡ d) (λ new. gave.Feed NoClient) d new end done other (stays-leads d) h.1 k.1 h.0 k.0 fine well
 fed-once out c piece (Some r) d new end done other is few h k fine well =
     answered-once (FeedsAt out c piece r.peer.status r d) (λ new. gave.Feed (fed_of (status_in c new))) d new end done other (feeds-leads out c piece r d is few) h.0 k.0 h.1 k.1 fine well
 
-pub fed-after : (out : LeftOut) (c : ℕ) (piece : List ℕ) (o : Option Resident) (d new : Desktop) (done : Done) → client_at c d ≡ o → lasting d.clients ≤ 32 → IsFedAt out c piece o d done new → After (unstruck d) (unstruck new)
+pub fed-after : (out : LeftOut) (c : ℕ) (piece : List ℕ) (o : Option Resident) (d new : Desktop) (done : Done) → client_at c d ≡ o → lasting d.clients ≤ 32 → IsFedAt out c piece o d done new
+    → After (unstruck d) (unstruck new)
 fed-after out c piece None d new done is few h = (stays-leads d).follows new h.1
 fed-after out c piece (Some r) d new done is few h = (feeds-leads out c piece r d is few).follows new h.0
 
@@ -65,24 +69,28 @@ fed-after out c piece (Some r) d new done is few h = (feeds-leads out c piece r 
 so : Option Cause → Resident → Resident
 so s r = record r { peer = record r.peer { status = s } }
 
-gone-leads : (c : ℕ) (r : Resident) (d : Desktop) → Lives c d.clients → lasting d.clients ≤ 32 → Leads Desktop unstruck (unstruck d) (EndsAndSettles (unstruck (becomes c r (ended cause.Gone r.peer) d)))
+gone-leads : (c : ℕ) (r : Resident) (d : Desktop) → Lives c d.clients → lasting d.clients ≤ 32
+    → Leads Desktop unstruck (unstruck d) (EndsAndSettles (unstruck (becomes c r (ended cause.Gone r.peer) d)))
 gone-leads c r d lives few =
     from Desktop unstruck (unstruck d) (unstruck (becomes c r (ended cause.Gone r.peer) d)) (EndsAndSettles (unstruck (becomes c r (ended cause.Gone r.peer) d)))
     (becomes-after c d lives r (ended cause.Gone r.peer)) (settled-leads c d lives few r (ended cause.Gone r.peer))
 
-left-once : (c : ℕ) (s : Option Cause) (r : Resident) (d new end : Desktop) (done other : Done) → (s ≡ None → Lives c d.clients) → lasting d.clients ≤ 32 → LeavesAt c (Some (so s r)) d done new → LeavesAt c (Some (so s r)) d other end → Spares (unstruck d) (unstruck new) → Spares (unstruck d) (unstruck end) → Same done other new end
+left-once : (c : ℕ) (s : Option Cause) (r : Resident) (d new end : Desktop) (done other : Done) → (s ≡ None → Lives c d.clients) → lasting d.clients ≤ 32 → LeavesAt c (Some (so s r)) d done new
+    → LeavesAt c (Some (so s r)) d other end → Spares (unstruck d) (unstruck new) → Spares (unstruck d) (unstruck end) → Same done other new end
 unfolding so
 left-once c (Some cause) r d new end done other lives few h k fine well =
     answered-once (λ new. new ≡ d) (λ new. gave.Gone false) d new end done other (stays-leads d) h.1 k.1 h.0 k.0 fine well
 left-once c None r d new end done other lives few h k fine well =
     answered-once _ (λ new. gave.Gone true) d new end done other (gone-leads c (so None r) d (lives refl) few) h.1 k.1 h.0 k.0 fine well
 
-left-after : (c : ℕ) (s : Option Cause) (r : Resident) (d new : Desktop) (done : Done) → (s ≡ None → Lives c d.clients) → lasting d.clients ≤ 32 → LeavesAt c (Some (so s r)) d done new → After (unstruck d) (unstruck new)
+left-after : (c : ℕ) (s : Option Cause) (r : Resident) (d new : Desktop) (done : Done) → (s ≡ None → Lives c d.clients) → lasting d.clients ≤ 32 → LeavesAt c (Some (so s r)) d done new
+    → After (unstruck d) (unstruck new)
 unfolding so
 left-after c (Some cause) r d new done lives few h = (stays-leads d).follows new h.1
 left-after c None r d new done lives few h = (gone-leads c (so None r) d (lives refl) few).follows new h.1
 
-leaves-once : (c : ℕ) (o : Option Resident) (d new end : Desktop) (done other : Done) → client_at c d ≡ o → lasting d.clients ≤ 32 → LeavesAt c o d done new → LeavesAt c o d other end → Spares (unstruck d) (unstruck new) → Spares (unstruck d) (unstruck end) → Same done other new end
+leaves-once : (c : ℕ) (o : Option Resident) (d new end : Desktop) (done other : Done) → client_at c d ≡ o → lasting d.clients ≤ 32 → LeavesAt c o d done new → LeavesAt c o d other end
+    → Spares (unstruck d) (unstruck new) → Spares (unstruck d) (unstruck end) → Same done other new end
 unfolding so
 leaves-once c None d new end done other is few h k fine well =
     answered-once (λ new. new ≡ d) (λ new. gave.Gone false) d new end done other (stays-leads d) h.1 k.1 h.0 k.0 fine well
@@ -101,11 +109,13 @@ abbrev pub held : Option Peer → ℕ → Resident → Desktop → Desktop
 held None c r d = with_client c None d
 held (Some q) c r d = with_client c (Some (with_peer q r)) d
 
-pub changed-held : (R : Peer → Done → Option Peer → Type 0) (absent done : Done) (c : ℕ) (r : Resident) (d new : Desktop) → ChangesAt R absent c (Some r) d done new → (q : Option Peer) × R r.peer done q × (new ≡ held q c r d)
+pub changed-held : (R : Peer → Done → Option Peer → Type 0) (absent done : Done) (c : ℕ) (r : Resident) (d new : Desktop) → ChangesAt R absent c (Some r) d done new → (q : Option Peer)
+    × R r.peer done q × (new ≡ held q c r d)
 changed-held R absent done c r d new (None, h, e) = (None, h, e)
 changed-held R absent done c r d new (Some q, h, e) = (Some q, h, e)
 
-changes-once : (R : Peer → Done → Option Peer → Type 0) → ((p : Peer) (a b : Done) (q r : Option Peer) → R p a q → R p b r → (a ≡ b) × (q ≡ r)) → (absent done other : Done) (c : ℕ) (o : Option Resident) (d new end : Desktop) → ChangesAt R absent c o d done new → ChangesAt R absent c o d other end → Same done other new end
+changes-once : (R : Peer → Done → Option Peer → Type 0) → ((p : Peer) (a b : Done) (q r : Option Peer) → R p a q → R p b r → (a ≡ b) × (q ≡ r))
+    → (absent done other : Done) (c : ℕ) (o : Option Resident) (d new end : Desktop) → ChangesAt R absent c o d done new → ChangesAt R absent c o d other end → Same done other new end
 unfolding Same
 changes-once R once absent done other c None d new end h k = (h.0 ∙ sym k.0, h.1 ∙ sym k.1)
 changes-once R once absent done other c (Some r) d new end h k =

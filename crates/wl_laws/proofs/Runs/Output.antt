@@ -15,16 +15,19 @@ use Rattle.wl_scene.specs.Pointer.{Target, is_down, is_press}
 use Rattle.wl_scene.specs.Windows.{Window}
 use Rattle.wl_plain.specs.declared.answers.Done.{Done}
 use Rattle.wl_plain.specs.Changing.{changed_for, grab_holder, stacked_by, stacked_for}
-use Rattle.wl_plain.specs.Demand.{Demand, Asks, EndSurface, AskFrame, CommitTree, EndObject, GetSubsurface, EndSubsurface, SetMode, GetPointer, MakeCursor, CreatePositioner, EndPositioner, SetPositioner, GetPopup, Grab, EndPopup, EndToplevel, Move}
+use Rattle.wl_plain.specs.Demand.{Demand, Asks, EndSurface, AskFrame, CommitTree, EndObject, GetSubsurface, EndSubsurface, SetMode, GetPointer, MakeCursor, CreatePositioner, EndPositioner}
+use Rattle.wl_plain.specs.Demand.{SetPositioner, GetPopup, Grab, EndPopup, EndToplevel, Move}
 use Rattle.wl_plain.specs.Demanding.{effect_of_commit}
 use Rattle.wl_plain.specs.Desktop.{Desktop, Resident, arrival, become, become_by, client_at, with_client}
 use Rattle.wl_plain.specs.LeftOut.{LeftOut}
-use Rattle.wl_plain.specs.Settling.{EndsAndSettles, EndsFirst, Enters, Leaves, MovesUnless, Midstep, Settles, SettlesAll, SettlesEnds, Strike, Tells, TellsAt, TellsUnless, after_status, becomes, ended_all, ended_at, ended_by, is_settled, target_now, unstruck}
+use Rattle.wl_plain.specs.Settling.{EndsAndSettles, EndsFirst, Enters, Leaves, MovesUnless, Midstep, Settles, SettlesAll, SettlesEnds, Strike, Tells, TellsAt, TellsUnless, after_status, becomes}
+use Rattle.wl_plain.specs.Settling.{ended_all, ended_at, ended_by, is_settled, target_now, unstruck}
 use Rattle.wl_plain.specs.Stacked.{all_windows}
 use Rattle.wl_plain.specs.Step.{with_peer}
 use Rattle.wl_plain.specs.Acts.{Act, Connect, Feed, Store, Leave, Tick, Send, Close, Motion, Button, lowest}
 use Rattle.wl_laws.proofs.Runs.Forms.{ConnectsAt, Answers, Becomes, ChangesAt, Does, LeavesAt, PressedSo, PressesIf, ReleasesIf, ServesAt, Takes, WantsOr, after_why}
-use Rattle.wl_plain.specs.Happens.{Dismisses, DismissesUnless, FeedsAt, Happens, IsFedAt, MotionSettles, Reaches, StopsAt, TellsButton, TellsFrames, TellsMotion, done_for, hit_now, is_hit_of, point_in, pointed, raised_by, wants_memory, with_press}
+use Rattle.wl_plain.specs.Happens.{Dismisses, DismissesUnless, FeedsAt, Happens, IsFedAt, MotionSettles, Reaches, StopsAt, TellsButton, TellsFrames, TellsMotion, done_for, hit_now, is_hit_of}
+use Rattle.wl_plain.specs.Happens.{point_in, pointed, raised_by, wants_memory, with_press}
 
 -- ---- what a step is made of
 

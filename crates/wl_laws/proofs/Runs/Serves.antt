@@ -15,7 +15,8 @@ use Rattle.wl_shell.specs.Popups.{is_toplevel}
 use Rattle.wl_shell.specs.Shell.{Effect, Stays, Unconfigured, Configures, Maps, Unmaps}
 use Rattle.wl_scene.specs.Windows.{Window}
 use Rattle.wl_plain.specs.Changing.{changed_for, stacked_by, stacked_for}
-use Rattle.wl_plain.specs.Demand.{Demand, Asks, EndSurface, AskFrame, CommitTree, EndObject, GetSubsurface, EndSubsurface, SetMode, GetPointer, MakeCursor, CreatePositioner, EndPositioner, SetPositioner, GetPopup, Grab, EndPopup, EndToplevel, Move}
+use Rattle.wl_plain.specs.Demand.{Demand, Asks, EndSurface, AskFrame, CommitTree, EndObject, GetSubsurface, EndSubsurface, SetMode, GetPointer, MakeCursor, CreatePositioner, EndPositioner}
+use Rattle.wl_plain.specs.Demand.{SetPositioner, GetPopup, Grab, EndPopup, EndToplevel, Move}
 use Rattle.wl_plain.specs.Demanding.{effect_of_commit, judge_all}
 use Rattle.wl_plain.specs.Desktop.{Desktop, Resident, become_by, client_at, client_in, resident_of, with_client, with_number, status_in, status_of}
 use Rattle.wl_plain.specs.LeftOut.{LeftOut}
@@ -84,7 +85,8 @@ left_why : Option Cause → Resident → Resident
 left_why None r = r
 left_why (Some cause) r = resident_of (ended cause r.peer)
 
-why-clients : (why : Option Cause) (c : ℕ) (r there : Resident) (d : Desktop) → client_at c d ≡ Some there → (after_why why c (with_client c (Some r) d)).clients ≡ with_number c (Some (left_why why r)) d.clients
+why-clients : (why : Option Cause) (c : ℕ) (r there : Resident) (d : Desktop) → client_at c d ≡ Some there
+    → (after_why why c (with_client c (Some r) d)).clients ≡ with_number c (Some (left_why why r)) d.clients
 unfolding left_why
 why-clients None c r there d is = refl
 why-clients (Some cause) c r there d is =
@@ -238,7 +240,8 @@ idle-by out c None r d new alive idle takes = subst (λ split. Takes out split c
 idle-by out c (Some cause) r d new alive idle takes = none-some cause (sym alive)
 
 -- where memory is there, messages stop where none is left
-stops-spared : (out : LeftOut) (c : ℕ) (d new : Desktop) → lasting d.clients ≤ 32 → StopsAt c (client_at c d) d new → Spares (unstruck d) (unstruck new) → (new ≡ d) × ((mid : Desktop) → Serves out c d mid → ⊥)
+stops-spared : (out : LeftOut) (c : ℕ) (d new : Desktop) → lasting d.clients ≤ 32 → StopsAt c (client_at c d) d new → Spares (unstruck d) (unstruck new) → (new ≡ d)
+    × ((mid : Desktop) → Serves out c d mid → ⊥)
 stops-spared out c d new few h fine = at (client_at c d) refl h
   where
     at : (o : Option Resident) → client_at c d ≡ o → StopsAt c o d new → (new ≡ d) × ((mid : Desktop) → Serves out c d mid → ⊥)
@@ -258,7 +261,8 @@ runs-after out (suc n) c d new few h =
     let first = (serves-leads out c d few).follows h.0 h.1 in
     follows-on first (runs-after out n c h.0 new (omega (arith, few, first.fewer)) h.2)
 
-runs-once : (out : LeftOut) (n k c : ℕ) (d new end : Desktop) → lasting d.clients ≤ 32 → RunsOn out n c d new → RunsOn out k c d end → Spares (unstruck d) (unstruck new) → Spares (unstruck d) (unstruck end) → new ≡ end
+runs-once : (out : LeftOut) (n k c : ℕ) (d new end : Desktop) → lasting d.clients ≤ 32 → RunsOn out n c d new → RunsOn out k c d end → Spares (unstruck d) (unstruck new)
+    → Spares (unstruck d) (unstruck end) → new ≡ end
 unfolding RunsOn
 runs-once out zero zero c d new end few h k fine well = (stops-spared out c d new few h fine).0 ∙ sym (stops-spared out c d end few k well).0
 runs-once out zero (suc m) c d new end few h k fine well = absurd ((stops-spared out c d new few h fine).1 k.0 k.1)
@@ -282,7 +286,8 @@ runs-lead out c d few =
     }
 
 -- a piece comes to a client
-pub feeds-leads : (out : LeftOut) (c : ℕ) (piece : List ℕ) (r : Resident) (d : Desktop) → client_at c d ≡ Some r → lasting d.clients ≤ 32 → Leads Desktop unstruck (unstruck d) (FeedsAt out c piece r.peer.status r d)
+pub feeds-leads : (out : LeftOut) (c : ℕ) (piece : List ℕ) (r : Resident) (d : Desktop) → client_at c d ≡ Some r → lasting d.clients ≤ 32
+    → Leads Desktop unstruck (unstruck d) (FeedsAt out c piece r.peer.status r d)
 feeds-leads out c piece r d is few = at r.peer.status refl
   where
     at : (s : Option Cause) → r.peer.status ≡ s → Leads Desktop unstruck (unstruck d) (FeedsAt out c piece s r d)

@@ -20,7 +20,8 @@ use Rattle.wl_laws.proofs.Runs.Moves.{buttons-leads, shows-leads}
 -- ---- a client connects
 
 -- who comes takes no other's place
-comes-apart : (rs : List (Option Resident)) (k : ℕ) (x : Option Resident) → lowest rs ≡ Some k → (j : ℕ) (why : Cause) → status_of (place rs j) ≡ Some why → status_of (place (with_place k x rs) j) ≡ Some why
+comes-apart : (rs : List (Option Resident)) (k : ℕ) (x : Option Resident) → lowest rs ≡ Some k → (j : ℕ) (why : Cause) → status_of (place rs j) ≡ Some why
+    → status_of (place (with_place k x rs) j) ≡ Some why
 comes-apart [] k x e j why is = is
 comes-apart (None ∷ rs) zero x e zero why is = absurd (none-some why is)
 comes-apart (None ∷ rs) zero x e (suc j) why is = is
@@ -84,7 +85,8 @@ held-stay c other q r d is kept = at (same-or c other) kept
         ∙ subst (λ n. status_in n (with_client c (Some (with_peer kept.0 r)) d) ≡ status_in n d) same
         (ap status_of (number-same d.clients c (Some (with_peer kept.0 r)) r is) ∙ kept.2 ∙ sym (ap status_of is))
 
-changes-stay : (R : Peer → Done → Option Peer → Type 0) (absent done : Done) (c other : ℕ) (o : Option Resident) (d new : Desktop) → client_at c d ≡ o → ((p : Peer) (q : Option Peer) → R p done q → Leaves c other p q) → ChangesAt R absent c o d done new → status_in other new ≡ status_in other d
+changes-stay : (R : Peer → Done → Option Peer → Type 0) (absent done : Done) (c other : ℕ) (o : Option Resident) (d new : Desktop) → client_at c d ≡ o
+    → ((p : Peer) (q : Option Peer) → R p done q → Leaves c other p q) → ChangesAt R absent c o d done new → status_in other new ≡ status_in other d
 changes-stay R absent done c other None d new is keeps h = ap (λ x. status_in other x) h.1
 changes-stay R absent done c other (Some r) d new is keeps h =
     let left = changed-held R absent done c r d new h in

@@ -19,7 +19,8 @@ use Rattle.wl_plain.specs.Acts.{Act, Connect, Feed, Store, Leave, Tick, Send, Cl
 use Rattle.wl_laws.proofs.Runs.Forms.{ConnectsAt}
 use Rattle.wl_plain.specs.Through.{EndsFirstThrough, SettlesAllThrough, ending_through, ends_through, settling_through}
 use Rattle.wl_laws.specs.Through.{HappensLeadsThrough, IsSingle, MessagesLeadThrough}
-use Rattle.wl_plain.specs.Happens.{AnswersThen, BecomesThen, ChangesThen, ConnectsThen, DoesThen, Happens, HappensThen, LeavesThen, PressesThen, ReleasesThen, ServesThen, TakesThen, WantsOrThen, changed_so, ending, settling, wants_memory}
+use Rattle.wl_plain.specs.Happens.{AnswersThen, BecomesThen, ChangesThen, ConnectsThen, DoesThen, Happens, HappensThen, LeavesThen, PressesThen, ReleasesThen, ServesThen, TakesThen, WantsOrThen}
+use Rattle.wl_plain.specs.Happens.{changed_so, ending, settling, wants_memory}
 
 -- ---- a step's own change leads to one desktop in its middle, whatever comes then
 
@@ -30,7 +31,8 @@ module _ {P : Type 0} (N S : Midstep → Type 0) (T U : P → Midstep → Type 0
   did : (left : LeftOut) (c : ℕ) (demand : Demand) (r : Resident) (d : Desktop) → DoesThen left c demand r d N → (p : P) × DoesThen left c demand r d (T p)
   did left c demand r d h = let k = next (changed_so c demand r d h.0 h.1) h.3 in (k.0, (h.0, h.1, h.2, k.1))
 
-  wanted : (b : Bool) (Later : Type 0) (Then : P → Type 0) → (Later → (p : P) × Then p) → (c : ℕ) (r : Resident) (d : Desktop) → WantsOrThen b Later c r d N → (p : P) × WantsOrThen b (Then p) c r d (T p)
+  wanted : (b : Bool) (Later : Type 0) (Then : P → Type 0) → (Later → (p : P) × Then p) → (c : ℕ) (r : Resident) (d : Desktop) → WantsOrThen b Later c r d N → (p : P)
+      × WantsOrThen b (Then p) c r d (T p)
   wanted false Later Then go c r d h = go h
   wanted true Later Then go c r d (inl h) = let k = became (LacksMemory r.peer) c r d h in (k.0, inl k.1)
   wanted true Later Then go c r d (inr h) = let k = go h in (k.0, inr k.1)
@@ -70,7 +72,8 @@ module _ {P : Type 0} (N S : Midstep → Type 0) (T U : P → Midstep → Type 0
           let k = next gone there in
           (k.0, (h.0, rw e k.1))
 
-  changed : (R : Peer → Done → Option Peer → Type 0) (absent : Done) (c : ℕ) (o : Option Resident) (d : Desktop) (done : Done) → ChangesThen R absent c o d done S → (p : P) × ChangesThen R absent c o d done (U p)
+  changed : (R : Peer → Done → Option Peer → Type 0) (absent : Done) (c : ℕ) (o : Option Resident) (d : Desktop) (done : Done) → ChangesThen R absent c o d done S → (p : P)
+      × ChangesThen R absent c o d done (U p)
   changed R absent c None d done h = let k = last (unstruck d) h.1 in (k.0, (h.0, k.1))
   changed R absent c (Some r) d done (None, h, e) = let k = last _ e in (k.0, (None, h, k.1))
   changed R absent c (Some r) d done (Some q, h, e) = let k = last _ e in (k.0, (Some q, h, k.1))
@@ -98,11 +101,13 @@ module _ {P : Type 0} (N S : Midstep → Type 0) (T U : P → Midstep → Type 0
 -- ---- the ends and settlings with the desktops on the way, and without
 
 module _ (N : Midstep → List Desktop → Desktop → Type 0) (M : Midstep → Desktop → Type 0) where
-  first-without : ((m : Midstep) (path : List Desktop) (new : Desktop) → N m path new → M m new) → (ss : List Strike) (d : Desktop) (path : List Desktop) (new : Desktop) → EndsFirstThrough N ss d path new → EndsFirst M ss d new
+  first-without : ((m : Midstep) (path : List Desktop) (new : Desktop) → N m path new → M m new) → (ss : List Strike) (d : Desktop) (path : List Desktop) (new : Desktop)
+      → EndsFirstThrough N ss d path new → EndsFirst M ss d new
   first-without go [] d path new h = h.1
   first-without go (s ∷ ss) d path new h = go (record { desktop = ended_by s d; struck = ss }) h.0 new h.2
 
-  first-with : ((m : Midstep) (new : Desktop) → M m new → (path : List Desktop) × N m path new) → (ss : List Strike) (d new : Desktop) → EndsFirst M ss d new → (path : List Desktop) × EndsFirstThrough N ss d path new
+  first-with : ((m : Midstep) (new : Desktop) → M m new → (path : List Desktop) × N m path new) → (ss : List Strike) (d new : Desktop) → EndsFirst M ss d new → (path : List Desktop)
+      × EndsFirstThrough N ss d path new
   first-with go [] d new h = ([], (refl, h))
   first-with go (s ∷ ss) d new h = let k = go (record { desktop = ended_by s d; struck = ss }) new h in (ended_by s d ∷ k.0, (k.0, refl, k.1))
 
@@ -176,5 +181,6 @@ pub happens_leads_through : HappensLeadsThrough
 happens_leads_through left act done d new = (
   λ path h. as-happens left act done d new (happened (settling_through path new) (ending_through path new) (λ (u : Unit {0}). settling new) (λ (u : Unit {0}). ending new)
       (λ mid k. (tt, settling-without path new mid k)) (λ mid k. (tt, ending-without path new mid k)) left act done d h).1,
-  λ single h. happened (settling new) (ending new) (λ path. settling_through path new) (λ path. ending_through path new) (settling-with new) (ending-with new) left act done d (from-happens left act done d new single h),
+  λ single h. happened (settling new) (ending new) (λ path. settling_through path new) (λ path. ending_through path new) (settling-with new) (ending-with new) left act done d
+      (from-happens left act done d new single h),
 )

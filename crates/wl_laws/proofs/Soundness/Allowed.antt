@@ -5,11 +5,13 @@ use Rattle.std.specs.Option.{option_and_then}
 use Rattle.std.proofs.lemmas.Bool.{eqb-true}
 use Rattle.wl_wire.specs.Wire.{Field}
 use Rattle.wl_interface.specs.declared.interface.Interface.{Interface}
-use Rattle.wl_interface.specs.declared.interface.Interface.TheVariants.{WlDisplay, WlRegistry, WlCallback, WlCompositor, WlRegion, WlSurface, WlShm, WlShmPool, WlBuffer, WlSubcompositor, WlSubsurface, WlOutput, WlSeat, WlPointer, XdgWmBase, XdgPositioner, XdgSurface, XdgToplevel, XdgPopup}
+use Rattle.wl_interface.specs.declared.interface.Interface.TheVariants.{WlDisplay, WlRegistry, WlCallback, WlCompositor, WlRegion, WlSurface, WlShm, WlShmPool, WlBuffer, WlSubcompositor, WlSubsurface}
+use Rattle.wl_interface.specs.declared.interface.Interface.TheVariants.{WlOutput, WlSeat, WlPointer, XdgWmBase, XdgPositioner, XdgSurface, XdgToplevel, XdgPopup}
 use Rattle.wl_proto.specs.Table.{AnObject}
 use Rattle.wl_proto.specs.declared.xdg_popup.XdgPopupRequest.{XdgPopupRequest}
 use Rattle.wl_proto.specs.declared.xdg_popup.XdgPopupRequest.TheVariants as popup
-use Rattle.wl_peer.specs.Requests.{number_in, word_in, pointer_request, popup_request, positioner_request, request_in, seat_request, subcompositor_request, subsurface_request, surface_request, toplevel_request, rect}
+use Rattle.wl_peer.specs.Requests.{number_in, word_in, pointer_request, popup_request, positioner_request, request_in, seat_request, subcompositor_request, subsurface_request, surface_request}
+use Rattle.wl_peer.specs.Requests.{toplevel_request, rect}
 use Rattle.wl_surface.specs.Request.{Member, PlaceAbove, PlaceBelow}
 use Rattle.wl_surface.specs.Surfaces.{Link, link_at}
 use Rattle.wl_surface.specs.Trees.{is_bad_parent, is_too_deep}
@@ -43,7 +45,8 @@ committed-allowed r (Some x) object Stays = tt
 committed-allowed r (Some x) object Maps = tt
 committed-allowed r (Some x) object Unmaps = tt
 
-surface-allowed : (r : Resident) (object version opcode : ℕ) (fields : List Field) → IsHeardBy WlSurface r object opcode fields → Allows r (surface_demand r object version (surface_request opcode fields))
+surface-allowed : (r : Resident) (object version opcode : ℕ) (fields : List Field) → IsHeardBy WlSurface r object opcode fields
+    → Allows r (surface_demand r object version (surface_request opcode fields))
 surface-allowed r object version zero fields heard =
     either r (is_some (xdg_of object r.owned.shell)) _ _ (λ f. tt) (λ f. (heard.live, none-there (xdg_of object r.owned.shell) f))
 surface-allowed r object version (suc zero) fields heard = tt
@@ -58,7 +61,8 @@ surface-allowed r object version (suc (suc (suc (suc (suc (suc (suc (suc opcode)
 
 -- ---- subsurfaces
 
-made-allowed : (r : Resident) (object version : ℕ) (fields : List Field) → IsHeardBy WlSubcompositor r object 1 fields → Allows r (subsurface_made r object version (word_in 0 fields) (word_in 1 fields) (word_in 2 fields))
+made-allowed : (r : Resident) (object version : ℕ) (fields : List Field) → IsHeardBy WlSubcompositor r object 1 fields
+    → Allows r (subsurface_made r object version (word_in 0 fields) (word_in 1 fields) (word_in 2 fields))
 made-allowed r object version fields heard =
     let child = word_in 1 fields in
     let parent = word_in 2 fields in
@@ -174,7 +178,8 @@ gone-allowed : (r : Resident) (object : ℕ) (o : Option Xdg) → xdg_with objec
 gone-allowed r object None is live = tt
 gone-allowed r object (Some x) is live = (live, subst (λ o. HasId x.id o) (sym is) refl, subst (λ o. IsOn x.surface o) (sym is) refl)
 
-toplevel-allowed : (r : Resident) (object : ℕ) (o : Option Xdg) → xdg_with object r.owned.shell ≡ o → IsObject XdgToplevel object r → (request : ToplevelRequest) → Allows r (toplevel_asked object o request)
+toplevel-allowed : (r : Resident) (object : ℕ) (o : Option Xdg) → xdg_with object r.owned.shell ≡ o → IsObject XdgToplevel object r → (request : ToplevelRequest)
+    → Allows r (toplevel_asked object o request)
 toplevel-allowed r object o is live toplevel.Destroy = gone-allowed r object o is live
 toplevel-allowed r object o is live (toplevel.Move seat serial) = moved-allowed r serial o
 toplevel-allowed r object o is live toplevel.SetMaximized = state-allowed r o

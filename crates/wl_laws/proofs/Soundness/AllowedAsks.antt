@@ -53,7 +53,8 @@ own-asked : (r : Resident) (judged : Result Action Refusal) → AllowsOwn r judg
 own-asked r (Ok action) own = own
 own-asked r (Err refusal) own = tt
 
-pub own-allowed-so : (interface : Interface) (r : Resident) (object version opcode : ℕ) (fields : List Field) → IsHeardBy interface r object opcode fields → Allows r (own_demand r object version (request_in interface opcode fields))
+pub own-allowed-so : (interface : Interface) (r : Resident) (object version opcode : ℕ) (fields : List Field) → IsHeardBy interface r object opcode fields
+    → Allows r (own_demand r object version (request_in interface opcode fields))
 own-allowed-so interface r object version opcode fields heard =
     own-asked r (action_of (known_of r.peer) object version (request_in interface opcode fields)) (own-allowed interface r object opcode fields heard (known_of r.peer) version)
 

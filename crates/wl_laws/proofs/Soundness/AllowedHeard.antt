@@ -43,7 +43,8 @@ pub record IsHeard (objects : Objects) (object : ℕ) (interface : Interface) (o
 same-ok : {X Y : Type 0} (x y : X) → (let r : Result X Y = Ok x in r) ≡ Ok y → x ≡ y
 same-ok x y e = cc
 
-arguments-kinds : (kinds : List Kind) (read : Result (List Field) ArgError) (fields : List Field) → ((ks : List Field) → read ≡ Ok ks → map kind_of ks ≡ kinds) → as_arguments read ≡ Ok fields → map kind_of fields ≡ kinds
+arguments-kinds : (kinds : List Kind) (read : Result (List Field) ArgError) (fields : List Field) → ((ks : List Field) → read ≡ Ok ks → map kind_of ks ≡ kinds) → as_arguments read ≡ Ok fields
+    → map kind_of fields ≡ kinds
 arguments-kinds kinds (Ok ks) fields are e = are fields (ap (λ (ys : List Field). Ok ys) (same-ok ks fields e))
 arguments-kinds kinds (Err fault) fields are e = absurd (cc)
 
@@ -57,7 +58,8 @@ abbrev pub Says : Interface → ℕ → Message → Type 0
 Says interface opcode m =
     (fields : List Field) × (m ≡ record { interface = interface; opcode = opcode; fields = fields }) × AreOfKinds (slice_get (requests_of interface) opcode) fields
 
-signed-says : (interface : Interface) (opcode : ℕ) (body : List ℕ) (signature : Signature) (m : Message) → slice_get (requests_of interface) opcode ≡ Some signature → message_in interface opcode body (Some signature) ≡ Ok m → Says interface opcode m
+signed-says : (interface : Interface) (opcode : ℕ) (body : List ℕ) (signature : Signature) (m : Message) → slice_get (requests_of interface) opcode ≡ Some signature
+    → message_in interface opcode body (Some signature) ≡ Ok m → Says interface opcode m
 signed-says interface opcode body signature m known e =
     let said = message-interface interface opcode (arguments_in (kinds_of signature.arguments) body) m e in
     let kinds = arguments-kinds (kinds_of signature.arguments) (fields_at (kinds_of signature.arguments) body) said.0 (λ ks f. fields-kinds (kinds_of signature.arguments) body ks f) said.1 in
@@ -66,7 +68,8 @@ signed-says interface opcode body signature m known e =
 pub decoded-says : (interface : Interface) (version opcode : ℕ) (body : List ℕ) (m : Message) → decoded interface version opcode body ≡ Ok m → Says interface opcode m
 decoded-says interface version opcode body m e = at (slice_get (requests_of interface) opcode) refl e
   where
-    by : (b : Bool) (signature : Signature) → slice_get (requests_of interface) opcode ≡ Some signature → message_in interface opcode body (if b then Some signature else None) ≡ Ok m → Says interface opcode m
+    by : (b : Bool) (signature : Signature) → slice_get (requests_of interface) opcode ≡ Some signature → message_in interface opcode body (if b then Some signature else None) ≡ Ok m
+        → Says interface opcode m
     by true signature known e = signed-says interface opcode body signature m known e
     by false signature known e = absurd (cc)
 
@@ -90,7 +93,8 @@ new-fresh : {X : Type 0} (objects : Objects) (held : ℕ) (new : Option NewId) (
 new-fresh objects held None asked x e = (tt, e)
 new-fresh {X = X} objects held (Some new) asked x e = at (is_free objects new.id) refl e
   where
-    at : (b : Bool) → is_free objects new.id ≡ b → (if b then (if nat_le 8192 held then Err (display_error Implementation) else asked) else Err (display_error InvalidObject)) ≡ Ok x → IsFresh objects (Some new) × (asked ≡ Ok x)
+    at : (b : Bool) → is_free objects new.id ≡ b → (if b then (if nat_le 8192 held then Err (display_error Implementation) else asked) else Err (display_error InvalidObject)) ≡ Ok x
+        → IsFresh objects (Some new) × (asked ≡ Ok x)
     at true free e = (free, limit-fresh (nat_le 8192 held) _ asked x e)
     at false free e = absurd (cc)
 
@@ -102,7 +106,8 @@ fit-named false asked refusal x e = absurd (cc)
 live-of : (o : Object) → is_of o.interface (Some o) ≡ true
 live-of o = same-number (interface_number o.interface)
 
-said-heard : {X : Type 0} (objects : Objects) (held object opcode : ℕ) (asks : ℕ → Message → Result X Refusal) (x : X) (o : Object) (m : Message) → objects object ≡ Some o → Says o.interface opcode m → judged objects held (asks o.version) (Ok m) ≡ Ok x → Hears objects object opcode asks x
+said-heard : {X : Type 0} (objects : Objects) (held object opcode : ℕ) (asks : ℕ → Message → Result X Refusal) (x : X) (o : Object) (m : Message) → objects object ≡ Some o → Says o.interface opcode m
+    → judged objects held (asks o.version) (Ok m) ≡ Ok x → Hears objects object opcode asks x
 said-heard {X = X} objects held object opcode asks x o m there says e =
     let so = subst (λ (n : Message). judged objects held (asks o.version) (Ok n) ≡ Ok x) says.1 e in
     let said : Message = record { interface = o.interface; opcode = opcode; fields = says.0 } in
@@ -111,10 +116,12 @@ said-heard {X = X} objects held object opcode asks x o m there says e =
     (o, says.0, record { live = subst (λ p. is_of o.interface p ≡ true) (sym there) (live-of o); kinds = says.2; named = fit.0; fresh = new.0 }, new.1)
 
 -- what is known of an accepted message
-pub judged-hears : {X : Type 0} (objects : Objects) (held object opcode : ℕ) (asks : ℕ → Message → Result X Refusal) (body : List ℕ) (x : X) → judged_at objects held asks opcode body (objects object) ≡ Ok x → Hears objects object opcode asks x
+pub judged-hears : {X : Type 0} (objects : Objects) (held object opcode : ℕ) (asks : ℕ → Message → Result X Refusal) (body : List ℕ) (x : X)
+    → judged_at objects held asks opcode body (objects object) ≡ Ok x → Hears objects object opcode asks x
 judged-hears {X = X} objects held object opcode asks body x e = at (objects object) refl e
   where
-    by : (o : Object) (request : Result Message ProtoError) → objects object ≡ Some o → decoded o.interface o.version opcode body ≡ request → judged objects held (asks o.version) request ≡ Ok x → Hears objects object opcode asks x
+    by : (o : Object) (request : Result Message ProtoError) → objects object ≡ Some o → decoded o.interface o.version opcode body ≡ request → judged objects held (asks o.version) request ≡ Ok x
+        → Hears objects object opcode asks x
     by o (Ok m) there is e = said-heard objects held object opcode asks x o m there (decoded-says o.interface o.version opcode body m is) e
     by o (Err fault) there is e = absurd (cc)
 
@@ -125,11 +132,13 @@ judged-hears {X = X} objects held object opcode asks body x e = at (objects obje
 -- ---- what is known of single arguments
 
 -- a message's opcode
-pub heard-at : (objects : Objects) (object : ℕ) (interface : Interface) (opcode k : ℕ) (fields : List Field) → IsHeard objects object interface opcode fields → (opcode == k) ≡ true → IsHeard objects object interface k fields
+pub heard-at : (objects : Objects) (object : ℕ) (interface : Interface) (opcode k : ℕ) (fields : List Field) → IsHeard objects object interface opcode fields → (opcode == k) ≡ true
+    → IsHeard objects object interface k fields
 heard-at objects object interface opcode k fields heard e = subst (λ n. IsHeard objects object interface n fields) (eqb-true opcode k e) heard
 
 -- a new id in front
-pub fresh-first : (objects : Objects) (interface : Option Interface) (arguments : List Argument) (kinds : List Kind) (fields : List Field) → map kind_of fields ≡ AWord ∷ kinds → IsFresh objects (new_id_of (ANewId interface ∷ arguments) fields) → is_free objects (word_in 0 fields) ≡ true
+pub fresh-first : (objects : Objects) (interface : Option Interface) (arguments : List Argument) (kinds : List Kind) (fields : List Field) → map kind_of fields ≡ AWord ∷ kinds
+    → IsFresh objects (new_id_of (ANewId interface ∷ arguments) fields) → is_free objects (word_in 0 fields) ≡ true
 fresh-first objects interface arguments kinds [] e fresh = absurd (cc)
 fresh-first objects interface arguments kinds (Word n ∷ fields) e fresh = fresh
 fresh-first objects interface arguments kinds (Number z ∷ fields) e fresh = absurd (cc)
@@ -137,7 +146,8 @@ fresh-first objects interface arguments kinds (Text t ∷ fields) e fresh = absu
 fresh-first objects interface arguments kinds (Block b ∷ fields) e fresh = absurd (cc)
 
 -- the new id of wl_registry.bind
-pub fresh-bound : (objects : Objects) (fields : List Field) → map kind_of fields ≡ AWord ∷ AText ∷ AWord ∷ AWord ∷ [] → IsFresh objects (new_id_of (AUint ∷ ANewObject ∷ []) fields) → is_free objects (word_in 3 fields) ≡ true
+pub fresh-bound : (objects : Objects) (fields : List Field) → map kind_of fields ≡ AWord ∷ AText ∷ AWord ∷ AWord ∷ [] → IsFresh objects (new_id_of (AUint ∷ ANewObject ∷ []) fields)
+    → is_free objects (word_in 3 fields) ≡ true
 fresh-bound objects [] e fresh = absurd (cc)
 fresh-bound objects (first ∷ []) e fresh = absurd (cc)
 fresh-bound objects (first ∷ second ∷ []) e fresh = absurd (cc)
@@ -158,10 +168,13 @@ fit-here true x e = absurd (cc)
 fit-here false x e = e
 
 -- an object that may not be null, behind a new id
-pub named-second : (objects : Objects) (new : Option Interface) (interface : Interface) (arguments : List Argument) (kinds : List Kind) (fields : List Field) → map kind_of fields ≡ AWord ∷ AWord ∷ kinds → list_all (fits objects) (objects_of (ANewId new ∷ AnObject interface false ∷ arguments) fields) ≡ true → is_of interface (objects (word_in 1 fields)) ≡ true
+pub named-second : (objects : Objects) (new : Option Interface) (interface : Interface) (arguments : List Argument) (kinds : List Kind) (fields : List Field)
+    → map kind_of fields ≡ AWord ∷ AWord ∷ kinds → list_all (fits objects) (objects_of (ANewId new ∷ AnObject interface false ∷ arguments) fields) ≡ true
+    → is_of interface (objects (word_in 1 fields)) ≡ true
 named-second objects new interface arguments kinds [] e named = absurd (cc)
 named-second objects new interface arguments kinds (first ∷ []) e named = absurd (cc)
-named-second objects new interface arguments kinds (Word n ∷ Word id ∷ fields) e named = fit-here (id == 0) (is_of interface (objects id)) (and-left _ (list_all (fits objects) (objects_of arguments fields)) named)
+named-second objects new interface arguments kinds (Word n ∷ Word id ∷ fields) e named =
+    fit-here (id == 0) (is_of interface (objects id)) (and-left _ (list_all (fits objects) (objects_of arguments fields)) named)
 named-second objects new interface arguments kinds (Number z ∷ second ∷ fields) e named = absurd (cc)
 named-second objects new interface arguments kinds (Text t ∷ second ∷ fields) e named = absurd (cc)
 named-second objects new interface arguments kinds (Block b ∷ second ∷ fields) e named = absurd (cc)

@@ -56,7 +56,8 @@ bind-allowed : (r : Resident) (id version : ℕ) (o : Option Interface) → IsNe
 bind-allowed r id version None new none = tt
 bind-allowed r id version (Some interface) new none = (new, none)
 
-registry-allowed : (r : Resident) (object opcode : ℕ) (fields : List Field) → IsHeardBy WlRegistry r object opcode fields → (known : Known) (version : ℕ) → AllowsOwn r (action_of known object version (request_in WlRegistry opcode fields))
+registry-allowed : (r : Resident) (object opcode : ℕ) (fields : List Field) → IsHeardBy WlRegistry r object opcode fields → (known : Known) (version : ℕ)
+    → AllowsOwn r (action_of known object version (request_in WlRegistry opcode fields))
 registry-allowed r object zero fields heard known version =
     bind-allowed r (word_in 3 fields) (word_in 2 fields) (bound_interface (word_in 0 fields) (text_in 1 fields) (word_in 2 fields)) (fresh-bound r.peer.objects fields heard.kinds heard.fresh)
     (found-global (is_bound (word_in 0 fields) (text_in 1 fields) (word_in 2 fields)) globals (refl, (refl, (refl, (refl, (refl, (refl, tt)))))))
@@ -64,12 +65,14 @@ registry-allowed r object (suc opcode) fields heard known version = absurd heard
 
 -- ---- the others
 
-display-allowed : (r : Resident) (object opcode : ℕ) (fields : List Field) → IsHeardBy WlDisplay r object opcode fields → (known : Known) (version : ℕ) → AllowsOwn r (action_of known object version (request_in WlDisplay opcode fields))
+display-allowed : (r : Resident) (object opcode : ℕ) (fields : List Field) → IsHeardBy WlDisplay r object opcode fields → (known : Known) (version : ℕ)
+    → AllowsOwn r (action_of known object version (request_in WlDisplay opcode fields))
 display-allowed r object zero fields heard known version = tt
 display-allowed r object (suc zero) fields heard known version = fresh-first r.peer.objects _ [] [] fields heard.kinds heard.fresh
 display-allowed r object (suc (suc opcode)) fields heard known version = absurd heard.kinds
 
-compositor-allowed : (r : Resident) (object opcode : ℕ) (fields : List Field) → IsHeardBy WlCompositor r object opcode fields → (known : Known) (version : ℕ) → AllowsOwn r (action_of known object version (request_in WlCompositor opcode fields))
+compositor-allowed : (r : Resident) (object opcode : ℕ) (fields : List Field) → IsHeardBy WlCompositor r object opcode fields → (known : Known) (version : ℕ)
+    → AllowsOwn r (action_of known object version (request_in WlCompositor opcode fields))
 compositor-allowed r object zero fields heard known version = tt
 compositor-allowed r object (suc zero) fields heard known version = fresh-first r.peer.objects _ [] [] fields heard.kinds heard.fresh
 compositor-allowed r object (suc (suc opcode)) fields heard known version = absurd heard.kinds
@@ -88,9 +91,11 @@ created-allowed r object version id size None new = new
 created-allowed r object version id size (Some BadSize) new = tt
 created-allowed r object version id size (Some error) new = tt
 
-shm-allowed : (r : Resident) (object opcode : ℕ) (fields : List Field) → IsHeardBy WlShm r object opcode fields → (known : Known) (version : ℕ) → AllowsOwn r (action_of known object version (request_in WlShm opcode fields))
+shm-allowed : (r : Resident) (object opcode : ℕ) (fields : List Field) → IsHeardBy WlShm r object opcode fields → (known : Known) (version : ℕ)
+    → AllowsOwn r (action_of known object version (request_in WlShm opcode fields))
 shm-allowed r object zero fields heard known version =
-    created-allowed r object version (word_in 0 fields) (number_in 1 fields) (create_refusal (number_in 1 fields) known.stores) (fresh-first r.peer.objects _ (AnInt ∷ []) _ fields heard.kinds heard.fresh)
+    created-allowed r object version (word_in 0 fields) (number_in 1 fields) (create_refusal (number_in 1 fields) known.stores)
+        (fresh-first r.peer.objects _ (AnInt ∷ []) _ fields heard.kinds heard.fresh)
 shm-allowed r object (suc opcode) fields heard known version = absurd heard.kinds
 
 laid-allowed : (r : Resident) (object version id : ℕ) (laid : Laid) (o : Option LayoutError) → IsNew id r → AllowsOwn r (buffer_laid object version id laid o)
@@ -106,7 +111,8 @@ pool-allowed : (r : Resident) (object opcode : ℕ) (fields : List Field) → Is
     → AllowsOwn r (pool_action object version stores o (pool_request opcode fields))
 pool-allowed r object opcode fields heard version stores None = tt
 pool-allowed r object zero fields heard version stores (Some store) =
-    own-either r (can_hold store stores) _ _ (λ f. laid-allowed r object version (word_in 0 fields) _ _ (fresh-first r.peer.objects _ (AnInt ∷ AnInt ∷ AnInt ∷ AnInt ∷ AUint ∷ []) _ fields heard.kinds heard.fresh)) (λ f. tt)
+    own-either r (can_hold store stores) _ _ (λ f. laid-allowed r object version (word_in 0 fields) _ _ (fresh-first r.peer.objects _ (AnInt ∷ AnInt ∷ AnInt ∷ AnInt ∷ AUint ∷ []) _ fields heard.kinds
+        heard.fresh)) (λ f. tt)
 pool-allowed r object (suc zero) fields heard version stores (Some store) = heard.live
 pool-allowed r object (suc (suc zero)) fields heard version stores (Some store) = resized-allowed r object store (number_in 0 fields) _
 pool-allowed r object (suc (suc (suc opcode))) fields heard version stores (Some store) = absurd heard.kinds
@@ -116,7 +122,8 @@ buffer-allowed r object None live = tt
 buffer-allowed r object (Some buffer) live = live
 
 -- what a client's own interfaces accept
-pub own-allowed : (interface : Interface) (r : Resident) (object opcode : ℕ) (fields : List Field) → IsHeardBy interface r object opcode fields → (known : Known) (version : ℕ) → AllowsOwn r (action_of known object version (request_in interface opcode fields))
+pub own-allowed : (interface : Interface) (r : Resident) (object opcode : ℕ) (fields : List Field) → IsHeardBy interface r object opcode fields → (known : Known) (version : ℕ)
+    → AllowsOwn r (action_of known object version (request_in interface opcode fields))
 own-allowed WlDisplay r object opcode fields heard known version = display-allowed r object opcode fields heard known version
 own-allowed WlRegistry r object opcode fields heard known version = registry-allowed r object opcode fields heard known version
 own-allowed WlCompositor r object opcode fields heard known version = compositor-allowed r object opcode fields heard known version

@@ -20,17 +20,21 @@ own : Owner → ℕ → Place → Option History → List Window
 own owner surface place None = []
 own owner surface place (Some h) = window_of owner surface (corner_at place h) h
 
-shown-own : (next : ℕ → Place → List Window) (owner : Owner) (surfaces : Surfaces) (surface : ℕ) (h : History) (corner : Place) (buffer : Option Buffer) → surfaces.links ≡ [] → (applied h).buffer ≡ buffer → shown_windows next owner surfaces surface h corner buffer ≡ window_with owner surface corner (applied h) buffer
+shown-own : (next : ℕ → Place → List Window) (owner : Owner) (surfaces : Surfaces) (surface : ℕ) (h : History) (corner : Place) (buffer : Option Buffer) → surfaces.links ≡ []
+    → (applied h).buffer ≡ buffer → shown_windows next owner surfaces surface h corner buffer ≡ window_with owner surface corner (applied h) buffer
 shown-own next owner surfaces surface h corner None unlinked e = refl
 shown-own next owner surfaces surface h corner (Some buffer) unlinked e =
-    order-once (member_windows next owner surfaces surface h corner) (no-child next owner surfaces surface h corner unlinked) (counting h) ∙ ap (λ (b : Option Buffer). window_with owner surface corner (applied h) b) e
+    order-once (member_windows next owner surfaces surface h corner) (no-child next owner surfaces surface h corner unlinked) (counting h)
+        ∙ ap (λ (b : Option Buffer). window_with owner surface corner (applied h) b) e
 
-surface-own : (next : ℕ → Place → List Window) (owner : Owner) (surfaces : Surfaces) (surface : ℕ) (place : Place) (h : Option History) → surfaces.links ≡ [] → surface_windows next owner surfaces surface place h ≡ own owner surface place h
+surface-own : (next : ℕ → Place → List Window) (owner : Owner) (surfaces : Surfaces) (surface : ℕ) (place : Place) (h : Option History) → surfaces.links ≡ []
+    → surface_windows next owner surfaces surface place h ≡ own owner surface place h
 unfolding own
 surface-own next owner surfaces surface place None unlinked = refl
 surface-own next owner surfaces surface place (Some h) unlinked = shown-own next owner surfaces surface h (corner_at place h) (applied h).buffer unlinked refl
 
-tree-own : (levels : ℕ) (owner : Owner) (surfaces : Surfaces) (surface : ℕ) (place : Place) → surfaces.links ≡ [] → tree (suc levels) owner surfaces surface place ≡ own owner surface place (history_in surface surfaces)
+tree-own : (levels : ℕ) (owner : Owner) (surfaces : Surfaces) (surface : ℕ) (place : Place) → surfaces.links ≡ []
+    → tree (suc levels) owner surfaces surface place ≡ own owner surface place (history_in surface surfaces)
 unfolding tree
 tree-own levels owner surfaces surface place unlinked = surface-own (λ child at. tree levels owner surfaces child at) owner surfaces surface place (history_in surface surfaces) unlinked
 
@@ -51,7 +55,8 @@ stands : List Standing → Window → Bool
 stands ss w = list_any (is_of w.owner.client w.surface) ss
 
 -- what a surface shows is one window of it, or none
-own-first : (owner : Owner) (surface : ℕ) (place : Place) (h : Option History) (ws : List Window) → AreDistinct ws → ((w : Window) → w.owner.client ≡ owner.client → w.surface ≡ surface → list_any (is_same_surface w) ws ≡ false) → AreDistinct (own owner surface place h ++ ws)
+own-first : (owner : Owner) (surface : ℕ) (place : Place) (h : Option History) (ws : List Window) → AreDistinct ws → ((w : Window) → w.owner.client ≡ owner.client → w.surface ≡ surface
+    → list_any (is_same_surface w) ws ≡ false) → AreDistinct (own owner surface place h ++ ws)
 unfolding own
 own-first owner surface place None ws apart new = apart
 own-first owner surface place (Some h) ws apart new = go (applied h).buffer where
@@ -59,7 +64,8 @@ own-first owner surface place (Some h) ws apart new = go (applied h).buffer wher
   go None = apart
   go (Some buffer) = (new (window_showing owner surface (corner_at place h) (applied h) buffer) refl refl, apart)
 
-each-own : (P : Window → Type 0) (owner : Owner) (surface : ℕ) (place : Place) (h : Option History) (ws : List Window) → Each P ws → ((w : Window) → w.owner.client ≡ owner.client → w.surface ≡ surface → P w) → Each P (own owner surface place h ++ ws)
+each-own : (P : Window → Type 0) (owner : Owner) (surface : ℕ) (place : Place) (h : Option History) (ws : List Window) → Each P ws → ((w : Window) → w.owner.client ≡ owner.client → w.surface ≡ surface
+    → P w) → Each P (own owner surface place h ++ ws)
 unfolding own
 each-own P owner surface place None ws e f = e
 each-own P owner surface place (Some h) ws e f = go (applied h).buffer where
@@ -77,8 +83,10 @@ all-stand : (owned : ℕ → Owned) (standing : List Standing) → Each (λ w. s
 unfolding owned-windows stands
 all-stand owned [] = tt
 all-stand owned (s ∷ ss) =
-    each-own (λ w. (is_of w.owner.client w.surface s || list_any (is_of w.owner.client w.surface) ss) ≡ true) (owner_of (root_of owned s)) s.surface s.place (history_in s.surface (owned s.client).surfaces) (owned-windows owned ss)
-    (each-map (λ w. list_any (is_of w.owner.client w.surface) ss ≡ true) (λ w. (is_of w.owner.client w.surface s || list_any (is_of w.owner.client w.surface) ss) ≡ true) (λ w e. more (is_of w.owner.client w.surface s) (list_any (is_of w.owner.client w.surface) ss) e) (owned-windows owned ss) (all-stand owned ss))
+    each-own (λ w. (is_of w.owner.client w.surface s || list_any (is_of w.owner.client w.surface) ss) ≡ true) (owner_of (root_of owned s)) s.surface s.place
+        (history_in s.surface (owned s.client).surfaces) (owned-windows owned ss)
+    (each-map (λ w. list_any (is_of w.owner.client w.surface) ss ≡ true) (λ w. (is_of w.owner.client w.surface s || list_any (is_of w.owner.client w.surface) ss) ≡ true)
+        (λ w e. more (is_of w.owner.client w.surface s) (list_any (is_of w.owner.client w.surface) ss) e) (owned-windows owned ss) (all-stand owned ss))
     (λ w c e. first (is_of w.owner.client w.surface s) (list_any (is_of w.owner.client w.surface) ss) (is-it w s c e)) where
       more : (a b : Bool) → b ≡ true → (a || b) ≡ true
       more true b e = refl
@@ -89,10 +97,12 @@ all-stand owned (s ∷ ss) =
       first false b e = absurd (differ e)
 
 -- a toplevel that stands once has no window among the others'
-no-other : (owned : ℕ → Owned) (ss : List Standing) (client surface : ℕ) → list_any (is_of client surface) ss ≡ false → (w : Window) → w.owner.client ≡ client → w.surface ≡ surface → (ws : List Window) → Each (λ v. stands ss v ≡ true) ws → list_any (is_same_surface w) ws ≡ false
+no-other : (owned : ℕ → Owned) (ss : List Standing) (client surface : ℕ) → list_any (is_of client surface) ss ≡ false → (w : Window) → w.owner.client ≡ client → w.surface ≡ surface
+    → (ws : List Window) → Each (λ v. stands ss v ≡ true) ws → list_any (is_same_surface w) ws ≡ false
 unfolding stands
 no-other owned ss client surface once w c e [] all = refl
-no-other owned ss client surface once w c e (v ∷ vs) all = none (is_same_surface w v) (unless (is_same_surface w v) (λ f. differ (sym once ∙ there f))) (no-other owned ss client surface once w c e vs all.1) where
+no-other owned ss client surface once w c e (v ∷ vs) all = none (is_same_surface w v) (unless (is_same_surface w v) (λ f. differ (sym once ∙ there f)))
+    (no-other owned ss client surface once w c e vs all.1) where
   none : (a : Bool) → a ≡ false → list_any (is_same_surface w) vs ≡ false → (a || list_any (is_same_surface w) vs) ≡ false
   none true f g = absurd (differ (sym f))
   none false f g = g

@@ -254,7 +254,8 @@ was-there l number old new comes there = at (number == l) (list_any (is_member (
 one-link : (number k : ℕ) (a b : Link) (all : Surfaces) → number ≡ k → IsLive number a all → IsLive k b all → b ≡ a
 one-link number k a b all same x y = some-same b a (sym y.here ∙ ap (λ n. link_at n all) (sym same) ∙ x.here)
 
-order-placed : (bound surface l : ℕ) (all : Surfaces) (old new : List Member) → IsForest bound all → IsOfParent l surface all → Comes (Child l) old new → AreOnce is_member new → IsOrder bound surface all old → IsOrder bound surface all new
+order-placed : (bound surface l : ℕ) (all : Surfaces) (old new : List Member) → IsForest bound all → IsOfParent l surface all → Comes (Child l) old new → AreOnce is_member new
+    → IsOrder bound surface all old → IsOrder bound surface all new
 order-placed bound surface l all old new f of comes once o = record {
   once = once;
   early = λ number there. low number (was-there l number old new comes there);
@@ -276,7 +277,8 @@ order-either : (bound surface : ℕ) (all : Surfaces) (old new : List Member) (b
 order-either bound surface all old new true before after = after
 order-either bound surface all old new false before after = before
 
-order-asked : (bound surface : ℕ) (request : Request) (all : Surfaces) (members : List Member) → IsForest bound all → IsAskable surface all request → IsOrder bound surface all members → IsOrder bound surface all (ordered members request)
+order-asked : (bound surface : ℕ) (request : Request) (all : Surfaces) (members : List Member) → IsForest bound all → IsAskable surface all request → IsOrder bound surface all members
+    → IsOrder bound surface all (ordered members request)
 order-asked bound surface (AddChild l) all members f is o = absurd is
 order-asked bound surface (PlaceAbove l place) all members f is o =
     let rest = without (Child l) members in
@@ -293,10 +295,12 @@ order-asked bound surface (PlaceBelow l place) all members f is o =
 order-asked bound surface request all members f is o = o
 
 -- the order of one surface where one more request may be among those that count
-order-more : (bound surface counting : ℕ) (request : Request) (all : Surfaces) (rs : List Request) → IsForest bound all → IsAskable surface all request → IsOrder bound surface all (order (take counting rs)) → IsOrder bound surface all (order (take counting (rs ++ request ∷ [])))
+order-more : (bound surface counting : ℕ) (request : Request) (all : Surfaces) (rs : List Request) → IsForest bound all → IsAskable surface all request
+    → IsOrder bound surface all (order (take counting rs)) → IsOrder bound surface all (order (take counting (rs ++ request ∷ [])))
 order-more bound surface counting request all rs f is o = at (take-last counting rs request)
   where
-    at : (take counting (rs ++ request ∷ []) ≡ take counting rs) ⊎ (take counting (rs ++ request ∷ []) ≡ take counting rs ++ request ∷ []) → IsOrder bound surface all (order (take counting (rs ++ request ∷ [])))
+    at : (take counting (rs ++ request ∷ []) ≡ take counting rs) ⊎ (take counting (rs ++ request ∷ []) ≡ take counting rs ++ request ∷ [])
+        → IsOrder bound surface all (order (take counting (rs ++ request ∷ [])))
     at (inl e) = subst (λ qs. IsOrder bound surface all (order qs)) (sym e) o
     at (inr e) =
         subst (λ qs. IsOrder bound surface all (order qs)) (sym e)
@@ -313,7 +317,8 @@ orders-asked bound surface request all is f other counting h here =
         (has-orders bound all f other counting s.history (ap (option_map (λ (s : Surface). s.history)) found))
     of-it s found false e = has-orders bound all f other counting s.history (ap (option_map (λ (s : Surface). s.history)) found)
 
-    at : (o : Option Surface) → surface_at other all ≡ o → option_map (λ (s : Surface). s.history) (option_map (λ s. cond (s.id == surface) (asking request s) s) o) ≡ Some h → IsOrder bound other all (order (take counting h.requests))
+    at : (o : Option Surface) → surface_at other all ≡ o → option_map (λ (s : Surface). s.history) (option_map (λ s. cond (s.id == surface) (asking request s) s) o) ≡ Some h
+        → IsOrder bound other all (order (take counting h.requests))
     at None found e = absurd (none-some h e)
     at (Some s) found e =
         subst (λ (g : History). IsOrder bound other all (order (take counting g.requests))) (some-same (cond (s.id == surface) (asking request s) s).history h e) (of-it s found (s.id == surface) refl)

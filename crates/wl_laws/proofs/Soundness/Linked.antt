@@ -57,7 +57,8 @@ abbrev LivesIn : ℕ → ℕ → ℕ → ℕ → Link → Surfaces → Type 0
 LivesIn number child parent n link all = ((n ≡ number) × (link.child ≡ child) × (link.parent ≡ parent)) ⊎ IsLive n link all
 
 -- A link that lives is the new one, or lived before.
-pub linked-live : (number child parent n : ℕ) (link : Link) (all : Surfaces) → IsForest number all → IsLive n link (linked number child parent all) → ((n ≡ number) × (link.child ≡ child) × (link.parent ≡ parent)) ⊎ IsLive n link all
+pub linked-live : (number child parent n : ℕ) (link : Link) (all : Surfaces) → IsForest number all → IsLive n link (linked number child parent all)
+    → ((n ≡ number) × (link.child ≡ child) × (link.parent ≡ parent)) ⊎ IsLive n link all
 linked-live number child parent n link all f live = at (linked-at number child parent n all f)
   where
     at : IsAt number child parent n all → LivesIn number child parent n link all
@@ -80,7 +81,8 @@ rises-new : (c p d : ℕ) → p ≡ d → c ≡ 0 + suc d → p < c
 rises-new c p d e f = omega arith
 
 -- the new link rises
-deeper-new : (number child parent : ℕ) (all : Surfaces) → IsForest number all → IsNoChild child all → is_bad_parent all child parent ≡ false → deeper child parent all parent < deeper child parent all child
+deeper-new : (number child parent : ℕ) (all : Surfaces) → IsForest number all → IsNoChild child all → is_bad_parent all child parent ≡ false
+    → deeper child parent all parent < deeper child parent all child
 deeper-new number child parent all f none good =
     let root = depth-none levels all child (no-link number child all f none) in
     rises-new (deeper child parent all child) (deeper child parent all parent) (depth levels all parent) (deeper-apart child parent all parent good)
@@ -91,13 +93,16 @@ rises-both true c p d e = omega arith
 rises-both false c p d e = omega arith
 
 -- and so do those that lived
-deeper-old : (number child parent n : ℕ) (link : Link) (all : Surfaces) → IsForest number all → IsNoChild child all → IsLive n link all → deeper child parent all link.parent < deeper child parent all link.child
+deeper-old : (number child parent n : ℕ) (link : Link) (all : Surfaces) → IsForest number all → IsNoChild child all → IsLive n link all
+    → deeper child parent all link.parent < deeper child parent all link.child
 deeper-old number child parent n link all f none live =
     let found = live-link number n link all f live in
     let not_top : (link.child == child) ≡ false = unless (link.child == child) (λ e. none n link live (eqb-true link.child child e)) in
-    let same : descends_from levels all child link.child ≡ descends_from levels all child link.parent = descends-step number child link.child link all f found ∙ ap (λ b. b || descends_from levels all child link.parent) not_top in
+    let same : descends_from levels all child link.child ≡ descends_from levels all child link.parent = descends-step number child link.child link all f found
+        ∙ ap (λ b. b || descends_from levels all child link.parent) not_top in
     subst (λ b. deeper child parent all link.parent < cond b (depth levels all link.child + suc (depth levels all parent)) (depth levels all link.child)) (sym same)
-    (rises-both (descends_from levels all child link.parent) (depth levels all link.child) (depth levels all link.parent) (suc (depth levels all parent)) (depth-step number link.child link all f found))
+    (rises-both (descends_from levels all child link.parent) (depth levels all link.child) (depth levels all link.parent) (suc (depth levels all parent))
+        (depth-step number link.child link all f found))
 
 low-below : (s h d p : ℕ) → d ≡ s + suc p → s ≤ h → p + 1 + h ≤ 16 → d ≤ 16
 low-below s h d p e f g = omega arith
@@ -112,7 +117,8 @@ deeper-low number child parent s all f none low = at (descends_from levels all c
         let d = depth-low number s all f in
         let root = depth-none levels all child (no-link number child all f none) in
         let high = within-height number levels child s (17 - depth levels all s) levels all f root (omega arith) e in
-        low-below (depth levels all s) (height levels all child) (deeper child parent all s) (depth levels all parent) (deeper-below child parent all s e) (omega arith) (ltb-false 16 (depth levels all parent + 1 + height levels all child) low)
+        low-below (depth levels all s) (height levels all child) (deeper child parent all s) (depth levels all parent) (deeper-below child parent all s e) (omega arith)
+            (ltb-false 16 (depth levels all parent + 1 + height levels all child) low)
 
 -- ---- the forest
 
@@ -164,7 +170,8 @@ module _ (number child parent : ℕ) (all : Surfaces) (f : IsForest number all) 
       at (g, m, found, inl was) = early-more n number (f.members surface m n g found was)
       at (g, m, found, inr new) = early-new n number new.1
 
-  linked-parents : (surface counting n : ℕ) (h : History) (link : Link) → history_in surface (linked number child parent all) ≡ Some h → has_child n counting h ≡ true → IsLive n link (linked number child parent all) → link.parent ≡ surface
+  linked-parents : (surface counting n : ℕ) (h : History) (link : Link) → history_in surface (linked number child parent all) ≡ Some h → has_child n counting h ≡ true
+      → IsLive n link (linked number child parent all) → link.parent ≡ surface
   linked-parents surface counting n h link e there live = at (child-linked number child parent surface counting n all h e there) (linked-live number child parent n link all f live)
     where
       at : IsChildIn number parent surface n all → LivesIn number child parent n link all → link.parent ≡ surface
@@ -173,7 +180,8 @@ module _ (number child parent : ℕ) (all : Surfaces) (f : IsForest number all) 
       at (g, m, found, inr top) (inl new) = new.2 ∙ sym top.0
       at (g, m, found, inr top) (inr old) = absurd (no-later n number (f.early n link old.here) top.1)
 
-  linked-rises : IsNoChild child all → is_bad_parent all child parent ≡ false → (n : ℕ) (link : Link) → IsLive n link (linked number child parent all) → deeper child parent all link.parent < deeper child parent all link.child
+  linked-rises : IsNoChild child all → is_bad_parent all child parent ≡ false → (n : ℕ) (link : Link) → IsLive n link (linked number child parent all)
+      → deeper child parent all link.parent < deeper child parent all link.child
   linked-rises none good n link live = at (linked-live number child parent n link all f live)
     where
       at : LivesIn number child parent n link all → deeper child parent all link.parent < deeper child parent all link.child
@@ -183,7 +191,8 @@ module _ (number child parent : ℕ) (all : Surfaces) (f : IsForest number all) 
       at (inr old) = deeper-old number child parent n link all f none old
 
 -- A link that makes no circle, and no tree too deep, keeps the forest.
-pub forest-linked : (number child parent : ℕ) (all : Surfaces) → IsForest number all → ((n : ℕ) (link : Link) → IsLive n link all → link.child ≡ child → ⊥) → is_too_deep all child parent ≡ false → is_bad_parent all child parent ≡ false → IsForest (number + 1) (linked number child parent all)
+pub forest-linked : (number child parent : ℕ) (all : Surfaces) → IsForest number all → ((n : ℕ) (link : Link) → IsLive n link all → link.child ≡ child → ⊥) → is_too_deep all child parent ≡ false
+    → is_bad_parent all child parent ≡ false → IsForest (number + 1) (linked number child parent all)
 forest-linked number child parent all f none low good = record {
   apart = linked-apart number child parent all f;
   early = linked-early number child parent all f;

@@ -221,7 +221,8 @@ level-down : (d p x y z : ℕ) → d ≡ suc p → suc x ≤ y → p + y ≤ z �
 level-down d p x y z e f g = omega arith
 
 -- What descends from a surface without a parent stands no deeper than that surface is high.
-pub within-height : (bound n top s m k : ℕ) (all : Surfaces) → IsForest bound all → depth levels all top ≡ 0 → depth levels all s + m ≡ k → descends_from n all top s ≡ true → depth levels all s + height m all s ≤ height k all top
+pub within-height : (bound n top s m k : ℕ) (all : Surfaces) → IsForest bound all → depth levels all top ≡ 0 → depth levels all s + m ≡ k → descends_from n all top s ≡ true
+    → depth levels all s + height m all s ≤ height k all top
 unfolding descends_from
 within-height bound zero top s m k all f root sum descends = at-top top s m k all root sum descends
 within-height bound (suc n) top s m k all f root sum descends =
@@ -229,7 +230,8 @@ within-height bound (suc n) top s m k all f root sum descends =
     (λ e. at-top top s m k all root sum (sym (descends-none (suc n) all top s e) ∙ descends))
     (λ a e. at a e (or_cases (s == top) (descends_from n all top a.parent) (sym (descends-link n all top s a e) ∙ descends)) (within-height bound n top a.parent (suc m) k all f root))
   where
-    at : (a : Link) → link_of s all ≡ Some a → ((s == top) ≡ true) ⊎ (descends_from n all top a.parent ≡ true) → (depth levels all a.parent + suc m ≡ k → descends_from n all top a.parent ≡ true → depth levels all a.parent + height (suc m) all a.parent ≤ height k all top) → depth levels all s + height m all s ≤ height k all top
+    at : (a : Link) → link_of s all ≡ Some a → ((s == top) ≡ true) ⊎ (descends_from n all top a.parent ≡ true) → (depth levels all a.parent + suc m ≡ k → descends_from n all top a.parent ≡ true
+        → depth levels all a.parent + height (suc m) all a.parent ≤ height k all top) → depth levels all s + height m all s ≤ height k all top
     at a e (inl is) rest = at-top top s m k all root sum is
     at a e (inr is) rest =
         let step = depth-step bound s a all f e in

@@ -75,7 +75,8 @@ grown-as : {X A B : Type 0} (x : X) (old old' new new' : List X) → (A → B) �
 grown-as x old old' new new' f e g (inl same) = inl (sym g ∙ (same ∙ e))
 grown-as x old old' new new' f e g (inr more) = inr (f more.0, sym g ∙ (more.1 ∙ ap (λ xs. xs ++ x ∷ []) e))
 
-surface-linked : (number child parent surface : ℕ) (all : Surfaces) → surface_at surface (linked number child parent all) ≡ option_map (with_asked number parent) (option_map (with_child child) (surface_at surface all))
+surface-linked : (number child parent surface : ℕ) (all : Surfaces) → surface_at surface (linked number child parent all) ≡ option_map (with_asked number parent)
+    (option_map (with_child child) (surface_at surface all))
 surface-linked number child parent surface all =
     found-map (λ s. s.id == surface) (with_asked number parent) (map (with_child child) all.surfaces) (asked-id number parent surface)
     ∙ ap (option_map (with_asked number parent)) (found-map (λ s. s.id == surface) (with_child child) all.surfaces (λ s. ap (λ id. id == surface) (child-id child s)))
@@ -123,7 +124,8 @@ pub order-linked : (number child parent surface counting : ℕ) (all : Surfaces)
     → IsOrderIn number parent surface counting all h
 order-linked number child parent surface counting all h e = at (history-linked number child parent surface all h e)
   where
-    more : (rs : List Request) → surface ≡ parent → (m : ℕ) × ((take counting (rs ++ AddChild number ∷ []) ≡ take m rs) ⊎ (take counting (rs ++ AddChild number ∷ []) ≡ take m rs ++ AddChild number ∷ []))
+    more : (rs : List Request) → surface ≡ parent → (m : ℕ)
+        × ((take counting (rs ++ AddChild number ∷ []) ≡ take m rs) ⊎ (take counting (rs ++ AddChild number ∷ []) ≡ take m rs ++ AddChild number ∷ []))
         → (m : ℕ) × IsGrown (surface ≡ parent) (Child number) (order (take m rs)) (order (take counting (rs ++ AddChild number ∷ [])))
     more rs is (m, inl e) = (m, inl (ap order e))
     more rs is (m, inr e) = (m, inr (is, ap order e ∙ order-last number (take m rs)))
@@ -172,4 +174,5 @@ once-last same (y ∷ ys) x once none = (
 pub new-once : (number : ℕ) (members : List Member) → AreOnce is_member members → list_any (is_member (Child number)) members ≡ false → AreOnce is_member (members ++ Child number ∷ [])
 new-once number members once none =
     once-last is_member members (Child number) once
-    (unless (list_any (λ m. is_member m (Child number)) members) (λ e. differ (sym none ∙ any-more (λ m. is_member m (Child number)) (is_member (Child number)) (λ m. turned m (Child number)) members e)))
+    (unless (list_any (λ m. is_member m (Child number)) members)
+        (λ e. differ (sym none ∙ any-more (λ m. is_member m (Child number)) (is_member (Child number)) (λ m. turned m (Child number)) members e)))

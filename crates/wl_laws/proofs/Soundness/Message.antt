@@ -2,7 +2,8 @@
 use Rattle.std.proofs.Common.{◌≡◌, ℕ, ◌+◌, List, Bool, true, false, Option, Some, None, refl, ap, sym, subst, ◌∙◌, arith}
 use Rattle.std.specs.Prelude.{◌==◌, ◌&&◌}
 use Rattle.wl_peer.specs.declared.actions.Action.{Action}
-use Rattle.wl_peer.specs.declared.actions.Action.TheVariants.{Sync, GetRegistry, Bind, CreateRegion, AddToRegion, SubtractFromRegion, DestroyRegion, CreatePool, CreateBuffer, ResizePool, DestroyPool, DestroyBuffer}
+use Rattle.wl_peer.specs.declared.actions.Action.TheVariants.{Sync, GetRegistry, Bind, CreateRegion, AddToRegion, SubtractFromRegion, DestroyRegion, CreatePool, CreateBuffer, ResizePool, DestroyPool}
+use Rattle.wl_peer.specs.declared.actions.Action.TheVariants.{DestroyBuffer}
 use Rattle.wl_peer.specs.Peer.{counted, with_rest}
 use Rattle.wl_surface.specs.Request.{Frame}
 use Rattle.wl_surface.specs.Surfaces.{Link, Surfaces}
@@ -10,7 +11,8 @@ use Rattle.wl_shell.specs.Positioner.{Positioner}
 use Rattle.wl_shell.specs.Shell.{Effect, Stays, Unconfigured, Configures, Maps, Unmaps, XdgSurface as Xdg, xdg_at, xdg_of}
 use Rattle.wl_plain.specs.Ask.{Ask, Own, CreateSurface, AskSurface, DestroyBase, GetXdgSurface, DestroyXdgSurface, GetToplevel, Acknowledge, ConfigureAgain, Ignore}
 use Rattle.wl_plain.specs.Changing.{changed_for, drawing, effect_done, grab_allowed, grabbed, has_focus, in_rising_order, link_with_id, popup_given_to, tree_committed}
-use Rattle.wl_plain.specs.Demand.{Demand, Asks, EndSurface, AskFrame, CommitTree, EndObject, GetSubsurface, EndSubsurface, SetMode, GetPointer, MakeCursor, CreatePositioner, EndPositioner, SetPositioner, GetPopup, Grab, EndPopup, EndToplevel, Move}
+use Rattle.wl_plain.specs.Demand.{Demand, Asks, EndSurface, AskFrame, CommitTree, EndObject, GetSubsurface, EndSubsurface, SetMode, GetPointer, MakeCursor, CreatePositioner, EndPositioner}
+use Rattle.wl_plain.specs.Demand.{SetPositioner, GetPopup, Grab, EndPopup, EndToplevel, Move}
 use Rattle.wl_plain.specs.Demanding.{effect_of_commit}
 use Rattle.wl_plain.specs.Desktop.{Desktop, Resident}
 use Rattle.wl_laws.specs.Soundness.{IsLive}
@@ -133,7 +135,8 @@ module _ (b : ℕ) where
   asked-forest (ConfigureAgain xdg) r ok forest = next r.owned.surfaces forest
   asked-forest Ignore r ok forest = next r.owned.surfaces forest
 
-pub forest-kept : (c : ℕ) (demand : Demand) (r : Resident) (d : Desktop) → IsAllowed r demand → HasRoles r → IsForest r.peer.requests r.owned.surfaces → IsForest (r.peer.requests + 1) (changed_for c demand r d).owned.surfaces
+pub forest-kept : (c : ℕ) (demand : Demand) (r : Resident) (d : Desktop) → IsAllowed r demand → HasRoles r → IsForest r.peer.requests r.owned.surfaces
+    → IsForest (r.peer.requests + 1) (changed_for c demand r d).owned.surfaces
 forest-kept c (Asks ask) r d ok roles forest = asked-forest r.peer.requests ask r ok forest
 forest-kept c (EndSurface id) r d ok roles forest = next r.peer.requests _ (forest-destroyed r.peer.requests id r.owned.surfaces forest)
 forest-kept c (AskFrame id version surface) r d ok roles forest =
@@ -148,7 +151,8 @@ forest-kept c (GetSubsurface id version child parent) r d ok roles forest =
 forest-kept c (EndSubsurface id) r d ok roles forest = next r.peer.requests _ (forest-unlinked r.peer.requests (link_with_id id r) r.owned.surfaces forest)
 forest-kept c (SetMode link true) r d ok roles forest = next r.peer.requests _ (forest-synchronised r.peer.requests link r.owned.surfaces forest)
 forest-kept c (SetMode link false) r d ok roles forest = next r.peer.requests _ (forest-desynchronised r.peer.requests link r.owned.surfaces forest)
-forest-kept c (GetPointer id version) r d ok roles forest = by-same r.peer.requests r.owned.surfaces _ (drawn-surfaces (has_focus c d.pointer.focus) (record r { pointers = in_rising_order id r.pointers })) forest
+forest-kept c (GetPointer id version) r d ok roles forest =
+    by-same r.peer.requests r.owned.surfaces _ (drawn-surfaces (has_focus c d.pointer.focus) (record r { pointers = in_rising_order id r.pointers })) forest
 forest-kept c (MakeCursor surface) r d ok roles forest = next r.peer.requests _ (forest-role r.peer.requests surface _ r.owned.surfaces forest)
 forest-kept c (CreatePositioner id version) r d ok roles forest = next r.peer.requests r.owned.surfaces forest
 forest-kept c (EndPositioner id) r d ok roles forest = next r.peer.requests r.owned.surfaces forest

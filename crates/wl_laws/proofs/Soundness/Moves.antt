@@ -7,7 +7,8 @@ use Rattle.std.proofs.lemmas.Bool.{eqb-true, ne_eqb}
 use Rattle.wl_surface.specs.Request.{Request, Commit}
 use Rattle.wl_surface.specs.State.{History}
 use Rattle.wl_surface.specs.Surfaces.{Link, Surface, Surfaces, applying, asking, history_in, link_at, surface_at, with_change, without_surface}
-use Rattle.wl_surface.specs.Trees.{applied_tree, applied_unless, behaves_synchronised, children_of, committed_in, desynchronised_in, destroyed_in, ended_in, ending, in_mode, levels, links_with, released_in, synchronised_in, with_link}
+use Rattle.wl_surface.specs.Trees.{applied_tree, applied_unless, behaves_synchronised, children_of, committed_in, desynchronised_in, destroyed_in, ended_in, ending, in_mode, levels, links_with}
+use Rattle.wl_surface.specs.Trees.{released_in, synchronised_in, with_link}
 use Rattle.wl_plain.specs.Changing.{unlinked_at}
 use Rattle.wl_laws.specs.Owning.{AreApartBy}
 use Rattle.wl_laws.specs.Soundness.{IsLive}
@@ -24,11 +25,13 @@ kept-there : (f : Surface → Surface) (o : Option Surface) → is_some (option_
 kept-there f None = refl
 kept-there f (Some s) = refl
 
-kept-role : (f : Surface → Surface) → ((s : Surface) → (f s).role ≡ s.role) → (o : Option Surface) → option_and_then (λ (s : Surface). s.role) (option_map f o) ≡ option_and_then (λ (s : Surface). s.role) o
+kept-role : (f : Surface → Surface) → ((s : Surface) → (f s).role ≡ s.role) → (o : Option Surface)
+    → option_and_then (λ (s : Surface). s.role) (option_map f o) ≡ option_and_then (λ (s : Surface). s.role) o
 kept-role f keeps None = refl
 kept-role f keeps (Some s) = keeps s
 
-kept-requests : (f : Surface → Surface) → ((s : Surface) → (f s).history.requests ≡ s.history.requests) → (o : Option Surface) (h : History) → option_map (λ (s : Surface). s.history) (option_map f o) ≡ Some h → (g : History) × (option_map (λ (s : Surface). s.history) o ≡ Some g) × (g.requests ≡ h.requests)
+kept-requests : (f : Surface → Surface) → ((s : Surface) → (f s).history.requests ≡ s.history.requests) → (o : Option Surface) (h : History)
+    → option_map (λ (s : Surface). s.history) (option_map f o) ≡ Some h → (g : History) × (option_map (λ (s : Surface). s.history) o ≡ Some g) × (g.requests ≡ h.requests)
 kept-requests f keeps None h e = absurd (cc)
 kept-requests f keeps (Some s) h e = (s.history, refl, sym (keeps s) ∙ ap (λ (k : History). k.requests) (some-same (f s).history h e))
 
@@ -109,7 +112,8 @@ same-links all new same number link live = (link, record { here = sym (ap (find 
 
 module _ (id : ℕ) (change : Surface → Surface) (ids : (s : Surface) → (change s).id ≡ s.id) (all : Surfaces) where
   -- where it is asked the same
-  pub requests-changed : ((s : Surface) → (change s).history.requests ≡ s.history.requests) → (surface : ℕ) (h : History) → history_in surface (with_change id change all) ≡ Some h → (g : History) × (history_in surface all ≡ Some g) × (g.requests ≡ h.requests)
+  pub requests-changed : ((s : Surface) → (change s).history.requests ≡ s.history.requests) → (surface : ℕ) (h : History) → history_in surface (with_change id change all) ≡ Some h → (g : History)
+      × (history_in surface all ≡ Some g) × (g.requests ≡ h.requests)
   requests-changed keeps surface h e =
       kept-requests (one id change) (one-requests id change keeps) (surface_at surface all) h (sym (ap (option_map (λ (s : Surface). s.history)) (changed-found id change ids all surface)) ∙ e)
 
@@ -172,7 +176,8 @@ leaves-one number change is = record {
     lived l true e = is.lives l e
     lived l false e = e
 
-link-kept : (f : Link → Link) → Leaves f → (number : ℕ) (link : Link) (all : Surfaces) (o : Option Link) → link_at number all ≡ o → option_map f o ≡ Some link → link.has_ended ≡ false → (l : Link) × IsLive number l all × (l.child ≡ link.child) × (l.parent ≡ link.parent)
+link-kept : (f : Link → Link) → Leaves f → (number : ℕ) (link : Link) (all : Surfaces) (o : Option Link) → link_at number all ≡ o → option_map f o ≡ Some link → link.has_ended ≡ false → (l : Link)
+    × IsLive number l all × (l.child ≡ link.child) × (l.parent ≡ link.parent)
 link-kept f is number link all None found e lives = absurd (cc)
 link-kept f is number link all (Some l) found e lives =
     let same = some-same (f l) link e in (
@@ -337,7 +342,8 @@ moves-those surface all = moves-all-ended (links_with surface all) all
 pub links-destroyed : (surface : ℕ) (all : Surfaces) → KeepsLinks all (destroyed_in surface all)
 links-destroyed surface all number link live = (moves-those surface all).links number link (record { here = live.here; lives = live.lives })
 
-pub destroyed-live : (surface n : ℕ) (link : Link) (all : Surfaces) → AreApartBy (λ number l. l.number == number) all.links → IsLive n link (destroyed_in surface all) → (link.child ≢ surface) × (link.parent ≢ surface)
+pub destroyed-live : (surface n : ℕ) (link : Link) (all : Surfaces) → AreApartBy (λ number l. l.number == number) all.links → IsLive n link (destroyed_in surface all) → (link.child ≢ surface)
+    × (link.parent ≢ surface)
 destroyed-live surface n link all apart live = (
   λ e. never (or-here (old.0.child == surface) (old.0.parent == surface) (equal-numbers old.0.child surface (old.2 ∙ e))),
   λ e. never (or-there (old.0.child == surface) (old.0.parent == surface) (equal-numbers old.0.parent surface (old.3 ∙ e))),

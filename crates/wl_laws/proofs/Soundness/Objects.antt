@@ -5,7 +5,8 @@ use Rattle.std.specs.Option.{option_map_or}
 use Rattle.wl_interface.specs.declared.interface.Interface.{Interface}
 use Rattle.wl_interface.specs.declared.interface.Interface.TheVariants as of
 use Rattle.wl_peer.specs.declared.actions.Action.{Action}
-use Rattle.wl_peer.specs.declared.actions.Action.TheVariants.{Sync, GetRegistry, Bind, CreateRegion, AddToRegion, SubtractFromRegion, DestroyRegion, CreatePool, CreateBuffer, ResizePool, DestroyPool, DestroyBuffer}
+use Rattle.wl_peer.specs.declared.actions.Action.TheVariants.{Sync, GetRegistry, Bind, CreateRegion, AddToRegion, SubtractFromRegion, DestroyRegion, CreatePool, CreateBuffer, ResizePool, DestroyPool}
+use Rattle.wl_peer.specs.declared.actions.Action.TheVariants.{DestroyBuffer}
 use Rattle.wl_peer.specs.Objects.{Objects, is_of, with_id}
 use Rattle.wl_peer.specs.Peer.{Peer, object_at_version, changed}
 use Rattle.wl_peer.specs.Used.{changed_with, has_used, keeps_store}
@@ -17,11 +18,14 @@ use Rattle.wl_surface.specs.declared.role.Role.TheVariants as role
 use Rattle.wl_surface.specs.Waiting.{Callback}
 use Rattle.wl_shell.specs.Popups.{Popped, dismissed_among, dismissed_with, dismissing, is_parent_of, orphan, orphaning, placing, popup_changed, with_grab, without_grab}
 use Rattle.wl_shell.specs.Positioner.{Positioner}
-use Rattle.wl_shell.specs.Shell.{Effect, Stays, Unconfigured, Configures, Maps, Unmaps, Waiting, Mapped, Shell, XdgSurface as Xdg, acknowledging, configuring, in_stage, unmapping, with_change, without_role, xdg_at, xdg_of}
+use Rattle.wl_shell.specs.Shell.{Effect, Stays, Unconfigured, Configures, Maps, Unmaps, Waiting, Mapped, Shell, XdgSurface as Xdg, acknowledging, configuring, in_stage, unmapping, with_change}
+use Rattle.wl_shell.specs.Shell.{without_role, xdg_at, xdg_of}
 use Rattle.wl_scene.specs.Stacking.{Owned}
 use Rattle.wl_plain.specs.Ask.{Ask, Own, CreateSurface, AskSurface, DestroyBase, GetXdgSurface, DestroyXdgSurface, GetToplevel, Acknowledge, ConfigureAgain, Ignore}
-use Rattle.wl_plain.specs.Changing.{after_all, is_asked, link_with_id, unlinked_at, changed_for, drawing, effect_done, frame_asked, grab_allowed, grabbed, has_focus, in_rising_order, mode_set, placement_now, popup_given_to, subsurface_ended, subsurface_given, surface_ended, toplevel_ended, tree_committed, without_callbacks, without_child}
-use Rattle.wl_plain.specs.Demand.{Demand, Asks, EndSurface, AskFrame, CommitTree, EndObject, GetSubsurface, EndSubsurface, SetMode, GetPointer, MakeCursor, CreatePositioner, EndPositioner, SetPositioner, GetPopup, Grab, EndPopup, EndToplevel, Move}
+use Rattle.wl_plain.specs.Changing.{after_all, is_asked, link_with_id, unlinked_at, changed_for, drawing, effect_done, frame_asked, grab_allowed, grabbed, has_focus, in_rising_order, mode_set}
+use Rattle.wl_plain.specs.Changing.{placement_now, popup_given_to, subsurface_ended, subsurface_given, surface_ended, toplevel_ended, tree_committed, without_callbacks, without_child}
+use Rattle.wl_plain.specs.Demand.{Demand, Asks, EndSurface, AskFrame, CommitTree, EndObject, GetSubsurface, EndSubsurface, SetMode, GetPointer, MakeCursor, CreatePositioner, EndPositioner}
+use Rattle.wl_plain.specs.Demand.{SetPositioner, GetPopup, Grab, EndPopup, EndToplevel, Move}
 use Rattle.wl_plain.specs.Demanding.{effect_of_commit}
 use Rattle.wl_plain.specs.Desktop.{Desktop, Resident, Subsurface}
 use Rattle.wl_plain.specs.Step.{asked_so_far, changed_by, configured, making, toplevel_given, with_shell, with_surfaces, xdg_changed}
@@ -53,7 +57,8 @@ objects-callbacks which r h =
 pub objects-dismissed : (is : Popped → Bool) (r : Resident) → HasObjects r → HasObjects (with_shell (dismissing is r.owned.shell) r)
 objects-dismissed is r h =
     of-has (with_shell (dismissing is r.owned.shell) r)
-    (has-mapped r.peer.objects r.owned.surfaces r.subsurfaces r.owned.shell r.callbacks (has-of r h) (dismissed_among (dismissed_with is r.owned.shell)) (no-id-dismissed (dismissed_with is r.owned.shell)))
+    (has-mapped r.peer.objects r.owned.surfaces r.subsurfaces r.owned.shell r.callbacks (has-of r h) (dismissed_among (dismissed_with is r.owned.shell))
+        (no-id-dismissed (dismissed_with is r.owned.shell)))
 
 -- ---- what is owned changes
 
@@ -135,20 +140,24 @@ surface-made : (id version : ℕ) (r : Resident) → IsNew id r → HasOf r
     → Has (with_id id (Some (object_at_version of.WlSurface version)) r.peer.objects) (with_new id r.owned.surfaces) r.subsurfaces r.owned.shell r.callbacks
 surface-made id version r new h =
     let more = has-surfaces r.peer.objects r.owned.surfaces r.subsurfaces r.owned.shell r.callbacks h (with_new id r.owned.surfaces) (λ other is was. there-more id other r.owned.surfaces was) in
-    has-made r.peer.objects (with_new id r.owned.surfaces) r.subsurfaces r.owned.shell r.callbacks more id (object_at_version of.WlSurface version) (λ interface. free-none interface r.peer.objects id new)
+    has-made r.peer.objects (with_new id r.owned.surfaces) r.subsurfaces r.owned.shell r.callbacks more id (object_at_version of.WlSurface version)
+        (λ interface. free-none interface r.peer.objects id new)
     (λ is. there-new id r.owned.surfaces)
 
 toplevel-made : (id version xdg : ℕ) (r : Resident) (o : Option Xdg) → IsNew id r → xdg_at xdg r.owned.shell ≡ o → HasOf r → HasOf (making of.XdgToplevel id version (toplevel_given id xdg o r))
 toplevel-made id version xdg r None new found h = has-object r.peer.objects r.owned.surfaces r.subsurfaces r.owned.shell r.callbacks h id version new of.XdgToplevel refl
 toplevel-made id version xdg r (Some x) new found h =
     let all = with_surface_change x.surface (with_role role.Toplevel) r.owned.surfaces in
-    has-toplevel-more r.peer.objects all r.subsurfaces r.owned.shell r.callbacks (there-has r all (there-changed x.surface (with_role role.Toplevel) r.owned.surfaces (λ s. refl)) h) id version new xdg _ x found
+    has-toplevel-more r.peer.objects all r.subsurfaces r.owned.shell r.callbacks (there-has r all (there-changed x.surface (with_role role.Toplevel) r.owned.surfaces (λ s. refl)) h) id version new xdg
+        _ x found
 
-popup-made : (id version xdg parent : ℕ) (p : Positioner) (r : Resident) (o : Option Xdg) → IsNew id r → xdg_at xdg r.owned.shell ≡ o → HasOf r → HasOf (making of.XdgPopup id version (popup_given_to id xdg parent p o r))
+popup-made : (id version xdg parent : ℕ) (p : Positioner) (r : Resident) (o : Option Xdg) → IsNew id r → xdg_at xdg r.owned.shell ≡ o → HasOf r
+    → HasOf (making of.XdgPopup id version (popup_given_to id xdg parent p o r))
 popup-made id version xdg parent p r None new found h = has-object r.peer.objects r.owned.surfaces r.subsurfaces r.owned.shell r.callbacks h id version new of.XdgPopup refl
 popup-made id version xdg parent p r (Some x) new found h =
     let all = with_surface_change x.surface (with_role role.Popup) r.owned.surfaces in
-    has-popup-more r.peer.objects all r.subsurfaces r.owned.shell r.callbacks (there-has r all (there-changed x.surface (with_role role.Popup) r.owned.surfaces (λ s. refl)) h) id version new xdg parent p _ _ x found
+    has-popup-more r.peer.objects all r.subsurfaces r.owned.shell r.callbacks (there-has r all (there-changed x.surface (with_role role.Popup) r.owned.surfaces (λ s. refl)) h) id version new xdg
+        parent p _ _ x found
 
 asks-has : (ask : Ask) (r : Resident) → IsAsked r ask → HasOf r → HasOf (changed_by ask r)
 asks-has (Own action) r ok h = own-has (λ number. is_used number r.owned.surfaces) action r ok h
@@ -164,7 +173,8 @@ asks-has Ignore r ok h = h
 
 -- ---- what is demanded
 
-popup-ended : (id xdg : ℕ) (r : Resident) → IsAllowed r (EndPopup id xdg) → HasOf r → Has (with_id id None r.peer.objects) r.owned.surfaces r.subsurfaces (with_change xdg without_role r.owned.shell) r.callbacks
+popup-ended : (id xdg : ℕ) (r : Resident) → IsAllowed r (EndPopup id xdg) → HasOf r → Has (with_id id None r.peer.objects) r.owned.surfaces r.subsurfaces (with_change xdg without_role r.owned.shell)
+    r.callbacks
 popup-ended id xdg r ok h =
     has-popup-gone r.peer.objects r.owned.surfaces r.subsurfaces r.owned.shell r.callbacks h id xdg ok.0
     (only-popup r.peer.objects r.owned.surfaces r.subsurfaces r.owned.shell r.callbacks h id xdg ok.0 ok.1)
@@ -207,7 +217,8 @@ subsurface-made id version child parent r new h =
 frame-made : (id version surface : ℕ) (r : Resident) → IsNew id r → HasOf r → HasOf (frame_asked id version surface r)
 frame-made id version surface r new h =
     let all = with_surface_change surface (asking (Frame r.peer.requests)) r.owned.surfaces in
-    has-callback-more r.peer.objects all r.subsurfaces r.owned.shell r.callbacks (there-has r all (there-changed surface (asking (Frame r.peer.requests)) r.owned.surfaces (λ s. refl)) h) id version new _ refl
+    has-callback-more r.peer.objects all r.subsurfaces r.owned.shell r.callbacks (there-has r all (there-changed surface (asking (Frame r.peer.requests)) r.owned.surfaces (λ s. refl)) h) id version
+        new _ refl
 
 surface-gone : (surface : ℕ) (r : Resident) → IsObject of.WlSurface surface r → HasOf r → HasOf (surface_ended surface r)
 surface-gone surface r ok h =

@@ -47,7 +47,8 @@ abbrev pub is_left : List Callback → Callback → Bool
 is_left gone callback = not (list_any (λ other. other.number == callback.number) gone)
 
 -- one that is left has not the id of one that goes
-pub left-apart : (which : Callback → Bool) (calls : List Callback) (id : ℕ) → AreApartBy has_callback calls → list_any (has_callback id) (filter (is_left (filter which calls)) calls) ≡ true → list_any (has_callback id) (filter which calls) ≡ false
+pub left-apart : (which : Callback → Bool) (calls : List Callback) (id : ℕ) → AreApartBy has_callback calls → list_any (has_callback id) (filter (is_left (filter which calls)) calls) ≡ true
+    → list_any (has_callback id) (filter which calls) ≡ false
 left-apart which calls id apart any = is-false (list_any (has_callback id) (filter which calls)) never
   where
     stays : Callback → Bool
@@ -70,7 +71,8 @@ module _ (peer : Peer) (all : Surfaces) (subs : List Subsurface) (shell : Shell)
   left = (all_removed (filter which calls) peer).objects
 
   -- an object of another interface is left
-  pub other-left : (interface : Interface) → (interface_number interface == interface_number WlCallback) ≡ false → (id : ℕ) → is_of interface (peer.objects id) ≡ true → is_of interface (left id) ≡ true
+  pub other-left : (interface : Interface) → (interface_number interface == interface_number WlCallback) ≡ false → (id : ℕ) → is_of interface (peer.objects id) ≡ true
+      → is_of interface (left id) ≡ true
   other-left interface apart id is =
       ap (is_of interface) (removed-others (filter which calls) peer id (is-false (list_any (has_callback id) (filter which calls)) never)) ∙ is
     where

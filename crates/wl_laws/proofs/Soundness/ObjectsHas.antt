@@ -58,7 +58,8 @@ module _ (objects : Objects) (all : Surfaces) (subs : List Subsurface) (shell : 
   pub has-subsurfaces : (new : List Subsurface) → AreObjects WlSubsurface objects has_sub new → Has objects all new shell calls
   has-subsurfaces new are = record { surfaces = h.surfaces; subsurfaces = are; xdgs = h.xdgs; toplevels = h.toplevels; popups = h.popups; callbacks = h.callbacks }
 
-  pub has-shell : (new : Shell) → AreObjects XdgSurface objects has_xdg new → AreObjects XdgToplevel objects has_toplevel new → AreObjects XdgPopup objects has_popup new → Has objects all subs new calls
+  pub has-shell : (new : Shell) → AreObjects XdgSurface objects has_xdg new → AreObjects XdgToplevel objects has_toplevel new → AreObjects XdgPopup objects has_popup new
+      → Has objects all subs new calls
   has-shell new xdgs toplevels popups = record { surfaces = h.surfaces; subsurfaces = h.subsurfaces; xdgs = xdgs; toplevels = toplevels; popups = popups; callbacks = h.callbacks }
 
   pub has-calls : (new : List Callback) → AreObjects WlCallback objects has_callback new → Has objects all subs shell new
@@ -67,7 +68,8 @@ module _ (objects : Objects) (all : Surfaces) (subs : List Subsurface) (shell : 
   -- ---- an object is made, or goes
 
   -- nothing is known by an id that is put to use
-  pub has-made : (id : ℕ) (object : Object) → ((interface : Interface) → is_of interface (objects id) ≡ false) → (is_of WlSurface (Some object) ≡ true → is_some (surface_at id all) ≡ true) → Has (with_id id (Some object) objects) all subs shell calls
+  pub has-made : (id : ℕ) (object : Object) → ((interface : Interface) → is_of interface (objects id) ≡ false) → (is_of WlSurface (Some object) ≡ true → is_some (surface_at id all) ≡ true)
+      → Has (with_id id (Some object) objects) all subs shell calls
   has-made id object free there = record {
     surfaces = λ key is. surface key (key == id) refl is;
     subsurfaces = objects-more WlSubsurface has_sub objects (with_id id (Some object) objects) subs (others-kept WlSubsurface objects id (Some object) (free WlSubsurface)) h.subsurfaces;
@@ -82,7 +84,8 @@ module _ (objects : Objects) (all : Surfaces) (subs : List Subsurface) (shell : 
       surface key false e is = h.surfaces key is
 
   -- nothing is known by the id of what goes
-  pub has-gone : (id : ℕ) → list_any (has_sub id) subs ≡ false → list_any (has_xdg id) shell ≡ false → list_any (has_toplevel id) shell ≡ false → list_any (has_popup id) shell ≡ false → list_any (has_callback id) calls ≡ false
+  pub has-gone : (id : ℕ) → list_any (has_sub id) subs ≡ false → list_any (has_xdg id) shell ≡ false → list_any (has_toplevel id) shell ≡ false → list_any (has_popup id) shell ≡ false
+      → list_any (has_callback id) calls ≡ false
       → Has (with_id id None objects) all subs shell calls
   has-gone id subsurface xdg toplevel popup callback = record {
     surfaces = λ key is. h.surfaces key (none-of-gone WlSurface objects id key is).0;

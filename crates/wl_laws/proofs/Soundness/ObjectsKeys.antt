@@ -78,7 +78,8 @@ of-one one other None apart is = refl
 of-one one other (Some object) apart is = ap (λ n. n == interface_number other) (eqb-true (interface_number object.interface) (interface_number one) is) ∙ apart
 
 -- an object that is there after one was taken away was there before, and is another
-pub none-of-gone : (interface : Interface) (objects : Objects) (id other : ℕ) → is_of interface (with_id id None objects other) ≡ true → (is_of interface (objects other) ≡ true) × ((other == id) ≡ false)
+pub none-of-gone : (interface : Interface) (objects : Objects) (id other : ℕ) → is_of interface (with_id id None objects other) ≡ true → (is_of interface (objects other) ≡ true)
+    × ((other == id) ≡ false)
 none-of-gone interface objects id other is = at (other == id) refl is
   where
     at : (b : Bool) → (other == id) ≡ b → is_of interface (cond b None (objects other)) ≡ true → (is_of interface (objects other) ≡ true) × ((other == id) ≡ false)
@@ -88,7 +89,8 @@ none-of-gone interface objects id other is = at (other == id) refl is
 -- ---- those that are known by them
 
 module _ {X : Type 0} (interface : Interface) (has : ℕ → X → Bool) where
-  pub objects-more : (old new : Objects) (xs : List X) → ((id : ℕ) → is_of interface (old id) ≡ true → is_of interface (new id) ≡ true) → AreObjects interface old has xs → AreObjects interface new has xs
+  pub objects-more : (old new : Objects) (xs : List X) → ((id : ℕ) → is_of interface (old id) ≡ true → is_of interface (new id) ≡ true) → AreObjects interface old has xs
+      → AreObjects interface new has xs
   objects-more old new xs more are = (are.0, λ id any. more id (are.1 id any))
 
   -- no key is that of an object of another interface
@@ -105,11 +107,13 @@ module _ {X : Type 0} (interface : Interface) (has : ℕ → X → Bool) where
   pub objects-filter : (objects : Objects) (q : X → Bool) (xs : List X) → AreObjects interface objects has xs → AreObjects interface objects has (filter q xs)
   objects-filter objects q xs are = (apart-left has q xs are.0, λ id any. are.1 id (any-of-filter (has id) q xs any))
 
-  pub objects-map : (objects : Objects) (f : X → X) (xs : List X) → ((key : ℕ) (x : X) → has key (f x) ≡ true → has key x ≡ true) → AreObjects interface objects has xs → AreObjects interface objects has (map f xs)
+  pub objects-map : (objects : Objects) (f : X → X) (xs : List X) → ((key : ℕ) (x : X) → has key (f x) ≡ true → has key x ≡ true) → AreObjects interface objects has xs
+      → AreObjects interface objects has (map f xs)
   objects-map objects f xs less are = (apart-less has f xs less are.0, λ id any. are.1 id (any-less (has id) f xs (less id) any))
 
   -- one more, whose key is that of a new object
-  pub objects-new : (objects : Objects) (id : ℕ) (object : Object) (xs : List X) (x : X) → is_of interface (objects id) ≡ false → is_of interface (Some object) ≡ true → ((key : ℕ) → has key x ≡ true → key ≡ id)
+  pub objects-new : (objects : Objects) (id : ℕ) (object : Object) (xs : List X) (x : X) → is_of interface (objects id) ≡ false → is_of interface (Some object) ≡ true
+      → ((key : ℕ) → has key x ≡ true → key ≡ id)
       → AreObjects interface objects has xs → AreObjects interface (with_id id (Some object) objects) has (xs ++ x ∷ [])
   objects-new objects id object xs x none is key-is are = (
     new-apart has xs x (λ key has-key. none-found (has key) xs (no-key objects key xs (ap (λ n. is_of interface (objects n)) (key-is key has-key) ∙ none) are)) are.0,

@@ -31,10 +31,12 @@ only-mapped has id xdg change shell keeps less only =
         (ap (λ i. not (i == xdg)) (sym (keeps x)) ∙ and-right (has id (change x)) (not ((change x).id == xdg)) e)
 
 -- it loses it
-pub only-gone : (has : ℕ → Xdg → Bool) (id xdg : ℕ) (shell : Shell) → ((x : Xdg) → has id (without_role x) ≡ false) → list_any (is_elsewhere has id xdg) shell ≡ false → list_any (has id) (with_change xdg without_role shell) ≡ false
+pub only-gone : (has : ℕ → Xdg → Bool) (id xdg : ℕ) (shell : Shell) → ((x : Xdg) → has id (without_role x) ≡ false) → list_any (is_elsewhere has id xdg) shell ≡ false
+    → list_any (has id) (with_change xdg without_role shell) ≡ false
 only-gone has id xdg shell never only =
     is-false (list_any (has id) (with_change xdg without_role shell))
-    (λ any. differ (sym (any-more (λ x. has id (cond (x.id == xdg) (without_role x) x)) (is_elsewhere has id xdg) (λ x e. at x (x.id == xdg) e) shell (sym (any-map (has id) (λ x. cond (x.id == xdg) (without_role x) x) shell) ∙ any)) ∙ only))
+    (λ any. differ (sym (any-more (λ x. has id (cond (x.id == xdg) (without_role x) x)) (is_elsewhere has id xdg) (λ x e. at x (x.id == xdg) e) shell
+        (sym (any-map (has id) (λ x. cond (x.id == xdg) (without_role x) x) shell) ∙ any)) ∙ only))
   where
     at : (x : Xdg) (b : Bool) → has id (cond b (without_role x) x) ≡ true → (has id x && not b) ≡ true
     at x true e = absurd (differ (sym e ∙ never x))
@@ -87,7 +89,8 @@ module _ (objects : Objects) (all : Surfaces) (subs : List Subsurface) (shell : 
       at (Some x) found of-id = is-false (list_any (is_elsewhere has_popup id xdg) shell) never
         where
           other : has_toplevel id x ≡ false
-          other = is-false (has_toplevel id x) (λ e. differ (sym (found-any (λ y. is_role id y.role) (has_toplevel id) shell x found e) ∙ no-toplevel objects all subs shell calls h XdgPopup id refl is))
+          other = is-false (has_toplevel id x) (λ e. differ (sym (found-any (λ y. is_role id y.role) (has_toplevel id) shell x found e)
+              ∙ no-toplevel objects all subs shell calls h XdgPopup id refl is))
 
           here : find (has_popup id) shell ≡ Some x
           here = found-by has_popup (λ y. is_role id y.role) id shell x h.popups.0 found (as-popup id x.role (found-passes (λ y. is_role id y.role) shell x found) other)
@@ -102,7 +105,8 @@ module _ (objects : Objects) (all : Surfaces) (subs : List Subsurface) (shell : 
   changed : Has objects all subs (with_change xdg without_role shell) calls
   changed = has-mapped objects all subs shell calls h (λ x. cond (x.id == xdg) (without_role x) x) (no-id-change xdg without_role no-id-without)
 
-  pub has-toplevel-gone : is_of XdgToplevel (objects id) ≡ true → list_any (is_elsewhere has_toplevel id xdg) shell ≡ false → Has (with_id id None objects) all subs (with_change xdg without_role shell) calls
+  pub has-toplevel-gone : is_of XdgToplevel (objects id) ≡ true → list_any (is_elsewhere has_toplevel id xdg) shell ≡ false
+      → Has (with_id id None objects) all subs (with_change xdg without_role shell) calls
   has-toplevel-gone is only =
       has-gone objects all subs (with_change xdg without_role shell) calls changed id
       (no-subsurface objects all subs (with_change xdg without_role shell) calls changed XdgToplevel id refl is)

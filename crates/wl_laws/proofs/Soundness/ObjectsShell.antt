@@ -43,12 +43,14 @@ no-id-if is f a = record { id = λ x. id x (is x); toplevel = λ key x. toplevel
 
 -- ---- each of them
 
-role-toplevel : (key : ℕ) (change : RoleObject → RoleObject) → ((object : RoleObject) → (change object).id ≡ object.id) → ((object : RoleObject) → is_toplevel_kind (change object).kind ≡ is_toplevel_kind object.kind) → (role : Option RoleObject)
+role-toplevel : (key : ℕ) (change : RoleObject → RoleObject) → ((object : RoleObject) → (change object).id ≡ object.id)
+    → ((object : RoleObject) → is_toplevel_kind (change object).kind ≡ is_toplevel_kind object.kind) → (role : Option RoleObject)
     → is_toplevel_at key (option_map change role) ≡ is_toplevel_at key role
 role-toplevel key change id kind None = refl
 role-toplevel key change id kind (Some object) = ap (λ i. (i == key) && is_toplevel_kind (change object).kind) (id object) ∙ ap (λ k. (object.id == key) && k) (kind object)
 
-role-popup : (key : ℕ) (change : RoleObject → RoleObject) → ((object : RoleObject) → (change object).id ≡ object.id) → ((object : RoleObject) → is_toplevel_kind (change object).kind ≡ is_toplevel_kind object.kind) → (role : Option RoleObject)
+role-popup : (key : ℕ) (change : RoleObject → RoleObject) → ((object : RoleObject) → (change object).id ≡ object.id)
+    → ((object : RoleObject) → is_toplevel_kind (change object).kind ≡ is_toplevel_kind object.kind) → (role : Option RoleObject)
     → is_popup_at key (option_map change role) ≡ is_popup_at key role
 role-popup key change id kind None = refl
 role-popup key change id kind (Some object) = ap (λ i. (i == key) && not (is_toplevel_kind (change object).kind)) (id object) ∙ ap (λ k. (object.id == key) && not k) (kind object)
@@ -95,7 +97,8 @@ no-id-change id change a = no-id-if (λ x. x.id == id) change a
 
 -- ---- all of them change
 
-pub has-mapped : (objects : Objects) (all : Surfaces) (subs : List Subsurface) (shell : Shell) (calls : List Callback) → Has objects all subs shell calls → (change : Xdg → Xdg) → BringsNoId change → Has objects all subs (map change shell) calls
+pub has-mapped : (objects : Objects) (all : Surfaces) (subs : List Subsurface) (shell : Shell) (calls : List Callback) → Has objects all subs shell calls → (change : Xdg → Xdg) → BringsNoId change
+    → Has objects all subs (map change shell) calls
 has-mapped objects all subs shell calls h change brings =
     has-shell objects all subs shell calls h (map change shell)
     (objects-map XdgSurface has_xdg objects change shell (λ key x e. ap (λ i. i == key) (sym (brings.id x)) ∙ e) h.xdgs)

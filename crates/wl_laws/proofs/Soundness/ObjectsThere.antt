@@ -6,7 +6,8 @@ use Rattle.std.proofs.lemmas.Bool.{eqb-true}
 use Rattle.wl_surface.specs.declared.role.Role.TheVariants.{Subsurface}
 use Rattle.wl_surface.specs.Request.{AddChild, Commit}
 use Rattle.wl_surface.specs.Surfaces.{Link, Surface, Surfaces, applying, asking, link_at, new_surface, surface_at, with_change, with_new, with_role}
-use Rattle.wl_surface.specs.Trees.{applied_tree, applied_unless, behaves_synchronised, children_of, committed_in, desynchronised_in, destroyed_in, ended_in, in_mode, levels, linked, links_with, released_in, with_link}
+use Rattle.wl_surface.specs.Trees.{applied_tree, applied_unless, behaves_synchronised, children_of, committed_in, desynchronised_in, destroyed_in, ended_in, in_mode, levels, linked, links_with}
+use Rattle.wl_surface.specs.Trees.{released_in, with_link}
 use Rattle.wl_plain.specs.Changing.{unlinked_at}
 use Rattle.wl_laws.proofs.Keeping.OwningKeys.{differ, found-map}
 use Rattle.wl_laws.proofs.Marks.Stacks.{equal-numbers}
@@ -103,7 +104,8 @@ there-unlinked (Some number) all id = there-all ended_in there-ended (filter (λ
 -- each surface but the one that goes
 pub there-destroyed : (surface : ℕ) (all : Surfaces) (id : ℕ) → (id == surface) ≡ false → is_some (surface_at id (destroyed_in surface all)) ≡ is_some (surface_at id all)
 there-destroyed surface all id apart =
-    ap is_some (found-left (λ s. s.id == id) (λ s. not (s.id == surface)) (fold ended_in all (links_with surface all)).surfaces (λ s is. ap (λ i. not (i == surface)) (eqb-true s.id id is) ∙ ap not apart))
+    ap is_some (found-left (λ s. s.id == id) (λ s. not (s.id == surface)) (fold ended_in all (links_with surface all)).surfaces (λ s is. ap (λ i. not (i == surface)) (eqb-true s.id id is)
+        ∙ ap not apart))
     ∙ there-all ended_in there-ended (links_with surface all) all id
 
 pub there-more : (new id : ℕ) (all : Surfaces) → is_some (surface_at id all) ≡ true → is_some (surface_at id (with_new new all)) ≡ true

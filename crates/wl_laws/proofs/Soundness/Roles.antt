@@ -8,7 +8,8 @@ use Rattle.wl_surface.specs.Surfaces.{Link, Surface, Surfaces, surface_at, with_
 use Rattle.wl_surface.specs.declared.role.Role.{Role}
 use Rattle.wl_surface.specs.declared.role.Role.TheVariants.{Subsurface as AsSubsurface, Toplevel as AsToplevel, Popup as AsPopup, Cursor as AsCursor}
 use Rattle.wl_shell.specs.Popups.{Popped, dismiss, dismissed_among, dismissed_with, dismissing, is_among, is_parent_of, new_popup, orphan, orphaning, popup_changed, with_grab}
-use Rattle.wl_shell.specs.Shell.{Shell, XdgSurface, with_change, without_xdg, xdg_at, xdg_of, new_toplevel, with_new, Configures, Effect, Mapped, Maps, Stays, Unconfigured, Unmaps, acknowledging, configuring, in_stage, without_role}
+use Rattle.wl_shell.specs.Shell.{Shell, XdgSurface, with_change, without_xdg, xdg_at, xdg_of, new_toplevel, with_new, Configures, Effect, Mapped, Maps, Stays, Unconfigured, Unmaps, acknowledging}
+use Rattle.wl_shell.specs.Shell.{configuring, in_stage, without_role}
 use Rattle.wl_scene.specs.Stacking.{Owned}
 use Rattle.wl_plain.specs.Desktop.{Resident, Subsurface, Desktop}
 use Rattle.wl_laws.specs.Owning.{AreApartBy}
@@ -18,7 +19,8 @@ use Rattle.wl_plain.specs.WlSubsurface.{is_of_child}
 use Rattle.wl_plain.specs.XdgShell.{role_of, is_foreign}
 use Rattle.wl_laws.proofs.Soundness.Orderly.{HasRoles, KeepsLinks, KeepsTrees, role_in, IsForest, HasObjects, IsAllowed, IsAsked}
 use Rattle.wl_laws.proofs.Keeping.OwningKeys.{apart-left, apart-map, found-map, none-left, differ, found-fails, found-passes, new-apart, new-elsewhere, any-found, found-any}
-use Rattle.wl_plain.specs.Changing.{popup_given_to, link_with_id, subsurface_ended, subsurface_given, surface_ended, without_child, changed_for, commit_done, drawing, effect_done, frame_asked, grab_allowed, grabbed, has_focus, in_rising_order, mode_set, pointer_given, popup_given, toplevel_ended, tree_committed}
+use Rattle.wl_plain.specs.Changing.{popup_given_to, link_with_id, subsurface_ended, subsurface_given, surface_ended, without_child, changed_for, commit_done, drawing, effect_done, frame_asked}
+use Rattle.wl_plain.specs.Changing.{grab_allowed, grabbed, has_focus, in_rising_order, mode_set, pointer_given, popup_given, toplevel_ended, tree_committed}
 use Rattle.wl_shell.specs.Positioner.{Positioner}
 use Rattle.wl_plain.specs.WlPointer.{is_no_cursor}
 use Rattle.wl_laws.proofs.Keeping.OwningSurfaces.{has_id}
@@ -32,7 +34,8 @@ use Rattle.wl_laws.proofs.Soundness.Linked.{linked-live}
 use Rattle.wl_laws.proofs.Keeping.StandingLists.{any-last}
 use Rattle.wl_plain.specs.Demanding.{effect_of_commit}
 use Rattle.wl_plain.specs.Ask.{Ask, Own, CreateSurface, AskSurface, DestroyBase, GetXdgSurface, DestroyXdgSurface, GetToplevel, Acknowledge, ConfigureAgain, Ignore}
-use Rattle.wl_plain.specs.Demand.{Demand, Asks, EndSurface, AskFrame, CommitTree, EndObject, GetSubsurface, EndSubsurface, SetMode, GetPointer, MakeCursor, CreatePositioner, EndPositioner, SetPositioner, GetPopup, Grab, EndPopup, EndToplevel, Move}
+use Rattle.wl_plain.specs.Demand.{Demand, Asks, EndSurface, AskFrame, CommitTree, EndObject, GetSubsurface, EndSubsurface, SetMode, GetPointer, MakeCursor, CreatePositioner, EndPositioner}
+use Rattle.wl_plain.specs.Demand.{SetPositioner, GetPopup, Grab, EndPopup, EndToplevel, Move}
 
 -- ---- what is kept
 
@@ -85,7 +88,8 @@ pub record KeepsShell (old new : Shell) : Type 0 where
 
 pub roles-trees : (r q : Resident) → KeepsTrees r.owned.surfaces q.owned.surfaces → KeepsShell r.owned.shell q.owned.shell → q.subsurfaces ≡ r.subsurfaces → HasRoles r → HasRoles q
 roles-trees r q trees shell names has =
-    roles-step r q trees.links (λ n link live role bare. (trees.surfaces.roles link.child ∙ role, shell.none link.child bare)) (λ n link live named. ap (list_any (names_child n link.child)) names ∙ named) (shell.apart has.apart) has
+    roles-step r q trees.links (λ n link live role bare. (trees.surfaces.roles link.child ∙ role, shell.none link.child bare)) (λ n link live named. ap (list_any (names_child n link.child)) names
+        ∙ named) (shell.apart has.apart) has
 
 -- ---- the shell
 
@@ -223,10 +227,12 @@ roles-created id r has =
       bare,
     )) (λ n link live named. named) has.apart has
 
-pub roles-shelled : (id base surface : ℕ) (r : Resident) → is_foreign (role_of r surface) ≡ false → xdg_of surface r.owned.shell ≡ None → HasRoles r → HasRoles (with_shell (with_new id base surface r.owned.shell) r)
+pub roles-shelled : (id base surface : ℕ) (r : Resident) → is_foreign (role_of r surface) ≡ false → xdg_of surface r.owned.shell ≡ None → HasRoles r
+    → HasRoles (with_shell (with_new id base surface r.owned.shell) r)
 roles-shelled id base surface r foreign none has =
     roles-step r (with_shell (with_new id base surface r.owned.shell) r) (links-same r.owned.surfaces r.owned.surfaces refl)
-    (λ n link live is bare. (is, new-elsewhere (has_surface link.child) r.owned.shell one (ne_eqb surface link.child (λ same. foreign-not (role_of r surface) foreign (ap (role_of r) same ∙ is))) ∙ bare))
+    (λ n link live is bare. (is, new-elsewhere (has_surface link.child) r.owned.shell one (ne_eqb surface link.child (λ same. foreign-not (role_of r surface) foreign (ap (role_of r) same ∙ is)))
+        ∙ bare))
     (λ n link live named. named) (new-apart has_surface r.owned.shell one (λ key is. ap (λ k. xdg_of k r.owned.shell) (sym (eqb-true surface key is)) ∙ none) has.apart) has
   where
     one : XdgSurface
@@ -253,12 +259,14 @@ abbrev new_subsurface : ℕ → ℕ → ℕ → Subsurface
 new_subsurface id number child = record { id = id; link = number; surface = Some child }
 
 names-still : (id number child n surface : ℕ) (ss : List Subsurface) → list_any (names_child n surface) ss ≡ true → list_any (names_child n surface) (ss ++ new_subsurface id number child ∷ []) ≡ true
-names-still id number child n surface ss named = any-last (names_child n surface) ss (new_subsurface id number child) ∙ or_left (list_any (names_child n surface) ss) (names_child n surface (new_subsurface id number child)) named
+names-still id number child n surface ss named = any-last (names_child n surface) ss (new_subsurface id number child)
+    ∙ or_left (list_any (names_child n surface) ss) (names_child n surface (new_subsurface id number child)) named
 
 names-new : (id number child n surface : ℕ) (ss : List Subsurface) → n ≡ number → surface ≡ child → list_any (names_child n surface) (ss ++ new_subsurface id number child ∷ []) ≡ true
 names-new id number child n surface ss here same =
     any-last (names_child n surface) ss (new_subsurface id number child)
-    ∙ or_right (list_any (names_child n surface) ss) (names_child n surface (new_subsurface id number child)) (and-both (number == n) (child == surface) (equal-numbers number n (sym here)) (equal-numbers child surface (sym same)))
+    ∙ or_right (list_any (names_child n surface) ss) (names_child n surface (new_subsurface id number child)) (and-both (number == n) (child == surface) (equal-numbers number n (sym here))
+        (equal-numbers child surface (sym same)))
 
 pub roles-subsurface :
     (id version child parent : ℕ) (r : Resident) → is_some (surface_at child r.owned.surfaces) ≡ true → xdg_of child r.owned.shell ≡ None → IsForest r.peer.requests r.owned.surfaces → HasRoles r
@@ -293,17 +301,20 @@ names-left :
     → list_any (names_child n child) (filter (λ s. not (s.id == id)) ss) ≡ true
 names-left id n child ss apart other any = at (any-found (λ id s. s.id == id) (names_child n child) ss apart any)
   where
-    at : (s : Subsurface) × (names_child n child s ≡ true) × ((key : ℕ) → (s.id == key) ≡ true → find (λ s. s.id == key) ss ≡ Some s) → list_any (names_child n child) (filter (λ s. not (s.id == id)) ss) ≡ true
+    at : (s : Subsurface) × (names_child n child s ≡ true) × ((key : ℕ) → (s.id == key) ≡ true → find (λ s. s.id == key) ss ≡ Some s)
+        → list_any (names_child n child) (filter (λ s. not (s.id == id)) ss) ≡ true
     at one =
         let not_it : (one.0.id == id) ≡ false = unless (one.0.id == id)
-        (λ same. other (ap (λ k. Some k) (sym (eqb-true one.0.link n (and-left (one.0.link == n) (is_of_child child one.0.surface) one.1))) ∙ sym (ap (λ (o : Option Subsurface). option_map (λ s. s.link) o) (one.2 id same)))) in
+        (λ same. other (ap (λ k. Some k) (sym (eqb-true one.0.link n (and-left (one.0.link == n) (is_of_child child one.0.surface) one.1)))
+            ∙ sym (ap (λ (o : Option Subsurface). option_map (λ s. s.link) o) (one.2 id same)))) in
         found-any (λ s. s.id == one.0.id) (names_child n child) (filter (λ s. not (s.id == id)) ss) one.0
         (found-kept (λ s. s.id == one.0.id) (λ s. not (s.id == id)) ss one.0 (one.2 one.0.id (equal-numbers one.0.id one.0.id refl)) (ap (λ b. not b) not_it)) one.1
 
 pub roles-unlinked :
     (id : ℕ) (r : Resident) → AreApartBy (λ id s. s.id == id) r.subsurfaces → AreApartBy (λ number l. l.number == number) r.owned.surfaces.links → HasRoles r → HasRoles (subsurface_ended id r)
 roles-unlinked id r apart links has =
-    roles-step r (subsurface_ended id r) (trees-unlinked (link_with_id id r) r.owned.surfaces).links (λ n link live is bare. ((trees-unlinked (link_with_id id r) r.owned.surfaces).surfaces.roles link.child ∙ is, bare))
+    roles-step r (subsurface_ended id r) (trees-unlinked (link_with_id id r) r.owned.surfaces).links
+        (λ n link live is bare. ((trees-unlinked (link_with_id id r) r.owned.surfaces).surfaces.roles link.child ∙ is, bare))
     (λ n link live named. names-left id n link.child r.subsurfaces apart (unlinked-live (link_with_id id r) n link r.owned.surfaces links live) named) has.apart has
 
 -- ---- a surface goes
@@ -329,7 +340,8 @@ pub roles-destroyed : (surface : ℕ) (r : Resident) → AreApartBy (λ number l
 roles-destroyed surface r links has =
     roles-step r (surface_ended surface r) (links-destroyed surface r.owned.surfaces)
     (λ n link live is bare. (destroyed-role surface link.child r.owned.surfaces (destroyed-live surface n link r.owned.surfaces links live).0 ∙ is, bare))
-    (λ n link live named. any-map (names_child n link.child) (without_child surface) (names-inert surface n link.child (destroyed-live surface n link r.owned.surfaces links live).0) r.subsurfaces named) has.apart has
+    (λ n link live named. any-map (names_child n link.child) (without_child surface) (names-inert surface n link.child (destroyed-live surface n link r.owned.surfaces links live).0) r.subsurfaces
+        named) has.apart has
 
 -- ---- a commit
 
@@ -394,7 +406,8 @@ roles-asked (ConfigureAgain xdg) r is has =
 roles-asked Ignore r is has = has
 
 -- Children are subsurfaces without xdg_surface, each known by its wl_subsurface, and no surface has two xdg_surfaces.
-pub roles-kept : (c : ℕ) (demand : Demand) (r : Resident) (d : Desktop) → IsAllowed r demand → HasObjects r → IsForest r.peer.requests r.owned.surfaces → HasRoles r → HasRoles (changed_for c demand r d)
+pub roles-kept : (c : ℕ) (demand : Demand) (r : Resident) (d : Desktop) → IsAllowed r demand → HasObjects r → IsForest r.peer.requests r.owned.surfaces → HasRoles r
+    → HasRoles (changed_for c demand r d)
 roles-kept c (Asks ask) r d is objects forest has = roles-asked ask r is has
 roles-kept c (EndSurface id) r d is objects forest has = roles-destroyed id r forest.apart has
 roles-kept c (AskFrame id version surface) r d is objects forest has =
@@ -415,6 +428,7 @@ roles-kept c (SetPositioner id p) r d is objects forest has = roles-same r (chan
 roles-kept c (GetPopup id version xdg parent p) r d is objects forest has =
     roles-same (popup_given_to id xdg parent p (xdg_at xdg r.owned.shell) r) (popup_given id version xdg parent p r) refl refl (roles-popup id xdg parent p r has)
 roles-kept c (Grab xdg serial) r d is objects forest has = roles-grabbed (grab_allowed c xdg serial r d) xdg r has
-roles-kept c (EndPopup id xdg) r d is objects forest has = roles-same (xdg_changed xdg without_role r) (changed_for c (EndPopup id xdg) r d) refl refl (roles-changed xdg without_role r (λ x. refl) has)
+roles-kept c (EndPopup id xdg) r d is objects forest has = roles-same (xdg_changed xdg without_role r) (changed_for c (EndPopup id xdg) r d) refl refl
+    (roles-changed xdg without_role r (λ x. refl) has)
 roles-kept c (EndToplevel id xdg top) r d is objects forest has = roles-ended id xdg r has
 roles-kept c (Move surface serial) r d is objects forest has = has

@@ -21,7 +21,8 @@ use Rattle.wl_plain.specs.Acts.{Act, Connect, Feed, Store, Leave, Tick, Send, Cl
 use Rattle.wl_plain.specs.Happens.{ChangesThen, ConnectsThen, Happens, HappensThen, LeavesThen, PressesThen, ReleasesThen, ending, hit_now, point_in, pointed, settling}
 use Rattle.wl_laws.proofs.Soundness.Orderly.{AreOrderly, IsOrderlyAt, IsOrderlyBy}
 use Rattle.wl_laws.proofs.Soundness.RunMessages.{MessageKeeps, fed-known}
-use Rattle.wl_laws.proofs.Soundness.RunTold.{Anyhow, Frames, IsAlike, Known, ToldOrderly, alike, ended-by-known, ending-known, known-so, left-orderly, nothing-orderly, orderly-all, orderly-frames, orderly-stays, settling-known}
+use Rattle.wl_laws.proofs.Soundness.RunTold.{Anyhow, Frames, IsAlike, Known, ToldOrderly, alike, ended-by-known, ending-known, known-so, left-orderly, nothing-orderly, orderly-all, orderly-frames}
+use Rattle.wl_laws.proofs.Soundness.RunTold.{orderly-stays, settling-known}
 use Rattle.wl_laws.proofs.Soundness.RunTops.{pointed-known, raised-known}
 use Rattle.wl_laws.proofs.Keeping.OwningKeys.{none-some, some-same}
 use Rattle.wl_laws.proofs.Runs.Places.{number-other, number-same}
@@ -50,7 +51,8 @@ comes (None ∷ rs) zero x e = (refl, refl)
 comes (None ∷ rs) (suc k) x e = absurd (cc)
 comes (Some r ∷ rs) k x e = at (lowest rs) e (λ m free. comes rs m x free)
   where
-    at : (o : Option ℕ) → next_of o ≡ Some k → ((m : ℕ) → o ≡ Some m → (place rs m ≡ None) × (place (with_place m x rs) m ≡ x)) → (place (Some r ∷ rs) k ≡ None) × (place (with_place k x (Some r ∷ rs)) k ≡ x)
+    at : (o : Option ℕ) → next_of o ≡ Some k → ((m : ℕ) → o ≡ Some m → (place rs m ≡ None) × (place (with_place m x rs) m ≡ x)) → (place (Some r ∷ rs) k ≡ None)
+        × (place (with_place k x (Some r ∷ rs)) k ≡ x)
     at None e later = absurd (none-some k e)
     at (Some m) e later =
         let same = some-same (m + 1) k e in

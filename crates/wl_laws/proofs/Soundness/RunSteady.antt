@@ -3,7 +3,8 @@ use Rattle.std.proofs.Common.{◌≡◌, ℕ, List, [], ◌∷◌, Bool, true, f
 use Rattle.std.specs.Prelude.{fold}
 use Rattle.wl_store.specs.Stores.{Stock}
 use Rattle.wl_peer.specs.declared.actions.Action.{Action}
-use Rattle.wl_peer.specs.declared.actions.Action.TheVariants.{Sync, GetRegistry, Bind, CreateRegion, AddToRegion, SubtractFromRegion, DestroyRegion, CreatePool, CreateBuffer, ResizePool, DestroyPool, DestroyBuffer}
+use Rattle.wl_peer.specs.declared.actions.Action.TheVariants.{Sync, GetRegistry, Bind, CreateRegion, AddToRegion, SubtractFromRegion, DestroyRegion, CreatePool, CreateBuffer, ResizePool, DestroyPool}
+use Rattle.wl_peer.specs.declared.actions.Action.TheVariants.{DestroyBuffer}
 use Rattle.wl_peer.specs.Peer.{Peer, changed, removed}
 use Rattle.wl_peer.specs.Used.{changed_with, has_used, keeps_store}
 use Rattle.wl_shell.specs.Positioner.{Positioner}
@@ -12,7 +13,8 @@ use Rattle.wl_surface.specs.Surfaces.{is_used}
 use Rattle.wl_surface.specs.Waiting.{Callback}
 use Rattle.wl_plain.specs.Ask.{Ask, Own, CreateSurface, AskSurface, DestroyBase, GetXdgSurface, DestroyXdgSurface, GetToplevel, Acknowledge, ConfigureAgain, Ignore}
 use Rattle.wl_plain.specs.Changing.{callbacks_of, changed_for, drawing, effect_done, grab_allowed, grabbed, has_focus, in_rising_order, mode_set, popup_given_to, tree_committed}
-use Rattle.wl_plain.specs.Demand.{Demand, Asks, EndSurface, AskFrame, CommitTree, EndObject, GetSubsurface, EndSubsurface, SetMode, GetPointer, MakeCursor, CreatePositioner, EndPositioner, SetPositioner, GetPopup, Grab, EndPopup, EndToplevel, Move}
+use Rattle.wl_plain.specs.Demand.{Demand, Asks, EndSurface, AskFrame, CommitTree, EndObject, GetSubsurface, EndSubsurface, SetMode, GetPointer, MakeCursor, CreatePositioner, EndPositioner}
+use Rattle.wl_plain.specs.Demand.{SetPositioner, GetPopup, Grab, EndPopup, EndToplevel, Move}
 use Rattle.wl_plain.specs.Demanding.{effect_of_commit}
 use Rattle.wl_plain.specs.Desktop.{Desktop, Resident}
 use Rattle.wl_plain.specs.Step.{changed_by, toplevel_given}

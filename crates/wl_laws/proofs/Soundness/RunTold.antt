@@ -105,7 +105,8 @@ pub record IsAlike (r q : Resident) : Type 0 where
   pub subsurfaces : q.subsurfaces ≡ r.subsurfaces
   pub callbacks : q.callbacks ≡ r.callbacks
 
-forest-so : (r q : Resident) → q.peer.requests ≡ r.peer.requests → q.owned.surfaces ≡ r.owned.surfaces → IsForest (r.peer.requests + 1) r.owned.surfaces → IsForest (q.peer.requests + 1) q.owned.surfaces
+forest-so : (r q : Resident) → q.peer.requests ≡ r.peer.requests → q.owned.surfaces ≡ r.owned.surfaces → IsForest (r.peer.requests + 1) r.owned.surfaces
+    → IsForest (q.peer.requests + 1) q.owned.surfaces
 forest-so r q e f forest = rw (e, f) forest
 
 abbrev pub ToldOrderly : Resident → Resident → Option Cause → Type 0
@@ -284,7 +285,8 @@ module _ (frames : Frames) where
       living r (Some q) (inl h) known = rw h.1 (times-orderly h.0.0 r q h.0.1 (toplevels_of c old) known)
       living r (Some q) (inr h) known = rw (h.1, h.0.4) (ended-orderly h.0.1 h.0.0.peer)
 
-      by : (r : Resident) (s : Option Cause) → IsLeftBy s r (toplevels_of c old) (client_at c new) (toplevels_of c new) → IsOrderlyAt (Some r) (toplevels_of c old) → IsOrderlyAt (client_at c new) (toplevels_of c new)
+      by : (r : Resident) (s : Option Cause) → IsLeftBy s r (toplevels_of c old) (client_at c new) (toplevels_of c new) → IsOrderlyAt (Some r) (toplevels_of c old)
+          → IsOrderlyAt (client_at c new) (toplevels_of c new)
       by r (Some cause) h known = known-so c new (Some r) (toplevels_of c old) h.0 h.1 known
       by r None h known = living r (client_at c new) h known
 

@@ -27,7 +27,8 @@ last-of : (c : ℕ) (ss : List Standing) (s : Standing) → of c (ss ++ s ∷ []
 last-of c [] s = refl
 last-of c (t ∷ ts) s = ap (λ (rest : List Standing). cond (t.client == c) (t ∷ rest) rest) (last-of c ts s) ∙ at (s.client == c) (t.client == c)
   where
-    at : (b a : Bool) → cond a (t ∷ (if b then of c ts ++ s ∷ [] else of c ts)) (if b then of c ts ++ s ∷ [] else of c ts) ≡ (if b then cond a (t ∷ of c ts) (of c ts) ++ s ∷ [] else cond a (t ∷ of c ts) (of c ts))
+    at : (b a : Bool) → cond a (t ∷ (if b then of c ts ++ s ∷ [] else of c ts)) (if b then of c ts ++ s ∷ [] else of c ts) ≡ (if b then cond a (t ∷ of c ts) (of c ts) ++ s ∷ [] else cond a
+        (t ∷ of c ts) (of c ts))
     at true true = refl
     at true false = refl
     at false a = refl
@@ -46,7 +47,8 @@ apart-raised c k surface (s ∷ ss) apart = at (is_of k surface s) (apart-raised
         ∙ any-raised (λ t. (t.client == c) && is_of s.client s.surface t) k surface ss
         ∙ sym (any-kept (is_of s.client s.surface) (λ t. t.client == c) ss)
 
-    on : (b : Bool) → (AreApart (of c ss) → AreApart (of c (raised k surface ss))) → AreApart (cond b (s ∷ of c ss) (of c ss)) → AreApart (cond b (s ∷ of c (raised k surface ss)) (of c (raised k surface ss)))
+    on : (b : Bool) → (AreApart (of c ss) → AreApart (of c (raised k surface ss))) → AreApart (cond b (s ∷ of c ss) (of c ss))
+        → AreApart (cond b (s ∷ of c (raised k surface ss)) (of c (raised k surface ss)))
     on true later apart = (same ∙ apart.0, later apart.1)
     on false later apart = later apart
 
@@ -70,7 +72,8 @@ apart-moved c k surface place (s ∷ ss) apart = at (is_of k surface s) (apart-m
         ∙ any-moved (λ t. (t.client == c) && is_of s.client s.surface t) (λ t place. refl) k surface place ss
         ∙ sym (any-kept (is_of s.client s.surface) (λ t. t.client == c) ss)
 
-    on : (b : Bool) → (AreApart (of c ss) → AreApart (of c (moved_to k surface place ss))) → AreApart (cond b (s ∷ of c ss) (of c ss)) → AreApart (cond b (s ∷ of c (moved_to k surface place ss)) (of c (moved_to k surface place ss)))
+    on : (b : Bool) → (AreApart (of c ss) → AreApart (of c (moved_to k surface place ss))) → AreApart (cond b (s ∷ of c ss) (of c ss))
+        → AreApart (cond b (s ∷ of c (moved_to k surface place ss)) (of c (moved_to k surface place ss)))
     on true later apart = (same ∙ apart.0, later apart.1)
     on false later apart = later apart
 
@@ -83,7 +86,8 @@ apart-moved c k surface place (s ∷ ss) apart = at (is_of k surface s) (apart-m
 none-stand : (before after : List Standing) → StandTheSame before after → before ≡ [] → after ≡ []
 none-stand before [] same none = refl
 none-stand before (s ∷ ss) same none =
-    absurd (differ (sym (ap (λ (tops : List Standing). list_any (λ t. t.surface == s.surface) tops) none) ∙ sym (same s.surface) ∙ ap (λ (b : Bool). b || list_any (λ t. t.surface == s.surface) ss) (equal-numbers s.surface s.surface refl)))
+    absurd (differ (sym (ap (λ (tops : List Standing). list_any (λ t. t.surface == s.surface) tops) none) ∙ sym (same s.surface)
+        ∙ ap (λ (b : Bool). b || list_any (λ t. t.surface == s.surface) ss) (equal-numbers s.surface s.surface refl)))
 
 stand-so : (r : Resident) (before after : List Standing) → StandTheSame before after → (AreApart before → AreApart after) → IsOrderlyAt (Some r) before → IsOrderlyAt (Some r) after
 stand-so r before after same apart known = at r.peer.status known

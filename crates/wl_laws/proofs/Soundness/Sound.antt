@@ -176,7 +176,8 @@ unpopped-mapped surface (x ∷ xs) apart mapped = at (on_surface surface x) refl
         any-append (popped_on surface) (popped_of x) (flat_map popped_of xs)
         ∙ or-none (list_any (popped_on surface) (popped_of x)) (list_any (popped_on surface) (flat_map popped_of xs)) e f
 
-    at : (b : Bool) → on_surface surface x ≡ b → IsMapped (cond b (Some x) (xdg_of surface xs)) → (IsMapped (xdg_of surface xs) → list_any (popped_on surface) (flat_map popped_of xs) ≡ false) → list_any (popped_on surface) (flat_map popped_of (x ∷ xs)) ≡ false
+    at : (b : Bool) → on_surface surface x ≡ b → IsMapped (cond b (Some x) (xdg_of surface xs)) → (IsMapped (xdg_of surface xs) → list_any (popped_on surface) (flat_map popped_of xs) ≡ false)
+        → list_any (popped_on surface) (flat_map popped_of (x ∷ xs)) ≡ false
     at true here m later =
         more (ap (λ (ps : List Popped). list_any (popped_on surface) ps) (is-no-popup x m)) (unpopped surface xs (apart.0 surface here))
     at false here m later = more (popped-none surface x here) (later m)

@@ -5,12 +5,16 @@ use Rattle.std.specs.List.{list_any}
 use Rattle.std.specs.Option.{option_map, option_map_or}
 use Rattle.std.proofs.lemmas.Bool.{eqb-true, ne_eqb, or_left, or_right}
 use Rattle.std.proofs.lemmas.List.Elements.{filter-append}
-use Rattle.wl_shell.specs.Popups.{Popped, dismiss, dismissed_among, dismissed_with, dismissing, is_among, is_parent_of, is_toplevel, is_toplevel_kind, new_popup, orphan, orphaning, popped_of, popup_changed, with_grab, with_popup, with_popup_role, without_grab}
+use Rattle.wl_shell.specs.Popups.{Popped, dismiss, dismissed_among, dismissed_with, dismissing, is_among, is_parent_of, is_toplevel, is_toplevel_kind, new_popup, orphan, orphaning, popped_of}
+use Rattle.wl_shell.specs.Popups.{popup_changed, with_grab, with_popup, with_popup_role, without_grab}
 use Rattle.wl_shell.specs.declared.stage.Stage.{Stage}
-use Rattle.wl_shell.specs.Shell.{Configures, Effect, IsPopup, Kind, Mapped, Maps, Popup, RoleObject, Shell, Stays, Toplevel, Unconfigured, Unmaps, XdgSurface, at_stage, in_stage, on_commit, with_change, with_new, without_xdg, xdg_at, xdg_of, configuring, unmapping, acknowledged, acknowledging, is_role, new_toplevel, role_acknowledged, without_role, xdg_with}
+use Rattle.wl_shell.specs.Shell.{Configures, Effect, IsPopup, Kind, Mapped, Maps, Popup, RoleObject, Shell, Stays, Toplevel, Unconfigured, Unmaps, XdgSurface, at_stage, in_stage, on_commit}
+use Rattle.wl_shell.specs.Shell.{with_change, with_new, without_xdg, xdg_at, xdg_of, configuring, unmapping, acknowledged, acknowledging, is_role, new_toplevel, role_acknowledged, without_role}
+use Rattle.wl_shell.specs.Shell.{xdg_with}
 use Rattle.wl_scene.specs.Stacking.{Standing, is_of, with_mapped, without_surface_of, Owned}
 use Rattle.wl_scene.specs.Windows.{mapping_place, Window}
-use Rattle.wl_plain.specs.Changing.{commit_done, effect_done, stacked_by, tree_committed, grabbed, popup_given_to, changed_for, drawing, grab_allowed, has_focus, in_rising_order, stacked_for, toplevel_ended}
+use Rattle.wl_plain.specs.Changing.{commit_done, effect_done, stacked_by, tree_committed, grabbed, popup_given_to, changed_for, drawing, grab_allowed, has_focus, in_rising_order, stacked_for}
+use Rattle.wl_plain.specs.Changing.{toplevel_ended}
 use Rattle.wl_plain.specs.Demanding.{effect_for_xdg, is_dismissed, effect_of_commit, effect_on_xdg}
 use Rattle.wl_laws.specs.Laws.{AreApart}
 use Rattle.wl_plain.specs.Desktop.{toplevels_of, Desktop, Resident}
@@ -25,7 +29,8 @@ use Rattle.wl_shell.specs.Positioner.{Positioner}
 use Rattle.wl_peer.specs.Objects.{Object, interface_number, is_of as is_object_of}
 use Rattle.wl_interface.specs.declared.interface.Interface.TheVariants.{XdgPopup, XdgToplevel}
 use Rattle.wl_plain.specs.Ask.{Ask, Own, CreateSurface, AskSurface, DestroyBase, GetXdgSurface, DestroyXdgSurface, GetToplevel, Acknowledge, ConfigureAgain, Ignore}
-use Rattle.wl_plain.specs.Demand.{Demand, Asks, EndSurface, AskFrame, CommitTree, EndObject, GetSubsurface, EndSubsurface, SetMode, GetPointer, MakeCursor, CreatePositioner, EndPositioner, SetPositioner, GetPopup, Grab, EndPopup, EndToplevel, Move}
+use Rattle.wl_plain.specs.Demand.{Demand, Asks, EndSurface, AskFrame, CommitTree, EndObject, GetSubsurface, EndSubsurface, SetMode, GetPointer, MakeCursor, CreatePositioner, EndPositioner}
+use Rattle.wl_plain.specs.Demand.{SetPositioner, GetPopup, Grab, EndPopup, EndToplevel, Move}
 
 -- ---- lists
 
@@ -49,7 +54,8 @@ found-kept p q (y ∷ ys) x found keeps = at (p y) (q y) refl refl found (λ e. 
     at false false e f here rest = rest here
 
 -- two that are found and have one key are the same
-pub same-key : {X : Type 0} (has : ℕ → X → Bool) (p q : X → Bool) (key : ℕ) (xs : List X) (x y : X) → AreApartBy has xs → find p xs ≡ Some x → find q xs ≡ Some y → has key x ≡ true → has key y ≡ true → x ≡ y
+pub same-key : {X : Type 0} (has : ℕ → X → Bool) (p q : X → Bool) (key : ℕ) (xs : List X) (x y : X) → AreApartBy has xs → find p xs ≡ Some x → find q xs ≡ Some y → has key x ≡ true → has key y ≡ true
+    → x ≡ y
 same-key has p q key xs x y apart a b f g = some-same x y (sym (found-by has p key xs x apart a f) ∙ found-by has q key xs y apart b g)
 
 filter-turned : {X : Type 0} (p q : X → Bool) (xs : List X) → filter p (filter q xs) ≡ filter q (filter p xs)
@@ -93,7 +99,8 @@ dismissed-role x false is = is
 
 pub mapped-dismissed : (is : Popped → Bool) (shell : Shell) (surface : ℕ) → IsMapped (xdg_of surface shell) → IsMapped (xdg_of surface (dismissing is shell))
 mapped-dismissed is shell surface here =
-    mapped-if (λ x. cond (is_among x.id (dismissed_with is shell)) (popup_changed dismiss x) x) shell surface (λ x. dismissed-surface (dismissed_with is shell) x (is_among x.id (dismissed_with is shell)))
+    mapped-if (λ x. cond (is_among x.id (dismissed_with is shell)) (popup_changed dismiss x) x) shell surface
+        (λ x. dismissed-surface (dismissed_with is shell) x (is_among x.id (dismissed_with is shell)))
     (λ x found. dismissed-role x (is_among x.id (dismissed_with is shell))) here
 
 pub standing-dismissed : (is : Popped → Bool) (shell : Shell) (tops : List Standing) → StandsSo shell tops → StandsSo (dismissing is shell) tops
@@ -108,7 +115,8 @@ changed-surface id change keeps x false = refl
 -- where it is the one that changes, it stays mapped
 pub mapped-changed :
     (id : ℕ) (change : XdgSurface → XdgSurface) (shell : Shell) (surface : ℕ) → ((x : XdgSurface) → (change x).surface ≡ x.surface)
-    → ((x : XdgSurface) → xdg_of surface shell ≡ Some x → x.id ≡ id → IsMappedRole x.role → IsMappedRole (change x).role) → IsMapped (xdg_of surface shell) → IsMapped (xdg_of surface (with_change id change shell))
+    → ((x : XdgSurface) → xdg_of surface shell ≡ Some x → x.id ≡ id → IsMappedRole x.role → IsMappedRole (change x).role) → IsMapped (xdg_of surface shell)
+        → IsMapped (xdg_of surface (with_change id change shell))
 mapped-changed id change shell surface keeps maps is =
     mapped-if (λ x. cond (x.id == id) (change x) x) shell surface (λ x. changed-surface id change keeps x (x.id == id)) (λ x found. at x (x.id == id) refl (maps x found)) is
   where
@@ -125,7 +133,8 @@ bare-at id shell surface x apart bare found same =
     subst HasNoRole (found-by (λ id x. x.id == id) (λ x. x.surface == surface) id shell x apart found (equal-numbers x.id id same)) bare
 
 pub mapped-bare :
-    (id : ℕ) (change : XdgSurface → XdgSurface) (shell : Shell) (surface : ℕ) → ((x : XdgSurface) → (change x).surface ≡ x.surface) → AreApartBy (λ id x. x.id == id) shell → HasNoRole (xdg_at id shell)
+    (id : ℕ) (change : XdgSurface → XdgSurface) (shell : Shell) (surface : ℕ) → ((x : XdgSurface) → (change x).surface ≡ x.surface) → AreApartBy (λ id x. x.id == id) shell
+        → HasNoRole (xdg_at id shell)
     → IsMapped (xdg_of surface shell) → IsMapped (xdg_of surface (with_change id change shell))
 mapped-bare id change shell surface keeps apart bare is =
     mapped-changed id change shell surface keeps (λ x found same here. absurd (no-role x (bare-at id shell surface x apart bare found same) here)) is
@@ -141,7 +150,8 @@ mapped-new id base made surface shell is =
     mapped-some (IsMapped (xdg_of surface (with_new id base made shell))) (xdg_of surface shell) is
     (λ x found here. subst IsMapped (sym (found-first (λ x. x.surface == surface) shell (record { id = id; base = base; surface = made; role = None; serials = []; since = 0 }) x found)) here)
 
-pub mapped-without : (id surface : ℕ) (shell : Shell) → AreApartBy (λ id x. x.id == id) shell → HasNoRole (xdg_at id shell) → IsMapped (xdg_of surface shell) → IsMapped (xdg_of surface (without_xdg id shell))
+pub mapped-without : (id surface : ℕ) (shell : Shell) → AreApartBy (λ id x. x.id == id) shell → HasNoRole (xdg_at id shell) → IsMapped (xdg_of surface shell)
+    → IsMapped (xdg_of surface (without_xdg id shell))
 mapped-without id surface shell apart bare is =
     mapped-some (IsMapped (xdg_of surface (without_xdg id shell))) (xdg_of surface shell) is
     (λ x found here.
@@ -270,17 +280,21 @@ module _ (c surface : ℕ) (shell : Shell) (x : XdgSurface) (apart : AreApartBy 
       → IsMapped (xdg_of other (with_change x.id change shell))
   commit-waits shows change other keeps effect is =
       mapped-changed x.id change shell other keeps
-      (λ y here same role. absurd (no-configure (is_dismissed (popped_of x)) shows (sym (effect-mapped shows x (subst (λ (z : XdgSurface). IsMappedRole z.role) (it-changes other y here same) role)) ∙ effect))) is
+      (λ y here same role. absurd (no-configure (is_dismissed (popped_of x)) shows (sym (effect-mapped shows x (subst (λ (z : XdgSurface). IsMappedRole z.role) (it-changes other y here same) role))
+          ∙ effect))) is
 
-  commit-unmaps : (change : XdgSurface → XdgSurface) (ss : List Standing) → ((y : XdgSurface) → (change y).surface ≡ y.surface) → StandsSo shell (of_client c ss) → StandsSo (with_change x.id change shell) (of_client c (without_surface_of c surface ss))
+  commit-unmaps : (change : XdgSurface → XdgSurface) (ss : List Standing) → ((y : XdgSurface) → (change y).surface ≡ y.surface) → StandsSo shell (of_client c ss)
+      → StandsSo (with_change x.id change shell) (of_client c (without_surface_of c surface ss))
   commit-unmaps change ss keeps stands =
       standing-out c surface ss shell (with_change x.id change shell)
       (λ other differs is.
       mapped-changed x.id change shell other keeps
       (λ y here same role.
-      absurd (differs (sym (eqb-true y.surface other (found-passes (λ x. x.surface == other) shell y here)) ∙ ap (λ (z : XdgSurface). z.surface) (it-changes other y here same) ∙ eqb-true x.surface surface (found-passes (λ x. x.surface == surface) shell x found)))) is) stands
+      absurd (differs (sym (eqb-true y.surface other (found-passes (λ x. x.surface == other) shell y here)) ∙ ap (λ (z : XdgSurface). z.surface) (it-changes other y here same)
+          ∙ eqb-true x.surface surface (found-passes (λ x. x.surface == surface) shell x found)))) is) stands
 
-  commit-unmaps-popup : (change : XdgSurface → XdgSurface) (other : ℕ) → ((y : XdgSurface) → (change y).surface ≡ y.surface) → is_toplevel (Some x) ≡ false → IsMapped (xdg_of other shell) → IsMapped (xdg_of other (with_change x.id change shell))
+  commit-unmaps-popup : (change : XdgSurface → XdgSurface) (other : ℕ) → ((y : XdgSurface) → (change y).surface ≡ y.surface) → is_toplevel (Some x) ≡ false → IsMapped (xdg_of other shell)
+      → IsMapped (xdg_of other (with_change x.id change shell))
   commit-unmaps-popup change other keeps none is =
       mapped-changed x.id change shell other keeps
       (λ y here same role. absurd (differ (sym (mapped-kind x.role (subst (λ (z : XdgSurface). IsMappedRole z.role) (it-changes other y here same) role)) ∙ none))) is
@@ -291,19 +305,23 @@ module _ (c surface : ℕ) (shell : Shell) (x : XdgSurface) (apart : AreApartBy 
   now-mapped : is_toplevel (Some x) ≡ true → IsMapped (xdg_of surface (with_change x.id (in_stage Mapped) shell))
   now-mapped is =
       subst IsMapped
-      (sym (found-map (λ x. x.surface == surface) (λ y. cond (y.id == x.id) (in_stage Mapped y) y) shell (λ y. ap (λ n. n == surface) (changed-surface x.id (in_stage Mapped) (λ y. refl) y (y.id == x.id)))
+      (sym (found-map (λ x. x.surface == surface) (λ y. cond (y.id == x.id) (in_stage Mapped y) y) shell
+          (λ y. ap (λ n. n == surface) (changed-surface x.id (in_stage Mapped) (λ y. refl) y (y.id == x.id)))
       ∙ ap (option_map (λ (y : XdgSurface). cond (y.id == x.id) (in_stage Mapped y) y)) found
       ∙ ap (λ b. Some (cond b (in_stage Mapped x) x)) (equal-numbers x.id x.id refl)))
       (becomes-mapped x.role is)
 
-  commit-maps : (m : ℕ) (shows : Bool) (ss : List Standing) → effect_for_xdg shows x ≡ Maps → is_toplevel (Some x) ≡ true → StandsSo shell (of_client c ss) → StandsSo (with_change x.id (in_stage Mapped) shell) (of_client c (with_mapped m c surface ss))
+  commit-maps : (m : ℕ) (shows : Bool) (ss : List Standing) → effect_for_xdg shows x ≡ Maps → is_toplevel (Some x) ≡ true → StandsSo shell (of_client c ss)
+      → StandsSo (with_change x.id (in_stage Mapped) shell) (of_client c (with_mapped m c surface ss))
   commit-maps m shows ss effect is stands =
       standing-on m c surface ss shell (with_change x.id (in_stage Mapped) shell)
       (λ here. no-mapping (is_dismissed (popped_of x)) shows (sym (effect-mapped shows x (subst IsMapped found here)) ∙ effect)) (now-mapped is) stays-mapped stands
 
 commit-effect :
-    (c surface : ℕ) (r : Resident) (d : Desktop) (x : XdgSurface) (shows : Bool) → AreApartBy (λ id x. x.id == id) r.owned.shell → xdg_of surface r.owned.shell ≡ Some x → StandsSo r.owned.shell (toplevels_of c d)
-    → (e : Effect) → effect_for_xdg shows x ≡ e → StandsSo (effect_done c surface e (Some x) d (tree_committed surface r)).owned.shell (toplevels_of c (stacked_by e (is_toplevel (Some x)) c surface d))
+    (c surface : ℕ) (r : Resident) (d : Desktop) (x : XdgSurface) (shows : Bool) → AreApartBy (λ id x. x.id == id) r.owned.shell → xdg_of surface r.owned.shell ≡ Some x
+        → StandsSo r.owned.shell (toplevels_of c d)
+    → (e : Effect) → effect_for_xdg shows x ≡ e → StandsSo (effect_done c surface e (Some x) d (tree_committed surface r)).owned.shell
+        (toplevels_of c (stacked_by e (is_toplevel (Some x)) c surface d))
 commit-effect c surface r d x shows apart found stands Stays is = stands
 commit-effect c surface r d x shows apart found stands Unconfigured is = stands
 commit-effect c surface r d x shows apart found stands Configures is =
@@ -323,7 +341,8 @@ commit-effect c surface r d x shows apart found stands Unmaps is = at (is_toplev
 
     at : (b : Bool) → is_toplevel (Some x) ≡ b → StandsSo (with_change x.id change r.owned.shell) (toplevels_of c (stacked_by Unmaps b c surface d))
     at true e = commit-unmaps c surface r.owned.shell x apart found change d.standing (λ y. refl) stands
-    at false e = standing-same r.owned.shell (with_change x.id change r.owned.shell) (toplevels_of c d) (λ other. commit-unmaps-popup c surface r.owned.shell x apart found change other (λ y. refl) e) stands
+    at false e = standing-same r.owned.shell (with_change x.id change r.owned.shell) (toplevels_of c d) (λ other. commit-unmaps-popup c surface r.owned.shell x apart found change other (λ y. refl) e)
+        stands
 
 standing-committed :
     (c surface : ℕ) (r : Resident) (d : Desktop) → AreApartBy (λ id x. x.id == id) r.owned.shell → StandsSo r.owned.shell (toplevels_of c d)
@@ -331,14 +350,16 @@ standing-committed :
 standing-committed c surface r d apart stands = at (xdg_of surface r.owned.shell) refl
   where
     at : (o : Option XdgSurface) → xdg_of surface r.owned.shell ≡ o
-        → StandsSo (effect_done c surface (effect_on_xdg (will_show r surface) o) o d (tree_committed surface r)).owned.shell (toplevels_of c (stacked_by (effect_on_xdg (will_show r surface) o) (is_toplevel o) c surface d))
+        → StandsSo (effect_done c surface (effect_on_xdg (will_show r surface) o) o d (tree_committed surface r)).owned.shell
+            (toplevels_of c (stacked_by (effect_on_xdg (will_show r surface) o) (is_toplevel o) c surface d))
     at None found = stands
     at (Some x) found = commit-effect c surface r d x (will_show r surface) apart found stands (effect_for_xdg (will_show r surface) x) refl
 
 -- ---- a role object comes, or goes
 
 standing-bare :
-    (id : ℕ) (change : XdgSurface → XdgSurface) (shell : Shell) (tops : List Standing) → ((x : XdgSurface) → (change x).surface ≡ x.surface) → AreApartBy (λ id x. x.id == id) shell → HasNoRole (xdg_at id shell)
+    (id : ℕ) (change : XdgSurface → XdgSurface) (shell : Shell) (tops : List Standing) → ((x : XdgSurface) → (change x).surface ≡ x.surface) → AreApartBy (λ id x. x.id == id) shell
+        → HasNoRole (xdg_at id shell)
     → StandsSo shell tops → StandsSo (with_change id change shell) tops
 standing-bare id change shell tops keeps apart bare stands = standing-same shell (with_change id change shell) tops (λ other is. mapped-bare id change shell other keeps apart bare is) stands
 
@@ -370,13 +391,15 @@ toplevel-role id None is here = is
 toplevel-role id (Some object) is here = and-both (object.id == id) (is_toplevel_kind object.kind) is (ap is_toplevel_kind here.0)
 
 -- the role object with this id isn't mapped: it is a popup
-popup-unmapped : (id xdg : ℕ) (r : Resident) → HasObjects r → is_object_of XdgPopup (r.peer.objects id) ≡ true → HasId xdg (xdg_with id r.owned.shell) → (surface : ℕ) (x : XdgSurface) → xdg_of surface r.owned.shell ≡ Some x → x.id ≡ xdg → IsMappedRole x.role → ⊥
+popup-unmapped : (id xdg : ℕ) (r : Resident) → HasObjects r → is_object_of XdgPopup (r.peer.objects id) ≡ true → HasId xdg (xdg_with id r.owned.shell) → (surface : ℕ) (x : XdgSurface)
+    → xdg_of surface r.owned.shell ≡ Some x → x.id ≡ xdg → IsMappedRole x.role → ⊥
 popup-unmapped id xdg r has is named surface x found same here = at (xdg_with id r.owned.shell) refl named
   where
     at : (o : Option XdgSurface) → xdg_with id r.owned.shell ≡ o → HasId xdg o → ⊥
     at None e named = named
     at (Some y) e named =
-        let one : y ≡ x = same-key (λ id x. x.id == id) (λ x. is_role id x.role) (λ x. x.surface == surface) xdg r.owned.shell y x has.shell.0 e found (equal-numbers y.id xdg named) (equal-numbers x.id xdg same) in
+        let one : y ≡ x = same-key (λ id x. x.id == id) (λ x. is_role id x.role) (λ x. x.surface == surface) xdg r.owned.shell y x has.shell.0 e found (equal-numbers y.id xdg named)
+            (equal-numbers x.id xdg same) in
         let role : is_role id x.role ≡ true = subst (λ (z : XdgSurface). is_role id z.role ≡ true) one (found-passes (λ x. is_role id x.role) r.owned.shell y e) in
         one-interface (r.peer.objects id) is
         (has.toplevels.1 id (found-any (λ x. x.surface == surface) (λ x. is_toplevel_at id x.role) r.owned.shell x found (toplevel-role id x.role role here)))
@@ -415,7 +438,8 @@ pub mapped-orphaned : (xdg surface : ℕ) (shell : Shell) → IsMapped (xdg_of s
 mapped-orphaned xdg surface shell is = mapped-if (popup_changed (orphan xdg)) shell surface (λ x. refl) (λ x found here. popup-role (orphan xdg) x.role here) is
 
 -- the role object of an xdg_surface goes: those of other surfaces stay mapped
-mapped-unrole : (xdg surface : ℕ) (shell : Shell) → AreApartBy (λ id x. x.id == id) shell → surface ≢ surface_of (xdg_at xdg shell) → IsMapped (xdg_of surface shell) → IsMapped (xdg_of surface (with_change xdg without_role shell))
+mapped-unrole : (xdg surface : ℕ) (shell : Shell) → AreApartBy (λ id x. x.id == id) shell → surface ≢ surface_of (xdg_at xdg shell) → IsMapped (xdg_of surface shell)
+    → IsMapped (xdg_of surface (with_change xdg without_role shell))
 mapped-unrole xdg surface shell apart other is =
     mapped-changed xdg without_role shell surface (λ y. refl)
     (λ x found same here.

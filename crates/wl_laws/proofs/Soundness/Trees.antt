@@ -42,7 +42,8 @@ each-flat P f (x ∷ xs) e = each-append P (f x) (flat_map f xs) e.0 (each-flat 
 pub all-there : {X : Type 0} (same : X → X → Bool) → ((x : X) → same x x ≡ true) → (xs : List X) → Each (λ x. list_any (same x) xs ≡ true) xs
 all-there same self [] = tt
 all-there same self (x ∷ xs) =
-    (or-here (same x x) (list_any (same x) xs) (self x), each-map (λ y. list_any (same y) xs ≡ true) (λ y. (same y x || list_any (same y) xs) ≡ true) (λ y e. or-there (same y x) (list_any (same y) xs) e) xs (all-there same self xs))
+    (or-here (same x x) (list_any (same x) xs) (self x), each-map (λ y. list_any (same y) xs ≡ true) (λ y. (same y x || list_any (same y) xs) ≡ true)
+        (λ y e. or-there (same y x) (list_any (same y) xs) e) xs (all-there same self xs))
 
 append-distinct : (ws vs : List Window) → AreDistinct ws → AreDistinct vs → Each (λ w. list_any (is_same_surface w) vs ≡ false) ws → AreDistinct (ws ++ vs)
 append-distinct [] vs a b d = b
@@ -53,7 +54,8 @@ none-each w P [] e f = refl
 none-each w P (v ∷ vs) e f = or-none (is_same_surface w v) (list_any (is_same_surface w) vs) (unless (is_same_surface w v) (f v e.0)) (none-each w P vs e.1 f)
 
 -- Where each gives distinct windows, and two that give a window of one surface are the same, all give distinct windows.
-pub flat-distinct : {X : Type 0} (f : X → List Window) (Ok : X → Type 0) (Of : X → Window → Type 0) (same : X → X → Bool) → ((x : X) → Ok x → AreDistinct (f x)) → ((x : X) → Ok x → Each (Of x) (f x)) → ((x y : X) (w v : Window) → Ok x → Ok y → Of x w → Of y v → is_same_surface w v ≡ true → same x y ≡ true) → (xs : List X) → Each Ok xs → AreOnce same xs → AreDistinct (flat_map f xs)
+pub flat-distinct : {X : Type 0} (f : X → List Window) (Ok : X → Type 0) (Of : X → Window → Type 0) (same : X → X → Bool) → ((x : X) → Ok x → AreDistinct (f x)) → ((x : X) → Ok x → Each (Of x) (f x))
+    → ((x y : X) (w v : Window) → Ok x → Ok y → Of x w → Of y v → is_same_surface w v ≡ true → same x y ≡ true) → (xs : List X) → Each Ok xs → AreOnce same xs → AreDistinct (flat_map f xs)
 flat-distinct f Ok Of same apart each one [] ok once = tt
 flat-distinct {X = X} f Ok Of same apart each one (x ∷ xs) ok once =
     append-distinct (f x) (flat_map f xs) (apart x ok.0) (flat-distinct f Ok Of same apart each one xs ok.1 once.1)
@@ -177,30 +179,36 @@ own-distinct : (owner : Owner) (surface : ℕ) (corner : Place) (v : Values) (bu
 own-distinct owner surface corner v None = tt
 own-distinct owner surface corner v (Some buffer) = (refl, tt)
 
-member-distinct : (next : ℕ → Place → List Window) (owner : Owner) (all : Surfaces) (c : ℕ) (h : History) (corner : Place) (m : Member) → GiveDistinct next → AreDistinct (member_windows next owner all c h corner m)
+member-distinct : (next : ℕ → Place → List Window) (owner : Owner) (all : Surfaces) (c : ℕ) (h : History) (corner : Place) (m : Member) → GiveDistinct next
+    → AreDistinct (member_windows next owner all c h corner m)
 member-distinct next owner all c h corner Itself apart = own-distinct owner c corner (applied h) (applied h).buffer
 member-distinct next owner all c h corner (Child l) apart = child-distinct next h corner l (link_at l all) apart
 
-own-each : (owner : Owner) (all : Surfaces) (surface : ℕ) (corner : Place) (v : Values) (buffer : Option Buffer) → Each (IsOf owner.client all surface Itself) (window_with owner surface corner v buffer)
+own-each : (owner : Owner) (all : Surfaces) (surface : ℕ) (corner : Place) (v : Values) (buffer : Option Buffer)
+    → Each (IsOf owner.client all surface Itself) (window_with owner surface corner v buffer)
 own-each owner all surface corner v None = tt
 own-each owner all surface corner v (Some buffer) = ((refl, refl), tt)
 
-child-each : (client : ℕ) (next : ℕ → Place → List Window) (all : Surfaces) (c : ℕ) (h : History) (corner : Place) (l : ℕ) (a : Option Link) → AreUnder client all next → link_at l all ≡ a → ((b : Link) → IsLive l b all → b.parent ≡ c) → Each (IsOf client all c (Child l)) (child_windows next h corner l a)
+child-each : (client : ℕ) (next : ℕ → Place → List Window) (all : Surfaces) (c : ℕ) (h : History) (corner : Place) (l : ℕ) (a : Option Link) → AreUnder client all next → link_at l all ≡ a
+    → ((b : Link) → IsLive l b all → b.parent ≡ c) → Each (IsOf client all c (Child l)) (child_windows next h corner l a)
 child-each client next all c h corner l None each e parent = tt
 child-each client next all c h corner l (Some a) each e parent = by a.has_ended refl
   where
-    by : (b : Bool) → a.has_ended ≡ b → Each (IsOf client all c (Child l)) (cond b [] (next a.child (record { x = corner.x +ℤ (position l (counting h)).0; y = corner.y +ℤ (position l (counting h)).1 })))
+    by : (b : Bool) → a.has_ended ≡ b
+        → Each (IsOf client all c (Child l)) (cond b [] (next a.child (record { x = corner.x +ℤ (position l (counting h)).0; y = corner.y +ℤ (position l (counting h)).1 })))
     by true f = tt
     by false f =
         let live : IsLive l a all = record { here = e; lives = f } in
         each-map (IsUnder client all a.child) (IsOf client all c (Child l)) (λ w u. (u.of_client, (a, live, parent a live, u.levels, u.under))) _ (each a.child _)
 
-member-each : (next : ℕ → Place → List Window) (owner : Owner) (all : Surfaces) → AreTrees all → (c : ℕ) (h : History) (corner : Place) (m : Member) → AreUnder owner.client all next → history_in c all ≡ Some h → IsIn h m → Each (IsOf owner.client all c m) (member_windows next owner all c h corner m)
+member-each : (next : ℕ → Place → List Window) (owner : Owner) (all : Surfaces) → AreTrees all → (c : ℕ) (h : History) (corner : Place) (m : Member) → AreUnder owner.client all next
+    → history_in c all ≡ Some h → IsIn h m → Each (IsOf owner.client all c m) (member_windows next owner all c h corner m)
 member-each next owner all t c h corner Itself each e there = own-each owner all c corner (applied h) (applied h).buffer
 member-each next owner all t c h corner (Child l) each e there =
     child-each owner.client next all c h corner l (link_at l all) each refl (λ b live. t.parents c h.cut l h b e there live)
 
-surface-each : (next : ℕ → Place → List Window) (owner : Owner) (all : Surfaces) → AreTrees all → (c : ℕ) (place : Place) (h : Option History) → AreUnder owner.client all next → history_in c all ≡ h → Each (IsUnder owner.client all c) (surface_windows next owner all c place h)
+surface-each : (next : ℕ → Place → List Window) (owner : Owner) (all : Surfaces) → AreTrees all → (c : ℕ) (place : Place) (h : Option History) → AreUnder owner.client all next → history_in c all ≡ h
+    → Each (IsUnder owner.client all c) (surface_windows next owner all c place h)
 surface-each next owner all t c place None each e = tt
 surface-each next owner all t c place (Some h) each e = by (applied h).buffer
   where
@@ -212,7 +220,8 @@ surface-each next owner all t c place (Some h) each e = by (applied h).buffer
         (λ m there. each-map (IsOf owner.client all c m) (IsUnder owner.client all c) (is-under owner.client all c m) _ (member-each next owner all t c h (corner_at place h) m each e there))
         (order (counting h)) (all-there is_member member-self (order (counting h))))
 
-surface-distinct : (next : ℕ → Place → List Window) (owner : Owner) (all : Surfaces) → AreTrees all → (c : ℕ) (place : Place) (h : Option History) → AreUnder owner.client all next → GiveDistinct next → history_in c all ≡ h → AreDistinct (surface_windows next owner all c place h)
+surface-distinct : (next : ℕ → Place → List Window) (owner : Owner) (all : Surfaces) → AreTrees all → (c : ℕ) (place : Place) (h : Option History) → AreUnder owner.client all next → GiveDistinct next
+    → history_in c all ≡ h → AreDistinct (surface_windows next owner all c place h)
 surface-distinct next owner all t c place None each apart e = tt
 surface-distinct next owner all t c place (Some h) each apart e = by (applied h).buffer
   where
@@ -235,4 +244,5 @@ pub tree-distinct : (levels : ℕ) (owner : Owner) (all : Surfaces) → AreTrees
 unfolding tree
 tree-distinct zero owner all t c place = tt
 tree-distinct (suc levels) owner all t c place =
-    surface-distinct (λ child at. tree levels owner all child at) owner all t c place (history_in c all) (λ child at. tree-each levels owner all t child at) (λ child at. tree-distinct levels owner all t child at) refl
+    surface-distinct (λ child at. tree levels owner all child at) owner all t c place (history_in c all) (λ child at. tree-each levels owner all t child at)
+        (λ child at. tree-distinct levels owner all t child at) refl

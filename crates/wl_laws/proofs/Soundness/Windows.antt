@@ -82,7 +82,8 @@ on-each P surfaces p f (r ∷ rs) e = by (on-each P surfaces p f rs e.1) (p.is_m
     by rest true = (f r e.0, tt)
     by rest false = rest
 
-stacked-each : (P : Root → Type 0) (surfaces : Surfaces) (rs : List Root) (ps : List StackedPopup) → Each P rs → Each (λ p. (r : Root) → P r → P (root_on surfaces r p)) ps → Each P (fold (stacked surfaces) rs ps)
+stacked-each : (P : Root → Type 0) (surfaces : Surfaces) (rs : List Root) (ps : List StackedPopup) → Each P rs → Each (λ p. (r : Root) → P r → P (root_on surfaces r p)) ps
+    → Each P (fold (stacked surfaces) rs ps)
 stacked-each P surfaces rs [] e f = e
 stacked-each P surfaces rs (p ∷ ps) e f =
     stacked-each P surfaces (stacked surfaces rs p) ps (each-append P rs (stacked_on surfaces p rs) e (on-each P surfaces p f.0 rs e)) f.1
@@ -104,10 +105,12 @@ shape-none p rs on x e f = unless (In x on) (λ g. f (in-shape p rs on x e g).0)
 others : (p : StackedPopup) (ps : List StackedPopup) → list_any (same_popup p) ps ≡ false → Each (λ q. p.surface ≡ q.surface → ⊥) ps
 others p [] e = tt
 others p (q ∷ qs) e =
-    (λ same. differ (sym (or-left (same_popup p q) (list_any (same_popup p) qs) e) ∙ equal-numbers q.surface p.surface (sym same)), others p qs (or-right (same_popup p q) (list_any (same_popup p) qs) e))
+    (λ same. differ (sym (or-left (same_popup p q) (list_any (same_popup p) qs) e) ∙ equal-numbers q.surface p.surface (sym same)),
+        others p qs (or-right (same_popup p q) (list_any (same_popup p) qs) e))
 
 -- the popups that follow are not among the roots once one of another surface is stacked
-still-new : (surfaces : Surfaces) (p : StackedPopup) (rs : List Root) (ps : List StackedPopup) → list_any (same_popup p) ps ≡ false → Each (λ q. In q.surface rs ≡ false) ps → Each (λ q. In q.surface (stacked surfaces rs p) ≡ false) ps
+still-new : (surfaces : Surfaces) (p : StackedPopup) (rs : List Root) (ps : List StackedPopup) → list_any (same_popup p) ps ≡ false → Each (λ q. In q.surface rs ≡ false) ps
+    → Each (λ q. In q.surface (stacked surfaces rs p) ≡ false) ps
 still-new surfaces p rs ps e new =
     each-both (λ q. p.surface ≡ q.surface → ⊥) (λ q. In q.surface rs ≡ false) (λ q. In q.surface (rs ++ stacked_on surfaces p rs) ≡ false)
     (λ q other n. none-append (roots_at q.surface) rs (stacked_on surfaces p rs) n (shape-none p rs (stacked_on surfaces p rs) q.surface (on-shape surfaces p rs) other))
@@ -116,7 +119,8 @@ still-new surfaces p rs ps e new =
 root-self : (r : Root) → same_root r r ≡ true
 root-self r = same-number r.surface
 
-stacked-once : (surfaces : Surfaces) (rs : List Root) (ps : List StackedPopup) → AreOnce same_root rs → Each (λ p. In p.surface rs ≡ false) ps → AreOnce same_popup ps → AreOnce same_root (fold (stacked surfaces) rs ps)
+stacked-once : (surfaces : Surfaces) (rs : List Root) (ps : List StackedPopup) → AreOnce same_root rs → Each (λ p. In p.surface rs ≡ false) ps → AreOnce same_popup ps
+    → AreOnce same_root (fold (stacked surfaces) rs ps)
 stacked-once surfaces rs [] e new once = e
 stacked-once surfaces rs (p ∷ ps) e new once =
     let shape = on-shape surfaces p rs in
@@ -152,10 +156,12 @@ away-step surfaces p rs qs away f g x a b =
     (λ v. differ (sym g ∙ subst (λ y. In y qs ≡ true) (sym (in-shape p rs (stacked_on surfaces p rs) x (on-shape surfaces p rs) u).0) v))
     (λ v. away-parent p.parent rs qs away (in-shape p rs (stacked_on surfaces p rs) x (on-shape surfaces p rs) u).1 (in-shape p qs (stacked_on surfaces p qs) x (on-shape surfaces p qs) v).1))
 
-stacked-away : (surfaces : Surfaces) (rs qs : List Root) (ps : List StackedPopup) → AreAway rs qs → Each (λ p. In p.surface rs ≡ false) ps → Each (λ p. In p.surface qs ≡ false) ps → AreOnce same_popup ps → AreAway (fold (stacked surfaces) rs ps) (fold (stacked surfaces) qs ps)
+stacked-away : (surfaces : Surfaces) (rs qs : List Root) (ps : List StackedPopup) → AreAway rs qs → Each (λ p. In p.surface rs ≡ false) ps → Each (λ p. In p.surface qs ≡ false) ps
+    → AreOnce same_popup ps → AreAway (fold (stacked surfaces) rs ps) (fold (stacked surfaces) qs ps)
 stacked-away surfaces rs qs [] away f g once = away
 stacked-away surfaces rs qs (p ∷ ps) away f g once =
-    stacked-away surfaces (stacked surfaces rs p) (stacked surfaces qs p) ps (away-step surfaces p rs qs away f.0 g.0) (still-new surfaces p rs ps once.0 f.1) (still-new surfaces p qs ps once.0 g.1) once.1
+    stacked-away surfaces (stacked surfaces rs p) (stacked surfaces qs p) ps (away-step surfaces p rs qs away f.0 g.0) (still-new surfaces p rs ps once.0 f.1) (still-new surfaces p qs ps once.0 g.1)
+        once.1
 
 -- ---- the windows of toplevels
 
@@ -172,17 +178,20 @@ IsLevel surfaces popups t = IsNoChild t.surface (surfaces t.client) × (list_any
 new-popups : (t : Root) (ps : List StackedPopup) → list_any (has_surface t.surface) ps ≡ false → Each (λ p. In p.surface (t ∷ []) ≡ false) ps
 new-popups t [] e = tt
 new-popups t (p ∷ ps) e = (
-  or-none (roots_at p.surface t) false (unless (roots_at p.surface t) (λ f. differ (sym (or-left (has_surface t.surface p) (list_any (has_surface t.surface) ps) e) ∙ equal-numbers p.surface t.surface (sym (eqb-true t.surface p.surface f))))) refl,
+  or-none (roots_at p.surface t) false (unless (roots_at p.surface t) (λ f. differ (sym (or-left (has_surface t.surface p) (list_any (has_surface t.surface) ps) e)
+      ∙ equal-numbers p.surface t.surface (sym (eqb-true t.surface p.surface f))))) refl,
   new-popups t ps (or-right (has_surface t.surface p) (list_any (has_surface t.surface) ps) e),
 )
 
 abbrev IsTop : (ℕ → Surfaces) → ℕ → Root → Type 0
 IsTop surfaces c r = (r.client ≡ c) × IsNoChild r.surface (surfaces c)
 
-tops : (surfaces : ℕ → Surfaces) (popups : ℕ → List StackedPopup) → Holds surfaces popups → (t : Root) → IsLevel surfaces popups t → Each (IsTop surfaces t.client) (roots_of (surfaces t.client) t (popups t.client))
+tops : (surfaces : ℕ → Surfaces) (popups : ℕ → List StackedPopup) → Holds surfaces popups → (t : Root) → IsLevel surfaces popups t
+    → Each (IsTop surfaces t.client) (roots_of (surfaces t.client) t (popups t.client))
 tops surfaces popups holds t level =
     stacked-each (IsTop surfaces t.client) (surfaces t.client) (t ∷ []) (popups t.client) ((refl, level.0), tt)
-    (each-map (λ p. IsNoChild p.surface (surfaces t.client)) (λ p. (r : Root) → IsTop surfaces t.client r → IsTop surfaces t.client (root_on (surfaces t.client) r p)) (λ p no r top. (top.0, no)) (popups t.client) (holds.roots t.client))
+    (each-map (λ p. IsNoChild p.surface (surfaces t.client)) (λ p. (r : Root) → IsTop surfaces t.client r → IsTop surfaces t.client (root_on (surfaces t.client) r p)) (λ p no r top. (top.0, no))
+        (popups t.client) (holds.roots t.client))
 
 -- a window under a root of this toplevel's
 pub record OfLevel (surfaces : ℕ → Surfaces) (popups : ℕ → List StackedPopup) (t : Root) (w : Window) : Type 0 where
@@ -196,7 +205,8 @@ one-root : (all : Surfaces) → AreTrees all → (c a b : ℕ) (w v : Window) �
 one-root all t c a b w v e f u r same =
     under-one all t u.levels r.levels a b v.surface (subst (λ x. Under all u.levels a x) (same-surface w v same) u.under) r.under (t.top a e ∙ sym (t.top b f))
 
-level-each : (surfaces : ℕ → Surfaces) (popups : ℕ → List StackedPopup) → Holds surfaces popups → (t : Root) → IsLevel surfaces popups t → Each (OfLevel surfaces popups t) (windows_of surfaces popups t)
+level-each : (surfaces : ℕ → Surfaces) (popups : ℕ → List StackedPopup) → Holds surfaces popups → (t : Root) → IsLevel surfaces popups t
+    → Each (OfLevel surfaces popups t) (windows_of surfaces popups t)
 level-each surfaces popups holds t level =
     let roots : List Root = roots_of (surfaces t.client) t (popups t.client) in
     each-flat (OfLevel surfaces popups t) (λ (r : Root). tree 17 (owner_of r) (surfaces r.client) r.surface r.place) roots
@@ -213,7 +223,9 @@ level-distinct surfaces popups holds t level =
     (λ r top. tree-distinct 17 (owner_of r) (surfaces r.client) (holds.trees r.client) r.surface r.place)
     (λ r top. tree-each 17 (owner_of r) (surfaces r.client) (holds.trees r.client) r.surface r.place)
     (λ r q w v top-r top-q u x same.
-    equal-numbers q.surface r.surface (sym (one-root (surfaces t.client) (holds.trees t.client) t.client r.surface q.surface w v top-r.1 top-q.1 (subst (λ c. IsUnder c (surfaces c) r.surface w) top-r.0 u) (subst (λ c. IsUnder c (surfaces c) q.surface v) top-q.0 x) same)))
+    equal-numbers q.surface r.surface
+        (sym (one-root (surfaces t.client) (holds.trees t.client) t.client r.surface q.surface w v top-r.1 top-q.1 (subst (λ c. IsUnder c (surfaces c) r.surface w) top-r.0 u)
+        (subst (λ c. IsUnder c (surfaces c) q.surface v) top-q.0 x) same)))
     (roots_of (surfaces t.client) t (popups t.client)) (tops surfaces popups holds t level)
     (stacked-once (surfaces t.client) (t ∷ []) (popups t.client) (refl, tt) (new-popups t (popups t.client) level.1) (holds.once t.client))
 
@@ -228,12 +240,14 @@ one-apart t s differs x a b = differs (eqb-true t.surface x (first (roots_at x t
     first false g = g
 
 -- two toplevels of one client with windows of one surface are one
-same-toplevel : (surfaces : ℕ → Surfaces) (popups : ℕ → List StackedPopup) → Holds surfaces popups → (c : ℕ) (t s : Root) (w v : Window) → t.client ≡ c → s.client ≡ c → IsLevel surfaces popups t → IsLevel surfaces popups s → OfLevel surfaces popups t w → OfLevel surfaces popups s v → is_same_surface w v ≡ true → (s.surface == t.surface) ≡ true
+same-toplevel : (surfaces : ℕ → Surfaces) (popups : ℕ → List StackedPopup) → Holds surfaces popups → (c : ℕ) (t s : Root) (w v : Window) → t.client ≡ c → s.client ≡ c → IsLevel surfaces popups t
+    → IsLevel surfaces popups s → OfLevel surfaces popups t w → OfLevel surfaces popups s v → is_same_surface w v ≡ true → (s.surface == t.surface) ≡ true
 same-toplevel surfaces popups holds c t s w v is-t is-s level-t level-s of-w of-v same = by (s.surface == t.surface) refl
   where
     root-is : of-w.root ≡ of-v.root
     root-is =
-        one-root (surfaces c) (holds.trees c) c of-w.root of-v.root w v (subst (λ n. IsNoChild of-w.root (surfaces n)) is-t of-w.no_child) (subst (λ n. IsNoChild of-v.root (surfaces n)) is-s of-v.no_child)
+        one-root (surfaces c) (holds.trees c) c of-w.root of-v.root w v (subst (λ n. IsNoChild of-w.root (surfaces n)) is-t of-w.no_child)
+            (subst (λ n. IsNoChild of-v.root (surfaces n)) is-s of-v.no_child)
         (subst (λ n. IsUnder n (surfaces n) of-w.root w) is-t of-w.under) (subst (λ n. IsUnder n (surfaces n) of-v.root v) is-s of-v.under) same
 
     away : (t.surface ≡ s.surface → ⊥) → ⊥
@@ -249,7 +263,8 @@ same-toplevel surfaces popups holds c t s w v is-t is-s level-t level-s of-w of-
     by true e = refl
     by false e = absurd (away (λ f. differ (sym e ∙ equal-numbers s.surface t.surface (sym f))))
 
-same-levels : (surfaces : ℕ → Surfaces) (popups : ℕ → List StackedPopup) → Holds surfaces popups → (t s : Root) (w v : Window) → IsLevel surfaces popups t → IsLevel surfaces popups s → OfLevel surfaces popups t w → OfLevel surfaces popups s v → is_same_surface w v ≡ true → same_level t s ≡ true
+same-levels : (surfaces : ℕ → Surfaces) (popups : ℕ → List StackedPopup) → Holds surfaces popups → (t s : Root) (w v : Window) → IsLevel surfaces popups t → IsLevel surfaces popups s
+    → OfLevel surfaces popups t w → OfLevel surfaces popups s v → is_same_surface w v ≡ true → same_level t s ≡ true
 same-levels surfaces popups holds t s w v level-t level-s of-w of-v same =
     let client : s.client ≡ t.client = sym of-v.under.of_client ∙ (sym (same-client w v same) ∙ of-w.under.of_client) in
     and-both (s.client == t.client) (s.surface == t.surface) (equal-numbers s.client t.client client)
@@ -266,7 +281,8 @@ standing-self s = and-both (s.client == s.client) (s.surface == s.surface) (same
 none-mapped : (owned : ℕ → Owned) (s : Standing) (ss : List Standing) → list_any (standing_same s) ss ≡ false → list_any (same_level (root_of owned s)) (map (root_of owned) ss) ≡ false
 none-mapped owned s [] e = refl
 none-mapped owned s (r ∷ rs) e =
-    or-none (standing_same s r) (list_any (same_level (root_of owned s)) (map (root_of owned) rs)) (or-left (standing_same s r) (list_any (standing_same s) rs) e) (none-mapped owned s rs (or-right (standing_same s r) (list_any (standing_same s) rs) e))
+    or-none (standing_same s r) (list_any (same_level (root_of owned s)) (map (root_of owned) rs)) (or-left (standing_same s r) (list_any (standing_same s) rs) e)
+        (none-mapped owned s rs (or-right (standing_same s r) (list_any (standing_same s) rs) e))
 
 once-mapped : (owned : ℕ → Owned) (ss : List Standing) → AreApart ss → AreOnce same_level (map (root_of owned) ss)
 once-mapped owned [] e = tt

@@ -25,7 +25,8 @@ use Rattle.wl_plain.specs.Step.{with_peer}
 use Rattle.wl_laws.proofs.Toplevels.Simply.{Becomes, Simple, changed_simply, judge, stacked_simply, told_simply}
 use Rattle.wl_plain.specs.Acts.{IsClosed, IsLeft, IsSent, IsStored, Act, Connect, Feed, Store, Leave, Tick, Send, Close, Motion, Button}
 use Rattle.wl_plain.specs.Happens.{Happens, done_for, Serves as StepServes, wants_memory}
-use Rattle.wl_laws.proofs.Runs.Forms.{after_why, Answers as StepAnswers, Becomes as StepBecomes, ChangesAt as StepChangesAt, Does, LeavesAt, ServesAt as StepServesAt, Takes as StepTakes, WantsOr as StepWantsOr}
+use Rattle.wl_laws.proofs.Runs.Forms.{after_why, Answers as StepAnswers, Becomes as StepBecomes, ChangesAt as StepChangesAt, Does, LeavesAt, ServesAt as StepServesAt, Takes as StepTakes}
+use Rattle.wl_laws.proofs.Runs.Forms.{WantsOr as StepWantsOr}
 use Rattle.wl_laws.proofs.Toplevels.Altering.{Alters, ChangesAt, IsCall}
 use Rattle.wl_laws.proofs.Pieces.Behind.{changed-status}
 use Rattle.wl_laws.proofs.Toplevels.Changed.{changed-same}
@@ -65,7 +66,8 @@ told-back (event ∷ events) p q why h = at (has_room p.unsent event) (told-back
     at true later (inl h) = inl (ap (λ why. ended_why why q) h.1 ∙ ap (ended Memory) h.0)
     at true later (inr h) = inr (later h)
 
-done-back : (events : List Said) (c : ℕ) (made there : Resident) (d new : Desktop) → client_at c d ≡ Some there → d.pointer ≡ first_pointer → made.peer.status ≡ None → IsDone events c made d new → Becomes (Queues events made.peer) c made d new
+done-back : (events : List Said) (c : ℕ) (made there : Resident) (d new : Desktop) → client_at c d ≡ Some there → d.pointer ≡ first_pointer → made.peer.status ≡ None → IsDone events c made d new
+    → Becomes (Queues events made.peer) c made d new
 done-back events c made there d new is still alive h =
     let same = after-same events c made there d is still alive h.0 h.1 h.2 in
     let last : Peer = ended_why h.1 h.0 in
@@ -75,7 +77,8 @@ done-back events c made there d new is still alive h =
       settled-back after new (ap (λ (e : Desktop). e.pointer) same ∙ by-pointer last.status c made last d ∙ still) h.3 ∙ same,
     )
 
-does-back : (c : ℕ) (ask : Simple) (demand : Demand) (r there : Resident) (d new : Desktop) → client_at c d ≡ Some there → d.pointer ≡ first_pointer → r.peer.status ≡ None → OwnsToplevelsOnly r → Same r ask demand → Does served_now c demand r d new
+does-back : (c : ℕ) (ask : Simple) (demand : Demand) (r there : Resident) (d new : Desktop) → client_at c d ≡ Some there → d.pointer ≡ first_pointer → r.peer.status ≡ None → OwnsToplevelsOnly r
+    → Same r ask demand → Does served_now c demand r d new
     → Becomes (Queues (told_simply ask r) (changed_simply ask r).peer) c (changed_simply ask r) (stacked_simply c ask r d) new
 does-back c ask demand r there d new is still alive only same h =
     let made : Resident = changed_simply ask r in
@@ -115,13 +118,17 @@ AsksBy r More ask = ⊥
 
 -- Where no client has more than toplevels, a message leads to a desktop on which its client was told something and has ended, or to one on
 -- which what it asks is done.
-module _ (c : ℕ) (there : Resident) (d new : Desktop) (is : client_at c d ≡ Some there) (more : NoMore d) (P : Desktop → Type 0) (told : (p q : Peer) → (q.status ≡ None → ⊥) → P (become c (with_peer p there) q d)) (done : (ask : Simple) → AsksBy there (split_of there.peer.rest) ask → (p q : Peer) → p.objects ≡ there.peer.objects → Queues (told_simply ask (with_peer p there)) (changed_simply ask (with_peer p there)).peer q → P (become c (changed_simply ask (with_peer p there)) q (stacked_simply c ask (with_peer p there) d))) where
+module _ (c : ℕ) (there : Resident) (d new : Desktop) (is : client_at c d ≡ Some there) (more : NoMore d) (P : Desktop → Type 0) (told : (p q : Peer) → (q.status ≡ None → ⊥)
+    → P (become c (with_peer p there) q d)) (done : (ask : Simple) → AsksBy there (split_of there.peer.rest) ask → (p q : Peer) → p.objects ≡ there.peer.objects
+    → Queues (told_simply ask (with_peer p there)) (changed_simply ask (with_peer p there)).peer q
+    → P (become c (changed_simply ask (with_peer p there)) q (stacked_simply c ask (with_peer p there) d))) where
   becomes-by : (Q : Peer → Type 0) → ((q : Peer) → Q q → q.status ≡ None → ⊥) → (p : Peer) → StepBecomes Q c (with_peer p there) d new → P new
   becomes-by Q never p h =
       let k = becomes-back Q c (with_peer p there) d new more.pointer h in
       subst P (sym k.2) (told p k.0 (never k.0 k.1))
 
-  does-by : (ask : Simple) (demand : Demand) (p : Peer) → p.status ≡ None → p.objects ≡ there.peer.objects → OwnsToplevelsOnly there → AsksBy there (split_of there.peer.rest) ask → Same (with_peer p there) ask demand
+  does-by : (ask : Simple) (demand : Demand) (p : Peer) → p.status ≡ None → p.objects ≡ there.peer.objects → OwnsToplevelsOnly there → AsksBy there (split_of there.peer.rest) ask
+      → Same (with_peer p there) ask demand
       → Does served_now c demand (with_peer p there) d new → P new
   does-by ask demand p alive objects only asks same h =
       let k = does-back c ask demand (with_peer p there) there d new is more.pointer alive (only-peer there p objects only) same h in
@@ -132,7 +139,8 @@ module _ (c : ℕ) (there : Resident) (d new : Desktop) (is : client_at c d ≡ 
   wants-by true p Later next (inl h) = becomes-by (LacksMemory p) (lacking p) p h
   wants-by true p Later next (inr h) = next h
 
-  answers-by : (judged : Result Simple Refusal) (demanded : Result Demand Refusal) (p : Peer) → p.status ≡ None → p.objects ≡ there.peer.objects → OwnsToplevelsOnly there → ((ask : Simple) → judged ≡ Ok ask → AsksBy there (split_of there.peer.rest) ask)
+  answers-by : (judged : Result Simple Refusal) (demanded : Result Demand Refusal) (p : Peer) → p.status ≡ None → p.objects ≡ there.peer.objects → OwnsToplevelsOnly there
+      → ((ask : Simple) → judged ≡ Ok ask → AsksBy there (split_of there.peer.rest) ask)
       → Pairs there judged demanded → StepAnswers served_now demanded c (with_peer p there) d new → P new
   answers-by (Ok ask) (Ok demand) p alive objects only asks same h =
       wants-by (wants_memory demand) (counted p) _ (λ k. does-by ask demand (counted p) alive objects only (asks ask refl) (same-peer there (counted p) ask demand same) k) h
@@ -156,11 +164,13 @@ module _ (c : ℕ) (there : Resident) (d new : Desktop) (is : client_at c d ≡ 
 
 -- ---- a client is written to, sent to or closed, or goes
 
-held-back : (R : Peer → Done → Option Peer → Type 0) (absent done : Done) (c : ℕ) (r : Resident) (d new : Desktop) → StepChangesAt R absent c (Some r) d done new → (q : Option Peer) × R r.peer done q × (new ≡ held q c r d)
+held-back : (R : Peer → Done → Option Peer → Type 0) (absent done : Done) (c : ℕ) (r : Resident) (d new : Desktop) → StepChangesAt R absent c (Some r) d done new → (q : Option Peer) × R r.peer done q
+    × (new ≡ held q c r d)
 held-back R absent done c r d new (None, h, e) = (None, h, e)
 held-back R absent done c r d new (Some q, h, e) = (Some q, h, e)
 
-changes-back : (R : Peer → Done → Option Peer → Type 0) → Leaves R → (absent done : Done) (c : ℕ) (o : Option Resident) (d new : Desktop) → OwnsToplevelsAt o (toplevels_of c d) → StepChangesAt R absent c o d done new → ChangesAt R absent c o d done new
+changes-back : (R : Peer → Done → Option Peer → Type 0) → Leaves R → (absent done : Done) (c : ℕ) (o : Option Resident) (d new : Desktop) → OwnsToplevelsAt o (toplevels_of c d)
+    → StepChangesAt R absent c o d done new → ChangesAt R absent c o d done new
 unfolding Leaves
 changes-back R leaves absent done c None d new owns h = h
 changes-back R leaves absent done c (Some r) d new owns h =
@@ -168,7 +178,8 @@ changes-back R leaves absent done c (Some r) d new owns h =
     let k = leaves r.peer done g.0 g.1 in
     (g.0, g.1, g.2 ∙ sym (left-held c r d owns g.0 k.0 k.1))
 
-leaves-by : (s : Option Cause) (c : ℕ) (r : Resident) (d new : Desktop) (done : Done) → r.peer.status ≡ s → d.pointer ≡ first_pointer → OwnsToplevelsBy r.peer.status r (toplevels_of c d) → client_at c d ≡ Some r → LeavesAt c (Some r) d done new
+leaves-by : (s : Option Cause) (c : ℕ) (r : Resident) (d new : Desktop) (done : Done) → r.peer.status ≡ s → d.pointer ≡ first_pointer → OwnsToplevelsBy r.peer.status r (toplevels_of c d)
+    → client_at c d ≡ Some r → LeavesAt c (Some r) d done new
     → new ≡ become c r (left_by s r.peer) d
 leaves-by (Some cause) c r d new done e still owns is h =
     let k : new ≡ d = rw e at h.1 in
@@ -179,7 +190,8 @@ leaves-by None c r d new done e still owns is h =
     let same = becomes-same c r gone d still in
     settled-back (becomes c r gone d) new (ap (λ (e : Desktop). e.pointer) same ∙ still) k ∙ same
 
-leaves-back : (c : ℕ) (o : Option Resident) (d new : Desktop) (done : Done) → d.pointer ≡ first_pointer → client_at c d ≡ o → OwnsToplevelsAt o (toplevels_of c d) → LeavesAt c o d done new → ChangesAt IsLeft (gave.Gone false) c o d done new
+leaves-back : (c : ℕ) (o : Option Resident) (d new : Desktop) (done : Done) → d.pointer ≡ first_pointer → client_at c d ≡ o → OwnsToplevelsAt o (toplevels_of c d) → LeavesAt c o d done new
+    → ChangesAt IsLeft (gave.Gone false) c o d done new
 leaves-back c None d new done still is owns h = h
 leaves-back c (Some r) d new done still is owns h = (Some (left_by r.peer.status r.peer), (refl, h.0), leaves-by r.peer.status c r d new done refl still owns is h)
 

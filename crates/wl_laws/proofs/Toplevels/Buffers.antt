@@ -110,7 +110,8 @@ module _ (has : ℕ → History → Bool) (shown : History → List Buffer) (eac
   abbrev pub any_has : ℕ → List Surface → Bool
   any_has n ss = list_any (λ s. has n s.history) ss
 
-  module _ (keep : List Surface → List Surface) (later : (n : ℕ) (x : Surface) (ss : List Surface) → any_has n (keep ss) ≡ true → any_has n (keep (x ∷ ss)) ≡ true) (here : (n : ℕ) (x : Surface) (ss : List Surface) → (x.id == id) ≡ false → has n x.history ≡ true → any_has n (keep (x ∷ ss)) ≡ true) where
+  module _ (keep : List Surface → List Surface) (later : (n : ℕ) (x : Surface) (ss : List Surface) → any_has n (keep ss) ≡ true → any_has n (keep (x ∷ ss)) ≡ true)
+      (here : (n : ℕ) (x : Surface) (ss : List Surface) → (x.id == id) ≡ false → has n x.history ≡ true → any_has n (keep (x ∷ ss)) ≡ true) where
     others-used : (ss : List Surface) → Each (λ s. (s.id == id) ≡ false → Each (λ b. any_has b.number (keep ss) ≡ true) (shown s.history)) ss
     others-used [] = tt
     others-used (x ∷ ss) = (
@@ -138,7 +139,8 @@ module _ (has : ℕ → History → Bool) (shown : History → List Buffer) (eac
           ap (λ b. any_has n (cond (not b) (x ∷ rest) rest)) e ∙ or_left (has n x.history) (any_has n rest) is
 
   -- where a surface changes
-  pub changed-others : (change : Surface → Surface) (ss : List Surface) → Each (λ s. (s.id == id) ≡ false → Each (λ b. any_has b.number (map (λ x. cond (x.id == id) (change x) x) ss) ≡ true) (shown s.history)) ss
+  pub changed-others : (change : Surface → Surface) (ss : List Surface)
+      → Each (λ s. (s.id == id) ≡ false → Each (λ b. any_has b.number (map (λ x. cond (x.id == id) (change x) x) ss) ≡ true) (shown s.history)) ss
   changed-others change ss = others-used (λ ss. map (λ s. cond (s.id == id) (change s) s) ss) later here ss
     where
       later : (n : ℕ) (x : Surface) (ss : List Surface) → any_has n (map (λ s. cond (s.id == id) (change s) s) ss) ≡ true → any_has n (map (λ s. cond (s.id == id) (change s) s) (x ∷ ss)) ≡ true

@@ -5,12 +5,15 @@ use Rattle.std.specs.Option.{option_map, option_map_or}
 use Rattle.wl_surface.specs.Request.{Commit}
 use Rattle.wl_surface.specs.Surfaces.{Link, Surface, Surfaces, applying, asking, with_change as with_surface_change, without_surface}
 use Rattle.wl_surface.specs.Trees.{applied_tree, behaves_synchronised, committed_in}
-use Rattle.wl_shell.specs.Popups.{Popped, by_number, dismissed_after, dismissed_among, dismissing, is_parent_of, is_toplevel, is_toplevel_kind, orphan, orphaning, placing, popped_of, popup_changed, popups_of, with_popup, with_popup_role, without_grab}
+use Rattle.wl_shell.specs.Popups.{Popped, by_number, dismissed_after, dismissed_among, dismissing, is_parent_of, is_toplevel, is_toplevel_kind, orphan, orphaning, placing, popped_of, popup_changed}
+use Rattle.wl_shell.specs.Popups.{popups_of, with_popup, with_popup_role, without_grab}
 use Rattle.wl_shell.specs.declared.stage.Stage.{Stage}
-use Rattle.wl_shell.specs.Shell.{Effect, Stays, Unconfigured, Configures, Maps, Unmaps, Waiting, Kind, Toplevel, Popup, RoleObject, Shell, XdgSurface as Xdg, at_stage, in_stage, on_commit, stage_of, unmapping, with_change, without_role, xdg_of}
+use Rattle.wl_shell.specs.Shell.{Effect, Stays, Unconfigured, Configures, Maps, Unmaps, Waiting, Kind, Toplevel, Popup, RoleObject, Shell, XdgSurface as Xdg, at_stage, in_stage, on_commit, stage_of}
+use Rattle.wl_shell.specs.Shell.{unmapping, with_change, without_role, xdg_of}
 use Rattle.wl_scene.specs.Pointer.{first_pointer}
 use Rattle.wl_scene.specs.Windows.{Window}
-use Rattle.wl_plain.specs.Changing.{after_all, callbacks_of, changed_for, commit_done, effect_done, placement_now, stacked_by, stacked_for, surface_ended, toplevel_ended, tree_committed, without_callbacks}
+use Rattle.wl_plain.specs.Changing.{after_all, callbacks_of, changed_for, commit_done, effect_done, placement_now, stacked_by, stacked_for, surface_ended, toplevel_ended, tree_committed}
+use Rattle.wl_plain.specs.Changing.{without_callbacks}
 use Rattle.wl_plain.specs.Demand.{Demand, Move}
 use Rattle.wl_plain.specs.Demanding.{effect_of_commit}
 use Rattle.wl_plain.specs.Desktop.{Desktop, Resident, Subsurface}
@@ -21,7 +24,8 @@ use Rattle.wl_plain.specs.Happens.{wants_memory}
 use Rattle.wl_plain.specs.WlSurface.{will_show}
 use Rattle.wl_laws.proofs.Toplevels.Buffers.{changed-after, gone-after}
 use Rattle.wl_laws.proofs.Toplevels.Judged.{IsToplevelAt, Same, asks, commit, effect-same, ends, found-toplevel, frames, goes, move, none-popped}
-use Rattle.wl_laws.proofs.Toplevels.Simply.{CommitSurface, DestroySurface, DestroyToplevel, Simple, changed_simply, committed_on, effect_for, effect_of, effect_on, stacked_simply, answers_simply, wants_simply}
+use Rattle.wl_laws.proofs.Toplevels.Simply.{CommitSurface, DestroySurface, DestroyToplevel, Simple, changed_simply, committed_on, effect_for, effect_of, effect_on, stacked_simply, answers_simply}
+use Rattle.wl_laws.proofs.Toplevels.Simply.{wants_simply}
 
 -- ---- popups, where there are none
 
@@ -99,7 +103,8 @@ ended-same id r only =
 
 -- ---- a commit
 
-fused : (id : ℕ) (ss : List Surface) → map (λ s. cond (s.id == id) (applying s) s) (map (λ s. cond (s.id == id) (asking Commit s) s) ss) ≡ map (λ s. cond (s.id == id) (applying (asking Commit s)) s) ss
+fused : (id : ℕ) (ss : List Surface) → map (λ s. cond (s.id == id) (applying s) s) (map (λ s. cond (s.id == id) (asking Commit s) s) ss) ≡ map (λ s. cond (s.id == id) (applying (asking Commit s)) s)
+    ss
 fused id [] = refl
 fused id (s ∷ ss) =
     ap (λ x. x ∷ map (λ s. cond (s.id == id) (applying s) s) (map (λ s. cond (s.id == id) (asking Commit s) s) ss)) (at (s.id == id) refl)
@@ -165,7 +170,8 @@ configures-same c serial xdg r d None e top = refl
 configures-same c serial xdg r d (Some object) e top =
     ap (λ k. configure_told c r d xdg (Some (record object { kind = k }))) top ∙ ap (λ n. role_configured n xdg (Some object)) e
 
-commit-answers : (c id : ℕ) (effect : Effect) (o : Option Xdg) (r now : Resident) (d : Desktop) → now.peer.serial ≡ r.peer.serial → xdg_of id r.owned.shell ≡ o → IsToplevelAt o → commit_told c effect o now d ≡ answers_simply (CommitSurface id effect) r
+commit-answers : (c id : ℕ) (effect : Effect) (o : Option Xdg) (r now : Resident) (d : Desktop) → now.peer.serial ≡ r.peer.serial → xdg_of id r.owned.shell ≡ o → IsToplevelAt o
+    → commit_told c effect o now d ≡ answers_simply (CommitSurface id effect) r
 commit-answers c id Stays o r now d e is top = refl
 commit-answers c id Unconfigured o r now d e is top = refl
 commit-answers c id Maps o r now d e is top = refl
@@ -173,7 +179,8 @@ commit-answers c id Unmaps o r now d e is top = refl
 commit-answers c id Configures None r now d e is top = sym (ap (configures_told r.peer.serial) is)
 commit-answers c id Configures (Some x) r now d e is top = configures-same c r.peer.serial x.id now d x.role e top ∙ sym (ap (configures_told r.peer.serial) is)
 
-pub answers-same : (c : ℕ) (ask : Simple) (demand : Demand) (r : Resident) (windows : List Window) (d : Desktop) → OwnsToplevelsOnly r → Same r ask demand → own_answers c demand r windows d ≡ answers_simply ask r
+pub answers-same : (c : ℕ) (ask : Simple) (demand : Demand) (r : Resident) (windows : List Window) (d : Desktop) → OwnsToplevelsOnly r → Same r ask demand
+    → own_answers c demand r windows d ≡ answers_simply ask r
 answers-same c ask demand r windows d only (asks other) = refl
 answers-same c ask demand r windows d only (ends id) = refl
 answers-same c ask demand r windows d only (frames id version surface) = refl
@@ -190,7 +197,8 @@ role-none : (shows : Bool) → (on_commit None shows ≡ Maps → ⊥) × (on_co
 role-none true = (λ e. absurd (cc), λ e. absurd (cc))
 role-none false = (λ e. absurd (cc), λ e. absurd (cc))
 
-role-there : (o : Option RoleObject) (x : Xdg) (shows : Bool) → x.role ≡ o → IsToplevel o → (on_commit (stage_of x) shows ≡ Maps) ⊎ (on_commit (stage_of x) shows ≡ Unmaps) → is_toplevel (Some x) ≡ true
+role-there : (o : Option RoleObject) (x : Xdg) (shows : Bool) → x.role ≡ o → IsToplevel o → (on_commit (stage_of x) shows ≡ Maps) ⊎ (on_commit (stage_of x) shows ≡ Unmaps)
+    → is_toplevel (Some x) ≡ true
 role-there None x shows is top (inl e) = absurd ((role-none shows).0 (sym (ap (λ (p : Option RoleObject). on_commit (option_map (λ (object : RoleObject). object.stage) p) shows) is) ∙ e))
 role-there None x shows is top (inr e) = absurd ((role-none shows).1 (sym (ap (λ (p : Option RoleObject). on_commit (option_map (λ (object : RoleObject). object.stage) p) shows) is) ∙ e))
 role-there (Some object) x shows is top e = ap (λ (p : Option RoleObject). option_map_or (λ (object : RoleObject). is_toplevel_kind object.kind) p false) is ∙ ap is_toplevel_kind top
@@ -201,22 +209,26 @@ is-mapped shows None top (inr e) = absurd (cc)
 is-mapped shows (Some x) top e = role-there x.role x shows refl top e
 
 -- what a commit maps or unmaps is a toplevel
-is-one : (shows : Bool) (o : Option Xdg) (effect : Effect) → IsToplevelAt o → effect_for shows o ≡ effect → (c id : ℕ) (r : Resident) (d : Desktop) → stacked_by effect (is_toplevel o) c id d ≡ stacked_simply c (CommitSurface id effect) r d
+is-one : (shows : Bool) (o : Option Xdg) (effect : Effect) → IsToplevelAt o → effect_for shows o ≡ effect → (c id : ℕ) (r : Resident) (d : Desktop)
+    → stacked_by effect (is_toplevel o) c id d ≡ stacked_simply c (CommitSurface id effect) r d
 is-one shows o Stays top e c id r d = refl
 is-one shows o Unconfigured top e c id r d = refl
 is-one shows o Configures top e c id r d = refl
 is-one shows o Maps top e c id r d = ap (λ b. stacked_by Maps b c id d) (is-mapped shows o top (inl e))
 is-one shows o Unmaps top e c id r d = ap (λ b. stacked_by Unmaps b c id d) (is-mapped shows o top (inr e))
 
-stacked-commit : (c id : ℕ) (effect : Effect) (r : Resident) (d : Desktop) → AreToplevels r.owned.shell → effect_of r id ≡ effect → stacked_by (effect_of_commit r id) (is_toplevel (xdg_of id r.owned.shell)) c id d ≡ stacked_simply c (CommitSurface id effect) r d
+stacked-commit : (c id : ℕ) (effect : Effect) (r : Resident) (d : Desktop) → AreToplevels r.owned.shell → effect_of r id ≡ effect
+    → stacked_by (effect_of_commit r id) (is_toplevel (xdg_of id r.owned.shell)) c id d ≡ stacked_simply c (CommitSurface id effect) r d
 stacked-commit c id effect r d top e =
     ap (λ f. stacked_by f (is_toplevel (xdg_of id r.owned.shell)) c id d) (effect-same r id top ∙ e)
     ∙ is-one (will_show r id) (xdg_of id r.owned.shell) effect (found-toplevel (λ x. x.surface == id) r.owned.shell top) e c id r d
 
-moved-plain : (c id serial : ℕ) (r : Resident) (windows : List Window) (d : Desktop) → stacked_for c (Move id serial) r windows (record d { pointer = first_pointer }) ≡ record d { pointer = first_pointer }
+moved-plain : (c id serial : ℕ) (r : Resident) (windows : List Window) (d : Desktop)
+    → stacked_for c (Move id serial) r windows (record d { pointer = first_pointer }) ≡ record d { pointer = first_pointer }
 moved-plain c id serial r windows d = refl
 
-pub stacked-same : (c : ℕ) (ask : Simple) (demand : Demand) (r : Resident) (windows : List Window) (d : Desktop) → d.pointer ≡ first_pointer → OwnsToplevelsOnly r → Same r ask demand → stacked_for c demand r windows d ≡ stacked_simply c ask r d
+pub stacked-same : (c : ℕ) (ask : Simple) (demand : Demand) (r : Resident) (windows : List Window) (d : Desktop) → d.pointer ≡ first_pointer → OwnsToplevelsOnly r → Same r ask demand
+    → stacked_for c demand r windows d ≡ stacked_simply c ask r d
 stacked-same c ask demand r windows d still only (asks other) = refl
 stacked-same c ask demand r windows d still only (ends id) = refl
 stacked-same c ask demand r windows d still only (frames id version surface) = refl

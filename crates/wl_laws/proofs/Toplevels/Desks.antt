@@ -19,7 +19,8 @@ use Rattle.wl_laws.proofs.Toplevels.Simply.{Simple, stacked_simply}
 abbrev pub OthersOwn : ℕ → Desktop → Type 0
 OthersOwn c d = (other : ℕ) → c ≢ other → OwnsToplevelsAt (client_at other d) (toplevels_of other d)
 
-pub become-has : (c : ℕ) (r there : Resident) (q : Peer) (d : Desktop) → client_at c d ≡ Some there → d.pointer ≡ first_pointer → OthersOwn c d → (q.status ≡ None → OwnsToplevelsOnly (with_peer q r)) → NoMore (become c r q d)
+pub become-has : (c : ℕ) (r there : Resident) (q : Peer) (d : Desktop) → client_at c d ≡ Some there → d.pointer ≡ first_pointer → OthersOwn c d → (q.status ≡ None → OwnsToplevelsOnly (with_peer q r))
+    → NoMore (become c r q d)
 become-has c r there q d is still others owns = record { pointer = by-pointer q.status c r q d ∙ still; each = λ other. at other (c == other) refl }
   where
     here : (s : Option Cause) → q.status ≡ s → OwnsToplevelsAt (client_at c (become_by s c r q d)) (toplevels_of c (become_by s c r q d))

@@ -10,7 +10,8 @@ use Rattle.wl_interface.specs.declared.interface.Interface.TheVariants.{WlCallba
 
 -- ---- what is read is of the kinds that are asked for
 
-if-kind : (b : Bool) (fault : ArgError) (read : Result (Field × List ℕ) ArgError) (kind : Kind) (x : Field × List ℕ) → ((y : Field × List ℕ) → read ≡ Ok y → kind_of y.0 ≡ kind) → (if b then Err fault else read) ≡ Ok x → kind_of x.0 ≡ kind
+if-kind : (b : Bool) (fault : ArgError) (read : Result (Field × List ℕ) ArgError) (kind : Kind) (x : Field × List ℕ) → ((y : Field × List ℕ) → read ≡ Ok y → kind_of y.0 ≡ kind)
+    → (if b then Err fault else read) ≡ Ok x → kind_of x.0 ≡ kind
 if-kind true fault read kind x rest e = absurd (cc)
 if-kind false fault read kind x rest e = rest x e
 
@@ -23,7 +24,8 @@ read-kind x kind is y e = ap (λ (z : Field × List ℕ). kind_of z.0) (sym (sam
 text-kind : (count : ℕ) (bytes : List ℕ) (x : Field × List ℕ) → text_at count bytes ≡ Ok x → kind_of x.0 ≡ AText
 text-kind count bytes x e = at (count == 0) (nat_lt (length bytes) (whole count)) (slice_index bytes (3 + count) == 0) e
   where
-    at : (a b c : Bool) → (if a then Err Null else (if b then Err Short else (if c then Ok (Text (take (count - 1) (drop 4 bytes)), drop (whole count) bytes) else Err NoNul))) ≡ Ok x → kind_of x.0 ≡ AText
+    at : (a b c : Bool) → (if a then Err Null else (if b then Err Short else (if c then Ok (Text (take (count - 1) (drop 4 bytes)), drop (whole count) bytes) else Err NoNul))) ≡ Ok x
+        → kind_of x.0 ≡ AText
     at true b c e = absurd (cc)
     at false true c e = absurd (cc)
     at false false false e = absurd (cc)
@@ -50,13 +52,15 @@ fields-kinds [] bytes fields e = at bytes e
     at (b ∷ bytes) e = absurd (cc)
 fields-kinds (kind ∷ kinds) bytes fields e = at (field_at kind bytes) refl e (λ more rest r. fields-kinds kinds more rest r)
   where
-    front : (x : Field × List ℕ) (more : Result (List Field) ArgError) → fields_at kinds x.1 ≡ more → kind_of x.0 ≡ kind → with_front x.0 more ≡ Ok fields → ((rest : List Field) → fields_at kinds x.1 ≡ Ok rest → map kind_of rest ≡ kinds) → map kind_of fields ≡ kind ∷ kinds
+    front : (x : Field × List ℕ) (more : Result (List Field) ArgError) → fields_at kinds x.1 ≡ more → kind_of x.0 ≡ kind → with_front x.0 more ≡ Ok fields
+        → ((rest : List Field) → fields_at kinds x.1 ≡ Ok rest → map kind_of rest ≡ kinds) → map kind_of fields ≡ kind ∷ kinds
     front x (Ok rest) is first e later =
         let same : x.0 ∷ rest ≡ fields = cc in
         ap (map kind_of) (sym same) ∙ ap (λ k. k ∷ map kind_of rest) first ∙ ap (λ ks. kind ∷ ks) (later rest is)
     front x (Err fault) is first e later = absurd (cc)
 
-    at : (o : Result (Field × List ℕ) ArgError) → field_at kind bytes ≡ o → fields_behind o (λ more. fields_at kinds more) ≡ Ok fields → ((more : List ℕ) (rest : List Field) → fields_at kinds more ≡ Ok rest → map kind_of rest ≡ kinds) → map kind_of fields ≡ kind ∷ kinds
+    at : (o : Result (Field × List ℕ) ArgError) → field_at kind bytes ≡ o → fields_behind o (λ more. fields_at kinds more) ≡ Ok fields
+        → ((more : List ℕ) (rest : List Field) → fields_at kinds more ≡ Ok rest → map kind_of rest ≡ kinds) → map kind_of fields ≡ kind ∷ kinds
     at (Ok x) is e later = front x (fields_at kinds x.1) refl (field-kind kind bytes x is) e (λ rest r. later x.1 rest r)
     at (Err fault) is e later = absurd (cc)
 

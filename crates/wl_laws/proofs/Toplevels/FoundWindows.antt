@@ -132,19 +132,23 @@ module _ (c id : ℕ) where
   -- ---- before and after
 
   -- the same counts of all others, and the window that is found keeps its record: so do all windows, one by one
-  module _ (owned owned' : ℕ → Owned) (unlinked : (c : ℕ) → (owned c).surfaces.links ≡ []) (unlinked' : (c : ℕ) → (owned' c).surfaces.links ≡ []) (w v : Window) (same : has_same_record w v ≡ true) where
+  module _ (owned owned' : ℕ → Owned) (unlinked : (c : ℕ) → (owned c).surfaces.links ≡ []) (unlinked' : (c : ℕ) → (owned' c).surfaces.links ≡ []) (w v : Window) (same : has_same_record w v ≡ true)
+      where
     one-same : (s : Standing) → IsFoundBy owned unlinked w s → IsFoundBy owned' unlinked' v s
-        → (is_of c id s ≡ false → counted (history_in s.surface (owned s.client).surfaces) ≡ counted (history_in s.surface (owned' s.client).surfaces)) → AreSame (window_by owned s) (window_by owned' s)
+        → (is_of c id s ≡ false → counted (history_in s.surface (owned s.client).surfaces) ≡ counted (history_in s.surface (owned' s.client).surfaces))
+            → AreSame (window_by owned s) (window_by owned' s)
     one-same s was is counts = at (is_of c id s) refl
       where
         at : (b : Bool) → is_of c id s ≡ b → AreSame (window_by owned s) (window_by owned' s)
         at true e =
             subst (λ ws. AreSame ws (window_by owned' s)) (sym (was e)) (subst (λ vs. AreSame (w ∷ []) vs) (sym (is e)) (same, tt))
         at false e =
-            subst (λ vs. AreSame (window_by owned s) vs) (ap (λ (requests : Option (List Request)). lone (owner_of (root_of owned s)) s.surface s.place requests) (counts e)) (same-self (window_by owned s))
+            subst (λ vs. AreSame (window_by owned s) vs) (ap (λ (requests : Option (List Request)). lone (owner_of (root_of owned s)) s.surface s.place requests) (counts e))
+                (same-self (window_by owned s))
 
     pub windows-kept : (ss : List Standing) → Each (IsFoundBy owned unlinked w) ss → Each (IsFoundBy owned' unlinked' v) ss
-        → ((client surface : ℕ) → list_any (is_of client surface) ss ≡ true → ((client == c) && (surface == id)) ≡ false → counted (history_in surface (owned client).surfaces) ≡ counted (history_in surface (owned' client).surfaces))
+        → ((client surface : ℕ) → list_any (is_of client surface) ss ≡ true → ((client == c) && (surface == id)) ≡ false
+            → counted (history_in surface (owned client).surfaces) ≡ counted (history_in surface (owned' client).surfaces))
         → AreSame (windows_on owned ss) (windows_on owned' ss)
     windows-kept [] was is counts = tt
     windows-kept (s ∷ ss) was is counts =
@@ -166,7 +170,8 @@ each-append : {X : Type 0} (P : X → Type 0) (xs ys : List X) → Each P xs →
 each-append P [] ys e f = f
 each-append P (x ∷ xs) ys e f = (e.0, each-append P xs ys e.1 f)
 
-sized-lone : (owned : ℕ → Owned) (owner : Owner) (surface : ℕ) (place : Place) (o : Option History) → history_in surface (owned owner.client).surfaces ≡ o → Each (IsSized owned) (lone owner surface place (counted o))
+sized-lone : (owned : ℕ → Owned) (owner : Owner) (surface : ℕ) (place : Place) (o : Option History) → history_in surface (owned owner.client).surfaces ≡ o
+    → Each (IsSized owned) (lone owner surface place (counted o))
 sized-lone owned owner surface place None is = tt
 sized-lone owned owner surface place (Some h) is = at (applied h).buffer refl
   where

@@ -22,7 +22,8 @@ use Rattle.wl_shell.specs.Popups.{popped_kind, popped_of, popped_role}
 use Rattle.wl_shell.specs.Shell.{Effect, Stays, Unconfigured, Configures, Maps, Unmaps, Kind, Toplevel, RoleObject, Shell, XdgSurface as Xdg, is_full, on_commit, stage_of, xdg_at, xdg_of, xdg_with}
 use Rattle.wl_plain.specs.Ask.{Ask, Ignore, owns}
 use Rattle.wl_plain.specs.Demand.{Demand, Asks, EndSurface, AskFrame, CommitTree, EndToplevel, Move}
-use Rattle.wl_plain.specs.Demanding.{base_demand, committed_by, demand_by, demand_of, demands, effect_of_commit, effect_on_xdg, is_dismissed, judge_all, moved_by_pointer, own_demand, surface_demand, toplevel_asked, toplevel_destroyed, xdg_asked}
+use Rattle.wl_plain.specs.Demanding.{base_demand, committed_by, demand_by, demand_of, demands, effect_of_commit, effect_on_xdg, is_dismissed, judge_all, moved_by_pointer, own_demand, surface_demand}
+use Rattle.wl_plain.specs.Demanding.{toplevel_asked, toplevel_destroyed, xdg_asked}
 use Rattle.wl_plain.specs.Desktop.{Resident}
 use Rattle.wl_plain.specs.LeftOut.{served_now}
 use Rattle.wl_peer.specs.Requests.{Request, ToCompositor, ToSurface, ToSubcompositor, ToSubsurface, ToSeat, ToPointer, ToBase, ToPositioner, ToXdgSurface, ToToplevel, ToPopup, request_of, rect}
@@ -197,7 +198,8 @@ new_id-simple r objects held None demand simple = simple
 new_id-simple r objects held (Some new) demand simple =
     if-simple r (is_free objects new.id) _ _ (λ free. if-simple r (nat_le 8192 held) _ _ (λ full. refl) (λ room. simple)) (λ used. refl)
 
-judged-simple : (r : Resident) (objects : Objects) (held : ℕ) (demand : Message → Result Demand Refusal) (request : Result Message ProtoError) → ((m : Message) → IsSimple r (demand m)) → IsSimple r (judged objects held demand request)
+judged-simple : (r : Resident) (objects : Objects) (held : ℕ) (demand : Message → Result Demand Refusal) (request : Result Message ProtoError) → ((m : Message) → IsSimple r (demand m))
+    → IsSimple r (judged objects held demand request)
 judged-simple r objects held demand (Err error) simple = refl
 judged-simple r objects held demand (Ok m) simple =
     if-simple r (list_all (fits objects) (objects_named m)) _ _ (λ fit. new_id-simple r objects held (new_id_in m) (demand m) (simple m)) (λ unfit. refl)

@@ -6,7 +6,8 @@ use Rattle.std.specs.Option.{option_map}
 use Rattle.std.proofs.lemmas.Bool.{eqb-true}
 use Rattle.wl_interface.specs.declared.interface.Interface.TheVariants.{WlSurface, XdgToplevel, WlCallback}
 use Rattle.wl_peer.specs.declared.actions.Action.{Action}
-use Rattle.wl_peer.specs.declared.actions.Action.TheVariants.{Sync, GetRegistry, Bind, CreateRegion, AddToRegion, SubtractFromRegion, DestroyRegion, CreatePool, CreateBuffer, ResizePool, DestroyPool, DestroyBuffer}
+use Rattle.wl_peer.specs.declared.actions.Action.TheVariants.{Sync, GetRegistry, Bind, CreateRegion, AddToRegion, SubtractFromRegion, DestroyRegion, CreatePool, CreateBuffer, ResizePool, DestroyPool}
+use Rattle.wl_peer.specs.declared.actions.Action.TheVariants.{DestroyBuffer}
 use Rattle.wl_peer.specs.Objects.{Object, Objects, is_of, with_id}
 use Rattle.wl_peer.specs.Peer.{Peer, changed, object_at_version}
 use Rattle.wl_peer.specs.Used.{has_used, keeps_store}
@@ -130,7 +131,8 @@ mapped-some : (f : Surface → Surface) (o : Option Surface) → is_some (option
 mapped-some f None = refl
 mapped-some f (Some s) = refl
 
-changed-known : (id : ℕ) (change : Surface → Surface) → ((s : Surface) → (change s).id ≡ s.id) → (all : Surfaces) (objects : Objects) → AreKnown all objects → AreKnown (with_change id change all) objects
+changed-known : (id : ℕ) (change : Surface → Surface) → ((s : Surface) → (change s).id ≡ s.id) → (all : Surfaces) (objects : Objects) → AreKnown all objects
+    → AreKnown (with_change id change all) objects
 changed-known id change keeps all objects known key there =
     known key
     (sym (mapped-some (λ s. cond (s.id == id) (change s) s) (surface_at key all))
@@ -181,14 +183,18 @@ effect-owns id effect None r only = only
 effect-owns id Stays (Some x) r only = only
 effect-owns id Unconfigured (Some x) r only = only
 effect-owns id Configures (Some x) r only =
-    record { links = only.links; apart = only.apart; known = only.known; roles = top-effect id Configures (Some x) r only.roles; subsurfaces = only.subsurfaces; callbacks = only.callbacks; pointers = only.pointers }
+    record { links = only.links; apart = only.apart; known = only.known; roles = top-effect id Configures (Some x) r only.roles; subsurfaces = only.subsurfaces; callbacks = only.callbacks;
+        pointers = only.pointers }
 effect-owns id Maps (Some x) r only =
-    record { links = only.links; apart = only.apart; known = only.known; roles = top-effect id Maps (Some x) r only.roles; subsurfaces = only.subsurfaces; callbacks = only.callbacks; pointers = only.pointers }
+    record { links = only.links; apart = only.apart; known = only.known; roles = top-effect id Maps (Some x) r only.roles; subsurfaces = only.subsurfaces; callbacks = only.callbacks;
+        pointers = only.pointers }
 effect-owns id Unmaps (Some x) r only =
-    record { links = only.links; apart = only.apart; known = only.known; roles = top-effect id Unmaps (Some x) r only.roles; subsurfaces = only.subsurfaces; callbacks = only.callbacks; pointers = only.pointers }
+    record { links = only.links; apart = only.apart; known = only.known; roles = top-effect id Unmaps (Some x) r only.roles; subsurfaces = only.subsurfaces; callbacks = only.callbacks;
+        pointers = only.pointers }
 
 -- a surface changes, and what its buffers let go is let go
-changed-owns : (id : ℕ) (change : Surface → Surface) → ((s : Surface) → (change s).id ≡ s.id) → (r : Resident) → OwnsToplevelsOnly r → OwnsToplevelsOnly (after_surface id r (with_surfaces (with_change id change r.owned.surfaces) r))
+changed-owns : (id : ℕ) (change : Surface → Surface) → ((s : Surface) → (change s).id ≡ s.id) → (r : Resident) → OwnsToplevelsOnly r
+    → OwnsToplevelsOnly (after_surface id r (with_surfaces (with_change id change r.owned.surfaces) r))
 changed-owns id change keeps r only =
     record {
       links = only.links;
@@ -200,7 +206,8 @@ changed-owns id change keeps r only =
       pointers = only.pointers;
     }
 
-given-owns : (id version xdg : ℕ) (o : Option Xdg) (r : Resident) → IsApart r.peer.objects (Some id) → OwnsToplevelsOnly r → OwnsToplevelsOnly (making XdgToplevel id version (toplevel_given id xdg o r))
+given-owns : (id version xdg : ℕ) (o : Option Xdg) (r : Resident) → IsApart r.peer.objects (Some id) → OwnsToplevelsOnly r
+    → OwnsToplevelsOnly (making XdgToplevel id version (toplevel_given id xdg o r))
 given-owns id version xdg None r other only =
     let both = both-at r r.peer.objects id (Some (object_at_version XdgToplevel version)) other (both-of r only) in
     record { links = only.links; apart = only.apart; known = both.0; roles = only.roles; subsurfaces = only.subsurfaces; callbacks = both.1; pointers = only.pointers }
@@ -217,7 +224,8 @@ given-owns id version xdg (Some x) r other only =
     }
 
 -- the surfaces and callbacks are the same
-same-owns : (ask : Simple) (r : Resident) → (changed_simply ask r).owned.surfaces ≡ r.owned.surfaces → AreBoth r (changed_simply ask r).peer.objects → (changed_simply ask r).subsurfaces ≡ r.subsurfaces → (changed_simply ask r).callbacks ≡ r.callbacks
+same-owns : (ask : Simple) (r : Resident) → (changed_simply ask r).owned.surfaces ≡ r.owned.surfaces → AreBoth r (changed_simply ask r).peer.objects
+    → (changed_simply ask r).subsurfaces ≡ r.subsurfaces → (changed_simply ask r).callbacks ≡ r.callbacks
     → (changed_simply ask r).pointers ≡ r.pointers → OwnsToplevelsOnly r → OwnsToplevelsOnly (changed_simply ask r)
 same-owns ask r same both subsurfaces callbacks pointers only =
     record {

@@ -40,12 +40,14 @@ place-owns k x standing [] owns = tt
 place-owns zero x standing (r ∷ rs) owns = owns
 place-owns (suc k) x standing (r ∷ rs) owns = place-owns k x standing rs owns
 
-number-owns : (c : ℕ) (x : Option Resident) (standing : List Standing) (clients : List (Option Resident)) → OwnsToplevelsAt x standing → OwnsToplevelsAt (client_in (with_number c x clients) c) standing
+number-owns : (c : ℕ) (x : Option Resident) (standing : List Standing) (clients : List (Option Resident)) → OwnsToplevelsAt x standing
+    → OwnsToplevelsAt (client_in (with_number c x clients) c) standing
 number-owns zero x standing clients owns = tt
 number-owns (suc k) x standing clients owns = place-owns k x standing clients owns
 
 -- another client or none is there, and the others stand as before
-put-has : (c : ℕ) (x : Option Resident) (standing : List Standing) (d : Desktop) → NoMore d → OwnsToplevelsAt x (filter (λ s. s.client == c) standing) → ((other : ℕ) → c ≢ other → filter (λ s. s.client == other) standing ≡ toplevels_of other d) → NoMore (record d { clients = with_number c x d.clients; standing = standing })
+put-has : (c : ℕ) (x : Option Resident) (standing : List Standing) (d : Desktop) → NoMore d → OwnsToplevelsAt x (filter (λ s. s.client == c) standing)
+    → ((other : ℕ) → c ≢ other → filter (λ s. s.client == other) standing ≡ toplevels_of other d) → NoMore (record d { clients = with_number c x d.clients; standing = standing })
 put-has c x standing d has owns stay = record { pointer = has.pointer; each = λ other. at other (c == other) refl }
   where
     at : (other : ℕ) (b : Bool) → (c == other) ≡ b → OwnsToplevelsAt (client_in (with_number c x d.clients) other) (filter (λ s. s.client == other) standing)
@@ -76,7 +78,8 @@ connects-has (Some k) d done e has (inr h) =
 KeepsObjects : (Peer → Done → Option Peer → Type 0) → Type 0
 KeepsObjects R = (p : Peer) (done : Done) (q : Option Peer) → R p done q → (x : Peer) → q ≡ Some x → x.status ≡ None → (p.status ≡ None) × (x.objects ≡ p.objects)
 
-left-has : (c : ℕ) (r : Resident) (q : Option Peer) (d : Desktop) → client_at c d ≡ Some r → NoMore d → ((x : Peer) → q ≡ Some x → x.status ≡ None → (r.peer.status ≡ None) × (x.objects ≡ r.peer.objects)) → NoMore (left_so c r q d)
+left-has : (c : ℕ) (r : Resident) (q : Option Peer) (d : Desktop) → client_at c d ≡ Some r → NoMore d → ((x : Peer) → q ≡ Some x → x.status ≡ None → (r.peer.status ≡ None)
+    × (x.objects ≡ r.peer.objects)) → NoMore (left_so c r q d)
 left-has c r None d is has keeps =
     put-has c None (without_client c d.standing) d has tt (λ other differ. left_out (λ s. not (s.client == c)) other (one_client c other differ) d.standing)
 left-has c r (Some x) d is has keeps =
@@ -85,7 +88,8 @@ left-has c r (Some x) d is has keeps =
     let kept = keeps x refl alive in
     only-peer r x kept.1 (living r.peer.status r (toplevels_of c d) kept.0 (subst (λ o. OwnsToplevelsAt o (toplevels_of c d)) is (has.each c))))
 
-changes-has : (R : Peer → Done → Option Peer → Type 0) → KeepsObjects R → (absent done : Done) (c : ℕ) (o : Option Resident) (d e : Desktop) → client_at c d ≡ o → NoMore d → ChangesAt R absent c o d done e → NoMore e
+changes-has : (R : Peer → Done → Option Peer → Type 0) → KeepsObjects R → (absent done : Done) (c : ℕ) (o : Option Resident) (d e : Desktop) → client_at c d ≡ o → NoMore d
+    → ChangesAt R absent c o d done e → NoMore e
 unfolding KeepsObjects
 changes-has R keeps absent done c None d e is has h = subst NoMore (sym h.1) has
 changes-has R keeps absent done c (Some r) d e is has h = subst NoMore (sym h.2) (left-has c r h.0 d is has (keeps r.peer done h.0 h.1))

@@ -32,14 +32,16 @@ lives-so r before (Some q) after none (inr h) =
     let same = told-nothing r untold.0 none untold.2 in
     absurd (none-among untold.3.2.0 untold.0.pointers (ap (λ (x : Resident). x.pointers) same ∙ none) untold.3.2.1)
 
-left-so : (s : Option Cause) (r : Resident) (before : List Standing) (now : Option Resident) (after : List Standing) → OwnsToplevelsBy s r before → IsLeftBy s r before now after → StaysSo (Some r) before now after
+left-so : (s : Option Cause) (r : Resident) (before : List Standing) (now : Option Resident) (after : List Standing) → OwnsToplevelsBy s r before → IsLeftBy s r before now after
+    → StaysSo (Some r) before now after
 left-so (Some cause) r before now after owns h = h
 left-so None r before now after owns h = lives-so r before now after owns.pointers h
 
 pub alone-same : (other : ℕ) (old new : Desktop) → NoMore old → IsLeftAlone other old new → (client_at other new ≡ client_at other old) × (toplevels_of other new ≡ toplevels_of other old)
 alone-same other old new more h = at (client_at other old) (more.each other) h
   where
-    at : (o : Option Resident) → OwnsToplevelsAt o (toplevels_of other old) → IsLeftSo o (toplevels_of other old) (client_at other new) (toplevels_of other new) → StaysSo o (toplevels_of other old) (client_at other new) (toplevels_of other new)
+    at : (o : Option Resident) → OwnsToplevelsAt o (toplevels_of other old) → IsLeftSo o (toplevels_of other old) (client_at other new) (toplevels_of other new)
+        → StaysSo o (toplevels_of other old) (client_at other new) (toplevels_of other new)
     at None owns h = h
     at (Some r) owns h = left-so r.peer.status r (toplevels_of other old) (client_at other new) (toplevels_of other new) owns h
 

@@ -51,7 +51,8 @@ module _ (finds : TouchesApart) (c : ℕ) (there : Resident) (d new : Desktop) (
   apart Bad ask asks = absurd asks
   apart More ask asks = absurd asks
 
-  done-has : (ask : Simple) → AsksBy there (split_of there.peer.rest) ask → (p q : Peer) → p.objects ≡ there.peer.objects → Queues (told_simply ask (with_peer p there)) (changed_simply ask (with_peer p there)).peer q
+  done-has : (ask : Simple) → AsksBy there (split_of there.peer.rest) ask → (p q : Peer) → p.objects ≡ there.peer.objects
+      → Queues (told_simply ask (with_peer p there)) (changed_simply ask (with_peer p there)).peer q
       → NoMore (become c (changed_simply ask (with_peer p there)) q (stacked_simply c ask (with_peer p there) d))
   done-has ask asks p q objects told =
       let r : Resident = with_peer p there in

@@ -12,7 +12,8 @@ abbrev pub window_list : Owner → ℕ → Place → Option History → List Win
 window_list owner surface place None = []
 window_list owner surface place (Some h) = window_of owner surface (corner_at place h) h
 
-one-shown : (next : ℕ → Place → List Window) (owner : Owner) (surfaces : Surfaces) (surface : ℕ) (place : Place) (o : Option History) → surfaces.links ≡ [] → shows_buffer o ≡ true → surface_windows next owner surfaces surface place o ≡ window_list owner surface place o
+one-shown : (next : ℕ → Place → List Window) (owner : Owner) (surfaces : Surfaces) (surface : ℕ) (place : Place) (o : Option History) → surfaces.links ≡ [] → shows_buffer o ≡ true
+    → surface_windows next owner surfaces surface place o ≡ window_list owner surface place o
 one-shown next owner surfaces surface place None unlinked shows = refl
 one-shown next owner surfaces surface place (Some h) unlinked shows = by (applied h).buffer shows
   where
@@ -20,7 +21,8 @@ one-shown next owner surfaces surface place (Some h) unlinked shows = by (applie
     by None there = absurd (cc)
     by (Some buffer) there = order-once (member_windows next owner surfaces surface h (corner_at place h)) (no-child next owner surfaces surface h (corner_at place h) unlinked) (counting h)
 
-pub one-window : (levels : ℕ) (owner : Owner) (surfaces : Surfaces) (surface : ℕ) (place : Place) → surfaces.links ≡ [] → shows_buffer (history_in surface surfaces) ≡ true → tree (suc levels) owner surfaces surface place ≡ window_list owner surface place (history_in surface surfaces)
+pub one-window : (levels : ℕ) (owner : Owner) (surfaces : Surfaces) (surface : ℕ) (place : Place) → surfaces.links ≡ [] → shows_buffer (history_in surface surfaces) ≡ true
+    → tree (suc levels) owner surfaces surface place ≡ window_list owner surface place (history_in surface surfaces)
 unfolding tree
 one-window levels owner surfaces surface place unlinked shows =
     one-shown (λ child at. tree levels owner surfaces child at) owner surfaces surface place (history_in surface surfaces) unlinked shows

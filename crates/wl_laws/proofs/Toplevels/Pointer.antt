@@ -95,7 +95,8 @@ module _ (other : ℕ) (old : Desktop) (more : NoMore old) where
       owns : (r : Resident) → r.peer.status ≡ None → Some r ≡ client_at other old → OwnsToplevelsOnly r
       owns r alive is = living r.peer.status r (toplevels_of other old) alive (subst (λ o. OwnsToplevelsAt o (toplevels_of other old)) (sym is) (more.each other))
 
-  pub moves-same : (time : ℕ) (x y : ℤ) (new : Desktop) → MovesTo time (pointed (point_in old.output x y) old) new → (client_at other new ≡ client_at other old) × (toplevels_of other new ≡ toplevels_of other old)
+  pub moves-same : (time : ℕ) (x y : ℤ) (new : Desktop) → MovesTo time (pointed (point_in old.output x y) old) new → (client_at other new ≡ client_at other old)
+      × (toplevels_of other new ≡ toplevels_of other old)
   moves-same time x y new h =
       let at = point_in old.output x y in
       let tops : toplevels_of other (pointed at old) ≡ toplevels_of other old =
@@ -113,6 +114,7 @@ module _ (other : ℕ) (old : Desktop) (more : NoMore old) where
   releases-same false time button new h = (ap (λ (d : Desktop). client_at other d) h, ap (λ (d : Desktop). toplevels_of other d) h)
   releases-same true time button new h = released-so other StaysQuiet quiet-all As Never as-stays time button old new (refl, refl) h
 
-  pub buttons-same : (pressed : Bool) (time button : ℕ) (new : Desktop) → Buttons pressed time button old new → (client_at other new ≡ client_at other old) × (toplevels_of other new ≡ toplevels_of other old)
+  pub buttons-same : (pressed : Bool) (time button : ℕ) (new : Desktop) → Buttons pressed time button old new → (client_at other new ≡ client_at other old)
+      × (toplevels_of other new ≡ toplevels_of other old)
   buttons-same true time button new h = presses-same (is_press button old.pointer.buttons) time button new h
   buttons-same false time button new h = releases-same (is_down button old.pointer.buttons) time button new h

@@ -48,8 +48,10 @@ all-busy : (ss : List Surface) → Each (λ b. any_shows b.number ss ≡ true) (
 all-busy [] = tt
 all-busy (s ∷ ss) =
     each-more (λ b. any_shows b.number (s ∷ ss) ≡ true) (buffers_shown s.history) (flat_map (λ s. buffers_shown s.history) ss)
-    (each-map (λ b. shows b.number s.history ≡ true) (λ b. any_shows b.number (s ∷ ss) ≡ true) (λ b is. or_left (shows b.number s.history) (any_shows b.number ss) is) (buffers_shown s.history) (shown-each s.history))
-    (each-map (λ b. any_shows b.number ss ≡ true) (λ b. any_shows b.number (s ∷ ss) ≡ true) (λ b is. or_right (shows b.number s.history) (any_shows b.number ss) is) (flat_map (λ s. buffers_shown s.history) ss)
+    (each-map (λ b. shows b.number s.history ≡ true) (λ b. any_shows b.number (s ∷ ss) ≡ true) (λ b is. or_left (shows b.number s.history) (any_shows b.number ss) is) (buffers_shown s.history)
+        (shown-each s.history))
+    (each-map (λ b. any_shows b.number ss ≡ true) (λ b. any_shows b.number (s ∷ ss) ≡ true) (λ b is. or_right (shows b.number s.history) (any_shows b.number ss) is)
+        (flat_map (λ s. buffers_shown s.history) ss)
     (all-busy ss))
 
 -- one that is busy isn't released
@@ -102,7 +104,8 @@ any-more p (x ∷ xs) ys any = at (p x) any (λ more. any-more p xs ys more)
     at true any more = refl
     at false any more = more any
 
-given-busy : (id xdg : ℕ) (o : Option Xdg) (r : Resident) → AreApartBy (λ key s. s.id == key) r.owned.surfaces.surfaces → (n : ℕ) → is_busy n r.owned.surfaces ≡ true → is_busy n (toplevel_given id xdg o r).owned.surfaces ≡ true
+given-busy : (id xdg : ℕ) (o : Option Xdg) (r : Resident) → AreApartBy (λ key s. s.id == key) r.owned.surfaces.surfaces → (n : ℕ) → is_busy n r.owned.surfaces ≡ true
+    → is_busy n (toplevel_given id xdg o r).owned.surfaces ≡ true
 given-busy id xdg None r apart n busy = busy
 given-busy id xdg (Some x) r apart n busy = changed-busy x.surface (with_role AsToplevel) n r.owned.surfaces apart (λ y. refl) (λ y e is. is) busy
 
@@ -113,25 +116,31 @@ only told more none = ap (λ (es : List Said). told ++ es) none ∙ nothing-afte
 pub asked-told : (ask : Ask) (r : Resident) → AreApartBy (λ key s. s.id == key) r.owned.surfaces.surfaces → answers_simply (Asking ask) r ++ releases r (changed_by ask r) ≡ told_simply (Asking ask) r
 asked-told (AskSurface id request) r apart = refl
 asked-told (Own action) r apart = only (answers_simply (Asking (Own action)) r) (releases r (changed_by (Own action) r)) (still-released r (changed_by (Own action) r) refl)
-asked-told (CreateSurface id version) r apart = none-released r (changed_by (CreateSurface id version) r) (λ n busy. any-more (λ s. shows n s.history) r.owned.surfaces.surfaces (new_surface id ∷ []) busy)
+asked-told (CreateSurface id version) r apart = none-released r (changed_by (CreateSurface id version) r) (λ n busy. any-more (λ s. shows n s.history) r.owned.surfaces.surfaces
+    (new_surface id ∷ []) busy)
 asked-told (DestroyBase id) r apart = only (answers_simply (Asking (DestroyBase id)) r) (releases r (changed_by (DestroyBase id) r)) (still-released r (changed_by (DestroyBase id) r) refl)
 asked-told (GetXdgSurface id version base surface) r apart = still-released r (changed_by (GetXdgSurface id version base surface) r) refl
-asked-told (DestroyXdgSurface id) r apart = only (answers_simply (Asking (DestroyXdgSurface id)) r) (releases r (changed_by (DestroyXdgSurface id) r)) (still-released r (changed_by (DestroyXdgSurface id) r) refl)
+asked-told (DestroyXdgSurface id) r apart = only (answers_simply (Asking (DestroyXdgSurface id)) r) (releases r (changed_by (DestroyXdgSurface id) r))
+    (still-released r (changed_by (DestroyXdgSurface id) r) refl)
 asked-told (GetToplevel id version xdg) r apart = none-released r (changed_by (GetToplevel id version xdg) r) (λ n busy. given-busy id xdg (xdg_at xdg r.owned.shell) r apart n busy)
 asked-told (Acknowledge xdg serial) r apart = still-released r (changed_by (Acknowledge xdg serial) r) refl
-asked-told (ConfigureAgain xdg) r apart = only (answers_simply (Asking (ConfigureAgain xdg)) r) (releases r (changed_by (ConfigureAgain xdg) r)) (still-released r (changed_by (ConfigureAgain xdg) r) refl)
+asked-told (ConfigureAgain xdg) r apart = only (answers_simply (Asking (ConfigureAgain xdg)) r) (releases r (changed_by (ConfigureAgain xdg) r))
+    (still-released r (changed_by (ConfigureAgain xdg) r) refl)
 asked-told Ignore r apart = still-released r (changed_by Ignore r) refl
 
-pub ended-told : (id xdg top : ℕ) (r : Resident) → answers_simply (DestroyToplevel id xdg top) r ++ releases r (changed_simply (DestroyToplevel id xdg top) r) ≡ told_simply (DestroyToplevel id xdg top) r
+pub ended-told : (id xdg top : ℕ) (r : Resident) → answers_simply (DestroyToplevel id xdg top) r ++ releases r (changed_simply (DestroyToplevel id xdg top) r) ≡ told_simply
+    (DestroyToplevel id xdg top) r
 ended-told id xdg top r = only (answers_simply (DestroyToplevel id xdg top) r) _ (still-released r (changed_simply (DestroyToplevel id xdg top) r) refl)
 
 -- a request of a surface that is no commit leaves it what it shows
-still-shows : (request : Request) → is_commit request ≡ false → (n : ℕ) (s : Surface) → s.history.cut ≤ committed s.history.requests → committed s.history.requests ≤ length s.history.requests → shows n (asking request s).history ≡ shows n s.history
+still-shows : (request : Request) → is_commit request ≡ false → (n : ℕ) (s : Surface) → s.history.cut ≤ committed s.history.requests → committed s.history.requests ≤ length s.history.requests
+    → shows n (asking request s).history ≡ shows n s.history
 still-shows request plain n s cut within =
     ap (λ (rs : List Request). names n (values rs).buffer || names n (held (asking request s).history).buffer) (applied-kept s.history request cut within)
     ∙ ap (λ (rs : List Request). names n (applied s.history).buffer || names n (values rs).buffer) (held-kept s.history.requests request plain within)
 
-pub requested-still : (id : ℕ) (request : Request) → is_commit request ≡ false → (r : Resident) (s : Surface) → AreApartBy (λ key s. s.id == key) r.owned.surfaces.surfaces → surface_at id r.owned.surfaces ≡ Some s
+pub requested-still : (id : ℕ) (request : Request) → is_commit request ≡ false → (r : Resident) (s : Surface) → AreApartBy (λ key s. s.id == key) r.owned.surfaces.surfaces
+    → surface_at id r.owned.surfaces ≡ Some s
     → s.history.cut ≤ committed s.history.requests → committed s.history.requests ≤ length s.history.requests → releases r (changed_by (AskSurface id request) r) ≡ []
 requested-still id request plain r s apart there cut within =
     none-released r (changed_by (AskSurface id request) r) (λ n busy. changed-busy id (asking request) n r.owned.surfaces apart (λ x. refl) (λ x e is. at n x e is) busy)
@@ -156,13 +165,16 @@ one-told r (Some b) =
     at true = refl
     at false = refl
 
-one-released : (id : ℕ) (old new : Resident) → AreApartBy (λ key s. s.id == key) old.owned.surfaces.surfaces → ((h : History) → option_map (λ s. s.history) (surface_at id old.owned.surfaces) ≡ Some h → AllCounts h)
-    → OthersUsed (is_released new) (λ n. is_busy n new.owned.surfaces) (busy-stays new) buffers_shown id old.owned.surfaces.surfaces → releases old new ≡ release_told (release_of (shown_at (surface_at id old.owned.surfaces)) new)
+one-released : (id : ℕ) (old new : Resident) → AreApartBy (λ key s. s.id == key) old.owned.surfaces.surfaces → ((h : History) → option_map (λ s. s.history) (surface_at id old.owned.surfaces) ≡ Some h
+    → AllCounts h)
+    → OthersUsed (is_released new) (λ n. is_busy n new.owned.surfaces) (busy-stays new) buffers_shown id old.owned.surfaces.surfaces
+        → releases old new ≡ release_told (release_of (shown_at (surface_at id old.owned.surfaces)) new)
 one-released id old new apart counts used =
     ap told_of (had-gone (is_released new) (λ n. is_busy n new.owned.surfaces) (busy-stays new) buffers_shown id old.owned.surfaces.surfaces apart used)
     ∙ at (surface_at id old.owned.surfaces) counts
   where
-    at : (o : Option Surface) → ((h : History) → option_map (λ s. s.history) o ≡ Some h → AllCounts h) → told_of (filter (is_released new) (each_once (shown_by buffers_shown (option_map (λ s. s.history) o)))) ≡ release_told (release_of (shown_at o) new)
+    at : (o : Option Surface) → ((h : History) → option_map (λ s. s.history) o ≡ Some h → AllCounts h)
+        → told_of (filter (is_released new) (each_once (shown_by buffers_shown (option_map (λ s. s.history) o)))) ≡ release_told (release_of (shown_at o) new)
     at None counts = refl
     at (Some s) counts =
         ap (λ bs. told_of (filter (is_released new) (each_once bs))) (one-shown s.history (counts s.history refl)) ∙ one-told new (applied s.history).buffer
@@ -178,7 +190,8 @@ gone-same id r (Some b) =
     let base : Resident = after_surface id r (with_surfaces (without_surface id r.owned.surfaces) r) in
     ap (λ bs. release_of (Some b) (with_peer (record base.peer { buffers = bs }) base)) (gone-buffers (callbacks_of id r) base.peer)
 
-pub gone-released : (id : ℕ) (r : Resident) → AreApartBy (λ key s. s.id == key) r.owned.surfaces.surfaces → ((h : History) → option_map (λ s. s.history) (surface_at id r.owned.surfaces) ≡ Some h → AllCounts h)
+pub gone-released : (id : ℕ) (r : Resident) → AreApartBy (λ key s. s.id == key) r.owned.surfaces.surfaces → ((h : History) → option_map (λ s. s.history) (surface_at id r.owned.surfaces) ≡ Some h
+    → AllCounts h)
     → releases r (changed_simply (DestroySurface id) r) ≡ release_told (release_of (shown_at (surface_at id r.owned.surfaces)) (with_surfaces (without_surface id r.owned.surfaces) r))
 gone-released id r apart counts =
     one-released id r (changed_simply (DestroySurface id) r) apart counts (gone-others shows buffers_shown shown-each id r.owned.surfaces.surfaces)
@@ -193,7 +206,8 @@ effect-still id Configures (Some x) old now = refl
 effect-still id Maps (Some x) old now = refl
 effect-still id Unmaps (Some x) old now = refl
 
-pub committed-released : (id : ℕ) (effect : Effect) (r : Resident) → AreApartBy (λ key s. s.id == key) r.owned.surfaces.surfaces → ((h : History) → option_map (λ s. s.history) (surface_at id r.owned.surfaces) ≡ Some h → AllCounts h)
+pub committed-released : (id : ℕ) (effect : Effect) (r : Resident) → AreApartBy (λ key s. s.id == key) r.owned.surfaces.surfaces
+    → ((h : History) → option_map (λ s. s.history) (surface_at id r.owned.surfaces) ≡ Some h → AllCounts h)
     → releases r (changed_simply (CommitSurface id effect) r) ≡ release_told (release_of (shown_at (surface_at id r.owned.surfaces)) (committed_on id r))
 committed-released id effect r apart counts =
     effect-still id effect (xdg_of id r.owned.shell) r _

@@ -10,7 +10,8 @@ use Rattle.wl_peer.specs.Objects.{is_of}
 use Rattle.wl_peer.specs.Peer.{LacksMemory, Peer, Queues, QueuesOr, counted, ended, has_room, queued}
 use Rattle.wl_peer.specs.Told.{Said, said}
 use Rattle.wl_shell.specs.Popups.{is_among}
-use Rattle.wl_shell.specs.Shell.{Effect, Stays, Unconfigured, Configures, Maps, Unmaps, Fresh, Waiting, Mapped, RoleObject, Shell, XdgSurface as Xdg, acknowledging, configuring, in_stage, new_toplevel, unmapping, with_change, with_new, without_role, without_xdg, xdg_at, xdg_of}
+use Rattle.wl_shell.specs.Shell.{Effect, Stays, Unconfigured, Configures, Maps, Unmaps, Fresh, Waiting, Mapped, RoleObject, Shell, XdgSurface as Xdg, acknowledging, configuring, in_stage}
+use Rattle.wl_shell.specs.Shell.{new_toplevel, unmapping, with_change, with_new, without_role, without_xdg, xdg_at, xdg_of}
 use Rattle.wl_scene.specs.Pointer.{first_pointer}
 use Rattle.wl_scene.specs.Stacking.{Standing, without_client}
 use Rattle.wl_plain.specs.Ask.{Own, CreateSurface, AskSurface, DestroyBase, GetXdgSurface, DestroyXdgSurface, GetToplevel, Acknowledge, ConfigureAgain, Ignore}
@@ -22,7 +23,8 @@ use Rattle.wl_plain.specs.Replies.{dismissed_in, newest_first, own_answers, popu
 use Rattle.wl_plain.specs.Settling.{EndsAndSettles, QueuesTo, after_status, becomes, ended_at, pointer_without, unstruck}
 use Rattle.wl_plain.specs.Stacked.{all_windows}
 use Rattle.wl_plain.specs.Step.{toplevel_given, with_peer}
-use Rattle.wl_laws.proofs.Toplevels.Simply.{Answers, Asking, AskingFrame, Becomes, CommitSurface, DestroySurface, DestroyToplevel, Simple, WantsOr, answers_simply, changed_simply, effect_on, stacked_simply, told_simply, wants_simply}
+use Rattle.wl_laws.proofs.Toplevels.Simply.{Answers, Asking, AskingFrame, Becomes, CommitSurface, DestroySurface, DestroyToplevel, Simple, WantsOr, answers_simply, changed_simply, effect_on}
+use Rattle.wl_laws.proofs.Toplevels.Simply.{stacked_simply, told_simply, wants_simply}
 use Rattle.wl_laws.specs.NoMore.{AreToplevels, IsToplevel, OwnsToplevelsBy, OwnsToplevelsOnly}
 use Rattle.wl_plain.specs.Happens.{done_for}
 use Rattle.wl_laws.proofs.Runs.Forms.{after_why, Answers as StepAnswers, Becomes as StepBecomes, Does, WantsOr as StepWantsOr}
@@ -134,7 +136,8 @@ pub told-to : (events : List Said) (p q : Peer) → Queues events p q → IsTold
 told-to [] p q h = (p, None, (refl, refl), h)
 told-to (event ∷ events) p q h = at (has_room p.unsent event) refl (told-to events (queued event p) q) h
   where
-    at : (b : Bool) → has_room p.unsent event ≡ b → (Queues events (queued event p) q → IsToldTo events (queued event p) q) → QueuesOr b (Queues events (queued event p) q) p q → IsToldTo (event ∷ events) p q
+    at : (b : Bool) → has_room p.unsent event ≡ b → (Queues events (queued event p) q → IsToldTo events (queued event p) q) → QueuesOr b (Queues events (queued event p) q) p q
+        → IsToldTo (event ∷ events) p q
     at false e later h = (p, Some Slow, rw e (refl, refl), h)
     at true e later (inl h) = (p, Some Memory, rw e (inl (refl, refl)), h)
     at true e later (inr h) = let k = later h in (k.0, k.1, rw e (inr k.2), k.3)
@@ -145,7 +148,8 @@ IsDone events c made d new =
     (q : Peer) × (why : Option Cause) × QueuesTo events made.peer q why × EndsAndSettles (unstruck (after_why why c (with_client c (Some (with_peer q made)) d))) new
 
 -- what it becomes, and what is left of the desktop where it ends
-pub after-same : (events : List Said) (c : ℕ) (made there : Resident) (d : Desktop) → client_at c d ≡ Some there → d.pointer ≡ first_pointer → made.peer.status ≡ None → (q : Peer) (why : Option Cause) → QueuesTo events made.peer q why
+pub after-same : (events : List Said) (c : ℕ) (made there : Resident) (d : Desktop) → client_at c d ≡ Some there → d.pointer ≡ first_pointer → made.peer.status ≡ None → (q : Peer) (why : Option Cause)
+    → QueuesTo events made.peer q why
     → after_why why c (with_client c (Some (with_peer q made)) d) ≡ become c made (ended_why why q) d
 after-same events c made there d is still alive q None told = sym (ap (λ s. become_by s c made q d) (queues-status events made.peer q None told ∙ alive))
 after-same events c made there d is still alive q (Some cause) told =
@@ -153,7 +157,8 @@ after-same events c made there d is still alive q (Some cause) told =
     ap (λ o. ended_at c cause o now) (number-same d.clients c (Some (with_peer q made)) there is) ∙ becomes-same c (with_peer q made) (ended cause q) now still
     ∙ ap (λ clients. record d { clients = clients; standing = without_client c d.standing }) (number-twice d.clients c (Some (resident_of (ended cause q))) (Some (with_peer q made)))
 
-pub is-done : (events : List Said) (c : ℕ) (made there : Resident) (d new : Desktop) → client_at c d ≡ Some there → d.pointer ≡ first_pointer → made.peer.status ≡ None → Becomes (Queues events made.peer) c made d new → IsDone events c made d new
+pub is-done : (events : List Said) (c : ℕ) (made there : Resident) (d new : Desktop) → client_at c d ≡ Some there → d.pointer ≡ first_pointer → made.peer.status ≡ None
+    → Becomes (Queues events made.peer) c made d new → IsDone events c made d new
 is-done events c made there d new is still alive h =
     let k = told-to events made.peer h.0 h.1 in
     let last = become c made (ended_why k.1 k.0) d in (
@@ -178,13 +183,15 @@ stacked-pointer c ask r d = refl
 pub kept-still : (d : Desktop) → d.pointer ≡ first_pointer → with_kept_move d ≡ d
 kept-still d still = ap (λ p. with_kept_move (record d { pointer = p })) still ∙ sym (ap (λ p. record d { pointer = p }) still)
 
-pub done-same : (c : ℕ) (ask : Simple) (demand : Demand) (r : Resident) (d : Desktop) → d.pointer ≡ first_pointer → OwnsToplevelsOnly r → Same r ask demand → done_for c demand r d ≡ stacked_simply c ask r d
+pub done-same : (c : ℕ) (ask : Simple) (demand : Demand) (r : Resident) (d : Desktop) → d.pointer ≡ first_pointer → OwnsToplevelsOnly r → Same r ask demand
+    → done_for c demand r d ≡ stacked_simply c ask r d
 done-same c ask demand r d still only same =
     ap with_kept_move (stacked-same c ask demand r (all_windows d) d still only same) ∙ kept-still (stacked_simply c ask r d) (stacked-pointer c ask r d ∙ still)
 
 pub none-done : (r made : Resident) → AreToplevels made.owned.shell → popups_done r made ≡ []
 none-done r made top =
-    ap (λ ps. map (λ id. said id (says XdgPopup 1 [])) (filter (λ id. not (is_among id (dismissed_in r.owned.shell))) (newest_first (flat_map (λ p. cond p.popup.is_dismissed (p.object.id ∷ []) []) ps))))
+    ap (λ ps. map (λ id. said id (says XdgPopup 1 [])) (filter (λ id. not (is_among id (dismissed_in r.owned.shell)))
+        (newest_first (flat_map (λ p. cond p.popup.is_dismissed (p.object.id ∷ []) []) ps))))
     (no-popups made.owned.shell top)
 
 pub nothing-between : (xs ys : List Said) → xs ++ [] ++ ys ≡ xs ++ ys
@@ -199,7 +206,8 @@ released-told (AskingFrame id version surface) r only = refl
 released-told (CommitSurface id effect) r only = refl
 released-told (DestroyToplevel id xdg surface) r only = ended-told id xdg surface r
 
-pub replies-same : (c : ℕ) (ask : Simple) (demand : Demand) (r : Resident) (d : Desktop) → OwnsToplevelsOnly r → Same r ask demand → replies served_now c demand r (changed_simply ask r) (all_windows d) d ≡ told_simply ask r
+pub replies-same : (c : ℕ) (ask : Simple) (demand : Demand) (r : Resident) (d : Desktop) → OwnsToplevelsOnly r → Same r ask demand
+    → replies served_now c demand r (changed_simply ask r) (all_windows d) d ≡ told_simply ask r
 replies-same c ask demand r d only same =
     let made : Resident = changed_simply ask r in
     ap (λ more. own_answers c demand r (all_windows d) d ++ releases r made ++ more) (none-done r made (tops-kept ask r only.roles))
@@ -207,7 +215,8 @@ replies-same c ask demand r d only same =
     ∙ ap (λ told. told ++ releases r made) (answers-same c ask demand r (all_windows d) d only same)
     ∙ released-told ask r only
 
-does-whole : (c : ℕ) (ask : Simple) (demand : Demand) (r there : Resident) (d new : Desktop) → client_at c d ≡ Some there → d.pointer ≡ first_pointer → r.peer.status ≡ None → OwnsToplevelsOnly r → Same r ask demand
+does-whole : (c : ℕ) (ask : Simple) (demand : Demand) (r there : Resident) (d new : Desktop) → client_at c d ≡ Some there → d.pointer ≡ first_pointer → r.peer.status ≡ None → OwnsToplevelsOnly r
+    → Same r ask demand
     → Becomes (Queues (told_simply ask r) (changed_simply ask r).peer) c (changed_simply ask r) (stacked_simply c ask r d) new → Does served_now c demand r d new
 does-whole c ask demand r there d new is still alive only same h =
     let made : Resident = changed_simply ask r in
@@ -255,7 +264,8 @@ module _ (c : ℕ) (there : Resident) (d new : Desktop) (is : client_at c d ≡ 
   wants-whole true r Later Then next (inl h) = inl (becomes-whole (LacksMemory r.peer) c r d new still h)
   wants-whole true r Later Then next (inr h) = inr (next h)
 
-  pub answers-whole : (judged : Result Simple Refusal) (demanded : Result Demand Refusal) (r : Resident) → r.peer.status ≡ None → OwnsToplevelsOnly r → Pairs r judged demanded → Answers judged c r d new → StepAnswers served_now demanded c r d new
+  pub answers-whole : (judged : Result Simple Refusal) (demanded : Result Demand Refusal) (r : Resident) → r.peer.status ≡ None → OwnsToplevelsOnly r → Pairs r judged demanded
+      → Answers judged c r d new → StepAnswers served_now demanded c r d new
   answers-whole (Ok ask) (Ok demand) r alive only same h =
       let now : Resident = with_peer (counted r.peer) r in
       let same_now : Same now ask demand = same-peer r (counted r.peer) ask demand same in

@@ -31,7 +31,8 @@ none-taken : (c : ℕ) (ss : List Standing) → filter (λ s. s.client == c) ss 
 none-taken c [] none = refl
 none-taken c (s ∷ ss) none = at (s.client == c) none (none-taken c ss)
   where
-    at : (b : Bool) → cond b (s ∷ filter (λ s. s.client == c) ss) (filter (λ s. s.client == c) ss) ≡ [] → (filter (λ s. s.client == c) ss ≡ [] → without_client c ss ≡ ss) → cond (not b) (s ∷ without_client c ss) (without_client c ss) ≡ s ∷ ss
+    at : (b : Bool) → cond b (s ∷ filter (λ s. s.client == c) ss) (filter (λ s. s.client == c) ss) ≡ [] → (filter (λ s. s.client == c) ss ≡ [] → without_client c ss ≡ ss)
+        → cond (not b) (s ∷ without_client c ss) (without_client c ss) ≡ s ∷ ss
     at true none later = absurd (cc)
     at false none later = ap (λ ts. s ∷ ts) (later none)
 
@@ -55,7 +56,8 @@ module _ (c : ℕ) (r : Resident) (d : Desktop) (owns : OwnsToplevelsBy r.peer.s
       (none-taken c d.standing (ended-owns r.peer.status why.0 r (toplevels_of c d) why.1 owns).1)
   left-held (Some x) keeps gone = ap (λ s. become_by s c r x d) (keeps x refl) ∙ stays-by r.peer.status x refl
 
-held-changed : (R : Peer → Done → Option Peer → Type 0) (absent done : Done) (c : ℕ) (r : Resident) (d new : Desktop) (q : Option Peer) → R r.peer done q → new ≡ held q c r d → StepChangesAt R absent c (Some r) d done new
+held-changed : (R : Peer → Done → Option Peer → Type 0) (absent done : Done) (c : ℕ) (r : Resident) (d new : Desktop) (q : Option Peer) → R r.peer done q → new ≡ held q c r d
+    → StepChangesAt R absent c (Some r) d done new
 held-changed R absent done c r d new None h e = (None, h, e)
 held-changed R absent done c r d new (Some q) h e = (Some q, h, e)
 
@@ -65,7 +67,8 @@ Leaves R =
     (p : Peer) (done : Done) (q : Option Peer) → R p done q
     → ((x : Peer) → q ≡ Some x → x.status ≡ p.status) × (q ≡ None → (cause : Cause) × (p.status ≡ Some cause))
 
-pub changes-whole : (R : Peer → Done → Option Peer → Type 0) → Leaves R → (absent done : Done) (c : ℕ) (o : Option Resident) (d new : Desktop) → OwnsToplevelsAt o (toplevels_of c d) → ChangesAt R absent c o d done new → StepChangesAt R absent c o d done new
+pub changes-whole : (R : Peer → Done → Option Peer → Type 0) → Leaves R → (absent done : Done) (c : ℕ) (o : Option Resident) (d new : Desktop) → OwnsToplevelsAt o (toplevels_of c d)
+    → ChangesAt R absent c o d done new → StepChangesAt R absent c o d done new
 unfolding Leaves
 changes-whole R leaves absent done c None d new owns h = h
 changes-whole R leaves absent done c (Some r) d new owns h =
@@ -94,7 +97,8 @@ sent-leaves n p done q h = (
 pub so : Option Cause → Resident → Resident
 so s r = record r { peer = record r.peer { status = s } }
 
-left-so : (s : Option Cause) (c : ℕ) (r : Resident) (d new : Desktop) (done : Done) (q : Option Peer) → d.pointer ≡ first_pointer → OwnsToplevelsBy s (so s r) (toplevels_of c d) → client_at c d ≡ Some (so s r)
+left-so : (s : Option Cause) (c : ℕ) (r : Resident) (d new : Desktop) (done : Done) (q : Option Peer) → d.pointer ≡ first_pointer → OwnsToplevelsBy s (so s r) (toplevels_of c d)
+    → client_at c d ≡ Some (so s r)
     → q ≡ Some (left_by s (so s r).peer) → done ≡ gave.Gone (is_none s) → new ≡ left_so c (so s r) q d → LeavesAt c (Some (so s r)) d done new
 unfolding so
 left-so (Some cause) c r d new done q still owns is e answer last = (
@@ -106,7 +110,8 @@ left-so None c r d new done q still owns is e answer last =
     let gone : Peer = ended Gone (so None r).peer in
     (answer, settles-to (becomes c (so None r) gone d) (become c (so None r) gone d) new (becomes-same c (so None r) gone d still) (last ∙ ap (λ p. left_so c (so None r) p d) e) still)
 
-leaves-whole : (c : ℕ) (o : Option Resident) (d new : Desktop) (done : Done) → d.pointer ≡ first_pointer → client_at c d ≡ o → OwnsToplevelsAt o (toplevels_of c d) → ChangesAt IsLeft (gave.Gone false) c o d done new → LeavesAt c o d done new
+leaves-whole : (c : ℕ) (o : Option Resident) (d new : Desktop) (done : Done) → d.pointer ≡ first_pointer → client_at c d ≡ o → OwnsToplevelsAt o (toplevels_of c d)
+    → ChangesAt IsLeft (gave.Gone false) c o d done new → LeavesAt c o d done new
 unfolding so
 leaves-whole c None d new done still is owns h = h
 leaves-whole c (Some r) d new done still is owns h = left-so r.peer.status c r d new done h.0 still owns is h.1.0 h.1.1 h.2

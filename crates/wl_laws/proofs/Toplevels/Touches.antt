@@ -23,7 +23,8 @@ use Rattle.wl_laws.proofs.Soundness.Allowed.{allowed}
 use Rattle.wl_laws.proofs.Soundness.ObjectsKeys.{of-one}
 
 -- an object of another interface
-other-object : (interface : Interface) → (interface_number interface == interface_number WlSurface) ≡ false → (interface_number interface == interface_number WlCallback) ≡ false → (objects : Objects) (id : ℕ)
+other-object : (interface : Interface) → (interface_number interface == interface_number WlSurface) ≡ false → (interface_number interface == interface_number WlCallback) ≡ false
+    → (objects : Objects) (id : ℕ)
     → is_of interface (objects id) ≡ true → IsApart objects (Some id)
 other-object interface no_surface no_callback objects id e = (of-one interface WlSurface (objects id) no_surface e, of-one interface WlCallback (objects id) no_callback e)
 
@@ -62,7 +63,8 @@ touches_apart r object opcode body ask only e =
     same-ask : (other : Simple) → (let j : Result Simple Refusal = Ok other in j) ≡ Ok ask → other ≡ ask
     same-ask other e = cc
 
-    at : (judged : Result Simple Refusal) (demanded : Result Demand Refusal) → judged ≡ Ok ask → judge_all served_now r object opcode body ≡ demanded → Pairs r judged demanded → IsApartFrom r.peer.objects ask
+    at : (judged : Result Simple Refusal) (demanded : Result Demand Refusal) → judged ≡ Ok ask → judge_all served_now r object opcode body ≡ demanded → Pairs r judged demanded
+        → IsApartFrom r.peer.objects ask
     at (Err refusal) demanded e is pair = absurd (cc)
     at (Ok other) (Err refusal) e is pair = absurd pair
     at (Ok other) (Ok demand) e is pair =

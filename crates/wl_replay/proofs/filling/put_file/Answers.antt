@@ -15,7 +15,8 @@ returns-in-Err-clause-told g c =
     let room : Err c.in-Err.stored ≡ room_in old.now.desktop c.args.place = sym c.in-Err.is ∙ c.room_for.ensures.room old.now.desktop stands.desk in (
       old,
       words (stored_text c.args.place c.in-Err.stored),
-      subst (λ (r : Result ℕ Stored). TellsFileAs (files_of g.S.SideFiles.opens g.S.SideFiles.gives g.S.SideFiles.fault_count) c.args.place c.args.name.now r side side old (words (stored_text c.args.place c.in-Err.stored)) old)
+      subst (λ (r : Result ℕ Stored). TellsFileAs (files_of g.S.SideFiles.opens g.S.SideFiles.gives g.S.SideFiles.fault_count) c.args.place c.args.name.now r side side old
+          (words (stored_text c.args.place c.in-Err.stored)) old)
           room (refl, refl, refl),
       stands,
       wrote,

@@ -13,7 +13,8 @@ returns g c = λ d a.
     let waits = rw c.in-Some.is at c.out.ensures d.now.desktop a.desk in (
       after (Send c.args.client (length bytes)) (gave.Sent c.sent.result) _ _ d course,
       to_line c.args.client bytes,
-      sends-so c.args.client d _ bytes (unsent_of (peer_at c.args.client d.now.desktop)) _ waits c.if-count-eq0.false (steps-on (Send c.args.client (length bytes)) (gave.Sent c.sent.result) _ _ d a course),
+      sends-so c.args.client d _ bytes (unsent_of (peer_at c.args.client d.now.desktop)) _ waits c.if-count-eq0.false
+          (steps-on (Send c.args.client (length bytes)) (gave.Sent c.sent.result) _ _ d a course),
       stands-on (Send c.args.client (length bytes)) (gave.Sent c.sent.result) _ _ d a course,
       c.in_ok-write_to.ensures,
     )

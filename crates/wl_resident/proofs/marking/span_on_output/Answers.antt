@@ -12,4 +12,5 @@ returns c = λ z less.
     ∙ span-cut c.args.corner c.args.start c.args.length (pos z) c.args.side c.start_within.result c.end_within.result _ _ (omega (arith, ints)) (omega (arith, ints))
     (subst (λ (s : ℤ). (w : ℤ) → int_le (pos c.start_within.result) w ≡ (int_le (pos 0) w && int_le s w)) start c.start_within.ensures)
     (subst (λ (s : ℤ). (w : ℤ) → int_le (pos 0) w ≡ true → int_lt w (pos c.end_within.result) ≡ (int_lt w (pos c.args.side) && int_lt w (s +ℤ c.args.length))) start
-    (subst (λ (l : ℤ). (w : ℤ) → int_le (pos 0) w ≡ true → int_lt w (pos c.end_within.result) ≡ (int_lt w (pos c.args.side) && int_lt w (to_z w32 (of_z w32 c.args.start) +ℤ l))) length c.end_within.ensures))
+    (subst (λ (l : ℤ). (w : ℤ) → int_le (pos 0) w ≡ true → int_lt w (pos c.end_within.result) ≡ (int_lt w (pos c.args.side) && int_lt w (to_z w32 (of_z w32 c.args.start) +ℤ l))) length
+        c.end_within.ensures))

@@ -44,7 +44,8 @@ returns-clause-told g c =
     on_ok_weaker c.write_image.result
     (λ shown. Tells-one (Shows c.args.time) (Tick c.args.time) gave.Tick _ _ _ _ _ _ (λ hs is. is) next.2 refl
     (λ d e agrees. (
-      subst (Appends (g.W.Write.contents c.args.report.now) (g.W.Write.contents c.write_frame.new.writer)) (sym (painted-some _ _ (subst (λ (n : ℕ). 0 < n) counts some))) (subst (λ (n : ℕ). Appends (g.W.Write.contents c.args.report.now) (g.W.Write.contents c.write_frame.new.writer) (frame_line c.args.time n)) counts wrote),
+      subst (Appends (g.W.Write.contents c.args.report.now) (g.W.Write.contents c.write_frame.new.writer)) (sym (painted-some _ _ (subst (λ (n : ℕ). 0 < n) counts some)))
+          (subst (λ (n : ℕ). Appends (g.W.Write.contents c.args.report.now) (g.W.Write.contents c.write_frame.new.writer) (frame_line c.args.time n)) counts wrote),
       subst (Appends (images_in g.P.Write.contents c.args.ppm.now) (images_in g.P.Write.contents c.write_image.new.ppm)) (sym (painted-some _ _ (subst (λ (n : ℕ). 0 < n) counts some)))
           (subst (λ (i : Image). Appends (images_in g.P.Write.contents c.args.ppm.now) (images_in g.P.Write.contents c.write_image.new.ppm) (image_of i.width i.height i.pixels)) (sym next.1) shown),
     )))

@@ -9,7 +9,8 @@ loop-x-init g c = record { bound = omega arith; runs = λ are. row-none _ _ _ _ 
 pub loop-x-preserved : goal.loop-x-preserved
 loop-x-preserved g c = record {
   bound = c.in-Some.ensures.within;
-  runs = λ are. rw c.in_ok-push.ensures.items (row-more c.loop-x.runs.items (has c.args.damage.now) c.args.damage.now.width c.args.y c.loop-x.from c.in-Some.x c.in-Some.w c.in-Some.ensures (c.loop-x.invariant.runs are));
+  runs = λ are. rw c.in_ok-push.ensures.items (row-more c.loop-x.runs.items (has c.args.damage.now) c.args.damage.now.width c.args.y c.loop-x.from c.in-Some.x c.in-Some.w c.in-Some.ensures
+      (c.loop-x.invariant.runs are));
 }
 
 pub returns : goal.returns

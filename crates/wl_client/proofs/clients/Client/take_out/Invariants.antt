@@ -10,6 +10,7 @@ use Rattle.wl_client.proofs.clients.Client.take_out.Given as goal
 abbrev pub invariant-loop-id : goal.invariant-loop-id
 invariant-loop-id g l = record {
   left : (p : Peer) → IsPeer l.fn.self p → (mid : Peer) × IsPeer l.self mid × (all_removed (drop l.id-index l.ids) mid ≡ all_removed l.ids p);
-  table : (other : ℕ) → (if list_any (λ id. other == id) (drop l.id-index l.ids) then None else entry_of l.self.objects other) ≡ (if list_any (λ id. other == id) l.ids then None else entry_of l.fn.self.objects other);
+  table : (other : ℕ) → (if list_any (λ id. other == id) (drop l.id-index l.ids) then None else entry_of l.self.objects other) ≡ (if list_any (λ id. other == id) l.ids then None else entry_of
+      l.fn.self.objects other);
   rest : l.self.rest ≡ l.fn.self.rest;
 }

@@ -17,23 +17,29 @@ returns-in_default-new-clause-step g c = steps-whole Connect _ _ _ (λ d a. Conn
 pub returns-clause-step : goal.returns-clause-step
 returns-clause-step g c = steps-whole Connect _ _ _ (λ d a.
     let place = found c.self.inside.clients.items _ c.self.inside.owned.items (c.in-Some.k + 1) c.in-Some.k c.deref.ensures.value (refl, c.in-Some.ensures.within) c.self.invariant.0 in
-    rw (c.put_back.ensures.client, c.put_back.ensures.owned) (Connects-new c.self.inside.output c.self.inside.clients.items _ c.self.inside.owned.items c.self.inside.scene c.in-Some.k c.in-Ok.client c.bare.result d c.deref.ensures.value c.in-Some.ensures.lowest place.client place.owned
+    rw (c.put_back.ensures.client, c.put_back.ensures.owned) (Connects-new c.self.inside.output c.self.inside.clients.items _ c.self.inside.owned.items c.self.inside.scene c.in-Some.k c.in-Ok.client
+        c.bare.result d c.deref.ensures.value c.in-Some.ensures.lowest place.client place.owned
     c.in-Ok.ensures c.bare.ensures (rw (← c.self.view_is) at a)))
 
 pub returns-in_default-clause-marks : goal.returns-in_default-clause-marks
-returns-in_default-clause-marks g c = steps-marked Connect tt _ c.args.self.now.desk c.args.self.now.damage c.args.self.now.damage (λ d e a steps. connects-marks _ d e _ c.args.self.now.damage a steps)
+returns-in_default-clause-marks g c = steps-marked Connect tt _ c.args.self.now.desk c.args.self.now.damage c.args.self.now.damage
+    (λ d e a steps. connects-marks _ d e _ c.args.self.now.damage a steps)
 
 pub returns-in_default-new-clause-marks : goal.returns-in_default-new-clause-marks
-returns-in_default-new-clause-marks g c = steps-marked Connect tt _ c.args.self.now.desk c.args.self.now.damage c.args.self.now.damage (λ d e a steps. connects-marks _ d e _ c.args.self.now.damage a steps)
+returns-in_default-new-clause-marks g c = steps-marked Connect tt _ c.args.self.now.desk c.args.self.now.damage c.args.self.now.damage
+    (λ d e a steps. connects-marks _ d e _ c.args.self.now.damage a steps)
 
 pub returns-clause-marks : goal.returns-clause-marks
-returns-clause-marks g c = steps-marked Connect tt _ c.args.self.now.desk c.args.self.now.damage c.self.inside.damage (λ d e a steps. rw (← c.self.view_is) (connects-marks _ d e _ c.self.inside.damage (rw (← c.self.view_is) at a) steps))
+returns-clause-marks g c = steps-marked Connect tt _ c.args.self.now.desk c.args.self.now.damage c.self.inside.damage
+    (λ d e a steps. rw (← c.self.view_is) (connects-marks _ d e _ c.self.inside.damage (rw (← c.self.view_is) at a) steps))
 
 pub index_mut-requires : goal.index_mut-requires
-index_mut-requires g c = rw c.self.inside.clients.ok.0 (found c.self.inside.clients.items _ c.self.inside.owned.items (c.in-Some.k + 1) c.in-Some.k c.deref.ensures.value (refl, c.in-Some.ensures.within) c.self.invariant.0).client
+index_mut-requires g c = rw c.self.inside.clients.ok.0 (found c.self.inside.clients.items _ c.self.inside.owned.items (c.in-Some.k + 1) c.in-Some.k c.deref.ensures.value
+    (refl, c.in-Some.ensures.within) c.self.invariant.0).client
 
 pub index_mut-requires-2 : goal.index_mut-requires-2
-index_mut-requires-2 g c = rw c.self.inside.owned.ok.0 (found c.self.inside.clients.items _ c.self.inside.owned.items (c.in-Some.k + 1) c.in-Some.k c.deref.ensures.value (refl, c.in-Some.ensures.within) c.self.invariant.0).owned
+index_mut-requires-2 g c = rw c.self.inside.owned.ok.0 (found c.self.inside.clients.items _ c.self.inside.owned.items (c.in-Some.k + 1) c.in-Some.k c.deref.ensures.value
+    (refl, c.in-Some.ensures.within) c.self.invariant.0).owned
 
 pub invariant_of-self : goal.invariant_of-self
 invariant_of-self g c = ((length-set _ _ _ ∙ c.self.invariant.0.0, length-set _ _ _ ∙ c.self.invariant.0.1), c.self.invariant.1)

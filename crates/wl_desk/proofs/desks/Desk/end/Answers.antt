@@ -13,19 +13,23 @@ use Rattle.wl_desk.proofs.Most.{ends-over, own-most, sized}
 use Rattle.wl_desk.proofs.desks.Desk.end.Goals as goal
 
 pub returns-in_default-clause-ends : goal.returns-in_default-clause-ends
-returns-in_default-clause-ends g c = ends-whole c.args.client c.args.cause _ _ (λ d a. Ended-none c.args.cause _ _ d c.args.client (c.deref.ensures.value ∙ ap (λ w. w.desk.clients) c.self.view_is) c.in_default.ensures.none a)
+returns-in_default-clause-ends g c = ends-whole c.args.client c.args.cause _ _ (λ d a. Ended-none c.args.cause _ _ d c.args.client (c.deref.ensures.value ∙ ap (λ w. w.desk.clients) c.self.view_is)
+    c.in_default.ensures.none a)
 
 pub returns-in_default-clause-marks : goal.returns-in_default-clause-marks
-returns-in_default-clause-marks g c = ends-marked c.args.client c.args.cause c.args.self.now.desk c.args.self.now.damage c.args.self.now.damage (λ d a. ends-none-marks c.args.cause _ _ d c.args.client c.args.self.now.damage (c.deref.ensures.value ∙ ap (λ w. w.desk.clients) c.self.view_is) c.in_default.ensures.none a)
+returns-in_default-clause-marks g c = ends-marked c.args.client c.args.cause c.args.self.now.desk c.args.self.now.damage c.args.self.now.damage
+    (λ d a. ends-none-marks c.args.cause _ _ d c.args.client c.args.self.now.damage (c.deref.ensures.value ∙ ap (λ w. w.desk.clients) c.self.view_is) c.in_default.ensures.none a)
 
 pub returns-in_default-take_out-clause-ends : goal.returns-in_default-take_out-clause-ends
 returns-in_default-take_out-clause-ends g c = ends-whole c.args.client c.args.cause _ _ (λ d a.
-    ends-untaken c.self.inside.output c.self.inside.clients.items c.self.inside.owned.items c.self.inside.scene c.args.client c.in-Some.k (found _ _ _ _ _ c.deref.ensures.value c.in-Some.ensures.some c.self.invariant.0) d (rw (← c.self.view_is) at a)
+    ends-untaken c.self.inside.output c.self.inside.clients.items c.self.inside.owned.items c.self.inside.scene c.args.client c.in-Some.k
+        (found _ _ _ _ _ c.deref.ensures.value c.in-Some.ensures.some c.self.invariant.0) d (rw (← c.self.view_is) at a)
     c.args.cause _ _ _ _ c.index_mut.ensures.value c.index_mut-2.ensures.value c.in_default-take_out.ensures.none c.take_out.ensures.left)
 
 pub returns-in_default-take_out-clause-marks : goal.returns-in_default-take_out-clause-marks
 returns-in_default-take_out-clause-marks g c = ends-marked c.args.client c.args.cause c.args.self.now.desk c.args.self.now.damage c.self.inside.damage (λ d a.
-    rw (← c.self.view_is) (ends-untaken-marks c.self.inside.output c.self.inside.clients.items c.self.inside.owned.items c.self.inside.scene c.args.client c.in-Some.k (found _ _ _ _ _ c.deref.ensures.value c.in-Some.ensures.some c.self.invariant.0) d (rw (← c.self.view_is) at a)
+    rw (← c.self.view_is) (ends-untaken-marks c.self.inside.output c.self.inside.clients.items c.self.inside.owned.items c.self.inside.scene c.args.client c.in-Some.k
+        (found _ _ _ _ _ c.deref.ensures.value c.in-Some.ensures.some c.self.invariant.0) d (rw (← c.self.view_is) at a)
     c.args.cause _ _ _ _ c.self.inside.damage c.index_mut.ensures.value c.index_mut-2.ensures.value c.in_default-take_out.ensures.none c.take_out.ensures.left))
 
 pub index_mut-requires-4 : goal.index_mut-requires-4
@@ -33,12 +37,15 @@ index_mut-requires-4 g c = rw c.self.inside.owned.ok.0 (found _ _ _ _ _ c.deref.
 
 pub returns-clause-ends : goal.returns-clause-ends
 returns-clause-ends g c = ends-whole c.args.client c.args.cause _ _ (λ d a.
-    rw (c.put_back.ensures.client, c.put_back.ensures.owned) (ends c.self.inside.output c.self.inside.clients.items c.self.inside.owned.items c.self.inside.scene c.args.client c.in-Some.k (found _ _ _ _ _ c.deref.ensures.value c.in-Some.ensures.some c.self.invariant.0) d (rw (← c.self.view_is) at a)
-    c.args.cause c.in-Some-take_out.resident c.end.new.self _ _ _ _ c.end.new.scene c.index_mut.ensures.value c.index_mut-2.ensures.value c.in-Some-take_out.ensures.some (c.end.ensures.ends (numbers_in c.self.inside.clients.items) d d)))
+    rw (c.put_back.ensures.client, c.put_back.ensures.owned) (ends c.self.inside.output c.self.inside.clients.items c.self.inside.owned.items c.self.inside.scene c.args.client c.in-Some.k
+        (found _ _ _ _ _ c.deref.ensures.value c.in-Some.ensures.some c.self.invariant.0) d (rw (← c.self.view_is) at a)
+    c.args.cause c.in-Some-take_out.resident c.end.new.self _ _ _ _ c.end.new.scene c.index_mut.ensures.value c.index_mut-2.ensures.value c.in-Some-take_out.ensures.some
+        (c.end.ensures.ends (numbers_in c.self.inside.clients.items) d d)))
 
 pub returns-clause-marks : goal.returns-clause-marks
 returns-clause-marks g c = ends-marked c.args.client c.args.cause c.args.self.now.desk c.args.self.now.damage c.end.new.damage (λ d a.
-    rw (← c.self.view_is) (ends-marks c.self.inside.output c.self.inside.clients.items c.self.inside.owned.items c.self.inside.scene c.args.client c.in-Some.k (found _ _ _ _ _ c.deref.ensures.value c.in-Some.ensures.some c.self.invariant.0) d (rw (← c.self.view_is) at a)
+    rw (← c.self.view_is) (ends-marks c.self.inside.output c.self.inside.clients.items c.self.inside.owned.items c.self.inside.scene c.args.client c.in-Some.k
+        (found _ _ _ _ _ c.deref.ensures.value c.in-Some.ensures.some c.self.invariant.0) d (rw (← c.self.view_is) at a)
     c.args.cause c.in-Some-take_out.resident _ _ c.self.inside.damage c.end.new.damage c.index_mut.ensures.value c.index_mut-2.ensures.value c.in-Some-take_out.ensures.some c.end.ensures.marks))
 
 pub returns-in_default-clause-within : goal.returns-in_default-clause-within
@@ -49,7 +56,8 @@ returns-in_default-take_out-clause-within g c = λ d a x y wide high marked. rw 
 
 pub returns-clause-within : goal.returns-clause-within
 returns-clause-within g c = λ d a.
-    rw (← c.self.view_is) (own-within c.self.inside.output c.self.inside.clients.items c.self.inside.owned.items c.self.inside.scene c.args.client c.in-Some.k (found _ _ _ _ _ c.deref.ensures.value c.in-Some.ensures.some c.self.invariant.0) d (rw (← c.self.view_is) at a.matches)
+    rw (← c.self.view_is) (own-within c.self.inside.output c.self.inside.clients.items c.self.inside.owned.items c.self.inside.scene c.args.client c.in-Some.k
+        (found _ _ _ _ _ c.deref.ensures.value c.in-Some.ensures.some c.self.invariant.0) d (rw (← c.self.view_is) at a.matches)
     c.in-Some-take_out.resident _ _ c.self.inside.damage c.end.new.damage c.index_mut.ensures.value c.index_mut-2.ensures.value c.in-Some-take_out.ensures.some c.end.ensures.marks)
 
 pub returns-in_default-clause-most : goal.returns-in_default-clause-most
@@ -60,7 +68,8 @@ returns-in_default-take_out-clause-most g c = λ d e a step b x y wide high mark
 
 pub returns-clause-most : goal.returns-clause-most
 returns-clause-most g c = λ d e a step b.
-    own-most c.args.client c.args.self.now _ d e c.end.new.damage a b (sized _ _ d c.self.view_is c.self.invariant.1 a) (ends-over c.args.client c.args.cause d e a.no_more step) (returns-clause-within g c d a)
+    own-most c.args.client c.args.self.now _ d e c.end.new.damage a b (sized _ _ d c.self.view_is c.self.invariant.1 a) (ends-over c.args.client c.args.cause d e a.no_more step)
+        (returns-clause-within g c d a)
 
 pub invariant_of-self-2 : goal.invariant_of-self-2
 invariant_of-self-2 g c = (

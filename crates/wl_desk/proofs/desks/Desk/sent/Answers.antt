@@ -10,11 +10,13 @@ use Rattle.wl_resident.specs.View.{MarkedDesk}
 use Rattle.wl_desk.proofs.desks.Desk.sent.Goals as goal
 
 pub returns-in_default-clause-step : goal.returns-in_default-clause-step
-returns-in_default-clause-step g c = steps-whole (Send c.args.client c.args.count) _ _ _ (λ d a. Changes-none (IsSent c.args.count) (gave.Sent false) _ _ d _ (c.deref.ensures.value ∙ ap (λ w. w.desk.clients) c.self.view_is) c.in_default.ensures.none a)
+returns-in_default-clause-step g c = steps-whole (Send c.args.client c.args.count) _ _ _ (λ d a. Changes-none (IsSent c.args.count) (gave.Sent false) _ _ d _ (c.deref.ensures.value
+    ∙ ap (λ w. w.desk.clients) c.self.view_is) c.in_default.ensures.none a)
 
 pub returns-in_default-take_out-clause-step : goal.returns-in_default-take_out-clause-step
 returns-in_default-take_out-clause-step g c = steps-whole (Send c.args.client c.args.count) _ _ _ (λ d a.
-    changes-untaken c.self.inside.output c.self.inside.clients.items c.self.inside.owned.items c.self.inside.scene c.args.client c.in-Some.k (found _ _ _ _ _ c.deref.ensures.value c.in-Some.ensures.some c.self.invariant.0) d (rw (← c.self.view_is) at a)
+    changes-untaken c.self.inside.output c.self.inside.clients.items c.self.inside.owned.items c.self.inside.scene c.args.client c.in-Some.k
+        (found _ _ _ _ _ c.deref.ensures.value c.in-Some.ensures.some c.self.invariant.0) d (rw (← c.self.view_is) at a)
     (IsSent c.args.count) (gave.Sent false) _ _ _ _ c.index_mut.ensures.value c.index_mut-2.ensures.value c.in_default-take_out.ensures.none c.take_out.ensures.left)
 
 pub index_mut-requires-4 : goal.index_mut-requires-4
@@ -22,21 +24,29 @@ index_mut-requires-4 g c = rw c.self.inside.owned.ok.0 (found _ _ _ _ _ c.deref.
 
 pub returns-clause-step : goal.returns-clause-step
 returns-clause-step g c = steps-whole (Send c.args.client c.args.count) _ _ _ (λ d a.
-    rw (c.put_back.ensures.client, c.put_back.ensures.owned) (changes c.self.inside.output c.self.inside.clients.items c.self.inside.owned.items c.self.inside.scene c.args.client c.in-Some.k (found _ _ _ _ _ c.deref.ensures.value c.in-Some.ensures.some c.self.invariant.0) d (rw (← c.self.view_is) at a)
-    (IsSent c.args.count) (gave.Sent false) (gave.Sent c.sent-sent.result) c.in-Some-take_out.resident c.sent-sent.new.self _ _ _ _ c.self.inside.scene c.index_mut.ensures.value c.index_mut-2.ensures.value c.in-Some-take_out.ensures.some (c.sent-sent.ensures.changes c.args.client c.self.inside.scene)))
+    rw (c.put_back.ensures.client, c.put_back.ensures.owned) (changes c.self.inside.output c.self.inside.clients.items c.self.inside.owned.items c.self.inside.scene c.args.client c.in-Some.k
+        (found _ _ _ _ _ c.deref.ensures.value c.in-Some.ensures.some c.self.invariant.0) d (rw (← c.self.view_is) at a)
+    (IsSent c.args.count) (gave.Sent false) (gave.Sent c.sent-sent.result) c.in-Some-take_out.resident c.sent-sent.new.self _ _ _ _ c.self.inside.scene c.index_mut.ensures.value
+        c.index_mut-2.ensures.value c.in-Some-take_out.ensures.some (c.sent-sent.ensures.changes c.args.client c.self.inside.scene)))
 
 pub returns-in_default-clause-marks : goal.returns-in_default-clause-marks
-returns-in_default-clause-marks g c = steps-marked (Send c.args.client c.args.count) tt _ c.args.self.now.desk c.args.self.now.damage c.args.self.now.damage (λ d e a steps. past-marks (IsSent c.args.count) (gave.Sent false) (gave.Sent false) _ _ d e _ c.args.self.now.damage (c.deref.ensures.value ∙ ap (λ w. w.desk.clients) c.self.view_is) c.in_default.ensures.none a steps)
+returns-in_default-clause-marks g c = steps-marked (Send c.args.client c.args.count) tt _ c.args.self.now.desk c.args.self.now.damage c.args.self.now.damage
+    (λ d e a steps. past-marks (IsSent c.args.count) (gave.Sent false) (gave.Sent false) _ _ d e _ c.args.self.now.damage (c.deref.ensures.value ∙ ap (λ w. w.desk.clients) c.self.view_is)
+    c.in_default.ensures.none a steps)
 
 pub returns-in_default-take_out-clause-marks : goal.returns-in_default-take_out-clause-marks
 returns-in_default-take_out-clause-marks g c = steps-marked (Send c.args.client c.args.count) tt _ c.args.self.now.desk c.args.self.now.damage c.self.inside.damage (λ d e a steps.
-    rw (← c.self.view_is) (untaken-marks c.self.inside.output c.self.inside.clients.items c.self.inside.owned.items c.self.inside.scene c.args.client c.in-Some.k (found _ _ _ _ _ c.deref.ensures.value c.in-Some.ensures.some c.self.invariant.0) d (rw (← c.self.view_is) at a)
-    (IsSent c.args.count) (gave.Sent false) (gave.Sent false) _ _ _ _ e c.self.inside.damage c.index_mut.ensures.value c.index_mut-2.ensures.value c.in_default-take_out.ensures.none c.take_out.ensures.left steps))
+    rw (← c.self.view_is) (untaken-marks c.self.inside.output c.self.inside.clients.items c.self.inside.owned.items c.self.inside.scene c.args.client c.in-Some.k
+        (found _ _ _ _ _ c.deref.ensures.value c.in-Some.ensures.some c.self.invariant.0) d (rw (← c.self.view_is) at a)
+    (IsSent c.args.count) (gave.Sent false) (gave.Sent false) _ _ _ _ e c.self.inside.damage c.index_mut.ensures.value c.index_mut-2.ensures.value c.in_default-take_out.ensures.none
+        c.take_out.ensures.left steps))
 
 pub returns-clause-marks : goal.returns-clause-marks
 returns-clause-marks g c = steps-marked (Send c.args.client c.args.count) tt _ c.args.self.now.desk c.args.self.now.damage c.self.inside.damage (λ d e a steps.
-    rw (← c.self.view_is) (changes-marks c.self.inside.output c.self.inside.clients.items c.self.inside.owned.items c.self.inside.scene c.args.client c.in-Some.k (found _ _ _ _ _ c.deref.ensures.value c.in-Some.ensures.some c.self.invariant.0) d (rw (← c.self.view_is) at a)
-    (IsSent c.args.count) (gave.Sent false) (gave.Sent c.sent-sent.result) c.in-Some-take_out.resident c.sent-sent.new.self _ _ e c.self.inside.damage c.index_mut.ensures.value c.index_mut-2.ensures.value c.in-Some-take_out.ensures.some (c.sent-sent.ensures.changes c.args.client c.self.inside.scene) (λ p q r h k. h.0 ∙ sym k.0)
+    rw (← c.self.view_is) (changes-marks c.self.inside.output c.self.inside.clients.items c.self.inside.owned.items c.self.inside.scene c.args.client c.in-Some.k
+        (found _ _ _ _ _ c.deref.ensures.value c.in-Some.ensures.some c.self.invariant.0) d (rw (← c.self.view_is) at a)
+    (IsSent c.args.count) (gave.Sent false) (gave.Sent c.sent-sent.result) c.in-Some-take_out.resident c.sent-sent.new.self _ _ e c.self.inside.damage c.index_mut.ensures.value
+        c.index_mut-2.ensures.value c.in-Some-take_out.ensures.some (c.sent-sent.ensures.changes c.args.client c.self.inside.scene) (λ p q r h k. h.0 ∙ sym k.0)
     (sent-status c.args.count (gave.Sent c.sent-sent.result)) steps))
 
 pub invariant_of-self-2 : goal.invariant_of-self-2

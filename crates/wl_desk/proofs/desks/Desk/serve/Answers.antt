@@ -9,11 +9,13 @@ use Rattle.wl_resident.specs.View.{MarkedDesk}
 use Rattle.wl_desk.proofs.desks.Desk.serve.Goals as goal
 
 pub returns-in_default-clause-more : goal.returns-in_default-clause-more
-returns-in_default-clause-more g c = λ more. idles-whole c.args.client _ _ (λ d a. Idle-none _ _ d c.args.client (c.deref.ensures.value ∙ ap (λ w. w.desk.clients) c.self.view_is) c.in_default.ensures.none a)
+returns-in_default-clause-more g c =
+    λ more. idles-whole c.args.client _ _ (λ d a. Idle-none _ _ d c.args.client (c.deref.ensures.value ∙ ap (λ w. w.desk.clients) c.self.view_is) c.in_default.ensures.none a)
 
 pub returns-in_default-take_out-clause-more : goal.returns-in_default-take_out-clause-more
 returns-in_default-take_out-clause-more g c = λ more. idles-whole c.args.client _ _ (λ d a.
-    idles-untaken c.self.inside.output c.self.inside.clients.items c.self.inside.owned.items c.self.inside.scene c.args.client c.in-Some.k (found _ _ _ _ _ c.deref.ensures.value c.in-Some.ensures.some c.self.invariant.0) d (rw (← c.self.view_is) at a)
+    idles-untaken c.self.inside.output c.self.inside.clients.items c.self.inside.owned.items c.self.inside.scene c.args.client c.in-Some.k
+        (found _ _ _ _ _ c.deref.ensures.value c.in-Some.ensures.some c.self.invariant.0) d (rw (← c.self.view_is) at a)
     _ _ _ _ c.index_mut.ensures.value c.index_mut-2.ensures.value c.in_default-take_out.ensures.none c.take_out.ensures.left)
 
 pub index_mut-requires-4 : goal.index_mut-requires-4
@@ -21,32 +23,41 @@ index_mut-requires-4 g c = rw c.self.inside.owned.ok.0 (found _ _ _ _ _ c.deref.
 
 pub returns-clause-serves : goal.returns-clause-serves
 returns-clause-serves g c = λ some. message-whole c.args.client _ _ (λ d a.
-    rw (c.put_back.ensures.client, c.put_back.ensures.owned) (serves c.self.inside.output c.self.inside.clients.items c.self.inside.owned.items c.self.inside.scene c.args.client c.in-Some.k (found _ _ _ _ _ c.deref.ensures.value c.in-Some.ensures.some c.self.invariant.0) d (rw (← c.self.view_is) at a.matches)
+    rw (c.put_back.ensures.client, c.put_back.ensures.owned) (serves c.self.inside.output c.self.inside.clients.items c.self.inside.owned.items c.self.inside.scene c.args.client c.in-Some.k
+        (found _ _ _ _ _ c.deref.ensures.value c.in-Some.ensures.some c.self.invariant.0) d (rw (← c.self.view_is) at a.matches)
     c.in-Some-take_out.resident c.serve_on-taken.new.self _ _ _ _ c.serve_on-taken.new.scene c.index_mut.ensures.value c.index_mut-2.ensures.value c.in-Some-take_out.ensures.some
     (λ r is. c.serve_on-taken.ensures.serves (served-took _ _ _ c.served_of-served.ensures some) (numbers_in c.self.inside.clients.items) d d r is a.no_more)))
 
 pub returns-clause-told : goal.returns-clause-told
 returns-clause-told g c = λ some d a.
     serves-told c.self.inside.output c.self.inside.clients.items c.self.inside.owned.items c.args.client c.in-Some.k (found _ _ _ _ _ c.deref.ensures.value c.in-Some.ensures.some c.self.invariant.0)
-    c.serve_on-taken.new.self _ _ c.serve_on-taken.new.scene d _ (served-answer _ _ _ (c.served_of-served.ensures ∙ ap (served_as c.serve_on-taken.result) c.ended.ensures) some) (rw (c.put_back.ensures.client, c.put_back.ensures.owned) at a.matches)
+    c.serve_on-taken.new.self _ _ c.serve_on-taken.new.scene d _ (served-answer _ _ _ (c.served_of-served.ensures ∙ ap (served_as c.serve_on-taken.result) c.ended.ensures) some)
+        (rw (c.put_back.ensures.client, c.put_back.ensures.owned) at a.matches)
 
 pub returns-clause-marks : goal.returns-clause-marks
 returns-clause-marks g c = λ some d e a step b.
-    rw (← c.self.view_is) (serves-marks c.self.inside.output c.self.inside.clients.items c.self.inside.owned.items c.self.inside.scene c.args.client c.in-Some.k (found _ _ _ _ _ c.deref.ensures.value c.in-Some.ensures.some c.self.invariant.0) d (rw (← c.self.view_is) at a.matches)
-    c.in-Some-take_out.resident c.serve_on-taken.new.self _ _ _ _ c.serve_on-taken.new.scene e c.self.inside.damage c.serve_on-taken.new.damage c.index_mut.ensures.value c.index_mut-2.ensures.value c.in-Some-take_out.ensures.some a.no_more
-    (c.serve_on-taken.ensures.marks (served-took _ _ _ c.served_of-served.ensures some) (numbers_in c.self.inside.clients.items) d d) step (rw (c.put_back.ensures.client, c.put_back.ensures.owned) at b.matches))
+    rw (← c.self.view_is) (serves-marks c.self.inside.output c.self.inside.clients.items c.self.inside.owned.items c.self.inside.scene c.args.client c.in-Some.k
+        (found _ _ _ _ _ c.deref.ensures.value c.in-Some.ensures.some c.self.invariant.0) d (rw (← c.self.view_is) at a.matches)
+    c.in-Some-take_out.resident c.serve_on-taken.new.self _ _ _ _ c.serve_on-taken.new.scene e c.self.inside.damage c.serve_on-taken.new.damage c.index_mut.ensures.value c.index_mut-2.ensures.value
+        c.in-Some-take_out.ensures.some a.no_more
+    (c.serve_on-taken.ensures.marks (served-took _ _ _ c.served_of-served.ensures some) (numbers_in c.self.inside.clients.items) d d) step
+        (rw (c.put_back.ensures.client, c.put_back.ensures.owned) at b.matches))
 
 pub returns-clause-within : goal.returns-clause-within
 returns-clause-within g c = λ some d e a step b.
-    rw (← c.self.view_is) (serves-within c.self.inside.output c.self.inside.clients.items c.self.inside.owned.items c.self.inside.scene c.args.client c.in-Some.k (found _ _ _ _ _ c.deref.ensures.value c.in-Some.ensures.some c.self.invariant.0) d (rw (← c.self.view_is) at a.matches)
-    c.in-Some-take_out.resident c.serve_on-taken.new.self _ _ _ _ c.serve_on-taken.new.scene e c.self.inside.damage c.serve_on-taken.new.damage c.index_mut.ensures.value c.index_mut-2.ensures.value c.in-Some-take_out.ensures.some a.no_more
+    rw (← c.self.view_is) (serves-within c.self.inside.output c.self.inside.clients.items c.self.inside.owned.items c.self.inside.scene c.args.client c.in-Some.k
+        (found _ _ _ _ _ c.deref.ensures.value c.in-Some.ensures.some c.self.invariant.0) d (rw (← c.self.view_is) at a.matches)
+    c.in-Some-take_out.resident c.serve_on-taken.new.self _ _ _ _ c.serve_on-taken.new.scene e c.self.inside.damage c.serve_on-taken.new.damage c.index_mut.ensures.value c.index_mut-2.ensures.value
+        c.in-Some-take_out.ensures.some a.no_more
     (λ r width height. c.serve_on-taken.ensures.within (served-took _ _ _ c.served_of-served.ensures some) (numbers_in c.self.inside.clients.items) d d r width height)
     c.self.invariant.1 step (rw (c.put_back.ensures.client, c.put_back.ensures.owned) at b.matches))
 
 pub returns-clause-through : goal.returns-clause-through
 returns-clause-through g c = λ some. through-whole c.args.client _ _ c.args.self.now.damage c.serve_on-taken.new.damage (λ d a.
-    rw (c.put_back.ensures.client, c.put_back.ensures.owned, ← c.self.view_is) (serves-through c.self.inside.output c.self.inside.clients.items c.self.inside.owned.items c.self.inside.scene c.args.client c.in-Some.k (found _ _ _ _ _ c.deref.ensures.value c.in-Some.ensures.some c.self.invariant.0) d (rw (← c.self.view_is) at a.matches)
-    c.in-Some-take_out.resident c.serve_on-taken.new.self _ _ _ _ c.serve_on-taken.new.scene c.self.inside.damage c.serve_on-taken.new.damage c.index_mut.ensures.value c.index_mut-2.ensures.value c.in-Some-take_out.ensures.some a.no_more
+    rw (c.put_back.ensures.client, c.put_back.ensures.owned, ← c.self.view_is) (serves-through c.self.inside.output c.self.inside.clients.items c.self.inside.owned.items c.self.inside.scene
+        c.args.client c.in-Some.k (found _ _ _ _ _ c.deref.ensures.value c.in-Some.ensures.some c.self.invariant.0) d (rw (← c.self.view_is) at a.matches)
+    c.in-Some-take_out.resident c.serve_on-taken.new.self _ _ _ _ c.serve_on-taken.new.scene c.self.inside.damage c.serve_on-taken.new.damage c.index_mut.ensures.value c.index_mut-2.ensures.value
+        c.in-Some-take_out.ensures.some a.no_more
     (λ r width height. c.serve_on-taken.ensures.through (served-took _ _ _ c.served_of-served.ensures some) (numbers_in c.self.inside.clients.items) d d r width height)
     c.self.invariant.1))
 
@@ -59,16 +70,20 @@ returns-in_default-take_out-clause-through g c = λ some. absurd (some refl)
 pub returns-clause-more : goal.returns-clause-more
 returns-clause-more g c = λ more. idles-whole c.args.client _ _ (λ d a.
     let idle = c.serve_on-taken.ensures.idle (served-idle _ _ _ c.served_of-served.ensures more) in
-    rw (c.put_back.ensures.client, c.put_back.ensures.owned) (idles c.self.inside.output c.self.inside.clients.items c.self.inside.owned.items c.self.inside.scene c.args.client c.in-Some.k (found _ _ _ _ _ c.deref.ensures.value c.in-Some.ensures.some c.self.invariant.0) d (rw (← c.self.view_is) at a)
-    c.in-Some-take_out.resident c.serve_on-taken.new.self _ _ _ _ c.serve_on-taken.new.scene c.index_mut.ensures.value c.index_mut-2.ensures.value c.in-Some-take_out.ensures.some idle.0 idle.1 idle.3))
+    rw (c.put_back.ensures.client, c.put_back.ensures.owned) (idles c.self.inside.output c.self.inside.clients.items c.self.inside.owned.items c.self.inside.scene c.args.client c.in-Some.k
+        (found _ _ _ _ _ c.deref.ensures.value c.in-Some.ensures.some c.self.invariant.0) d (rw (← c.self.view_is) at a)
+    c.in-Some-take_out.resident c.serve_on-taken.new.self _ _ _ _ c.serve_on-taken.new.scene c.index_mut.ensures.value c.index_mut-2.ensures.value c.in-Some-take_out.ensures.some idle.0 idle.1
+        idle.3))
 
 pub returns-clause-rests : goal.returns-clause-rests
 returns-clause-rests g c = λ more. (c.serve_on-taken.ensures.idle (served-idle _ _ _ c.served_of-served.ensures more)).2 ∙ ap (λ w. w.damage) c.self.view_is
 
 pub returns-clause-less : goal.returns-clause-less
 returns-clause-less g c = λ some.
-    rw (c.put_back.ensures.client, c.put_back.ensures.owned, ← c.self.view_is) (rest-less c.self.inside.output c.self.inside.clients.items c.self.inside.owned.items c.self.inside.scene c.serve_on-taken.new.scene c.args.client c.in-Some.k (found _ _ _ _ _ c.deref.ensures.value c.in-Some.ensures.some c.self.invariant.0)
-    c.in-Some-take_out.resident c.serve_on-taken.new.self _ _ _ c.index_mut.ensures.value c.in-Some-take_out.ensures.some.0 (c.serve_on-taken.ensures.less (served-took _ _ _ c.served_of-served.ensures some)))
+    rw (c.put_back.ensures.client, c.put_back.ensures.owned, ← c.self.view_is) (rest-less c.self.inside.output c.self.inside.clients.items c.self.inside.owned.items c.self.inside.scene
+        c.serve_on-taken.new.scene c.args.client c.in-Some.k (found _ _ _ _ _ c.deref.ensures.value c.in-Some.ensures.some c.self.invariant.0)
+    c.in-Some-take_out.resident c.serve_on-taken.new.self _ _ _ c.index_mut.ensures.value c.in-Some-take_out.ensures.some.0
+        (c.serve_on-taken.ensures.less (served-took _ _ _ c.served_of-served.ensures some)))
 
 pub invariant_of-self-2 : goal.invariant_of-self-2
 invariant_of-self-2 g c = (

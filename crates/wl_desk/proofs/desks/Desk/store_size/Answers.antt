@@ -4,10 +4,12 @@ use Rattle.wl_desk.proofs.Calls.{found, peer_at-none, slot-here}
 use Rattle.wl_desk.proofs.desks.Desk.store_size.Goals as goal
 
 pub returns-in_default : goal.returns-in_default
-returns-in_default g c = λ d a. sym (ap (λ o. store_size_of c.args.store o) (peer_at-none _ _ d c.args.client (c.deref.ensures.value ∙ ap (λ w. w.desk.clients) c.self.view_is) c.in_default.ensures.none a.matches))
+returns-in_default g c =
+    λ d a. sym (ap (λ o. store_size_of c.args.store o) (peer_at-none _ _ d c.args.client (c.deref.ensures.value ∙ ap (λ w. w.desk.clients) c.self.view_is) c.in_default.ensures.none a.matches))
 
 pub returns : goal.returns
 returns g c = λ d a.
     c.store_size_in.ensures (peer_at c.args.client d)
-    (slot-here c.self.inside.output c.self.inside.clients.items c.self.inside.owned.items c.self.inside.scene c.args.client c.in-Some.k (found _ _ _ _ _ c.deref.ensures.value c.in-Some.ensures.some c.self.invariant.0) d (rw (← c.self.view_is) at a.matches)
+    (slot-here c.self.inside.output c.self.inside.clients.items c.self.inside.owned.items c.self.inside.scene c.args.client c.in-Some.k
+        (found _ _ _ _ _ c.deref.ensures.value c.in-Some.ensures.some c.self.invariant.0) d (rw (← c.self.view_is) at a.matches)
     _ c.index-slot.ensures)

@@ -9,20 +9,24 @@ use Rattle.wl_desk.proofs.desks.Desk.tell_frames.Goals as goal
 
 pub returns-in_default-clause-tells : goal.returns-in_default-clause-tells
 returns-in_default-clause-tells g c = λ d a.
-    (d, nobody-told c.args.time c.args.client c.args.self.now c.args.self.now d (client-past _ _ d c.args.client (c.deref.ensures.value ∙ ap (λ w. w.desk.clients) c.self.view_is) c.in_default.ensures.none a.matches) a a refl (sized _ _ d c.self.view_is c.self.invariant.1 a))
+    (d, nobody-told c.args.time c.args.client c.args.self.now c.args.self.now d (client-past _ _ d c.args.client (c.deref.ensures.value ∙ ap (λ w. w.desk.clients) c.self.view_is)
+        c.in_default.ensures.none a.matches) a a refl (sized _ _ d c.self.view_is c.self.invariant.1 a))
 
 pub returns-in_default-take_out-clause-tells : goal.returns-in_default-take_out-clause-tells
 returns-in_default-take_out-clause-tells g c = λ d a. (
   d,
-  rw (← c.self.view_is) (untaken-told c.args.time c.self.inside.output c.self.inside.clients.items c.self.inside.owned.items c.self.inside.scene c.args.client c.in-Some.k (found _ _ _ _ _ c.deref.ensures.value c.in-Some.ensures.some c.self.invariant.0) d c.self.inside.damage c.self.invariant.1
+  rw (← c.self.view_is) (untaken-told c.args.time c.self.inside.output c.self.inside.clients.items c.self.inside.owned.items c.self.inside.scene c.args.client c.in-Some.k
+      (found _ _ _ _ _ c.deref.ensures.value c.in-Some.ensures.some c.self.invariant.0) d c.self.inside.damage c.self.invariant.1
       (rw (← c.self.view_is) at a) _ _ _ _ c.index_mut.ensures.value c.index_mut-2.ensures.value c.in_default-take_out.ensures.none c.take_out.ensures.left),
 )
 
 pub returns-clause-tells : goal.returns-clause-tells
 returns-clause-tells g c = λ d a.
     rw (c.put_back.ensures.client, c.put_back.ensures.owned, ← c.self.view_is)
-    (taken-told c.args.time c.self.inside.output c.self.inside.clients.items c.self.inside.owned.items c.self.inside.scene c.args.client c.in-Some.k (found _ _ _ _ _ c.deref.ensures.value c.in-Some.ensures.some c.self.invariant.0) d c.self.inside.damage c.self.invariant.1
-    (rw (← c.self.view_is) at a) c.in-Some-take_out.resident c.tell_frames.new.self _ _ _ _ c.tell_frames.new.scene c.tell_frames.new.damage c.index_mut.ensures.value c.index_mut-2.ensures.value c.in-Some-take_out.ensures.some
+    (taken-told c.args.time c.self.inside.output c.self.inside.clients.items c.self.inside.owned.items c.self.inside.scene c.args.client c.in-Some.k
+        (found _ _ _ _ _ c.deref.ensures.value c.in-Some.ensures.some c.self.invariant.0) d c.self.inside.damage c.self.invariant.1
+    (rw (← c.self.view_is) at a) c.in-Some-take_out.resident c.tell_frames.new.self _ _ _ _ c.tell_frames.new.scene c.tell_frames.new.damage c.index_mut.ensures.value c.index_mut-2.ensures.value
+        c.in-Some-take_out.ensures.some
     (c.tell_frames.ensures.tells (numbers_in c.self.inside.clients.items) d d) c.tell_frames.ensures.marks c.tell_frames.ensures.idle)
 
 pub index_mut-requires-4 : goal.index_mut-requires-4

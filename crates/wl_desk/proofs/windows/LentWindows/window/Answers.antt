@@ -6,4 +6,5 @@ use Rattle.wl_scene.specs.Lent.{slots_lent}
 pub returns : goal.returns
 returns g c =
     let self = c.args.self.now in
-    lent-at (window_lent (client_lent self.clients.now) (slots_lent self.owned.now) self.nowhere.now) c.toplevels.result.now self.scene.now.standing c.args.k _ _ c.toplevels.ensures c.requires c.lend.ensures
+    lent-at (window_lent (client_lent self.clients.now) (slots_lent self.owned.now) self.nowhere.now) c.toplevels.result.now self.scene.now.standing c.args.k _ _ c.toplevels.ensures c.requires
+        c.lend.ensures

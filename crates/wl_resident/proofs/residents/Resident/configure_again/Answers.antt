@@ -35,20 +35,25 @@ returns-in-Ok-true-clause-answers g c = λ named client r on is only.
     let peer = drawn c.count.new.self c.draw_serial.new.self (counted r.peer) (c.count.ensures.counts r.peer is.peer) c.draw_serial.ensures in
     let told = c.tell_configure.ensures.queues (record (counted r.peer) { serial = next_serial r.peer.serial }) peer in
     accepted new r (state_asked (Some x)) (ConfigureAgain x.id)
-    (told-again x (shell_refusal x.base x.id x.id) (configure_answer (kept number)) c.configure.result c.in-Ok-true.field-0 true (configured-by names kept r number k x h one x.id) c.configure.ensures.answer c.in-Ok-true.is c.in-Ok-true.field-0-test) (
+    (told-again x (shell_refusal x.base x.id x.id) (configure_answer (kept number)) c.configure.result c.in-Ok-true.field-0 true (configured-by names kept r number k x h one x.id)
+        c.configure.ensures.answer c.in-Ok-true.is c.in-Ok-true.field-0-test) (
       told.0,
-      inr (subst (λ (es : List Said). Queues es (record (counted r.peer) { serial = next_serial r.peer.serial }) told.0) (events-told object r.peer.serial _ _ x r.owned.shell one.at_id its id serial) told.1),
+      inr (subst (λ (es : List Said). Queues es (record (counted r.peer) { serial = next_serial r.peer.serial }) told.0) (events-told object r.peer.serial _ _ x r.owned.shell one.at_id its id serial)
+          told.1),
       record {
         peer = told.2;
-        numbers = λ alive. keeps-names v.client.objects new.client.objects (ap names_in (c.tell_configure.ensures.table alive ∙ ap (λ (w : ClientView). w.objects) c.draw_serial.ensures) ∙ names-counted v.client c.count.new.self c.count.ensures.only);
+        numbers = λ alive. keeps-names v.client.objects new.client.objects (ap names_in (c.tell_configure.ensures.table alive ∙ ap (λ (w : ClientView). w.objects) c.draw_serial.ensures)
+            ∙ names-counted v.client c.count.new.self c.count.ensures.only);
         frames = λ alive.
             let table = ap names_in (c.tell_configure.ensures.table alive ∙ ap (λ (w : ClientView). w.objects) c.draw_serial.ensures) ∙ names-counted v.client c.count.new.self c.count.ensures.only in
             let after = changed_by (ConfigureAgain x.id) (with_peer (counted r.peer) r) in
             subst (λ (o : Lent _). IsFramed o.surfaces.frames new.client.objects after) (sym c.tell_configure.ensures.owned)
             (framed-names v.owned.surfaces.frames v.client.objects new.client.objects r after refl (one-more r.peer.requests) is.frames table refl);
-        owns = λ alive. owns-told new _ names _ (ap names_in (c.tell_configure.ensures.table alive ∙ ap (λ (w : ClientView). w.objects) c.draw_serial.ensures) ∙ names-counted v.client c.count.new.self c.count.ensures.only) c.tell_configure.ensures.owned
+        owns = λ alive. owns-told new _ names _ (ap names_in (c.tell_configure.ensures.table alive ∙ ap (λ (w : ClientView). w.objects) c.draw_serial.ensures)
+            ∙ names-counted v.client c.count.new.self c.count.ensures.only) c.tell_configure.ensures.owned
             (owned-configured names v.owned.surfaces kept r is.owns number k x h one (kept_of c.configure.new.self)
-            (c.in-Ok-true.ensures.ok ∙ ap (λ b. changing number (kept_configured b c.serial-serial.result) kept) c.in-Ok-true.field-0-test ∙ ap (λ n. changing number (kept_configuring n) kept) serial));
+            (c.in-Ok-true.ensures.ok ∙ ap (λ b. changing number (kept_configured b c.serial-serial.result) kept) c.in-Ok-true.field-0-test
+                ∙ ap (λ n. changing number (kept_configuring n) kept) serial));
       },
     )))
 
@@ -64,13 +69,15 @@ returns-in-Ok-false-clause-answers g c = λ named client r on is only.
     toplevel-answered v _ object number (λ o. asks_simply (state_asked o)) r is named
     (λ k x h one its.
     accepted _ r (state_asked (Some x)) Ignore
-    (told-again x (shell_refusal x.base x.id x.id) (configure_answer (kept number)) c.configure.result c.in-Ok-false.field-0 false (configured-by names kept r number k x h one x.id) c.configure.ensures.answer c.in-Ok-false.is c.in-Ok-false.field-0-test) (
+    (told-again x (shell_refusal x.base x.id x.id) (configure_answer (kept number)) c.configure.result c.in-Ok-false.field-0 false (configured-by names kept r number k x h one x.id)
+        c.configure.ensures.answer c.in-Ok-false.is c.in-Ok-false.field-0-test) (
       counted r.peer,
       refl,
       record {
         peer = count.ensures.counts r.peer is.peer;
         numbers = λ alive. keeps-names v.client.objects count.new.self.objects (names-counted v.client count.new.self count.ensures.only);
-        frames = λ alive. framed-names v.owned.surfaces.frames v.client.objects count.new.self.objects r (with_peer (counted r.peer) r) refl (one-more r.peer.requests) is.frames (names-counted v.client count.new.self count.ensures.only) refl;
+        frames = λ alive. framed-names v.owned.surfaces.frames v.client.objects count.new.self.objects r (with_peer (counted r.peer) r) refl (one-more r.peer.requests) is.frames
+            (names-counted v.client count.new.self count.ensures.only) refl;
         owns = λ alive. subst (λ (n : Names). IsOwned n v.owned.surfaces (kept_of c.configure.new.self) r.owned) (sym (names-counted v.client count.new.self count.ensures.only))
             (subst (λ (ks : ℕ → Option KeptXdg). IsOwned names v.owned.surfaces ks r.owned)
             (sym (c.in-Ok-false.ensures.ok ∙ ap (λ b. changing number (kept_configured b c.serial-serial.result) kept) c.in-Ok-false.field-0-test ∙ changing-same number kept)) is.owns);
@@ -89,7 +96,8 @@ returns-in-Err-clause-answers g c = λ named client r on is only.
     (λ k x h one its.
     let id : c.xdg_surface_of-xdg_surface.result ≡ x.id = c.xdg_surface_of-xdg_surface.ensures ∙ ap kept_id one.here ∙ one.stands.id in
     xdg-refused v _ (kept_of c.configure.new.self) r c.xdg_surface_of-xdg_surface.result number k x h c.in-Err.error (state_asked (Some x)) one (sym id)
-    (refused-again x (shell_refusal x.base x.id c.xdg_surface_of-xdg_surface.result) (configure_answer (kept number)) c.configure.result c.in-Err.error (configured-by names kept r number k x h one c.xdg_surface_of-xdg_surface.result) c.configure.ensures.answer c.in-Err.is)
+    (refused-again x (shell_refusal x.base x.id c.xdg_surface_of-xdg_surface.result) (configure_answer (kept number)) c.configure.result c.in-Err.error
+        (configured-by names kept r number k x h one c.xdg_surface_of-xdg_surface.result) c.configure.ensures.answer c.in-Err.is)
     (ap kept_of c.in-Err.ensures.err)
     c.refuse_xdg_surface.ensures.ended
     (c.refuse_xdg_surface.ensures.errs r.peer is.peer)))

@@ -10,7 +10,8 @@ returns-clause-ends g c = λ others base d r is.
     let mid = c.if-not-has_ended.self in
     let p = is.seat.peer in
     let peer : IsPeer mid.client (ended_by r.peer.status c.args.cause r.peer) = elim c.if-not-has_ended.branch [
-      | then-not-has_ended w ↦ rw w.self-is (ends-lives c.args.self.now.client c.args.cause r.peer p.status (sym c.has_ended.ensures ∙ w.if-not-has_ended.true) w.end.new.self (w.end.ensures.ends r.peer p))
+      | then-not-has_ended w ↦ rw w.self-is (ends-lives c.args.self.now.client c.args.cause r.peer p.status (sym c.has_ended.ensures ∙ w.if-not-has_ended.true) w.end.new.self
+          (w.end.ensures.ends r.peer p))
       | else-not-has_ended w ↦ rw w.self-is (ends-ended c.args.self.now.client c.args.cause r.peer (sym c.has_ended.ensures ∙ w.if-not-has_ended.false) p)
     ] in
     let owned : mid.owned ≡ c.args.self.now.owned = elim c.if-not-has_ended.branch [

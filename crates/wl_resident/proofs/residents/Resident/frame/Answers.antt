@@ -42,8 +42,10 @@ returns-in-Ok-clause-answers g c = λ named free client r on is only.
       record {
         peer = made.2;
         numbers = λ alive. keeps-names v.client.objects c.add.new.self.objects (table alive);
-        frames = λ alive. framed-frame v.client.objects c.add.new.self.objects r (changed_simply ask then) v.owned.surfaces is.owns.surfaces is.frames object number named c.frame.new.self.frames n callback refl refl c.in-Ok.ensures.waits refl (table alive) refl;
-        owns = λ alive. rw (table alive) (owned-asked names v.owned.surfaces (kept_of v.owned.shell) then is.owns object number (Frame n) c.frame.new.self named refl (λ asked. refl) (c.in-Ok.ensures.ok n));
+        frames = λ alive. framed-frame v.client.objects c.add.new.self.objects r (changed_simply ask then) v.owned.surfaces is.owns.surfaces is.frames object number named c.frame.new.self.frames n
+            callback refl refl c.in-Ok.ensures.waits refl (table alive) refl;
+        owns = λ alive. rw (table alive) (owned-asked names v.owned.surfaces (kept_of v.owned.shell) then is.owns object number (Frame n) c.frame.new.self named refl (λ asked. refl)
+            (c.in-Ok.ensures.ok n));
       },
     ))
 

@@ -16,7 +16,8 @@ returns-clause-does g c = λ base r is.
       record {
         peer = gone.2;
         numbers = λ alive. keeps-names v.client.objects c.remove.new.self.objects (base-gone _ _ c.args.object base (c.remove.ensures.table alive));
-        frames = λ alive. framed-names v.owned.surfaces.frames v.client.objects c.remove.new.self.objects r (removing c.args.object r) refl (no-more r.peer.requests) is.frames (base-gone _ _ c.args.object base (c.remove.ensures.table alive)) refl;
+        frames = λ alive. framed-names v.owned.surfaces.frames v.client.objects c.remove.new.self.objects r (removing c.args.object r) refl (no-more r.peer.requests) is.frames
+            (base-gone _ _ c.args.object base (c.remove.ensures.table alive)) refl;
         owns = λ alive. subst (λ (names : Names). IsOwned names v.owned.surfaces (kept_of v.owned.shell) r.owned) (sym (base-gone _ _ c.args.object base (c.remove.ensures.table alive))) is.owns;
       },
     )

@@ -27,7 +27,9 @@ other-in : (k : Kind) (target : ℕ) → commit_in k target ≡ None → k ≢ k
 other-in k target none is = let both = sym none ∙ ap (λ (o : Kind). commit_in o target) is in cc
 
 pub returns-in-Refused-clause-takes : goal.returns-in-Refused-clause-takes
-returns-in-Refused-clause-takes g c = rw c.of.ensures (λ client r on is only. first-refused c.args.self.now _ client r on c.in-Refused.refusal (rw c.in-Refused.is at c.requires) is c.refuse.ensures.ended (c.refuse.ensures.errs r.peer is.peer))
+returns-in-Refused-clause-takes g c =
+    rw c.of.ensures (λ client r on is only. first-refused c.args.self.now _ client r on c.in-Refused.refusal (rw c.in-Refused.is at c.requires) is c.refuse.ensures.ended
+    (c.refuse.ensures.errs r.peer is.peer))
 
 pub returns-in-Request-clause-takes : goal.returns-in-Request-clause-takes
 returns-in-Request-clause-takes g c = λ client r on is only.

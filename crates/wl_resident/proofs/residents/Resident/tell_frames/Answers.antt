@@ -22,7 +22,8 @@ returns-clause-tells g c = λ others base d r is more.
     let alive : r.peer.status ≡ None = sym is.seat.peer.status ∙ lives in
     let only = seated-only c.args.client others base d v c.args.scene.now r is lives more in
     let told = c.answer_frames.ensures.tells lives r (record { peer = is.seat.peer; owns = is.seat.owns; frames = is.seat.frames }) only in
-    let seated = frames-seated c.args.client others base d r c.args.time v c.answer_frames.new.self c.empty.new.self c.args.scene.now c.empty.new.scene is alive told.0 told.1 told.2 told.3 c.empty.ensures.clears in
+    let seated = frames-seated c.args.client others base d r c.args.time v c.answer_frames.new.self c.empty.new.self c.args.scene.now c.empty.new.scene is alive told.0 told.1 told.2 told.3
+        c.empty.ensures.clears in
     let e = become c.args.client (done_due r) told.0 d in
     (e, _, subst (λ (s : Option Cause). FramesToldBy s c.args.time c.args.client r d e) (sym alive) (told.0, told.1, refl), seated)
 
@@ -34,7 +35,8 @@ returns-clause-marks g c = λ lives.
     let ended : is_some c.empty.new.self.client.ended ≡ c.has_ended-2.result =
     ap (λ (o : Option Cause). is_some o) (cleared-client mid.client.ended c.args.client mid c.empty.new.self stack c.empty.new.scene c.empty.ensures.clears) ∙ sym c.has_ended-2.ensures in
     let marks : MarksOwnIf c.has_ended-2.result c.args.client kept stack c.args.damage.now c.if-has_ended-2.damage = elim c.if-has_ended-2.branch [
-      | then-has_ended-2 w ↦ rw (w.damage-is, w.if-has_ended-2.true) (own-marked c.args.client kept mid stack c.args.damage.now w.mark_windows.new.damage c.answer_frames.ensures.places w.mark_windows.ensures.shown w.mark_windows.ensures.sides)
+      | then-has_ended-2 w ↦ rw (w.damage-is, w.if-has_ended-2.true) (own-marked c.args.client kept mid stack c.args.damage.now w.mark_windows.new.damage c.answer_frames.ensures.places
+          w.mark_windows.ensures.shown w.mark_windows.ensures.sides)
       | else-has_ended-2 w ↦ rw (w.damage-is, w.if-has_ended-2.false) (own-unmarked c.args.client kept stack c.args.damage.now)
     ] in
     subst (λ (b : Bool). MarksOwnIf b c.args.client kept stack c.args.damage.now c.if-has_ended-2.damage) (sym ended) marks

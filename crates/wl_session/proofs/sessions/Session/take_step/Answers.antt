@@ -22,10 +22,12 @@ returns-in-Feed g c =
     }
 
 pub returns-in-Ok-clause-taken : goal.returns-in-Ok-clause-taken
-returns-in-Ok-clause-taken g c = rw c.in-Connect.is (λ _. ([], sym (append-nil _), quiet-leads Connect (gave.Connect c.connect.result) c.args.self.now c.connect.new.self refl c.connect.ensures.course))
+returns-in-Ok-clause-taken g c =
+    rw c.in-Connect.is (λ _. ([], sym (append-nil _), quiet-leads Connect (gave.Connect c.connect.result) c.args.self.now c.connect.new.self refl c.connect.ensures.course))
 
 pub returns-in-Ok-2-clause-taken : goal.returns-in-Ok-2-clause-taken
-returns-in-Ok-2-clause-taken g c = rw c.in-Connect.is (λ _. ([], sym (append-nil _), quiet-leads Connect (gave.Connect c.connect.result) c.args.self.now c.connect.new.self refl c.connect.ensures.course))
+returns-in-Ok-2-clause-taken g c =
+    rw c.in-Connect.is (λ _. ([], sym (append-nil _), quiet-leads Connect (gave.Connect c.connect.result) c.args.self.now c.connect.new.self refl c.connect.ensures.course))
 
 pub returns-in-Tick-clause-taken : goal.returns-in-Tick-clause-taken
 returns-in-Tick-clause-taken g c = rw c.in-Tick.is c.take_tick.ensures.taken
