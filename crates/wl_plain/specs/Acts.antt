@@ -14,7 +14,7 @@ use Rattle.wl_plain.specs.declared.answers.Done.TheVariants as gave
 use Rattle.wl_peer.specs.Peer.{Peer, left_by, sent_by, stored_at}
 use Rattle.wl_plain.specs.Desktop.{Desktop, Resident, client_at}
 
--- what may happen, most of it to the client with a number
+-- What may happen, most of it to the client with a number: the steps of a recording, a motion of the pointer, and a button.
 pub data Act : Type 0 where
   -- a client connects
   Connect : Act

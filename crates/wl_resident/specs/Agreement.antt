@@ -17,14 +17,14 @@ use Rattle.wl_resident.specs.View.{DeskView, OwnedView}
 
 -- ---- the clients
 
--- what is kept of a client and of what it owns; one that ended owns nothing
+-- One client of the desk, at its seat: what is kept of it and of what it owns stands for a client of the desktop. One that ended owns nothing.
 pub record IsSeat (v : ClientView) (o : OwnedView) (r : Resident) : Type 0 where
   pub peer : IsPeer v r.peer
   pub owns : IsOwned (names_in v.objects) o.surfaces (kept_of o.shell) r.owned
   pub frames : AreFramed o.surfaces.frames (by_number (targets_in WlSurface v.objects) r.owned.surfaces) (r.peer.requests + 1) r.callbacks
   pub ended : is_some r.peer.status ≡ true → OwnsNothing r
 
--- a number's client, or nobody
+-- The place of a number, 1 to 32: its client is there in all three, or in none.
 abbrev pub IsPlace : Option ClientView → Option OwnedView → Option Resident → Type 0
 IsPlace None None None = Unit {0}
 IsPlace (Some v) (Some o) (Some r) = IsSeat v o r
