@@ -47,6 +47,6 @@ ScratchStays =
     → ColorsStay shown old new x y
     → scratch_of shown background old x y ≡ scratch_of shown background new x y
 
--- a client has nothing but its own objects: no surfaces and xdg_surfaces, links, positioners, callbacks and pointers
+-- a client has nothing but its own objects: no surfaces and xdg_surfaces, links, callbacks and pointers
 abbrev pub OwnsNothing : Resident → Type 0
 OwnsNothing r = r ≡ resident_of r.peer

@@ -21,6 +21,7 @@ pub record LivesOn (p q : Peer) : Type 0 where
   pub regions : q.regions ≡ p.regions
   pub pools : q.pools ≡ p.pools
   pub buffers : q.buffers ≡ p.buffers
+  pub positioners : q.positioners ≡ p.positioners
   pub stores : q.stores ≡ p.stores
   pub unsent : (more : List ℕ) × (q.unsent ≡ p.unsent ++ more)
   pub rest : q.rest ≡ p.rest
@@ -48,7 +49,6 @@ pub record HasItsOwn (r q : Resident) : Type 0 where
   pub surfaces : q.owned.surfaces ≡ r.owned.surfaces
   pub shell : AreSameOrDismissed r.owned.shell q.owned.shell
   pub subsurfaces : q.subsurfaces ≡ r.subsurfaces
-  pub positioners : q.positioners ≡ r.positioners
   pub callbacks : (id : ℕ) → is_of_callback id r ≡ false → is_of_callback id q ≡ false
   pub pointers : q.pointers ≡ r.pointers
 

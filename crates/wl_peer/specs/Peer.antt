@@ -12,6 +12,7 @@ use Rattle.wl_proto.specs.Spelling.{event_size}
 use Rattle.wl_geom.specs.Region.{Change, Add, Subtract}
 use Rattle.wl_store.specs.Stores.{Stock, created, let_go, resized, store_at, used, write_refusal, written}
 use Rattle.wl_store.specs.declared.stores.StoreError.{StoreError}
+use Rattle.wl_shell.specs.Positioner.{Positioner}
 use Rattle.wl_peer.specs.declared.cause.Cause.{Cause}
 use Rattle.wl_peer.specs.declared.cause.Cause.TheVariants.{Protocol, Memory, Slow, Gone}
 use Rattle.wl_peer.specs.declared.refusals.ErrorCode.TheVariants.{InvalidMethod, NoMemory}
@@ -26,9 +27,10 @@ use Rattle.wl_peer.specs.Objects.{ById, Object, Objects, nothing, with_id}
 use Rattle.wl_peer.specs.Told.{Output, Said, bind_told, callback_done, code_number, display_error, error_told, id_deleted, registry_told}
 use Rattle.wl_peer.specs.Told.{said_bytes}
 
--- One client: why it ended, if it did; how many requests it made; its live objects, and how many they are; of the regions, pools and
--- buffers among them each region's list of changes, each pool's store, and each buffer's number and place; the stores; the next serial; the
--- bytes that wait to be sent to it; the bytes that came from it after its last whole message; and the output that it is shown on.
+-- One client: why it ended, if it did; how many requests it made; its live objects, and how many they are; of the regions, pools, buffers and
+-- positioners among them each region's list of changes, each pool's store, each buffer's number and place, and each positioner's values; the
+-- stores; the next serial; the bytes that wait to be sent to it; the bytes that came from it after its last whole message; and the output that
+-- it is shown on.
 pub record Peer : Type 0 where
   pub status : Option Cause
   pub requests : ℕ
@@ -37,6 +39,7 @@ pub record Peer : Type 0 where
   pub regions : ById (List Change)
   pub pools : ById ℕ
   pub buffers : ById Buffer
+  pub positioners : ById Positioner
   pub stores : Stock
   pub serial : ℕ
   pub unsent : List ℕ
@@ -60,6 +63,7 @@ newcomer output =
       regions = nothing;
       pools = nothing;
       buffers = nothing;
+      positioners = nothing;
       stores = no_stores;
       serial = 1;
       unsent = [];
@@ -89,6 +93,7 @@ ended cause p =
       regions = nothing;
       pools = nothing;
       buffers = nothing;
+      positioners = nothing;
       stores = no_stores;
       rest = [];
     }

@@ -197,6 +197,10 @@ pointer_given c id version r d =
 
 -- ---- all of them
 
+-- the values of a positioner, or none where it goes
+abbrev pub with_positioner : ℕ → Option Positioner → Resident → Resident
+with_positioner id p r = with_peer (record r.peer { positioners = with_id id p r.peer.positioners }) r
+
 abbrev pub changed_for : ℕ → Demand → Resident → Desktop → Resident
 changed_for c (Asks ask) r d = changed_by ask r
 changed_for c (EndSurface id) r d = surface_ended id r
@@ -209,9 +213,9 @@ changed_for c (SetMode link synchronised) r d = mode_set link synchronised r
 changed_for c (GetPointer id version) r d = pointer_given c id version r d
 changed_for c (MakeCursor surface) r d = with_surfaces (with_surface_change surface (with_role AsCursor) r.owned.surfaces) r
 changed_for c (CreatePositioner id version) r d =
-    making XdgPositioner id version (record r { positioners = with_id id (Some first_positioner) r.positioners })
-changed_for c (EndPositioner id) r d = removing id (record r { positioners = with_id id None r.positioners })
-changed_for c (SetPositioner id p) r d = record r { positioners = with_id id (Some p) r.positioners }
+    making XdgPositioner id version (with_positioner id (Some first_positioner) r)
+changed_for c (EndPositioner id) r d = removing id (with_positioner id None r)
+changed_for c (SetPositioner id p) r d = with_positioner id (Some p) r
 changed_for c (GetPopup id version xdg parent p) r d = popup_given id version xdg parent p r
 changed_for c (Grab xdg serial) r d = grabbed (grab_allowed c xdg serial r d) xdg r
 changed_for c (EndPopup id xdg) r d = removing id (xdg_changed xdg without_role r)

@@ -99,7 +99,7 @@ xdg_asked r None version request = past_limit
 xdg_asked r (Some x) version xdg.Destroy = demands (xdg_surface_destroyed x)
 xdg_asked r (Some x) version (xdg.GetToplevel id) = demands (toplevel_made r x version id)
 xdg_asked r (Some x) version (xdg.GetPopup id parent positioner) =
-    popup_made r x version id parent (positioner_of (r.positioners positioner))
+    popup_made r x version id parent (positioner_of (r.peer.positioners positioner))
 xdg_asked r (Some x) version (xdg.SetWindowGeometry a b width height) = demands (geometry_set x (rect a b width height))
 xdg_asked r (Some x) version (xdg.AckConfigure serial) = demands (acknowledged_by x serial)
 

@@ -1,11 +1,9 @@
 -- The plain desktop: what a compositor holds of its clients and of its screen, whatever a program keeps.
 use Rattle.std.specs.Prelude.{ℕ, suc, zero, ◌==◌, filter, List, [], ◌∷◌, Option, Some, None, replicate}
-use Rattle.wl_peer.specs.Objects.{ById, nothing}
 use Rattle.wl_peer.specs.Told.{Output}
 use Rattle.wl_peer.specs.declared.cause.Cause.{Cause}
 use Rattle.wl_peer.specs.Peer.{Peer, newcomer}
 use Rattle.wl_surface.specs.Waiting.{Callback}
-use Rattle.wl_shell.specs.Positioner.{Positioner}
 use Rattle.wl_scene.specs.Pointer.{Pointer, first_pointer}
 use Rattle.wl_scene.specs.Stacking.{Owned, Standing, nothing_owned, without_client}
 use Rattle.wl_scene.specs.Windows.{Window}
@@ -16,14 +14,12 @@ pub record Subsurface : Type 0 where
   pub link : ℕ
   pub surface : Option ℕ
 
--- One client: its streams and tables; its surfaces and xdg_surfaces; its wl_subsurfaces; by their ids the values of each positioner; its
--- frame callbacks in the order of their requests, and its wl_pointers in rising id; and the serials of the latest press and of the latest
--- release that it was told of.
+-- One client: its streams and tables; its surfaces and xdg_surfaces; its wl_subsurfaces; its frame callbacks in the order of their requests, and
+-- its wl_pointers in rising id; and the serials of the latest press and of the latest release that it was told of.
 pub record Resident : Type 0 where
   pub peer : Peer
   pub owned : Owned
   pub subsurfaces : List Subsurface
-  pub positioners : ById Positioner
   pub callbacks : List Callback
   pub pointers : List ℕ
   pub press : Option ℕ
@@ -44,7 +40,6 @@ resident_of peer =
       peer = peer;
       owned = nothing_owned;
       subsurfaces = [];
-      positioners = nothing;
       callbacks = [];
       pointers = [];
       press = None;

@@ -42,7 +42,7 @@ positioner_of None = first_positioner
 positioner_of (Some p) = p
 
 abbrev pub positioner_demand : Resident → ℕ → XdgPositionerRequest → Result Demand Refusal
-positioner_demand r object request = positioner_asked object (positioner_of (r.positioners object)) request
+positioner_demand r object request = positioner_asked object (positioner_of (r.peer.positioners object)) request
 
 -- ---- xdg_surface.get_popup
 

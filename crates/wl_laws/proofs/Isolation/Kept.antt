@@ -34,7 +34,7 @@ nothing_more p = ([], sym (at p.unsent))
     at (b ∷ bytes) = ap (λ (rest : List ℕ). b ∷ rest) (at bytes)
 
 lives-on : (p : Peer) → LivesOn p p
-lives-on p = record { status = refl; requests = refl; regions = refl; pools = refl; buffers = refl; stores = refl; unsent = nothing_more p; rest = refl; output = refl }
+lives-on p = record { status = refl; requests = refl; regions = refl; pools = refl; buffers = refl; positioners = refl; stores = refl; unsent = nothing_more p; rest = refl; output = refl }
 
 -- ids may go, and serials may be drawn
 lives-else : (p q : Peer) → q ≡ record p { objects = q.objects; held = q.held; serial = q.serial } → LivesOn p q
@@ -44,6 +44,7 @@ lives-else p q e = record {
   regions = ap (λ (x : Peer). x.regions) e;
   pools = ap (λ (x : Peer). x.pools) e;
   buffers = ap (λ (x : Peer). x.buffers) e;
+  positioners = ap (λ (x : Peer). x.positioners) e;
   stores = ap (λ (x : Peer). x.stores) e;
   unsent = ((nothing_more p).0, ap (λ (x : Peer). x.unsent) e ∙ (nothing_more p).1);
   rest = ap (λ (x : Peer). x.rest) e;
@@ -51,7 +52,7 @@ lives-else p q e = record {
 }
 
 lives-more : (p : Peer) (more : List ℕ) → LivesOn p (record p { unsent = p.unsent ++ more })
-lives-more p more = record { status = refl; requests = refl; regions = refl; pools = refl; buffers = refl; stores = refl; unsent = (more, refl); rest = refl; output = refl }
+lives-more p more = record { status = refl; requests = refl; regions = refl; pools = refl; buffers = refl; positioners = refl; stores = refl; unsent = (more, refl); rest = refl; output = refl }
 
 lives-then : (p q s : Peer) → LivesOn p q → LivesOn q s → LivesOn p s
 lives-then p q s h k = record {
@@ -60,6 +61,7 @@ lives-then p q s h k = record {
   regions = k.regions ∙ h.regions;
   pools = k.pools ∙ h.pools;
   buffers = k.buffers ∙ h.buffers;
+  positioners = k.positioners ∙ h.positioners;
   stores = k.stores ∙ h.stores;
   unsent = (h.unsent.0 ++ k.unsent.0, k.unsent.1 ∙ ap (λ (bytes : List ℕ). bytes ++ k.unsent.0) h.unsent.1 ∙ append_assoc p.unsent h.unsent.0 k.unsent.0);
   rest = k.rest ∙ h.rest;
@@ -115,7 +117,6 @@ own-same r = record {
   surfaces = refl;
   shell = shell-same r.owned.shell;
   subsurfaces = refl;
-  positioners = refl;
   callbacks = λ id none. none;
   pointers = refl;
 }
@@ -127,7 +128,6 @@ own-then p q r h k = record {
   surfaces = k.surfaces ∙ h.surfaces;
   shell = shell-then p.owned.shell q.owned.shell r.owned.shell h.shell k.shell;
   subsurfaces = k.subsurfaces ∙ h.subsurfaces;
-  positioners = k.positioners ∙ h.positioners;
   callbacks = λ id none. k.callbacks id (h.callbacks id none);
   pointers = k.pointers ∙ h.pointers;
 }
@@ -139,7 +139,6 @@ own-more r more = record {
   surfaces = refl;
   shell = shell-same r.owned.shell;
   subsurfaces = refl;
-  positioners = refl;
   callbacks = λ id none. none;
   pointers = refl;
 }
@@ -151,7 +150,6 @@ own-drawn true r = record {
   surfaces = refl;
   shell = shell-same r.owned.shell;
   subsurfaces = refl;
-  positioners = refl;
   callbacks = λ id none. none;
   pointers = refl;
 }
@@ -164,7 +162,6 @@ own-noted true r = record {
   surfaces = refl;
   shell = shell-same r.owned.shell;
   subsurfaces = refl;
-  positioners = refl;
   callbacks = λ id none. none;
   pointers = refl;
 }
@@ -174,7 +171,6 @@ own-noted false r = record {
   surfaces = refl;
   shell = shell-same r.owned.shell;
   subsurfaces = refl;
-  positioners = refl;
   callbacks = λ id none. none;
   pointers = refl;
 }
@@ -190,7 +186,6 @@ own-dismissed r = record {
   surfaces = refl;
   shell = shell-dismissed (dismissed_with (λ p. p.popup.has_grab) r.owned.shell) r.owned.shell;
   subsurfaces = refl;
-  positioners = refl;
   callbacks = λ id none. none;
   pointers = refl;
 }
@@ -224,7 +219,6 @@ own-done r = record {
   surfaces = refl;
   shell = shell-same r.owned.shell;
   subsurfaces = refl;
-  positioners = refl;
   callbacks = λ id none. none-left (λ callback. callback.id == id) _ r.callbacks none;
   pointers = refl;
 }

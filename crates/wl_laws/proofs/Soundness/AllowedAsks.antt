@@ -109,7 +109,7 @@ xdg-allowed r object version (suc zero) fields (Some x) is heard =
     (λ f. ask-either r (is_no_toplevel (role_of r x.surface)) _ _ (λ g. tt)
     (λ g. (fresh-first r.peer.objects _ [] _ fields heard.kinds heard.fresh, found-bare r object x is (none-there x.role f))))
 xdg-allowed r object version (suc (suc zero)) fields (Some x) is heard =
-    let p = positioner_of (r.positioners (word_in 2 fields)) in
+    let p = positioner_of (r.peer.positioners (word_in 2 fields)) in
     either r (is_some x.role) _ _ (λ e. tt)
     (λ e. either r (is_no_popup (role_of r x.surface)) _ _ (λ f. tt)
     (λ f. either r (may_be_parent (xdg_at (word_in 1 fields) r.owned.shell)) _ _
