@@ -1,5 +1,5 @@
 //! One window laid over a run of pixels.
-ghost use Rattle.std.specs.Prelude.{◌≡◌, ◌↔◌, ◌-◌, ◌<◌, ◌≤◌, ◌+◌, ◌*◌, ◌/◌, ◌%◌, ◌^◌, ◌⊎◌, ℕ, IsTrue, IfSome, length, pos, slice_index};
+ghost use Rattle.std.specs.Prelude.{◌≡◌, ◌-◌, ◌<◌, ◌≤◌, ◌+◌, ◌*◌, ◌/◌, ◌%◌, ◌^◌, ◌⊎◌, ℕ, IsTrue, IfSome, length, pos, slice_index};
 ghost use Rattle.wl_geom.specs.Region.{CoverRun};
 ghost use Rattle.wl_store.specs.Picture.{color_at, surface_height, surface_width};
 ghost use Rattle.wl_store.specs.declared.color.Format.TheVariants.{Argb8888};
@@ -18,6 +18,9 @@ use wl_store::Picture;
 /// How many pixels of a run are painted at a time, at most.
 pub(crate) const STRETCH: usize = 1024;
 
+/// An opaque region of more rectangles than this isn't asked, but the alphas are looked at: each stretch would look at all of them.
+const ASKED_RECTS: usize = 1024;
+
 /// How far the place is from the start, where it is one of the `len` places from there on.
 fn offset_in(start: i32, len: u32, place: u32) -> Option<u32>
     ensures { OffsetIn start len place result }
@@ -29,18 +32,19 @@ fn offset_in(start: i32, len: u32, place: u32) -> Option<u32>
     Some(offset as u32)
 }
 
-/// Whether the window's opaque region holds each of the `count` points of its picture from (i, j) to the right.
+/// Whether the window's opaque region holds each of the `count` points of its picture from (i, j) to the right, as far as it is asked.
 fn is_said_opaque<A: Allocator>(window: &Painted<'_, A>, i: u32, j: u32, count: u32) -> bool
     requires column { i < 2 ^ 31 }
     requires row { j < 2 ^ 31 }
-    ensures { IsTrue result ↔ CoverRun (pos i) (pos j) count (window_of window.now).opaque.rects }
+    ensures { IsTrue result → CoverRun (pos i) (pos j) count (window_of window.now).opaque.rects }
 {
-    window.opaque.covers_run(i as i32, j as i32, count)
+    window.opaque.rects().len() <= ASKED_RECTS
+        && window.opaque.covers_run(i as i32, j as i32, count)
 }
 
 /// Paints a run of pixels that starts at (x, y) with the window alone, where it hides all below it there: where its
-/// opaque region holds each of the points, or each of them has the alpha 255, as all of xrgb8888 have. Else the answer
-/// is false, and the run is to be painted otherwise.
+/// opaque region, as far as it is asked, holds each of the points, or each of them has the alpha 255, as all of xrgb8888
+/// have. Else the answer is false, and the run is to be painted otherwise.
 pub(crate) fn hide<A: Allocator>(run: &mut [u8], x: u32, y: u32, window: &Painted<'_, A>) -> bool
     requires whole { length run.old % 4 ≡ 0 }
     requires fits { x + length run.old < 2 ^ 32 }

@@ -33,7 +33,8 @@ fn hiding(color: Argb) -> Option<Rgb>
     Some(without_alpha(color))
 }
 
-/// The same, a pixel at a time.
+/// Writes the points of the picture from (i, j) to the right over a run of pixels, read one by one, up to the first that isn't opaque,
+/// and says whether all of them are.
 fn copy_opaque_pixels(run: &mut [u8], picture: &Picture<'_>, i: u32, j: u32) -> bool
     requires whole { length run.old % 4 ≡ 0 }
     requires columns { i + length run.old / 4 ≤ surface_width picture.now.transform picture.now.layout }
@@ -68,7 +69,7 @@ pub(crate) fn copy_opaque(run: &mut [u8], picture: &Picture<'_>, i: u32, j: u32)
     true
 }
 
-/// The same, a pixel at a time.
+/// Writes the points of the picture from (i, j) to the right, read one by one, over a run of pixels, as if all were opaque.
 fn copy_pixels(run: &mut [u8], picture: &Picture<'_>, i: u32, j: u32)
     requires whole { length run.old % 4 ≡ 0 }
     requires columns { i + length run.old / 4 ≤ surface_width picture.now.transform picture.now.layout }
@@ -108,7 +109,7 @@ fn read_colors(pixels: &mut [u8], picture: &Picture<'_>, i: u32, j: u32)
     }
 }
 
-/// The same, by colours that are read a pixel at a time.
+/// Lays the points of the picture from (i, j) to the right, read one by one, over a run of pixels.
 fn lay_pixels(run: &mut [u8], picture: &Picture<'_>, i: u32, j: u32)
     requires whole { length run.old % 4 ≡ 0 }
     requires short { length run.old ≤ 4 * STRETCH }

@@ -26,7 +26,7 @@ returns-then-is_said_opaque g c t k h under =
     let down = simp to_z-of_z at c.in-Some-offset_in.ensures.1 in
     let small : c.in-Some.i + k < surface_width w.picture.transform w.picture.layout = omega (arith, c.width.ensures, c.width-2.ensures, c.in-Some.ensures.2) in
     said_pixel (pixel_of c.copy_colors.new.run k) w c.args.x c.args.y c.in-Some.i c.in-Some-offset_in.j k under (rw c.width.ensures at inside) is
-    (rw c.height.ensures at row) down small (c.is_said_opaque.ensures.0 c.if-is_said_opaque.true k (omega arith)) (c.copy_colors.ensures k h under)
+    (rw c.height.ensures at row) down small (c.is_said_opaque.ensures c.if-is_said_opaque.true k (omega arith)) (c.copy_colors.ensures k h under)
 
 pub returns : goal.returns
 returns g c t k h under =
