@@ -74,9 +74,6 @@ set_is a e = grind (arith, nat_tests)
 clear_is : (a : ℕ) → a ≡ 0 → (a == 1) ≡ false
 clear_is a e = grind (arith, nat_tests)
 
-pub is_set-zero : (i : ℕ) → is_set 0 i ≡ false
-is_set-zero i = clear_is (bit_at 0 i) (bit_at-zero i)
-
 -- the lowest bit that is 1 from `low` on
 pub record IsLowest (word low place : ℕ) : Type 0 where
   pub before : (i : ℕ) → low ≤ i → i < place → is_set word i ≡ false

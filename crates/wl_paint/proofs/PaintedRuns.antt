@@ -43,15 +43,3 @@ IsPaintedTo-run was now next promised paint damaged base width from start len co
   after = λ x h. outside (base + x) (inr (omega arith)) ∙ p.after x (omega (arith, run.starts));
   outside = λ k h. outside k (elim h [ inl l ↦ inl (omega arith) | inr g ↦ inr (omega (arith, run.within)) ]) ∙ p.outside k h;
 }
-
--- a row that is painted up to a place after which nothing is damaged is painted
-pub painted-all : (was now : ℕ → Rgb × ℕ) (promised : ℕ → Type 0) (paint : ℕ → Rgb) (damaged : ℕ → Bool) (base width from : ℕ)
-    → IsPaintedTo was now promised paint damaged base width from → ((k : ℕ) → from ≤ k → k < width → damaged k ≡ false)
-    → (x : ℕ) → x < width → damaged x ≡ true → Shows (promised x) (paint x) (now (base + x))
-painted-all was now promised paint damaged base width from p none x h d =
-    elim (cases_lt x from) [ inl l ↦ p.painted x l d | inr g ↦ absurd (both_ways (damaged x) (none x g h) d) ]
-
-pub kept-all : (was now : ℕ → Rgb × ℕ) (promised : ℕ → Type 0) (paint : ℕ → Rgb) (damaged : ℕ → Bool) (base width from : ℕ)
-    → IsPaintedTo was now promised paint damaged base width from → (x : ℕ) → x < width → damaged x ≡ false → now (base + x) ≡ was (base + x)
-kept-all was now promised paint damaged base width from p x h d =
-    elim (cases_lt x from) [ inl l ↦ p.kept x l d | inr g ↦ p.after x g ]

@@ -1,5 +1,6 @@
 -- Which points of an output are damaged.
-use Rattle.std.specs.Prelude.{◌≡◌, ◌+◌, ◌≤◌, ◌<◌, ℕ, zero, suc, Bool, true, false, if◌then◌else◌, Option, Some, None, List, [], length, slice_index_or, ◌&&◌, nat_le, nat_lt}
+use Rattle.std.specs.Prelude.{◌≡◌, ◌+◌, ◌≤◌, ◌<◌, ℕ, zero, suc, Bool, true, false, if◌then◌else◌, Option, Some, None, List, [], length}
+use Rattle.std.specs.Prelude.{slice_index_or, ◌&&◌, nat_le, nat_lt}
 
 -- an output's sides in pixels, and a truth value for each point, row by row from the top
 pub record Damaged : Type 0 where

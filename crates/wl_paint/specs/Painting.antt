@@ -1,5 +1,6 @@
 -- What is seen of a window that is lent, and images of which a part is painted.
-use Rattle.std.specs.Prelude.{◌≡◌, ℕ, ◌+◌, ◌*◌, ◌<◌, ◌≤◌, ℤ, pos, ◌-ℤ◌, unsigned_abs, Bool, true, false, List, slice_index, Option, Some, None}
+use Rattle.std.specs.Prelude.{◌≡◌, ℕ, ◌+◌, ◌*◌, ◌<◌, ◌≤◌, ℤ, pos, ◌-ℤ◌, unsigned_abs, Bool, true, false, List, slice_index, Option, Some}
+use Rattle.std.specs.Prelude.{None}
 use Rattle.wl_geom.specs.Rect.{in_span}
 use Rattle.wl_blend.specs.declared.color.Rgb.{Rgb}
 use Rattle.wl_blend.specs.Blend.{color_of}
@@ -24,7 +25,8 @@ pub record Shows (promised : Type 0) (color : Rgb) (pixel : Rgb × ℕ) : Type 0
   pub fourth : pixel.1 ≡ 255
 
 -- the first rows are painted where they are damaged, and the rest is as it was
-pub record IsPaintedAbove (was now : ℕ → Rgb × ℕ) (promised : ℕ → ℕ → Type 0) (paint : ℕ → ℕ → Rgb) (damaged : ℕ → ℕ → Bool) (width rows : ℕ) : Type 0 where
+pub record IsPaintedAbove (was now : ℕ → Rgb × ℕ) (promised : ℕ → ℕ → Type 0) (paint : ℕ → ℕ → Rgb) (damaged : ℕ → ℕ
+    → Bool) (width rows : ℕ) : Type 0 where
   pub painted : (x y : ℕ) → x < width → y < rows → damaged x y ≡ true → Shows (promised x y) (paint x y) (now (y * width + x))
   pub kept : (x y : ℕ) → x < width → y < rows → damaged x y ≡ false → now (y * width + x) ≡ was (y * width + x)
   pub below : (x y : ℕ) → x < width → rows ≤ y → now (y * width + x) ≡ was (y * width + x)

@@ -27,10 +27,10 @@ use Rattle.wl_peer.specs.Objects.{ById, Object, Objects, nothing, with_id}
 use Rattle.wl_peer.specs.Told.{Output, Said, bind_told, callback_done, code_number, display_error, error_told, id_deleted, registry_told}
 use Rattle.wl_peer.specs.Told.{said_bytes}
 
--- One client: why it ended, if it did; how many requests it made; its live objects, and how many they are; of the regions, pools, buffers and
--- positioners among them each region's list of changes, each pool's store, each buffer's number and place, and each positioner's values; the
--- stores; the next serial; the bytes that wait to be sent to it; the bytes that came from it after its last whole message; and the output that
--- it is shown on.
+-- One client: why it ended, if it did; how many requests it made; its live objects, and how many they are; of the regions, pools, buffers
+-- and positioners among them each region's list of changes, each pool's store, each buffer's number and place, and each positioner's
+-- values; the stores; the next serial; the bytes that wait to be sent to it; the bytes that came from it after its last whole message; and
+-- the output that it is shown on.
 pub record Peer : Type 0 where
   pub status : Option Cause
   pub requests : ℕ

@@ -14,8 +14,8 @@ pub record Subsurface : Type 0 where
   pub link : ℕ
   pub surface : Option ℕ
 
--- One client: its streams and tables; its surfaces and xdg_surfaces; its wl_subsurfaces; its frame callbacks in the order of their requests, and
--- its wl_pointers in rising id; and the serials of the latest press and of the latest release that it was told of.
+-- One client: its streams and tables; its surfaces and xdg_surfaces; its wl_subsurfaces; its frame callbacks in the order of their
+-- requests, and its wl_pointers in rising id; and the serials of the latest press and of the latest release that it was told of.
 pub record Resident : Type 0 where
   pub peer : Peer
   pub owned : Owned

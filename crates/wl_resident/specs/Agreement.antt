@@ -17,7 +17,8 @@ use Rattle.wl_resident.specs.View.{DeskView, OwnedView}
 
 -- ---- the clients
 
--- One client of the desk, at its seat: what is kept of it and of what it owns stands for a client of the desktop. One that ended owns nothing.
+-- One client of the desk, at its seat: what is kept of it and of what it owns stands for a client of the desktop. One that ended owns
+-- nothing.
 pub record IsSeat (v : ClientView) (o : OwnedView) (r : Resident) : Type 0 where
   pub peer : IsPeer v r.peer
   pub owns : IsOwned (names_in v.objects) o.surfaces (kept_of o.shell) r.owned
