@@ -107,7 +107,7 @@ first-refused v object opcode size entry m named new bytes refusal whole found a
     let objects = objects_in v.objects in
     let o : objects object ≡ Some (object_of entry) = ap (λ (e : Option Entry). option_map object_of e) (sym found) in
     let here : decoded entry.interface entry.version opcode (take (size - 8) (drop 8 v.rest)) ≡ Ok m =
-        sym (ap (λ (r : List ℕ). decoded entry.interface entry.version opcode (take (size - 8) (drop 8 r))) all) ∙ read in
+    sym (ap (λ (r : List ℕ). decoded entry.interface entry.version opcode (take (size - 8) (drop 8 r))) all) ∙ read in
     let fits_all : list_all (fits objects) (objects_named m) ≡ true = sym (ap (λ ns. list_all (fits objects) ns) names) ∙ sym fit in
     let late : after_new_id objects (length v.objects) (new_id_in m) (Ok (tt {0})) ≡ Err refusal = sym (ap (λ n. after_new_id objects (length v.objects) n (Ok (tt {0}))) makes) ∙ sym h in
     let refused = passing-refused objects (length v.objects) opcode (take (size - 8) (drop 8 v.rest)) (object_of entry) m (tt {0}) refusal here fits_all late in

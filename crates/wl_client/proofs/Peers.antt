@@ -252,8 +252,14 @@ changes-of (Some area) None h = absurd h
 -- a judgement looks at the same
 pub known-is : (v : ClientView) (p : Peer) → IsPeer v p → known_in v ≡ known_of p
 known-is v p is =
-    let known : Objects → ℕ → ById ℕ → ById ℕ → ById Buffer → Stock → Known = λ objects held changes pools buffers stores. record { objects = objects; held = held; changes = changes; pools = pools;
-        buffers = buffers; stores = stores } in
+    let known : Objects → ℕ → ById ℕ → ById ℕ → ById Buffer → Stock → Known = λ objects held changes pools buffers stores. record {
+      objects = objects;
+      held = held;
+      changes = changes;
+      pools = pools;
+      buffers = buffers;
+      stores = stores;
+    } in
     let counts : ById ℕ = λ id. option_map (λ area. area.changes) (held_at v.regions id) in
     let lengths : ById ℕ = λ id. option_map length (p.regions id) in
     let same : counts ≡ lengths = fun_ext (λ id. changes-of (held_at v.regions id) (p.regions id) (is.regions id)) in
@@ -279,7 +285,7 @@ pub Queues-refused : {X : Type 0} (f : X → Said) (events : List X) (i : ℕ) (
     → IsUnqueuedFor v.refused (has_room v.unsent (f (get_or events i d))) cause → Queues (map f (drop i events)) p (ended cause p)
 Queues-refused {X} f events i d v p cause lt is why =
     let refused = QueuesOr-refused (has_room p.unsent (f (get_or events i d))) (Queues (map f (drop (suc i) events)) (queued (f (get_or events i d)) p) (ended cause p)) p cause
-        (rw is.unsent at (unqueued-now v p (f (get_or events i d)) cause is why)) in
+    (rw is.unsent at (unqueued-now v p (f (get_or events i d)) cause is why)) in
     subst (λ (es : List X). Queues (map f es) p (ended cause p)) (sym (drop-cons events i d lt)) refused
 
 -- the event at a place is queued
@@ -303,7 +309,7 @@ Errs-told v w p refusal event same is ok =
     let here : IsTrue (has_room v.unsent (error_told refusal)) = subst (λ (e : Said). IsTrue (has_room v.unsent e)) same ok.1 in
     let room : IsTrue (has_room p.unsent (error_told refusal)) = subst (λ (u : List ℕ). IsTrue (has_room u (error_told refusal))) is.unsent here in
     let told : IsPeer w (queued (error_told refusal) p) =
-        subst (λ (e : Said). IsPeer w (queued e p)) same (subst (λ (x : ClientView). IsPeer x (queued event p)) (sym ok.2) (IsPeer-queued v p event is)) in (
+    subst (λ (e : Said). IsPeer w (queued e p)) same (subst (λ (x : ClientView). IsPeer x (queued event p)) (sym ok.2) (IsPeer-queued v p event is)) in (
       ended cause (queued (error_told refusal) p),
       QueuesOr-queued (has_room p.unsent (error_told refusal)) _ p _ room refl,
       IsPeer-ended w _ cause told,

@@ -88,7 +88,7 @@ pub then-refused : (f : ℕ → Said) (ids : List ℕ) (i : ℕ) (more : List Sa
 then-refused f ids i more v p cause event lt same is why =
     let reason = subst (λ (u : List ℕ). MatchBool (has_room u event) (cause ≡ Memory) (cause ≡ Slow)) is.unsent (unqueued-now v p event cause is why) in
     let refused : Queues (event ∷ map f (drop (suc i) ids) ++ more) p (ended cause p) =
-        QueuesOr-refused (has_room p.unsent event) (Queues (map f (drop (suc i) ids) ++ more) (queued event p) (ended cause p)) p cause reason in
+    QueuesOr-refused (has_room p.unsent event) (Queues (map f (drop (suc i) ids) ++ more) (queued event p) (ended cause p)) p cause reason in
     let named : Queues (f (get_or ids i 0) ∷ map f (drop (suc i) ids) ++ more) p (ended cause p) = subst (λ (x : Said). Queues (x ∷ map f (drop (suc i) ids) ++ more) p (ended cause p)) same refused in
     subst (λ (es : List ℕ). Queues (map f es ++ more) p (ended cause p)) (sym (drop-cons ids i 0 lt)) named
 

@@ -187,7 +187,7 @@ keeps-pool : (old new : Held) (action : Action) (object version : ℕ) (stores :
 keeps-pool old new action object version stores None was request there another free is changes = absurd (cc)
 keeps-pool old new action object version stores (Some store) was (pools.CreateBuffer id offset width height stride format) there another free is changes =
     keeps-buffer_created old new action object version id (buffer_asked store offset width height stride format) (layout_refusal (size_of store stores) offset width height stride format)
-        (can_hold store stores) free is changes
+    (can_hold store stores) free is changes
 keeps-pool old new action object version stores (Some store) was pools.Destroy there another free is changes =
     keeps-removed old new object was there another (asked action (DestroyPool object store) old new (same-action action (DestroyPool object store) is) changes)
 keeps-pool old new action object version stores (Some store) was (pools.Resize size) there another free is changes =

@@ -94,7 +94,7 @@ serves-own used v p q size judged is alive own answers =
     let body = take (size - 8) (drop 8 v.rest) in
     let there : objects_in v.objects own.object ≡ Some o = ap (λ (e : Option Entry). option_map object_of e) own.passes.entry in
     let passes : passing (objects_in v.objects) (length v.objects) m.opcode body (Some o) ≡ Ok m =
-        subst (λ (e : Option Object). passing (objects_in v.objects) (length v.objects) m.opcode body e ≡ Ok m) there own.passes.passes in
+    subst (λ (e : Option Object). passing (objects_in v.objects) (length v.objects) m.opcode body e ≡ Ok m) there own.passes.passes in
     let asks : ℕ → Message → Result Action Refusal = λ version m. action_of (known_in v) own.object version (request_of m) in
     let asked : judge (known_in v) own.object m.opcode body ≡ judged =
     ap (λ (e : Option Object). judged_at (objects_in v.objects) (length v.objects) asks m.opcode body e) there
@@ -120,7 +120,7 @@ serves-refused used v p q refusal is alive refused errs = at (split_of v.rest) r
     at (Whole object opcode size) whole h =
         serves-judged used v p q object opcode size (Err refusal) is alive whole
         (judged-refused (objects_in v.objects) (length v.objects) (λ version m. action_of (known_in v) object version (request_of m)) opcode (take (size - 8) (drop 8 v.rest))
-            (objects_in v.objects object) refusal h) (Errs-rest refusal p q (drop size v.rest) errs)
+        (objects_in v.objects object) refusal h) (Errs-rest refusal p q (drop size v.rest) errs)
     at Bad bad h =
         let here : split_of p.rest ≡ Bad = sym (ap split_of is.rest) ∙ bad in
         let told : Errs (display_error InvalidMethod) p q = subst (λ (r : Refusal). Errs r p q) h errs in

@@ -83,7 +83,7 @@ HoldsWithout old new ids = (other : ℕ) → entry_of new other ≡ (if list_any
 abbrev pub PassesTo : Bool → ClientView → Type 0
 PassesTo own v =
     (object : ℕ) × (version : ℕ) × (size : ℕ) × (target : ℕ) × (m : Message) × Passes v object version size target m
-        × (is_own m.interface ≡ own)
+    × (is_own m.interface ≡ own)
 
 -- The first message passes, is of one of these, and is judged so.
 pub record IsOwnMessage (v : ClientView) (size : ℕ) (judged : Result Action Refusal) : Type 0 where

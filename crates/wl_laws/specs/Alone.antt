@@ -21,5 +21,5 @@ IsAllThatChanges c old new = without_client c old.standing ≡ old.standing → 
 abbrev pub ServedAlone : Type 0
 ServedAlone =
     (c : ℕ) (piece : List ℕ) (r : Resident) (p q : Peer) (old : Desktop) → old.pointer ≡ first_pointer → client_at c old ≡ Some r
-        → IsAlone p (Some r) → FeedsAlone piece p q
+    → IsAlone p (Some r) → FeedsAlone piece p q
     → (new : Desktop) × FeedsAt own_only c piece r.peer.status r old new × IsAlone q (client_at c new) × IsAllThatChanges c old new

@@ -107,7 +107,7 @@ answered left (Err refusal) c r d = became c r (refused refusal r.peer) d
 abbrev pub taken : LeftOut → Split → ℕ → Resident → Desktop → Desktop
 taken left (Message object opcode size) c r d =
     answered left (judge_all left r object opcode (take (size - 8) (drop 8 r.peer.rest))) c
-        (with_peer (with_rest (drop size r.peer.rest) r.peer) r) d
+    (with_peer (with_rest (drop size r.peer.rest) r.peer) r) d
 taken left Bad c r d = became c r (refused (display_error InvalidMethod) r.peer) d
 taken left More c r d = d
 
@@ -201,7 +201,7 @@ tells_button time button pressed (Some t) m =
 abbrev pub pressed_on : Option Window → ℕ → ℕ → Desktop → Desktop
 pressed_on w time button d =
     settles_ends (settles
-        (tells_button time button true d.pointer.focus (dismisses (grab_holder d) w (unstruck (with_press button (raised_by w d))))))
+    (tells_button time button true d.pointer.focus (dismisses (grab_holder d) w (unstruck (with_press button (raised_by w d))))))
 
 abbrev pub pressed_if : Bool → ℕ → ℕ → Desktop → Desktop
 pressed_if true time button d = pressed_on (hit_now d.pointer.place (all_windows d)) time button d

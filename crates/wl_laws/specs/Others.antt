@@ -103,7 +103,7 @@ client_of (Button time button pressed) done = None
 abbrev pub OthersAreLeftAlone : Type 0
 OthersAreLeftAlone =
     (left : LeftOut) (act : Act) (done : Done) (c other : ℕ) (old new : Desktop) → client_of act done ≡ Some c
-        → Happens left act done old new → c ≢ other
+    → Happens left act done old new → c ≢ other
     → IsLeftAlone other old new
 
 -- ---- a message that is refused
@@ -134,5 +134,5 @@ IsTheLast left c new = (n : ℕ) (mid end : Desktop) → Reaches left c n new mi
 abbrev pub RefusedAlone : Type 0
 RefusedAlone =
     (left : LeftOut) (c : ℕ) (r : Resident) (refusal : Refusal) (old new : Desktop) → client_at c old ≡ Some r
-        → first_refusal left r ≡ Some refusal
+    → first_refusal left r ≡ Some refusal
     → Serves left c old new → HasErred refusal c r new × IsTheLast left c new × ((other : ℕ) → c ≢ other → IsLeftAlone other old new)

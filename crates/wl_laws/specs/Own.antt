@@ -83,4 +83,4 @@ KeepsItsOwn c old new = KeepsItsOwnSo (client_at c old) (toplevels_of c old) (cl
 abbrev pub OwnStays : Type 0
 OwnStays =
     (left : LeftOut) (act : Act) (done : Done) (c : ℕ) (old new : Desktop) → client_of act done ≢ Some c → Happens left act done old new
-        → KeepsItsOwn c old new
+    → KeepsItsOwn c old new

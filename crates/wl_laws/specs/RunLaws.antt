@@ -15,7 +15,7 @@ use Rattle.wl_plain.specs.Happens.{Happens}
 abbrev pub HadMemory : Act → Done → Desktop → Desktop → Type 0
 HadMemory act done old new =
     (act ≡ Connect → done ≢ gave.Connect (Err Memory))
-        × ((c : ℕ) → status_in c new ≡ Some cause.Memory → status_in c old ≡ Some cause.Memory)
+    × ((c : ℕ) → status_in c new ≡ Some cause.Memory → status_in c old ≡ Some cause.Memory)
 
 -- Where no want of memory is met, what happens is determined, and so is what is answered. There are 32 clients at most, so no client that
 -- is to end is left when the focus was settled for the last time (past 32 one could be left, and whether its event was queued would be a
@@ -23,7 +23,7 @@ HadMemory act done old new =
 abbrev pub OneRun : Type 0
 OneRun =
     (left : LeftOut) (act : Act) (done other : Done) (old new end : Desktop) → length old.clients ≤ 32 → Happens left act done old new
-        → Happens left act other old end
+    → Happens left act other old end
     → HadMemory act done old new → HadMemory act other old end → (done ≡ other) × (new ≡ end)
 
 -- acts one after another, each with its answer
@@ -45,15 +45,15 @@ HadMemoryAll left (act ∷ acts) (done ∷ dones) old new run = HadMemory act do
 abbrev pub OnlyRun : Type 0
 OnlyRun =
     (left : LeftOut) (acts : List Act) (dones others : List Done) (old new end : Desktop) → length old.clients ≤ 32
-        → (run : Lasts left acts dones old new)
+    → (run : Lasts left acts dones old new)
     → (other : Lasts left acts others old end) → HadMemoryAll left acts dones old new run → HadMemoryAll left acts others old end other
-        → (dones ≡ others) × (new ≡ end)
+    → (dones ≡ others) × (new ≡ end)
 
 -- A client that ended stays so, for the same cause, until its number is given back.
 abbrev pub EndsStay : Type 0
 EndsStay =
     (left : LeftOut) (act : Act) (done : Done) (old new : Desktop) (c : ℕ) (why : Cause) → length old.clients ≤ 32
-        → Happens left act done old new → act ≢ Close c
+    → Happens left act done old new → act ≢ Close c
     → status_in c old ≡ Some why → status_in c new ≡ Some why
 
 -- Whatever is asked of a desktop may happen: with memory it leads where the function says, with an answer.

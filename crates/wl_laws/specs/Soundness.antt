@@ -59,7 +59,7 @@ pub record IsSound (d : Desktop) : Type 0 where
   pub popups : (c : ℕ) → AreOnce (λ p. has_surface p.surface) (stacked_popups (owned_in d c))
   pub levels :
       (c surface : ℕ) → list_any (is_of c surface) d.standing ≡ true
-          → list_any (has_surface surface) (stacked_popups (owned_in d c)) ≡ false
+      → list_any (has_surface surface) (stacked_popups (owned_in d c)) ≡ false
   pub toplevel_roots : (c surface : ℕ) → list_any (is_of c surface) d.standing ≡ true → IsNoChild surface (owned_in d c).surfaces
   pub popup_roots :
       (c surface : ℕ) → list_any (has_surface surface) (stacked_popups (owned_in d c)) ≡ true → IsNoChild surface (owned_in d c).surfaces
@@ -76,4 +76,4 @@ EmptyIsSound = (output : Output) → IsSound (empty output)
 abbrev pub RunIsSound : Type 0
 RunIsSound =
     (left : LeftOut) (output : Output) (acts : List Act) (dones : List Done) (d : Desktop) → Lasts left acts dones (empty output) d
-        → IsSound d
+    → IsSound d

@@ -53,7 +53,7 @@ replay_command = with_rule (with_rule (with_rule (new_app (codes "replay")) size
 abbrev pub serve_command : App
 serve_command =
     with_rule (with_rule (with_rule (with_rule (with_rule (with_rule (new_app (codes "serve")) socket_option) turns_option) size_option)
-        ppm_option) dir_option)
+    ppm_option) dir_option)
     pointer_option
 
 -- a command that does nothing but by a subcommand

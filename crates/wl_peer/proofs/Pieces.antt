@@ -45,7 +45,7 @@ pub Queues-grown : (events : List Said) (more : List ℕ) (p q : Peer) → p.sta
 Queues-grown [] more p q alive h = ap (λ (x : Peer). grown more x) h ∙ grown_alive more p alive
 Queues-grown (e ∷ events) more p q alive h =
     let next = QueuesOr-grown (has_room p.unsent e) (Queues events (queued e p) q) (Queues events (with_rest (p.rest ++ more) (queued e p)) (grown more q)) more p q alive
-        (Queues-grown events more (queued e p) q alive) h in
+    (Queues-grown events more (queued e p) q alive) h in
     subst (λ (x : Peer). QueuesOr (has_room p.unsent e) (Queues events (with_rest (p.rest ++ more) (queued e p)) (grown more q)) x (grown more q)) (grown_alive more p alive) next
 
 pub Errs-grown : (refusal : Refusal) (more : List ℕ) (p q : Peer) → p.status ≡ None → Errs refusal p q → Errs refusal (with_rest (p.rest ++ more) p) (grown more q)

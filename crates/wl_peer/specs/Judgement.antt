@@ -112,7 +112,7 @@ abbrev pub buffer_created : ℕ → ℕ → ℕ → Stock → ℕ → ℤ → �
 buffer_created object version store stores id offset width height stride format =
     if can_hold store stores
     then buffer_laid object version id (buffer_asked store offset width height stride format)
-        (layout_refusal (size_of store stores) offset width height stride format)
+    (layout_refusal (size_of store stores) offset width height stride format)
     else Err (display_error Implementation)
 
 -- wl_shm_pool.resize: the limit on the bytes of all stores comes first

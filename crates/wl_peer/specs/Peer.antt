@@ -140,7 +140,7 @@ abbrev pub LacksMemory : Peer → Peer → Type 0
 LacksMemory old new =
     (new ≡ ended Memory old)
     ⊎ (IsTrue (has_room old.unsent (error_told (display_error NoMemory)))
-        × (new ≡ ended Memory (queued (error_told (display_error NoMemory)) old)))
+    × (new ≡ ended Memory (queued (error_told (display_error NoMemory)) old)))
 
 -- an object goes, if it is there
 abbrev pub removed : ℕ → Peer → Peer

@@ -25,7 +25,7 @@ told (event ∷ events) p = or_slow (has_room p.unsent event) (told events (queu
 abbrev pub refused : Refusal → Peer → Peer
 refused refusal p =
     or_slow (has_room p.unsent (error_told refusal))
-        (ended (Protocol refusal.object (code_number refusal.code)) (queued (error_told refusal) p)) p
+    (ended (Protocol refusal.object (code_number refusal.code)) (queued (error_told refusal) p)) p
 
 abbrev pub acted : Action → Peer → Peer
 acted action p = told (answers_to p.output action) (changed action p)

@@ -109,7 +109,7 @@ region_request opcode fields =
 abbrev pub pool_request : ℕ → List Field → WlShmPoolRequest
 pool_request opcode fields =
     if opcode == 0 then pool.CreateBuffer (word_in 0 fields) (number_in 1 fields) (number_in 2 fields) (number_in 3 fields)
-        (number_in 4 fields) (word_in 5 fields) else (
+    (number_in 4 fields) (word_in 5 fields) else (
     if opcode == 1 then pool.Destroy else pool.Resize (number_in 0 fields))
 
 abbrev pub compositor_request : ℕ → List Field → WlCompositorRequest
@@ -160,7 +160,7 @@ positioner_request opcode fields =
     if opcode == 3 then positioner.SetAnchor (word_in 0 fields) else (
     if opcode == 4 then positioner.SetGravity (word_in 0 fields) else (
     if opcode == 5 then positioner.SetConstraintAdjustment (word_in 0 fields) else positioner.SetOffset (number_in 0 fields)
-        (number_in 1 fields))))))
+    (number_in 1 fields))))))
 
 abbrev pub xdg_request : ℕ → List Field → XdgSurfaceRequest
 xdg_request opcode fields =

@@ -128,7 +128,7 @@ capabilities_told seat capabilities = said seat (says WlSeat 0 (Word capabilitie
 abbrev pub geometry_told : ℕ → Said
 geometry_told id =
     said id (says WlOutput 0 (Number (pos 0) ∷ Number (pos 0) ∷ Number (pos 0) ∷ Number (pos 0) ∷ Number (pos 0) ∷ Text
-        (codes "wlframe") ∷ Text (codes "framebuffer") ∷ Number (pos 0) ∷ []))
+    (codes "wlframe") ∷ Text (codes "framebuffer") ∷ Number (pos 0) ∷ []))
 
 abbrev pub mode_told : ℕ → Output → Said
 mode_told id output = said id (says WlOutput 1 (Word 3 ∷ Number (pos output.width) ∷ Number (pos output.height) ∷ Number (pos 0) ∷ []))

@@ -65,7 +65,7 @@ stored_of (Some cause) refusal = stored.NoClient
 abbrev pub IsStored : ℕ → ℕ → List ℕ → Peer → Done → Option Peer → Type 0
 IsStored store at bytes p done q =
     (q ≡ Some (stored_at p.status store at bytes p))
-        × (done ≡ gave.Store (stored_of p.status (write_refusal store at (length bytes) p.stores)))
+    × (done ≡ gave.Store (stored_of p.status (write_refusal store at (length bytes) p.stores)))
 
 abbrev pub IsLeft : Peer → Done → Option Peer → Type 0
 IsLeft p done q = (q ≡ Some (left_by p.status p)) × (done ≡ gave.Gone (is_none p.status))

@@ -59,7 +59,7 @@ surface_ended surface r =
     removing surface
     (without_callbacks (callbacks_of surface r)
     (after_all r (with_surfaces (destroyed_in surface r.owned.surfaces)
-        (record r { subsurfaces = map (without_child surface) r.subsurfaces }))))
+    (record r { subsurfaces = map (without_child surface) r.subsurfaces }))))
 
 -- wl_surface.frame
 abbrev pub frame_asked : ℕ → ℕ → ℕ → Resident → Resident
@@ -88,7 +88,7 @@ abbrev pub subsurface_ended : ℕ → Resident → Resident
 subsurface_ended id r =
     removing id
     (after_all r (with_surfaces (unlinked_at (link_with_id id r) r.owned.surfaces)
-        (record r { subsurfaces = filter (λ s. not (s.id == id)) r.subsurfaces })))
+    (record r { subsurfaces = filter (λ s. not (s.id == id)) r.subsurfaces })))
 
 abbrev pub mode_set : ℕ → Bool → Resident → Resident
 mode_set link true r = with_surfaces (synchronised_in link r.owned.surfaces) r
@@ -163,7 +163,7 @@ is_latest serial r = is_serial serial r.press || is_serial serial r.release
 abbrev pub grab_allowed : ℕ → ℕ → ℕ → Resident → Desktop → Bool
 grab_allowed c xdg serial r d =
     is_latest serial r && (parent_allows (option_and_then (parent_of r.owned.shell) (popup_at xdg r.owned.shell))
-        && not (is_held_elsewhere c (grab_holder d)))
+    && not (is_held_elsewhere c (grab_holder d)))
 
 -- xdg_popup.grab: taken, or the popup is dismissed
 abbrev pub grabbed : Bool → ℕ → Resident → Resident
@@ -237,7 +237,7 @@ is_focus_in c surface (Some t) windows =
 abbrev pub moving_from : ℕ → ℕ → ℕ → List Window → Pointer → Pointer
 moving_from c surface serial windows p =
     if is_serial serial p.hold
-        && is_focus_in c surface p.focus windows then record p { move = Some (record { client = c; surface = surface }) } else p
+    && is_focus_in c surface p.focus windows then record p { move = Some (record { client = c; surface = surface }) } else p
 
 abbrev pub stacked_for : ℕ → Demand → Resident → List Window → Desktop → Desktop
 stacked_for c (CommitTree surface) r windows d =

@@ -82,8 +82,10 @@ with_client c r d = record d { clients = with_number c r d.clients }
 -- What is told to a client leaves it so. One that ended has no surfaces and no windows.
 abbrev pub become_by : Option Cause → ℕ → Resident → Peer → Desktop → Desktop
 become_by None c r q d = with_client c (Some (record r { peer = q })) d
-become_by (Some cause) c r q d = record d { clients = with_number c (Some (resident_of q)) d.clients;
-    standing = without_client c d.standing }
+become_by (Some cause) c r q d = record d {
+  clients = with_number c (Some (resident_of q)) d.clients;
+  standing = without_client c d.standing;
+}
 
 abbrev pub become : ℕ → Resident → Peer → Desktop → Desktop
 become c r q d = become_by q.status c r q d

@@ -81,7 +81,7 @@ AnswersThen left (Err refusal) c r d Next = BecomesThen (Errs refusal r.peer) c 
 abbrev pub TakesThen : LeftOut → Split → ℕ → Resident → Desktop → (Midstep → Type 0) → Type 0
 TakesThen left (Whole object opcode size) c r d Next =
     AnswersThen left (judge_all left r object opcode (take (size - 8) (drop 8 r.peer.rest))) c
-        (with_peer (with_rest (drop size r.peer.rest) r.peer) r) d Next
+    (with_peer (with_rest (drop size r.peer.rest) r.peer) r) d Next
 TakesThen left Bad c r d Next = BecomesThen (Errs (display_error InvalidMethod) r.peer) c r d Next
 TakesThen left More c r d Next = ⊥
 
@@ -116,7 +116,7 @@ abbrev pub FeedsAt : LeftOut → ℕ → List ℕ → Option Cause → Resident 
 FeedsAt left c piece (Some cause) r d new = new ≡ d
 FeedsAt left c piece None r d new =
     (n : ℕ) × (mid : Desktop) × Reaches left c n (with_client c (Some (with_peer (with_rest (r.peer.rest ++ piece) r.peer) r)) d) mid
-        × StopsAt c (client_at c mid) mid new
+    × StopsAt c (client_at c mid) mid new
 
 abbrev pub IsFedAt : LeftOut → ℕ → List ℕ → Option Resident → Desktop → Done → Desktop → Type 0
 IsFedAt left c piece None d done new = (done ≡ gave.Feed NoClient) × (new ≡ d)
@@ -187,8 +187,10 @@ point_in output x y = record { x = within output.width x; y = within output.heig
 
 -- the pointer is there, and a toplevel that it moves is moved with it
 abbrev pub pointed : Place → Desktop → Desktop
-pointed at d = record d { pointer = record d.pointer { place = Some at };
-    standing = moved_with d.pointer.place at d.pointer.move d.standing }
+pointed at d = record d {
+  pointer = record d.pointer { place = Some at };
+  standing = moved_with d.pointer.place at d.pointer.move d.standing;
+}
 
 -- A surface that keeps the focus is told of the motion, unless a toplevel is moved.
 abbrev pub TellsMotion : ℕ → Option Target → Option Target → Midstep → Midstep → Type 0
@@ -279,7 +281,7 @@ abbrev pub PressedThen : ℕ → ℕ → Desktop → (Midstep → Type 0) → Ty
 PressedThen time button d Settled =
     (dismissed : Midstep)
     × Dismisses (grab_holder d) (hit_now d.pointer.place (all_windows d))
-        (unstruck (with_press button (raised_by (hit_now d.pointer.place (all_windows d)) d))) dismissed
+    (unstruck (with_press button (raised_by (hit_now d.pointer.place (all_windows d)) d))) dismissed
     × (told : Midstep) × TellsButton time button true d.pointer.focus dismissed told
     × (settled : Midstep) × Settles told settled × Settled settled
 

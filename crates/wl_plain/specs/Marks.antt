@@ -16,7 +16,7 @@ abbrev pub has_same_record : Window → Window → Bool
 has_same_record w v =
     is_same_surface w v
     && ((int_eq w.corner.x v.corner.x && int_eq w.corner.y v.corner.y)
-        && ((w.width == v.width && w.height == v.height) && (w.transform == v.transform)))
+    && ((w.width == v.width && w.height == v.height) && (w.transform == v.transform)))
 
 -- the window is among these, with the same record
 abbrev pub is_kept_in : List Window → Window → Bool

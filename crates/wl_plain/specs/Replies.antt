@@ -55,7 +55,7 @@ focus_window (Some t) windows = find (λ w. (w.owner.client == t.client) && (w.s
 abbrev pub enter_told : ℕ → ℕ → ℕ → Place → Place → Said
 enter_told pointer serial surface at corner =
     said pointer (says WlPointer 0 (Word serial ∷ Word surface ∷ Number (fixed_from at.x corner.x) ∷ Number
-        (fixed_from at.y corner.y) ∷ []))
+    (fixed_from at.y corner.y) ∷ []))
 
 abbrev pub entered_at : ℕ → ℕ → Option Place → Option Window → List Said
 entered_at pointer serial None w = []
@@ -107,7 +107,7 @@ abbrev pub releases : Resident → Resident → List Said
 releases old new =
     map (λ b. said b.object (says WlBuffer 0 []))
     (fold (λ bs b. by_object b bs) [] (filter (λ b. not (is_busy b.number new.owned.surfaces) && has_object new b)
-        (buffers_busy old.owned.surfaces)))
+    (buffers_busy old.owned.surfaces)))
 
 -- unless they are left out
 abbrev pub releases_unless : Bool → Resident → Resident → List Said

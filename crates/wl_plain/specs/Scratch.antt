@@ -24,8 +24,12 @@ abbrev pub pixel_at : List ℕ → Buffer → ℕ × ℕ → Argb
 pixel_at bytes b point =
     let at = b.offset + point.1 * b.stride + 4 * point.0 in
     if nat_le (b.offset + b.stride * b.height) (length bytes)
-    then record { a = alpha_of b.format (slice_index bytes (at + 3)); r = slice_index bytes (at + 2); g = slice_index bytes (at + 1);
-        b = slice_index bytes at }
+    then record {
+      a = alpha_of b.format (slice_index bytes (at + 3));
+      r = slice_index bytes (at + 2);
+      g = slice_index bytes (at + 1);
+      b = slice_index bytes at;
+    }
     else record { a = 0; r = 0; g = 0; b = 0 }
 
 -- a window's colour at a point of the output that it contains

@@ -59,7 +59,7 @@ each_once (b ∷ bs) = b ∷ without_buffer b.number (each_once bs)
 abbrev pub letting_go : List Buffer → Resident → Resident
 letting_go buffers r =
     with_peer (record r.peer { stores = fold (λ stores b. released b.store stores) r.peer.stores (filter (is_over r) (each_once buffers)) })
-        r
+    r
 
 -- of the buffers that a surface had, those that are over let their stores go
 abbrev pub after_surface : ℕ → Resident → Resident → Resident

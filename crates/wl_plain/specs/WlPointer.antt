@@ -34,7 +34,7 @@ is_no_cursor (Some AsSubsurface) = true
 abbrev pub cursor_set : Resident → ℕ → ℕ → Result Demand Refusal
 cursor_set r object surface =
     if is_no_cursor (role_of r surface) || is_some (xdg_of surface r.owned.shell) then refuses object HasAnotherRole else Ok
-        (MakeCursor surface)
+    (MakeCursor surface)
 
 -- null takes the cursor away
 abbrev pub pointer_demand : Resident → ℕ → WlPointerRequest → Result Demand Refusal

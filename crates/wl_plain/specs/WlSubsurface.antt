@@ -50,7 +50,7 @@ abbrev pub subsurface_made : Resident → ℕ → ℕ → ℕ → ℕ → ℕ �
 subsurface_made r object version id child parent =
     if is_too_deep r.owned.surfaces child parent then past_limit else (
     if is_no_subsurface (role_of r child) || (has_subsurface child r || is_some (xdg_of child r.owned.shell)) then refuses object
-        BadSurface else (
+    BadSurface else (
     if is_bad_parent r.owned.surfaces child parent then refuses object BadParent else Ok (GetSubsurface id version child parent)))
 
 abbrev pub subcompositor_demand : Resident → ℕ → ℕ → WlSubcompositorRequest → Result Demand Refusal

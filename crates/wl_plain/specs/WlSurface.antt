@@ -49,7 +49,7 @@ region_named r id = r.peer.regions id
 abbrev pub transform_set : ℕ → ℤ → Result Ask Refusal
 transform_set object z =
     if int_le (pos 0) z && int_le z (pos 7) then Ok (AskSurface object (SetBufferTransform (unsigned_abs z))) else refuse object
-        InvalidTransform
+    InvalidTransform
 
 -- the state that a commit would give has a buffer
 abbrev pub will_show : Resident → ℕ → Bool

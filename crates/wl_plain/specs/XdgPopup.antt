@@ -65,7 +65,7 @@ popup_made r x version id parent p =
     if is_some x.role then refuses x.id error.AlreadyConstructed else (
     if is_no_popup (role_of r x.surface) then refuses x.base error.Role else (
     if may_be_parent (xdg_at parent r.owned.shell) then (if is_complete p then Ok (GetPopup id version x.id parent p) else refuses x.base
-        error.InvalidPositioner) else
+    error.InvalidPositioner) else
     refuses x.base error.InvalidPopupParent))
 
 -- ---- xdg_popup
@@ -79,7 +79,7 @@ abbrev pub grab_of : ℕ → ℕ → XdgSurface → Option Popped → Result Dem
 grab_of object serial x None = past_limit
 grab_of object serial x (Some p) =
     if p.popup.is_dismissed then Ok (Asks Ignore) else (if is_popup_mapped p then refuses object error.InvalidGrab else Ok
-        (Grab x.id serial))
+    (Grab x.id serial))
 
 abbrev pub popup_asked : Resident → ℕ → Option XdgSurface → XdgPopupRequest → Result Demand Refusal
 popup_asked r object None request = past_limit

@@ -66,7 +66,7 @@ abbrev pub geometry_set : XdgSurface → Rect → Result Ask Refusal
 geometry_set x rect =
     if is_some x.role
     then (if int_lt (pos 0) rect.w
-        && int_lt (pos 0) rect.h then Ok (AskSurface x.surface (SetWindowGeometry rect)) else refuse x.id error.InvalidSize)
+    && int_lt (pos 0) rect.h then Ok (AskSurface x.surface (SetWindowGeometry rect)) else refuse x.id error.InvalidSize)
     else refuse x.id error.NotConstructed
 
 -- xdg_surface.ack_configure: with a role object, and a serial that waits

@@ -59,7 +59,7 @@ played-kept replay summary from side read report mid reported images imaged is p
 -- and one that was stopped is told of as far
 pub stops-kept : (replay : Replay) (error : ReplayError) (from side : FolderView) (read report mid reported images imaged : Option (List ℕ)) → from ≡ folder_of replay
     → (first : Stage) × IsFirst (config_of replay) first × StopsAs folder_files error first from side read report mid images imaged → Keeps mid reported
-        → Fails (fault_by error) replay read report reported
+    → Fails (fault_by error) replay read report reported
 unfolding reported-kept
 stops-kept replay stopped.Read from side read report mid reported images imaged is stops keeps = tt
 stops-kept replay stopped.Write from side read report mid reported images imaged is stops keeps = tt

@@ -34,7 +34,7 @@ turns-taken : (serve : Serve) (first old new : SessionView) (report told : Optio
 turns-taken serve first old new report told same agrees right begins takes =
     let from_first : Reports (InTurn IsTurn serve.turns) first new report told = subst (λ (v : SessionView). Reports (InTurn IsTurn serve.turns) v new report told) same takes in
     let s = served-as (InTurn IsTurn serve.turns) (λ events. Appends report told (gathered reported events)) first new from_first
-        (empty (record { width = serve.size.width; height = serve.size.height })) agrees in
+    (empty (record { width = serve.size.width; height = serve.size.height })) agrees in
     (stage_of serve.size first, s.0, s.2.events, moment s.2.desktop new, begins, s.1, s.2.runs, s.4 nobody right)
 
 pub turns-ok : {T : Type 0} (r : Result T Fault) (serve : Serve) (first old new : SessionView) (report told : Option (List ℕ)) → old ≡ first

@@ -19,9 +19,9 @@ pub record SpellsCall (object : ℕ) (interface : Interface) (version opcode : �
 
 -- A request at the front of a stream is found, whatever follows, and its body says what was spelled.
 pub record IsFound (object : ℕ) (interface : Interface) (version opcode : ℕ) (fields : List Field) (size : ℕ) (stream : List ℕ) : Type 0
-    where
-  pub header : split_of stream ≡ split.Message object opcode size
-  pub body : decoded interface version opcode (take (size - 8) (drop 8 stream)) ≡ Ok (says interface opcode fields)
+  where
+    pub header : split_of stream ≡ split.Message object opcode size
+    pub body : decoded interface version opcode (take (size - 8) (drop 8 stream)) ≡ Ok (says interface opcode fields)
 
 abbrev pub RequestsAreFound : Type 0
 RequestsAreFound =
@@ -41,7 +41,7 @@ EventsAreFound =
 abbrev pub NoRequestBeginsAnother : Type 0
 NoRequestBeginsAnother =
     (object object' : ℕ) (interface interface' : Interface) (version version' opcode opcode' : ℕ) (fields fields' : List Field)
-        (bytes more : List ℕ)
+    (bytes more : List ℕ)
     → SpellsCall object interface version opcode fields bytes
     → SpellsCall object' interface' version' opcode' fields' (bytes ++ more)
     → more ≡ []

@@ -45,5 +45,5 @@ pub too_great : (word : List ℕ) (i value : ℕ) → i < length word → value 
 too_great word i value h is great =
     let whole : 2 ^ 32 ≤ value_of word = omega (arith, value_of-more word i h, value_of-take word (i + 1), is) in
     let tests = and_right (nat_lt 0 (length word)) (list_all is_digit word && nat_lt (value_of word) (2 ^ 32)) (and_right (list_all is_digit word) (nat_lt (value_of word) (2 ^ 32))
-        (le-ltb (value_of word) (2 ^ 32) whole)) in
+    (le-ltb (value_of word) (2 ^ 32) whole)) in
     rw tests refl

@@ -79,7 +79,7 @@ place_at client store at =
 abbrev pub place_in : List ℕ → Option Place
 place_in text =
     place_at (number_of (first_word text)) (number_of (first_word (after_word text)))
-        (number_of (first_word (after_word (after_word text))))
+    (number_of (first_word (after_word (after_word text))))
 
 abbrev pub after_place : List ℕ → List ℕ
 after_place text = after_word (after_word (after_word text))

@@ -46,13 +46,13 @@ after_three text = after_word (after_word (after_word text))
 abbrev pub motion_in : List ℕ → Option PointerLine
 motion_in text =
     if is_blank (after_three text) then motion_by (first_word text) (first_word (after_word text))
-        (first_word (after_word (after_word text)))
+    (first_word (after_word (after_word text)))
     else None
 
 abbrev pub button_in : List ℕ → Option PointerLine
 button_in text =
     if is_blank (after_three text) then button_by (first_word text) (first_word (after_word text))
-        (first_word (after_word (after_word text)))
+    (first_word (after_word (after_word text)))
     else None
 
 -- a line by its first word and what follows it

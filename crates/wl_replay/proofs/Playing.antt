@@ -17,12 +17,12 @@ use Rattle.wl_replay.specs.Told.{Counts, IsFirst, Stage, Stands, and_then, words
 
 -- so many lines were played, with so many frames and clients, and the session stands for the last stage
 pub record PlayedTo {S : Type 0} (files : Files S) (first : Stage) (from to : S) (session : SessionView) (read left report reported images imaged : Option (List ℕ)) (lines frames clients : ℕ) : Type 0
-    where
-  pub run : Reported files first from to read left report reported images imaged
-  pub stands : Stands session run.last
-  pub lines_told : length run.lines ≡ lines
-  pub frames_told : run.told.frames ≡ frames
-  pub clients_told : run.told.clients ≡ clients
+  where
+    pub run : Reported files first from to read left report reported images imaged
+    pub stands : Stands session run.last
+    pub lines_told : length run.lines ≡ lines
+    pub frames_told : run.told.frames ≡ frames
+    pub clients_told : run.told.clients ≡ clients
 
 pub PlayedTo-none : {S : Type 0} (files : Files S) (first : Stage) (from : S) (session : SessionView) (read report images : Option (List ℕ)) → Stands session first
     → PlayedTo files first from from session read read report report images images 0 0 0

@@ -55,8 +55,12 @@ pub record IsFirst (config : Config) (stage : Stage) : Type 0 where
   pub desktop : stage.now.desktop ≡ empty (record { width = config.width; height = config.height })
   pub frame :
       stage.now.frame
-      ≡ record { width = config.width; height = config.height; background = config.background;
-          pixels = filled (config.width * config.height) config.background }
+      ≡ record {
+        width = config.width;
+        height = config.height;
+        background = config.background;
+        pixels = filled (config.width * config.height) config.background;
+      }
   pub damage : (x y : ℕ) → has stage.now.damage x y ≡ false
 
 -- A step leads from one stage to another: it happens, and its events are the next ones.

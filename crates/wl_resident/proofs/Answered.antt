@@ -70,7 +70,7 @@ owned-places names now a b shell other o same named kept is =
 
 module _ {A : Type 0} (time : ℕ) (old now new : Kept A) (r mid : Resident) (a : IsAnswered time r mid) (is : IsResident now mid) (id : ℕ)
     (due : IsNextDue id (numbered now.client.objects mid) mid.callbacks new.owned.surfaces.frames) (places : new.owned.surfaces.places ≡ now.owned.surfaces.places)
-        (shell : new.owned.shell ≡ now.owned.shell)
+    (shell : new.owned.shell ≡ now.owned.shell)
     (m : Peer) (queues : Queues (frame_told time id) (removed id mid.peer) m) (peer : IsPeer new.client m) where
   abbrev numbers : ById ℕ
   numbers = targets_in WlSurface now.client.objects
@@ -119,7 +119,7 @@ module _ {A : Type 0} (time : ℕ) (old now new : Kept A) (r mid : Resident) (a 
       let names = callback-gone now.client.objects new.client.objects id heard holds in
       let requests = told-requests (frame_told time c.id) (removed c.id mid.peer) m told lives in
       let left = framed-less now.owned.surfaces.frames new.owned.surfaces.frames (numbered now.client.objects mid) (mid.peer.requests + 1) mid.callbacks (due.before ++ due.after) is.frames due.others
-          in (
+      in (
         next,
         answered-on time mid due.before due.after c m a.status due.all_are nothing-before counts told r lives a,
         record {

@@ -189,7 +189,7 @@ module _ (time : ℕ) (mid : Resident) (before after : List Callback) (c : Callb
       subst (λ cs. Queues (flat_map (λ (callback : Callback). frame_told time callback.id) cs) (fold (λ p callback. removed callback.id p) m cs) q) due-now h in
       from-first q
       (queues-then (frame_told time c.id) rest_told (all_removed (ids_of rest) (removed c.id mid.peer)) (all_removed (ids_of rest) m) q
-          (removed-past (ids_of rest) (frame_told time c.id) (removed c.id mid.peer) m told lives)
+      (removed-past (ids_of rest) (frame_told time c.id) (removed c.id mid.peer) m told lives)
       (removed-status (ids_of rest) m ∙ lives) (subst (λ (p : Peer). Queues rest_told p q) (sym (fold-ids rest m)) now))
 
   abbrev left : Callback → Bool
@@ -198,7 +198,7 @@ module _ (time : ℕ) (mid : Resident) (before after : List Callback) (c : Callb
   left-now : filter left (before ++ after) ≡ filter left mid.callbacks
   left-now =
       filter-append left before after ∙ ap (λ b. filter left before ++ cond (not b) (c ∷ filter left after) (filter left after)) (sym due) ∙ sym (filter-append left before (c ∷ after))
-          ∙ ap (filter left) (sym all_are)
+      ∙ ap (filter left) (sym all_are)
 
   pub answered-on : (r : Resident) → m.status ≡ None → IsAnswered time r mid → IsAnswered time r without_it
   answered-on r lives is =

@@ -84,7 +84,7 @@ first-refused-by old new c r d refusal (Whole object opcode size) why is ended e
     let body = take (size - 8) (drop 8 r.peer.rest) in
     let judged : judge_all served_now r object opcode body ≡ Err refusal =
     judged-refused r.peer.objects r.peer.held (λ version m. demand_of served_now r object version m) opcode body (r.peer.objects object) refusal
-        (passing-peer old.client r.peer object opcode size (Err refusal) is.peer why) in (
+    (passing-peer old.client r.peer object opcode size (Err refusal) is.peer why) in (
       refused-whole old new c (with_peer (with_rest (drop size r.peer.rest) r.peer) r) d (judge_all served_now r object opcode body) refusal judged ended
           (errs.0, errs-dropped refusal r.peer errs.0 (drop size r.peer.rest) errs.1, errs.2),
       subst (λ (j : Result Demand Refusal). StacksSo old r j Stays) (sym judged) tt,
@@ -202,6 +202,6 @@ module _ {A : Type 0} (old : Kept A) (r : Resident) (object version size target 
       let has : OwnsToplevelsOnly left = only-peer r left.peer refl only in
       subst (λ (s : Split). TakesAs done s c r d old new) (sym whole-first)
       (subst (λ (j : Result Demand Refusal). AnswersAs done j c left d old new) (sym demanded-first) (decided-from done old mid new c left d (demand_of served_now left object version m) objects
-          (answers c left d there has)))
+      (answers c left d there has)))
 
 -- ---- where there is no whole message

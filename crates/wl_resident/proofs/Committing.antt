@@ -59,7 +59,7 @@ module _ (names : Names) (slots : Slots) (kept : ℕ → Option Kept) (r : Resid
       let xdg = xdg-of names slots kept r.owned is id number k.0 named k.1 in
       let now : changing number (kept_after serial (Configure placed)) kept number ≡ Some (kept_after serial (Configure placed) k.0) =
       ap (λ (b : Bool). if b then option_map (kept_after serial (Configure placed)) (kept number) else kept number) (eq-eqb number number refl)
-          ∙ ap (option_map (kept_after serial (Configure placed))) k.1 in
+      ∙ ap (option_map (kept_after serial (Configure placed))) k.1 in
       ap (told_of serial) now
       ∙ same-told serial k.0.id (at_stage Waiting) k.0.role (λ object. refl)
       ∙ sym (configures-read names kept r number k.0 xdg.0 xdg.1 xdg.2 0 serial)

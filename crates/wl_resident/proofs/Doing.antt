@@ -63,7 +63,7 @@ cut-bounds (Some k) s stands = (stands.history.cut_within, stands.history.commit
 pub asked-so : {A : Type 0} (old new : Kept A) (r : Resident) (id number : ℕ) (request : Request) → IsResident old r → IsSurface old id number → is_commit request ≡ false
     → ((v : Values) → (asked v request).buffer ≡ v.buffer)
     → ((g : Option Rect) → geometry_asked g request ≡ g) → frames_of (request ∷ []) ≡ [] → new.owned.surfaces.frames ≡ old.owned.surfaces.frames
-        → Changes old.owned.surfaces new.owned.surfaces number (asking request) → new.client ≡ old.client → kept_of new.owned.shell ≡ kept_of old.owned.shell
+    → Changes old.owned.surfaces new.owned.surfaces number (asking request) → new.client ≡ old.client → kept_of new.owned.shell ≡ kept_of old.owned.shell
     → ((changed_by (AskSurface id request) r).peer ≡ r.peer) × IsLeft old new (changed_by (AskSurface id request) r) r.peer
 asked-so old new r id number request is named plain keeps other asks_none frames changes same shell =
     let names = names_in old.client.objects in
@@ -79,7 +79,7 @@ asked-so old new r id number request is named plain keeps other asks_none frames
             let table : new.client.objects ≡ old.client.objects = ap (λ (w : ClientView). w.objects) same in
             subst (λ (ws : List Waiting). IsFramed ws new.client.objects (changed_by (AskSurface id request) r)) (sym frames)
             (framed-asked old.owned.surfaces.frames old.client.objects new.client.objects r (changed_by (AskSurface id request) r) refl (no-more r.peer.requests) is.frames old.owned.surfaces
-                is.owns.surfaces id number request asks_none named
+            is.owns.surfaces id number request asks_none named
             (ap names_in table) refl);
         numbers = λ alive. keeps-same old.client.objects new.client.objects (ap (λ (w : ClientView). w.objects) same);
       },

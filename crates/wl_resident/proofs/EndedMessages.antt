@@ -228,7 +228,7 @@ module _ {A : Type 0} (c : ℕ) (others : ℕ → ById ℕ) (base d : Desktop) (
       bare-shown bare any =
           sym (seated-shown c others base d r old stack before x y)
           ∙ any-rows numbers_then (is_shown_by c all_committed x y) (is_shown_by c all_then x y) stack.standing d.standing before.scene.standing (λ k s one has here. at k (is_of c number k) refl here)
-              any
+          any
         where
           there : (s : Surface) × (all_then number ≡ Some s)
           there = row-there id number named

@@ -167,7 +167,7 @@ module _ (old new : Held) (r after : Resident) (slots : Slots) (is : AreKept (ta
       → ((all : Numbered) (cs : List Callback) → StandForAll slots all → AreWaiting slots.frames all cs → is_some (all number) ≡ true → (n : ℕ) → IsNewNumber n all cs
       → AreWaiting frames (changed_at number (asking (Frame n)) all) (cs ++ record { number = n; id = callback } ∷ []))
       → after.callbacks ≡ r.callbacks ++ record { number = n; id = callback } ∷ [] → names_in new ≡ names_in old → after.owned.surfaces ≡ with_change id (asking (Frame n)) r.owned.surfaces
-          → IsFramed frames new after
+      → IsFramed frames new after
   framed-frame frames n callback numbered_so counted waits calls names surfaces =
       let all = numbered old r in
       let le : r.peer.requests + 1 ≤ n = omega (arith, numbered_so) in
@@ -178,7 +178,7 @@ module _ (old new : Held) (r after : Resident) (slots : Slots) (is : AreKept (ta
   pub framed-commit : (frames : List Waiting)
       → ((all : Numbered) (cs : List Callback) → AreWaiting slots.frames all cs → AreWaiting frames (changed_at number (λ s. applying (asking Commit s)) all) cs)
       → after.peer.requests ≡ r.peer.requests → after.callbacks ≡ r.callbacks → names_in new ≡ names_in old → after.owned.surfaces ≡ with_change id (λ s. applying (asking Commit s)) r.owned.surfaces
-          → IsFramed frames new after
+      → IsFramed frames new after
   framed-commit frames waits counted calls names surfaces =
       let all = numbered old r in
       rw (changed-so (λ s. applying (asking Commit s)) (λ s. refl) (ap (λ (x : Names). x.surfaces) names) surfaces, calls, counted)
@@ -187,7 +187,7 @@ module _ (old new : Held) (r after : Resident) (slots : Slots) (is : AreKept (ta
   pub framed-destroy : (left : Slots)
       → ((all : Numbered) (cs : List Callback) → AreWaiting slots.frames all cs → AreWaiting left.frames (with_at number None all) (filter (λ c. not (is_in (frames_at (all number)) c)) cs))
       → after.peer.requests ≡ r.peer.requests → after.callbacks ≡ filter (λ c. not (is_in (frames_at (numbered old r number)) c)) r.callbacks
-          → targets_in WlSurface new ≡ with_id id None (targets_in WlSurface old)
+      → targets_in WlSurface new ≡ with_id id None (targets_in WlSurface old)
       → after.owned.surfaces ≡ without_surface id r.owned.surfaces → IsFramed left.frames new after
   framed-destroy left waits counted calls names surfaces =
       let all = numbered old r in
@@ -226,7 +226,7 @@ framed-applied old new names r id number effect slots now are table is named f w
     let o = xdg_of id r.owned.shell in
     let after = after_surface id r (committed_on id r) in
     framed-commit old new r (effect_on id effect o after) slots kept framed id number there now.frames waits (effect-requests id effect o after) (effect-callbacks id effect o after)
-        (ap names_in table)
+    (ap names_in table)
     (effect-surfaces id effect o after)
 
 -- ---- what is told

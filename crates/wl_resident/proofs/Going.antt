@@ -113,7 +113,7 @@ pub going-told : (id : ℕ) (cs : List Callback) (calls : List ℕ) (released : 
     → (id_deleted id ∷ map id_deleted calls ++ released_told released) ≡ ((id_deleted id ∷ map (λ (c : Callback). id_deleted c.id) cs) ++ releases)
 going-told id cs calls released releases ids same =
     ap (λ es. id_deleted id ∷ es ++ released_told released) (ap (map id_deleted) ids ∙ ids-told cs) ∙ ap (λ es. (id_deleted id ∷ map (λ (c : Callback). id_deleted c.id) cs) ++ es)
-        (release-told released ∙ same)
+    (release-told released ∙ same)
 
 -- ---- what becomes of the client's table
 

@@ -183,7 +183,7 @@ module _ {A : Type 0} (c id number : ℕ) (current : Current A) (h : History) (i
       at false e =
           passed (and_left (s.client == c) (s.surface == id) e)
           (none-tree (is_window_of c id) (owner_at s) (λ w f. and_left (w.owner.client == c) (w.surface == id) (ap (λ (o : Owner). o.client == c) f ∙ e)) 17 (owned s.client).surfaces s.surface
-              s.place)
+          s.place)
 
   -- those of all toplevels
   pub windows-found : (ks ss : List Standing) → IsStack numbers ks ss → AllShow owned ss → Found (find (is_of c number) ks) (windows_on owned ss)
@@ -227,7 +227,7 @@ module _ {A : Type 0} (c : ℕ) (others : ℕ → ById ℕ) (base d : Desktop) (
   pub seated-found : (current : Current A) → IsTold v number (Some current) → IsRecordOf (option_map (record_showing current) (find (is_of c number) stack.standing)) (window_at c id d)
   seated-found current is =
       windows-found c id number current there.0.history (told-there (Some current) is) (desk-turned d seated.mapped c id there.0.history history-is) (owned_in d)
-          (ap (λ (o : Owned). o.surfaces.links) owned-is ∙ kept.links)
+      (ap (λ (o : Owned). o.surfaces.links) owned-is ∙ kept.links)
       history-is
       (with_numbers c (targets_in WlSurface v.client.objects) others) (subst AreOnce (sym (numbers-same c (targets_in WlSurface v.client.objects) others)) kept.once)
       (ap (λ (numbers : ById ℕ). numbers id) (numbers-same c (targets_in WlSurface v.client.objects) others) ∙ named)

@@ -465,7 +465,7 @@ module _ (c id : ℕ) (d e : Desktop) (was is : Option WindowRecord) (first : Is
   came w v k j a b other there =
       none-added (λ x y. any_record_has x y was || any_record_has x y is) old new (changes.changed (λ same. other (sym a ∙ same ∙ b))) x y wide high unmarked
       (ap (λ (n : Option WindowRecord). any_record_has (pos x) (pos y) n || any_record_has (pos x) (pos y) is) a
-          ∙ ap (λ (n : Option WindowRecord). any_record_has (pos x) (pos y) k || any_record_has (pos x) (pos y) n) b ∙ there)
+      ∙ ap (λ (n : Option WindowRecord). any_record_has (pos x) (pos y) k || any_record_has (pos x) (pos y) n) b ∙ there)
 
   both : (w v : Window) (k j : WindowRecord) → window_at c id d ≡ Some w → window_at c id e ≡ Some v → was ≡ Some k → is ≡ Some j → IsRecordOf (Some k) (Some w) → IsRecordOf (Some j) (Some v)
       → (b : Bool) → has_same_record w v ≡ b
@@ -475,7 +475,7 @@ module _ (c id : ℕ) (d e : Desktop) (was is : Option WindowRecord) (first : Is
       let of_v = found-of c id _ v at_e in
       let equal : k ≡ j = record-same c id w v of_w of_v k j so after same in
       none-added (λ x y. is_record_damaged rects x y j) old new (changes.stayed j (a ∙ ap (λ (n : WindowRecord). Some n) equal) b) x y wide high unmarked (damaged-so rects (pos x) (pos y) j v after
-          ∙ there)
+      ∙ there)
   both w v k j at_d at_e a b so after false other there =
       let of_w = found-of c id _ w at_d in
       let of_v = found-of c id _ v at_e in
@@ -525,7 +525,7 @@ module _ {A : Type 0} (c : ℕ) (others : ℕ → ById ℕ) (base d e : Desktop)
         let told = commits number commit lives (by_number numbers_then r.owned.surfaces) before.seat.owns.surfaces.stand in
         let change : AreChanges number (Some there.0) told.0.changes.items =
         subst (λ (o : Option Surface). AreChanges number o told.0.changes.items) (surface-read numbers_then old.owned.surfaces r.owned.surfaces before.seat.owns.surfaces id number named
-            ∙ there.1) told.2 in
+        ∙ there.1) told.2 in
         ap rects_applied told.1 ∙ ap rects_changed change.1 ∙ change.2.rects
 
     pub applied-by : (ask : Simple) → IsCommitOf a ask number → IsAppliedBy ask (history_of d c id) (rects_applied applied)
@@ -544,13 +544,13 @@ module _ {A : Type 0} (c : ℕ) (others : ℕ → ById ℕ) (base d e : Desktop)
       let stays : is_some (surface_at id (owned_in e c).surfaces) ≡ true =
       serves-keeps c r d before.based.there e more serves (status ∙ lives) ask told id t (sym (before.seat.owns.surfaces.numbered id) ∙ ap (λ (o : Option ℕ). is_some o) named) in
       let here = some-number (targets_in WlSurface new.client.objects id) (after.seat.owns.surfaces.numbered id ∙ ap (λ (o : Option Resident). is_some (surface_at id (owned_of o).surfaces))
-          (sym after.based.there) ∙ stays) in
+      (sym after.based.there) ∙ stays) in
       here.1 ∙ ap (λ n. Some n) (sym (keeps lives id number here.0 named here.1))
 
   module _ (unlinked : AreUnlinked base) (more : NoMore d) (serves : Serves served_now c d e) (a : Asked) (asks : IsAsked old.client a)
       (keeps : new.client.ended ≡ None → KeepsNumbers old.client.objects new.client.objects) (surface_number : Option ℕ) (by_asked : surface_number ≡ marked_by a)
       (record_was record_is : Option WindowRecord) (first : (id number : ℕ) → surface_number ≡ Some number → targets_in WlSurface old.client.objects id ≡ Some number
-          → IsRecordOf record_was (window_at c id d))
+      → IsRecordOf record_was (window_at c id d))
       (second : (id number : ℕ) → surface_number ≡ Some number → targets_in WlSurface new.client.objects id ≡ Some number → IsRecordOf record_is (window_at c id e))
       (applied : Option (Applied A)) (commits : (number : ℕ) → commit_by a ≡ Some number → TellsChange old new number applied)
       (lives : new.client.ended ≡ None) (d0 d2 : Damaged) (changes : MarksChange record_was record_is (rects_applied applied) d0 d2) where

@@ -119,7 +119,7 @@ targets-kept interface old new seen keeps =
 names-kept : (old new : Held) → KeepsSurfaces old new → names_in new ≡ names_in old
 names-kept old new keeps =
     names-with old new (targets_in WlSurface old) (targets_in XdgSurface old) (targets_in XdgToplevel old) (targets-kept WlSurface old new surface-seen keeps)
-        (targets-kept XdgSurface old new xdg-seen keeps) (targets-kept XdgToplevel old new toplevel-seen keeps)
+    (targets-kept XdgSurface old new xdg-seen keeps) (targets-kept XdgToplevel old new toplevel-seen keeps)
 
 -- ---- it is answered
 
@@ -147,7 +147,7 @@ own-left {A} old new r then q is owned callbacks more same keeps peer = record {
   frames = λ alive.
       subst (λ (o : Lent A). IsFramed o.surfaces.frames new.client.objects then) (sym same)
       (framed-names old.owned.surfaces.frames old.client.objects new.client.objects r then callbacks more is.frames (names-kept old.client.objects new.client.objects (keeps alive))
-          (ap (λ (o : Owned). o.surfaces) owned));
+      (ap (λ (o : Owned). o.surfaces) owned));
   numbers = λ alive. keeps-names old.client.objects new.client.objects (names-kept old.client.objects new.client.objects (keeps alive));
 }
 
@@ -169,8 +169,8 @@ own-requests (ResizePool store size) left n le = omega (arith, le)
 own-requests (DestroyPool id store) left n le = omega (arith, le)
 own-requests (DestroyBuffer id store) left n le =
     subst (λ (m : ℕ). n ≤ m)
-        (sym (kept-requests (has_used (λ number. is_used number left.owned.surfaces) (left.peer.buffers id)) left.peer.stores (changed (DestroyBuffer id store) (counted left.peer))))
-        (omega (arith, le))
+    (sym (kept-requests (has_used (λ number. is_used number left.owned.surfaces) (left.peer.buffers id)) left.peer.stores (changed (DestroyBuffer id store) (counted left.peer))))
+    (omega (arith, le))
 
 own-answered : {A : Type 0} (old new : Kept A) (r left : Resident) (judged : Result Action Refusal) (q : Peer) → IsResident old r → left.owned ≡ r.owned → left.callbacks ≡ r.callbacks
     → r.peer.requests ≤ left.peer.requests → new.owned ≡ old.owned → (new.client.ended ≡ None → KeepsSurfaces old.client.objects new.client.objects)
@@ -197,7 +197,7 @@ own-served old new r q is (object, version, size, target, m, passes, own) same k
     let used : ℕ → Bool = λ number. is_used number r.owned.surfaces in
     let judged : judge_all served_now r object m.opcode body ≡ demands (owns action) = demanded-first old r object version size target m passes is ∙ own-demand-of left object version m own in
     let judged_own : judge_own (known_of r.peer) object m.opcode body ≡ action =
-        judged-by old r object version size target m passes is (λ version m. action_of (known_of r.peer) object version (request_of m)) in
+    judged-by old r object version size target m passes is (λ version m. action_of (known_of r.peer) object version (request_of m)) in
     let taken : TakesWith used (Whole object m.opcode size) r.peer q = subst (λ (s : Split). TakesWith used s r.peer q) whole serves.1 in
     let answers : AnswersWith used action left.peer q = subst (λ (j : Result Action Refusal). AnswersWith used j left.peer q) judged_own taken in
     subst (λ (s : Split). TakesSo s c r d old new Stays) (sym whole) (

@@ -126,7 +126,7 @@ module _ {A : Type 0} (c : ℕ) (others : ℕ → ById ℕ) (base d : Desktop) (
   read : (id number : ℕ) → with_numbers c (targets_in WlSurface v.client.objects) others c id ≡ Some number → numbered number ≡ surface_at id (owned_in d c).surfaces
   read id number named =
       surface-read (targets_in WlSurface v.client.objects) v.owned.surfaces r.owned.surfaces kept id number
-          (sym (ap (λ (numbers : ById ℕ). numbers id) (numbers-same c (targets_in WlSurface v.client.objects) others)) ∙ named)
+      (sym (ap (λ (numbers : ById ℕ). numbers id) (numbers-same c (targets_in WlSurface v.client.objects) others)) ∙ named)
       ∙ sym (ap (λ (o : Owned). surface_at id o.surfaces) owned-is)
 
   -- the toplevels that are kept lie where its windows do
@@ -150,7 +150,7 @@ any-standing p (t ∷ ts) = ap (λ (b : Bool). p (standing_of t) || b) (any-stan
 -- one more of them
 pub marked-more : (slots : Slots) (c : ℕ) (toplevels : List Toplevel) (k : ℕ) (t : Toplevel) (old was new : Damaged) → k < length toplevels → AreMarked slots c (take k toplevels) old was
     → ((all : Numbered) → StandForAll slots all → (x y : ℕ) → x < was.width → y < was.height → has new x y ≡ (has was x y || is_shown_by c all (pos x) (pos y) (standing_of (get_or toplevels k t))))
-        → IsAsLarge was new
+    → IsAsLarge was new
     → AreMarked slots c (take (k + 1) toplevels) old new
 marked-more slots c toplevels k t old was new less is more sides = record {
   points = λ all stand x y wide high.

@@ -230,7 +230,7 @@ module _ {A : Type 0} (c : ℕ) (others : ℕ → ById ℕ) (base d : Desktop) (
       struck-by e path struck =
           let commit_is = commit-asks old r resident a asks number commit struck.ask struck.asks in
           follows-commit c others base d r old stack before more path e d0 d2 struck commit_is.0 number commit_is.1 commit_is.2 commit_is.3 record_was (first commit_is.0 number commit commit_is.3)
-              mid.owned.surfaces changes marked-with
+          mid.owned.surfaces changes marked-with
 
       by : (b : Bool) (e : Desktop) (q : Resident) (path : List Desktop) → ServesThrough served_now c d path e → RouteBy b c r d path e → TurnedIn true b (split_of r.peer.rest) r
           → IsSeated c others base new now e q → Follows d path d0 d2

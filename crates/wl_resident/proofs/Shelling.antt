@@ -113,7 +113,7 @@ pub toplevel-gone : (old mid new : ClientView) (id number : ℕ) → mid ≡ rec
 toplevel-gone old mid new id number only named holds =
     let entry = entry-named XdgToplevel old.objects id number named in
     names-toplevel-gone old.objects new.objects id entry.0 entry.1 (number-toplevel entry.0.interface entry.2)
-        (subst (λ (o : Held). HoldsAt o new.objects id None) (objects-counted old mid only) holds)
+    (subst (λ (o : Held). HoldsAt o new.objects id None) (objects-counted old mid only) holds)
 
 -- ---- what is judged
 
@@ -161,7 +161,7 @@ accepted {A} {old} new r judged ask e answers = subst (λ (j : Result Ask Refusa
 -- the object is an xdg_surface
 pub xdg-answered : {A : Type 0} (old new : Kept A) (object number version : ℕ) (request : XdgSurfaceRequest) (c : ℕ) (d : Desktop) (r : Resident) → IsResident old r → IsXdgSurface old object number
     → ((k : KeptXdg) (x : Xdg) (h : History) → IsXdg (names_in old.client.objects) (kept_of old.owned.shell) r.owned number k x h → x.id ≡ object
-        → AnswersWhole (xdg_asked r (Some x) version request) c r d old new)
+    → AnswersWhole (xdg_asked r (Some x) version request) c r d old new)
     → AnswersWhole (xdg_demand r object version request) c r d old new
 xdg-answered old new object number version request c d r is named answers =
     let one = xdg-named (names_in old.client.objects) old.owned.surfaces (kept_of old.owned.shell) r.owned is.owns object number named in
@@ -170,7 +170,7 @@ xdg-answered old new object number version request c d r is named answers =
 -- the object is a toplevel
 pub toplevel-answered : {A : Type 0} (old new : Kept A) (object number : ℕ) (judged : Option Xdg → Result Simple Refusal) (r : Resident) → IsResident old r → IsToplevel old object number
     → ((k : KeptXdg) (x : Xdg) (h : History) → IsXdg (names_in old.client.objects) (kept_of old.owned.shell) r.owned number k x h → is_role object x.role ≡ true
-        → AnswersSimply (judged (Some x)) r old new)
+    → AnswersSimply (judged (Some x)) r old new)
     → AnswersSimply (judged (xdg_with object r.owned.shell)) r old new
 toplevel-answered old new object number judged r is named answers =
     let one = toplevel-named (names_in old.client.objects) old.owned.surfaces (kept_of old.owned.shell) r.owned is.owns object number named in
@@ -188,7 +188,7 @@ told-err judged ask refusal answer told error e same err = e ∙ ap (asks_by ask
 -- an error is told with the xdg_wm_base that made the xdg_surface
 pub xdg-refused : {A : Type 0} (old new : Kept A) (mid : ℕ → Option KeptXdg) (r : Resident) (object number : ℕ) (k : KeptXdg) (x : Xdg) (h : History) (error : ShellError) (judged : Result Ask Refusal)
     → IsXdg (names_in old.client.objects) (kept_of old.owned.shell) r.owned number k x h → x.id ≡ object → judged ≡ Err (shell_refusal x.base x.id object error) → mid ≡ kept_of old.owned.shell
-        → is_some new.client.ended ≡ true
+    → is_some new.client.ended ≡ true
     → (q : Peer) × Errs (shell_refusal (kept_base (mid number)) object object error) r.peer q × IsPeer new.client q → AnswersSo judged r old new
 xdg-refused old new mid r object number k x h error judged one same e still ended errs =
     let base : kept_base (mid number) ≡ x.base = ap (λ (o : ℕ → Option KeptXdg). kept_base (o number)) still ∙ ap kept_base one.here ∙ one.stands.base in
@@ -217,7 +217,7 @@ counted-on {A} old mid r is only same peer = record {
       (rw same is.owns);
   frames = subst (λ (o : Lent A). IsFramed o.surfaces.frames mid.client.objects (with_peer (counted r.peer) r)) (sym same)
       (framed-names old.owned.surfaces.frames old.client.objects mid.client.objects r (with_peer (counted r.peer) r) refl (one-more r.peer.requests) is.frames
-          (names-counted old.client mid.client only) refl);
+      (names-counted old.client mid.client only) refl);
 }
 
 -- it is refused with what was made
@@ -340,7 +340,7 @@ owns-told new owned names o named same is = rw (named, same) is
 -- what was read is what the definition reads
 pub making-read : (read_role is_role read_content is_content : Bool) (k : Option KeptXdg) (told : Result (Unit {0}) ShellError) → read_role ≡ is_role → read_content ≡ is_content
     → MatchOption (making_refused read_role read_content k) (IsOkUnless told failed.Memory) (λ e. told ≡ Err e) → MatchOption (making_refused is_role is_content k) (IsOkUnless told failed.Memory)
-        (λ e. told ≡ Err e)
+    (λ e. told ≡ Err e)
 making-read read_role is_role read_content is_content k told role content refuses =
     subst (λ b. MatchOption (making_refused is_role b k) (IsOkUnless told failed.Memory) (λ e. told ≡ Err e)) content
     (subst (λ b. MatchOption (making_refused b read_content k) (IsOkUnless told failed.Memory) (λ e. told ≡ Err e)) role refuses)

@@ -331,7 +331,7 @@ module _ {A : Type 0} (c : ℕ) (others : ℕ → ById ℕ) (base d : Desktop) (
         (h.0, (q, h.1, refl)),
         become-gone q.status s c others base d (with_peer p r) q new now ended
             (sits-gone s c (numbers old) others base d d r (with_peer p r) q mid new was now is.based (itself c d) is.scene is.left.peer (nameless-over mid.client q is.left.peer (lacks-over p q h.1))
-                left),
+            left),
       )
 
   -- ---- one that lives
@@ -434,12 +434,20 @@ module _ {A : Type 0} (c : ℕ) (others : ℕ → ById ℕ) (base d : Desktop) (
       → ((id : ℕ) → judged ≡ Ok (CommitSurface id Maps) → told_simply (CommitSurface id Maps) (with_peer (counted p) r) ≡ [])
       → AnswersSimplyAs done judged (with_peer p r) old mid → StacksSimply old r judged stacking
       → (e : Desktop) × (s : Resident) × (b : Bool) × ((b ≡ done) ⊎ ((done ≡ true) × (b ≡ false) × ((id : ℕ) × (judged ≡ Ok (CommitSurface id Maps))))) × AnswersAs b judged c (with_peer p r) d e
-          × Sits c others base new now e s
+      × Sits c others base new now e s
   answered done (Ok ask) p lives quiet answers stacks =
       let acts = acted-peer done ask r (counted p) old mid answers in
       let a = acted c others base d r (counted p) ask done acts.0 stacking old mid was
-      (record { based = based; once = once; scene = scene; lives = lives; acts = acts.1; left = acts.2; stacks = stacks-so c ask old r (counted p) d stacking stacks;
-          quiet = λ id e. quiet id (ap (λ (a : Simple). Ok a) e) })
+      (record {
+        based = based;
+        once = once;
+        scene = scene;
+        lives = lives;
+        acts = acts.1;
+        left = acts.2;
+        stacks = stacks-so c ask old r (counted p) d stacking stacks;
+        quiet = λ id e. quiet id (ap (λ (a : Simple). Ok a) e);
+      })
       new now settled in
       (a.0, a.1, a.2, turned a.2 a.3, done-so a.2 ask c (with_peer p r) d a.0 a.4, a.5)
     where
@@ -463,12 +471,12 @@ module _ {A : Type 0} (c : ℕ) (others : ℕ → ById ℕ) (base d : Desktop) (
 
   taken : (done : Bool) (split : Split) → r.peer.status ≡ None
       → ((id object opcode : ℕ) (body : List ℕ) (p : Peer) → judge r object opcode body ≡ Ok (CommitSurface id Maps) → told_simply (CommitSurface id Maps) (with_peer p r) ≡ [])
-          → TakesSimplyAs done split r old mid → StacksIn split old r stacking
+      → TakesSimplyAs done split r old mid → StacksIn split old r stacking
       → (e : Desktop) × (s : Resident) × (b : Bool) × TurnedIn done b split r × TakesAs b split c r d e × Sits c others base new now e s
   taken done (Whole object opcode size) lives quiet takes stacks =
       let left : Resident = with_peer (with_rest (drop size r.peer.rest) r.peer) r in
       answered done (judge r object opcode (take (size - 8) (drop 8 r.peer.rest))) left.peer lives (λ id e. quiet id object opcode (take (size - 8) (drop 8 r.peer.rest)) (counted left.peer) e) takes
-          stacks
+      stacks
   taken true Bad lives quiet takes stacks = absurd takes
   taken false Bad lives quiet takes stacks =
       let a = answered false (Err (display_error InvalidMethod)) r.peer lives (λ id e. absurd (cc)) takes tt in
@@ -500,12 +508,12 @@ sits-seated c others base v stack e s sits mapped =
 abbrev pub Served : {A : Type 0} → Bool → ℕ → (ℕ → ById ℕ) → Desktop → Desktop → Resident → Kept A → Stack → Type 0
 Served done c others base d r new now =
     (e : Desktop) × (s : Resident) × (path : List Desktop) × (b : Bool) × TurnedIn done b (split_of r.peer.rest) r × ServesThrough served_now c d path e × RouteBy b c r d path e
-        × IsSeated c others base new now e s
+    × IsSeated c others base new now e s
 
 pub served : {A : Type 0} (done : Bool) (c : ℕ) (others : ℕ → ById ℕ) (base d : Desktop) (r : Resident) (stacking : Stacking) (old mid new : Kept A) (was now : Stack)
     → IsSeated c others base old was d r → old.client.ended ≡ None → NoMore d
     → TakesSimplyAs done (split_of r.peer.rest) r old mid → StacksIn (split_of r.peer.rest) old r stacking → IsSettledBy mid.client.ended c stacking mid new was now
-        → Served done c others base d r new now
+    → Served done c others base d r new now
 served done c others base d r stacking old mid new was now is lives more takes stacks settled =
     let alive : r.peer.status ≡ None = sym is.seat.peer.status ∙ lives in
     let owns = is.seat.owns in

@@ -147,7 +147,7 @@ module _ (c id : ℕ) (d e : Desktop) (was is : Option WindowRecord) (first : Is
   came : (k j : Option WindowRecord) → was ≡ k → is ≡ j → (k ≡ j → ⊥) → (any_record_has (pos x) (pos y) k || any_record_has (pos x) (pos y) j) ≡ true
   came k j a b other =
       sym (ap (λ (n : Option WindowRecord). any_record_has (pos x) (pos y) n || any_record_has (pos x) (pos y) is) a
-          ∙ ap (λ (n : Option WindowRecord). any_record_has (pos x) (pos y) k || any_record_has (pos x) (pos y) n) b)
+      ∙ ap (λ (n : Option WindowRecord). any_record_has (pos x) (pos y) k || any_record_has (pos x) (pos y) n) b)
       ∙ added (λ x y. any_record_has x y was || any_record_has x y is) old new (changes.changed (λ same. other (sym a ∙ same ∙ b))) x y wide high clean marked
 
   both : (w v : Window) (k j : WindowRecord) → window_at c id d ≡ Some w → window_at c id e ≡ Some v → was ≡ Some k → is ≡ Some j → IsRecordOf (Some k) (Some w) → IsRecordOf (Some j) (Some v)
@@ -218,7 +218,7 @@ module _ {A : Type 0} (c : ℕ) (others : ℕ → ById ℕ) (base d e : Desktop)
           let asked_number : surface_number ≡ Some m.0 = by_asked ∙ m.1 in
           let named = still-named c others base d e r q old new was now before after more serves keeps told.0 id m.0 told.1 t.1 m.2 lives in
           serves-within c r d before.based.there _ _ _ before.seat.owns before.mapped (seated-unlinked c others base d old was r before unlinked) (pos x) (pos y) e more serves alive told.0 told.1 id
-              t.1
+          t.1
           (rects_applied applied) (applied-by c others base d e r q old new was now before after a applied commits id m.0 m.2 lives told.0 m.3) inside
           (changes-there c id d e record_was record_is (first id m.0 asked_number m.2) (second id m.0 asked_number named) (rects_applied applied) d0 d2 changes x y wide high clean marked)
 

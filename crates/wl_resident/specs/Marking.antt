@@ -84,7 +84,7 @@ IsStill old new =
     (all : Numbered) → StandForAll old.owned.surfaces all
     → (later : Numbered) × StandForAll new.owned.surfaces later
     × ((number : ℕ) (s : Surface) → all number ≡ Some s → is_some (kept_of old.owned.shell number) ≡ true
-        → counted_at (later number) ≡ Some (counting s.history))
+    → counted_at (later number) ≡ Some (counting s.history))
 
 -- ---- the window of a surface
 
@@ -178,7 +178,7 @@ commit_by asked = None
 abbrev pub TellsChange : {A : Type 0} → Kept A → Kept A → ℕ → Option (Applied A) → Type 0
 TellsChange {A} old new number applied =
     new.client.ended ≡ None → (all : Numbered) → StandForAll old.owned.surfaces all → (a : Applied A) × (applied ≡ Some a)
-        × AreChanges number (all number) a.changes.items
+    × AreChanges number (all number) a.changes.items
 
 -- What a commit of the surface with this number, which told this, made of what is kept of the client's surfaces.
 abbrev pub IsCommitted : {A : Type 0} → Slots → Slots → ℕ → Option (Applied A) → Type 0

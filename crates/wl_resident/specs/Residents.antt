@@ -191,7 +191,7 @@ Stacks judged old stacking = (r : Resident) → IsResident old r → OwnsTopleve
 abbrev pub TakesSo : {A : Type 0} → Split → ℕ → Resident → Desktop → Kept A → Kept A → Stacking → Type 0
 TakesSo (Whole object opcode size) c r d old new stacking =
     AnswersSo (judge_all served_now r object opcode (take (size - 8) (drop 8 r.peer.rest))) c
-        (with_peer (with_rest (drop size r.peer.rest) r.peer) r) d old new
+    (with_peer (with_rest (drop size r.peer.rest) r.peer) r) d old new
     × StacksSo old r (judge_all served_now r object opcode (take (size - 8) (drop 8 r.peer.rest))) stacking
 TakesSo Bad c r d old new stacking = AnswersSo (Err (display_error InvalidMethod)) c r d old new
 TakesSo More c r d old new stacking = ⊥
@@ -200,7 +200,7 @@ TakesSo More c r d old new stacking = ⊥
 abbrev pub TakesAs : {A : Type 0} → Bool → Split → ℕ → Resident → Desktop → Kept A → Kept A → Type 0
 TakesAs done (Whole object opcode size) c r d old new =
     AnswersAs done (judge_all served_now r object opcode (take (size - 8) (drop 8 r.peer.rest))) c
-        (with_peer (with_rest (drop size r.peer.rest) r.peer) r) d old new
+    (with_peer (with_rest (drop size r.peer.rest) r.peer) r) d old new
 TakesAs done Bad c r d old new = AnswersAs done (Err (display_error InvalidMethod)) c r d old new
 TakesAs done More c r d old new = ⊥
 

@@ -300,7 +300,7 @@ pub Tells-one : (P : List Act → Type 0) (act : Act) (done : Done) (old new : S
     → hs ≡ Single act done ∷ [])
     → TakesCourse act done old new → P (act ∷ [])
     → ((d e : Desktop) → Agrees old.desk d → Appends report told (reported (Single act done) (moment d old) (moment e new))
-        × Appends images imaged (pictured (Single act done) (moment d old) (moment e new)))
+    × Appends images imaged (pictured (Single act done) (moment d old) (moment e new)))
     → Tells P old new report told images imaged
 Tells-one P act done old new report told images imaged parts takes p shown = λ d agrees.
     let course = takes d agrees in

@@ -33,7 +33,7 @@ ShowsScratch liars events =
     (before : List Event) (frame : Event) (later : List Event) (broke : ℕ → Bool) (x y : ℕ)
     → events ≡ before ++ frame ∷ later → is_frame frame.happening ≡ true → AreLiars liars (before ++ frame ∷ []) broke
     → x < frame.before.frame.width → y < frame.before.frame.height
-        → is_covered all_windows broke frame.before.desktop (pos x) (pos y) ≡ false
+    → is_covered all_windows broke frame.before.desktop (pos x) (pos y) ≡ false
     → color_at frame.after.frame x y ≡ scratch frame.before.frame.background frame.before.desktop (pos x) (pos y)
 
 -- A session went from old to new by acts of which P holds, and of their events Q. Where it was right but for some clients, its frames are,
@@ -44,7 +44,7 @@ IsServed P Q old new =
     → (acts : List Act) × P acts × (went : Went acts old new d) × Q went.events
     × ((liars : ℕ → Bool) → IsRightBut liars (moment d old) → ShowsScratch liars went.events)
     × ((liars last : ℕ → Bool) → AreLiars liars went.events last → IsRightBut liars (moment d old)
-        → IsRightBut last (moment went.desktop new))
+    → IsRightBut last (moment went.desktop new))
 
 -- These are the acts of the first n, from 1, one after another: first those of 1, then those of 2, and so on.
 unfoldable pub InTurn : (ℕ → List Act → Type 0) → ℕ → List Act → Type 0

@@ -106,11 +106,11 @@ IsToldOf report told images imaged events = Appends report told (gathered report
 abbrev pub Reports : (List Act → Type 0) → SessionView → SessionView → Option (List ℕ) → Option (List ℕ) → Type 0
 Reports P old new report told =
     (d : Desktop) → Agrees old.desk d → (acts : List Act) × P acts × (went : Went acts old new d)
-        × Appends report told (gathered reported went.events)
+    × Appends report told (gathered reported went.events)
 
 -- The same, and the images show them.
 abbrev pub Tells : (List Act → Type 0) → SessionView → SessionView → Option (List ℕ) → Option (List ℕ) → Option (List ℕ) → Option (List ℕ)
     → Type 0
 Tells P old new report told images imaged =
     (d : Desktop) → Agrees old.desk d → (acts : List Act) × P acts × (went : Went acts old new d)
-        × IsToldOf report told images imaged went.events
+    × IsToldOf report told images imaged went.events

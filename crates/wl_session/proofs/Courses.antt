@@ -92,7 +92,7 @@ few-through h old new d e path raised a b leads most = λ x y wide high again. a
 pub marked-course : (act : Act) (done : Done) (old new : SessionView) → is_tick act ≡ false → IsSingle act → AreParts act done (Single act done ∷ []) → new.frame ≡ old.frame
     → HasItsSides old.damage new.damage
     → TakesStep act done old.desk new.desk → MarksStep act done (marked old) (marked new) → MarksNoMore act done (marked old) (marked new)
-        → (is_quiet_act act ≡ true → MarksNothing (marked old) (marked new)) → TakesCourse act done old new
+    → (is_quiet_act act ≡ true → MarksNothing (marked old) (marked new)) → TakesCourse act done old new
 marked-course act done old new tick single parts frame sides step marks most quiet = λ d a.
     let e = step d a in
     course-of act done old new d e.0 single parts a e.1 e.2
@@ -186,8 +186,7 @@ pub took-then : (client : ℕ) (old mid new : SessionView) (d : Desktop) → (s 
     → (t : Took client old new d) × (t.desktop ≡ s.desktop)
 took-then client old mid new d s damage frame agrees =
     let same : moment s.desktop mid ≡ moment s.desktop new =
-    ap (λ (m : Damaged). record { desktop = s.desktop; damage = m; frame = mid.frame }) (sym damage) ∙ ap (λ (i : Image). record { desktop = s.desktop; damage = new.damage; frame = i }) (sym frame) in
-        (
+    ap (λ (m : Damaged). record { desktop = s.desktop; damage = m; frame = mid.frame }) (sym damage) ∙ ap (λ (i : Image). record { desktop = s.desktop; damage = new.damage; frame = i }) (sym frame) in (
       record {
         count = s.count;
         desktop = s.desktop;
@@ -280,7 +279,7 @@ fed-course client piece done old kept new d frame damage a s happens b = at (cli
 pub lacking-course : (client : ℕ) (piece : List ℕ) (done : Done) (old new : SessionView) (d e : Desktop) → new.frame ≡ old.frame → HasItsSides old.damage new.damage → Agrees old.desk d
     → status_of (peer_at client d) ≡ fed.Alive
     → Ends client cause.Memory d e → MarksAtLeast d e old.damage new.damage → MarksMost d e old.damage new.damage → Happens served_now (Feed client piece) done d e → Agrees new.desk e
-        → Course (Feed client piece) done old new d
+    → Course (Feed client piece) done old new d
 lacking-course client piece done old new d e frame sides a alive ends marks most happens b = at (client_at client d) refl
   where
     by : (t : Option Cause) (r : Resident) → client_at client d ≡ Some r → r.peer.status ≡ t → Course (Feed client piece) done old new d

@@ -70,7 +70,7 @@ reaches-ended : (c n : ℕ) (s : Cause) (r : Resident) (d new : Desktop) → cli
 reaches-ended c zero s r d new is over h = h
 reaches-ended c (suc n) s r d new is over h =
     let served : StepServesAt served_now c (Some r) h.0 new = subst (λ (o : Option Resident). StepServesAt served_now c o h.0 new)
-        (ap (λ (x : Desktop). client_at c x) (reaches-ended c n s r d h.0 is over h.1) ∙ is) h.2 in
+    (ap (λ (x : Desktop). client_at c x) (reaches-ended c n s r d h.0 is over h.1) ∙ is) h.2 in
     let clash : Some s ≡ None = sym over ∙ served.0 in
     absurd (cc)
 

@@ -150,9 +150,9 @@ tick-scratch time begun from to past (e ∷ (f ∷ fs)) liars broke right all ap
 tick-scratch time begun from to past (e ∷ []) liars broke right all apart parts leads holds x y w h clear =
     let is : e.happening ≡ Single (Tick time) gave.Tick = first time e.happening parts in
     let shows : (m : Moment) → e.before ≡ m → x < m.frame.width → y < m.frame.height → is_covered all_windows broke m.desktop (pos x) (pos y) ≡ false
-        → color_at e.after.frame x y ≡ scratch m.frame.background m.desktop (pos x) (pos y) =
+    → color_at e.after.frame x y ≡ scratch m.frame.background m.desktop (pos x) (pos y) =
     λ m same. subst (λ (n : Moment). x < n.frame.width → y < n.frame.height → is_covered all_windows broke n.desktop (pos x) (pos y) ≡ false
-        → color_at e.after.frame x y ≡ scratch n.frame.background n.desktop (pos x) (pos y)) same
+    → color_at e.after.frame x y ≡ scratch n.frame.background n.desktop (pos x) (pos y)) same
     (frame-scratch served_now past e begun to liars broke all apart (ap is_frame is) holds right x y) in
     ap (λ (m : Moment). color_at m.frame x y) leads.2 ∙ shows from leads.0 w h clear
 
@@ -174,7 +174,7 @@ ran-more steps i x old mid new films first d h ran leads =
       events = ran.events ++ course.events;
       runs = subst (λ acts. Runs served_now (moment d old) acts (ran.events ++ course.events) (moment course.desktop new)) (sym acts)
           (runs-last served_now (map act_of (take i steps)) (act_of (get_or steps i x)) (moment d old) (moment ran.desktop mid) (moment course.desktop new) ran.events course.events next.0 ran.runs
-              course.happens course.parts course.leads);
+          course.happens course.parts course.leads);
       apart = apart-then ran.events course.events ran.apart course.apart;
       shots = subst (λ es. AreShots es (films ++ first)) (sym (frames-then ran.events course.events)) (shots-then (frames_of ran.events) (frames_of course.events) films first ran.shots next.2);
       agrees = course.agrees;

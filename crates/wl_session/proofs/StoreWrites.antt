@@ -80,7 +80,7 @@ value-in d (Some x) = x
 same-buffer : (before after : ℕ → Owned) (w v : Window) → Fields w v → (after v.owner.client).surfaces ≡ (before v.owner.client).surfaces → IsShown before w → IsShown after v → w.buffer ≡ v.buffer
 same-buffer before after w v f same s t =
     let there : history_in v.surface (before v.owner.client).surfaces ≡ Some s.0 = subst (λ n. history_in n (before v.owner.client).surfaces ≡ Some s.0) f.surface
-        (subst (λ n. history_in w.surface (before n).surfaces ≡ Some s.0) f.client s.1) in
+    (subst (λ n. history_in w.surface (before n).surfaces ≡ Some s.0) f.client s.1) in
     let here : history_in v.surface (before v.owner.client).surfaces ≡ Some t.0 = subst (λ (a : Surfaces). history_in v.surface a ≡ Some t.0) same t.1 in
     let histories : s.0 ≡ t.0 = ap (value-in s.0) (sym there ∙ here) in
     let buffers : Some w.buffer ≡ Some v.buffer = sym s.2 ∙ ap (λ (h : History). (applied h).buffer) histories ∙ t.2 in
@@ -103,7 +103,7 @@ color-is d w v x y f b =
     ∙ ap (λ c. pixel_at (bytes_in d c w.buffer.store) w.buffer (point_at w x y)) f.client
     ∙ ap (λ (a : Buffer). pixel_at (bytes_in d v.owner.client a.store) a (point_at w x y)) b
     ∙ ap (λ (p : ℕ × ℕ). pixel_at (bytes_in d v.owner.client v.buffer.store) v.buffer p) (points-same x y w.transform v.transform w.width v.width w.height v.height w.corner.x v.corner.x w.corner.y
-        v.corner.y f.transform f.width f.height f.x f.y)
+    v.corner.y f.transform f.width f.height f.x f.y)
 
 -- ---- a busy buffer keeps its colours
 
@@ -167,12 +167,12 @@ same-colors old new x y w v keeps f b s t here =
     let within = point-within (transform_of v.transform) v.width v.height (unsigned_abs (x -ℤ v.corner.x)) (unsigned_abs (y -ℤ v.corner.y)) v.buffer.width v.buffer.height t.3 t.4 across down in
     let there : history_in w.surface (owned_in old c).surfaces ≡ Some s.0 = subst (λ n. history_in w.surface (owned_in old n).surfaces ≡ Some s.0) f.client s.1 in
     let unwritten = found-none (is_rewritten_at old new c p.0 p.1) (owned_in old c).surfaces.surfaces (λ (z : Surface). z.id == w.surface) s.0 v.buffer (keeps p.0 p.1) there (s.2
-        ∙ ap (λ (a : Buffer). Some a) b) in
+    ∙ ap (λ (a : Buffer). Some a) b) in
     let was = pixel_at (bytes_in old c v.buffer.store) v.buffer p in
     subst (λ (q : Argb). is_same_color q (color_in new v x y) ≡ true) (sym (color-is old w v x y f b))
     (subst (λ (q : Argb). is_same_color was q ≡ true) (sym (color-is new v v x y (self v) refl))
     (not-rewritten (nat_lt p.0 v.buffer.width) (nat_lt p.1 v.buffer.height) (is_same_color (pixel_at (bytes_in old c v.buffer.store) v.buffer p) (pixel_at (bytes_in new c v.buffer.store) v.buffer p))
-        unwritten (fits p.0 v.buffer.width within.0) (fits p.1 v.buffer.height within.1)))
+    unwritten (fits p.0 v.buffer.width within.0) (fits p.1 v.buffer.height within.1)))
 
 pub any-none : {X : Type 0} (p : X → Bool) (xs : List X) → Each (λ x. p x ≡ false) xs → list_any p xs ≡ false
 any-none p [] e = refl
@@ -205,7 +205,7 @@ hides-nothing shown old new c here there keeps = λ x y.
     (each-map (λ (v : Window). ((v.owner.client == c) ≡ true) × IsShown (owned_in new) v) (λ v. list_any (λ w. is_hidden_in old new x y w v) (windows_by shown c old) ≡ false)
     (λ v t. any-none (λ w. is_hidden_in old new x y w v) (windows_by shown c old)
     (each-map (λ (w : Window). ((w.owner.client == c) ≡ true) × IsShown (owned_in old) w) (λ w. is_hidden_in old new x y w v ≡ false) (λ w s. not-hidden old new c x y w v keeps s.0 t.0 s.1 t.1)
-        (windows_by shown c old) before))
+    (windows_by shown c old) before))
     (windows_by shown c new) after)
 
 pub write_hides_nothing : WriteHidesNothing

@@ -62,7 +62,7 @@ same-color c d e =
     let second = and-right ((c.a == d.a) && (c.r == d.r)) _ e in
     color-is c.a d.a c.r d.r c.g d.g c.b d.b
     (eqb-true c.a d.a (and-left (c.a == d.a) _ first)) (eqb-true c.r d.r (and-right (c.a == d.a) _ first)) (eqb-true c.g d.g (and-left (c.g == d.g) _ second))
-        (eqb-true c.b d.b (and-right (c.g == d.g) _ second))
+    (eqb-true c.b d.b (and-right (c.g == d.g) _ second))
 
 not-hidden : (a b s n : Bool) → (a && (b && (not s && not n))) ≡ false → a ≡ true → b ≡ true → n ≡ false → s ≡ true
 not-hidden true true true false e f g h = refl
@@ -75,12 +75,12 @@ colors-stay : (shown : Showing) (liars : ℕ → Bool) (old new : Desktop) (x y 
 colors-stay shown liars old new x y keep clear i j w v before after same here none =
     let honest = without (liars v.owner.client) (contains v x y) (none-at (covers_at liars x y) (shown new) j v after clear) here in
     let unhidden = none-kept (λ z. z.owner.client == v.owner.client) (λ z. list_any (λ b. is_hidden_in old new x y b z) (windows_by shown v.owner.client old)) (shown new) j v after
-        (same-number v.owner.client) (keep v.owner.client honest x y) in
+    (same-number v.owner.client) (keep v.owner.client honest x y) in
     let seen = none-kept (λ z. z.owner.client == v.owner.client) (λ b. is_hidden_in old new x y b v) (shown old) i w before (equal-numbers w.owner.client v.owner.client (fields w v same).client)
-        unhidden in
+    unhidden in
     same-color (color_in old w x y) (color_in new v x y)
     (not-hidden (has_same_record w v) (contains v x y) (is_same_color (color_in old w x y) (color_in new v x y)) (applied_between old new v.owner.client v.surface (x -ℤ v.corner.x) (y -ℤ v.corner.y))
-        seen same here none) where
+    seen same here none) where
       without : (a b : Bool) → (a && b) ≡ false → b ≡ true → a ≡ false
       without true b e f = absurd (differ (sym e ∙ f))
       without false b e f = refl
@@ -103,5 +103,5 @@ covered-still shown liars old new x y inside unmarked clear =
     (λ w e. and-both (contains w x y) (not (is_kept_in (shown new) w)) (and-right (liars w.owner.client) (contains w x y) e)
     (ap not (unless (is_kept_in (shown new) w) (λ kept. differ (sym clear ∙ any-more (has_same_record w) (covers_at liars x y)
     (λ v same. and-both (liars v.owner.client) (contains v x y) (sym (ap liars (fields w v same).client) ∙ and-left (liars w.owner.client) (contains w x y) e) (sym (contains-same x y w v same)
-        ∙ and-right (liars w.owner.client) (contains w x y) e))
+    ∙ and-right (liars w.owner.client) (contains w x y) e))
     (shown new) kept))))))

@@ -93,6 +93,6 @@ IsSeen acts films old new =
     (d : Desktop) → Agrees old.desk d
     → (ran : Ran acts films old new d)
     × ((liars : ℕ → Bool) (sight : Sight) → IsRightBut liars (moment d old) → Holds sight old.frame
-        → SeesScratch liars sight old.frame ran.events films)
+    → SeesScratch liars sight old.frame ran.events films)
     × ((liars last : ℕ → Bool) → AreLiars liars ran.events last → IsRightBut liars (moment d old)
-        → IsRightBut last (moment ran.desktop new))
+    → IsRightBut last (moment ran.desktop new))

@@ -61,7 +61,7 @@ raised_by happening d = None
 abbrev pub MarksFew : Option (ℕ × ℕ) → Desktop → List Desktop → Damaged → Damaged → Type 0
 MarksFew raised d path old new =
     (x y : ℕ) → x < old.width → y < old.height → has new x y ≡ true
-        → (has old x y || marks_at_most_through all_windows raised d path (pos x) (pos y)) ≡ true
+    → (has old x y || marks_at_most_through all_windows raised d path (pos x) (pos y)) ≡ true
 
 -- A message marks what it has to by its own change, and by each end and each settling in turn.
 abbrev pub MarksEach : Happening → Desktop → List Desktop → Damaged → Damaged → Type 0

@@ -13,7 +13,7 @@ use Rattle.wl_laws.specs.Others.{client_of}
 abbrev pub OthersStay : Type 0
 OthersStay =
     (act : Act) (old new : Desktop) (done : Done) (other : ℕ) → is_tick act ≡ false → NoMore old → Happens served_now act done old new
-        → client_of act done ≢ Some other
+    → client_of act done ≢ Some other
     → (client_at other new ≡ client_at other old) × (toplevels_of other new ≡ toplevels_of other old)
 
 -- Whatever happens leaves the output as it was.

@@ -56,7 +56,7 @@ pub record IsRightBut (liars : ℕ → Bool) (m : Moment) : Type 0 where
   pub points :
       (x y : ℕ) → x < m.desktop.output.width → y < m.desktop.output.height → has m.damage x y ≡ false
       → is_covered all_windows liars m.desktop (pos x) (pos y) ≡ false
-          → color_at m.frame x y ≡ scratch m.frame.background m.desktop (pos x) (pos y)
+      → color_at m.frame x y ≡ scratch m.frame.background m.desktop (pos x) (pos y)
 
 -- no client
 abbrev pub nobody : ℕ → Bool

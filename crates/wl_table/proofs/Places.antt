@@ -76,7 +76,7 @@ HoldsAt-row old new others id k entry e here rest none = record {
     at_other zero apart = entry_of_0 new others zero refl ∙ sym (entry_of_0 old others zero refl)
     at_other (suc j) apart =
         entry_at new others (suc j) j (omega arith) ∙ ap (λ (u : Option Entry). either u (entry_of others (suc j))) (rest j (λ (same_place : j ≡ k). apart (omega arith)))
-            ∙ sym (entry_at old others (suc j) j (omega arith))
+        ∙ sym (entry_at old others (suc j) j (omega arith))
 
 -- a change beside the row
 pub HoldsAt-beside : (row : List (Option Entry)) (old new : Held) (id : ℕ) (entry : Option Entry) → (id ≡ 0) ⊎ (length row < id) → HoldsAt old new id entry
@@ -128,8 +128,13 @@ pub changed_at : (row : List (Option Entry)) (others : BTreeMap ℕ Entry) (held
     → id ≡ k + 1 → k < length row → Changed held id o (set row k o) others count
 changed_at row others held count id k o is table e h = subst (λ (u : Held). Changed u id o (set row k o) others count) is (record {
   holds = HoldsAt-row row (set row k o) others.entries id k o e (get_or-set_same row k o None h) (λ j apart. get_or-set_other row k j o None apart) (table.apart id (omega (arith, table.short)));
-  sized = omega (arith, length-append (placed 1 row) others.entries, length-append (placed 1 (set row k o)) others.entries, length-placed_set 1 k row o h,
-      ap size (in_row row others count id k table e h));
+  sized = omega (
+    arith,
+    length-append (placed 1 row) others.entries,
+    length-append (placed 1 (set row k o)) others.entries,
+    length-placed_set 1 k row o h,
+    ap size (in_row row others count id k table e h),
+  );
   short = omega (arith, table.short, length-set row k o);
   apart = table.apart;
   was = table.counted;
@@ -192,7 +197,7 @@ pub changed_written : (row : List (Option Entry)) (others new : BTreeMap ℕ Ent
     → Changed held id (Some y) row new count
 changed_written row others new held count id x y is table out some updates as_many =
     changed_beside row others new held count id (Some y) is table (beyond row others held count id x is table out (some ∙ found_beside row others held id is out)) updates
-        (omega (arith, as_many, sym (ap size some)))
+    (omega (arith, as_many, sym (ap size some)))
 
 -- one object more
 pub whole_more : (held : Held) (id : ℕ) (x : Entry) (row : List (Option Entry)) (others : BTreeMap ℕ Entry) (count : ℕ) → Changed held id (Some x) row others count → entry_of held id ≡ None

@@ -47,7 +47,7 @@ unused (Some n) = refl
 unkept : (r : Resident) (id store : ℕ) → OwnsNothing r → (own_changed (DestroyBuffer id store) r).peer ≡ changed (DestroyBuffer id store) r.peer
 unkept r id store alone =
     ap (λ (b : Bool). keeps_store b r.peer.stores (changed (DestroyBuffer id store) r.peer)) (ap (λ (x : Resident). has_used (λ number. is_used number x.owned.surfaces) (r.peer.buffers id)) alone
-        ∙ unused (r.peer.buffers id))
+    ∙ unused (r.peer.buffers id))
 
 changed-alone : (action : Action) (r : Resident) → OwnsNothing r → (own_changed action r).peer ≡ changed action r.peer
 changed-alone (Sync callback) r alone = refl
@@ -140,7 +140,7 @@ module _ (c : ℕ) (there : Resident) (d : Desktop) (is : client_at c d ≡ Some
       let made : Resident = own_changed action r in
       let new = become c made q d in
       let first : IsDone (own_answers r.peer.output action) c made d new = is-done (own_answers r.peer.output action) c made there d new is still (changed-status (Asking (Own action)) r
-          ∙ alive) (q, told, refl) in
+      ∙ alive) (q, told, refl) in
       let second : IsDone (replies own_only c (Asks (Own action)) r made (all_windows d) d) c made d new =
       subst (λ events. IsDone events c made d new) (sym (own-replies c action r made d (owned-alone action r alone))) first in
       subst (λ e. IsDone (replies own_only c (Asks (Own action)) r made (all_windows d) d) c made e new) (sym (kept-still d still)) second

@@ -156,7 +156,7 @@ pub told-focus : TellsFocus ToldSo
 told-focus = record {
   leave = λ surface r q why h.
       drawn-told (is_some (history_in surface r.owned.surfaces) && has_pointers r) (left_surface surface r) r q why (left-focus surface r)
-          (both-of (is_some (history_in surface r.owned.surfaces)) (has_pointers r)) (left-none surface r) h;
+      (both-of (is_some (history_in surface r.owned.surfaces)) (has_pointers r)) (left-none surface r) h;
   enter = λ at w r q why h.
       drawn-told (has_pointers r) (entered_surface at w r) r q why (entered-focus at w r) (λ has. has) (λ none. unless_pointers (λ pointer. entered_at pointer r.peer.serial at w) r none) h;
 }

@@ -93,8 +93,10 @@ commit-asks (Some s) = asked-still Commit refl (Some s)
 pub framed-committed : (frames new : List Waiting) (all : Numbered) (surface bound : ℕ) (cs : List Callback) → AreFramed frames all bound cs
     → AreWaiting new (changed_at surface (λ s. applying (asking Commit s)) all) cs → AreFramed new (changed_at surface (λ s. applying (asking Commit s)) all) bound cs
 framed-committed frames new all surface bound cs f waits =
-    record { waits = waits;
-        early = λ other number any. f.early other number (sym (ap (λ ns. has number ns) (at-one frames_at surface (λ s. applying (asking Commit s)) all (commit-asks (all surface)) other)) ∙ any) }
+    record {
+      waits = waits;
+      early = λ other number any. f.early other number (sym (ap (λ ns. has number ns) (at-one frames_at surface (λ s. applying (asking Commit s)) all (commit-asks (all surface)) other)) ∙ any);
+    }
 
 pub framed-gone : (frames new : List Waiting) (all : Numbered) (surface bound : ℕ) (cs less : List Callback) → AreFramed frames all bound cs
     → AreWaiting new (with_at surface None all) less → AreFramed new (with_at surface None all) bound less

@@ -70,9 +70,9 @@ had-each h =
     (each-more Had (listed (pending h).buffer) (listed (held h).buffer)
     (listed-each Had (pending h).buffer (λ b e. ap (λ x. x || shows b.number h) (ap (names b.number) e ∙ named-so b)))
     (listed-each Had (held h).buffer (λ b e. ap (λ x. names b.number (pending h).buffer || (names b.number (applied h).buffer || x)) (ap (names b.number) e ∙ named-so b)
-        ∙ ap (λ x. names b.number (pending h).buffer || x) (or-any (names b.number (applied h).buffer)) ∙ or-any (names b.number (pending h).buffer))))
+    ∙ ap (λ x. names b.number (pending h).buffer || x) (or-any (names b.number (applied h).buffer)) ∙ or-any (names b.number (pending h).buffer))))
     (listed-each Had (applied h).buffer (λ b e. ap (λ x. names b.number (pending h).buffer || (x || names b.number (held h).buffer)) (ap (names b.number) e ∙ named-so b)
-        ∙ or-any (names b.number (pending h).buffer)))
+    ∙ or-any (names b.number (pending h).buffer)))
   where
     Had : Buffer → Type 0
     Had b = has b.number h ≡ true
@@ -105,5 +105,5 @@ module _ (r : Request) (plain : is_commit r ≡ false) (keeps : (v : Values) →
           used-stays (asked_of id r q) b
           (found-any (λ x. x.id == id) (λ x. has b.number x.history) (map one q.owned.surfaces.surfaces) (asking r s)
           (found-map (λ x. x.id == id) one q.owned.surfaces.surfaces (λ x. ap (λ i. i == id) (one-id x (x.id == id))) ∙ ap (λ o. option_map one o) there
-              ∙ ap (λ c. Some (cond c (asking r s) s)) (found-passes (λ y. y.id == id) q.owned.surfaces.surfaces s there))
+          ∙ ap (λ c. Some (cond c (asking r s) s)) (found-passes (λ y. y.id == id) q.owned.surfaces.surfaces s there))
           (still-has b.number s cut within ∙ has_it))

@@ -132,7 +132,7 @@ module _ (names : Names) (slots : Slots) (kept : ℕ → Option Kept) (r : Resid
 
   pub owned-xdg-made : (id version base surface number : ℕ) (after : ℕ → Option Kept) (now : Names) → names.surfaces surface ≡ Some number → kept number ≡ None → names.shell id ≡ None
       → after ≡ with_kept number (Some (first_kept id base)) kept → now ≡ with_xdg id (Some number) names
-          → IsOwned now slots after (changed_simply (Asking (GetXdgSurface id version base surface)) r).owned
+      → IsOwned now slots after (changed_simply (Asking (GetXdgSurface id version base surface)) r).owned
   owned-xdg-made id version base surface number after now named free unnamed keeps same =
       subst (λ (n : Names). IsOwned n slots after (changed_simply (Asking (GetXdgSurface id version base surface)) r).owned) (sym same)
       (subst (λ (ks : ℕ → Option Kept). IsOwned (with_xdg id (Some number) names) slots ks (changed_simply (Asking (GetXdgSurface id version base surface)) r).owned) (sym keeps)
@@ -154,7 +154,7 @@ module _ (names : Names) (slots : Slots) (kept : ℕ → Option Kept) (r : Resid
         let stepped : IsOwned names slots (changing number (kept_asking rect) kept) (record { surfaces = all; shell = with_change x.id (λ y. y) r.owned.shell }) =
         IsOwned-stepped names slots kept r.owned is number k x h one (kept_asking rect) (λ y. y) (one_more request h) slots all itself-keeps
         (AreKept-changed names.surfaces slots r.owned.surfaces is.surfaces x.surface number one.surface (asking request) (λ s. refl) slots (counts-asking request refl)
-            (geometry-asked slots number rect))
+        (geometry-asked slots number rect))
         (histories-to x.surface (asking request) (one_more request) r.owned.surfaces h (λ s. refl) (λ s. refl) one.history)
         (changes_stand.geometry rect k x h one.stands) in
         subst (λ (ks : ℕ → Option Kept). IsOwned names slots ks (changed_simply (Asking (AskSurface x.surface request)) r).owned) (sym keeps)
@@ -204,7 +204,7 @@ module _ (names : Names) (slots : Slots) (kept : ℕ → Option Kept) (r : Resid
     -- a commit of its surface
     committed-with : (shows : Bool) (act : ShellAct) (new : Slots) → Changes slots new number (λ s. applying (asking Commit s)) → commit_answer shows (Some k) ≡ Ok act
         → IsOwned names new (changing number (kept_after r.peer.serial act) kept)
-            (effect_on x.surface (on_commit (stage_of x) shows) (Some x) (after_surface x.surface r (committed_on x.surface r))).owned
+        (effect_on x.surface (on_commit (stage_of x) shows) (Some x) (after_surface x.surface r (committed_on x.surface r))).owned
     committed-with shows act new changes answer =
         let commits : Surface → Surface = λ s. applying (asking Commit s) in
         let all = with_surface_change x.surface commits r.owned.surfaces in
@@ -239,9 +239,9 @@ module _ (names : Names) (slots : Slots) (kept : ℕ → Option Kept) (r : Resid
           let none = xdg-of-none names slots kept r.owned is id number named here in
           let history = there id number named in
           subst (λ (o : Option XdgSurface). IsOwned names new (changing number (kept_after r.peer.serial act) kept)
-              (effect_on id (effect_for shows o) o (after_surface id r (committed_on id r))).owned) (sym none)
+          (effect_on id (effect_for shows o) o (after_surface id r (committed_on id r))).owned) (sym none)
           (subst (λ (ks : ℕ → Option Kept). IsOwned names new ks (record r.owned { surfaces = with_surface_change id commits r.owned.surfaces }))
-              (sym (changing-none number (kept_after r.peer.serial act) kept here))
+          (sym (changing-none number (kept_after r.peer.serial act) kept here))
           (renumbered names slots kept r.owned is names.surfaces new (with_surface_change id commits r.owned.surfaces) id (Some (apply (one_more Commit history.0)))
           (AreKept-changed names.surfaces slots r.owned.surfaces is.surfaces id number named commits (λ s. refl) new (λ s counts. refl) changes)
           none
@@ -251,9 +251,9 @@ module _ (names : Names) (slots : Slots) (kept : ℕ → Option Kept) (r : Resid
           let xdg = xdg-of names slots kept r.owned is id number k named here in
           let done = committed-with number k xdg.0 xdg.1 xdg.2 shows act new changes (ap (commit_answer shows) (sym here) ∙ answer) in
           subst (λ (o : Option XdgSurface). IsOwned names new (changing number (kept_after r.peer.serial act) kept)
-              (effect_on id (effect_for shows o) o (after_surface id r (committed_on id r))).owned) (sym xdg.3)
+          (effect_on id (effect_for shows o) o (after_surface id r (committed_on id r))).owned) (sym xdg.3)
           (subst (λ i. IsOwned names new (changing number (kept_after r.peer.serial act) kept)
-              (effect_on i (on_commit (stage_of xdg.0) shows) (Some xdg.0) (after_surface i r (committed_on i r))).owned) xdg.4 done)
+          (effect_on i (on_commit (stage_of xdg.0) shows) (Some xdg.0) (after_surface i r (committed_on i r))).owned) xdg.4 done)
 
   -- the same by what the shell answered
   pub owned-committed-by : (id number : ℕ) (shows : Bool) (act : ShellAct) (new : Slots) (after : ℕ → Option Kept) → names.surfaces id ≡ Some number

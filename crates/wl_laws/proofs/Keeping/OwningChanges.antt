@@ -101,7 +101,7 @@ module _ (names : Names) (slots : Slots) (kept : ℕ → Option Kept) (o : Owned
       (fun_ext (λ other. same other (other == id) refl))
       (λ x there found. sym (with_id-other id x.surface (Some number) names.surfaces (ne_eqb x.surface id (λ e. there (ap names.surfaces e ∙ free)))))
       (λ other some. let was = is.known other some in
-          (was.0, with_id-other id was.0 (Some number) names.surfaces (ne_eqb was.0 id (λ e. none-some other (sym free ∙ ap names.surfaces (sym e) ∙ was.1))) ∙ was.1))
+      (was.0, with_id-other id was.0 (Some number) names.surfaces (ne_eqb was.0 id (λ e. none-some other (sym free ∙ ap names.surfaces (sym e) ∙ was.1))) ∙ was.1))
     where
       nobody : kept number ≡ None
       nobody = at (kept number) refl
@@ -126,7 +126,7 @@ module _ (names : Names) (slots : Slots) (kept : ℕ → Option Kept) (o : Owned
       (fun_ext (λ other. same other (other == id) refl))
       (λ x there found. sym (with_id-other id x.surface None names.surfaces (ne_eqb x.surface id (λ e. none-some x (sym none_of ∙ ap (λ i. xdg_of i o.shell) (sym e) ∙ found)))))
       (λ other some. let was = is.known other some in
-          (was.0, with_id-other id was.0 None names.surfaces (ne_eqb was.0 id (λ e. away other some (some-same other number (sym was.1 ∙ ap names.surfaces e ∙ named)))) ∙ was.1))
+      (was.0, with_id-other id was.0 None names.surfaces (ne_eqb was.0 id (λ e. away other some (some-same other number (sym was.1 ∙ ap names.surfaces e ∙ named)))) ∙ was.1))
     where
       nobody : kept number ≡ None
       nobody = xdg-kept-none names slots kept o is id number named none_of
@@ -242,12 +242,12 @@ module _ (names : Names) (slots : Slots) (kept : ℕ → Option Kept) (o : Owned
         at other true here =
             let same = eqb-true other id here in
             sym (ap (number_of names.surfaces) (changed-here has_xdg x.id x step (has_role other) o.shell apart one.at_id (ap (λ i. xdg_with i o.shell) same ∙ none) (ap (is_role other) now
-                ∙ eq-eqb object.id other (it ∙ sym same)))
+            ∙ eq-eqb object.id other (it ∙ sym same)))
             ∙ ap names.surfaces (keeps_surface x) ∙ one.surface)
         at other false here =
             is.toplevels other
             ∙ sym (ap (number_of names.surfaces) (changed-elsewhere has_xdg x.id x step (has_role other) o.shell apart one.at_id (ap (is_role other) was) (ap (is_role other) now
-                ∙ ne_eqb object.id other (λ same. eqb-false other id here (sym same ∙ it)))))
+            ∙ ne_eqb object.id other (λ same. eqb-false other id here (sym same ∙ it)))))
 
     -- its toplevel goes
     pub IsOwned-untoplevel : (id : ℕ) (change : Kept → Kept) (step : XdgSurface → XdgSurface) (g : History) (new : Slots) (all : Surfaces) → ((y : XdgSurface) → (step y).id ≡ y.id)
@@ -274,10 +274,10 @@ module _ (names : Names) (slots : Slots) (kept : ℕ → Option Kept) (o : Owned
         at : (other : ℕ) (b : Bool) → (other == id) ≡ b → cond b None (names.toplevels other) ≡ number_of names.surfaces (xdg_with other (with_change x.id step o.shell))
         at other true here =
             sym (ap (number_of names.surfaces) (changed-gone has_xdg x.id x step has_role other o.shell apart is.roles one.at_id (ap (λ i. is_role i x.role) (eqb-true other id here)
-                ∙ was) (ap (is_role other) now)))
+            ∙ was) (ap (is_role other) now)))
         at other false here =
             is.toplevels other ∙ sym (ap (number_of names.surfaces) (changed-elsewhere has_xdg x.id x step (has_role other) o.shell apart one.at_id (only other x.role was here)
-                (ap (is_role other) now)))
+            (ap (is_role other) now)))
 
     -- it goes, without a role object
     pub IsOwned-unshelled : x.role ≡ None → IsOwned (with_xdg x.id None names) slots (with_kept number None kept) (record o { shell = without_xdg x.id o.shell })
@@ -285,7 +285,7 @@ module _ (names : Names) (slots : Slots) (kept : ℕ → Option Kept) (o : Owned
       surfaces = is.surfaces;
       shell =
           subst (λ (ks : ℕ → Option Kept). IsShell ks (λ other. history_in other o.surfaces) (without_xdg x.id o.shell))
-              (sym (by_id-with names.surfaces is.surfaces.once x.surface number one.surface None kept))
+          (sym (by_id-with names.surfaces is.surfaces.once x.surface number one.surface None kept))
           (shells_stand.gone x.surface x (by_id names.surfaces kept) (λ other. history_in other o.surfaces) o.shell is.shell one.of_surface);
       known = λ other some. known other (other == number) refl some;
       named = λ other. at other (other == x.id) refl;
@@ -304,7 +304,7 @@ module _ (names : Names) (slots : Slots) (kept : ℕ → Option Kept) (o : Owned
         at other true here = sym (ap (number_of names.surfaces) (ap (λ i. xdg_at i (without_xdg x.id o.shell)) (eqb-true other x.id here) ∙ gone (has_xdg x.id) o.shell))
         at other false here =
             is.named other ∙ sym (ap (number_of names.surfaces) (left-elsewhere has_xdg x.id x (has_xdg other) o.shell apart one.at_id
-                (ne_eqb x.id other (λ same. eqb-false other x.id here (sym same)))))
+            (ne_eqb x.id other (λ same. eqb-false other x.id here (sym same)))))
 
   -- ---- an xdg_surface comes
 
@@ -314,10 +314,10 @@ module _ (names : Names) (slots : Slots) (kept : ℕ → Option Kept) (o : Owned
     surfaces = is.surfaces;
     shell =
         subst (λ (ks : ℕ → Option Kept). IsShell ks (λ other. history_in other o.surfaces) (with_new_xdg id base surface o.shell))
-            (sym (by_id-with names.surfaces is.surfaces.once surface number named (Some (first_kept id base)) kept))
+        (sym (by_id-with names.surfaces is.surfaces.once surface number named (Some (first_kept id base)) kept))
         (shells_stand.made id base surface there.0.history (by_id names.surfaces kept) (λ other. history_in other o.surfaces) o.shell is.shell (ap (option_and_then kept) named ∙ free) none history
         (cut-within (kept_at slots number) (by_number names.surfaces o.surfaces number) there.0.history (is.surfaces.stand number)
-            (ap (option_map (λ (s : Surface). s.history)) (surface-read names.surfaces slots o.surfaces is.surfaces surface number named) ∙ history)));
+        (ap (option_map (λ (s : Surface). s.history)) (surface-read names.surfaces slots o.surfaces is.surfaces surface number named) ∙ history)));
     known = λ other some. known other (other == number) refl some;
     named = λ other. at other (other == id) refl;
     toplevels = λ other. is.toplevels other ∙ sym (ap (number_of names.surfaces) (new-elsewhere (has_role other) o.shell (newest id base surface) refl));

@@ -86,18 +86,18 @@ module _ (old new : Held) (id : ℕ) where
   pub names-surface-made : (entry : Entry) → entry_of old id ≡ None → entry.interface ≡ WlSurface → HoldsAt old new id (Some entry) → names_in new ≡ with_surface id (Some entry.target) (names_in old)
   names-surface-made entry free is holds =
       names-with old new _ _ _ (made WlSurface entry is holds) (none-made XdgSurface entry free (apart WlSurface XdgSurface false refl entry is) holds)
-          (none-made XdgToplevel entry free (apart WlSurface XdgToplevel false refl entry is) holds)
+      (none-made XdgToplevel entry free (apart WlSurface XdgToplevel false refl entry is) holds)
 
   pub names-xdg-made : (entry : Entry) → entry_of old id ≡ None → entry.interface ≡ XdgSurface → HoldsAt old new id (Some entry) → names_in new ≡ with_xdg id (Some entry.target) (names_in old)
   names-xdg-made entry free is holds =
       names-with old new _ _ _ (none-made WlSurface entry free (apart XdgSurface WlSurface false refl entry is) holds) (made XdgSurface entry is holds)
-          (none-made XdgToplevel entry free (apart XdgSurface XdgToplevel false refl entry is) holds)
+      (none-made XdgToplevel entry free (apart XdgSurface XdgToplevel false refl entry is) holds)
 
   pub names-toplevel-made : (entry : Entry) → entry_of old id ≡ None → entry.interface ≡ XdgToplevel → HoldsAt old new id (Some entry)
       → names_in new ≡ with_toplevel id (Some entry.target) (names_in old)
   names-toplevel-made entry free is holds =
       names-with old new _ _ _ (none-made WlSurface entry free (apart XdgToplevel WlSurface false refl entry is) holds)
-          (none-made XdgSurface entry free (apart XdgToplevel XdgSurface false refl entry is) holds) (made XdgToplevel entry is holds)
+      (none-made XdgSurface entry free (apart XdgToplevel XdgSurface false refl entry is) holds) (made XdgToplevel entry is holds)
 
   not-surface : (interface : Interface) → names_surface interface ≡ false → (interface_number interface == interface_number WlSurface) ≡ false
   not-surface WlSurface e = absurd (cc)
@@ -114,25 +114,25 @@ module _ (old new : Held) (id : ℕ) where
   pub names-other-made : (entry : Entry) → entry_of old id ≡ None → names_surface entry.interface ≡ false → HoldsAt old new id (Some entry) → names_in new ≡ names_in old
   names-other-made entry free other holds =
       names-with old new _ _ _ (none-made WlSurface entry free (not-surface entry.interface other) holds) (none-made XdgSurface entry free (not-xdg entry.interface other) holds)
-          (none-made XdgToplevel entry free (not-toplevel entry.interface other) holds)
+      (none-made XdgToplevel entry free (not-toplevel entry.interface other) holds)
 
   -- an object goes
   pub names-surface-gone : (entry : Entry) → entry_of old id ≡ Some entry → entry.interface ≡ WlSurface → HoldsAt old new id None → names_in new ≡ with_surface id None (names_in old)
   names-surface-gone entry found is holds =
       names-with old new _ _ _ (targets-with WlSurface old new id None holds) (none-gone XdgSurface entry found (apart WlSurface XdgSurface false refl entry is) holds)
-          (none-gone XdgToplevel entry found (apart WlSurface XdgToplevel false refl entry is) holds)
+      (none-gone XdgToplevel entry found (apart WlSurface XdgToplevel false refl entry is) holds)
 
   pub names-xdg-gone : (entry : Entry) → entry_of old id ≡ Some entry → entry.interface ≡ XdgSurface → HoldsAt old new id None → names_in new ≡ with_xdg id None (names_in old)
   names-xdg-gone entry found is holds =
       names-with old new _ _ _ (none-gone WlSurface entry found (apart XdgSurface WlSurface false refl entry is) holds) (targets-with XdgSurface old new id None holds)
-          (none-gone XdgToplevel entry found (apart XdgSurface XdgToplevel false refl entry is) holds)
+      (none-gone XdgToplevel entry found (apart XdgSurface XdgToplevel false refl entry is) holds)
 
   pub names-toplevel-gone : (entry : Entry) → entry_of old id ≡ Some entry → entry.interface ≡ XdgToplevel → HoldsAt old new id None → names_in new ≡ with_toplevel id None (names_in old)
   names-toplevel-gone entry found is holds =
       names-with old new _ _ _ (none-gone WlSurface entry found (apart XdgToplevel WlSurface false refl entry is) holds)
-          (none-gone XdgSurface entry found (apart XdgToplevel XdgSurface false refl entry is) holds) (targets-with XdgToplevel old new id None holds)
+      (none-gone XdgSurface entry found (apart XdgToplevel XdgSurface false refl entry is) holds) (targets-with XdgToplevel old new id None holds)
 
   pub names-other-gone : (entry : Entry) → entry_of old id ≡ Some entry → names_surface entry.interface ≡ false → HoldsAt old new id None → names_in new ≡ names_in old
   names-other-gone entry found other holds =
       names-with old new _ _ _ (none-gone WlSurface entry found (not-surface entry.interface other) holds) (none-gone XdgSurface entry found (not-xdg entry.interface other) holds)
-          (none-gone XdgToplevel entry found (not-toplevel entry.interface other) holds)
+      (none-gone XdgToplevel entry found (not-toplevel entry.interface other) holds)

@@ -93,13 +93,13 @@ module _ (names : Names) (slots : Slots) (kept : ℕ → Option Kept) (r : Resid
       → ((all : Numbered) → StandForAll slots all → option_map buffer_of next ≡ pending_at (all number))
       → ((all : Numbered) → StandForAll slots all → IsCurrentAt current (all number))
       → each_once (buffers_had (history_in id r.owned.surfaces)) ≡ each_once
-          (listed (option_map buffer_of next) ++ listed (option_map buffer_of (option_and_then (λ (c : Current A). c.buffer) current)))
+      (listed (option_map buffer_of next) ++ listed (option_map buffer_of (option_and_then (λ (c : Current A). c.buffer) current)))
   buffers-read {A} id number next current named waits told =
       at (surface_at id r.owned.surfaces) current refl (read (λ at. option_map buffer_of next ≡ pending_at at) id number named waits) (read (λ at. IsCurrentAt current at) id number named told)
     where
       at : (o : Option Surface) (c : Option (Current A)) → surface_at id r.owned.surfaces ≡ o → option_map buffer_of next ≡ pending_at o → IsCurrentAt c o
           → each_once (buffers_had (option_map (λ (s : Surface). s.history) o)) ≡ each_once
-              (listed (option_map buffer_of next) ++ listed (option_map buffer_of (option_and_then (λ (c : Current A). c.buffer) c)))
+          (listed (option_map buffer_of next) ++ listed (option_map buffer_of (option_and_then (λ (c : Current A). c.buffer) c)))
       at None None found waits told = rw waits refl
       at None (Some c) found waits told = absurd told
       at (Some s) None found waits told = absurd told
@@ -171,7 +171,7 @@ module _ (names : Names) (slots : Slots) (kept : ℕ → Option Kept) (r : Resid
 
       at : (o : Option Kept) → kept number ≡ o
           → committed_by (xdg_of id r.owned.shell) id (effect_for (will_show r id) (xdg_of id r.owned.shell)) ≡ asks_by (λ act. CommitTree id) (shell_refusal base (kept_id o) object)
-              (commit_answer (will_show r id) o)
+          (commit_answer (will_show r id) o)
       at None here = ap (λ (o : Option XdgSurface). committed_by o id (effect_for (will_show r id) o)) (xdg-of-none names slots kept r.owned is id number named here)
       at (Some k) here =
           let xdg = xdg-of names slots kept r.owned is id number k named here in
@@ -181,7 +181,7 @@ module _ (names : Names) (slots : Slots) (kept : ℕ → Option Kept) (r : Resid
           ∙ by-effect x (on_commit (stage_of x) (will_show r id)) (is_full x.serials) refl
           ∙ sym (ap (λ (i : ℕ). asks_by (λ act. CommitTree id) (shell_refusal base i object) (effect_answer (on_commit (stage_in k) (will_show r id)) k.serials)) stands.id
           ∙ ap (λ (role : Option RoleObject). asks_by (λ act. CommitTree id) (shell_refusal base x.id object)
-              (effect_answer (on_commit (option_map (λ object. object.stage) role) (will_show r id)) k.serials)) stands.role
+          (effect_answer (on_commit (option_map (λ object. object.stage) role) (will_show r id)) k.serials)) stands.role
           ∙ ap (λ serials. asks_by (λ act. CommitTree id) (shell_refusal base x.id object) (effect_answer (on_commit (stage_of x) (will_show r id)) serials)) stands.serials)
 
   -- an answer tells what it comes to
@@ -208,10 +208,10 @@ module _ (names : Names) (slots : Slots) (kept : ℕ → Option Kept) (r : Resid
 
   pub made-by : (base version id surface number xdg object : ℕ) → names.surfaces surface ≡ Some number
       → xdg_surface_made r base version id surface ≡ asks_unless (GetXdgSurface id version base surface) (shell_refusal base xdg object)
-          (making_refused (is_foreign (role_of r surface)) (has_any r surface) (kept number))
+      (making_refused (is_foreign (role_of r surface)) (has_any r surface) (kept number))
   made-by base version id surface number xdg object named =
       ap (λ b. if is_foreign (role_of r surface) || b then refuse base error.Role else (if has_any r surface then refuse base error.InvalidSurfaceState else Ok
-          (GetXdgSurface id version base surface))) (sym (xdg-there names slots kept r.owned is surface number named))
+      (GetXdgSurface id version base surface))) (sym (xdg-there names slots kept r.owned is surface number named))
       ∙ at (is_foreign (role_of r surface) || is_some (kept number)) (has_any r surface)
     where
       at : (b c : Bool) → (if b then refuse base error.Role else (if c then refuse base error.InvalidSurfaceState else Ok (GetXdgSurface id version base surface)))
@@ -239,7 +239,7 @@ module _ (names : Names) (slots : Slots) (kept : ℕ → Option Kept) (r : Resid
   pub base-unused : (base : ℕ) → ((surface : ℕ) → IfSome (kept surface) (λ k. k.base ≢ base)) → base_destroyed r base ≡ Ok (DestroyBase base)
   base-unused base none =
       ap (λ b. if b then refuse base error.DefunctSurfaces else Ok (DestroyBase base))
-          ((shells_stand.base base (by_id names.surfaces kept) (λ id. history_in id r.owned.surfaces) r.owned.shell is.shell).1 (λ id. at (names.surfaces id)))
+      ((shells_stand.base base (by_id names.surfaces kept) (λ id. history_in id r.owned.surfaces) r.owned.shell is.shell).1 (λ id. at (names.surfaces id)))
     where
       at : (o : Option ℕ) → IfSome (option_and_then kept o) (λ k. k.base ≢ base)
       at None = tt

@@ -226,7 +226,7 @@ module _ (numbers : ById ℕ) (slots : Slots) (all : Surfaces) (is : AreKept num
             new-here (has_number now other) all.surfaces (new_surface id) none (is-number other (now id) (with_id-here id (Some number) numbers ∙ ap Some (sym same)))
         at false here =
             new-elsewhere (has_number now other) all.surfaces (new_surface id) (ap (is_number other) (with_id-here id (Some number) numbers)
-                ∙ ne_eqb number other (λ same. eqb-false other number here (sym same)))
+            ∙ ne_eqb number other (λ same. eqb-false other number here (sym same)))
             ∙ same-numbers all.surfaces other (surface-absent id free)
 
     counts-made : (other : ℕ) (h : History) → history_in other (with_new id all) ≡ Some h → AllCounts h
@@ -240,7 +240,7 @@ module _ (numbers : ById ℕ) (slots : Slots) (all : Surfaces) (is : AreKept num
             subst (λ (g : History). AllCounts g) (some-same (new_surface id).history h (sym first ∙ found)) refl
         at false here =
             is.counts other h (ap (option_map (λ (s : Surface). s.history))
-                (sym (new-elsewhere (has_id other) all.surfaces (new_surface id) (ne_eqb id other (λ same. eqb-false other id here (sym same))))) ∙ found)
+            (sym (new-elsewhere (has_id other) all.surfaces (new_surface id) (ne_eqb id other (λ same. eqb-false other id here (sym same))))) ∙ found)
 
     pub AreKept-made : count_kept new ≡ count_kept slots + 1 → AreKept now new (with_new id all)
     AreKept-made counted = record {
@@ -352,7 +352,7 @@ geometry-stands rect (Some k) None t = absurd t
 geometry-stands rect None (Some s) t = absurd t
 geometry-stands rect (Some k) (Some s) t =
     For-asked k s (SetWindowGeometry rect) k.pending_buffer k.pending_transform k.pending_opaque k.pending_input k.pending_offset k.pending_damage refl t t.history.pending
-        (still k s.history t.history)
+    (still k s.history t.history)
     (undamaged k s.history (SetWindowGeometry rect) refl t.history)
 
 pub geometry-asked : (slots : Slots) (number : ℕ) (rect : Rect) → Changes slots slots number (asking (SetWindowGeometry rect))

@@ -78,7 +78,7 @@ pub histories-changed : (id : ℕ) (change : Surface → Surface) (all : Surface
     → (λ other. history_in other (with_change id change all)) ≡ with_history id (Some (change s).history) (λ other. history_in other all)
 histories-changed id change all s keeps found =
     fun_ext (λ other. ap (option_map (λ (x : Surface). x.history)) (found-map (has_id other) (one_changed id change) all.surfaces (λ x. ap (λ i. i == other) (one-id id change keeps x)))
-        ∙ at other (surface_at other all) (other == id) refl refl)
+    ∙ at other (surface_at other all) (other == id) refl refl)
   where
     at : (other : ℕ) (o : Option Surface) (b : Bool) → surface_at other all ≡ o → (other == id) ≡ b
         → option_map (λ (x : Surface). x.history) (option_map (one_changed id change) o) ≡ cond b (Some (change s).history) (option_map (λ (x : Surface). x.history) o)
@@ -147,7 +147,7 @@ module _ (names : Names) (slots : Slots) (kept : ℕ → Option Kept) (o : Owned
   xdg-found p x found =
       let of_surface : xdg_of x.surface o.shell ≡ Some x = found-by has_surface p x.surface o.shell x (surfaces-apart o.shell is.shell.apart) found (eq-eqb x.surface x.surface refl) in
       let there = kept-some (by_id names.surfaces kept x.surface) x (history_in x.surface o.surfaces)
-          (subst (λ (y : Option XdgSurface). IsKept (by_id names.surfaces kept x.surface) y (history_in x.surface o.surfaces)) of_surface (is.shell.each x.surface)) in
+      (subst (λ (y : Option XdgSurface). IsKept (by_id names.surfaces kept x.surface) y (history_in x.surface o.surfaces)) of_surface (is.shell.each x.surface)) in
       let number = reached kept (names.surfaces x.surface) there.0 there.2 in (
         number.0,
         there.0,
@@ -198,7 +198,7 @@ module _ (names : Names) (slots : Slots) (kept : ℕ → Option Kept) (o : Owned
       × (x.surface ≡ id)
   xdg-of id number k named here =
       let there = kept-there k (xdg_of id o.shell) (history_in id o.surfaces) (subst (λ (y : Option Kept). IsKept y (xdg_of id o.shell) (history_in id o.surfaces)) (ap (option_and_then kept) named
-          ∙ here) (is.shell.each id)) in
+      ∙ here) (is.shell.each id)) in
       let one = xdg-found (has_surface id) there.0 there.1 in
       let surface : there.0.surface ≡ id = found-surface id o.shell there.0 there.1 in
       let same : one.0 ≡ number = some-same one.0 number (sym one.3.surface ∙ ap names.surfaces surface ∙ named) in
@@ -208,13 +208,13 @@ module _ (names : Names) (slots : Slots) (kept : ℕ → Option Kept) (o : Owned
   pub xdg-of-none : (id number : ℕ) → names.surfaces id ≡ Some number → kept number ≡ None → xdg_of id o.shell ≡ None
   xdg-of-none id number named none =
       kept-none (xdg_of id o.shell) (history_in id o.surfaces) (subst (λ (y : Option Kept). IsKept y (xdg_of id o.shell) (history_in id o.surfaces)) (ap (option_and_then kept) named
-          ∙ none) (is.shell.each id))
+      ∙ none) (is.shell.each id))
 
   -- without a surface there is none
   pub xdg-of-nobody : (id : ℕ) → names.surfaces id ≡ None → xdg_of id o.shell ≡ None
   xdg-of-nobody id none =
       kept-none (xdg_of id o.shell) (history_in id o.surfaces) (subst (λ (y : Option Kept). IsKept y (xdg_of id o.shell) (history_in id o.surfaces)) (ap (option_and_then kept) none)
-          (is.shell.each id))
+      (is.shell.each id))
 
   -- none is kept of a surface that has none
   pub xdg-kept-none : (id number : ℕ) → names.surfaces id ≡ Some number → xdg_of id o.shell ≡ None → kept number ≡ None

@@ -106,7 +106,7 @@ module _ (c : ℕ) (r : Resident) (d : Desktop) (is : AreShown c r.owned d.stand
           finished shell new (λ surface other. mapped-another d.mappings c x.surface surface d.standing other)
               (λ surface other. ap is_mapped (stepped-else x surface (in_stage stage.Mapped) r.owned.shell found (λ y. refl) other))
               (mapped-at c x.surface (done shell) new (mapped-here d.mappings c x.surface d.standing) (ap is_mapped (stepped-here x (in_stage stage.Mapped) r.owned.shell found (λ y. refl))
-                  ∙ ready-mapped x s at)
+              ∙ ready-mapped x s at)
               (shown-committed x.surface r.owned.surfaces ∙ shows)),
           mapped-apart d.mappings c x.surface d.standing apart (stands-now ∙ not_mapped),
         )
@@ -118,7 +118,7 @@ module _ (c : ℕ) (r : Resident) (d : Desktop) (is : AreShown c r.owned d.stand
         finished shell new (λ surface other. without-another c x.surface surface d.standing other)
         (λ surface other. ap is_mapped (stepped-else x surface (unmapping since) r.owned.shell found (λ y. refl) other))
         (unmapped-at c x.surface (done shell) new (without-here c x.surface d.standing) (ap is_mapped (stepped-here x (unmapping since) r.owned.shell found (λ y. refl))
-            ∙ fresh-unmapped (forgetting since x)))
+        ∙ fresh-unmapped (forgetting since x)))
 
     abbrev gone_on : Resident
     gone_on = after_surface x.surface r (committed_on x.surface r)
@@ -222,7 +222,7 @@ module _ (c : ℕ) (r : Resident) (d : Desktop) (is : AreShown c r.owned d.stand
       (subst (λ o. AreShown c (toplevel_given id x.id o r).owned d.standing) (sym finds.2.at_id)
       (mapped-but c x.surface r.owned now d.standing d.standing is
       (unmapped-at c x.surface now d.standing (stands-now x finds.2 ∙ bare-unmapped x finds.3)
-          (ap is_mapped (stepped-here x (new_toplevel id (asked_so_far x.surface r)) r.owned.shell finds.2 (λ y. refl))))
+      (ap is_mapped (stepped-here x (new_toplevel id (asked_so_far x.surface r)) r.owned.shell finds.2 (λ y. refl))))
       (λ surface other. record {
         stands = refl;
         mapped = ap is_mapped (stepped-else x surface (new_toplevel id (asked_so_far x.surface r)) r.owned.shell finds.2 (λ y. refl) other);
@@ -262,12 +262,15 @@ shown-after c (Asking (GetXdgSurface id version base surface)) r d told counts i
     (shell-kept c r d is apart (with_new_xdg id base surface r.owned.shell) (λ other. new-unmapped (bare_xdg id base surface) other r.owned.shell refl), apart)
 shown-after c (Asking (DestroyXdgSurface id)) r d told counts is apart finds = (xdg-destroyed c r d is apart id finds, apart)
 shown-after c (Asking (GetToplevel id version xdg)) r d told counts is apart finds = (toplevel-made c r d is apart id version xdg finds, apart)
-shown-after c (Asking (Acknowledge xdg serial)) r d told counts is apart finds =
-    (shell-kept c r d is apart (with_xdg_change xdg (acknowledging serial) r.owned.shell) (λ surface. stepped-same xdg surface (acknowledging serial) r.owned.shell (λ y. refl)
-        (acknowledging-same serial)), apart)
-shown-after c (Asking (ConfigureAgain xdg)) r d told counts is apart finds =
-    (shell-kept c r d is apart (with_xdg_change xdg (configuring r.peer.serial) r.owned.shell) (λ surface. stepped-same xdg surface (configuring r.peer.serial) r.owned.shell (λ y. refl) (λ y. refl)),
-        apart)
+shown-after c (Asking (Acknowledge xdg serial)) r d told counts is apart finds = (
+  shell-kept c r d is apart (with_xdg_change xdg (acknowledging serial) r.owned.shell) (λ surface. stepped-same xdg surface (acknowledging serial) r.owned.shell (λ y. refl)
+      (acknowledging-same serial)),
+  apart,
+)
+shown-after c (Asking (ConfigureAgain xdg)) r d told counts is apart finds = (
+  shell-kept c r d is apart (with_xdg_change xdg (configuring r.peer.serial) r.owned.shell) (λ surface. stepped-same xdg surface (configuring r.peer.serial) r.owned.shell (λ y. refl) (λ y. refl)),
+  apart,
+)
 shown-after c (DestroyToplevel id xdg top) r d told counts is apart finds = (toplevel-destroyed c r d is apart xdg top finds, apart-left _ d.standing apart)
 shown-after c (Asking Ignore) r d told counts is apart finds = (is, apart)
 

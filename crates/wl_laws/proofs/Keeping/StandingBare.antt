@@ -60,7 +60,7 @@ made-shows id surface (s ∷ ss) = at (s.id == surface) (made-shows id surface s
     at : (b : Bool) → shows_buffer (option_map (λ (s : Surface). s.history) (find (has_id surface) (ss ++ new_surface id ∷ []))) ≡ shows_buffer
         (option_map (λ (s : Surface). s.history) (find (has_id surface) ss))
         → shows_buffer (option_map (λ (s : Surface). s.history) (cond b (Some s) (find (has_id surface) (ss ++ new_surface id ∷ [])))) ≡ shows_buffer
-            (option_map (λ (s : Surface). s.history) (cond b (Some s) (find (has_id surface) ss)))
+        (option_map (λ (s : Surface). s.history) (cond b (Some s) (find (has_id surface) ss)))
     at true rest = refl
     at false rest = rest
 
@@ -243,10 +243,10 @@ bare-after (Asking (GetToplevel id version xdg)) r told counts top is finds =
     (λ surface other. (ap waits (stepped-else x surface step r.owned.shell finds.2 (λ y. refl) other), ap shows_buffer (shown-role x.surface surface AsToplevel r.owned.surfaces)))))
 bare-after (Asking (Acknowledge xdg serial)) r told counts top is finds =
     bare-kept r.owned (with_xdgs r is (with_xdg_change xdg (acknowledging serial) r.owned.shell)) is
-        (λ surface. (stepped-waits xdg surface (acknowledging serial) r.owned.shell (λ y. refl) (acknowledging-waits serial), refl))
+    (λ surface. (stepped-waits xdg surface (acknowledging serial) r.owned.shell (λ y. refl) (acknowledging-waits serial), refl))
 bare-after (Asking (ConfigureAgain xdg)) r told counts top is finds =
     bare-kept r.owned (with_xdgs r is (with_xdg_change xdg (configuring r.peer.serial) r.owned.shell)) is
-        (λ surface. (stepped-waits xdg surface (configuring r.peer.serial) r.owned.shell (λ y. refl) (λ y. refl), refl))
+    (λ surface. (stepped-waits xdg surface (configuring r.peer.serial) r.owned.shell (λ y. refl) (λ y. refl), refl))
 bare-after (DestroyToplevel id xdg surface) r told counts top is finds =
     let x = finds.0 in
     subst (λ n. AreBare (with_xdgs r is (with_xdg_change n without_role r.owned.shell))) finds.1

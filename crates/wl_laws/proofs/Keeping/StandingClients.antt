@@ -106,7 +106,7 @@ pub stepped-else : (x : XdgSurface) (surface : ℕ) (step : XdgSurface → XdgSu
     → xdg_of surface (with_xdg_change x.id step shell) ≡ xdg_of surface shell
 stepped-else x surface step shell is keeps other =
     changed-elsewhere has_xdg x.id x step (has_surface surface) shell (ids-apart shell is.apart) is.at_id (ne_eqb x.surface surface other)
-        (ne_eqb (step x).surface surface (λ e. other (sym (keeps x) ∙ e)))
+    (ne_eqb (step x).surface surface (λ e. other (sym (keeps x) ∙ e)))
 
 -- one goes
 pub left-else : (x : XdgSurface) (surface : ℕ) (shell : Shell) → IsFound x shell → x.surface ≢ surface → xdg_of surface (without_xdg x.id shell) ≡ xdg_of surface shell

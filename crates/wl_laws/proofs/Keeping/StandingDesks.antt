@@ -89,7 +89,7 @@ told-stand c r there q d is apart here others = by q.status
         each-mapped c (become_by (Some cause) c r q d) (ended-apart c d.standing apart)
         (subst (λ o. AreMapped c o (without_client c d.standing)) (sym (owned-here (Some cause))) (ended-mapped c d.standing))
         (λ other differ. subst (λ o. AreMapped other o (without_client c d.standing)) (sym (owned-other (Some (resident_of q)) other differ))
-            (ended-stay c other (owned_in d other) d.standing differ (others other differ)))
+        (ended-stay c other (owned_in d other) d.standing differ (others other differ)))
 
 -- a client is told something
 pub become-stand : (c : ℕ) (r there : Resident) (q : Peer) (d : Desktop) → client_at c d ≡ Some there → r.owned ≡ there.owned → MappedStand d → MappedStand (become c r q d)

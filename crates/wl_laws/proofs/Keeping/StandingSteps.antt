@@ -88,7 +88,7 @@ closed-stand c d stand =
     each-mapped c (record d { clients = with_number c None d.clients; standing = without_client c d.standing }) (ended-apart c d.standing stand.apart)
     (subst (λ o. AreMapped c o (without_client c d.standing)) (sym (gone d.clients c)) (ended-mapped c d.standing))
     (λ other differ. subst (λ o. AreMapped other o (without_client c d.standing)) (sym (ap owned_of (number-other d.clients c other None differ)))
-        (ended-stay c other (owned_in d other) d.standing differ (stand.each other)))
+    (ended-stay c other (owned_in d other) d.standing differ (stand.each other)))
   where
     gone : (clients : List (Option Resident)) (c : ℕ) → owned_of (client_in (with_number c None clients) c) ≡ nothing_owned
     gone clients zero = refl

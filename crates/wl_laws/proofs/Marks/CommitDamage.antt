@@ -39,7 +39,7 @@ all-taken requests =
 pub commit-applies : (h : History) (x y : ℕ)
     → is_applied_at h (committed_now h) x y
     ≡ is_damaged (width_of (applied (committed_now h)).buffer (applied (committed_now h)).transform) (height_of (applied (committed_now h)).buffer (applied (committed_now h)).transform)
-        (newly_damaged h) x y
+    (newly_damaged h) x y
 commit-applies h x y =
     let width = width_of (applied (committed_now h)).buffer (applied (committed_now h)).transform in
     let height = height_of (applied (committed_now h)).buffer (applied (committed_now h)).transform in
@@ -61,7 +61,7 @@ applied-so (Some g) new e rects are h is width height wide high x y =
     ap (λ (o : Option History). is_applied_by (Some g) o x y) e
     ∙ commit-applies g x y
     ∙ ap (λ rs. is_damaged (width_of (applied (committed_now g)).buffer (applied (committed_now g)).transform) (height_of (applied (committed_now g)).buffer (applied (committed_now g)).transform) rs x
-        y) (sym are)
+    y) (sym are)
     ∙ ap (λ n. is_damaged n (height_of (applied (committed_now g)).buffer (applied (committed_now g)).transform) rects x y)
-        (ap (λ (k : History). width_of (applied k).buffer (applied k).transform) same ∙ sym wide)
+    (ap (λ (k : History). width_of (applied k).buffer (applied k).transform) same ∙ sym wide)
     ∙ ap (λ n. is_damaged width n rects x y) (ap (λ (k : History). height_of (applied k).buffer (applied k).transform) same ∙ sym high)

@@ -148,7 +148,7 @@ module _ (x y : ℤ) (old new : List Window) where
   unmoved-ones e =
       each-both (λ a. (holds-point a ≡ true) × Each (λ b. moves a b ≡ false) old) There (λ a. Each (Stays a) (filter holds-point old)) (λ a h at. all-stay a h.1 at) (filter holds-point old)
       (each-kept holds-point (λ a. Each (λ b. moves a b ≡ false) old) old (each-map (λ a. list_any (moves a) old ≡ false) (λ a. Each (λ b. moves a b ≡ false) old) (λ a h. each-false (moves a) old h)
-          old (each-false (λ a. list_any (moves a) old) old e)))
+      old (each-false (λ a. list_any (moves a) old) old e)))
       (members holds-point old)
 
   -- where nothing is marked
@@ -156,7 +156,7 @@ module _ (x y : ℤ) (old new : List Window) where
       → AreSame (filter holds-point old) (filter holds-point new)
   stack-stays apart apart' gone came moved =
       same-stack (filter holds-point old) (filter holds-point new) (kept-ones x y new old gone) (kept-ones x y old new came) (unmoved-ones moved) (distinct-kept holds-point old apart)
-          (distinct-kept holds-point new apart')
+      (distinct-kept holds-point new apart')
 
 -- ---- painting
 
@@ -173,7 +173,7 @@ fold-same : (d e : Desktop) (x y : ℤ) (ws vs : List Window) → AreSame ws vs 
 fold-same d e x y [] [] same alike background = refl
 fold-same d e x y (w ∷ ws) (v ∷ vs) same alike background =
     fold-same d e x y ws vs same.1 (each-map _ (λ a. Each (λ b. has_same_record a b ≡ true → (under : Rgb) → over d x y under a ≡ over e x y under b) vs) (λ a h. h.1) ws alike.1)
-        (over d x y background w)
+    (over d x y background w)
     ∙ ap (λ start. fold (over e x y) start vs) (alike.0.0 same.0 background)
 fold-same d e x y [] (v ∷ vs) same alike background = absurd (same)
 fold-same d e x y (w ∷ ws) [] same alike background = absurd (same)
@@ -207,13 +207,13 @@ module _ (shown : Showing) (old new : Desktop) (x y : ℤ) where
       → Each (λ w. Each (Alike w) (filter at-point (shown new))) (filter at-point (shown old))
   all-alike came damaged colors =
       let unapplied = each-both (λ v. list_any (has_same_record v) (filter at-point (shown old)) ≡ true) (λ v. (at-point v ≡ true)
-          × (is_damaged_at (applied_between old new) (shown old) x y v ≡ false)) (λ v. is_applied v ≡ false) undamaged (filter at-point (shown new))
+      × (is_damaged_at (applied_between old new) (shown old) x y v ≡ false)) (λ v. is_applied v ≡ false) undamaged (filter at-point (shown new))
       (kept-ones x y (shown old) (shown new) came)
       (each-kept at-point (λ v. is_damaged_at (applied_between old new) (shown old) x y v ≡ false) (shown new) (each-false (is_damaged_at (applied_between old new) (shown old) x y)
-          (shown new) damaged)) in
+      (shown new) damaged)) in
       each-map (λ w. (at-point w ≡ true) × Each (Colored w) (shown new)) (λ w. Each (Alike w) (filter at-point (shown new)))
       (λ w h. each-both (λ v. (at-point v ≡ true) × Colored w v) (λ v. is_applied v ≡ false) (Alike w) (λ v a b. alike w v h.0 a b) (filter at-point (shown new))
-          (each-kept at-point (Colored w) (shown new) h.1) unapplied)
+      (each-kept at-point (Colored w) (shown new) h.1) unapplied)
       (filter at-point (shown old))
       (each-kept at-point (λ w. Each (Colored w) (shown new)) (shown old)
       (each-at (λ w. Each (Colored w) (shown new)) (shown old) (λ i w is. each-at (Colored w) (shown new) (λ j v is'. colors i j w v is is'))))

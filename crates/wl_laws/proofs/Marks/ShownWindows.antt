@@ -63,7 +63,7 @@ unfolding tree
 shown-tree zero owned owner surface place = tt
 shown-tree (suc n) owned owner surface place =
     shown-surface owned (λ child at. tree n owner (owned owner.client).surfaces child at) (λ child at. shown-tree n owned owner child at) owner surface place
-        (history_in surface (owned owner.client).surfaces) refl
+    (history_in surface (owned owner.client).surfaces) refl
 
 shown-roots : (owned : ℕ → Owned) (popups : ℕ → List StackedPopup) (toplevels : List Root) → Each (IsShown owned) (windows (λ client. (owned client).surfaces) popups toplevels)
 shown-roots owned popups toplevels =

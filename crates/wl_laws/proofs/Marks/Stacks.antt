@@ -196,7 +196,7 @@ unmoved-later : (w v a b : Window) (old new : List Window) → Unmoved (w ∷ ol
 unmoved-later w v a b old new e =
     unless (is_before a b old && is_before b a new)
     (λ f. differ (sym e ∙ and-both (is_before a b (w ∷ old)) (is_before b a (v ∷ new)) (before-cons a b w old (and-left (is_before a b old) _ f))
-        (before-cons b a v new (and-right (is_before a b old) _ f))))
+    (before-cons b a v new (and-right (is_before a b old) _ f))))
 
 -- what is kept is kept by the rest, where it isn't of the first window's surface
 kept-later : (v w o : Window) (vs : List Window) → is_same_surface w v ≡ true → is_same_surface w o ≡ false → (has_same_record o v || list_any (has_same_record o) vs) ≡ true
@@ -241,9 +241,9 @@ same-stack (w ∷ ws) (v ∷ vs) kept found unmoved apart apart' =
         first-same w v vs is apart'.0 kept.0,
         next
             (each-both (λ o. is_same_surface w o ≡ false) (λ o. (has_same_record o v || list_any (has_same_record o) vs) ≡ true) (λ o. list_any (has_same_record o) vs ≡ true)
-                (λ o d e. kept-later v w o vs is d e) ws (each-false (is_same_surface w) ws apart.0) kept.1)
+            (λ o d e. kept-later v w o vs is d e) ws (each-false (is_same_surface w) ws apart.0) kept.1)
             (each-both (λ n. is_same_surface v n ≡ false) (λ n. (has_same_record n w || list_any (has_same_record n) ws) ≡ true) (λ n. list_any (has_same_record n) ws ≡ true)
-                (λ n d e. kept-later w v n ws (surface-turned w v is) d e) vs (each-false (is_same_surface v) vs apart'.0) found.1)
+            (λ n d e. kept-later w v n ws (surface-turned w v is) d e) vs (each-false (is_same_surface v) vs apart'.0) found.1)
             (each-map (λ a. Each (λ b. Unmoved (w ∷ ws) (v ∷ vs) a b) (w ∷ ws)) (λ a. Each (λ b. Unmoved ws vs a b) ws) (λ a e. each-map (λ b. Unmoved (w ∷ ws) (v ∷ vs) a b) (λ b. Unmoved ws vs a b)
-                (λ b g. unmoved-later w v a b ws vs g) ws e.1) ws unmoved.1),
+            (λ b g. unmoved-later w v a b ws vs g) ws e.1) ws unmoved.1),
       )

@@ -134,7 +134,7 @@ pub asked-stays : (stands : Bool) (id surface : ℕ) (request : Request) (all : 
     → StaysAt stands (history_in surface all) (history_in surface (with_change id (asking request) all))
 asked-stays stands id surface request all counts =
     subst (λ (o : Option Surface). StaysAt stands (history_in surface all) (option_map (λ (s : Surface). s.history) o)) (sym (changed-found id (asking request) (λ s. refl) all surface))
-        (at (surface_at surface all) refl)
+    (at (surface_at surface all) refl)
   where
     by : (s : Surface) (b : Bool) → AllCounts s.history → StaysAt stands (Some s.history) (Some (cond b (asking request s) s).history)
     by s true counts = (λ there. ap Some (sym (asked-counts s.history request counts)), λ x y. unapplied s.history (asking request s).history refl x y)

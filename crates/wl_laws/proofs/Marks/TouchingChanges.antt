@@ -77,7 +77,7 @@ module _ (c id : ℕ) (rects : List Rect) (d new : Desktop) (unlinked : (c : ℕ
 
   module _ (stack : filter (stands_else (is_touched c (Some id))) d.standing ≡ filter (stands_else (is_touched c (Some id))) new.standing)
       (stays : (client surface : ℕ) → is_touched c (Some id) client surface ≡ false → StaysAt (list_any (is_of client surface) d.standing) (history_in surface (owned_in d client).surfaces)
-          (history_in surface (owned_in new client).surfaces))
+      (history_in surface (owned_in new client).surfaces))
       (marked : marks_of_toplevels d new x y ≡ true) where
     there : (is_window_at c id x y d || is_window_at c id x y new) ≡ true
     there = desktops-touch (is_touched c (Some id)) d new unlinked unlinked' apart stack stays x y marked
@@ -102,7 +102,7 @@ module _ (c id : ℕ) (rects : List Rect) (d new : Desktop) (unlinked : (c : ℕ
       all-kept standing same =
           let now = ap (λ ss. find (is_window_of c id) (windows_on (owned_in new) ss)) standing ∙ is in
           let kept = windows-kept c id (owned_in d) (owned_in new) unlinked unlinked' w v same d.standing (found-stands c id (owned_in d) unlinked w d.standing apart was)
-              (found-stands c id (owned_in new) unlinked' v d.standing apart now)
+          (found-stands c id (owned_in new) unlinked' v d.standing apart now)
           (λ client surface stands other. (stays client surface other).0 stands) in
           subst (λ ss. AreSame (windows_on (owned_in d) d.standing) (windows_on (owned_in new) ss)) standing kept
 
@@ -117,7 +117,7 @@ module _ (c id : ℕ) (rects : List Rect) (d new : Desktop) (unlinked : (c : ℕ
           let here : is_applied_by (history_of d c id) (history_of new c id) (unsigned_abs (x -ℤ v.corner.x)) (unsigned_abs (y -ℤ v.corner.y)) ≡ true =
           subst (λ n. is_applied_by (history_of d n id) (history_of new n id) (unsigned_abs (x -ℤ v.corner.x)) (unsigned_abs (y -ℤ v.corner.y)) ≡ true) (of-number c id v passes)
           (subst (λ n. is_applied_by (history_of d v.owner.client n) (history_of new v.owner.client n) (unsigned_abs (x -ℤ v.corner.x)) (unsigned_abs (y -ℤ v.corner.y)) ≡ true)
-              (of-id c id v passes) hit) in
+          (of-id c id v passes) hit) in
           and-both (contains v x y) _ (and-left (contains v x y) _ held) (sym (applies v is (unsigned_abs (x -ℤ v.corner.x)) (unsigned_abs (y -ℤ v.corner.y))) ∙ here)
 
       both-exactly : (b : Bool) → has_same_record w v ≡ b → (if b then is_window_damaged rects x y v else contains w x y || contains v x y) ≡ true
@@ -196,9 +196,9 @@ module _ (c id : ℕ) (rects : List Rect) (d new : Desktop) (unlinked : (c : ℕ
           applied : is_applied_by (history_of d v.owner.client v.surface) (history_of new v.owner.client v.surface) (unsigned_abs (x -ℤ v.corner.x)) (unsigned_abs (y -ℤ v.corner.y)) ≡ true
           applied =
               subst (λ n. is_applied_by (history_of d v.owner.client n) (history_of new v.owner.client n) (unsigned_abs (x -ℤ v.corner.x)) (unsigned_abs (y -ℤ v.corner.y)) ≡ true)
-                  (sym (of-id c id v (is-of v is)))
+              (sym (of-id c id v (is-of v is)))
               (subst (λ n. is_applied_by (history_of d n id) (history_of new n id) (unsigned_abs (x -ℤ v.corner.x)) (unsigned_abs (y -ℤ v.corner.y)) ≡ true) (sym (of-number c id v (is-of v is)))
-                  found)
+              found)
 
       both-within : (b : Bool) → has_same_record w v ≡ b → (if b then is_window_damaged rects x y v else contains w x y || contains v x y) ≡ true → marks_of_toplevels d new x y ≡ true
       both-within false other e =

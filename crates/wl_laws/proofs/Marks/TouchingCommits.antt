@@ -183,12 +183,12 @@ module _ (c : ℕ) (there : Resident) (d : Desktop) (at_c : client_at c d ≡ So
     pub done-exactly : marks_of_toplevels d done x y ≡ true → changes_at rects x y (window_at c id d) (window_at c id done) ≡ true
     done-exactly =
         subst (λ s. marks_of_toplevels d (become_by s c (changed_simply ask r) q (stacked_simply c ask r d)) x y ≡ true
-            → changes_at rects x y (window_at c id d) (window_at c id (become_by s c (changed_simply ask r) q (stacked_simply c ask r d))) ≡ true) (sym alive)
+        → changes_at rects x y (window_at c id d) (window_at c id (become_by s c (changed_simply ask r) q (stacked_simply c ask r d))) ≡ true) (sym alive)
         (λ marked. changes-exactly c id rects d lived unlinked unlinked-now apart (asked-apart c r d is ask apart finds) (fares rects applied) x y stack others-stay marked)
 
     -- A point of the output that is changed is marked at least.
     pub done-within : in_output d.output.width d.output.height x y ≡ true → changes_at rects x y (window_at c id d) (window_at c id done) ≡ true → marks_of_toplevels d done x y ≡ true
     done-within inside =
         subst (λ s. changes_at rects x y (window_at c id d) (window_at c id (become_by s c (changed_simply ask r) q (stacked_simply c ask r d))) ≡ true
-            → marks_of_toplevels d (become_by s c (changed_simply ask r) q (stacked_simply c ask r d)) x y ≡ true) (sym alive)
+        → marks_of_toplevels d (become_by s c (changed_simply ask r) q (stacked_simply c ask r d)) x y ≡ true) (sym alive)
         (λ changes. changes-within c id rects d lived unlinked unlinked-now apart (asked-apart c r d is ask apart finds) (fares rects applied) x y inside changes)

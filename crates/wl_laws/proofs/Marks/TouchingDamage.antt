@@ -83,21 +83,28 @@ module _ (c : ℕ) (there : Resident) (d : Desktop) (is : client_at c d ≡ Some
       lives : q.status ≡ None → (o : Option ℕ) → touched ask (with_peer p there) ≡ o → IsMarkedSo (done ask p q)
       lives alive None none f =
           absurd (differ (sym (untouched-marks-nothing c there d is unlinked stand.apart ask (with_peer p there) q refl alive x y (here-mapped c there d is names slots kept owned stand unlinked)
-              owned.surfaces.counts (asks-find c there d is names slots kept owned stand unlinked (split_of there.peer.rest) ask p asks) none) ∙ f))
+          owned.surfaces.counts (asks-find c there d is names slots kept owned stand unlinked (split_of there.peer.rest) ask p asks) none) ∙ f))
       lives alive (Some id) t f =
           inr (
             done-status c there d is names slots kept owned stand unlinked ask p q ∙ alive,
             ask,
             asks,
-            (id, sym (touched-peer ask p there) ∙ t, λ rects applied. done-exactly c there d is unlinked stand.apart ask (with_peer p there) q refl alive
-                (here-mapped c there d is names slots kept owned stand unlinked) owned.surfaces.counts (asks-find c there d is names slots kept owned stand unlinked (split_of there.peer.rest) ask p
-                asks) id t rects applied x y f),
+            (
+              id,
+              sym (touched-peer ask p there) ∙ t,
+              λ rects applied. done-exactly c there d is unlinked stand.apart ask (with_peer p there) q refl alive
+                  (here-mapped c there d is names slots kept owned stand unlinked) owned.surfaces.counts (asks-find c there d is names slots kept owned stand unlinked (split_of there.peer.rest) ask p
+                  asks) id t rects applied x y f,
+            ),
           )
 
       at : (s : Option Cause) → q.status ≡ s → IsMarkedSo (done ask p q)
       at None alive = lives alive (touched ask (with_peer p there)) refl
-      at (Some cause) over = λ f. inl (ap (λ s. is_some s) (done-status c there d is names slots kept owned stand unlinked ask p q ∙ over), asked-end-touches c there d is unlinked stand.apart ask
-          (with_peer p there) q cause over x y f)
+      at (Some cause) over = λ f. inl (
+        ap (λ s. is_some s) (done-status c there d is names slots kept owned stand unlinked ask p q ∙ over),
+        asked-end-touches c there d is unlinked stand.apart ask
+            (with_peer p there) q cause over x y f,
+      )
 
   -- A point that a message marks at least is changed of the window of the surface that it touches, or the client ended and the point lies in a
   -- window that it had.
@@ -123,10 +130,10 @@ module _ (c : ℕ) (there : Resident) (d : Desktop) (is : client_at c d ≡ Some
     where
       by : q.status ≡ None → (id : ℕ) (rects : List Rect) → in_output d.output.width d.output.height x y ≡ true
           → changes_at rects x y (window_at c id d) (window_at c id (done ask p q)) ≡ true → (touched ask there ≡ Some id) × IsAppliedBy ask (history_of d c id) rects
-              → marks_of_toplevels d (done ask p q) x y ≡ true
+          → marks_of_toplevels d (done ask p q) x y ≡ true
       by alive id rects inside changes so =
           done-within c there d is unlinked stand.apart ask (with_peer p there) q refl alive (here-mapped c there d is names slots kept owned stand unlinked) owned.surfaces.counts
-              (asks-find c there d is names slots kept owned stand unlinked (split_of there.peer.rest) ask p asks) id (touched-peer ask p there ∙ so.0) rects so.1 x y inside changes
+          (asks-find c there d is names slots kept owned stand unlinked (split_of there.peer.rest) ask p asks) id (touched-peer ask p there ∙ so.0) rects so.1 x y inside changes
 
   -- A point of the output at which the message of a client that lives on changes the window of the surface that it touches is marked at least,
   pub serves-least : (new : Desktop) → NoMore d → Serves served_now c d new → IsWithinSo new

@@ -85,5 +85,5 @@ module _ (c : ℕ) (there : Resident) (d : Desktop) (is : client_at c d ≡ Some
   serves-keeps new more serves alive ask asks id t has =
       message-by c there d new is more (StillThere ask asks id t has) (told-so ask asks id t has)
       (λ other also p q objects queued. subst (λ a. StillThere ask asks id t has (become c (changed_simply a (with_peer p there)) q (stacked_simply c a (with_peer p there) d)))
-          (same-ask there (split_of there.peer.rest) ask other asks also) (done-so ask asks id t has p q))
+      (same-ask there (split_of there.peer.rest) ask other asks also) (done-so ask asks id t has p q))
       serves alive

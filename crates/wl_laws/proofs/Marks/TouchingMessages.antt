@@ -66,8 +66,11 @@ module _ (c : ℕ) (there : Resident) (d : Desktop) (is : client_at c d ≡ Some
       where
         at : (s : Option Cause) → q.status ≡ s → IsMarkedSo (become c (with_peer p there) q d)
         at None alive f = absurd (differ (sym (told-marks-nothing c there d is unlinked stand.apart (with_peer p there) q refl alive x y) ∙ f))
-        at (Some cause) over f = inl (ap (λ s. is_some s) (status-become c (with_peer p there) q d there is ∙ over), end-touches c there d is unlinked stand.apart (with_peer p there) q cause over x y
-            f)
+        at (Some cause) over f = inl (
+          ap (λ s. is_some s) (status-become c (with_peer p there) q d there is ∙ over),
+          end-touches c there d is unlinked stand.apart (with_peer p there) q cause over x y
+              f,
+        )
 
     -- what becomes of the desktop where this is done
     abbrev done : Simple → Peer → Peer → Desktop
@@ -81,8 +84,13 @@ module _ (c : ℕ) (there : Resident) (d : Desktop) (is : client_at c d ≡ Some
       where
         at : (s : Option Cause) → q.status ≡ s → IsMarkedSo (done ask p q)
         at None alive f =
-            inr (done-status ask p q ∙ alive, ask, asks, there-so ask p q (asked-touches c there d is unlinked stand.apart ask (with_peer p there) q refl alive x y here-mapped owned.surfaces.counts
-                (asks-find (split_of there.peer.rest) ask p asks) f))
+            inr (
+              done-status ask p q ∙ alive,
+              ask,
+              asks,
+              there-so ask p q (asked-touches c there d is unlinked stand.apart ask (with_peer p there) q refl alive x y here-mapped owned.surfaces.counts
+                  (asks-find (split_of there.peer.rest) ask p asks) f),
+            )
         at (Some cause) over f = inl (ap (λ s. is_some s) (done-status ask p q ∙ over), asked-end-touches c there d is unlinked stand.apart ask (with_peer p there) q cause over x y f)
 
     -- A point that a message marks at least lies in a window of the surface that it touches, or the client ended and it lies in one that it had.

@@ -33,7 +33,7 @@ shown-lone : (next : ℕ → Place → List Window) (owner : Owner) (surfaces : 
 shown-lone next owner surfaces surface h corner None unlinked e = refl
 shown-lone next owner surfaces surface h corner (Some buffer) unlinked e =
     order-once (member_windows next owner surfaces surface h corner) (no-child next owner surfaces surface h corner unlinked) (counting h)
-        ∙ ap (λ (b : Option Buffer). window_with owner surface corner (applied h) b) e
+    ∙ ap (λ (b : Option Buffer). window_with owner surface corner (applied h) b) e
 
 surface-lone : (next : ℕ → Place → List Window) (owner : Owner) (surfaces : Surfaces) (surface : ℕ) (place : Place) (h : Option History) → surfaces.links ≡ []
     → surface_windows next owner surfaces surface place h ≡ lone owner surface place (counted h)
@@ -85,7 +85,7 @@ module _ (is : ℕ → ℕ → Bool) where
           → filter (is_else is) (window_by owned s) ++ filter (is_else is) (windows_on owned ss) ≡ windows_on owned (cond b (s ∷ filter stands_else ss) (filter stands_else ss))
       at true e rest =
           ap (λ ws. ws ++ filter (is_else is) (windows_on owned ss)) (lone-else (owner_of (root_of owned s)) s.surface s.place (counted (history_in s.surface (owned s.client).surfaces)) true e)
-              ∙ ap (λ ws. window_by owned s ++ ws) rest
+          ∙ ap (λ ws. window_by owned s ++ ws) rest
           ∙ sym (windows-first owned s (filter stands_else ss) unlinked)
       at false e rest = ap (λ ws. ws ++ filter (is_else is) (windows_on owned ss)) (lone-else (owner_of (root_of owned s)) s.surface s.place (counted (history_in s.surface (owned s.client).surfaces))
           false e) ∙ rest

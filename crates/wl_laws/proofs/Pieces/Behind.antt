@@ -28,8 +28,10 @@ with_behind rest r = with_peer (with_rest rest r.peer) r
 abbrev with_stream : Option Cause → List ℕ → Resident → Resident
 with_stream s rest r = with_peer (record r.peer { status = s; rest = rest }) r
 
-keeps-stream : (b : Bool) (stores : Stock) (p : Peer) (s : Option Cause) (rest : List ℕ) → keeps_store b stores (record p { status = s; rest = rest }) ≡ record (keeps_store b stores p) { status = s;
-    rest = rest }
+keeps-stream : (b : Bool) (stores : Stock) (p : Peer) (s : Option Cause) (rest : List ℕ) → keeps_store b stores (record p { status = s; rest = rest }) ≡ record (keeps_store b stores p) {
+  status = s;
+  rest = rest;
+}
 keeps-stream true stores p s rest = refl
 keeps-stream false stores p s rest = refl
 

@@ -95,7 +95,7 @@ shm-allowed : (r : Resident) (object opcode : ℕ) (fields : List Field) → IsH
     → AllowsOwn r (action_of known object version (request_in WlShm opcode fields))
 shm-allowed r object zero fields heard known version =
     created-allowed r object version (word_in 0 fields) (number_in 1 fields) (create_refusal (number_in 1 fields) known.stores)
-        (fresh-first r.peer.objects _ (AnInt ∷ []) _ fields heard.kinds heard.fresh)
+    (fresh-first r.peer.objects _ (AnInt ∷ []) _ fields heard.kinds heard.fresh)
 shm-allowed r object (suc opcode) fields heard known version = absurd heard.kinds
 
 laid-allowed : (r : Resident) (object version id : ℕ) (laid : Laid) (o : Option LayoutError) → IsNew id r → AllowsOwn r (buffer_laid object version id laid o)
@@ -112,7 +112,7 @@ pool-allowed : (r : Resident) (object opcode : ℕ) (fields : List Field) → Is
 pool-allowed r object opcode fields heard version stores None = tt
 pool-allowed r object zero fields heard version stores (Some store) =
     own-either r (can_hold store stores) _ _ (λ f. laid-allowed r object version (word_in 0 fields) _ _ (fresh-first r.peer.objects _ (AnInt ∷ AnInt ∷ AnInt ∷ AnInt ∷ AUint ∷ []) _ fields heard.kinds
-        heard.fresh)) (λ f. tt)
+    heard.fresh)) (λ f. tt)
 pool-allowed r object (suc zero) fields heard version stores (Some store) = heard.live
 pool-allowed r object (suc (suc zero)) fields heard version stores (Some store) = resized-allowed r object store (number_in 0 fields) _
 pool-allowed r object (suc (suc (suc opcode))) fields heard version stores (Some store) = absurd heard.kinds

@@ -25,7 +25,7 @@ shown-own : (next : ℕ → Place → List Window) (owner : Owner) (surfaces : S
 shown-own next owner surfaces surface h corner None unlinked e = refl
 shown-own next owner surfaces surface h corner (Some buffer) unlinked e =
     order-once (member_windows next owner surfaces surface h corner) (no-child next owner surfaces surface h corner unlinked) (counting h)
-        ∙ ap (λ (b : Option Buffer). window_with owner surface corner (applied h) b) e
+    ∙ ap (λ (b : Option Buffer). window_with owner surface corner (applied h) b) e
 
 surface-own : (next : ℕ → Place → List Window) (owner : Owner) (surfaces : Surfaces) (surface : ℕ) (place : Place) (h : Option History) → surfaces.links ≡ []
     → surface_windows next owner surfaces surface place h ≡ own owner surface place h
@@ -84,9 +84,9 @@ unfolding owned-windows stands
 all-stand owned [] = tt
 all-stand owned (s ∷ ss) =
     each-own (λ w. (is_of w.owner.client w.surface s || list_any (is_of w.owner.client w.surface) ss) ≡ true) (owner_of (root_of owned s)) s.surface s.place
-        (history_in s.surface (owned s.client).surfaces) (owned-windows owned ss)
+    (history_in s.surface (owned s.client).surfaces) (owned-windows owned ss)
     (each-map (λ w. list_any (is_of w.owner.client w.surface) ss ≡ true) (λ w. (is_of w.owner.client w.surface s || list_any (is_of w.owner.client w.surface) ss) ≡ true)
-        (λ w e. more (is_of w.owner.client w.surface s) (list_any (is_of w.owner.client w.surface) ss) e) (owned-windows owned ss) (all-stand owned ss))
+    (λ w e. more (is_of w.owner.client w.surface s) (list_any (is_of w.owner.client w.surface) ss) e) (owned-windows owned ss) (all-stand owned ss))
     (λ w c e. first (is_of w.owner.client w.surface s) (list_any (is_of w.owner.client w.surface) ss) (is-it w s c e)) where
       more : (a b : Bool) → b ≡ true → (a || b) ≡ true
       more true b e = refl
@@ -103,15 +103,15 @@ unfolding stands
 no-other owned ss client surface once w c e [] all = refl
 no-other owned ss client surface once w c e (v ∷ vs) all = none (is_same_surface w v) (unless (is_same_surface w v) (λ f. differ (sym once ∙ there f)))
     (no-other owned ss client surface once w c e vs all.1) where
-  none : (a : Bool) → a ≡ false → list_any (is_same_surface w) vs ≡ false → (a || list_any (is_same_surface w) vs) ≡ false
-  none true f g = absurd (differ (sym f))
-  none false f g = g
+      none : (a : Bool) → a ≡ false → list_any (is_same_surface w) vs ≡ false → (a || list_any (is_same_surface w) vs) ≡ false
+      none true f g = absurd (differ (sym f))
+      none false f g = g
 
-  there : is_same_surface w v ≡ true → list_any (is_of client surface) ss ≡ true
-  there f =
-      let client-is = sym (eqb-true w.owner.client v.owner.client (and-left (w.owner.client == v.owner.client) _ f)) ∙ c in
-      let surface-is = sym (eqb-true w.surface v.surface (and-right (w.owner.client == v.owner.client) _ f)) ∙ e in
-      subst (λ n. list_any (is_of n surface) ss ≡ true) client-is (subst (λ n. list_any (is_of v.owner.client n) ss ≡ true) surface-is all.0)
+      there : is_same_surface w v ≡ true → list_any (is_of client surface) ss ≡ true
+      there f =
+          let client-is = sym (eqb-true w.owner.client v.owner.client (and-left (w.owner.client == v.owner.client) _ f)) ∙ c in
+          let surface-is = sym (eqb-true w.surface v.surface (and-right (w.owner.client == v.owner.client) _ f)) ∙ e in
+          subst (λ n. list_any (is_of n surface) ss ≡ true) client-is (subst (λ n. list_any (is_of v.owner.client n) ss ≡ true) surface-is all.0)
 
 distinct : (owned : ℕ → Owned) (standing : List Standing) → AreApart standing → AreDistinct (owned-windows owned standing)
 unfolding owned-windows

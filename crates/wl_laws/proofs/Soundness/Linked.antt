@@ -99,10 +99,10 @@ deeper-old number child parent n link all f none live =
     let found = live-link number n link all f live in
     let not_top : (link.child == child) ≡ false = unless (link.child == child) (λ e. none n link live (eqb-true link.child child e)) in
     let same : descends_from levels all child link.child ≡ descends_from levels all child link.parent = descends-step number child link.child link all f found
-        ∙ ap (λ b. b || descends_from levels all child link.parent) not_top in
+    ∙ ap (λ b. b || descends_from levels all child link.parent) not_top in
     subst (λ b. deeper child parent all link.parent < cond b (depth levels all link.child + suc (depth levels all parent)) (depth levels all link.child)) (sym same)
     (rises-both (descends_from levels all child link.parent) (depth levels all link.child) (depth levels all link.parent) (suc (depth levels all parent))
-        (depth-step number link.child link all f found))
+    (depth-step number link.child link all f found))
 
 low-below : (s h d p : ℕ) → d ≡ s + suc p → s ≤ h → p + 1 + h ≤ 16 → d ≤ 16
 low-below s h d p e f g = omega arith
@@ -118,7 +118,7 @@ deeper-low number child parent s all f none low = at (descends_from levels all c
         let root = depth-none levels all child (no-link number child all f none) in
         let high = within-height number levels child s (17 - depth levels all s) levels all f root (omega arith) e in
         low-below (depth levels all s) (height levels all child) (deeper child parent all s) (depth levels all parent) (deeper-below child parent all s e) (omega arith)
-            (ltb-false 16 (depth levels all parent + 1 + height levels all child) low)
+        (ltb-false 16 (depth levels all parent + 1 + height levels all child) low)
 
 -- ---- the forest
 

@@ -175,4 +175,4 @@ pub new-once : (number : ℕ) (members : List Member) → AreOnce is_member memb
 new-once number members once none =
     once-last is_member members (Child number) once
     (unless (list_any (λ m. is_member m (Child number)) members)
-        (λ e. differ (sym none ∙ any-more (λ m. is_member m (Child number)) (is_member (Child number)) (λ m. turned m (Child number)) members e)))
+    (λ e. differ (sym none ∙ any-more (λ m. is_member m (Child number)) (is_member (Child number)) (λ m. turned m (Child number)) members e)))

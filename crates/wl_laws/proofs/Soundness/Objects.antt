@@ -58,7 +58,7 @@ pub objects-dismissed : (is : Popped → Bool) (r : Resident) → HasObjects r �
 objects-dismissed is r h =
     of-has (with_shell (dismissing is r.owned.shell) r)
     (has-mapped r.peer.objects r.owned.surfaces r.subsurfaces r.owned.shell r.callbacks (has-of r h) (dismissed_among (dismissed_with is r.owned.shell))
-        (no-id-dismissed (dismissed_with is r.owned.shell)))
+    (no-id-dismissed (dismissed_with is r.owned.shell)))
 
 -- ---- what is owned changes
 
@@ -141,7 +141,7 @@ surface-made : (id version : ℕ) (r : Resident) → IsNew id r → HasOf r
 surface-made id version r new h =
     let more = has-surfaces r.peer.objects r.owned.surfaces r.subsurfaces r.owned.shell r.callbacks h (with_new id r.owned.surfaces) (λ other is was. there-more id other r.owned.surfaces was) in
     has-made r.peer.objects (with_new id r.owned.surfaces) r.subsurfaces r.owned.shell r.callbacks more id (object_at_version of.WlSurface version)
-        (λ interface. free-none interface r.peer.objects id new)
+    (λ interface. free-none interface r.peer.objects id new)
     (λ is. there-new id r.owned.surfaces)
 
 toplevel-made : (id version xdg : ℕ) (r : Resident) (o : Option Xdg) → IsNew id r → xdg_at xdg r.owned.shell ≡ o → HasOf r → HasOf (making of.XdgToplevel id version (toplevel_given id xdg o r))
@@ -149,7 +149,7 @@ toplevel-made id version xdg r None new found h = has-object r.peer.objects r.ow
 toplevel-made id version xdg r (Some x) new found h =
     let all = with_surface_change x.surface (with_role role.Toplevel) r.owned.surfaces in
     has-toplevel-more r.peer.objects all r.subsurfaces r.owned.shell r.callbacks (there-has r all (there-changed x.surface (with_role role.Toplevel) r.owned.surfaces (λ s. refl)) h) id version new xdg
-        _ x found
+    _ x found
 
 popup-made : (id version xdg parent : ℕ) (p : Positioner) (r : Resident) (o : Option Xdg) → IsNew id r → xdg_at xdg r.owned.shell ≡ o → HasOf r
     → HasOf (making of.XdgPopup id version (popup_given_to id xdg parent p o r))
@@ -157,7 +157,7 @@ popup-made id version xdg parent p r None new found h = has-object r.peer.object
 popup-made id version xdg parent p r (Some x) new found h =
     let all = with_surface_change x.surface (with_role role.Popup) r.owned.surfaces in
     has-popup-more r.peer.objects all r.subsurfaces r.owned.shell r.callbacks (there-has r all (there-changed x.surface (with_role role.Popup) r.owned.surfaces (λ s. refl)) h) id version new xdg
-        parent p _ _ x found
+    parent p _ _ x found
 
 asks-has : (ask : Ask) (r : Resident) → IsAsked r ask → HasOf r → HasOf (changed_by ask r)
 asks-has (Own action) r ok h = own-has (λ number. is_used number r.owned.surfaces) action r ok h
@@ -218,7 +218,7 @@ frame-made : (id version surface : ℕ) (r : Resident) → IsNew id r → HasOf 
 frame-made id version surface r new h =
     let all = with_surface_change surface (asking (Frame r.peer.requests)) r.owned.surfaces in
     has-callback-more r.peer.objects all r.subsurfaces r.owned.shell r.callbacks (there-has r all (there-changed surface (asking (Frame r.peer.requests)) r.owned.surfaces (λ s. refl)) h) id version
-        new _ refl
+    new _ refl
 
 surface-gone : (surface : ℕ) (r : Resident) → IsObject of.WlSurface surface r → HasOf r → HasOf (surface_ended surface r)
 surface-gone surface r ok h =

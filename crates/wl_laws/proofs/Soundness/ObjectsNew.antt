@@ -38,7 +38,7 @@ objects-plain interface has objects xs x never are = (
 module _ (interface : Interface) (has : ℕ → Xdg → Bool) (objects : Objects) (id : ℕ) (object : Object) (xdg : ℕ) (change : Xdg → Xdg) (x : Xdg) where
   pub objects-given : (shell : Shell) → AreApartBy has_xdg shell → xdg_at xdg shell ≡ Some x → is_of interface (objects id) ≡ false → is_of interface (Some object) ≡ true
       → ((key : ℕ) (x : Xdg) → has key (change x) ≡ true → key ≡ id) → AreObjects interface objects has shell
-          → AreObjects interface (with_id id (Some object) objects) has (with_change xdg change shell)
+      → AreObjects interface (with_id id (Some object) objects) has (with_change xdg change shell)
   objects-given shell apart found none is key-is are = (
     changed-apart has_xdg xdg x change has shell apart found are.0
         (λ key has-key. none-found (has key) shell (no-key interface has objects key shell (ap (λ n. is_of interface (objects n)) (key-is key x has-key) ∙ none) are)),
@@ -67,13 +67,13 @@ module _ (objects : Objects) (all : Surfaces) (subs : List Subsurface) (shell : 
     has-subsurface-more s is =
         has-subsurfaces (with_id id (Some (object_at_version WlSubsurface version)) objects) all subs shell calls (has-object WlSubsurface refl) (subs ++ s ∷ [])
         (objects-new WlSubsurface has_sub objects id (object_at_version WlSubsurface version) subs s (free-none WlSubsurface objects id free) refl (λ key e. sym (eqb-true s.id key e)
-            ∙ is) h.subsurfaces)
+        ∙ is) h.subsurfaces)
 
     pub has-callback-more : (callback : Callback) → callback.id ≡ id → Has (with_id id (Some (object_at_version WlCallback version)) objects) all subs shell (calls ++ callback ∷ [])
     has-callback-more callback is =
         has-calls (with_id id (Some (object_at_version WlCallback version)) objects) all subs shell calls (has-object WlCallback refl) (calls ++ callback ∷ [])
         (objects-new WlCallback has_callback objects id (object_at_version WlCallback version) calls callback (free-none WlCallback objects id free) refl (λ key e. sym (eqb-true callback.id key e)
-            ∙ is) h.callbacks)
+        ∙ is) h.callbacks)
 
     pub has-xdg-more : (base surface : ℕ) → Has (with_id id (Some (object_at_version XdgSurface version)) objects) all subs (with_new id base surface shell) calls
     has-xdg-more base surface =
@@ -105,7 +105,7 @@ module _ (objects : Objects) (all : Surfaces) (subs : List Subsurface) (shell : 
         let new = has-object XdgToplevel refl in
         has-shell (with_id id (Some (object_at_version XdgToplevel version)) objects) all subs shell calls new (with_change xdg (new_toplevel id since) shell)
         (objects-map XdgSurface has_xdg (with_id id (Some (object_at_version XdgToplevel version)) objects) (λ x. cond (x.id == xdg) (new_toplevel id since x) x) shell
-            (same-xdg xdg (new_toplevel id since) (λ x. refl)) new.xdgs)
+        (same-xdg xdg (new_toplevel id since) (λ x. refl)) new.xdgs)
         (objects-given XdgToplevel has_toplevel objects id (object_at_version XdgToplevel version) xdg (new_toplevel id since) x shell h.xdgs.0 found (free-none XdgToplevel objects id free) refl
         (λ key x e. sym (eqb-true id key (and-left (id == key) true e))) h.toplevels)
         (objects-map XdgPopup has_popup (with_id id (Some (object_at_version XdgToplevel version)) objects) (λ x. cond (x.id == xdg) (new_toplevel id since x) x) shell
@@ -117,7 +117,7 @@ module _ (objects : Objects) (all : Surfaces) (subs : List Subsurface) (shell : 
         let new = has-object XdgPopup refl in
         has-shell (with_id id (Some (object_at_version XdgPopup version)) objects) all subs shell calls new (with_change xdg (new_popup id parent p number since) shell)
         (objects-map XdgSurface has_xdg (with_id id (Some (object_at_version XdgPopup version)) objects) (λ x. cond (x.id == xdg) (new_popup id parent p number since x) x) shell
-            (same-xdg xdg (new_popup id parent p number since) (λ x. refl)) new.xdgs)
+        (same-xdg xdg (new_popup id parent p number since) (λ x. refl)) new.xdgs)
         (objects-map XdgToplevel has_toplevel (with_id id (Some (object_at_version XdgPopup version)) objects) (λ x. cond (x.id == xdg) (new_popup id parent p number since x) x) shell
         (fails has_toplevel xdg (new_popup id parent p number since) (λ key x. is-false ((id == key) && false) (λ e. differ (sym (and-right (id == key) false e))))) new.toplevels)
         (objects-given XdgPopup has_popup objects id (object_at_version XdgPopup version) xdg (new_popup id parent p number since) x shell h.xdgs.0 found (free-none XdgPopup objects id free) refl
@@ -129,7 +129,7 @@ module _ (objects : Objects) (all : Surfaces) (subs : List Subsurface) (shell : 
   pub has-object-gone : (one : Interface) → (interface_number one == interface_number WlSubsurface) ≡ false → (interface_number one == interface_number XdgSurface) ≡ false
       → (interface_number one == interface_number XdgToplevel) ≡ false
       → (interface_number one == interface_number XdgPopup) ≡ false → (interface_number one == interface_number WlCallback) ≡ false → is_of one (objects id) ≡ true
-          → Has (with_id id None objects) all subs shell calls
+      → Has (with_id id None objects) all subs shell calls
   has-object-gone one a b c d e is =
       has-gone objects all subs shell calls h id
       (no-subsurface objects all subs shell calls h one id a is)

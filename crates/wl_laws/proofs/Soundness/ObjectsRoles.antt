@@ -36,7 +36,7 @@ pub only-gone : (has : ℕ → Xdg → Bool) (id xdg : ℕ) (shell : Shell) → 
 only-gone has id xdg shell never only =
     is-false (list_any (has id) (with_change xdg without_role shell))
     (λ any. differ (sym (any-more (λ x. has id (cond (x.id == xdg) (without_role x) x)) (is_elsewhere has id xdg) (λ x e. at x (x.id == xdg) e) shell
-        (sym (any-map (has id) (λ x. cond (x.id == xdg) (without_role x) x) shell) ∙ any)) ∙ only))
+    (sym (any-map (has id) (λ x. cond (x.id == xdg) (without_role x) x) shell) ∙ any)) ∙ only))
   where
     at : (x : Xdg) (b : Bool) → has id (cond b (without_role x) x) ≡ true → (has id x && not b) ≡ true
     at x true e = absurd (differ (sym e ∙ never x))

@@ -105,7 +105,7 @@ there-unlinked (Some number) all id = there-all ended_in there-ended (filter (λ
 pub there-destroyed : (surface : ℕ) (all : Surfaces) (id : ℕ) → (id == surface) ≡ false → is_some (surface_at id (destroyed_in surface all)) ≡ is_some (surface_at id all)
 there-destroyed surface all id apart =
     ap is_some (found-left (λ s. s.id == id) (λ s. not (s.id == surface)) (fold ended_in all (links_with surface all)).surfaces (λ s is. ap (λ i. not (i == surface)) (eqb-true s.id id is)
-        ∙ ap not apart))
+    ∙ ap not apart))
     ∙ there-all ended_in there-ended (links_with surface all) all id
 
 pub there-more : (new id : ℕ) (all : Surfaces) → is_some (surface_at id all) ≡ true → is_some (surface_at id (with_new new all)) ≡ true

@@ -89,7 +89,7 @@ pub record KeepsShell (old new : Shell) : Type 0 where
 pub roles-trees : (r q : Resident) → KeepsTrees r.owned.surfaces q.owned.surfaces → KeepsShell r.owned.shell q.owned.shell → q.subsurfaces ≡ r.subsurfaces → HasRoles r → HasRoles q
 roles-trees r q trees shell names has =
     roles-step r q trees.links (λ n link live role bare. (trees.surfaces.roles link.child ∙ role, shell.none link.child bare)) (λ n link live named. ap (list_any (names_child n link.child)) names
-        ∙ named) (shell.apart has.apart) has
+    ∙ named) (shell.apart has.apart) has
 
 -- ---- the shell
 
@@ -231,8 +231,11 @@ pub roles-shelled : (id base surface : ℕ) (r : Resident) → is_foreign (role_
     → HasRoles (with_shell (with_new id base surface r.owned.shell) r)
 roles-shelled id base surface r foreign none has =
     roles-step r (with_shell (with_new id base surface r.owned.shell) r) (links-same r.owned.surfaces r.owned.surfaces refl)
-    (λ n link live is bare. (is, new-elsewhere (has_surface link.child) r.owned.shell one (ne_eqb surface link.child (λ same. foreign-not (role_of r surface) foreign (ap (role_of r) same ∙ is)))
-        ∙ bare))
+    (λ n link live is bare. (
+      is,
+      new-elsewhere (has_surface link.child) r.owned.shell one (ne_eqb surface link.child (λ same. foreign-not (role_of r surface) foreign (ap (role_of r) same ∙ is)))
+          ∙ bare,
+    ))
     (λ n link live named. named) (new-apart has_surface r.owned.shell one (λ key is. ap (λ k. xdg_of k r.owned.shell) (sym (eqb-true surface key is)) ∙ none) has.apart) has
   where
     one : XdgSurface
@@ -266,7 +269,7 @@ names-new : (id number child n surface : ℕ) (ss : List Subsurface) → n ≡ n
 names-new id number child n surface ss here same =
     any-last (names_child n surface) ss (new_subsurface id number child)
     ∙ or_right (list_any (names_child n surface) ss) (names_child n surface (new_subsurface id number child)) (and-both (number == n) (child == surface) (equal-numbers number n (sym here))
-        (equal-numbers child surface (sym same)))
+    (equal-numbers child surface (sym same)))
 
 pub roles-subsurface :
     (id version child parent : ℕ) (r : Resident) → is_some (surface_at child r.owned.surfaces) ≡ true → xdg_of child r.owned.shell ≡ None → IsForest r.peer.requests r.owned.surfaces → HasRoles r
@@ -306,7 +309,7 @@ names-left id n child ss apart other any = at (any-found (λ id s. s.id == id) (
     at one =
         let not_it : (one.0.id == id) ≡ false = unless (one.0.id == id)
         (λ same. other (ap (λ k. Some k) (sym (eqb-true one.0.link n (and-left (one.0.link == n) (is_of_child child one.0.surface) one.1)))
-            ∙ sym (ap (λ (o : Option Subsurface). option_map (λ s. s.link) o) (one.2 id same)))) in
+        ∙ sym (ap (λ (o : Option Subsurface). option_map (λ s. s.link) o) (one.2 id same)))) in
         found-any (λ s. s.id == one.0.id) (names_child n child) (filter (λ s. not (s.id == id)) ss) one.0
         (found-kept (λ s. s.id == one.0.id) (λ s. not (s.id == id)) ss one.0 (one.2 one.0.id (equal-numbers one.0.id one.0.id refl)) (ap (λ b. not b) not_it)) one.1
 
@@ -314,7 +317,7 @@ pub roles-unlinked :
     (id : ℕ) (r : Resident) → AreApartBy (λ id s. s.id == id) r.subsurfaces → AreApartBy (λ number l. l.number == number) r.owned.surfaces.links → HasRoles r → HasRoles (subsurface_ended id r)
 roles-unlinked id r apart links has =
     roles-step r (subsurface_ended id r) (trees-unlinked (link_with_id id r) r.owned.surfaces).links
-        (λ n link live is bare. ((trees-unlinked (link_with_id id r) r.owned.surfaces).surfaces.roles link.child ∙ is, bare))
+    (λ n link live is bare. ((trees-unlinked (link_with_id id r) r.owned.surfaces).surfaces.roles link.child ∙ is, bare))
     (λ n link live named. names-left id n link.child r.subsurfaces apart (unlinked-live (link_with_id id r) n link r.owned.surfaces links live) named) has.apart has
 
 -- ---- a surface goes
@@ -341,7 +344,7 @@ roles-destroyed surface r links has =
     roles-step r (surface_ended surface r) (links-destroyed surface r.owned.surfaces)
     (λ n link live is bare. (destroyed-role surface link.child r.owned.surfaces (destroyed-live surface n link r.owned.surfaces links live).0 ∙ is, bare))
     (λ n link live named. any-map (names_child n link.child) (without_child surface) (names-inert surface n link.child (destroyed-live surface n link r.owned.surfaces links live).0) r.subsurfaces
-        named) has.apart has
+    named) has.apart has
 
 -- ---- a commit
 

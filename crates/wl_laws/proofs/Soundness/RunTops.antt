@@ -87,7 +87,7 @@ none-stand : (before after : List Standing) → StandTheSame before after → be
 none-stand before [] same none = refl
 none-stand before (s ∷ ss) same none =
     absurd (differ (sym (ap (λ (tops : List Standing). list_any (λ t. t.surface == s.surface) tops) none) ∙ sym (same s.surface)
-        ∙ ap (λ (b : Bool). b || list_any (λ t. t.surface == s.surface) ss) (equal-numbers s.surface s.surface refl)))
+    ∙ ap (λ (b : Bool). b || list_any (λ t. t.surface == s.surface) ss) (equal-numbers s.surface s.surface refl)))
 
 stand-so : (r : Resident) (before after : List Standing) → StandTheSame before after → (AreApart before → AreApart after) → IsOrderlyAt (Some r) before → IsOrderlyAt (Some r) after
 stand-so r before after same apart known = at r.peer.status known

@@ -100,7 +100,7 @@ dismissed-role x false is = is
 pub mapped-dismissed : (is : Popped → Bool) (shell : Shell) (surface : ℕ) → IsMapped (xdg_of surface shell) → IsMapped (xdg_of surface (dismissing is shell))
 mapped-dismissed is shell surface here =
     mapped-if (λ x. cond (is_among x.id (dismissed_with is shell)) (popup_changed dismiss x) x) shell surface
-        (λ x. dismissed-surface (dismissed_with is shell) x (is_among x.id (dismissed_with is shell)))
+    (λ x. dismissed-surface (dismissed_with is shell) x (is_among x.id (dismissed_with is shell)))
     (λ x found. dismissed-role x (is_among x.id (dismissed_with is shell))) here
 
 pub standing-dismissed : (is : Popped → Bool) (shell : Shell) (tops : List Standing) → StandsSo shell tops → StandsSo (dismissing is shell) tops
@@ -116,7 +116,7 @@ changed-surface id change keeps x false = refl
 pub mapped-changed :
     (id : ℕ) (change : XdgSurface → XdgSurface) (shell : Shell) (surface : ℕ) → ((x : XdgSurface) → (change x).surface ≡ x.surface)
     → ((x : XdgSurface) → xdg_of surface shell ≡ Some x → x.id ≡ id → IsMappedRole x.role → IsMappedRole (change x).role) → IsMapped (xdg_of surface shell)
-        → IsMapped (xdg_of surface (with_change id change shell))
+    → IsMapped (xdg_of surface (with_change id change shell))
 mapped-changed id change shell surface keeps maps is =
     mapped-if (λ x. cond (x.id == id) (change x) x) shell surface (λ x. changed-surface id change keeps x (x.id == id)) (λ x found. at x (x.id == id) refl (maps x found)) is
   where
@@ -134,7 +134,7 @@ bare-at id shell surface x apart bare found same =
 
 pub mapped-bare :
     (id : ℕ) (change : XdgSurface → XdgSurface) (shell : Shell) (surface : ℕ) → ((x : XdgSurface) → (change x).surface ≡ x.surface) → AreApartBy (λ id x. x.id == id) shell
-        → HasNoRole (xdg_at id shell)
+    → HasNoRole (xdg_at id shell)
     → IsMapped (xdg_of surface shell) → IsMapped (xdg_of surface (with_change id change shell))
 mapped-bare id change shell surface keeps apart bare is =
     mapped-changed id change shell surface keeps (λ x found same here. absurd (no-role x (bare-at id shell surface x apart bare found same) here)) is
@@ -281,7 +281,7 @@ module _ (c surface : ℕ) (shell : Shell) (x : XdgSurface) (apart : AreApartBy 
   commit-waits shows change other keeps effect is =
       mapped-changed x.id change shell other keeps
       (λ y here same role. absurd (no-configure (is_dismissed (popped_of x)) shows (sym (effect-mapped shows x (subst (λ (z : XdgSurface). IsMappedRole z.role) (it-changes other y here same) role))
-          ∙ effect))) is
+      ∙ effect))) is
 
   commit-unmaps : (change : XdgSurface → XdgSurface) (ss : List Standing) → ((y : XdgSurface) → (change y).surface ≡ y.surface) → StandsSo shell (of_client c ss)
       → StandsSo (with_change x.id change shell) (of_client c (without_surface_of c surface ss))
@@ -291,7 +291,7 @@ module _ (c surface : ℕ) (shell : Shell) (x : XdgSurface) (apart : AreApartBy 
       mapped-changed x.id change shell other keeps
       (λ y here same role.
       absurd (differs (sym (eqb-true y.surface other (found-passes (λ x. x.surface == other) shell y here)) ∙ ap (λ (z : XdgSurface). z.surface) (it-changes other y here same)
-          ∙ eqb-true x.surface surface (found-passes (λ x. x.surface == surface) shell x found)))) is) stands
+      ∙ eqb-true x.surface surface (found-passes (λ x. x.surface == surface) shell x found)))) is) stands
 
   commit-unmaps-popup : (change : XdgSurface → XdgSurface) (other : ℕ) → ((y : XdgSurface) → (change y).surface ≡ y.surface) → is_toplevel (Some x) ≡ false → IsMapped (xdg_of other shell)
       → IsMapped (xdg_of other (with_change x.id change shell))
@@ -306,7 +306,7 @@ module _ (c surface : ℕ) (shell : Shell) (x : XdgSurface) (apart : AreApartBy 
   now-mapped is =
       subst IsMapped
       (sym (found-map (λ x. x.surface == surface) (λ y. cond (y.id == x.id) (in_stage Mapped y) y) shell
-          (λ y. ap (λ n. n == surface) (changed-surface x.id (in_stage Mapped) (λ y. refl) y (y.id == x.id)))
+      (λ y. ap (λ n. n == surface) (changed-surface x.id (in_stage Mapped) (λ y. refl) y (y.id == x.id)))
       ∙ ap (option_map (λ (y : XdgSurface). cond (y.id == x.id) (in_stage Mapped y) y)) found
       ∙ ap (λ b. Some (cond b (in_stage Mapped x) x)) (equal-numbers x.id x.id refl)))
       (becomes-mapped x.role is)
@@ -319,9 +319,9 @@ module _ (c surface : ℕ) (shell : Shell) (x : XdgSurface) (apart : AreApartBy 
 
 commit-effect :
     (c surface : ℕ) (r : Resident) (d : Desktop) (x : XdgSurface) (shows : Bool) → AreApartBy (λ id x. x.id == id) r.owned.shell → xdg_of surface r.owned.shell ≡ Some x
-        → StandsSo r.owned.shell (toplevels_of c d)
+    → StandsSo r.owned.shell (toplevels_of c d)
     → (e : Effect) → effect_for_xdg shows x ≡ e → StandsSo (effect_done c surface e (Some x) d (tree_committed surface r)).owned.shell
-        (toplevels_of c (stacked_by e (is_toplevel (Some x)) c surface d))
+    (toplevels_of c (stacked_by e (is_toplevel (Some x)) c surface d))
 commit-effect c surface r d x shows apart found stands Stays is = stands
 commit-effect c surface r d x shows apart found stands Unconfigured is = stands
 commit-effect c surface r d x shows apart found stands Configures is =
@@ -351,7 +351,7 @@ standing-committed c surface r d apart stands = at (xdg_of surface r.owned.shell
   where
     at : (o : Option XdgSurface) → xdg_of surface r.owned.shell ≡ o
         → StandsSo (effect_done c surface (effect_on_xdg (will_show r surface) o) o d (tree_committed surface r)).owned.shell
-            (toplevels_of c (stacked_by (effect_on_xdg (will_show r surface) o) (is_toplevel o) c surface d))
+        (toplevels_of c (stacked_by (effect_on_xdg (will_show r surface) o) (is_toplevel o) c surface d))
     at None found = stands
     at (Some x) found = commit-effect c surface r d x (will_show r surface) apart found stands (effect_for_xdg (will_show r surface) x) refl
 
@@ -359,7 +359,7 @@ standing-committed c surface r d apart stands = at (xdg_of surface r.owned.shell
 
 standing-bare :
     (id : ℕ) (change : XdgSurface → XdgSurface) (shell : Shell) (tops : List Standing) → ((x : XdgSurface) → (change x).surface ≡ x.surface) → AreApartBy (λ id x. x.id == id) shell
-        → HasNoRole (xdg_at id shell)
+    → HasNoRole (xdg_at id shell)
     → StandsSo shell tops → StandsSo (with_change id change shell) tops
 standing-bare id change shell tops keeps apart bare stands = standing-same shell (with_change id change shell) tops (λ other is. mapped-bare id change shell other keeps apart bare is) stands
 
@@ -399,7 +399,7 @@ popup-unmapped id xdg r has is named surface x found same here = at (xdg_with id
     at None e named = named
     at (Some y) e named =
         let one : y ≡ x = same-key (λ id x. x.id == id) (λ x. is_role id x.role) (λ x. x.surface == surface) xdg r.owned.shell y x has.shell.0 e found (equal-numbers y.id xdg named)
-            (equal-numbers x.id xdg same) in
+        (equal-numbers x.id xdg same) in
         let role : is_role id x.role ≡ true = subst (λ (z : XdgSurface). is_role id z.role ≡ true) one (found-passes (λ x. is_role id x.role) r.owned.shell y e) in
         one-interface (r.peer.objects id) is
         (has.toplevels.1 id (found-any (λ x. x.surface == surface) (λ x. is_toplevel_at id x.role) r.owned.shell x found (toplevel-role id x.role role here)))

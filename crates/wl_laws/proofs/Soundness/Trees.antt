@@ -41,9 +41,11 @@ each-flat P f (x ∷ xs) e = each-append P (f x) (flat_map f xs) e.0 (each-flat 
 -- each of a list is among it
 pub all-there : {X : Type 0} (same : X → X → Bool) → ((x : X) → same x x ≡ true) → (xs : List X) → Each (λ x. list_any (same x) xs ≡ true) xs
 all-there same self [] = tt
-all-there same self (x ∷ xs) =
-    (or-here (same x x) (list_any (same x) xs) (self x), each-map (λ y. list_any (same y) xs ≡ true) (λ y. (same y x || list_any (same y) xs) ≡ true)
-        (λ y e. or-there (same y x) (list_any (same y) xs) e) xs (all-there same self xs))
+all-there same self (x ∷ xs) = (
+  or-here (same x x) (list_any (same x) xs) (self x),
+  each-map (λ y. list_any (same y) xs ≡ true) (λ y. (same y x || list_any (same y) xs) ≡ true)
+      (λ y e. or-there (same y x) (list_any (same y) xs) e) xs (all-there same self xs),
+)
 
 append-distinct : (ws vs : List Window) → AreDistinct ws → AreDistinct vs → Each (λ w. list_any (is_same_surface w) vs ≡ false) ws → AreDistinct (ws ++ vs)
 append-distinct [] vs a b d = b
@@ -245,4 +247,4 @@ unfolding tree
 tree-distinct zero owner all t c place = tt
 tree-distinct (suc levels) owner all t c place =
     surface-distinct (λ child at. tree levels owner all child at) owner all t c place (history_in c all) (λ child at. tree-each levels owner all t child at)
-        (λ child at. tree-distinct levels owner all t child at) refl
+    (λ child at. tree-distinct levels owner all t child at) refl

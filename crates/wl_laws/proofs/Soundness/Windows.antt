@@ -104,9 +104,10 @@ shape-none p rs on x e f = unless (In x on) (λ g. f (in-shape p rs on x e g).0)
 -- the popups after one that isn't among them have other surfaces
 others : (p : StackedPopup) (ps : List StackedPopup) → list_any (same_popup p) ps ≡ false → Each (λ q. p.surface ≡ q.surface → ⊥) ps
 others p [] e = tt
-others p (q ∷ qs) e =
-    (λ same. differ (sym (or-left (same_popup p q) (list_any (same_popup p) qs) e) ∙ equal-numbers q.surface p.surface (sym same)),
-        others p qs (or-right (same_popup p q) (list_any (same_popup p) qs) e))
+others p (q ∷ qs) e = (
+  λ same. differ (sym (or-left (same_popup p q) (list_any (same_popup p) qs) e) ∙ equal-numbers q.surface p.surface (sym same)),
+  others p qs (or-right (same_popup p q) (list_any (same_popup p) qs) e),
+)
 
 -- the popups that follow are not among the roots once one of another surface is stacked
 still-new : (surfaces : Surfaces) (p : StackedPopup) (rs : List Root) (ps : List StackedPopup) → list_any (same_popup p) ps ≡ false → Each (λ q. In q.surface rs ≡ false) ps
@@ -161,7 +162,7 @@ stacked-away : (surfaces : Surfaces) (rs qs : List Root) (ps : List StackedPopup
 stacked-away surfaces rs qs [] away f g once = away
 stacked-away surfaces rs qs (p ∷ ps) away f g once =
     stacked-away surfaces (stacked surfaces rs p) (stacked surfaces qs p) ps (away-step surfaces p rs qs away f.0 g.0) (still-new surfaces p rs ps once.0 f.1) (still-new surfaces p qs ps once.0 g.1)
-        once.1
+    once.1
 
 -- ---- the windows of toplevels
 
@@ -191,7 +192,7 @@ tops : (surfaces : ℕ → Surfaces) (popups : ℕ → List StackedPopup) → Ho
 tops surfaces popups holds t level =
     stacked-each (IsTop surfaces t.client) (surfaces t.client) (t ∷ []) (popups t.client) ((refl, level.0), tt)
     (each-map (λ p. IsNoChild p.surface (surfaces t.client)) (λ p. (r : Root) → IsTop surfaces t.client r → IsTop surfaces t.client (root_on (surfaces t.client) r p)) (λ p no r top. (top.0, no))
-        (popups t.client) (holds.roots t.client))
+    (popups t.client) (holds.roots t.client))
 
 -- a window under a root of this toplevel's
 pub record OfLevel (surfaces : ℕ → Surfaces) (popups : ℕ → List StackedPopup) (t : Root) (w : Window) : Type 0 where
@@ -224,8 +225,8 @@ level-distinct surfaces popups holds t level =
     (λ r top. tree-each 17 (owner_of r) (surfaces r.client) (holds.trees r.client) r.surface r.place)
     (λ r q w v top-r top-q u x same.
     equal-numbers q.surface r.surface
-        (sym (one-root (surfaces t.client) (holds.trees t.client) t.client r.surface q.surface w v top-r.1 top-q.1 (subst (λ c. IsUnder c (surfaces c) r.surface w) top-r.0 u)
-        (subst (λ c. IsUnder c (surfaces c) q.surface v) top-q.0 x) same)))
+    (sym (one-root (surfaces t.client) (holds.trees t.client) t.client r.surface q.surface w v top-r.1 top-q.1 (subst (λ c. IsUnder c (surfaces c) r.surface w) top-r.0 u)
+    (subst (λ c. IsUnder c (surfaces c) q.surface v) top-q.0 x) same)))
     (roots_of (surfaces t.client) t (popups t.client)) (tops surfaces popups holds t level)
     (stacked-once (surfaces t.client) (t ∷ []) (popups t.client) (refl, tt) (new-popups t (popups t.client) level.1) (holds.once t.client))
 
@@ -247,7 +248,7 @@ same-toplevel surfaces popups holds c t s w v is-t is-s level-t level-s of-w of-
     root-is : of-w.root ≡ of-v.root
     root-is =
         one-root (surfaces c) (holds.trees c) c of-w.root of-v.root w v (subst (λ n. IsNoChild of-w.root (surfaces n)) is-t of-w.no_child)
-            (subst (λ n. IsNoChild of-v.root (surfaces n)) is-s of-v.no_child)
+        (subst (λ n. IsNoChild of-v.root (surfaces n)) is-s of-v.no_child)
         (subst (λ n. IsUnder n (surfaces n) of-w.root w) is-t of-w.under) (subst (λ n. IsUnder n (surfaces n) of-v.root v) is-s of-v.under) same
 
     away : (t.surface ≡ s.surface → ⊥) → ⊥
@@ -282,7 +283,7 @@ none-mapped : (owned : ℕ → Owned) (s : Standing) (ss : List Standing) → li
 none-mapped owned s [] e = refl
 none-mapped owned s (r ∷ rs) e =
     or-none (standing_same s r) (list_any (same_level (root_of owned s)) (map (root_of owned) rs)) (or-left (standing_same s r) (list_any (standing_same s) rs) e)
-        (none-mapped owned s rs (or-right (standing_same s r) (list_any (standing_same s) rs) e))
+    (none-mapped owned s rs (or-right (standing_same s r) (list_any (standing_same s) rs) e))
 
 once-mapped : (owned : ℕ → Owned) (ss : List Standing) → AreApart ss → AreOnce same_level (map (root_of owned) ss)
 once-mapped owned [] e = tt

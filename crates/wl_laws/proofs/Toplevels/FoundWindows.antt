@@ -133,30 +133,30 @@ module _ (c id : ℕ) where
 
   -- the same counts of all others, and the window that is found keeps its record: so do all windows, one by one
   module _ (owned owned' : ℕ → Owned) (unlinked : (c : ℕ) → (owned c).surfaces.links ≡ []) (unlinked' : (c : ℕ) → (owned' c).surfaces.links ≡ []) (w v : Window) (same : has_same_record w v ≡ true)
-      where
-    one-same : (s : Standing) → IsFoundBy owned unlinked w s → IsFoundBy owned' unlinked' v s
-        → (is_of c id s ≡ false → counted (history_in s.surface (owned s.client).surfaces) ≡ counted (history_in s.surface (owned' s.client).surfaces))
-            → AreSame (window_by owned s) (window_by owned' s)
-    one-same s was is counts = at (is_of c id s) refl
-      where
-        at : (b : Bool) → is_of c id s ≡ b → AreSame (window_by owned s) (window_by owned' s)
-        at true e =
-            subst (λ ws. AreSame ws (window_by owned' s)) (sym (was e)) (subst (λ vs. AreSame (w ∷ []) vs) (sym (is e)) (same, tt))
-        at false e =
-            subst (λ vs. AreSame (window_by owned s) vs) (ap (λ (requests : Option (List Request)). lone (owner_of (root_of owned s)) s.surface s.place requests) (counts e))
-                (same-self (window_by owned s))
+    where
+      one-same : (s : Standing) → IsFoundBy owned unlinked w s → IsFoundBy owned' unlinked' v s
+          → (is_of c id s ≡ false → counted (history_in s.surface (owned s.client).surfaces) ≡ counted (history_in s.surface (owned' s.client).surfaces))
+          → AreSame (window_by owned s) (window_by owned' s)
+      one-same s was is counts = at (is_of c id s) refl
+        where
+          at : (b : Bool) → is_of c id s ≡ b → AreSame (window_by owned s) (window_by owned' s)
+          at true e =
+              subst (λ ws. AreSame ws (window_by owned' s)) (sym (was e)) (subst (λ vs. AreSame (w ∷ []) vs) (sym (is e)) (same, tt))
+          at false e =
+              subst (λ vs. AreSame (window_by owned s) vs) (ap (λ (requests : Option (List Request)). lone (owner_of (root_of owned s)) s.surface s.place requests) (counts e))
+              (same-self (window_by owned s))
 
-    pub windows-kept : (ss : List Standing) → Each (IsFoundBy owned unlinked w) ss → Each (IsFoundBy owned' unlinked' v) ss
-        → ((client surface : ℕ) → list_any (is_of client surface) ss ≡ true → ((client == c) && (surface == id)) ≡ false
-            → counted (history_in surface (owned client).surfaces) ≡ counted (history_in surface (owned' client).surfaces))
-        → AreSame (windows_on owned ss) (windows_on owned' ss)
-    windows-kept [] was is counts = tt
-    windows-kept (s ∷ ss) was is counts =
-        let first = one-same s was.0 is.0 (counts s.client s.surface (or_left (is_of s.client s.surface s) _ (of-it s.client s.surface s refl refl))) in
-        let rest = windows-kept ss was.1 is.1 (λ client surface there. counts client surface (or_right (is_of client surface s) _ there)) in
-        subst (λ ws. AreSame ws (windows_on owned' (s ∷ ss))) (sym (windows-first owned s ss unlinked))
-        (subst (λ vs. AreSame (window_by owned s ++ windows_on owned ss) vs) (sym (windows-first owned' s ss unlinked'))
-        (same-append (window_by owned s) (window_by owned' s) (windows_on owned ss) (windows_on owned' ss) first rest))
+      pub windows-kept : (ss : List Standing) → Each (IsFoundBy owned unlinked w) ss → Each (IsFoundBy owned' unlinked' v) ss
+          → ((client surface : ℕ) → list_any (is_of client surface) ss ≡ true → ((client == c) && (surface == id)) ≡ false
+          → counted (history_in surface (owned client).surfaces) ≡ counted (history_in surface (owned' client).surfaces))
+          → AreSame (windows_on owned ss) (windows_on owned' ss)
+      windows-kept [] was is counts = tt
+      windows-kept (s ∷ ss) was is counts =
+          let first = one-same s was.0 is.0 (counts s.client s.surface (or_left (is_of s.client s.surface s) _ (of-it s.client s.surface s refl refl))) in
+          let rest = windows-kept ss was.1 is.1 (λ client surface there. counts client surface (or_right (is_of client surface s) _ there)) in
+          subst (λ ws. AreSame ws (windows_on owned' (s ∷ ss))) (sym (windows-first owned s ss unlinked))
+          (subst (λ vs. AreSame (window_by owned s ++ windows_on owned ss) vs) (sym (windows-first owned' s ss unlinked'))
+          (same-append (window_by owned s) (window_by owned' s) (windows_on owned ss) (windows_on owned' ss) first rest))
 
 -- ---- sizes
 

@@ -183,14 +183,35 @@ effect-owns id effect None r only = only
 effect-owns id Stays (Some x) r only = only
 effect-owns id Unconfigured (Some x) r only = only
 effect-owns id Configures (Some x) r only =
-    record { links = only.links; apart = only.apart; known = only.known; roles = top-effect id Configures (Some x) r only.roles; subsurfaces = only.subsurfaces; callbacks = only.callbacks;
-        pointers = only.pointers }
+    record {
+      links = only.links;
+      apart = only.apart;
+      known = only.known;
+      roles = top-effect id Configures (Some x) r only.roles;
+      subsurfaces = only.subsurfaces;
+      callbacks = only.callbacks;
+      pointers = only.pointers;
+    }
 effect-owns id Maps (Some x) r only =
-    record { links = only.links; apart = only.apart; known = only.known; roles = top-effect id Maps (Some x) r only.roles; subsurfaces = only.subsurfaces; callbacks = only.callbacks;
-        pointers = only.pointers }
+    record {
+      links = only.links;
+      apart = only.apart;
+      known = only.known;
+      roles = top-effect id Maps (Some x) r only.roles;
+      subsurfaces = only.subsurfaces;
+      callbacks = only.callbacks;
+      pointers = only.pointers;
+    }
 effect-owns id Unmaps (Some x) r only =
-    record { links = only.links; apart = only.apart; known = only.known; roles = top-effect id Unmaps (Some x) r only.roles; subsurfaces = only.subsurfaces; callbacks = only.callbacks;
-        pointers = only.pointers }
+    record {
+      links = only.links;
+      apart = only.apart;
+      known = only.known;
+      roles = top-effect id Unmaps (Some x) r only.roles;
+      subsurfaces = only.subsurfaces;
+      callbacks = only.callbacks;
+      pointers = only.pointers;
+    }
 
 -- a surface changes, and what its buffers let go is let go
 changed-owns : (id : ℕ) (change : Surface → Surface) → ((s : Surface) → (change s).id ≡ s.id) → (r : Resident) → OwnsToplevelsOnly r

@@ -49,9 +49,9 @@ all-busy [] = tt
 all-busy (s ∷ ss) =
     each-more (λ b. any_shows b.number (s ∷ ss) ≡ true) (buffers_shown s.history) (flat_map (λ s. buffers_shown s.history) ss)
     (each-map (λ b. shows b.number s.history ≡ true) (λ b. any_shows b.number (s ∷ ss) ≡ true) (λ b is. or_left (shows b.number s.history) (any_shows b.number ss) is) (buffers_shown s.history)
-        (shown-each s.history))
+    (shown-each s.history))
     (each-map (λ b. any_shows b.number ss ≡ true) (λ b. any_shows b.number (s ∷ ss) ≡ true) (λ b is. or_right (shows b.number s.history) (any_shows b.number ss) is)
-        (flat_map (λ s. buffers_shown s.history) ss)
+    (flat_map (λ s. buffers_shown s.history) ss)
     (all-busy ss))
 
 -- one that is busy isn't released
@@ -168,7 +168,7 @@ one-told r (Some b) =
 one-released : (id : ℕ) (old new : Resident) → AreApartBy (λ key s. s.id == key) old.owned.surfaces.surfaces → ((h : History) → option_map (λ s. s.history) (surface_at id old.owned.surfaces) ≡ Some h
     → AllCounts h)
     → OthersUsed (is_released new) (λ n. is_busy n new.owned.surfaces) (busy-stays new) buffers_shown id old.owned.surfaces.surfaces
-        → releases old new ≡ release_told (release_of (shown_at (surface_at id old.owned.surfaces)) new)
+    → releases old new ≡ release_told (release_of (shown_at (surface_at id old.owned.surfaces)) new)
 one-released id old new apart counts used =
     ap told_of (had-gone (is_released new) (λ n. is_busy n new.owned.surfaces) (busy-stays new) buffers_shown id old.owned.surfaces.surfaces apart used)
     ∙ at (surface_at id old.owned.surfaces) counts

@@ -191,7 +191,7 @@ done-same c ask demand r d still only same =
 pub none-done : (r made : Resident) → AreToplevels made.owned.shell → popups_done r made ≡ []
 none-done r made top =
     ap (λ ps. map (λ id. said id (says XdgPopup 1 [])) (filter (λ id. not (is_among id (dismissed_in r.owned.shell)))
-        (newest_first (flat_map (λ p. cond p.popup.is_dismissed (p.object.id ∷ []) []) ps))))
+    (newest_first (flat_map (λ p. cond p.popup.is_dismissed (p.object.id ∷ []) []) ps))))
     (no-popups made.owned.shell top)
 
 pub nothing-between : (xs ys : List Said) → xs ++ [] ++ ys ≡ xs ++ ys

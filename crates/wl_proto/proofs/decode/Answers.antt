@@ -17,7 +17,7 @@ returns-clause-opcode c =
 pub returns-clause-spelled : goal.returns-clause-spelled
 returns-clause-spelled c =
     given_ok request_message c.read.result (decoded c.args.interface c.args.version c.args.opcode c.args.body.now)
-        (λ (m : Message). SpellsRequest c.args.interface c.args.version c.args.opcode m.fields c.args.body.now)
+    (λ (m : Message). SpellsRequest c.args.interface c.args.version c.args.opcode m.fields c.args.body.now)
     (λ m e. (decoded_spelled c.args.interface c.args.version c.args.opcode c.args.body.now m (λ i. omega (arith, c.type_inv.body i)) e).2) c.read.ensures
 
 pub returns-clause-each : goal.returns-clause-each
@@ -28,4 +28,4 @@ returns-clause-each c = λ fields is.
 pub returns-clause-no_method : goal.returns-clause-no_method
 returns-clause-no_method c =
     given_fault request_message c.read.result (decoded c.args.interface c.args.version c.args.opcode c.args.body.now) _ (no_method c.args.interface c.args.version c.args.opcode c.args.body.now)
-        c.read.ensures
+    c.read.ensures

@@ -16,8 +16,8 @@ returns-in-Err g c =
     let stride-fits : FitsSigned w32 c.args.asked.now.stride = search rules in
     let stride = to_z-of_z w32 c.args.asked.now.stride stride-fits in
     let size : size_of c.args.asked.now.store c.args.stores.now ≡ c.unwrap_or-size.result = size-read c.args.asked.now.store c.args.stores.now c.size.result c.unwrap_or-size.result c.size.ensures
-        c.unwrap_or-size.ensures in
+    c.unwrap_or-size.ensures in
     let why = refused-by _ c.layout.result c.in-Err.error c.in-Err.is c.layout.ensures.refused c.layout.ensures.accepted in
     let error = simp (offset, width, height, stride) at why in
     rw c.layout_refusal.ensures (buffer-refused c.args.object c.args.version c.args.asked.now.store c.args.stores.now c.args.id c.args.asked.now.offset c.args.asked.now.width c.args.asked.now.height
-        c.args.asked.now.stride c.args.asked.now.format c.unwrap_or-size.result c.in-Err.error (sym c.can_hold.ensures ∙ c.if-not-can_hold.false) size error)
+    c.args.asked.now.stride c.args.asked.now.format c.unwrap_or-size.result c.in-Err.error (sym c.can_hold.ensures ∙ c.if-not-can_hold.false) size error)

@@ -19,7 +19,7 @@ returns-in-Some c =
     let first : option_map (λ p. p.0) (subcommand_rows_of c.in_ok-matches.matches) ≡ subcommand_name_of c.in_ok-matches.matches = map-first _ _ _ in
     let name = named-found _ c.in-Some.name.now (ap (option_map (λ p. p.0)) (sym entered) ∙ first ∙ sym c.in-Some.ensures.name) in
     asked-by _ c.in-Some.name.now (found_of c.in-Some.matches.now) c.asked_of.result accepted name (ap (option_map (λ p. p.1)) (sym entered) ∙ sym c.in-Some.ensures.rows) c.asked_of.ensures.asked
-        c.asked_of.ensures.no_size
+    c.asked_of.ensures.no_size
 
 pub returns : goal.returns
 returns c =

@@ -27,7 +27,7 @@ lay_part-requires-clause-columns g c =
     let is = simp to_z-of_z at c.in-Some-offset_in.ensures.1 in
     part_fits w.x (surface_width w.picture.transform w.picture.layout) c.args.x c.in-Some-offset_in.i part.result.0 part.result.1 (length c.args.run.now / 4)
     (λ k l. (let e = simp to_z-of_z at (part.ensures.same k l) in rw c.width.ensures at e)) part.ensures.order part.ensures.within is (rw c.width-2.ensures at inside)
-        (rw c.width-2.ensures at c.in-Some-offset_in.ensures.2)
+    (rw c.width-2.ensures at c.in-Some-offset_in.ensures.2)
 
 pub returns : goal.returns
 returns g c i h =
@@ -41,7 +41,7 @@ returns g c i h =
     let down = simp to_z-of_z at c.in-Some.ensures.1 in
     laid_pixel c.args.run.now c.lay_part.new.run w c.args.x c.args.y part.result.0 part.result.1 (length c.args.run.now / 4) c.in-Some-offset_in.i c.in-Some.j
     (λ k l. (let e = simp to_z-of_z at (part.ensures.same k l) in rw c.width.ensures at e)) part.ensures.order is (rw c.width-2.ensures at inside) (rw c.height.ensures at row) down
-        c.lay_part.ensures.inside c.lay_part.ensures.outside i (omega arith)
+    c.lay_part.ensures.inside c.lay_part.ensures.outside i (omega arith)
     (c.requires.fourths i h)
 
 pub returns-in_default : goal.returns-in_default

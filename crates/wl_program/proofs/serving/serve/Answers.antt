@@ -6,7 +6,7 @@ use Rattle.wl_program.proofs.serving.serve.Goals as goal
 pub returns-clause-served : goal.returns-clause-served
 returns-clause-served g c =
     turns-ok c.take_turns.result c.args.serve _ _ _ _ _ c.new-service.ensures.session c.in_ok-session.ensures.desk c.in_ok-session.ensures.right c.in_ok-session.ensures.first
-        c.take_turns.ensures.taken
+    c.take_turns.ensures.taken
 
 pub returns-in_err-lines-clause-failed : goal.returns-in_err-lines-clause-failed
 returns-in_err-lines-clause-failed g c =

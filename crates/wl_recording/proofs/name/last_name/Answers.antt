@@ -10,4 +10,4 @@ returns-then-is_name c =
     let same : word ≡ first_word c.args.text.now = c.next_word.ensures.word in
     let blank : is_blank (after_word c.args.text.now) ≡ true = ap is_blank (sym c.next_word.ensures.rest) ∙ sym c.if-is_blank.ensures in
     ap (λ (o : Option (Bor (List ℕ))). option_map (λ (n : Bor (List ℕ)). n.now) o) c.ok.ensures.value ∙ utf8_kept _ c.from_utf8.result word c.from_utf8.ensures.cases (name_is_utf8 word fit)
-        ∙ named c.args.text.now word same blank fit
+    ∙ named c.args.text.now word same blank fit

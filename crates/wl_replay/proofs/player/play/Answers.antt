@@ -33,7 +33,7 @@ pub returns-in-None-clause-played : goal.returns-in-None-clause-played
 returns-in-None-clause-played g c = λ first stands.
     let quiet = rw c.in-None.is at c.in_ok-play_line.ensures.played in
     IsPlayed-end _ first _ c.loop-lines.side c.play_line.new.side c.loop-lines.session _ _ _ _ _ _ _ _ c.loop-lines.lines c.loop-lines.frames c.loop-lines.clients
-        (c.loop-lines.invariant.played first stands)
+    (c.loop-lines.invariant.played first stands)
     quiet.0 (ap g.W.Write.contents quiet.1) (ap (images_in g.P.Write.contents) quiet.2) quiet.3
 
 pub returns-in_err-read_text-clause-stopped : goal.returns-in_err-read_text-clause-stopped

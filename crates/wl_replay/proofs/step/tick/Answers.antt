@@ -33,7 +33,10 @@ returns-clause-told g c =
       stands-on (Tick c.args.time) gave.Tick _ _ old stands course,
       subst (λ (n : ℕ). Appends (g.W.Write.contents c.args.writer.now) (g.W.Write.contents c.write_frame.new.writer) (frame_line c.args.time n))
           (c.count-count.ensures ∙ ap (λ (m : Damaged). count_points m.width m.height (has m)) damage) wrote,
-      (subst (λ (i : Image). Appends (images_in g.P.Write.contents c.args.ppm.now) (images_in g.P.Write.contents c.write_image.new.ppm) (image_of i.width i.height i.pixels)) (sym next.1) shown, refl,
-          refl),
+      (
+        subst (λ (i : Image). Appends (images_in g.P.Write.contents c.args.ppm.now) (images_in g.P.Write.contents c.write_image.new.ppm) (image_of i.width i.height i.pixels)) (sym next.1) shown,
+        refl,
+        refl,
+      ),
     ))
     c.write_image.ensures.told

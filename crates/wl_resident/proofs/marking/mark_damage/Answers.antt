@@ -12,7 +12,7 @@ pub loop-rect-preserved : goal.loop-rect-preserved
 loop-rect-preserved g c =
     partly-more c.args.window c.args.rects.now c.loop-rect.rect-index _ c.part.result c.args.damage.now c.loop-rect.damage c.add-in-loop-rect.new.self (omega arith) c.loop-rect.invariant
     c.add-in-loop-rect.ensures.points c.part.ensures (record { width = c.add-in-loop-rect.ensures.width; height = c.add-in-loop-rect.ensures.height }) c.add-in-loop-rect.ensures.wide
-        c.add-in-loop-rect.ensures.high
+    c.add-in-loop-rect.ensures.high
 
 pub returns-clause-sides : goal.returns-clause-sides
 returns-clause-sides g c = c.loop-rect.invariant.sides
@@ -23,7 +23,7 @@ returns-then-rects-gt-MAX_RECTS-clause-sides g c = record { width = c.add.ensure
 pub returns-clause-points : goal.returns-clause-points
 returns-clause-points g c = λ x y wide high.
     let whole = subst (λ (rects : List Rect). AddsPoints (λ x y. record_has x y c.args.window && list_any (in_rect (x -ℤ c.args.window.x) (y -ℤ c.args.window.y)) rects) c.args.damage.now
-        c.loop-rect.damage)
+    c.loop-rect.damage)
     (take_all c.loop-rect.rect-index c.args.rects.now c.loop-rect-test.false) c.loop-rect.invariant.points in
     whole x y wide high ∙ ap (λ (b : Bool). has c.args.damage.now x y || b) (sym (damaged-few c.args.rects.now c.args.window (pos x) (pos y) c.if-rects-gt-MAX_RECTS.false))
 

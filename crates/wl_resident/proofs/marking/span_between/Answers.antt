@@ -9,7 +9,7 @@ pub returns : goal.returns
 returns c = λ z less.
     let first : to_z w32 (of_z w32 c.held-first.result) ≡ c.held-first.result = search rules in
     let long : to_z w32 (of_z w32 (to_z w32 (of_z w32 c.held.result) -ℤ to_z w32 (of_z w32 c.held-first.result))) ≡ c.held.result -ℤ c.held-first.result =
-        grind (arith, ints, c.held.ensures.within, c.held-first.ensures.within) in
+    grind (arith, ints, c.held.ensures.within, c.held-first.ensures.within) in
     let from : to_z w64 (of_z w64 c.args.first) ≡ c.args.first = omega (arith, ints) in
     let to : to_z w64 (of_z w64 c.args.end) ≡ c.args.end = omega (arith, ints) in
     let starts : int_le c.held-first.result (pos z) ≡ int_le c.args.first (pos z) = rw from at c.held-first.ensures.starts z less in

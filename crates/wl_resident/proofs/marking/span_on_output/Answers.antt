@@ -13,4 +13,4 @@ returns c = λ z less.
     (subst (λ (s : ℤ). (w : ℤ) → int_le (pos c.start_within.result) w ≡ (int_le (pos 0) w && int_le s w)) start c.start_within.ensures)
     (subst (λ (s : ℤ). (w : ℤ) → int_le (pos 0) w ≡ true → int_lt w (pos c.end_within.result) ≡ (int_lt w (pos c.args.side) && int_lt w (s +ℤ c.args.length))) start
     (subst (λ (l : ℤ). (w : ℤ) → int_le (pos 0) w ≡ true → int_lt w (pos c.end_within.result) ≡ (int_lt w (pos c.args.side) && int_lt w (to_z w32 (of_z w32 c.args.start) +ℤ l))) length
-        c.end_within.ensures))
+    c.end_within.ensures))

@@ -13,7 +13,7 @@ returns-in_err-toplevel g c =
     let looked = find_from_yields_List (λ t. p (standing_of t)) _ _ c.find.result c.find.ensures.ran (YieldsList-from_slice c.toplevels.result.now cc) (λ x b q k. search (rules, tests)) in
     let none : c.from_residual.result ≡ None = search rules in
     ap (option_map standing_of) none ∙ ap (option_map standing_of) (sym (ap (option_map (λ x. x.now)) c.in_err-toplevel.was) ∙ looked) ∙ find-standing p c.toplevels.result.now
-        ∙ ap (find p) c.toplevels.ensures
+    ∙ ap (find p) c.toplevels.ensures
 
 pub returns : goal.returns
 returns g c =

@@ -24,7 +24,7 @@ returns-in-WlOutput-clause-acts g c = λ p is.
     let seen = is in
     let next = c.make-in-WlOutput-2.ensures.makes p seen in
     let told = c.output_told.ensures ∙ ap (λ v. bind_told (output_of v.output) c.args.id WlOutput) c.make-in-WlOutput.view_is
-        ∙ ap (λ i. bind_told (output_of c.args.self.now.output) c.args.id i) (sym c.in-WlOutput.is) in
+    ∙ ap (λ i. bind_told (output_of c.args.self.now.output) c.args.id i) (sym c.in-WlOutput.is) in
     (next.0, WantsOr-told _ _ p _ next.0 (told ∙ ap (λ o. bind_told o c.args.id c.args.interface) seen.output) next.1, next.2)
 
 pub returns-in_default : goal.returns-in_default

@@ -24,7 +24,7 @@ returns-then-not-queue_deletions-2-clause-removes g c = λ p is.
 pub returns-in-Some-clause-table : goal.returns-in-Some-clause-table
 returns-in-Some-clause-table g c = λ lives.
     without-kept c.args.self.now.objects c.take_out_one.new.self.objects _ (c.args.id ∷ c.args.callbacks.now)
-        (held_without-then c.args.self.now.objects c.take_out.new.self.objects c.take_out_one.new.self.objects c.args.id c.args.callbacks.now c.take_out.ensures.table c.take_out_one.ensures.table)
+    (held_without-then c.args.self.now.objects c.take_out.new.self.objects c.take_out_one.new.self.objects c.args.id c.args.callbacks.now c.take_out.ensures.table c.take_out_one.ensures.table)
     (c.queue_all.ensures.table lives ∙ c.if-not-queue_deletions-2.ensures.table ∙ c.if-not-queue_deletions.ensures.table)
 
 pub returns-in-Some-clause-removes : goal.returns-in-Some-clause-removes
@@ -38,12 +38,15 @@ returns-in-Some-clause-removes g c = λ p is.
 pub returns-in_default-clause-table : goal.returns-in_default-clause-table
 returns-in_default-clause-table g c = λ lives.
     without-kept c.args.self.now.objects c.take_out_one.new.self.objects _ (c.args.id ∷ c.args.callbacks.now)
-        (held_without-then c.args.self.now.objects c.take_out.new.self.objects c.take_out_one.new.self.objects c.args.id c.args.callbacks.now c.take_out.ensures.table c.take_out_one.ensures.table)
+    (held_without-then c.args.self.now.objects c.take_out.new.self.objects c.take_out_one.new.self.objects c.args.id c.args.callbacks.now c.take_out.ensures.table c.take_out_one.ensures.table)
     (c.if-not-queue_deletions-2.ensures.table ∙ c.if-not-queue_deletions.ensures.table)
 
 pub returns-in_default-clause-removes : goal.returns-in_default-clause-removes
 returns-in_default-clause-removes g c = λ p is.
     let m = c.if-not-queue_deletions.ensures.queues _ (c.take_out_one.ensures.removes _ (c.take_out.ensures.removes p is)) in
-    let n = c.if-not-queue_deletions-2.ensures.queues m.0 m.1 in
-    (n.0, m.2 (map id_deleted c.args.callbacks.now ++ released_told c.args.released) n.0
-        (n.2 (released_told c.args.released) n.0 (Queues-told [] _ n.0 n.0 (ap released_told (sym c.in_default.is)) refl)), n.1)
+    let n = c.if-not-queue_deletions-2.ensures.queues m.0 m.1 in (
+      n.0,
+      m.2 (map id_deleted c.args.callbacks.now ++ released_told c.args.released) n.0
+          (n.2 (released_told c.args.released) n.0 (Queues-told [] _ n.0 n.0 (ap released_told (sym c.in_default.is)) refl)),
+      n.1,
+    )

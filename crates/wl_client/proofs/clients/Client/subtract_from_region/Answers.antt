@@ -28,5 +28,5 @@ returns-in-Err-clause-acts g c = λ p is.
     let there = c.in-Some.ensures.value in
     let updates = (c.get_mut.follows.holds region).3 (ap is_some (sym there)) in
     let next = c.lack_memory.ensures.lacks _ (region-kept _ p c.self.inside.regions (c.get_mut.follows.lender region) c.args.id c.in-Some.region.now region refl there updates c.in-Err.ensures.err
-        seen) in
+    seen) in
     (next.0, inl next.1, next.2)

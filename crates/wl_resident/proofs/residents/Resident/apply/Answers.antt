@@ -38,13 +38,13 @@ returns-clause-applies g c = λ client r on names object kept shows only comes i
     let after = after_surface object r then in
     let had = had-by names.surfaces v.owned.surfaces r.owned.surfaces object number c.buffers-had.result owned.surfaces named c.buffers-had.ensures in
     let are = AreKept-changed names.surfaces v.owned.surfaces r.owned.surfaces owned.surfaces object number named (λ s. applying (asking Commit s)) (λ s. refl) c.commit.new.self
-        (λ s counts. refl) c.in-Ok.ensures.ok in
+    (λ s counts. refl) c.in-Ok.ensures.ok in
     let peer = c.let_go_of.ensures.stores then names.surfaces is are (surface_at object r.owned.surfaces) had in
     let told = c.tell_act.ensures.told after.peer peer in
     let same : kept_of c.let_go_of.new.self.owned.shell number ≡ changing number (kept_after c.args.serial act) kept number =
     ap (λ o. kept_of o.shell number) c.let_go_of.ensures.owned ∙ ap (λ (k : ℕ → Option Kept). k number) (shell ∙ ap (λ n. changing number (kept_after n act) kept) (sym serial)) in
     let freed = freed-changed names.surfaces v.owned.surfaces r then owned.surfaces object number named c.in-Ok.applied.freed.items c.commit.new.self (λ s. applying (asking Commit s))
-        (λ s. refl) refl are
+    (λ s. refl) refl are
     (c.in-Ok.ensures.freed (by_number names.surfaces r.owned.surfaces) owned.surfaces.stand) in
     let at = surface_at object r.owned.surfaces in
     let released = c.released-released.ensures then is at had (subst (λ (numbers : List ℕ). IsFreedOf numbers (shown_at at) then) (sym c.deref.ensures.value) freed) in
@@ -63,7 +63,7 @@ returns-clause-applies g c = λ client r on names object kept shows only comes i
             let table = c.tell_act.ensures.table alive ∙ ap (λ (w : ClientView). w.objects) c.let_go_of.ensures.only in
             subst (λ (o : Lent _). IsFramed o.surfaces.frames c.tell_act.new.self.client.objects (changed_simply ask r)) (sym (c.tell_act.ensures.owned ∙ c.let_go_of.ensures.owned))
             (framed-applied v.client.objects c.tell_act.new.self.client.objects names r object number (effect_by act) v.owned.surfaces c.commit.new.self names_are table owned.surfaces named framed
-                c.in-Ok.ensures.waits);
+            c.in-Ok.ensures.waits);
         owns = λ alive. owns-told c.tell_act.new.self _ names _
             (ap names_in (c.tell_act.ensures.table alive ∙ ap (λ (w : ClientView). w.objects) c.let_go_of.ensures.only) ∙ names_are)
             (c.tell_act.ensures.owned ∙ c.let_go_of.ensures.owned)
@@ -80,7 +80,7 @@ returns-in_default-clause-applies g c = λ client r on names object kept shows o
 pub returns-clause-commits : goal.returns-clause-commits
 returns-clause-commits g c =
     subst (λ (o : Lent _). Changes c.args.self.now.owned.surfaces o.surfaces c.args.surface (λ s. applying (asking Commit s))) (sym (c.tell_act.ensures.owned ∙ c.let_go_of.ensures.owned))
-        c.in-Ok.ensures.ok
+    c.in-Ok.ensures.ok
 
 pub returns-clause-change : goal.returns-clause-change
 returns-clause-change g c = λ alive all stand. (c.in-Ok.applied, refl, c.in-Ok.ensures.changes all stand)

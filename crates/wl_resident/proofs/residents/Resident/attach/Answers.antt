@@ -28,9 +28,12 @@ returns-clause-does g c = λ named r is.
     let framed =
     subst (λ (ws : List Waiting). IsFramed ws v.client.objects after) (sym c.attach.ensures.frames)
     (framed-asked v.owned.surfaces.frames v.client.objects v.client.objects r after refl (no-more r.peer.requests) is.frames v.owned.surfaces is.owns.surfaces c.args.object c.args.surface request refl
-        named refl refl) in
-    (after.peer, inr refl, let-go-so v (record { client = v.client; owned = record { surfaces = c.attach.new.self; shell = v.owned.shell } }) c.let_go_of.new.self after refl owned framed
-        c.let_go_of.ensures.only c.let_go_of.ensures.owned peer)
+    named refl refl) in (
+      after.peer,
+      inr refl,
+      let-go-so v (record { client = v.client; owned = record { surfaces = c.attach.new.self; shell = v.owned.shell } }) c.let_go_of.new.self after refl owned framed
+          c.let_go_of.ensures.only c.let_go_of.ensures.owned peer,
+    )
 
 pub returns-clause-still : goal.returns-clause-still
 returns-clause-still g c =

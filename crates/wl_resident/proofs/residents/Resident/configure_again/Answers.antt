@@ -36,7 +36,7 @@ returns-in-Ok-true-clause-answers g c = λ named client r on is only.
     let told = c.tell_configure.ensures.queues (record (counted r.peer) { serial = next_serial r.peer.serial }) peer in
     accepted new r (state_asked (Some x)) (ConfigureAgain x.id)
     (told-again x (shell_refusal x.base x.id x.id) (configure_answer (kept number)) c.configure.result c.in-Ok-true.field-0 true (configured-by names kept r number k x h one x.id)
-        c.configure.ensures.answer c.in-Ok-true.is c.in-Ok-true.field-0-test) (
+    c.configure.ensures.answer c.in-Ok-true.is c.in-Ok-true.field-0-test) (
       told.0,
       inr (subst (λ (es : List Said). Queues es (record (counted r.peer) { serial = next_serial r.peer.serial }) told.0) (events-told object r.peer.serial _ _ x r.owned.shell one.at_id its id serial)
           told.1),
@@ -53,7 +53,7 @@ returns-in-Ok-true-clause-answers g c = λ named client r on is only.
             ∙ names-counted v.client c.count.new.self c.count.ensures.only) c.tell_configure.ensures.owned
             (owned-configured names v.owned.surfaces kept r is.owns number k x h one (kept_of c.configure.new.self)
             (c.in-Ok-true.ensures.ok ∙ ap (λ b. changing number (kept_configured b c.serial-serial.result) kept) c.in-Ok-true.field-0-test
-                ∙ ap (λ n. changing number (kept_configuring n) kept) serial));
+            ∙ ap (λ n. changing number (kept_configuring n) kept) serial));
       },
     )))
 
@@ -70,7 +70,7 @@ returns-in-Ok-false-clause-answers g c = λ named client r on is only.
     (λ k x h one its.
     accepted _ r (state_asked (Some x)) Ignore
     (told-again x (shell_refusal x.base x.id x.id) (configure_answer (kept number)) c.configure.result c.in-Ok-false.field-0 false (configured-by names kept r number k x h one x.id)
-        c.configure.ensures.answer c.in-Ok-false.is c.in-Ok-false.field-0-test) (
+    c.configure.ensures.answer c.in-Ok-false.is c.in-Ok-false.field-0-test) (
       counted r.peer,
       refl,
       record {
@@ -97,7 +97,7 @@ returns-in-Err-clause-answers g c = λ named client r on is only.
     let id : c.xdg_surface_of-xdg_surface.result ≡ x.id = c.xdg_surface_of-xdg_surface.ensures ∙ ap kept_id one.here ∙ one.stands.id in
     xdg-refused v _ (kept_of c.configure.new.self) r c.xdg_surface_of-xdg_surface.result number k x h c.in-Err.error (state_asked (Some x)) one (sym id)
     (refused-again x (shell_refusal x.base x.id c.xdg_surface_of-xdg_surface.result) (configure_answer (kept number)) c.configure.result c.in-Err.error
-        (configured-by names kept r number k x h one c.xdg_surface_of-xdg_surface.result) c.configure.ensures.answer c.in-Err.is)
+    (configured-by names kept r number k x h one c.xdg_surface_of-xdg_surface.result) c.configure.ensures.answer c.in-Err.is)
     (ap kept_of c.in-Err.ensures.err)
     c.refuse_xdg_surface.ensures.ended
     (c.refuse_xdg_surface.ensures.errs r.peer is.peer)))

@@ -44,7 +44,7 @@ returns-in-Ok-clause-answers g c = λ free client r on is only.
             let after = changed_by (CreateSurface id c.args.version) (with_peer (counted r.peer) r) in
             subst (λ (ws : List Waiting). IsFramed ws c.add.new.self.objects after) (sym c.create.ensures.frames)
             (framed-made v.owned.surfaces.frames v.client.objects c.add.new.self.objects r after refl (one-more r.peer.requests) is.frames v.owned.surfaces is.owns.surfaces id c.in-Ok.surface
-                c.create.new.self c.in-Ok.ensures.ok
+            c.create.new.self c.in-Ok.ensures.ok
             (targets-free WlSurface v.client.objects id free) (ap (λ (n : Names). n.surfaces) now) refl);
         numbers = λ alive. keeps-made v.client.objects c.add.new.self.objects id c.in-Ok.surface (targets-free WlSurface v.client.objects id free)
             (names (holds-counted v.client c.count.new.self c.add.new.self.objects id _ c.count.ensures.only (c.add.ensures.table alive)));
@@ -69,7 +69,7 @@ returns-else-is_too_many-clause-answers g c = λ free client r on is only.
     let lacks = lacked v _ (changed_by ask then) then (c.lack_memory.ensures.lacks (counted r.peer) (c.count-else-is_too_many.ensures.counts r.peer is.peer)) c.lack_memory.ensures.ended in
     accepted _ r (surface_created r id c.args.version) ask
     (created-short (names_in v.client.objects) v.owned.surfaces r id c.args.version c.in-Err.error is.owns.surfaces c.in-Err.ensures.cause
-        (λ many. absurd (let told = c.is_too_many.ensures.1 many in let not = c.if-is_too_many.false in cc)))
+    (λ many. absurd (let told = c.is_too_many.ensures.1 many in let not = c.if-is_too_many.false in cc)))
     (lacks.0, inl lacks.1, lacks.2))
 
 pub returns-in-Ok-clause-still : goal.returns-in-Ok-clause-still

@@ -32,7 +32,7 @@ returns-clause-answers g c = λ named client r on is only.
     ∙ ap (λ (b : Bool). if b then refuses id SurfaceHasRoleObject else Ok (EndSurface id)) there in
     subst (λ (j : Result Demand Refusal). AnswersSo j client r on v c.destroy_surface.new.self) (sym judged)
     (counted-meets v (record { client = c.count.new.self; owned = v.owned }) c.destroy_surface.new.self client r on (λ (q : Resident). EndSurface id) is only c.count.ensures.only refl
-        (c.count.ensures.counts r.peer is.peer)
+    (c.count.ensures.counts r.peer is.peer)
     (c.destroy_surface.ensures.does (surface-counted v.client c.count.new.self id c.args.surface c.count.ensures.only named) (absent-kept _ there)))
 
 pub returns-then-has_xdg_surface-clause-still : goal.returns-then-has_xdg_surface-clause-still

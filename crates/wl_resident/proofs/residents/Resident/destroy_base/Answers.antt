@@ -17,7 +17,7 @@ returns-in-Ok-clause-answers g c = λ base client r on is only.
     accepted _ r (base_destroyed r c.args.object) (DestroyBase c.args.object)
     (base-unused (names_in v.client.objects) v.owned.surfaces (kept_of v.owned.shell) r is.owns c.args.object c.in-Ok.ensures.ok)
     (counted-does v (record v { client = c.count.new.self }) c.remove_base.new.self r (λ (q : Resident). DestroyBase c.args.object) is c.count.ensures.only refl (c.count.ensures.counts r.peer is.peer)
-        refl
+    refl
     (c.remove_base.ensures.does (base-held v.client c.count.new.self c.args.object c.count.ensures.only base))))
 
 pub returns-in-Err-clause-answers : goal.returns-in-Err-clause-answers

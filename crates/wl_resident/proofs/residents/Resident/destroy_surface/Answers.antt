@@ -47,7 +47,7 @@ returns-clause-does g c = λ named bare client r on is only.
     let none = xdg-of-none names v.owned.surfaces shell r.owned is.owns id c.args.surface named bare in
     let had = had-by names.surfaces v.owned.surfaces r.owned.surfaces id c.args.surface c.buffers-had.result is.owns.surfaces named c.buffers-had.ensures in
     let destroyed = λ (now : Names) (same : now ≡ with_surface id None names). owned-destroyed names v.owned.surfaces shell r is.owns id c.args.surface c.destroy.new.self now named none
-        c.in-Ok.ensures.ok c.in-Ok.ensures.count same in
+    c.in-Ok.ensures.ok c.in-Ok.ensures.count same in
     let bare_names = with_surface id None names in
     let then = with_surfaces (without_surface id r.owned.surfaces) r in
     let owned = destroyed bare_names refl in
@@ -68,9 +68,9 @@ returns-clause-does g c = λ named bare client r on is only.
     let events = going-told id cs calls c.released-released.result (releases r (changed_simply (DestroySurface id) r)) ids
     (ap release_told released ∙ sym (gone-released id r is.owns.surfaces.apart (is.owns.surfaces.counts id))) in
     let table = λ (alive : c.remove_with.new.self.ended ≡ None). surface-gone-with v.client.objects c.remove_with.new.self.objects id calls
-        (are-heard id r v.client.objects calls only is.peer.objects ids)
+    (are-heard id r v.client.objects calls only is.peer.objects ids)
     (subst (λ (held : Held). HoldsWithout held c.remove_with.new.self.objects (id ∷ calls)) (ap (λ (w : ClientView). w.objects) c.let_go_of.ensures.only) (c.remove_with.ensures.table alive))
-        c.args.surface named in (
+    c.args.surface named in (
       told.0,
       inr (subst (λ (p : Peer). Queues (told_simply (DestroySurface id) r) (removed id p) told.0) went (subst (λ (es : List Said). Queues es (removed id (all_removed calls after.peer)) told.0) events
           told.1)),
@@ -80,7 +80,7 @@ returns-clause-does g c = λ named bare client r on is only.
         frames = λ alive.
             subst (λ (o : Lent _). IsFramed o.surfaces.frames c.remove_with.new.self.objects (changed_simply (DestroySurface id) r)) (sym c.let_go_of.ensures.owned)
             (framed-destroy v.client.objects c.remove_with.new.self.objects r (changed_simply (DestroySurface id) r) v.owned.surfaces is.owns.surfaces is.frames id c.args.surface named
-                c.destroy.new.self c.in-Ok.ensures.waits
+            c.destroy.new.self c.in-Ok.ensures.waits
             (going-requests cs after.peer) (left-by (frames_asked (history_in id r.owned.surfaces)) r.callbacks ∙ ap (λ ns. filter (λ x. not (is_in ns x)) r.callbacks) (sym asked))
             (ap (λ (n : Names). n.surfaces) (table alive)) refl);
         owns = λ alive. rw c.let_go_of.ensures.owned (destroyed (names_in c.remove_with.new.self.objects) (table alive));

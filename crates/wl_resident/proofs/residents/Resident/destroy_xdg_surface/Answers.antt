@@ -31,7 +31,7 @@ returns-in-Ok-clause-answers g c = λ named client r on is only.
     let bare = bare-destroyed names kept r number k x h one object (sym c.destroy_xdg_surface.ensures.answer ∙ c.in-Ok.is) in
     accepted _ r (xdg_surface_destroyed x) (DestroyXdgSurface object)
     (told-ok _ _ (shell_refusal x.base x.id object) (destruction_answer (kept number)) c.destroy_xdg_surface.result judged c.destroy_xdg_surface.ensures.answer c.in-Ok.is
-        ∙ ap (λ i. Ok (DestroyXdgSurface i)) same) (
+    ∙ ap (λ i. Ok (DestroyXdgSurface i)) same) (
       gone.0,
       inr gone.1,
       record {
@@ -41,7 +41,7 @@ returns-in-Ok-clause-answers g c = λ named client r on is only.
         frames = λ alive.
             let went = xdg-gone v.client c.count.new.self c.remove.new.self object number c.count.ensures.only named (c.remove.ensures.table alive) in
             framed-kept v.owned.surfaces.frames v.client.objects c.remove.new.self.objects r (changed_by (DestroyXdgSurface object) (with_peer (counted r.peer) r)) refl (one-more r.peer.requests)
-                is.frames (ap (λ (n : Names). n.surfaces) went) refl;
+            is.frames (ap (λ (n : Names). n.surfaces) went) refl;
         owns = λ alive.
             let went : left ≡ with_xdg object None names = xdg-gone v.client c.count.new.self c.remove.new.self object number c.count.ensures.only named (c.remove.ensures.table alive) in
             subst (λ i. IsOwned left v.owned.surfaces after (changed_by (DestroyXdgSurface i) (with_peer (counted r.peer) r)).owned) same
@@ -58,7 +58,7 @@ returns-in-Err-clause-answers g c = λ named client r on is only.
     let judged = xdg-destroyed-by (names_in v.client.objects) kept r c.args.surface k x h one c.args.object in
     xdg-refused v _ (kept_of c.destroy_xdg_surface.new.self) r c.args.object c.args.surface k x h c.in-Err.error (xdg_surface_destroyed x) one same
     (told-err _ _ (shell_refusal x.base x.id c.args.object) (destruction_answer (kept c.args.surface)) c.destroy_xdg_surface.result c.in-Err.error judged c.destroy_xdg_surface.ensures.answer
-        c.in-Err.is)
+    c.in-Err.is)
     (ap kept_of c.in-Err.ensures.err)
     c.refuse_xdg_surface.ensures.ended
     (c.refuse_xdg_surface.ensures.errs r.peer is.peer)))

@@ -13,4 +13,4 @@ returns-in-Some-clause-points g c = λ all stand x y wide high.
     c.mark_window.ensures.points x y wide high
     ∙ ap (λ (b : Bool). has c.args.damage.now x y || b) (ap (λ w. record_has (pos x) (pos y) w) c.record_of.ensures
     ∙ shown-here c.args.client all c.in-Some.current k (pos x) (pos y) (eq-eqb k.client c.args.client c.if-toplevel-client.true)
-        (subst (λ o. IsCurrentAt o (all k.surface)) c.in-Some.is (c.current.ensures.stands all stand)))
+    (subst (λ o. IsCurrentAt o (all k.surface)) c.in-Some.is (c.current.ensures.stands all stand)))

@@ -14,7 +14,7 @@ returns-clause-marks g c = λ others base d r seated x y wide high.
     let slots = c.args.self.now.owned.surfaces in
     let all : AreMarked slots c.args.client toplevels c.args.damage.now c.loop-toplevel.damage =
     subst (λ (ts : List Toplevel). AreMarked slots c.args.client ts c.args.damage.now c.loop-toplevel.damage) (take_all c.loop-toplevel.toplevel-index toplevels (omega arith))
-        c.loop-toplevel.invariant
+    c.loop-toplevel.invariant
     in
     scene-marked c.args.client others base d r c.args.self.now c.args.scene.now seated toplevels c.args.damage.now c.loop-toplevel.damage c.toplevels-toplevel-items.ensures all x y wide high
 
@@ -24,6 +24,6 @@ returns-clause-shown g c = λ all stand x y wide high.
     let slots = c.args.self.now.owned.surfaces in
     let are : AreMarked slots c.args.client toplevels c.args.damage.now c.loop-toplevel.damage =
     subst (λ (ts : List Toplevel). AreMarked slots c.args.client ts c.args.damage.now c.loop-toplevel.damage) (take_all c.loop-toplevel.toplevel-index toplevels (omega arith))
-        c.loop-toplevel.invariant
+    c.loop-toplevel.invariant
     in
     scene-shown c.args.client slots toplevels c.args.scene.now c.args.damage.now c.loop-toplevel.damage c.toplevels-toplevel-items.ensures are all stand x y wide high

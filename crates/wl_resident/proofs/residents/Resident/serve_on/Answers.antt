@@ -77,15 +77,15 @@ returns-clause-marks g c = λ some others base d r unlinked before more e q serv
       | then-has_ended-2 w ↦
           rw (w.damage-is)
           (ended-least client others base d r old mid on new was between now stacking before alive more asked c.asked-asked.ensures takes c.restack.ensures.stack c.restack.ensures.owned
-              c.empty.ensures.clears (ended ∙ w.if-has_ended-2.true) applied
+          c.empty.ensures.clears (ended ∙ w.if-has_ended-2.true) applied
           (λ number commit. simply-as (is_some applied) split client r d old mid only (c.in-Some.ensures.decides number commit client r d resident only)) c.in-Some.ensures.commits
-              c.in-Some.ensures.nothing
+          c.in-Some.ensures.nothing
           (λ none. c.in-Some.ensures.still none r.peer before.seat.peer) c.window-was.result
           (λ id number commit named. c.window-was.ensures.window others base d r before id number (c.touched_by-touched.ensures ∙ commit-marked asked number commit) named)
           c.args.damage.now w.mark_end.new.damage w.mark_end.ensures.points e q serves after)
       | else-has_ended-2 w ↦
           let is-there = window-after client others base old on new between now w.window-is.result c.touched_by-touched.result (same ∙ lives-of on.client.ended (ended ∙ w.if-has_ended-2.false))
-              c.empty.ensures.clears w.window-is.ensures.window in
+          c.empty.ensures.clears w.window-is.ensures.window in
           rw (w.damage-is)
           (marks-all d e c.args.damage.now w.mark_change.new.damage more (serves-has touches_apart client d e more serves)
           (message-marks client others base d e r q old new was now before after unlinked more serves asked c.asked-asked.ensures
@@ -123,11 +123,11 @@ returns-clause-within g c = λ some others base d r width height unlinked before
           ∙ ended ∙ w.if-has_ended-2.true))
       | else-has_ended-2 w ↦
           let is-there = window-after client others base old on new between now w.window-is.result c.touched_by-touched.result (same ∙ lives-of on.client.ended (ended ∙ w.if-has_ended-2.false))
-              c.empty.ensures.clears w.window-is.ensures.window in
+          c.empty.ensures.clears w.window-is.ensures.window in
           rw (w.damage-is)
           (message-within client others base d e r q old new was now before after unlinked more serves asked c.asked-asked.ensures
           (keeps-numbers split r client stacking old mid new was now takes settled) c.touched_by-touched.result c.touched_by-touched.ensures c.window-was.result w.window-is.result
-              c.window-was.ensures.none w.window-is.ensures.none
+          c.window-was.ensures.none w.window-is.ensures.none
           (λ id number surface named. c.window-was.ensures.window others base d r before id number surface named)
           (is-there e q after) applied
           (λ number commit lives all stand. c.in-Some.ensures.change number commit (lived-before split r client stacking old mid new was now takes settled lives) all stand)
@@ -159,15 +159,15 @@ returns-clause-through g c = λ some others base d r width height unlinked befor
       | then-has_ended-2 w ↦
           rw (w.damage-is)
           (ended-leads client others base d r old mid on new was between now stacking before alive more asked c.asked-asked.ensures takes c.restack.ensures.stack c.restack.ensures.owned
-              c.empty.ensures.clears (ended ∙ w.if-has_ended-2.true) applied
+          c.empty.ensures.clears (ended ∙ w.if-has_ended-2.true) applied
           (λ number commit. simply-as (is_some applied) split client r d old mid only (c.in-Some.ensures.decides number commit client r d resident only)) c.in-Some.ensures.commits
-              c.in-Some.ensures.nothing
+          c.in-Some.ensures.nothing
           (λ none. c.in-Some.ensures.still none r.peer before.seat.peer) c.window-was.result
           (λ id number commit named. c.window-was.ensures.window others base d r before id number (c.touched_by-touched.ensures ∙ commit-marked asked number commit) named)
           c.args.damage.now w.mark_end.new.damage w.mark_end.ensures.points)
       | else-has_ended-2 w ↦
           let is-there = window-after client others base old on new between now w.window-is.result c.touched_by-touched.result (same ∙ lives-of on.client.ended (ended ∙ w.if-has_ended-2.false))
-              c.empty.ensures.clears w.window-is.ensures.window in
+          c.empty.ensures.clears w.window-is.ensures.window in
           let done = takes-so split r old mid stacking takes in
           let s = served done.0 client others base d r stacking old mid new was now before alive more done.1 (takes-stacks split r old mid stacking takes) settled in
           let lives : new.client.ended ≡ None = same ∙ lives-of on.client.ended (ended ∙ w.if-has_ended-2.false) in
@@ -182,7 +182,7 @@ returns-clause-through g c = λ some others base d r width height unlinked befor
           (same ∙ lives-of on.client.ended (ended ∙ w.if-has_ended-2.false)) c.args.damage.now w.mark_change.new.damage w.mark_change.ensures))
           (λ e q serves after. message-within client others base d e r q old new was now before after unlinked more serves asked c.asked-asked.ensures
           (keeps-numbers split r client stacking old mid new was now takes settled) c.touched_by-touched.result c.touched_by-touched.ensures c.window-was.result w.window-is.result
-              c.window-was.ensures.none w.window-is.ensures.none
+          c.window-was.ensures.none w.window-is.ensures.none
           (λ id number surface named. c.window-was.ensures.window others base d r before id number surface named)
           (is-there e q after) applied
           (λ number commit lives all stand. c.in-Some.ensures.change number commit (lived-before split r client stacking old mid new was now takes settled lives) all stand)

@@ -23,7 +23,7 @@ returns-clause-tells g c = λ others base d r is more.
     let only = seated-only c.args.client others base d v c.args.scene.now r is lives more in
     let told = c.answer_frames.ensures.tells lives r (record { peer = is.seat.peer; owns = is.seat.owns; frames = is.seat.frames }) only in
     let seated = frames-seated c.args.client others base d r c.args.time v c.answer_frames.new.self c.empty.new.self c.args.scene.now c.empty.new.scene is alive told.0 told.1 told.2 told.3
-        c.empty.ensures.clears in
+    c.empty.ensures.clears in
     let e = become c.args.client (done_due r) told.0 d in
     (e, _, subst (λ (s : Option Cause). FramesToldBy s c.args.time c.args.client r d e) (sym alive) (told.0, told.1, refl), seated)
 

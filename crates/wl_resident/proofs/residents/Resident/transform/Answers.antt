@@ -36,7 +36,7 @@ returns-clause-answers g c = λ named client r on is only.
     let does = simp (to_z-of_z w32 z c.ranges.transform) at c.set_buffer_transform.ensures.does in
     accepted _ r (transform_set id z) ask judged
     (counted-does v (record { client = c.count.new.self; owned = v.owned }) c.set_buffer_transform.new.self r (λ (q : Resident). ask) is c.count.ensures.only refl
-        (c.count.ensures.counts r.peer is.peer)
+    (c.count.ensures.counts r.peer is.peer)
     (asked-releases (names_in v.client.objects).surfaces v.owned.surfaces (with_peer (counted r.peer) r) id c.args.surface (SetBufferTransform (unsigned_abs z)) refl is.owns.surfaces named)
     (does valid (surface-counted v.client c.count.new.self id c.args.surface c.count.ensures.only named))))
 

@@ -23,7 +23,7 @@ pub returns-in_err-toplevel-clause-window : goal.returns-in_err-toplevel-clause-
 returns-in_err-toplevel-clause-window g c = λ others base d r seated id number some named.
     let same : c.in_ok-surface.surface ≡ number = let both = sym c.in_ok-surface.was ∙ some in cc in
     let told : IsTold c.args.self.now c.in_ok-surface.surface (Some c.in_ok-current.current) =
-        subst (λ o. IsTold c.args.self.now c.in_ok-surface.surface o) c.in_ok-current.was c.current.ensures.stands in
+    subst (λ o. IsTold c.args.self.now c.in_ok-surface.surface o) c.in_ok-current.was c.current.ensures.stands in
     let none : c.from_residual-in_err-toplevel.result ≡ None = search rules in
     subst (λ (o : Option WindowRecord). IsRecordOf o (window_at c.args.client id d)) (sym none)
     (seated-record c.args.client others base d r c.args.self.now c.args.scene.now seated id c.in_ok-surface.surface (named ∙ ap (λ n. Some n) (sym same)) c.in_ok-current.current told None
@@ -33,10 +33,10 @@ pub returns-clause-window : goal.returns-clause-window
 returns-clause-window g c = λ others base d r seated id number some named.
     let same : c.in_ok-surface.surface ≡ number = let both = sym c.in_ok-surface.was ∙ some in cc in
     let told : IsTold c.args.self.now c.in_ok-surface.surface (Some c.in_ok-current.current) =
-        subst (λ o. IsTold c.args.self.now c.in_ok-surface.surface o) c.in_ok-current.was c.current.ensures.stands in
+    subst (λ o. IsTold c.args.self.now c.in_ok-surface.surface o) c.in_ok-current.was c.current.ensures.stands in
     subst (λ (k : WindowRecord). IsRecordOf (Some k) (window_at c.args.client id d)) (sym c.record_of.ensures)
     (seated-record c.args.client others base d r c.args.self.now c.args.scene.now seated id c.in_ok-surface.surface (named ∙ ap (λ n. Some n) (sym same)) c.in_ok-current.current told
-        (Some c.in_ok-toplevel.toplevel)
+    (Some c.in_ok-toplevel.toplevel)
     (subst (λ (o : Option Toplevel). option_map standing_of o ≡ find (is_of c.args.client c.in_ok-surface.surface) c.args.scene.now.standing) c.in_ok-toplevel.was c.toplevel_of.ensures))
 
 pub returns-clause-none : goal.returns-clause-none

@@ -39,7 +39,7 @@ returns-in-Nothing-clause-answers g c = λ named version m interface asked clien
     let request = toplevel_request m.opcode m.fields in
     subst (λ (j : Result Demand Refusal). AnswersSo j client r on v c.ignore.new.self) (sym (toplevel-of r object version m interface))
     (answers-simply v c.ignore.new.self client on (simply r (toplevel_demand r object request)) (toplevel_demand r object request) r only
-        (toplevel-simple r object (xdg_with object r.owned.shell) request)
+    (toplevel-simple r object (xdg_with object r.owned.shell) request)
     (toplevel-answered v c.ignore.new.self object c.args.surface (λ o. simply r (toplevel_asked object o request)) r is named
     (λ k x h one its.
     subst (λ (j : Result Simple Refusal). AnswersSimply j r v c.ignore.new.self) (sym (toplevel-ignored r object x request (sym asked ∙ c.in-Nothing.is)))

@@ -33,8 +33,12 @@ returns g c =
     }) in
     let sides = c.take_damage.ensures.sides in
     let told = c.frames.ensures.sides in
-    let course : TakesCourse (Tick c.args.time) gave.Tick c.args.self.now (record { desk = c.frames.new.self.desk; damage = c.frames.new.self.damage; frame = c.paint.new.framebuffer;
-        painted = c.take_damage.new.painted }) =
+    let course : TakesCourse (Tick c.args.time) gave.Tick c.args.self.now (record {
+      desk = c.frames.new.self.desk;
+      damage = c.frames.new.self.damage;
+      frame = c.paint.new.framebuffer;
+      painted = c.take_damage.new.painted;
+    }) =
     rw (← c.self.view_is) (tick-course c.args.time gave.Tick _ _ (record { width = told.width ∙ sides.width; height = told.height ∙ sides.height }) (λ d a.
     let shows = c.frames.ensures.shows d (rw c.take_damage.ensures.desk a) in (
       shows.0,

@@ -18,4 +18,4 @@ returns g c =
     next_beside c.self.inside.others.entries c.args.self.now c.args.id c.in-Some-next.next.now
     (above_places c.self.inside.row.items c.self.inside.others.entries c.args.self.now c.args.id c.self.view_is (rw c.deref.ensures.value at c.in_default.ensures.none))
     (next_held c.self.inside.others.entries c.self.inside.others c.args.id c.in-Some-next.next.now c.in-Some-next.field-0-1.now c.range.result _ refl (c.range.ensures.in_range tt)
-        c.in-Some-next.ensures.steps)
+    c.in-Some-next.ensures.steps)
