@@ -1,9 +1,10 @@
 -- What keeps the stores numbered and within the limits.
-use Rattle.std.proofs.Common.{◌≡◌, ℕ, zero, suc, ◌+◌, ◌<◌, ◌≤◌, List, [], ◌∷◌, ◌++◌, length, get_or, set, map, cond, not, ◌-◌, eqb, ap, subst, false, None, ◌∙◌, arith, length-append, length-drop, length-take, replicate, take, drop}
+use Rattle.std.proofs.Common.{◌≡◌, ℕ, zero, suc, ◌+◌, ◌<◌, ◌≤◌, List, [], ◌∷◌, ◌++◌, length, get_or, set, map, cond, not, ◌-◌, eqb, ap, subst, false, None, ◌∙◌, arith}
 use Rattle.std.specs.Prelude.{◌||◌}
 use Rattle.std.proofs.lemmas.Bool.Decides.{nat_tests}
 use Rattle.std.specs.List.{filter, remove}
 use Rattle.std.proofs.lemmas.List.{length-replicate, length-set, set-get_or}
+use Rattle.std.proofs.Common.{length-append, length-drop, length-take, replicate, take, drop}
 use Rattle.std.proofs.lemmas.List.Edits.{length-remove}
 use Rattle.std.proofs.lemmas.List.Sums.{sum_by-set, sum_by-remove, sum_by_push}
 use Rattle.wl_store.specs.Stores.{Held, IsNumbered, IsPlace, IsSound, Stock, is_full, store_at, total_size}

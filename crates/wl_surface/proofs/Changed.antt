@@ -1,6 +1,6 @@
 -- What a commit changes.
 use Rattle.std.proofs.Common.{◌≡◌, ℕ, ◌++◌, List, [], ◌∷◌, Bool, true, false, Option, Some, None, take, drop, refl, ap, sym, ◌∙◌, arith}
-use Rattle.std.specs.Prelude.{◌↔◌, not, cond, count_by, if◌then◌else◌, ◌&&◌, ◌||◌, ◌==◌, ◌+◌}
+use Rattle.std.specs.Prelude.{◌↔◌, not}
 use Rattle.wl_surface.specs.declared.applied.Change.{Change}
 use Rattle.wl_surface.specs.declared.applied.Shape.{Shape}
 use Rattle.wl_surface.specs.Applied.{AreFreed, with_freed, AreSame, HasShape, IsSameShape, newly_damaged, AreChanges, IsChange}
@@ -18,6 +18,7 @@ use Rattle.wl_geom.specs.Rect.{bit}
 use Rattle.std.specs.List.{list_any}
 use Rattle.std.proofs.lemmas.Bool.{eqb-true}
 use Rattle.std.proofs.lemmas.List.Sums.{sum_by-append}
+use Rattle.std.specs.Prelude.{cond, count_by, if◌then◌else◌, ◌&&◌, ◌||◌, ◌==◌, ◌+◌}
 
 -- after a commit the damage that is held is what that commit applies
 pub damage-told : (k : Kept) (s : Surface) → StandsFor k (asking Commit s) → k.held_damage ≡ newly_damaged s.history
