@@ -4,7 +4,7 @@ ghost use Rattle.wl_store.specs.Layout.{argb_of};
 ghost use Rattle.wl_blend.specs.Blend.{blended, color_of};
 ghost use Rattle.wl_blend.specs.Lanes.{AreBytes};
 
-use crate::lanes::{alphas, is_each, over_four, stays_below};
+use crate::lanes::{alphas, is_each, over_four};
 use std::simd::prelude::*;
 use wl_store::Format;
 
@@ -37,12 +37,8 @@ pub(crate) fn blend_four(dst: &mut [u8], src: &[u8], first: usize, format: Forma
     ensures others { (k : ℕ) → (k < first) ⊎ (first + 4 ≤ k) → color_of dst.new k ≡ color_of dst.old k }
     ensures other_fourths { (k : ℕ) → (k < first) ⊎ (first + 4 ≤ k) → slice_index dst.new (4 * k + 3) ≡ slice_index dst.old (4 * k + 3) }
 {
-    let under = four_from(dst, first);
-    let over = four_from(src, first);
-    if stays_below(under, over, format) {
-        return;
-    }
-    put_four(dst, first, over_four(under, over, format));
+    let four = over_four(four_from(dst, first), four_from(src, first), format);
+    put_four(dst, first, four);
 }
 
 /// Whether the alphas of the four pixels from pixel `first` on are 255.

@@ -90,22 +90,8 @@ pub(crate) fn is_each(bytes: u8x16, value: u8) -> bool
     bytes.simd_ne(u8x16::splat(value)).to_bitmask() == 0
 }
 
-/// Whether laying the four pixels over those below changes nothing: they are all zeros, and 255 stands in the fourth byte of each
-/// below already.
-pub(crate) fn stays_below(under: u8x16, over: u8x16, format: Format) -> bool
-    requires under { AreBytes under }
-    requires over { AreBytes over }
-    ensures channels { IsTrue result → (p c : ℕ) → p < 4 → c < 3
-        → blended_channel (slice_index under (4 * p + c)) (slice_index over (4 * p + c)) (alpha_of format (slice_index over (4 * p + 3))) ≡ slice_index under (4 * p + c) }
-    ensures fourths { IsTrue result → (p : ℕ) → p < 4 → slice_index under (4 * p + 3) ≡ 255 }
-{
-    match format {
-        Format::Argb8888 => is_each(over, 0) && is_each(alphas(under), 255),
-        Format::Xrgb8888 => false,
-    }
-}
-
-/// Each byte laid over the one below it, by the alpha of its pixel. Opaque pixels are taken as they are.
+/// Each byte laid over the one below it, by the alpha of its pixel. Opaque pixels are taken as they are, and
+/// those of zeros let all through.
 fn laid(under: u8x16, over: u8x16) -> u8x16
     requires under { AreBytes under }
     requires over { AreBytes over }
@@ -115,6 +101,9 @@ fn laid(under: u8x16, over: u8x16) -> u8x16
     let alpha = alphas(over);
     if is_each(alpha, 255) {
         return over;
+    }
+    if is_each(over, 0) {
+        return under;
     }
     blended_lanes(under, over, alpha)
 }
