@@ -6,9 +6,9 @@ use Rattle.wl_desk.proofs.desks.Desk.of_side.Goals as goal
 pub returns-clause-desk : goal.returns-clause-desk
 returns-clause-desk g c =
     let full : c.loop.counter ≡ 32 = omega arith in
-    empty-agrees _ _ (rw c.new-2.ensures (Agrees-empty _ _ _ (rw full at c.loop.invariant.0) (rw full at c.loop.invariant.1)))
+    empty-agrees _ _ (rw c.new-2.ensures (Agrees-empty _ _ (rw full at c.loop.invariant)))
 
 pub invariant_of-result : goal.invariant_of-result
 invariant_of-result g c =
     let full : c.loop.counter ≡ 32 = omega arith in
-    ((rw (c.loop.invariant.0, full) refl, rw (c.loop.invariant.1, full) refl), (c.in_ok-damage.ensures.width, c.in_ok-damage.ensures.height))
+    (rw (c.loop.invariant, full) refl, (c.in_ok-damage.ensures.width, c.in_ok-damage.ensures.height))
