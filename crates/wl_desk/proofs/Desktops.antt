@@ -36,7 +36,7 @@ at-map f [] k = refl
 at-map f (x ∷ xs) zero = refl
 at-map f (x ∷ xs) (suc k) = at-map f xs k
 
-map-length : {X Y : Type 0} (f : X → Y) (xs : List X) → length (map f xs) ≡ length xs
+pub map-length : {X Y : Type 0} (f : X → Y) (xs : List X) → length (map f xs) ≡ length xs
 map-length f [] = refl
 map-length f (x ∷ xs) = ap (λ (n : ℕ). suc n) (map-length f xs)
 
@@ -49,12 +49,6 @@ pub record IsPut {X : Type 0} (k : ℕ) (x : Option X) (old new : List (Option X
 pub put-set : {X : Type 0} (k : ℕ) (x : Option X) (xs : List (Option X)) → k < length xs → IsPut k x xs (set xs k x)
 put-set k x xs h = record { here = get_or-set_same xs k x None h; others = λ j differ. get_or-set_other xs k j x None differ; count = length-set xs k x }
 
-pub put-twice : {X : Type 0} (k : ℕ) (x y : Option X) (xs : List (Option X)) → k < length xs → IsPut k x xs (set (set xs k y) k x)
-put-twice k x y xs h =
-    let first = put-set k y xs h in
-    let second = put-set k x (set xs k y) (rw first.count h) in
-    record { here = second.here; others = λ j differ. second.others j differ ∙ first.others j differ; count = second.count ∙ first.count }
-
 pub put-map : {X Y : Type 0} (f : X → Y) (k : ℕ) (x : Option X) (old new : List (Option X)) → IsPut k x old new → IsPut k (option_map f x) (map (option_map f) old) (map (option_map f) new)
 put-map f k x old new put =
     record {
@@ -64,11 +58,6 @@ put-map f k x old new put =
     }
 
 -- ---- places of the desktop
-
-place-past : (rs : List (Option Resident)) (k : ℕ) → length rs ≤ k → place rs k ≡ None
-place-past [] k h = refl
-place-past (r ∷ rs) zero h = absurd (omega arith)
-place-past (r ∷ rs) (suc k) h = place-past rs k (omega arith)
 
 place-here : (rs : List (Option Resident)) (k : ℕ) (r : Option Resident) → k < length rs → place (with_place k r rs) k ≡ r
 place-here [] k r h = absurd (omega arith)
@@ -150,13 +139,6 @@ agrees-put w k x o r us os stack d e a within puts owns output clients is scene 
 -- what is kept of a number's client
 pub place-at : (w : DeskView) (d : Desktop) (k : ℕ) → Matches w d → IsPlace (at w.clients k) (at w.owned k) (client_at (suc k) d)
 place-at w d k a = a.clients k
-
-pub client-past : (us : List (Option ClientView)) (w : DeskView) (d : Desktop) (c : ℕ) → us ≡ w.clients → (c ≡ 0) ⊎ (length us < c) → Matches w d → client_at c d ≡ None
-client-past us w d zero same h a = refl
-client-past us w d (suc k) same (inl h) a = absurd (omega arith)
-client-past us w d (suc k) same (inr h) a =
-    let past : length d.clients ≤ k = let h2 = rw (same, a.count) at h in omega (arith, h2) in
-    place-past d.clients k past
 
 seat-of : {A : Type 0} (x : Option ClientView) (o : Option OwnedView) (r : Option Resident) (v : Kept A) → x ≡ Some v.client → o ≡ Some (owned_view v.owned) → IsPlace x o r → (s : Resident)
     × (r ≡ Some s) × IsSeat v.client (owned_view v.owned) s

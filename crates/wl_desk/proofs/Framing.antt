@@ -33,9 +33,11 @@ use Rattle.wl_resident.proofs.Within.{within-output}
 use Rattle.wl_desk.specs.Agreeing.{Agrees}
 use Rattle.wl_desk.specs.Framing.{MarksIfEnds, WasTold}
 use Rattle.wl_desk.proofs.Agreed.{agrees-apart, still-unmarked}
-use Rattle.wl_desk.proofs.Calls.{IsFound, back, out, untaken, view_of}
+use Rattle.wl_desk.specs.Residents.{client_views}
+use Rattle.wl_desk.proofs.Calls.{back, out}
+use Rattle.wl_desk.proofs.Seats.{IsHere, IsMissing, marked, view_of}
 use Rattle.wl_laws.proofs.Marks.Ending.{gone-most}
-use Rattle.wl_desk.proofs.Most.{HasNoNew, told-over, told-windows}
+use Rattle.wl_desk.proofs.Most.{HasNoNew, sized as sized-by, told-over, told-windows}
 use Rattle.wl_desk.proofs.MarkedCalls.{or-none, own-marks, unlinked}
 
 -- ---- nobody is told
@@ -208,36 +210,28 @@ told-most time n old new d e a told x y wide high marked = sized told.sized
 
 -- ---- a client of the desk
 
-module _ {A : Type 0} (time : ℕ) (output : Output) (us : List (Option ClientView)) (os : List (Option (Owned A))) (stack : Stack) (c k : ℕ) (is : IsFound us os c k) (d : Desktop) (damage : Damaged)
-    (sides : (damage.width ≡ output.width) × (damage.height ≡ output.height)) (a : Agrees (view_of output us os stack) d) where
-  sized : IsSized (record { desk = view_of output us os stack; damage = damage }) d
+-- nobody is
+pub tells-nobody : (time c : ℕ) (v new old : MarkedDesk) → IsMissing c old → v ≡ old → new ≡ old → (v.damage.width ≡ v.desk.output.width) × (v.damage.height ≡ v.desk.output.height)
+    → (d : Desktop) → Agrees old.desk d → (e : Desktop) × WasTold time c old new d e
+tells-nobody time c v new old miss view same sides d a =
+    (d, subst (λ (w : MarkedDesk). WasTold time c old w d d) (sym same) (nobody-told time c old old d (miss d a.matches) a a refl (sized-by v old d view sides a)))
+
+-- a client is told, and its windows are marked where it ends by that
+module _ {A : Type 0} (time : ℕ) (output : Output) (rs : List (Option (Kept A))) (stack : Stack) (c k : ℕ) (v : Kept A) (is : IsHere rs c k v) (d : Desktop) (damage : Damaged)
+    (sides : (damage.width ≡ output.width) × (damage.height ≡ output.height)) (a : Agrees (view_of output rs stack) d) where
+  sized : IsSized (record { desk = view_of output rs stack; damage = damage }) d
   sized = (sides.0 ∙ ap (λ (o : Sides). o.width) a.matches.output, sides.1 ∙ ap (λ (o : Sides). o.height) a.matches.output)
 
-  abbrev marked : DeskView → Damaged → MarkedDesk
-  marked v damage = record { desk = v; damage = damage }
-
-  -- nobody was taken out
-  pub untaken-told : (x x2 : Option ClientView) (y y2 : Option (Owned A)) → x ≡ get_or us k x → y ≡ get_or os k y → (x ≡ None) ⊎ (y ≡ None) → (x2 ≡ None) × (y2 ≡ None)
-      → WasTold time c (marked (view_of output us os stack) damage) (marked (view_of output (set us k x2) (set os k y2) stack) damage) d d
-  untaken-told x x2 y y2 e f none left =
-      let free = untaken output us os stack c k is d a.matches x x2 y y2 e f none left in
-      nobody-told time c (marked (view_of output us os stack) damage) (marked (view_of output (set us k x2) (set os k y2) stack) damage) d free.0 a (record { matches = free.1; no_more = a.no_more })
-          refl sized
-
-  -- one was, is told, and is put back
-  pub taken-told : (v new : Kept A) (x x2 : Option ClientView) (y y2 : Option (Owned A)) (now : Stack) (after : Damaged) → x ≡ get_or us k x → y ≡ get_or os k y → (x ≡ Some v.client)
-      × (y ≡ Some v.owned)
-      → ((r : Resident) → IsSeated c (numbers_in us) d v stack d r → NoMore d → (e : Desktop) × (s : Resident) × FramesToldAt time c (Some r) d e × IsSeated c (numbers_in us) d new now e s)
+  pub here-told : (new : Kept A) (now : Stack) (after : Damaged)
+      → ((r : Resident) → IsSeated c (numbers_in (client_views rs)) d v stack d r → NoMore d
+          → (e : Desktop) × (s : Resident) × FramesToldAt time c (Some r) d e × IsSeated c (numbers_in (client_views rs)) d new now e s)
       → (v.client.ended ≡ None → MarksOwnIf (is_some new.client.ended) c v stack damage after) → (is_some v.client.ended ≡ true → (new ≡ v) × (now ≡ stack) × (after ≡ damage))
-      → (e : Desktop) × WasTold time c (marked (view_of output us os stack) damage) (marked (view_of output (set (set us k x2) k (Some new.client)) (set (set os k y2) k (Some new.owned)) now) after) d
-          e
-  taken-told v new x x2 y y2 now after e f taken tells marks idle =
-      let s = out output us os stack c k is d a.matches v x y e f taken in
+      → (e : Desktop) × WasTold time c (marked (view_of output rs stack) damage) (marked (view_of output (set rs k (Some new)) now) after) d e
+  here-told new now after tells marks idle =
+      let s = out output rs stack c k v is d a.matches in
       let n = tells s.0 s.2 a.no_more in
-      let matches = back output us os stack c k is d a.matches new x2 y2 now n.0 n.1 n.3 in
-      let old = marked (view_of output us os stack) damage in
-      let later = marked (view_of output (set (set us k x2) k (Some new.client)) (set (set os k y2) k (Some new.owned)) now) after in
-      (n.0, at s.0 n.0 n.1 later.desk s.1 s.2 n.2 n.3 matches v.client.ended refl)
+      let matches = back output rs stack c k v is d a.matches new now n.0 n.1 n.3 in
+      (n.0, at s.0 n.0 n.1 (view_of output (set rs k (Some new)) now) s.1 s.2 n.2 n.3 matches v.client.ended refl)
     where
       over-told : (r : Resident) (x : Desktop) → FramesToldAt time c (Some r) d x → is_some r.peer.status ≡ true → x ≡ d
       over-told r x h over = by r.peer.status h over
@@ -246,15 +240,15 @@ module _ {A : Type 0} (time : ℕ) (output : Output) (us : List (Option ClientVi
           by None h over = absurd (differ (sym over))
           by (Some cause) h over = h
 
-      at : (r : Resident) (x : Desktop) (q : Resident) (later : DeskView) → client_at c d ≡ Some r → IsSeated c (numbers_in us) d v stack d r → FramesToldAt time c (Some r) d x
-          → IsSeated c (numbers_in us) d new now x q → Matches later x
-          → (o : Option Cause) → v.client.ended ≡ o → WasTold time c (marked (view_of output us os stack) damage) (marked later after) d x
+      at : (r : Resident) (x : Desktop) (q : Resident) (later : DeskView) → client_at c d ≡ Some r → IsSeated c (numbers_in (client_views rs)) d v stack d r → FramesToldAt time c (Some r) d x
+          → IsSeated c (numbers_in (client_views rs)) d new now x q → Matches later x
+          → (o : Option Cause) → v.client.ended ≡ o → WasTold time c (marked (view_of output rs stack) damage) (marked later after) d x
       at r x q later there seated told seated_after matches None ended =
-          one-told time c r (marked (view_of output us os stack) damage) (marked later after) d x new.client.ended there (sym seated.seat.peer.status ∙ ended) a matches told
-          (ap status_of seated_after.based.there ∙ sym seated_after.seat.peer.status) ((marks ended).1 (numbers_in us) d d r seated) sized
+          one-told time c r (marked (view_of output rs stack) damage) (marked later after) d x new.client.ended there (sym seated.seat.peer.status ∙ ended) a matches told
+          (ap status_of seated_after.based.there ∙ sym seated_after.seat.peer.status) ((marks ended).1 (numbers_in (client_views rs)) d d r seated) sized
       at r x q later there seated told seated_after matches (Some cause) ended =
           let same = over-told r x told (ap (λ (o : Option Cause). is_some o) (sym seated.seat.peer.status ∙ ended)) in
           let here : FramesToldAt time c (Some r) d d = subst (λ (y : Desktop). FramesToldAt time c (Some r) d y) same told in
-          subst (λ (y : Desktop). WasTold time c (marked (view_of output us os stack) damage) (marked later after) d y) (sym same)
-          (nothing-told time c (marked (view_of output us os stack) damage) (marked later after) d (subst (λ (o : Option Resident). FramesToldAt time c o d d) (sym there) here) a
+          subst (λ (y : Desktop). WasTold time c (marked (view_of output rs stack) damage) (marked later after) d y) (sym same)
+          (nothing-told time c (marked (view_of output rs stack) damage) (marked later after) d (subst (λ (o : Option Resident). FramesToldAt time c o d d) (sym there) here) a
           (record { matches = subst (λ (y : Desktop). Matches later y) same matches; no_more = a.no_more }) (idle (ap (λ (o : Option Cause). is_some o) ended)).2 sized)

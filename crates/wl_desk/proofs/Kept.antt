@@ -16,7 +16,7 @@ use Rattle.wl_scene.specs.Stacking.{Stack}
 use Rattle.wl_scene.specs.declared.owned.Owned.{Owned}
 use Rattle.wl_resident.specs.Agreement.{Matches, IsPlace, IsSeat, IsSlot, numbers_in}
 use Rattle.wl_plain.specs.Desktop.{Desktop, Resident, become, become_by, client_at, client_in, resident_of, with_number}
-use Rattle.wl_desk.specs.Feeding.{IsIdleIn, IsIdleOf, kept_at, kept_by, kept_in, kept_of, kept_while, lives_in, rest_in, served_as, served_by, served_of}
+use Rattle.wl_desk.specs.Feeding.{IsIdleIn, IsIdleOf, kept_at, kept_by, kept_of, kept_while, rest_in, served_as, served_by, served_of}
 use Rattle.wl_resident.specs.Marking.{AreUnlinked, MarksAtLeast, MarksAtMost, MarksThrough}
 use Rattle.wl_resident.specs.Seats.{IsSeated, ended_by}
 use Rattle.wl_plain.specs.declared.answers.Fed.TheVariants as fed
@@ -30,8 +30,10 @@ use Rattle.wl_plain.specs.Through.{ServesThrough}
 use Rattle.wl_laws.proofs.Toplevels.Back.{message-by}
 use Rattle.wl_resident.specs.View.{DeskView, OwnedView, owned_view}
 use Rattle.wl_resident.specs.declared.residents.Resident.{Resident as Kept}
-use Rattle.wl_desk.proofs.Calls.{IsFound, back, client-there, ended_at, ended_of, out, place-here, place-none, untaken, view_of}
-use Rattle.wl_desk.proofs.Desktops.{IsPut, at, at-map, at-within, client-past, numbers-put, place-at, put-map, put-set, put-twice, seated-back}
+use Rattle.wl_desk.specs.Residents.{client_views, owned_views}
+use Rattle.wl_desk.proofs.Calls.{back, ended_at, ended_of, out, peer-here}
+use Rattle.wl_desk.proofs.Desktops.{IsPut, at, numbers-put, place-at}
+use Rattle.wl_desk.proofs.Seats.{IsHere, client-here, client-put, owned-put, put-here, view_of}
 use Rattle.wl_desk.proofs.MarkedCalls.{unlinked}
 use Rattle.wl_laws.proofs.Runs.Places.{number-same, stacked-clients}
 use Rattle.wl_resident.proofs.Scenes.{stack-by}
@@ -99,31 +101,39 @@ seat-here x o None v w e f here = absurd (rw (e, f) at here)
 seat-here x o (Some q) v w e f here = (q, refl, rw (e, f) at here)
 
 -- how the client is then
-pub serves-told : {A : Type 0} (output : Output) (us : List (Option ClientView)) (os : List (Option (Owned A))) (c k : ℕ) → IsFound us os c k
-    → (new : Kept A) (x2 : Option ClientView) (y2 : Option (Owned A)) (now : Stack) (e : Desktop) (answer : Served)
-    → answer ≡ served_by new.client.ended → Matches (view_of output (set (set us k x2) k (Some new.client)) (set (set os k y2) k (Some new.owned)) now) e → answer ≡ served_of (status_of (peer_at c e))
-serves-told output us os c k is new x2 y2 now e answer told b =
-    let here = client-there output us os c k is new x2 y2 now e b in
+pub serves-told : {A : Type 0} (output : Output) (rs : List (Option (Kept A))) (stack now : Stack) (c k : ℕ) (v : Kept A) → IsHere rs c k v
+    → (new : Kept A) (e : Desktop) (answer : Served)
+    → answer ≡ served_by new.client.ended → Matches (view_of output (set rs k (Some new)) now) e → answer ≡ served_of (status_of (peer_at c e))
+serves-told output rs stack now c k v is new e answer told b =
+    let here = peer-here output (set rs k (Some new)) now c k new (put-here rs c k v new is) e b in
     told ∙ (served-told new.client.ended ∙ ap served_of (ap fed_of here.2.status ∙ ap status_of (sym here.1)))
 
-module _ {A : Type 0} (output : Output) (us : List (Option ClientView)) (os : List (Option (Owned A))) (stack : Stack) (c k : ℕ) (is : IsFound us os c k) (d : Desktop)
-    (a : Matches (view_of output us os stack) d) where
+module _ {A : Type 0} (output : Output) (rs : List (Option (Kept A))) (stack : Stack) (c k : ℕ) (v : Kept A) (is : IsHere rs c k v) (d : Desktop)
+    (a : Matches (view_of output rs stack) d) where
+  abbrev us : List (Option ClientView)
+  us = client_views rs
+
+  abbrev put-back : Kept A → Stack → DeskView
+  put-back new now = view_of output (set rs k (Some new)) now
+
+  here : (s : Resident) × (client_at c d ≡ Some s) × IsSeated c (numbers_in us) d v stack d s
+  here = out output rs stack c k v is d a
+
+  put : (new : Kept A) (now : Stack) (e : Desktop) (s : Resident) → IsSeated c (numbers_in us) d new now e s → Matches (put-back new now) e
+  put new now e s seated = back output rs stack c k v is d a new now e s seated
+
   -- ---- a message
 
-  abbrev put-back : Kept A → Option ClientView → Option (Owned A) → Stack → DeskView
-  put-back new x2 y2 now = view_of output (set (set us k x2) k (Some new.client)) (set (set os k y2) k (Some new.owned)) now
-
-  -- who was served and put back is seated in the desktop that agrees
-  seated-new : (new : Kept A) (x2 : Option ClientView) (y2 : Option (Owned A)) (now : Stack) (e : Desktop) (s : Resident) → client_at c d ≡ Some s → NoMore d → Serves served_now c d e
-      → Matches (put-back new x2 y2 now) e
+  -- who was served is seated in the desktop that agrees
+  seated-new : (new : Kept A) (now : Stack) (e : Desktop) → NoMore d → Serves served_now c d e → Matches (put-back new now) e
       → (q : Resident) × IsSeated c (numbers_in us) d new now e q
-  seated-new new x2 y2 now e s there more serves b =
-      let view = put-back new x2 y2 now in
-      let puts : IsPut k (Some new.client) us view.clients = put-twice k (Some new.client) x2 us is.client in
-      let owns = put-map owned_view k (Some new.owned) os _ (put-twice k (Some new.owned) y2 os is.owned) in
+  seated-new new now e more serves b =
+      let view = put-back new now in
+      let puts : IsPut k (Some new.client) us view.clients = client-put rs k (Some new) is.within in
+      let owns : IsPut k (Some (owned_view new.owned)) (owned_views rs) view.owned = owned-put rs k (Some new) is.within in
       let seat = seat-here (at view.clients k) (at view.owned k) (client_at c e) new.client (owned_view new.owned) puts.here owns.here (rw is.number (place-at view e k b)) in
-      let else = serves-else c s d e there more serves in
-      let same : else.0 ≡ Some seat.0 = sym (ap (λ clients. client_in clients c) else.1 ∙ number-same d.clients c else.0 s there) ∙ seat.1 in (
+      let else = serves-else c here.0 d e here.1 more serves in
+      let same : else.0 ≡ Some seat.0 = sym (ap (λ clients. client_in clients c) else.1 ∙ number-same d.clients c else.0 here.0 here.1) ∙ seat.1 in (
         seat.0,
         record {
           based = record { there = seat.1; output = sym b.output ∙ a.output; clients = else.1 ∙ ap (λ x. with_number c x d.clients) same };
@@ -137,151 +147,88 @@ module _ {A : Type 0} (output : Output) (us : List (Option ClientView)) (os : Li
         },
       )
 
-  pub serves-marks : (v new : Kept A) (x x2 : Option ClientView) (y y2 : Option (Owned A)) (now : Stack) (e : Desktop) (before after : Damaged) → x ≡ get_or us k x → y ≡ get_or os k y
-      → (x ≡ Some v.client) × (y ≡ Some v.owned) → NoMore d
+  pub serves-marks : (new : Kept A) (now : Stack) (e : Desktop) (before after : Damaged) → NoMore d
       → ((r : Resident) → AreUnlinked d → IsSeated c (numbers_in us) d v stack d r → NoMore d → (e : Desktop) (q : Resident) → Serves served_now c d e → IsSeated c (numbers_in us) d new now e q
           → MarksAtLeast d e before after)
-      → Serves served_now c d e → Matches (put-back new x2 y2 now) e → MarksAtLeast d e before after
-  serves-marks v new x x2 y y2 now e before after f g taken more marks serves b =
-      let s = out output us os stack c k is d a v x y f g taken in
-      let n = seated-new new x2 y2 now e s.0 s.1 more serves b in
-      marks s.0 (unlinked (view_of output us os stack) d a) s.2 more e n.0 serves n.1
+      → Serves served_now c d e → Matches (put-back new now) e → MarksAtLeast d e before after
+  serves-marks new now e before after more marks serves b =
+      let n = seated-new new now e more serves b in
+      marks here.0 (unlinked (view_of output rs stack) d a) here.2 more e n.0 serves n.1
 
-  pub serves-within : (v new : Kept A) (x x2 : Option ClientView) (y y2 : Option (Owned A)) (now : Stack) (e : Desktop) (before after : Damaged) → x ≡ get_or us k x → y ≡ get_or os k y
-      → (x ≡ Some v.client) × (y ≡ Some v.owned) → NoMore d
+  pub serves-within : (new : Kept A) (now : Stack) (e : Desktop) (before after : Damaged) → NoMore d
       → ((r : Resident) → before.width ≡ d.output.width → before.height ≡ d.output.height → AreUnlinked d → IsSeated c (numbers_in us) d v stack d r → NoMore d → (e : Desktop) (q : Resident)
-          → Serves served_now c d e → IsSeated c (numbers_in us) d new now e q
-      → MarksAtMost c d e before after)
-      → (before.width ≡ output.width) × (before.height ≡ output.height) → Serves served_now c d e → Matches (put-back new x2 y2 now) e → MarksAtMost c d e before after
-  serves-within v new x x2 y y2 now e before after f g taken more marks sides serves b =
-      let s = out output us os stack c k is d a v x y f g taken in
-      let n = seated-new new x2 y2 now e s.0 s.1 more serves b in
-      marks s.0 (sides.0 ∙ ap (λ (o : Shown). o.width) a.output) (sides.1 ∙ ap (λ (o : Shown). o.height) a.output) (unlinked (view_of output us os stack) d a) s.2 more e n.0 serves n.1
+          → Serves served_now c d e → IsSeated c (numbers_in us) d new now e q → MarksAtMost c d e before after)
+      → (before.width ≡ output.width) × (before.height ≡ output.height) → Serves served_now c d e → Matches (put-back new now) e → MarksAtMost c d e before after
+  serves-within new now e before after more marks sides serves b =
+      let n = seated-new new now e more serves b in
+      marks here.0 (sides.0 ∙ ap (λ (o : Shown). o.width) a.output) (sides.1 ∙ ap (λ (o : Shown). o.height) a.output) (unlinked (view_of output rs stack) d a) here.2 more e n.0 serves n.1
 
   -- it leads through desktops along which what is marked is what may be marked
-  pub serves-through : (v new : Kept A) (x x2 : Option ClientView) (y y2 : Option (Owned A)) (now : Stack) (before after : Damaged) → x ≡ get_or us k x → y ≡ get_or os k y → (x ≡ Some v.client)
-      × (y ≡ Some v.owned) → NoMore d
+  pub serves-through : (new : Kept A) (now : Stack) (before after : Damaged) → NoMore d
       → ((r : Resident) → before.width ≡ d.output.width → before.height ≡ d.output.height → AreUnlinked d → IsSeated c (numbers_in us) d v stack d r → NoMore d
-      → (e : Desktop) × (q : Resident) × (path : List Desktop) × ServesThrough served_now c d path e × IsSeated c (numbers_in us) d new now e q × MarksThrough d path before after)
-      → (before.width ≡ output.width) × (before.height ≡ output.height) → (e : Desktop) × (path : List Desktop) × ServesThrough served_now c d path e × Matches (put-back new x2 y2 now) e
-          × MarksThrough d path before after
-  serves-through v new x x2 y y2 now before after f g taken more through sides =
-      let s = out output us os stack c k is d a v x y f g taken in
-      let n = through s.0 (sides.0 ∙ ap (λ (o : Shown). o.width) a.output) (sides.1 ∙ ap (λ (o : Shown). o.height) a.output) (unlinked (view_of output us os stack) d a) s.2 more in
-      (n.0, n.2, n.3, back output us os stack c k is d a new x2 y2 now n.0 n.1 n.4, n.5)
+          → (e : Desktop) × (q : Resident) × (path : List Desktop) × ServesThrough served_now c d path e × IsSeated c (numbers_in us) d new now e q × MarksThrough d path before after)
+      → (before.width ≡ output.width) × (before.height ≡ output.height)
+      → (e : Desktop) × (path : List Desktop) × ServesThrough served_now c d path e × Matches (put-back new now) e × MarksThrough d path before after
+  serves-through new now before after more through sides =
+      let n = through here.0 (sides.0 ∙ ap (λ (o : Shown). o.width) a.output) (sides.1 ∙ ap (λ (o : Shown). o.height) a.output) (unlinked (view_of output rs stack) d a) here.2 more in
+      (n.0, n.2, n.3, put new now n.0 n.1 n.4, n.5)
+
+  -- what is there is left so
+  pub stays : (new : Kept A) (now : Stack) → new ≡ v → now ≡ stack → Matches (put-back new now) d
+  stays new now same still =
+      subst (λ (w : Kept A). Matches (put-back w now) d) (sym same) (subst (λ (t : Stack). Matches (put-back v t) d) (sym still) (put v stack d here.0 here.2))
 
   -- there was no message
-  pub idles : (v new : Kept A) (x x2 : Option ClientView) (y y2 : Option (Owned A)) (now : Stack) → x ≡ get_or us k x → y ≡ get_or os k y → (x ≡ Some v.client) × (y ≡ Some v.owned)
-      → new ≡ v → now ≡ stack → IsIdleAt v.client.ended v.client.rest → Matches (put-back new x2 y2 now) d × IsIdleIn c d
-  idles v new x x2 y y2 now f g taken same still idle =
-      let s = out output us os stack c k is d a v x y f g taken in
-      let peer = s.2.seat.peer in (
-        back output us os stack c k is d a new x2 y2 now d s.0
-            (subst (λ (w : Kept A). IsSeated c (numbers_in us) d w now d s.0) (sym same) (subst (λ (t : Stack). IsSeated c (numbers_in us) d v t d s.0) (sym still) s.2)),
-        subst IsIdleOf (sym s.1) (subst (λ ended. IsIdleAt ended s.0.peer.rest) peer.status (subst (λ rest. IsIdleAt v.client.ended rest) peer.rest idle)),
+  pub idles : (new : Kept A) (now : Stack) → new ≡ v → now ≡ stack → IsIdleAt v.client.ended v.client.rest → Matches (put-back new now) d × IsIdleIn c d
+  idles new now same still idle =
+      let peer = here.2.seat.peer in (
+        stays new now same still,
+        subst IsIdleOf (sym here.1) (subst (λ ended. IsIdleAt ended here.0.peer.rest) peer.status (subst (λ rest. IsIdleAt v.client.ended rest) peer.rest idle)),
       )
-
-  pub idles-untaken : (x x2 : Option ClientView) (y y2 : Option (Owned A)) → x ≡ get_or us k x → y ≡ get_or os k y → (x ≡ None) ⊎ (y ≡ None) → (x2 ≡ None) × (y2 ≡ None)
-      → Matches (view_of output (set us k x2) (set os k y2) stack) d × IsIdleIn c d
-  idles-untaken x x2 y y2 f g none left =
-      let free = untaken output us os stack c k is d a x x2 y y2 f g none left in
-      (free.1, subst IsIdleOf (sym free.0) tt)
 
   -- ---- the end
 
-  pub ends : (cause : Cause) (v new : Kept A) (x x2 : Option ClientView) (y y2 : Option (Owned A)) (now : Stack) → x ≡ get_or us k x → y ≡ get_or os k y → (x ≡ Some v.client) × (y ≡ Some v.owned)
+  pub ends : (cause : Cause) (new : Kept A) (now : Stack)
       → ((r : Resident) → IsSeated c (numbers_in us) d v stack d r → (q : Resident) × IsSeated c (numbers_in us) d new now (become c r (ended_by r.peer.status cause r.peer) d) q)
-      → Matches (put-back new x2 y2 now) (ended_at c cause d)
-  ends cause v new x x2 y y2 now f g taken end =
-      let s = out output us os stack c k is d a v x y f g taken in
-      let n = end s.0 s.2 in
-      let after = become c s.0 (ended_by s.0.peer.status cause s.0.peer) d in
-      subst (λ o. Matches (put-back new x2 y2 now) (ended_of c cause o d)) (sym s.1) (back output us os stack c k is d a new x2 y2 now after n.0 n.1)
-
-  pub ends-untaken : (cause : Cause) (x x2 : Option ClientView) (y y2 : Option (Owned A)) → x ≡ get_or us k x → y ≡ get_or os k y → (x ≡ None) ⊎ (y ≡ None) → (x2 ≡ None) × (y2 ≡ None)
-      → Matches (view_of output (set us k x2) (set os k y2) stack) (ended_at c cause d)
-  ends-untaken cause x x2 y y2 f g none left =
-      let free = untaken output us os stack c k is d a x x2 y y2 f g none left in
-      subst (λ o. Matches (view_of output (set us k x2) (set os k y2) stack) (ended_of c cause o d)) (sym free.0) free.1
+      → Matches (put-back new now) (ended_at c cause d)
+  ends cause new now end =
+      let n = end here.0 here.2 in
+      let after = become c here.0 (ended_by here.0.peer.status cause here.0.peer) d in
+      subst (λ o. Matches (put-back new now) (ended_of c cause o d)) (sym here.1) (put new now after n.0 n.1)
 
   -- ---- a piece
 
-  -- what is there is left so
-  pub stays : (x z : Option ClientView) → x ≡ get_or us k x → z ≡ x → Matches (view_of output (set us k z) os stack) d
-  stays x z f same = subst (λ vs. Matches (view_of output vs os stack) d) (sym (ap (λ z. set us k z) (same ∙ f) ∙ set-get_or us k x)) a
-
-  -- the client alone is put back
-  back-alone : (new : Kept A) (s : Resident) (e : Desktop) → at os k ≡ Some new.owned → IsSeated c (numbers_in us) d new stack e s → Matches (view_of output (set us k (Some new.client)) os stack) e
-  back-alone new s e here seated =
-      seated-back (view_of output us os stack) k new s (set us k (Some new.client)) (map (option_map owned_view) os) stack d e a is.client (put-set k (Some new.client) us is.client)
-      (record { here = at-map owned_view os k ∙ ap (λ (o : Option (Owned A)). option_map owned_view o) here; others = λ j differ. refl; count = refl })
-      (rw is.number at seated)
-
-  come : (piece : List ℕ) (v : ClientView) (o : Owned A) (z : Option ClientView) → Some v ≡ get_or us k (Some v) → Some o ≡ get_or os k (Some o) → v.ended ≡ None
-      → z ≡ Some (record v { rest = v.rest ++ piece }) → Matches (view_of output (set us k z) os stack) (kept_at c piece d)
-  come piece v o z f g lives same =
-      let old : Kept A = record { client = v; owned = o } in
-      let s = out output us os stack c k is d a old (Some v) (Some o) f g (refl, refl) in
+  come : (piece : List ℕ) → v.client.ended ≡ None → Matches (put-back (come_on piece v) stack) (kept_at c piece d)
+  come piece lives =
+      let s = here in
       let none : s.0.peer.status ≡ None = sym s.2.seat.peer.status ∙ lives in
-      let new = come_on piece old in
-      let after = become c s.0 (come_to piece s.0) d in
-      let agrees = back-alone new (record s.0 { peer = come_to piece s.0 }) after (sym (at-within os k (Some o) is.owned) ∙ sym g) (come-seated c (numbers_in us) d d s.0 piece old stack s.2 lives) in
-      rw same
-      (subst (λ r. Matches (view_of output (set us k (Some new.client)) os stack) (kept_of c piece r d)) (sym s.1)
-      (subst (λ t. Matches (view_of output (set us k (Some new.client)) os stack) (kept_by c piece t s.0 d)) (sym none)
-      (subst (λ e. Matches (view_of output (set us k (Some new.client)) os stack) e) (ap (λ t. become_by t c s.0 (come_to piece s.0) d) none) agrees)))
+      let new = come_on piece v in
+      let agrees = put new stack (become c s.0 (come_to piece s.0) d) (record s.0 { peer = come_to piece s.0 }) (come-seated c (numbers_in us) d d s.0 piece v stack s.2 lives) in
+      subst (λ r. Matches (put-back new stack) (kept_of c piece r d)) (sym s.1)
+      (subst (λ t. Matches (put-back new stack) (kept_by c piece t s.0 d)) (sym none)
+      (subst (λ e. Matches (put-back new stack) e) (ap (λ t. become_by t c s.0 (come_to piece s.0) d) none) agrees))
 
-  pub keeps : (piece : List ℕ) (x z : Option ClientView) → x ≡ get_or us k x → z ≡ kept_in piece x → Matches (view_of output (set us k z) os stack) (kept_at c piece d)
-  keeps piece x z f same = by x (at os k) f (sym (at-within os k (at os k) is.owned)) same
+  over : (piece : List ℕ) (cause : Cause) → v.client.ended ≡ Some cause → Matches (put-back v stack) (kept_at c piece d)
+  over piece cause e =
+      let s = here in
+      let status : s.0.peer.status ≡ Some cause = sym s.2.seat.peer.status ∙ e in
+      subst (λ r. Matches (put-back v stack) (kept_of c piece r d)) (sym s.1)
+      (subst (λ t. Matches (put-back v stack) (kept_by c piece t s.0 d)) (sym status) (stays v stack refl refl))
+
+  pub keeps : (piece : List ℕ) (new : Kept A) → new ≡ record v { client = kept_while piece v.client.ended v.client } → Matches (put-back new stack) (kept_at c piece d)
+  keeps piece new same = subst (λ (w : Kept A). Matches (put-back w stack) (kept_at c piece d)) (sym same) (by v.client.ended refl)
     where
-      ended : (v : ClientView) (o : Owned A) (cause : Cause) → Some v ≡ get_or us k (Some v) → Some o ≡ get_or os k (Some o) → v.ended ≡ Some cause → z ≡ Some v
-          → Matches (view_of output (set us k z) os stack) (kept_at c piece d)
-      ended v o cause f g over same =
-          let s = out output us os stack c k is d a (record { client = v; owned = o }) (Some v) (Some o) f g (refl, refl) in
-          let status : s.0.peer.status ≡ Some cause = sym s.2.seat.peer.status ∙ over in
-          subst (λ r. Matches (view_of output (set us k z) os stack) (kept_of c piece r d)) (sym s.1)
-          (subst (λ t. Matches (view_of output (set us k z) os stack) (kept_by c piece t s.0 d)) (sym status) (stays (Some v) z f same))
+      by : (e : Option Cause) → v.client.ended ≡ e → Matches (put-back (record v { client = kept_while piece e v.client }) stack) (kept_at c piece d)
+      by None lives = come piece lives
+      by (Some cause) e = over piece cause e
 
-      there : (v : ClientView) (o : Owned A) (e : Option Cause) → v.ended ≡ e → Some v ≡ get_or us k (Some v) → Some o ≡ get_or os k (Some o) → z ≡ Some (kept_while piece e v)
-          → Matches (view_of output (set us k z) os stack) (kept_at c piece d)
-      there v o None lives f g same = come piece v o z f g lives same
-      there v o (Some cause) over f g same = ended v o cause f g over same
-
-      by : (x : Option ClientView) (y : Option (Owned A)) → x ≡ get_or us k x → y ≡ get_or os k y → z ≡ kept_in piece x → Matches (view_of output (set us k z) os stack) (kept_at c piece d)
-      by None y f g same =
-          let nobody = place-none None (option_map owned_view y) (client_at c d) (place-here output us os stack c k is d a None y f g) (inl refl) in
-          subst (λ r. Matches (view_of output (set us k z) os stack) (kept_of c piece r d)) (sym nobody.1) (stays None z f same)
-      by (Some v) None f g same = let nobody = place-none (Some v) None (client_at c d) (place-here output us os stack c k is d a (Some v) None f g) (inr refl) in absurd (cc (nobody.0))
-      by (Some v) (Some o) f g same = there v o v.ended refl f g same
-
--- ---- one that lives
-
-pub lives-there : (x : Option ClientView) (o : Option Peer) → IsSlot x o → lives_in x ≡ true → status_of o ≡ fed.Alive
-lives-there None o is lives = absurd (differ (sym lives))
-lives-there (Some v) None is lives = absurd is
-lives-there (Some v) (Some p) is lives = by v.ended p.status is.status lives
-  where
-    by : (s t : Option Cause) → s ≡ t → is_none s ≡ true → fed_of t ≡ fed.Alive
-    by None t e lives = sym (ap (λ z. fed_of z) e)
-    by (Some cause) t e lives = absurd (differ (sym lives))
+  pub lives-there : v.client.ended ≡ None → status_of (peer_at c d) ≡ fed.Alive
+  lives-there lives =
+      let p = peer-here output rs stack c k v is d a in
+      ap status_of p.1 ∙ ap fed_of (sym p.2.status ∙ lives)
 
 -- ---- what is left to be taken is less
 
-pub rest-less : {A : Type 0} (output : Output) (us : List (Option ClientView)) (os : List (Option (Owned A))) (stack now : Stack) (c k : ℕ) → IsFound us os c k
-    → (v new : Kept A) (x x2 : Option ClientView) (y2 : Option (Owned A)) → x ≡ get_or us k x
-    → x ≡ Some v.client → length new.client.rest < length v.client.rest
-    → length (rest_in c (view_of output (set (set us k x2) k (Some new.client)) (set (set os k y2) k (Some new.owned)) now)) < length (rest_in c (view_of output us os stack))
-rest-less output us os stack now c k is v new x x2 y2 f taken less =
-    let here : at us k ≡ Some v.client = sym (f ∙ at-within us k x is.client) ∙ taken in
-    rw (is.number, (put-twice k (Some new.client) x2 us is.client).here, here) less
-
--- ---- nobody is there
-
-pub Kept-none : (piece : List ℕ) (us : List (Option ClientView)) (w : DeskView) (d : Desktop) (c : ℕ) → us ≡ w.clients → (c ≡ 0) ⊎ (length us < c) → Matches w d → Matches w (kept_at c piece d)
-Kept-none piece us w d c same h a = subst (λ o. Matches w (kept_of c piece o d)) (sym (client-past us w d c same h a)) a
-
-pub Idle-none : (us : List (Option ClientView)) (w : DeskView) (d : Desktop) (c : ℕ) → us ≡ w.clients → (c ≡ 0) ⊎ (length us < c) → Matches w d → Matches w d × IsIdleIn c d
-Idle-none us w d c same h a = (a, subst IsIdleOf (sym (client-past us w d c same h a)) tt)
-
-pub Ended-none : (cause : Cause) (us : List (Option ClientView)) (w : DeskView) (d : Desktop) (c : ℕ) → us ≡ w.clients → (c ≡ 0) ⊎ (length us < c) → Matches w d → Matches w (ended_at c cause d)
-Ended-none cause us w d c same h a = subst (λ o. Matches w (ended_of c cause o d)) (sym (client-past us w d c same h a)) a
+pub rest-less : {A : Type 0} (output : Output) (rs : List (Option (Kept A))) (stack now : Stack) (c k : ℕ) (v : Kept A) → IsHere rs c k v → (new : Kept A)
+    → length new.client.rest < length v.client.rest → length (rest_in c (view_of output (set rs k (Some new)) now)) < length (rest_in c (view_of output rs stack))
+rest-less output rs stack now c k v is new less = rw (is.number, (client-put rs k (Some new) is.within).here, client-here rs k v is.here) less

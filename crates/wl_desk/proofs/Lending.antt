@@ -8,7 +8,11 @@ use Rattle.wl_store.specs.Stores.{Stock}
 use Rattle.wl_surface.specs.Kept.{Slots, no_slots}
 use Rattle.wl_surface.specs.Surfaces.{no_surfaces}
 use Rattle.wl_scene.specs.Lent.{slots_lent, slots_of}
-use Rattle.wl_scene.specs.declared.owned.Owned.{Owned}
+use Rattle.wl_scene.specs.Stacking.{Stack}
+use Rattle.wl_client.specs.declared.outputs.Output.{Output}
+use Rattle.wl_resident.specs.declared.residents.Resident.{Resident as Kept}
+use Rattle.wl_desk.specs.Residents.{owned_lent}
+use Rattle.wl_desk.proofs.Seats.{view_of}
 use Rattle.wl_resident.specs.Agreement.{Matches, IsPlace, numbers_in, numbers_of}
 use Rattle.wl_plain.specs.Desktop.{Desktop, Resident, client_at, owned_in, owned_of, place}
 use Rattle.wl_desk.specs.Lent.{client_lent}
@@ -34,9 +38,9 @@ abbrev slots_seen : Option OwnedView → Slots
 slots_seen None = no_slots
 slots_seen (Some o) = o.surfaces
 
-slots-seen : {A : Type 0} (o : Option (Owned A)) → slots_of o ≡ slots_seen (option_map owned_view o)
+slots-seen : {A : Type 0} (o : Option (Kept A)) → slots_of (option_map (λ (r : Kept A). r.owned) o) ≡ slots_seen (option_map (λ (r : Kept A). owned_view r.owned) o)
 slots-seen None = refl
-slots-seen (Some o) = refl
+slots-seen (Some r) = refl
 
 abbrev stores_in : Option ClientView → Option Stock
 stores_in x = option_map (λ v. v.stores) x
@@ -54,10 +58,13 @@ place-lent (Some v) None None here = absurd here
 place-lent (Some v) None (Some r) here = absurd here
 place-lent (Some v) (Some o) None here = absurd here
 
-module _ {A : Type 0} (owned : List (Option (Owned A))) (v : DeskView) (d : Desktop) (same : v.owned ≡ map (option_map owned_view) owned) (a : Matches v d) where
-  slots-here : (k : ℕ) → slots_of (slice_index_or owned k None) ≡ slots_seen (slice_index_or v.owned k None)
+module _ {A : Type 0} (output : Output) (rs : List (Option (Kept A))) (stack : Stack) (d : Desktop) (a : Matches (view_of output rs stack) d) where
+  abbrev v : DeskView
+  v = view_of output rs stack
+
+  slots-here : (k : ℕ) → slots_of (slice_index_or (owned_lent rs) k None) ≡ slots_seen (slice_index_or v.owned k None)
   slots-here k =
-      slots-seen (slice_index_or owned k None) ∙ ap slots_seen (sym (at-map owned_view owned k) ∙ ap (λ (os : List (Option OwnedView)). slice_index_or os k None) (sym same))
+      ap slots_of (at-map (λ (r : Kept A). r.owned) rs k) ∙ slots-seen (slice_index_or rs k None) ∙ ap slots_seen (sym (at-map (λ (r : Kept A). owned_view r.owned) rs k))
 
   here : (k : ℕ) → (stores_in (slice_index_or v.clients k None) ≡ stores_of (place d.clients k)) × AreKept (numbers_of (slice_index_or v.clients k None)) (slots_seen (slice_index_or v.owned k None))
       (owned_of (place d.clients k)).surfaces
@@ -67,11 +74,11 @@ module _ {A : Type 0} (owned : List (Option (Owned A))) (v : DeskView) (d : Desk
   stores-lent zero = refl
   stores-lent (suc k) = (here k).0
 
-  surfaces-lent : (c : ℕ) → AreKept (numbers_in v.clients c) (slots_lent owned c) (owned_in d c).surfaces
+  surfaces-lent : (c : ℕ) → AreKept (numbers_in v.clients c) (slots_lent (owned_lent rs) c) (owned_in d c).surfaces
   surfaces-lent zero = nothing-kept
   surfaces-lent (suc k) = subst (λ (slots : Slots). AreKept (numbers_of (slice_index_or v.clients k None)) slots (owned_of (place d.clients k)).surfaces) (sym (slots-here k)) (here k).1
 
-  pub agrees-lent : AreLent (client_lent v.clients) (slots_lent owned) (numbers_in v.clients) v.scene.standing d
+  pub agrees-lent : AreLent (client_lent v.clients) (slots_lent (owned_lent rs)) (numbers_in v.clients) v.scene.standing d
   agrees-lent = record {
     stores = stores-lent;
     surfaces = surfaces-lent;

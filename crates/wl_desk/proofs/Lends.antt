@@ -7,7 +7,7 @@ use Rattle.std.proofs.lemmas.List.{length-map}
 use Rattle.std.proofs.lemmas.Option.{slice_get-get_or, slice_get-map}
 use Rattle.wl_geom.specs.Region.{Area}
 use Rattle.wl_store.specs.Picture.{Shown, transparent}
-use Rattle.wl_surface.specs.Kept.{Counting, counting_in}
+use Rattle.wl_surface.specs.Kept.{Counting, counting_in, counting_of, kept_at}
 use Rattle.wl_surface.specs.State.{within_bounds}
 use Rattle.wl_surface.specs.declared.surface.Current.{Current}
 use Rattle.wl_client.specs.View.{ClientView}
@@ -15,34 +15,52 @@ use Rattle.wl_paint.specs.Window.{Window}
 use Rattle.wl_scene.specs.Stacking.{Standing, standing_of}
 use Rattle.wl_scene.specs.Windows.{Place}
 use Rattle.wl_scene.specs.declared.scene.Toplevel.{Toplevel}
-use Rattle.wl_desk.specs.Lent.{client_lent, or_transparent, picture_shown, window_kept}
-use Rattle.wl_desk.proofs.Desktops.{at, at-past, at-within}
+use Rattle.wl_resident.specs.declared.residents.Resident.{Resident as Kept}
+use Rattle.wl_scene.specs.Lent.{slots_lent, slots_of}
+use Rattle.wl_desk.specs.Lent.{client_lent, or_transparent, picture_shown, window_kept, window_lent}
+use Rattle.wl_desk.specs.Residents.{client_views, owned_lent, resident_at}
+use Rattle.wl_desk.proofs.Desktops.{at, at-map, at-past, at-within}
 
--- nothing is lent of client 0
-pub client-none : (clients : List (Option ClientView)) (c : ℕ) → (1 ≤ c → ⊥) → None ≡ client_lent clients c
-client-none clients zero none = refl
-client-none clients (suc n) none = absurd (none (omega arith))
+-- there is no client 0
+pub at-zero : {A : Type 0} (rs : List (Option (Kept A))) (c : ℕ) → (1 ≤ c → ⊥) → None ≡ resident_at rs c
+at-zero rs zero none = refl
+at-zero rs (suc n) none = absurd (none (omega arith))
 
--- what is lent of a client, by a look at its place
-pub client-at : (clients : List (Option ClientView)) (c index : ℕ) (slot : Option ClientView) → 1 ≤ c → index ≡ c - 1 → true ≡ nat_lt index (length clients) → slot ≡ get_or clients index slot
-    → slot ≡ client_lent clients c
-client-at clients zero index slot some is within e = absurd (omega (arith, some))
-client-at clients (suc n) index slot some is within e =
+-- a client, by a look at its place
+pub at-place : {A : Type 0} (rs : List (Option (Kept A))) (c index : ℕ) (slot : Option (Kept A)) → 1 ≤ c → index ≡ c - 1 → true ≡ nat_lt index (length rs)
+    → slot ≡ get_or rs index slot → slot ≡ resident_at rs c
+at-place rs zero index slot some is within e = absurd (omega (arith, some))
+at-place rs (suc n) index slot some is within e =
     let same : index ≡ n = omega (arith, is) in
-    let less : index < length clients = grind (arith, nat_tests) in
-    e ∙ (at-within clients index slot less ∙ ap (λ (i : ℕ). at clients i) same)
+    let less : index < length rs = grind (arith, nat_tests) in
+    e ∙ (at-within rs index slot less ∙ ap (λ (i : ℕ). at rs i) same)
 
--- nothing is lent of a client whose place lies past the end
-pub client-past : (clients : List (Option ClientView)) (c index : ℕ) → 1 ≤ c → index ≡ c - 1 → false ≡ nat_lt index (length clients) → None ≡ client_lent clients c
-client-past clients zero index some is past = absurd (omega (arith, some))
-client-past clients (suc n) index some is past =
+-- there is no client whose place lies past the end
+pub past-end : {A : Type 0} (rs : List (Option (Kept A))) (c index : ℕ) → 1 ≤ c → index ≡ c - 1 → false ≡ nat_lt index (length rs) → None ≡ resident_at rs c
+past-end rs zero index some is past = absurd (omega (arith, some))
+past-end rs (suc n) index some is past =
     let same : index ≡ n = omega (arith, is) in
-    let more : length clients ≤ index = grind (arith, nat_tests) in
-    sym (at-past clients index more) ∙ ap (λ (i : ℕ). at clients i) same
+    let more : length rs ≤ index = grind (arith, nat_tests) in
+    sym (at-past rs index more) ∙ ap (λ (i : ℕ). at rs i) same
+
+-- what is lent of the clients is what each has
+lends-client : {A : Type 0} (rs : List (Option (Kept A))) (c : ℕ) → client_lent (client_views rs) c ≡ option_map (λ (r : Kept A). r.client) (resident_at rs c)
+lends-client rs zero = refl
+lends-client {A} rs (suc n) = at-map (λ (r : Kept A). r.client) rs n
+
+lends-owned : {A : Type 0} (rs : List (Option (Kept A))) (c : ℕ) → slots_lent (owned_lent rs) c ≡ slots_of (option_map (λ (r : Kept A). r.owned) (resident_at rs c))
+lends-owned rs zero = refl
+lends-owned {A} rs (suc n) = ap slots_of (at-map (λ (r : Kept A). r.owned) rs n)
+
+-- the window of a toplevel, by its client
+pub window-of : {A : Type 0} (rs : List (Option (Kept A))) (nowhere : Area) (s : Standing) (o : Option (Kept A)) → o ≡ resident_at rs s.client
+    → window_kept (option_map (λ (r : Kept A). r.client) o) nowhere s.place (option_map counting_of (kept_at (slots_of (option_map (λ (r : Kept A). r.owned) o)) s.surface))
+        ≡ window_lent (client_lent (client_views rs)) (slots_lent (owned_lent rs)) nowhere s
+window-of rs nowhere s o is = rw (lends-client, lends-owned, ← is) refl
 
 -- the window of a toplevel whose surface isn't there
 pub window-absent : (client : Option ClientView) (nowhere : Area) (place : Place) (kept : Option Counting) → None ≡ kept
-    → record { x = place.x; y = place.y; picture = transparent; opaque = nowhere } ≡ window_kept client nowhere place kept
+    → window_kept None nowhere place None ≡ window_kept client nowhere place kept
 window-absent client nowhere place None is = refl
 window-absent client nowhere place (Some k) is = absurd (cc)
 

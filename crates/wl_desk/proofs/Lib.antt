@@ -10,3 +10,4 @@ pub mod Most
 pub mod PaintedDesks
 pub mod NoMore
 pub mod Framing
+pub mod Seats

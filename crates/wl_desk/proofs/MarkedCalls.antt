@@ -28,8 +28,10 @@ use Rattle.wl_resident.specs.View.{DeskView, OwnedView, owned_view}
 use Rattle.wl_plain.specs.declared.answers.Done.{Done}
 use Rattle.wl_plain.specs.declared.answers.Done.TheVariants as gave
 use Rattle.wl_resident.specs.declared.residents.Resident.{Resident as Kept}
-use Rattle.wl_desk.proofs.Calls.{IsFound, client-here, closed-none, ended_at, ended_of, lowest-at, out, untaken, view_of}
-use Rattle.wl_desk.proofs.Desktops.{at, client-past, place-at}
+use Rattle.wl_desk.specs.Residents.{client_views}
+use Rattle.wl_desk.proofs.Calls.{closed-none, ended_at, ended_of, lowest-at, out}
+use Rattle.wl_desk.proofs.Desktops.{at, place-at}
+use Rattle.wl_desk.proofs.Seats.{IsHere, view_of}
 use Rattle.wl_laws.proofs.Marks.Stacks.{and-left, differ}
 use Rattle.wl_laws.proofs.Keeping.StandingLists.{any-gone}
 use Rattle.wl_resident.proofs.Toplevels.{MarksToplevels}
@@ -190,35 +192,24 @@ pub none-marks : (R : Peer → Done → Option Peer → Type 0) (absent done : D
     → Changes c R absent d done e → MarksToplevels d e damage damage
 none-marks R absent done c w d e damage nobody a changes = still-marks w d e damage a (subst (λ (o : Option Resident). ChangesAt R absent c o d done e) nobody changes).1
 
-pub past-marks : (R : Peer → Done → Option Peer → Type 0) (absent done : Done) (us : List (Option ClientView)) (w : DeskView) (d e : Desktop) (c : ℕ) (damage : Damaged) → us ≡ w.clients → (c ≡ 0)
-    ⊎ (length us < c) → Matches w d
-    → Changes c R absent d done e → MarksToplevels d e damage damage
-past-marks R absent done us w d e c damage same h a changes = none-marks R absent done c w d e damage (client-past us w d c same h a) a changes
+pub ends-none-marks : (cause : Cause) (w : DeskView) (d : Desktop) (c : ℕ) (damage : Damaged) → client_at c d ≡ None → Matches w d → MarksToplevels d (ended_at c cause d) damage damage
+ends-none-marks cause w d c damage free a = still-marks w d (ended_at c cause d) damage a (ap (λ o. ended_of c cause o d) free)
 
-pub ends-none-marks : (cause : Cause) (us : List (Option ClientView)) (w : DeskView) (d : Desktop) (c : ℕ) (damage : Damaged) → us ≡ w.clients → (c ≡ 0) ⊎ (length us < c) → Matches w d
-    → MarksToplevels d (ended_at c cause d) damage damage
-ends-none-marks cause us w d c damage same h a = still-marks w d (ended_at c cause d) damage a (ap (λ o. ended_of c cause o d) (client-past us w d c same h a))
-
-module _ {A : Type 0} (output : Output) (us : List (Option ClientView)) (os : List (Option (Owned A))) (stack : Stack) (c k : ℕ) (is : IsFound us os c k) (d : Desktop)
-    (a : Matches (view_of output us os stack) d) where
+module _ {A : Type 0} (output : Output) (rs : List (Option (Kept A))) (stack : Stack) (c k : ℕ) (v : Kept A) (is : IsHere rs c k v) (d : Desktop)
+    (a : Matches (view_of output rs stack) d) where
   abbrev old-view : DeskView
-  old-view = view_of output us os stack
+  old-view = view_of output rs stack
 
-  pub untaken-marks : (R : Peer → Done → Option Peer → Type 0) (absent done : Done) (x x2 : Option ClientView) (y y2 : Option (Owned A)) (e : Desktop) (damage : Damaged) → x ≡ get_or us k x
-      → y ≡ get_or os k y → (x ≡ None) ⊎ (y ≡ None)
-      → (x2 ≡ None) × (y2 ≡ None) → Changes c R absent d done e → MarksToplevels d e damage damage
-  untaken-marks R absent done x x2 y y2 e damage f g none left changes =
-      none-marks R absent done c old-view d e damage (untaken output us os stack c k is d a x x2 y y2 f g none left).0 a changes
+  here : (s : Resident) × (client_at c d ≡ Some s) × IsSeated c (numbers_in (client_views rs)) d v stack d s
+  here = out output rs stack c k v is d a
 
   -- a client that is told something, which leads to one client only, and lives after it as before or had ended
-  pub changes-marks : (R : Peer → Done → Option Peer → Type 0) (absent done : Done) (v new : Kept A) (x : Option ClientView) (y : Option (Owned A)) (e : Desktop) (damage : Damaged) → x ≡ get_or us k x
-      → y ≡ get_or os k y
-      → (x ≡ Some v.client) × (y ≡ Some v.owned) → IsChangedSo c R done v new stack stack → ((p : Peer) (q r : Option Peer) → R p done q → R p done r → q ≡ r)
-          → ((p q : Peer) → R p done (Some q) → q.status ≡ p.status)
+  pub changes-marks : (R : Peer → Done → Option Peer → Type 0) (absent done : Done) (new : Kept A) (e : Desktop) (damage : Damaged) → IsChangedSo c R done v new stack stack
+      → ((p : Peer) (q r : Option Peer) → R p done q → R p done r → q ≡ r) → ((p q : Peer) → R p done (Some q) → q.status ≡ p.status)
       → Changes c R absent d done e → MarksToplevels d e damage damage
-  changes-marks R absent done v new x y e damage f g taken changed once kept changes =
-      let s = out output us os stack c k is d a v x y f g taken in
-      let n = changed (numbers_in us) d d s.0 s.2 in
+  changes-marks R absent done new e damage changed once kept changes =
+      let s = here in
+      let n = changed (numbers_in (client_views rs)) d d s.0 s.2 in
       let step : ChangesAt R absent c (Some s.0) d done e = subst (λ (o : Option Resident). ChangesAt R absent c o d done e) s.1 changes in
       subst (λ (e : Desktop). MarksToplevels d e damage damage) (sym (step.2 ∙ ap (λ q. left_so c s.0 q d) (once s.0.peer step.0 (Some n.0) step.1 n.2)))
       (told-marks c s.0 old-view d n.0 damage s.1 a (λ some. s.2.seat.ended (ap (λ (z : Option Cause). is_some z) (sym (kept s.0.peer n.0 n.2)) ∙ some)))
@@ -230,100 +221,63 @@ module _ {A : Type 0} (output : Output) (us : List (Option ClientView)) (os : Li
       none-standing c d.standing (λ surface. (subst (λ o. AreMapped c o d.standing) bare (a.mapped.each c)).stands surface)
 
   -- its own windows are marked, whether it lived or not: one that ended has none
-  own-points : (v : Kept A) (r : Resident) (before after : Damaged) → client_at c d ≡ Some r → IsSeated c (numbers_in us) d v stack d r → MarksOwn v.client.ended c v stack before after
+  own-points : (before after : Damaged) → MarksOwn v.client.ended c v stack before after
       → (i j : ℕ) → i < before.width → j < before.height → has after i j ≡ (has before i j || has_window_at c (pos i) (pos j) d)
-  own-points v r before after there seated marks i j wide high =
-      marks.1 (numbers_in us) d d r seated i j wide high ∙ ap (λ b. has before i j || b) (own v.client.ended seated.seat.peer.status)
+  own-points before after marks i j wide high =
+      marks.1 (numbers_in (client_views rs)) d d here.0 here.2 i j wide high ∙ ap (λ b. has before i j || b) (own v.client.ended here.2.seat.peer.status)
     where
-      no-window : is_some r.peer.status ≡ true → has_window_at c (pos i) (pos j) d ≡ false
-      no-window over = window-stands c d (unlinked old-view d a) (pos i) (pos j) (none-stands r there (seated.seat.ended over))
+      no-window : is_some here.0.peer.status ≡ true → has_window_at c (pos i) (pos j) d ≡ false
+      no-window over = window-stands c d (unlinked old-view d a) (pos i) (pos j) (none-stands here.0 here.1 (here.2.seat.ended over))
 
-      own : (o : Option Cause) → o ≡ r.peer.status → (is_none o && has_window_at c (pos i) (pos j) d) ≡ has_window_at c (pos i) (pos j) d
+      own : (o : Option Cause) → o ≡ here.0.peer.status → (is_none o && has_window_at c (pos i) (pos j) d) ≡ has_window_at c (pos i) (pos j) d
       own None e = refl
       own (Some cause) e = sym (no-window (ap (λ (z : Option Cause). is_some z) (sym e)))
 
   -- no more than those is marked
-  pub own-within : (v : Kept A) (x : Option ClientView) (y : Option (Owned A)) (before after : Damaged) → x ≡ get_or us k x → y ≡ get_or os k y → (x ≡ Some v.client) × (y ≡ Some v.owned)
-      → MarksOwn v.client.ended c v stack before after
+  pub own-within : (before after : Damaged) → MarksOwn v.client.ended c v stack before after
       → (i j : ℕ) → i < before.width → j < before.height → has after i j ≡ true → (has before i j || has_window_at c (pos i) (pos j) d) ≡ true
-  own-within v x y before after f g taken marks i j wide high marked =
-      let s = out output us os stack c k is d a v x y f g taken in
-      sym (own-points v s.0 before after s.1 s.2 marks i j wide high) ∙ marked
+  own-within before after marks i j wide high marked = sym (own-points before after marks i j wide high) ∙ marked
 
   -- a client goes, which leads to one client only
-  pub goes-marks : (R : Peer → Done → Option Peer → Type 0) (absent done : Done) (v new : Kept A) (x : Option ClientView) (y : Option (Owned A)) (now : Stack) (e : Desktop) (before after : Damaged)
-      → x ≡ get_or us k x → y ≡ get_or os k y
-      → (x ≡ Some v.client) × (y ≡ Some v.owned) → IsChangedSo c R done v new stack now → ((p : Peer) (q r : Option Peer) → R p done q → R p done r → q ≡ r)
-          → MarksOwn v.client.ended c v stack before after
+  pub goes-marks : (R : Peer → Done → Option Peer → Type 0) (absent done : Done) (new : Kept A) (now : Stack) (e : Desktop) (before after : Damaged) → IsChangedSo c R done v new stack now
+      → ((p : Peer) (q r : Option Peer) → R p done q → R p done r → q ≡ r) → MarksOwn v.client.ended c v stack before after
       → Changes c R absent d done e → MarksToplevels d e before after
-  goes-marks R absent done v new x y now e before after f g taken changed once marks changes =
-      let s = out output us os stack c k is d a v x y f g taken in
-      let n = changed (numbers_in us) d d s.0 s.2 in
+  goes-marks R absent done new now e before after changed once marks changes =
+      let s = here in
+      let n = changed (numbers_in (client_views rs)) d d s.0 s.2 in
       let step : ChangesAt R absent c (Some s.0) d done e = subst (λ (o : Option Resident). ChangesAt R absent c o d done e) s.1 changes in
       subst (λ (e : Desktop). MarksToplevels d e before after) (sym (step.2 ∙ ap (λ q. left_so c s.0 q d) (once s.0.peer step.0 (Some n.0) step.1 n.2)))
-      (own-marks c s.0 old-view d n.0 before after s.1 a (own-points v s.0 before after s.1 s.2 marks))
+      (own-marks c s.0 old-view d n.0 before after s.1 a (own-points before after marks))
 
   -- a client ends
-  pub ends-untaken-marks : (cause : Cause) (x x2 : Option ClientView) (y y2 : Option (Owned A)) (damage : Damaged) → x ≡ get_or us k x → y ≡ get_or os k y → (x ≡ None) ⊎ (y ≡ None) → (x2 ≡ None)
-      × (y2 ≡ None) → MarksToplevels d (ended_at c cause d) damage damage
-  ends-untaken-marks cause x x2 y y2 damage f g none left =
-      still-marks old-view d (ended_at c cause d) damage a (ap (λ o. ended_of c cause o d) (untaken output us os stack c k is d a x x2 y y2 f g none left).0)
-
-  pub ends-marks : (cause : Cause) (v : Kept A) (x : Option ClientView) (y : Option (Owned A)) (before after : Damaged) → x ≡ get_or us k x → y ≡ get_or os k y → (x ≡ Some v.client)
-      × (y ≡ Some v.owned)
-      → MarksOwn v.client.ended c v stack before after → MarksToplevels d (ended_at c cause d) before after
-  ends-marks cause v x y before after f g taken marks =
-      let s = out output us os stack c k is d a v x y f g taken in
-      subst (λ o. MarksToplevels d (ended_of c cause o d) before after) (sym s.1)
-      (own-marks c s.0 old-view d (ended_by s.0.peer.status cause s.0.peer) before after s.1 a (own-points v s.0 before after s.1 s.2 marks))
+  pub ends-marks : (cause : Cause) (before after : Damaged) → MarksOwn v.client.ended c v stack before after → MarksToplevels d (ended_at c cause d) before after
+  ends-marks cause before after marks =
+      subst (λ o. MarksToplevels d (ended_of c cause o d) before after) (sym here.1)
+      (own-marks c here.0 old-view d (ended_by here.0.peer.status cause here.0.peer) before after here.1 a (own-points before after marks))
 
   -- ---- a number is given back
 
-  unclosed-by : (x : Option ClientView) (o : Option OwnedView) (r : Option Resident) (done : Done) (e : Desktop) (damage : Damaged) → client_at c d ≡ r → IsPlace x o r → has_ended_in x ≡ false
-      → ChangesAt IsClosed (gave.Close false) c r d done e → MarksToplevels d e damage damage
-  unclosed-by None None None done e damage there here alive changes = still-marks old-view d e damage a changes.1
-  unclosed-by (Some v) (Some o) (Some s) done e damage there here alive changes =
-      let status : s.peer.status ≡ None = sym here.peer.status ∙ lives-of v.ended alive in
-      let same : changes.0 ≡ Some s.peer = changes.1.0 ∙ ap (λ z. closed_by z s.peer) status in
-      subst (λ (e : Desktop). MarksToplevels d e damage damage) (sym (changes.2 ∙ ap (λ q. left_so c s q d) same))
-      (λ x y wide high clean. (clean, told-marks-nothing c s d there (unlinked old-view d a) a.mapped.apart s s.peer refl status (pos x) (pos y)))
-  unclosed-by None None (Some s) done e damage there here alive changes = absurd here
-  unclosed-by None (Some o) None done e damage there here alive changes = absurd here
-  unclosed-by None (Some o) (Some s) done e damage there here alive changes = absurd here
-  unclosed-by (Some v) None None done e damage there here alive changes = absurd here
-  unclosed-by (Some v) None (Some s) done e damage there here alive changes = absurd here
-  unclosed-by (Some v) (Some o) None done e damage there here alive changes = absurd here
+  -- the client lives
+  pub unclosed-marks : (done : Done) (e : Desktop) (damage : Damaged) → is_some v.client.ended ≡ false → Changes c IsClosed (gave.Close false) d done e → MarksToplevels d e damage damage
+  unclosed-marks done e damage alive changes =
+      let s = here in
+      let status : s.0.peer.status ≡ None = sym s.2.seat.peer.status ∙ lives-of v.client.ended alive in
+      let step : ChangesAt IsClosed (gave.Close false) c (Some s.0) d done e = subst (λ (o : Option Resident). ChangesAt IsClosed (gave.Close false) c o d done e) s.1 changes in
+      let same : step.0 ≡ Some s.0.peer = step.1.0 ∙ ap (λ z. closed_by z s.0.peer) status in
+      subst (λ (e : Desktop). MarksToplevels d e damage damage) (sym (step.2 ∙ ap (λ q. left_so c s.0 q d) same))
+      (λ x y wide high clean. (clean, told-marks-nothing c s.0 d s.1 (unlinked old-view d a) a.mapped.apart s.0 s.0.peer refl status (pos x) (pos y)))
 
-  place-of : (x : Option ClientView) → x ≡ get_or us k x → IsPlace x (at (map (option_map owned_view) os) k) (client_at c d)
-  place-of x f = rw is.number (rw (client-here output us os stack c k is d a x f) at (place-at old-view d k a))
-
-  -- there is nobody, or the client lives
-  pub unclosed-marks : (x : Option ClientView) (done : Done) (e : Desktop) (damage : Damaged) → x ≡ get_or us k x → has_ended_in x ≡ false → Changes c IsClosed (gave.Close false) d done e
-      → MarksToplevels d e damage damage
-  unclosed-marks x done e damage f alive changes = unclosed-by x (at (map (option_map owned_view) os) k) (client_at c d) done e damage refl (place-of x f) alive changes
-
-  -- an ended client owns nothing, and none of its toplevels stands
-  gone-marks : (s : Resident) (e : Desktop) → client_at c d ≡ Some s → OwnsNothing s → e ≡ record d { clients = with_number c None d.clients; standing = without_client c d.standing } → (x y : ℤ)
-      → marks_of_toplevels d e x y ≡ false
-  gone-marks s e there nothing same x y =
-      let bare : owned_in d c ≡ nothing_owned = ap owned_of there ∙ ap (λ (r : Resident). r.owned) nothing in
-      same-marks-nothing old-view d e a (ap (λ (d : Desktop). d.standing) same ∙ others-all c d.standing (none-stands s there nothing))
-      (λ other. ap (λ (d : Desktop). owned_in d other) same ∙ owned-numbers d.clients c other None (sym bare)) x y
-
-  closed-by : (x : Option ClientView) (o : Option OwnedView) (r : Option Resident) (done : Done) (e : Desktop) (stood : Bool) (before after : Damaged) → client_at c d ≡ r → IsPlace x o r
-      → has_ended_in x ≡ true
-      → ((i j : ℕ) → i < before.width → j < before.height → has after i j ≡ (has before i j || stood)) → ChangesAt IsClosed (gave.Close false) c r d done e → MarksToplevels d e before after
-  closed-by None o r done e stood before after there here over marks changes = absurd (differ over)
-  closed-by (Some v) (Some o) (Some s) done e stood before after there here over marks changes =
-      let status : is_some s.peer.status ≡ true = ap (λ (z : Option Cause). is_some z) (sym here.peer.status) ∙ over in
-      let same : changes.0 ≡ None = changes.1.0 ∙ closed-none s.peer.status s.peer status in
-      λ x y wide high clean. ((neither (has before x y) stood (sym (marks x y wide high) ∙ clean)).0, gone-marks s e there (here.ended status) (changes.2 ∙ ap (λ q. left_so c s q d) same) (pos x)
-          (pos y))
-  closed-by (Some v) None None done e stood before after there here over marks changes = absurd here
-  closed-by (Some v) None (Some s) done e stood before after there here over marks changes = absurd here
-  closed-by (Some v) (Some o) None done e stood before after there here over marks changes = absurd here
-
-  -- the client ended
-  pub closed-marks : (x : Option ClientView) (done : Done) (e : Desktop) (stood : Bool) (before after : Damaged) → x ≡ get_or us k x → has_ended_in x ≡ true
-      → ((i j : ℕ) → i < before.width → j < before.height → has after i j ≡ (has before i j || stood)) → Changes c IsClosed (gave.Close false) d done e → MarksToplevels d e before after
-  closed-marks x done e stood before after f over marks changes = closed-by x (at (map (option_map owned_view) os) k) (client_at c d) done e stood before after refl (place-of x f) over marks changes
+  -- the client ended: it owns nothing, and none of its toplevels stands
+  pub closed-marks : (done : Done) (e : Desktop) (damage : Damaged) → is_some v.client.ended ≡ true → Changes c IsClosed (gave.Close false) d done e → MarksToplevels d e damage damage
+  closed-marks done e damage over changes =
+      let s = here in
+      let status : is_some s.0.peer.status ≡ true = ap (λ (z : Option Cause). is_some z) (sym s.2.seat.peer.status) ∙ over in
+      let step : ChangesAt IsClosed (gave.Close false) c (Some s.0) d done e = subst (λ (o : Option Resident). ChangesAt IsClosed (gave.Close false) c o d done e) s.1 changes in
+      let same = step.2 ∙ ap (λ q. left_so c s.0 q d) (step.1.0 ∙ closed-none s.0.peer.status s.0.peer status) in
+      let nothing = s.2.seat.ended status in
+      let bare : owned_in d c ≡ nothing_owned = ap owned_of s.1 ∙ ap (λ (r : Resident). r.owned) nothing in
+      λ x y wide high clean. (
+        clean,
+        same-marks-nothing old-view d e a (ap (λ (d : Desktop). d.standing) same ∙ others-all c d.standing (none-stands s.0 s.1 nothing))
+            (λ other. ap (λ (d : Desktop). owned_in d other) same ∙ owned-numbers d.clients c other None (sym bare)) (pos x) (pos y),
+      )

@@ -7,7 +7,7 @@ use Rattle.wl_paint.specs.Damage.{Damaged}
 use Rattle.wl_resident.specs.Agreement.{Matches}
 use Rattle.wl_resident.specs.Marking.{MarksAtLeast, MarksThrough}
 use Rattle.wl_resident.specs.Seats.{ended_by}
-use Rattle.wl_resident.specs.View.{DeskView}
+use Rattle.wl_resident.specs.View.{DeskView, MarkedDesk}
 use Rattle.wl_plain.specs.declared.answers.Done.{Done}
 use Rattle.wl_plain.specs.Desktop.{Desktop, Resident, become, client_at, empty, with_client, toplevels_of}
 use Rattle.wl_plain.specs.LeftOut.{served_now}
@@ -18,9 +18,11 @@ use Rattle.wl_plain.specs.Acts.{Act}
 use Rattle.wl_plain.specs.Happens.{Happens, Serves}
 use Rattle.wl_plain.specs.Through.{ServesThrough}
 use Rattle.wl_laws.proofs.Runs.Through.{messages_lead_through}
-use Rattle.wl_desk.specs.Agreeing.{Agrees, TakesStep}
+use Rattle.wl_desk.specs.Agreeing.{Agrees, MarksStep, TakesStep}
 use Rattle.wl_desk.specs.Feeding.{Ends, EndsBy, EndsOf, IsIdleIn, kept_at, kept_by, kept_of}
-use Rattle.wl_desk.proofs.Calls.{ended_at, ended_of}
+use Rattle.wl_desk.proofs.Calls.{Ended-none, Idle-none, Kept-none, ended_at, ended_of}
+use Rattle.wl_desk.proofs.MarkedCalls.{ends-none-marks}
+use Rattle.wl_desk.proofs.Seats.{IsMissing}
 use Rattle.wl_laws.proofs.Toplevels.Altering.{Alters, IsCall}
 use Rattle.wl_laws.proofs.Toplevels.Back.{alters-back, settled-back}
 use Rattle.wl_laws.proofs.Toplevels.Desks.{become-has, empty-has}
@@ -150,6 +152,36 @@ pub ends-marked : (c : ℕ) (cause : Cause) (old : DeskView) (before after : Dam
 ends-marked c cause old before after small d e a ends =
     subst (λ e. MarksAtLeast d e before after) (sym (ended-once c cause d a.no_more e ends))
     (marks-all d (ended_at c cause d) before after a.no_more (ended-has c cause d a.no_more).0 (small d a.matches))
+
+-- ---- nobody is there
+
+module _ (c : ℕ) (new old : MarkedDesk) (miss : IsMissing c old) (same : new ≡ old) where
+  pub steps-nobody : (act : Act) (done : Done) → ((d : Desktop) → client_at c d ≡ None → Matches old.desk d → (e : Desktop) × Alters act done d e × Matches old.desk e)
+      → TakesStep act done old.desk new.desk
+  steps-nobody act done small =
+      subst (λ (w : MarkedDesk). TakesStep act done old.desk w.desk) (sym same) (steps-whole act done old.desk old.desk (λ d a. small d (miss d a) a))
+
+  pub marks-nobody : (act : Act) → IsCall act → (done : Done)
+      → ((d e : Desktop) → client_at c d ≡ None → Matches old.desk d → Alters act done d e → MarksToplevels d e old.damage old.damage) → MarksStep act done old new
+  marks-nobody act call done small =
+      subst (λ (w : MarkedDesk). MarksStep act done old w) (sym same) (steps-marked act call done old.desk old.damage old.damage (λ d e a. small d e (miss d a) a))
+
+  pub idles-nobody : (d : Desktop) → Agrees old.desk d → Agrees new.desk d × IsIdleIn c d
+  idles-nobody d a = (subst (λ (w : MarkedDesk). Agrees w.desk d) (sym same) a, (Idle-none old.desk d c (miss d a.matches) a.matches).1)
+
+  pub keeps-nobody : (piece : List ℕ) (d : Desktop) → Agrees old.desk d → Agrees new.desk (kept_at c piece d)
+  keeps-nobody piece d a =
+      subst (λ (w : MarkedDesk). Agrees w.desk (kept_at c piece d)) (sym same) (keeps-whole c piece old.desk old.desk (λ d a. Kept-none piece old.desk d c (miss d a) a) d a)
+
+  pub ends-nobody : (cause : Cause) (d : Desktop) → Agrees old.desk d → (e : Desktop) × Ends c cause d e × Agrees new.desk e
+  ends-nobody cause d a =
+      subst (λ (w : MarkedDesk). (e : Desktop) × Ends c cause d e × Agrees w.desk e) (sym same)
+          (ends-whole c cause old.desk old.desk (λ d a. Ended-none cause old.desk d c (miss d a) a) d a)
+
+  pub ends-marks-nobody : (cause : Cause) (d e : Desktop) → Agrees old.desk d → Ends c cause d e → MarksAtLeast d e old.damage new.damage
+  ends-marks-nobody cause d e a ends =
+      subst (λ (w : MarkedDesk). MarksAtLeast d e old.damage w.damage) (sym same)
+          (ends-marked c cause old.desk old.damage old.damage (λ d a. ends-none-marks cause old.desk d c old.damage (miss d a) a) d e a ends)
 
 -- ---- nobody is there at first
 

@@ -1,5 +1,5 @@
 -- What the calls of a desk make of the desktop, message by message.
-use Rattle.std.specs.Prelude.{ℕ, zero, suc, ◌≡◌, ◌++◌, Bool, true, false, List, [], slice_index_or, is_none, Option, Some, None}
+use Rattle.std.specs.Prelude.{ℕ, zero, suc, ◌≡◌, ◌++◌, Bool, true, false, List, [], slice_index_or, Option, Some, None}
 use Rattle.wl_peer.specs.Peer.{IsIdle, ended, with_rest}
 use Rattle.wl_client.specs.View.{ClientView}
 use Rattle.wl_peer.specs.declared.cause.Cause.{Cause}
@@ -29,15 +29,6 @@ kept_at c piece d = kept_of c piece (client_at c d) d
 abbrev pub kept_while : List ℕ → Option Cause → ClientView → ClientView
 kept_while piece None v = record v { rest = v.rest ++ piece }
 kept_while piece (Some cause) v = v
-
-abbrev pub kept_in : List ℕ → Option ClientView → Option ClientView
-kept_in piece None = None
-kept_in piece (Some v) = Some (kept_while piece v.ended v)
-
--- a client is there and lives
-abbrev pub lives_in : Option ClientView → Bool
-lives_in None = false
-lives_in (Some v) = is_none v.ended
 
 -- A client ends by this, where it lives, and the focus of the pointer is settled.
 abbrev pub EndsBy : ℕ → Cause → Option Cause → Resident → Desktop → Desktop → Type 0

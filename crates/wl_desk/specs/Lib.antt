@@ -3,3 +3,4 @@ pub mod Feeding
 pub mod Framing
 pub mod Lent
 pub mod Painting
+pub mod Residents

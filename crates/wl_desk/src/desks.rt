@@ -2,27 +2,25 @@
 
 ghost use Rattle.std.specs.Prelude.{◌≡◌, ◌≢◌, ◌↔◌, ◌&&◌, ◌||◌, ℕ, ◌+◌, ◌<◌, ◌≤◌, List, Option, length, pos, IfOk, IfSome, IfNone, IsErrOf, OnOk, OnErr, ◌⊎◌, false, true, Result, Ok, Err, None, Some};
 ghost use Rattle.std.specs.Option.{option_copied};
-ghost use Rattle.wl_client.specs.Agreement.{IsPeer, output_of};
-ghost use Rattle.wl_peer.specs.Peer.{Peer};
+ghost use Rattle.wl_client.specs.Agreement.{output_of};
 ghost use Rattle.wl_paint.specs.Damage.{has};
 ghost use Rattle.wl_paint.specs.Frame.{color_at, is_side};
 ghost use Rattle.wl_plain.specs.Desktop.{Desktop, empty};
 ghost use Rattle.wl_plain.specs.Acts.{Connect, Feed, Store, Leave, Tick, Send, Close, lowest, peer_at, unsent_of, status_of, store_size_of};
-ghost use Rattle.wl_resident.specs.Agreement.{IsSlot};
 ghost use Rattle.wl_desk.specs.Agreeing.{Agrees, MarksNothing, MarksStep, TakesStep};
 ghost use Rattle.wl_resident.specs.Marking.{MarksAtLeast, MarksAtMost, MarksMost, MarksThrough};
-ghost use Rattle.wl_desk.specs.Feeding.{Ends, IsIdleIn, kept_at, kept_in, lives_in, rest_in, served_as, served_of};
+ghost use Rattle.wl_desk.specs.Feeding.{Ends, IsIdleIn, kept_at, kept_while, rest_in, served_as, served_of};
 ghost use Rattle.wl_resident.specs.Marking.{IsAsLarge};
 ghost use Rattle.wl_desk.specs.Framing.{MarksIfEnds, WasTold};
+ghost use Rattle.wl_desk.specs.Residents.{resident_at};
 ghost use Rattle.wl_desk.specs.Painting.{IsOpaqueAsSaid};
 ghost use Rattle.wl_plain.specs.Scratch.{scratch};
-ghost use Rattle.wl_resident.specs.Seats.{has_ended_in};
 ghost use Rattle.wl_plain.specs.LeftOut.{served_now};
 ghost use Rattle.wl_plain.specs.Happens.{Happens, Serves};
 ghost use Rattle.wl_plain.specs.Through.{ServesThrough};
 ghost use Rattle.wl_laws.specs.Touching.{has_window_at};
 
-use crate::windows::Lent;
+use crate::windows::{Lent, resident_of};
 use std::alloc::{AllocError, Allocator};
 use std::marker::Model;
 use wl_client::{Cause, Client, Output, Served, StoreNo};
@@ -30,36 +28,35 @@ use wl_geom::Region;
 use wl_paint::{Damage, FrameError, Framebuffer, MAX_SIDE};
 use wl_plain::{ClientNo, ConnectError, Done, Fed, Stored};
 use wl_resident::{Resident, bare};
-use wl_scene::{Owned, Scene};
+use wl_scene::Scene;
 
 /// How many clients there may be at once.
 const CLIENT_LIMIT: usize = 32;
 
-/// All clients, what each owns, the mapped toplevels, and which points of the output are to be painted again. It is seen as the output, what is
-/// kept of each client and of what it owns, by number from 1, and the stack of toplevels; and that damage.
+/// All clients with what each owns, the mapped toplevels, and which points of the output are to be painted again. It is seen as the output, what
+/// is kept of each client and of what it owns, by number from 1, and the stack of toplevels; and that damage.
 #[derive(Drop)]
 pub struct Desk<A: Allocator> {
     output: Output,
-    clients: Vec<Option<Client<A>>, A>,
-    owned: Vec<Option<Owned<A>>, A>,
+    residents: Vec<Option<Resident<A>>, A>,
     scene: Scene<A>,
     damage: Damage<A>,
     nowhere: Region<A>,
 }
 
 impl<A: Allocator> Model for Desk<A> {
-    ghost use Rattle.std.specs.Option.{option_map};
-    ghost use Rattle.std.specs.Prelude.{◌≡◌, length, map};
-    ghost use Rattle.wl_resident.specs.View.{MarkedDesk, owned_view};
+    ghost use Rattle.std.specs.Prelude.{◌≡◌, length};
+    ghost use Rattle.wl_resident.specs.View.{MarkedDesk};
+    ghost use Rattle.wl_desk.specs.Residents.{client_views, owned_views};
 
     ghost Value = { MarkedDesk };
 
     ghost view = { λ d. record {
-      desk = record { output = d.output; clients = d.clients.items; owned = map (option_map owned_view) d.owned.items; scene = d.scene };
+      desk = record { output = d.output; clients = client_views d.residents.items; owned = owned_views d.residents.items; scene = d.scene };
       damage = d.damage;
     } };
 
-    ghost invariant = { λ d. ((length d.clients.items ≡ 32) × (length d.owned.items ≡ 32)) × ((d.damage.width ≡ d.output.width) × (d.damage.height ≡ d.output.height)) };
+    ghost invariant = { λ d. (length d.residents.items ≡ 32) × ((d.damage.width ≡ d.output.width) × (d.damage.height ≡ d.output.height)) };
 }
 
 impl<A: Allocator + Copy> Desk<A> {
@@ -90,16 +87,13 @@ impl<A: Allocator + Copy> Desk<A> {
         ensures sides { IfOk result (λ v. (v.damage.width ≡ output.width) × (v.damage.height ≡ output.height)) }
     {
         let damage = Damage::new(alloc, output.width, output.height)?;
-        let mut clients = Vec::with_capacity(alloc, CLIENT_LIMIT)?;
-        let mut owned = Vec::with_capacity(alloc, CLIENT_LIMIT)?;
+        let mut residents = Vec::with_capacity(alloc, CLIENT_LIMIT)?;
         for _ in 0..CLIENT_LIMIT {
-            clients.push(None)?;
-            owned.push(None)?;
+            residents.push(None)?;
         }
         Ok(Desk {
             output,
-            clients,
-            owned,
+            residents,
             scene: Scene::new(alloc),
             damage,
             nowhere: Region::new(alloc),
@@ -115,18 +109,17 @@ impl<A: Allocator + Copy> Desk<A> {
         ensures nothing { MarksNothing self.old self.new }
         ensures output { self.new.desk.output ≡ self.old.desk.output }
     {
-        let Some(k) = free_place(&self.clients) else {
+        let Some(k) = free_place(&self.residents) else {
             return Err(ConnectError::Full);
         };
-        let alloc = *self.clients.allocator();
+        let alloc = *self.residents.allocator();
         let Ok(client) = Client::new(alloc, self.output) else {
             return Err(ConnectError::Memory);
         };
-        let resident = Resident {
+        self.residents[k] = Some(Resident {
             client,
             owned: bare(alloc),
-        };
-        put_back(&mut self.clients[k], &mut self.owned[k], resident);
+        });
         Ok(k as u32 + 1)
     }
 
@@ -138,10 +131,13 @@ impl<A: Allocator + Copy> Desk<A> {
         ensures damage { self.new.damage ≡ self.old.damage }
         ensures output { self.new.desk.output ≡ self.old.desk.output }
     {
-        let Some(k) = place_of(&self.clients, client) else {
+        let Some(k) = place_of(&self.residents, client) else {
             return Ok(());
         };
-        keep_in(&mut self.clients[k], piece)
+        let Some(resident) = &mut self.residents[k] else {
+            return Ok(());
+        };
+        keep_in(resident, piece)
     }
 
     /// Takes the first whole message of what came from a client that lives. `More` where there is none; then nothing is changed. What the message
@@ -161,17 +157,15 @@ impl<A: Allocator + Copy> Desk<A> {
         ensures less { result ≢ Served.More → length (rest_in client self.new.desk) < length (rest_in client self.old.desk) }
         ensures output { self.new.desk.output ≡ self.old.desk.output }
     {
-        let Some(k) = place_of(&self.clients, client) else {
+        let alloc = *self.residents.allocator();
+        let Some(k) = place_of(&self.residents, client) else {
             return Served::More;
         };
-        let alloc = *self.clients.allocator();
-        let Some(mut resident) = take_out(&mut self.clients[k], &mut self.owned[k]) else {
+        let Some(resident) = &mut self.residents[k] else {
             return Served::More;
         };
         let taken = resident.serve_on(&mut self.scene, &mut self.damage, client, alloc);
-        let served = served_of(taken, resident.client.ended());
-        put_back(&mut self.clients[k], &mut self.owned[k], resident);
-        served
+        served_of(taken, resident.client.ended())
     }
 
     /// A client ends by this, where it lives. It is told nothing. No more than its own windows is marked.
@@ -184,15 +178,14 @@ impl<A: Allocator + Copy> Desk<A> {
         ensures sides { IsAsLarge self.old.damage self.new.damage }
         ensures output { self.new.desk.output ≡ self.old.desk.output }
     {
-        let Some(k) = place_of(&self.clients, client) else {
+        let alloc = *self.residents.allocator();
+        let Some(k) = place_of(&self.residents, client) else {
             return;
         };
-        let alloc = *self.clients.allocator();
-        let Some(mut resident) = take_out(&mut self.clients[k], &mut self.owned[k]) else {
+        let Some(resident) = &mut self.residents[k] else {
             return;
         };
         resident.end(&mut self.scene, &mut self.damage, client, cause, alloc);
-        put_back(&mut self.clients[k], &mut self.owned[k], resident);
     }
 
     /// A frame was shown at this time, in milliseconds: the clients in rising number are told that their frame callbacks that are due are done
@@ -216,15 +209,14 @@ impl<A: Allocator + Copy> Desk<A> {
         ensures sides { IsAsLarge self.old.damage self.new.damage }
         ensures output { self.new.desk.output ≡ self.old.desk.output }
     {
-        let Some(k) = place_of(&self.clients, client) else {
+        let alloc = *self.residents.allocator();
+        let Some(k) = place_of(&self.residents, client) else {
             return;
         };
-        let alloc = *self.clients.allocator();
-        let Some(mut resident) = take_out(&mut self.clients[k], &mut self.owned[k]) else {
+        let Some(resident) = &mut self.residents[k] else {
             return;
         };
         resident.tell_frames(&mut self.scene, &mut self.damage, client, time, alloc);
-        put_back(&mut self.clients[k], &mut self.owned[k], resident);
     }
 
     /// Puts bytes into a client's store.
@@ -235,26 +227,23 @@ impl<A: Allocator + Copy> Desk<A> {
         ensures nothing { MarksNothing self.old self.new }
         ensures output { self.new.desk.output ≡ self.old.desk.output }
     {
-        let Some(k) = place_of(&self.clients, client) else {
+        let Some(k) = place_of(&self.residents, client) else {
             return Stored::NoClient;
         };
-        let Some(mut resident) = take_out(&mut self.clients[k], &mut self.owned[k]) else {
+        let Some(resident) = &mut self.residents[k] else {
             return Stored::NoClient;
         };
-        let stored = resident.store(store, at, bytes);
-        put_back(&mut self.clients[k], &mut self.owned[k], resident);
-        stored
+        resident.store(store, at, bytes)
     }
 
     /// How many bytes a client's store has.
     pub fn store_size(&self, client: ClientNo, store: StoreNo) -> Option<u32>
         ensures { (d : Desktop) → Agrees self.now.desk d → result ≡ store_size_of store (peer_at client d) }
     {
-        let Some(k) = place_of(&self.clients, client) else {
+        let Some(resident) = resident_of(&self.residents, client) else {
             return None;
         };
-        let slot = &self.clients[k];
-        store_size_in(slot, store)
+        resident.client.store_size(store)
     }
 
     /// A client goes. True where it was alive. No more than its own windows is marked.
@@ -268,16 +257,14 @@ impl<A: Allocator + Copy> Desk<A> {
         ensures sides { IsAsLarge self.old.damage self.new.damage }
         ensures output { self.new.desk.output ≡ self.old.desk.output }
     {
-        let Some(k) = place_of(&self.clients, client) else {
+        let alloc = *self.residents.allocator();
+        let Some(k) = place_of(&self.residents, client) else {
             return false;
         };
-        let alloc = *self.clients.allocator();
-        let Some(mut resident) = take_out(&mut self.clients[k], &mut self.owned[k]) else {
+        let Some(resident) = &mut self.residents[k] else {
             return false;
         };
-        let lived = resident.gone(&mut self.scene, &mut self.damage, client, alloc);
-        put_back(&mut self.clients[k], &mut self.owned[k], resident);
-        lived
+        resident.gone(&mut self.scene, &mut self.damage, client, alloc)
     }
 
     /// So many of a client's unsent bytes were sent. False and unchanged where there are fewer.
@@ -288,15 +275,13 @@ impl<A: Allocator + Copy> Desk<A> {
         ensures nothing { MarksNothing self.old self.new }
         ensures output { self.new.desk.output ≡ self.old.desk.output }
     {
-        let Some(k) = place_of(&self.clients, client) else {
+        let Some(k) = place_of(&self.residents, client) else {
             return false;
         };
-        let Some(mut resident) = take_out(&mut self.clients[k], &mut self.owned[k]) else {
+        let Some(resident) = &mut self.residents[k] else {
             return false;
         };
-        let sent = resident.sent(count);
-        put_back(&mut self.clients[k], &mut self.owned[k], resident);
-        sent
+        resident.sent(count)
     }
 
     /// Frees the number of a client that ended. True where it had.
@@ -307,14 +292,16 @@ impl<A: Allocator + Copy> Desk<A> {
         ensures nothing { MarksNothing self.old self.new }
         ensures output { self.new.desk.output ≡ self.old.desk.output }
     {
-        let Some(k) = place_of(&self.clients, client) else {
+        let Some(k) = place_of(&self.residents, client) else {
             return false;
         };
-        if !has_ended(&self.clients[k]) {
+        let Some(resident) = &self.residents[k] else {
+            return false;
+        };
+        if !resident.client.has_ended() {
             return false;
         }
-        self.clients[k] = None;
-        self.owned[k] = None;
+        self.residents[k] = None;
         self.scene.unmap_all(client);
         true
     }
@@ -323,22 +310,20 @@ impl<A: Allocator + Copy> Desk<A> {
     pub fn out(&self, client: ClientNo) -> Option<&[u8]>
         ensures { (d : Desktop) → Agrees self.now.desk d → option_copied result ≡ unsent_of (peer_at client d) }
     {
-        let Some(k) = place_of(&self.clients, client) else {
+        let Some(resident) = resident_of(&self.residents, client) else {
             return None;
         };
-        let slot = &self.clients[k];
-        out_of(slot)
+        Some(resident.client.unsent())
     }
 
     /// How a client is.
     pub fn status(&self, client: ClientNo) -> Fed
         ensures { (d : Desktop) → Agrees self.now.desk d → result ≡ status_of (peer_at client d) }
     {
-        let Some(k) = place_of(&self.clients, client) else {
+        let Some(resident) = resident_of(&self.residents, client) else {
             return Fed::NoClient;
         };
-        let slot = &self.clients[k];
-        status_in(slot)
+        Fed::of(resident.client.ended())
     }
 
     /// Which points of the output are to be painted again.
@@ -383,8 +368,7 @@ impl<A: Allocator + Copy> Desk<A> {
     {
         let lent = Lent {
             scene: &self.scene,
-            clients: &self.clients,
-            owned: &self.owned,
+            residents: &self.residents,
             nowhere: &self.nowhere,
         };
         framebuffer.paint(&self.damage, &lent);
@@ -398,23 +382,18 @@ fn is_side(side: u32) -> bool
     1 <= side && side <= MAX_SIDE
 }
 
-/// A piece is kept of a client that is there and lives.
+/// A piece is kept of a client that lives.
 fn keep_in<A: Allocator + Copy>(
-    slot: &mut Option<Client<A>>,
+    resident: &mut Resident<A>,
     piece: &[u8],
 ) -> Result<(), AllocError>
-    ensures ok { OnOk result (slot.new ≡ kept_in piece.now slot.old) }
-    ensures err { OnErr result ((slot.new ≡ slot.old) × (lives_in slot.old ≡ true)) }
+    ensures ok { OnOk result (resident.new ≡ record resident.old { client = kept_while piece.now resident.old.client.ended resident.old.client }) }
+    ensures err { OnErr result ((resident.new ≡ resident.old) × (resident.old.client.ended ≡ None)) }
 {
-    match slot {
-        None => Ok(()),
-        Some(client) => {
-            if client.has_ended() {
-                return Ok(());
-            }
-            client.keep(piece)
-        }
+    if resident.client.has_ended() {
+        return Ok(());
     }
+    resident.client.keep(piece)
 }
 
 /// What became of a client's first message, if there was one, by how the client ended, if it did. That it lacked memory it is told as an error
@@ -432,94 +411,26 @@ fn served_of(taken: bool, ended: Option<Cause>) -> Served
     }
 }
 
-/// Where the client of this number stands, if it is a number.
-fn place_of<A: Allocator>(clients: &[Option<Client<A>>], client: ClientNo) -> Option<usize>
-    ensures some { IfSome result (λ k. (client ≡ k + 1) × (k < length clients.now)) }
-    ensures none { IfNone result ((client ≡ 0) ⊎ (length clients.now < client)) }
+/// Where the client of this number stands, if it is the number of a place.
+fn place_of<A: Allocator>(residents: &[Option<Resident<A>>], client: ClientNo) -> Option<usize>
+    ensures some { IfSome result (λ k. (client ≡ k + 1) × (k < length residents.now)) }
+    ensures none { IfNone result (resident_at residents.now client ≡ None) }
 {
-    if client == 0 || client as usize > clients.len() {
+    if client == 0 || client as usize > residents.len() {
         return None;
     }
     Some(client as usize - 1)
 }
 
-fn free_place<A: Allocator>(clients: &[Option<Client<A>>]) -> Option<usize>
-    ensures lowest { result ≡ lowest clients.now }
-    ensures within { IfSome result (λ k. k < length clients.now) }
+/// The lowest place that is free.
+fn free_place<A: Allocator>(residents: &[Option<Resident<A>>]) -> Option<usize>
+    ensures lowest { result ≡ lowest residents.now }
+    ensures within { IfSome result (λ k. k < length residents.now) }
 {
-    for (k, slot) in clients.iter().enumerate() {
+    for (k, slot) in residents.iter().enumerate() {
         if slot.is_none() {
             return Some(k);
         }
     }
     None
-}
-
-/// A client is taken out, if it is there, with what it owns.
-fn take_out<A: Allocator>(
-    client: &mut Option<Client<A>>,
-    owned: &mut Option<Owned<A>>,
-) -> Option<Resident<A>>
-    ensures some { IfSome result (λ r. (client.old ≡ Some r.client) × (owned.old ≡ Some r.owned)) }
-    ensures none { IfNone result ((client.old ≡ None) ⊎ (owned.old ≡ None)) }
-    ensures left { (client.new ≡ None) × (owned.new ≡ None) }
-{
-    let owned = owned.take();
-    let Some(client) = client.take() else {
-        return None;
-    };
-    let Some(owned) = owned else {
-        return None;
-    };
-    Some(Resident { client, owned })
-}
-
-/// A client is put where it was taken out, with what it owns.
-fn put_back<A: Allocator>(
-    client: &mut Option<Client<A>>,
-    owned: &mut Option<Owned<A>>,
-    resident: Resident<A>,
-)
-    ensures client { client.new ≡ Some resident.client }
-    ensures owned { owned.new ≡ Some resident.owned }
-{
-    *client = Some(resident.client);
-    *owned = Some(resident.owned);
-}
-
-/// Whether a client is there that ended.
-fn has_ended<A: Allocator + Copy>(slot: &Option<Client<A>>) -> bool
-    ensures { result ≡ has_ended_in slot.now }
-{
-    match slot {
-        None => false,
-        Some(client) => client.has_ended(),
-    }
-}
-
-fn out_of<A: Allocator + Copy>(slot: &Option<Client<A>>) -> Option<&[u8]>
-    ensures { (o : Option Peer) → IsSlot slot.now o → option_copied result ≡ unsent_of o }
-{
-    match slot {
-        None => None,
-        Some(client) => Some(client.unsent()),
-    }
-}
-
-fn status_in<A: Allocator + Copy>(slot: &Option<Client<A>>) -> Fed
-    ensures { (o : Option Peer) → IsSlot slot.now o → result ≡ status_of o }
-{
-    match slot {
-        None => Fed::NoClient,
-        Some(client) => Fed::of(client.ended()),
-    }
-}
-
-fn store_size_in<A: Allocator + Copy>(slot: &Option<Client<A>>, store: StoreNo) -> Option<u32>
-    ensures { (o : Option Peer) → IsSlot slot.now o → result ≡ store_size_of store o }
-{
-    match slot {
-        None => None,
-        Some(client) => client.store_size(store),
-    }
 }

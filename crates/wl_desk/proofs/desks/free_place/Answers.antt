@@ -2,7 +2,7 @@ use Rattle.wl_desk.proofs.Desktops.{lowest-here, lowest-on}
 use Rattle.wl_desk.proofs.desks.free_place.Goals as goal
 
 pub returns-then-is_none-clause-lowest : goal.returns-then-is_none-clause-lowest
-returns-then-is_none-clause-lowest g c = lowest-here _ _ _ c.loop-k-test.true c.loop-k.invariant c.index-clients-k.is c.if-is_none.ensures
+returns-then-is_none-clause-lowest g c = lowest-here _ _ _ c.loop-k-test.true c.loop-k.invariant c.index-residents-k.is c.if-is_none.ensures
 
 pub loop-k-preserved : goal.loop-k-preserved
-loop-k-preserved g c = lowest-on _ _ _ c.loop-k-test.true c.loop-k.invariant c.index-clients-k.is c.if-is_none.ensures
+loop-k-preserved g c = lowest-on _ _ _ c.loop-k-test.true c.loop-k.invariant c.index-residents-k.is c.if-is_none.ensures

@@ -3,4 +3,4 @@ use Rattle.wl_plain.specs.Acts.{lowest}
 use Rattle.wl_desk.proofs.desks.free_place.Given as goal
 
 abbrev pub invariant-loop-k : goal.invariant-loop-k
-invariant-loop-k g l = lowest (take l.k l.clients) ≡ None
+invariant-loop-k g l = lowest (take l.k l.residents) ≡ None

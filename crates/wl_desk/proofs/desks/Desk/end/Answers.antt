@@ -1,111 +1,84 @@
-use Rattle.std.proofs.Common.{None, ap, refl, ◌∙◌, pos}
-use Rattle.std.specs.Prelude.{◌||◌}
-use Rattle.wl_laws.specs.Touching.{has_window_at}
+use Rattle.std.proofs.Common.{ap, refl, ◌∙◌}
 use Rattle.std.proofs.lemmas.List.{length-set}
 use Rattle.wl_resident.specs.Agreement.{numbers_in}
-use Rattle.wl_desk.proofs.Calls.{found}
-use Rattle.wl_desk.proofs.Kept.{Ended-none, ends, ends-untaken}
-use Rattle.wl_desk.proofs.MarkedCalls.{ends-marks, ends-none-marks, ends-untaken-marks, own-within}
-use Rattle.wl_desk.proofs.NoMore.{ends-marked, ends-whole}
 use Rattle.wl_resident.specs.View.{MarkedDesk}
-use Rattle.wl_plain.specs.Moments.{marks_at_most}
+use Rattle.wl_desk.specs.Residents.{client_views}
+use Rattle.wl_desk.proofs.Kept.{ends}
+use Rattle.wl_desk.proofs.MarkedCalls.{ends-marks, own-within}
 use Rattle.wl_desk.proofs.Most.{ends-over, own-most, sized}
+use Rattle.wl_desk.proofs.NoMore.{ends-marked, ends-marks-nobody, ends-nobody, ends-whole}
+use Rattle.wl_desk.proofs.Seats.{as-large, empty-slot, found, missing, still, was-marked}
 use Rattle.wl_desk.proofs.desks.Desk.end.Goals as goal
 
 pub returns-in_default-clause-ends : goal.returns-in_default-clause-ends
-returns-in_default-clause-ends g c = ends-whole c.args.client c.args.cause _ _ (λ d a. Ended-none c.args.cause _ _ d c.args.client (c.deref.ensures.value ∙ ap (λ w. w.desk.clients) c.self.view_is)
-    c.in_default.ensures.none a)
+returns-in_default-clause-ends g c =
+    ends-nobody c.args.client c.args.self.now c.args.self.now (missing c.self.inside.output c.self.inside.residents.items c.self.inside.scene c.self.inside.damage _ _ _ c.deref.ensures.value c.in_default.ensures.none c.self.view_is) refl c.args.cause
 
 pub returns-in_default-clause-marks : goal.returns-in_default-clause-marks
-returns-in_default-clause-marks g c = ends-marked c.args.client c.args.cause c.args.self.now.desk c.args.self.now.damage c.args.self.now.damage
-    (λ d a. ends-none-marks c.args.cause _ _ d c.args.client c.args.self.now.damage (c.deref.ensures.value ∙ ap (λ w. w.desk.clients) c.self.view_is) c.in_default.ensures.none a)
-
-pub returns-in_default-take_out-clause-ends : goal.returns-in_default-take_out-clause-ends
-returns-in_default-take_out-clause-ends g c = ends-whole c.args.client c.args.cause _ _ (λ d a.
-    ends-untaken c.self.inside.output c.self.inside.clients.items c.self.inside.owned.items c.self.inside.scene c.args.client c.in-Some.k
-        (found _ _ _ _ _ c.deref.ensures.value c.in-Some.ensures.some c.self.invariant.0) d (rw (← c.self.view_is) at a)
-    c.args.cause _ _ _ _ c.index_mut.ensures.value c.index_mut-2.ensures.value c.in_default-take_out.ensures.none c.take_out.ensures.left)
-
-pub returns-in_default-take_out-clause-marks : goal.returns-in_default-take_out-clause-marks
-returns-in_default-take_out-clause-marks g c = ends-marked c.args.client c.args.cause c.args.self.now.desk c.args.self.now.damage c.self.inside.damage (λ d a.
-    rw (← c.self.view_is) (ends-untaken-marks c.self.inside.output c.self.inside.clients.items c.self.inside.owned.items c.self.inside.scene c.args.client c.in-Some.k
-        (found _ _ _ _ _ c.deref.ensures.value c.in-Some.ensures.some c.self.invariant.0) d (rw (← c.self.view_is) at a)
-    c.args.cause _ _ _ _ c.self.inside.damage c.index_mut.ensures.value c.index_mut-2.ensures.value c.in_default-take_out.ensures.none c.take_out.ensures.left))
-
-pub index_mut-requires-4 : goal.index_mut-requires-4
-index_mut-requires-4 g c = rw c.self.inside.owned.ok.0 (found _ _ _ _ _ c.deref.ensures.value c.in-Some.ensures.some c.self.invariant.0).owned
-
-pub returns-clause-ends : goal.returns-clause-ends
-returns-clause-ends g c = ends-whole c.args.client c.args.cause _ _ (λ d a.
-    rw (c.put_back.ensures.client, c.put_back.ensures.owned) (ends c.self.inside.output c.self.inside.clients.items c.self.inside.owned.items c.self.inside.scene c.args.client c.in-Some.k
-        (found _ _ _ _ _ c.deref.ensures.value c.in-Some.ensures.some c.self.invariant.0) d (rw (← c.self.view_is) at a)
-    c.args.cause c.in-Some-take_out.resident c.end.new.self _ _ _ _ c.end.new.scene c.index_mut.ensures.value c.index_mut-2.ensures.value c.in-Some-take_out.ensures.some
-        (c.end.ensures.ends (numbers_in c.self.inside.clients.items) d d)))
-
-pub returns-clause-marks : goal.returns-clause-marks
-returns-clause-marks g c = ends-marked c.args.client c.args.cause c.args.self.now.desk c.args.self.now.damage c.end.new.damage (λ d a.
-    rw (← c.self.view_is) (ends-marks c.self.inside.output c.self.inside.clients.items c.self.inside.owned.items c.self.inside.scene c.args.client c.in-Some.k
-        (found _ _ _ _ _ c.deref.ensures.value c.in-Some.ensures.some c.self.invariant.0) d (rw (← c.self.view_is) at a)
-    c.args.cause c.in-Some-take_out.resident _ _ c.self.inside.damage c.end.new.damage c.index_mut.ensures.value c.index_mut-2.ensures.value c.in-Some-take_out.ensures.some c.end.ensures.marks))
+returns-in_default-clause-marks g c =
+    ends-marks-nobody c.args.client _ _ (missing c.self.inside.output c.self.inside.residents.items c.self.inside.scene c.self.inside.damage _ _ _ c.deref.ensures.value c.in_default.ensures.none c.self.view_is) refl c.args.cause
 
 pub returns-in_default-clause-within : goal.returns-in_default-clause-within
-returns-in_default-clause-within g c = λ d a x y wide high marked. ap (λ b. b || has_window_at c.args.client (pos x) (pos y) d) marked
-
-pub returns-in_default-take_out-clause-within : goal.returns-in_default-take_out-clause-within
-returns-in_default-take_out-clause-within g c = λ d a x y wide high marked. rw (← c.self.view_is) (ap (λ b. b || has_window_at c.args.client (pos x) (pos y) d) marked)
-
-pub returns-clause-within : goal.returns-clause-within
-returns-clause-within g c = λ d a.
-    rw (← c.self.view_is) (own-within c.self.inside.output c.self.inside.clients.items c.self.inside.owned.items c.self.inside.scene c.args.client c.in-Some.k
-        (found _ _ _ _ _ c.deref.ensures.value c.in-Some.ensures.some c.self.invariant.0) d (rw (← c.self.view_is) at a.matches)
-    c.in-Some-take_out.resident _ _ c.self.inside.damage c.end.new.damage c.index_mut.ensures.value c.index_mut-2.ensures.value c.in-Some-take_out.ensures.some c.end.ensures.marks)
+returns-in_default-clause-within g c = λ d a x y wide high marked. was-marked c.args.self.now c.args.self.now _ x y refl marked
 
 pub returns-in_default-clause-most : goal.returns-in_default-clause-most
-returns-in_default-clause-most g c = λ d e a step b x y wide high marked. ap (λ t. t || marks_at_most d e None (pos x) (pos y)) marked
+returns-in_default-clause-most g c = λ d e a step b x y wide high marked. was-marked c.args.self.now c.args.self.now _ x y refl marked
 
-pub returns-in_default-take_out-clause-most : goal.returns-in_default-take_out-clause-most
-returns-in_default-take_out-clause-most g c = λ d e a step b x y wide high marked. rw (← c.self.view_is) (ap (λ t. t || marks_at_most d e None (pos x) (pos y)) marked)
+pub returns-in_default-index_mut-clause-ends : goal.returns-in_default-index_mut-clause-ends
+returns-in_default-index_mut-clause-ends g c =
+    let e = (empty-slot _ _ _ _ _ c.deref.ensures.value c.in-Some.ensures.some c.index_mut.ensures.value c.in_default-index_mut.is) in
+    ends-nobody c.args.client _ _ (missing c.self.inside.output c.self.inside.residents.items c.self.inside.scene c.self.inside.damage _ _ _ refl e.0 c.self.view_is) (still c.self.inside.output c.self.inside.residents.items c.self.inside.scene c.self.inside.damage _ _ e.1 c.self.view_is) c.args.cause
+
+pub returns-in_default-index_mut-clause-marks : goal.returns-in_default-index_mut-clause-marks
+returns-in_default-index_mut-clause-marks g c =
+    let e = (empty-slot _ _ _ _ _ c.deref.ensures.value c.in-Some.ensures.some c.index_mut.ensures.value c.in_default-index_mut.is) in
+    ends-marks-nobody c.args.client _ _ (missing c.self.inside.output c.self.inside.residents.items c.self.inside.scene c.self.inside.damage _ _ _ refl e.0 c.self.view_is) (still c.self.inside.output c.self.inside.residents.items c.self.inside.scene c.self.inside.damage _ _ e.1 c.self.view_is) c.args.cause
+
+pub returns-in_default-index_mut-clause-within : goal.returns-in_default-index_mut-clause-within
+returns-in_default-index_mut-clause-within g c = λ d a x y wide high marked. was-marked _ _ _ x y c.self.view_is marked
+
+pub returns-in_default-index_mut-clause-most : goal.returns-in_default-index_mut-clause-most
+returns-in_default-index_mut-clause-most g c = λ d e a step b x y wide high marked. was-marked _ _ _ x y c.self.view_is marked
+
+pub returns-in_default-index_mut-clause-sides : goal.returns-in_default-index_mut-clause-sides
+returns-in_default-index_mut-clause-sides g c = as-large _ _ c.self.view_is
+
+pub returns-in_default-index_mut-clause-output : goal.returns-in_default-index_mut-clause-output
+returns-in_default-index_mut-clause-output g c = ap (λ (m : MarkedDesk). m.desk.output) c.self.view_is
+
+pub returns-clause-ends : goal.returns-clause-ends
+returns-clause-ends g c =
+    ends-whole c.args.client c.args.cause _ _ (λ d a.
+    ends c.self.inside.output c.self.inside.residents.items c.self.inside.scene c.args.client c.in-Some.k c.in-Some-index_mut.resident
+        (found _ _ _ _ _ _ c.deref.ensures.value c.in-Some.ensures.some c.index_mut.ensures.value c.in-Some-index_mut.is) d (rw (← c.self.view_is) at a)
+        c.args.cause c.end.new.self c.end.new.scene (c.end.ensures.ends (numbers_in (client_views c.self.inside.residents.items)) d d))
+
+pub returns-clause-marks : goal.returns-clause-marks
+returns-clause-marks g c =
+    ends-marked c.args.client c.args.cause c.args.self.now.desk c.args.self.now.damage c.end.new.damage (λ d a.
+    rw (← c.self.view_is) (ends-marks c.self.inside.output c.self.inside.residents.items c.self.inside.scene c.args.client c.in-Some.k c.in-Some-index_mut.resident
+        (found _ _ _ _ _ _ c.deref.ensures.value c.in-Some.ensures.some c.index_mut.ensures.value c.in-Some-index_mut.is) d (rw (← c.self.view_is) at a)
+        c.args.cause c.self.inside.damage c.end.new.damage c.end.ensures.marks))
+
+pub returns-clause-within : goal.returns-clause-within
+returns-clause-within g c =
+    λ d a.
+    rw (← c.self.view_is) (own-within c.self.inside.output c.self.inside.residents.items c.self.inside.scene c.args.client c.in-Some.k c.in-Some-index_mut.resident
+        (found _ _ _ _ _ _ c.deref.ensures.value c.in-Some.ensures.some c.index_mut.ensures.value c.in-Some-index_mut.is) d (rw (← c.self.view_is) at a.matches)
+        c.self.inside.damage c.end.new.damage c.end.ensures.marks)
 
 pub returns-clause-most : goal.returns-clause-most
-returns-clause-most g c = λ d e a step b.
-    own-most c.args.client c.args.self.now _ d e c.end.new.damage a b (sized _ _ d c.self.view_is c.self.invariant.1 a) (ends-over c.args.client c.args.cause d e a.no_more step)
-        (returns-clause-within g c d a)
-
-pub invariant_of-self-2 : goal.invariant_of-self-2
-invariant_of-self-2 g c = (
-  (length-set _ _ _ ∙ (length-set _ _ _ ∙ c.self.invariant.0.0), length-set _ _ _ ∙ (length-set _ _ _ ∙ c.self.invariant.0.1)),
-  (c.end.ensures.marks.0.width ∙ c.self.invariant.1.0, c.end.ensures.marks.0.height ∙ c.self.invariant.1.1),
-)
-
-pub index_mut-requires : goal.index_mut-requires
-index_mut-requires g c = rw c.self.inside.clients.ok.0 (found _ _ _ _ _ c.deref.ensures.value c.in-Some.ensures.some c.self.invariant.0).client
-
-pub index_mut-requires-2 : goal.index_mut-requires-2
-index_mut-requires-2 g c = rw c.self.inside.owned.ok.0 (found _ _ _ _ _ c.deref.ensures.value c.in-Some.ensures.some c.self.invariant.0).owned
-
-pub index_mut-requires-3 : goal.index_mut-requires-3
-index_mut-requires-3 g c = rw c.self.inside.clients.ok.0 (found _ _ _ _ _ c.deref.ensures.value c.in-Some.ensures.some c.self.invariant.0).client
-
-pub invariant_of-self : goal.invariant_of-self
-invariant_of-self g c = ((length-set _ _ _ ∙ c.self.invariant.0.0, length-set _ _ _ ∙ c.self.invariant.0.1), c.self.invariant.1)
-
-pub returns-in_default-clause-output : goal.returns-in_default-clause-output
-returns-in_default-clause-output g c = refl
-
-pub returns-in_default-take_out-clause-output : goal.returns-in_default-take_out-clause-output
-returns-in_default-take_out-clause-output g c = ap (λ w. w.desk.output) c.self.view_is
-
-pub returns-clause-output : goal.returns-clause-output
-returns-clause-output g c = ap (λ w. w.desk.output) c.self.view_is
+returns-clause-most g c =
+    λ d e a step b.
+    own-most c.args.client c.args.self.now _ d e c.end.new.damage a b (sized _ _ d c.self.view_is c.self.invariant.1 a)
+        (ends-over c.args.client c.args.cause d e a.no_more step) (returns-clause-within g c d a)
 
 pub returns-clause-sides : goal.returns-clause-sides
 returns-clause-sides g c = rw (← c.self.view_is) c.end.ensures.marks.0
 
-pub returns-in_default-clause-sides : goal.returns-in_default-clause-sides
-returns-in_default-clause-sides g c = record { width = refl; height = refl }
+pub returns-clause-output : goal.returns-clause-output
+returns-clause-output g c = ap (λ (m : MarkedDesk). m.desk.output) c.self.view_is
 
-pub returns-in_default-take_out-clause-sides : goal.returns-in_default-take_out-clause-sides
-returns-in_default-take_out-clause-sides g c = record {
-  width = ap (λ (m : MarkedDesk). m.damage.width) c.self.view_is;
-  height = ap (λ (m : MarkedDesk). m.damage.height) c.self.view_is;
-}
+pub invariant_of-self-2 : goal.invariant_of-self-2
+invariant_of-self-2 g c =
+    (length-set _ _ _ ∙ c.self.invariant.0, (c.end.ensures.marks.0.width ∙ c.self.invariant.1.0, c.end.ensures.marks.0.height ∙ c.self.invariant.1.1))

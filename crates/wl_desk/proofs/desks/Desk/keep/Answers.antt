@@ -1,43 +1,43 @@
-use Rattle.std.proofs.Common.{ap, ◌∙◌}
-use Rattle.std.proofs.lemmas.List.{length-set}
-use Rattle.wl_plain.specs.Acts.{peer_at}
-use Rattle.wl_desk.proofs.Calls.{found, slot-here}
-use Rattle.wl_desk.proofs.Kept.{Kept-none, err-then, keeps, lives-there, ok-then, stays}
-use Rattle.wl_desk.proofs.NoMore.{keeps-whole, stays-whole}
+use Rattle.std.proofs.Common.{ap, refl}
+use Rattle.wl_resident.specs.View.{MarkedDesk}
+use Rattle.wl_desk.proofs.Kept.{err-then, keeps, lives-there, ok-then, stays}
+use Rattle.wl_desk.proofs.NoMore.{keeps-nobody, keeps-whole, stays-whole}
+use Rattle.wl_desk.proofs.Seats.{empty-slot, found, missing, still}
 use Rattle.wl_desk.proofs.desks.Desk.keep.Goals as goal
 
 pub returns-in_default-clause-ok : goal.returns-in_default-clause-ok
-returns-in_default-clause-ok g c = keeps-whole c.args.client c.args.piece.now _ _ (λ d a. Kept-none c.args.piece.now _ _ d c.args.client (c.deref.ensures.value
-    ∙ ap (λ w. w.desk.clients) c.self.view_is) c.in_default.ensures.none a)
+returns-in_default-clause-ok g c =
+    keeps-nobody c.args.client c.args.self.now c.args.self.now (missing c.self.inside.output c.self.inside.residents.items c.self.inside.scene c.self.inside.damage _ _ _ c.deref.ensures.value c.in_default.ensures.none c.self.view_is) refl c.args.piece.now
+
+pub returns-in_default-index_mut-clause-ok : goal.returns-in_default-index_mut-clause-ok
+returns-in_default-index_mut-clause-ok g c =
+    let e = (empty-slot _ _ _ _ _ c.deref.ensures.value c.in-Some.ensures.some c.index_mut.ensures.value c.in_default-index_mut.is) in
+    keeps-nobody c.args.client _ _ (missing c.self.inside.output c.self.inside.residents.items c.self.inside.scene c.self.inside.damage _ _ _ refl e.0 c.self.view_is) (still c.self.inside.output c.self.inside.residents.items c.self.inside.scene c.self.inside.damage _ _ e.1 c.self.view_is) c.args.piece.now
+
+pub returns-in_default-index_mut-clause-damage : goal.returns-in_default-index_mut-clause-damage
+returns-in_default-index_mut-clause-damage g c = ap (λ (m : MarkedDesk). m.damage) c.self.view_is
+
+pub returns-in_default-index_mut-clause-output : goal.returns-in_default-index_mut-clause-output
+returns-in_default-index_mut-clause-output g c = ap (λ (m : MarkedDesk). m.desk.output) c.self.view_is
 
 pub returns-clause-ok : goal.returns-clause-ok
 returns-clause-ok g c =
-    ok-then c.keep_in.result
-    (λ same. keeps-whole c.args.client c.args.piece.now _ _ (λ d a. keeps c.self.inside.output c.self.inside.clients.items c.self.inside.owned.items c.self.inside.scene c.args.client c.in-Some.k
-        (found _ _ _ _ _ c.deref.ensures.value c.in-Some.ensures.some c.self.invariant.0) d (rw (← c.self.view_is) at a)
-    c.args.piece.now c.index_mut.result.now c.keep_in.new.slot c.index_mut.ensures.value same)) c.keep_in.ensures.ok
+    ok-then c.keep_in.result (λ same. keeps-whole c.args.client c.args.piece.now _ _ (λ d a.
+    keeps c.self.inside.output c.self.inside.residents.items c.self.inside.scene c.args.client c.in-Some.k c.in-Some-index_mut.resident
+        (found _ _ _ _ _ _ c.deref.ensures.value c.in-Some.ensures.some c.index_mut.ensures.value c.in-Some-index_mut.is) d (rw (← c.self.view_is) at a) c.args.piece.now c.keep_in.new.resident same)) c.keep_in.ensures.ok
 
 pub returns-clause-err : goal.returns-clause-err
 returns-clause-err g c =
-    err-then c.keep_in.result
-    (λ kept. λ d a. (
-      stays-whole _ _ (λ d a. stays c.self.inside.output c.self.inside.clients.items c.self.inside.owned.items c.self.inside.scene c.args.client c.in-Some.k
-          (found _ _ _ _ _ c.deref.ensures.value c.in-Some.ensures.some c.self.invariant.0) d (rw (← c.self.view_is) at a)
-          c.index_mut.result.now c.keep_in.new.slot c.index_mut.ensures.value kept.0) d a,
-      lives-there c.index_mut.result.now (peer_at c.args.client d)
-          (slot-here c.self.inside.output c.self.inside.clients.items c.self.inside.owned.items c.self.inside.scene c.args.client c.in-Some.k
-              (found _ _ _ _ _ c.deref.ensures.value c.in-Some.ensures.some c.self.invariant.0) d (rw (← c.self.view_is) at a.matches)
-          _ c.index_mut.ensures.value) kept.1,
+    err-then c.keep_in.result (λ kept d a. (
+      stays-whole _ _ (λ d a. stays c.self.inside.output c.self.inside.residents.items c.self.inside.scene c.args.client c.in-Some.k c.in-Some-index_mut.resident
+        (found _ _ _ _ _ _ c.deref.ensures.value c.in-Some.ensures.some c.index_mut.ensures.value c.in-Some-index_mut.is) d (rw (← c.self.view_is) at a)
+          c.keep_in.new.resident c.self.inside.scene kept.0 refl) d a,
+      lives-there c.self.inside.output c.self.inside.residents.items c.self.inside.scene c.args.client c.in-Some.k c.in-Some-index_mut.resident
+        (found _ _ _ _ _ _ c.deref.ensures.value c.in-Some.ensures.some c.index_mut.ensures.value c.in-Some-index_mut.is) d (rw (← c.self.view_is) at a.matches) kept.1,
     )) c.keep_in.ensures.err
 
-pub index_mut-requires : goal.index_mut-requires
-index_mut-requires g c = rw c.self.inside.clients.ok.0 (found _ _ _ _ _ c.deref.ensures.value c.in-Some.ensures.some c.self.invariant.0).client
-
-pub invariant_of-self : goal.invariant_of-self
-invariant_of-self g c = ((length-set _ _ _ ∙ c.self.invariant.0.0, c.self.invariant.0.1), c.self.invariant.1)
-
 pub returns-clause-damage : goal.returns-clause-damage
-returns-clause-damage g c = ap (λ w. w.damage) c.self.view_is
+returns-clause-damage g c = ap (λ (m : MarkedDesk). m.damage) c.self.view_is
 
 pub returns-clause-output : goal.returns-clause-output
-returns-clause-output g c = ap (λ w. w.desk.output) c.self.view_is
+returns-clause-output g c = ap (λ (m : MarkedDesk). m.desk.output) c.self.view_is

@@ -14,10 +14,9 @@ pub returns-clause-painted : goal.returns-clause-painted
 returns-clause-painted g c = λ d a x y wide high marked said.
     let color : IsColor c.args.framebuffer.now.background = record { r = c.paint.ensures.channels.0; g = c.paint.ensures.channels.1; b = c.paint.ensures.channels.2 } in
     c.paint.ensures.damaged x y wide high (ap (λ w. has w.damage x y) c.self.view_is ∙ marked)
-    (desk-said c.self.inside.output c.self.inside.clients.items c.deref.result.now c.self.inside.owned.items c.deref-2.result.now c.self.inside.scene _ c.deref.ensures.value c.deref-2.ensures.value d
-        (rw (← c.self.view_is) at a) (pos x) (pos y) said)
-    ∙ desk-painted c.self.inside.output c.self.inside.clients.items c.deref.result.now c.self.inside.owned.items c.deref-2.result.now c.self.inside.scene _ c.deref.ensures.value
-        c.deref-2.ensures.value d (rw (← c.self.view_is) at a) (pos x) (pos y) c.args.framebuffer.now.background color
+    (desk-said c.self.inside.output c.self.inside.residents.items c.deref.result.now c.self.inside.scene _ c.deref.ensures.value d (rw (← c.self.view_is) at a) (pos x) (pos y) said)
+    ∙ desk-painted c.self.inside.output c.self.inside.residents.items c.deref.result.now c.self.inside.scene _ c.deref.ensures.value d (rw (← c.self.view_is) at a) (pos x) (pos y)
+        c.args.framebuffer.now.background color
 
 pub returns-clause-kept : goal.returns-clause-kept
 returns-clause-kept g c = λ x y wide high clean. c.paint.ensures.kept x y wide high (ap (λ w. has w.damage x y) c.self.view_is ∙ clean)

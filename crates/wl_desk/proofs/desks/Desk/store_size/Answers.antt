@@ -1,15 +1,17 @@
-use Rattle.std.proofs.Common.{ap, sym, ◌∙◌}
-use Rattle.wl_plain.specs.Acts.{peer_at, store_size_of}
-use Rattle.wl_desk.proofs.Calls.{found, peer_at-none, slot-here}
+use Rattle.std.proofs.Common.{ap, length, sym, ◌∙◌}
+use Rattle.std.specs.Option.{option_map}
+use Rattle.wl_store.specs.Stores.{store_at}
+use Rattle.wl_plain.specs.Acts.{peer_of, store_size_of}
+use Rattle.wl_desk.proofs.Calls.{peer-read}
+use Rattle.wl_desk.proofs.Seats.{missing}
 use Rattle.wl_desk.proofs.desks.Desk.store_size.Goals as goal
 
 pub returns-in_default : goal.returns-in_default
 returns-in_default g c =
-    λ d a. sym (ap (λ o. store_size_of c.args.store o) (peer_at-none _ _ d c.args.client (c.deref.ensures.value ∙ ap (λ w. w.desk.clients) c.self.view_is) c.in_default.ensures.none a.matches))
+    λ d a. sym (ap (λ o. store_size_of c.args.store o) (ap (λ o. peer_of o) (missing c.self.inside.output c.self.inside.residents.items c.self.inside.scene c.self.inside.damage _ _ _ c.deref.ensures.value (sym c.in_default.ensures) c.self.view_is d a.matches)))
 
 pub returns : goal.returns
-returns g c = λ d a.
-    c.store_size_in.ensures (peer_at c.args.client d)
-    (slot-here c.self.inside.output c.self.inside.clients.items c.self.inside.owned.items c.self.inside.scene c.args.client c.in-Some.k
-        (found _ _ _ _ _ c.deref.ensures.value c.in-Some.ensures.some c.self.invariant.0) d (rw (← c.self.view_is) at a.matches)
-    _ c.index-slot.ensures)
+returns g c =
+    λ d a.
+    let p = peer-read c.self.inside.output c.self.inside.residents.items c.self.inside.scene c.self.inside.damage _ _ c.args.client c.in-Some.resident.now d c.deref.ensures.value c.in-Some.ensures c.self.view_is a.matches in
+    rw p.1 (c.store_size.ensures ∙ ap (λ stores. option_map (λ s. length s.bytes) (store_at c.args.store stores)) p.2.stores)
