@@ -115,7 +115,7 @@ scene-out k x us stack d here scene =
 pub agrees-put : (w : DeskView) (k : ℕ) (x : Option ClientView) (o : Option OwnedView) (r : Option Resident) (us : List (Option ClientView)) (os : List (Option OwnedView)) (stack : Stack)
     (d e : Desktop) → Matches w d → k < length w.clients
     → IsPut k x w.clients us → IsPut k o w.owned os → e.output ≡ d.output → e.clients ≡ with_number (suc k) r d.clients → IsPlace x o r
-        → IsScene (with_numbers (suc k) (numbers_of x) (numbers_in w.clients)) stack e → MappedStand e
+    → IsScene (with_numbers (suc k) (numbers_of x) (numbers_in w.clients)) stack e → MappedStand e
     → Matches (record { output = w.output; clients = us; owned = os; scene = stack }) e
 agrees-put w k x o r us os stack d e a within puts owns output clients is scene mapped =
     record {
@@ -164,7 +164,7 @@ seated-out w d k v x o a =
 pub seated-back : {A : Type 0} (w : DeskView) (k : ℕ) (v : Kept A) (s : Resident) (us : List (Option ClientView)) (os : List (Option OwnedView)) (stack : Stack) (d e : Desktop) → Matches w d
     → k < length w.clients
     → IsPut k (Some v.client) w.clients us → IsPut k (Some (owned_view v.owned)) w.owned os → IsSeated (suc k) (numbers_in w.clients) d v stack e s
-        → Matches (record { output = w.output; clients = us; owned = os; scene = stack }) e
+    → Matches (record { output = w.output; clients = us; owned = os; scene = stack }) e
 seated-back w k v s us os stack d e a within puts owns is =
     agrees-put w k (Some v.client) (Some (owned_view v.owned)) (Some s) us os stack d e a within puts owns is.based.output is.based.clients is.seat is.scene is.mapped
 

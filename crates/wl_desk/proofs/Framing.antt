@@ -224,7 +224,7 @@ module _ {A : Type 0} (time : ℕ) (output : Output) (rs : List (Option (Kept A)
 
   pub here-told : (new : Kept A) (now : Stack) (after : Damaged)
       → ((r : Resident) → IsSeated c (numbers_in (client_views rs)) d v stack d r → NoMore d
-          → (e : Desktop) × (s : Resident) × FramesToldAt time c (Some r) d e × IsSeated c (numbers_in (client_views rs)) d new now e s)
+      → (e : Desktop) × (s : Resident) × FramesToldAt time c (Some r) d e × IsSeated c (numbers_in (client_views rs)) d new now e s)
       → (v.client.ended ≡ None → MarksOwnIf (is_some new.client.ended) c v stack damage after) → (is_some v.client.ended ≡ true → (new ≡ v) × (now ≡ stack) × (after ≡ damage))
       → (e : Desktop) × WasTold time c (marked (view_of output rs stack) damage) (marked (view_of output (set rs k (Some new)) now) after) d e
   here-told new now after tells marks idle =

@@ -149,7 +149,7 @@ module _ {A : Type 0} (output : Output) (rs : List (Option (Kept A))) (stack : S
 
   pub serves-marks : (new : Kept A) (now : Stack) (e : Desktop) (before after : Damaged) → NoMore d
       → ((r : Resident) → AreUnlinked d → IsSeated c (numbers_in us) d v stack d r → NoMore d → (e : Desktop) (q : Resident) → Serves served_now c d e → IsSeated c (numbers_in us) d new now e q
-          → MarksAtLeast d e before after)
+      → MarksAtLeast d e before after)
       → Serves served_now c d e → Matches (put-back new now) e → MarksAtLeast d e before after
   serves-marks new now e before after more marks serves b =
       let n = seated-new new now e more serves b in
@@ -157,7 +157,7 @@ module _ {A : Type 0} (output : Output) (rs : List (Option (Kept A))) (stack : S
 
   pub serves-within : (new : Kept A) (now : Stack) (e : Desktop) (before after : Damaged) → NoMore d
       → ((r : Resident) → before.width ≡ d.output.width → before.height ≡ d.output.height → AreUnlinked d → IsSeated c (numbers_in us) d v stack d r → NoMore d → (e : Desktop) (q : Resident)
-          → Serves served_now c d e → IsSeated c (numbers_in us) d new now e q → MarksAtMost c d e before after)
+      → Serves served_now c d e → IsSeated c (numbers_in us) d new now e q → MarksAtMost c d e before after)
       → (before.width ≡ output.width) × (before.height ≡ output.height) → Serves served_now c d e → Matches (put-back new now) e → MarksAtMost c d e before after
   serves-within new now e before after more marks sides serves b =
       let n = seated-new new now e more serves b in
@@ -166,7 +166,7 @@ module _ {A : Type 0} (output : Output) (rs : List (Option (Kept A))) (stack : S
   -- it leads through desktops along which what is marked is what may be marked
   pub serves-through : (new : Kept A) (now : Stack) (before after : Damaged) → NoMore d
       → ((r : Resident) → before.width ≡ d.output.width → before.height ≡ d.output.height → AreUnlinked d → IsSeated c (numbers_in us) d v stack d r → NoMore d
-          → (e : Desktop) × (q : Resident) × (path : List Desktop) × ServesThrough served_now c d path e × IsSeated c (numbers_in us) d new now e q × MarksThrough d path before after)
+      → (e : Desktop) × (q : Resident) × (path : List Desktop) × ServesThrough served_now c d path e × IsSeated c (numbers_in us) d new now e q × MarksThrough d path before after)
       → (before.width ≡ output.width) × (before.height ≡ output.height)
       → (e : Desktop) × (path : List Desktop) × ServesThrough served_now c d path e × Matches (put-back new now) e × MarksThrough d path before after
   serves-through new now before after more through sides =

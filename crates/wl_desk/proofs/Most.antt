@@ -57,11 +57,11 @@ become-windows : (s : Option Cause) (c : ℕ) (made r : Resident) (q : Peer) (d 
     → HasNoNew d (become_by s c made q d)
 become-windows None c made r q d is same unlinked later p there =
     ap (λ (owned : ℕ → Owns). list_any p (windows_on owned d.standing)) (sym (fun_ext (λ other. owned-numbers d.clients c other (Some (record made { peer = q })) (same ∙ sym (ap owned_of is)))))
-        ∙ there
+    ∙ there
 become-windows (Some cause) c made r q d is same unlinked later p there =
     any-of-filter p (is_else (of_client c)) (windows_in d)
     (ap (λ ws. list_any p ws) (windows-else (of_client c) (owned_in d) d.standing unlinked
-        ∙ sym (windows-kept (of_client c) (owned_in (become_by (Some cause) c made q d)) (owned_in d) d.standing later unlinked still)) ∙ there)
+    ∙ sym (windows-kept (of_client c) (owned_in (become_by (Some cause) c made q d)) (owned_in d) d.standing later unlinked still)) ∙ there)
   where
     still : (other surface : ℕ) → list_any (is_of other surface) d.standing ≡ true → of_client c other surface ≡ false
         → counted (history_in surface (owned_in (become_by (Some cause) c made q d) other).surfaces) ≡ counted (history_in surface (owned_in d other).surfaces)

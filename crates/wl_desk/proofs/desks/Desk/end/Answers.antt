@@ -50,28 +50,28 @@ pub returns-clause-ends : goal.returns-clause-ends
 returns-clause-ends g c =
     ends-whole c.args.client c.args.cause _ _ (λ d a.
     ends c.self.inside.output c.self.inside.residents.items c.self.inside.scene c.args.client c.in-Some.k c.in-Some-index_mut.resident
-        (found _ _ _ _ _ _ c.deref.ensures.value c.in-Some.ensures.some c.index_mut.ensures.value c.in-Some-index_mut.is) d (rw (← c.self.view_is) at a)
-        c.args.cause c.end.new.self c.end.new.scene (c.end.ensures.ends (numbers_in (client_views c.self.inside.residents.items)) d d))
+    (found _ _ _ _ _ _ c.deref.ensures.value c.in-Some.ensures.some c.index_mut.ensures.value c.in-Some-index_mut.is) d (rw (← c.self.view_is) at a)
+    c.args.cause c.end.new.self c.end.new.scene (c.end.ensures.ends (numbers_in (client_views c.self.inside.residents.items)) d d))
 
 pub returns-clause-marks : goal.returns-clause-marks
 returns-clause-marks g c =
     ends-marked c.args.client c.args.cause c.args.self.now.desk c.args.self.now.damage c.end.new.damage (λ d a.
     rw (← c.self.view_is) (ends-marks c.self.inside.output c.self.inside.residents.items c.self.inside.scene c.args.client c.in-Some.k c.in-Some-index_mut.resident
-        (found _ _ _ _ _ _ c.deref.ensures.value c.in-Some.ensures.some c.index_mut.ensures.value c.in-Some-index_mut.is) d (rw (← c.self.view_is) at a)
-        c.args.cause c.self.inside.damage c.end.new.damage c.end.ensures.marks))
+    (found _ _ _ _ _ _ c.deref.ensures.value c.in-Some.ensures.some c.index_mut.ensures.value c.in-Some-index_mut.is) d (rw (← c.self.view_is) at a)
+    c.args.cause c.self.inside.damage c.end.new.damage c.end.ensures.marks))
 
 pub returns-clause-within : goal.returns-clause-within
 returns-clause-within g c =
     λ d a.
     rw (← c.self.view_is) (own-within c.self.inside.output c.self.inside.residents.items c.self.inside.scene c.args.client c.in-Some.k c.in-Some-index_mut.resident
-        (found _ _ _ _ _ _ c.deref.ensures.value c.in-Some.ensures.some c.index_mut.ensures.value c.in-Some-index_mut.is) d (rw (← c.self.view_is) at a.matches)
-        c.self.inside.damage c.end.new.damage c.end.ensures.marks)
+    (found _ _ _ _ _ _ c.deref.ensures.value c.in-Some.ensures.some c.index_mut.ensures.value c.in-Some-index_mut.is) d (rw (← c.self.view_is) at a.matches)
+    c.self.inside.damage c.end.new.damage c.end.ensures.marks)
 
 pub returns-clause-most : goal.returns-clause-most
 returns-clause-most g c =
     λ d e a step b.
     own-most c.args.client c.args.self.now _ d e c.end.new.damage a b (sized _ _ d c.self.view_is c.self.invariant.1 a)
-        (ends-over c.args.client c.args.cause d e a.no_more step) (returns-clause-within g c d a)
+    (ends-over c.args.client c.args.cause d e a.no_more step) (returns-clause-within g c d a)
 
 pub returns-clause-sides : goal.returns-clause-sides
 returns-clause-sides g c = rw (← c.self.view_is) c.end.ensures.marks.0

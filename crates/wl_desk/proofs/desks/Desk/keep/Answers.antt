@@ -24,16 +24,16 @@ pub returns-clause-ok : goal.returns-clause-ok
 returns-clause-ok g c =
     ok-then c.keep_in.result (λ same. keeps-whole c.args.client c.args.piece.now _ _ (λ d a.
     keeps c.self.inside.output c.self.inside.residents.items c.self.inside.scene c.args.client c.in-Some.k c.in-Some-index_mut.resident
-        (found _ _ _ _ _ _ c.deref.ensures.value c.in-Some.ensures.some c.index_mut.ensures.value c.in-Some-index_mut.is) d (rw (← c.self.view_is) at a) c.args.piece.now c.keep_in.new.resident same)) c.keep_in.ensures.ok
+    (found _ _ _ _ _ _ c.deref.ensures.value c.in-Some.ensures.some c.index_mut.ensures.value c.in-Some-index_mut.is) d (rw (← c.self.view_is) at a) c.args.piece.now c.keep_in.new.resident same)) c.keep_in.ensures.ok
 
 pub returns-clause-err : goal.returns-clause-err
 returns-clause-err g c =
     err-then c.keep_in.result (λ kept d a. (
       stays-whole _ _ (λ d a. stays c.self.inside.output c.self.inside.residents.items c.self.inside.scene c.args.client c.in-Some.k c.in-Some-index_mut.resident
-        (found _ _ _ _ _ _ c.deref.ensures.value c.in-Some.ensures.some c.index_mut.ensures.value c.in-Some-index_mut.is) d (rw (← c.self.view_is) at a)
+          (found _ _ _ _ _ _ c.deref.ensures.value c.in-Some.ensures.some c.index_mut.ensures.value c.in-Some-index_mut.is) d (rw (← c.self.view_is) at a)
           c.keep_in.new.resident c.self.inside.scene kept.0 refl) d a,
       lives-there c.self.inside.output c.self.inside.residents.items c.self.inside.scene c.args.client c.in-Some.k c.in-Some-index_mut.resident
-        (found _ _ _ _ _ _ c.deref.ensures.value c.in-Some.ensures.some c.index_mut.ensures.value c.in-Some-index_mut.is) d (rw (← c.self.view_is) at a.matches) kept.1,
+          (found _ _ _ _ _ _ c.deref.ensures.value c.in-Some.ensures.some c.index_mut.ensures.value c.in-Some-index_mut.is) d (rw (← c.self.view_is) at a.matches) kept.1,
     )) c.keep_in.ensures.err
 
 pub returns-clause-damage : goal.returns-clause-damage

@@ -20,9 +20,9 @@ pub returns-clause-tells : goal.returns-clause-tells
 returns-clause-tells g c =
     λ d a.
     rw (← c.self.view_is) (here-told c.args.time c.self.inside.output c.self.inside.residents.items c.self.inside.scene c.args.client c.in-Some.k c.in-Some-index_mut.resident
-        (found _ _ _ _ _ _ c.deref.ensures.value c.in-Some.ensures.some c.index_mut.ensures.value c.in-Some-index_mut.is) d c.self.inside.damage c.self.invariant.1 (rw (← c.self.view_is) at a)
-        c.tell_frames.new.self c.tell_frames.new.scene c.tell_frames.new.damage (c.tell_frames.ensures.tells (numbers_in (client_views c.self.inside.residents.items)) d d)
-        c.tell_frames.ensures.marks c.tell_frames.ensures.idle)
+    (found _ _ _ _ _ _ c.deref.ensures.value c.in-Some.ensures.some c.index_mut.ensures.value c.in-Some-index_mut.is) d c.self.inside.damage c.self.invariant.1 (rw (← c.self.view_is) at a)
+    c.tell_frames.new.self c.tell_frames.new.scene c.tell_frames.new.damage (c.tell_frames.ensures.tells (numbers_in (client_views c.self.inside.residents.items)) d d)
+    c.tell_frames.ensures.marks c.tell_frames.ensures.idle)
 
 pub returns-in_default-index_mut-clause-sides : goal.returns-in_default-index_mut-clause-sides
 returns-in_default-index_mut-clause-sides g c = as-large _ _ c.self.view_is

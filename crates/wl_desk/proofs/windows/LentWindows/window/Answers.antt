@@ -8,4 +8,4 @@ pub returns : goal.returns
 returns g c =
     let self = c.args.self.now in
     lent-at (window_lent (client_lent (client_views self.residents.now)) (slots_lent (owned_lent self.residents.now)) self.nowhere.now) c.toplevels.result.now self.scene.now.standing c.args.k _ _ c.toplevels.ensures c.requires
-        c.lend.ensures
+    c.lend.ensures
