@@ -1,5 +1,5 @@
 -- The calls of the desk: one client is taken out and put back, comes, or goes.
-use Rattle.std.proofs.Common.{◌≡◌, ℕ, ◌+◌, suc, zero, ◌<◌, List, [], ◌∷◌, Bool, true, false, length, map, Option, Some, None, get_or, set, refl, subst, sym, ◌∙◌, ap, arith, ◌⊎◌, inl, inr}
+use Rattle.std.proofs.Common.{◌≡◌, ℕ, ◌+◌, suc, zero, ◌<◌, List, [], ◌∷◌, Bool, true, false, length, Option, Some, None, set, refl, subst, sym, ◌∙◌, ap, arith, inl, inr}
 use Rattle.std.specs.Option.{option_map}
 use Rattle.std.specs.Prelude.{is_some, replicate, Ok, Err}
 use Rattle.wl_client.specs.Agreement.{IsPeer, output_of}
@@ -11,10 +11,9 @@ use Rattle.wl_peer.specs.declared.cause.Cause.{Cause}
 use Rattle.wl_peer.specs.declared.cause.Cause.TheVariants.{Gone}
 use Rattle.wl_client.specs.declared.outputs.Output.{Output}
 use Rattle.wl_scene.specs.Stacking.{Stack, without_client}
-use Rattle.wl_scene.specs.declared.owned.Owned.{Owned}
-use Rattle.wl_resident.specs.Agreement.{Matches, IsPlace, IsScene, IsSlot, numbers_in, numbers_of, with_numbers}
+use Rattle.wl_resident.specs.Agreement.{Matches, IsPlace, IsScene, numbers_in, numbers_of, with_numbers}
 use Rattle.wl_plain.specs.Desktop.{Desktop, Resident, arrival, become, become_by, client_at, empty, place, with_client, with_number}
-use Rattle.wl_resident.specs.Seats.{IsBare, IsChangedSo, IsSeated, ended_by, has_ended_in}
+use Rattle.wl_resident.specs.Seats.{IsBare, IsChangedSo, IsSeated, ended_by}
 use Rattle.wl_plain.specs.LeftOut.{served_now}
 use Rattle.wl_plain.specs.Happens.{Serves}
 use Rattle.wl_laws.proofs.Toplevels.Altering.{Changes, ChangesAt, left_so}
@@ -38,7 +37,7 @@ use Rattle.wl_resident.proofs.Scenes.{numbers-by, stack-by}
 use Rattle.wl_laws.proofs.Keeping.StandingSteps.{closed-stand, connects-stand, empty-stand}
 use Rattle.wl_resident.proofs.Taking.{gone-scene}
 use Rattle.wl_resident.proofs.Telling.{lives-of}
-use Rattle.wl_laws.proofs.Runs.Places.{client-kept, number-kept}
+use Rattle.wl_laws.proofs.Runs.Places.{client-kept}
 use Rattle.wl_laws.proofs.Keeping.FramingWaits.{framed-none}
 use Rattle.wl_surface.specs.declared.frames.Waiting.{Waiting}
 use Rattle.wl_surface.specs.Surfaces.{no_surfaces}
@@ -75,12 +74,12 @@ module _ {A : Type 0} (output : Output) (rs : List (Option (Kept A))) (stack : S
       → Matches (view_of output (set rs k (Some new)) now) e
   back new now e s seated =
       seated-back (view_of output rs stack) k new s _ _ now d e a (clients-within rs k is.within) (client-put rs k (Some new) is.within)
-          (owned-put rs k (Some new) is.within) (rw is.number at seated)
+      (owned-put rs k (Some new) is.within) (rw is.number at seated)
 
   -- one message of a client is taken
   pub serves : (new : Kept A) (now : Stack)
       → ((r : Resident) → IsSeated c (numbers_in (client_views rs)) d v stack d r
-          → (e : Desktop) × (q : Resident) × Serves served_now c d e × IsSeated c (numbers_in (client_views rs)) d new now e q)
+      → (e : Desktop) × (q : Resident) × Serves served_now c d e × IsSeated c (numbers_in (client_views rs)) d new now e q)
       → (e : Desktop) × Serves served_now c d e × Matches (view_of output (set rs k (Some new)) now) e
   serves new now serve =
       let n = serve out.0 out.2 in
@@ -176,7 +175,7 @@ lowest-agrees : {A : Type 0} (output : Output) (rs : List (Option (Kept A))) (st
 lowest-agrees {A} output rs stack d a =
     let w = view_of output rs stack in
     sym (lowest-same w.clients d.clients a.count (λ k. place-some (at w.clients k) (at w.owned k) (place d.clients k) (a.clients k)))
-        ∙ lowest-map (λ (r : Kept A). r.client) rs
+    ∙ lowest-map (λ (r : Kept A). r.client) rs
 
 pub Connects-full : {A : Type 0} (output : Output) (rs : List (Option (Kept A))) (stack : Stack) (d : Desktop) → None ≡ lowest rs → Matches (view_of output rs stack) d
     → (e : Desktop) × ConnectsAt (lowest d.clients) d (gave.Connect (Err Full)) e × Matches (view_of output rs stack) e
@@ -218,7 +217,7 @@ Connects-new {A} output rs stack k new d found within is bare a =
       connects,
       agrees-put (view_of output rs stack) k (Some v) (Some (owned_view new.owned)) (Some (arrival d.output)) (client_views (set rs k (Some new)))
           (owned_views (set rs k (Some new))) stack d after a (clients-within rs k within) (client-put rs k (Some new) within) (owned-put rs k (Some new) within) refl
-              (ap (λ (n : ℕ). with_number n (Some (arrival d.output)) d.clients) number)
+          (ap (λ (n : ℕ). with_number n (Some (arrival d.output)) d.clients) number)
           (record {
             peer = next;
             owns = owns-nothing v.objects new.owned none bare;

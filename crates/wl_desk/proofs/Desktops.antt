@@ -1,5 +1,5 @@
 -- What a change of one client does to the whole desk.
-use Rattle.std.proofs.Common.{◌≡◌, ◌≢◌, ℕ, ◌+◌, suc, zero, ◌<◌, List, [], ◌∷◌, Bool, true, false, length, map, take, Option, Some, None, get_or, set, refl, sym, ◌∙◌, ap, arith, ◌≤◌, ◌⊎◌, inl, inr}
+use Rattle.std.proofs.Common.{◌≡◌, ◌≢◌, ℕ, ◌+◌, suc, zero, ◌<◌, List, [], ◌∷◌, Bool, true, false, length, map, take, Option, Some, None, get_or, set, refl, sym, ◌∙◌, ap, arith, ◌≤◌}
 use Rattle.std.specs.Option.{option_map}
 use Rattle.std.specs.Prelude.{if◌then◌else◌, is_some, ◌==◌}
 use Rattle.std.proofs.lemmas.Bool.{eqb-false, eqb-true}
@@ -106,7 +106,8 @@ pub scene-out : (k : ℕ) (x : Option ClientView) (us : List (Option ClientView)
     → IsScene (with_numbers (suc k) (numbers_of x) (numbers_in us)) stack d
 scene-out k x us stack d here scene =
     record {
-      standing = stack-by (numbers_in us) _ stack.standing d.standing (λ a surface n has is. sym (numbers-put k x us us a surface (record { here = here; others = λ j differ. refl; count = refl }))
+      standing = stack-by (numbers_in us) _ stack.standing d.standing (λ a surface n has is. sym (numbers-put k x us us a surface
+          (record { here = here; others = λ j differ. refl; count = refl }))
           ∙ is) scene.standing;
       next = scene.next;
     }
@@ -115,7 +116,7 @@ scene-out k x us stack d here scene =
 pub agrees-put : (w : DeskView) (k : ℕ) (x : Option ClientView) (o : Option OwnedView) (r : Option Resident) (us : List (Option ClientView)) (os : List (Option OwnedView)) (stack : Stack)
     (d e : Desktop) → Matches w d → k < length w.clients
     → IsPut k x w.clients us → IsPut k o w.owned os → e.output ≡ d.output → e.clients ≡ with_number (suc k) r d.clients → IsPlace x o r
-        → IsScene (with_numbers (suc k) (numbers_of x) (numbers_in w.clients)) stack e → MappedStand e
+    → IsScene (with_numbers (suc k) (numbers_of x) (numbers_in w.clients)) stack e → MappedStand e
     → Matches (record { output = w.output; clients = us; owned = os; scene = stack }) e
 agrees-put w k x o r us os stack d e a within puts owns output clients is scene mapped =
     record {
@@ -164,7 +165,7 @@ seated-out w d k v x o a =
 pub seated-back : {A : Type 0} (w : DeskView) (k : ℕ) (v : Kept A) (s : Resident) (us : List (Option ClientView)) (os : List (Option OwnedView)) (stack : Stack) (d e : Desktop) → Matches w d
     → k < length w.clients
     → IsPut k (Some v.client) w.clients us → IsPut k (Some (owned_view v.owned)) w.owned os → IsSeated (suc k) (numbers_in w.clients) d v stack e s
-        → Matches (record { output = w.output; clients = us; owned = os; scene = stack }) e
+    → Matches (record { output = w.output; clients = us; owned = os; scene = stack }) e
 seated-back w k v s us os stack d e a within puts owns is =
     agrees-put w k (Some v.client) (Some (owned_view v.owned)) (Some s) us os stack d e a within puts owns is.based.output is.based.clients is.seat is.scene is.mapped
 

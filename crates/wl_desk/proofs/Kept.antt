@@ -1,8 +1,6 @@
 -- A piece is kept of a client of the desk, one of its messages is taken, and it ends.
-use Rattle.std.proofs.Common.{◌≡◌, ℕ, ◌<◌, List, ◌++◌, Bool, true, false, length, map, Option, Some, None, Result, get_or, set, refl, subst, sym, ◌∙◌, ap, ◌⊎◌, inl, inr}
-use Rattle.std.specs.Option.{option_map}
-use Rattle.std.specs.Prelude.{Ok, Err, OnErr, OnOk, ◌≢◌, is_none}
-use Rattle.std.proofs.lemmas.List.{set-get_or}
+use Rattle.std.proofs.Common.{◌≡◌, ℕ, ◌<◌, List, Bool, true, false, length, Option, Some, None, Result, set, refl, subst, sym, ◌∙◌, ap}
+use Rattle.std.specs.Prelude.{Ok, Err, OnErr, OnOk, ◌≢◌}
 use Rattle.wl_peer.specs.Peer.{IsIdleAt, Peer}
 use Rattle.wl_peer.specs.Told.{Output as Shown}
 use Rattle.wl_client.specs.View.{ClientView}
@@ -13,14 +11,12 @@ use Rattle.wl_client.specs.declared.served.Served.{Served}
 use Rattle.wl_client.specs.declared.served.Served.TheVariants as served
 use Rattle.wl_paint.specs.Damage.{Damaged}
 use Rattle.wl_scene.specs.Stacking.{Stack}
-use Rattle.wl_scene.specs.declared.owned.Owned.{Owned}
-use Rattle.wl_resident.specs.Agreement.{Matches, IsPlace, IsSeat, IsSlot, numbers_in}
+use Rattle.wl_resident.specs.Agreement.{Matches, IsPlace, IsSeat, numbers_in}
 use Rattle.wl_plain.specs.Desktop.{Desktop, Resident, become, become_by, client_at, client_in, resident_of, with_number}
 use Rattle.wl_desk.specs.Feeding.{IsIdleIn, IsIdleOf, kept_at, kept_by, kept_of, kept_while, rest_in, served_as, served_by, served_of}
 use Rattle.wl_resident.specs.Marking.{AreUnlinked, MarksAtLeast, MarksAtMost, MarksThrough}
 use Rattle.wl_resident.specs.Seats.{IsSeated, ended_by}
 use Rattle.wl_plain.specs.declared.answers.Fed.TheVariants as fed
-use Rattle.wl_laws.proofs.Keeping.OwningKeys.{differ}
 use Rattle.wl_plain.specs.Step.{with_peer}
 use Rattle.wl_plain.specs.LeftOut.{served_now}
 use Rattle.wl_laws.specs.NoMore.{NoMore}
@@ -149,7 +145,7 @@ module _ {A : Type 0} (output : Output) (rs : List (Option (Kept A))) (stack : S
 
   pub serves-marks : (new : Kept A) (now : Stack) (e : Desktop) (before after : Damaged) → NoMore d
       → ((r : Resident) → AreUnlinked d → IsSeated c (numbers_in us) d v stack d r → NoMore d → (e : Desktop) (q : Resident) → Serves served_now c d e → IsSeated c (numbers_in us) d new now e q
-          → MarksAtLeast d e before after)
+      → MarksAtLeast d e before after)
       → Serves served_now c d e → Matches (put-back new now) e → MarksAtLeast d e before after
   serves-marks new now e before after more marks serves b =
       let n = seated-new new now e more serves b in
@@ -157,7 +153,7 @@ module _ {A : Type 0} (output : Output) (rs : List (Option (Kept A))) (stack : S
 
   pub serves-within : (new : Kept A) (now : Stack) (e : Desktop) (before after : Damaged) → NoMore d
       → ((r : Resident) → before.width ≡ d.output.width → before.height ≡ d.output.height → AreUnlinked d → IsSeated c (numbers_in us) d v stack d r → NoMore d → (e : Desktop) (q : Resident)
-          → Serves served_now c d e → IsSeated c (numbers_in us) d new now e q → MarksAtMost c d e before after)
+      → Serves served_now c d e → IsSeated c (numbers_in us) d new now e q → MarksAtMost c d e before after)
       → (before.width ≡ output.width) × (before.height ≡ output.height) → Serves served_now c d e → Matches (put-back new now) e → MarksAtMost c d e before after
   serves-within new now e before after more marks sides serves b =
       let n = seated-new new now e more serves b in
@@ -166,7 +162,7 @@ module _ {A : Type 0} (output : Output) (rs : List (Option (Kept A))) (stack : S
   -- it leads through desktops along which what is marked is what may be marked
   pub serves-through : (new : Kept A) (now : Stack) (before after : Damaged) → NoMore d
       → ((r : Resident) → before.width ≡ d.output.width → before.height ≡ d.output.height → AreUnlinked d → IsSeated c (numbers_in us) d v stack d r → NoMore d
-          → (e : Desktop) × (q : Resident) × (path : List Desktop) × ServesThrough served_now c d path e × IsSeated c (numbers_in us) d new now e q × MarksThrough d path before after)
+      → (e : Desktop) × (q : Resident) × (path : List Desktop) × ServesThrough served_now c d path e × IsSeated c (numbers_in us) d new now e q × MarksThrough d path before after)
       → (before.width ≡ output.width) × (before.height ≡ output.height)
       → (e : Desktop) × (path : List Desktop) × ServesThrough served_now c d path e × Matches (put-back new now) e × MarksThrough d path before after
   serves-through new now before after more through sides =

@@ -6,7 +6,7 @@ use Rattle.std.proofs.lemmas.Bool.Decides.{nat_tests}
 use Rattle.std.proofs.lemmas.List.{length-map}
 use Rattle.std.proofs.lemmas.Option.{slice_get-get_or, slice_get-map}
 use Rattle.wl_geom.specs.Region.{Area}
-use Rattle.wl_store.specs.Picture.{Shown, transparent}
+use Rattle.wl_store.specs.Picture.{Shown}
 use Rattle.wl_surface.specs.Kept.{Counting, counting_in, counting_of, kept_at}
 use Rattle.wl_surface.specs.State.{within_bounds}
 use Rattle.wl_surface.specs.declared.surface.Current.{Current}
@@ -55,7 +55,7 @@ lends-owned {A} rs (suc n) = ap slots_of (at-map (λ (r : Kept A). r.owned) rs n
 -- the window of a toplevel, by its client
 pub window-of : {A : Type 0} (rs : List (Option (Kept A))) (nowhere : Area) (s : Standing) (o : Option (Kept A)) → o ≡ resident_at rs s.client
     → window_kept (option_map (λ (r : Kept A). r.client) o) nowhere s.place (option_map counting_of (kept_at (slots_of (option_map (λ (r : Kept A). r.owned) o)) s.surface))
-        ≡ window_lent (client_lent (client_views rs)) (slots_lent (owned_lent rs)) nowhere s
+    ≡ window_lent (client_lent (client_views rs)) (slots_lent (owned_lent rs)) nowhere s
 window-of rs nowhere s o is = rw (lends-client, lends-owned, ← is) refl
 
 -- the window of a toplevel whose surface isn't there

@@ -57,7 +57,8 @@ message-whole c old new taken d a =
     (h.0, h.1, record { matches = h.2; no_more = serves-has touches_apart c d h.0 a.no_more h.1 })
 
 -- and so along desktops
-pub through-whole : (c : ℕ) (old new : DeskView) (before after : Damaged) → ((d : Desktop) → Agrees old d → (e : Desktop) × (path : List Desktop) × ServesThrough served_now c d path e × Matches new e
+pub through-whole : (c : ℕ) (old new : DeskView) (before after : Damaged) → ((d : Desktop) → Agrees old d → (e : Desktop) ×
+    (path : List Desktop) × ServesThrough served_now c d path e × Matches new e
     × MarksThrough d path before after)
     → (d : Desktop) → Agrees old d → (e : Desktop) × (path : List Desktop) × ServesThrough served_now c d path e × Agrees new e × MarksThrough d path before after
 through-whole c old new before after taken d a =
@@ -80,7 +81,7 @@ kept-has c piece d more = at (client_at c d) refl
         let come : Peer = with_rest (r.peer.rest ++ piece) r.peer in
         let only = living r.peer.status r (toplevels_of c d) e (subst (λ o. OwnsToplevelsAt o (toplevels_of c d)) is (more.each c)) in
         has-put c (with_peer come r) r d is (subst (λ s. OwnsToplevelsAt (Some (with_peer (record come { status = s }) r)) (toplevels_of c d)) (sym e)
-            (only-peer r (record come { status = None }) refl only)) more
+        (only-peer r (record come { status = None }) refl only)) more
 
     at : (o : Option Resident) → client_at c d ≡ o → NoMore (kept_of c piece o d)
     at None is = more
@@ -141,7 +142,8 @@ module _ (c : ℕ) (cause : Cause) (d : Desktop) (more : NoMore d) where
       at None is same = same
       at (Some r) is ends = once-by r.peer.status r e refl is ends
 
-pub ends-whole : (c : ℕ) (cause : Cause) (old new : DeskView) → ((d : Desktop) → Matches old d → Matches new (ended_at c cause d)) → (d : Desktop) → Agrees old d → (e : Desktop) × Ends c cause d e
+pub ends-whole : (c : ℕ) (cause : Cause) (old new : DeskView) → ((d : Desktop) → Matches old d → Matches new (ended_at c cause d)) → (d : Desktop) → Agrees old d →
+    (e : Desktop) × Ends c cause d e
     × Agrees new e
 ends-whole c cause old new small d a =
     let has = ended-has c cause d a.no_more in
@@ -176,12 +178,12 @@ module _ (c : ℕ) (new old : MarkedDesk) (miss : IsMissing c old) (same : new �
   pub ends-nobody : (cause : Cause) (d : Desktop) → Agrees old.desk d → (e : Desktop) × Ends c cause d e × Agrees new.desk e
   ends-nobody cause d a =
       subst (λ (w : MarkedDesk). (e : Desktop) × Ends c cause d e × Agrees w.desk e) (sym same)
-          (ends-whole c cause old.desk old.desk (λ d a. Ended-none cause old.desk d c (miss d a) a) d a)
+      (ends-whole c cause old.desk old.desk (λ d a. Ended-none cause old.desk d c (miss d a) a) d a)
 
   pub ends-marks-nobody : (cause : Cause) (d e : Desktop) → Agrees old.desk d → Ends c cause d e → MarksAtLeast d e old.damage new.damage
   ends-marks-nobody cause d e a ends =
       subst (λ (w : MarkedDesk). MarksAtLeast d e old.damage w.damage) (sym same)
-          (ends-marked c cause old.desk old.damage old.damage (λ d a. ends-none-marks cause old.desk d c old.damage (miss d a) a) d e a ends)
+      (ends-marked c cause old.desk old.damage old.damage (λ d a. ends-none-marks cause old.desk d c old.damage (miss d a) a) d e a ends)
 
 -- ---- nobody is there at first
 

@@ -1,5 +1,5 @@
 -- What a desk keeps is painted as each desktop that agrees.
-use Rattle.std.proofs.Common.{◌≡◌, List, Option, refl, subst, sym}
+use Rattle.std.proofs.Common.{◌≡◌, List, Option, subst, sym}
 use Rattle.std.specs.Prelude.{ℤ}
 use Rattle.wl_blend.specs.declared.color.Rgb.{Rgb}
 use Rattle.wl_geom.specs.Region.{Area}
@@ -24,7 +24,7 @@ module _ {A : Type 0} (output : Output) (rs ws : List (Option (Kept A))) (stack 
   all-lent : AreLent (client_lent (client_views ws)) (slots_lent (owned_lent ws)) (numbers_in (client_views rs)) stack.standing d
   all-lent =
       subst (λ (ws : List (Option (Kept A))). AreLent (client_lent (client_views ws)) (slots_lent (owned_lent ws)) (numbers_in (client_views rs)) stack.standing d) (sym same)
-          (agrees-lent output rs stack d a.matches)
+      (agrees-lent output rs stack d a.matches)
 
   pub desk-painted : (background : Rgb) → IsColor background
       → painted background (windows_lent (client_lent (client_views ws)) (slots_lent (owned_lent ws)) nowhere stack.standing) x y ≡ scratch background d x y

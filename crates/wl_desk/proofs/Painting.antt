@@ -159,11 +159,12 @@ module _ (x y : ℤ) (d : Desktop) (client : Option ClientView) (owner : Owner) 
   over-there corner v area None b under e is = absurd (cc)
   over-there corner v area (Some a) b under e is =
       let one : buffer_of a ≡ b = ap (buffer-in b) e in
-      subst (λ (c : Buffer). over-one x y under (lent_window corner area (picture_shown client (transform_of v.transform) (Some a))) ≡ over d x y under (window_showing owner surface corner v c)) one
+      subst (λ (c : Buffer). over-one x y under (lent_window corner area (picture_shown client (transform_of v.transform) (Some a))) ≡ over d x y under
+      (window_showing owner surface corner v c)) one
       (ap (λ (p : Option Shown). over-one x y under (lent_window corner area p)) (shown-from client (transform_of v.transform) a)
       ∙ over-lent x y owner surface corner v.transform a area v.opaque v.input under (bytes_from a.store (option_map (λ (v : ClientView). v.stores) client)) is
       ∙ ap (λ (bytes : List ℕ). cond (contains (window x y owner surface corner v.transform a area v.opaque v.input) x y)
-          (blended under (pixel_at bytes (buffer_of a) (point x y owner surface corner v.transform a area v.opaque v.input))) under)
+      (blended under (pixel_at bytes (buffer_of a) (point x y owner surface corner v.transform a area v.opaque v.input))) under)
       (ap (λ (o : Option Stock). bytes_or (bytes_from a.store o)) same ∙ sym (now-from (window x y owner surface corner v.transform a area v.opaque v.input) (client_at owner.client d))))
 
   -- as it is kept
@@ -176,13 +177,14 @@ module _ (x y : ℤ) (d : Desktop) (client : Option ClientView) (owner : Owner) 
   step : (nowhere : Area) (place : Place) (kept : Option Kept) (o : Option Surface) (lents : List Lent) (ws : List Window) (under : Rgb) → StandsAt kept o
       → shows_buffer (option_map (λ (s : Surface). s.history) o) ≡ true → IsColor under → ((u : Rgb) → IsColor u → fold (over-one x y) u lents ≡ fold (over d x y) u ws)
       → fold (over-one x y) under (window_kept client nowhere place (option_map counting_of kept) ∷ lents) ≡ fold (over d x y) under
-          ((window_list owner surface place (option_map (λ (s : Surface). s.history) o) ++ []) ++ ws)
+      ((window_list owner surface place (option_map (λ (s : Surface). s.history) o) ++ []) ++ ws)
   step nowhere place None None lents ws under is shows color next = absurd (cc)
   step nowhere place None (Some s) lents ws under is shows color next = absurd is
   step nowhere place (Some k) None lents ws under is shows color next = absurd is
   step nowhere place (Some k) (Some s) lents ws under is shows color next = by (applied s.history).buffer refl shows
     where
-      by : (buffer : Option Buffer) → (applied s.history).buffer ≡ buffer → is_there buffer ≡ true → fold (over-one x y) under (window_kept client nowhere place (Some (counting_of k)) ∷ lents) ≡ fold
+      by : (buffer : Option Buffer) → (applied s.history).buffer ≡ buffer → is_there buffer ≡ true → fold (over-one x y) under (window_kept client nowhere place (Some
+          (counting_of k)) ∷ lents) ≡ fold
           (over d x y) under ((window_with owner surface (corner_at place s.history) (applied s.history) buffer ++ []) ++ ws)
       by None e there = absurd (cc)
       by (Some b) e there =
@@ -212,7 +214,7 @@ module _ (x y : ℤ) (nowhere : Area) (clients : ℕ → Option ClientView) (slo
       let shows : Shows (owned_in d) t = show 0 t (omega arith) in
       rw (are.0.client, are.0.place)
       (step x y d (clients t.client) (owner_of (root_of (owned_in d) t)) t.surface (stores t.client) nowhere t.place (kept_at (slots t.client) s.surface)
-          (surface_at t.surface (owned_in d t.client).surfaces)
+      (surface_at t.surface (owned_in d t.client).surfaces)
       (windows_lent clients slots nowhere ss) (windows_on (owned_in d) ts) under (stands t.client t.surface s.surface are.0.surface) shows color
       (λ u is. all-painted ss ts are.1 (λ k e less. show (suc k) e (omega arith)) u is)
       ∙ ap (fold (over d x y) under) (sym (on-first (owned_in d) t ts (kept t.client).links shows)))
@@ -241,7 +243,8 @@ bit-set : (n : ℕ) (b : Bool) → n ≡ bit b → nat_lt 0 n ≡ true → b ≡
 bit-set n true e f = refl
 bit-set n false e f = absurd (differ (sym (ap (nat_lt 0) e) ∙ f))
 
-module _ (x y : ℤ) (owner : Owner) (surface : ℕ) (corner : Place) (t : ℕ) (a : Attached) (area : Area) (opaque : List Change) (input : Option (List Change)) (covers : Covers area.rects opaque) where
+module _ (x y : ℤ) (owner : Owner) (surface : ℕ) (corner : Place) (t : ℕ) (a : Attached) (area : Area) (opaque : List Change) (input : Option (List Change))
+    (covers : Covers area.rects opaque) where
   abbrev here : Window
   here = window x y owner surface corner t a area opaque input
 
@@ -268,9 +271,9 @@ module _ (x y : ℤ) (owner : Owner) (surface : ℕ) (corner : Place) (t : ℕ) 
   unseen picture none so e =
       let inside = and-left (in_window x y (lent_window corner area None)) _ e in
       let column = wider corner.x x here.width (one-or-other (is_turned (transform_of t)) a.layout.h a.layout.w a.layout.some_rows a.layout.some_columns)
-          (and-left (in_span corner.x (pos 1) x) _ inside) in
+      (and-left (in_span corner.x (pos 1) x) _ inside) in
       let row = wider corner.y y here.height (one-or-other (is_turned (transform_of t)) a.layout.w a.layout.h a.layout.some_columns a.layout.some_rows)
-          (and-right (in_span corner.x (pos 1) x) _ inside) in
+      (and-right (in_span corner.x (pos 1) x) _ inside) in
       let contained = and-both (in_span corner.x (pos here.width) x) (in_span corner.y (pos here.height) y) column row in
       let far : 0 ≡ 255 = sym (ap (λ (c : Argb). c.a) none) ∙ so (and-both (contains here x y) held contained (said-held _ e)) in
       absurd (omega (arith, far))
@@ -292,9 +295,10 @@ module _ (x y : ℤ) (d : Desktop) (client : Option ClientView) (owner : Owner) 
   said-there corner v area (Some a) b e covers so =
       let one : buffer_of a ≡ b = ap (buffer-in b) e in
       let of-a : IsSo d x y (window_showing owner surface corner v (buffer_of a)) = subst (λ (c : Buffer). IsSo d x y (window_showing owner surface corner v c)) (sym one) so in
-      let read = now-from (window x y owner surface corner v.transform a area v.opaque v.input) (client_at owner.client d) ∙ ap (λ (o : Option Stock). bytes_or (bytes_from a.store o)) (sym same) in
+      let read = now-from (window x y owner surface corner v.transform a area v.opaque v.input) (client_at owner.client d) ∙ ap (λ (o : Option Stock). bytes_or (bytes_from a.store o))
+      (sym same) in
       let so-read = subst (λ (bytes : List ℕ). IsSoOf x y owner surface corner v.transform a area v.opaque v.input covers
-          (pixel_at bytes (buffer_of a) (point x y owner surface corner v.transform a area v.opaque v.input))) read of-a in
+      (pixel_at bytes (buffer_of a) (point x y owner surface corner v.transform a area v.opaque v.input))) read of-a in
       subst (λ (p : Option Shown). IsLentSo x y (lent_window corner area p)) (sym (shown-from client (transform_of v.transform) a))
       (said-lent x y owner surface corner v.transform a area v.opaque v.input covers (bytes_from a.store (option_map (λ (v : ClientView). v.stores) client)) so-read)
 
@@ -307,7 +311,7 @@ module _ (x y : ℤ) (d : Desktop) (client : Option ClientView) (owner : Owner) 
   said-step : (nowhere : Area) (place : Place) (kept : Option Kept) (o : Option Surface) (lents : List Lent) (ws : List Window) → StandsAt kept o
       → shows_buffer (option_map (λ (s : Surface). s.history) o) ≡ true → (All (IsSo d x y) ws → All (IsLentSo x y) lents)
       → All (IsSo d x y) ((window_list owner surface place (option_map (λ (s : Surface). s.history) o) ++ []) ++ ws)
-          → All (IsLentSo x y) (window_kept client nowhere place (option_map counting_of kept) ∷ lents)
+      → All (IsLentSo x y) (window_kept client nowhere place (option_map counting_of kept) ∷ lents)
   said-step nowhere place None None lents ws is shows next = absurd (cc)
   said-step nowhere place None (Some s) lents ws is shows next = absurd is
   said-step nowhere place (Some k) None lents ws is shows next = absurd is
@@ -332,10 +336,10 @@ module _ (x y : ℤ) (nowhere : Area) (clients : ℕ → Option ClientView) (slo
   all-said (s ∷ ss) (t ∷ ts) are show so =
       let shows : Shows (owned_in d) t = show 0 t (omega arith) in
       let first : window_lent clients slots nowhere s ≡ window_kept (clients t.client) nowhere t.place (option_map counting_of (kept_at (slots t.client) s.surface)) =
-          rw (are.0.client, are.0.place) refl in
+      rw (are.0.client, are.0.place) refl in
       subst (λ (w : Lent). All (IsLentSo x y) (w ∷ windows_lent clients slots nowhere ss)) (sym first)
       (said-step x y d (clients t.client) (owner_of (root_of (owned_in d) t)) t.surface (stores t.client) nowhere t.place (kept_at (slots t.client) s.surface)
-          (surface_at t.surface (owned_in d t.client).surfaces)
+      (surface_at t.surface (owned_in d t.client).surfaces)
       (windows_lent clients slots nowhere ss) (windows_on (owned_in d) ts) (stands x y nowhere clients slots numbers d stores kept t.client t.surface s.surface are.0.surface) shows
       (λ rest. all-said ss ts are.1 (λ k e less. show (suc k) e (omega arith)) rest)
       (subst (λ (ws : List Window). All (IsSo d x y) ws) (on-first (owned_in d) t ts (kept t.client).links shows) so))

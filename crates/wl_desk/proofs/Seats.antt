@@ -65,7 +65,7 @@ nobody output rs stack zero d none a = refl
 nobody {A} output rs stack (suc k) d none a =
     let w = view_of output rs stack in
     place-none (at w.clients k) (at w.owned k) (client_at (suc k) d) (place-at w d k a)
-        (at-map (λ (r : Kept A). r.client) rs k ∙ ap (λ (o : Option (Kept A)). option_map (λ (r : Kept A). r.client) o) none)
+    (at-map (λ (r : Kept A). r.client) rs k ∙ ap (λ (o : Option (Kept A)). option_map (λ (r : Kept A). r.client) o) none)
 
 -- 0 is no number, and there are as many as places
 pub past : {A : Type 0} (rs : List (Option (Kept A))) (c : ℕ) → (c ≡ 0) ⊎ (length rs < c) → resident_at rs c ≡ None

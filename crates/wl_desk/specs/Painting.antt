@@ -37,7 +37,7 @@ pub record IsColor (color : Rgb) : Type 0 where
 abbrev pub PaintsTheDesktop : Type 0
 PaintsTheDesktop =
     (background : Rgb) (nowhere : Area) (clients : ℕ → Option ClientView) (slots : ℕ → Slots) (numbers : ℕ
-        → ById ℕ) (standing : List Standing) (d : Desktop) (x y : ℤ)
+    → ById ℕ) (standing : List Standing) (d : Desktop) (x y : ℤ)
     → IsColor background → AreLent clients slots numbers standing d → NoMore d
     → painted background (windows_lent clients slots nowhere standing) x y ≡ scratch background d x y
 
@@ -50,6 +50,6 @@ IsOpaqueAsSaid d x y =
 abbrev pub LendsOpaqueAsSaid : Type 0
 LendsOpaqueAsSaid =
     (nowhere : Area) (clients : ℕ → Option ClientView) (slots : ℕ → Slots) (numbers : ℕ → ById ℕ) (standing : List Standing) (d : Desktop)
-        (x y : ℤ)
+    (x y : ℤ)
     → AreLent clients slots numbers standing d → NoMore d → IsOpaqueAsSaid d x y
-        → AreOpaqueAsSaid x y (windows_lent clients slots nowhere standing)
+    → AreOpaqueAsSaid x y (windows_lent clients slots nowhere standing)

@@ -383,10 +383,7 @@ fn is_side(side: u32) -> bool
 }
 
 /// A piece is kept of a client that lives.
-fn keep_in<A: Allocator + Copy>(
-    resident: &mut Resident<A>,
-    piece: &[u8],
-) -> Result<(), AllocError>
+fn keep_in<A: Allocator + Copy>(resident: &mut Resident<A>, piece: &[u8]) -> Result<(), AllocError>
     ensures ok { OnOk result (resident.new ≡ record resident.old { client = kept_while piece.now resident.old.client.ended resident.old.client }) }
     ensures err { OnErr result ((resident.new ≡ resident.old) × (resident.old.client.ended ≡ None)) }
 {

@@ -95,11 +95,7 @@ fn lend_of<'a, A: Allocator + Copy>(
     Painted {
         x,
         y,
-        picture: or_transparent(picture_of(
-            &resident.client,
-            current.transform,
-            &current.buffer,
-        )),
+        picture: or_transparent(picture_of(&resident.client, current.transform, &current.buffer)),
         opaque: current.opaque,
     }
 }

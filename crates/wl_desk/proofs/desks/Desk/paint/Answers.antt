@@ -16,7 +16,7 @@ returns-clause-painted g c = λ d a x y wide high marked said.
     c.paint.ensures.damaged x y wide high (ap (λ w. has w.damage x y) c.self.view_is ∙ marked)
     (desk-said c.self.inside.output c.self.inside.residents.items c.deref.result.now c.self.inside.scene _ c.deref.ensures.value d (rw (← c.self.view_is) at a) (pos x) (pos y) said)
     ∙ desk-painted c.self.inside.output c.self.inside.residents.items c.deref.result.now c.self.inside.scene _ c.deref.ensures.value d (rw (← c.self.view_is) at a) (pos x) (pos y)
-        c.args.framebuffer.now.background color
+    c.args.framebuffer.now.background color
 
 pub returns-clause-kept : goal.returns-clause-kept
 returns-clause-kept g c = λ x y wide high clean. c.paint.ensures.kept x y wide high (ap (λ w. has w.damage x y) c.self.view_is ∙ clean)
