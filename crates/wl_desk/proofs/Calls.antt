@@ -1,5 +1,5 @@
 -- The calls of the desk: one client is taken out and put back, comes, or goes.
-use Rattle.std.proofs.Common.{◌≡◌, ℕ, ◌+◌, suc, zero, ◌<◌, List, [], ◌∷◌, Bool, true, false, length, map, Option, Some, None, get_or, set, refl, subst, sym, ◌∙◌, ap, arith, ◌⊎◌, inl, inr}
+use Rattle.std.proofs.Common.{◌≡◌, ℕ, ◌+◌, suc, zero, ◌<◌, List, [], ◌∷◌, Bool, true, false, length, Option, Some, None, set, refl, subst, sym, ◌∙◌, ap, arith, inl, inr}
 use Rattle.std.specs.Option.{option_map}
 use Rattle.std.specs.Prelude.{is_some, replicate, Ok, Err}
 use Rattle.wl_client.specs.Agreement.{IsPeer, output_of}
@@ -11,10 +11,9 @@ use Rattle.wl_peer.specs.declared.cause.Cause.{Cause}
 use Rattle.wl_peer.specs.declared.cause.Cause.TheVariants.{Gone}
 use Rattle.wl_client.specs.declared.outputs.Output.{Output}
 use Rattle.wl_scene.specs.Stacking.{Stack, without_client}
-use Rattle.wl_scene.specs.declared.owned.Owned.{Owned}
-use Rattle.wl_resident.specs.Agreement.{Matches, IsPlace, IsScene, IsSlot, numbers_in, numbers_of, with_numbers}
+use Rattle.wl_resident.specs.Agreement.{Matches, IsPlace, IsScene, numbers_in, numbers_of, with_numbers}
 use Rattle.wl_plain.specs.Desktop.{Desktop, Resident, arrival, become, become_by, client_at, empty, place, with_client, with_number}
-use Rattle.wl_resident.specs.Seats.{IsBare, IsChangedSo, IsSeated, ended_by, has_ended_in}
+use Rattle.wl_resident.specs.Seats.{IsBare, IsChangedSo, IsSeated, ended_by}
 use Rattle.wl_plain.specs.LeftOut.{served_now}
 use Rattle.wl_plain.specs.Happens.{Serves}
 use Rattle.wl_laws.proofs.Toplevels.Altering.{Changes, ChangesAt, left_so}
@@ -38,7 +37,7 @@ use Rattle.wl_resident.proofs.Scenes.{numbers-by, stack-by}
 use Rattle.wl_laws.proofs.Keeping.StandingSteps.{closed-stand, connects-stand, empty-stand}
 use Rattle.wl_resident.proofs.Taking.{gone-scene}
 use Rattle.wl_resident.proofs.Telling.{lives-of}
-use Rattle.wl_laws.proofs.Runs.Places.{client-kept, number-kept}
+use Rattle.wl_laws.proofs.Runs.Places.{client-kept}
 use Rattle.wl_laws.proofs.Keeping.FramingWaits.{framed-none}
 use Rattle.wl_surface.specs.declared.frames.Waiting.{Waiting}
 use Rattle.wl_surface.specs.Surfaces.{no_surfaces}

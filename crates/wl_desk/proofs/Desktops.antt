@@ -1,5 +1,5 @@
 -- What a change of one client does to the whole desk.
-use Rattle.std.proofs.Common.{◌≡◌, ◌≢◌, ℕ, ◌+◌, suc, zero, ◌<◌, List, [], ◌∷◌, Bool, true, false, length, map, take, Option, Some, None, get_or, set, refl, sym, ◌∙◌, ap, arith, ◌≤◌, ◌⊎◌, inl, inr}
+use Rattle.std.proofs.Common.{◌≡◌, ◌≢◌, ℕ, ◌+◌, suc, zero, ◌<◌, List, [], ◌∷◌, Bool, true, false, length, map, take, Option, Some, None, get_or, set, refl, sym, ◌∙◌, ap, arith, ◌≤◌}
 use Rattle.std.specs.Option.{option_map}
 use Rattle.std.specs.Prelude.{if◌then◌else◌, is_some, ◌==◌}
 use Rattle.std.proofs.lemmas.Bool.{eqb-false, eqb-true}
@@ -106,7 +106,8 @@ pub scene-out : (k : ℕ) (x : Option ClientView) (us : List (Option ClientView)
     → IsScene (with_numbers (suc k) (numbers_of x) (numbers_in us)) stack d
 scene-out k x us stack d here scene =
     record {
-      standing = stack-by (numbers_in us) _ stack.standing d.standing (λ a surface n has is. sym (numbers-put k x us us a surface (record { here = here; others = λ j differ. refl; count = refl }))
+      standing = stack-by (numbers_in us) _ stack.standing d.standing (λ a surface n has is. sym (numbers-put k x us us a surface
+          (record { here = here; others = λ j differ. refl; count = refl }))
           ∙ is) scene.standing;
       next = scene.next;
     }

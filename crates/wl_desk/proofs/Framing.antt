@@ -1,7 +1,6 @@
 -- A frame is told to the clients one after another.
-use Rattle.std.proofs.Common.{◌≡◌, ◌≢◌, ℕ, suc, ◌+◌, ◌<◌, List, Bool, true, false, Option, Some, None, get_or, set, refl, ap, subst, sym, ◌∙◌, arith, ◌⊎◌, inl, inr}
+use Rattle.std.proofs.Common.{◌≡◌, ◌≢◌, ℕ, suc, ◌+◌, ◌<◌, List, Bool, true, false, Option, Some, None, set, refl, ap, subst, sym, ◌∙◌, arith, ◌⊎◌, inl, inr}
 use Rattle.std.specs.Prelude.{pos, ◌==◌, ◌&&◌, ◌||◌, is_some}
-use Rattle.wl_client.specs.View.{ClientView}
 use Rattle.wl_peer.specs.declared.cause.Cause.{Cause}
 use Rattle.wl_peer.specs.Told.{Output as Sides}
 use Rattle.wl_client.specs.declared.outputs.Output.{Output}
@@ -22,7 +21,6 @@ use Rattle.wl_laws.proofs.Keeping.OwningKeys.{differ}
 use Rattle.wl_laws.proofs.Runs.Places.{other-become, status-become}
 use Rattle.wl_laws.proofs.Marks.TouchingSteps.{told-marks-nothing}
 use Rattle.wl_scene.specs.Stacking.{Stack}
-use Rattle.wl_scene.specs.declared.owned.Owned.{Owned}
 use Rattle.wl_resident.specs.Agreement.{Matches, numbers_in}
 use Rattle.wl_resident.specs.Marking.{IsAsLarge, MarksAtLeast, MarksMost, MarksOwnIf}
 use Rattle.wl_resident.specs.Seats.{IsSeated}
@@ -167,7 +165,8 @@ more-told time n old mid new d m e large a before here =
           let first = before.marks x y wide high second.0 in
           (first.0, unmarked-on d m e (pos x) (pos y) (agrees-apart old.desk d a) owned.output owns.owns first.1 second.1);
       within = λ x y wide high marked. within-on x y wide high (here.within x y (rw large.width wide) (rw large.height high) marked);
-      windows = λ p there. before.windows p (told-windows time (n + 1) (client_at (n + 1) m) m e refl (unlinked mid.desk m before.agrees.matches) (unlinked new.desk e here.agrees.matches) here.told p
+      windows = λ p there. before.windows p (told-windows time (n + 1) (client_at (n + 1) m) m e refl (unlinked mid.desk m before.agrees.matches)
+          (unlinked new.desk e here.agrees.matches) here.told p
           there);
       quiet = λ stays x y wide high.
           let was : (c : ℕ) → status_in c m ≡ status_in c d = λ c. at c (same-or (n + 1) c) stays others in

@@ -1,8 +1,6 @@
 -- A piece is kept of a client of the desk, one of its messages is taken, and it ends.
-use Rattle.std.proofs.Common.{◌≡◌, ℕ, ◌<◌, List, ◌++◌, Bool, true, false, length, map, Option, Some, None, Result, get_or, set, refl, subst, sym, ◌∙◌, ap, ◌⊎◌, inl, inr}
-use Rattle.std.specs.Option.{option_map}
-use Rattle.std.specs.Prelude.{Ok, Err, OnErr, OnOk, ◌≢◌, is_none}
-use Rattle.std.proofs.lemmas.List.{set-get_or}
+use Rattle.std.proofs.Common.{◌≡◌, ℕ, ◌<◌, List, Bool, true, false, length, Option, Some, None, Result, set, refl, subst, sym, ◌∙◌, ap}
+use Rattle.std.specs.Prelude.{Ok, Err, OnErr, OnOk, ◌≢◌}
 use Rattle.wl_peer.specs.Peer.{IsIdleAt, Peer}
 use Rattle.wl_peer.specs.Told.{Output as Shown}
 use Rattle.wl_client.specs.View.{ClientView}
@@ -13,14 +11,12 @@ use Rattle.wl_client.specs.declared.served.Served.{Served}
 use Rattle.wl_client.specs.declared.served.Served.TheVariants as served
 use Rattle.wl_paint.specs.Damage.{Damaged}
 use Rattle.wl_scene.specs.Stacking.{Stack}
-use Rattle.wl_scene.specs.declared.owned.Owned.{Owned}
-use Rattle.wl_resident.specs.Agreement.{Matches, IsPlace, IsSeat, IsSlot, numbers_in}
+use Rattle.wl_resident.specs.Agreement.{Matches, IsPlace, IsSeat, numbers_in}
 use Rattle.wl_plain.specs.Desktop.{Desktop, Resident, become, become_by, client_at, client_in, resident_of, with_number}
 use Rattle.wl_desk.specs.Feeding.{IsIdleIn, IsIdleOf, kept_at, kept_by, kept_of, kept_while, rest_in, served_as, served_by, served_of}
 use Rattle.wl_resident.specs.Marking.{AreUnlinked, MarksAtLeast, MarksAtMost, MarksThrough}
 use Rattle.wl_resident.specs.Seats.{IsSeated, ended_by}
 use Rattle.wl_plain.specs.declared.answers.Fed.TheVariants as fed
-use Rattle.wl_laws.proofs.Keeping.OwningKeys.{differ}
 use Rattle.wl_plain.specs.Step.{with_peer}
 use Rattle.wl_plain.specs.LeftOut.{served_now}
 use Rattle.wl_laws.specs.NoMore.{NoMore}

@@ -1,5 +1,5 @@
 -- What a desk keeps, lent to be painted, stands for each desktop that agrees.
-use Rattle.std.proofs.Common.{◌≡◌, ℕ, zero, suc, List, map, Option, Some, None, refl, ap, subst, sym, ◌∙◌}
+use Rattle.std.proofs.Common.{◌≡◌, ℕ, zero, suc, List, Option, Some, None, refl, ap, subst, sym, ◌∙◌}
 use Rattle.std.specs.Prelude.{slice_index_or}
 use Rattle.std.specs.Option.{option_map}
 use Rattle.wl_peer.specs.Objects.{nothing}
@@ -66,7 +66,8 @@ module _ {A : Type 0} (output : Output) (rs : List (Option (Kept A))) (stack : S
   slots-here k =
       ap slots_of (at-map (λ (r : Kept A). r.owned) rs k) ∙ slots-seen (slice_index_or rs k None) ∙ ap slots_seen (sym (at-map (λ (r : Kept A). owned_view r.owned) rs k))
 
-  here : (k : ℕ) → (stores_in (slice_index_or v.clients k None) ≡ stores_of (place d.clients k)) × AreKept (numbers_of (slice_index_or v.clients k None)) (slots_seen (slice_index_or v.owned k None))
+  here : (k : ℕ) → (stores_in (slice_index_or v.clients k None) ≡ stores_of (place d.clients k)) × AreKept (numbers_of (slice_index_or v.clients k None)) (slots_seen
+      (slice_index_or v.owned k None))
       (owned_of (place d.clients k)).surfaces
   here k = place-lent (slice_index_or v.clients k None) (slice_index_or v.owned k None) (place d.clients k) (a.clients k)
 

@@ -6,7 +6,7 @@ use Rattle.std.proofs.lemmas.Bool.Decides.{nat_tests}
 use Rattle.std.proofs.lemmas.List.{length-map}
 use Rattle.std.proofs.lemmas.Option.{slice_get-get_or, slice_get-map}
 use Rattle.wl_geom.specs.Region.{Area}
-use Rattle.wl_store.specs.Picture.{Shown, transparent}
+use Rattle.wl_store.specs.Picture.{Shown}
 use Rattle.wl_surface.specs.Kept.{Counting, counting_in, counting_of, kept_at}
 use Rattle.wl_surface.specs.State.{within_bounds}
 use Rattle.wl_surface.specs.declared.surface.Current.{Current}

@@ -1,7 +1,6 @@
 -- What the calls of the desk mark.
-use Rattle.std.proofs.Common.{◌≡◌, ℕ, ◌+◌, suc, zero, ◌<◌, List, [], ◌∷◌, Bool, true, false, length, map, Option, Some, None, get_or, refl, subst, sym, ◌∙◌, ap, arith, ◌⊎◌, inl, inr}
+use Rattle.std.proofs.Common.{◌≡◌, ℕ, ◌+◌, suc, zero, ◌<◌, List, [], ◌∷◌, Bool, true, false, length, Option, Some, None, refl, subst, sym, ◌∙◌, ap, arith, inl, inr}
 use Rattle.std.specs.List.{list_any}
-use Rattle.std.specs.Option.{option_map}
 use Rattle.std.specs.Prelude.{ℤ, pos, ◌==◌, ◌&&◌, ◌||◌, cond, drop, filter, is_none, is_some, nat_le, not}
 use Rattle.wl_peer.specs.Peer.{Peer, stored_at, stored_by}
 use Rattle.wl_store.specs.Stores.{write_refusal}
@@ -11,20 +10,19 @@ use Rattle.wl_peer.specs.declared.cause.Cause.{Cause}
 use Rattle.wl_client.specs.declared.outputs.Output.{Output}
 use Rattle.wl_paint.specs.Damage.{Damaged, has}
 use Rattle.wl_surface.specs.Surfaces.{history_in}
-use Rattle.wl_scene.specs.Stacking.{Owned as Owns, Stack, nothing_owned, windows_on, without_client}
+use Rattle.wl_scene.specs.Stacking.{Owned as Owns, Stack, nothing_owned, windows_on}
 use Rattle.wl_scene.specs.Windows.{Window, contains}
-use Rattle.wl_scene.specs.declared.owned.Owned.{Owned}
 use Rattle.wl_resident.specs.Agreement.{Matches, IsPlace, numbers_in}
 use Rattle.wl_plain.specs.Desktop.{Desktop, Resident, arrival, become, become_by, client_at, client_in, owned_in, owned_of, place, with_number, with_place}
 use Rattle.wl_laws.specs.Laws.{OwnsNothing}
 use Rattle.wl_resident.specs.Marking.{AreUnlinked, MarksOwn}
-use Rattle.wl_resident.specs.Seats.{IsChangedSo, IsSeated, ended_by, has_ended_in}
+use Rattle.wl_resident.specs.Seats.{IsChangedSo, IsSeated, ended_by}
 use Rattle.wl_laws.specs.Standing.{AreMapped}
 use Rattle.wl_laws.proofs.Toplevels.Altering.{Changes, ChangesAt, left_so}
 use Rattle.wl_plain.specs.Acts.{IsClosed, IsSent, IsStored, closed_by, lowest}
 use Rattle.wl_laws.proofs.Runs.Forms.{ConnectsAt}
 use Rattle.wl_laws.specs.Touching.{any_window_at, has_window_at}
-use Rattle.wl_resident.specs.View.{DeskView, OwnedView, owned_view}
+use Rattle.wl_resident.specs.View.{DeskView, OwnedView}
 use Rattle.wl_plain.specs.declared.answers.Done.{Done}
 use Rattle.wl_plain.specs.declared.answers.Done.TheVariants as gave
 use Rattle.wl_resident.specs.declared.residents.Resident.{Resident as Kept}

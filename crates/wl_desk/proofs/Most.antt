@@ -26,7 +26,7 @@ use Rattle.wl_resident.specs.Agreement.{Matches}
 use Rattle.wl_resident.specs.Marking.{AreUnlinked, MarksMost}
 use Rattle.wl_resident.specs.Seats.{ended_by}
 use Rattle.wl_resident.specs.View.{DeskView, MarkedDesk}
-use Rattle.wl_resident.proofs.Scenes.{none-standing, others-all}
+use Rattle.wl_resident.proofs.Scenes.{none-standing}
 use Rattle.wl_resident.proofs.Within.{within-output}
 use Rattle.wl_laws.proofs.Toplevels.Altering.{ChangesAt, left_so}
 use Rattle.wl_laws.proofs.Toplevels.Back.{alters-back}
@@ -66,7 +66,8 @@ become-windows (Some cause) c made r q d is same unlinked later p there =
     still : (other surface : ℕ) → list_any (is_of other surface) d.standing ≡ true → of_client c other surface ≡ false
         → counted (history_in surface (owned_in (become_by (Some cause) c made q d) other).surfaces) ≡ counted (history_in surface (owned_in d other).surfaces)
     still other surface here else =
-        ap (λ (o : Option Resident). counted (history_in surface (owned_of o).surfaces)) (number-other d.clients c other (Some (resident_of q)) (λ same. differ (sym else ∙ eq-eqb other c (sym same))))
+        ap (λ (o : Option Resident). counted (history_in surface (owned_of o).surfaces)) (number-other d.clients c other (Some (resident_of q)) (λ same. differ
+        (sym else ∙ eq-eqb other c (sym same))))
 
 -- a client is told of a frame
 pub told-windows : (time c : ℕ) (o : Option Resident) (d e : Desktop) → client_at c d ≡ o → AreUnlinked d → AreUnlinked e → FramesToldAt time c o d e → HasNoNew d e
@@ -111,12 +112,14 @@ sized v w d same sides a = (
 )
 
 -- What is to be painted was before, or lies in a window of a client that ended, if it is there: that is no more than may be marked.
-pub own-most : (c : ℕ) (old : MarkedDesk) (v : DeskView) (d e : Desktop) (new : Damaged) → Agrees old.desk d → Agrees v e → IsSized old d → (client_at c d ≡ None) ⊎ (is_some (status_in c e) ≡ true)
+pub own-most : (c : ℕ) (old : MarkedDesk) (v : DeskView) (d e : Desktop) (new : Damaged) → Agrees old.desk d → Agrees v e → IsSized old d → (client_at c d ≡ None) ⊎ (is_some
+    (status_in c e) ≡ true)
     → ((x y : ℕ) → x < old.damage.width → y < old.damage.height → has new x y ≡ true → (has old.damage x y || has_window_at c (pos x) (pos y) d) ≡ true) → MarksMost d e old.damage new
 own-most c old v d e new a b sides ends within = λ x y wide high marked.
     at x y wide high (has old.damage x y) refl (has_window_at c (pos x) (pos y) d) refl (within x y wide high marked) ends
   where
-    at : (x y : ℕ) → x < old.damage.width → y < old.damage.height → (t : Bool) → has old.damage x y ≡ t → (f : Bool) → has_window_at c (pos x) (pos y) d ≡ f → (t || f) ≡ true → (client_at c d ≡ None)
+    at : (x y : ℕ) → x < old.damage.width → y < old.damage.height → (t : Bool) → has old.damage x y ≡ t → (f : Bool) → has_window_at c (pos x) (pos y) d ≡ f → (t || f) ≡ true →
+        (client_at c d ≡ None)
         ⊎ (is_some (status_in c e) ≡ true)
         → (has old.damage x y || marks_at_most d e None (pos x) (pos y)) ≡ true
     at x y wide high true was f there h ends = or_left (has old.damage x y) _ was
@@ -152,4 +155,5 @@ ends-over c cause d e more ends = at (client_at c d) refl (ended-once c cause d 
     at : (o : Option Resident) → client_at c d ≡ o → e ≡ ended_of c cause o d → (client_at c d ≡ None) ⊎ (is_some (status_in c e) ≡ true)
     at None none h = inl none
     at (Some r) is h =
-        inr (ap (λ (x : Desktop). is_some (status_in c x)) h ∙ ap (λ (s : Option Cause). is_some s) (status-become c r (ended_by r.peer.status cause r.peer) d r is) ∙ over r.peer.status r.peer refl)
+        inr (ap (λ (x : Desktop). is_some (status_in c x)) h ∙ ap (λ (s : Option Cause). is_some s) (status-become c r
+        (ended_by r.peer.status cause r.peer) d r is) ∙ over r.peer.status r.peer refl)

@@ -57,7 +57,8 @@ message-whole c old new taken d a =
     (h.0, h.1, record { matches = h.2; no_more = serves-has touches_apart c d h.0 a.no_more h.1 })
 
 -- and so along desktops
-pub through-whole : (c : ℕ) (old new : DeskView) (before after : Damaged) → ((d : Desktop) → Agrees old d → (e : Desktop) × (path : List Desktop) × ServesThrough served_now c d path e × Matches new e
+pub through-whole : (c : ℕ) (old new : DeskView) (before after : Damaged) → ((d : Desktop) → Agrees old d → (e : Desktop) ×
+    (path : List Desktop) × ServesThrough served_now c d path e × Matches new e
     × MarksThrough d path before after)
     → (d : Desktop) → Agrees old d → (e : Desktop) × (path : List Desktop) × ServesThrough served_now c d path e × Agrees new e × MarksThrough d path before after
 through-whole c old new before after taken d a =
@@ -141,7 +142,8 @@ module _ (c : ℕ) (cause : Cause) (d : Desktop) (more : NoMore d) where
       at None is same = same
       at (Some r) is ends = once-by r.peer.status r e refl is ends
 
-pub ends-whole : (c : ℕ) (cause : Cause) (old new : DeskView) → ((d : Desktop) → Matches old d → Matches new (ended_at c cause d)) → (d : Desktop) → Agrees old d → (e : Desktop) × Ends c cause d e
+pub ends-whole : (c : ℕ) (cause : Cause) (old new : DeskView) → ((d : Desktop) → Matches old d → Matches new (ended_at c cause d)) → (d : Desktop) → Agrees old d →
+    (e : Desktop) × Ends c cause d e
     × Agrees new e
 ends-whole c cause old new small d a =
     let has = ended-has c cause d a.no_more in

@@ -1,5 +1,5 @@
 -- What a desk keeps is painted as each desktop that agrees.
-use Rattle.std.proofs.Common.{◌≡◌, List, Option, refl, subst, sym}
+use Rattle.std.proofs.Common.{◌≡◌, List, Option, subst, sym}
 use Rattle.std.specs.Prelude.{ℤ}
 use Rattle.wl_blend.specs.declared.color.Rgb.{Rgb}
 use Rattle.wl_geom.specs.Region.{Area}

@@ -159,7 +159,8 @@ module _ (x y : ℤ) (d : Desktop) (client : Option ClientView) (owner : Owner) 
   over-there corner v area None b under e is = absurd (cc)
   over-there corner v area (Some a) b under e is =
       let one : buffer_of a ≡ b = ap (buffer-in b) e in
-      subst (λ (c : Buffer). over-one x y under (lent_window corner area (picture_shown client (transform_of v.transform) (Some a))) ≡ over d x y under (window_showing owner surface corner v c)) one
+      subst (λ (c : Buffer). over-one x y under (lent_window corner area (picture_shown client (transform_of v.transform) (Some a))) ≡ over d x y under
+      (window_showing owner surface corner v c)) one
       (ap (λ (p : Option Shown). over-one x y under (lent_window corner area p)) (shown-from client (transform_of v.transform) a)
       ∙ over-lent x y owner surface corner v.transform a area v.opaque v.input under (bytes_from a.store (option_map (λ (v : ClientView). v.stores) client)) is
       ∙ ap (λ (bytes : List ℕ). cond (contains (window x y owner surface corner v.transform a area v.opaque v.input) x y)
@@ -182,7 +183,8 @@ module _ (x y : ℤ) (d : Desktop) (client : Option ClientView) (owner : Owner) 
   step nowhere place (Some k) None lents ws under is shows color next = absurd is
   step nowhere place (Some k) (Some s) lents ws under is shows color next = by (applied s.history).buffer refl shows
     where
-      by : (buffer : Option Buffer) → (applied s.history).buffer ≡ buffer → is_there buffer ≡ true → fold (over-one x y) under (window_kept client nowhere place (Some (counting_of k)) ∷ lents) ≡ fold
+      by : (buffer : Option Buffer) → (applied s.history).buffer ≡ buffer → is_there buffer ≡ true → fold (over-one x y) under (window_kept client nowhere place (Some
+          (counting_of k)) ∷ lents) ≡ fold
           (over d x y) under ((window_with owner surface (corner_at place s.history) (applied s.history) buffer ++ []) ++ ws)
       by None e there = absurd (cc)
       by (Some b) e there =
@@ -241,7 +243,8 @@ bit-set : (n : ℕ) (b : Bool) → n ≡ bit b → nat_lt 0 n ≡ true → b ≡
 bit-set n true e f = refl
 bit-set n false e f = absurd (differ (sym (ap (nat_lt 0) e) ∙ f))
 
-module _ (x y : ℤ) (owner : Owner) (surface : ℕ) (corner : Place) (t : ℕ) (a : Attached) (area : Area) (opaque : List Change) (input : Option (List Change)) (covers : Covers area.rects opaque) where
+module _ (x y : ℤ) (owner : Owner) (surface : ℕ) (corner : Place) (t : ℕ) (a : Attached) (area : Area) (opaque : List Change) (input : Option (List Change))
+    (covers : Covers area.rects opaque) where
   abbrev here : Window
   here = window x y owner surface corner t a area opaque input
 
@@ -292,7 +295,8 @@ module _ (x y : ℤ) (d : Desktop) (client : Option ClientView) (owner : Owner) 
   said-there corner v area (Some a) b e covers so =
       let one : buffer_of a ≡ b = ap (buffer-in b) e in
       let of-a : IsSo d x y (window_showing owner surface corner v (buffer_of a)) = subst (λ (c : Buffer). IsSo d x y (window_showing owner surface corner v c)) (sym one) so in
-      let read = now-from (window x y owner surface corner v.transform a area v.opaque v.input) (client_at owner.client d) ∙ ap (λ (o : Option Stock). bytes_or (bytes_from a.store o)) (sym same) in
+      let read = now-from (window x y owner surface corner v.transform a area v.opaque v.input) (client_at owner.client d) ∙ ap (λ (o : Option Stock). bytes_or (bytes_from a.store o))
+      (sym same) in
       let so-read = subst (λ (bytes : List ℕ). IsSoOf x y owner surface corner v.transform a area v.opaque v.input covers
       (pixel_at bytes (buffer_of a) (point x y owner surface corner v.transform a area v.opaque v.input))) read of-a in
       subst (λ (p : Option Shown). IsLentSo x y (lent_window corner area p)) (sym (shown-from client (transform_of v.transform) a))

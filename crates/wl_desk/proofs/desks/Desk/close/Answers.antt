@@ -10,24 +10,28 @@ use Rattle.wl_desk.proofs.desks.Desk.close.Goals as goal
 
 pub returns-in_default-clause-step : goal.returns-in_default-clause-step
 returns-in_default-clause-step g c =
-    steps-nobody c.args.client c.args.self.now c.args.self.now (missing c.self.inside.output c.self.inside.residents.items c.self.inside.scene c.self.inside.damage _ _ _ c.deref.ensures.value c.in_default.ensures.none c.self.view_is) refl (Close c.args.client) (gave.Close false)
+    steps-nobody c.args.client c.args.self.now c.args.self.now (missing c.self.inside.output c.self.inside.residents.items c.self.inside.scene c.self.inside.damage _ _ _
+    c.deref.ensures.value c.in_default.ensures.none c.self.view_is) refl (Close c.args.client) (gave.Close false)
     (λ d free a. Changes-none IsClosed (gave.Close false) _ d _ free a)
 
 pub returns-in_default-clause-marks : goal.returns-in_default-clause-marks
 returns-in_default-clause-marks g c =
-    marks-nobody c.args.client _ _ (missing c.self.inside.output c.self.inside.residents.items c.self.inside.scene c.self.inside.damage _ _ _ c.deref.ensures.value c.in_default.ensures.none c.self.view_is) refl (Close c.args.client) tt (gave.Close false)
+    marks-nobody c.args.client _ _ (missing c.self.inside.output c.self.inside.residents.items c.self.inside.scene c.self.inside.damage _ _ _ c.deref.ensures.value
+    c.in_default.ensures.none c.self.view_is) refl (Close c.args.client) tt (gave.Close false)
     (λ d e free a. none-marks IsClosed (gave.Close false) (gave.Close false) _ _ d e _ free a)
 
 pub returns-in_default-index-clause-step : goal.returns-in_default-index-clause-step
 returns-in_default-index-clause-step g c =
     steps-nobody c.args.client c.args.self.now c.args.self.now
-    (missing c.self.inside.output c.self.inside.residents.items c.self.inside.scene c.self.inside.damage _ _ _ refl (empty-slot _ _ _ _ _ c.deref.ensures.value c.in-Some.ensures.some c.index.ensures c.in_default-index.is).0 c.self.view_is) refl (Close c.args.client) (gave.Close false)
+    (missing c.self.inside.output c.self.inside.residents.items c.self.inside.scene c.self.inside.damage _ _ _ refl (empty-slot _ _ _ _ _ c.deref.ensures.value
+    c.in-Some.ensures.some c.index.ensures c.in_default-index.is).0 c.self.view_is) refl (Close c.args.client) (gave.Close false)
     (λ d free a. Changes-none IsClosed (gave.Close false) _ d _ free a)
 
 pub returns-in_default-index-clause-marks : goal.returns-in_default-index-clause-marks
 returns-in_default-index-clause-marks g c =
     marks-nobody c.args.client _ _
-    (missing c.self.inside.output c.self.inside.residents.items c.self.inside.scene c.self.inside.damage _ _ _ refl (empty-slot _ _ _ _ _ c.deref.ensures.value c.in-Some.ensures.some c.index.ensures c.in_default-index.is).0 c.self.view_is) refl (Close c.args.client) tt (gave.Close false)
+    (missing c.self.inside.output c.self.inside.residents.items c.self.inside.scene c.self.inside.damage _ _ _ refl (empty-slot _ _ _ _ _ c.deref.ensures.value
+    c.in-Some.ensures.some c.index.ensures c.in_default-index.is).0 c.self.view_is) refl (Close c.args.client) tt (gave.Close false)
     (λ d e free a. none-marks IsClosed (gave.Close false) (gave.Close false) _ _ d e _ free a)
 
 pub returns-then-not-has_ended-clause-step : goal.returns-then-not-has_ended-clause-step
@@ -40,7 +44,8 @@ pub returns-then-not-has_ended-clause-marks : goal.returns-then-not-has_ended-cl
 returns-then-not-has_ended-clause-marks g c =
     steps-marked (Close c.args.client) tt _ c.args.self.now.desk c.args.self.now.damage c.args.self.now.damage (λ d e a steps. rw (← c.self.view_is)
     (unclosed-marks c.self.inside.output c.self.inside.residents.items c.self.inside.scene c.args.client c.in-Some.k c.in-Some-index.resident
-    (found _ _ _ _ _ _ c.deref.ensures.value c.in-Some.ensures.some c.index.ensures c.in-Some-index.is) d (rw (← c.self.view_is) at a) (gave.Close false) e c.self.inside.damage (sym c.has_ended.ensures ∙ c.if-not-has_ended.true) steps))
+    (found _ _ _ _ _ _ c.deref.ensures.value c.in-Some.ensures.some c.index.ensures c.in-Some-index.is) d (rw (← c.self.view_is) at a) (gave.Close false) e c.self.inside.damage
+    (sym c.has_ended.ensures ∙ c.if-not-has_ended.true) steps))
 
 pub returns-clause-step : goal.returns-clause-step
 returns-clause-step g c =
@@ -53,7 +58,8 @@ pub returns-clause-marks : goal.returns-clause-marks
 returns-clause-marks g c =
     steps-marked (Close c.args.client) tt _ c.args.self.now.desk c.args.self.now.damage c.self.inside.damage (λ d e a steps. rw (← c.self.view_is)
     (closed-marks c.self.inside.output c.self.inside.residents.items c.self.inside.scene c.args.client c.in-Some.k c.in-Some-index.resident
-    (found _ _ _ _ _ _ c.deref.ensures.value c.in-Some.ensures.some c.index.ensures c.in-Some-index.is) d (rw (← c.self.view_is) at a) (gave.Close true) e c.self.inside.damage (sym c.has_ended.ensures ∙ c.if-not-has_ended.false) steps))
+    (found _ _ _ _ _ _ c.deref.ensures.value c.in-Some.ensures.some c.index.ensures c.in-Some-index.is) d (rw (← c.self.view_is) at a) (gave.Close true) e c.self.inside.damage (sym
+    c.has_ended.ensures ∙ c.if-not-has_ended.false) steps))
 
 pub returns-clause-sides : goal.returns-clause-sides
 returns-clause-sides g c = as-large _ _ c.self.view_is

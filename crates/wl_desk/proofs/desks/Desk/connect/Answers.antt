@@ -10,18 +10,21 @@ use Rattle.wl_desk.proofs.desks.Desk.connect.Goals as goal
 pub returns-in_default-clause-step : goal.returns-in_default-clause-step
 returns-in_default-clause-step g c =
     steps-whole Connect _ _ _ (λ d a. rw (← c.self.view_is)
-    (Connects-full c.self.inside.output c.self.inside.residents.items c.self.inside.scene d (c.in_default.ensures.lowest ∙ ap (λ xs. lowest xs) c.deref.ensures.value) (rw (← c.self.view_is) at a)))
+    (Connects-full c.self.inside.output c.self.inside.residents.items c.self.inside.scene d (c.in_default.ensures.lowest ∙ ap (λ xs. lowest xs) c.deref.ensures.value) (rw (←
+    c.self.view_is) at a)))
 
 pub returns-in_default-new-clause-step : goal.returns-in_default-new-clause-step
 returns-in_default-new-clause-step g c =
     steps-whole Connect _ _ _ (λ d a. rw (← c.self.view_is)
-    (Connects-refused c.self.inside.output c.self.inside.residents.items c.self.inside.scene d _ (c.in-Some.ensures.lowest ∙ ap (λ xs. lowest xs) c.deref.ensures.value) (rw (← c.self.view_is) at a)))
+    (Connects-refused c.self.inside.output c.self.inside.residents.items c.self.inside.scene d _ (c.in-Some.ensures.lowest ∙ ap (λ xs. lowest xs) c.deref.ensures.value) (rw (←
+    c.self.view_is) at a)))
 
 pub returns-clause-step : goal.returns-clause-step
 returns-clause-step g c =
     steps-whole Connect _ _ _ (λ d a.
     Connects-new c.self.inside.output c.self.inside.residents.items c.self.inside.scene c.in-Some.k (record { client = c.in-Ok.client; owned = c.bare.result }) d
-    (c.in-Some.ensures.lowest ∙ ap (λ xs. lowest xs) c.deref.ensures.value) (rw (← c.deref.ensures.value) c.in-Some.ensures.within) c.in-Ok.ensures c.bare.ensures (rw (← c.self.view_is) at a))
+    (c.in-Some.ensures.lowest ∙ ap (λ xs. lowest xs) c.deref.ensures.value) (rw (← c.deref.ensures.value) c.in-Some.ensures.within) c.in-Ok.ensures c.bare.ensures (rw (←
+    c.self.view_is) at a))
 
 pub returns-in_default-clause-marks : goal.returns-in_default-clause-marks
 returns-in_default-clause-marks g c =

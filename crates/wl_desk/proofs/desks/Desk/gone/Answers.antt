@@ -12,24 +12,28 @@ use Rattle.wl_desk.proofs.desks.Desk.gone.Goals as goal
 
 pub returns-in_default-clause-step : goal.returns-in_default-clause-step
 returns-in_default-clause-step g c =
-    steps-nobody c.args.client c.args.self.now c.args.self.now (missing c.self.inside.output c.self.inside.residents.items c.self.inside.scene c.self.inside.damage _ _ _ c.deref.ensures.value c.in_default.ensures.none c.self.view_is) refl (Leave c.args.client) (gave.Gone false)
+    steps-nobody c.args.client c.args.self.now c.args.self.now (missing c.self.inside.output c.self.inside.residents.items c.self.inside.scene c.self.inside.damage _ _ _
+    c.deref.ensures.value c.in_default.ensures.none c.self.view_is) refl (Leave c.args.client) (gave.Gone false)
     (λ d free a. Changes-none IsLeft (gave.Gone false) _ d _ free a)
 
 pub returns-in_default-clause-marks : goal.returns-in_default-clause-marks
 returns-in_default-clause-marks g c =
-    marks-nobody c.args.client _ _ (missing c.self.inside.output c.self.inside.residents.items c.self.inside.scene c.self.inside.damage _ _ _ c.deref.ensures.value c.in_default.ensures.none c.self.view_is) refl (Leave c.args.client) tt (gave.Gone false)
+    marks-nobody c.args.client _ _ (missing c.self.inside.output c.self.inside.residents.items c.self.inside.scene c.self.inside.damage _ _ _ c.deref.ensures.value
+    c.in_default.ensures.none c.self.view_is) refl (Leave c.args.client) tt (gave.Gone false)
     (λ d e free a. none-marks IsLeft (gave.Gone false) (gave.Gone false) _ _ d e _ free a)
 
 pub returns-in_default-index_mut-clause-step : goal.returns-in_default-index_mut-clause-step
 returns-in_default-index_mut-clause-step g c =
     let e = (empty-slot _ _ _ _ _ c.deref.ensures.value c.in-Some.ensures.some c.index_mut.ensures.value c.in_default-index_mut.is) in
-    steps-nobody c.args.client _ _ (missing c.self.inside.output c.self.inside.residents.items c.self.inside.scene c.self.inside.damage _ _ _ refl e.0 c.self.view_is) (still c.self.inside.output c.self.inside.residents.items c.self.inside.scene c.self.inside.damage _ _ e.1 c.self.view_is)
+    steps-nobody c.args.client _ _ (missing c.self.inside.output c.self.inside.residents.items c.self.inside.scene c.self.inside.damage _ _ _ refl e.0 c.self.view_is) (still
+    c.self.inside.output c.self.inside.residents.items c.self.inside.scene c.self.inside.damage _ _ e.1 c.self.view_is)
     (Leave c.args.client) (gave.Gone false) (λ d free a. Changes-none IsLeft (gave.Gone false) _ d _ free a)
 
 pub returns-in_default-index_mut-clause-marks : goal.returns-in_default-index_mut-clause-marks
 returns-in_default-index_mut-clause-marks g c =
     let e = (empty-slot _ _ _ _ _ c.deref.ensures.value c.in-Some.ensures.some c.index_mut.ensures.value c.in_default-index_mut.is) in
-    marks-nobody c.args.client _ _ (missing c.self.inside.output c.self.inside.residents.items c.self.inside.scene c.self.inside.damage _ _ _ refl e.0 c.self.view_is) (still c.self.inside.output c.self.inside.residents.items c.self.inside.scene c.self.inside.damage _ _ e.1 c.self.view_is)
+    marks-nobody c.args.client _ _ (missing c.self.inside.output c.self.inside.residents.items c.self.inside.scene c.self.inside.damage _ _ _ refl e.0 c.self.view_is) (still
+    c.self.inside.output c.self.inside.residents.items c.self.inside.scene c.self.inside.damage _ _ e.1 c.self.view_is)
     (Leave c.args.client) tt (gave.Gone false) (λ d e free a. none-marks IsLeft (gave.Gone false) (gave.Gone false) _ _ d e _ free a)
 
 pub returns-in_default-clause-within : goal.returns-in_default-clause-within
@@ -62,7 +66,8 @@ returns-clause-marks g c =
     steps-marked (Leave c.args.client) tt _ c.args.self.now.desk c.args.self.now.damage c.gone.new.damage (λ d e a steps.
     rw (← c.self.view_is) (goes-marks c.self.inside.output c.self.inside.residents.items c.self.inside.scene c.args.client c.in-Some.k c.in-Some-index_mut.resident
     (found _ _ _ _ _ _ c.deref.ensures.value c.in-Some.ensures.some c.index_mut.ensures.value c.in-Some-index_mut.is) d (rw (← c.self.view_is) at a)
-    IsLeft (gave.Gone false) (gave.Gone c.gone.result) c.gone.new.self c.gone.new.scene e c.self.inside.damage c.gone.new.damage c.gone.ensures.changes (λ p q r h k. h.0 ∙ sym k.0) c.gone.ensures.marks steps))
+    IsLeft (gave.Gone false) (gave.Gone c.gone.result) c.gone.new.self c.gone.new.scene e c.self.inside.damage c.gone.new.damage c.gone.ensures.changes (λ p q r h k. h.0 ∙ sym k.0)
+    c.gone.ensures.marks steps))
 
 pub returns-clause-within : goal.returns-clause-within
 returns-clause-within g c =

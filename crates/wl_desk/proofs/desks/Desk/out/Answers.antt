@@ -6,10 +6,12 @@ use Rattle.wl_desk.proofs.desks.Desk.out.Goals as goal
 
 pub returns-in_default : goal.returns-in_default
 returns-in_default g c =
-    λ d a. sym (ap (λ o. unsent_of o) (ap (λ o. peer_of o) (missing c.self.inside.output c.self.inside.residents.items c.self.inside.scene c.self.inside.damage _ _ _ c.deref.ensures.value (sym c.in_default.ensures) c.self.view_is d a.matches)))
+    λ d a. sym (ap (λ o. unsent_of o) (ap (λ o. peer_of o) (missing c.self.inside.output c.self.inside.residents.items c.self.inside.scene c.self.inside.damage _ _ _
+    c.deref.ensures.value (sym c.in_default.ensures) c.self.view_is d a.matches)))
 
 pub returns : goal.returns
 returns g c =
     λ d a.
-    let p = peer-read c.self.inside.output c.self.inside.residents.items c.self.inside.scene c.self.inside.damage _ _ c.args.client c.in-Some.resident.now d c.deref.ensures.value c.in-Some.ensures c.self.view_is a.matches in
+    let p = peer-read c.self.inside.output c.self.inside.residents.items c.self.inside.scene c.self.inside.damage _ _ c.args.client c.in-Some.resident.now d c.deref.ensures.value
+    c.in-Some.ensures c.self.view_is a.matches in
     rw p.1 (ap Some (c.unsent.ensures ∙ p.2.unsent))

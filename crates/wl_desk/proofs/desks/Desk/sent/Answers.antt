@@ -10,24 +10,28 @@ use Rattle.wl_desk.proofs.desks.Desk.sent.Goals as goal
 
 pub returns-in_default-clause-step : goal.returns-in_default-clause-step
 returns-in_default-clause-step g c =
-    steps-nobody c.args.client c.args.self.now c.args.self.now (missing c.self.inside.output c.self.inside.residents.items c.self.inside.scene c.self.inside.damage _ _ _ c.deref.ensures.value c.in_default.ensures.none c.self.view_is) refl (Send c.args.client c.args.count) (gave.Sent false)
+    steps-nobody c.args.client c.args.self.now c.args.self.now (missing c.self.inside.output c.self.inside.residents.items c.self.inside.scene c.self.inside.damage _ _ _
+    c.deref.ensures.value c.in_default.ensures.none c.self.view_is) refl (Send c.args.client c.args.count) (gave.Sent false)
     (λ d free a. Changes-none (IsSent c.args.count) (gave.Sent false) _ d _ free a)
 
 pub returns-in_default-clause-marks : goal.returns-in_default-clause-marks
 returns-in_default-clause-marks g c =
-    marks-nobody c.args.client _ _ (missing c.self.inside.output c.self.inside.residents.items c.self.inside.scene c.self.inside.damage _ _ _ c.deref.ensures.value c.in_default.ensures.none c.self.view_is) refl (Send c.args.client c.args.count) tt (gave.Sent false)
+    marks-nobody c.args.client _ _ (missing c.self.inside.output c.self.inside.residents.items c.self.inside.scene c.self.inside.damage _ _ _ c.deref.ensures.value
+    c.in_default.ensures.none c.self.view_is) refl (Send c.args.client c.args.count) tt (gave.Sent false)
     (λ d e free a. none-marks (IsSent c.args.count) (gave.Sent false) (gave.Sent false) _ _ d e _ free a)
 
 pub returns-in_default-index_mut-clause-step : goal.returns-in_default-index_mut-clause-step
 returns-in_default-index_mut-clause-step g c =
     let e = (empty-slot _ _ _ _ _ c.deref.ensures.value c.in-Some.ensures.some c.index_mut.ensures.value c.in_default-index_mut.is) in
-    steps-nobody c.args.client _ _ (missing c.self.inside.output c.self.inside.residents.items c.self.inside.scene c.self.inside.damage _ _ _ refl e.0 c.self.view_is) (still c.self.inside.output c.self.inside.residents.items c.self.inside.scene c.self.inside.damage _ _ e.1 c.self.view_is)
+    steps-nobody c.args.client _ _ (missing c.self.inside.output c.self.inside.residents.items c.self.inside.scene c.self.inside.damage _ _ _ refl e.0 c.self.view_is) (still
+    c.self.inside.output c.self.inside.residents.items c.self.inside.scene c.self.inside.damage _ _ e.1 c.self.view_is)
     (Send c.args.client c.args.count) (gave.Sent false) (λ d free a. Changes-none (IsSent c.args.count) (gave.Sent false) _ d _ free a)
 
 pub returns-in_default-index_mut-clause-marks : goal.returns-in_default-index_mut-clause-marks
 returns-in_default-index_mut-clause-marks g c =
     let e = (empty-slot _ _ _ _ _ c.deref.ensures.value c.in-Some.ensures.some c.index_mut.ensures.value c.in_default-index_mut.is) in
-    marks-nobody c.args.client _ _ (missing c.self.inside.output c.self.inside.residents.items c.self.inside.scene c.self.inside.damage _ _ _ refl e.0 c.self.view_is) (still c.self.inside.output c.self.inside.residents.items c.self.inside.scene c.self.inside.damage _ _ e.1 c.self.view_is)
+    marks-nobody c.args.client _ _ (missing c.self.inside.output c.self.inside.residents.items c.self.inside.scene c.self.inside.damage _ _ _ refl e.0 c.self.view_is) (still
+    c.self.inside.output c.self.inside.residents.items c.self.inside.scene c.self.inside.damage _ _ e.1 c.self.view_is)
     (Send c.args.client c.args.count) tt (gave.Sent false) (λ d e free a. none-marks (IsSent c.args.count) (gave.Sent false) (gave.Sent false) _ _ d e _ free a)
 
 pub returns-in_default-index_mut-clause-sides : goal.returns-in_default-index_mut-clause-sides
@@ -51,7 +55,8 @@ returns-clause-marks g c =
     steps-marked (Send c.args.client c.args.count) tt _ c.args.self.now.desk c.args.self.now.damage c.self.inside.damage (λ d e a steps.
     rw (← c.self.view_is) (changes-marks c.self.inside.output c.self.inside.residents.items c.self.inside.scene c.args.client c.in-Some.k c.in-Some-index_mut.resident
     (found _ _ _ _ _ _ c.deref.ensures.value c.in-Some.ensures.some c.index_mut.ensures.value c.in-Some-index_mut.is) d (rw (← c.self.view_is) at a)
-    (IsSent c.args.count) (gave.Sent false) (gave.Sent c.sent.result) c.sent.new.self e c.self.inside.damage (c.sent.ensures.changes c.args.client c.self.inside.scene) (λ p q r h k. h.0 ∙ sym k.0) (sent-status c.args.count (gave.Sent c.sent.result)) steps))
+    (IsSent c.args.count) (gave.Sent false) (gave.Sent c.sent.result) c.sent.new.self e c.self.inside.damage (c.sent.ensures.changes c.args.client c.self.inside.scene)
+    (λ p q r h k. h.0 ∙ sym k.0) (sent-status c.args.count (gave.Sent c.sent.result)) steps))
 
 pub returns-clause-sides : goal.returns-clause-sides
 returns-clause-sides g c = as-large _ _ c.self.view_is

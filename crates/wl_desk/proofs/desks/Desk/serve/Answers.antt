@@ -48,13 +48,15 @@ returns-in_default-index_mut-clause-less g c = λ some. absurd (some refl)
 
 pub returns-in_default-clause-more : goal.returns-in_default-clause-more
 returns-in_default-clause-more g c =
-    λ more. idles-nobody c.args.client c.args.self.now c.args.self.now (missing c.self.inside.output c.self.inside.residents.items c.self.inside.scene c.self.inside.damage _ _ _ c.deref.ensures.value c.in_default.ensures.none c.self.view_is) refl
+    λ more. idles-nobody c.args.client c.args.self.now c.args.self.now (missing c.self.inside.output c.self.inside.residents.items c.self.inside.scene c.self.inside.damage _ _ _
+    c.deref.ensures.value c.in_default.ensures.none c.self.view_is) refl
 
 pub returns-in_default-index_mut-clause-more : goal.returns-in_default-index_mut-clause-more
 returns-in_default-index_mut-clause-more g c =
     λ more.
     let e = (empty-slot _ _ _ _ _ c.deref.ensures.value c.in-Some.ensures.some c.index_mut.ensures.value c.in_default-index_mut.is) in
-    idles-nobody c.args.client _ _ (missing c.self.inside.output c.self.inside.residents.items c.self.inside.scene c.self.inside.damage _ _ _ refl e.0 c.self.view_is) (still c.self.inside.output c.self.inside.residents.items c.self.inside.scene c.self.inside.damage _ _ e.1 c.self.view_is)
+    idles-nobody c.args.client _ _ (missing c.self.inside.output c.self.inside.residents.items c.self.inside.scene c.self.inside.damage _ _ _ refl e.0 c.self.view_is) (still
+    c.self.inside.output c.self.inside.residents.items c.self.inside.scene c.self.inside.damage _ _ e.1 c.self.view_is)
 
 pub returns-in_default-index_mut-clause-rests : goal.returns-in_default-index_mut-clause-rests
 returns-in_default-index_mut-clause-rests g c = λ more. ap (λ (m : MarkedDesk). m.damage) c.self.view_is
@@ -70,20 +72,23 @@ returns-clause-serves g c =
     λ some. message-whole c.args.client _ _ (λ d a.
     serves c.self.inside.output c.self.inside.residents.items c.self.inside.scene c.args.client c.in-Some.k c.in-Some-index_mut.resident
     (found _ _ _ _ _ _ c.deref.ensures.value c.in-Some.ensures.some c.index_mut.ensures.value c.in-Some-index_mut.is) d (rw (← c.self.view_is) at a.matches)
-    c.serve_on-taken.new.self c.serve_on-taken.new.scene (λ r is. c.serve_on-taken.ensures.serves (served-took _ _ _ c.served_of.ensures some) (numbers_in (client_views c.self.inside.residents.items)) d d r is a.no_more))
+    c.serve_on-taken.new.self c.serve_on-taken.new.scene (λ r is. c.serve_on-taken.ensures.serves (served-took _ _ _ c.served_of.ensures some) (numbers_in (client_views
+    c.self.inside.residents.items)) d d r is a.no_more))
 
 pub returns-clause-told : goal.returns-clause-told
 returns-clause-told g c =
     λ some d a.
     serves-told c.self.inside.output c.self.inside.residents.items c.self.inside.scene c.serve_on-taken.new.scene c.args.client c.in-Some.k c.in-Some-index_mut.resident
-    (found _ _ _ _ _ _ c.deref.ensures.value c.in-Some.ensures.some c.index_mut.ensures.value c.in-Some-index_mut.is) c.serve_on-taken.new.self d _ (served-answer _ _ _ (c.served_of.ensures ∙ ap (served_as c.serve_on-taken.result) c.ended.ensures) some) a.matches
+    (found _ _ _ _ _ _ c.deref.ensures.value c.in-Some.ensures.some c.index_mut.ensures.value c.in-Some-index_mut.is) c.serve_on-taken.new.self d _ (served-answer _ _ _
+    (c.served_of.ensures ∙ ap (served_as c.serve_on-taken.result) c.ended.ensures) some) a.matches
 
 pub returns-clause-marks : goal.returns-clause-marks
 returns-clause-marks g c =
     λ some d e a step b.
     rw (← c.self.view_is) (serves-marks c.self.inside.output c.self.inside.residents.items c.self.inside.scene c.args.client c.in-Some.k c.in-Some-index_mut.resident
     (found _ _ _ _ _ _ c.deref.ensures.value c.in-Some.ensures.some c.index_mut.ensures.value c.in-Some-index_mut.is) d (rw (← c.self.view_is) at a.matches)
-    c.serve_on-taken.new.self c.serve_on-taken.new.scene e c.self.inside.damage c.serve_on-taken.new.damage a.no_more (c.serve_on-taken.ensures.marks (served-took _ _ _ c.served_of.ensures some) (numbers_in (client_views c.self.inside.residents.items)) d d) step b.matches)
+    c.serve_on-taken.new.self c.serve_on-taken.new.scene e c.self.inside.damage c.serve_on-taken.new.damage a.no_more (c.serve_on-taken.ensures.marks (served-took _ _ _
+    c.served_of.ensures some) (numbers_in (client_views c.self.inside.residents.items)) d d) step b.matches)
 
 pub returns-clause-within : goal.returns-clause-within
 returns-clause-within g c =
@@ -91,7 +96,8 @@ returns-clause-within g c =
     rw (← c.self.view_is) (serves-within c.self.inside.output c.self.inside.residents.items c.self.inside.scene c.args.client c.in-Some.k c.in-Some-index_mut.resident
     (found _ _ _ _ _ _ c.deref.ensures.value c.in-Some.ensures.some c.index_mut.ensures.value c.in-Some-index_mut.is) d (rw (← c.self.view_is) at a.matches)
     c.serve_on-taken.new.self c.serve_on-taken.new.scene e c.self.inside.damage c.serve_on-taken.new.damage a.no_more
-    (λ r width height. c.serve_on-taken.ensures.within (served-took _ _ _ c.served_of.ensures some) (numbers_in (client_views c.self.inside.residents.items)) d d r width height) c.self.invariant.1 step b.matches)
+    (λ r width height. c.serve_on-taken.ensures.within (served-took _ _ _ c.served_of.ensures some) (numbers_in (client_views c.self.inside.residents.items)) d d r width height)
+    c.self.invariant.1 step b.matches)
 
 pub returns-clause-through : goal.returns-clause-through
 returns-clause-through g c =
@@ -99,7 +105,8 @@ returns-clause-through g c =
     rw (← c.self.view_is) (serves-through c.self.inside.output c.self.inside.residents.items c.self.inside.scene c.args.client c.in-Some.k c.in-Some-index_mut.resident
     (found _ _ _ _ _ _ c.deref.ensures.value c.in-Some.ensures.some c.index_mut.ensures.value c.in-Some-index_mut.is) d (rw (← c.self.view_is) at a.matches)
     c.serve_on-taken.new.self c.serve_on-taken.new.scene c.self.inside.damage c.serve_on-taken.new.damage a.no_more
-    (λ r width height. c.serve_on-taken.ensures.through (served-took _ _ _ c.served_of.ensures some) (numbers_in (client_views c.self.inside.residents.items)) d d r width height) c.self.invariant.1))
+    (λ r width height. c.serve_on-taken.ensures.through (served-took _ _ _ c.served_of.ensures some) (numbers_in (client_views c.self.inside.residents.items)) d d r width height)
+    c.self.invariant.1))
 
 pub returns-clause-more : goal.returns-clause-more
 returns-clause-more g c =
@@ -117,7 +124,8 @@ pub returns-clause-less : goal.returns-clause-less
 returns-clause-less g c =
     λ some.
     rw (← c.self.view_is) (rest-less c.self.inside.output c.self.inside.residents.items c.self.inside.scene c.serve_on-taken.new.scene c.args.client c.in-Some.k c.in-Some-index_mut.resident
-    (found _ _ _ _ _ _ c.deref.ensures.value c.in-Some.ensures.some c.index_mut.ensures.value c.in-Some-index_mut.is) c.serve_on-taken.new.self (c.serve_on-taken.ensures.less (served-took _ _ _ c.served_of.ensures some)))
+    (found _ _ _ _ _ _ c.deref.ensures.value c.in-Some.ensures.some c.index_mut.ensures.value c.in-Some-index_mut.is) c.serve_on-taken.new.self (c.serve_on-taken.ensures.less
+    (served-took _ _ _ c.served_of.ensures some)))
 
 pub returns-clause-sides : goal.returns-clause-sides
 returns-clause-sides g c = rw (← c.self.view_is) c.serve_on-taken.ensures.sides

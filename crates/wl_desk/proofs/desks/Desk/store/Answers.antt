@@ -11,25 +11,31 @@ use Rattle.wl_desk.proofs.desks.Desk.store.Goals as goal
 
 pub returns-in_default-clause-step : goal.returns-in_default-clause-step
 returns-in_default-clause-step g c =
-    steps-nobody c.args.client c.args.self.now c.args.self.now (missing c.self.inside.output c.self.inside.residents.items c.self.inside.scene c.self.inside.damage _ _ _ c.deref.ensures.value c.in_default.ensures.none c.self.view_is) refl (Store c.args.client c.args.store c.args.at c.args.bytes.now) (gave.Store stored.NoClient)
+    steps-nobody c.args.client c.args.self.now c.args.self.now (missing c.self.inside.output c.self.inside.residents.items c.self.inside.scene c.self.inside.damage _ _ _
+    c.deref.ensures.value c.in_default.ensures.none c.self.view_is) refl (Store c.args.client c.args.store c.args.at c.args.bytes.now) (gave.Store stored.NoClient)
     (λ d free a. Changes-none (IsStored c.args.store c.args.at c.args.bytes.now) (gave.Store stored.NoClient) _ d _ free a)
 
 pub returns-in_default-clause-marks : goal.returns-in_default-clause-marks
 returns-in_default-clause-marks g c =
-    marks-nobody c.args.client _ _ (missing c.self.inside.output c.self.inside.residents.items c.self.inside.scene c.self.inside.damage _ _ _ c.deref.ensures.value c.in_default.ensures.none c.self.view_is) refl (Store c.args.client c.args.store c.args.at c.args.bytes.now) tt (gave.Store stored.NoClient)
+    marks-nobody c.args.client _ _ (missing c.self.inside.output c.self.inside.residents.items c.self.inside.scene c.self.inside.damage _ _ _ c.deref.ensures.value
+    c.in_default.ensures.none c.self.view_is) refl (Store c.args.client c.args.store c.args.at c.args.bytes.now) tt (gave.Store stored.NoClient)
     (λ d e free a. none-marks (IsStored c.args.store c.args.at c.args.bytes.now) (gave.Store stored.NoClient) (gave.Store stored.NoClient) _ _ d e _ free a)
 
 pub returns-in_default-index_mut-clause-step : goal.returns-in_default-index_mut-clause-step
 returns-in_default-index_mut-clause-step g c =
     let e = (empty-slot _ _ _ _ _ c.deref.ensures.value c.in-Some.ensures.some c.index_mut.ensures.value c.in_default-index_mut.is) in
-    steps-nobody c.args.client _ _ (missing c.self.inside.output c.self.inside.residents.items c.self.inside.scene c.self.inside.damage _ _ _ refl e.0 c.self.view_is) (still c.self.inside.output c.self.inside.residents.items c.self.inside.scene c.self.inside.damage _ _ e.1 c.self.view_is)
-    (Store c.args.client c.args.store c.args.at c.args.bytes.now) (gave.Store stored.NoClient) (λ d free a. Changes-none (IsStored c.args.store c.args.at c.args.bytes.now) (gave.Store stored.NoClient) _ d _ free a)
+    steps-nobody c.args.client _ _ (missing c.self.inside.output c.self.inside.residents.items c.self.inside.scene c.self.inside.damage _ _ _ refl e.0 c.self.view_is) (still
+    c.self.inside.output c.self.inside.residents.items c.self.inside.scene c.self.inside.damage _ _ e.1 c.self.view_is)
+    (Store c.args.client c.args.store c.args.at c.args.bytes.now) (gave.Store stored.NoClient) (λ d free a. Changes-none (IsStored c.args.store c.args.at c.args.bytes.now)
+    (gave.Store stored.NoClient) _ d _ free a)
 
 pub returns-in_default-index_mut-clause-marks : goal.returns-in_default-index_mut-clause-marks
 returns-in_default-index_mut-clause-marks g c =
     let e = (empty-slot _ _ _ _ _ c.deref.ensures.value c.in-Some.ensures.some c.index_mut.ensures.value c.in_default-index_mut.is) in
-    marks-nobody c.args.client _ _ (missing c.self.inside.output c.self.inside.residents.items c.self.inside.scene c.self.inside.damage _ _ _ refl e.0 c.self.view_is) (still c.self.inside.output c.self.inside.residents.items c.self.inside.scene c.self.inside.damage _ _ e.1 c.self.view_is)
-    (Store c.args.client c.args.store c.args.at c.args.bytes.now) tt (gave.Store stored.NoClient) (λ d e free a. none-marks (IsStored c.args.store c.args.at c.args.bytes.now) (gave.Store stored.NoClient) (gave.Store stored.NoClient) _ _ d e _ free a)
+    marks-nobody c.args.client _ _ (missing c.self.inside.output c.self.inside.residents.items c.self.inside.scene c.self.inside.damage _ _ _ refl e.0 c.self.view_is) (still
+    c.self.inside.output c.self.inside.residents.items c.self.inside.scene c.self.inside.damage _ _ e.1 c.self.view_is)
+    (Store c.args.client c.args.store c.args.at c.args.bytes.now) tt (gave.Store stored.NoClient) (λ d e free a. none-marks (IsStored c.args.store c.args.at c.args.bytes.now)
+    (gave.Store stored.NoClient) (gave.Store stored.NoClient) _ _ d e _ free a)
 
 pub returns-in_default-index_mut-clause-sides : goal.returns-in_default-index_mut-clause-sides
 returns-in_default-index_mut-clause-sides g c = as-large _ _ c.self.view_is
@@ -45,14 +51,16 @@ returns-clause-step g c =
     steps-whole (Store c.args.client c.args.store c.args.at c.args.bytes.now) _ _ _ (λ d a.
     changes c.self.inside.output c.self.inside.residents.items c.self.inside.scene c.args.client c.in-Some.k c.in-Some-index_mut.resident
     (found _ _ _ _ _ _ c.deref.ensures.value c.in-Some.ensures.some c.index_mut.ensures.value c.in-Some-index_mut.is) d (rw (← c.self.view_is) at a)
-    (IsStored c.args.store c.args.at c.args.bytes.now) (gave.Store stored.NoClient) (gave.Store c.store.result) c.store.new.self c.self.inside.scene (c.store.ensures.changes c.args.client c.self.inside.scene))
+    (IsStored c.args.store c.args.at c.args.bytes.now) (gave.Store stored.NoClient) (gave.Store c.store.result) c.store.new.self c.self.inside.scene (c.store.ensures.changes
+    c.args.client c.self.inside.scene))
 
 pub returns-clause-marks : goal.returns-clause-marks
 returns-clause-marks g c =
     steps-marked (Store c.args.client c.args.store c.args.at c.args.bytes.now) tt _ c.args.self.now.desk c.args.self.now.damage c.self.inside.damage (λ d e a steps.
     rw (← c.self.view_is) (changes-marks c.self.inside.output c.self.inside.residents.items c.self.inside.scene c.args.client c.in-Some.k c.in-Some-index_mut.resident
     (found _ _ _ _ _ _ c.deref.ensures.value c.in-Some.ensures.some c.index_mut.ensures.value c.in-Some-index_mut.is) d (rw (← c.self.view_is) at a)
-    (IsStored c.args.store c.args.at c.args.bytes.now) (gave.Store stored.NoClient) (gave.Store c.store.result) c.store.new.self e c.self.inside.damage (c.store.ensures.changes c.args.client c.self.inside.scene) (λ p q r h k. h.0 ∙ sym k.0) (stored-status c.args.store c.args.at c.args.bytes.now (gave.Store c.store.result)) steps))
+    (IsStored c.args.store c.args.at c.args.bytes.now) (gave.Store stored.NoClient) (gave.Store c.store.result) c.store.new.self e c.self.inside.damage (c.store.ensures.changes
+    c.args.client c.self.inside.scene) (λ p q r h k. h.0 ∙ sym k.0) (stored-status c.args.store c.args.at c.args.bytes.now (gave.Store c.store.result)) steps))
 
 pub returns-clause-sides : goal.returns-clause-sides
 returns-clause-sides g c = as-large _ _ c.self.view_is

@@ -9,12 +9,14 @@ use Rattle.wl_desk.proofs.desks.Desk.tell_frames.Goals as goal
 
 pub returns-in_default-clause-tells : goal.returns-in_default-clause-tells
 returns-in_default-clause-tells g c =
-    tells-nobody c.args.time c.args.client _ _ _ (missing c.self.inside.output c.self.inside.residents.items c.self.inside.scene c.self.inside.damage _ _ _ c.deref.ensures.value c.in_default.ensures.none c.self.view_is) c.self.view_is refl c.self.invariant.1
+    tells-nobody c.args.time c.args.client _ _ _ (missing c.self.inside.output c.self.inside.residents.items c.self.inside.scene c.self.inside.damage _ _ _ c.deref.ensures.value
+    c.in_default.ensures.none c.self.view_is) c.self.view_is refl c.self.invariant.1
 
 pub returns-in_default-index_mut-clause-tells : goal.returns-in_default-index_mut-clause-tells
 returns-in_default-index_mut-clause-tells g c =
     let e = (empty-slot _ _ _ _ _ c.deref.ensures.value c.in-Some.ensures.some c.index_mut.ensures.value c.in_default-index_mut.is) in
-    tells-nobody c.args.time c.args.client _ _ _ (missing c.self.inside.output c.self.inside.residents.items c.self.inside.scene c.self.inside.damage _ _ _ refl e.0 c.self.view_is) c.self.view_is (still c.self.inside.output c.self.inside.residents.items c.self.inside.scene c.self.inside.damage _ _ e.1 c.self.view_is) c.self.invariant.1
+    tells-nobody c.args.time c.args.client _ _ _ (missing c.self.inside.output c.self.inside.residents.items c.self.inside.scene c.self.inside.damage _ _ _ refl e.0 c.self.view_is)
+    c.self.view_is (still c.self.inside.output c.self.inside.residents.items c.self.inside.scene c.self.inside.damage _ _ e.1 c.self.view_is) c.self.invariant.1
 
 pub returns-clause-tells : goal.returns-clause-tells
 returns-clause-tells g c =
