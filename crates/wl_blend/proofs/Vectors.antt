@@ -1,5 +1,6 @@
 -- Vectors of sixteen lanes, lane by lane.
-use Rattle.std.proofs.Common.{◌≡◌, ℕ, zero, suc, ◌+◌, ◌-◌, ◌*◌, ◌/◌, ◌%◌, ◌^◌, ◌<◌, ◌≤◌, min, List, [], ◌∷◌, ◌++◌, map, length, get_or, Bool, true, false, not, cond, refl, ap, sym, ◌∙◌, eq-eqb, arith, w8, bit_or}
+use Rattle.std.proofs.Common.{◌≡◌, ℕ, zero, suc, ◌+◌, ◌-◌, ◌*◌, ◌/◌, ◌%◌, ◌^◌, ◌<◌, ◌≤◌, min, List, [], ◌∷◌, ◌++◌, map, length, get_or, Bool, true, false, not, cond, refl, ap, sym, ◌∙◌, eq-eqb, arith}
+use Rattle.std.proofs.Common.{w8, bit_or}
 use Rattle.std.specs.Prelude.{slice_index, replicate, nat_eq, IsTrue, ◌↔◌}
 use Rattle.std.specs.Simd.Lanes.{zip2, pick_l, sel_l, top}
 use Rattle.std.proofs.lemmas.Bool.{eqb-true, agree_below_at}

@@ -15,14 +15,16 @@ use Rattle.wl_scene.specs.Lent.{shown_by, shown_with, slots_lent, slots_of}
 use Rattle.wl_scene.specs.Stacking.{Owned, Standing, standing_of}
 
 -- what is lent of a client, by a look at its place
-pub slots-at : {A : Type 0} (lent : List (Option (Lent A))) (c index : ℕ) (slot : Option (Lent A)) → 1 ≤ c → index ≡ c - 1 → true ≡ nat_lt index (length lent) → slot ≡ get_or lent index slot → slots_of slot ≡ slots_lent lent c
+pub slots-at : {A : Type 0} (lent : List (Option (Lent A))) (c index : ℕ) (slot : Option (Lent A)) → 1 ≤ c → index ≡ c - 1 → true ≡ nat_lt index (length lent) → slot ≡ get_or lent index slot
+    → slots_of slot ≡ slots_lent lent c
 slots-at lent zero index slot some is within e = absurd (omega (arith, some))
 slots-at lent (suc n) index slot some is within e =
     let same : index ≡ n = omega (arith, is) in
     let less : index < length lent = grind (arith, nat_tests) in
     ap slots_of (sym (get_or_from_slice_get lent index slot None (slice_get_read lent (length lent) index slot refl less e)) ∙ ap (λ i. get_or lent i None) same)
 
-pub shown-at : (owned : ℕ → Owned) (ts : List Toplevel) (k : ℕ) (t : Toplevel) (r : Told) → slice_get ts k ≡ Some t → r ≡ shown_by owned (standing_of t) → slice_get (map (shown_by owned) (map standing_of ts)) k ≡ Some r
+pub shown-at : (owned : ℕ → Owned) (ts : List Toplevel) (k : ℕ) (t : Toplevel) (r : Told) → slice_get ts k ≡ Some t → r ≡ shown_by owned (standing_of t)
+    → slice_get (map (shown_by owned) (map standing_of ts)) k ≡ Some r
 shown-at owned ts k t r e f =
     slice_get-map (shown_by owned) (map standing_of ts) k
     ∙ ap (λ o. option_map (shown_by owned) o) (slice_get-map standing_of ts k ∙ ap (λ o. option_map standing_of o) e)

@@ -4,7 +4,8 @@ use Rattle.std.specs.Prelude.{◌==◌, cond, flat_map, fold, not}
 use Rattle.std.specs.List.{list_any}
 use Rattle.std.proofs.lemmas.Grind.{flat_map-append}
 use Rattle.std.proofs.lemmas.List.{append-nil, length-map, map-append}
-use Rattle.wl_surface.specs.Request.{Buffer, Member, Itself, Child, Request, Attach, Damage, Frame, SetOpaqueRegion, SetInputRegion, SetBufferTransform, SetWindowGeometry, Commit, AddChild, SetPosition, PlaceAbove, PlaceBelow}
+use Rattle.wl_surface.specs.Request.{Buffer, Member, Itself, Child, Request, Attach, Damage, Frame, SetOpaqueRegion, SetInputRegion, SetBufferTransform, SetWindowGeometry, Commit, AddChild}
+use Rattle.wl_surface.specs.Request.{SetPosition, PlaceAbove, PlaceBelow}
 use Rattle.wl_surface.specs.State.{History, Values, above, applied, below, counting, height_of, is_member, order, ordered, width_of, without}
 use Rattle.wl_surface.specs.Surfaces.{Surfaces, history_in, is_there}
 use Rattle.wl_scene.specs.Lent.{AllShow, shown_by, shown_with, shows_buffer, told}
@@ -72,28 +73,34 @@ all-same f none xs (r ∷ rs) = all-same f none (ordered xs r) rs ∙ ordered-sa
 pub order-once : {X : Type 0} (f : Member → List X) → ChildrenGiveNone f → (rs : List Request) → flat_map f (order rs) ≡ f Itself
 order-once f none rs = all-same f none (Itself ∷ []) rs ∙ append-nil (f Itself)
 
-pub no-child : (next : ℕ → Place → List Window) (owner : Owner) (surfaces : Surfaces) (surface : ℕ) (h : History) (corner : Place) → surfaces.links ≡ [] → ChildrenGiveNone (member_windows next owner surfaces surface h corner)
+pub no-child : (next : ℕ → Place → List Window) (owner : Owner) (surfaces : Surfaces) (surface : ℕ) (h : History) (corner : Place) → surfaces.links ≡ []
+    → ChildrenGiveNone (member_windows next owner surfaces surface h corner)
 no-child next owner surfaces surface h corner unlinked l = rw unlinked refl
 
 -- what a surface that shows a buffer gives, with its children
-shown-once : (next : ℕ → Place → List Window) (owner : Owner) (surfaces : Surfaces) (surface : ℕ) (h : History) (corner : Place) (buffer : Option Buffer) → surfaces.links ≡ [] → is_there buffer ≡ true → shown_windows next owner surfaces surface h corner buffer ≡ window_of owner surface corner h
+shown-once : (next : ℕ → Place → List Window) (owner : Owner) (surfaces : Surfaces) (surface : ℕ) (h : History) (corner : Place) (buffer : Option Buffer) → surfaces.links ≡ [] → is_there buffer ≡ true
+    → shown_windows next owner surfaces surface h corner buffer ≡ window_of owner surface corner h
 shown-once next owner surfaces surface h corner None unlinked there = absurd (cc)
 shown-once next owner surfaces surface h corner (Some buffer) unlinked there =
     order-once (member_windows next owner surfaces surface h corner) (no-child next owner surfaces surface h corner unlinked) (counting h)
 
 -- a window as it is told
-told-window : (owner : Owner) (surface : ℕ) (corner : Place) (v : Values) (buffer : Option Buffer) → is_there buffer ≡ true → map told (window_with owner surface corner v buffer) ≡ record { surface = record { client = owner.client; surface = surface }; x = corner.x; y = corner.y; w = width_of buffer v.transform; h = height_of buffer v.transform } ∷ []
+told-window : (owner : Owner) (surface : ℕ) (corner : Place) (v : Values) (buffer : Option Buffer) → is_there buffer ≡ true
+    → map told (window_with owner surface corner v buffer)
+    ≡ record { surface = record { client = owner.client; surface = surface }; x = corner.x; y = corner.y; w = width_of buffer v.transform; h = height_of buffer v.transform } ∷ []
 told-window owner surface corner v None there = absurd (cc)
 told-window owner surface corner v (Some buffer) there = refl
 
-told-surface : (next : ℕ → Place → List Window) (owner : Owner) (surfaces : Surfaces) (surface : ℕ) (place : Place) (h : Option History) → surfaces.links ≡ [] → shows_buffer h ≡ true → map told (surface_windows next owner surfaces surface place h) ≡ shown_with (record { client = owner.client; surface = surface; place = place }) h ∷ []
+told-surface : (next : ℕ → Place → List Window) (owner : Owner) (surfaces : Surfaces) (surface : ℕ) (place : Place) (h : Option History) → surfaces.links ≡ [] → shows_buffer h ≡ true
+    → map told (surface_windows next owner surfaces surface place h) ≡ shown_with (record { client = owner.client; surface = surface; place = place }) h ∷ []
 told-surface next owner surfaces surface place None unlinked shown = absurd (cc)
 told-surface next owner surfaces surface place (Some h) unlinked shown =
     ap (λ ws. map told ws) (shown-once next owner surfaces surface h (corner_at place h) (applied h).buffer unlinked shown)
     ∙ told-window owner surface (corner_at place h) (applied h) (applied h).buffer shown
 
 -- the tree of a surface, down to any number of levels
-told-tree : (levels : ℕ) (owner : Owner) (surfaces : Surfaces) (surface : ℕ) (place : Place) → surfaces.links ≡ [] → shows_buffer (history_in surface surfaces) ≡ true → map told (tree (suc levels) owner surfaces surface place) ≡ shown_with (record { client = owner.client; surface = surface; place = place }) (history_in surface surfaces) ∷ []
+told-tree : (levels : ℕ) (owner : Owner) (surfaces : Surfaces) (surface : ℕ) (place : Place) → surfaces.links ≡ [] → shows_buffer (history_in surface surfaces) ≡ true
+    → map told (tree (suc levels) owner surfaces surface place) ≡ shown_with (record { client = owner.client; surface = surface; place = place }) (history_in surface surfaces) ∷ []
 unfolding tree
 told-tree levels owner surfaces surface place unlinked shown =
     told-surface (λ child at. tree levels owner surfaces child at) owner surfaces surface place (history_in surface surfaces) unlinked shown
@@ -101,7 +108,8 @@ told-tree levels owner surfaces surface place unlinked shown =
 one-more : (ws more : List Window) (t : Told) (ts : List Told) → map told ws ≡ t ∷ [] → map told more ≡ ts → map told (ws ++ more) ≡ t ∷ ts
 one-more ws more t ts e f = map-append told ws more ∙ rw (e, f) refl
 
-pub windows-told : (owned : ℕ → Owned) (standing : List Standing) → ((c : ℕ) → (owned c).surfaces.links ≡ []) → AllShow owned standing → map told (windows_on owned standing) ≡ map (shown_by owned) standing
+pub windows-told : (owned : ℕ → Owned) (standing : List Standing) → ((c : ℕ) → (owned c).surfaces.links ≡ []) → AllShow owned standing
+    → map told (windows_on owned standing) ≡ map (shown_by owned) standing
 windows-told owned [] unlinked show = refl
 windows-told owned (s ∷ ss) unlinked show =
     one-more _ (windows_on owned ss) (shown_by owned s) (map (shown_by owned) ss)

@@ -16,7 +16,8 @@ pub map-filter : {X Y : Type 0} (f : X → Y) (p : Y → Bool) (xs : List X) →
 map-filter f p [] = refl
 map-filter f p (x ∷ xs) = at (p (f x)) (map-filter f p xs)
   where
-    at : (b : Bool) → map f (filter (λ x. p (f x)) xs) ≡ filter p (map f xs) → map f (cond b (x ∷ filter (λ x. p (f x)) xs) (filter (λ x. p (f x)) xs)) ≡ cond b (f x ∷ filter p (map f xs)) (filter p (map f xs))
+    at : (b : Bool) → map f (filter (λ x. p (f x)) xs) ≡ filter p (map f xs)
+        → map f (cond b (x ∷ filter (λ x. p (f x)) xs) (filter (λ x. p (f x)) xs)) ≡ cond b (f x ∷ filter p (map f xs)) (filter p (map f xs))
     at true e = ap (λ ys. f x ∷ ys) e
     at false e = e
 
@@ -29,7 +30,8 @@ abbrev pub is_at : ℕ → ℕ → Toplevel → Bool
 is_at c s t = is_of c s (standing_of t)
 
 -- the first toplevel of a surface moves up to the top
-raised-at : (c s : ℕ) (xs : List Toplevel) (k : ℕ) → k < length xs → is_at c s (get_or xs k nobody) ≡ true → ((j : ℕ) → j < k → is_at c s (get_or xs j nobody) ≡ false) → map standing_of (remove xs k ++ get_or xs k nobody ∷ []) ≡ raised c s (map standing_of xs)
+raised-at : (c s : ℕ) (xs : List Toplevel) (k : ℕ) → k < length xs → is_at c s (get_or xs k nobody) ≡ true → ((j : ℕ) → j < k → is_at c s (get_or xs j nobody) ≡ false)
+    → map standing_of (remove xs k ++ get_or xs k nobody ∷ []) ≡ raised c s (map standing_of xs)
 raised-at c s [] k h here before = absurd (omega arith)
 raised-at c s (x ∷ xs) zero h here before = rw here (map-append standing_of xs (x ∷ []))
 raised-at c s (x ∷ xs) (suc k) h here before =
@@ -50,7 +52,8 @@ this-at c s place t h =
     let surface = eqb-true t.surface s (and-right (t.client == c) (t.surface == s) h) in
     rw (client, surface) refl
 
-moved-at : (c s : ℕ) (place : Place) (y : Toplevel) (xs : List Toplevel) (k : ℕ) → standing_of y ≡ record { client = c; surface = s; place = place } → k < length xs → is_at c s (get_or xs k nobody) ≡ true → ((j : ℕ) → j < k → is_at c s (get_or xs j nobody) ≡ false) → map standing_of (set xs k y) ≡ moved_to c s place (map standing_of xs)
+moved-at : (c s : ℕ) (place : Place) (y : Toplevel) (xs : List Toplevel) (k : ℕ) → standing_of y ≡ record { client = c; surface = s; place = place } → k < length xs
+    → is_at c s (get_or xs k nobody) ≡ true → ((j : ℕ) → j < k → is_at c s (get_or xs j nobody) ≡ false) → map standing_of (set xs k y) ≡ moved_to c s place (map standing_of xs)
 moved-at c s place y [] k is h here before = absurd (omega arith)
 moved-at c s place y (x ∷ xs) zero is h here before = rw here (ap (λ t. t ∷ map standing_of xs) (is ∙ sym (this-at c s place (standing_of x) here)))
 moved-at c s place y (x ∷ xs) (suc k) is h here before =
@@ -78,7 +81,8 @@ absent c s xs e j less =
 pub raised-found : (c s : ℕ) (xs : List Toplevel) (k : ℕ) → position (is_at c s) xs ≡ Some k → map standing_of (remove xs k ++ get_or xs k nobody ∷ []) ≡ raised c s (map standing_of xs)
 raised-found c s xs k e = let at = position-Some (is_at c s) xs k nobody e in raised-at c s xs k at.0 at.1 at.2
 
-pub moved-found : (c s : ℕ) (place : Place) (y : Toplevel) (xs : List Toplevel) (k : ℕ) → standing_of y ≡ record { client = c; surface = s; place = place } → position (is_at c s) xs ≡ Some k → map standing_of (set xs k y) ≡ moved_to c s place (map standing_of xs)
+pub moved-found : (c s : ℕ) (place : Place) (y : Toplevel) (xs : List Toplevel) (k : ℕ) → standing_of y ≡ record { client = c; surface = s; place = place } → position (is_at c s) xs ≡ Some k
+    → map standing_of (set xs k y) ≡ moved_to c s place (map standing_of xs)
 moved-found c s place y xs k is e = let at = position-Some (is_at c s) xs k nobody e in moved-at c s place y xs k is at.0 at.1 at.2
 
 pub raised-absent : (c s : ℕ) (xs : List Toplevel) → position (is_at c s) xs ≡ None → raised c s (map standing_of xs) ≡ map standing_of xs

@@ -1,5 +1,6 @@
 -- The pointer: where it is, what is pressed, and which surface has its focus (wayland.xml, wl_pointer).
-use Rattle.std.specs.Prelude.{ℕ, ℤ, pos, negsuc, ◌-ℤ◌, ◌*ℤ◌, ◌==◌, ◌&&◌, int_lt, nat_le, Bool, if◌then◌else◌, Option, Some, None, List, [], ◌∷◌, length, filter, not}
+use Rattle.std.specs.Prelude.{ℕ, ℤ, pos, negsuc, ◌-ℤ◌, ◌*ℤ◌, ◌==◌, ◌&&◌, int_lt, nat_le, Bool, if◌then◌else◌, Option, Some, None, List, []}
+use Rattle.std.specs.Prelude.{◌∷◌, length, filter, not}
 use Rattle.std.specs.List.{list_any}
 use Rattle.wl_scene.specs.Windows.{Place, Window, hit}
 

@@ -29,7 +29,8 @@ pub record Stack : Type 0 where
 
 -- a toplevel that is mapped stands on top of the others, in the next place
 abbrev pub with_mapped : ℕ → ℕ → ℕ → List Standing → List Standing
-with_mapped mappings client surface standing = standing ++ record { client = client; surface = surface; place = mapping_place mappings } ∷ []
+with_mapped mappings client surface standing =
+    standing ++ record { client = client; surface = surface; place = mapping_place mappings } ∷ []
 
 abbrev pub is_of : ℕ → ℕ → Standing → Bool
 is_of client surface s = (s.client == client) && (s.surface == surface)
@@ -45,7 +46,8 @@ raised client surface (s ∷ ss) = if is_of client surface s then ss ++ s ∷ []
 -- the toplevel of this surface at another place
 abbrev pub moved_to : ℕ → ℕ → Place → List Standing → List Standing
 moved_to client surface place [] = []
-moved_to client surface place (s ∷ ss) = if is_of client surface s then record s { place = place } ∷ ss else s ∷ moved_to client surface place ss
+moved_to client surface place (s ∷ ss) =
+    if is_of client surface s then record s { place = place } ∷ ss else s ∷ moved_to client surface place ss
 
 -- what a mapping makes of what is kept
 abbrev pub mapped_on : ℕ → ℕ → Stack → Stack
@@ -67,7 +69,13 @@ geometry_in owned surface =
 
 abbrev pub root_of : (ℕ → Owned) → Standing → Root
 root_of owned s =
-    record { client = s.client; surface = s.surface; toplevel = s.surface; geometry = geometry_in (owned s.client) s.surface; place = s.place }
+    record {
+      client = s.client;
+      surface = s.surface;
+      toplevel = s.surface;
+      geometry = geometry_in (owned s.client) s.surface;
+      place = s.place;
+    }
 
 -- The windows of these toplevels, from the bottom. No popup is served yet.
 abbrev pub windows_on : (ℕ → Owned) → List Standing → List Window

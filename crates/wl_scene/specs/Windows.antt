@@ -1,5 +1,6 @@
 -- The windows of a desktop, from bottom to top.
-use Rattle.std.specs.Prelude.{ℕ, zero, suc, ℤ, pos, ◌+ℤ◌, ◌-ℤ◌, ◌*◌, ◌%◌, ◌==◌, ◌&&◌, Bool, true, false, if◌then◌else◌, Option, Some, None, List, [], ◌∷◌, ◌++◌, fold, flat_map}
+use Rattle.std.specs.Prelude.{ℕ, zero, suc, ℤ, pos, ◌+ℤ◌, ◌-ℤ◌, ◌*◌, ◌%◌, ◌==◌, ◌&&◌, Bool, true, false, if◌then◌else◌, Option, Some, None}
+use Rattle.std.specs.Prelude.{List, [], ◌∷◌, ◌++◌, fold, flat_map}
 use Rattle.std.specs.Option.{option_map_or}
 use Rattle.wl_geom.specs.declared.rect.Rect.{Rect}
 use Rattle.wl_geom.specs.Rect.{in_rect}
@@ -80,7 +81,8 @@ shown_windows next owner surfaces surface h corner (Some buffer) =
 
 abbrev pub surface_windows : (ℕ → Place → List Window) → Owner → Surfaces → ℕ → Place → Option History → List Window
 surface_windows next owner surfaces surface place None = []
-surface_windows next owner surfaces surface place (Some h) = shown_windows next owner surfaces surface h (corner_at place h) (applied h).buffer
+surface_windows next owner surfaces surface place (Some h) =
+    shown_windows next owner surfaces surface h (corner_at place h) (applied h).buffer
 
 -- The tree of a surface, down to so many levels: the children below it, itself, and the children above it, each with its own; nothing of a
 -- surface without a buffer (wayland.xml, wl_subcompositor and wl_subsurface).
@@ -89,8 +91,8 @@ tree zero owner surfaces surface place = []
 tree (suc levels) owner surfaces surface place =
     surface_windows (λ child at. tree levels owner surfaces child at) owner surfaces surface place (history_in surface surfaces)
 
--- A mapped toplevel with its place, or a popup that is to be stacked, with the surface of its parent, if it has one, its placement relative to
--- the parent's window geometry, and its own geometry; all of one client.
+-- A mapped toplevel with its place, or a popup that is to be stacked, with the surface of its parent, if it has one,
+-- its placement relative to the parent's window geometry, and its own geometry; all of one client.
 pub record Root : Type 0 where
   pub client : ℕ
   pub surface : ℕ
@@ -165,7 +167,8 @@ owner_of r = record { client = r.client; root = r.surface; toplevel = r.toplevel
 -- subsurfaces stand at most 16 levels below their root
 abbrev pub windows_of : (ℕ → Surfaces) → (ℕ → List StackedPopup) → Root → List Window
 windows_of surfaces popups toplevel =
-    flat_map (λ (r : Root). tree 17 (owner_of r) (surfaces r.client) r.surface r.place) (roots_of (surfaces toplevel.client) toplevel (popups toplevel.client))
+    flat_map (λ (r : Root). tree 17 (owner_of r) (surfaces r.client) r.surface r.place)
+    (roots_of (surfaces toplevel.client) toplevel (popups toplevel.client))
 
 -- The windows of a desktop: each mapped toplevel, from the bottom, with its tree, and then its popups with theirs (xdg-shell.xml,
 -- xdg_surface and xdg_popup).

@@ -186,7 +186,8 @@ pub took-then : (client : ℕ) (old mid new : SessionView) (d : Desktop) → (s 
     → (t : Took client old new d) × (t.desktop ≡ s.desktop)
 took-then client old mid new d s damage frame agrees =
     let same : moment s.desktop mid ≡ moment s.desktop new =
-    ap (λ (m : Damaged). record { desktop = s.desktop; damage = m; frame = mid.frame }) (sym damage) ∙ ap (λ (i : Image). record { desktop = s.desktop; damage = new.damage; frame = i }) (sym frame) in (
+    ap (λ (m : Damaged). record { desktop = s.desktop; damage = m; frame = mid.frame }) (sym damage)
+    ∙ ap (λ (i : Image). record { desktop = s.desktop; damage = new.damage; frame = i }) (sym frame) in (
       record {
         count = s.count;
         desktop = s.desktop;

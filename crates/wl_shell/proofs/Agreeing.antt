@@ -47,7 +47,8 @@ pub found-at : (surface : ℕ) (shell : Shell) (x : XdgSurface) → AreApart she
 found-at surface [] x apart e = absurd (cc)
 found-at surface (y ∷ ys) x apart e = at (y.surface == surface) (y.id == x.id) refl e (found-at surface ys x apart.2)
   where
-    at : (b c : Bool) → (y.id == x.id) ≡ c → (if b then Some y else xdg_of surface ys) ≡ Some x → (xdg_of surface ys ≡ Some x → xdg_at x.id ys ≡ Some x) → (if c then Some y else xdg_at x.id ys) ≡ Some x
+    at : (b c : Bool) → (y.id == x.id) ≡ c → (if b then Some y else xdg_of surface ys) ≡ Some x → (xdg_of surface ys ≡ Some x → xdg_at x.id ys ≡ Some x)
+        → (if c then Some y else xdg_at x.id ys) ≡ Some x
     at true true here e rest = e
     at true false here e rest = absurd (differ y.id x.id here (ap (λ (z : XdgSurface). z.id) (some-same y x e)))
     at false false here e rest = rest e
@@ -105,7 +106,8 @@ module _ (id : ℕ) (change : XdgSurface → XdgSurface) (keeps_id : (x : XdgSur
   pub changed-here : (surface : ℕ) (shell : Shell) (x : XdgSurface) → xdg_of surface shell ≡ Some x → x.id ≡ id → xdg_of surface (with_change id change shell) ≡ Some (change x)
   changed-here surface shell x found same = changed-of surface shell ∙ ap (option_map one) found ∙ ap (λ b. Some (cond b (change x) x)) (equal x.id id same)
 
-  pub changed-elsewhere : (surface other : ℕ) (shell : Shell) (x : XdgSurface) → AreApart shell → xdg_of surface shell ≡ Some x → x.id ≡ id → other ≢ surface → xdg_of other (with_change id change shell) ≡ xdg_of other shell
+  pub changed-elsewhere : (surface other : ℕ) (shell : Shell) (x : XdgSurface) → AreApart shell → xdg_of surface shell ≡ Some x → x.id ≡ id → other ≢ surface
+      → xdg_of other (with_change id change shell) ≡ xdg_of other shell
   changed-elsewhere surface other shell x apart found same away = changed-of other shell ∙ at (xdg_of other shell) refl
     where
       at : (o : Option XdgSurface) → xdg_of other shell ≡ o → option_map one o ≡ o
@@ -123,11 +125,13 @@ module _ (id base surface : ℕ) where
   newest = record { id = id; base = base; surface = surface; role = None; serials = []; since = 0 }
 
   pub new-here : (shell : Shell) → xdg_of surface shell ≡ None → xdg_of surface (with_new id base surface shell) ≡ Some newest
-  new-here shell none = appended (λ x. x.surface == surface) shell newest ∙ ap (λ o. option_or o (if surface == surface then Some newest else None)) none ∙ ap (λ b. if b then Some newest else None) (equal surface surface refl)
+  new-here shell none = appended (λ x. x.surface == surface) shell newest ∙ ap (λ o. option_or o (if surface == surface then Some newest else None)) none
+      ∙ ap (λ b. if b then Some newest else None) (equal surface surface refl)
 
   pub new-elsewhere : (other : ℕ) (shell : Shell) → other ≢ surface → xdg_of other (with_new id base surface shell) ≡ xdg_of other shell
   new-elsewhere other shell away =
-      appended (λ x. x.surface == other) shell newest ∙ ap (λ b. option_or (xdg_of other shell) (if b then Some newest else None)) (unequal surface other (λ h. away (sym h))) ∙ alone (xdg_of other shell)
+      appended (λ x. x.surface == other) shell newest ∙ ap (λ b. option_or (xdg_of other shell) (if b then Some newest else None)) (unequal surface other (λ h. away (sym h)))
+      ∙ alone (xdg_of other shell)
     where
       alone : (o : Option XdgSurface) → option_or o None ≡ o
       alone None = refl
@@ -138,8 +142,10 @@ module _ (id base surface : ℕ) where
   new-apart (x ∷ xs) none_at none_of apart =
       let id_differs = none-here (x.id == id) x (xdg_at id xs) none_at in
       let surface_differs = none-here (x.surface == surface) x (xdg_of surface xs) none_of in (
-        appended (λ y. y.id == x.id) xs newest ∙ ap (λ o. option_or o (if id == x.id then Some newest else None)) apart.0 ∙ ap (λ b. if b then Some newest else None) (unequal id x.id (λ h. differ x.id id id_differs (sym h))),
-        appended (λ y. y.surface == x.surface) xs newest ∙ ap (λ o. option_or o (if surface == x.surface then Some newest else None)) apart.1 ∙ ap (λ b. if b then Some newest else None) (unequal surface x.surface (λ h. differ x.surface surface surface_differs (sym h))),
+        appended (λ y. y.id == x.id) xs newest ∙ ap (λ o. option_or o (if id == x.id then Some newest else None)) apart.0
+            ∙ ap (λ b. if b then Some newest else None) (unequal id x.id (λ h. differ x.id id id_differs (sym h))),
+        appended (λ y. y.surface == x.surface) xs newest ∙ ap (λ o. option_or o (if surface == x.surface then Some newest else None)) apart.1
+            ∙ ap (λ b. if b then Some newest else None) (unequal surface x.surface (λ h. differ x.surface surface surface_differs (sym h))),
         new-apart xs (later (x.id == id) x (xdg_at id xs) None id_differs none_at) (later (x.surface == surface) x (xdg_of surface xs) None surface_differs none_of) apart.2,
       )
 
@@ -171,7 +177,8 @@ pub removed-here : (surface : ℕ) (shell : Shell) (x : XdgSurface) → AreApart
 removed-here surface [] x apart found = refl
 removed-here surface (y ∷ ys) x apart found = at (y.surface == surface) refl found (removed-here surface ys x apart.2)
   where
-    at : (b : Bool) → (y.surface == surface) ≡ b → (if b then Some y else xdg_of surface ys) ≡ Some x → (xdg_of surface ys ≡ Some x → xdg_of surface (without_xdg x.id ys) ≡ None) → xdg_of surface (cond (not (y.id == x.id)) (y ∷ without_xdg x.id ys) (without_xdg x.id ys)) ≡ None
+    at : (b : Bool) → (y.surface == surface) ≡ b → (if b then Some y else xdg_of surface ys) ≡ Some x → (xdg_of surface ys ≡ Some x → xdg_of surface (without_xdg x.id ys) ≡ None)
+        → xdg_of surface (cond (not (y.id == x.id)) (y ∷ without_xdg x.id ys) (without_xdg x.id ys)) ≡ None
     at true here e rest =
         let same = some-same y x e in
         let none : xdg_at x.id ys ≡ None = ap (λ (z : XdgSurface). xdg_at z.id ys) (sym same) ∙ apart.0 in
@@ -185,14 +192,16 @@ removed-here surface (y ∷ ys) x apart found = at (y.surface == surface) refl f
         stays true = rest e
         stays false = ap (λ b. if b then Some y else xdg_of surface (without_xdg x.id ys)) here ∙ rest e
 
-pub removed-elsewhere : (other surface : ℕ) (shell : Shell) (x : XdgSurface) → AreApart shell → xdg_of surface shell ≡ Some x → other ≢ surface → xdg_of other (without_xdg x.id shell) ≡ xdg_of other shell
+pub removed-elsewhere : (other surface : ℕ) (shell : Shell) (x : XdgSurface) → AreApart shell → xdg_of surface shell ≡ Some x → other ≢ surface
+    → xdg_of other (without_xdg x.id shell) ≡ xdg_of other shell
 removed-elsewhere other surface shell x apart found away = stay shell (λ y e same. away (one-surface other surface shell y x apart e found same))
   where
     stay : (xs : Shell) → ((y : XdgSurface) → xdg_of other xs ≡ Some y → y.id ≢ x.id) → xdg_of other (without_xdg x.id xs) ≡ xdg_of other xs
     stay [] differs = refl
     stay (y ∷ ys) differs = at (y.surface == other) (y.id == x.id) refl refl (stay ys)
       where
-        at : (b c : Bool) → (y.surface == other) ≡ b → (y.id == x.id) ≡ c → (((z : XdgSurface) → xdg_of other ys ≡ Some z → z.id ≢ x.id) → xdg_of other (without_xdg x.id ys) ≡ xdg_of other ys) → xdg_of other (cond (not c) (y ∷ without_xdg x.id ys) (without_xdg x.id ys)) ≡ (if b then Some y else xdg_of other ys)
+        at : (b c : Bool) → (y.surface == other) ≡ b → (y.id == x.id) ≡ c → (((z : XdgSurface) → xdg_of other ys ≡ Some z → z.id ≢ x.id) → xdg_of other (without_xdg x.id ys) ≡ xdg_of other ys)
+            → xdg_of other (cond (not c) (y ∷ without_xdg x.id ys) (without_xdg x.id ys)) ≡ (if b then Some y else xdg_of other ys)
         at true true here same rest = absurd (differs y (ap (λ b. if b then Some y else xdg_of other ys) here) (eqb-true y.id x.id same))
         at true false here same rest = ap (λ b. if b then Some y else xdg_of other (without_xdg x.id ys)) here
         at false true here same rest = rest (λ z e. differs z (ap (λ b. if b then Some y else xdg_of other ys) here ∙ e))

@@ -15,7 +15,8 @@ another : (surface other : ℕ) → (other == surface) ≡ false → is_eq (nat_
 another surface other apart = grind (arith, nat_tests)
 
 -- a map that is updated at a surface
-pub updated : (old new : BTreeMap ℕ Kept) (book : Book) (surface : ℕ) (k : Option Kept) → old.entries ≡ book → UpdatesBy nat_cmp (nat_cmp surface) old new k → kept_of new.entries ≡ with_kept surface k (kept_of book)
+pub updated : (old new : BTreeMap ℕ Kept) (book : Book) (surface : ℕ) (k : Option Kept) → old.entries ≡ book → UpdatesBy nat_cmp (nat_cmp surface) old new k
+    → kept_of new.entries ≡ with_kept surface k (kept_of book)
 updated old new book surface k same updates = fun_ext (λ other. at other (other == surface) refl)
   where
     at : (other : ℕ) (b : Bool) → (other == surface) ≡ b → kept_of new.entries other ≡ (if b then k else kept_of book other)
@@ -30,7 +31,8 @@ unchanged book surface change none = fun_ext (λ other. at other (other == surfa
     at other true e = ap (kept_of book) (eqb-true other surface e) ∙ none ∙ sym (ap (option_map change) none)
     at other false e = refl
 
-module _ (old new : BTreeMap ℕ Kept) (book : Book) (surface : ℕ) (k w : Kept) (same : old.entries ≡ book) (found : Some k ≡ kept_of old.entries surface) (written : WritesThrough nat_cmp (nat_cmp surface) old w new) where
+module _ (old new : BTreeMap ℕ Kept) (book : Book) (surface : ℕ) (k w : Kept) (same : old.entries ≡ book) (found : Some k ≡ kept_of old.entries surface)
+    (written : WritesThrough nat_cmp (nat_cmp surface) old w new) where
   pub changed : (change : Kept → Kept) → w ≡ change k → kept_of new.entries ≡ changing surface change (kept_of book)
   changed change is =
       let here : Some k ≡ kept_of book surface = found ∙ ap (λ (b : Book). kept_of b surface) same in
@@ -41,7 +43,9 @@ module _ (old new : BTreeMap ℕ Kept) (book : Book) (surface : ℕ) (k w : Kept
   rewritten [] e = refl
   rewritten (x ∷ es) e = at (is_eq (nat_cmp surface x.0)) e (rewritten es)
     where
-      at : (b : Bool) → cond b (Some x.1) (lookup (λ key. is_eq (nat_cmp surface key)) es) ≡ Some k → (lookup (λ key. is_eq (nat_cmp surface key)) es ≡ Some k → set_value (λ key. is_eq (nat_cmp surface key)) es k ≡ es) → cond b ((x.0, k) ∷ es) (x ∷ set_value (λ key. is_eq (nat_cmp surface key)) es k) ≡ x ∷ es
+      at : (b : Bool) → cond b (Some x.1) (lookup (λ key. is_eq (nat_cmp surface key)) es) ≡ Some k
+          → (lookup (λ key. is_eq (nat_cmp surface key)) es ≡ Some k → set_value (λ key. is_eq (nat_cmp surface key)) es k ≡ es)
+          → cond b ((x.0, k) ∷ es) (x ∷ set_value (λ key. is_eq (nat_cmp surface key)) es k) ≡ x ∷ es
       at true e rest = let this : x.1 ≡ k = cc in ap (λ (y : Kept). (x.0, y) ∷ es) (sym this)
       at false e rest = ap (λ (ys : Book). x ∷ ys) (rest e)
 
@@ -68,7 +72,8 @@ pub made_by : (base : ℕ) (book es : Book) → All (λ e. kept_of book e.0 ≡ 
 made_by base book [] found is = absurd (cc)
 made_by base book (x ∷ es) found is = at (x.1.base == base) refl is (made_by base book es (λ k d less. found (suc k) d (omega arith)))
   where
-    at : (b : Bool) → (x.1.base == base) ≡ b → (b || list_any (is_of_base base) es) ≡ true → (list_any (is_of_base base) es ≡ true → (surface : ℕ) × IsSomeAnd (kept_of book surface) (λ k. k.base ≡ base)) → (surface : ℕ) × IsSomeAnd (kept_of book surface) (λ k. k.base ≡ base)
+    at : (b : Bool) → (x.1.base == base) ≡ b → (b || list_any (is_of_base base) es) ≡ true
+        → (list_any (is_of_base base) es ≡ true → (surface : ℕ) × IsSomeAnd (kept_of book surface) (λ k. k.base ≡ base)) → (surface : ℕ) × IsSomeAnd (kept_of book surface) (λ k. k.base ≡ base)
     at true here is rest = (x.0, subst (λ (o : Option Kept). IsSomeAnd o (λ k. k.base ≡ base)) (sym (found 0 x (omega arith))) (eqb-true x.1.base base here))
     at false here is rest = rest is
 
@@ -76,7 +81,8 @@ pub made_by_none : (base : ℕ) (es : Book) (surface : ℕ) → list_any (is_of_
 made_by_none base [] surface none = tt
 made_by_none base (x ∷ es) surface none = at (x.1.base == base) (is_eq (nat_cmp surface x.0)) refl none (made_by_none base es surface)
   where
-    at : (b c : Bool) → (x.1.base == base) ≡ b → (b || list_any (is_of_base base) es) ≡ false → (list_any (is_of_base base) es ≡ false → IfSome (kept_of es surface) (λ k. k.base ≢ base)) → IfSome (cond c (Some x.1) (kept_of es surface)) (λ k. k.base ≢ base)
+    at : (b c : Bool) → (x.1.base == base) ≡ b → (b || list_any (is_of_base base) es) ≡ false → (list_any (is_of_base base) es ≡ false → IfSome (kept_of es surface) (λ k. k.base ≢ base))
+        → IfSome (cond c (Some x.1) (kept_of es surface)) (λ k. k.base ≢ base)
     at true c here none rest = absurd (cc)
     at false true here none rest = λ same. grind (arith, nat_tests)
     at false false here none rest = rest none

@@ -84,26 +84,34 @@ not-before-max a b = grind (arith, ints)
 end-first : (first end start size gravity : ℤ) (before beyond : Bool) → int_lt start first ≡ before → int_lt (end -ℤ size) start ≡ beyond
     → towards_start first end (towards_end first end (lying start size gravity)) ≡ lying (nearest first end start size) size gravity
 end-first first end start size gravity false false e f =
-    ap (towards_start first end) (end-is first end start size gravity false false e f) ∙ start-is first end start size gravity false false e f ∙ ap (λ x. lying x size gravity) (near-within first end start size e f)
+    ap (towards_start first end) (end-is first end start size gravity false false e f) ∙ start-is first end start size gravity false false e f
+    ∙ ap (λ x. lying x size gravity) (near-within first end start size e f)
 end-first first end start size gravity false true e f =
-    ap (towards_start first end) (end-is first end start size gravity false true e f) ∙ start-is first end start size gravity false true e f ∙ ap (λ x. lying x size gravity) (near-last first end start size e f)
+    ap (towards_start first end) (end-is first end start size gravity false true e f) ∙ start-is first end start size gravity false true e f
+    ∙ ap (λ x. lying x size gravity) (near-last first end start size e f)
 end-first first end start size gravity true true e f =
-    ap (towards_start first end) (end-is first end start size gravity true true e f) ∙ start-is first end start size gravity true true e f ∙ ap (λ x. lying x size gravity) (near-here first end start size e f)
+    ap (towards_start first end) (end-is first end start size gravity true true e f) ∙ start-is first end start size gravity true true e f
+    ∙ ap (λ x. lying x size gravity) (near-here first end start size e f)
 end-first first end start size gravity true false e f =
     let q = int_min first (end -ℤ size) in
-    ap (towards_start first end) (end-is first end start size gravity true false e f) ∙ start-is first end q size gravity (int_lt q first) false refl (not-beyond-min first (end -ℤ size)) ∙ ap (λ x. lying x size gravity) (near-first first end start size e f)
+    ap (towards_start first end) (end-is first end start size gravity true false e f) ∙ start-is first end q size gravity (int_lt q first) false refl (not-beyond-min first (end -ℤ size))
+    ∙ ap (λ x. lying x size gravity) (near-first first end start size e f)
 
 start-first : (first end start size gravity : ℤ) (before beyond : Bool) → int_lt start first ≡ before → int_lt (end -ℤ size) start ≡ beyond
     → towards_end first end (towards_start first end (lying start size gravity)) ≡ lying (nearest first end start size) size gravity
 start-first first end start size gravity false false e f =
-    ap (towards_end first end) (start-is first end start size gravity false false e f) ∙ end-is first end start size gravity false false e f ∙ ap (λ x. lying x size gravity) (near-within first end start size e f)
+    ap (towards_end first end) (start-is first end start size gravity false false e f) ∙ end-is first end start size gravity false false e f
+    ∙ ap (λ x. lying x size gravity) (near-within first end start size e f)
 start-first first end start size gravity true false e f =
-    ap (towards_end first end) (start-is first end start size gravity true false e f) ∙ end-is first end start size gravity true false e f ∙ ap (λ x. lying x size gravity) (near-first first end start size e f)
+    ap (towards_end first end) (start-is first end start size gravity true false e f) ∙ end-is first end start size gravity true false e f
+    ∙ ap (λ x. lying x size gravity) (near-first first end start size e f)
 start-first first end start size gravity true true e f =
-    ap (towards_end first end) (start-is first end start size gravity true true e f) ∙ end-is first end start size gravity true true e f ∙ ap (λ x. lying x size gravity) (near-here first end start size e f)
+    ap (towards_end first end) (start-is first end start size gravity true true e f) ∙ end-is first end start size gravity true true e f
+    ∙ ap (λ x. lying x size gravity) (near-here first end start size e f)
 start-first first end start size gravity false true e f =
     let q = int_max first (end -ℤ size) in
-    ap (towards_end first end) (start-is first end start size gravity false true e f) ∙ end-is first end q size gravity false (int_lt (end -ℤ size) q) (not-before-max first (end -ℤ size)) refl ∙ ap (λ x. lying x size gravity) (near-last first end start size e f)
+    ap (towards_end first end) (start-is first end start size gravity false true e f) ∙ end-is first end q size gravity false (int_lt (end -ℤ size) q) (not-before-max first (end -ℤ size)) refl
+    ∙ ap (λ x. lying x size gravity) (near-last first end start size e f)
 
 either-first : (first end start size gravity : ℤ) (b : Bool) → int_lt gravity (pos 0) ≡ b → slide first end (lying start size gravity) ≡ lying (nearest first end start size) size gravity
 either-first first end start size gravity true e = rw e (start-first first end start size gravity (int_lt start first) (int_lt (end -ℤ size) start) refl refl)
@@ -115,19 +123,22 @@ not-tried : (allowed : Bool) (first end : ℤ) (move : Lying → Lying) (l : Lyi
 not-tried false first end move l e = refl
 not-tried true first end move l e = rw e refl
 
-flip-is : (may_flip : Bool) (first end : ℤ) (a : Axis) (l : Lying) → lies_out first end l ≡ true → (may_flip && not (lies_out first end (turned a))) ≡ false → tried may_flip first end (flip first end a) l ≡ l
+flip-is : (may_flip : Bool) (first end : ℤ) (a : Axis) (l : Lying) → lies_out first end l ≡ true → (may_flip && not (lies_out first end (turned a))) ≡ false
+    → tried may_flip first end (flip first end a) l ≡ l
 flip-is false first end a l e f = refl
 flip-is true first end a l e f = rw e (kept (lies_out first end (turned a)) f) where
   kept : (out : Bool) → not out ≡ false → (if out then l else turned a) ≡ l
   kept true g = refl
   kept false g = absurd (false≢true (sym g))
 
-slide-is : (may_slide : Bool) (first end start size gravity : ℤ) → is_constrained first end start size ≡ true → tried may_slide first end (slide first end) (lying start size gravity) ≡ lying (slid may_slide first end start size) size gravity
+slide-is : (may_slide : Bool) (first end start size gravity : ℤ) → is_constrained first end start size ≡ true
+    → tried may_slide first end (slide first end) (lying start size gravity) ≡ lying (slid may_slide first end start size) size gravity
 slide-is false first end start size gravity e = refl
 slide-is true first end start size gravity e = rw e (either-first first end start size gravity (int_lt gravity (pos 0)) refl)
 
 cut-is : (may_resize : Bool) (first end start size gravity : ℤ) (b : Bool) → (may_resize && is_constrained first end start size) ≡ b
-    → ((if b then cut first end (lying start size gravity) else lying start size gravity).start, (if b then cut first end (lying start size gravity) else lying start size gravity).size) ≡ (if b then part_within first end start size else (start, size))
+    → ((if b then cut first end (lying start size gravity) else lying start size gravity).start, (if b then cut first end (lying start size gravity) else lying start size gravity).size)
+    ≡ (if b then part_within first end start size else (start, size))
 cut-is may_resize first end start size gravity true e = refl
 cut-is may_resize first end start size gravity false e = refl
 
@@ -135,7 +146,8 @@ abbrev pair-of : Lying → ℤ × ℤ
 pair-of l = (l.start, l.size)
 
 -- where it fits already, or fits turned round, or neither
-pub same-place : (may_flip may_slide may_resize : Bool) (first end : ℤ) (a : Axis) (out stays : Bool) → is_constrained first end (start_of a) a.size ≡ out → (may_flip && not (is_constrained first end (start_of (flipped a)) a.size)) ≡ stays
+pub same-place : (may_flip may_slide may_resize : Bool) (first end : ℤ) (a : Axis) (out stays : Bool) → is_constrained first end (start_of a) a.size ≡ out
+    → (may_flip && not (is_constrained first end (start_of (flipped a)) a.size)) ≡ stays
     → moved_to may_flip may_slide may_resize first end a ≡ placed_on may_flip may_slide may_resize first end a
 same-place may_flip may_slide may_resize first end a false stays e f =
     let l = lying (start_of a) a.size a.gravity in
@@ -156,4 +168,5 @@ same-place may_flip may_slide may_resize first end a true false e f =
     let l = lying (start_of a) a.size a.gravity in
     let q = slid may_slide first end (start_of a) a.size in
     let slides = ap (λ (x : Lying). tried may_slide first end (slide first end) x) (flip-is may_flip first end a l e f) ∙ slide-is may_slide first end (start_of a) a.size a.gravity e in
-    ap (λ (x : Lying). pair-of (tried may_resize first end (cut first end) x)) slides ∙ cut-is may_resize first end q a.size a.gravity (may_resize && is_constrained first end q a.size) refl ∙ rw (e, f) refl
+    ap (λ (x : Lying). pair-of (tried may_resize first end (cut first end) x)) slides ∙ cut-is may_resize first end q a.size a.gravity (may_resize && is_constrained first end q a.size) refl
+    ∙ rw (e, f) refl

@@ -50,9 +50,11 @@ changed_shell surface change step k x h kept histories shell keeps_id keeps_surf
         subst (λ (o : Option Kept). IsKept (option_map change o) (xdg_of surface (with_change x.id step shell)) (Some h)) (sym there)
         (subst (λ (o : Option XdgSurface). IsKept (Some (change k)) o (Some h)) (sym (changed-here x.id step keeps_id keeps_surface surface shell x found refl)) stands)
 
-    at : (other : ℕ) (b : Bool) → (other == surface) ≡ b → IsKept (if b then option_map change (kept surface) else kept other) (xdg_of other (with_change x.id step shell)) (if b then Some h else histories other)
+    at : (other : ℕ) (b : Bool) → (other == surface) ≡ b
+        → IsKept (if b then option_map change (kept surface) else kept other) (xdg_of other (with_change x.id step shell)) (if b then Some h else histories other)
     at other true e = subst (λ (s : ℕ). IsKept (option_map change (kept surface)) (xdg_of s (with_change x.id step shell)) (Some h)) (sym (eqb-true other surface e)) here
-    at other false e = subst (λ (o : Option XdgSurface). IsKept (kept other) o (histories other)) (sym (changed-elsewhere x.id step keeps_id keeps_surface surface other shell x is.apart found refl (differ other surface e))) (is.each other)
+    at other false e = subst (λ (o : Option XdgSurface). IsKept (kept other) o (histories other))
+        (sym (changed-elsewhere x.id step keeps_id keeps_surface surface other shell x is.apart found refl (differ other surface e))) (is.each other)
 
 gone_shell : GoneShell
 gone_shell surface x kept histories shell is found = record {
@@ -64,7 +66,8 @@ gone_shell surface x kept histories shell is found = record {
     at other true e =
         let gone : xdg_of other (without_xdg x.id shell) ≡ None = ap (λ (s : ℕ). xdg_of s (without_xdg x.id shell)) (eqb-true other surface e) ∙ removed-here surface shell x is.apart found in
         subst (λ (o : Option XdgSurface). IsKept None o (histories other)) (sym gone) tt
-    at other false e = subst (λ (o : Option XdgSurface). IsKept (kept other) o (histories other)) (sym (removed-elsewhere other surface shell x is.apart found (differ other surface e))) (is.each other)
+    at other false e = subst (λ (o : Option XdgSurface). IsKept (kept other) o (histories other)) (sym (removed-elsewhere other surface shell x is.apart found (differ other surface e)))
+        (is.each other)
 
 other_history : OtherHistory
 other_history surface h kept histories shell is none_of = record { each = λ other. at other (other == surface) refl; apart = is.apart }
@@ -95,7 +98,8 @@ any-made : (base surface : ℕ) (xs : Shell) → IsSomeAnd (xdg_of surface xs) (
 any-made base surface [] made = absurd made
 any-made base surface (x ∷ xs) made = at (x.surface == surface) (x.base == base) refl made (any-made base surface xs)
   where
-    at : (b c : Bool) → (x.base == base) ≡ c → IsSomeAnd (if b then Some x else xdg_of surface xs) (λ x. x.base ≡ base) → (IsSomeAnd (xdg_of surface xs) (λ x. x.base ≡ base) → list_any (λ x. x.base == base) xs ≡ true) → (c || list_any (λ x. x.base == base) xs) ≡ true
+    at : (b c : Bool) → (x.base == base) ≡ c → IsSomeAnd (if b then Some x else xdg_of surface xs) (λ x. x.base ≡ base)
+        → (IsSomeAnd (xdg_of surface xs) (λ x. x.base ≡ base) → list_any (λ x. x.base == base) xs ≡ true) → (c || list_any (λ x. x.base == base) xs) ≡ true
     at b true e made rest = refl
     at true false e made rest = absurd (differ x.base base e made)
     at false false e made rest = rest made
@@ -123,7 +127,9 @@ none-made base (x ∷ xs) apart none = at (x.base == base) refl (none-made base 
 base_read : BaseRead
 base_read base kept histories shell is = (
   λ surface made. any-made base surface shell (base_of base (kept surface) (xdg_of surface shell) (histories surface) (is.each surface) made),
-  λ none. none-made base shell is.apart (λ x found. base_not base (kept x.surface) x (histories x.surface) (subst (λ (o : Option XdgSurface). IsKept (kept x.surface) o (histories x.surface)) found (is.each x.surface)) (none x.surface)),
+  λ none. none-made base shell is.apart
+      (λ x found. base_not base (kept x.surface) x (histories x.surface) (subst (λ (o : Option XdgSurface). IsKept (kept x.surface) o (histories x.surface)) found (is.each x.surface))
+      (none x.surface)),
 )
 
 pub shells_stand : ShellsStand

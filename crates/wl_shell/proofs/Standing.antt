@@ -11,11 +11,13 @@ use Rattle.wl_shell.specs.declared.acts.ShellAct.{ShellAct}
 use Rattle.wl_shell.specs.declared.acts.ShellAct.TheVariants.{Configure, Map, Unmap, Nothing}
 use Rattle.wl_shell.specs.declared.stage.Stage.{Stage}
 use Rattle.wl_shell.specs.Kept.{Kept, Stands, effect_answer, kept_after, stage_in}
-use Rattle.wl_shell.specs.Shell.{Effect, Stays, Unconfigured, Configures, Maps, Unmaps, Fresh, Waiting, Mapped, RoleObject, XdgSurface, at_stage, is_full, later_than, on_commit, role_acknowledged, stage_of, with_effect}
+use Rattle.wl_shell.specs.Shell.{Effect, Stays, Unconfigured, Configures, Maps, Unmaps, Fresh, Waiting, Mapped, RoleObject, XdgSurface, at_stage, is_full, later_than, on_commit, role_acknowledged}
+use Rattle.wl_shell.specs.Shell.{stage_of, with_effect}
 use Rattle.wl_shell.specs.Laws.{AcknowledgementStands, ChangesStand, CommitStands, ConfigureStands, DestructionStands, GeometryStands, NewStands, OtherStands, ToplevelStands, one_more}
 
 -- one request more since a place
-asked-more : (since : ℕ) (rs : List Request) (request : Request) → since ≤ length rs → fold geometry_asked None (drop since (rs ++ request ∷ [])) ≡ geometry_asked (fold geometry_asked None (drop since rs)) request
+asked-more : (since : ℕ) (rs : List Request) (request : Request) → since ≤ length rs
+    → fold geometry_asked None (drop since (rs ++ request ∷ [])) ≡ geometry_asked (fold geometry_asked None (drop since rs)) request
 asked-more since rs request le =
     ap (fold geometry_asked None) (drop-append-le since rs (request ∷ []) le) ∙ fold-append geometry_asked None (drop since rs) (request ∷ [])
 
@@ -183,7 +185,8 @@ module _ (k : Kept) (x : XdgSurface) (h : History) (s : Stands k x h) where
     cut_le = cut-within h;
   }
 
-  by-effect : (effect : Effect) (serial : ℕ) (act : ShellAct) (b : Bool) → (b ≡ is_full k.serials) → effect_answer effect k.serials ≡ Ok act → Stands (kept_after serial act k) (with_effect serial (length (one_more Commit h).requests) effect x) (apply (one_more Commit h))
+  by-effect : (effect : Effect) (serial : ℕ) (act : ShellAct) (b : Bool) → (b ≡ is_full k.serials) → effect_answer effect k.serials ≡ Ok act
+      → Stands (kept_after serial act k) (with_effect serial (length (one_more Commit h).requests) effect x) (apply (one_more Commit h))
   by-effect Stays serial act b full answer = let same : act ≡ Nothing = cc in rw same (stays serial)
   by-effect Unconfigured serial act b full answer = absurd (cc)
   by-effect Configures serial act true full answer = absurd (let e = rw (← full) at answer in cc)

@@ -12,7 +12,8 @@ waits-not serial (x ∷ xs) none =
     rw (here, waits-not serial xs (λ k less. none (suc k) (omega arith))) refl
 
 -- this place has it, and no later one
-pub waits : (serial : ℕ) (xs : List ℕ) (place : ℕ) → place < length xs → get_or xs place 0 ≡ serial → ((k : ℕ) → place < k → k < length xs → get_or xs k 0 ≢ serial) → (is_waiting serial xs ≡ true) × (later_than serial xs ≡ drop (suc place) xs)
+pub waits : (serial : ℕ) (xs : List ℕ) (place : ℕ) → place < length xs → get_or xs place 0 ≡ serial → ((k : ℕ) → place < k → k < length xs → get_or xs k 0 ≢ serial) → (is_waiting serial xs ≡ true)
+    × (later_than serial xs ≡ drop (suc place) xs)
 waits serial [] place less here after = absurd (omega arith)
 waits serial (x ∷ xs) zero less here after =
     let this : (x == serial) ≡ true = grind (arith, nat_tests) in

@@ -2,7 +2,8 @@
 use Rattle.std.specs.Option.{option_map}
 use Rattle.std.specs.Map.{lookup}
 use Rattle.std.specs.Ordering.{nat_cmp, is_eq}
-use Rattle.std.specs.Prelude.{ℕ, pos, ◌≡◌, ◌≤◌, ◌==◌, ◌&&◌, ◌||◌, int_lt, Bool, true, false, if◌then◌else◌, is_some, Option, Some, None, Result, Ok, Err, List, [], ◌∷◌, ◌++◌, length, drop, fold}
+use Rattle.std.specs.Prelude.{ℕ, pos, ◌≡◌, ◌≤◌, ◌==◌, ◌&&◌, ◌||◌, int_lt, Bool, true, false, if◌then◌else◌, is_some, Option, Some, None}
+use Rattle.std.specs.Prelude.{Result, Ok, Err, List, [], ◌∷◌, ◌++◌, length, drop, fold}
 use Rattle.wl_geom.specs.declared.rect.Rect.{Rect}
 use Rattle.wl_surface.specs.State.{History, geometry, geometry_asked}
 use Rattle.wl_shell.specs.declared.acts.ShellAct.{ShellAct}
@@ -11,10 +12,11 @@ use Rattle.wl_shell.specs.declared.error.ShellError.{ShellError}
 use Rattle.wl_shell.specs.declared.error.ShellError.TheVariants as error
 use Rattle.wl_shell.specs.declared.stage.Stage.{Stage}
 use Rattle.wl_shell.specs.declared.xdg_surface.Toplevel.{Toplevel as KeptToplevel}
-use Rattle.wl_shell.specs.Shell.{Effect, Stays, Unconfigured, Configures, Maps, Unmaps, Fresh, Waiting, Mapped, RoleObject, Toplevel, XdgSurface, answers_states, at_stage, is_full, is_waiting, later_than, on_commit, role_acknowledged}
+use Rattle.wl_shell.specs.Shell.{Effect, Stays, Unconfigured, Configures, Maps, Unmaps, Fresh, Waiting, Mapped, RoleObject, Toplevel}
+use Rattle.wl_shell.specs.Shell.{XdgSurface, answers_states, at_stage, is_full, is_waiting, later_than, on_commit, role_acknowledged}
 
--- An xdg_surface: its id, the xdg_wm_base that made it, its role object, the serials that wait, the earliest first, and its window geometry:
--- the last one that was asked, and the one that counts.
+-- An xdg_surface: its id, the xdg_wm_base that made it, its role object, the serials that wait, the
+-- earliest first, and its window geometry: the last one that was asked, and the one that counts.
 pub record Kept : Type 0 where
   pub id : ℕ
   pub base : ℕ

@@ -1,5 +1,6 @@
 -- Laws of the shell.
-use Rattle.std.specs.Prelude.{ℕ, ℤ, ◌≡◌, ◌<◌, ◌≤◌, Bool, List, [], ◌∷◌, ◌++◌, ◌==◌, ◌≢◌, length, true, false, None, Some, Option, Ok, IfSome, IsSomeAnd}
+use Rattle.std.specs.Prelude.{ℕ, ℤ, ◌≡◌, ◌<◌, ◌≤◌, Bool, List, [], ◌∷◌, ◌++◌, ◌==◌, ◌≢◌, length, true, false, None, Some, Option, Ok}
+use Rattle.std.specs.Prelude.{IfSome, IsSomeAnd}
 use Rattle.std.specs.List.{list_any}
 use Rattle.wl_geom.specs.declared.rect.Rect.{Rect}
 use Rattle.wl_shell.specs.Moves.{moved_to}
@@ -8,12 +9,15 @@ use Rattle.wl_surface.specs.Request.{Request, Commit, SetWindowGeometry}
 use Rattle.wl_surface.specs.State.{History, apply, geometry_asked}
 use Rattle.wl_shell.specs.declared.acts.ShellAct.{ShellAct}
 use Rattle.wl_shell.specs.Agreement.{IsShell, with_history}
-use Rattle.wl_shell.specs.Kept.{Kept, Stands, changing, commit_answer, first_kept, kept_acknowledging, kept_after, kept_asking, kept_configuring, kept_toplevel, kept_without_role, with_kept}
-use Rattle.wl_shell.specs.Shell.{Shell, XdgSurface, acknowledging, configuring, is_waiting, later_than, new_toplevel, on_commit, stage_of, with_change, with_effect, with_new, without_role, without_xdg, xdg_at, xdg_of}
+use Rattle.wl_shell.specs.Kept.{Kept, Stands, changing, commit_answer, first_kept, kept_acknowledging, kept_after, kept_asking}
+use Rattle.wl_shell.specs.Kept.{kept_configuring, kept_toplevel, kept_without_role, with_kept}
+use Rattle.wl_shell.specs.Shell.{Shell, XdgSurface, acknowledging, configuring, is_waiting, later_than, new_toplevel, on_commit, stage_of}
+use Rattle.wl_shell.specs.Shell.{with_change, with_effect, with_new, without_role, without_xdg, xdg_at, xdg_of}
 
 -- An acknowledgement of a serial that waits leaves fewer.
 abbrev pub AcknowledgementForgets : Type 0
-AcknowledgementForgets = (serial : ℕ) (serials : List ℕ) → is_waiting serial serials ≡ true → length (later_than serial serials) < length serials
+AcknowledgementForgets = (serial : ℕ) (serials : List ℕ) → is_waiting serial serials ≡ true
+    → length (later_than serial serials) < length serials
 
 -- Flipping, sliding and resizing, told one after the other, end at the definition's place, whichever side gravity slides to first.
 abbrev pub MovesAgree : Type 0
@@ -36,15 +40,18 @@ NewStands =
 
 -- a new toplevel: no window geometry counts that was asked before
 abbrev pub ToplevelStands : Type 0
-ToplevelStands = (id : ℕ) (k : Kept) (x : XdgSurface) (h : History) → Stands k x h → Stands (kept_toplevel id k) (new_toplevel id (length h.requests) x) h
+ToplevelStands = (id : ℕ) (k : Kept) (x : XdgSurface) (h : History) → Stands k x h
+    → Stands (kept_toplevel id k) (new_toplevel id (length h.requests) x) h
 
 -- a window geometry is asked
 abbrev pub GeometryStands : Type 0
-GeometryStands = (rect : Rect) (k : Kept) (x : XdgSurface) (h : History) → Stands k x h → Stands (kept_asking rect k) x (one_more (SetWindowGeometry rect) h)
+GeometryStands = (rect : Rect) (k : Kept) (x : XdgSurface) (h : History) → Stands k x h
+    → Stands (kept_asking rect k) x (one_more (SetWindowGeometry rect) h)
 
 -- a configure is acknowledged
 abbrev pub AcknowledgementStands : Type 0
-AcknowledgementStands = (serial : ℕ) (k : Kept) (x : XdgSurface) (h : History) → Stands k x h → Stands (kept_acknowledging serial k) (acknowledging serial x) h
+AcknowledgementStands = (serial : ℕ) (k : Kept) (x : XdgSurface) (h : History) → Stands k x h
+    → Stands (kept_acknowledging serial k) (acknowledging serial x) h
 
 -- A commit that isn't refused. It is asked and applied, and the answer says what it comes to.
 abbrev pub CommitStands : Type 0
@@ -52,11 +59,13 @@ CommitStands =
     (has_buffer : Bool) (serial : ℕ) (act : ShellAct) (k : Kept) (x : XdgSurface) (h : History)
     → commit_answer has_buffer (Some k) ≡ Ok act
     → Stands k x h
-    → Stands (kept_after serial act k) (with_effect serial (length (one_more Commit h).requests) (on_commit (stage_of x) has_buffer) x) (apply (one_more Commit h))
+    → Stands (kept_after serial act k) (with_effect serial (length (one_more Commit h).requests) (on_commit (stage_of x) has_buffer) x)
+    (apply (one_more Commit h))
 
 -- a configure is sent
 abbrev pub ConfigureStands : Type 0
-ConfigureStands = (serial : ℕ) (k : Kept) (x : XdgSurface) (h : History) → Stands k x h → Stands (kept_configuring serial k) (configuring serial x) h
+ConfigureStands = (serial : ℕ) (k : Kept) (x : XdgSurface) (h : History) → Stands k x h
+    → Stands (kept_configuring serial k) (configuring serial x) h
 
 -- the role object goes
 abbrev pub DestructionStands : Type 0
@@ -97,7 +106,8 @@ NewShell =
 -- One changes, and maybe its surface's history, and what is kept of it stands for it then.
 abbrev pub ChangedShell : Type 0
 ChangedShell =
-    (surface : ℕ) (change : Kept → Kept) (step : XdgSurface → XdgSurface) (k : Kept) (x : XdgSurface) (h : History) (kept : ℕ → Option Kept) (histories : ℕ → Option History) (shell : Shell)
+    (surface : ℕ) (change : Kept → Kept) (step : XdgSurface → XdgSurface) (k : Kept) (x : XdgSurface) (h : History) (kept : ℕ → Option Kept)
+    (histories : ℕ → Option History) (shell : Shell)
     → ((y : XdgSurface) → (step y).id ≡ y.id)
     → ((y : XdgSurface) → (step y).surface ≡ y.surface)
     → IsShell kept histories shell

@@ -41,7 +41,9 @@ towards_start first end l =
 -- it slides first to where its gravity puts it, and then to the other side
 abbrev pub slide : ℤ → ℤ → Lying → Lying
 slide first end l =
-    if int_lt l.gravity (pos 0) then towards_end first end (towards_start first end l) else towards_start first end (towards_end first end l)
+    if int_lt l.gravity (pos 0)
+    then towards_end first end (towards_start first end l)
+    else towards_start first end (towards_end first end l)
 
 -- resize: it is cut to the bounds, if something of it is left then
 abbrev pub cut : ℤ → ℤ → Lying → Lying

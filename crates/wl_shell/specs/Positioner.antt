@@ -1,5 +1,6 @@
 -- Where a popup is placed (xdg-shell.xml, xdg_positioner).
-use Rattle.std.specs.Prelude.{ℕ, ℤ, pos, negsuc, ◌+ℤ◌, ◌-ℤ◌, neg_ℤ, int_lt, int_le, unsigned_abs, ◌/◌, ◌%◌, ◌==◌, ◌&&◌, ◌||◌, not, Bool, if◌then◌else◌, Option, Some, None, is_some}
+use Rattle.std.specs.Prelude.{ℕ, ℤ, pos, negsuc, ◌+ℤ◌, ◌-ℤ◌, neg_ℤ, int_lt, int_le, unsigned_abs, ◌/◌, ◌%◌, ◌==◌, ◌&&◌, ◌||◌, not, Bool}
+use Rattle.std.specs.Prelude.{if◌then◌else◌, Option, Some, None, is_some}
 use Rattle.std.specs.Int.{int_min, int_max}
 use Rattle.wl_geom.specs.declared.rect.Rect.{Rect}
 use Rattle.wl_surface.specs.State.{within_bounds}
@@ -38,14 +39,18 @@ minus_one = negsuc 0
 
 abbrev pub edge_x : ℕ → ℤ
 edge_x number =
-    if number == 3 || (number == 5 || number == 6) then minus_one else (if number == 4 || (number == 7 || number == 8) then pos 1 else pos 0)
+    if number == 3 || (number == 5 || number == 6)
+    then minus_one
+    else (if number == 4 || (number == 7 || number == 8) then pos 1 else pos 0)
 
 abbrev pub edge_y : ℕ → ℤ
 edge_y number =
-    if number == 1 || (number == 5 || number == 7) then minus_one else (if number == 2 || (number == 6 || number == 8) then pos 1 else pos 0)
+    if number == 1 || (number == 5 || number == 7)
+    then minus_one
+    else (if number == 2 || (number == 6 || number == 8) then pos 1 else pos 0)
 
--- How a popup lies on one axis: the start and the length of the rectangle, the popup's size, its offset, and the edges of anchor and
--- gravity.
+-- How a popup lies on one axis: the start and the length of the rectangle, the
+-- popup's size, its offset, and the edges of anchor and gravity.
 pub record Axis : Type 0 where
   pub start : ℤ
   pub length : ℤ
@@ -97,7 +102,9 @@ placed_on flip slide resize first end a =
     let f = start_of (flipped a) in
     if not (is_constrained first end p a.size)
     then (p, a.size)
-    else (if flip && not (is_constrained first end f a.size) then (f, a.size) else resized resize first end (slid slide first end p a.size) a.size)
+    else (if flip && not (is_constrained first end f a.size)
+    then (f, a.size)
+    else resized resize first end (slid slide first end p a.size) a.size)
 
 -- bit n of the adjustment: slide_x 0, slide_y 1, flip_x 2, flip_y 3, resize_x 4, resize_y 5
 abbrev pub has_bit : ℕ → ℕ → Bool
@@ -113,16 +120,32 @@ abbrev pub placed_from : ℤ × ℤ → ℤ × ℤ → Placed
 placed_from x y = record { x = within_bounds x.0; y = within_bounds y.0; w = x.1; h = y.1 }
 
 abbrev pub axis_x : Positioner → ℤ × ℤ → Rect → Axis
-axis_x p size r = record { start = r.x; length = r.w; size = size.0; offset = p.offset.0; anchor = edge_x p.anchor; gravity = edge_x p.gravity }
+axis_x p size r = record {
+  start = r.x;
+  length = r.w;
+  size = size.0;
+  offset = p.offset.0;
+  anchor = edge_x p.anchor;
+  gravity = edge_x p.gravity;
+}
 
 abbrev pub axis_y : Positioner → ℤ × ℤ → Rect → Axis
-axis_y p size r = record { start = r.y; length = r.h; size = size.1; offset = p.offset.1; anchor = edge_y p.anchor; gravity = edge_y p.gravity }
+axis_y p size r = record {
+  start = r.y;
+  length = r.h;
+  size = size.1;
+  offset = p.offset.1;
+  anchor = edge_y p.anchor;
+  gravity = edge_y p.gravity;
+}
 
 abbrev pub placed_with : Positioner → ℤ × ℤ → Rect → Rect → ℤ × ℤ → Placed
 placed_with p size r bounds parent =
     placed_from
-    (placed_on (has_bit 4 p.adjustment) (has_bit 1 p.adjustment) (has_bit 16 p.adjustment) (bounds.x -ℤ parent.0) ((bounds.x +ℤ bounds.w) -ℤ parent.0) (axis_x p size r))
-    (placed_on (has_bit 8 p.adjustment) (has_bit 2 p.adjustment) (has_bit 32 p.adjustment) (bounds.y -ℤ parent.1) ((bounds.y +ℤ bounds.h) -ℤ parent.1) (axis_y p size r))
+    (placed_on (has_bit 4 p.adjustment) (has_bit 1 p.adjustment) (has_bit 16 p.adjustment) (bounds.x -ℤ parent.0)
+    ((bounds.x +ℤ bounds.w) -ℤ parent.0) (axis_x p size r))
+    (placed_on (has_bit 8 p.adjustment) (has_bit 2 p.adjustment) (has_bit 32 p.adjustment) (bounds.y -ℤ parent.1)
+    ((bounds.y +ℤ bounds.h) -ℤ parent.1) (axis_y p size r))
 
 abbrev pub placed_in : Positioner → Option (ℤ × ℤ) → Option Rect → Rect → ℤ × ℤ → Option Placed
 placed_in p (Some size) (Some r) bounds parent = Some (placed_with p size r bounds parent)

@@ -1,6 +1,7 @@
 -- The states of xdg surfaces (xdg-shell.xml, xdg_surface, xdg_toplevel and xdg_popup).
 use Rattle.std.specs.Option.{option_map}
-use Rattle.std.specs.Prelude.{ℕ, ◌+◌, ◌==◌, nat_le, Bool, true, false, not, cond, if◌then◌else◌, Option, Some, None, List, [], ◌∷◌, ◌++◌, length, find, map, filter}
+use Rattle.std.specs.Prelude.{ℕ, ◌+◌, ◌==◌, nat_le, Bool, true, false, not, cond, if◌then◌else◌, Option, Some, None, List, [], ◌∷◌, ◌++◌}
+use Rattle.std.specs.Prelude.{length, find, map, filter}
 use Rattle.std.specs.List.{list_any}
 use Rattle.wl_shell.specs.Positioner.{Placed, Positioner}
 use Rattle.wl_shell.specs.declared.stage.Stage.{Stage}
@@ -19,8 +20,8 @@ Ready = stage.Ready
 abbrev pub Mapped : Stage
 Mapped = stage.Mapped
 
--- A popup: the xdg_surface of its parent, unless that toplevel is gone, the copy of its positioner, where it was placed last, whether it was
--- dismissed, whether it has a grab, and its number among the popups in order of creation.
+-- A popup: the xdg_surface of its parent, unless that toplevel is gone, the copy of its positioner, where it was placed
+-- last, whether it was dismissed, whether it has a grab, and its number among the popups in order of creation.
 pub record Popup : Type 0 where
   pub parent : Option ℕ
   pub positioner : Positioner

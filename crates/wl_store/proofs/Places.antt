@@ -38,7 +38,8 @@ map-miss number low made f (s ∷ ss) h n =
     rw (above-number s number (omega (arith, n.0))) (ap (λ t. s ∷ t) (map-miss number s.number made f ss (omega (arith, n.0)) n.1))
 
 -- a change at the place is the change of the store of that number
-pub set-map : (number low made : ℕ) (f : Held → Held) (held : List Held) (place : ℕ) (x d : Held) → IsNumbered low made held → place < length held → (get_or held place d).number ≡ number → x ≡ f (get_or held place d)
+pub set-map : (number low made : ℕ) (f : Held → Held) (held : List Held) (place : ℕ) (x d : Held) → IsNumbered low made held → place < length held → (get_or held place d).number ≡ number
+    → x ≡ f (get_or held place d)
     → set held place x ≡ map (λ s. cond (eqb s.number number) (f s) s) held
 set-map number low made f [] place x d n h e q = absurd (omega arith)
 set-map number low made f (s ∷ ss) zero x d n h e q =

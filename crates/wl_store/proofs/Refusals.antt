@@ -5,18 +5,22 @@ use Rattle.std.specs.Option.{option_map}
 use Rattle.std.specs.Prelude.{ℤ, is_some, nat_le, nat_lt}
 use Rattle.std.proofs.lemmas.Bool.Decides.{nat_tests}
 use Rattle.wl_store.specs.declared.stores.StoreError.TheVariants.{OutOfRange}
-use Rattle.wl_store.specs.Stores.{Held, IsPlace, IsSound, Stock, bytes_of, store_at, total_size, can_hold, created, let_go, with_change, without_store, create_refusal, is_full, new_refusal, resize_refusal, size_refusal, write_refusal}
+use Rattle.wl_store.specs.Stores.{Held, IsPlace, IsSound, Stock, bytes_of, store_at, total_size, can_hold, created, let_go, with_change, without_store, create_refusal, is_full, new_refusal}
+use Rattle.wl_store.specs.Stores.{resize_refusal, size_refusal, write_refusal}
 use Rattle.wl_store.proofs.Places.{place-reads}
 
 -- what is read at its place is the store of that number
-pub store-read : (held : List Held) (made : ℕ) (stock : Stock) (number place : ℕ) (s : Held) → record { held = held; made = made } ≡ stock → IsPlace held number place → s ≡ get_or held place s → store_at number stock ≡ Some s
+pub store-read : (held : List Held) (made : ℕ) (stock : Stock) (number place : ℕ) (s : Held) → record { held = held; made = made } ≡ stock → IsPlace held number place → s ≡ get_or held place s
+    → store_at number stock ≡ Some s
 store-read held made stock number place s v p e = ap (store_at number) (sym v) ∙ place-reads held number place s p e
 
 -- what is told of the store that was found
-pub bytes-found : (held : List Held) (made : ℕ) (stock : Stock) (number : ℕ) (s : Held) (bytes : List ℕ) → record { held = held; made = made } ≡ stock → find (λ s. eqb s.number number) held ≡ Some s → bytes ≡ s.bytes → Some bytes ≡ bytes_of number stock
+pub bytes-found : (held : List Held) (made : ℕ) (stock : Stock) (number : ℕ) (s : Held) (bytes : List ℕ) → record { held = held; made = made } ≡ stock → find (λ s. eqb s.number number) held ≡ Some s
+    → bytes ≡ s.bytes → Some bytes ≡ bytes_of number stock
 bytes-found held made stock number s bytes v e b = ap Some b ∙ ap (option_map (λ (t : Held). t.bytes)) (sym e) ∙ ap (bytes_of number) v
 
-pub size-found : (held : List Held) (made : ℕ) (stock : Stock) (number : ℕ) (s : Held) (size : ℕ) → record { held = held; made = made } ≡ stock → find (λ s. eqb s.number number) held ≡ Some s → size ≡ length s.bytes
+pub size-found : (held : List Held) (made : ℕ) (stock : Stock) (number : ℕ) (s : Held) (size : ℕ) → record { held = held; made = made } ≡ stock → find (λ s. eqb s.number number) held ≡ Some s
+    → size ≡ length s.bytes
     → Some size ≡ option_map (λ (t : Held). length t.bytes) (store_at number stock)
 size-found held made stock number s size v e l = ap Some l ∙ ap (option_map (λ (t : Held). length t.bytes)) (sym e) ∙ ap (λ st. option_map (λ (t : Held). length t.bytes) (store_at number st)) v
 
@@ -61,11 +65,13 @@ pub live : (stock : Stock) (number : ℕ) (s : Held) → store_at number stock �
 live stock number s e = rw e
 
 -- what is refused while there is a place and a number left
-pub create-refused : (held : List Held) (made total : ℕ) (stock : Stock) (size : ℤ) → record { held = held; made = made } ≡ stock → IsSound held made total → is_full stock ≡ false → create_refusal size stock ≡ new_refusal total size
+pub create-refused : (held : List Held) (made total : ℕ) (stock : Stock) (size : ℤ) → record { held = held; made = made } ≡ stock → IsSound held made total → is_full stock ≡ false
+    → create_refusal size stock ≡ new_refusal total size
 create-refused held made total stock size v u e = rw e (ap (λ n. new_refusal n size) (sym (u.summed ∙ ap total_size v)))
 
 -- what is refused of the store that was read
-pub resize-refused : (held : List Held) (made total : ℕ) (stock : Stock) (number place : ℕ) (size : ℤ) (s : Held) → record { held = held; made = made } ≡ stock → IsSound held made total → IsPlace held number place → s ≡ get_or held place s
+pub resize-refused : (held : List Held) (made total : ℕ) (stock : Stock) (number place : ℕ) (size : ℤ) (s : Held) → record { held = held; made = made } ≡ stock → IsSound held made total
+    → IsPlace held number place → s ≡ get_or held place s
     → resize_refusal number size stock ≡ size_refusal total (length s.bytes) size
 resize-refused held made total stock number place size s v u p e =
     rw (store-read held made stock number place s v p e) (ap (λ n. size_refusal n (length s.bytes) size) (sym (u.summed ∙ ap total_size v)))

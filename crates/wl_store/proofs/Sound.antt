@@ -107,7 +107,8 @@ not-full : (n made : ℕ) → n ≤ 64 → (eqb n 64 || eqb made 4294967295) ≡
 not-full n made h e = grind (arith, nat_tests)
 
 -- a store more, for which there is room
-pub sound-made : (held : List Held) (made total size : ℕ) (stock : Stock) (x : Held) → record { held = held; made = made } ≡ stock → IsSound held made total → is_full stock ≡ false → total_size stock + size ≤ 268435456
+pub sound-made : (held : List Held) (made total size : ℕ) (stock : Stock) (x : Held) → record { held = held; made = made } ≡ stock → IsSound held made total → is_full stock ≡ false
+    → total_size stock + size ≤ 268435456
     → x ≡ record { number = made + 1; bytes = replicate size 0; uses = 1 } → IsSound (held ++ x ∷ []) (made + 1) (total + size)
 sound-made held made total size stock x v s few room e =
     let sized : length x.bytes ≡ size = ap (λ (u : Held). length u.bytes) e ∙ length-replicate size 0 in

@@ -7,7 +7,8 @@ more-is : (size len : ℕ) (was kept now : List ℕ) → length was ≤ size →
 more-is size len was kept now h k l e = rw (e, l, k, take_all size was h)
 
 -- zeros at the end
-pub grown-is : (number uses size len : ℕ) (was kept now : List ℕ) (s : Held) → record { number = number; bytes = was; uses = uses } ≡ s → length s.bytes ≤ size → kept ≡ was → len ≡ length kept → now ≡ take size kept ++ replicate (size - len) 0
+pub grown-is : (number uses size len : ℕ) (was kept now : List ℕ) (s : Held) → record { number = number; bytes = was; uses = uses } ≡ s → length s.bytes ≤ size → kept ≡ was → len ≡ length kept
+    → now ≡ take size kept ++ replicate (size - len) 0
     → record { number = number; bytes = now; uses = uses } ≡ record s { bytes = s.bytes ++ replicate (size - length s.bytes) 0 }
 grown-is number uses size len was kept now s v h k l e =
     let had = ap (λ (t : Held). t.bytes) v in

@@ -1,5 +1,6 @@
 -- Which layouts are accepted, and which colour lies at a point of a buffer.
-use Rattle.std.specs.Prelude.{ℕ, ◌+◌, ◌*◌, ◌≤◌, ℤ, pos, ◌+ℤ◌, ◌*ℤ◌, int_le, int_lt, nat_lt, nat_le, Bool, ◌&&◌, cond, Option, Some, None, List, slice_index}
+use Rattle.std.specs.Prelude.{ℕ, ◌+◌, ◌*◌, ◌≤◌, ℤ, pos, ◌+ℤ◌, ◌*ℤ◌, int_le, int_lt, nat_lt, nat_le, Bool, ◌&&◌, cond, Option, Some, None}
+use Rattle.std.specs.Prelude.{List, slice_index}
 use Rattle.wl_store.specs.declared.color.Argb.{Argb}
 use Rattle.wl_store.specs.declared.color.Format.{Format}
 use Rattle.wl_store.specs.declared.color.Format.TheVariants.{Argb8888, Xrgb8888}
@@ -18,7 +19,8 @@ has_room size offset w h stride = ((nat_lt 0 w && nat_lt 0 h) && nat_le (4 * w) 
 -- the same of the numbers that a client sends: none is negative
 abbrev pub is_valid : ℕ → ℤ → ℤ → ℤ → ℤ → Bool
 is_valid size offset w h stride =
-    (((int_le (pos 0) offset && int_lt (pos 0) w) && int_lt (pos 0) h) && int_le (pos 4 *ℤ w) stride) && int_le (offset +ℤ stride *ℤ h) (pos size)
+    (((int_le (pos 0) offset && int_lt (pos 0) w) && int_lt (pos 0) h) && int_le (pos 4 *ℤ w) stride)
+    && int_le (offset +ℤ stride *ℤ h) (pos size)
 
 -- the refusal of a layout, if it is refused: an unknown format comes first
 abbrev pub layout_refusal : ℕ → ℤ → ℤ → ℤ → ℤ → ℕ → Option LayoutError
@@ -38,7 +40,12 @@ alpha_of Xrgb8888 byte = 255
 abbrev pub buffer_color : List ℕ → Layout → ℕ × ℕ → Argb
 buffer_color bytes l point =
     let at = l.offset + point.1 * l.stride + 4 * point.0 in
-    record { a = alpha_of l.format (slice_index bytes (at + 3)); r = slice_index bytes (at + 2); g = slice_index bytes (at + 1); b = slice_index bytes at }
+    record {
+      a = alpha_of l.format (slice_index bytes (at + 3));
+      r = slice_index bytes (at + 2);
+      g = slice_index bytes (at + 1);
+      b = slice_index bytes at;
+    }
 
 -- the colour of pixel k of a buffer's bytes: blue, green, red and alpha
 abbrev pub argb_of : Format → List ℕ → ℕ → Argb

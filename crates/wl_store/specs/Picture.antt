@@ -17,7 +17,8 @@ pub record Shown : Type 0 where
 
 -- the picture of a buffer that lies so in these bytes, if it ends within them
 abbrev pub lent : List ℕ → Layout → Transform → Option Shown
-lent bytes l transform = cond (nat_le (l.offset + l.stride * l.h) (length bytes)) (Some (record { bytes = bytes; layout = l; transform = transform })) None
+lent bytes l transform = cond (nat_le (l.offset + l.stride * l.h) (length bytes))
+    (Some (record { bytes = bytes; layout = l; transform = transform })) None
 
 -- a surface's width and height, where it shows a buffer that lies so: an odd transform exchanges them
 abbrev pub surface_width : Transform → Layout → ℕ
@@ -28,7 +29,8 @@ surface_height t l = cond (is_turned t) l.w l.h
 
 -- the colour at the point (i, j) of the surface
 abbrev pub color_at : Shown → ℕ → ℕ → Argb
-color_at p i j = buffer_color p.bytes p.layout (buffer_point p.transform (surface_width p.transform p.layout) (surface_height p.transform p.layout) i j)
+color_at p i j = buffer_color p.bytes p.layout
+    (buffer_point p.transform (surface_width p.transform p.layout) (surface_height p.transform p.layout) i j)
 
 -- the bytes are those of so many points of the surface from (i, j) to the right, four each, in this format
 pub record ArePoints (p : Shown) (i j count : ℕ) (bytes : List ℕ) (format : Format) : Type 0 where

@@ -1,5 +1,7 @@
 -- A client's stores: byte lists with uses, by their numbers.
-use Rattle.std.specs.Prelude.{ℕ, ◌≡◌, ◌+◌, ◌-◌, ◌≤◌, ◌<◌, ◌∷◌, ◌++◌, [], ℤ, pos, ◌+ℤ◌, ◌-ℤ◌, int_le, int_lt, nat_lt, nat_le, ◌==◌, Bool, false, ◌||◌, not, cond, List, length, slice_get, slice_index_or, take, drop, replicate, map, filter, find, sum_by, Option, Some, None}
+use Rattle.std.specs.Prelude.{ℕ, ◌≡◌, ◌+◌, ◌-◌, ◌≤◌, ◌<◌, ◌∷◌, ◌++◌, [], ℤ, pos, ◌+ℤ◌, ◌-ℤ◌, int_le, int_lt, nat_lt, nat_le, ◌==◌, Bool}
+use Rattle.std.specs.Prelude.{false, ◌||◌, not, cond, List, length, slice_get, slice_index_or, take, drop, replicate, map, filter, find}
+use Rattle.std.specs.Prelude.{sum_by, Option, Some, None}
 use Rattle.std.specs.Option.{option_map, option_and_then, option_map_or}
 use Rattle.wl_store.specs.declared.place.Layout.{Layout}
 use Rattle.wl_store.specs.declared.stores.StoreError.{StoreError}
@@ -75,7 +77,8 @@ size_refusal total present size =
 
 -- the same of the store of a number
 abbrev pub resize_refusal : ℕ → ℤ → Stock → Option StoreError
-resize_refusal number size stock = option_map_or (λ s. size_refusal (total_size stock) (length s.bytes) size) (store_at number stock) (Some NoStore)
+resize_refusal number size stock =
+    option_map_or (λ s. size_refusal (total_size stock) (length s.bytes) size) (store_at number stock) (Some NoStore)
 
 -- zeros at the end of the store, up to this size
 abbrev pub resized : ℕ → ℕ → Stock → Stock

@@ -1,11 +1,13 @@
 -- The eight transforms, and the buffer point that a surface point shows.
 use Rattle.std.specs.Prelude.{ℕ, ◌-◌, Bool, true, false, [], ◌∷◌, slice_index_or}
 use Rattle.wl_store.specs.declared.transform.Transform.{Transform}
-use Rattle.wl_store.specs.declared.transform.Transform.TheVariants.{Normal, Rotated90, Rotated180, Rotated270, Flipped, Flipped90, Flipped180, Flipped270}
+use Rattle.wl_store.specs.declared.transform.Transform.TheVariants.{Normal, Rotated90, Rotated180, Rotated270, Flipped, Flipped90}
+use Rattle.wl_store.specs.declared.transform.Transform.TheVariants.{Flipped180, Flipped270}
 
 -- the transform of a number, as wl_output.transform counts them
 abbrev pub transform_of : ℕ → Transform
-transform_of number = slice_index_or (Normal ∷ Rotated90 ∷ Rotated180 ∷ Rotated270 ∷ Flipped ∷ Flipped90 ∷ Flipped180 ∷ Flipped270 ∷ []) number Flipped270
+transform_of number = slice_index_or (Normal ∷ Rotated90 ∷ Rotated180 ∷ Rotated270 ∷ Flipped ∷ Flipped90 ∷ Flipped180 ∷ Flipped270 ∷ [])
+    number Flipped270
 
 -- it exchanges width and height
 abbrev pub is_turned : Transform → Bool

@@ -54,7 +54,8 @@ unlike false e f = (λ n. absurd (cc), λ q. absurd (false-true (e.1 (f.1 q)))) 
   false-true g = absurd (cc)
 
 -- a surface that stands for one tells of it, and none tells of none
-pub told-some : {A : Type 0} (number : ℕ) (k : Kept) (at : Option Surface) (c : Change A) → StandsAt (Some k) at → ((s : Surface) → StandsFor k s → IsChange number s.history c) → AreChanges number at (c ∷ [])
+pub told-some : {A : Type 0} (number : ℕ) (k : Kept) (at : Option Surface) (c : Change A) → StandsAt (Some k) at → ((s : Surface) → StandsFor k s → IsChange number s.history c)
+    → AreChanges number at (c ∷ [])
 told-some number k None c t tells = absurd (t)
 told-some number k (Some s) c t tells = (c, refl, tells s t)
 
@@ -96,7 +97,8 @@ is-freed false y e = rw e refl
 as-before : (busy candidate : ℕ → Bool) (freed : List ℕ) (b : ℕ) → AreFreedBy busy candidate freed → count_by (λ m. m == b) freed ≡ bit ((candidate b || false) && not (busy b))
 as-before busy candidate freed b freed-by = freed-by b ∙ ap (λ x. bit (x && not (busy b))) (sym (or-false (candidate b)))
 
-one-more : (busy candidate : ℕ → Bool) (freed : List ℕ) (n b : ℕ) (is_busy among same : Bool) → busy n ≡ is_busy → list_any (λ m. m == n) freed ≡ among → (n == b) ≡ same → AreFreedBy busy candidate freed
+one-more : (busy candidate : ℕ → Bool) (freed : List ℕ) (n b : ℕ) (is_busy among same : Bool) → busy n ≡ is_busy → list_any (λ m. m == n) freed ≡ among → (n == b) ≡ same
+    → AreFreedBy busy candidate freed
     → count_by (λ m. m == b) (if is_busy || among then freed else freed ++ n ∷ []) ≡ bit ((candidate b || same) && not (busy b))
 one-more busy candidate freed n b true among false B L S freed-by = as-before busy candidate freed b freed-by
 one-more busy candidate freed n b false true false B L S freed-by = as-before busy candidate freed b freed-by
@@ -140,7 +142,8 @@ only-answer q all false true s t = absurd (differ (sym (s t.0) ∙ t.1)) where
   differ e = absurd (cc)
 
 -- A buffer that isn't busy any more was busy exactly where the surface that changed showed it.
-was-here : (q : Option Surface → Bool) (number : ℕ) (all after : Numbered) (was : Bool) → ((other : ℕ) → (other == number) ≡ false → after other ≡ all other) → IsAny q all was → IsAny q after false → was ≡ q (all number)
+was-here : (q : Option Surface → Bool) (number : ℕ) (all after : Numbered) (was : Bool) → ((other : ℕ) → (other == number) ≡ false → after other ≡ all other) → IsAny q all was → IsAny q after false
+    → was ≡ q (all number)
 was-here q number all after true others w none = from-there (w.0 == number) refl where
   from-there : (same : Bool) → (w.0 == number) ≡ same → true ≡ q (all number)
   from-there true e = sym w.1 ∙ ap (λ n. q (all n)) (eqb-true w.0 number e)
@@ -159,8 +162,10 @@ shown-there b None (Some s) t = absurd (t)
 shown-there b (Some k) None t = absurd (t)
 
 -- what stops being busy is freed, once
-pub freed-told : (slots new : List (Option Kept)) (number : ℕ) (all after : Numbered) → ((other : ℕ) → (other == number) ≡ false → after other ≡ all other) → StandForAll (record { places = slots; frames = [] }) all → StandForAll (record { places = new; frames = [] }) after
-    → AreFreed (with_freed (λ b. list_any (λ e. kept_shows b e.1) (entries_from 0 new)) (option_map buffer_of (shown_of (place_at slots number)).1) (with_freed (λ b. list_any (λ e. kept_shows b e.1) (entries_from 0 new)) (option_map buffer_of (shown_of (place_at slots number)).0) [])) all after
+pub freed-told : (slots new : List (Option Kept)) (number : ℕ) (all after : Numbered) → ((other : ℕ) → (other == number) ≡ false → after other ≡ all other)
+    → StandForAll (record { places = slots; frames = [] }) all → StandForAll (record { places = new; frames = [] }) after
+    → AreFreed (with_freed (λ b. list_any (λ e. kept_shows b e.1) (entries_from 0 new)) (option_map buffer_of (shown_of (place_at slots number)).1)
+    (with_freed (λ b. list_any (λ e. kept_shows b e.1) (entries_from 0 new)) (option_map buffer_of (shown_of (place_at slots number)).0) [])) all after
 freed-told slots new number all after others stand stands b was is w i =
     let busy : ℕ → Bool = λ n. list_any (λ e. kept_shows n e.1) (entries_from 0 new) in
     let shown = shown_of (place_at slots number) in
@@ -170,7 +175,8 @@ freed-told slots new number all after others stand stands b was is w i =
       same : (is : Bool) → IsAny (shows_at b) all was → IsAny (shows_at b) after is → is ≡ list_any (λ e. kept_shows b e.1) (entries_from 0 new)
           → (kept-names b (shown_of (place_at slots number)) && not (list_any (λ e. kept_shows b e.1) (entries_from 0 new))) ≡ (was && not is)
       same true w i e = ap (λ x. kept-names b (shown_of (place_at slots number)) && not x) (sym e) ∙ and-false (kept-names b (shown_of (place_at slots number))) ∙ sym (and-false was)
-      same false w i e = ap (λ x. kept-names b (shown_of (place_at slots number)) && not x) (sym e) ∙ ap (λ x. x && true) (sym (was-here (shows_at b) number all after was others w i ∙ shown-there b (place_at slots number) (all number) (stand number)))
+      same false w i e = ap (λ x. kept-names b (shown_of (place_at slots number)) && not x) (sym e)
+          ∙ ap (λ x. x && true) (sym (was-here (shows_at b) number all after was others w i ∙ shown-there b (place_at slots number) (all number) (stand number)))
 
 -- a change of one surface leaves the others, and so does its end
 pub others-changed : (number : ℕ) (change : Surface → Surface) (all : Numbered) (other : ℕ) → (other == number) ≡ false → changed_at number change all other ≡ all other

@@ -135,7 +135,8 @@ module _ (all : Numbered) where
       or_none None = 0
       or_none (Some n) = n
 
-      by : (b : Bool) → w.is_applied ≡ b → (next_of ws ≡ Some id → IsNextDue id all cs (without_next ws)) → option_map (λ (v : Waiting). v.callback) (cond b (Some w) (find (λ (v : Waiting). v.is_applied) ws)) ≡ Some id
+      by : (b : Bool) → w.is_applied ≡ b → (next_of ws ≡ Some id → IsNextDue id all cs (without_next ws))
+          → option_map (λ (v : Waiting). v.callback) (cond b (Some w) (find (λ (v : Waiting). v.is_applied) ws)) ≡ Some id
           → IsNextDue id all (c ∷ cs) (cond b ws (w ∷ without_next ws))
       by true is rest e = record { before = []; callback = c; after = cs; all_are = refl; has_id = sym t.0.id ∙ ap or_none e; undue = tt; surface = w.surface; due = t.0.applied ∙ is; others = t.1 }
       by false is rest e = let found = rest e in record {
@@ -156,6 +157,7 @@ module _ (all : Numbered) where
   waiting-none (w ∷ ws) [] t e = absurd t
   waiting-none (w ∷ ws) (c ∷ cs) t e = by w.is_applied refl (waiting-none ws cs t.1) e
     where
-      by : (b : Bool) → w.is_applied ≡ b → (next_of ws ≡ None → AreUndue all cs) → option_map (λ (v : Waiting). v.callback) (cond b (Some w) (find (λ (v : Waiting). v.is_applied) ws)) ≡ None → AreUndue all (c ∷ cs)
+      by : (b : Bool) → w.is_applied ≡ b → (next_of ws ≡ None → AreUndue all cs) → option_map (λ (v : Waiting). v.callback) (cond b (Some w) (find (λ (v : Waiting). v.is_applied) ws)) ≡ None
+          → AreUndue all (c ∷ cs)
       by true is rest e = absurd (cc)
       by false is rest e = (undue w c t.0 is, rest e)

@@ -22,7 +22,8 @@ module _ (surface : ℕ) (all : Numbered) where
       ∙ by (is_in (frames_at (all surface)) c) (callbacks-gone ws cs t.1)
     where
       by : (b : Bool) → callbacks_of surface ws ≡ map (λ (x : Callback). x.id) (filter (is_in (frames_at (all surface))) cs)
-          → map (λ (v : Waiting). v.callback) (cond b (w ∷ filter (is_of surface) ws) (filter (is_of surface) ws)) ≡ map (λ (x : Callback). x.id) (cond b (c ∷ filter (is_in (frames_at (all surface))) cs) (filter (is_in (frames_at (all surface))) cs))
+          → map (λ (v : Waiting). v.callback) (cond b (w ∷ filter (is_of surface) ws) (filter (is_of surface) ws))
+          ≡ map (λ (x : Callback). x.id) (cond b (c ∷ filter (is_in (frames_at (all surface))) cs) (filter (is_in (frames_at (all surface))) cs))
       by true rest = ap (λ i. i ∷ callbacks_of surface ws) t.0.id ∙ ap (λ is. c.id ∷ is) rest
       by false rest = rest
 
@@ -36,15 +37,18 @@ module _ (surface : ℕ) (all : Numbered) where
     by number true e = sym (ap (λ k. k == w.surface) (eqb-true number surface e) ∙ same-either surface w.surface ∙ differs)
     by number false e = t.asked number
 
-  pub waiting-gone : (ws : List Waiting) (cs : List Callback) → AreWaiting ws all cs → AreWaiting (without_those_of surface ws) (with_at surface None all) (filter (λ c. not (is_in (frames_at (all surface)) c)) cs)
+  pub waiting-gone : (ws : List Waiting) (cs : List Callback) → AreWaiting ws all cs
+      → AreWaiting (without_those_of surface ws) (with_at surface None all) (filter (λ c. not (is_in (frames_at (all surface)) c)) cs)
   waiting-gone [] [] t = tt
   waiting-gone [] (c ∷ cs) t = absurd t
   waiting-gone (w ∷ ws) [] t = absurd t
   waiting-gone (w ∷ ws) (c ∷ cs) t =
-      subst (λ b. AreWaiting (without_those_of surface (w ∷ ws)) (with_at surface None all) (cond (not b) (c ∷ filter (λ x. not (is_in (frames_at (all surface)) x)) cs) (filter (λ x. not (is_in (frames_at (all surface)) x)) cs)))
+      subst (λ b. AreWaiting (without_those_of surface (w ∷ ws)) (with_at surface None all)
+      (cond (not b) (c ∷ filter (λ x. not (is_in (frames_at (all surface)) x)) cs) (filter (λ x. not (is_in (frames_at (all surface)) x)) cs)))
       (of-surface w c t.0) (by (is_of surface w) refl (waiting-gone ws cs t.1))
     where
       by : (b : Bool) → is_of surface w ≡ b → AreWaiting (without_those_of surface ws) (with_at surface None all) (filter (λ x. not (is_in (frames_at (all surface)) x)) cs)
-          → AreWaiting (cond (not b) (w ∷ without_those_of surface ws) (without_those_of surface ws)) (with_at surface None all) (cond (not b) (c ∷ filter (λ x. not (is_in (frames_at (all surface)) x)) cs) (filter (λ x. not (is_in (frames_at (all surface)) x)) cs))
+          → AreWaiting (cond (not b) (w ∷ without_those_of surface ws) (without_those_of surface ws)) (with_at surface None all)
+          (cond (not b) (c ∷ filter (λ x. not (is_in (frames_at (all surface)) x)) cs) (filter (λ x. not (is_in (frames_at (all surface)) x)) cs))
       by true e rest = rest
       by false e rest = (waits-left w c e t.0, rest)

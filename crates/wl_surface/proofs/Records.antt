@@ -10,7 +10,8 @@ use Rattle.wl_surface.specs.declared.content.Offset.{Offset}
 use Rattle.wl_geom.specs.declared.rect.Rect.{Rect}
 use Rattle.wl_surface.specs.declared.role.Role.{Role}
 use Rattle.wl_surface.specs.Request.{Request, Attach, Damage, Frame, SetOpaqueRegion, SetInputRegion, SetBufferTransform, SetWindowGeometry, Commit, AddChild, SetPosition, PlaceAbove, PlaceBelow}
-use Rattle.wl_surface.specs.State.{History, Moving, Values, apply, asked, between, committed, committed_from, damaged_rects, first_values, pending, is_commit, moved_by, moving, offset, values, within_bounds}
+use Rattle.wl_surface.specs.State.{History, Moving, Values, apply, asked, between, committed, committed_from, damaged_rects, first_values, pending, is_commit, moved_by, moving, offset, values}
+use Rattle.wl_surface.specs.State.{within_bounds}
 use Rattle.wl_surface.specs.Surfaces.{Surface, applying, asking, with_role}
 use Rattle.wl_surface.specs.Kept.{HasMoved, IsFarther, Kept, Shows, Stands, StandsFor, held_list, latest, pair_of}
 use Rattle.wl_surface.proofs.Commits.{committed-last}
@@ -98,7 +99,8 @@ take-none (suc n) [] x le = absurd (omega arith)
 take-none (suc n) (y ∷ xs) x le = ap (λ zs. y ∷ zs) (take-none n xs x (omega arith))
 
 -- a request that is no commit: what is pending changes, and nothing else
-pub Stands-asked : (k : Kept) (h : History) (r : Request) (buffer : Option Attached) (transform : Transform) (opaque : Option Area) (input : Option (Option Area)) (by : Option Offset) (damage : List Rect) → is_commit r ≡ false → Stands k h
+pub Stands-asked : (k : Kept) (h : History) (r : Request) (buffer : Option Attached) (transform : Transform) (opaque : Option Area) (input : Option (Option Area)) (by : Option Offset)
+    (damage : List Rect) → is_commit r ≡ false → Stands k h
     → Shows buffer transform (latest opaque (latest k.held_opaque k.current_opaque)) (latest input (latest k.held_input k.current_input)) (asked (pending h) r)
     → moving (offset h.requests) r ≡ record { x = (offset h.requests).x; y = (offset h.requests).y; next = option_map pair_of by }
     → damage ≡ take 1025 (damaged_rects (drop (committed h.requests) h.requests) ++ damaged_rects (r ∷ []))
@@ -109,21 +111,24 @@ Stands-asked k h r buffer transform opaque input by damage plain s shows moves d
     let offsets = sym (offset-asked h.requests r ∙ moves) in
     let at = committed-kept h.requests r 0 0 plain in
     let longer = length-append h.requests (r ∷ []) in record {
-      pending = subst (λ (v : Values). Shows buffer transform (latest opaque (latest k.held_opaque k.current_opaque)) (latest input (latest k.held_input k.current_input)) v) (sym (values-asked h.requests r)) shows;
+      pending = subst (λ (v : Values). Shows buffer transform (latest opaque (latest k.held_opaque k.current_opaque)) (latest input (latest k.held_input k.current_input)) v)
+          (sym (values-asked h.requests r)) shows;
       held = subst (λ (v : Values). Shows k.held_buffer k.held_transform (latest k.held_opaque k.current_opaque) (latest k.held_input k.current_input) v) (ap values list) s.held;
       current = subst (λ (v : Values). Shows k.current_buffer k.current_transform k.current_opaque k.current_input v) (ap values counting) s.current;
       pending_move = ap (λ (m : Moving). m.next) offsets;
       pending_place = (s.pending_place.0 ∙ ap (λ (m : Moving). m.x) offsets, s.pending_place.1 ∙ ap (λ (m : Moving). m.y) offsets);
       held_place = subst (λ (rs : List Request). HasMoved k.held_offset rs) list s.held_place;
       current_place = subst (λ (rs : List Request). HasMoved k.current_offset rs) counting s.current_place;
-      pending_damaged = damaged ∙ ap (λ rs. take 1025 rs) (sym (damaged-last (committed h.requests) h.requests r s.commits_within)) ∙ ap (λ (n : ℕ). take 1025 (damaged_rects (drop n (h.requests ++ r ∷ [])))) (sym at);
+      pending_damaged = damaged ∙ ap (λ rs. take 1025 rs) (sym (damaged-last (committed h.requests) h.requests r s.commits_within))
+          ∙ ap (λ (n : ℕ). take 1025 (damaged_rects (drop n (h.requests ++ r ∷ [])))) (sym at);
       held_damaged = s.held_damaged ∙ ap (λ (rs : List Request). take 1025 (damaged_rects (drop h.cut rs))) list;
       cut_within = subst (λ (n : ℕ). h.cut ≤ n) (sym at) s.cut_within;
       commits_within = let e = s.commits_within in omega (arith, at, longer, e);
     }
 
 -- the same of a surface, whose role isn't touched
-pub For-asked : (k : Kept) (s : Surface) (r : Request) (buffer : Option Attached) (transform : Transform) (opaque : Option Area) (input : Option (Option Area)) (by : Option Offset) (damage : List Rect) → is_commit r ≡ false → StandsFor k s
+pub For-asked : (k : Kept) (s : Surface) (r : Request) (buffer : Option Attached) (transform : Transform) (opaque : Option Area) (input : Option (Option Area)) (by : Option Offset)
+    (damage : List Rect) → is_commit r ≡ false → StandsFor k s
     → Shows buffer transform (latest opaque (latest k.held_opaque k.current_opaque)) (latest input (latest k.held_input k.current_input)) (asked (pending s.history) r)
     → moving (offset s.history.requests) r ≡ record { x = (offset s.history.requests).x; y = (offset s.history.requests).y; next = option_map pair_of by }
     → damage ≡ take 1025 (damaged_rects (drop (committed s.history.requests) s.history.requests) ++ damaged_rects (r ∷ []))
@@ -132,7 +137,8 @@ For-asked k s r buffer transform opaque input by damage plain t shows moves dama
     record { history = Stands-asked k s.history r buffer transform opaque input by damage plain t.history shows moves damaged; role = t.role }
 
 -- where nothing is damaged
-pub undamaged : (k : Kept) (h : History) (r : Request) → damaged_rects (r ∷ []) ≡ [] → Stands k h → k.pending_damage ≡ take 1025 (damaged_rects (drop (committed h.requests) h.requests) ++ damaged_rects (r ∷ []))
+pub undamaged : (k : Kept) (h : History) (r : Request) → damaged_rects (r ∷ []) ≡ [] → Stands k h
+    → k.pending_damage ≡ take 1025 (damaged_rects (drop (committed h.requests) h.requests) ++ damaged_rects (r ∷ []))
 undamaged k h r none s = s.pending_damaged ∙ ap (λ rs. take 1025 rs) (sym (append-nil _)) ∙ ap (λ rs. take 1025 (damaged_rects (drop (committed h.requests) h.requests) ++ rs)) (sym none)
 
 -- where nothing moves
@@ -140,7 +146,8 @@ pub still : (k : Kept) (h : History) → Stands k h → offset h.requests ≡ re
 still k h s = ap (λ (n : Option (ℤ × ℤ)). record { x = (offset h.requests).x; y = (offset h.requests).y; next = n }) (sym s.pending_move)
 
 -- a rectangle more, where fewer than 1,025 are kept
-pub For-damaged : (k : Kept) (s : Surface) (rect : Rect) → StandsFor k s → length k.pending_damage < 1025 → StandsFor (record k { pending_damage = k.pending_damage ++ rect ∷ [] }) (asking (Damage rect) s)
+pub For-damaged : (k : Kept) (s : Surface) (rect : Rect) → StandsFor k s → length k.pending_damage < 1025
+    → StandsFor (record k { pending_damage = k.pending_damage ++ rect ∷ [] }) (asking (Damage rect) s)
 For-damaged k surface rect u less =
     let h = surface.history in
     let s = u.history in
@@ -161,7 +168,8 @@ latest-newer : {X : Type 0} (a b : Option X) (c : X) → latest (option_or a b) 
 latest-newer (Some x) b c = refl
 latest-newer None b c = refl
 
-moved-next : (o new : Offset) (by : Option Offset) (m : Moving) → option_map pair_of by ≡ m.next → o.x ≡ m.x → o.y ≡ m.y → IsFarther o by new → (new.x ≡ (moved_by m m.next).x) × (new.y ≡ (moved_by m m.next).y) × (None ≡ (moved_by m m.next).next)
+moved-next : (o new : Offset) (by : Option Offset) (m : Moving) → option_map pair_of by ≡ m.next → o.x ≡ m.x → o.y ≡ m.y → IsFarther o by new → (new.x ≡ (moved_by m m.next).x)
+    × (new.y ≡ (moved_by m m.next).y) × (None ≡ (moved_by m m.next).next)
 moved-next o new None m e x y f =
     let n = sym e in rw n (ap (λ (p : Offset). p.x) f ∙ x, ap (λ (p : Offset). p.y) f ∙ y, refl)
 moved-next o new (Some by) m e x y f =
@@ -178,13 +186,26 @@ damage-joined k h s =
     let le : h.cut ≤ length h.requests = omega (arith, s.cut_within, s.commits_within) in
     let held = damaged_rects (between h.cut (committed h.requests) h.requests) in
     let fresh = damaged_rects (drop (committed h.requests) h.requests) in
-    let apart : damaged_rects (drop h.cut h.requests) ≡ held ++ fresh = ap damaged_rects (parted h.cut (committed h.requests) h.requests s.cut_within s.commits_within) ∙ damaged-append (between h.cut (committed h.requests) h.requests) (drop (committed h.requests) h.requests) in
+    let apart : damaged_rects (drop h.cut h.requests) ≡ held ++ fresh = ap damaged_rects (parted h.cut (committed h.requests) h.requests s.cut_within s.commits_within)
+    ∙ damaged-append (between h.cut (committed h.requests) h.requests) (drop (committed h.requests) h.requests) in
     ap (λ xs. take 1025 (xs ++ k.pending_damage)) s.held_damaged ∙ ap (λ ys. take 1025 (take 1025 held ++ ys)) s.pending_damaged ∙ take-both 1025 held fresh
     ∙ ap (λ xs. take 1025 xs) (sym (damaged-last h.cut h.requests Commit le ∙ append-nil _ ∙ apart))
 
 -- a commit: what was pending is held
 pub Stands-committed : (k : Kept) (h : History) (new : Offset) → Stands k h → IsFarther k.held_offset k.pending_offset new
-    → Stands (record k { held_buffer = k.pending_buffer; held_transform = k.pending_transform; held_opaque = option_or k.pending_opaque k.held_opaque; pending_opaque = None; held_input = option_or k.pending_input k.held_input; pending_input = None; pending_offset = None; held_offset = new; pending_damage = []; held_damage = take 1025 (k.held_damage ++ k.pending_damage) }) (with_request Commit h)
+    → Stands (record k {
+      held_buffer = k.pending_buffer;
+      held_transform = k.pending_transform;
+      held_opaque = option_or k.pending_opaque k.held_opaque;
+      pending_opaque = None;
+      held_input = option_or k.pending_input k.held_input;
+      pending_input = None;
+      pending_offset = None;
+      held_offset = new;
+      pending_damage = [];
+      held_damage = take 1025 (k.held_damage ++ k.pending_damage);
+    })
+    (with_request Commit h)
 Stands-committed k h new s moved =
     let all = h.requests ++ Commit ∷ [] in
     let whole = sym (held-committed h.requests) in
@@ -196,12 +217,14 @@ Stands-committed k h new s moved =
     let offsets = sym (offset-asked h.requests Commit) in
     let opaque = sym (latest-newer k.pending_opaque k.held_opaque k.current_opaque) in
     let input = sym (latest-newer k.pending_input k.held_input k.current_input) in
-    let shows = subst (λ (v : Values). Shows k.pending_buffer k.pending_transform (latest k.pending_opaque (latest k.held_opaque k.current_opaque)) (latest k.pending_input (latest k.held_input k.current_input)) v) (sym (values-asked h.requests Commit)) s.pending in
+    let shows = subst (λ (v : Values). Shows k.pending_buffer k.pending_transform (latest k.pending_opaque (latest k.held_opaque k.current_opaque))
+    (latest k.pending_input (latest k.held_input k.current_input)) v) (sym (values-asked h.requests Commit)) s.pending in
     let layered = subst (λ (a : Area). Shows k.pending_buffer k.pending_transform a (latest (option_or k.pending_input k.held_input) k.current_input) (values (h.requests ++ Commit ∷ []))) opaque
     (subst (λ (a : Option Area). Shows k.pending_buffer k.pending_transform (latest k.pending_opaque (latest k.held_opaque k.current_opaque)) a (values (h.requests ++ Commit ∷ []))) input shows) in
     let place : HasMoved new (h.requests ++ Commit ∷ []) = (m.0 ∙ ap (λ (x : Moving). x.x) offsets, m.1 ∙ ap (λ (x : Moving). x.y) offsets) in record {
       pending = layered;
-      held = subst (λ (v : Values). Shows k.pending_buffer k.pending_transform (latest (option_or k.pending_opaque k.held_opaque) k.current_opaque) (latest (option_or k.pending_input k.held_input) k.current_input) v) (ap values whole) layered;
+      held = subst (λ (v : Values). Shows k.pending_buffer k.pending_transform (latest (option_or k.pending_opaque k.held_opaque) k.current_opaque)
+          (latest (option_or k.pending_input k.held_input) k.current_input) v) (ap values whole) layered;
       current = subst (λ (v : Values). Shows k.current_buffer k.current_transform k.current_opaque k.current_input v) (ap values counting) s.current;
       pending_move = m.2 ∙ ap (λ (x : Moving). x.next) offsets;
       pending_place = place;
@@ -214,12 +237,33 @@ Stands-committed k h new s moved =
     }
 
 pub For-committed : (k : Kept) (s : Surface) (new : Offset) → StandsFor k s → IsFarther k.held_offset k.pending_offset new
-    → StandsFor (record k { held_buffer = k.pending_buffer; held_transform = k.pending_transform; held_opaque = option_or k.pending_opaque k.held_opaque; pending_opaque = None; held_input = option_or k.pending_input k.held_input; pending_input = None; pending_offset = None; held_offset = new; pending_damage = []; held_damage = take 1025 (k.held_damage ++ k.pending_damage) }) (asking Commit s)
+    → StandsFor (record k {
+      held_buffer = k.pending_buffer;
+      held_transform = k.pending_transform;
+      held_opaque = option_or k.pending_opaque k.held_opaque;
+      pending_opaque = None;
+      held_input = option_or k.pending_input k.held_input;
+      pending_input = None;
+      pending_offset = None;
+      held_offset = new;
+      pending_damage = [];
+      held_damage = take 1025 (k.held_damage ++ k.pending_damage);
+    })
+    (asking Commit s)
 For-committed k s new t moved = record { history = Stands-committed k s.history new t.history moved; role = t.role }
 
 -- what was held is applied
 Stands-applied : (k : Kept) (h : History) → Stands k h
-    → Stands (record k { current_buffer = k.held_buffer; current_transform = k.held_transform; current_offset = k.held_offset; current_opaque = latest k.held_opaque k.current_opaque; held_opaque = None; current_input = latest k.held_input k.current_input; held_input = None; held_damage = [] }) (apply h)
+    → Stands (record k {
+      current_buffer = k.held_buffer;
+      current_transform = k.held_transform;
+      current_offset = k.held_offset;
+      current_opaque = latest k.held_opaque k.current_opaque;
+      held_opaque = None;
+      current_input = latest k.held_input k.current_input;
+      held_input = None;
+      held_damage = [];
+    }) (apply h)
 Stands-applied k h s =
     let at = committed h.requests in
     let short = length-take at h.requests in record {
@@ -237,7 +281,16 @@ Stands-applied k h s =
     }
 
 pub For-applied : (k : Kept) (s : Surface) → StandsFor k s
-    → StandsFor (record k { current_buffer = k.held_buffer; current_transform = k.held_transform; current_offset = k.held_offset; current_opaque = latest k.held_opaque k.current_opaque; held_opaque = None; current_input = latest k.held_input k.current_input; held_input = None; held_damage = [] }) (applying s)
+    → StandsFor (record k {
+      current_buffer = k.held_buffer;
+      current_transform = k.held_transform;
+      current_offset = k.held_offset;
+      current_opaque = latest k.held_opaque k.current_opaque;
+      held_opaque = None;
+      current_input = latest k.held_input k.current_input;
+      held_input = None;
+      held_damage = [];
+    }) (applying s)
 For-applied k s t = record { history = Stands-applied k s.history t.history; role = t.role }
 
 -- what is asked of a surface doesn't change with its role

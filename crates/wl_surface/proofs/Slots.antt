@@ -39,11 +39,13 @@ counted-after slots number k new e =
     omega (arith, sums, was)
 
 -- what stands for a surface under its number is one
-standing : (k new : Kept) (change : Surface → Surface) (at : Option Surface) → StandsAt (Some k) at → ((s : Surface) → StandsFor k s → StandsFor new (change s)) → StandsAt (Some new) (option_map change at)
+standing : (k new : Kept) (change : Surface → Surface) (at : Option Surface) → StandsAt (Some k) at → ((s : Surface) → StandsFor k s → StandsFor new (change s))
+    → StandsAt (Some new) (option_map change at)
 standing k new change None s to = s
 standing k new change (Some at) s to = to at s
 
-standing-for : (slots : Places) (number other : ℕ) (k new : Kept) (change : Surface → Surface) (all : Numbered) (b : Bool) → (other == number) ≡ b → place_at slots number ≡ Some k → ((s : Surface) → StandsFor k s → StandsFor new (change s)) → Stand slots all
+standing-for : (slots : Places) (number other : ℕ) (k new : Kept) (change : Surface → Surface) (all : Numbered) (b : Bool) → (other == number) ≡ b → place_at slots number ≡ Some k
+    → ((s : Surface) → StandsFor k s → StandsFor new (change s)) → Stand slots all
     → StandsAt (place_at (slice_set slots number (Some new)) other) (cond b (option_map change (all other)) (all other))
 standing-for slots number other k new change all true same e to stand =
     let at = eqb-true other number same in
@@ -53,7 +55,9 @@ standing-for slots number other k new change all true same e to stand =
 standing-for slots number other k new change all false differs e to stand =
     subst (λ (slot : Option Kept). StandsAt slot (all other)) (sym (kept-there slots number other (Some new) differs)) (stand other)
 
-pub Changes-at : (slots : Places) (frames after : List Waiting) (number : ℕ) (k new : Kept) (change : Surface → Surface) → place_at slots number ≡ Some k → ((s : Surface) → StandsFor k s → StandsFor new (change s)) → Changes (record { places = slots; frames = frames }) (record { places = slice_set slots number (Some new); frames = after }) number change
+pub Changes-at : (slots : Places) (frames after : List Waiting) (number : ℕ) (k new : Kept) (change : Surface → Surface) → place_at slots number ≡ Some k
+    → ((s : Surface) → StandsFor k s → StandsFor new (change s))
+    → Changes (record { places = slots; frames = frames }) (record { places = slice_set slots number (Some new); frames = after }) number change
 Changes-at slots frames after number k new change e to = record {
   stand = λ all stand other. standing-for slots number other k new change all (other == number) refl e to stand;
   count = counted-after slots number k new e;
@@ -64,38 +68,46 @@ nobody-at change None s = refl
 nobody-at change (Some at) s = absurd (s)
 
 -- where none is, none changes
-pub Changes-none : (slots : Places) (frames after : List Waiting) (number : ℕ) (change : Surface → Surface) → place_at slots number ≡ None → Changes (record { places = slots; frames = frames }) (record { places = slots; frames = after }) number change
+pub Changes-none : (slots : Places) (frames after : List Waiting) (number : ℕ) (change : Surface → Surface) → place_at slots number ≡ None
+    → Changes (record { places = slots; frames = frames }) (record { places = slots; frames = after }) number change
 Changes-none slots frames after number change e = record {
   stand = λ all stand other. none-changes slots number other change all (other == number) refl e stand;
   count = refl;
 } where
-  none-changes : (slots : Places) (number other : ℕ) (change : Surface → Surface) (all : Numbered) (b : Bool) → (other == number) ≡ b → place_at slots number ≡ None → Stand slots all → StandsAt (place_at slots other) (cond b (option_map change (all other)) (all other))
+  none-changes : (slots : Places) (number other : ℕ) (change : Surface → Surface) (all : Numbered) (b : Bool) → (other == number) ≡ b → place_at slots number ≡ None → Stand slots all
+      → StandsAt (place_at slots other) (cond b (option_map change (all other)) (all other))
   none-changes slots number other change all true same e stand =
       let at = eqb-true other number same in
-      subst (λ (s : Option Surface). StandsAt (place_at slots other) s) (sym (nobody-at change (all other) (subst (λ (slot : Option Kept). StandsAt slot (all other)) (ap (place_at slots) at ∙ e) (stand other)))) (stand other)
+      subst (λ (s : Option Surface). StandsAt (place_at slots other) s)
+      (sym (nobody-at change (all other) (subst (λ (slot : Option Kept). StandsAt slot (all other)) (ap (place_at slots) at ∙ e) (stand other)))) (stand other)
   none-changes slots number other change all false differs e stand = stand other
 
 -- a surface more, under a number that none had
-pub with-new : (old new : Places) (number : ℕ) (k : Kept) (s : Surface) → place_at old number ≡ None → place_at new number ≡ Some k → ((other : ℕ) → other ≢ number → place_at new other ≡ place_at old other) → StandsFor k s
+pub with-new : (old new : Places) (number : ℕ) (k : Kept) (s : Surface) → place_at old number ≡ None → place_at new number ≡ Some k
+    → ((other : ℕ) → other ≢ number → place_at new other ≡ place_at old other) → StandsFor k s
     → (all : Numbered) → Stand old all → (all number ≡ None) × Stand new (with_at number (Some s) all)
-with-new old new number k s none here others t all stand =
-    (no-surface (all number) (subst (λ (slot : Option Kept). StandsAt slot (all number)) none (stand number)), λ other. stands-new old new number other k s all (other == number) refl here others t stand) where
-      no-surface : (at : Option Surface) → StandsAt None at → at ≡ None
-      no-surface None s = refl
-      no-surface (Some at) s = absurd (s)
+with-new old new number k s none here others t all stand = (
+  no-surface (all number) (subst (λ (slot : Option Kept). StandsAt slot (all number)) none (stand number)),
+  λ other. stands-new old new number other k s all (other == number) refl here others t stand,
+) where
+  no-surface : (at : Option Surface) → StandsAt None at → at ≡ None
+  no-surface None s = refl
+  no-surface (Some at) s = absurd (s)
 
-      stands-new : (old new : Places) (number other : ℕ) (k : Kept) (s : Surface) (all : Numbered) (b : Bool) → (other == number) ≡ b → place_at new number ≡ Some k → ((other : ℕ) → other ≢ number → place_at new other ≡ place_at old other) → StandsFor k s → Stand old all
-          → StandsAt (place_at new other) (cond b (Some s) (all other))
-      stands-new old new number other k s all true same here others t stand =
-          subst (λ (slot : Option Kept). StandsAt slot (Some s)) (sym (ap (place_at new) (eqb-true other number same) ∙ here)) t
-      stands-new old new number other k s all false differs here others t stand =
-          subst (λ (slot : Option Kept). StandsAt slot (all other)) (sym (others other (eqb-false other number differs))) (stand other)
+  stands-new : (old new : Places) (number other : ℕ) (k : Kept) (s : Surface) (all : Numbered) (b : Bool) → (other == number) ≡ b → place_at new number ≡ Some k
+      → ((other : ℕ) → other ≢ number → place_at new other ≡ place_at old other) → StandsFor k s → Stand old all
+      → StandsAt (place_at new other) (cond b (Some s) (all other))
+  stands-new old new number other k s all true same here others t stand =
+      subst (λ (slot : Option Kept). StandsAt slot (Some s)) (sym (ap (place_at new) (eqb-true other number same) ∙ here)) t
+  stands-new old new number other k s all false differs here others t stand =
+      subst (λ (slot : Option Kept). StandsAt slot (all other)) (sym (others other (eqb-false other number differs))) (stand other)
 
 -- a surface less
 pub without-one : (old new : Places) (number : ℕ) → place_at new number ≡ None → ((other : ℕ) → other ≢ number → place_at new other ≡ place_at old other)
     → (all : Numbered) → Stand old all → Stand new (with_at number None all)
 without-one old new number none others all stand = λ other. stands-less old new number other all (other == number) refl none others stand where
-  stands-less : (old new : Places) (number other : ℕ) (all : Numbered) (b : Bool) → (other == number) ≡ b → place_at new number ≡ None → ((other : ℕ) → other ≢ number → place_at new other ≡ place_at old other) → Stand old all
+  stands-less : (old new : Places) (number other : ℕ) (all : Numbered) (b : Bool) → (other == number) ≡ b → place_at new number ≡ None
+      → ((other : ℕ) → other ≢ number → place_at new other ≡ place_at old other) → Stand old all
       → StandsAt (place_at new other) (cond b None (all other))
   stands-less old new number other all true same none others stand =
       subst (λ (slot : Option Kept). StandsAt slot None) (sym (ap (place_at new) (eqb-true other number same) ∙ none)) tt
@@ -139,7 +151,8 @@ none-from p key (Some x ∷ slots) e zero k at = ap p (sym (ap (kept_or x) at)) 
 none-from p key (Some x ∷ slots) e (suc number) k at = none-from p (key + 1) slots (rest-lacks (p x) (list_any (λ y. p y.1) (entries_from (key + 1) slots)) e) number k at
 
 -- whether one of what is kept has it is whether some surface does
-pub IsAny-kept : (p : Kept → Bool) (q : Option Surface → Bool) → q None ≡ false → ((k : Kept) (s : Surface) → StandsFor k s → p k ≡ q (Some s)) → (slots : Places) (all : Numbered) → Stand slots all → (b : Bool) → list_any (λ e. p e.1) (entries_from 0 slots) ≡ b → IsAny q all b
+pub IsAny-kept : (p : Kept → Bool) (q : Option Surface → Bool) → q None ≡ false → ((k : Kept) (s : Surface) → StandsFor k s → p k ≡ q (Some s)) → (slots : Places) (all : Numbered) → Stand slots all
+    → (b : Bool) → list_any (λ e. p e.1) (entries_from 0 slots) ≡ b → IsAny q all b
 IsAny-kept p q idle same slots all stand true e =
     let f = found-from p 0 slots e in (f.0, one (all f.0) f.1 (subst (λ (slot : Option Kept). StandsAt slot (all f.0)) f.2 (stand f.0)) f.3) where
       one : (at : Option Surface) (k : Kept) → StandsAt (Some k) at → p k ≡ true → q at ≡ true

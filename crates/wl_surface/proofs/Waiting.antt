@@ -1,5 +1,6 @@
 -- The frame requests that wait.
-use Rattle.std.proofs.Common.{◌≡◌, ℕ, suc, ◌+◌, ◌<◌, ◌≤◌, ◌==◌, ltb-false, ltb-true, zero, drop, map, take, ◌++◌, List, [], ◌∷◌, Bool, true, false, cond, Option, Some, None, length, refl, ap, sym, ◌∙◌, arith}
+use Rattle.std.proofs.Common.{◌≡◌, ℕ, suc, ◌+◌, ◌<◌, ◌≤◌, ◌==◌, ltb-false, ltb-true, zero, drop, map, take, ◌++◌, List, [], ◌∷◌, Bool, true, false, cond, Option, Some, None, length, refl, ap, sym}
+use Rattle.std.proofs.Common.{◌∙◌, arith}
 use Rattle.std.specs.Prelude.{find, nat_lt, not, position, remove, slice_index_or, slice_set}
 use Rattle.std.specs.List.{position_or_len}
 use Rattle.std.specs.Option.{option_map}
@@ -22,10 +23,12 @@ frame-stands n (Some k) (Some s) t =
     For-asked k s (Frame n) k.pending_buffer k.pending_transform k.pending_opaque k.pending_input k.pending_offset k.pending_damage refl t t.history.pending (still k s.history t.history)
     (undamaged k s.history (Frame n) refl t.history)
 
-pub frame-changes : (places : List (Option Kept)) (frames after : List Waiting) (number n : ℕ) → Changes (record { places = places; frames = frames }) (record { places = places; frames = after }) number (asking (Frame n))
+pub frame-changes : (places : List (Option Kept)) (frames after : List Waiting) (number n : ℕ)
+    → Changes (record { places = places; frames = frames }) (record { places = places; frames = after }) number (asking (Frame n))
 frame-changes places frames after number n = record { stand = λ all stand other. at all other (other == number) (stand other); count = refl }
   where
-    at : (all : Numbered) (other : ℕ) (b : Bool) → StandsAt (slice_index_or places other None) (all other) → StandsAt (slice_index_or places other None) (cond b (option_map (asking (Frame n)) (all other)) (all other))
+    at : (all : Numbered) (other : ℕ) (b : Bool) → StandsAt (slice_index_or places other None) (all other)
+        → StandsAt (slice_index_or places other None) (cond b (option_map (asking (Frame n)) (all other)) (all other))
     at all other true t = frame-stands n (slice_index_or places other None) (all other) t
     at all other false t = t
 
@@ -34,12 +37,16 @@ frame-changes places frames after number n = record { stand = λ all stand other
 abbrev pub is_next : Waiting → Bool
 is_next w = w.is_applied
 
-next-at : (ws : List Waiting) (w : Waiting) → position_or_len is_next ws < length ws → w ≡ slice_index_or ws (position_or_len is_next ws) w → (next_of ws ≡ Some w.callback) × (without_next ws ≡ remove ws (position_or_len is_next ws))
+next-at : (ws : List Waiting) (w : Waiting) → position_or_len is_next ws < length ws → w ≡ slice_index_or ws (position_or_len is_next ws) w → (next_of ws ≡ Some w.callback)
+    × (without_next ws ≡ remove ws (position_or_len is_next ws))
 next-at [] w less at = absurd (omega arith)
 next-at (x ∷ xs) w less at = by x.is_applied (next-at xs w) less at
   where
-    by : (b : Bool) → (position_or_len is_next xs < length xs → w ≡ slice_index_or xs (position_or_len is_next xs) w → (next_of xs ≡ Some w.callback) × (without_next xs ≡ remove xs (position_or_len is_next xs))) → cond (not b) (1 + position_or_len is_next xs) 0 < suc (length xs) → w ≡ slice_index_or (x ∷ xs) (cond (not b) (1 + position_or_len is_next xs) 0) w
-        → (option_map (λ (v : Waiting). v.callback) (cond b (Some x) (find is_next xs)) ≡ Some w.callback) × (cond b xs (x ∷ without_next xs) ≡ remove (x ∷ xs) (cond (not b) (1 + position_or_len is_next xs) 0))
+    by : (b : Bool) → (position_or_len is_next xs < length xs → w ≡ slice_index_or xs (position_or_len is_next xs) w → (next_of xs ≡ Some w.callback)
+        × (without_next xs ≡ remove xs (position_or_len is_next xs))) → cond (not b) (1 + position_or_len is_next xs) 0 < suc (length xs)
+        → w ≡ slice_index_or (x ∷ xs) (cond (not b) (1 + position_or_len is_next xs) 0) w
+        → (option_map (λ (v : Waiting). v.callback) (cond b (Some x) (find is_next xs)) ≡ Some w.callback)
+        × (cond b xs (x ∷ without_next xs) ≡ remove (x ∷ xs) (cond (not b) (1 + position_or_len is_next xs) 0))
     by true rest less at = (ap (λ (v : Waiting). Some v.callback) (sym at), refl)
     by false rest less at =
         let more : 1 + position_or_len is_next xs ≡ suc (position_or_len is_next xs) = omega arith in
@@ -50,7 +57,8 @@ next-none : (ws : List Waiting) → length ws ≤ position_or_len is_next ws →
 next-none [] e = (refl, refl)
 next-none (x ∷ xs) e = by x.is_applied (next-none xs) e
   where
-    by : (b : Bool) → (length xs ≤ position_or_len is_next xs → (next_of xs ≡ None) × (without_next xs ≡ xs)) → suc (length xs) ≤ cond (not b) (1 + position_or_len is_next xs) 0 → (option_map (λ (v : Waiting). v.callback) (cond b (Some x) (find is_next xs)) ≡ None) × (cond b xs (x ∷ without_next xs) ≡ x ∷ xs)
+    by : (b : Bool) → (length xs ≤ position_or_len is_next xs → (next_of xs ≡ None) × (without_next xs ≡ xs)) → suc (length xs) ≤ cond (not b) (1 + position_or_len is_next xs) 0
+        → (option_map (λ (v : Waiting). v.callback) (cond b (Some x) (find is_next xs)) ≡ None) × (cond b xs (x ∷ without_next xs) ≡ x ∷ xs)
     by true later e = absurd (omega (arith, e))
     by false later e = let rest = later (omega (arith, e)) in (rest.0, ap (λ ys. x ∷ ys) rest.1)
 

@@ -1,5 +1,6 @@
 -- What a call changes of what surfaces show.
-use Rattle.std.specs.Prelude.{ℕ, ◌≡◌, ◌==◌, ◌&&◌, ◌↔◌, ◌++◌, Bool, true, false, not, ◌||◌, if◌then◌else◌, cond, Option, Some, None, List, [], ◌∷◌, drop, take, count_by}
+use Rattle.std.specs.Prelude.{ℕ, ◌≡◌, ◌==◌, ◌&&◌, ◌↔◌, ◌++◌, Bool, true, false, not, ◌||◌, if◌then◌else◌, cond, Option, Some, None, List}
+use Rattle.std.specs.Prelude.{[], ◌∷◌, drop, take, count_by}
 use Rattle.std.specs.List.{list_any}
 use Rattle.wl_geom.specs.declared.rect.Rect.{Rect}
 use Rattle.wl_store.specs.Transform.{transform_of}
@@ -11,7 +12,8 @@ use Rattle.wl_surface.specs.State.{History, applied, apply, damaged_rects, heigh
 use Rattle.wl_surface.specs.Surfaces.{Surface, is_there}
 
 abbrev pub AreSame : Shape → Shape → Type 0
-AreSame a b = ((a.w ≡ b.w) × (a.h ≡ b.h)) × (a.transform ≡ b.transform) × (a.is_mapped ≡ b.is_mapped) × ((a.offset.x ≡ b.offset.x) × (a.offset.y ≡ b.offset.y))
+AreSame a b = ((a.w ≡ b.w) × (a.h ≡ b.h)) × (a.transform ≡ b.transform) × (a.is_mapped ≡ b.is_mapped)
+    × ((a.offset.x ≡ b.offset.x) × (a.offset.y ≡ b.offset.y))
 
 -- how a surface stands but for its colours
 pub record HasShape (shape : Shape) (h : History) : Type 0 where
@@ -70,4 +72,5 @@ with_freed busy (Some b) freed = if busy b.number || list_any (λ n. n == b.numb
 -- Freed are the buffers that were busy and aren't any more, each once.
 abbrev pub AreFreed : List ℕ → Numbered → Numbered → Type 0
 AreFreed freed old new =
-    (buffer : ℕ) (was is : Bool) → IsAny (shows_at buffer) old was → IsAny (shows_at buffer) new is → count_by (λ n. n == buffer) freed ≡ cond (was && not is) 1 0
+    (buffer : ℕ) (was is : Bool) → IsAny (shows_at buffer) old was → IsAny (shows_at buffer) new is
+    → count_by (λ n. n == buffer) freed ≡ cond (was && not is) 1 0

@@ -1,5 +1,6 @@
 -- What is kept of a surface, and when it stands for what was asked.
-use Rattle.std.specs.Prelude.{ℕ, ℤ, pos, int_le, ◌&&◌, ◌+ℤ◌, ◌≡◌, ◌≤◌, ◌==◌, ◌||◌, Bool, true, false, cond, Option, Some, None, List, [], ◌∷◌, length, take, drop, count_by, is_some, option_copied, slice_index_or}
+use Rattle.std.specs.Prelude.{ℕ, ℤ, pos, int_le, ◌&&◌, ◌+ℤ◌, ◌≡◌, ◌≤◌, ◌==◌, ◌||◌, Bool, true, false, cond, Option, Some, None, List, []}
+use Rattle.std.specs.Prelude.{◌∷◌, length, take, drop, count_by, is_some, option_copied, slice_index_or}
 use Rattle.std.specs.Option.{option_map}
 use Rattle.wl_geom.specs.declared.rect.Rect.{Rect}
 use Rattle.wl_geom.specs.Region.{Area, Change, Stands as Covers}
@@ -12,7 +13,8 @@ use Rattle.wl_surface.specs.Request.{Buffer, Request}
 use Rattle.wl_surface.specs.declared.role.Role.{Role}
 use Rattle.wl_surface.specs.declared.surface.Current.{Current}
 use Rattle.wl_surface.specs.Surfaces.{Surface, has, has_content, names, shows}
-use Rattle.wl_surface.specs.State.{History, Values, applied, between, committed, damaged_rects, height_of, held, offset, pending, width_of, within_bounds}
+use Rattle.wl_surface.specs.State.{History, Values, applied, between, committed, damaged_rects, height_of, held, offset, pending, width_of}
+use Rattle.wl_surface.specs.State.{within_bounds}
 
 abbrev pub buffer_of : Attached → Buffer
 buffer_of a =
@@ -47,8 +49,9 @@ IsInput (Some area) (Some changes) = Covers area changes
 IsInput None (Some changes) = ⊥
 IsInput (Some area) None = ⊥
 
--- The three records: what is pending, held and applied. A region that wasn't set since is that of the record below. An offset that is pending
--- is that of an attach which no commit followed. Of damage the first 1,025 rectangles are kept: more than 1,024 damage everything.
+-- The three records: what is pending, held and applied. A region that wasn't set since is that of
+-- the record below. An offset that is pending is that of an attach which no commit followed. Of
+-- damage the first 1,025 rectangles are kept: more than 1,024 damage everything.
 pub record Kept : Type 0 where
   pub pending_buffer : Option Attached
   pub held_buffer : Option Attached
@@ -85,7 +88,8 @@ abbrev pub held_list : List Request → List Request
 held_list requests = take (committed requests) requests
 
 pub record Stands (k : Kept) (h : History) : Type 0 where
-  pub pending : Shows k.pending_buffer k.pending_transform (latest k.pending_opaque (latest k.held_opaque k.current_opaque)) (latest k.pending_input (latest k.held_input k.current_input)) (pending h)
+  pub pending : Shows k.pending_buffer k.pending_transform (latest k.pending_opaque (latest k.held_opaque k.current_opaque))
+      (latest k.pending_input (latest k.held_input k.current_input)) (pending h)
   pub held : Shows k.held_buffer k.held_transform (latest k.held_opaque k.current_opaque) (latest k.held_input k.current_input) (held h)
   pub current : Shows k.current_buffer k.current_transform k.current_opaque k.current_input (applied h)
   pub pending_move : option_map pair_of k.pending_offset ≡ (offset h.requests).next
@@ -239,11 +243,23 @@ pub record Counting : Type 0 where
 
 abbrev pub counting_of : Kept → Counting
 counting_of k =
-    record { buffer = k.current_buffer; transform = k.current_transform; offset = k.current_offset; opaque = k.current_opaque; input = k.current_input }
+    record {
+      buffer = k.current_buffer;
+      transform = k.current_transform;
+      offset = k.current_offset;
+      opaque = k.current_opaque;
+      input = k.current_input;
+    }
 
 -- the same of what is told
 abbrev pub counting_in : {A : Type 0} → Current A → Counting
-counting_in c = record { buffer = c.buffer; transform = c.transform; offset = c.offset; opaque = c.opaque.now; input = option_copied c.input }
+counting_in c = record {
+  buffer = c.buffer;
+  transform = c.transform;
+  offset = c.offset;
+  opaque = c.opaque.now;
+  input = option_copied c.input;
+}
 
 -- what is told is what counts, where there is such a surface
 abbrev pub IsCurrentAt : {A : Type 0} → Option (Current A) → Option Surface → Type 0

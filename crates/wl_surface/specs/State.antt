@@ -1,11 +1,13 @@
 -- What counts of what was asked of a surface. The first `cut` of its requests count; the cut is 0 or the place just after a commit.
-use Rattle.std.specs.Prelude.{ℕ, suc, ℤ, pos, negsuc, ◌+ℤ◌, int_lt, ◌==◌, nat_lt, ◌&&◌, Bool, true, false, cond, if◌then◌else◌, Option, Some, None, List, [], ◌∷◌, ◌++◌, length, take, drop, fold, filter, not}
+use Rattle.std.specs.Prelude.{ℕ, suc, ℤ, pos, negsuc, ◌+ℤ◌, int_lt, ◌==◌, nat_lt, ◌&&◌, Bool, true, false, cond, if◌then◌else◌, Option}
+use Rattle.std.specs.Prelude.{Some, None, List, [], ◌∷◌, ◌++◌, length, take, drop, fold, filter, not}
 use Rattle.std.specs.List.{list_any}
 use Rattle.wl_geom.specs.declared.rect.Rect.{Rect}
 use Rattle.wl_geom.specs.Rect.{in_rect}
 use Rattle.wl_geom.specs.Region.{Change}
 use Rattle.wl_store.specs.Transform.{is_turned, transform_of}
-use Rattle.wl_surface.specs.Request.{Buffer, Member, Itself, Child, Request, Attach, Damage, Frame, SetOpaqueRegion, SetInputRegion, SetBufferTransform, SetWindowGeometry, Commit, AddChild, SetPosition, PlaceAbove, PlaceBelow}
+use Rattle.wl_surface.specs.Request.{Buffer, Member, Itself, Child, Request, Attach, Damage, Frame, SetOpaqueRegion, SetInputRegion}
+use Rattle.wl_surface.specs.Request.{SetBufferTransform, SetWindowGeometry, Commit, AddChild, SetPosition, PlaceAbove, PlaceBelow}
 
 -- what was asked of a surface, and how much of it counts
 pub record History : Type 0 where
@@ -55,7 +57,8 @@ committed_from at last (r ∷ rs) = committed_from (suc at) (if is_commit r then
 abbrev pub committed : List Request → ℕ
 committed requests = committed_from 0 0 requests
 
--- pending, held and applied state (wayland.xml, wl_surface.commit and wl_subsurface): at the end of the list, at the last commit, at the cut
+-- pending, held and applied state (wayland.xml, wl_surface.commit and
+-- wl_subsurface): at the end of the list, at the last commit, at the cut
 abbrev pub pending : History → Values
 pending h = values h.requests
 

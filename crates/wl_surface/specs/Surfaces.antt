@@ -6,15 +6,15 @@ use Rattle.wl_surface.specs.Request.{Buffer, Request}
 use Rattle.wl_surface.specs.declared.role.Role.{Role}
 use Rattle.wl_surface.specs.State.{History, applied, apply, held, pending}
 
--- A surface by the id of its wl_surface: what was asked of it, and its role, if it has one. A role is for life: the same one may be given again
--- (wayland.xml, wl_surface).
+-- A surface by the id of its wl_surface: what was asked of it, and its role, if it has one. A
+-- role is for life: the same one may be given again (wayland.xml, wl_surface).
 pub record Surface : Type 0 where
   pub id : ℕ
   pub history : History
   pub role : Option Role
 
--- A wl_subsurface that lives or lived, by its number among the client's: its surface, its parent, whether it is synchronised, and whether it
--- has ended (wayland.xml, wl_subcompositor.get_subsurface and wl_subsurface).
+-- A wl_subsurface that lives or lived, by its number among the client's: its surface, its parent, whether it is
+-- synchronised, and whether it has ended (wayland.xml, wl_subcompositor.get_subsurface and wl_subsurface).
 pub record Link : Type 0 where
   pub number : ℕ
   pub child : ℕ

@@ -6,7 +6,8 @@ use Rattle.std.specs.Int.{w32, to_le_bytes}
 use Rattle.wl_wire.specs.Wire.{Field, Counts, Spells, Takes, Text, Block, padding, whole}
 
 -- the counted bytes at the front, with the length before and the padding behind them
-pub counted_front : (bytes : List ℕ) (n : ℕ) → to_le_bytes w32 n ≡ take 4 bytes → whole n ≤ length bytes → (here : List ℕ) × Counts (take n (drop 4 bytes)) here × (bytes ≡ here ++ drop (whole n) bytes)
+pub counted_front : (bytes : List ℕ) (n : ℕ) → to_le_bytes w32 n ≡ take 4 bytes → whole n ≤ length bytes → (here : List ℕ) × Counts (take n (drop 4 bytes)) here
+    × (bytes ≡ here ++ drop (whole n) bytes)
 counted_front bytes n word enough =
     let counted : List ℕ = take n (drop 4 bytes) in
     let fill : List ℕ = take (padding n) (drop (4 + n) bytes) in
@@ -31,7 +32,8 @@ text_and_nul bytes n some enough nul =
     ∙ take-suc (drop 4 bytes) (n - 1) 0 (omega (arith, length-drop 4 bytes))
     ∙ ap (λ (u : ℕ). take (n - 1) (drop 4 bytes) ++ u ∷ []) (get_or-drop 4 bytes (n - 1) 0 ∙ ap (λ (u : ℕ). get_or bytes u 0) (omega arith) ∙ nul)
 
-pub text_front : (bytes : List ℕ) (n : ℕ) → to_le_bytes w32 n ≡ take 4 bytes → 0 < n → whole n ≤ length bytes → get_or bytes (3 + n) 0 ≡ 0 → Takes bytes (Text (take (n - 1) (drop 4 bytes))) (drop (whole n) bytes)
+pub text_front : (bytes : List ℕ) (n : ℕ) → to_le_bytes w32 n ≡ take 4 bytes → 0 < n → whole n ≤ length bytes → get_or bytes (3 + n) 0 ≡ 0
+    → Takes bytes (Text (take (n - 1) (drop 4 bytes))) (drop (whole n) bytes)
 text_front bytes n word some enough nul =
     let found = counted_front bytes n word enough in
     let e : take n (drop 4 bytes) ≡ take (n - 1) (drop 4 bytes) ++ 0 ∷ [] = text_and_nul bytes n some (omega arith) nul in
@@ -44,10 +46,12 @@ range_to_end n bytes = ap (λ (u : ℕ). take u (drop n bytes)) (sym (length-dro
 moved : (old bytes : List ℕ) (n : ℕ) (field other : Field) → old ≡ bytes → field ≡ other → Takes bytes field (drop n bytes) → Takes old other (take (length bytes - n) (drop n bytes))
 moved old bytes n field other e f is = (is.0, subst (λ (u : Field). Spells u is.0) f is.1, e ∙ is.2 ∙ ap (λ (u : List ℕ). is.0 ++ u) (sym (range_to_end n bytes)))
 
-pub block_range : (old bytes : List ℕ) (n : ℕ) → old ≡ bytes → to_le_bytes w32 n ≡ take 4 bytes → whole n ≤ length bytes → Takes old (Block (take (4 + n - 4) (drop 4 bytes))) (take (length bytes - whole n) (drop (whole n) bytes))
+pub block_range : (old bytes : List ℕ) (n : ℕ) → old ≡ bytes → to_le_bytes w32 n ≡ take 4 bytes → whole n ≤ length bytes
+    → Takes old (Block (take (4 + n - 4) (drop 4 bytes))) (take (length bytes - whole n) (drop (whole n) bytes))
 block_range old bytes n e word enough =
     moved old bytes (whole n) (Block (take n (drop 4 bytes))) _ e (ap (λ (u : ℕ). Block (take u (drop 4 bytes))) (omega arith)) (block_front bytes n word enough)
 
-pub text_range : (old bytes : List ℕ) (n : ℕ) → old ≡ bytes → to_le_bytes w32 n ≡ take 4 bytes → 0 < n → whole n ≤ length bytes → get_or bytes (3 + n) 0 ≡ 0 → Takes old (Text (take (3 + n - 4) (drop 4 bytes))) (take (length bytes - whole n) (drop (whole n) bytes))
+pub text_range : (old bytes : List ℕ) (n : ℕ) → old ≡ bytes → to_le_bytes w32 n ≡ take 4 bytes → 0 < n → whole n ≤ length bytes → get_or bytes (3 + n) 0 ≡ 0
+    → Takes old (Text (take (3 + n - 4) (drop 4 bytes))) (take (length bytes - whole n) (drop (whole n) bytes))
 text_range old bytes n e word some enough nul =
     moved old bytes (whole n) (Text (take (n - 1) (drop 4 bytes))) _ e (ap (λ (u : ℕ). Text (take u (drop 4 bytes))) (omega arith)) (text_front bytes n word some enough nul)

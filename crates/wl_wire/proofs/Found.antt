@@ -38,11 +38,14 @@ pub size_allowed : (size : ℕ) → 8 ≤ size → size ≤ 65532 → size % 4 �
 size_allowed size least most whole = grind (arith, nat_tests)
 
 -- what split_of answers where the length and the two words of a stream are these
-pub answered : (len first second : ℕ) → 8 ≤ len → is_size (second / 65536) ≡ true → second / 65536 ≤ len → cond (nat_lt len 8) More (cond (is_size (second / 65536)) (cond (nat_lt len (second / 65536)) More (Message first (second % 65536) (second / 65536))) Bad) ≡ Message first (second % 65536) (second / 65536)
+pub answered : (len first second : ℕ) → 8 ≤ len → is_size (second / 65536) ≡ true → second / 65536 ≤ len
+    → cond (nat_lt len 8) More (cond (is_size (second / 65536)) (cond (nat_lt len (second / 65536)) More (Message first (second % 65536) (second / 65536))) Bad)
+    ≡ Message first (second % 65536) (second / 65536)
 answered len first second enough allowed there =
     rw (le-ltb len 8 enough, allowed, le-ltb len (second / 65536) there) refl
 
-pub found_at : (object opcode : ℕ) (body more : List ℕ) → object < 2 ^ 32 → opcode < 2 ^ 16 → 8 + length body ≤ 65532 → length body % 4 ≡ 0 → split_of ((to_le_bytes w32 object ++ to_le_bytes w32 (opcode + 65536 * (8 + length body)) ++ body) ++ more) ≡ Message object opcode (8 + length body)
+pub found_at : (object opcode : ℕ) (body more : List ℕ) → object < 2 ^ 32 → opcode < 2 ^ 16 → 8 + length body ≤ 65532 → length body % 4 ≡ 0
+    → split_of ((to_le_bytes w32 object ++ to_le_bytes w32 (opcode + 65536 * (8 + length body)) ++ body) ++ more) ≡ Message object opcode (8 + length body)
 found_at object opcode body more object_fits opcode_fits size_fits whole =
     let word : ℕ = opcode + 65536 * (8 + length body) in
     let stream : List ℕ = (to_le_bytes w32 object ++ to_le_bytes w32 word ++ body) ++ more in

@@ -1,5 +1,6 @@
 -- Arguments are read exactly as they are spelled.
-use Rattle.std.proofs.Common.{◌≡◌, ℕ, zero, suc, ℤ, FitsSigned, lit<, subst, ◌+◌, ◌-◌, ◌^◌, ◌<◌, ◌≤◌, Bool, true, false, cond, nat_lt, ◌==◌, List, [], ◌∷◌, ◌++◌, length, take, drop, get_or, map, Result, Ok, Err, refl, sym, ◌∙◌, ap, arith, append_assoc, length-append}
+use Rattle.std.proofs.Common.{◌≡◌, ℕ, zero, suc, ℤ, FitsSigned, lit<, subst, ◌+◌, ◌-◌, ◌^◌, ◌<◌, ◌≤◌, Bool, true, false, cond, nat_lt, ◌==◌, List, [], ◌∷◌, ◌++◌, length, take, drop, get_or, map}
+use Rattle.std.proofs.Common.{Result, Ok, Err, refl, sym, ◌∙◌, ap, arith, append_assoc, length-append}
 use Rattle.std.proofs.lemmas.Nat.{from_le_bytes-to_le_bytes_4, le_bytes_4}
 use Rattle.std.proofs.lemmas.Int.{ints, of_z-to_z, to_z-of_z}
 use Rattle.std.proofs.Math.Seq.{take-append_seam, drop-append_seam, get_or-append_seam}
@@ -9,7 +10,8 @@ use Rattle.std.specs.List.{AllByRecursion}
 use Rattle.std.specs.Int.{w32, to_le_bytes, cast_signed, cast_unsigned}
 use Rattle.wl_wire.specs.declared.error.ArgError.{ArgError}
 use Rattle.wl_wire.specs.declared.error.ArgError.TheVariants.{Short, NoNul, Null}
-use Rattle.wl_wire.specs.Wire.{Field, Word, Number, Text, Block, Kind, AWord, ANumber, AText, ABlock, IsInRange, kind_of, Counts, Spells, SpellsAll, Takes, padding, whole, text_at, block_at, word_of, field_at, fields_at, fields_behind, with_front, none_left, field_bytes, fields_bytes, counted_bytes}
+use Rattle.wl_wire.specs.Wire.{Field, Word, Number, Text, Block, Kind, AWord, ANumber, AText, ABlock, IsInRange, kind_of, Counts, Spells, SpellsAll, Takes, padding, whole, text_at, block_at, word_of}
+use Rattle.wl_wire.specs.Wire.{field_at, fields_at, fields_behind, with_front, none_left, field_bytes, fields_bytes, counted_bytes}
 use Rattle.wl_wire.specs.Laws.{AreBytes, IsReadAsSpelled, IsSpelledAsWritten}
 use Rattle.wl_wire.proofs.Counted.{block_front, text_front}
 
@@ -139,7 +141,8 @@ number_again : (s : List ℕ) (z : ℤ) (rest : List ℕ) → 4 ≤ length s →
 number_again s z rest enough first behind =
     rw (le-ltb (length s) 4 enough) (ap (λ (u : ℤ). Ok (Number u, drop 4 s)) first ∙ ap (λ (u : List ℕ). Ok (Number z, u)) behind)
 
-text_again : (s text : List ℕ) (n : ℕ) (rest : List ℕ) → 0 < n → whole n ≤ length s → word_of 0 s ≡ n → get_or s (3 + n) 0 ≡ 0 → take (n - 1) (drop 4 s) ≡ text → drop (whole n) s ≡ rest → field_at AText s ≡ Ok (Text text, rest)
+text_again : (s text : List ℕ) (n : ℕ) (rest : List ℕ) → 0 < n → whole n ≤ length s → word_of 0 s ≡ n → get_or s (3 + n) 0 ≡ 0 → take (n - 1) (drop 4 s) ≡ text → drop (whole n) s ≡ rest
+    → field_at AText s ≡ Ok (Text text, rest)
 text_again s text n rest some enough first nul counted behind =
     rw (le-ltb (length s) 4 (omega arith))
     (ap (λ (u : ℕ). text_at u s) first
@@ -172,7 +175,8 @@ field_again (Word n) here rest fits is =
     ∙ word_again (to_le_bytes w32 n ++ rest) n rest (omega arith) (from_le_bytes-to_le_bytes_4 n fits) refl
 field_again (Number z) here rest fits is =
     ap (λ (u : List ℕ). field_at ANumber (u ++ rest)) is
-    ∙ number_again (to_le_bytes w32 (cast_unsigned w32 z) ++ rest) z rest (omega arith) (ap (cast_signed w32) (from_le_bytes-to_le_bytes_4 (cast_unsigned w32 z) (omega (arith, ints))) ∙ to_z-of_z w32 z fits) refl
+    ∙ number_again (to_le_bytes w32 (cast_unsigned w32 z) ++ rest) z rest (omega arith)
+    (ap (cast_signed w32) (from_le_bytes-to_le_bytes_4 (cast_unsigned w32 z) (omega (arith, ints))) ∙ to_z-of_z w32 z fits) refl
 field_again (Text text) here rest fits is =
     let n : ℕ = length (text ++ 0 ∷ []) in
     let n-is : n ≡ length text + 1 = length-append text (0 ∷ []) in
@@ -190,7 +194,8 @@ field_again (Text text) here rest fits is =
     let counted : take (n - 1) (drop 4 s) ≡ text =
     ap (λ (u : ℕ). take u t) last ∙ ap (take (length text)) grouped ∙ take-append_seam text (0 ∷ (is.0 ++ rest)) in
     ap (λ (u : List ℕ). field_at AText (u ++ rest)) is.2
-    ∙ text_again s text n rest (omega arith) (long_enough n (text ++ 0 ∷ []) is.0 rest refl is.1) (from_le_bytes-to_le_bytes_4 n (omega arith)) ends counted (behind_whole n (text ++ 0 ∷ []) is.0 rest refl is.1)
+    ∙ text_again s text n rest (omega arith) (long_enough n (text ++ 0 ∷ []) is.0 rest refl is.1) (from_le_bytes-to_le_bytes_4 n (omega arith)) ends counted
+    (behind_whole n (text ++ 0 ∷ []) is.0 rest refl is.1)
 field_again (Block block) here rest fits is =
     let n : ℕ = length block in
     let s : List ℕ = to_le_bytes w32 n ++ block ++ is.0 ++ rest in
@@ -200,7 +205,8 @@ field_again (Block block) here rest fits is =
 
 -- ---- all of them
 
-behind_ok : (r : Result (Field × List ℕ) ArgError) (next : List ℕ → Result (List Field) ArgError) (fields : List Field) → fields_behind r next ≡ Ok fields → (x : Field × List ℕ) × (r ≡ Ok x) × (with_front x.0 (next x.1) ≡ Ok fields)
+behind_ok : (r : Result (Field × List ℕ) ArgError) (next : List ℕ → Result (List Field) ArgError) (fields : List Field) → fields_behind r next ≡ Ok fields → (x : Field × List ℕ) × (r ≡ Ok x)
+    × (with_front x.0 (next x.1) ≡ Ok fields)
 behind_ok (Ok x) next fields e = (x, refl, e)
 behind_ok (Err fault) next fields e = absurd (cc)
 

@@ -1,5 +1,6 @@
 -- Messages as bytes (Wayland protocol, "Wire Format").
-use Rattle.std.specs.Prelude.{◌≡◌, ℕ, ℤ, ◌+◌, ◌*◌, ◌/◌, ◌%◌, ◌-◌, ◌^◌, ◌<◌, ◌≤◌, List, [], ◌∷◌, ◌++◌, length, take, drop, map, flat_map, Bool, ◌&&◌, ◌==◌, nat_lt, nat_le, if◌then◌else◌, Result, Ok, Err, MatchResult, slice_index, FitsSigned}
+use Rattle.std.specs.Prelude.{◌≡◌, ℕ, ℤ, ◌+◌, ◌*◌, ◌/◌, ◌%◌, ◌-◌, ◌^◌, ◌<◌, ◌≤◌, List, [], ◌∷◌, ◌++◌, length, take, drop, map, flat_map}
+use Rattle.std.specs.Prelude.{Bool, ◌&&◌, ◌==◌, nat_lt, nat_le, if◌then◌else◌, Result, Ok, Err, MatchResult, slice_index, FitsSigned}
 use Rattle.std.specs.Int.{w32, to_le_bytes, from_le_bytes, cast_signed, cast_unsigned}
 use Rattle.wl_wire.specs.declared.header.Split.{Split}
 use Rattle.wl_wire.specs.declared.header.Split.TheVariants.{Message, More, Bad}
@@ -54,7 +55,8 @@ padding n = (4 - n % 4) % 4
 
 -- how many bytes are counted, these bytes, and bytes of any value that fill up the last word
 abbrev pub Counts : List ℕ → List ℕ → Type 0
-Counts counted bytes = (fill : List ℕ) × (length fill ≡ padding (length counted)) × (bytes ≡ to_le_bytes w32 (length counted) ++ counted ++ fill)
+Counts counted bytes = (fill : List ℕ) × (length fill ≡ padding (length counted))
+    × (bytes ≡ to_le_bytes w32 (length counted) ++ counted ++ fill)
 
 -- The bytes spell the argument.
 abbrev pub Spells : Field → List ℕ → Type 0

@@ -9,7 +9,10 @@ returns-clause-lanes c k h =
     let through = c.args.through in
     let half = lane-splat 128 k h in
     let small = product-le (slice_index under k) (slice_index through k) (lane-below 256 under k c.requires.under h) (lane-below 256 through k c.requires.through h) in
-    rw (lane-zip2 _ _ (replicate 16 128) k (count-zip2 _ under through c.requires.under.count c.requires.through.count) refl h, lane-zip2 _ under through k c.requires.under.count c.requires.through.count h) (omega (arith, half, small))
+    rw (
+      lane-zip2 _ _ (replicate 16 128) k (count-zip2 _ under through c.requires.under.count c.requires.through.count) refl h,
+      lane-zip2 _ under through k c.requires.under.count c.requires.through.count h,
+    ) (omega (arith, half, small))
 
 pub returns-clause-below : goal.returns-clause-below
 returns-clause-below c =

@@ -22,5 +22,6 @@ loop-k-preserved c =
       fourths = done-more first k (λ i. slice_index new (4 * i + 3)) (λ i. slice_index now (4 * i + 3)) (λ i. 255) is.fourths wrote.fourth wrote.other_fourths;
       others = left-less k (color_of new) (color_of now) (color_of was) is.others wrote.others;
       before = kept-before first k (color_of new) (color_of now) (color_of was) c.loop-k.auto.k is.before wrote.others;
-      before_fourths = kept-before first k (λ i. slice_index new (4 * i + 3)) (λ i. slice_index now (4 * i + 3)) (λ i. slice_index was (4 * i + 3)) c.loop-k.auto.k is.before_fourths wrote.other_fourths;
+      before_fourths = kept-before first k (λ i. slice_index new (4 * i + 3)) (λ i. slice_index now (4 * i + 3)) (λ i. slice_index was (4 * i + 3))
+          c.loop-k.auto.k is.before_fourths wrote.other_fourths;
     }

@@ -10,6 +10,11 @@ loop-rect-preserved g c =
     let i = c.loop-rect.rect-index in
     let none : Rect = record { x = pos 0; y = pos 0; w = pos 0; h = pos 0 } in
     record {
-      points = λ x y. rw (c.in_ok-push_around.ensures.points x y, c.loop-rect.invariant.points x y, around-more (in_rect x y (get_or rects i none)) (in_rect x y c.args.hole.now) (count_at x y (take i rects)), count_at-more x y rects i none c.loop-rect-test.true);
+      points = λ x y. rw (
+        c.in_ok-push_around.ensures.points x y,
+        c.loop-rect.invariant.points x y,
+        around-more (in_rect x y (get_or rects i none)) (in_rect x y c.args.hole.now) (count_at x y (take i rects)),
+        count_at-more x y rects i none c.loop-rect-test.true,
+      );
       ends = c.in_ok-push_around.ensures.ends c.loop-rect.invariant.ends;
     }

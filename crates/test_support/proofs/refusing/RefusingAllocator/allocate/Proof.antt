@@ -125,8 +125,10 @@ module _ (Z : Al) {M : Type 1} {𝓤 : Ura M} (𝓛 : Logic 𝓤) (at_mem : Memo
         let h : Z.row.Denot = r.now.inner in
         let p : ℕ × ℕ = inner_at Z r.ref_ptr in
         sets ! (addr ! (through ! refl (fld ! refl (stop !)))) refl (tt, tt) $ move ! (4 ∷ 0 ∷ []) $
-        use2 𝓛 (raw ((Takes Z 𝓛 at_mem run).pre (at_takes Z 𝓛 at_mem run κ q p h n a τ))) (Takes-goes Z 𝓛 at_mem run κ q p h (⊑_trans κ ρ Z.row.lives nested lives) n a τ laid_out.0 laid_out.1 n_fits a_fits) $
-        calls_at_last ! (fm_of 𝓤 H 𝓛.laws 𝓣) (Takes Z 𝓛 at_mem run) takes (at_takes Z 𝓛 at_mem run κ q p h n a τ) (and_then ! (get ! refl) (and_then ! (get ! refl) (and_then ! (get ! refl) (no_more !)))) (λ v.
+        use2 𝓛 (raw ((Takes Z 𝓛 at_mem run).pre (at_takes Z 𝓛 at_mem run κ q p h n a τ)))
+        (Takes-goes Z 𝓛 at_mem run κ q p h (⊑_trans κ ρ Z.row.lives nested lives) n a τ laid_out.0 laid_out.1 n_fits a_fits) $
+        calls_at_last ! (fm_of 𝓤 H 𝓛.laws 𝓣) (Takes Z 𝓛 at_mem run) takes (at_takes Z 𝓛 at_mem run κ q p h n a τ)
+        (and_then ! (get ! refl) (and_then ! (get ! refl) (and_then ! (get ! refl) (no_more !)))) (λ v.
         use1 𝓛 (later (raw (Answered Z 𝓛 at_mem run h τ v) ⊛ ‵ (flft κ q))) (Takes-gives Z 𝓛 at_mem run κ q p h n a τ v) $ await ! tt $ split ! $
         answers Z ! at_mem run h τ v
         (λ b o is_block. fjoin ! $ lands_last ! refl (typed true b o v is_block) $ exec ! 𝓣.C 𝓣.Λ En (after 2 (here Z).body) (at_ret En Post) $

@@ -94,7 +94,8 @@ module _ (Z : Al) {M : Type 1} {𝓤 : Ura M} (𝓛 : Logic 𝓤) (at_mem : Memo
         -- [the whole; the two tokens; the block's memory; the right to free it]
         use1 𝓛 (‵ (seen Z κ p h) ⊛ ‵ (hidden_shr (Heap Z) κ r.now r.ref_ptr.0 r.ref_ptr.1)) (shows_inner Z 𝓛 κ r.now r.ref_ptr) $ split ! $
         keep ! (4 ∷ 5 ∷ 0 ∷ 2 ∷ 3 ∷ []) $ group ! 4 $
-        use1 𝓛 (raw ((Gives Z 𝓛 at_mem run).pre (at_gives Z 𝓛 at_mem run κ q p h b o n a τ))) (Gives-goes Z 𝓛 at_mem run κ q p h (⊑_trans κ ρ Z.row.lives nested lives) b o n a τ laid_out.0 laid_out.1 n_fits a_fits) $
+        use1 𝓛 (raw ((Gives Z 𝓛 at_mem run).pre (at_gives Z 𝓛 at_mem run κ q p h b o n a τ)))
+        (Gives-goes Z 𝓛 at_mem run κ q p h (⊑_trans κ ρ Z.row.lives nested lives) b o n a τ laid_out.0 laid_out.1 n_fits a_fits) $
         enter ! _ _ _ _ _ $ alloc_all ! (λ l. pass_all ! refl ((tt, tt), ((tt, tt), ((tt, record { fits = n_fits }), ((tt, record { fits = a_fits }), tt)))) $
         sets ! (addr ! (through ! refl (fld ! refl (stop !)))) refl (tt, tt) $
         calls_at ! (fm_of 𝓤 H 𝓛.laws 𝓣) (Gives Z 𝓛 at_mem run) gives (at_gives Z 𝓛 at_mem run κ q p h b o n a τ)
@@ -116,6 +117,8 @@ deallocate_spec 𝓤 𝓛 𝓜 𝓡 wired Y L g d dd met md =
     let c = F.clauses Y g d dd 𝓛 𝓜.mem 𝓡.returns in
     let gone = Goes-dropped 𝓛 2 (number Z) yes (λ κs x f. refl) in
     entered 𝓤 𝓛.H (triple_of 𝓛 (F.signature Y) (F.spec Y g d dd 𝓛 𝓜.mem 𝓡.returns)) 𝓣.C 𝓣.Λ (key.name (args Z)) (here Z) (code.unfolded 𝓤 𝓛.H 𝓜 𝓡 wired (Y, tt) d dd)
-    (walk_Meets 𝓛 (ended Z) (stayed Z) (Goes-dropped 𝓛 2 (heap Z) yes (λ κs x f. refl), (Goes-dropped 𝓛 2 (pointer Z) yes (λ κs x f. refl), (gone, (gone, tt)))) c runs (WpFn-mono 𝓤 𝓛.H 𝓛.laws 𝓣 (here Z))
-    (walked 𝓛 (ended Z) (stayed Z) c runs (λ κs. (shr_vals, (rawptr_vals, (uint_vals w64, (uint_vals w64, tt))))) (λ κs. ((λ r vs same. same.0), (rawptr_Tells, (uint_Tells w64, (uint_Tells w64, tt)))))
+    (walk_Meets 𝓛 (ended Z) (stayed Z) (Goes-dropped 𝓛 2 (heap Z) yes (λ κs x f. refl), (Goes-dropped 𝓛 2 (pointer Z) yes (λ κs x f. refl), (gone, (gone, tt)))) c runs
+    (WpFn-mono 𝓤 𝓛.H 𝓛.laws 𝓣 (here Z))
+    (walked 𝓛 (ended Z) (stayed Z) c runs (λ κs. (shr_vals, (rawptr_vals, (uint_vals w64, (uint_vals w64, tt)))))
+    (λ κs. ((λ r vs same. same.0), (rawptr_Tells, (uint_Tells w64, (uint_Tells w64, tt)))))
     (λ κs qs bounds a τ are. walk Z 𝓛 𝓜.mem 𝓡.returns 𝓣 κs.0 κs.1.0 qs.0 qs.1.0 bounds.0 a.0 a.1.1.0 a.1.1.1.0 τ are.1.1.0.1 are.1.1.1.0.1 a.1.0 (met.deallocate dd))))

@@ -13,6 +13,7 @@ pub returns-clause-standing : goal.returns-clause-standing
 returns-clause-standing g c =
     let e = ap (λ ts. position (is_at c.args.surface.client c.args.surface.surface) ts) (sym c.deref.ensures.value) ∙ sym c.in-Some.ensures in
     let found = raised-found c.args.surface.client c.args.surface.surface c.self.inside.standing.items c.in-Some.place e in
-    let whole : take c.self.inside.standing.len (c.to_top.new.standing ++ drop (length c.to_top.new.standing) c.self.inside.standing.items) ≡ c.to_top.new.standing = written-whole _ _ _ (search rules) in
+    let whole : take c.self.inside.standing.len (c.to_top.new.standing ++ drop (length c.to_top.new.standing) c.self.inside.standing.items) ≡ c.to_top.new.standing =
+    written-whole _ _ _ (search rules) in
     let same = ap (λ ts. remove ts c.in-Some.place ++ get_or ts c.in-Some.place nobody ∷ []) c.deref_mut.ensures.value in
     rw (← c.self.view_is) (ap (λ ts. map standing_of ts) (whole ∙ c.to_top.ensures.top nobody ∙ same) ∙ found)

@@ -13,7 +13,8 @@ returns-clause-shown g c = λ owned stands.
     let same = ap (λ s. length s.standing) c.self.view_is in
     let mapped = length-map ts standing_of in
     let less : c.args.k < length ts = omega (arith, c.requires, same, mapped) in
-    rw (← c.self.view_is) (shown-at owned ts c.args.k c.index.result.now c.window_of.result (slice_get_read ts (length ts) c.args.k c.index.result.now refl less c.index.ensures) (c.window_of.ensures owned stands))
+    rw (← c.self.view_is) (shown-at owned ts c.args.k c.index.result.now c.window_of.result (slice_get_read ts (length ts) c.args.k c.index.result.now refl less c.index.ensures)
+    (c.window_of.ensures owned stands))
 
 pub returns-clause-windows : goal.returns-clause-windows
 returns-clause-windows g c = λ owned stands show.

@@ -9,8 +9,12 @@ returns-clause-answer g c =
 
 pub returns-clause-ok : goal.returns-clause-ok
 returns-clause-ok g c =
-    changed-ok c.self.inside.surfaces (c.get_mut.follows.lender c.configure.new.self) c.args.self.now c.args.surface c.in-Some.xdg_surface.now c.configure.new.self c.self.view_is c.in-Some.ensures.value (c.get_mut.follows.holds c.configure.new.self) c.configure.result (λ is_sent. kept_configured is_sent c.args.serial) c.configure.ensures.ok
+    changed-ok c.self.inside.surfaces (c.get_mut.follows.lender c.configure.new.self)
+    c.args.self.now c.args.surface c.in-Some.xdg_surface.now c.configure.new.self c.self.view_is c.in-Some.ensures.value (c.get_mut.follows.holds c.configure.new.self) c.configure.result
+    (λ is_sent. kept_configured is_sent c.args.serial) c.configure.ensures.ok
 
 pub returns-clause-err : goal.returns-clause-err
 returns-clause-err g c =
-    stayed-err c.self.inside.surfaces (c.get_mut.follows.lender c.configure.new.self) c.args.self.now c.args.surface c.in-Some.xdg_surface.now c.configure.new.self c.self.view_is c.in-Some.ensures.value (c.get_mut.follows.holds c.configure.new.self) c.configure.result c.configure.ensures.err
+    stayed-err c.self.inside.surfaces (c.get_mut.follows.lender c.configure.new.self)
+    c.args.self.now c.args.surface c.in-Some.xdg_surface.now c.configure.new.self c.self.view_is c.in-Some.ensures.value (c.get_mut.follows.holds c.configure.new.self)
+    c.configure.result c.configure.ensures.err

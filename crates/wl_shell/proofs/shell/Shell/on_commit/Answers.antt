@@ -9,8 +9,10 @@ returns-clause-answer g c =
 
 pub returns-clause-ok : goal.returns-clause-ok
 returns-clause-ok g c =
-    changed-ok c.self.inside.surfaces (c.get_mut.follows.lender c.commit.new.self) c.args.self.now c.args.surface c.in-Some.xdg_surface.now c.commit.new.self c.self.view_is c.in-Some.ensures.value (c.get_mut.follows.holds c.commit.new.self) c.commit.result (kept_after c.args.serial) c.commit.ensures.ok
+    changed-ok c.self.inside.surfaces (c.get_mut.follows.lender c.commit.new.self) c.args.self.now c.args.surface c.in-Some.xdg_surface.now c.commit.new.self c.self.view_is c.in-Some.ensures.value
+    (c.get_mut.follows.holds c.commit.new.self) c.commit.result (kept_after c.args.serial) c.commit.ensures.ok
 
 pub returns-clause-err : goal.returns-clause-err
 returns-clause-err g c =
-    stayed-err c.self.inside.surfaces (c.get_mut.follows.lender c.commit.new.self) c.args.self.now c.args.surface c.in-Some.xdg_surface.now c.commit.new.self c.self.view_is c.in-Some.ensures.value (c.get_mut.follows.holds c.commit.new.self) c.commit.result c.commit.ensures.err
+    stayed-err c.self.inside.surfaces (c.get_mut.follows.lender c.commit.new.self) c.args.self.now c.args.surface c.in-Some.xdg_surface.now c.commit.new.self c.self.view_is c.in-Some.ensures.value
+    (c.get_mut.follows.holds c.commit.new.self) c.commit.result c.commit.ensures.err

@@ -16,5 +16,6 @@ returns-clause-ok c =
     let place = c.in-Some-last_place_of.place in
     let after = (waits c.args.serial c.deref.result.now place found.0 found.1 found.2).1 in
     let next : place + 1 ≡ suc place = omega arith in
-    let left : c.forget_first.new.serials.items ≡ later_than c.args.serial c.self.inside.serials.items = c.forget_first.ensures ∙ ap (λ n. drop n c.self.inside.serials.items) next ∙ ap (drop (suc place)) (sym c.deref.ensures.0) ∙ sym after ∙ ap (later_than c.args.serial) c.deref.ensures.0 in
+    let left : c.forget_first.new.serials.items ≡ later_than c.args.serial c.self.inside.serials.items = c.forget_first.ensures ∙ ap (λ n. drop n c.self.inside.serials.items) next
+    ∙ ap (drop (suc place)) (sym c.deref.ensures.0) ∙ sym after ∙ ap (later_than c.args.serial) c.deref.ensures.0 in
     rw (← c.self.view_is) (rw (c.in-Some.is, left, c.acknowledged.ensures) refl)

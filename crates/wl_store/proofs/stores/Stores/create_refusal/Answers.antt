@@ -9,4 +9,7 @@ returns-then-is_full-clause-first g c = rw (sym c.is_full.ensures ∙ c.if-is_fu
 pub returns-clause-first : goal.returns-clause-first
 returns-clause-first g c =
     let first = simp (to_z-of_z w32 c.args.size c.ranges.size) at c.new_refusal.ensures.first in
-    rw (create-refused c.self.inside.held.items c.self.inside.made c.self.inside.total c.args.self.now c.args.size c.self.view_is c.self.invariant (sym c.is_full.ensures ∙ c.if-is_full.false), ← first)
+    rw (
+      create-refused c.self.inside.held.items c.self.inside.made c.self.inside.total c.args.self.now c.args.size c.self.view_is c.self.invariant (sym c.is_full.ensures ∙ c.if-is_full.false),
+      ← first,
+    )

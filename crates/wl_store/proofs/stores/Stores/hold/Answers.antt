@@ -25,7 +25,8 @@ returns-clause-counted g c =
     let change : Held → Held = λ s. record s { uses = s.uses + 1 } in
     let more : ℕ → Held = λ n. record c.index_mut.result.now { uses = n + 1 } in
     let same = reads-same held place c.index.result.now c.index_mut.result.now at.within c.index.ensures c.index_mut.ensures.value in
-    ap stock (changed-is held c.self.inside.made c.self.inside.total c.args.store place change c.index_mut.result.now c.set_uses.new.self c.self.invariant at c.index_mut.ensures.value (c.set_uses.ensures ∙ ap more (c.uses-uses.ensures ∙ ap (λ s. s.uses) same)))
+    ap stock (changed-is held c.self.inside.made c.self.inside.total c.args.store place change c.index_mut.result.now c.set_uses.new.self c.self.invariant at c.index_mut.ensures.value
+    (c.set_uses.ensures ∙ ap more (c.uses-uses.ensures ∙ ap (λ s. s.uses) same)))
     ∙ ap (used c.args.store) c.self.view_is
 
 pub returns-then-uses-clause-allowed : goal.returns-then-uses-clause-allowed

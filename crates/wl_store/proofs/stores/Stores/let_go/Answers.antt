@@ -8,7 +8,8 @@ use Rattle.wl_store.proofs.stores.Stores.let_go.Goals as goal
 pub invariant_of-self : goal.invariant_of-self
 invariant_of-self g c =
     let at = subst (λ h. IsPlace h c.args.store c.in-Some.place) c.deref.ensures.value c.in-Some.ensures.found in
-    rw c.remove-gone.ensures.items (sound-removed c.self.inside.held.items c.self.inside.made c.self.inside.total c.size.result c.args.store c.in-Some.place c.index-then-uses-le1.result.now c.self.invariant at c.index-then-uses-le1.ensures c.size.ensures.value)
+    rw c.remove-gone.ensures.items (sound-removed c.self.inside.held.items c.self.inside.made c.self.inside.total c.size.result c.args.store c.in-Some.place c.index-then-uses-le1.result.now
+    c.self.invariant at c.index-then-uses-le1.ensures c.size.ensures.value)
 
 pub invariant_of-self-else-uses-le1 : goal.invariant_of-self-else-uses-le1
 invariant_of-self-else-uses-le1 g c =
@@ -23,7 +24,8 @@ invariant_of-self-else-uses-le1 g c =
 pub returns-then-uses-le1-clause-live : goal.returns-then-uses-le1-clause-live
 returns-then-uses-le1-clause-live g c =
     let at = subst (λ h. IsPlace h c.args.store c.in-Some.place) c.deref.ensures.value c.in-Some.ensures.found in
-    live c.args.self.now c.args.store c.index.result.now (store-read c.self.inside.held.items c.self.inside.made c.args.self.now c.args.store c.in-Some.place c.index.result.now c.self.view_is at c.index.ensures)
+    live c.args.self.now c.args.store c.index.result.now
+    (store-read c.self.inside.held.items c.self.inside.made c.args.self.now c.args.store c.in-Some.place c.index.result.now c.self.view_is at c.index.ensures)
 
 pub returns-then-uses-le1-clause-counted : goal.returns-then-uses-le1-clause-counted
 returns-then-uses-le1-clause-counted g c =
@@ -38,7 +40,8 @@ returns-then-uses-le1-clause-counted g c =
 pub returns-else-uses-le1-clause-live : goal.returns-else-uses-le1-clause-live
 returns-else-uses-le1-clause-live g c =
     let at = subst (λ h. IsPlace h c.args.store c.in-Some.place) c.deref.ensures.value c.in-Some.ensures.found in
-    live c.args.self.now c.args.store c.index.result.now (store-read c.self.inside.held.items c.self.inside.made c.args.self.now c.args.store c.in-Some.place c.index.result.now c.self.view_is at c.index.ensures)
+    live c.args.self.now c.args.store c.index.result.now
+    (store-read c.self.inside.held.items c.self.inside.made c.args.self.now c.args.store c.in-Some.place c.index.result.now c.self.view_is at c.index.ensures)
 
 pub returns-else-uses-le1-clause-counted : goal.returns-else-uses-le1-clause-counted
 returns-else-uses-le1-clause-counted g c =

@@ -58,7 +58,8 @@ returns-in-Ok-clause-ok g c =
     let sized = simp (to_z-of_z w32 c.args.size c.ranges.size) at c.unsigned_abs-size.ensures.value in
     let old = c.index_mut.result.now in
     let grown : ℕ → Held = λ n. record old { bytes = old.bytes ++ replicate (n - length old.bytes) 0 } in
-    ap stock (changed-is held c.self.inside.made c.self.inside.total c.args.store place change c.index_mut.result.now c.grow.new.self c.self.invariant at c.index_mut.ensures.value (c.in-Ok.ensures.ok ∙ ap grown sized))
+    ap stock (changed-is held c.self.inside.made c.self.inside.total c.args.store place change c.index_mut.result.now c.grow.new.self c.self.invariant at c.index_mut.ensures.value
+    (c.in-Ok.ensures.ok ∙ ap grown sized))
     ∙ ap (resized c.args.store (unsigned_abs c.args.size)) c.self.view_is
 
 pub returns-in-Err-clause-refused : goal.returns-in-Err-clause-refused

@@ -43,7 +43,8 @@ returns-then-at-size-clause-refused g c =
     let place = c.in-Some.place in
     let at = subst (λ h. IsPlace h c.args.store place) c.deref.ensures.value c.in-Some.ensures.found in
     let found = store-read held c.self.inside.made c.args.self.now c.args.store place c.index.result.now c.self.view_is at c.index.ensures in
-    let past : length c.index.result.now.bytes < c.args.at + length c.args.bytes.now = elim c.then-at-size.branch [ then-at-size-via-then-at-size w ↦ omega arith | then-at-size-via-else-at-size+then-size-at w ↦ omega arith ] in
+    let past : length c.index.result.now.bytes < c.args.at + length c.args.bytes.now =
+    elim c.then-at-size.branch [ then-at-size-via-then-at-size w ↦ omega arith | then-at-size-via-else-at-size+then-size-at w ↦ omega arith ] in
     rw (write-refused c.args.self.now c.args.store c.args.at (length c.args.bytes.now) c.index.result.now found past) refl
 
 pub returns-then-at-size-clause-accepted : goal.returns-then-at-size-clause-accepted
@@ -52,7 +53,8 @@ returns-then-at-size-clause-accepted g c =
     let place = c.in-Some.place in
     let at = subst (λ h. IsPlace h c.args.store place) c.deref.ensures.value c.in-Some.ensures.found in
     let found = store-read held c.self.inside.made c.args.self.now c.args.store place c.index.result.now c.self.view_is at c.index.ensures in
-    let past : length c.index.result.now.bytes < c.args.at + length c.args.bytes.now = elim c.then-at-size.branch [ then-at-size-via-then-at-size w ↦ omega arith | then-at-size-via-else-at-size+then-size-at w ↦ omega arith ] in
+    let past : length c.index.result.now.bytes < c.args.at + length c.args.bytes.now =
+    elim c.then-at-size.branch [ then-at-size-via-then-at-size w ↦ omega arith | then-at-size-via-else-at-size+then-size-at w ↦ omega arith ] in
     rw (write-refused c.args.self.now c.args.store c.args.at (length c.args.bytes.now) c.index.result.now found past) tt
 
 pub write-requires : goal.write-requires

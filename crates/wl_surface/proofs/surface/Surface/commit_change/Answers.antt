@@ -7,5 +7,6 @@ use Rattle.wl_surface.proofs.surface.Surface.commit_change.Goals as goal
 
 pub returns-clause-change : goal.returns-clause-change
 returns-clause-change g c = λ s u.
-    let tell = shapes-tell c.shape-before.result c.shape.result s.history (committed_now s.history) (c.shape-before.ensures s u) (c.shape.ensures (applying (asking Commit s)) (c.in_ok-rects.ensures.ok s u)) in
+    let tell = shapes-tell c.shape-before.result c.shape.result s.history (committed_now s.history) (c.shape-before.ensures s u)
+    (c.shape.ensures (applying (asking Commit s)) (c.in_ok-rects.ensures.ok s u)) in
     record { surface = refl; whole = unlike _ c.is_same.ensures tell; rects = c.in_ok-rects.ensures.damage s u }

@@ -8,6 +8,7 @@ pub returns-clause-changes : goal.returns-clause-changes
 returns-clause-changes g c =
     let at = c.get_mut.ensures.value in
     elim c.match-get_mut.branch [
-      | in-Some w ↦ rw (← c.self.view_is, w.self-inside-is) (Changes-at c.self.inside.slots.slots _ _ c.args.surface _ _ _ (sym (rw w.in-Some.is at at)) (rw (to_z-of_z w32 c.args.x c.ranges.x, to_z-of_z w32 c.args.y c.ranges.y) at w.attach.ensures))
+      | in-Some w ↦ rw (← c.self.view_is, w.self-inside-is)
+          (Changes-at c.self.inside.slots.slots _ _ c.args.surface _ _ _ (sym (rw w.in-Some.is at at)) (rw (to_z-of_z w32 c.args.x c.ranges.x, to_z-of_z w32 c.args.y c.ranges.y) at w.attach.ensures))
       | in_default w ↦ rw (← c.self.view_is, w.self-inside-is) (Changes-none c.self.inside.slots.slots _ _ c.args.surface _ (sym (rw w.in_default.is at at)))
     ]

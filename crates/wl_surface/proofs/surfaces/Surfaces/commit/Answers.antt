@@ -15,7 +15,8 @@ pub returns-clause-ok : goal.returns-clause-ok
 returns-clause-ok g c =
     let at = c.get_mut.ensures.value in
     elim c.match-get_mut.branch [
-      | in-Some+in_ok-commit_change w ↦ rw (← c.self.view_is, w.self-inside-is) (Changes-at c.self.inside.slots.slots _ _ c.args.surface _ _ _ (sym (rw w.in-Some.is at at)) w.in_ok-commit_change.ensures.ok)
+      | in-Some+in_ok-commit_change w ↦
+          rw (← c.self.view_is, w.self-inside-is) (Changes-at c.self.inside.slots.slots _ _ c.args.surface _ _ _ (sym (rw w.in-Some.is at at)) w.in_ok-commit_change.ensures.ok)
       | in_default w ↦ rw (← c.self.view_is, w.self-inside-is) (Changes-none c.self.inside.slots.slots _ _ c.args.surface _ (sym (rw w.in_default.is at at)))
     ]
 
@@ -24,15 +25,20 @@ returns-clause-changes g c = λ all stand.
     let at = c.get_mut.ensures.value in
     let here = rw (← c.self.view_is) at stand c.args.surface in
     elim c.match-get_mut.branch [
-      | in-Some+in_ok-commit_change w ↦ rw (w.changes-is, w.push_reserved.ensures.items, c.in_ok-changes.ensures.items) (told-some c.args.surface w.in-Some.kept.now (all c.args.surface) _ (subst (λ (slot : Option Kept). StandsAt slot (all c.args.surface)) (sym (rw w.in-Some.is at at)) here) w.in_ok-commit_change.ensures.change)
-      | in_default w ↦ rw (w.changes-is, c.in_ok-changes.ensures.items) (told-none _ c.args.surface (all c.args.surface) (subst (λ (slot : Option Kept). StandsAt slot (all c.args.surface)) (sym (rw w.in_default.is at at)) here))
+      | in-Some+in_ok-commit_change w ↦
+          rw (w.changes-is, w.push_reserved.ensures.items, c.in_ok-changes.ensures.items)
+          (told-some c.args.surface w.in-Some.kept.now (all c.args.surface) _ (subst (λ (slot : Option Kept). StandsAt slot (all c.args.surface)) (sym (rw w.in-Some.is at at)) here)
+          w.in_ok-commit_change.ensures.change)
+      | in_default w ↦ rw (w.changes-is, c.in_ok-changes.ensures.items)
+          (told-none _ c.args.surface (all c.args.surface) (subst (λ (slot : Option Kept). StandsAt slot (all c.args.surface)) (sym (rw w.in_default.is at at)) here))
     ]
 
 pub returns-clause-freed : goal.returns-clause-freed
 returns-clause-freed g c = λ all stand.
     let stands = (returns-clause-ok g c).stand all stand in
     rw (c.add_freed-2.ensures.items, c.add_freed.ensures.items, c.in_ok-freed.ensures.items, c.shown-current.ensures, ← c.self.view_is)
-    (freed-told c.self.inside.slots.slots c.match-get_mut.self-inside.slots.slots c.args.surface all (changed_at c.args.surface (λ (s : Surface). applying (asking Commit s)) all) (others-changed c.args.surface (λ (s : Surface). applying (asking Commit s)) all) (rw (← c.self.view_is) at stand) stands)
+    (freed-told c.self.inside.slots.slots c.match-get_mut.self-inside.slots.slots c.args.surface all (changed_at c.args.surface (λ (s : Surface). applying (asking Commit s)) all)
+    (others-changed c.args.surface (λ (s : Surface). applying (asking Commit s)) all) (rw (← c.self.view_is) at stand) stands)
 
 pub returns-clause-frames : goal.returns-clause-frames
 returns-clause-frames g c =

@@ -5,4 +5,5 @@ use Rattle.wl_surface.proofs.surfaces.Surfaces.is_busy.Goals as goal
 
 pub returns : goal.returns
 returns g c = λ all stand.
-    IsAny-kept (kept_shows c.args.buffer) (shows_at c.args.buffer) refl (shows-same c.args.buffer) c.self.inside.slots.slots all (rw (← c.self.view_is) at stand) c.any_shows.result (sym c.any_shows.ensures)
+    IsAny-kept (kept_shows c.args.buffer) (shows_at c.args.buffer) refl (shows-same c.args.buffer) c.self.inside.slots.slots all (rw (← c.self.view_is) at stand) c.any_shows.result
+    (sym c.any_shows.ensures)
