@@ -17,7 +17,7 @@ use Rattle.wl_resident.specs.Seats.{IsBare, IsChangedSo, IsSeated, ended_by}
 use Rattle.wl_plain.specs.LeftOut.{served_now}
 use Rattle.wl_plain.specs.Happens.{Serves}
 use Rattle.wl_laws.proofs.Toplevels.Altering.{Changes, ChangesAt, left_so}
-use Rattle.wl_plain.specs.Acts.{IsClosed, closed_by, lowest, next_of, peer_at, peer_of}
+use Rattle.wl_plain.specs.Act.{IsClosed, closed_by, lowest, next_of, peer_at, peer_of}
 use Rattle.wl_laws.proofs.Runs.Forms.{ConnectsAt}
 use Rattle.wl_paint.specs.Damage.{Damaged}
 use Rattle.wl_resident.specs.View.{DeskView, MarkedDesk, OwnedView, owned_view}

@@ -20,7 +20,7 @@ use Rattle.wl_plain.specs.declared.answers.Fed.TheVariants as fed
 use Rattle.wl_plain.specs.Step.{with_peer}
 use Rattle.wl_plain.specs.LeftOut.{served_now}
 use Rattle.wl_laws.specs.NoMore.{NoMore}
-use Rattle.wl_plain.specs.Acts.{fed_of, peer_at, status_of}
+use Rattle.wl_plain.specs.Act.{fed_of, peer_at, status_of}
 use Rattle.wl_plain.specs.Happens.{Serves}
 use Rattle.wl_plain.specs.Through.{ServesThrough}
 use Rattle.wl_laws.proofs.Toplevels.Back.{message-by}

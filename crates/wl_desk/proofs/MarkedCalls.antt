@@ -19,7 +19,7 @@ use Rattle.wl_resident.specs.Marking.{AreUnlinked, MarksOwn}
 use Rattle.wl_resident.specs.Seats.{IsChangedSo, IsSeated, ended_by}
 use Rattle.wl_laws.specs.Standing.{AreMapped}
 use Rattle.wl_laws.proofs.Toplevels.Altering.{Changes, ChangesAt, left_so}
-use Rattle.wl_plain.specs.Acts.{IsClosed, IsSent, IsStored, closed_by, lowest}
+use Rattle.wl_plain.specs.Act.{IsClosed, IsSent, IsStored, closed_by, lowest}
 use Rattle.wl_laws.proofs.Runs.Forms.{ConnectsAt}
 use Rattle.wl_laws.specs.Touching.{any_window_at, has_window_at}
 use Rattle.wl_resident.specs.View.{DeskView, OwnedView}

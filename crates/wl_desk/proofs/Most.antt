@@ -11,7 +11,7 @@ use Rattle.wl_paint.specs.Damage.{Damaged, has}
 use Rattle.wl_surface.specs.Surfaces.{history_in}
 use Rattle.wl_scene.specs.Stacking.{Owned as Owns, is_of, windows_on}
 use Rattle.wl_scene.specs.Windows.{Window}
-use Rattle.wl_plain.specs.Acts.{IsLeft, Leave}
+use Rattle.wl_plain.specs.Act.{IsLeft, Leave}
 use Rattle.wl_plain.specs.Desktop.{Desktop, Resident, become, become_by, client_at, owned_in, owned_of, resident_of, status_in, status_of}
 use Rattle.wl_plain.specs.Framing.{FramesToldAt, FramesToldBy, done_due}
 use Rattle.wl_plain.specs.Happens.{Happens}

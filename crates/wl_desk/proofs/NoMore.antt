@@ -14,7 +14,7 @@ use Rattle.wl_plain.specs.LeftOut.{served_now}
 use Rattle.wl_laws.specs.NoMore.{NoMore, OwnsToplevelsAt}
 use Rattle.wl_plain.specs.Settling.{EndsAndSettles, becomes, unstruck}
 use Rattle.wl_plain.specs.Step.{with_peer}
-use Rattle.wl_plain.specs.Acts.{Act}
+use Rattle.wl_plain.specs.Act.{Act}
 use Rattle.wl_plain.specs.Happens.{Happens, Serves}
 use Rattle.wl_plain.specs.Through.{ServesThrough}
 use Rattle.wl_laws.proofs.Runs.Through.{messages_lead_through}

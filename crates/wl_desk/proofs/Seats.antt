@@ -11,7 +11,7 @@ use Rattle.wl_resident.specs.Agreement.{IsPlace, Matches}
 use Rattle.wl_resident.specs.Marking.{IsAsLarge}
 use Rattle.wl_resident.specs.View.{DeskView, MarkedDesk, OwnedView, owned_view}
 use Rattle.wl_resident.specs.declared.residents.Resident.{Resident as Kept}
-use Rattle.wl_plain.specs.Acts.{lowest, next_of}
+use Rattle.wl_plain.specs.Act.{lowest, next_of}
 use Rattle.wl_plain.specs.Desktop.{Desktop, Resident, client_at}
 use Rattle.wl_desk.specs.Agreeing.{MarksNothing}
 use Rattle.wl_desk.specs.Residents.{client_views, owned_views, resident_at}

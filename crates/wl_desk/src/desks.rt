@@ -6,7 +6,7 @@ ghost use Rattle.wl_client.specs.Agreement.{output_of};
 ghost use Rattle.wl_paint.specs.Damage.{has};
 ghost use Rattle.wl_paint.specs.Frame.{color_at, is_side};
 ghost use Rattle.wl_plain.specs.Desktop.{Desktop, empty};
-ghost use Rattle.wl_plain.specs.Acts.{Connect, Feed, Store, Leave, Tick, Send, Close, lowest, peer_at, unsent_of, status_of, store_size_of};
+ghost use Rattle.wl_plain.specs.Act.{Connect, Feed, Store, Leave, Tick, Send, Close, lowest, peer_at, unsent_of, status_of, store_size_of};
 ghost use Rattle.wl_desk.specs.Agreeing.{Agrees, MarksNothing, MarksStep, TakesStep};
 ghost use Rattle.wl_resident.specs.Marking.{MarksAtLeast, MarksAtMost, MarksMost, MarksThrough};
 ghost use Rattle.wl_desk.specs.Feeding.{Ends, IsIdleIn, kept_at, kept_while, rest_in, served_as, served_of};

@@ -24,7 +24,7 @@ use Rattle.wl_plain.specs.Settling.{Midstep, Strike, becomes, ended_all, ended_b
 use Rattle.wl_plain.specs.Settling.{target_now, told_drawn, unstruck, with_focus}
 use Rattle.wl_plain.specs.Stacked.{all_windows}
 use Rattle.wl_plain.specs.Step.{with_peer}
-use Rattle.wl_plain.specs.Acts.{Act, Connect, Feed, Store, Leave, Tick, Send, Close, Motion, Button, closed_by, lowest}
+use Rattle.wl_plain.specs.Act.{Act, Connect, Feed, Store, Leave, Tick, Send, Close, Motion, Button, closed_by, lowest}
 use Rattle.wl_plain.specs.Happens.{callbacks_due, changed_so, frames_told, hit_now, is_hit_of, noted_if, number_of, point_in, pointed}
 use Rattle.wl_plain.specs.Happens.{raised_by, with_press, with_release, without_grabs}
 

@@ -3,7 +3,7 @@ use Rattle.std.specs.Prelude.{ℕ, List, ◌++◌}
 use Rattle.wl_plain.specs.declared.answers.Done.{Done}
 use Rattle.wl_plain.specs.Desktop.{Desktop}
 use Rattle.wl_plain.specs.LeftOut.{LeftOut}
-use Rattle.wl_plain.specs.Acts.{Feed}
+use Rattle.wl_plain.specs.Act.{Feed}
 use Rattle.wl_plain.specs.Happens.{Happens}
 
 -- Two pieces of a client's stream, one after the other, lead where they lead as one, whatever is left out.

@@ -1,7 +1,7 @@
 -- What happens one message at a time: it is what happens, it is sound all along, and nothing of its marks is lost on the way.
 use Rattle.std.specs.Prelude.{ℕ, ℤ, ◌≡◌, false, List, [], ◌∷◌}
 use Rattle.wl_peer.specs.Told.{Output}
-use Rattle.wl_plain.specs.Acts.{Feed}
+use Rattle.wl_plain.specs.Act.{Feed}
 use Rattle.wl_plain.specs.Desktop.{Desktop, empty}
 use Rattle.wl_plain.specs.Happenings.{Happening, Leads, LeadsAll}
 use Rattle.wl_plain.specs.Happens.{Happens}

@@ -4,7 +4,7 @@ use Rattle.wl_plain.specs.declared.answers.Done.{Done}
 use Rattle.wl_plain.specs.Desktop.{Desktop, empty}
 use Rattle.wl_plain.specs.LeftOut.{served_now}
 use Rattle.wl_laws.specs.NoMore.{NoMore}
-use Rattle.wl_plain.specs.Acts.{Act, Motion, Button}
+use Rattle.wl_plain.specs.Act.{Act, Motion, Button}
 use Rattle.wl_plain.specs.Happens.{Happens}
 
 -- A desktop without clients has none.

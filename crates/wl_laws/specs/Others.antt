@@ -23,7 +23,7 @@ use Rattle.wl_plain.specs.Desktop.{Desktop, Resident, client_at, resident_of, to
 use Rattle.wl_plain.specs.LeftOut.{LeftOut}
 use Rattle.wl_plain.specs.Pointing.{has_pointers}
 use Rattle.wl_plain.specs.Step.{with_peer}
-use Rattle.wl_plain.specs.Acts.{Act, Connect, Feed, Store, Leave, Tick, Send, Close, Motion, Button}
+use Rattle.wl_plain.specs.Act.{Act, Connect, Feed, Store, Leave, Tick, Send, Close, Motion, Button}
 use Rattle.wl_plain.specs.Happens.{Happens, Reaches, Serves, StopsAt}
 
 -- wl_pointer.enter and leave, of a surface, with a serial (wayland.xml, wl_pointer)

@@ -10,7 +10,7 @@ use Rattle.wl_scene.specs.Stacking.{Standing}
 use Rattle.wl_plain.specs.Desktop.{Desktop, Resident, client_at, resident_of, toplevels_of}
 use Rattle.wl_plain.specs.LeftOut.{LeftOut}
 use Rattle.wl_plain.specs.declared.answers.Done.{Done}
-use Rattle.wl_plain.specs.Acts.{Act}
+use Rattle.wl_plain.specs.Act.{Act}
 use Rattle.wl_plain.specs.Happens.{Happens}
 use Rattle.wl_laws.specs.Others.{client_of}
 

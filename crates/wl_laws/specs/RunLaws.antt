@@ -8,7 +8,7 @@ use Rattle.wl_plain.specs.declared.answers.Done.TheVariants as gave
 use Rattle.wl_laws.specs.Ample.{happened}
 use Rattle.wl_plain.specs.Desktop.{Desktop, status_in}
 use Rattle.wl_plain.specs.LeftOut.{LeftOut}
-use Rattle.wl_plain.specs.Acts.{Act, Close, Connect}
+use Rattle.wl_plain.specs.Act.{Act, Close, Connect}
 use Rattle.wl_plain.specs.Happens.{Happens}
 
 -- No want of memory was met: no connect was refused for it, and a client that it ended had ended so before.

@@ -1,6 +1,6 @@
 -- What happens leads through the desktops of its own change, of each end and of each settling.
 use Rattle.std.specs.Prelude.{ℕ, ◌≡◌, List}
-use Rattle.wl_plain.specs.Acts.{Act, Feed}
+use Rattle.wl_plain.specs.Act.{Act, Feed}
 use Rattle.wl_plain.specs.Desktop.{Desktop}
 use Rattle.wl_plain.specs.Happens.{Happens, Serves}
 use Rattle.wl_plain.specs.LeftOut.{LeftOut}

@@ -7,7 +7,7 @@ use Rattle.wl_plain.specs.Desktop.{Desktop, Resident, client_at, with_client}
 use Rattle.wl_plain.specs.LeftOut.{LeftOut}
 use Rattle.wl_plain.specs.Settling.{becomes, unstruck}
 use Rattle.wl_plain.specs.Step.{with_peer}
-use Rattle.wl_plain.specs.Acts.{Act}
+use Rattle.wl_plain.specs.Act.{Act}
 use Rattle.wl_plain.specs.Through.{HappensThrough, ServesThrough, settling_through}
 
 pub data Happening : Type 0 where

@@ -35,8 +35,8 @@ use Rattle.wl_plain.specs.Settling.{EndsAndSettles, Midstep, QueuesTo, Settles, 
 use Rattle.wl_plain.specs.Settling.{told_drawn, unstruck}
 use Rattle.wl_plain.specs.Stacked.{all_windows}
 use Rattle.wl_plain.specs.Step.{takes_memory, with_peer, with_shell}
-use Rattle.wl_plain.specs.Acts.{Act, Connect, Feed, Store, Leave, Tick, Send, Close, Motion, Button, IsClosed, IsSent, IsStored, fed_of}
-use Rattle.wl_plain.specs.Acts.{lowest}
+use Rattle.wl_plain.specs.Act.{Act, Connect, Feed, Store, Leave, Tick, Send, Close, Motion, Button, IsClosed, IsSent, IsStored, fed_of}
+use Rattle.wl_plain.specs.Act.{lowest}
 
 -- ---- one message
 

@@ -15,7 +15,7 @@ pub mod Served
 pub mod Settling
 pub mod Stacked
 pub mod Step
-pub mod Acts
+pub mod Act
 pub mod Happens
 pub mod Framing
 pub mod WlPointer

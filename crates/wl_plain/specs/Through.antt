@@ -8,7 +8,7 @@ use Rattle.wl_plain.specs.LeftOut.{LeftOut}
 use Rattle.wl_plain.specs.Settling.{Midstep, Settles, Strike, ended_all, ended_by, unstruck}
 use Rattle.wl_plain.specs.Stacked.{all_windows}
 use Rattle.wl_plain.specs.Happens.{HappensThen, ServesThen, hit_now}
-use Rattle.wl_plain.specs.Acts.{Act, Button}
+use Rattle.wl_plain.specs.Act.{Act, Button}
 use Rattle.wl_plain.specs.declared.answers.Done.{Done}
 
 -- one after each end of these, where they end one after another

@@ -20,7 +20,7 @@ pub enum Fed {
 
 impl Fed {
     ghost use Rattle.std.specs.Prelude.{◌≡◌};
-    ghost use Rattle.wl_plain.specs.Acts.{fed_of};
+    ghost use Rattle.wl_plain.specs.Act.{fed_of};
 
     /// How a client is that ended so, or didn't.
     pub fn of(ended: Option<Cause>) -> Fed
@@ -50,7 +50,7 @@ impl Stored {
     ghost use Rattle.std.specs.Prelude.{◌≡◌, ℕ, Option};
     ghost use Rattle.wl_store.specs.declared.stores.StoreError.{StoreError};
     ghost use Rattle.wl_peer.specs.Stored.{stored};
-    ghost use Rattle.wl_plain.specs.Acts.{answer_of};
+    ghost use Rattle.wl_plain.specs.Act.{answer_of};
 
     /// What a write of a store answered.
     pub fn of(written: Result<(), StoreError>) -> Stored

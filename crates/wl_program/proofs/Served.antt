@@ -11,7 +11,7 @@ use Rattle.wl_session.specs.View.{SessionView}
 use Rattle.wl_server.specs.Acting.{InTurn, IsServed}
 use Rattle.wl_server.specs.Phases.{IsTurn}
 use Rattle.wl_server.specs.Telling.{IsToldOf, Reports, gathered, reported}
-use Rattle.wl_plain.specs.Acts.{Act}
+use Rattle.wl_plain.specs.Act.{Act}
 use Rattle.std.specs.Io.KnownBytes.{Appends, Keeps}
 use Rattle.std.proofs.KnownBytes.{Appends-kept}
 use Rattle.wl_options.specs.declared.command.Serve.{Serve}

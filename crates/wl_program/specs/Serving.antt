@@ -4,7 +4,7 @@ use Rattle.wl_options.specs.declared.command.Serve.{Serve}
 use Rattle.wl_options.specs.declared.fault.Fault.{Fault}
 use Rattle.wl_options.specs.declared.fault.Fault.TheVariants.{Read, Write, Side, Bind, Size, BadLine, Memory}
 use Rattle.wl_options.specs.declared.size.Size as declared
-use Rattle.wl_plain.specs.Acts.{Act}
+use Rattle.wl_plain.specs.Act.{Act}
 use Rattle.wl_plain.specs.Desktop.{empty}
 use Rattle.wl_plain.specs.LeftOut.{served_now}
 use Rattle.wl_replay.specs.Told.{IsFirst, Stage}

@@ -2,8 +2,8 @@
 use Rattle.std.proofs.Common.{◌≡◌, ◌<◌, ◌≤◌, ◌+◌, ℕ, List, [], ◌∷◌, length, sym, subst, inr, arith}
 use Rattle.wl_session.specs.Course.{TakesCourse}
 use Rattle.wl_session.specs.View.{SessionView}
-use Rattle.wl_plain.specs.Acts.{Act}
-use Rattle.wl_plain.specs.Acts as act
+use Rattle.wl_plain.specs.Act.{Act}
+use Rattle.wl_plain.specs.Act as act
 use Rattle.wl_plain.specs.declared.answers.Done.{Done}
 use Rattle.wl_recording.specs.declared.place.Place.{Place}
 use Rattle.wl_recording.specs.Side.{Files}

@@ -1,6 +1,6 @@
 -- What a session's calls make of a stage.
 use Rattle.std.proofs.Common.{◌≡◌, ◌++◌, ◌*◌, ℕ, false, List, [], ap, refl, subst, ◌∙◌}
-use Rattle.wl_plain.specs.Acts.{Act, Tick}
+use Rattle.wl_plain.specs.Act.{Act, Tick}
 use Rattle.wl_plain.specs.Desktop.{empty}
 use Rattle.wl_plain.specs.LeftOut.{served_now}
 use Rattle.wl_plain.specs.declared.answers.Done.{Done}

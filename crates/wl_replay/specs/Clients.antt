@@ -1,7 +1,7 @@
 -- What each client is sent after a line, and how it is closed.
 use Rattle.std.specs.Prelude.{◌≡◌, ℕ, zero, suc, Option, Some, None, List, [], ◌∷◌, ◌++◌, length}
-use Rattle.wl_plain.specs.Acts as act
-use Rattle.wl_plain.specs.Acts.{peer_at, status_of, unsent_of}
+use Rattle.wl_plain.specs.Act as act
+use Rattle.wl_plain.specs.Act.{peer_at, status_of, unsent_of}
 use Rattle.wl_plain.specs.declared.answers.Done.{Done}
 use Rattle.wl_plain.specs.declared.answers.Fed.{Fed}
 use Rattle.wl_plain.specs.declared.answers.Fed.TheVariants.{Alive, Ended, NoClient}

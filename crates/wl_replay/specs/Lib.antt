@@ -3,7 +3,7 @@ pub mod Clients
 pub mod Storing
 pub mod Report
 pub use Rattle.wl_plain.specs.Desktop
-pub use Rattle.wl_plain.specs.Acts
+pub use Rattle.wl_plain.specs.Act
 pub use Rattle.wl_recording.specs.Line
 pub use Rattle.wl_recording.specs.Lines
 pub use Rattle.wl_recording.specs.Side

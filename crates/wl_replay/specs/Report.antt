@@ -6,8 +6,8 @@ use Rattle.wl_session.specs.View.{SessionView}
 use Rattle.wl_session.specs.Damage.{count_points, has}
 use Rattle.wl_plain.specs.Desktop.{Desktop}
 use Rattle.wl_session.specs.Image.{image_of}
-use Rattle.wl_plain.specs.Acts as act
-use Rattle.wl_plain.specs.Acts.{peer_at, status_of}
+use Rattle.wl_plain.specs.Act as act
+use Rattle.wl_plain.specs.Act.{peer_at, status_of}
 use Rattle.wl_plain.specs.declared.answers.ConnectError.{ConnectError}
 use Rattle.wl_plain.specs.declared.answers.ConnectError.TheVariants.{Full, Memory}
 use Rattle.wl_plain.specs.declared.answers.Done.{Done}

@@ -3,7 +3,7 @@ use Rattle.std.specs.Prelude.{◌≡◌, ◌+◌, ◌*◌, ◌<◌, ℕ, pos, Bo
 use Rattle.std.specs.Io.KnownBytes.{Appends}
 use Rattle.wl_session.specs.Agreeing.{Agrees}
 use Rattle.wl_session.specs.View.{SessionView}
-use Rattle.wl_plain.specs.Acts.{Act}
+use Rattle.wl_plain.specs.Act.{Act}
 use Rattle.wl_plain.specs.Desktop.{empty}
 use Rattle.wl_plain.specs.Happens.{Happens}
 use Rattle.wl_plain.specs.LeftOut.{served_now}

@@ -1,5 +1,5 @@
 -- One client of the desk, apart from the others, with the stack of toplevels.
-use Rattle.std.specs.Prelude.{ℕ, ◌≡◌, [], Bool, false, is_some, Option, Some, None, ◌⊎◌}
+use Rattle.std.specs.Prelude.{ℕ, ◌≡◌, [], is_some, Option, Some, None, ◌⊎◌}
 use Rattle.wl_interface.specs.declared.interface.Interface.TheVariants.{WlSurface}
 use Rattle.wl_client.specs.Agreement.{IsPeer}
 use Rattle.wl_peer.specs.Objects.{ById}
@@ -43,11 +43,6 @@ IsChangedSo c R done old new was is =
 abbrev pub ended_by : Option Cause → Cause → Peer → Peer
 ended_by None cause p = ended cause p
 ended_by (Some was) cause p = p
-
--- there is a client, and it ended
-abbrev pub has_ended_in : Option ClientView → Bool
-has_ended_in None = false
-has_ended_in (Some v) = is_some v.ended
 
 -- a client lacks memory
 abbrev pub Lacks : ClientView → ClientView → Type 0

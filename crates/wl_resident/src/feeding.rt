@@ -13,7 +13,7 @@ ghost use Rattle.wl_plain.specs.LeftOut.{served_now};
 ghost use Rattle.wl_laws.specs.NoMore.{NoMore};
 ghost use Rattle.wl_plain.specs.Happens.{Serves};
 ghost use Rattle.wl_plain.specs.Through.{ServesThrough};
-ghost use Rattle.wl_plain.specs.Acts.{IsLeft, IsSent, IsStored, stored_of};
+ghost use Rattle.wl_plain.specs.Act.{IsLeft, IsSent, IsStored, stored_of};
 
 use crate::marking::{mark_change, touched_by};
 use crate::residents::{Resident, Stacking};

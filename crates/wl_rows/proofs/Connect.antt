@@ -3,7 +3,7 @@ use Rattle.std.proofs.Common.{◌≡◌, ℕ, zero, suc, ◌+◌, List, [], ◌�
 use Rattle.wl_laws.specs.Ample.{happened}
 use Rattle.wl_plain.specs.Desktop.{Desktop, empty}
 use Rattle.wl_plain.specs.LeftOut.{nothing_left_out}
-use Rattle.wl_plain.specs.Acts.{Connect, Leave, Close, lowest}
+use Rattle.wl_plain.specs.Act.{Connect, Leave, Close, lowest}
 
 abbrev connects : ℕ → Desktop → Desktop
 connects zero d = d

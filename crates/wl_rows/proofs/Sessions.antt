@@ -5,7 +5,7 @@ use Rattle.std.proofs.lemmas.Bool.{eqb-true}
 use Rattle.wl_peer.specs.Told.{Output}
 use Rattle.wl_paint.specs.Damage.{Damaged}
 use Rattle.wl_paint.specs.Frame.{Image}
-use Rattle.wl_plain.specs.Acts.{Close}
+use Rattle.wl_plain.specs.Act.{Close}
 use Rattle.wl_plain.specs.Desktop.{empty}
 use Rattle.wl_plain.specs.Happenings.{Happening, Single}
 use Rattle.wl_plain.specs.declared.answers.Done.TheVariants as gave

@@ -12,7 +12,7 @@ use Rattle.wl_plain.specs.Desktop.{Desktop, Resident, arrival, client_at, empty,
 use Rattle.wl_plain.specs.LeftOut.{nothing_left_out}
 use Rattle.wl_plain.specs.Scratch.{scratch_of}
 use Rattle.wl_plain.specs.Stacked.{all_windows}
-use Rattle.wl_plain.specs.Acts.{Store, Leave, Tick, Motion, Button}
+use Rattle.wl_plain.specs.Act.{Store, Leave, Tick, Motion, Button}
 
 -- two clients on an output of 64 by 64
 abbrev pub start : Desktop

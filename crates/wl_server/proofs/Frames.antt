@@ -2,7 +2,7 @@
 use Rattle.std.proofs.Common.{◌≡◌, ◌<◌, ℕ, Bool, true, false, List, [], ◌∷◌, ◌++◌, Option, Result, Ok, Err, refl, subst}
 use Rattle.std.specs.Prelude.{⊤}
 use Rattle.std.specs.Result.{OnOk}
-use Rattle.wl_plain.specs.Acts.{Act}
+use Rattle.wl_plain.specs.Act.{Act}
 use Rattle.wl_plain.specs.Desktop.{Desktop}
 use Rattle.wl_plain.specs.LeftOut.{served_now}
 use Rattle.wl_session.specs.Agreeing.{Agrees}

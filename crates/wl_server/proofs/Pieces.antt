@@ -3,7 +3,7 @@ use Rattle.std.proofs.Common.{◌≡◌, ◌<◌, ◌≤◌, ◌+◌, ℕ, true,
 use Rattle.std.specs.List.{All}
 use Rattle.std.proofs.lemmas.List.{map-append}
 use Rattle.std.proofs.lemmas.List.Elements.{All-append, All-nil, All-push}
-use Rattle.wl_plain.specs.Acts.{Act, Connect, Feed, Store}
+use Rattle.wl_plain.specs.Act.{Act, Connect, Feed, Store}
 use Rattle.wl_server.specs.Phases.{AcceptsOne, AcceptsSome, IsPiece, Puts, PutsOnce, Reads, ReadsOnce, puts_from}
 
 -- ---- connects

@@ -1,7 +1,7 @@
 -- A turn, joined of its phases.
 use Rattle.std.proofs.Common.{◌≡◌, ℕ, Option, List, [], ◌∷◌, ◌++◌, refl, ap, sym, ◌∙◌, inl, arith, append-nil}
 use Rattle.std.proofs.lemmas.List.Elements.{All-nil}
-use Rattle.wl_plain.specs.Acts.{Act, Tick}
+use Rattle.wl_plain.specs.Act.{Act, Tick}
 use Rattle.wl_session.specs.View.{SessionView}
 use Rattle.wl_server.specs.Acting.{InTurn, Takes}
 use Rattle.wl_server.specs.Phases.{AcceptsSome, Closes, Fills, IsPiece, IsTurn, Puts, Reads, Shows, StartsTurn, Writes}

@@ -1,7 +1,7 @@
 -- What a session does, as acts of the plain desktop and the events that they are.
 use Rattle.std.specs.Prelude.{ℕ, zero, suc, ◌≡◌, ◌<◌, pos, Bool, true, false, List, [], ◌∷◌, ◌++◌}
 use Rattle.wl_session.specs.Frame.{color_at}
-use Rattle.wl_plain.specs.Acts.{Act}
+use Rattle.wl_plain.specs.Act.{Act}
 use Rattle.wl_plain.specs.Desktop.{Desktop}
 use Rattle.wl_plain.specs.LeftOut.{served_now}
 use Rattle.wl_plain.specs.Scratch.{scratch}

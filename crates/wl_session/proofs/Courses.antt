@@ -8,7 +8,7 @@ use Rattle.wl_peer.specs.declared.cause.Cause.TheVariants as cause
 use Rattle.wl_peer.specs.Peer.{ended, with_rest}
 use Rattle.wl_paint.specs.Damage.{Damaged, has}
 use Rattle.wl_paint.specs.Frame.{Image}
-use Rattle.wl_plain.specs.Acts.{Act, Feed, Tick, peer_at, peer_of, status_of, fed_of}
+use Rattle.wl_plain.specs.Act.{Act, Feed, Tick, peer_at, peer_of, status_of, fed_of}
 use Rattle.wl_plain.specs.declared.answers.Done.{Done}
 use Rattle.wl_plain.specs.declared.answers.Fed.TheVariants as fed
 use Rattle.wl_plain.specs.Desktop.{Desktop, Resident, client_at, with_client, status_in}

@@ -17,7 +17,7 @@ use Rattle.wl_desk.proofs.NoMore.{ended-once, kept-has}
 use Rattle.wl_resident.specs.Seats.{ended_by}
 use Rattle.wl_plain.specs.Settling.{becomes}
 use Rattle.wl_plain.specs.Step.{with_peer}
-use Rattle.wl_plain.specs.Acts.{fed_of, peer_at, peer_of, status_of}
+use Rattle.wl_plain.specs.Act.{fed_of, peer_at, peer_of, status_of}
 use Rattle.wl_resident.specs.View.{DeskView, OwnedView}
 use Rattle.wl_plain.specs.declared.answers.Done.TheVariants as gave
 use Rattle.wl_plain.specs.declared.answers.Fed.{Fed}

@@ -12,7 +12,7 @@ use Rattle.wl_plain.specs.LeftOut.{LeftOut}
 use Rattle.wl_plain.specs.Scratch.{pixel_at}
 use Rattle.wl_plain.specs.Stacked.{all_windows}
 use Rattle.wl_plain.specs.Step.{with_peer}
-use Rattle.wl_plain.specs.Acts.{Act, Connect, Feed, Leave, Send, Close, Store, Tick, Motion, Button}
+use Rattle.wl_plain.specs.Act.{Act, Connect, Feed, Leave, Send, Close, Store, Tick, Motion, Button}
 use Rattle.wl_plain.specs.Happens.{Happens}
 use Rattle.wl_laws.specs.Others.{client_of}
 use Rattle.wl_laws.specs.Own.{KeepsItsOwn, KeepsItsOwnBy, KeepsItsOwnSo, LivesOrEnds}

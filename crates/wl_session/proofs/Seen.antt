@@ -5,7 +5,7 @@ use Rattle.wl_blend.specs.Blend.{color_of}
 use Rattle.wl_blend.specs.declared.color.Rgb.{Rgb}
 use Rattle.wl_paint.specs.Frame.{Image, color_at}
 use Rattle.wl_plain.specs.Happenings.{Happening, Message, Receive, Single, Starve}
-use Rattle.wl_plain.specs.Acts.{Connect, Feed, Store, Leave, Tick, Send, Close, Motion, Button}
+use Rattle.wl_plain.specs.Act.{Connect, Feed, Store, Leave, Tick, Send, Close, Motion, Button}
 use Rattle.wl_plain.specs.LeftOut.{LeftOut}
 use Rattle.wl_plain.specs.Marks.{AreDistinct}
 use Rattle.wl_plain.specs.Scratch.{scratch}

@@ -32,7 +32,7 @@ use Rattle.wl_plain.specs.declared.answers.Done.TheVariants as gave
 use Rattle.wl_plain.specs.declared.answers.Stored.TheVariants as stored
 use Rattle.wl_session.specs.Promises.{KeepsBuffers, KeepsDamage, busy_of, bytes_by, bytes_in, is_hidden_in, is_rewritten_at, is_same_color, windows_by}
 use Rattle.wl_session.specs.StoreWrites.{WriteHidesNothing}
-use Rattle.wl_plain.specs.Acts.{IsStored}
+use Rattle.wl_plain.specs.Act.{IsStored}
 
 -- ---- a point of a window is one of its buffer
 

@@ -1,7 +1,7 @@
 -- The course of a session: the events that its steps are, whatever desktop it agrees with.
 use Rattle.std.specs.Prelude.{ℕ, ◌≡◌, ◌⊎◌, Bool, List, [], ◌∷◌, ◌++◌, map, replicate}
 use Rattle.wl_desk.specs.Agreeing.{Agrees}
-use Rattle.wl_plain.specs.Acts.{Act, Connect, Feed, Store, Leave, Tick, Send, Close, Motion, Button}
+use Rattle.wl_plain.specs.Act.{Act, Connect, Feed, Store, Leave, Tick, Send, Close, Motion, Button}
 use Rattle.wl_plain.specs.Desktop.{Desktop}
 use Rattle.wl_plain.specs.Happenings.{Happening, Message, Receive, Single, Starve}
 use Rattle.wl_plain.specs.Happens.{Happens, Reaches}

@@ -2,8 +2,8 @@
 use Rattle.std.specs.Prelude.{ℕ, ◌≡◌, ◌<◌, ◌||◌, None, Option, pos, Bool, true, false, List, [], ◌∷◌, filter}
 use Rattle.wl_paint.specs.Damage.{Damaged, has}
 use Rattle.wl_paint.specs.Frame.{Image}
-use Rattle.wl_plain.specs.Acts.{Act, Connect, Feed, Store, Leave, Tick, Send, Close, Motion, Button}
-pub use Rattle.wl_plain.specs.Acts.{is_tick}
+use Rattle.wl_plain.specs.Act.{Act, Connect, Feed, Store, Leave, Tick, Send, Close, Motion, Button}
+pub use Rattle.wl_plain.specs.Act.{is_tick}
 use Rattle.wl_plain.specs.Desktop.{Desktop, status_in}
 use Rattle.wl_plain.specs.Happenings.{Happening, Leads, Message, Receive, Single, Starve}
 use Rattle.wl_plain.specs.LeftOut.{LeftOut}

@@ -2,7 +2,7 @@
 use Rattle.std.specs.Prelude.{ℕ, ◌≡◌, ◌==◌, ◌&&◌, ◌<◌, pos, Bool, true, false, List, [], ◌∷◌}
 use Rattle.wl_paint.specs.Damage.{has}
 use Rattle.wl_paint.specs.Frame.{color_at}
-use Rattle.wl_plain.specs.Acts.{Act, Connect, Feed, Store, Leave, Tick, Send, Close, Motion, Button}
+use Rattle.wl_plain.specs.Act.{Act, Connect, Feed, Store, Leave, Tick, Send, Close, Motion, Button}
 use Rattle.wl_plain.specs.Happenings.{Happening, Message, Receive, Single, Starve}
 use Rattle.wl_plain.specs.Scratch.{scratch}
 use Rattle.wl_plain.specs.Stacked.{all_windows}

@@ -15,7 +15,7 @@ pub use Rattle.wl_desk.specs.Agreeing
 pub use Rattle.wl_resident.specs.Agreement
 pub use Rattle.wl_plain.specs.Desktop
 pub use Rattle.wl_plain.specs.LeftOut
-pub use Rattle.wl_plain.specs.Acts
+pub use Rattle.wl_plain.specs.Act
 pub use Rattle.wl_paint.specs.Damage
 pub use Rattle.wl_paint.specs.Frame
 pub use Rattle.wl_paint.specs.Image

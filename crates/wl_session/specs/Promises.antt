@@ -16,7 +16,7 @@ use Rattle.wl_plain.specs.Happenings.{Happening, Message, Receive, Single, Starv
 use Rattle.wl_plain.specs.Marks.{has_same_record}
 use Rattle.wl_plain.specs.Moments.{applied_between}
 use Rattle.wl_plain.specs.Scratch.{color_in, pixel_at}
-use Rattle.wl_plain.specs.Acts.{Act, Store, Tick, Motion, Button}
+use Rattle.wl_plain.specs.Act.{Act, Store, Tick, Motion, Button}
 
 abbrev pub is_same_color : Argb → Argb → Bool
 is_same_color c d = ((c.a == d.a) && (c.r == d.r)) && ((c.g == d.g) && (c.b == d.b))

@@ -3,7 +3,7 @@ use Rattle.std.specs.Prelude.{ℕ, ◌≡◌, ◌<◌, pos, Bool, true, false, f
 use Rattle.wl_peer.specs.Told.{Output}
 use Rattle.wl_paint.specs.Damage.{has}
 use Rattle.wl_paint.specs.Frame.{Image, color_at}
-use Rattle.wl_plain.specs.Acts.{Tick}
+use Rattle.wl_plain.specs.Act.{Tick}
 use Rattle.wl_plain.specs.Desktop.{empty}
 use Rattle.wl_plain.specs.Happenings.{Single}
 use Rattle.wl_plain.specs.LeftOut.{LeftOut}

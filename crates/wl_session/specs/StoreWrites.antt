@@ -4,7 +4,7 @@ use Rattle.wl_plain.specs.Desktop.{Desktop}
 use Rattle.wl_plain.specs.Happenings.{Happening, Leads}
 use Rattle.wl_plain.specs.LeftOut.{LeftOut}
 use Rattle.wl_plain.specs.Stacked.{all_windows}
-use Rattle.wl_plain.specs.Acts.{Store}
+use Rattle.wl_plain.specs.Act.{Store}
 use Rattle.wl_plain.specs.Happens.{Happens}
 use Rattle.wl_plain.specs.declared.answers.Done.{Done}
 use Rattle.wl_session.specs.Promises.{KeepBut, KeepsBuffers, KeepsDamage}

@@ -115,14 +115,6 @@ on_commit (Some stage.Ready) true = Maps
 on_commit (Some stage.Mapped) false = Unmaps
 on_commit (Some stage.Mapped) true = Stays
 
--- the stage after a commit
-abbrev pub stage_after : Effect → Stage → Stage
-stage_after Stays stage = stage
-stage_after Unconfigured stage = stage
-stage_after Configures stage = Waiting
-stage_after Maps stage = Mapped
-stage_after Unmaps stage = Fresh
-
 -- the stage after an acknowledgement: one that waits is ready
 abbrev pub acknowledged : Stage → Stage
 acknowledged stage.Fresh = Fresh

@@ -102,18 +102,6 @@ with-new old new number k s none here others t all stand = (
   stands-new old new number other k s all false differs here others t stand =
       subst (λ (slot : Option Kept). StandsAt slot (all other)) (sym (others other (eqb-false other number differs))) (stand other)
 
--- a surface less
-pub without-one : (old new : Places) (number : ℕ) → place_at new number ≡ None → ((other : ℕ) → other ≢ number → place_at new other ≡ place_at old other)
-    → (all : Numbered) → Stand old all → Stand new (with_at number None all)
-without-one old new number none others all stand = λ other. stands-less old new number other all (other == number) refl none others stand where
-  stands-less : (old new : Places) (number other : ℕ) (all : Numbered) (b : Bool) → (other == number) ≡ b → place_at new number ≡ None
-      → ((other : ℕ) → other ≢ number → place_at new other ≡ place_at old other) → Stand old all
-      → StandsAt (place_at new other) (cond b None (all other))
-  stands-less old new number other all true same none others stand =
-      subst (λ (slot : Option Kept). StandsAt slot None) (sym (ap (place_at new) (eqb-true other number same) ∙ none)) tt
-  stands-less old new number other all false differs none others stand =
-      subst (λ (slot : Option Kept). StandsAt slot (all other)) (sym (others other (eqb-false other number differs))) (stand other)
-
 -- ---- whether some surface has a property
 
 abbrev Found : (Kept → Bool) → Places → Type 0

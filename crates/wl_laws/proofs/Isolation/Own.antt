@@ -17,7 +17,7 @@ use Rattle.wl_plain.specs.Pointing.{button_told, has_pointers, motion_told, move
 use Rattle.wl_plain.specs.Replies.{focus_window, popups_done}
 use Rattle.wl_plain.specs.Settling.{Midstep, SettlesEnds, Settles, is_settled, unstruck}
 use Rattle.wl_plain.specs.Stacked.{all_windows}
-use Rattle.wl_plain.specs.Acts.{Act, Connect, Feed, Store, Leave, Tick, Send, Close, Motion, Button, lowest}
+use Rattle.wl_plain.specs.Act.{Act, Connect, Feed, Store, Leave, Tick, Send, Close, Motion, Button, lowest}
 use Rattle.wl_laws.proofs.Runs.Forms.{ConnectsAt, MovesTo, PressedSo, PressesIf, ReleasedSo, ReleasesIf, Shows}
 use Rattle.wl_plain.specs.Happens.{Dismisses, DismissesUnless, Happens, MotionSettles, MovesThen, PressedThen, ReleasedThen, ShowsThen, TellsButton, TellsFrames, TellsMotion, callbacks_due, ending}
 use Rattle.wl_plain.specs.Happens.{frames_told, hit_now, is_hit_of, noted_if, number_of, point_in, pointed, raised_by, settling, with_press, with_release, without_grabs}

@@ -19,7 +19,7 @@ use Rattle.wl_laws.proofs.Toplevels.Back.{AsksBy, message-by}
 use Rattle.wl_laws.proofs.Toplevels.Serves.{living}
 use Rattle.wl_laws.specs.Standing.{AreMapped, MappedStand}
 use Rattle.wl_plain.specs.Step.{with_peer}
-use Rattle.wl_plain.specs.Acts.{lowest, next_of}
+use Rattle.wl_plain.specs.Act.{lowest, next_of}
 use Rattle.wl_laws.proofs.Runs.Forms.{ConnectsAt, ServesAt}
 use Rattle.wl_laws.proofs.Keeping.OwningKeys.{some-same}
 use Rattle.wl_laws.proofs.Runs.Places.{number-other}

@@ -33,7 +33,7 @@ use Rattle.wl_plain.specs.Settling.{becomes, ended_all, is_settled, is_struck, t
 use Rattle.wl_plain.specs.Stacked.{all_windows}
 use Rattle.wl_plain.specs.Step.{with_peer}
 use Rattle.wl_laws.proofs.Runs.Idling.{IsTaken, all-taken}
-use Rattle.wl_plain.specs.Acts.{Act, Connect, Feed, Store, Leave, Tick, Send, Close, Motion, Button, IsClosed, IsSent, IsStored, closed_by, fed_of, lowest, stored_of}
+use Rattle.wl_plain.specs.Act.{Act, Connect, Feed, Store, Leave, Tick, Send, Close, Motion, Button, IsClosed, IsSent, IsStored, closed_by, fed_of, lowest, stored_of}
 use Rattle.wl_laws.proofs.Runs.Forms.{ConnectsAt, Answers, Becomes, Buttons, ChangesAt, Does, LeavesAt, MovesTo, PressesIf, ReleasesIf, ServesAt, Shows, Takes, WantsOr, after_why}
 use Rattle.wl_plain.specs.Happens.{Dismisses, DismissesUnless, FeedsAt, Happens, IsFedAt, MotionSettles, Reaches, StopsAt, TellsButton, TellsFrames, TellsMotion, done_for, hit_now, is_hit_of}
 use Rattle.wl_plain.specs.Happens.{point_in, pointed, raised_by, wants_memory, with_press, with_release}

@@ -11,7 +11,7 @@ use Rattle.wl_plain.specs.Desktop.{Desktop, Resident, arrival, client_at, with_c
 use Rattle.wl_plain.specs.LeftOut.{LeftOut}
 use Rattle.wl_plain.specs.Settling.{EndsAndSettles, becomes, unstruck}
 use Rattle.wl_plain.specs.Step.{with_peer}
-use Rattle.wl_plain.specs.Acts.{Act, Connect, Feed, Store, Leave, Tick, Send, Close, Motion, Button, IsClosed, IsSent, IsStored, fed_of, lowest}
+use Rattle.wl_plain.specs.Act.{Act, Connect, Feed, Store, Leave, Tick, Send, Close, Motion, Button, IsClosed, IsSent, IsStored, fed_of, lowest}
 use Rattle.wl_laws.proofs.Runs.Forms.{ConnectsAt, Buttons, ChangesAt, LeavesAt, MovesTo, Shows}
 use Rattle.wl_plain.specs.Happens.{FeedsAt, Happens, IsFedAt, point_in, pointed}
 use Rattle.wl_laws.specs.RunLaws.{HadMemory, OneRun}

@@ -24,7 +24,7 @@ use Rattle.wl_plain.specs.Settling.{EndsAndSettles, EndsFirst, Enters, Leaves, M
 use Rattle.wl_plain.specs.Settling.{ended_all, ended_at, ended_by, is_settled, target_now, unstruck}
 use Rattle.wl_plain.specs.Stacked.{all_windows}
 use Rattle.wl_plain.specs.Step.{with_peer}
-use Rattle.wl_plain.specs.Acts.{Act, Connect, Feed, Store, Leave, Tick, Send, Close, Motion, Button, lowest}
+use Rattle.wl_plain.specs.Act.{Act, Connect, Feed, Store, Leave, Tick, Send, Close, Motion, Button, lowest}
 use Rattle.wl_laws.proofs.Runs.Forms.{ConnectsAt, Answers, Becomes, ChangesAt, Does, LeavesAt, PressedSo, PressesIf, ReleasesIf, ServesAt, Takes, WantsOr, after_why}
 use Rattle.wl_plain.specs.Happens.{Dismisses, DismissesUnless, FeedsAt, Happens, IsFedAt, MotionSettles, Reaches, StopsAt, TellsButton, TellsFrames, TellsMotion, done_for, hit_now, is_hit_of}
 use Rattle.wl_plain.specs.Happens.{point_in, pointed, raised_by, wants_memory, with_press}

@@ -8,7 +8,7 @@ use Rattle.wl_peer.specs.Peer.{Peer, sent_by, stored_at, stored_by}
 use Rattle.wl_plain.specs.declared.answers.Done.{Done}
 use Rattle.wl_plain.specs.Desktop.{Desktop, Resident, arrival, client_at, client_in, place, with_client, with_number, with_place, status_in, status_of}
 use Rattle.wl_plain.specs.Step.{with_peer}
-use Rattle.wl_plain.specs.Acts.{Connect, Feed, Store, Leave, Tick, Send, Close, Motion, Button, IsClosed, IsSent, IsStored, lowest, next_of}
+use Rattle.wl_plain.specs.Act.{Connect, Feed, Store, Leave, Tick, Send, Close, Motion, Button, IsClosed, IsSent, IsStored, lowest, next_of}
 use Rattle.wl_laws.proofs.Runs.Forms.{ConnectsAt, ChangesAt}
 use Rattle.wl_laws.specs.RunLaws.{EndsStay}
 use Rattle.wl_laws.proofs.Keeping.OwningKeys.{none-some, some-same}

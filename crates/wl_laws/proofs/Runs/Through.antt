@@ -15,7 +15,7 @@ use Rattle.wl_plain.specs.Desktop.{Desktop, Resident, client_at}
 use Rattle.wl_plain.specs.LeftOut.{LeftOut}
 use Rattle.wl_plain.specs.Settling.{EndsFirst, Midstep, SettlesAll, Strike, becomes, ended_all, ended_by, unstruck}
 use Rattle.wl_plain.specs.Step.{with_peer}
-use Rattle.wl_plain.specs.Acts.{Act, Connect, Feed, Store, Leave, Tick, Send, Close, Motion, Button, lowest}
+use Rattle.wl_plain.specs.Act.{Act, Connect, Feed, Store, Leave, Tick, Send, Close, Motion, Button, lowest}
 use Rattle.wl_laws.proofs.Runs.Forms.{ConnectsAt}
 use Rattle.wl_plain.specs.Through.{EndsFirstThrough, SettlesAllThrough, ending_through, ends_through, settling_through}
 use Rattle.wl_laws.specs.Through.{HappensLeadsThrough, IsSingle, MessagesLeadThrough}

@@ -3,7 +3,7 @@ use Rattle.std.proofs.Common.{◌≡◌, ℕ, zero, suc, ◌+◌, ◌≤◌, ◌
 use Rattle.std.specs.Prelude.{◌==◌, ◌&&◌, ◌||◌, ◌⊎◌, find, filter, fold}
 use Rattle.std.proofs.lemmas.Bool.{eqb-true, not-true, or_cases}
 use Rattle.wl_surface.specs.Surfaces.{Link, Surfaces, link_at}
-use Rattle.wl_surface.specs.Trees.{above, depth, descends_from, height, levels, link_of}
+use Rattle.wl_surface.specs.Trees.{of_parent, depth, descends_from, height, levels, link_of}
 use Rattle.wl_laws.specs.Soundness.{IsLive, IsNoChild}
 use Rattle.wl_laws.proofs.Soundness.Orderly.{IsForest}
 use Rattle.wl_laws.proofs.Keeping.OwningKeys.{found-by, found-fails, found-none, found-passes, some-same}
@@ -61,12 +61,12 @@ no-link bound child all f none = found-none (is_link_of child) all.links (λ a e
 
 pub depth-link : (n : ℕ) (all : Surfaces) (s : ℕ) (a : Link) → link_of s all ≡ Some a → depth (suc n) all s ≡ suc (depth n all a.parent)
 unfolding depth
-depth-link n all s a e = ap (above 0 (λ parent. suc (depth n all parent))) e
+depth-link n all s a e = ap (of_parent 0 (λ parent. suc (depth n all parent))) e
 
 pub depth-none : (n : ℕ) (all : Surfaces) (s : ℕ) → link_of s all ≡ None → depth n all s ≡ 0
 unfolding depth
 depth-none zero all s e = refl
-depth-none (suc n) all s e = ap (above 0 (λ parent. suc (depth n all parent))) e
+depth-none (suc n) all s e = ap (of_parent 0 (λ parent. suc (depth n all parent))) e
 
 depth-zero : (all : Surfaces) (s : ℕ) → depth zero all s ≡ 0
 unfolding depth
@@ -114,7 +114,7 @@ depth-low bound s all f = let a = depth-rank bound levels s all f in let b = f.l
 
 pub descends-link : (n : ℕ) (all : Surfaces) (top s : ℕ) (a : Link) → link_of s all ≡ Some a → descends_from (suc n) all top s ≡ (s == top || descends_from n all top a.parent)
 unfolding descends_from
-descends-link n all top s a e = ap (λ o. s == top || above false (λ parent. descends_from n all top parent) o) e
+descends-link n all top s a e = ap (λ o. s == top || of_parent false (λ parent. descends_from n all top parent) o) e
 
 or-false : (b : Bool) → (b || false) ≡ b
 or-false true = refl
@@ -123,12 +123,12 @@ or-false false = refl
 pub descends-none : (n : ℕ) (all : Surfaces) (top s : ℕ) → link_of s all ≡ None → descends_from n all top s ≡ (s == top)
 unfolding descends_from
 descends-none zero all top s e = refl
-descends-none (suc n) all top s e = ap (λ o. s == top || above false (λ parent. descends_from n all top parent) o) e ∙ or-false (s == top)
+descends-none (suc n) all top s e = ap (λ o. s == top || of_parent false (λ parent. descends_from n all top parent) o) e ∙ or-false (s == top)
 
 pub descends-itself : (n : ℕ) (all : Surfaces) (top : ℕ) → descends_from n all top top ≡ true
 unfolding descends_from
 descends-itself zero all top = same-number top
-descends-itself (suc n) all top = ap (λ b. b || above false (λ parent. descends_from n all top parent) (link_of top all)) (same-number top)
+descends-itself (suc n) all top = ap (λ b. b || of_parent false (λ parent. descends_from n all top parent) (link_of top all)) (same-number top)
 
 pub descends-stays : (bound n m top s : ℕ) (all : Surfaces) (f : IsForest bound all) → f.rank s < n → f.rank s < m → descends_from n all top s ≡ descends_from m all top s
 descends-stays bound zero m top s all f a b = absurd (omega arith)

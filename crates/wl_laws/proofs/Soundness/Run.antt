@@ -17,7 +17,7 @@ use Rattle.wl_plain.specs.LeftOut.{LeftOut}
 use Rattle.wl_plain.specs.Settling.{Midstep, becomes, ended_at, unstruck}
 use Rattle.wl_plain.specs.Stacked.{all_windows}
 use Rattle.wl_plain.specs.Step.{with_peer}
-use Rattle.wl_plain.specs.Acts.{Act, Connect, Feed, Store, Leave, Tick, Send, Close, Motion, Button, IsClosed, IsSent, IsStored, closed_by, lowest, next_of}
+use Rattle.wl_plain.specs.Act.{Act, Connect, Feed, Store, Leave, Tick, Send, Close, Motion, Button, IsClosed, IsSent, IsStored, closed_by, lowest, next_of}
 use Rattle.wl_plain.specs.Happens.{ChangesThen, ConnectsThen, Happens, HappensThen, LeavesThen, PressesThen, ReleasesThen, ending, hit_now, point_in, pointed, settling}
 use Rattle.wl_laws.proofs.Soundness.Orderly.{AreOrderly, IsOrderlyAt, IsOrderlyBy}
 use Rattle.wl_laws.proofs.Soundness.RunMessages.{MessageKeeps, fed-known}

@@ -4,7 +4,7 @@ use Rattle.wl_plain.specs.declared.answers.Done.{Done}
 use Rattle.wl_plain.specs.Desktop.{Desktop, empty}
 use Rattle.wl_plain.specs.LeftOut.{LeftOut}
 use Rattle.wl_laws.specs.Soundness.{IsSound, RunIsSound}
-use Rattle.wl_plain.specs.Acts.{Act}
+use Rattle.wl_plain.specs.Act.{Act}
 use Rattle.wl_plain.specs.Happens.{Happens}
 use Rattle.wl_laws.specs.RunLaws.{Lasts}
 use Rattle.wl_laws.proofs.Soundness.Orderly.{AreOrderly}

@@ -6,7 +6,7 @@ use Rattle.wl_plain.specs.declared.answers.Done.{Done}
 use Rattle.wl_plain.specs.declared.answers.Done.TheVariants as gave
 use Rattle.wl_plain.specs.declared.answers.Stored.TheVariants as stored
 use Rattle.wl_plain.specs.Desktop.{Desktop, Resident, become, client_at, with_number}
-use Rattle.wl_plain.specs.Acts.{Act, Connect, Feed, Store, Leave, Tick, Send, Close, Motion, Button, IsClosed, IsLeft, IsSent, IsStored, lowest}
+use Rattle.wl_plain.specs.Act.{Act, Connect, Feed, Store, Leave, Tick, Send, Close, Motion, Button, IsClosed, IsLeft, IsSent, IsStored, lowest}
 use Rattle.wl_laws.proofs.Runs.Forms.{ConnectsAt}
 
 -- what becomes of a client: it is left so, or its number is free

@@ -23,7 +23,7 @@ use Rattle.wl_plain.specs.Settling.{EndsAndSettles, EndsFirst, Midstep, QueuesFi
 use Rattle.wl_plain.specs.Stacked.{all_windows}
 use Rattle.wl_plain.specs.Step.{with_peer}
 use Rattle.wl_laws.proofs.Toplevels.Simply.{Becomes, Simple, changed_simply, judge, stacked_simply, told_simply}
-use Rattle.wl_plain.specs.Acts.{IsClosed, IsLeft, IsSent, IsStored, Act, Connect, Feed, Store, Leave, Tick, Send, Close, Motion, Button}
+use Rattle.wl_plain.specs.Act.{IsClosed, IsLeft, IsSent, IsStored, Act, Connect, Feed, Store, Leave, Tick, Send, Close, Motion, Button}
 use Rattle.wl_plain.specs.Happens.{Happens, done_for, Serves as StepServes, wants_memory}
 use Rattle.wl_laws.proofs.Runs.Forms.{after_why, Answers as StepAnswers, Becomes as StepBecomes, ChangesAt as StepChangesAt, Does, LeavesAt, ServesAt as StepServesAt, Takes as StepTakes}
 use Rattle.wl_laws.proofs.Runs.Forms.{WantsOr as StepWantsOr}

@@ -14,7 +14,7 @@ use Rattle.wl_plain.specs.Desktop.{Desktop, Resident, arrival, become, client_at
 use Rattle.wl_plain.specs.LeftOut.{served_now}
 use Rattle.wl_plain.specs.Settling.{becomes}
 use Rattle.wl_plain.specs.Step.{with_peer}
-use Rattle.wl_plain.specs.Acts.{IsClosed, IsLeft, IsSent, IsStored, Act, Connect, Feed, Store, Leave, Tick, Send, Close, Motion, Button, closed_by, lowest}
+use Rattle.wl_plain.specs.Act.{IsClosed, IsLeft, IsSent, IsStored, Act, Connect, Feed, Store, Leave, Tick, Send, Close, Motion, Button, closed_by, lowest}
 use Rattle.wl_laws.proofs.Runs.Forms.{ConnectsAt}
 use Rattle.wl_laws.specs.NoMore.{NoMore, OwnsToplevelsAt, OwnsToplevelsBy, OwnsToplevelsOnly}
 use Rattle.wl_laws.specs.NoMoreLaws.{LeavesPointer}

@@ -139,10 +139,10 @@ WantsOr false Later c r d new = Later
 WantsOr true Later c r d new = Becomes (LacksMemory r.peer) c r d new ⊎ Later
 
 -- what an accepted message asks is done, and then answered
-abbrev pub Acts : Simple → ℕ → Resident → Desktop → Desktop → Type 0
-Acts ask c r d new = WantsOr (wants_simply ask) (Becomes (Queues (told_simply ask r) (changed_simply ask r).peer) c (changed_simply ask r) (stacked_simply c ask r d) new) c r d new
+abbrev pub ActsSimply : Simple → ℕ → Resident → Desktop → Desktop → Type 0
+ActsSimply ask c r d new = WantsOr (wants_simply ask) (Becomes (Queues (told_simply ask r) (changed_simply ask r).peer) c (changed_simply ask r) (stacked_simply c ask r d) new) c r d new
 
 -- a message is answered, or refused
 abbrev pub Answers : Result Simple Refusal → ℕ → Resident → Desktop → Desktop → Type 0
-Answers (Ok ask) c r d new = Acts ask c (with_peer (counted r.peer) r) d new
+Answers (Ok ask) c r d new = ActsSimply ask c (with_peer (counted r.peer) r) d new
 Answers (Err refusal) c r d new = Becomes (Errs refusal r.peer) c r d new

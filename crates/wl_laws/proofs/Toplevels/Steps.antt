@@ -13,7 +13,7 @@ use Rattle.wl_plain.specs.Desktop.{Desktop, Resident, become, become_by, client_
 use Rattle.wl_plain.specs.LeftOut.{served_now}
 use Rattle.wl_plain.specs.Settling.{becomes}
 use Rattle.wl_plain.specs.Step.{with_peer}
-use Rattle.wl_plain.specs.Acts.{IsClosed, IsLeft, IsSent, IsStored, Act, Connect, Feed, Store, Leave, Tick, Send, Close, Motion, Button, closed_by}
+use Rattle.wl_plain.specs.Act.{IsClosed, IsLeft, IsSent, IsStored, Act, Connect, Feed, Store, Leave, Tick, Send, Close, Motion, Button, closed_by}
 use Rattle.wl_laws.specs.NoMore.{NoMore, OwnsToplevelsAt, OwnsToplevelsBy}
 use Rattle.wl_plain.specs.Happens.{Happens}
 use Rattle.wl_laws.proofs.Runs.Forms.{ChangesAt as StepChangesAt, LeavesAt}

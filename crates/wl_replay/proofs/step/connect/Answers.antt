@@ -1,5 +1,5 @@
 use Rattle.std.proofs.Common.{[], Ok, Err, refl, ap}
-use Rattle.wl_plain.specs.Acts.{Connect}
+use Rattle.wl_plain.specs.Act.{Connect}
 use Rattle.wl_plain.specs.declared.answers.ConnectError.{ConnectError}
 use Rattle.wl_plain.specs.declared.answers.Done.TheVariants as gave
 use Rattle.wl_replay.specs.Report.{connect_told}

@@ -1,6 +1,6 @@
 use Rattle.std.proofs.Common.{refl}
 use Rattle.std.proofs.lemmas.Result.{on_ok_weaker}
-use Rattle.wl_plain.specs.Acts.{Store}
+use Rattle.wl_plain.specs.Act.{Store}
 use Rattle.wl_plain.specs.declared.answers.Done.TheVariants as gave
 use Rattle.wl_replay.specs.Storing.{stored_text}
 use Rattle.wl_replay.specs.Told.{words}

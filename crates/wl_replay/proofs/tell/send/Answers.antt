@@ -1,4 +1,4 @@
-use Rattle.wl_plain.specs.Acts.{Send, peer_at, unsent_of}
+use Rattle.wl_plain.specs.Act.{Send, peer_at, unsent_of}
 use Rattle.wl_plain.specs.declared.answers.Done.TheVariants as gave
 use Rattle.std.proofs.Common.{length}
 use Rattle.wl_recording.specs.Text.{to_line}

@@ -1,6 +1,6 @@
 use Rattle.std.proofs.Common.{Ok, Err, refl}
 use Rattle.std.proofs.KnownBytes.{Appends-nil}
-use Rattle.wl_plain.specs.Acts.{Connect}
+use Rattle.wl_plain.specs.Act.{Connect}
 use Rattle.wl_plain.specs.declared.answers.Done.TheVariants as gave
 use Rattle.wl_server.specs.Phases.{AcceptsOne}
 use Rattle.wl_server.proofs.Pieces.{accepts-connect, accepts-none}

@@ -1,6 +1,6 @@
 use Rattle.std.proofs.Common.{◌≡◌, ◌∙◌, refl, inl, inr, subst, sym}
 use Rattle.std.specs.Io.KnownBytes.{Appends}
-use Rattle.wl_plain.specs.Acts.{Close, peer_at, status_of}
+use Rattle.wl_plain.specs.Act.{Close, peer_at, status_of}
 use Rattle.wl_plain.specs.declared.answers.Done.TheVariants as gave
 use Rattle.wl_plain.specs.declared.answers.Fed.{Fed}
 use Rattle.wl_plain.specs.declared.answers.Fed.TheVariants as fed

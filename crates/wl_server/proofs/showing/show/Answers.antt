@@ -2,7 +2,7 @@ use Rattle.std.proofs.Common.{◌<◌, ℕ, refl, ap, sym, subst, ◌∙◌, ari
 use Rattle.std.proofs.lemmas.Result.{on_ok_weaker}
 use Rattle.std.specs.Io.KnownBytes.{Appends}
 use Rattle.std.proofs.KnownBytes.{Appends-nil}
-use Rattle.wl_plain.specs.Acts.{Tick}
+use Rattle.wl_plain.specs.Act.{Tick}
 use Rattle.wl_plain.specs.declared.answers.Done.TheVariants as gave
 use Rattle.wl_recording.specs.Text.{frame_line}
 use Rattle.wl_session.specs.Damage.{Damaged, count_points, has}

@@ -1,5 +1,5 @@
 use Rattle.std.proofs.Common.{false, true, ap, refl, sym, ◌∙◌}
-use Rattle.wl_plain.specs.Acts.{Close, IsClosed}
+use Rattle.wl_plain.specs.Act.{Close, IsClosed}
 use Rattle.wl_plain.specs.declared.answers.Done.TheVariants as gave
 use Rattle.wl_resident.specs.View.{MarkedDesk}
 use Rattle.wl_desk.proofs.Calls.{Changes-none, closed, unclosed}

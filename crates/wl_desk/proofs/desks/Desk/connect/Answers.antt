@@ -1,5 +1,5 @@
 use Rattle.std.proofs.Common.{ap, ◌∙◌}
-use Rattle.wl_plain.specs.Acts.{Connect, lowest}
+use Rattle.wl_plain.specs.Act.{Connect, lowest}
 use Rattle.wl_resident.specs.View.{MarkedDesk}
 use Rattle.wl_desk.proofs.Calls.{Connects-full, Connects-new, Connects-refused}
 use Rattle.wl_desk.proofs.MarkedCalls.{connects-marks}

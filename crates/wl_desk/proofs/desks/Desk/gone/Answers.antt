@@ -1,6 +1,6 @@
 use Rattle.std.proofs.Common.{false, ap, refl, sym, ◌∙◌}
 use Rattle.std.proofs.lemmas.List.{length-set}
-use Rattle.wl_plain.specs.Acts.{Leave, IsLeft}
+use Rattle.wl_plain.specs.Act.{Leave, IsLeft}
 use Rattle.wl_plain.specs.declared.answers.Done.TheVariants as gave
 use Rattle.wl_resident.specs.View.{MarkedDesk}
 use Rattle.wl_desk.proofs.Calls.{Changes-none, changes}

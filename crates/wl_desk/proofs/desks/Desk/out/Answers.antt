@@ -1,5 +1,5 @@
 use Rattle.std.proofs.Common.{Some, ap, sym, ◌∙◌}
-use Rattle.wl_plain.specs.Acts.{peer_of, unsent_of}
+use Rattle.wl_plain.specs.Act.{peer_of, unsent_of}
 use Rattle.wl_desk.proofs.Calls.{peer-read}
 use Rattle.wl_desk.proofs.Seats.{missing}
 use Rattle.wl_desk.proofs.desks.Desk.out.Goals as goal

@@ -1,4 +1,4 @@
-use Rattle.wl_plain.specs.Acts.{Send, IsSent}
+use Rattle.wl_plain.specs.Act.{Send, IsSent}
 use Rattle.std.proofs.Common.{ap, refl, sym, ◌∙◌, false}
 use Rattle.wl_plain.specs.declared.answers.Done.TheVariants as gave
 use Rattle.wl_resident.specs.View.{MarkedDesk}

@@ -1,5 +1,5 @@
 use Rattle.std.proofs.Common.{ap, sym, ◌∙◌}
-use Rattle.wl_plain.specs.Acts.{fed_of, peer_of, status_of}
+use Rattle.wl_plain.specs.Act.{fed_of, peer_of, status_of}
 use Rattle.wl_desk.proofs.Calls.{peer-read}
 use Rattle.wl_desk.proofs.Seats.{missing}
 use Rattle.wl_desk.proofs.desks.Desk.status.Goals as goal

@@ -1,4 +1,4 @@
-use Rattle.wl_plain.specs.Acts.{Store, IsStored}
+use Rattle.wl_plain.specs.Act.{Store, IsStored}
 use Rattle.wl_plain.specs.declared.answers.Stored.TheVariants as stored
 use Rattle.std.proofs.Common.{ap, refl, sym, ◌∙◌}
 use Rattle.wl_plain.specs.declared.answers.Done.TheVariants as gave

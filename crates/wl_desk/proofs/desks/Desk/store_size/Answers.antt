@@ -1,7 +1,7 @@
 use Rattle.std.proofs.Common.{ap, length, sym, ◌∙◌}
 use Rattle.std.specs.Option.{option_map}
 use Rattle.wl_store.specs.Stores.{store_at}
-use Rattle.wl_plain.specs.Acts.{peer_of, store_size_of}
+use Rattle.wl_plain.specs.Act.{peer_of, store_size_of}
 use Rattle.wl_desk.proofs.Calls.{peer-read}
 use Rattle.wl_desk.proofs.Seats.{missing}
 use Rattle.wl_desk.proofs.desks.Desk.store_size.Goals as goal

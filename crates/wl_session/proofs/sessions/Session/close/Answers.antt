@@ -1,5 +1,5 @@
 use Rattle.std.proofs.Common.{refl, rules}
-use Rattle.wl_plain.specs.Acts.{Close}
+use Rattle.wl_plain.specs.Act.{Close}
 use Rattle.wl_plain.specs.declared.answers.Done.TheVariants as gave
 use Rattle.wl_session.proofs.Courses.{marked-course, nothing-more}
 use Rattle.wl_session.proofs.sessions.Session.close.Goals as goal

@@ -1,5 +1,5 @@
 use Rattle.std.proofs.Common.{refl, rules}
-use Rattle.wl_plain.specs.Acts.{Leave}
+use Rattle.wl_plain.specs.Act.{Leave}
 use Rattle.wl_plain.specs.declared.answers.Done.TheVariants as gave
 use Rattle.wl_session.proofs.Courses.{marked-course}
 use Rattle.wl_session.proofs.sessions.Session.gone.Goals as goal

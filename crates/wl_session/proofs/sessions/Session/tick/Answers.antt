@@ -8,7 +8,7 @@ use Rattle.wl_plain.specs.Desktop.{Desktop}
 use Rattle.wl_resident.specs.View.{DeskView}
 use Rattle.wl_session.specs.Run.{IsNextFrame}
 use Rattle.wl_session.specs.View.{SessionView}
-use Rattle.wl_plain.specs.Acts.{Tick}
+use Rattle.wl_plain.specs.Act.{Tick}
 use Rattle.wl_plain.specs.declared.answers.Done.TheVariants as gave
 use Rattle.wl_session.specs.Course.{TakesCourse}
 use Rattle.wl_session.proofs.Courses.{tick-course}
