@@ -1,5 +1,5 @@
 -- One client of the desk, apart from the others, with the stack of toplevels.
-use Rattle.std.specs.Prelude.{ℕ, ◌≡◌, [], is_some, Option, Some, None, ◌⊎◌}
+use Rattle.std.specs.Prelude.{ℕ, ◌≡◌, [], Option, Some, None, ◌⊎◌}
 use Rattle.wl_interface.specs.declared.interface.Interface.TheVariants.{WlSurface}
 use Rattle.wl_client.specs.Agreement.{IsPeer}
 use Rattle.wl_peer.specs.Objects.{ById}
