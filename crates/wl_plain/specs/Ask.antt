@@ -11,7 +11,8 @@ pub data Ask : Type 0 where
   CreateSurface : ℕ → ℕ → Ask
   -- of a surface, what is pending until its next commit
   AskSurface : ℕ → Request → Ask
-  DestroyBase : ℕ → Ask
+  -- an object that stands for nothing goes: a wl_subcompositor, or an xdg_wm_base whose xdg_surfaces are gone
+  EndObject : ℕ → Ask
   -- a new xdg_surface, with its version, by an xdg_wm_base, of a surface
   GetXdgSurface : ℕ → ℕ → ℕ → ℕ → Ask
   DestroyXdgSurface : ℕ → Ask

@@ -22,7 +22,7 @@ use Rattle.wl_shell.specs.Shell.{next_serial, unmapping, with_change, without_ro
 use Rattle.wl_scene.specs.Pointer.{Pointer, Target}
 use Rattle.wl_scene.specs.Stacking.{Standing, is_of, with_mapped, without_surface_of}
 use Rattle.wl_scene.specs.Windows.{Place, Window}
-use Rattle.wl_plain.specs.Demand.{Demand, Asks, EndSurface, AskFrame, CommitTree, EndObject, GetSubsurface, EndSubsurface, SetMode}
+use Rattle.wl_plain.specs.Demand.{Demand, Asks, EndSurface, AskFrame, CommitTree, GetSubsurface, EndSubsurface, SetMode}
 use Rattle.wl_plain.specs.Demand.{GetPointer, MakeCursor, CreatePositioner, EndPositioner, SetPositioner, GetPopup, Grab, EndPopup}
 use Rattle.wl_plain.specs.Demand.{EndToplevel, Move}
 use Rattle.wl_plain.specs.Demanding.{effect_of_commit}
@@ -206,7 +206,6 @@ changed_for c (Asks ask) r d = changed_by ask r
 changed_for c (EndSurface id) r d = surface_ended id r
 changed_for c (AskFrame id version surface) r d = frame_asked id version surface r
 changed_for c (CommitTree surface) r d = commit_done c surface r d
-changed_for c (EndObject id) r d = removing id r
 changed_for c (GetSubsurface id version child parent) r d = subsurface_given id version child parent r
 changed_for c (EndSubsurface id) r d = subsurface_ended id r
 changed_for c (SetMode link synchronised) r d = mode_set link synchronised r

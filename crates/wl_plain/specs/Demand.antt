@@ -12,8 +12,6 @@ pub data Demand : Type 0 where
   AskFrame : ℕ → ℕ → ℕ → Demand
   -- a commit of a surface
   CommitTree : ℕ → Demand
-  -- an object of the client's that stands for nothing goes
-  EndObject : ℕ → Demand
   -- a new wl_subsurface, with its version: of a surface, below a parent
   GetSubsurface : ℕ → ℕ → ℕ → ℕ → Demand
   EndSubsurface : ℕ → Demand

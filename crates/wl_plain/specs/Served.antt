@@ -2,6 +2,7 @@
 use Rattle.std.specs.Prelude.{Bool, true, false}
 use Rattle.wl_proto.specs.declared.wl_compositor.WlCompositorRequest.TheVariants as compositor
 use Rattle.wl_proto.specs.declared.wl_seat.WlSeatRequest.TheVariants as seat
+use Rattle.wl_proto.specs.declared.wl_subcompositor.WlSubcompositorRequest.TheVariants as subcompositor
 use Rattle.wl_proto.specs.declared.xdg_surface.XdgSurfaceRequest.TheVariants as xdg
 use Rattle.wl_proto.specs.declared.xdg_wm_base.XdgWmBaseRequest.TheVariants as base
 use Rattle.wl_peer.specs.Requests.{Request, ToDisplay, ToRegistry, ToCompositor, ToRegion, ToShm, ToPool, ToBuffer, ToSubcompositor}
@@ -13,7 +14,7 @@ Unserved = Request → Bool
 
 -- which aren't served now: those of subsurfaces, popups and pointers
 abbrev pub unserved_now : Unserved
-unserved_now (ToSubcompositor request) = true
+unserved_now (ToSubcompositor (subcompositor.GetSubsurface id surface parent)) = true
 unserved_now (ToSubsurface request) = true
 unserved_now (ToSeat (seat.GetPointer id)) = true
 unserved_now (ToPointer request) = true

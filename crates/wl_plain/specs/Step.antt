@@ -16,7 +16,7 @@ use Rattle.wl_surface.specs.Surfaces.{Surfaces, asking, buffers_of, history_in, 
 use Rattle.wl_surface.specs.declared.role.Role.TheVariants.{Toplevel as AsToplevel}
 use Rattle.wl_shell.specs.Shell.{RoleObject, Shell, XdgSurface as Xdg, acknowledging, configuring, new_toplevel, next_serial, xdg_at}
 use Rattle.wl_shell.specs.Shell.{without_xdg, with_change as with_xdg_change, with_new as with_new_xdg}
-use Rattle.wl_plain.specs.Ask.{Ask, Own, CreateSurface, AskSurface, DestroyBase, GetXdgSurface, DestroyXdgSurface, GetToplevel, Acknowledge}
+use Rattle.wl_plain.specs.Ask.{Ask, Own, CreateSurface, AskSurface, EndObject, GetXdgSurface, DestroyXdgSurface, GetToplevel, Acknowledge}
 use Rattle.wl_plain.specs.Ask.{ConfigureAgain, Ignore}
 use Rattle.wl_plain.specs.Desktop.{Resident}
 
@@ -97,7 +97,7 @@ abbrev pub changed_by : Ask → Resident → Resident
 changed_by (Own action) r = own_changed action r
 changed_by (CreateSurface id version) r = making WlSurface id version (with_surfaces (with_new id r.owned.surfaces) r)
 changed_by (AskSurface id request) r = after_surface id r (asked_of id request r)
-changed_by (DestroyBase id) r = removing id r
+changed_by (EndObject id) r = removing id r
 changed_by (GetXdgSurface id version base surface) r =
     making XdgSurface id version (with_shell (with_new_xdg id base surface r.owned.shell) r)
 changed_by (DestroyXdgSurface id) r = removing id (with_shell (without_xdg id r.owned.shell) r)
@@ -128,7 +128,7 @@ configures_told serial (Some x) = role_configured serial x.id x.role
 
 abbrev pub answers_to : Ask → Resident → List Said
 answers_to (Own action) r = own_answers r.peer.output action
-answers_to (DestroyBase id) r = id_deleted id ∷ []
+answers_to (EndObject id) r = id_deleted id ∷ []
 answers_to (DestroyXdgSurface id) r = id_deleted id ∷ []
 answers_to (ConfigureAgain xdg) r = configures_told r.peer.serial (xdg_at xdg r.owned.shell)
 answers_to ask r = []

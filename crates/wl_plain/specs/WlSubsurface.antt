@@ -18,8 +18,8 @@ use Rattle.wl_surface.specs.declared.role.Role.{Role}
 use Rattle.wl_surface.specs.declared.role.Role.TheVariants.{Toplevel as AsToplevel, Popup as AsPopup, Subsurface as AsSubsurface}
 use Rattle.wl_surface.specs.declared.role.Role.TheVariants.{Cursor as AsCursor}
 use Rattle.wl_shell.specs.Shell.{xdg_of}
-use Rattle.wl_plain.specs.Ask.{AskSurface, Ignore}
-use Rattle.wl_plain.specs.Demand.{Demand, Asks, EndObject, GetSubsurface, EndSubsurface, SetMode}
+use Rattle.wl_plain.specs.Ask.{AskSurface, EndObject, Ignore}
+use Rattle.wl_plain.specs.Demand.{Demand, Asks, GetSubsurface, EndSubsurface, SetMode}
 use Rattle.wl_plain.specs.Desktop.{Resident, Subsurface}
 use Rattle.wl_plain.specs.XdgShell.{role_of}
 
@@ -54,7 +54,7 @@ subsurface_made r object version id child parent =
     if is_bad_parent r.owned.surfaces child parent then refuses object BadParent else Ok (GetSubsurface id version child parent)))
 
 abbrev pub subcompositor_demand : Resident → ℕ → ℕ → WlSubcompositorRequest → Result Demand Refusal
-subcompositor_demand r object version subcompositor.Destroy = Ok (EndObject object)
+subcompositor_demand r object version subcompositor.Destroy = Ok (Asks (EndObject object))
 subcompositor_demand r object version (subcompositor.GetSubsurface id child parent) = subsurface_made r object version id child parent
 
 -- the wl_subsurface of this id, and its link while that hasn't ended

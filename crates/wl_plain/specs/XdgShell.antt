@@ -11,7 +11,7 @@ use Rattle.wl_surface.specs.declared.role.Role.{Role}
 use Rattle.wl_surface.specs.declared.role.Role.TheVariants.{Toplevel as AsToplevel, Popup as AsPopup, Subsurface as AsSubsurface}
 use Rattle.wl_surface.specs.declared.role.Role.TheVariants.{Cursor as AsCursor}
 use Rattle.wl_shell.specs.Shell.{XdgSurface, answers_states, is_full, is_waiting, stage_of, xdg_of}
-use Rattle.wl_plain.specs.Ask.{Ask, AskSurface, DestroyBase, GetXdgSurface, DestroyXdgSurface, GetToplevel, Acknowledge, ConfigureAgain}
+use Rattle.wl_plain.specs.Ask.{Ask, AskSurface, EndObject, GetXdgSurface, DestroyXdgSurface, GetToplevel, Acknowledge, ConfigureAgain}
 use Rattle.wl_plain.specs.Ask.{Ignore}
 use Rattle.wl_plain.specs.Desktop.{Resident}
 use Rattle.wl_plain.specs.WlSurface.{refuse, refuse_limit}
@@ -19,7 +19,7 @@ use Rattle.wl_plain.specs.WlSurface.{refuse, refuse_limit}
 -- xdg_wm_base.destroy: the xdg_surfaces that it made must be gone
 abbrev pub base_destroyed : Resident → ℕ → Result Ask Refusal
 base_destroyed r object = if list_any (λ x. x.base == object) r.owned.shell then refuse object error.DefunctSurfaces else Ok
-    (DestroyBase object)
+    (EndObject object)
 
 -- a role that isn't one of the shell's
 abbrev pub is_foreign : Option Role → Bool

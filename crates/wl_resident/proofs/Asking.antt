@@ -11,13 +11,12 @@ use Rattle.wl_proto.specs.declared.wl_seat.WlSeatRequest.TheVariants.{GetKeyboar
 use Rattle.wl_client.specs.Agreement.{IsPeer}
 use Rattle.wl_client.specs.First.{IsRefused, Passes, passing, passing_in}
 use Rattle.wl_peer.specs.Objects.{Object, Objects, fits, object_of, objects_in}
-use Rattle.wl_peer.specs.Peer.{Errs, IsIdleAt, Peer, QueuesOr, counted, ended, has_room, queued, with_rest}
+use Rattle.wl_peer.specs.Peer.{Errs, Peer, QueuesOr, counted, ended, has_room, queued, with_rest}
 use Rattle.std.specs.List.{list_all}
 use Rattle.wl_proto.specs.Objects.{new_id_in, objects_in as objects_named}
 use Rattle.wl_proto.specs.declared.argument.NewId.{NewId}
 use Rattle.wl_peer.specs.Judgement.{is_free, judged_at}
 use Rattle.wl_peer.specs.Told.{code_number, display_error, error_told}
-use Rattle.wl_peer.specs.declared.cause.Cause.{Cause}
 use Rattle.wl_peer.specs.declared.cause.Cause.TheVariants.{Protocol}
 use Rattle.wl_shell.specs.Shell.{Effect, Maps, Unmaps}
 use Rattle.wl_table.specs.Objects.{Held}
@@ -38,10 +37,6 @@ use Rattle.wl_plain.specs.Demanding.{demand_of, effect_of_commit, judge_all}
 use Rattle.wl_plain.specs.Desktop.{Desktop, Resident}
 use Rattle.wl_plain.specs.LeftOut.{served_now}
 use Rattle.wl_laws.specs.NoMore.{OwnsToplevelsOnly}
-use Rattle.wl_resident.specs.Marking.{marked_by}
-use Rattle.wl_resident.specs.Messages.{IsAsked}
-use Rattle.wl_resident.specs.declared.messages.Asked.{Asked}
-use Rattle.wl_resident.specs.declared.messages.Asked.TheVariants as asks
 use Rattle.wl_resident.specs.Residents.{AnswersAs, AnswersDemand, AnswersDemandAs, AnswersSo, IsResident, NewIsFree, ObjectsFit, Stacks, StacksBy, StacksFor, StacksSo, StacksTo, TakesAs, TakesSo}
 use Rattle.wl_plain.specs.Step.{with_peer}
 use Rattle.wl_laws.proofs.Toplevels.Serves.{only-peer}

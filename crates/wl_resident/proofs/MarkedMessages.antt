@@ -11,6 +11,7 @@ use Rattle.wl_interface.specs.declared.interface.Interface.{Interface}
 use Rattle.wl_interface.specs.declared.interface.Interface.TheVariants.{WlSurface, XdgToplevel}
 use Rattle.wl_proto.specs.declared.wl_compositor.WlCompositorRequest.TheVariants as compositor
 use Rattle.wl_proto.specs.declared.wl_seat.WlSeatRequest.TheVariants as seat
+use Rattle.wl_proto.specs.declared.wl_subcompositor.WlSubcompositorRequest.TheVariants as subcompositor
 use Rattle.wl_proto.specs.declared.wl_surface.WlSurfaceRequest.{WlSurfaceRequest}
 use Rattle.wl_proto.specs.declared.wl_surface.WlSurfaceRequest.TheVariants as surface
 use Rattle.wl_proto.specs.declared.xdg_surface.XdgSurfaceRequest.{XdgSurfaceRequest}
@@ -40,7 +41,7 @@ use Rattle.wl_shell.specs.Kept.{kept_of}
 use Rattle.wl_shell.specs.Shell.{Effect, Stays, Unconfigured, Configures, Maps, Unmaps, is_full, xdg_at, xdg_of, xdg_with, XdgSurface as Xdg}
 use Rattle.wl_scene.specs.Stacking.{Owned, Stack}
 use Rattle.wl_scene.specs.Windows.{Window, contains}
-use Rattle.wl_plain.specs.Ask.{Ask, Ignore, owns}
+use Rattle.wl_plain.specs.Ask.{Ask, EndObject, Ignore, owns}
 use Rattle.wl_plain.specs.Demand.{Demand, Asks, EndSurface, AskFrame, CommitTree, EndToplevel, Move}
 use Rattle.wl_plain.specs.Demanding.{base_demand, committed_by, demand_by, demand_of, demands, effect_of_commit, judge_all, moved_by_pointer, own_demand, surface_demand, toplevel_asked}
 use Rattle.wl_plain.specs.Demanding.{toplevel_demand, toplevel_destroyed, xdg_asked}
@@ -71,7 +72,7 @@ use Rattle.wl_peer.specs.ToplevelRequest.{ToplevelRequest}
 use Rattle.wl_peer.specs.ToplevelRequest as toplevel
 use Rattle.wl_plain.specs.WlSurface.{surface_created, transform_set}
 use Rattle.wl_plain.specs.XdgShell.{acknowledged_by, base_destroyed, geometry_set, state_asked, toplevel_made, xdg_surface_destroyed, xdg_surface_made}
-use Rattle.wl_peer.proofs.Requests.{of-wl_compositor, of-wl_seat, of-wl_surface, of-xdg_surface, of-xdg_wm_base}
+use Rattle.wl_peer.proofs.Requests.{of-wl_compositor, of-wl_seat, of-wl_subcompositor, of-wl_surface, of-xdg_surface, of-xdg_wm_base}
 use Rattle.wl_resident.specs.declared.messages.Asked.{Asked}
 use Rattle.wl_resident.specs.declared.messages.Asked.TheVariants as asked
 use Rattle.wl_resident.specs.declared.messages.Kind.{Kind}
@@ -214,7 +215,8 @@ module _ (r : Resident) (P : Simple → ℕ → Type 0) where
   request-touches (ToBase request) object version served commits destroys = base-touches object version request served
   request-touches (ToXdgSurface request) object version served commits destroys = xdg-touches (xdg_at object r.owned.shell) version request served
   request-touches (ToToplevel request) object version served commits destroys = toplevel-touches object request (λ is. destroys (ap (λ (q : ToplevelRequest). ToToplevel q) is))
-  request-touches (ToSubcompositor request) object version served commits destroys = absurd (cc)
+  request-touches (ToSubcompositor subcompositor.Destroy) object version served commits destroys = none (Asks (EndObject object)) refl
+  request-touches (ToSubcompositor (subcompositor.GetSubsurface id child parent)) object version served commits destroys = absurd (cc)
   request-touches (ToSubsurface request) object version served commits destroys = absurd (cc)
   request-touches (ToPointer request) object version served commits destroys = absurd (cc)
   request-touches (ToPositioner request) object version served commits destroys = absurd (cc)
@@ -248,6 +250,7 @@ commit-kind (kind.Compositor request) m is o = absurd (let both = asks-of m _ _ 
 commit-kind (kind.Surface request) m is o =
     let both = asks-of m _ _ _ is (of-wl_surface request) o in
     let same : request ≡ surface.Commit = cc in ap (λ (q : WlSurfaceRequest). kind.Surface q) same
+commit-kind (kind.Subcompositor request) m is o = absurd (let both = asks-of m _ _ _ is (of-wl_subcompositor request) o in cc)
 commit-kind (kind.Seat request) m is o = absurd (let both = asks-of m _ _ _ is (of-wl_seat request) o in cc)
 commit-kind (kind.Base request) m is o = absurd (let both = asks-of m _ _ _ is (of-xdg_wm_base request) o in cc)
 commit-kind (kind.XdgSurface request) m is o = absurd (let both = asks-of m _ _ _ is (of-xdg_surface request) o in cc)
@@ -257,6 +260,7 @@ commit-kind kind.Unserved m is o = absurd (differ (sym (ap unserved_now o) ∙ i
 destroy-marks : (k : Kind) (m : Message) (target : ℕ) → IsKind k m → request_of m ≡ ToToplevel toplevel.Destroy → marked_in k target ≡ Some target
 destroy-marks (kind.Compositor request) m target is o = absurd (let both = asks-of m _ _ _ is (of-wl_compositor request) o in cc)
 destroy-marks (kind.Surface request) m target is o = absurd (let both = asks-of m _ _ _ is (of-wl_surface request) o in cc)
+destroy-marks (kind.Subcompositor request) m target is o = absurd (let both = asks-of m _ _ _ is (of-wl_subcompositor request) o in cc)
 destroy-marks (kind.Seat request) m target is o = absurd (let both = asks-of m _ _ _ is (of-wl_seat request) o in cc)
 destroy-marks (kind.Base request) m target is o = absurd (let both = asks-of m _ _ _ is (of-xdg_wm_base request) o in cc)
 destroy-marks (kind.XdgSurface request) m target is o = absurd (let both = asks-of m _ _ _ is (of-xdg_surface request) o in cc)

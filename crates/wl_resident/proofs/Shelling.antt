@@ -1,11 +1,11 @@
 -- What the requests of the shell lead to.
 use Rattle.std.proofs.Common.{◌≡◌, ℕ, List, Bool, true, false, Option, Some, None, Result, cond, refl, ap, sym, subst, ◌∙◌, inl, inr}
-use Rattle.std.specs.Prelude.{◌&&◌, not, nat_le, IfSome, ◌==◌, ◌≢◌, ◌↔◌, ◌||◌, [], ◌∷◌, if◌then◌else◌, is_some, IsOkUnless, MatchOption, IsErr, OnOk, Ok, Err}
+use Rattle.std.specs.Prelude.{◌&&◌, not, nat_le, IfSome, ◌==◌, ◌≢◌, ◌⊎◌, ◌↔◌, ◌||◌, [], ◌∷◌, if◌then◌else◌, is_some, IsOkUnless, MatchOption, IsErr, OnOk, Ok, Err}
 use Rattle.std.specs.Option.{option_map, option_and_then}
 use Rattle.std.proofs.Math.Path.{fun_ext}
 use Rattle.std.proofs.lemmas.Bool.{eqb-true}
 use Rattle.wl_interface.specs.declared.interface.Interface.{Interface}
-use Rattle.wl_interface.specs.declared.interface.Interface.TheVariants.{WlSurface, XdgSurface, XdgToplevel, XdgWmBase}
+use Rattle.wl_interface.specs.declared.interface.Interface.TheVariants.{WlSubcompositor, WlSurface, XdgSurface, XdgToplevel, XdgWmBase}
 use Rattle.wl_proto.specs.Messages.{Message}
 use Rattle.wl_proto.specs.Objects.{new_id_in}
 use Rattle.wl_proto.specs.declared.argument.NewId.{NewId}
@@ -65,12 +65,23 @@ base-names XdgSurface e = absurd (cc)
 base-names XdgToplevel e = absurd (cc)
 base-names interface e = refl
 
-pub base-gone : (old new : Held) (id : ℕ) → is_of XdgWmBase (objects_in old id) ≡ true → HoldsAt old new id None → names_in new ≡ names_in old
-base-gone old new id is holds = at (entry_of old id) refl is
+subcompositor-names : (interface : Interface) → (interface_number interface == interface_number WlSubcompositor) ≡ true → names_surface interface ≡ false
+subcompositor-names WlSurface e = absurd (cc)
+subcompositor-names XdgSurface e = absurd (cc)
+subcompositor-names XdgToplevel e = absurd (cc)
+subcompositor-names interface e = refl
+
+-- with an xdg_wm_base or a wl_subcompositor no number of a surface goes
+pub alone-gone : (old new : Held) (id : ℕ) → (is_of XdgWmBase (objects_in old id) ≡ true) ⊎ (is_of WlSubcompositor (objects_in old id) ≡ true)
+    → HoldsAt old new id None → names_in new ≡ names_in old
+alone-gone old new id either holds = at (entry_of old id) refl either
   where
-    at : (o : Option Entry) → entry_of old id ≡ o → is_of XdgWmBase (option_map object_of o) ≡ true → names_in new ≡ names_in old
-    at None found is = absurd (cc)
-    at (Some entry) found is = names-other-gone old new id entry found (base-names entry.interface is) holds
+    at : (o : Option Entry) → entry_of old id ≡ o
+        → (is_of XdgWmBase (option_map object_of o) ≡ true) ⊎ (is_of WlSubcompositor (option_map object_of o) ≡ true) → names_in new ≡ names_in old
+    at None found (inl is) = absurd (cc)
+    at None found (inr is) = absurd (cc)
+    at (Some entry) found (inl is) = names-other-gone old new id entry found (base-names entry.interface is) holds
+    at (Some entry) found (inr is) = names-other-gone old new id entry found (subcompositor-names entry.interface is) holds
 
 number-xdg : (interface : Interface) → (interface_number interface == interface_number XdgSurface) ≡ true → interface ≡ XdgSurface
 number-xdg XdgSurface e = refl
@@ -205,8 +216,9 @@ geometry-keeps numbers slots r id number rect kept named =
     let bounds = cut-bounds (kept_at slots number) there.0 (subst (λ (o : Option Surface). StandsAt (kept_at slots number) o) read (kept.stand number)) in
     ap (λ (q : Resident). q.peer) (asked-keeps (SetWindowGeometry rect) refl (λ v. refl) id r there.0 there.1 bounds.0 bounds.1)
 
-pub base-held : (old mid : ClientView) (id : ℕ) → mid ≡ record old { requests = mid.requests } → is_of XdgWmBase (objects_in old.objects id) ≡ true → is_of XdgWmBase (objects_in mid.objects id) ≡ true
-base-held old mid id only is = subst (λ (o : Held). is_of XdgWmBase (objects_in o id) ≡ true) (sym (objects-counted old mid only)) is
+pub object-held : (interface : Interface) (old mid : ClientView) (id : ℕ) → mid ≡ record old { requests = mid.requests } → is_of interface (objects_in old.objects id) ≡ true
+    → is_of interface (objects_in mid.objects id) ≡ true
+object-held interface old mid id only is = subst (λ (o : Held). is_of interface (objects_in o id) ≡ true) (sym (objects-counted old mid only)) is
 
 -- a client of which a request more was counted
 pub counted-on : {A : Type 0} (old mid : Kept A) (r : Resident) → IsResident old r → mid.client ≡ record old.client { requests = mid.client.requests } → mid.owned ≡ old.owned

@@ -1,7 +1,9 @@
 -- What requests do to the stack of toplevels.
 use Rattle.std.proofs.Common.{◌≡◌, ℕ, false, Option, Some, None, Result, refl, sym, subst}
 use Rattle.std.specs.Prelude.{Ok}
-use Rattle.wl_proto.specs.Messages.{Message, xdg_surface_request, xdg_wm_base_request}
+use Rattle.wl_proto.specs.Messages.{Message, wl_subcompositor_request, xdg_surface_request, xdg_wm_base_request}
+use Rattle.wl_proto.specs.declared.wl_subcompositor.WlSubcompositorRequest.{WlSubcompositorRequest}
+use Rattle.wl_proto.specs.declared.wl_subcompositor.WlSubcompositorRequest.TheVariants as subcompositor
 use Rattle.wl_proto.specs.declared.xdg_wm_base.XdgWmBaseRequest.{XdgWmBaseRequest}
 use Rattle.wl_proto.specs.declared.xdg_wm_base.XdgWmBaseRequest.TheVariants as base
 use Rattle.wl_proto.specs.declared.xdg_surface.XdgSurfaceRequest.{XdgSurfaceRequest}
@@ -118,6 +120,12 @@ xdg-stays old r object version requests.Destroy = xdg-asked-stays old r (xdg_at 
 xdg-stays old r object version (requests.GetToplevel id) = xdg-asked-stays old r (xdg_at object r.owned.shell) version (requests.GetToplevel id) refl
 xdg-stays old r object version (requests.SetWindowGeometry a b width height) = xdg-asked-stays old r (xdg_at object r.owned.shell) version (requests.SetWindowGeometry a b width height) refl
 xdg-stays old r object version (requests.AckConfigure serial) = xdg-asked-stays old r (xdg_at object r.owned.shell) version (requests.AckConfigure serial) refl
+
+-- a request of a wl_subcompositor
+pub subcompositor-stays : {A : Type 0} (old : Kept A) (r : Resident) (object version : ℕ) (request : WlSubcompositorRequest)
+    → StacksSo old r (demand_of served_now r object version (wl_subcompositor_request request)) Stays
+subcompositor-stays old r object version subcompositor.Destroy = refl
+subcompositor-stays old r object version (subcompositor.GetSubsurface id child parent) = tt
 
 -- a request of an xdg_wm_base
 pub base-stays : {A : Type 0} (old : Kept A) (r : Resident) (object version : ℕ) (request : XdgWmBaseRequest)

@@ -1,10 +1,10 @@
 -- What the desk keeps of a client agrees with a client of the plain desktop, and what a request makes of both.
 use Rattle.std.specs.List.{list_all}
-use Rattle.std.specs.Prelude.{ℕ, ◌≡◌, ◌+◌, ◌-◌, IfSome, None, Some, Result, Ok, Err, Bool, true, false, Option, List, [], take, drop}
+use Rattle.std.specs.Prelude.{ℕ, ◌≡◌, ◌⊎◌, ◌+◌, ◌-◌, IfSome, None, Some, Result, Ok, Err, Bool, true, false, Option, List, [], take, drop}
 use Rattle.wl_wire.specs.Wire.{split_of}
 use Rattle.wl_wire.specs.declared.header.Split.{Split}
 use Rattle.wl_wire.specs.declared.header.Split.TheVariants.{Message as Whole, More, Bad}
-use Rattle.wl_interface.specs.declared.interface.Interface.TheVariants.{WlSurface, XdgSurface, XdgToplevel, XdgWmBase}
+use Rattle.wl_interface.specs.declared.interface.Interface.TheVariants.{WlSubcompositor, WlSurface, XdgSurface, XdgToplevel, XdgWmBase}
 use Rattle.wl_proto.specs.Messages.{Message}
 use Rattle.wl_proto.specs.Objects.{new_id_in, objects_in as objects_named}
 use Rattle.wl_table.specs.Objects.{Held, entry_of}
@@ -127,6 +127,14 @@ IsFree v id = entry_of v.client.objects id ≡ None
 -- the object with this id is an xdg_wm_base
 abbrev pub IsBase : {A : Type 0} → Kept A → ℕ → Type 0
 IsBase v id = is_of XdgWmBase (objects_in v.client.objects id) ≡ true
+
+-- the object with this id is a wl_subcompositor
+abbrev pub IsSubcompositor : {A : Type 0} → Kept A → ℕ → Type 0
+IsSubcompositor v id = is_of WlSubcompositor (objects_in v.client.objects id) ≡ true
+
+-- nothing else that the client owns goes with the object of this id
+abbrev pub GoesAlone : {A : Type 0} → Kept A → ℕ → Type 0
+GoesAlone v id = IsBase v id ⊎ IsSubcompositor v id
 
 -- the xdg_surface with this id is that of the surface of this number
 abbrev pub IsXdgSurface : {A : Type 0} → Kept A → ℕ → ℕ → Type 0

@@ -11,6 +11,7 @@ mod residents;
 mod surface_requests;
 mod wl_compositor;
 mod wl_seat;
+mod wl_subcompositor;
 mod xdg_surface;
 mod xdg_toplevel;
 mod xdg_wm_base;

@@ -18,14 +18,15 @@ use crate::xdg_toplevel::{ToplevelAsked, asked_of};
 use std::alloc::Allocator;
 use wl_client::{First, Refusal};
 use wl_proto::{
-    Request, WlCompositorRequest, WlSeatRequest, WlSurfaceRequest, XdgSurfaceRequest,
-    XdgWmBaseRequest,
+    Request, WlCompositorRequest, WlSeatRequest, WlSubcompositorRequest, WlSurfaceRequest,
+    XdgSurfaceRequest, XdgWmBaseRequest,
 };
 
 /// A request that a client alone can't answer, by its interface.
 #[derive(Clone, Copy)]
 pub(crate) enum Kind {
     Compositor(WlCompositorRequest),
+    Subcompositor(WlSubcompositorRequest),
     Surface(WlSurfaceRequest),
     Seat(WlSeatRequest),
     Base(XdgWmBaseRequest),
@@ -61,6 +62,7 @@ fn kind_of(request: &Request) -> Option<Kind>
 {
     match request {
         Request::WlCompositor(request) => Some(Kind::Compositor(*request)),
+        Request::WlSubcompositor(request) => Some(Kind::Subcompositor(*request)),
         Request::WlSurface(request) => Some(Kind::Surface(*request)),
         Request::WlSeat(request) => Some(Kind::Seat(*request)),
         Request::XdgWmBase(request) => Some(Kind::Base(*request)),
@@ -72,8 +74,7 @@ fn kind_of(request: &Request) -> Option<Kind>
         | Request::WlShm(_)
         | Request::WlShmPool(_)
         | Request::WlBuffer(_) => None,
-        Request::WlSubcompositor(_)
-        | Request::WlSubsurface(_)
+        Request::WlSubsurface(_)
         | Request::WlPointer(_)
         | Request::XdgPositioner(_)
         | Request::XdgPopup(_) => Some(Kind::Unserved),
@@ -126,6 +127,10 @@ impl<A: Allocator + Copy> Resident<A> {
             Kind::Toplevel(asked) => Outcome::of(self.xdg_toplevel(object, target, asked)),
             Kind::Compositor(request) => {
                 self.wl_compositor(object, version, &request);
+                Outcome::of(Stacking::Stays)
+            }
+            Kind::Subcompositor(request) => {
+                self.wl_subcompositor(object, version, &request);
                 Outcome::of(Stacking::Stays)
             }
             Kind::Seat(request) => {

@@ -4,10 +4,10 @@ ghost use Rattle.std.specs.Prelude.{◌≡◌, ◌↔◌, IsTrue, Ok, ◌≤◌,
 ghost use Rattle.wl_proto.specs.Messages.{xdg_wm_base_request};
 ghost use Rattle.wl_interface.specs.declared.interface.Interface.TheVariants.{WlSurface};
 ghost use Rattle.wl_proto.specs.declared.xdg_wm_base.XdgWmBaseRequest.TheVariants.{Destroy, GetXdgSurface};
-ghost use Rattle.wl_plain.specs.Ask.{DestroyBase, Ignore};
+ghost use Rattle.wl_plain.specs.Ask.{EndObject, Ignore};
 ghost use Rattle.wl_plain.specs.Demand.{Asks};
 ghost use Rattle.wl_laws.specs.Owning.{targets_in};
-ghost use Rattle.wl_resident.specs.Residents.{AnswersDemand, Does, IsBase, IsFree, IsSurface, NewIsFree, ObjectsFit};
+ghost use Rattle.wl_resident.specs.Residents.{AnswersDemand, Does, GoesAlone, IsBase, IsFree, IsSurface, NewIsFree, ObjectsFit};
 ghost use Rattle.wl_plain.specs.LeftOut.{served_now};
 ghost use Rattle.wl_plain.specs.Demanding.{demand_of};
 ghost use Rattle.wl_plain.specs.WlSubsurface.{past_limit};
@@ -70,9 +70,9 @@ impl<A: Allocator + Copy> Resident<A> {
         }
     }
 
-    /// An xdg_wm_base goes whose xdg_surfaces are gone.
-    fn remove_base(&mut self, object: u32)
-        ensures does { IsBase self.old object → Does (λ r. DestroyBase object) self.old self.new }
+    /// An object goes with which nothing else of the client does: its id is given back.
+    pub(crate) fn end_object(&mut self, object: u32)
+        ensures does { GoesAlone self.old object → Does (λ r. EndObject object) self.old self.new }
         ensures rest { length self.new.client.rest ≤ length self.old.client.rest }
         ensures surfaces { self.new.owned.surfaces ≡ self.old.owned.surfaces }
     {
@@ -88,7 +88,7 @@ impl<A: Allocator + Copy> Resident<A> {
         match self.owned.shell.check_base(object) {
             Ok(()) => {
                 self.client.count();
-                self.remove_base(object);
+                self.end_object(object);
             }
             Err(_) => self
                 .client

@@ -155,9 +155,29 @@ const KEYBOARD: &[Row] = &[
 ];
 
 const NOT_SERVED: &[Row] = &[
-    Row::Errs(Message(4, 0, &[]), 1, 3),
     Row::Errs(Message(7, 0, &[Arg::NewId(9)]), 1, 3),
     Row::Errs(Message(8, 1, &[Arg::NewId(9)]), 1, 3),
+];
+
+/// The wl_surfaces 9 and 10, and a subsurface of them.
+const NO_SUBSURFACE: &[Row] = &[
+    Row::Sends(Message(3, 0, &[Arg::NewId(9)])),
+    Row::Sends(Message(3, 0, &[Arg::NewId(10)])),
+    Row::Errs(
+        Message(4, 1, &[Arg::NewId(11), Arg::Object(9), Arg::Object(10)]),
+        1,
+        3,
+    ),
+];
+
+/// The id of a wl_subcompositor is free once it was destroyed.
+const SUBCOMPOSITOR_DESTROYED: &[Row] = &[
+    Row::Takes,
+    Row::Sends(Message(4, 0, &[])),
+    Row::Told(&[Message(1, 1, &[Arg::Uint(4)])]),
+    Row::Binds(2, b"wl_subcompositor", 1, 4, Fed::Alive),
+    Row::Sends(Message(4, 0, &[])),
+    Row::Errs(Message(4, 0, &[]), 1, 0),
 ];
 
 const TOO_SLOW: Done = Done::Feed(Fed::Ended(Cause::Slow));
@@ -287,6 +307,14 @@ const CASES: &[Case] = &[
     ("an id is used again", &[CLIENT, USED_AGAIN]),
     ("an error ends its sender alone", &[REGISTRY, ANOTHER_ERRS]),
     ("a seat has no keyboard", &[REGISTRY, ALL_GLOBALS, KEYBOARD]),
+    (
+        "a destroyed wl_subcompositor gives its id back",
+        &[REGISTRY, ALL_GLOBALS, SUBCOMPOSITOR_DESTROYED],
+    ),
+    (
+        "a subsurface is not served",
+        &[REGISTRY, ALL_GLOBALS, NO_SUBSURFACE],
+    ),
     (
         "a client that reads nothing is too slow",
         &[CLIENT, UNREAD, READS_NOTHING],

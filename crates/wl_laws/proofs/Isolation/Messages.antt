@@ -14,7 +14,7 @@ use Rattle.wl_scene.specs.Stacking.{Standing, is_of}
 use Rattle.wl_scene.specs.Windows.{Window}
 use Rattle.wl_plain.specs.declared.answers.Done.{Done}
 use Rattle.wl_plain.specs.Changing.{changed_for, stacked_by, stacked_for}
-use Rattle.wl_plain.specs.Demand.{Demand, Asks, EndSurface, AskFrame, CommitTree, EndObject, GetSubsurface, EndSubsurface, SetMode, GetPointer, MakeCursor, CreatePositioner, EndPositioner}
+use Rattle.wl_plain.specs.Demand.{Demand, Asks, EndSurface, AskFrame, CommitTree, GetSubsurface, EndSubsurface, SetMode, GetPointer, MakeCursor, CreatePositioner, EndPositioner}
 use Rattle.wl_plain.specs.Demand.{SetPositioner, GetPopup, Grab, EndPopup, EndToplevel, Move}
 use Rattle.wl_plain.specs.Demanding.{effect_of_commit}
 use Rattle.wl_plain.specs.Desktop.{Desktop, Resident, become, client_at, with_client}
@@ -59,7 +59,6 @@ stacked_for-left c other (EndToplevel id xdg top) r windows d differ =
     (refl, left_out (λ s. not (is_of c _ s)) other (one_surface c other top differ) d.standing)
 stacked_for-left c other (EndSurface id) r windows d differ = (refl, refl)
 stacked_for-left c other (AskFrame id version surface) r windows d differ = (refl, refl)
-stacked_for-left c other (EndObject id) r windows d differ = (refl, refl)
 stacked_for-left c other (GetSubsurface id version child parent) r windows d differ = (refl, refl)
 stacked_for-left c other (EndSubsurface id) r windows d differ = (refl, refl)
 stacked_for-left c other (SetMode link synchronised) r windows d differ = (refl, refl)

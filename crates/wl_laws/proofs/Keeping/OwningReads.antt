@@ -27,7 +27,7 @@ use Rattle.wl_shell.specs.Kept.{Kept, acknowledgement_answer, commit_answer, con
 use Rattle.wl_shell.specs.Kept.{toplevel_answer}
 use Rattle.wl_shell.specs.Shell.{Effect, Stays, Unconfigured, Configures, Maps, Unmaps, RoleObject, XdgSurface, answers_states, is_full, is_waiting, on_commit, stage_of, xdg_of}
 use Rattle.wl_shell.proofs.Shells.{shells_stand}
-use Rattle.wl_plain.specs.Ask.{AskSurface, DestroyBase, GetXdgSurface, DestroyXdgSurface, GetToplevel, Acknowledge, ConfigureAgain, Ignore}
+use Rattle.wl_plain.specs.Ask.{AskSurface, EndObject, GetXdgSurface, DestroyXdgSurface, GetToplevel, Acknowledge, ConfigureAgain, Ignore}
 use Rattle.wl_plain.specs.Desktop.{Resident}
 use Rattle.wl_laws.specs.Owning.{AllCounts, IsOwned, IsXdg, Names, asks_by, asks_unless, by_id, by_number, configuring_if, effect_by, kept_id, shell_refusal}
 use Rattle.wl_plain.specs.Step.{buffers_had, configures_told, each_once, role_configured, without_buffer}
@@ -222,7 +222,7 @@ module _ (names : Names) (slots : Slots) (kept : ℕ → Option Kept) (r : Resid
 
   -- it made an xdg_surface, or none
   pub base-used : (base surface : ℕ) → IsSomeAnd (kept surface) (λ k. k.base ≡ base) → base_destroyed r base ≡ refuse base error.DefunctSurfaces
-  base-used base surface made = ap (λ b. if b then refuse base error.DefunctSurfaces else Ok (DestroyBase base))
+  base-used base surface made = ap (λ b. if b then refuse base error.DefunctSurfaces else Ok (EndObject base))
       (by_base.0 named.0 (subst (λ (o : Option Kept). IsSomeAnd o (λ k. k.base ≡ base)) (sym (ap (option_and_then kept) named.1)) made))
     where
       some-made : (o : Option Kept) → IsSomeAnd o (λ k. k.base ≡ base) → is_some o ≡ true
@@ -236,9 +236,9 @@ module _ (names : Names) (slots : Slots) (kept : ℕ → Option Kept) (r : Resid
           × (((id : ℕ) → IfSome (by_id names.surfaces kept id) (λ k. k.base ≢ base)) → list_any (λ x. x.base == base) r.owned.shell ≡ false)
       by_base = shells_stand.base base (by_id names.surfaces kept) (λ id. history_in id r.owned.surfaces) r.owned.shell is.shell
 
-  pub base-unused : (base : ℕ) → ((surface : ℕ) → IfSome (kept surface) (λ k. k.base ≢ base)) → base_destroyed r base ≡ Ok (DestroyBase base)
+  pub base-unused : (base : ℕ) → ((surface : ℕ) → IfSome (kept surface) (λ k. k.base ≢ base)) → base_destroyed r base ≡ Ok (EndObject base)
   base-unused base none =
-      ap (λ b. if b then refuse base error.DefunctSurfaces else Ok (DestroyBase base))
+      ap (λ b. if b then refuse base error.DefunctSurfaces else Ok (EndObject base))
       ((shells_stand.base base (by_id names.surfaces kept) (λ id. history_in id r.owned.surfaces) r.owned.shell is.shell).1 (λ id. at (names.surfaces id)))
     where
       at : (o : Option ℕ) → IfSome (option_and_then kept o) (λ k. k.base ≢ base)

@@ -16,7 +16,7 @@ use Rattle.wl_shell.specs.declared.stage.Stage.{Stage}
 use Rattle.wl_shell.specs.declared.stage.Stage.TheVariants as stage
 use Rattle.wl_scene.specs.Lent.{shows_buffer}
 use Rattle.wl_scene.specs.Stacking.{Owned, Standing, is_of, with_mapped, without_surface_of}
-use Rattle.wl_plain.specs.Ask.{Own, CreateSurface, AskSurface, DestroyBase, GetXdgSurface, DestroyXdgSurface, GetToplevel, Acknowledge, ConfigureAgain, Ignore}
+use Rattle.wl_plain.specs.Ask.{Own, CreateSurface, AskSurface, EndObject, GetXdgSurface, DestroyXdgSurface, GetToplevel, Acknowledge, ConfigureAgain, Ignore}
 use Rattle.wl_plain.specs.Desktop.{Desktop, Resident}
 use Rattle.wl_laws.specs.Laws.{AreApart}
 use Rattle.wl_laws.specs.NoMore.{AreToplevels}
@@ -257,7 +257,7 @@ shown-after c (DestroySurface id) r d told counts is apart finds = (destroyed c 
 shown-after c (AskingFrame id version surface) r d told counts is apart finds = (asked c r d is apart surface (Frame r.peer.requests) counts, apart)
 shown-after c (Asking (AskSurface id request)) r d told counts is apart finds = (asked c r d is apart id request counts, apart)
 shown-after c (CommitSurface id effect) r d told counts is apart finds = committed-after c r d is apart id effect told finds.0
-shown-after c (Asking (DestroyBase id)) r d told counts is apart finds = (is, apart)
+shown-after c (Asking (EndObject id)) r d told counts is apart finds = (is, apart)
 shown-after c (Asking (GetXdgSurface id version base surface)) r d told counts is apart finds =
     (shell-kept c r d is apart (with_new_xdg id base surface r.owned.shell) (λ other. new-unmapped (bare_xdg id base surface) other r.owned.shell refl), apart)
 shown-after c (Asking (DestroyXdgSurface id)) r d told counts is apart finds = (xdg-destroyed c r d is apart id finds, apart)

@@ -16,7 +16,7 @@ use Rattle.wl_shell.specs.declared.stage.Stage.{Stage}
 use Rattle.wl_shell.specs.declared.stage.Stage.TheVariants as stage
 use Rattle.wl_scene.specs.Lent.{shows_buffer}
 use Rattle.wl_scene.specs.Stacking.{Owned}
-use Rattle.wl_plain.specs.Ask.{Own, CreateSurface, AskSurface, DestroyBase, GetXdgSurface, DestroyXdgSurface, GetToplevel, Acknowledge, ConfigureAgain, Ignore}
+use Rattle.wl_plain.specs.Ask.{Own, CreateSurface, AskSurface, EndObject, GetXdgSurface, DestroyXdgSurface, GetToplevel, Acknowledge, ConfigureAgain, Ignore}
 use Rattle.wl_plain.specs.Desktop.{Resident}
 use Rattle.wl_laws.specs.NoMore.{AreToplevels}
 use Rattle.wl_laws.specs.Owning.{AllCounts}
@@ -225,7 +225,7 @@ bare-after (AskingFrame id version surface) r told counts top is finds =
 bare-after (Asking (AskSurface id request)) r told counts top is finds =
     bare-kept r.owned (with_all r is (with_change id (asking request) r.owned.surfaces)) is (λ surface. (refl, shown-asked id surface request r.owned.surfaces counts))
 bare-after (CommitSurface id effect) r told counts top is finds = committed-bare r is id effect told finds.0 (finds.1 top)
-bare-after (Asking (DestroyBase id)) r told counts top is finds = is
+bare-after (Asking (EndObject id)) r told counts top is finds = is
 bare-after (Asking (GetXdgSurface id version base surface)) r told counts top is finds =
     bare-kept r.owned (with_xdgs r is (with_new_xdg id base surface r.owned.shell)) is (λ other. (new-waits _ other r.owned.shell refl, refl))
 bare-after (Asking (DestroyXdgSurface id)) r told counts top is finds =

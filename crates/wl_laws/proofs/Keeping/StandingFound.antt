@@ -6,6 +6,7 @@ use Rattle.std.specs.Option.{option_map_or}
 use Rattle.std.proofs.lemmas.Bool.{and_parts}
 use Rattle.wl_proto.specs.declared.wl_compositor.WlCompositorRequest.TheVariants as compositor
 use Rattle.wl_proto.specs.declared.wl_seat.WlSeatRequest.TheVariants as seat
+use Rattle.wl_proto.specs.declared.wl_subcompositor.WlSubcompositorRequest.TheVariants as subcompositor
 use Rattle.wl_proto.specs.declared.wl_surface.WlSurfaceRequest.{WlSurfaceRequest}
 use Rattle.wl_proto.specs.declared.wl_surface.WlSurfaceRequest.TheVariants as surface
 use Rattle.wl_proto.specs.declared.xdg_surface.XdgSurfaceRequest.{XdgSurfaceRequest}
@@ -26,7 +27,7 @@ use Rattle.wl_peer.specs.Peer.{Peer, known_of}
 use Rattle.wl_peer.specs.Told.{display_error}
 use Rattle.wl_shell.specs.Agreement.{AreApart}
 use Rattle.wl_shell.specs.Shell.{Effect, Stays, Unconfigured, Configures, Maps, Unmaps, RoleObject, answers_states, is_full, is_waiting, stage_of, xdg_at, xdg_of, xdg_with, XdgSurface as Xdg}
-use Rattle.wl_plain.specs.Ask.{Ask, Own, CreateSurface, AskSurface, DestroyBase, GetXdgSurface, DestroyXdgSurface, GetToplevel, Acknowledge, ConfigureAgain, Ignore, owns}
+use Rattle.wl_plain.specs.Ask.{Ask, Own, CreateSurface, AskSurface, EndObject, GetXdgSurface, DestroyXdgSurface, GetToplevel, Acknowledge, ConfigureAgain, Ignore, owns}
 use Rattle.wl_plain.specs.Demand.{Demand, Asks, EndSurface, CommitTree, EndToplevel, Move, AskFrame}
 use Rattle.wl_plain.specs.Demanding.{base_demand, committed_by, demand_by, demand_of, demands, effect_of_commit, judge_all, moved_by_pointer, own_demand, surface_demand, surface_destroyed}
 use Rattle.wl_plain.specs.Demanding.{toplevel_asked, toplevel_demand, toplevel_destroyed, xdg_asked, xdg_demand}
@@ -152,7 +153,7 @@ made-finds r object version id surface =
     (λ free. asks-either (has_any r surface) _ _ r (λ full. unasked _ r) (λ none. asked (GetXdgSurface id version object surface) r tt))
 
 base-finds : (r : Resident) (object version : ℕ) (request : XdgWmBaseRequest) → unserved_now (ToBase request) ≡ false → Accepts (base_demand r object version request) r
-base-finds r object version base.Destroy served = asks-either (list_any (λ x. x.base == object) r.owned.shell) _ _ r (λ used. unasked _ r) (λ unused. asked (DestroyBase object) r tt)
+base-finds r object version base.Destroy served = asks-either (list_any (λ x. x.base == object) r.owned.shell) _ _ r (λ used. unasked _ r) (λ unused. asked (EndObject object) r tt)
 base-finds r object version (base.CreatePositioner id) served = absurd (cc)
 base-finds r object version (base.GetXdgSurface id surface) served = made-finds r object version id surface
 base-finds r object version (base.Pong serial) served = accepted (Asks Ignore) r tt
@@ -239,7 +240,8 @@ request-finds (ToSeat (seat.GetTouch id)) r object version apart served = refuse
 request-finds (ToBase request) r object version apart served = base-finds r object version request served
 request-finds (ToXdgSurface request) r object version apart served = xdg-finds r object version request served apart
 request-finds (ToToplevel request) r object version apart served = toplevel-finds r object request apart
-request-finds (ToSubcompositor request) r object version apart served = absurd (cc)
+request-finds (ToSubcompositor subcompositor.Destroy) r object version apart served = asked (EndObject object) r tt
+request-finds (ToSubcompositor (subcompositor.GetSubsurface id child parent)) r object version apart served = absurd (cc)
 request-finds (ToSubsurface request) r object version apart served = absurd (cc)
 request-finds (ToPointer request) r object version apart served = absurd (cc)
 request-finds (ToPositioner request) r object version apart served = absurd (cc)

@@ -12,7 +12,7 @@ use Rattle.wl_surface.specs.Request.{Frame}
 use Rattle.wl_shell.specs.Shell.{Effect, Stays, Unconfigured, Configures, Maps, Unmaps, xdg_at, xdg_of, XdgSurface as Xdg}
 use Rattle.wl_scene.specs.Stacking.{Standing, is_of}
 use Rattle.wl_scene.specs.Windows.{mapping_place}
-use Rattle.wl_plain.specs.Ask.{Own, CreateSurface, AskSurface, DestroyBase, GetXdgSurface, DestroyXdgSurface, GetToplevel, Acknowledge, ConfigureAgain, Ignore}
+use Rattle.wl_plain.specs.Ask.{Own, CreateSurface, AskSurface, EndObject, GetXdgSurface, DestroyXdgSurface, GetToplevel, Acknowledge, ConfigureAgain, Ignore}
 use Rattle.wl_plain.specs.Desktop.{Desktop, Resident}
 use Rattle.wl_laws.specs.Owning.{AllCounts}
 use Rattle.wl_laws.specs.Standing.{AreMapped, is_mapped}
@@ -51,7 +51,7 @@ asked-links (DestroySurface id) r = refl
 asked-links (AskingFrame id version surface) r = refl
 asked-links (Asking (AskSurface id request)) r = refl
 asked-links (CommitSurface id effect) r = ap (λ (all : Surfaces). all.links) (effect-surfaces id effect (xdg_of id r.owned.shell) _)
-asked-links (Asking (DestroyBase id)) r = refl
+asked-links (Asking (EndObject id)) r = refl
 asked-links (Asking (GetXdgSurface id version base surface)) r = refl
 asked-links (Asking (DestroyXdgSurface id)) r = refl
 asked-links (Asking (GetToplevel id version xdg)) r = given-links id xdg (xdg_at xdg r.owned.shell) r
@@ -99,7 +99,7 @@ module _ (c : ℕ) (r : Resident) (standing : List Standing) (is : AreMapped c r
       asked-stays (list_any (is_of c surface) standing) of surface (Frame r.peer.requests) r.owned.surfaces counts
   asked-surfaces-stay (Asking (AskSurface id request)) surface finds other = asked-stays (list_any (is_of c surface) standing) id surface request r.owned.surfaces counts
   asked-surfaces-stay (CommitSurface id effect) surface finds other = committed-stays id surface effect other
-  asked-surfaces-stay (Asking (DestroyBase id)) surface finds other = same-in surface r.owned.surfaces refl
+  asked-surfaces-stay (Asking (EndObject id)) surface finds other = same-in surface r.owned.surfaces refl
   asked-surfaces-stay (Asking (GetXdgSurface id version base of)) surface finds other = same-in surface r.owned.surfaces refl
   asked-surfaces-stay (Asking (DestroyXdgSurface id)) surface finds other = same-in surface r.owned.surfaces refl
   asked-surfaces-stay (Asking (GetToplevel id version xdg)) surface finds other =

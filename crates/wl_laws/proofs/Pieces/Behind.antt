@@ -9,7 +9,7 @@ use Rattle.wl_peer.specs.declared.actions.Action.TheVariants.{DestroyBuffer}
 use Rattle.wl_peer.specs.declared.cause.Cause.{Cause}
 use Rattle.wl_peer.specs.Peer.{Peer, changed, with_rest, removed}
 use Rattle.wl_shell.specs.Shell.{Effect, Stays, Unconfigured, Configures, Maps, Unmaps, XdgSurface as Xdg, xdg_at, xdg_of}
-use Rattle.wl_plain.specs.Ask.{Ask, Own, CreateSurface, AskSurface, DestroyBase, GetXdgSurface, DestroyXdgSurface, GetToplevel, Acknowledge, ConfigureAgain, Ignore}
+use Rattle.wl_plain.specs.Ask.{Ask, Own, CreateSurface, AskSurface, EndObject, GetXdgSurface, DestroyXdgSurface, GetToplevel, Acknowledge, ConfigureAgain, Ignore}
 use Rattle.wl_plain.specs.Desktop.{Resident}
 use Rattle.wl_peer.specs.Used.{has_used, keeps_store}
 use Rattle.wl_surface.specs.Surfaces.{is_used, without_surface}
@@ -78,7 +78,7 @@ changed-stream (DestroySurface id) r s rest =
 changed-stream (AskingFrame id version surface) r s rest = refl
 changed-stream (Asking (AskSurface id request)) r s rest = refl
 changed-stream (CommitSurface id effect) r s rest = effect-stream id effect (xdg_of id r.owned.shell) (after_surface id r (committed_on id r)) s rest
-changed-stream (Asking (DestroyBase id)) r s rest = refl
+changed-stream (Asking (EndObject id)) r s rest = refl
 changed-stream (Asking (GetXdgSurface id version base surface)) r s rest = refl
 changed-stream (Asking (DestroyXdgSurface id)) r s rest = refl
 changed-stream (Asking (GetToplevel id version xdg)) r s rest =
@@ -106,7 +106,7 @@ pub answers-behind : (ask : Ask) (r : Resident) (rest : List ℕ) → answers_to
 answers-behind (Own action) r rest = refl
 answers-behind (CreateSurface id version) r rest = refl
 answers-behind (AskSurface id request) r rest = refl
-answers-behind (DestroyBase id) r rest = refl
+answers-behind (EndObject id) r rest = refl
 answers-behind (GetXdgSurface id version base surface) r rest = refl
 answers-behind (DestroyXdgSurface id) r rest = refl
 answers-behind (GetToplevel id version xdg) r rest = refl

@@ -36,7 +36,7 @@ use Rattle.wl_shell.specs.Shell.{Effect, Stays, Unconfigured, Configures, Maps, 
 use Rattle.wl_scene.specs.Windows.{Window}
 use Rattle.wl_plain.specs.Changing.{after_all, callbacks_of, changed_for, drawing, effect_done, grab_allowed, grabbed, has_focus, in_rising_order, is_held_elsewhere, is_latest, mode_set}
 use Rattle.wl_plain.specs.Changing.{popup_given_to, stacked_by, stacked_for, tree_committed, with_kept_move, without_callbacks, without_child}
-use Rattle.wl_plain.specs.Demand.{Demand, Asks, EndSurface, AskFrame, CommitTree, EndObject, GetSubsurface, EndSubsurface, SetMode, GetPointer, MakeCursor, CreatePositioner, EndPositioner}
+use Rattle.wl_plain.specs.Demand.{Demand, Asks, EndSurface, AskFrame, CommitTree, GetSubsurface, EndSubsurface, SetMode, GetPointer, MakeCursor, CreatePositioner, EndPositioner}
 use Rattle.wl_plain.specs.Demand.{SetPositioner, GetPopup, Grab, EndPopup, EndToplevel, Move}
 use Rattle.wl_plain.specs.Demanding.{base_demand, demand_by, demand_of, effect_of_commit, judge_all, surface_demand, xdg_asked}
 use Rattle.wl_plain.specs.Desktop.{Desktop, Resident}
@@ -181,7 +181,6 @@ module _ (c : ℕ) (more : List ℕ) where
       ap (λ (p : Peer). removing id (with_peer p (without_callbacks (callbacks_of id r) bare))) (without-behind (callbacks_of id r) bare.peer rest)
   done-behind (AskFrame id version surface) r d rest = refl
   done-behind (CommitTree surface) r d rest = effect-behind surface (effect_of_commit r surface) (xdg_of surface r.owned.shell) d (tree_committed surface r) rest
-  done-behind (EndObject id) r d rest = refl
   done-behind (GetSubsurface id version child parent) r d rest = refl
   done-behind (EndSubsurface id) r d rest = refl
   done-behind (SetMode link synchronised) r d rest = mode-behind link synchronised r rest
@@ -226,7 +225,6 @@ module _ (c : ℕ) (more : List ℕ) where
   own-behind (EndSurface id) r windows d rest = refl
   own-behind (AskFrame id version surface) r windows d rest = refl
   own-behind (CommitTree surface) r windows d rest = commit-behind (effect_of_commit r surface) (xdg_of surface r.owned.shell) (tree_committed surface r) d rest
-  own-behind (EndObject id) r windows d rest = refl
   own-behind (GetSubsurface id version child parent) r windows d rest = refl
   own-behind (EndSubsurface id) r windows d rest = refl
   own-behind (SetMode link synchronised) r windows d rest = refl
@@ -270,7 +268,6 @@ module _ (c : ℕ) (more : List ℕ) where
   stacks (EndSurface id) r windows d rest = refl
   stacks (AskFrame id version surface) r windows d rest = refl
   stacks (CommitTree surface) r windows d rest = commit-stacks (effect_of_commit r surface) (is_toplevel (xdg_of surface r.owned.shell)) surface d
-  stacks (EndObject id) r windows d rest = refl
   stacks (GetSubsurface id version child parent) r windows d rest = refl
   stacks (EndSubsurface id) r windows d rest = refl
   stacks (SetMode link synchronised) r windows d rest = refl

@@ -22,7 +22,7 @@ use Rattle.wl_shell.specs.Positioner.{Positioner}
 use Rattle.wl_shell.specs.Shell.{Effect, Stays, Unconfigured, Configures, Maps, Unmaps, XdgSurface, xdg_at, xdg_of}
 use Rattle.wl_plain.specs.Changing.{callbacks_of, changed_for, drawing, effect_done, grab_allowed, grabbed, has_focus, in_rising_order, mode_set, popup_given_to, stacked_by, stacked_for}
 use Rattle.wl_plain.specs.Changing.{tree_committed}
-use Rattle.wl_plain.specs.Demand.{Demand, Asks, EndSurface, AskFrame, CommitTree, EndObject, GetSubsurface, EndSubsurface, SetMode, GetPointer, MakeCursor, CreatePositioner, EndPositioner}
+use Rattle.wl_plain.specs.Demand.{Demand, Asks, EndSurface, AskFrame, CommitTree, GetSubsurface, EndSubsurface, SetMode, GetPointer, MakeCursor, CreatePositioner, EndPositioner}
 use Rattle.wl_plain.specs.Demand.{SetPositioner, GetPopup, Grab, EndPopup, EndToplevel, Move}
 use Rattle.wl_plain.specs.Demanding.{effect_of_commit, judge_all}
 use Rattle.wl_plain.specs.Desktop.{Desktop, Resident, become_by, client_at, client_in, place, resident_of, with_client, with_number, with_place}
@@ -175,7 +175,6 @@ change-quiet c (Asks ask) d r = (changed-status (Asking ask) r, changed-rest (As
 change-quiet c (EndSurface id) d r = without-quiet (callbacks_of id r) _
 change-quiet c (AskFrame id version surface) d r = (refl, refl)
 change-quiet c (CommitTree surface) d r = effect-quiet c surface (effect_of_commit r surface) (xdg_of surface r.owned.shell) d (tree_committed surface r)
-change-quiet c (EndObject id) d r = (refl, refl)
 change-quiet c (GetSubsurface id version child parent) d r = (refl, refl)
 change-quiet c (EndSubsurface id) d r = (refl, refl)
 change-quiet c (SetMode link synchronised) d r = mode-quiet link synchronised r
@@ -205,7 +204,6 @@ stacked-for c (Asks ask) r windows d = refl
 stacked-for c (EndSurface id) r windows d = refl
 stacked-for c (AskFrame id version surface) r windows d = refl
 stacked-for c (CommitTree surface) r windows d = stacked-by (effect_of_commit r surface) (is_toplevel (xdg_of surface r.owned.shell)) c surface d
-stacked-for c (EndObject id) r windows d = refl
 stacked-for c (GetSubsurface id version child parent) r windows d = refl
 stacked-for c (EndSubsurface id) r windows d = refl
 stacked-for c (SetMode link synchronised) r windows d = refl

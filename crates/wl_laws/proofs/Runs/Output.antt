@@ -15,7 +15,7 @@ use Rattle.wl_scene.specs.Pointer.{Target, is_down, is_press}
 use Rattle.wl_scene.specs.Windows.{Window}
 use Rattle.wl_plain.specs.declared.answers.Done.{Done}
 use Rattle.wl_plain.specs.Changing.{changed_for, grab_holder, stacked_by, stacked_for}
-use Rattle.wl_plain.specs.Demand.{Demand, Asks, EndSurface, AskFrame, CommitTree, EndObject, GetSubsurface, EndSubsurface, SetMode, GetPointer, MakeCursor, CreatePositioner, EndPositioner}
+use Rattle.wl_plain.specs.Demand.{Demand, Asks, EndSurface, AskFrame, CommitTree, GetSubsurface, EndSubsurface, SetMode, GetPointer, MakeCursor, CreatePositioner, EndPositioner}
 use Rattle.wl_plain.specs.Demand.{SetPositioner, GetPopup, Grab, EndPopup, EndToplevel, Move}
 use Rattle.wl_plain.specs.Demanding.{effect_of_commit}
 use Rattle.wl_plain.specs.Desktop.{Desktop, Resident, arrival, become, become_by, client_at, with_client}
@@ -124,7 +124,6 @@ stacked-same c (CommitTree surface) r windows d = commit-same (effect_of_commit 
 stacked-same c (EndToplevel id xdg top) r windows d = refl
 stacked-same c (EndSurface id) r windows d = refl
 stacked-same c (AskFrame id version surface) r windows d = refl
-stacked-same c (EndObject id) r windows d = refl
 stacked-same c (GetSubsurface id version child parent) r windows d = refl
 stacked-same c (EndSubsurface id) r windows d = refl
 stacked-same c (SetMode link synchronised) r windows d = refl

@@ -15,7 +15,7 @@ use Rattle.wl_shell.specs.Popups.{is_toplevel}
 use Rattle.wl_shell.specs.Shell.{Effect, Stays, Unconfigured, Configures, Maps, Unmaps}
 use Rattle.wl_scene.specs.Windows.{Window}
 use Rattle.wl_plain.specs.Changing.{changed_for, stacked_by, stacked_for}
-use Rattle.wl_plain.specs.Demand.{Demand, Asks, EndSurface, AskFrame, CommitTree, EndObject, GetSubsurface, EndSubsurface, SetMode, GetPointer, MakeCursor, CreatePositioner, EndPositioner}
+use Rattle.wl_plain.specs.Demand.{Demand, Asks, EndSurface, AskFrame, CommitTree, GetSubsurface, EndSubsurface, SetMode, GetPointer, MakeCursor, CreatePositioner, EndPositioner}
 use Rattle.wl_plain.specs.Demand.{SetPositioner, GetPopup, Grab, EndPopup, EndToplevel, Move}
 use Rattle.wl_plain.specs.Demanding.{effect_of_commit, judge_all}
 use Rattle.wl_plain.specs.Desktop.{Desktop, Resident, become_by, client_at, client_in, resident_of, with_client, with_number, status_in, status_of}
@@ -145,7 +145,6 @@ demand-clients c (Asks ask) r windows d = refl
 demand-clients c (EndSurface id) r windows d = refl
 demand-clients c (AskFrame id version surface) r windows d = refl
 demand-clients c (CommitTree surface) r windows d = effect-clients (effect_of_commit r surface) (is_toplevel _) c surface d
-demand-clients c (EndObject id) r windows d = refl
 demand-clients c (GetSubsurface id version child parent) r windows d = refl
 demand-clients c (EndSubsurface id) r windows d = refl
 demand-clients c (SetMode link synchronised) r windows d = refl

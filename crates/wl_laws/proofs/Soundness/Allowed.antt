@@ -1,5 +1,5 @@
 -- What is known of an accepted message.
-use Rattle.std.proofs.Common.{◌≡◌, ℕ, zero, suc, List, [], ◌∷◌, Bool, true, false, Option, Some, None, refl, ap, sym, subst, ◌∙◌}
+use Rattle.std.proofs.Common.{◌≡◌, ℕ, zero, suc, List, [], ◌∷◌, Bool, true, false, Option, Some, None, refl, ap, sym, subst, ◌∙◌, inr}
 use Rattle.std.specs.Prelude.{Ok, pos, ◌==◌, ◌&&◌, ◌||◌, int_le, if◌then◌else◌, is_some, nat_le}
 use Rattle.std.specs.Option.{option_and_then}
 use Rattle.std.proofs.lemmas.Bool.{eqb-true}
@@ -83,7 +83,7 @@ made-allowed r object version fields heard =
 
 subcompositor-allowed : (r : Resident) (object version opcode : ℕ) (fields : List Field) → IsHeardBy WlSubcompositor r object opcode fields
     → Allows r (subcompositor_demand r object version (subcompositor_request opcode fields))
-subcompositor-allowed r object version zero fields heard = heard.live
+subcompositor-allowed r object version zero fields heard = inr heard.live
 subcompositor-allowed r object version (suc zero) fields heard = made-allowed r object version fields heard
 subcompositor-allowed r object version (suc (suc opcode)) fields heard = absurd heard.kinds
 

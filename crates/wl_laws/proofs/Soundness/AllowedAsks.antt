@@ -1,5 +1,5 @@
 -- What is known of an accepted message that asks what may be asked where no more than toplevels is served.
-use Rattle.std.proofs.Common.{◌≡◌, ℕ, zero, suc, List, [], ◌∷◌, Bool, true, false, Option, Some, None, Result, refl, ap, sym, subst, ◌∙◌}
+use Rattle.std.proofs.Common.{◌≡◌, ℕ, zero, suc, List, [], ◌∷◌, Bool, true, false, Option, Some, None, Result, refl, ap, sym, subst, ◌∙◌, inl}
 use Rattle.std.specs.Prelude.{pos, Ok, Err, ◌==◌, ◌&&◌, ◌||◌, if◌then◌else◌, int_lt, is_some, length, nat_le}
 use Rattle.std.specs.List.{list_any}
 use Rattle.std.specs.Option.{option_map_or}
@@ -68,7 +68,7 @@ compositor-allowed r object version (suc (suc opcode)) fields heard = absurd hea
 -- ---- the shell
 
 pub base-allowed : (r : Resident) (object version opcode : ℕ) (fields : List Field) → IsHeardBy XdgWmBase r object opcode fields → Allows r (base_demand r object version (base_request opcode fields))
-base-allowed r object version zero fields heard = ask-either r (list_any (λ x. x.base == object) r.owned.shell) _ _ (λ f. tt) (λ f. heard.live)
+base-allowed r object version zero fields heard = ask-either r (list_any (λ x. x.base == object) r.owned.shell) _ _ (λ f. tt) (λ f. inl heard.live)
 base-allowed r object version (suc zero) fields heard = fresh-first r.peer.objects _ [] _ fields heard.kinds heard.fresh
 base-allowed r object version (suc (suc zero)) fields heard =
     let surface = word_in 1 fields in

@@ -9,9 +9,9 @@ use Rattle.wl_surface.specs.Request.{Frame}
 use Rattle.wl_surface.specs.Surfaces.{Link, Surfaces}
 use Rattle.wl_shell.specs.Positioner.{Positioner}
 use Rattle.wl_shell.specs.Shell.{Effect, Stays, Unconfigured, Configures, Maps, Unmaps, XdgSurface as Xdg, xdg_at, xdg_of}
-use Rattle.wl_plain.specs.Ask.{Ask, Own, CreateSurface, AskSurface, DestroyBase, GetXdgSurface, DestroyXdgSurface, GetToplevel, Acknowledge, ConfigureAgain, Ignore}
+use Rattle.wl_plain.specs.Ask.{Ask, Own, CreateSurface, AskSurface, EndObject, GetXdgSurface, DestroyXdgSurface, GetToplevel, Acknowledge, ConfigureAgain, Ignore}
 use Rattle.wl_plain.specs.Changing.{changed_for, drawing, effect_done, grab_allowed, grabbed, has_focus, in_rising_order, link_with_id, popup_given_to, tree_committed}
-use Rattle.wl_plain.specs.Demand.{Demand, Asks, EndSurface, AskFrame, CommitTree, EndObject, GetSubsurface, EndSubsurface, SetMode, GetPointer, MakeCursor, CreatePositioner, EndPositioner}
+use Rattle.wl_plain.specs.Demand.{Demand, Asks, EndSurface, AskFrame, CommitTree, GetSubsurface, EndSubsurface, SetMode, GetPointer, MakeCursor, CreatePositioner, EndPositioner}
 use Rattle.wl_plain.specs.Demand.{SetPositioner, GetPopup, Grab, EndPopup, EndToplevel, Move}
 use Rattle.wl_plain.specs.Demanding.{effect_of_commit}
 use Rattle.wl_plain.specs.Desktop.{Desktop, Resident}
@@ -52,7 +52,7 @@ module _ (r : Resident) (rest : List ℕ) where
   asked-counted (Own action) h = own-counted action h
   asked-counted (CreateSurface id version) h = h
   asked-counted (AskSurface id request) h = h
-  asked-counted (DestroyBase id) h = h
+  asked-counted (EndObject id) h = h
   asked-counted (GetXdgSurface id version base surface) h = h
   asked-counted (DestroyXdgSurface id) h = h
   asked-counted (GetToplevel id version xdg) h = h
@@ -65,7 +65,6 @@ module _ (r : Resident) (rest : List ℕ) where
   allowed-counted (EndSurface id) h = h
   allowed-counted (AskFrame id version surface) h = h
   allowed-counted (CommitTree surface) h = h
-  allowed-counted (EndObject id) h = h
   allowed-counted (GetSubsurface id version child parent) h = h
   allowed-counted (EndSubsurface id) h = h
   allowed-counted (SetMode link synchronised) h = h
@@ -127,7 +126,7 @@ module _ (b : ℕ) where
   asked-forest (Own action) r ok forest = next r.owned.surfaces forest
   asked-forest (CreateSurface id version) r ok forest = next _ (forest-new b id r.owned.surfaces forest)
   asked-forest (AskSurface id request) r ok forest = next _ (forest-asked b id request r.owned.surfaces ok forest)
-  asked-forest (DestroyBase id) r ok forest = next r.owned.surfaces forest
+  asked-forest (EndObject id) r ok forest = next r.owned.surfaces forest
   asked-forest (GetXdgSurface id version base surface) r ok forest = next r.owned.surfaces forest
   asked-forest (DestroyXdgSurface id) r ok forest = next r.owned.surfaces forest
   asked-forest (GetToplevel id version xdg) r ok forest = toplevel-forest id xdg (xdg_at xdg r.owned.shell) r forest
@@ -145,7 +144,6 @@ forest-kept c (CommitTree surface) r d ok roles forest =
     by-same r.peer.requests (tree_committed surface r).owned.surfaces _
     (effect-surfaces c surface (effect_of_commit r surface) (xdg_of surface r.owned.shell) d (tree_committed surface r))
     (forest-committed r.peer.requests surface r.owned.surfaces forest)
-forest-kept c (EndObject id) r d ok roles forest = next r.peer.requests r.owned.surfaces forest
 forest-kept c (GetSubsurface id version child parent) r d ok roles forest =
     forest-linked r.peer.requests child parent r.owned.surfaces forest (no-child r child roles ok.3) ok.5 ok.6
 forest-kept c (EndSubsurface id) r d ok roles forest = next r.peer.requests _ (forest-unlinked r.peer.requests (link_with_id id r) r.owned.surfaces forest)

@@ -1,5 +1,5 @@
 -- What a client owns goes on being known by the ids of its objects, whatever an accepted message does.
-use Rattle.std.proofs.Common.{◌≡◌, ℕ, Bool, true, false, List, Option, Some, None, cond, refl, ap, sym, subst, ◌∙◌, map}
+use Rattle.std.proofs.Common.{◌≡◌, ℕ, Bool, true, false, List, Option, Some, None, cond, refl, ap, sym, subst, ◌∙◌, map, inl, inr}
 use Rattle.std.specs.Prelude.{◌==◌, filter}
 use Rattle.std.specs.Option.{option_map_or}
 use Rattle.wl_interface.specs.declared.interface.Interface.{Interface}
@@ -21,10 +21,10 @@ use Rattle.wl_shell.specs.Positioner.{Positioner}
 use Rattle.wl_shell.specs.Shell.{Effect, Stays, Unconfigured, Configures, Maps, Unmaps, Waiting, Mapped, Shell, XdgSurface as Xdg, acknowledging, configuring, in_stage, unmapping, with_change}
 use Rattle.wl_shell.specs.Shell.{without_role, xdg_at, xdg_of}
 use Rattle.wl_scene.specs.Stacking.{Owned}
-use Rattle.wl_plain.specs.Ask.{Ask, Own, CreateSurface, AskSurface, DestroyBase, GetXdgSurface, DestroyXdgSurface, GetToplevel, Acknowledge, ConfigureAgain, Ignore}
+use Rattle.wl_plain.specs.Ask.{Ask, Own, CreateSurface, AskSurface, EndObject, GetXdgSurface, DestroyXdgSurface, GetToplevel, Acknowledge, ConfigureAgain, Ignore}
 use Rattle.wl_plain.specs.Changing.{after_all, is_asked, link_with_id, unlinked_at, changed_for, drawing, effect_done, frame_asked, grab_allowed, grabbed, has_focus, in_rising_order, mode_set}
 use Rattle.wl_plain.specs.Changing.{placement_now, popup_given_to, subsurface_ended, subsurface_given, surface_ended, toplevel_ended, tree_committed, without_callbacks, without_child}
-use Rattle.wl_plain.specs.Demand.{Demand, Asks, EndSurface, AskFrame, CommitTree, EndObject, GetSubsurface, EndSubsurface, SetMode, GetPointer, MakeCursor, CreatePositioner, EndPositioner}
+use Rattle.wl_plain.specs.Demand.{Demand, Asks, EndSurface, AskFrame, CommitTree, GetSubsurface, EndSubsurface, SetMode, GetPointer, MakeCursor, CreatePositioner, EndPositioner}
 use Rattle.wl_plain.specs.Demand.{SetPositioner, GetPopup, Grab, EndPopup, EndToplevel, Move}
 use Rattle.wl_plain.specs.Demanding.{effect_of_commit}
 use Rattle.wl_plain.specs.Desktop.{Desktop, Resident, Subsurface}
@@ -163,7 +163,8 @@ asks-has : (ask : Ask) (r : Resident) → IsAsked r ask → HasOf r → HasOf (c
 asks-has (Own action) r ok h = own-has (λ number. is_used number r.owned.surfaces) action r ok h
 asks-has (CreateSurface id version) r ok h = surface-made id version r ok h
 asks-has (AskSurface id request) r ok h = there-has r (with_surface_change id (asking request) r.owned.surfaces) (there-changed id (asking request) r.owned.surfaces (λ s. refl)) h
-asks-has (DestroyBase id) r ok h = has-object-gone r.peer.objects r.owned.surfaces r.subsurfaces r.owned.shell r.callbacks h id of.XdgWmBase refl refl refl refl refl ok
+asks-has (EndObject id) r (inl ok) h = has-object-gone r.peer.objects r.owned.surfaces r.subsurfaces r.owned.shell r.callbacks h id of.XdgWmBase refl refl refl refl refl ok
+asks-has (EndObject id) r (inr ok) h = has-object-gone r.peer.objects r.owned.surfaces r.subsurfaces r.owned.shell r.callbacks h id of.WlSubcompositor refl refl refl refl refl ok
 asks-has (GetXdgSurface id version base surface) r ok h = has-xdg-more r.peer.objects r.owned.surfaces r.subsurfaces r.owned.shell r.callbacks h id version ok.0 base surface
 asks-has (DestroyXdgSurface id) r ok h = has-xdg-gone r.peer.objects r.owned.surfaces r.subsurfaces r.owned.shell r.callbacks h id ok.0
 asks-has (GetToplevel id version xdg) r ok h = toplevel-made id version xdg r (xdg_at xdg r.owned.shell) ok.0 refl h
@@ -233,7 +234,6 @@ changed-has c (Asks ask) r d ok h = asks-has ask r ok h
 changed-has c (EndSurface id) r d ok h = surface-gone id r ok.0 h
 changed-has c (AskFrame id version surface) r d ok h = frame-made id version surface r ok h
 changed-has c (CommitTree surface) r d ok h = effect-has c surface (effect_of_commit r surface) (xdg_of surface r.owned.shell) d (tree_committed surface r) (tree-has surface r h)
-changed-has c (EndObject id) r d ok h = has-object-gone r.peer.objects r.owned.surfaces r.subsurfaces r.owned.shell r.callbacks h id of.WlSubcompositor refl refl refl refl refl ok
 changed-has c (GetSubsurface id version child parent) r d ok h = subsurface-made id version child parent r ok.0 h
 changed-has c (EndSubsurface id) r d ok h = subsurface-gone id r ok h
 changed-has c (SetMode link synchronised) r d ok h = mode-has link synchronised r h

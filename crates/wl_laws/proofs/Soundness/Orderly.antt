@@ -1,6 +1,6 @@
 -- What every desktop that is reached keeps of each client. It is why no surface gets two windows.
 use Rattle.std.proofs.Common.{◌≡◌, ℕ, ◌≤◌, ◌<◌, ◌+◌, Bool, true, false, List, [], Option, Some, None}
-use Rattle.std.specs.Prelude.{◌==◌, ◌&&◌, is_some, not, take}
+use Rattle.std.specs.Prelude.{◌==◌, ◌&&◌, ◌⊎◌, is_some, not, take}
 use Rattle.std.specs.List.{list_any}
 use Rattle.std.specs.Option.{option_and_then}
 use Rattle.wl_interface.specs.declared.interface.Interface.{Interface}
@@ -20,8 +20,8 @@ use Rattle.wl_surface.specs.declared.role.Role.TheVariants.{Subsurface as AsSubs
 use Rattle.wl_shell.specs.Popups.{is_toplevel_kind}
 use Rattle.wl_shell.specs.Shell.{Mapped, RoleObject, Shell, Toplevel, XdgSurface as Xdg, xdg_at, xdg_of, xdg_with}
 use Rattle.wl_scene.specs.Stacking.{Standing}
-use Rattle.wl_plain.specs.Ask.{Ask, Own, CreateSurface, AskSurface, DestroyBase, GetXdgSurface, DestroyXdgSurface, GetToplevel, Acknowledge, ConfigureAgain, Ignore}
-use Rattle.wl_plain.specs.Demand.{Demand, Asks, EndSurface, AskFrame, CommitTree, EndObject, GetSubsurface, EndSubsurface, SetMode, GetPointer, MakeCursor, CreatePositioner, EndPositioner}
+use Rattle.wl_plain.specs.Ask.{Ask, Own, CreateSurface, AskSurface, EndObject, GetXdgSurface, DestroyXdgSurface, GetToplevel, Acknowledge, ConfigureAgain, Ignore}
+use Rattle.wl_plain.specs.Demand.{Demand, Asks, EndSurface, AskFrame, CommitTree, GetSubsurface, EndSubsurface, SetMode, GetPointer, MakeCursor, CreatePositioner, EndPositioner}
 use Rattle.wl_plain.specs.Demand.{SetPositioner, GetPopup, Grab, EndPopup, EndToplevel, Move}
 use Rattle.wl_plain.specs.Desktop.{Desktop, Resident, client_at, toplevels_of}
 use Rattle.wl_laws.specs.Laws.{AreApart}
@@ -170,7 +170,7 @@ abbrev pub IsAsked : Resident → Ask → Type 0
 IsAsked r (Own action) = IsOwn r action
 IsAsked r (CreateSurface id version) = IsNew id r
 IsAsked r (AskSurface id request) = IsAskable id r.owned.surfaces request
-IsAsked r (DestroyBase id) = IsObject XdgWmBase id r
+IsAsked r (EndObject id) = IsObject XdgWmBase id r ⊎ IsObject WlSubcompositor id r
 IsAsked r (GetXdgSurface id version base surface) =
     IsNew id r × (is_foreign (role_of r surface) ≡ false) × (xdg_of surface r.owned.shell ≡ None)
 IsAsked r (DestroyXdgSurface id) = IsObject XdgSurface id r × HasNoRole (xdg_at id r.owned.shell)
@@ -186,7 +186,6 @@ IsAllowed r (Asks ask) = IsAsked r ask
 IsAllowed r (EndSurface id) = IsObject WlSurface id r × (xdg_of id r.owned.shell ≡ None)
 IsAllowed r (AskFrame id version surface) = IsNew id r
 IsAllowed r (CommitTree surface) = Unit {0}
-IsAllowed r (EndObject id) = IsObject WlSubcompositor id r
 IsAllowed r (GetSubsurface id version child parent) =
     IsNew id r × IsObject WlSurface child r × (is_no_subsurface (role_of r child) ≡ false) × (has_subsurface child r ≡ false)
     × (xdg_of child r.owned.shell ≡ None) × (is_too_deep r.owned.surfaces child parent ≡ false) × (is_bad_parent r.owned.surfaces child parent ≡ false)

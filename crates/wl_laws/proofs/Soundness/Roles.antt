@@ -14,7 +14,7 @@ use Rattle.wl_scene.specs.Stacking.{Owned}
 use Rattle.wl_plain.specs.Desktop.{Resident, Subsurface, Desktop}
 use Rattle.wl_laws.specs.Owning.{AreApartBy}
 use Rattle.wl_laws.specs.Soundness.{IsLive}
-use Rattle.wl_plain.specs.Step.{with_shell, with_surfaces, xdg_changed, asked_so_far, toplevel_given, changed_by, removing}
+use Rattle.wl_plain.specs.Step.{with_shell, with_surfaces, xdg_changed, asked_so_far, toplevel_given, changed_by}
 use Rattle.wl_plain.specs.WlSubsurface.{is_of_child}
 use Rattle.wl_plain.specs.XdgShell.{role_of, is_foreign}
 use Rattle.wl_laws.proofs.Soundness.Orderly.{HasRoles, KeepsLinks, KeepsTrees, role_in, IsForest, HasObjects, IsAllowed, IsAsked}
@@ -33,8 +33,8 @@ use Rattle.wl_laws.proofs.Soundness.Moves.{destroyed-live, destroyed-role, links
 use Rattle.wl_laws.proofs.Soundness.Linked.{linked-live}
 use Rattle.wl_laws.proofs.Keeping.StandingLists.{any-last}
 use Rattle.wl_plain.specs.Demanding.{effect_of_commit}
-use Rattle.wl_plain.specs.Ask.{Ask, Own, CreateSurface, AskSurface, DestroyBase, GetXdgSurface, DestroyXdgSurface, GetToplevel, Acknowledge, ConfigureAgain, Ignore}
-use Rattle.wl_plain.specs.Demand.{Demand, Asks, EndSurface, AskFrame, CommitTree, EndObject, GetSubsurface, EndSubsurface, SetMode, GetPointer, MakeCursor, CreatePositioner, EndPositioner}
+use Rattle.wl_plain.specs.Ask.{Ask, Own, CreateSurface, AskSurface, EndObject, GetXdgSurface, DestroyXdgSurface, GetToplevel, Acknowledge, ConfigureAgain, Ignore}
+use Rattle.wl_plain.specs.Demand.{Demand, Asks, EndSurface, AskFrame, CommitTree, GetSubsurface, EndSubsurface, SetMode, GetPointer, MakeCursor, CreatePositioner, EndPositioner}
 use Rattle.wl_plain.specs.Demand.{SetPositioner, GetPopup, Grab, EndPopup, EndToplevel, Move}
 
 -- ---- what is kept
@@ -396,7 +396,7 @@ roles-asked (CreateSurface id version) r is has =
     roles-same (with_surfaces (with_new_surface id r.owned.surfaces) r) (changed_by (CreateSurface id version) r) refl refl (roles-created id r has)
 roles-asked (AskSurface id request) r is has =
     roles-trees r (changed_by (AskSurface id request) r) (trees-asked id request r.owned.surfaces) (shell-same r.owned.shell) refl has
-roles-asked (DestroyBase id) r is has = roles-same r (changed_by (DestroyBase id) r) refl refl has
+roles-asked (EndObject id) r is has = roles-same r (changed_by (EndObject id) r) refl refl has
 roles-asked (GetXdgSurface id version base surface) r is has =
     roles-same (with_shell (with_new id base surface r.owned.shell) r) (changed_by (GetXdgSurface id version base surface) r) refl refl (roles-shelled id base surface r is.1 is.2 has)
 roles-asked (DestroyXdgSurface id) r is has =
@@ -416,7 +416,6 @@ roles-kept c (EndSurface id) r d is objects forest has = roles-destroyed id r fo
 roles-kept c (AskFrame id version surface) r d is objects forest has =
     roles-trees r (frame_asked id version surface r) (trees-asked surface (Frame r.peer.requests) r.owned.surfaces) (shell-same r.owned.shell) refl has
 roles-kept c (CommitTree surface) r d is objects forest has = roles-committed c surface r d has
-roles-kept c (EndObject id) r d is objects forest has = roles-same r (removing id r) refl refl has
 roles-kept c (GetSubsurface id version child parent) r d is objects forest has = roles-subsurface id version child parent r (objects.surfaces child is.1) is.4 forest has
 roles-kept c (EndSubsurface id) r d is objects forest has = roles-unlinked id r objects.subsurfaces.0 forest.apart has
 roles-kept c (SetMode link synchronised) r d is objects forest has = roles-mode link synchronised r has

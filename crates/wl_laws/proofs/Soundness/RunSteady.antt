@@ -11,9 +11,9 @@ use Rattle.wl_shell.specs.Positioner.{Positioner}
 use Rattle.wl_shell.specs.Shell.{Effect, Stays, Unconfigured, Configures, Maps, Unmaps, XdgSurface, xdg_at, xdg_of}
 use Rattle.wl_surface.specs.Surfaces.{is_used}
 use Rattle.wl_surface.specs.Waiting.{Callback}
-use Rattle.wl_plain.specs.Ask.{Ask, Own, CreateSurface, AskSurface, DestroyBase, GetXdgSurface, DestroyXdgSurface, GetToplevel, Acknowledge, ConfigureAgain, Ignore}
+use Rattle.wl_plain.specs.Ask.{Ask, Own, CreateSurface, AskSurface, EndObject, GetXdgSurface, DestroyXdgSurface, GetToplevel, Acknowledge, ConfigureAgain, Ignore}
 use Rattle.wl_plain.specs.Changing.{callbacks_of, changed_for, drawing, effect_done, grab_allowed, grabbed, has_focus, in_rising_order, mode_set, popup_given_to, tree_committed}
-use Rattle.wl_plain.specs.Demand.{Demand, Asks, EndSurface, AskFrame, CommitTree, EndObject, GetSubsurface, EndSubsurface, SetMode, GetPointer, MakeCursor, CreatePositioner, EndPositioner}
+use Rattle.wl_plain.specs.Demand.{Demand, Asks, EndSurface, AskFrame, CommitTree, GetSubsurface, EndSubsurface, SetMode, GetPointer, MakeCursor, CreatePositioner, EndPositioner}
 use Rattle.wl_plain.specs.Demand.{SetPositioner, GetPopup, Grab, EndPopup, EndToplevel, Move}
 use Rattle.wl_plain.specs.Demanding.{effect_of_commit}
 use Rattle.wl_plain.specs.Desktop.{Desktop, Resident}
@@ -48,7 +48,7 @@ asked-steady : (ask : Ask) (r : Resident) → IsSteady r.peer (changed_by ask r)
 asked-steady (Own action) r = own-steady (λ number. is_used number r.owned.surfaces) action r.peer
 asked-steady (CreateSurface id version) r = (refl, refl)
 asked-steady (AskSurface id request) r = (refl, refl)
-asked-steady (DestroyBase id) r = (refl, refl)
+asked-steady (EndObject id) r = (refl, refl)
 asked-steady (GetXdgSurface id version base surface) r = (refl, refl)
 asked-steady (DestroyXdgSurface id) r = (refl, refl)
 asked-steady (GetToplevel id version xdg) r = toplevel-steady id xdg (xdg_at xdg r.owned.shell) r
@@ -89,7 +89,6 @@ changed-steady c (Asks ask) d r = asked-steady ask r
 changed-steady c (EndSurface id) d r = callbacks-steady (callbacks_of id r) _
 changed-steady c (AskFrame id version surface) d r = (refl, refl)
 changed-steady c (CommitTree surface) d r = effect-steady c surface (effect_of_commit r surface) (xdg_of surface r.owned.shell) d (tree_committed surface r)
-changed-steady c (EndObject id) d r = (refl, refl)
 changed-steady c (GetSubsurface id version child parent) d r = (refl, refl)
 changed-steady c (EndSubsurface id) d r = (refl, refl)
 changed-steady c (SetMode link synchronised) d r = mode-steady link synchronised r

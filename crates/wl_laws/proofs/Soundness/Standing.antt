@@ -28,8 +28,8 @@ use Rattle.wl_plain.specs.Step.{asked_so_far, changed_by, toplevel_given}
 use Rattle.wl_shell.specs.Positioner.{Positioner}
 use Rattle.wl_peer.specs.Objects.{Object, interface_number, is_of as is_object_of}
 use Rattle.wl_interface.specs.declared.interface.Interface.TheVariants.{XdgPopup, XdgToplevel}
-use Rattle.wl_plain.specs.Ask.{Ask, Own, CreateSurface, AskSurface, DestroyBase, GetXdgSurface, DestroyXdgSurface, GetToplevel, Acknowledge, ConfigureAgain, Ignore}
-use Rattle.wl_plain.specs.Demand.{Demand, Asks, EndSurface, AskFrame, CommitTree, EndObject, GetSubsurface, EndSubsurface, SetMode, GetPointer, MakeCursor, CreatePositioner, EndPositioner}
+use Rattle.wl_plain.specs.Ask.{Ask, Own, CreateSurface, AskSurface, EndObject, GetXdgSurface, DestroyXdgSurface, GetToplevel, Acknowledge, ConfigureAgain, Ignore}
+use Rattle.wl_plain.specs.Demand.{Demand, Asks, EndSurface, AskFrame, CommitTree, GetSubsurface, EndSubsurface, SetMode, GetPointer, MakeCursor, CreatePositioner, EndPositioner}
 use Rattle.wl_plain.specs.Demand.{SetPositioner, GetPopup, Grab, EndPopup, EndToplevel, Move}
 
 -- ---- lists
@@ -488,7 +488,7 @@ standing-asked :
 standing-asked c (Own action) r d is has stands = stands
 standing-asked c (CreateSurface id version) r d is has stands = stands
 standing-asked c (AskSurface id request) r d is has stands = stands
-standing-asked c (DestroyBase id) r d is has stands = stands
+standing-asked c (EndObject id) r d is has stands = stands
 standing-asked c (GetXdgSurface id version base surface) r d is has stands =
     standing-same r.owned.shell (with_new id base surface r.owned.shell) (toplevels_of c d) (λ other here. mapped-new id base surface other r.owned.shell here) stands
 standing-asked c (DestroyXdgSurface id) r d is has stands =
@@ -514,7 +514,6 @@ standing-kept c (Asks ask) r windows d is has roles stands = standing-asked c as
 standing-kept c (EndSurface id) r windows d is has roles stands = stands
 standing-kept c (AskFrame id version surface) r windows d is has roles stands = stands
 standing-kept c (CommitTree surface) r windows d is has roles stands = standing-committed c surface r d has.shell.0 stands
-standing-kept c (EndObject id) r windows d is has roles stands = stands
 standing-kept c (GetSubsurface id version child parent) r windows d is has roles stands = stands
 standing-kept c (EndSubsurface id) r windows d is has roles stands = stands
 standing-kept c (SetMode link true) r windows d is has roles stands = stands

@@ -6,6 +6,7 @@ use Rattle.wl_proto.specs.declared.argument.NewId.{NewId}
 use Rattle.wl_proto.specs.declared.error.ProtoError.{ProtoError}
 use Rattle.wl_proto.specs.declared.wl_compositor.WlCompositorRequest.TheVariants as compositor
 use Rattle.wl_proto.specs.declared.wl_seat.WlSeatRequest.TheVariants as seat
+use Rattle.wl_proto.specs.declared.wl_subcompositor.WlSubcompositorRequest.TheVariants as subcompositor
 use Rattle.wl_proto.specs.declared.wl_surface.WlSurfaceRequest.{WlSurfaceRequest}
 use Rattle.wl_proto.specs.declared.wl_surface.WlSurfaceRequest.TheVariants as surface
 use Rattle.wl_proto.specs.declared.xdg_surface.XdgSurfaceRequest.{XdgSurfaceRequest}
@@ -180,7 +181,8 @@ interface-simple (ToSeat (seat.GetTouch id)) r object version served = refl
 interface-simple (ToBase request) r object version served = base-simple r object version request served
 interface-simple (ToXdgSurface request) r object version served = xdg-simple r (xdg_at object r.owned.shell) version request served
 interface-simple (ToToplevel request) r object version served = toplevel-simple r object (xdg_with object r.owned.shell) request
-interface-simple (ToSubcompositor request) r object version served = absurd (cc)
+interface-simple (ToSubcompositor subcompositor.Destroy) r object version served = asks _
+interface-simple (ToSubcompositor (subcompositor.GetSubsurface id child parent)) r object version served = absurd (cc)
 interface-simple (ToSubsurface request) r object version served = absurd (cc)
 interface-simple (ToPointer request) r object version served = absurd (cc)
 interface-simple (ToPositioner request) r object version served = absurd (cc)

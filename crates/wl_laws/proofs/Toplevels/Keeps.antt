@@ -18,7 +18,7 @@ use Rattle.wl_surface.specs.declared.role.Role.TheVariants.{Toplevel as AsToplev
 use Rattle.wl_surface.specs.Waiting.{Callback}
 use Rattle.wl_surface.specs.Frames.{frames_asked}
 use Rattle.wl_shell.specs.Shell.{Effect, Stays, Unconfigured, Configures, Maps, Unmaps, XdgSurface as Xdg, xdg_at, xdg_of}
-use Rattle.wl_plain.specs.Ask.{Own, CreateSurface, AskSurface, DestroyBase, GetXdgSurface, DestroyXdgSurface, GetToplevel, Acknowledge, ConfigureAgain, Ignore}
+use Rattle.wl_plain.specs.Ask.{Own, CreateSurface, AskSurface, EndObject, GetXdgSurface, DestroyXdgSurface, GetToplevel, Acknowledge, ConfigureAgain, Ignore}
 use Rattle.wl_plain.specs.Desktop.{Resident}
 use Rattle.wl_laws.specs.Owning.{AreApartBy}
 use Rattle.wl_plain.specs.Step.{after_surface, making, own_changed, toplevel_given, with_surfaces}
@@ -59,7 +59,7 @@ action_touches action = None
 abbrev pub touches : Simple → Option ℕ
 touches (Asking (Own action)) = action_touches action
 touches (Asking (CreateSurface id version)) = Some id
-touches (Asking (DestroyBase id)) = Some id
+touches (Asking (EndObject id)) = Some id
 touches (Asking (GetXdgSurface id version base surface)) = Some id
 touches (Asking (DestroyXdgSurface id)) = Some id
 touches (Asking (GetToplevel id version xdg)) = Some id
@@ -313,7 +313,7 @@ asked-owns (AskingFrame id version surface) r other only =
 asked-owns (Asking (AskSurface id request)) r other only = changed-owns id (asking request) (λ s. refl) r only
 asked-owns (CommitSurface id effect) r other only =
     effect-owns id effect (xdg_of id r.owned.shell) (after_surface id r (committed_on id r)) (changed-owns id (λ s. applying (asking Commit s)) (λ s. refl) r only)
-asked-owns (Asking (DestroyBase id)) r other only = same-owns (Asking (DestroyBase id)) r refl (both-at r r.peer.objects id None other (both-of r only)) refl refl refl only
+asked-owns (Asking (EndObject id)) r other only = same-owns (Asking (EndObject id)) r refl (both-at r r.peer.objects id None other (both-of r only)) refl refl refl only
 asked-owns (Asking (GetXdgSurface id version base surface)) r other only =
     same-owns (Asking (GetXdgSurface id version base surface)) r refl (both-at r r.peer.objects id _ other (both-of r only)) refl refl refl only
 asked-owns (Asking (DestroyXdgSurface id)) r other only =

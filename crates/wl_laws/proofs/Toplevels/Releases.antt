@@ -16,7 +16,7 @@ use Rattle.wl_surface.specs.declared.role.Role.TheVariants.{Toplevel as AsToplev
 use Rattle.wl_surface.specs.Waiting.{Callback}
 use Rattle.wl_surface.proofs.Records.{applied-kept, held-kept}
 use Rattle.wl_shell.specs.Shell.{Effect, Stays, Unconfigured, Configures, Maps, Unmaps, XdgSurface as Xdg, xdg_at, xdg_of}
-use Rattle.wl_plain.specs.Ask.{Ask, Own, CreateSurface, AskSurface, DestroyBase, GetXdgSurface, DestroyXdgSurface, GetToplevel, Acknowledge, ConfigureAgain, Ignore}
+use Rattle.wl_plain.specs.Ask.{Ask, Own, CreateSurface, AskSurface, EndObject, GetXdgSurface, DestroyXdgSurface, GetToplevel, Acknowledge, ConfigureAgain, Ignore}
 use Rattle.wl_plain.specs.Desktop.{Resident}
 use Rattle.wl_laws.specs.Owning.{AllCounts, AreApartBy}
 use Rattle.wl_plain.specs.Releases.{is_released, release_of, release_told, shown_at}
@@ -118,7 +118,7 @@ asked-told (AskSurface id request) r apart = refl
 asked-told (Own action) r apart = only (answers_simply (Asking (Own action)) r) (releases r (changed_by (Own action) r)) (still-released r (changed_by (Own action) r) refl)
 asked-told (CreateSurface id version) r apart = none-released r (changed_by (CreateSurface id version) r) (λ n busy. any-more (λ s. shows n s.history) r.owned.surfaces.surfaces
     (new_surface id ∷ []) busy)
-asked-told (DestroyBase id) r apart = only (answers_simply (Asking (DestroyBase id)) r) (releases r (changed_by (DestroyBase id) r)) (still-released r (changed_by (DestroyBase id) r) refl)
+asked-told (EndObject id) r apart = only (answers_simply (Asking (EndObject id)) r) (releases r (changed_by (EndObject id) r)) (still-released r (changed_by (EndObject id) r) refl)
 asked-told (GetXdgSurface id version base surface) r apart = still-released r (changed_by (GetXdgSurface id version base surface) r) refl
 asked-told (DestroyXdgSurface id) r apart = only (answers_simply (Asking (DestroyXdgSurface id)) r) (releases r (changed_by (DestroyXdgSurface id) r))
     (still-released r (changed_by (DestroyXdgSurface id) r) refl)

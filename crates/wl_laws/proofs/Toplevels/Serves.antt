@@ -14,7 +14,7 @@ use Rattle.wl_shell.specs.Shell.{Effect, Stays, Unconfigured, Configures, Maps, 
 use Rattle.wl_shell.specs.Shell.{new_toplevel, unmapping, with_change, with_new, without_role, without_xdg, xdg_at, xdg_of}
 use Rattle.wl_scene.specs.Pointer.{first_pointer}
 use Rattle.wl_scene.specs.Stacking.{Standing, without_client}
-use Rattle.wl_plain.specs.Ask.{Own, CreateSurface, AskSurface, DestroyBase, GetXdgSurface, DestroyXdgSurface, GetToplevel, Acknowledge, ConfigureAgain, Ignore}
+use Rattle.wl_plain.specs.Ask.{Own, CreateSurface, AskSurface, EndObject, GetXdgSurface, DestroyXdgSurface, GetToplevel, Acknowledge, ConfigureAgain, Ignore}
 use Rattle.wl_plain.specs.Changing.{with_kept_move}
 use Rattle.wl_plain.specs.Demand.{Demand}
 use Rattle.wl_plain.specs.Desktop.{Desktop, Resident, become, become_by, client_at, client_in, resident_of, with_client}
@@ -85,7 +85,7 @@ tops-kept (DestroySurface id) r top = top
 tops-kept (AskingFrame id version surface) r top = top
 tops-kept (Asking (AskSurface id request)) r top = top
 tops-kept (CommitSurface id effect) r top = top-effect id effect (xdg_of id r.owned.shell) _ top
-tops-kept (Asking (DestroyBase id)) r top = top
+tops-kept (Asking (EndObject id)) r top = top
 tops-kept (Asking (GetXdgSurface id version base surface)) r top = top-new id base surface r.owned.shell top
 tops-kept (Asking (DestroyXdgSurface id)) r top = top-without id r.owned.shell top
 tops-kept (Asking (GetToplevel id version xdg)) r top = top-given id xdg (xdg_at xdg r.owned.shell) r top

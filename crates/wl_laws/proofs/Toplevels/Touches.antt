@@ -1,14 +1,14 @@
 -- What an accepted message makes or takes away is neither a wl_surface nor a wl_callback, where no more than toplevels is served, but for a surface
 -- that goes.
-use Rattle.std.proofs.Common.{◌≡◌, true, false, Some, Result, refl, subst, ℕ}
+use Rattle.std.proofs.Common.{◌≡◌, true, false, Some, Result, refl, subst, ℕ, inl, inr}
 use Rattle.std.specs.Prelude.{Ok, Err, ◌==◌}
 use Rattle.wl_interface.specs.declared.interface.Interface.{Interface}
-use Rattle.wl_interface.specs.declared.interface.Interface.TheVariants.{WlRegion, WlSurface, WlShmPool, WlBuffer, XdgWmBase, XdgSurface, XdgToplevel, WlCallback}
+use Rattle.wl_interface.specs.declared.interface.Interface.TheVariants.{WlRegion, WlSurface, WlShmPool, WlBuffer, WlSubcompositor, XdgWmBase, XdgSurface, XdgToplevel, WlCallback}
 use Rattle.wl_peer.specs.declared.actions.Action.{Action}
 use Rattle.wl_peer.specs.declared.actions.Action.TheVariants.{GetRegistry, Bind, CreateRegion, DestroyRegion, CreatePool, CreateBuffer, DestroyPool, DestroyBuffer}
 use Rattle.wl_peer.specs.declared.refusals.Refusal.{Refusal}
 use Rattle.wl_peer.specs.Objects.{Objects, interface_number, is_of}
-use Rattle.wl_plain.specs.Ask.{Ask, Own, CreateSurface, DestroyBase, GetXdgSurface, DestroyXdgSurface, GetToplevel}
+use Rattle.wl_plain.specs.Ask.{Ask, Own, CreateSurface, EndObject, GetXdgSurface, DestroyXdgSurface, GetToplevel}
 use Rattle.wl_plain.specs.Demand.{Demand}
 use Rattle.wl_plain.specs.Demanding.{judge_all}
 use Rattle.wl_plain.specs.Desktop.{Resident}
@@ -42,7 +42,8 @@ own-apart r action own = tt
 ask-apart : (r : Resident) (ask : Ask) → IsAsked r ask → IsApart r.peer.objects (touches (Asking ask))
 ask-apart r (Own action) asked = own-apart r action asked
 ask-apart r (CreateSurface id version) asked = free-apart r.peer.objects id asked
-ask-apart r (DestroyBase id) asked = other-object XdgWmBase refl refl r.peer.objects id asked
+ask-apart r (EndObject id) (inl asked) = other-object XdgWmBase refl refl r.peer.objects id asked
+ask-apart r (EndObject id) (inr asked) = other-object WlSubcompositor refl refl r.peer.objects id asked
 ask-apart r (GetXdgSurface id version base surface) asked = free-apart r.peer.objects id asked.0
 ask-apart r (DestroyXdgSurface id) asked = other-object XdgSurface refl refl r.peer.objects id asked.0
 ask-apart r (GetToplevel id version xdg) asked = free-apart r.peer.objects id asked.0

@@ -9,7 +9,7 @@ use Rattle.wl_resident.specs.Residents.{AnswersAs, StacksSo}
 use Rattle.wl_plain.specs.Demanding.{demand_of}
 use Rattle.wl_plain.specs.LeftOut.{served_now}
 use Rattle.wl_resident.proofs.Doing.{named-by}
-use Rattle.wl_resident.proofs.Stackings.{base-stays, xdg-stays}
+use Rattle.wl_resident.proofs.Stackings.{base-stays, subcompositor-stays, xdg-stays}
 use Rattle.wl_resident.proofs.Stillness.{same-still}
 use Rattle.wl_shell.specs.Kept.{kept_of}
 use Rattle.wl_resident.proofs.residents.Resident.answer.Goals as goal
@@ -28,6 +28,9 @@ returns-in-Toplevel-clause-rest g c = c.xdg_toplevel.ensures.rest
 
 pub returns-in-Compositor-clause-rest : goal.returns-in-Compositor-clause-rest
 returns-in-Compositor-clause-rest g c = c.wl_compositor.ensures.rest
+
+pub returns-in-Subcompositor-clause-rest : goal.returns-in-Subcompositor-clause-rest
+returns-in-Subcompositor-clause-rest g c = c.wl_subcompositor.ensures.rest
 
 pub returns-in-Seat-clause-rest : goal.returns-in-Seat-clause-rest
 returns-in-Seat-clause-rest g c = c.wl_seat.ensures.rest
@@ -58,6 +61,15 @@ returns-in-Compositor-clause-answers g c = search rules
 
 pub returns-in-Compositor-clause-stacks : goal.returns-in-Compositor-clause-stacks
 returns-in-Compositor-clause-stacks g c = rw c.of-in-Compositor.ensures (search rules)
+
+pub returns-in-Subcompositor-clause-answers : goal.returns-in-Subcompositor-clause-answers
+returns-in-Subcompositor-clause-answers g c = search rules
+
+pub returns-in-Subcompositor-clause-stacks : goal.returns-in-Subcompositor-clause-stacks
+returns-in-Subcompositor-clause-stacks g c = rw c.of-in-Subcompositor.ensures (λ m kind entry r is only.
+    let v = c.args.self.now in
+    subst (λ (m : Message). StacksSo v r (demand_of served_now r c.args.object c.args.version m) Stays) (sym (rw c.in-Subcompositor.is at kind))
+    (subcompositor-stays v r c.args.object c.args.version c.in-Subcompositor.request))
 
 pub returns-in-Seat-clause-answers : goal.returns-in-Seat-clause-answers
 returns-in-Seat-clause-answers g c = search rules
@@ -120,6 +132,12 @@ returns-in-Compositor-clause-change g c = λ commits. let both = sym commits ∙
 pub returns-in-Compositor-clause-nothing : goal.returns-in-Compositor-clause-nothing
 returns-in-Compositor-clause-nothing g c = λ other. rw c.of-in-Compositor.ensures
 
+pub returns-in-Subcompositor-clause-change : goal.returns-in-Subcompositor-clause-change
+returns-in-Subcompositor-clause-change g c = λ commits. let both = sym commits ∙ c.in-Subcompositor.is in absurd (cc)
+
+pub returns-in-Subcompositor-clause-nothing : goal.returns-in-Subcompositor-clause-nothing
+returns-in-Subcompositor-clause-nothing g c = λ other. rw c.of-in-Subcompositor.ensures
+
 pub returns-in-Seat-clause-change : goal.returns-in-Seat-clause-change
 returns-in-Seat-clause-change g c = λ commits. let both = sym commits ∙ c.in-Seat.is in absurd (cc)
 
@@ -156,6 +174,12 @@ returns-in-Compositor-clause-decides g c = λ commits. let both = sym commits �
 pub returns-in-Compositor-clause-commits : goal.returns-in-Compositor-clause-commits
 returns-in-Compositor-clause-commits g c = λ commits. let both = sym commits ∙ c.in-Compositor.is in absurd (cc)
 
+pub returns-in-Subcompositor-clause-decides : goal.returns-in-Subcompositor-clause-decides
+returns-in-Subcompositor-clause-decides g c = λ commits. let both = sym commits ∙ c.in-Subcompositor.is in absurd (cc)
+
+pub returns-in-Subcompositor-clause-commits : goal.returns-in-Subcompositor-clause-commits
+returns-in-Subcompositor-clause-commits g c = λ commits. let both = sym commits ∙ c.in-Subcompositor.is in absurd (cc)
+
 pub returns-in-Seat-clause-decides : goal.returns-in-Seat-clause-decides
 returns-in-Seat-clause-decides g c = λ commits. let both = sym commits ∙ c.in-Seat.is in absurd (cc)
 
@@ -185,6 +209,11 @@ returns-in-Surface-clause-still g c = λ other. c.wl_surface.ensures.still (λ c
 
 pub returns-in-Compositor-clause-still : goal.returns-in-Compositor-clause-still
 returns-in-Compositor-clause-still g c = λ other p is. c.wl_compositor.ensures.still
+
+pub returns-in-Subcompositor-clause-still : goal.returns-in-Subcompositor-clause-still
+returns-in-Subcompositor-clause-still g c = λ other p is.
+    let v = c.args.self.now in
+    same-still v.owned.surfaces (kept_of v.owned.shell) c.wl_subcompositor.new.self.owned.surfaces c.wl_subcompositor.ensures.surfaces
 
 pub returns-in-XdgSurface-clause-still : goal.returns-in-XdgSurface-clause-still
 returns-in-XdgSurface-clause-still g c = λ other p is. c.xdg_surface.ensures.still

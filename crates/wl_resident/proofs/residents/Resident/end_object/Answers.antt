@@ -2,23 +2,23 @@ use Rattle.std.proofs.Common.{inr, sym, subst, refl}
 use Rattle.wl_shell.specs.Kept.{kept_of}
 use Rattle.wl_laws.specs.Owning.{IsOwned, Names}
 use Rattle.wl_plain.specs.Step.{removing}
-use Rattle.wl_resident.proofs.Shelling.{base-gone}
+use Rattle.wl_resident.proofs.Shelling.{alone-gone}
 use Rattle.wl_resident.proofs.Numbers.{keeps-names}
-use Rattle.wl_resident.proofs.residents.Resident.remove_base.Goals as goal
+use Rattle.wl_resident.proofs.residents.Resident.end_object.Goals as goal
 use Rattle.wl_resident.proofs.Framing.{framed-names, no-more}
 
 pub returns-clause-does : goal.returns-clause-does
-returns-clause-does g c = λ base r is.
+returns-clause-does g c = λ alone r is.
     let v = c.args.self.now in
     let gone = c.remove.ensures.removes r.peer is.peer in (
       gone.0,
       inr gone.1,
       record {
         peer = gone.2;
-        numbers = λ alive. keeps-names v.client.objects c.remove.new.self.objects (base-gone _ _ c.args.object base (c.remove.ensures.table alive));
+        numbers = λ alive. keeps-names v.client.objects c.remove.new.self.objects (alone-gone _ _ c.args.object alone (c.remove.ensures.table alive));
         frames = λ alive. framed-names v.owned.surfaces.frames v.client.objects c.remove.new.self.objects r (removing c.args.object r) refl (no-more r.peer.requests) is.frames
-            (base-gone _ _ c.args.object base (c.remove.ensures.table alive)) refl;
-        owns = λ alive. subst (λ (names : Names). IsOwned names v.owned.surfaces (kept_of v.owned.shell) r.owned) (sym (base-gone _ _ c.args.object base (c.remove.ensures.table alive))) is.owns;
+            (alone-gone _ _ c.args.object alone (c.remove.ensures.table alive)) refl;
+        owns = λ alive. subst (λ (names : Names). IsOwned names v.owned.surfaces (kept_of v.owned.shell) r.owned) (sym (alone-gone _ _ c.args.object alone (c.remove.ensures.table alive))) is.owns;
       },
     )
 

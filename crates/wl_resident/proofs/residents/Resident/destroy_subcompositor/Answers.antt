@@ -1,0 +1,19 @@
+use Rattle.std.proofs.Common.{inr, refl}
+use Rattle.std.specs.Prelude.{Ok}
+use Rattle.wl_interface.specs.declared.interface.Interface.TheVariants.{WlSubcompositor}
+use Rattle.wl_plain.specs.Ask.{EndObject}
+use Rattle.wl_plain.specs.Desktop.{Resident}
+use Rattle.wl_resident.proofs.Shelling.{counted-does, object-held}
+use Rattle.wl_resident.proofs.Simply.{simply}
+use Rattle.wl_resident.proofs.residents.Resident.destroy_subcompositor.Goals as goal
+
+pub returns-clause-answers : goal.returns-clause-answers
+returns-clause-answers g c = λ here client r on is only.
+    simply _ _ client on r only (Ok (EndObject c.args.object)) (
+    let v = c.args.self.now in
+    counted-does v (record v { client = c.count.new.self }) c.end_object.new.self r (λ (q : Resident). EndObject c.args.object) is c.count.ensures.only refl (c.count.ensures.counts r.peer is.peer)
+    refl
+    (c.end_object.ensures.does (inr (object-held WlSubcompositor v.client c.count.new.self c.args.object c.count.ensures.only here))))
+
+pub returns-clause-surfaces : goal.returns-clause-surfaces
+returns-clause-surfaces g c = c.end_object.ensures.surfaces
