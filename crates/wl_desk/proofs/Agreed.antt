@@ -9,7 +9,7 @@ use Rattle.wl_plain.specs.Marks.{AreDistinct}
 use Rattle.wl_plain.specs.Moments.{marks_at_least}
 use Rattle.wl_plain.specs.Stacked.{all_windows}
 use Rattle.wl_plain.specs.Step.{with_peer}
-use Rattle.wl_laws.proofs.Toplevels.Windows.{marks-same, windows-same}
+use Rattle.wl_records.proofs.Toplevels.Windows.{marks-same, windows-same}
 use Rattle.wl_laws.proofs.Soundness.Distinct.{windows_are_distinct}
 use Rattle.wl_desk.specs.Agreeing.{Agrees}
 use Rattle.wl_desk.specs.Feeding.{kept_at, kept_by, kept_of}

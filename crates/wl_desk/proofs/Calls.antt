@@ -16,7 +16,7 @@ use Rattle.wl_plain.specs.Desktop.{Desktop, Resident, arrival, become, become_by
 use Rattle.wl_resident.specs.Seats.{IsBare, IsChangedSo, IsSeated, ended_by}
 use Rattle.wl_plain.specs.LeftOut.{served_now}
 use Rattle.wl_plain.specs.Happens.{Serves}
-use Rattle.wl_laws.proofs.Toplevels.Altering.{Changes, ChangesAt, left_so}
+use Rattle.wl_records.proofs.Toplevels.Altering.{Changes, ChangesAt, left_so}
 use Rattle.wl_plain.specs.Act.{IsClosed, closed_by, lowest, next_of, peer_at, peer_of}
 use Rattle.wl_laws.proofs.Runs.Forms.{ConnectsAt}
 use Rattle.wl_paint.specs.Damage.{Damaged}
@@ -25,20 +25,20 @@ use Rattle.wl_plain.specs.declared.answers.ConnectError.TheVariants.{Full, Memor
 use Rattle.wl_plain.specs.declared.answers.Done.{Done}
 use Rattle.wl_plain.specs.declared.answers.Done.TheVariants as gave
 use Rattle.wl_plain.specs.Framing.{AreFramed}
-use Rattle.wl_laws.specs.Owning.{by_number, names_in}
+use Rattle.wl_records.specs.Owning.{by_number, names_in}
 use Rattle.wl_resident.specs.declared.residents.Resident.{Resident as Kept}
 use Rattle.wl_desk.specs.Feeding.{IsIdleIn, IsIdleOf, kept_at, kept_of}
 use Rattle.wl_desk.specs.Residents.{client_views, owned_views, resident_at}
 use Rattle.wl_desk.proofs.Desktops.{agrees-put, at, at-map, map-length, scene-out, seated-back, seated-out}
 use Rattle.wl_desk.proofs.Seats.{IsHere, client-here, client-put, clients-within, here-of, lowest-map, marked, owned-here, owned-put, view_of}
 use Rattle.wl_resident.proofs.Ends.{nameless-newcomer, owns-nothing}
-use Rattle.wl_laws.proofs.Keeping.OwningKeys.{differ, some-same}
+use Rattle.wl_laws.proofs.Lists.Keys.{differ, some-same}
 use Rattle.wl_resident.proofs.Scenes.{numbers-by, stack-by}
-use Rattle.wl_laws.proofs.Keeping.StandingSteps.{closed-stand, connects-stand, empty-stand}
+use Rattle.wl_records.proofs.Keeping.StandingSteps.{closed-stand, connects-stand, empty-stand}
 use Rattle.wl_resident.proofs.Taking.{gone-scene}
 use Rattle.wl_resident.proofs.Telling.{lives-of}
 use Rattle.wl_laws.proofs.Runs.Places.{client-kept}
-use Rattle.wl_laws.proofs.Keeping.FramingWaits.{framed-none}
+use Rattle.wl_records.proofs.Keeping.FramingWaits.{framed-none}
 use Rattle.wl_surface.specs.declared.frames.Waiting.{Waiting}
 use Rattle.wl_surface.specs.Surfaces.{no_surfaces}
 

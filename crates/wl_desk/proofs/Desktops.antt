@@ -9,7 +9,7 @@ use Rattle.wl_scene.specs.Stacking.{Stack}
 use Rattle.wl_resident.specs.Agreement.{Matches, IsPlace, IsScene, IsSeat, numbers_in, numbers_of, with_numbers}
 use Rattle.wl_plain.specs.Desktop.{Desktop, Resident, client_at, place, with_number, with_place}
 use Rattle.wl_resident.specs.Seats.{IsSeated}
-use Rattle.wl_laws.specs.Standing.{MappedStand}
+use Rattle.wl_records.specs.Standing.{MappedStand}
 use Rattle.wl_plain.specs.Act.{lowest, next_of}
 use Rattle.wl_resident.specs.View.{DeskView, OwnedView, owned_view}
 use Rattle.wl_resident.specs.declared.residents.Resident.{Resident as Kept}

@@ -10,16 +10,16 @@ use Rattle.std.proofs.lemmas.Bool.{or_left, or_right}
 use Rattle.wl_plain.specs.Desktop.{Desktop, Resident, become, become_by, client_at, status_in, status_of}
 use Rattle.wl_plain.specs.Framing.{FramesTold, FramesToldAt, FramesToldBy, done_due}
 use Rattle.wl_plain.specs.Moments.{marks_at_most}
-use Rattle.wl_laws.specs.NoMore.{NoMore}
-use Rattle.wl_laws.specs.Touching.{has_window_at}
+use Rattle.wl_records.specs.NoMore.{NoMore}
+use Rattle.wl_records.specs.Touching.{has_window_at}
 use Rattle.wl_scene.specs.Windows.{contains}
-use Rattle.wl_laws.proofs.Marks.Framing.{told-more}
-use Rattle.wl_laws.proofs.Marks.FramingKeeps.{IsAsOwned, frames-have, frames-same}
+use Rattle.wl_records.proofs.Marks.Framing.{told-more}
+use Rattle.wl_records.proofs.Marks.FramingKeeps.{IsAsOwned, frames-have, frames-same}
 use Rattle.wl_laws.proofs.Marks.Through.{unmarked-on}
 use Rattle.wl_laws.proofs.Runs.Fates.{same-or}
-use Rattle.wl_laws.proofs.Keeping.OwningKeys.{differ}
+use Rattle.wl_laws.proofs.Lists.Keys.{differ}
 use Rattle.wl_laws.proofs.Runs.Places.{other-become, status-become}
-use Rattle.wl_laws.proofs.Marks.TouchingSteps.{told-marks-nothing}
+use Rattle.wl_records.proofs.Marks.TouchingSteps.{told-marks-nothing}
 use Rattle.wl_scene.specs.Stacking.{Stack}
 use Rattle.wl_resident.specs.Agreement.{Matches, numbers_in}
 use Rattle.wl_resident.specs.Marking.{IsAsLarge, MarksAtLeast, MarksMost, MarksOwnIf}
@@ -34,7 +34,7 @@ use Rattle.wl_desk.proofs.Agreed.{agrees-apart, still-unmarked}
 use Rattle.wl_desk.specs.Residents.{client_views}
 use Rattle.wl_desk.proofs.Calls.{back, out}
 use Rattle.wl_desk.proofs.Seats.{IsHere, IsMissing, marked, view_of}
-use Rattle.wl_laws.proofs.Marks.Ending.{gone-most}
+use Rattle.wl_records.proofs.Marks.Ending.{gone-most}
 use Rattle.wl_desk.proofs.Most.{HasNoNew, sized as sized-by, told-over, told-windows}
 use Rattle.wl_desk.proofs.MarkedCalls.{or-none, own-marks, unlinked}
 

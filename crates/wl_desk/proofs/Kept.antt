@@ -19,11 +19,11 @@ use Rattle.wl_resident.specs.Seats.{IsSeated, ended_by}
 use Rattle.wl_plain.specs.declared.answers.Fed.TheVariants as fed
 use Rattle.wl_plain.specs.Step.{with_peer}
 use Rattle.wl_plain.specs.LeftOut.{served_now}
-use Rattle.wl_laws.specs.NoMore.{NoMore}
+use Rattle.wl_records.specs.NoMore.{NoMore}
 use Rattle.wl_plain.specs.Act.{fed_of, peer_at, status_of}
 use Rattle.wl_plain.specs.Happens.{Serves}
 use Rattle.wl_plain.specs.Through.{ServesThrough}
-use Rattle.wl_laws.proofs.Toplevels.Back.{message-by}
+use Rattle.wl_records.proofs.Toplevels.Back.{message-by}
 use Rattle.wl_resident.specs.View.{DeskView, OwnedView, owned_view}
 use Rattle.wl_resident.specs.declared.residents.Resident.{Resident as Kept}
 use Rattle.wl_desk.specs.Residents.{client_views, owned_views}
@@ -31,10 +31,11 @@ use Rattle.wl_desk.proofs.Calls.{back, ended_at, ended_of, out, peer-here}
 use Rattle.wl_desk.proofs.Desktops.{IsPut, at, numbers-put, place-at}
 use Rattle.wl_desk.proofs.Seats.{IsHere, client-here, client-put, owned-put, put-here, view_of}
 use Rattle.wl_desk.proofs.MarkedCalls.{unlinked}
-use Rattle.wl_laws.proofs.Runs.Places.{number-same, stacked-clients}
+use Rattle.wl_laws.proofs.Runs.Places.{number-same}
+use Rattle.wl_records.proofs.Toplevels.Stacks.{stacked-clients}
 use Rattle.wl_resident.proofs.Scenes.{stack-by}
 use Rattle.wl_resident.proofs.Telling.{come-seated, come_on, come_to}
-use Rattle.wl_laws.proofs.Toplevels.Simply.{changed_simply, stacked_simply}
+use Rattle.wl_records.proofs.Toplevels.Simply.{changed_simply, stacked_simply}
 
 pub ok-then : {A E P Q : Type 0} (r : Result A E) → (P → Q) → OnOk r P → OnOk r Q
 ok-then (Ok v) f p = f p

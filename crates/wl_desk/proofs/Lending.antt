@@ -16,11 +16,11 @@ use Rattle.wl_desk.proofs.Seats.{view_of}
 use Rattle.wl_resident.specs.Agreement.{Matches, IsPlace, numbers_in, numbers_of}
 use Rattle.wl_plain.specs.Desktop.{Desktop, Resident, client_at, owned_in, owned_of, place}
 use Rattle.wl_desk.specs.Lent.{client_lent}
-use Rattle.wl_laws.specs.Owning.{AreKept}
+use Rattle.wl_records.specs.Owning.{AreKept}
 use Rattle.wl_desk.specs.Painting.{AreLent}
 use Rattle.wl_resident.specs.View.{DeskView, OwnedView, owned_view}
 use Rattle.wl_desk.proofs.Desktops.{at-map}
-use Rattle.wl_laws.proofs.Keeping.StandingDesks.{all-show}
+use Rattle.wl_records.proofs.Keeping.StandingDesks.{all-show}
 
 -- nothing is kept of a client that isn't there
 nothing-kept : AreKept nothing no_slots no_surfaces

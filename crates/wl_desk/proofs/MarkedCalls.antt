@@ -17,11 +17,11 @@ use Rattle.wl_plain.specs.Desktop.{Desktop, Resident, arrival, become, become_by
 use Rattle.wl_laws.specs.Laws.{OwnsNothing}
 use Rattle.wl_resident.specs.Marking.{AreUnlinked, MarksOwn}
 use Rattle.wl_resident.specs.Seats.{IsChangedSo, IsSeated, ended_by}
-use Rattle.wl_laws.specs.Standing.{AreMapped}
-use Rattle.wl_laws.proofs.Toplevels.Altering.{Changes, ChangesAt, left_so}
+use Rattle.wl_records.specs.Standing.{AreMapped}
+use Rattle.wl_records.proofs.Toplevels.Altering.{Changes, ChangesAt, left_so}
 use Rattle.wl_plain.specs.Act.{IsClosed, IsSent, IsStored, closed_by, lowest}
 use Rattle.wl_laws.proofs.Runs.Forms.{ConnectsAt}
-use Rattle.wl_laws.specs.Touching.{any_window_at, has_window_at}
+use Rattle.wl_records.specs.Touching.{any_window_at, has_window_at}
 use Rattle.wl_resident.specs.View.{DeskView, OwnedView}
 use Rattle.wl_plain.specs.declared.answers.Done.{Done}
 use Rattle.wl_plain.specs.declared.answers.Done.TheVariants as gave
@@ -31,15 +31,15 @@ use Rattle.wl_desk.proofs.Calls.{closed-none, ended_at, ended_of, lowest-at, out
 use Rattle.wl_desk.proofs.Desktops.{at, place-at}
 use Rattle.wl_desk.proofs.Seats.{IsHere, view_of}
 use Rattle.wl_laws.proofs.Marks.Stacks.{and-left, differ}
-use Rattle.wl_laws.proofs.Keeping.StandingLists.{any-gone}
+use Rattle.wl_laws.proofs.Lists.Standings.{any-gone}
 use Rattle.wl_resident.proofs.Toplevels.{MarksToplevels}
 use Rattle.wl_resident.proofs.Scenes.{none-standing, others-all}
 use Rattle.wl_resident.proofs.Telling.{become-kept, lives-of}
-use Rattle.wl_laws.proofs.Marks.Touching.{desktops-touch, same-stays}
-use Rattle.wl_laws.proofs.Marks.TouchingMarks.{is_else}
-use Rattle.wl_laws.proofs.Marks.TouchingSteps.{end-touches, none-there, none_of, told-marks-nothing}
-use Rattle.wl_laws.proofs.Marks.TouchingWindows.{stands_else, windows-else}
-use Rattle.wl_laws.proofs.Toplevels.WithoutPopups.{windows_in, marks_of_toplevels}
+use Rattle.wl_records.proofs.Marks.Touching.{desktops-touch, same-stays}
+use Rattle.wl_records.proofs.Marks.TouchingMarks.{is_else}
+use Rattle.wl_records.proofs.Marks.TouchingSteps.{end-touches, none-there, none_of, told-marks-nothing}
+use Rattle.wl_records.proofs.Marks.TouchingWindows.{stands_else, windows-else}
+use Rattle.wl_records.proofs.Toplevels.WithoutPopups.{windows_in, marks_of_toplevels}
 
 -- ---- Booleans
 

@@ -17,9 +17,9 @@ use Rattle.wl_plain.specs.Framing.{FramesToldAt, FramesToldBy, done_due}
 use Rattle.wl_plain.specs.Happens.{Happens}
 use Rattle.wl_plain.specs.LeftOut.{served_now}
 use Rattle.wl_plain.specs.Moments.{marks_at_most}
-use Rattle.wl_laws.specs.NoMore.{NoMore}
-use Rattle.wl_laws.specs.Standing.{AreMapped}
-use Rattle.wl_laws.specs.Touching.{has_window_at}
+use Rattle.wl_records.specs.NoMore.{NoMore}
+use Rattle.wl_records.specs.Standing.{AreMapped}
+use Rattle.wl_records.specs.Touching.{has_window_at}
 use Rattle.wl_plain.specs.declared.answers.Done.{Done}
 use Rattle.wl_plain.specs.declared.answers.Done.TheVariants as gave
 use Rattle.wl_resident.specs.Agreement.{Matches}
@@ -28,15 +28,15 @@ use Rattle.wl_resident.specs.Seats.{ended_by}
 use Rattle.wl_resident.specs.View.{DeskView, MarkedDesk}
 use Rattle.wl_resident.proofs.Scenes.{none-standing}
 use Rattle.wl_resident.proofs.Within.{within-output}
-use Rattle.wl_laws.proofs.Toplevels.Altering.{ChangesAt, left_so}
-use Rattle.wl_laws.proofs.Toplevels.Back.{alters-back}
-use Rattle.wl_laws.proofs.Marks.Ending.{gone-most}
+use Rattle.wl_records.proofs.Toplevels.Altering.{ChangesAt, left_so}
+use Rattle.wl_records.proofs.Toplevels.Back.{alters-back}
+use Rattle.wl_records.proofs.Marks.Ending.{gone-most}
 use Rattle.wl_laws.proofs.Soundness.ObjectsKeys.{any-of-filter}
 use Rattle.wl_laws.proofs.Runs.Places.{number-other, other-become, status-become}
 use Rattle.wl_laws.proofs.Marks.Stacks.{differ}
-use Rattle.wl_laws.proofs.Toplevels.WithoutPopups.{windows_in}
-use Rattle.wl_laws.proofs.Marks.TouchingMarks.{is_else}
-use Rattle.wl_laws.proofs.Marks.TouchingWindows.{counted, windows-else, windows-same as windows-kept}
+use Rattle.wl_records.proofs.Toplevels.WithoutPopups.{windows_in}
+use Rattle.wl_records.proofs.Marks.TouchingMarks.{is_else}
+use Rattle.wl_records.proofs.Marks.TouchingWindows.{counted, windows-else, windows-same as windows-kept}
 use Rattle.wl_desk.specs.Agreeing.{Agrees}
 use Rattle.wl_desk.specs.Feeding.{Ends}
 use Rattle.wl_desk.proofs.Calls.{ended_of}

@@ -11,7 +11,7 @@ use Rattle.wl_resident.specs.View.{DeskView, MarkedDesk}
 use Rattle.wl_plain.specs.declared.answers.Done.{Done}
 use Rattle.wl_plain.specs.Desktop.{Desktop, Resident, become, client_at, empty, with_client, toplevels_of}
 use Rattle.wl_plain.specs.LeftOut.{served_now}
-use Rattle.wl_laws.specs.NoMore.{NoMore, OwnsToplevelsAt}
+use Rattle.wl_records.specs.NoMore.{NoMore, OwnsToplevelsAt}
 use Rattle.wl_plain.specs.Settling.{EndsAndSettles, becomes, unstruck}
 use Rattle.wl_plain.specs.Step.{with_peer}
 use Rattle.wl_plain.specs.Act.{Act}
@@ -23,16 +23,16 @@ use Rattle.wl_desk.specs.Feeding.{Ends, EndsBy, EndsOf, IsIdleIn, kept_at, kept_
 use Rattle.wl_desk.proofs.Calls.{Ended-none, Idle-none, Kept-none, ended_at, ended_of}
 use Rattle.wl_desk.proofs.MarkedCalls.{ends-none-marks}
 use Rattle.wl_desk.proofs.Seats.{IsMissing}
-use Rattle.wl_laws.proofs.Toplevels.Altering.{Alters, IsCall}
-use Rattle.wl_laws.proofs.Toplevels.Back.{alters-back, settled-back}
-use Rattle.wl_laws.proofs.Toplevels.Desks.{become-has, empty-has}
-use Rattle.wl_laws.proofs.Toplevels.Lasts.{alters-has}
-use Rattle.wl_laws.proofs.Toplevels.Messages.{serves-has}
-use Rattle.wl_laws.proofs.Toplevels.Serves.{becomes-same, living, only-peer, settles-to}
-use Rattle.wl_laws.proofs.Toplevels.Steps.{alters-whole, has-put, stays-by}
-use Rattle.wl_laws.proofs.Toplevels.Touches.{touches_apart}
+use Rattle.wl_records.proofs.Toplevels.Altering.{Alters, IsCall}
+use Rattle.wl_records.proofs.Toplevels.Back.{alters-back, settled-back}
+use Rattle.wl_records.proofs.Toplevels.Desks.{become-has, empty-has}
+use Rattle.wl_records.proofs.Toplevels.Lasts.{alters-has}
+use Rattle.wl_records.proofs.Toplevels.Messages.{serves-has}
+use Rattle.wl_records.proofs.Toplevels.Serves.{becomes-same, living, only-peer, settles-to}
+use Rattle.wl_records.proofs.Toplevels.Steps.{alters-whole, has-put, stays-by}
+use Rattle.wl_records.proofs.Toplevels.Touches.{touches_apart}
 use Rattle.wl_resident.proofs.Toplevels.{MarksToplevels, marks-all}
-use Rattle.wl_laws.proofs.Keeping.OwningKeys.{none-some}
+use Rattle.wl_laws.proofs.Lists.Keys.{none-some}
 use Rattle.wl_laws.proofs.Runs.Places.{client-kept}
 
 -- ---- a step

@@ -25,9 +25,9 @@ use Rattle.wl_client.specs.View.{ClientView}
 use Rattle.wl_scene.specs.Stacking.{Owned, Standing, root_of, windows_on}
 use Rattle.wl_plain.specs.Desktop.{Desktop, Resident, client_at, owned_in}
 use Rattle.wl_desk.specs.Lent.{or_transparent, picture_shown, window_kept, window_lent, windows_lent}
-use Rattle.wl_laws.specs.Owning.{AreKept}
+use Rattle.wl_records.specs.Owning.{AreKept}
 use Rattle.wl_plain.specs.Scratch.{bytes_now, color_in, over, pixel_at}
-use Rattle.wl_laws.proofs.Keeping.OwningSurfaces.{surface-read}
+use Rattle.wl_records.proofs.Keeping.OwningSurfaces.{surface-read}
 use Rattle.wl_laws.proofs.Marks.Stacks.{and-both, and-left, and-right, differ}
 use Rattle.wl_blend.specs.Blend.{blended, div255}
 use Rattle.wl_blend.specs.declared.color.Rgb.{Rgb}
@@ -35,8 +35,8 @@ use Rattle.wl_surface.specs.State.{History, Values, applied, height_of, width_of
 use Rattle.wl_surface.specs.Surfaces.{Surface, history_in, is_there, surface_at}
 use Rattle.wl_scene.specs.Lent.{AllShow, Shows, shows_buffer}
 use Rattle.wl_scene.specs.Windows.{Owner, Place, Window, corner_at, contains, owner_of, window_showing, window_with}
-use Rattle.wl_laws.proofs.Toplevels.Windows.{windows-same}
-use Rattle.wl_laws.proofs.Toplevels.OneWindow.{one-window, window_list}
+use Rattle.wl_records.proofs.Toplevels.Windows.{windows-same}
+use Rattle.wl_records.proofs.Toplevels.OneWindow.{one-window, window_list}
 use Rattle.wl_resident.specs.Agreement.{IsStack}
 use Rattle.wl_desk.specs.Painting.{IsColor, LendsOpaqueAsSaid, PaintsTheDesktop}
 

@@ -13,9 +13,9 @@ use Rattle.wl_scene.specs.Stacking.{Standing}
 use Rattle.wl_scene.specs.Windows.{contains}
 use Rattle.wl_resident.specs.Agreement.{IsStack}
 use Rattle.wl_plain.specs.Desktop.{Desktop, client_at, owned_in}
-use Rattle.wl_laws.specs.NoMore.{NoMore}
+use Rattle.wl_records.specs.NoMore.{NoMore}
 use Rattle.wl_desk.specs.Lent.{windows_lent}
-use Rattle.wl_laws.specs.Owning.{AreKept}
+use Rattle.wl_records.specs.Owning.{AreKept}
 use Rattle.wl_plain.specs.Scratch.{color_in, scratch}
 use Rattle.wl_plain.specs.Stacked.{all_windows}
 

@@ -1,7 +1,6 @@
 pub mod Isolation
-pub mod Keeping
+pub mod Lists
 pub mod Marks
 pub mod Pieces
 pub mod Runs
 pub mod Soundness
-pub mod Toplevels

@@ -1,26 +1,7 @@
 -- What a step marks at least and at most, and that a point that is not marked is painted as before.
 pub mod Bounds
-pub mod CommitDamage
-pub mod Ending
-pub mod EndingStruck
-pub mod EndingThrough
-pub mod Framing
-pub mod FramingEnds
-pub mod FramingKeeps
-pub mod Most
 pub mod Painted
-pub mod SameStacks
 pub mod ShownWindows
 pub mod Stacks
 pub mod Through
 pub mod Together
-pub mod Touching
-pub mod TouchingAsks
-pub mod TouchingChanges
-pub mod TouchingCommits
-pub mod TouchingDamage
-pub mod TouchingKeeps
-pub mod TouchingMarks
-pub mod TouchingMessages
-pub mod TouchingSteps
-pub mod TouchingWindows

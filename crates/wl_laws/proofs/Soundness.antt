@@ -4,6 +4,7 @@ pub mod AllowedAsks
 pub mod AllowedHeard
 pub mod AllowedOwn
 pub mod Distinct
+pub mod Fields
 pub mod First
 pub mod Forest
 pub mod Happenings

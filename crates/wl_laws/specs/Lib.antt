@@ -1,15 +1,10 @@
-pub mod Alone
 pub mod Ample
 pub mod AnyPieces
+pub mod Apart
 pub mod Happenings
 pub mod Laws
-pub mod NoMore
-pub mod NoMoreLaws
 pub mod Others
 pub mod Own
-pub mod Owning
 pub mod RunLaws
 pub mod Soundness
-pub mod Standing
 pub mod Through
-pub mod Touching

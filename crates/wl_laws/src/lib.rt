@@ -1,14 +1,11 @@
 //! The laws of the plain desktop, each a function that does nothing and promises it: what may happen and that it is determined, that a client's
-//! stream may be cut anywhere, that clients are left alone, that desktops stay sound, and that what isn't marked is painted as before; and how
-//! what is kept of a client stands for what it owns.
+//! stream may be cut anywhere, that clients are left alone, that desktops stay sound, and that what isn't marked is painted as before.
 #![tactic(auto)]
 
 ghost use Rattle.wl_laws.specs.AnyPieces.{AnyPieces};
 ghost use Rattle.wl_laws.specs.Happenings.{HappeningsAreSound, MarkedThrough, PieceIsMessages};
-ghost use Rattle.wl_laws.specs.Alone.{ServedAlone};
 ghost use Rattle.wl_laws.specs.Laws.{LeastIsMost, ScratchStays, WindowsAreDistinct};
 ghost use Rattle.wl_laws.specs.Soundness.{EmptyIsSound, RunIsSound, SoundIsDistinct};
-ghost use Rattle.wl_laws.specs.NoMoreLaws.{EmptyHasNoMore, NoMoreStays};
 ghost use Rattle.wl_laws.specs.Through.{HappensLeadsThrough, MessagesLeadThrough};
 ghost use Rattle.wl_laws.specs.RunLaws.{EndsStay, MayHappen, OneRun, OnlyRun};
 ghost use Rattle.wl_laws.specs.Others.{RefusedAlone, OthersAreLeftAlone};
@@ -61,11 +58,6 @@ pub fn own_stays()
     ensures { OwnStays }
 {}
 
-/// Where no more is served than a client's own interfaces, a piece makes of the desktop's client what it makes of the client by itself.
-pub fn served_alone()
-    ensures { ServedAlone }
-{}
-
 /// Whatever is asked of a desktop may happen, with some answer; where memory is there, by a function.
 pub fn may_happen()
     ensures { MayHappen }
@@ -89,16 +81,6 @@ pub fn any_pieces()
 /// A client that ended stays so, for the same cause, until its number is given back.
 pub fn ends_stay()
     ensures { EndsStay }
-{}
-
-/// A desktop without clients has no trace of what isn't served.
-pub fn empty_has_no_more()
-    ensures { EmptyHasNoMore }
-{}
-
-/// A step leaves no trace of what isn't served where there was none, unless it is a motion of the pointer or a button.
-pub fn no_more_stays()
-    ensures { NoMoreStays }
 {}
 
 /// A message leads where it leads through the desktops of its own change, of each end and of each settling of the focus, and these are there.

@@ -19,10 +19,10 @@ use Rattle.wl_scene.specs.Stacking.{Owned}
 use Rattle.wl_plain.specs.Desktop.{Resident}
 use Rattle.wl_plain.specs.Framing.{done_due}
 use Rattle.wl_plain.specs.Happens.{callbacks_due, frame_told, frames_told}
-use Rattle.wl_laws.specs.Owning.{AreKept, IsOwned, Names, by_number, names_in, names_surface, targets_in}
-use Rattle.wl_laws.proofs.Keeping.FramingWaits.{framed-less}
+use Rattle.wl_records.specs.Owning.{AreKept, IsOwned, Names, by_number, names_in, names_surface, targets_in}
+use Rattle.wl_records.proofs.Keeping.FramingWaits.{framed-less}
 use Rattle.wl_laws.proofs.Soundness.ObjectsHas.{has_callback}
-use Rattle.wl_laws.proofs.Keeping.OwningNames.{names-other-gone}
+use Rattle.wl_records.proofs.Keeping.OwningNames.{names-other-gone}
 use Rattle.wl_resident.specs.declared.residents.Resident.{Resident as Kept}
 use Rattle.wl_resident.specs.Residents.{IsLeft, IsResident}
 use Rattle.wl_resident.proofs.Answering.{IsAnswered, all-answered, all-callbacks, answered-on, any-middle, counting-due, none-due, over-told, without_it}

@@ -17,13 +17,14 @@ use Rattle.wl_surface.specs.Waiting.{AreUndue, Callback, IsUndue, applied_at, is
 use Rattle.wl_plain.specs.Desktop.{Resident}
 use Rattle.wl_plain.specs.Framing.{done_due}
 use Rattle.wl_plain.specs.Happens.{callbacks_due, frame_told, frames_told}
-use Rattle.wl_laws.specs.Owning.{AreApartBy, AreKept, by_number}
-use Rattle.wl_laws.proofs.Toplevels.Heard.{AreHeard}
-use Rattle.wl_laws.proofs.Toplevels.Messages.{told-objects}
+use Rattle.wl_records.specs.Owning.{AreKept, by_number}
+use Rattle.wl_laws.specs.Apart.{AreApartBy}
+use Rattle.wl_records.proofs.Toplevels.Heard.{AreHeard}
+use Rattle.wl_records.proofs.Toplevels.Messages.{told-objects}
 use Rattle.wl_laws.proofs.Soundness.ObjectsHas.{has_callback}
 use Rattle.wl_laws.proofs.Soundness.ObjectsKeys.{objects-gone}
-use Rattle.wl_laws.proofs.Keeping.OwningKeys.{differ, none-some}
-use Rattle.wl_laws.proofs.Keeping.OwningSurfaces.{any-is}
+use Rattle.wl_laws.proofs.Lists.Keys.{differ, none-some}
+use Rattle.wl_records.proofs.Keeping.OwningSurfaces.{any-is}
 use Rattle.wl_resident.proofs.Framing.{left-by, told-requests}
 
 -- ---- which count

@@ -21,7 +21,7 @@ use Rattle.wl_peer.specs.declared.cause.Cause.TheVariants.{Protocol}
 use Rattle.wl_shell.specs.Shell.{Effect, Maps, Unmaps}
 use Rattle.wl_table.specs.Objects.{Held}
 use Rattle.wl_interface.specs.declared.interface.Interface.TheVariants.{WlSurface}
-use Rattle.wl_laws.specs.Owning.{targets_in}
+use Rattle.wl_records.specs.Owning.{targets_in}
 use Rattle.wl_client.specs.View.{ClientView}
 use Rattle.wl_peer.specs.declared.refusals.ErrorCode.TheVariants.{InvalidMethod, MissingCapability}
 use Rattle.wl_peer.specs.declared.refusals.Refusal.{Refusal}
@@ -36,10 +36,10 @@ use Rattle.wl_plain.specs.Demand.{Demand, CommitTree, EndToplevel}
 use Rattle.wl_plain.specs.Demanding.{demand_of, effect_of_commit, judge_all}
 use Rattle.wl_plain.specs.Desktop.{Desktop, Resident}
 use Rattle.wl_plain.specs.LeftOut.{served_now}
-use Rattle.wl_laws.specs.NoMore.{OwnsToplevelsOnly}
+use Rattle.wl_records.specs.NoMore.{OwnsToplevelsOnly}
 use Rattle.wl_resident.specs.Residents.{AnswersAs, AnswersDemand, AnswersDemandAs, AnswersSo, IsResident, NewIsFree, ObjectsFit, Stacks, StacksBy, StacksFor, StacksSo, StacksTo, TakesAs, TakesSo}
 use Rattle.wl_plain.specs.Step.{with_peer}
-use Rattle.wl_laws.proofs.Toplevels.Serves.{only-peer}
+use Rattle.wl_records.proofs.Toplevels.Serves.{only-peer}
 use Rattle.wl_laws.proofs.Pieces.Changing.{judged-behind}
 use Rattle.wl_resident.proofs.Numbers.{left-from}
 use Rattle.wl_resident.proofs.Shelling.{meets-from, new-free, refused-whole}

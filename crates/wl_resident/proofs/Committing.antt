@@ -10,12 +10,12 @@ use Rattle.wl_shell.specs.declared.acts.Placed.{Placed}
 use Rattle.wl_shell.specs.declared.acts.ShellAct.{ShellAct}
 use Rattle.wl_shell.specs.declared.acts.ShellAct.TheVariants.{Configure, Map, Unmap, Nothing}
 use Rattle.wl_plain.specs.Desktop.{Resident}
-use Rattle.wl_laws.specs.Owning.{IsOwned, Names, effect_by, kept_id}
+use Rattle.wl_records.specs.Owning.{IsOwned, Names, effect_by, kept_id}
 use Rattle.wl_resident.specs.Residents.{drawn_by, told_by, told_of}
 use Rattle.wl_plain.specs.Step.{after_surface, configures_told, role_configured, toplevel_configured, xdg_configured}
-use Rattle.wl_laws.proofs.Keeping.OwningReads.{configures-read}
-use Rattle.wl_laws.proofs.Keeping.OwningXdg.{xdg-of}
-use Rattle.wl_laws.proofs.Toplevels.Simply.{CommitSurface, answers_simply, changed_simply, committed_on, effect_on}
+use Rattle.wl_records.proofs.Keeping.OwningReads.{configures-read}
+use Rattle.wl_records.proofs.Keeping.OwningXdg.{xdg-of}
+use Rattle.wl_records.proofs.Toplevels.Simply.{CommitSurface, answers_simply, changed_simply, committed_on, effect_on}
 
 -- only a configure changes more of a client than its xdg_surface
 mapped-peer : (id : ℕ) (o : Option XdgSurface) (r : Resident) → (effect_on id Maps o r).peer ≡ r.peer

@@ -25,15 +25,15 @@ use Rattle.wl_plain.specs.Desktop.{Resident}
 use Rattle.wl_interface.specs.declared.interface.Interface.TheVariants.{WlSurface}
 use Rattle.wl_table.specs.Objects.{Held, entry_of}
 use Rattle.wl_table.specs.declared.entry.Entry.{Entry}
-use Rattle.wl_laws.specs.Owning.{AreKept, by_number, names_in, targets_in}
-use Rattle.wl_laws.proofs.Keeping.OwningNames.{targets-at}
+use Rattle.wl_records.specs.Owning.{AreKept, by_number, names_in, targets_in}
+use Rattle.wl_records.proofs.Keeping.OwningNames.{targets-at}
 use Rattle.wl_resident.specs.Residents.{IsLeft, IsResident, IsSurface, KeepsFrames, Owns}
 use Rattle.wl_plain.specs.Step.{changed_by}
-use Rattle.wl_laws.proofs.Keeping.Letting.{asked-keeps}
+use Rattle.wl_records.proofs.Keeping.Letting.{asked-keeps}
 use Rattle.wl_resident.proofs.Numbers.{keeps-same}
 use Rattle.wl_resident.proofs.Framing.{IsFramed, framed-asked, no-more}
-use Rattle.wl_laws.proofs.Keeping.OwningAsks.{owned-asked}
-use Rattle.wl_laws.proofs.Keeping.OwningSurfaces.{surface-named, surface-read}
+use Rattle.wl_records.proofs.Keeping.OwningAsks.{owned-asked}
+use Rattle.wl_records.proofs.Keeping.OwningSurfaces.{surface-named, surface-read}
 
 -- what ended isn't there
 pub gone : {X : Type 0} (o : Option X) → is_some o ≡ true → o ≡ None → ⊥

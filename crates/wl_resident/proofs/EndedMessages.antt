@@ -21,12 +21,12 @@ use Rattle.wl_shell.specs.declared.stage.Stage.TheVariants as stage
 use Rattle.wl_scene.specs.Stacking.{Owned, Stack, Standing, is_of}
 use Rattle.wl_scene.specs.Windows.{Place, corner_at, moved}
 use Rattle.wl_plain.specs.Desktop.{Desktop, Resident, owned_of}
-use Rattle.wl_laws.specs.Owning.{targets_in}
-use Rattle.wl_laws.specs.Standing.{is_mapped}
-use Rattle.wl_laws.specs.Touching.{has_window_at}
+use Rattle.wl_records.specs.Owning.{targets_in}
+use Rattle.wl_records.specs.Standing.{is_mapped}
+use Rattle.wl_records.specs.Touching.{has_window_at}
 use Rattle.wl_plain.specs.WlSurface.{will_show}
-use Rattle.wl_laws.proofs.Keeping.OwningSurfaces.{surface-named, surface-read}
-use Rattle.wl_laws.proofs.Toplevels.Simply.{effect_for, effect_of}
+use Rattle.wl_records.proofs.Keeping.OwningSurfaces.{surface-named, surface-read}
+use Rattle.wl_records.proofs.Toplevels.Simply.{effect_for, effect_of}
 use Rattle.wl_laws.proofs.Marks.Stacks.{and-both, and-left, and-right, differ}
 use Rattle.wl_resident.specs.Agreement.{IsStack, IsStanding, with_numbers}
 use Rattle.wl_resident.specs.Marking.{counted_at, is_shown_by, shows_point}

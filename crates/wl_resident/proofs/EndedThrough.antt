@@ -27,27 +27,27 @@ use Rattle.wl_laws.specs.Laws.{AreApart}
 use Rattle.wl_plain.specs.LeftOut.{served_now}
 use Rattle.wl_plain.specs.Marks.{has_same_record, in_output}
 use Rattle.wl_plain.specs.Moments.{history_of, marks_at_least, marks_at_least_through, marks_at_most, marks_at_most_through}
-use Rattle.wl_laws.specs.NoMore.{NoMore}
-use Rattle.wl_laws.specs.Owning.{AreKept, by_number, targets_in}
+use Rattle.wl_records.specs.NoMore.{NoMore}
+use Rattle.wl_records.specs.Owning.{AreKept, by_number, targets_in}
 use Rattle.wl_plain.specs.Stacked.{all_windows}
-use Rattle.wl_laws.specs.Standing.{AreMapped}
+use Rattle.wl_records.specs.Standing.{AreMapped}
 use Rattle.wl_plain.specs.Step.{with_peer}
-use Rattle.wl_laws.specs.Touching.{changes_at, has_window_at, is_window_damaged, is_window_of, window_at}
-use Rattle.wl_laws.proofs.Toplevels.Back.{AsksBy}
-use Rattle.wl_laws.proofs.Marks.Ending.{gone-least, gone-most, no-links, twice-least, twice-most}
-use Rattle.wl_laws.proofs.Marks.EndingStruck.{at-own, own-stand, struck-kept, struck-least, struck-most, struck-own, struck-was}
-use Rattle.wl_laws.proofs.Marks.EndingThrough.{Struck}
+use Rattle.wl_records.specs.Touching.{changes_at, has_window_at, is_window_damaged, is_window_of, window_at}
+use Rattle.wl_records.proofs.Toplevels.Back.{AsksBy}
+use Rattle.wl_records.proofs.Marks.Ending.{gone-least, gone-most, no-links, twice-least, twice-most}
+use Rattle.wl_records.proofs.Marks.EndingStruck.{at-own, own-stand, struck-kept, struck-least, struck-most, struck-own, struck-was}
+use Rattle.wl_records.proofs.Marks.EndingThrough.{Struck}
 use Rattle.wl_laws.proofs.Soundness.ObjectsKeys.{any-of-filter}
-use Rattle.wl_laws.proofs.Keeping.OwningKeys.{found-any, some-same}
-use Rattle.wl_laws.proofs.Keeping.OwningSurfaces.{AreKept-changed, surface-read}
-use Rattle.wl_laws.proofs.Toplevels.Simply.{CommitSurface, Simple, changed_simply, effect_of, stacked_simply, told_simply, touched}
+use Rattle.wl_laws.proofs.Lists.Keys.{found-any, some-same}
+use Rattle.wl_records.proofs.Keeping.OwningSurfaces.{AreKept-changed, surface-read}
+use Rattle.wl_records.proofs.Toplevels.Simply.{CommitSurface, Simple, changed_simply, effect_of, stacked_simply, told_simply, touched}
 use Rattle.wl_laws.proofs.Marks.Stacks.{and-both, and-left, differ, unless}
-use Rattle.wl_laws.proofs.Keeping.StandingDesks.{all-show}
-use Rattle.wl_laws.proofs.Keeping.StandingFound.{Finds}
-use Rattle.wl_laws.proofs.Marks.TouchingAsks.{effect-surfaces}
-use Rattle.wl_laws.proofs.Marks.TouchingCommits.{IsAppliedBy}
-use Rattle.wl_laws.proofs.Marks.TouchingMarks.{either-of}
-use Rattle.wl_laws.proofs.Marks.TouchingMessages.{asks-find}
+use Rattle.wl_records.proofs.Keeping.StandingDesks.{all-show}
+use Rattle.wl_records.proofs.Keeping.StandingFound.{Finds}
+use Rattle.wl_records.proofs.Marks.TouchingAsks.{effect-surfaces}
+use Rattle.wl_records.proofs.Marks.TouchingCommits.{IsAppliedBy}
+use Rattle.wl_records.proofs.Marks.TouchingMarks.{either-of}
+use Rattle.wl_records.proofs.Marks.TouchingMessages.{asks-find}
 use Rattle.wl_resident.specs.Agreement.{IsStack, with_numbers}
 use Rattle.wl_resident.specs.Marking.{IsRecordOf, MarksAtLeast, MarksMost, MarksThrough, any_record_has, commit_by, is_shown_by, marked_by, marked_in}
 use Rattle.wl_resident.specs.Messages.{IsAsked}

@@ -20,12 +20,12 @@ use Rattle.wl_scene.specs.Stacking.{nothing_owned}
 use Rattle.wl_scene.specs.declared.owned.Owned.{Owned}
 use Rattle.wl_resident.specs.Agreement.{IsSeat}
 use Rattle.wl_plain.specs.Desktop.{Resident, resident_of}
-use Rattle.wl_laws.specs.Owning.{IsOwned, names_in, target_as, targets_in, by_number}
+use Rattle.wl_records.specs.Owning.{IsOwned, names_in, target_as, targets_in, by_number}
 use Rattle.wl_plain.specs.Framing.{AreFramed}
 use Rattle.wl_resident.specs.Seats.{IsBare}
 use Rattle.wl_resident.specs.View.{OwnedView, owned_view}
-use Rattle.wl_laws.proofs.Keeping.OwningKeys.{differ}
-use Rattle.wl_laws.proofs.Keeping.FramingWaits.{framed-none}
+use Rattle.wl_laws.proofs.Lists.Keys.{differ}
+use Rattle.wl_records.proofs.Keeping.FramingWaits.{framed-none}
 use Rattle.wl_surface.specs.declared.frames.Waiting.{Waiting}
 use Rattle.wl_surface.specs.Surfaces.{no_surfaces}
 

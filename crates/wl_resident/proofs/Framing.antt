@@ -21,14 +21,14 @@ use Rattle.wl_surface.proofs.Counting.{asked-in-role, asked-still, at-new, at-on
 use Rattle.wl_table.specs.Objects.{Held}
 use Rattle.wl_plain.specs.Desktop.{Resident}
 use Rattle.wl_plain.specs.Framing.{AreFramed}
-use Rattle.wl_laws.specs.Owning.{AreKept, Names, by_number, names_in, targets_in}
+use Rattle.wl_records.specs.Owning.{AreKept, Names, by_number, names_in, targets_in}
 use Rattle.wl_plain.specs.Step.{after_surface}
-use Rattle.wl_laws.proofs.Keeping.FramingWaits.{framed-committed, framed-gone, framed-more, framed-same, is-new}
+use Rattle.wl_records.proofs.Keeping.FramingWaits.{framed-committed, framed-gone, framed-more, framed-same, is-new}
 use Rattle.wl_laws.proofs.Soundness.ObjectsCalls.{any-filtered, is_left}
-use Rattle.wl_laws.proofs.Keeping.OwningSurfaces.{surface-read, surfaces-changed, surfaces-left, surfaces-made}
-use Rattle.wl_laws.proofs.Keeping.OwningKeys.{none-some}
-use Rattle.wl_laws.proofs.Toplevels.Simply.{CommitSurface, changed_simply, committed_on, effect_on}
-use Rattle.wl_laws.proofs.Marks.TouchingAsks.{effect-surfaces}
+use Rattle.wl_records.proofs.Keeping.OwningSurfaces.{surface-read, surfaces-changed, surfaces-left, surfaces-made}
+use Rattle.wl_laws.proofs.Lists.Keys.{none-some}
+use Rattle.wl_records.proofs.Toplevels.Simply.{CommitSurface, changed_simply, committed_on, effect_on}
+use Rattle.wl_records.proofs.Marks.TouchingAsks.{effect-surfaces}
 use Rattle.wl_shell.specs.Shell.{Effect, Stays, Unconfigured, Configures, Maps, Unmaps, XdgSurface as Xdg, xdg_of}
 
 -- the surfaces of a client, by the numbers that its table names

@@ -11,9 +11,9 @@ use Rattle.wl_surface.specs.Request.{Buffer}
 use Rattle.wl_surface.specs.State.{held}
 use Rattle.wl_surface.specs.Surfaces.{Surface, is_busy, names, surface_at, with_change, without_surface}
 use Rattle.wl_plain.specs.Desktop.{Resident}
-use Rattle.wl_laws.specs.Owning.{AreKept, by_number}
+use Rattle.wl_records.specs.Owning.{AreKept, by_number}
 use Rattle.wl_plain.specs.Releases.{shown_at}
-use Rattle.wl_laws.proofs.Keeping.OwningSurfaces.{busy-is, surface-read, surfaces-changed, surfaces-left}
+use Rattle.wl_records.proofs.Keeping.OwningSurfaces.{busy-is, surface-read, surfaces-changed, surfaces-left}
 use Rattle.wl_resident.specs.Freed.{IsFreedOf}
 
 -- where one or none passes, whether some does

@@ -19,13 +19,13 @@ use Rattle.wl_surface.specs.Surfaces.{Surface, history_in, surface_at}
 use Rattle.wl_surface.specs.Waiting.{Callback, frames_at, is_in}
 use Rattle.wl_plain.specs.Changing.{callbacks_of}
 use Rattle.wl_plain.specs.Desktop.{Resident}
-use Rattle.wl_laws.specs.NoMore.{OwnsToplevelsOnly}
-use Rattle.wl_laws.specs.Owning.{AreKept, names_in, target_as, targets_in, with_surface}
+use Rattle.wl_records.specs.NoMore.{OwnsToplevelsOnly}
+use Rattle.wl_records.specs.Owning.{AreKept, names_in, target_as, targets_in, with_surface}
 use Rattle.wl_plain.specs.Releases.{release_told}
 use Rattle.wl_laws.proofs.Soundness.ObjectsKeys.{any-of-filter}
-use Rattle.wl_laws.proofs.Keeping.OwningKeys.{differ}
-use Rattle.wl_laws.proofs.Keeping.OwningNames.{names-with}
-use Rattle.wl_laws.proofs.Keeping.OwningSurfaces.{surface-read}
+use Rattle.wl_laws.proofs.Lists.Keys.{differ}
+use Rattle.wl_records.proofs.Keeping.OwningNames.{names-with}
+use Rattle.wl_records.proofs.Keeping.OwningSurfaces.{surface-read}
 use Rattle.wl_resident.proofs.Framing.{numbered}
 use Rattle.wl_resident.proofs.Shelling.{entry-named}
 

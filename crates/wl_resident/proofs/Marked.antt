@@ -19,17 +19,17 @@ use Rattle.wl_scene.specs.Stacking.{Owned, Stack, Standing, is_of, root_of, stan
 use Rattle.wl_scene.specs.declared.scene.Toplevel.{Toplevel}
 use Rattle.wl_scene.specs.Windows.{Owner, Place, Window, child_windows, corner_at, member_windows, owner_of, shown_windows, surface_windows, tree, window_of, window_showing, window_with}
 use Rattle.wl_plain.specs.Desktop.{Desktop, Resident, owned_in, owned_of}
-use Rattle.wl_laws.specs.Owning.{AreKept, by_number, targets_in}
-use Rattle.wl_laws.specs.Touching.{is_window_of, window_at}
+use Rattle.wl_records.specs.Owning.{AreKept, by_number, targets_in}
+use Rattle.wl_records.specs.Touching.{is_window_of, window_at}
 use Rattle.wl_resident.specs.Agreement.{IsStack, IsStanding, with_numbers}
 use Rattle.wl_resident.specs.Marking.{IsRecordOf, record_showing}
 use Rattle.wl_resident.specs.Seats.{IsSeated}
 use Rattle.wl_resident.specs.declared.marking.WindowRecord.{WindowRecord}
 use Rattle.wl_resident.specs.declared.residents.Resident.{Resident as Kept}
-use Rattle.wl_laws.proofs.Keeping.OwningSurfaces.{surface-named, surface-read}
-use Rattle.wl_laws.proofs.Toplevels.OneWindow.{one-window, window_list}
-use Rattle.wl_laws.proofs.Keeping.StandingDesks.{all-show}
-use Rattle.wl_laws.proofs.Keeping.StandingTurned.{desk-turned}
+use Rattle.wl_records.proofs.Keeping.OwningSurfaces.{surface-named, surface-read}
+use Rattle.wl_records.proofs.Toplevels.OneWindow.{one-window, window_list}
+use Rattle.wl_records.proofs.Keeping.StandingDesks.{all-show}
+use Rattle.wl_records.proofs.Keeping.StandingTurned.{desk-turned}
 use Rattle.wl_resident.proofs.Scenes.{AreOnce, numbers-same, stack-out}
 
 -- ---- windows of others

@@ -45,14 +45,14 @@ use Rattle.wl_plain.specs.Ask.{Ask, EndObject, Ignore, owns}
 use Rattle.wl_plain.specs.Demand.{Demand, Asks, EndSurface, AskFrame, CommitTree, EndToplevel, Move}
 use Rattle.wl_plain.specs.Demanding.{base_demand, committed_by, demand_by, demand_of, demands, effect_of_commit, judge_all, moved_by_pointer, own_demand, surface_demand, toplevel_asked}
 use Rattle.wl_plain.specs.Demanding.{toplevel_demand, toplevel_destroyed, xdg_asked}
-use Rattle.wl_laws.proofs.Toplevels.Judged.{simple-peer, simply-ok}
+use Rattle.wl_records.proofs.Toplevels.Judged.{simple-peer, simply-ok}
 use Rattle.wl_plain.specs.Desktop.{Desktop, Resident, client_in, owned_in, owned_of, status_in, status_of}
 use Rattle.wl_resident.proofs.Toplevels.{MarksToplevels}
 use Rattle.wl_resident.specs.Marking.{AddsPoints, AreUnlinked, IsRecordOf, MarksChange, TellsChange, any_record_has, commit_by, commit_in, is_record_damaged, marked_by, marked_in, record_has}
 use Rattle.wl_resident.specs.Marking.{rects_applied, rects_changed}
 use Rattle.wl_resident.specs.declared.marking.WindowRecord.{WindowRecord}
 use Rattle.wl_resident.specs.Messages.{IsAsked, IsKind}
-use Rattle.wl_laws.specs.Owning.{by_number, names_in, target_as, targets_in}
+use Rattle.wl_records.specs.Owning.{by_number, names_in, target_as, targets_in}
 use Rattle.wl_plain.specs.Marks.{has_same_record}
 use Rattle.wl_plain.specs.Moments.{history_of}
 use Rattle.wl_resident.specs.Residents.{IsLeft, IsResident, KeepsNumbers, asked_by}
@@ -60,11 +60,11 @@ use Rattle.wl_resident.proofs.Simply.{AnswersSimply, TakesSo}
 use Rattle.wl_resident.specs.Seats.{IsClearedBy, IsRestacked, IsSeated}
 use Rattle.wl_resident.proofs.Seats.{IsSettledBy}
 use Rattle.wl_plain.specs.LeftOut.{served_now}
-use Rattle.wl_laws.specs.NoMore.{NoMore}
+use Rattle.wl_records.specs.NoMore.{NoMore}
 use Rattle.wl_plain.specs.Happens.{Serves}
 use Rattle.wl_plain.specs.Step.{with_peer}
-use Rattle.wl_laws.proofs.Toplevels.Simply.{Simple, Asking, AskingFrame, CommitSurface, DestroySurface, DestroyToplevel, changed_simply, effect_of, judge, simple_of, simply, touched}
-use Rattle.wl_laws.specs.Touching.{changes_at, is_window_damaged, is_window_of, window_at}
+use Rattle.wl_records.proofs.Toplevels.Simply.{Simple, Asking, AskingFrame, CommitSurface, DestroySurface, DestroyToplevel, changed_simply, effect_of, judge, simple_of, simply, touched}
+use Rattle.wl_records.specs.Touching.{changes_at, is_window_damaged, is_window_of, window_at}
 use Rattle.wl_peer.specs.Requests.{Request as AnyRequest, ToCompositor, ToSurface, ToSubcompositor, ToSubsurface, ToSeat, ToPointer, ToBase, ToPositioner, ToXdgSurface, ToToplevel, ToPopup}
 use Rattle.wl_peer.specs.Requests.{request_in, request_of, toplevel_request, rect}
 use Rattle.wl_plain.specs.Served.{unserved_now}
@@ -83,17 +83,17 @@ use Rattle.wl_resident.specs.declared.residents.Stacking.TheVariants as on
 use Rattle.wl_resident.proofs.Asking.{demanded-first, passing-peer, whole-first}
 use Rattle.wl_resident.proofs.Doing.{named-by}
 use Rattle.wl_resident.proofs.Ends.{lacks-over, over-ended}
-use Rattle.wl_laws.proofs.Toplevels.Back.{AsksBy}
-use Rattle.wl_laws.proofs.Keeping.OwningXdg.{toplevel-named}
-use Rattle.wl_laws.proofs.Keeping.OwningSurfaces.{surface-named, surface-read}
+use Rattle.wl_records.proofs.Toplevels.Back.{AsksBy}
+use Rattle.wl_records.proofs.Keeping.OwningXdg.{toplevel-named}
+use Rattle.wl_records.proofs.Keeping.OwningSurfaces.{surface-named, surface-read}
 use Rattle.wl_laws.proofs.Runs.Places.{number-other}
 use Rattle.wl_laws.proofs.Marks.Stacks.{and-left, and-right, differ, fields, or-left, or-right, recorded, unless}
-use Rattle.wl_laws.proofs.Keeping.StandingTurned.{same-turned}
+use Rattle.wl_records.proofs.Keeping.StandingTurned.{same-turned}
 use Rattle.wl_resident.proofs.Taking.{none-is}
-use Rattle.wl_laws.proofs.Marks.TouchingDamage.{IsAppliedBy, MarkedExactlyBy, serves-exactly}
-use Rattle.wl_laws.proofs.Marks.TouchingKeeps.{serves-keeps}
-use Rattle.wl_laws.proofs.Marks.TouchingMessages.{touched-peer}
-use Rattle.wl_laws.proofs.Toplevels.WithoutPopups.{marks_of_toplevels}
+use Rattle.wl_records.proofs.Marks.TouchingDamage.{IsAppliedBy, MarkedExactlyBy, serves-exactly}
+use Rattle.wl_records.proofs.Marks.TouchingKeeps.{serves-keeps}
+use Rattle.wl_records.proofs.Marks.TouchingMessages.{touched-peer}
+use Rattle.wl_records.proofs.Toplevels.WithoutPopups.{marks_of_toplevels}
 
 -- ---- links
 

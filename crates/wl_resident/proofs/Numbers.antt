@@ -8,7 +8,7 @@ use Rattle.wl_interface.specs.declared.interface.Interface.TheVariants.{WlSurfac
 use Rattle.wl_resident.specs.declared.residents.Resident.{Resident as Kept}
 use Rattle.wl_plain.specs.Desktop.{Resident}
 use Rattle.wl_peer.specs.Peer.{Peer}
-use Rattle.wl_laws.specs.Owning.{Names, names_in, targets_in, with_surface, with_toplevel, with_xdg}
+use Rattle.wl_records.specs.Owning.{Names, names_in, targets_in, with_surface, with_toplevel, with_xdg}
 use Rattle.wl_resident.specs.Residents.{IsLeft, KeepsNumbers}
 
 same-number : (o : Option ℕ) (a b : ℕ) → o ≡ Some a → o ≡ Some b → a ≡ b

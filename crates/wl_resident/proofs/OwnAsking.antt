@@ -35,17 +35,17 @@ use Rattle.wl_plain.specs.Demand.{Demand}
 use Rattle.wl_plain.specs.Demanding.{demand_of, demands, judge_all}
 use Rattle.wl_plain.specs.Desktop.{Desktop, Resident}
 use Rattle.wl_plain.specs.LeftOut.{served_now}
-use Rattle.wl_laws.specs.NoMore.{OwnsToplevelsOnly}
-use Rattle.wl_laws.specs.Owning.{by_number, names_in, target_as, targets_in}
+use Rattle.wl_records.specs.NoMore.{OwnsToplevelsOnly}
+use Rattle.wl_records.specs.Owning.{by_number, names_in, target_as, targets_in}
 use Rattle.wl_resident.specs.Residents.{AnswersSo as AnswersWhole, IsLeft, IsResident, StacksSo as StacksWhole, TakesSo}
 use Rattle.wl_plain.specs.Step.{with_peer, changed_by}
-use Rattle.wl_laws.proofs.Toplevels.Serves.{only-peer}
+use Rattle.wl_records.proofs.Toplevels.Serves.{only-peer}
 use Rattle.wl_resident.proofs.Asking.{demanded-first, judged-by, whole-first}
 use Rattle.wl_resident.proofs.Simply.{AnswersSo, asks-stay, simply}
 use Rattle.wl_resident.proofs.Numbers.{keeps-names}
 use Rattle.wl_resident.proofs.Framing.{IsFramed, framed-names, no-more}
-use Rattle.wl_laws.proofs.Keeping.OwningNames.{names-with}
-use Rattle.wl_laws.proofs.Keeping.OwningSurfaces.{any-is}
+use Rattle.wl_records.proofs.Keeping.OwningNames.{names-with}
+use Rattle.wl_records.proofs.Keeping.OwningSurfaces.{any-is}
 use Rattle.wl_store.specs.Stores.{Stock}
 use Rattle.wl_scene.specs.Stacking.{Owned}
 use Rattle.wl_scene.specs.declared.owned.Owned.{Owned as Lent}

@@ -20,15 +20,15 @@ use Rattle.wl_scene.specs.Stacking.{Owned, Stack, Standing, root_of, standing_of
 use Rattle.wl_scene.specs.Windows.{Owner, Place, Window, contains, corner_at, owner_of, tree, window_of, window_showing, window_with}
 use Rattle.wl_scene.specs.declared.scene.Toplevel.{Toplevel}
 use Rattle.wl_plain.specs.Desktop.{Desktop, Resident, owned_in, owned_of}
-use Rattle.wl_laws.specs.Owning.{AreKept, by_number, targets_in}
-use Rattle.wl_laws.specs.Touching.{has_window_at}
+use Rattle.wl_records.specs.Owning.{AreKept, by_number, targets_in}
+use Rattle.wl_records.specs.Touching.{has_window_at}
 use Rattle.wl_resident.specs.Agreement.{IsStack, IsStanding, with_numbers}
 use Rattle.wl_resident.specs.Marking.{IsAsLarge, is_shown_by, record_has, record_showing, shows_point}
 use Rattle.wl_resident.specs.Seats.{IsSeated}
 use Rattle.wl_resident.specs.declared.residents.Resident.{Resident as Kept}
-use Rattle.wl_laws.proofs.Keeping.OwningSurfaces.{surface-read}
-use Rattle.wl_laws.proofs.Toplevels.OneWindow.{one-window, window_list}
-use Rattle.wl_laws.proofs.Keeping.StandingDesks.{all-show}
+use Rattle.wl_records.proofs.Keeping.OwningSurfaces.{surface-read}
+use Rattle.wl_records.proofs.Toplevels.OneWindow.{one-window, window_list}
+use Rattle.wl_records.proofs.Keeping.StandingDesks.{all-show}
 use Rattle.wl_resident.proofs.Marked.{none-tree}
 use Rattle.wl_resident.proofs.Scenes.{numbers-same}
 

@@ -11,14 +11,14 @@ use Rattle.wl_shell.specs.declared.stage.Stage.{Stage}
 use Rattle.wl_shell.specs.declared.stage.Stage.TheVariants as stage
 use Rattle.wl_scene.specs.Lent.{shows_buffer}
 use Rattle.wl_plain.specs.Desktop.{Resident}
-use Rattle.wl_laws.specs.Owning.{AreKept}
+use Rattle.wl_records.specs.Owning.{AreKept}
 use Rattle.wl_peer.specs.Objects.{ById}
 use Rattle.wl_plain.specs.Releases.{release_of, release_told, shown_at}
-use Rattle.wl_laws.specs.Standing.{AreBare, waits, waits_at}
+use Rattle.wl_records.specs.Standing.{AreBare, waits, waits_at}
 use Rattle.wl_plain.specs.Step.{with_peer}
 use Rattle.wl_plain.specs.WlSurface.{will_show}
-use Rattle.wl_laws.proofs.Toplevels.Releases.{committed-released}
-use Rattle.wl_laws.proofs.Toplevels.Simply.{CommitSurface, committed_on, effect_for, effect_of, told_simply}
+use Rattle.wl_records.proofs.Toplevels.Releases.{committed-released}
+use Rattle.wl_records.proofs.Toplevels.Simply.{CommitSurface, committed_on, effect_for, effect_of, told_simply}
 
 index-map : {X Y : Type 0} (f : X → Y) (xs : List X) (k : ℕ) (d : X) → f (slice_index_or xs k d) ≡ slice_index_or (map f xs) k (f d)
 index-map f [] zero d = refl

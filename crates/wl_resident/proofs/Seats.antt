@@ -7,7 +7,7 @@ use Rattle.wl_resident.specs.Seats.{IsBare, IsClearedBy, IsRestacked, IsRestacke
 use Rattle.wl_resident.specs.declared.residents.Resident.{Resident as Kept}
 use Rattle.wl_resident.specs.declared.residents.Stacking.{Stacking}
 use Rattle.wl_resident.specs.declared.residents.Stacking.TheVariants.{Stays, ToTop, Out}
-use Rattle.wl_laws.proofs.Keeping.OwningKeys.{differ}
+use Rattle.wl_laws.proofs.Lists.Keys.{differ}
 
 -- ---- the steps of the code
 

@@ -17,26 +17,26 @@ use Rattle.wl_plain.specs.Happens.{Serves}
 use Rattle.wl_plain.specs.LeftOut.{served_now}
 use Rattle.wl_plain.specs.Marks.{AreDistinct, in_output}
 use Rattle.wl_plain.specs.Moments.{marks_at_least, marks_at_least_through}
-use Rattle.wl_laws.specs.NoMore.{NoMore}
-use Rattle.wl_laws.specs.Owning.{targets_in}
+use Rattle.wl_records.specs.NoMore.{NoMore}
+use Rattle.wl_records.specs.Owning.{targets_in}
 use Rattle.wl_plain.specs.Stacked.{all_windows}
-use Rattle.wl_laws.specs.Standing.{AreMapped}
+use Rattle.wl_records.specs.Standing.{AreMapped}
 use Rattle.wl_plain.specs.Through.{ServesThrough}
-use Rattle.wl_laws.specs.Touching.{has_window_at, window_at}
-use Rattle.wl_laws.proofs.Toplevels.Back.{AsksBy}
-use Rattle.wl_laws.proofs.Toplevels.Messages.{serves-has}
-use Rattle.wl_laws.proofs.Toplevels.Touches.{touches_apart}
-use Rattle.wl_laws.proofs.Toplevels.Windows.{windows-same}
+use Rattle.wl_records.specs.Touching.{has_window_at, window_at}
+use Rattle.wl_records.proofs.Toplevels.Back.{AsksBy}
+use Rattle.wl_records.proofs.Toplevels.Messages.{serves-has}
+use Rattle.wl_records.proofs.Toplevels.Touches.{touches_apart}
+use Rattle.wl_records.proofs.Toplevels.Windows.{windows-same}
 use Rattle.wl_laws.proofs.Soundness.Distinct.{windows_are_distinct}
-use Rattle.wl_laws.proofs.Marks.Ending.{gone-least, no-links, over-least}
-use Rattle.wl_laws.proofs.Marks.EndingStruck.{end-over}
-use Rattle.wl_laws.proofs.Marks.EndingThrough.{RouteBy, Struck}
+use Rattle.wl_records.proofs.Marks.Ending.{gone-least, no-links, over-least}
+use Rattle.wl_records.proofs.Marks.EndingStruck.{end-over}
+use Rattle.wl_records.proofs.Marks.EndingThrough.{RouteBy, Struck}
 use Rattle.wl_laws.proofs.Marks.Through.{marked_through}
-use Rattle.wl_laws.proofs.Toplevels.Simply.{CommitSurface, Simple, effect_of}
+use Rattle.wl_records.proofs.Toplevels.Simply.{CommitSurface, Simple, effect_of}
 use Rattle.wl_laws.proofs.Marks.Stacks.{and-left, differ, unless}
 use Rattle.wl_laws.proofs.Runs.Through.{messages_lead_through}
-use Rattle.wl_laws.proofs.Marks.TouchingCommits.{maps-none}
-use Rattle.wl_laws.proofs.Marks.TouchingMessages.{asks-find}
+use Rattle.wl_records.proofs.Marks.TouchingCommits.{maps-none}
+use Rattle.wl_records.proofs.Marks.TouchingMessages.{asks-find}
 use Rattle.wl_resident.specs.Marking.{IsCommitted, IsRecordOf, IsStill, MarksAtLeast, MarksMost, any_record_has, commit_by, is_shown_by, was_shown}
 use Rattle.wl_resident.specs.Messages.{IsAsked}
 use Rattle.wl_resident.specs.Residents.{IsResident}

@@ -36,26 +36,26 @@ use Rattle.wl_resident.specs.declared.residents.Resident.{Resident as Kept}
 use Rattle.wl_plain.specs.Ask.{Ask, AskSurface, GetToplevel}
 use Rattle.wl_plain.specs.Demand.{Demand}
 use Rattle.wl_plain.specs.Desktop.{Desktop, Resident}
-use Rattle.wl_laws.specs.NoMore.{OwnsToplevelsOnly}
-use Rattle.wl_laws.specs.Owning.{AreKept, IsOwned, IsXdg, Names, asks_by, by_number, configuring_if, kept_base, names_in, names_surface, shell_refusal, target_as, targets_in, with_surface}
-use Rattle.wl_laws.specs.Owning.{with_toplevel, with_xdg}
+use Rattle.wl_records.specs.NoMore.{OwnsToplevelsOnly}
+use Rattle.wl_records.specs.Owning.{AreKept, IsOwned, IsXdg, Names, asks_by, by_number, configuring_if, kept_base, names_in, names_surface, shell_refusal, target_as, targets_in, with_surface}
+use Rattle.wl_records.specs.Owning.{with_toplevel, with_xdg}
 use Rattle.wl_resident.specs.Residents.{ActsFor, AnswersAs, AnswersSo as AnswersWhole, Does, IsFree, NewIsFree, IsResident, IsToplevel, IsXdgSurface, Meets, MeetsAs, MeetsSo}
 use Rattle.wl_plain.specs.Step.{answers_to, changed_by, configures_told, role_configured, takes_memory, toplevel_configured, toplevel_given, with_peer, xdg_configured}
 use Rattle.wl_plain.specs.Demanding.{xdg_asked, xdg_demand}
 use Rattle.wl_plain.specs.XdgShell.{configured_again, is_no_toplevel, role_of}
 use Rattle.wl_proto.specs.declared.xdg_surface.XdgSurfaceRequest.{XdgSurfaceRequest}
 use Rattle.wl_resident.proofs.Doing.{cut-bounds}
-use Rattle.wl_laws.proofs.Keeping.Letting.{asked-keeps}
-use Rattle.wl_laws.proofs.Toplevels.Serves.{only-peer}
+use Rattle.wl_records.proofs.Keeping.Letting.{asked-keeps}
+use Rattle.wl_records.proofs.Toplevels.Serves.{only-peer}
 use Rattle.wl_resident.proofs.Numbers.{left-from}
 use Rattle.wl_resident.proofs.Simply.{AnswersSimply, AnswersSo}
 use Rattle.wl_resident.proofs.Framing.{IsFramed, framed-names, one-more}
-use Rattle.wl_laws.proofs.Toplevels.Simply.{Simple, Asking, told_simply}
-use Rattle.wl_laws.proofs.Toplevels.Releases.{requested-still}
-use Rattle.wl_laws.proofs.Keeping.OwningSurfaces.{surface-named, surface-read}
-use Rattle.wl_laws.proofs.Keeping.OwningNames.{names-other-gone, names-surface-gone, names-toplevel-gone, names-xdg-gone}
-use Rattle.wl_laws.proofs.Keeping.OwningReads.{role-fits, role-read}
-use Rattle.wl_laws.proofs.Keeping.OwningXdg.{toplevel-named, xdg-named}
+use Rattle.wl_records.proofs.Toplevels.Simply.{Simple, Asking, told_simply}
+use Rattle.wl_records.proofs.Toplevels.Releases.{requested-still}
+use Rattle.wl_records.proofs.Keeping.OwningSurfaces.{surface-named, surface-read}
+use Rattle.wl_records.proofs.Keeping.OwningNames.{names-other-gone, names-surface-gone, names-toplevel-gone, names-xdg-gone}
+use Rattle.wl_records.proofs.Keeping.OwningReads.{role-fits, role-read}
+use Rattle.wl_records.proofs.Keeping.OwningXdg.{toplevel-named, xdg-named}
 
 -- ---- objects that go
 

@@ -21,14 +21,14 @@ use Rattle.wl_plain.specs.Changing.{changed_for}
 use Rattle.wl_plain.specs.Desktop.{Desktop, Resident, toplevels_of}
 use Rattle.wl_plain.specs.Happens.{wants_memory}
 use Rattle.wl_plain.specs.LeftOut.{served_now}
-use Rattle.wl_laws.specs.NoMore.{AreToplevels, NoMore, OwnsToplevelsAt, OwnsToplevelsOnly}
+use Rattle.wl_records.specs.NoMore.{AreToplevels, NoMore, OwnsToplevelsAt, OwnsToplevelsOnly}
 use Rattle.wl_plain.specs.Replies.{replies}
 use Rattle.wl_plain.specs.Stacked.{all_windows}
 use Rattle.wl_plain.specs.Step.{with_peer}
-use Rattle.wl_laws.proofs.Toplevels.Simply.{Simple, CommitSurface, DestroyToplevel, asks_simply, changed_simply, judge, told_simply, wants_simply}
-use Rattle.wl_laws.proofs.Toplevels.Changed.{changed-same, wants-same}
-use Rattle.wl_laws.proofs.Toplevels.Judged.{Pairs, Same, asks, commit, demands-pair, effect-same, ends, frames, goes, judge-pair, move}
-use Rattle.wl_laws.proofs.Toplevels.Serves.{living, only-peer, pairs-peer, replies-same, same-peer}
+use Rattle.wl_records.proofs.Toplevels.Simply.{Simple, CommitSurface, DestroyToplevel, asks_simply, changed_simply, judge, told_simply, wants_simply}
+use Rattle.wl_records.proofs.Toplevels.Changed.{changed-same, wants-same}
+use Rattle.wl_records.proofs.Toplevels.Judged.{Pairs, Same, asks, commit, demands-pair, effect-same, ends, frames, goes, judge-pair, move}
+use Rattle.wl_records.proofs.Toplevels.Serves.{living, only-peer, pairs-peer, replies-same, same-peer}
 
 -- ---- simply
 

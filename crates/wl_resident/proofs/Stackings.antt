@@ -19,14 +19,14 @@ use Rattle.wl_plain.specs.Demand.{Demand, CommitTree}
 use Rattle.wl_plain.specs.Demanding.{demand_of, demands, effect_of_commit, moved_by_pointer, toplevel_asked, toplevel_demand, toplevel_destroyed, xdg_asked}
 use Rattle.wl_plain.specs.Desktop.{Resident}
 use Rattle.wl_plain.specs.LeftOut.{served_now}
-use Rattle.wl_laws.specs.Owning.{effect_by, names_in}
+use Rattle.wl_records.specs.Owning.{effect_by, names_in}
 use Rattle.wl_peer.specs.Requests.{ToXdgSurface, toplevel_request, rect}
 use Rattle.wl_plain.specs.Served.{unserved_now}
 use Rattle.wl_peer.specs.ToplevelRequest.{ToplevelRequest}
 use Rattle.wl_peer.specs.ToplevelRequest as toplevel
 use Rattle.wl_plain.specs.XdgShell.{acknowledged_by, geometry_set, state_asked, toplevel_made, xdg_surface_destroyed}
-use Rattle.wl_laws.proofs.Keeping.OwningXdg.{toplevel-named}
-use Rattle.wl_laws.proofs.Toplevels.Simply.{Asking, simply}
+use Rattle.wl_records.proofs.Keeping.OwningXdg.{toplevel-named}
+use Rattle.wl_records.proofs.Toplevels.Simply.{Asking, simply}
 use Rattle.wl_resident.specs.declared.residents.Resident.{Resident as Kept}
 use Rattle.wl_resident.specs.declared.residents.Stacking.{Stacking}
 use Rattle.wl_resident.specs.declared.residents.Stacking.TheVariants.{Stays, Out}

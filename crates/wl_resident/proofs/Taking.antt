@@ -22,35 +22,36 @@ use Rattle.wl_shell.specs.Shell.{Effect, Stays, Unconfigured, Configures, Maps, 
 use Rattle.wl_scene.specs.Stacking.{Owned, Stack, Standing, mapped_on, without_client, without_surface_of}
 use Rattle.wl_resident.specs.Agreement.{IsScene, IsSeat, IsStack, with_numbers}
 use Rattle.wl_plain.specs.Desktop.{Desktop, Resident, become, become_by, client_at, client_in, owned_of, resident_of, with_number}
-use Rattle.wl_laws.specs.Owning.{targets_in, by_number}
+use Rattle.wl_records.specs.Owning.{targets_in, by_number}
 use Rattle.wl_resident.specs.Residents.{IsLeft, StacksBy}
 use Rattle.wl_plain.specs.Through.{ServesThrough}
-use Rattle.wl_laws.proofs.Toplevels.Back.{AsksBy}
-use Rattle.wl_laws.proofs.Marks.EndingThrough.{AnswersAs, RouteBy, TakesAs, served-through}
+use Rattle.wl_records.proofs.Toplevels.Back.{AsksBy}
+use Rattle.wl_records.proofs.Marks.EndingThrough.{AnswersAs, RouteBy, TakesAs, served-through}
 use Rattle.wl_laws.proofs.Runs.Through.{messages_lead_through}
 use Rattle.wl_resident.proofs.Simply.{ActsAs, AnswersSimplyAs, StacksIn, StacksOne, StacksSimply, TakesSimplyAs}
 use Rattle.wl_resident.specs.Seats.{IsBased, IsClearedBy, IsRestacked, IsSeated, Lacks}
 use Rattle.wl_resident.proofs.Seats.{IsSettledBy}
 use Rattle.wl_plain.specs.LeftOut.{served_now}
-use Rattle.wl_laws.specs.NoMore.{NoMore}
+use Rattle.wl_records.specs.NoMore.{NoMore}
 use Rattle.wl_plain.specs.Happens.{Serves}
 use Rattle.wl_plain.specs.Step.{after_surface, with_peer}
-use Rattle.wl_laws.proofs.Keeping.StandingFound.{judge-finds}
+use Rattle.wl_records.proofs.Keeping.StandingFound.{judge-finds}
 use Rattle.wl_resident.proofs.Releasing.{maps-quiet}
-use Rattle.wl_laws.proofs.Toplevels.Simply.{Asking, AskingFrame, Becomes, CommitSurface, DestroySurface, DestroyToplevel, Simple, changed_simply, committed_on, effect_on, judge, stacked_simply}
-use Rattle.wl_laws.proofs.Toplevels.Simply.{told_simply, wants_simply}
-use Rattle.wl_laws.specs.Standing.{AreMapped, MappedStand, is_mapped}
+use Rattle.wl_records.proofs.Toplevels.Simply.{Asking, AskingFrame, Becomes, CommitSurface, DestroySurface, DestroyToplevel, Simple, changed_simply, committed_on, effect_on, judge, stacked_simply}
+use Rattle.wl_records.proofs.Toplevels.Simply.{told_simply, wants_simply}
+use Rattle.wl_records.specs.Standing.{AreMapped, MappedStand, is_mapped}
 use Rattle.wl_plain.specs.Framing.{AreFramed}
 use Rattle.wl_resident.specs.View.{owned_view}
 use Rattle.wl_resident.specs.declared.residents.Resident.{Resident as Kept}
 use Rattle.wl_resident.specs.declared.residents.Stacking.{Stacking}
 use Rattle.wl_resident.specs.declared.residents.Stacking.TheVariants as on
 use Rattle.wl_resident.proofs.Ends.{AreNameless, errs-over, lacks-over, nameless-over, over-ended, queues-over, seat-bare}
-use Rattle.wl_laws.proofs.Keeping.OwningKeys.{differ}
-use Rattle.wl_laws.proofs.Isolation.Others.{stacked-keeps}
-use Rattle.wl_laws.proofs.Pieces.Behind.{changed-status}
-use Rattle.wl_laws.proofs.Runs.Places.{left_by, number-same, number-twice, stacked-clients}
-use Rattle.wl_laws.proofs.Keeping.StandingSteps.{serves-stand}
+use Rattle.wl_laws.proofs.Lists.Keys.{differ}
+use Rattle.wl_records.proofs.Toplevels.Stacks.{stacked-keeps}
+use Rattle.wl_records.proofs.Toplevels.Statuses.{changed-status}
+use Rattle.wl_laws.proofs.Runs.Places.{left_by, number-same, number-twice}
+use Rattle.wl_records.proofs.Toplevels.Stacks.{stacked-clients}
+use Rattle.wl_records.proofs.Keeping.StandingSteps.{serves-stand}
 use Rattle.wl_resident.proofs.Scenes.{AreOnce, Has, next-of, none-stands, numbers-by, numbers-same, stack-by, stack-mapped, stack-out, stack-without}
 use Rattle.wl_resident.proofs.Framing.{told-requests}
 

@@ -17,8 +17,8 @@ use Rattle.wl_scene.specs.declared.owned.Owned.{Owned as Keeps}
 use Rattle.wl_resident.specs.Agreement.{IsScene, with_numbers}
 use Rattle.wl_plain.specs.Desktop.{Desktop, Resident, become, become_by, client_at, owned_in, owned_of, resident_of, with_number}
 use Rattle.wl_laws.specs.Laws.{OwnsNothing}
-use Rattle.wl_laws.specs.Standing.{AreMapped, MappedStand}
-use Rattle.wl_laws.specs.Owning.{IsOwned, names_in, targets_in, Names}
+use Rattle.wl_records.specs.Standing.{AreMapped, MappedStand}
+use Rattle.wl_records.specs.Owning.{IsOwned, names_in, targets_in, Names}
 use Rattle.wl_plain.specs.Framing.{done_due, FramesToldAt, FramesToldBy}
 use Rattle.wl_plain.specs.Happens.{callbacks_due, frames_told}
 use Rattle.wl_resident.specs.Seats.{IsClearedBy, IsSeated, ended_by}
@@ -27,9 +27,9 @@ use Rattle.wl_resident.specs.View.{owned_view}
 use Rattle.wl_resident.specs.declared.residents.Resident.{Resident as Kept}
 use Rattle.wl_resident.specs.Residents.{IsLeft}
 use Rattle.wl_resident.proofs.Ends.{AreNameless, IsOver, nameless-over, nameless-same, nameless-seat, queues-over}
-use Rattle.wl_laws.proofs.Keeping.OwningKeys.{differ}
+use Rattle.wl_laws.proofs.Lists.Keys.{differ}
 use Rattle.wl_laws.proofs.Runs.Places.{left_by}
-use Rattle.wl_laws.proofs.Keeping.StandingDesks.{become-stand}
+use Rattle.wl_records.proofs.Keeping.StandingDesks.{become-stand}
 use Rattle.wl_laws.proofs.Runs.Moves.{callbacks-status}
 use Rattle.wl_resident.proofs.Taking.{Sits, based-at, become-gone, become-lives, itself, none-is, numbers, sits-gone, sits-same, sits-seated}
 use Rattle.wl_resident.proofs.Framing.{told-requests}

@@ -2,10 +2,10 @@
 use Rattle.std.proofs.Common.{◌≡◌, ◌<◌, ◌∙◌, ℕ, false, pos}
 use Rattle.wl_paint.specs.Damage.{Damaged, has}
 use Rattle.wl_plain.specs.Desktop.{Desktop}
-use Rattle.wl_laws.specs.NoMore.{NoMore}
-use Rattle.wl_laws.proofs.Toplevels.Windows.{marks-same}
+use Rattle.wl_records.specs.NoMore.{NoMore}
+use Rattle.wl_records.proofs.Toplevels.Windows.{marks-same}
 use Rattle.wl_resident.specs.Marking.{MarksAtLeast}
-use Rattle.wl_laws.proofs.Toplevels.WithoutPopups.{marks_of_toplevels}
+use Rattle.wl_records.proofs.Toplevels.WithoutPopups.{marks_of_toplevels}
 
 -- what is to be painted stays so, and what a step marks at least of the toplevels is to be painted too
 abbrev pub MarksToplevels : Desktop → Desktop → Damaged → Damaged → Type 0

@@ -31,19 +31,19 @@ use Rattle.wl_plain.specs.Happens.{Serves}
 use Rattle.wl_plain.specs.LeftOut.{served_now}
 use Rattle.wl_plain.specs.Marks.{has_same_record, in_output}
 use Rattle.wl_plain.specs.Moments.{marks_at_most}
-use Rattle.wl_laws.specs.NoMore.{NoMore}
-use Rattle.wl_laws.specs.Owning.{targets_in}
+use Rattle.wl_records.specs.NoMore.{NoMore}
+use Rattle.wl_records.specs.Owning.{targets_in}
 use Rattle.wl_plain.specs.Served.{unserved_now}
 use Rattle.wl_plain.specs.Step.{with_peer}
-use Rattle.wl_laws.specs.Touching.{changes_at, is_window_damaged, window_at}
-use Rattle.wl_laws.proofs.Toplevels.Back.{AsksBy, message-by}
-use Rattle.wl_laws.proofs.Toplevels.Judged.{simple-peer, simply-ok}
+use Rattle.wl_records.specs.Touching.{changes_at, is_window_damaged, window_at}
+use Rattle.wl_records.proofs.Toplevels.Back.{AsksBy, message-by}
+use Rattle.wl_records.proofs.Toplevels.Judged.{simple-peer, simply-ok}
 use Rattle.wl_laws.proofs.Runs.Places.{status-become}
-use Rattle.wl_laws.proofs.Toplevels.Simply.{Simple, simple_of, touched}
+use Rattle.wl_records.proofs.Toplevels.Simply.{Simple, simple_of, touched}
 use Rattle.wl_laws.proofs.Marks.Stacks.{differ}
-use Rattle.wl_laws.proofs.Marks.TouchingDamage.{serves-within}
-use Rattle.wl_laws.proofs.Marks.TouchingMarks.{either-of}
-use Rattle.wl_laws.proofs.Marks.TouchingMessages.{touched-peer}
+use Rattle.wl_records.proofs.Marks.TouchingDamage.{serves-within}
+use Rattle.wl_records.proofs.Marks.TouchingMarks.{either-of}
+use Rattle.wl_records.proofs.Marks.TouchingMessages.{touched-peer}
 use Rattle.wl_resident.specs.Marking.{AddsPoints, AreUnlinked, IsRecordOf, MarksAtMost, MarksChange, TellsChange, any_record_has, commit_by, is_record_damaged, marked_by, marked_in, record_has}
 use Rattle.wl_resident.specs.Marking.{rects_applied}
 use Rattle.wl_resident.specs.Messages.{IsAsked, IsKind}

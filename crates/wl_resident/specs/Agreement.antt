@@ -10,8 +10,8 @@ use Rattle.wl_shell.specs.Kept.{kept_of}
 use Rattle.wl_scene.specs.Stacking.{Stack, Standing}
 use Rattle.wl_plain.specs.Desktop.{Desktop, Resident, place}
 use Rattle.wl_laws.specs.Laws.{OwnsNothing}
-use Rattle.wl_laws.specs.Owning.{IsOwned, by_number, names_in, targets_in}
-use Rattle.wl_laws.specs.Standing.{MappedStand}
+use Rattle.wl_records.specs.Owning.{IsOwned, by_number, names_in, targets_in}
+use Rattle.wl_records.specs.Standing.{MappedStand}
 use Rattle.wl_plain.specs.Framing.{AreFramed}
 use Rattle.wl_resident.specs.View.{DeskView, OwnedView}
 

@@ -20,7 +20,7 @@ use Rattle.wl_paint.specs.Damage.{Damaged, has}
 use Rattle.wl_scene.specs.Stacking.{Stack, Standing}
 use Rattle.wl_scene.specs.Windows.{Place, Window, corner_at}
 use Rattle.wl_plain.specs.Desktop.{Desktop, Resident, owned_in, status_in}
-use Rattle.wl_laws.specs.Touching.{has_window_at}
+use Rattle.wl_records.specs.Touching.{has_window_at}
 use Rattle.wl_resident.specs.Seats.{IsSeated}
 use Rattle.wl_peer.specs.Objects.{ById}
 use Rattle.wl_plain.specs.Moments.{marks_at_least, marks_at_least_through, marks_at_most, marks_at_most_through}

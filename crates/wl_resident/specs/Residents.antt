@@ -32,8 +32,8 @@ use Rattle.wl_peer.specs.ToplevelRequest.{ToplevelRequest}
 use Rattle.wl_peer.specs.ToplevelRequest as toplevel
 use Rattle.wl_plain.specs.Desktop.{Desktop, Resident}
 use Rattle.wl_plain.specs.LeftOut.{served_now}
-use Rattle.wl_laws.specs.NoMore.{OwnsToplevelsOnly}
-use Rattle.wl_laws.specs.Owning.{IsOwned, by_number, names_in, targets_in}
+use Rattle.wl_records.specs.NoMore.{OwnsToplevelsOnly}
+use Rattle.wl_records.specs.Owning.{IsOwned, by_number, names_in, targets_in}
 use Rattle.wl_plain.specs.Replies.{replies}
 use Rattle.wl_plain.specs.Stacked.{all_windows}
 use Rattle.wl_plain.specs.Step.{answers_to, changed_by, role_configured, takes_memory, with_peer}

@@ -11,8 +11,8 @@ use Rattle.wl_scene.specs.Stacking.{Stack, mapped_on, without_client, without_su
 use Rattle.wl_scene.specs.declared.owned.Owned.{Owned}
 use Rattle.wl_resident.specs.Agreement.{IsScene, IsSeat, with_numbers}
 use Rattle.wl_plain.specs.Desktop.{Desktop, Resident, become, client_at, with_number}
-use Rattle.wl_laws.specs.Owning.{targets_in}
-use Rattle.wl_laws.specs.Standing.{MappedStand}
+use Rattle.wl_records.specs.Owning.{targets_in}
+use Rattle.wl_records.specs.Standing.{MappedStand}
 use Rattle.wl_resident.specs.View.{owned_view}
 use Rattle.wl_plain.specs.declared.answers.Done.{Done}
 use Rattle.wl_resident.specs.declared.residents.Resident.{Resident as Kept}

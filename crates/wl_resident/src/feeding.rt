@@ -10,7 +10,7 @@ ghost use Rattle.wl_peer.specs.Peer.{IsIdleAt, Peer, stored_at};
 ghost use Rattle.wl_plain.specs.Desktop.{Desktop, Resident as Plain, become};
 ghost use Rattle.wl_resident.specs.Seats.{IsBare, IsChangedSo, IsClearedBy, IsRestackedBy, IsSeated, ended_by};
 ghost use Rattle.wl_plain.specs.LeftOut.{served_now};
-ghost use Rattle.wl_laws.specs.NoMore.{NoMore};
+ghost use Rattle.wl_records.specs.NoMore.{NoMore};
 ghost use Rattle.wl_plain.specs.Happens.{Serves};
 ghost use Rattle.wl_plain.specs.Through.{ServesThrough};
 ghost use Rattle.wl_plain.specs.Act.{IsLeft, IsSent, IsStored, stored_of};

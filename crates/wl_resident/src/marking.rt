@@ -11,10 +11,10 @@ ghost use Rattle.wl_paint.specs.Damage.{has};
 ghost use Rattle.wl_scene.specs.Stacking.{is_of, standing_of};
 ghost use Rattle.wl_plain.specs.Desktop.{Desktop, Resident as Plain};
 ghost use Rattle.wl_resident.specs.Marking.{IsAsLarge, IsRecordOf, MarksChange, any_record_has, is_record_damaged, is_shown_by, marked_by, record_has, record_showing, rects_applied, was_shown};
-ghost use Rattle.wl_laws.specs.Owning.{targets_in};
+ghost use Rattle.wl_records.specs.Owning.{targets_in};
 ghost use Rattle.wl_resident.specs.Seats.{IsSeated};
 ghost use Rattle.wl_resident.specs.declared.marking.WindowRecord.{WindowRecord as WindowAsKept};
-ghost use Rattle.wl_laws.specs.Touching.{has_window_at, window_at};
+ghost use Rattle.wl_records.specs.Touching.{has_window_at, window_at};
 ghost use Rattle.wl_surface.specs.Kept.{Numbered, StandForAll};
 
 use crate::messages::{Asked, Kind};

@@ -14,8 +14,8 @@ ghost use Rattle.wl_shell.specs.Kept.{Kept as KeptXdg, changing, commit_answer, 
 ghost use Rattle.wl_plain.specs.Ask.{AskSurface};
 ghost use Rattle.wl_plain.specs.Demand.{CommitTree, EndSurface};
 ghost use Rattle.wl_plain.specs.Desktop.{Desktop, Resident as Plain};
-ghost use Rattle.wl_laws.specs.NoMore.{OwnsToplevelsOnly};
-ghost use Rattle.wl_laws.specs.Owning.{AreKept, IsOwned, Names, by_number, effect_by, names_in};
+ghost use Rattle.wl_records.specs.NoMore.{OwnsToplevelsOnly};
+ghost use Rattle.wl_records.specs.Owning.{AreKept, IsOwned, Names, by_number, effect_by, names_in};
 ghost use Rattle.wl_plain.specs.Framing.{AreFramed};
 ghost use Rattle.wl_plain.specs.LeftOut.{served_now};
 ghost use Rattle.wl_plain.specs.Releases.{let_if, same_number};

@@ -6,7 +6,7 @@ ghost use Rattle.wl_interface.specs.declared.interface.Interface.TheVariants.{Wl
 ghost use Rattle.wl_proto.specs.declared.xdg_wm_base.XdgWmBaseRequest.TheVariants.{Destroy, GetXdgSurface};
 ghost use Rattle.wl_plain.specs.Ask.{EndObject, Ignore};
 ghost use Rattle.wl_plain.specs.Demand.{Asks};
-ghost use Rattle.wl_laws.specs.Owning.{targets_in};
+ghost use Rattle.wl_records.specs.Owning.{targets_in};
 ghost use Rattle.wl_resident.specs.Residents.{AnswersDemand, Does, GoesAlone, IsBase, IsFree, IsSurface, NewIsFree, ObjectsFit};
 ghost use Rattle.wl_plain.specs.LeftOut.{served_now};
 ghost use Rattle.wl_plain.specs.Demanding.{demand_of};

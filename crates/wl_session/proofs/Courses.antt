@@ -22,8 +22,8 @@ use Rattle.wl_laws.specs.Through.{IsSingle}
 use Rattle.wl_plain.specs.Stacked.{all_windows}
 use Rattle.wl_plain.specs.Moments.{marks_at_least, marks_at_most, marks_at_most_through}
 use Rattle.wl_laws.proofs.Marks.Through.{marked_through}
-use Rattle.wl_laws.proofs.Marks.Most.{most-through}
-use Rattle.wl_laws.proofs.Keeping.OwningKeys.{differ}
+use Rattle.wl_records.proofs.Marks.Most.{most-through}
+use Rattle.wl_laws.proofs.Lists.Keys.{differ}
 use Rattle.wl_laws.proofs.Runs.Through.{happens_leads_through, messages_lead_through, settling-with}
 use Rattle.wl_resident.specs.Marking.{MarksAtLeast, MarksMost, MarksThrough, IsAsLarge as HasItsSides}
 use Rattle.wl_resident.specs.View.{MarkedDesk}

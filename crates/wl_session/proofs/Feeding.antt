@@ -1,7 +1,7 @@
 -- A piece of a client's stream, message by message.
 use Rattle.std.proofs.Common.{◌≡◌, ℕ, zero, suc, List, [], ◌∷◌, ◌++◌, Bool, true, false, Option, Some, None, refl, ap, sym, subst, ◌∙◌, inl, inr}
 use Rattle.std.specs.Prelude.{◌==◌, not, cond, is_some, slice_index_or}
-use Rattle.wl_laws.specs.Standing.{AreMapped}
+use Rattle.wl_records.specs.Standing.{AreMapped}
 use Rattle.std.specs.List.{list_any}
 use Rattle.wl_peer.specs.declared.cause.Cause.{Cause}
 use Rattle.wl_peer.specs.declared.cause.Cause.TheVariants.{Memory}
@@ -22,15 +22,16 @@ use Rattle.wl_resident.specs.View.{DeskView, OwnedView}
 use Rattle.wl_plain.specs.declared.answers.Done.TheVariants as gave
 use Rattle.wl_plain.specs.declared.answers.Fed.{Fed}
 use Rattle.wl_plain.specs.LeftOut.{served_now}
-use Rattle.wl_laws.specs.NoMore.{NoMore}
+use Rattle.wl_records.specs.NoMore.{NoMore}
 use Rattle.wl_plain.specs.Happens.{FeedsAt, IsFedAt, Reaches, Serves, StopsAt}
 use Rattle.wl_laws.proofs.Runs.Forms.{ServesAt as StepServesAt}
-use Rattle.wl_laws.proofs.Toplevels.Back.{message-by}
-use Rattle.wl_laws.proofs.Toplevels.Lasts.{reaches-has}
-use Rattle.wl_laws.proofs.Toplevels.Serves.{becomes-same, settles-to}
-use Rattle.wl_laws.proofs.Runs.Places.{client-become, number-kept, number-same, number-twice, stacked-clients}
+use Rattle.wl_records.proofs.Toplevels.Back.{message-by}
+use Rattle.wl_records.proofs.Toplevels.Lasts.{reaches-has}
+use Rattle.wl_records.proofs.Toplevels.Serves.{becomes-same, settles-to}
+use Rattle.wl_laws.proofs.Runs.Places.{client-become, number-kept, number-same, number-twice}
+use Rattle.wl_records.proofs.Toplevels.Stacks.{stacked-clients}
 use Rattle.wl_laws.proofs.Marks.Stacks.{and-both, differ, or-left, or-right, same-number}
-use Rattle.wl_laws.proofs.Toplevels.Simply.{Simple, changed_simply, stacked_simply}
+use Rattle.wl_records.proofs.Toplevels.Simply.{Simple, changed_simply, stacked_simply}
 
 -- ---- a client stays there
 

@@ -16,7 +16,7 @@ use Rattle.wl_plain.specs.Act.{Act, Connect, Feed, Leave, Send, Close, Store, Ti
 use Rattle.wl_plain.specs.Happens.{Happens}
 use Rattle.wl_laws.specs.Others.{client_of}
 use Rattle.wl_laws.specs.Own.{KeepsItsOwn, KeepsItsOwnBy, KeepsItsOwnSo, LivesOrEnds}
-use Rattle.wl_laws.proofs.Keeping.OwningKeys.{none-some}
+use Rattle.wl_laws.proofs.Lists.Keys.{none-some}
 use Rattle.wl_laws.proofs.Marks.Stacks.{Each, and-both, same-number}
 use Rattle.wl_laws.proofs.Runs.Places.{number-other, number-same}
 use Rattle.wl_laws.proofs.Marks.ShownWindows.{all-shown}

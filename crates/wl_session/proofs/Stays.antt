@@ -27,7 +27,7 @@ use Rattle.wl_plain.specs.Scratch.{color_in, scratch}
 use Rattle.wl_plain.specs.Stacked.{all_windows}
 use Rattle.wl_plain.specs.Through.{ending_through}
 use Rattle.wl_laws.proofs.Marks.Through.{leads-output}
-use Rattle.wl_laws.proofs.Keeping.OwningKeys.{none-some}
+use Rattle.wl_laws.proofs.Lists.Keys.{none-some}
 use Rattle.wl_laws.proofs.Runs.Places.{number-same}
 use Rattle.wl_laws.proofs.Marks.ShownWindows.{IsShown as ShowsBuffer, all-shown}
 use Rattle.wl_laws.proofs.Marks.Stacks.{and-left, and-right, differ, each-map, or-left, or-right, same-number, unless}

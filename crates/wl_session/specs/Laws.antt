@@ -2,7 +2,7 @@
 use Rattle.std.specs.Prelude.{ℕ, ◌≡◌, ◌≢◌, false, Some}
 use Rattle.wl_plain.specs.Desktop.{Desktop, client_at, toplevels_of}
 use Rattle.wl_plain.specs.LeftOut.{LeftOut, served_now}
-use Rattle.wl_laws.specs.NoMore.{NoMore}
+use Rattle.wl_records.specs.NoMore.{NoMore}
 use Rattle.wl_plain.specs.declared.answers.Done.{Done}
 use Rattle.wl_plain.specs.Act.{Act, is_tick}
 use Rattle.wl_plain.specs.Happens.{Happens}

@@ -20,7 +20,7 @@ use Rattle.wl_plain.specs.Replies.{popups_done}
 use Rattle.wl_plain.specs.Settling.{QueuesFirst, QueuesTo, leave_drawn, told_drawn}
 use Rattle.wl_plain.specs.Happens.{callbacks_due, frames_told, is_counting, noted, noted_if, number_of, without_grabs}
 use Rattle.wl_laws.specs.Own.{AreSameOrDismissed, HasItsOwn, IsSameOrDismissed, LivesOn}
-use Rattle.wl_laws.proofs.Keeping.StandingLists.{none-left}
+use Rattle.wl_laws.proofs.Lists.Standings.{none-left}
 use Rattle.wl_laws.proofs.Marks.Stacks.{equal-numbers, or-left, or-right, unless}
 use Rattle.wl_laws.proofs.Isolation.Told.{TellsBy, TellsFocus}
 

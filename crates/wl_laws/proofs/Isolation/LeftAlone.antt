@@ -8,7 +8,7 @@ use Rattle.wl_plain.specs.Desktop.{Desktop, Resident, arrival, client_at, reside
 use Rattle.wl_plain.specs.Act.{Connect, Feed, Store, Leave, Tick, Send, Close, Motion, Button, lowest}
 use Rattle.wl_laws.proofs.Runs.Forms.{ConnectsAt}
 use Rattle.wl_laws.specs.Others.{HasEndedUntold, IsLeftAlone, IsLeftBy, IsLeftLiving, IsLeftSo, IsNotQueued, IsToldOfFocus, OthersAreLeftAlone, client_of}
-use Rattle.wl_laws.proofs.Keeping.OwningKeys.{some-same}
+use Rattle.wl_laws.proofs.Lists.Keys.{some-same}
 use Rattle.wl_laws.proofs.Isolation.Others.{IsLeft, left-then, same-left}
 use Rattle.wl_laws.proofs.Isolation.Messages.{changes-in, fed-in, leaves-in, with-left}
 use Rattle.wl_laws.proofs.Isolation.Settling.{Stays}

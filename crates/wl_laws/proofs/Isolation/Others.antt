@@ -4,11 +4,9 @@ use Rattle.std.specs.Prelude.{◌==◌, ◌&&◌, not, cond, filter}
 use Rattle.std.proofs.lemmas.Bool.{eqb-true}
 use Rattle.wl_peer.specs.declared.cause.Cause.{Cause}
 use Rattle.wl_peer.specs.Peer.{Peer}
-use Rattle.wl_shell.specs.Shell.{Effect, Stays, Unconfigured, Configures, Maps, Unmaps}
 use Rattle.wl_scene.specs.Stacking.{Standing, is_of, with_mapped}
-use Rattle.wl_plain.specs.Desktop.{Desktop, Resident, become, become_by, client_at, client_in, toplevels_of}
-use Rattle.wl_laws.proofs.Runs.Places.{other-become, stacked-clients}
-use Rattle.wl_laws.proofs.Toplevels.Simply.{Asking, AskingFrame, CommitSurface, DestroySurface, DestroyToplevel, Simple, stacked_simply}
+use Rattle.wl_plain.specs.Desktop.{Desktop, Resident, become, become_by, client_at, toplevels_of}
+use Rattle.wl_laws.proofs.Runs.Places.{other-become}
 
 abbrev of : ℕ → List Standing → List Standing
 of c standing = filter (λ s. s.client == c) standing
@@ -52,20 +50,6 @@ on_top mappings c surface other differ [] =
 on_top mappings c surface other differ (s ∷ ss) =
     ap (λ (xs : List Standing). cond (s.client == other) (s ∷ xs) xs) (on_top mappings c surface other differ ss)
 
-effect-others : (c other id : ℕ) (effect : Effect) (r : Resident) (d : Desktop) → c ≢ other → toplevels_of other (stacked_simply c (CommitSurface id effect) r d) ≡ toplevels_of other d
-effect-others c other id Stays r d differ = refl
-effect-others c other id Unconfigured r d differ = refl
-effect-others c other id Configures r d differ = refl
-effect-others c other id Maps r d differ = on_top d.mappings c id other differ d.standing
-effect-others c other id Unmaps r d differ = left_out (λ s. not (is_of c id s)) other (one_surface c other id differ) d.standing
-
-stacked-others : (c other : ℕ) (ask : Simple) (r : Resident) (d : Desktop) → c ≢ other → toplevels_of other (stacked_simply c ask r d) ≡ toplevels_of other d
-stacked-others c other (Asking ask) r d differ = refl
-stacked-others c other (DestroySurface id) r d differ = refl
-stacked-others c other (AskingFrame id version surface) r d differ = refl
-stacked-others c other (CommitSurface id effect) r d differ = effect-others c other id effect r d differ
-stacked-others c other (DestroyToplevel id xdg top) r d differ = left_out (λ s. not (is_of c _ s)) other (one_surface c other _ differ) d.standing
-
 become-others-by : (s : Option Cause) (c other : ℕ) (r : Resident) (q : Peer) (d : Desktop) → c ≢ other → toplevels_of other (become_by s c r q d) ≡ toplevels_of other d
 become-others-by None c other r q d differ = refl
 become-others-by (Some cause) c other r q d differ = left_out (λ s. not (s.client == c)) other (one_client c other differ) d.standing
@@ -80,10 +64,6 @@ left-then other old mid new h k = (k.0 ∙ h.0, k.1 ∙ h.1)
 pub become-left : (c other : ℕ) (r : Resident) (q : Peer) (d : Desktop) → c ≢ other → IsLeft other d (become c r q d)
 become-left c other r q d differ = (other-become c other r q d differ, become-others-by q.status c other r q d differ)
 
-pub stacked-left : (c other : ℕ) (ask : Simple) (r : Resident) (d : Desktop) → c ≢ other → IsLeft other d (stacked_simply c ask r d)
-stacked-left c other ask r d differ =
-    (ap (λ (clients : List (Option Resident)). client_in clients other) (stacked-clients c ask r d), stacked-others c other ask r d differ)
-
 pub same-left : (other : ℕ) (d new : Desktop) → new ≡ d → IsLeft other d new
 same-left other d new e = (ap (λ (x : Desktop). client_at other x) e, ap (λ (x : Desktop). toplevels_of other x) e)
 
@@ -91,17 +71,3 @@ same-left other d new e = (ap (λ (x : Desktop). client_at other x) e, ap (λ (x
 
 abbrev pub Keeps : Desktop → Desktop → Type 0
 Keeps old new = new.output ≡ old.output
-
-effect-keeps : (c id : ℕ) (effect : Effect) (r : Resident) (d : Desktop) → Keeps d (stacked_simply c (CommitSurface id effect) r d)
-effect-keeps c id Stays r d = refl
-effect-keeps c id Unconfigured r d = refl
-effect-keeps c id Configures r d = refl
-effect-keeps c id Maps r d = refl
-effect-keeps c id Unmaps r d = refl
-
-pub stacked-keeps : (c : ℕ) (ask : Simple) (r : Resident) (d : Desktop) → Keeps d (stacked_simply c ask r d)
-stacked-keeps c (Asking ask) r d = refl
-stacked-keeps c (DestroySurface id) r d = refl
-stacked-keeps c (AskingFrame id version surface) r d = refl
-stacked-keeps c (CommitSurface id effect) r d = effect-keeps c id effect r d
-stacked-keeps c (DestroyToplevel id xdg top) r d = refl

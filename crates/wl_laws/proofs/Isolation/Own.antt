@@ -23,8 +23,8 @@ use Rattle.wl_plain.specs.Happens.{Dismisses, DismissesUnless, Happens, MotionSe
 use Rattle.wl_plain.specs.Happens.{frames_told, hit_now, is_hit_of, noted_if, number_of, point_in, pointed, raised_by, settling, with_press, with_release, without_grabs}
 use Rattle.wl_laws.specs.Others.{IsLeftAlone, IsLeftBy, IsLeftSo, IsNotQueued, IsToldTimes, client_of, told_once}
 use Rattle.wl_laws.specs.Own.{HasEndedLate, HasItsOwn, KeepsItsOwn, KeepsItsOwnBy, KeepsItsOwnSo, LivesOrEnds, StandTheSame, OwnStays}
-use Rattle.wl_laws.proofs.Keeping.OwningKeys.{some-same}
-use Rattle.wl_laws.proofs.Keeping.StandingLists.{any-last}
+use Rattle.wl_laws.proofs.Lists.Keys.{some-same}
+use Rattle.wl_laws.proofs.Lists.Standings.{any-last}
 use Rattle.wl_laws.proofs.Isolation.LeftAlone.{others_are_left_alone}
 use Rattle.wl_laws.proofs.Isolation.Kept.{StaysOwn, TellsDone, TellsPointer, own-all, own-drawn, own-frames, own-more, own-same, own-then}
 use Rattle.wl_laws.proofs.Isolation.Settling.{IsIn, IsWithin, Stays, ending-in, settles-in, settling-in, tells-in, within-same}

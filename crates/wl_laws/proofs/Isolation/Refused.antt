@@ -19,7 +19,7 @@ use Rattle.wl_plain.specs.Step.{with_peer}
 use Rattle.wl_plain.specs.Happens.{Reaches, StopsAt}
 use Rattle.wl_laws.proofs.Runs.Forms.{Answers, Becomes, ServesAt, Takes}
 use Rattle.wl_laws.specs.Others.{HasErred, IsTheLast, RefusedAlone, refusal_of, refused_for}
-use Rattle.wl_laws.proofs.Keeping.OwningKeys.{some-same}
+use Rattle.wl_laws.proofs.Lists.Keys.{some-same}
 use Rattle.wl_laws.proofs.Runs.Places.{number-same}
 use Rattle.wl_laws.proofs.Isolation.LeftAlone.{Is, Never, gone-stays, left_alone}
 use Rattle.wl_laws.proofs.Isolation.Messages.{serves-in}

@@ -17,7 +17,7 @@ use Rattle.wl_plain.specs.Stacked.{all_windows}
 use Rattle.wl_plain.specs.Through.{ending_through, settling_through}
 use Rattle.wl_laws.proofs.Runs.Following.{Along, Follow, Owns, ending-follows, settling-follows}
 use Rattle.wl_laws.proofs.Soundness.Happenings.{stops}
-use Rattle.wl_laws.proofs.Keeping.OwningKeys.{none-some}
+use Rattle.wl_laws.proofs.Lists.Keys.{none-some}
 use Rattle.wl_laws.proofs.Marks.ShownWindows.{IsShown, all-shown}
 use Rattle.wl_laws.proofs.Marks.Stacks.{each-map, or-left, or-right}
 use Rattle.wl_laws.proofs.Runs.Through.{happened, happens_leads_through, messages_lead_through, served}

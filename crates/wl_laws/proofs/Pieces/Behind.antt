@@ -1,22 +1,18 @@
 -- What came from a client and wasn't taken yet doesn't change what is done.
-use Rattle.std.proofs.Common.{◌≡◌, ℕ, List, Bool, true, false, Option, Some, None, refl, ap, sym, ◌∙◌, [], ◌∷◌}
-use Rattle.std.specs.Prelude.{fold}
+use Rattle.std.proofs.Common.{◌≡◌, ℕ, List, Bool, true, false, Option, Some, None, refl, ap, sym, ◌∙◌}
 use Rattle.wl_interface.specs.declared.interface.Interface.TheVariants.{XdgToplevel}
 use Rattle.wl_store.specs.Stores.{Stock}
 use Rattle.wl_peer.specs.declared.actions.Action.{Action}
 use Rattle.wl_peer.specs.declared.actions.Action.TheVariants.{Sync, GetRegistry, Bind, CreateRegion, AddToRegion, SubtractFromRegion, DestroyRegion, CreatePool, CreateBuffer, ResizePool, DestroyPool}
 use Rattle.wl_peer.specs.declared.actions.Action.TheVariants.{DestroyBuffer}
 use Rattle.wl_peer.specs.declared.cause.Cause.{Cause}
-use Rattle.wl_peer.specs.Peer.{Peer, changed, with_rest, removed}
-use Rattle.wl_shell.specs.Shell.{Effect, Stays, Unconfigured, Configures, Maps, Unmaps, XdgSurface as Xdg, xdg_at, xdg_of}
+use Rattle.wl_peer.specs.Peer.{Peer, changed, with_rest}
+use Rattle.wl_shell.specs.Shell.{XdgSurface as Xdg, xdg_at}
 use Rattle.wl_plain.specs.Ask.{Ask, Own, CreateSurface, AskSurface, EndObject, GetXdgSurface, DestroyXdgSurface, GetToplevel, Acknowledge, ConfigureAgain, Ignore}
 use Rattle.wl_plain.specs.Desktop.{Resident}
 use Rattle.wl_peer.specs.Used.{has_used, keeps_store}
-use Rattle.wl_surface.specs.Surfaces.{is_used, without_surface}
-use Rattle.wl_surface.specs.Waiting.{Callback}
-use Rattle.wl_plain.specs.Step.{after_surface, answers_to, making, own_changed, toplevel_given, with_peer, removing, with_surfaces}
-use Rattle.wl_plain.specs.Changing.{callbacks_of, without_callbacks}
-use Rattle.wl_laws.proofs.Toplevels.Simply.{Simple, Asking, DestroySurface, AskingFrame, CommitSurface, DestroyToplevel, changed_simply, committed_on, effect_on}
+use Rattle.wl_surface.specs.Surfaces.{is_used}
+use Rattle.wl_plain.specs.Step.{answers_to, changed_by, making, own_changed, toplevel_given, with_peer}
 
 -- a client from which this came and wasn't taken yet
 abbrev pub with_behind : List ℕ → Resident → Resident
@@ -25,7 +21,7 @@ with_behind rest r = with_peer (with_rest rest r.peer) r
 -- ---- what it changes
 
 -- a client with another status, and from which this came
-abbrev with_stream : Option Cause → List ℕ → Resident → Resident
+abbrev pub with_stream : Option Cause → List ℕ → Resident → Resident
 with_stream s rest r = with_peer (record r.peer { status = s; rest = rest }) r
 
 keeps-stream : (b : Bool) (stores : Stock) (p : Peer) (s : Option Cause) (rest : List ℕ) → keeps_store b stores (record p { status = s; rest = rest }) ≡ record (keeps_store b stores p) {
@@ -51,54 +47,34 @@ own-stream (DestroyBuffer id store) r s rest =
     ap (λ (p : Peer). record r { peer = p })
     (keeps-stream (has_used (λ number. is_used number r.owned.surfaces) (r.peer.buffers id)) r.peer.stores (changed (DestroyBuffer id store) r.peer) s rest)
 
-effect-stream : (id : ℕ) (effect : Effect) (x : Option Xdg) (r : Resident) (s : Option Cause) (rest : List ℕ)
-    → effect_on id effect x (with_stream s rest r) ≡ with_stream s rest (effect_on id effect x r)
-effect-stream id effect None r s rest = refl
-effect-stream id Stays (Some x) r s rest = refl
-effect-stream id Unconfigured (Some x) r s rest = refl
-effect-stream id Configures (Some x) r s rest = refl
-effect-stream id Maps (Some x) r s rest = refl
-effect-stream id Unmaps (Some x) r s rest = refl
-
 toplevel-stream : (id xdg : ℕ) (x : Option Xdg) (r : Resident) (s : Option Cause) (rest : List ℕ) → toplevel_given id xdg x (with_stream s rest r) ≡ with_stream s rest (toplevel_given id xdg x r)
 toplevel-stream id xdg None r s rest = refl
 toplevel-stream id xdg (Some x) r s rest = refl
 
-without-stream : (gone : List Callback) (p : Peer) (s : Option Cause) (rest : List ℕ)
-    → fold (λ p callback. removed callback.id p) (record p { status = s; rest = rest }) gone ≡ record (fold (λ p callback. removed callback.id p) p gone) { status = s; rest = rest }
-without-stream [] p s rest = refl
-without-stream (callback ∷ gone) p s rest = without-stream gone (removed callback.id p) s rest
-
-changed-stream : (ask : Simple) (r : Resident) (s : Option Cause) (rest : List ℕ) → changed_simply ask (with_stream s rest r) ≡ with_stream s rest (changed_simply ask r)
-changed-stream (Asking (Own action)) r s rest = own-stream action r s rest
-changed-stream (Asking (CreateSurface id version)) r s rest = refl
-changed-stream (DestroySurface id) r s rest =
-    let bare : Resident = after_surface id r (with_surfaces (without_surface id r.owned.surfaces) r) in
-    ap (λ (p : Peer). removing id (with_peer p (without_callbacks (callbacks_of id r) bare))) (without-stream (callbacks_of id r) bare.peer s rest)
-changed-stream (AskingFrame id version surface) r s rest = refl
-changed-stream (Asking (AskSurface id request)) r s rest = refl
-changed-stream (CommitSurface id effect) r s rest = effect-stream id effect (xdg_of id r.owned.shell) (after_surface id r (committed_on id r)) s rest
-changed-stream (Asking (EndObject id)) r s rest = refl
-changed-stream (Asking (GetXdgSurface id version base surface)) r s rest = refl
-changed-stream (Asking (DestroyXdgSurface id)) r s rest = refl
-changed-stream (Asking (GetToplevel id version xdg)) r s rest =
+pub ask-stream : (ask : Ask) (r : Resident) (s : Option Cause) (rest : List ℕ) → changed_by ask (with_stream s rest r) ≡ with_stream s rest (changed_by ask r)
+ask-stream (Own action) r s rest = own-stream action r s rest
+ask-stream (GetToplevel id version xdg) r s rest =
     ap (λ (q : Resident). making XdgToplevel id version q) (toplevel-stream id xdg (xdg_at xdg r.owned.shell) r s rest)
-changed-stream (Asking (Acknowledge xdg serial)) r s rest = refl
-changed-stream (Asking (ConfigureAgain xdg)) r s rest = refl
-changed-stream (DestroyToplevel id xdg top) r s rest = refl
-changed-stream (Asking Ignore) r s rest = refl
+ask-stream (CreateSurface id version) r s rest = refl
+ask-stream (AskSurface id request) r s rest = refl
+ask-stream (EndObject id) r s rest = refl
+ask-stream (GetXdgSurface id version base surface) r s rest = refl
+ask-stream (DestroyXdgSurface id) r s rest = refl
+ask-stream (Acknowledge xdg serial) r s rest = refl
+ask-stream (ConfigureAgain xdg) r s rest = refl
+ask-stream Ignore r s rest = refl
 
 -- what is done is neither whether the client lives nor what came from it
-pub changed-status : (ask : Simple) (r : Resident) → (changed_simply ask r).peer.status ≡ r.peer.status
-changed-status ask r = ap (λ (q : Resident). q.peer.status) (changed-stream ask r r.peer.status r.peer.rest)
+pub ask-status : (ask : Ask) (r : Resident) → (changed_by ask r).peer.status ≡ r.peer.status
+ask-status ask r = ap (λ (q : Resident). q.peer.status) (ask-stream ask r r.peer.status r.peer.rest)
 
-pub changed-rest : (ask : Simple) (r : Resident) → (changed_simply ask r).peer.rest ≡ r.peer.rest
-changed-rest ask r = ap (λ (q : Resident). q.peer.rest) (changed-stream ask r r.peer.status r.peer.rest)
+pub ask-rest : (ask : Ask) (r : Resident) → (changed_by ask r).peer.rest ≡ r.peer.rest
+ask-rest ask r = ap (λ (q : Resident). q.peer.rest) (ask-stream ask r r.peer.status r.peer.rest)
 
 -- and the same is done
-pub changed-behind : (ask : Simple) (r : Resident) (rest : List ℕ) → changed_simply ask (with_behind rest r) ≡ with_behind rest (changed_simply ask r)
-changed-behind ask r rest =
-    changed-stream ask r r.peer.status rest ∙ ap (λ (s : Option Cause). with_stream s rest (changed_simply ask r)) (sym (changed-status ask r))
+pub ask-behind : (ask : Ask) (r : Resident) (rest : List ℕ) → changed_by ask (with_behind rest r) ≡ with_behind rest (changed_by ask r)
+ask-behind ask r rest =
+    ask-stream ask r r.peer.status rest ∙ ap (λ (s : Option Cause). with_stream s rest (changed_by ask r)) (sym (ask-status ask r))
 
 -- ---- what it is answered with
 

@@ -48,9 +48,8 @@ use Rattle.wl_plain.specs.Step.{making, removing, with_peer, with_surfaces, xdg_
 use Rattle.wl_plain.specs.Happens.{done_for}
 use Rattle.wl_plain.specs.WlSubsurface.{demand_by_link, link_of_subsurface, past_limit}
 use Rattle.wl_plain.specs.XdgPopup.{popup_asked}
-use Rattle.wl_laws.proofs.Pieces.Behind.{answers-behind, changed-behind, with_behind}
+use Rattle.wl_laws.proofs.Pieces.Behind.{answers-behind, ask-behind, with_behind}
 use Rattle.wl_laws.proofs.Pieces.Places.{holder-longer, longer_in, windows-longer}
-use Rattle.wl_laws.proofs.Toplevels.Simply.{Asking}
 
 -- ---- what a message asks
 
@@ -175,7 +174,7 @@ module _ (c : ℕ) (more : List ℕ) where
 
   -- the same is done
   pub done-behind : (demand : Demand) (r : Resident) (d : Desktop) (rest : List ℕ) → changed_for c demand (with_behind rest r) (longer_in c more d) ≡ with_behind rest (changed_for c demand r d)
-  done-behind (Asks ask) r d rest = changed-behind (Asking ask) r rest
+  done-behind (Asks ask) r d rest = ask-behind ask r rest
   done-behind (EndSurface id) r d rest =
       let bare : Resident = after_all r (with_surfaces (destroyed_in id r.owned.surfaces) (record r { subsurfaces = map (without_child id) r.subsurfaces })) in
       ap (λ (p : Peer). removing id (with_peer p (without_callbacks (callbacks_of id r) bare))) (without-behind (callbacks_of id r) bare.peer rest)

@@ -14,7 +14,7 @@ use Rattle.wl_plain.specs.Replies.{focus_window}
 use Rattle.wl_plain.specs.Settling.{EndsAndSettles, EndsFirst, Enters, Leaves, Midstep, MovesFocus, MovesUnless, QueuesFirst, QueuesTo, Settles, SettlesAll, SettlesEnds, Strike, Tells, TellsAt}
 use Rattle.wl_plain.specs.Settling.{TellsUnless, ended_all, ended_at, ended_by, is_settled, is_struck, leave_drawn, struck_by, target_now, told_drawn, unstruck, with_focus}
 use Rattle.wl_plain.specs.Stacked.{all_windows}
-use Rattle.wl_laws.proofs.Keeping.OwningKeys.{none-some}
+use Rattle.wl_laws.proofs.Lists.Keys.{none-some}
 use Rattle.wl_laws.proofs.Marks.Stacks.{or-right}
 use Rattle.wl_laws.proofs.Runs.Fates.{AreStruck, Follows, Lives, ended-follows, fate, fate-unstruck, follows-on, lasting, number-ends, status-lives, still, told-fate, told-follows}
 use Rattle.wl_laws.proofs.Runs.Leads.{After, Leads, Sound, Spares, chained, from, moving, only, worded}

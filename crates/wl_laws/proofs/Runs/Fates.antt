@@ -5,7 +5,7 @@ use Rattle.std.proofs.lemmas.Bool.{eqb-false, eqb-true, ne_eqb}
 use Rattle.wl_peer.specs.declared.cause.Cause.{Cause}
 use Rattle.wl_plain.specs.Desktop.{Resident, client_in, place, with_number, with_place, status_of}
 use Rattle.wl_plain.specs.Settling.{Strike, in_order, is_struck, struck_by}
-use Rattle.wl_laws.proofs.Keeping.OwningKeys.{none-some}
+use Rattle.wl_laws.proofs.Lists.Keys.{none-some}
 use Rattle.wl_laws.proofs.Runs.Places.{number-other, number-same}
 use Rattle.wl_laws.proofs.Marks.Stacks.{or-left, or-right}
 

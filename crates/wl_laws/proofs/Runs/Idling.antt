@@ -33,8 +33,7 @@ use Rattle.wl_laws.proofs.Runs.Forms.{after_why}
 use Rattle.wl_plain.specs.Settling.{Midstep, Strike, after_status, becomes, ended_at, is_settled, is_struck, leave_drawn, target_now, told_drawn, unstruck}
 use Rattle.wl_plain.specs.Stacked.{all_windows}
 use Rattle.wl_plain.specs.Step.{with_peer}
-use Rattle.wl_laws.proofs.Toplevels.Simply.{Asking}
-use Rattle.wl_laws.proofs.Pieces.Behind.{changed-rest, changed-status}
+use Rattle.wl_laws.proofs.Pieces.Behind.{ask-rest, ask-status}
 use Rattle.wl_laws.proofs.Runs.Places.{number-same}
 
 -- ---- what has come of a client that is there: it ended, or this is left of it
@@ -171,7 +170,7 @@ grab-quiet true xdg r = (refl, refl)
 grab-quiet false xdg r = (refl, refl)
 
 pub change-quiet : (c : ℕ) (demand : Demand) (d : Desktop) (r : Resident) → ((changed_for c demand r d).peer.status ≡ r.peer.status) × ((changed_for c demand r d).peer.rest ≡ r.peer.rest)
-change-quiet c (Asks ask) d r = (changed-status (Asking ask) r, changed-rest (Asking ask) r)
+change-quiet c (Asks ask) d r = (ask-status ask r, ask-rest ask r)
 change-quiet c (EndSurface id) d r = without-quiet (callbacks_of id r) _
 change-quiet c (AskFrame id version surface) d r = (refl, refl)
 change-quiet c (CommitTree surface) d r = effect-quiet c surface (effect_of_commit r surface) (xdg_of surface r.owned.shell) d (tree_committed surface r)

@@ -2,9 +2,7 @@
 use Rattle.std.proofs.Common.{◌≡◌, ◌≢◌, ℕ, zero, suc, List, [], ◌∷◌, Option, Some, None, refl, ap}
 use Rattle.wl_peer.specs.declared.cause.Cause.{Cause}
 use Rattle.wl_peer.specs.Peer.{Peer}
-use Rattle.wl_shell.specs.Shell.{Effect, Stays, Unconfigured, Configures, Maps, Unmaps}
 use Rattle.wl_plain.specs.Desktop.{Desktop, Resident, become, become_by, client_at, client_in, place, resident_of, with_client, with_number, with_place, status_in, status_of}
-use Rattle.wl_laws.proofs.Toplevels.Simply.{Asking, AskingFrame, CommitSurface, DestroySurface, DestroyToplevel, Simple, stacked_simply}
 
 place-same : (rs : List (Option Resident)) (k : ℕ) (x : Option Resident) (r : Resident) → place rs k ≡ Some r → place (with_place k x rs) k ≡ x
 place-same [] k x r h = absurd (cc)
@@ -77,18 +75,3 @@ other-by (Some cause) c other r q d differ = number-other d.clients c other (Som
 -- no other client changes
 pub other-become : (c other : ℕ) (r : Resident) (q : Peer) (d : Desktop) → c ≢ other → client_at other (become c r q d) ≡ client_at other d
 other-become c other r q d differ = other-by q.status c other r q d differ
-
-effect-clients : (c id : ℕ) (effect : Effect) (r : Resident) (d : Desktop) → (stacked_simply c (CommitSurface id effect) r d).clients ≡ d.clients
-effect-clients c id Stays r d = refl
-effect-clients c id Unconfigured r d = refl
-effect-clients c id Configures r d = refl
-effect-clients c id Maps r d = refl
-effect-clients c id Unmaps r d = refl
-
--- the stack of toplevels is apart from the clients
-pub stacked-clients : (c : ℕ) (ask : Simple) (r : Resident) (d : Desktop) → (stacked_simply c ask r d).clients ≡ d.clients
-stacked-clients c (Asking ask) r d = refl
-stacked-clients c (DestroySurface id) r d = refl
-stacked-clients c (AskingFrame id version surface) r d = refl
-stacked-clients c (CommitSurface id effect) r d = effect-clients c id effect r d
-stacked-clients c (DestroyToplevel id xdg top) r d = refl

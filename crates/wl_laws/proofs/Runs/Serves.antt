@@ -27,7 +27,7 @@ use Rattle.wl_plain.specs.Step.{with_peer}
 use Rattle.wl_plain.specs.Happens.{FeedsAt, Reaches, Serves, StopsAt, done_for, wants_memory}
 use Rattle.wl_laws.proofs.Runs.Forms.{Answers, Becomes, Does, ServesAt, Takes, WantsOr, after_why}
 use Rattle.wl_laws.proofs.Runs.Places.{left_by, number-same, number-twice}
-use Rattle.wl_laws.proofs.Keeping.OwningKeys.{none-some}
+use Rattle.wl_laws.proofs.Lists.Keys.{none-some}
 use Rattle.wl_laws.proofs.Runs.Ends.{end_all-leads, queues-once, same-pair}
 use Rattle.wl_laws.proofs.Runs.Fates.{Follows, Lives, follows-on, lasting, put-follows, status-here, status-lives, still}
 use Rattle.wl_laws.proofs.Runs.Leads.{After, Leads, Spares, chained, from, given, nowhere, only, spares-first, spares-rest, unless, worded}

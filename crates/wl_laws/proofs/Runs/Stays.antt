@@ -11,7 +11,7 @@ use Rattle.wl_plain.specs.Step.{with_peer}
 use Rattle.wl_plain.specs.Act.{Connect, Feed, Store, Leave, Tick, Send, Close, Motion, Button, IsClosed, IsSent, IsStored, lowest, next_of}
 use Rattle.wl_laws.proofs.Runs.Forms.{ConnectsAt, ChangesAt}
 use Rattle.wl_laws.specs.RunLaws.{EndsStay}
-use Rattle.wl_laws.proofs.Keeping.OwningKeys.{none-some, some-same}
+use Rattle.wl_laws.proofs.Lists.Keys.{none-some, some-same}
 use Rattle.wl_laws.proofs.Runs.Places.{number-other, number-same}
 use Rattle.wl_laws.proofs.Runs.OneRun.{changed-held, fed-after, few-of, held, leaves-after, motion-leads}
 use Rattle.wl_laws.proofs.Runs.Fates.{same-or}

@@ -32,7 +32,7 @@ use Rattle.wl_laws.proofs.Soundness.Orderly.{HasId, IsAllowed, IsOn, IsObject, I
 use Rattle.wl_laws.proofs.Soundness.AllowedAsks.{Allows, ask-either, base-allowed, compositor-allowed, either, none-there, own-allowed-so, state-allowed, xdg-allowed}
 use Rattle.wl_laws.proofs.Soundness.AllowedHeard.{fresh-first, judged-hears, named-second}
 use Rattle.wl_laws.proofs.Soundness.AllowedOwn.{IsHeardBy}
-use Rattle.wl_laws.proofs.Keeping.OwningKeys.{found-passes, some-same}
+use Rattle.wl_laws.proofs.Lists.Keys.{found-passes, some-same}
 use Rattle.wl_laws.proofs.Marks.Stacks.{or-left, or-right}
 
 -- ---- surfaces

@@ -25,7 +25,7 @@ use Rattle.wl_plain.specs.XdgShell.{acknowledged_by, configured_again, geometry_
 use Rattle.wl_laws.proofs.Soundness.Orderly.{HasNoRole, IsAllowed, IsObject}
 use Rattle.wl_laws.proofs.Soundness.AllowedHeard.{fresh-first}
 use Rattle.wl_laws.proofs.Soundness.AllowedOwn.{AllowsOwn, IsHeardBy, own-allowed}
-use Rattle.wl_laws.proofs.Keeping.OwningKeys.{found-passes}
+use Rattle.wl_laws.proofs.Lists.Keys.{found-passes}
 use Rattle.wl_laws.proofs.Marks.Stacks.{or-left, or-right}
 
 -- what a message that is accepted demands is allowed

@@ -19,7 +19,7 @@ use Rattle.wl_peer.specs.Judgement.{after_new_id, is_free, judged, judged_at}
 use Rattle.wl_peer.specs.Requests.{word_in}
 use Rattle.wl_peer.specs.Objects.{Object, Objects, fits, interface_number, is_of}
 use Rattle.wl_peer.specs.Told.{display_error}
-use Rattle.wl_laws.proofs.Toplevels.Finds.{fields-kinds}
+use Rattle.wl_laws.proofs.Soundness.Fields.{fields-kinds}
 use Rattle.wl_laws.proofs.Marks.Stacks.{and-left, same-number}
 
 -- the fields are of the kinds of a message's arguments

@@ -10,16 +10,16 @@ use Rattle.wl_surface.specs.Surfaces.{Link, Surface, Surfaces, asking, history_i
 use Rattle.wl_surface.specs.Trees.{committed_in, desynchronised_in, destroyed_in, ended_in, links_with, synchronised_in}
 use Rattle.wl_surface.specs.declared.role.Role.{Role}
 use Rattle.wl_plain.specs.Changing.{unlinked_at}
-use Rattle.wl_laws.specs.Owning.{AreApartBy}
+use Rattle.wl_laws.specs.Apart.{AreApartBy}
 use Rattle.wl_laws.specs.Soundness.{AreOnce, IsLive}
 use Rattle.wl_laws.proofs.Soundness.Orderly.{IsAskable, IsForest, IsOfParent, KeepsLinks}
 use Rattle.wl_laws.proofs.Soundness.Moves.{Moves, found-left, has_number, moves-committed, moves-desynchronised, moves-synchronised, moves-those, moves-unlinked, requests-changed}
-use Rattle.wl_laws.proofs.Keeping.OwningKeys.{differ, found-passes, gone, none-some, some-same}
-use Rattle.wl_laws.proofs.Keeping.OwningSurfaces.{has_id}
+use Rattle.wl_laws.proofs.Lists.Keys.{differ, found-passes, gone, none-some, some-same}
+use Rattle.wl_laws.proofs.Lists.Surfaces.{has_id}
 use Rattle.wl_laws.proofs.Soundness.Trees.{or-none}
 use Rattle.wl_laws.proofs.Marks.Stacks.{or-left, or-right, unless}
-use Rattle.wl_laws.proofs.Keeping.StandingLists.{any-gone, none-left}
-use Rattle.wl_laws.proofs.Keeping.StandingSurfaces.{changed-found}
+use Rattle.wl_laws.proofs.Lists.Standings.{any-gone, none-left}
+use Rattle.wl_laws.proofs.Lists.Surfaces.{changed-found}
 
 -- ---- an order
 

@@ -5,12 +5,12 @@ use Rattle.std.proofs.lemmas.Bool.{eqb-true, ltb-false}
 use Rattle.wl_surface.specs.State.{History, is_member, order}
 use Rattle.wl_surface.specs.Surfaces.{Link, Surfaces, history_in, link_at}
 use Rattle.wl_surface.specs.Trees.{depth, descends_from, height, is_bad_parent, is_too_deep, levels, linked}
-use Rattle.wl_laws.specs.Owning.{AreApartBy}
+use Rattle.wl_laws.specs.Apart.{AreApartBy}
 use Rattle.wl_laws.specs.Soundness.{AreOnce, AreTrees, IsLive, IsNoChild}
 use Rattle.wl_laws.proofs.Soundness.Orderly.{IsForest, has_child}
 use Rattle.wl_laws.proofs.Soundness.LinkedDepths.{depth-low, depth-none, depth-step, descends-itself, descends-step, live-link, no-link, within-height}
 use Rattle.wl_laws.proofs.Soundness.LinkedOrders.{IsChildIn, IsOrderIn, child-linked, new-once, order-linked}
-use Rattle.wl_laws.proofs.Keeping.OwningKeys.{new-apart, new-elsewhere, new-here, some-same}
+use Rattle.wl_laws.proofs.Lists.Keys.{new-apart, new-elsewhere, new-here, some-same}
 use Rattle.wl_laws.proofs.Marks.Stacks.{unless}
 
 -- ---- trees

@@ -6,7 +6,7 @@ use Rattle.wl_surface.specs.Surfaces.{Link, Surfaces, link_at}
 use Rattle.wl_surface.specs.Trees.{of_parent, depth, descends_from, height, levels, link_of}
 use Rattle.wl_laws.specs.Soundness.{IsLive, IsNoChild}
 use Rattle.wl_laws.proofs.Soundness.Orderly.{IsForest}
-use Rattle.wl_laws.proofs.Keeping.OwningKeys.{found-by, found-fails, found-none, found-passes, some-same}
+use Rattle.wl_laws.proofs.Lists.Keys.{found-by, found-fails, found-none, found-passes, some-same}
 use Rattle.wl_laws.proofs.Marks.Stacks.{and-left, and-right, and-both, differ, same-number}
 
 -- ---- the link of a child

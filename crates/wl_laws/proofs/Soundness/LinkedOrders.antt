@@ -12,10 +12,10 @@ use Rattle.wl_surface.specs.Trees.{linked}
 use Rattle.wl_surface.specs.declared.role.Role.TheVariants.{Subsurface}
 use Rattle.wl_laws.specs.Soundness.{AreOnce}
 use Rattle.wl_laws.proofs.Soundness.Orderly.{has_child}
-use Rattle.wl_laws.proofs.Keeping.OwningKeys.{found-map, found-passes, some-same}
+use Rattle.wl_laws.proofs.Lists.Keys.{found-map, found-passes, some-same}
 use Rattle.wl_laws.proofs.Marks.Stacks.{any-more, differ, equal-numbers, or-left, or-right, unless}
 use Rattle.wl_laws.proofs.Soundness.Trees.{or-none}
-use Rattle.wl_laws.proofs.Keeping.StandingLists.{any-last}
+use Rattle.wl_laws.proofs.Lists.Standings.{any-last}
 
 -- ---- what was asked
 

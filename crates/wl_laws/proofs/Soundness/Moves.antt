@@ -10,14 +10,14 @@ use Rattle.wl_surface.specs.Surfaces.{Link, Surface, Surfaces, applying, asking,
 use Rattle.wl_surface.specs.Trees.{applied_tree, applied_unless, behaves_synchronised, children_of, committed_in, desynchronised_in, destroyed_in, ended_in, ending, in_mode, levels, links_with}
 use Rattle.wl_surface.specs.Trees.{released_in, synchronised_in, with_link}
 use Rattle.wl_plain.specs.Changing.{unlinked_at}
-use Rattle.wl_laws.specs.Owning.{AreApartBy}
+use Rattle.wl_laws.specs.Apart.{AreApartBy}
 use Rattle.wl_laws.specs.Soundness.{IsLive}
-use Rattle.wl_laws.proofs.Keeping.OwningKeys.{apart-map, differ, found-map, found-passes, some-same}
+use Rattle.wl_laws.proofs.Lists.Keys.{apart-map, differ, found-map, found-passes, some-same}
 use Rattle.wl_laws.proofs.Soundness.Orderly.{KeepsLinks, KeepsTrees, role_in}
 use Rattle.wl_laws.proofs.Marks.Stacks.{and-both, equal-numbers}
-use Rattle.wl_laws.proofs.Keeping.OwningSurfaces.{has_id}
+use Rattle.wl_laws.proofs.Lists.Surfaces.{has_id}
 use Rattle.wl_laws.proofs.Soundness.Trees.{or-here, or-none, or-there}
-use Rattle.wl_laws.proofs.Keeping.StandingSurfaces.{changed-found}
+use Rattle.wl_laws.proofs.Lists.Surfaces.{changed-found}
 
 -- ---- one surface
 

@@ -37,7 +37,7 @@ use Rattle.wl_laws.proofs.Soundness.ObjectsNew.{has-callback-more, has-object, h
 use Rattle.wl_laws.proofs.Soundness.ObjectsRoles.{has-popup-gone, has-toplevel-gone, only-mapped, only-popup, only-toplevel}
 use Rattle.wl_laws.proofs.Soundness.ObjectsShell.{BringsNoId, has-mapped, no-id-acknowledged, no-id-change, no-id-configured, no-id-dismissed, no-id-popup, no-id-stage, no-id-then, no-id-unmapped}
 use Rattle.wl_laws.proofs.Soundness.ObjectsThere.{There, there-changed, there-committed, there-desynchronised, there-destroyed, there-linked, there-more, there-new, there-unlinked}
-use Rattle.wl_laws.proofs.Keeping.OwningKeys.{differ}
+use Rattle.wl_laws.proofs.Lists.Keys.{differ}
 
 -- where nothing of it changes
 pub objects-same : (r q : Resident) → q.peer.objects ≡ r.peer.objects → q.owned ≡ r.owned → q.subsurfaces ≡ r.subsurfaces → q.callbacks ≡ r.callbacks → HasObjects r → HasObjects q

@@ -11,10 +11,10 @@ use Rattle.wl_surface.specs.Surfaces.{Surfaces}
 use Rattle.wl_surface.specs.Waiting.{Callback}
 use Rattle.wl_shell.specs.Shell.{Shell}
 use Rattle.wl_plain.specs.Desktop.{Subsurface}
-use Rattle.wl_laws.specs.Owning.{AreApartBy}
+use Rattle.wl_laws.specs.Apart.{AreApartBy}
 use Rattle.wl_laws.proofs.Soundness.ObjectsHas.{Has, has_callback, has_popup, has_sub, has_toplevel, has_xdg}
 use Rattle.wl_laws.proofs.Soundness.ObjectsKeys.{any-of-filter, is-false, none-of-gone, objects-more, of-one}
-use Rattle.wl_laws.proofs.Keeping.OwningKeys.{any-found, apart-left, differ, found-any, some-same}
+use Rattle.wl_laws.proofs.Lists.Keys.{any-found, apart-left, differ, found-any, some-same}
 use Rattle.wl_laws.proofs.Marks.Stacks.{and-both, and-left, and-right, equal-numbers, or-left, or-right}
 
 -- what is left passes both

@@ -10,7 +10,7 @@ use Rattle.wl_surface.specs.Surfaces.{Surfaces, surface_at}
 use Rattle.wl_surface.specs.Waiting.{Callback}
 use Rattle.wl_shell.specs.Shell.{Shell, XdgSurface as Xdg}
 use Rattle.wl_plain.specs.Desktop.{Resident, Subsurface}
-use Rattle.wl_laws.specs.Owning.{AreObjects}
+use Rattle.wl_laws.specs.Apart.{AreObjects}
 use Rattle.wl_laws.proofs.Soundness.Orderly.{HasObjects, is_popup_at, is_toplevel_at}
 use Rattle.wl_laws.proofs.Soundness.ObjectsKeys.{no-key, none-of-gone, objects-gone, objects-more, of-one, others-kept}
 

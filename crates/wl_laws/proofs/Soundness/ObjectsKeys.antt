@@ -6,10 +6,10 @@ use Rattle.std.proofs.lemmas.Bool.{eqb-true}
 use Rattle.wl_interface.specs.declared.interface.Interface.{Interface}
 use Rattle.wl_peer.specs.Judgement.{is_free}
 use Rattle.wl_peer.specs.Objects.{Object, Objects, interface_number, is_of, with_id}
-use Rattle.wl_laws.specs.Owning.{AreApartBy, AreObjects}
-use Rattle.wl_laws.proofs.Keeping.OwningKeys.{apart-left, differ, found-any, found-none, found-passes, new-apart, none-first, none-later}
+use Rattle.wl_laws.specs.Apart.{AreApartBy, AreObjects}
+use Rattle.wl_laws.proofs.Lists.Keys.{apart-left, differ, found-any, found-none, found-passes, new-apart, none-first, none-later}
 use Rattle.wl_laws.proofs.Marks.Stacks.{and-right, equal-numbers}
-use Rattle.wl_laws.proofs.Keeping.StandingLists.{any-last, none-left}
+use Rattle.wl_laws.proofs.Lists.Standings.{any-last, none-left}
 
 -- ---- lists
 

@@ -14,13 +14,13 @@ use Rattle.wl_shell.specs.Popups.{new_popup}
 use Rattle.wl_shell.specs.Positioner.{Positioner}
 use Rattle.wl_shell.specs.Shell.{Shell, XdgSurface as Xdg, new_toplevel, with_change, with_new, without_xdg, xdg_at}
 use Rattle.wl_plain.specs.Desktop.{Subsurface}
-use Rattle.wl_laws.specs.Owning.{AreApartBy, AreObjects}
+use Rattle.wl_laws.specs.Apart.{AreApartBy, AreObjects}
 use Rattle.wl_laws.proofs.Soundness.ObjectsHas.{Has, has-calls, has-gone, has-made, has-shell, has-subsurfaces, has_callback, has_popup, has_sub, has_toplevel, has_xdg, no-callback, no-popup}
 use Rattle.wl_laws.proofs.Soundness.ObjectsHas.{no-subsurface, no-toplevel, no-xdg}
 use Rattle.wl_laws.proofs.Soundness.ObjectsKeys.{any-less, free-none, is-false, no-key, none-found, objects-filter, objects-map, objects-new}
-use Rattle.wl_laws.proofs.Keeping.OwningKeys.{changed-apart, differ, new-apart}
+use Rattle.wl_laws.proofs.Lists.Keys.{changed-apart, differ, new-apart}
 use Rattle.wl_laws.proofs.Marks.Stacks.{and-left, and-right, equal-numbers}
-use Rattle.wl_laws.proofs.Keeping.StandingLists.{any-gone, any-last}
+use Rattle.wl_laws.proofs.Lists.Standings.{any-gone, any-last}
 
 -- one more that has no key
 pub objects-plain : {X : Type 0} (interface : Interface) (has : ℕ → X → Bool) (objects : Objects) (xs : List X) (x : X) → ((key : ℕ) → has key x ≡ false) → AreObjects interface objects has xs

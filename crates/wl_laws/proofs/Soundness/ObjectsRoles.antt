@@ -13,7 +13,7 @@ use Rattle.wl_laws.proofs.Soundness.Orderly.{HasId, is_popup_at, is_toplevel_at}
 use Rattle.wl_laws.proofs.Soundness.ObjectsHas.{Has, has-gone, has_popup, has_toplevel, no-callback, no-popup, no-subsurface, no-toplevel, no-xdg}
 use Rattle.wl_laws.proofs.Soundness.ObjectsKeys.{any-less, any-map, is-false}
 use Rattle.wl_laws.proofs.Soundness.ObjectsShell.{has-mapped, no-id-change, no-id-without}
-use Rattle.wl_laws.proofs.Keeping.OwningKeys.{any-found, differ, found-any, found-by, found-passes, some-same}
+use Rattle.wl_laws.proofs.Lists.Keys.{any-found, differ, found-any, found-by, found-passes, some-same}
 use Rattle.wl_laws.proofs.Marks.Stacks.{and-both, and-left, and-right, any-more, equal-numbers}
 
 -- no other xdg_surface than this has the role object

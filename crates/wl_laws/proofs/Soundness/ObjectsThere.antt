@@ -9,7 +9,7 @@ use Rattle.wl_surface.specs.Surfaces.{Link, Surface, Surfaces, applying, asking,
 use Rattle.wl_surface.specs.Trees.{applied_tree, applied_unless, behaves_synchronised, children_of, committed_in, desynchronised_in, destroyed_in, ended_in, in_mode, levels, linked, links_with}
 use Rattle.wl_surface.specs.Trees.{released_in, with_link}
 use Rattle.wl_plain.specs.Changing.{unlinked_at}
-use Rattle.wl_laws.proofs.Keeping.OwningKeys.{differ, found-map}
+use Rattle.wl_laws.proofs.Lists.Keys.{differ, found-map}
 use Rattle.wl_laws.proofs.Marks.Stacks.{equal-numbers}
 
 -- the same surfaces are there

@@ -25,7 +25,7 @@ use Rattle.wl_plain.specs.Demand.{Demand, Asks, EndSurface, AskFrame, CommitTree
 use Rattle.wl_plain.specs.Demand.{SetPositioner, GetPopup, Grab, EndPopup, EndToplevel, Move}
 use Rattle.wl_plain.specs.Desktop.{Desktop, Resident, client_at, toplevels_of}
 use Rattle.wl_laws.specs.Laws.{AreApart}
-use Rattle.wl_laws.specs.Owning.{AreApartBy, AreObjects}
+use Rattle.wl_laws.specs.Apart.{AreApartBy, AreObjects}
 use Rattle.wl_laws.specs.Soundness.{AreOnce, IsLive}
 use Rattle.wl_plain.specs.WlPointer.{is_no_cursor}
 use Rattle.wl_plain.specs.WlSubsurface.{has_subsurface, is_no_subsurface, is_of_child}

@@ -12,26 +12,26 @@ use Rattle.wl_shell.specs.Shell.{Shell, XdgSurface, with_change, without_xdg, xd
 use Rattle.wl_shell.specs.Shell.{configuring, in_stage, without_role}
 use Rattle.wl_scene.specs.Stacking.{Owned}
 use Rattle.wl_plain.specs.Desktop.{Resident, Subsurface, Desktop}
-use Rattle.wl_laws.specs.Owning.{AreApartBy}
+use Rattle.wl_laws.specs.Apart.{AreApartBy}
 use Rattle.wl_laws.specs.Soundness.{IsLive}
 use Rattle.wl_plain.specs.Step.{with_shell, with_surfaces, xdg_changed, asked_so_far, toplevel_given, changed_by}
 use Rattle.wl_plain.specs.WlSubsurface.{is_of_child}
 use Rattle.wl_plain.specs.XdgShell.{role_of, is_foreign}
 use Rattle.wl_laws.proofs.Soundness.Orderly.{HasRoles, KeepsLinks, KeepsTrees, role_in, IsForest, HasObjects, IsAllowed, IsAsked}
-use Rattle.wl_laws.proofs.Keeping.OwningKeys.{apart-left, apart-map, found-map, none-left, differ, found-fails, found-passes, new-apart, new-elsewhere, any-found, found-any}
+use Rattle.wl_laws.proofs.Lists.Keys.{apart-left, apart-map, found-map, none-left, differ, found-fails, found-passes, new-apart, new-elsewhere, any-found, found-any}
 use Rattle.wl_plain.specs.Changing.{popup_given_to, link_with_id, subsurface_ended, subsurface_given, surface_ended, without_child, changed_for, commit_done, drawing, effect_done, frame_asked}
 use Rattle.wl_plain.specs.Changing.{grab_allowed, grabbed, has_focus, in_rising_order, mode_set, pointer_given, popup_given, toplevel_ended, tree_committed}
 use Rattle.wl_shell.specs.Positioner.{Positioner}
 use Rattle.wl_plain.specs.WlPointer.{is_no_cursor}
-use Rattle.wl_laws.proofs.Keeping.OwningSurfaces.{has_id}
-use Rattle.wl_laws.proofs.Keeping.StandingSurfaces.{changed-found}
+use Rattle.wl_laws.proofs.Lists.Surfaces.{has_id}
+use Rattle.wl_laws.proofs.Lists.Surfaces.{changed-found}
 use Rattle.wl_laws.proofs.Marks.Stacks.{equal-numbers, and-both, and-left, and-right, unless}
 use Rattle.wl_laws.proofs.Soundness.Standing.{found-first, found-kept}
 use Rattle.wl_surface.specs.Trees.{linked}
 use Rattle.wl_surface.specs.Request.{AddChild, Frame}
 use Rattle.wl_laws.proofs.Soundness.Moves.{destroyed-live, destroyed-role, links-destroyed, trees-asked, trees-unlinked, unlinked-live, trees-committed, trees-desynchronised, trees-synchronised}
 use Rattle.wl_laws.proofs.Soundness.Linked.{linked-live}
-use Rattle.wl_laws.proofs.Keeping.StandingLists.{any-last}
+use Rattle.wl_laws.proofs.Lists.Standings.{any-last}
 use Rattle.wl_plain.specs.Demanding.{effect_of_commit}
 use Rattle.wl_plain.specs.Ask.{Ask, Own, CreateSurface, AskSurface, EndObject, GetXdgSurface, DestroyXdgSurface, GetToplevel, Acknowledge, ConfigureAgain, Ignore}
 use Rattle.wl_plain.specs.Demand.{Demand, Asks, EndSurface, AskFrame, CommitTree, GetSubsurface, EndSubsurface, SetMode, GetPointer, MakeCursor, CreatePositioner, EndPositioner}

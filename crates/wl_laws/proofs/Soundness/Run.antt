@@ -24,7 +24,7 @@ use Rattle.wl_laws.proofs.Soundness.RunMessages.{MessageKeeps, fed-known}
 use Rattle.wl_laws.proofs.Soundness.RunTold.{Anyhow, Frames, IsAlike, Known, ToldOrderly, alike, ended-by-known, ending-known, known-so, left-orderly, nothing-orderly, orderly-all, orderly-frames}
 use Rattle.wl_laws.proofs.Soundness.RunTold.{orderly-stays, settling-known}
 use Rattle.wl_laws.proofs.Soundness.RunTops.{pointed-known, raised-known}
-use Rattle.wl_laws.proofs.Keeping.OwningKeys.{none-some, some-same}
+use Rattle.wl_laws.proofs.Lists.Keys.{none-some, some-same}
 use Rattle.wl_laws.proofs.Runs.Places.{number-other, number-same}
 use Rattle.wl_laws.proofs.Runs.Through.{connects-with}
 use Rattle.wl_laws.proofs.Runs.Fates.{same-or}

@@ -22,7 +22,7 @@ use Rattle.wl_plain.specs.Step.{with_peer, with_shell}
 use Rattle.wl_plain.specs.Happens.{callbacks_due, ending, frames_told, is_counting, noted, noted_if, number_of, settling, without_grabs}
 use Rattle.wl_laws.specs.Others.{IsLeftAlone, IsLeftBy, IsLeftLiving, IsLeftSo, IsToldTimes, told_once}
 use Rattle.wl_laws.proofs.Soundness.Orderly.{HasObjects, HasRoles, IsForest, IsOrderly, IsOrderlyAt, IsOrderlyBy, StandsSo}
-use Rattle.wl_laws.proofs.Keeping.OwningKeys.{none-some}
+use Rattle.wl_laws.proofs.Lists.Keys.{none-some}
 use Rattle.wl_laws.proofs.Soundness.RunSteady.{callbacks-steady}
 use Rattle.wl_laws.proofs.Runs.Places.{number-same}
 use Rattle.wl_laws.proofs.Marks.Stacks.{differ}

@@ -14,7 +14,7 @@ use Rattle.wl_laws.specs.Own.{StandTheSame}
 use Rattle.wl_laws.proofs.Soundness.Orderly.{IsOrderly, IsOrderlyAt, IsOrderlyBy}
 use Rattle.wl_laws.proofs.Soundness.RunTold.{Known}
 use Rattle.wl_laws.proofs.Marks.Stacks.{differ, equal-numbers}
-use Rattle.wl_laws.proofs.Keeping.StandingLists.{apart-last}
+use Rattle.wl_laws.proofs.Lists.Standings.{apart-last}
 use Rattle.wl_laws.proofs.Isolation.Own.{any-kept, any-moved, any-raised, raised-client, stand-moved, stand-raised, stand-same}
 
 -- those of a client

@@ -10,13 +10,13 @@ use Rattle.wl_shell.specs.Shell.{Kind, RoleObject, Shell, Toplevel, IsPopup, Xdg
 use Rattle.wl_scene.specs.Stacking.{Owned, Standing, is_of}
 use Rattle.wl_plain.specs.Desktop.{Desktop, Resident, client_at, owned_in, owned_of, toplevels_of}
 use Rattle.wl_laws.specs.Laws.{AreApart}
-use Rattle.wl_laws.specs.Owning.{AreApartBy}
+use Rattle.wl_laws.specs.Apart.{AreApartBy}
 use Rattle.wl_plain.specs.Popups.{stacked_popup, stacked_popups}
 use Rattle.wl_laws.specs.Soundness.{AreOnce, AreTrees, IsLive, IsNoChild, IsSound, has_surface}
 use Rattle.wl_laws.proofs.Soundness.Orderly.{AreOrderly, IsForest, IsMapped, IsMappedRole, IsOrderly, IsOrderlyAt, IsOrderlyBy}
 use Rattle.wl_laws.proofs.Soundness.First.{no-trees}
 use Rattle.wl_laws.proofs.Marks.Stacks.{differ, equal-numbers, or-left, or-right, unless}
-use Rattle.wl_laws.proofs.Keeping.StandingLists.{any-left, of-client}
+use Rattle.wl_laws.proofs.Lists.Standings.{any-left, of-client}
 use Rattle.wl_laws.proofs.Isolation.Own.{any-kept}
 
 -- ---- lists

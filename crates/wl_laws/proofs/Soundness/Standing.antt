@@ -18,10 +18,10 @@ use Rattle.wl_plain.specs.Changing.{toplevel_ended}
 use Rattle.wl_plain.specs.Demanding.{effect_for_xdg, is_dismissed, effect_of_commit, effect_on_xdg}
 use Rattle.wl_laws.specs.Laws.{AreApart}
 use Rattle.wl_plain.specs.Desktop.{toplevels_of, Desktop, Resident}
-use Rattle.wl_laws.specs.Owning.{AreApartBy}
+use Rattle.wl_laws.specs.Apart.{AreApartBy}
 use Rattle.wl_laws.proofs.Soundness.Orderly.{IsOn, HasNoRole, IsMapped, IsMappedRole, StandsSo, HasId, HasObjects, IsAsked, is_toplevel_at, HasRoles, IsAllowed}
-use Rattle.wl_laws.proofs.Keeping.OwningKeys.{differ, found-by, found-map, found-passes, some-same, apart-map, found-any}
-use Rattle.wl_laws.proofs.Keeping.StandingLists.{any-last, apart-left, mapped-apart, none-left, without-here}
+use Rattle.wl_laws.proofs.Lists.Keys.{differ, found-by, found-map, found-passes, some-same, apart-map, found-any}
+use Rattle.wl_laws.proofs.Lists.Standings.{any-last, apart-left, mapped-apart, none-left, without-here}
 use Rattle.wl_laws.proofs.Marks.Stacks.{and-both, and-right, any-more, equal-numbers, unless}
 use Rattle.wl_plain.specs.WlSurface.{will_show}
 use Rattle.wl_plain.specs.Step.{asked_so_far, changed_by, toplevel_given}

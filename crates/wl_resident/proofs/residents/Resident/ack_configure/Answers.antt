@@ -3,11 +3,11 @@ use Rattle.std.proofs.Common.{ap, inr, refl, subst, sym}
 use Rattle.wl_peer.specs.Peer.{counted}
 use Rattle.wl_shell.specs.Kept.{acknowledgement_answer, kept_of}
 use Rattle.wl_plain.specs.Ask.{Acknowledge}
-use Rattle.wl_laws.specs.Owning.{IsOwned, Names, names_in, shell_refusal}
+use Rattle.wl_records.specs.Owning.{IsOwned, Names, names_in, shell_refusal}
 use Rattle.wl_plain.specs.Step.{changed_by, with_peer}
 use Rattle.wl_plain.specs.XdgShell.{acknowledged_by}
-use Rattle.wl_laws.proofs.Keeping.OwningAsks.{owned-acknowledged}
-use Rattle.wl_laws.proofs.Keeping.OwningReads.{acknowledged-by}
+use Rattle.wl_records.proofs.Keeping.OwningAsks.{owned-acknowledged}
+use Rattle.wl_records.proofs.Keeping.OwningReads.{acknowledged-by}
 use Rattle.wl_resident.proofs.Shelling.{accepted, names-counted, told-err, told-ok, xdg-answered, xdg-refused}
 use Rattle.wl_resident.proofs.Numbers.{keeps-names}
 use Rattle.wl_resident.proofs.Simply.{simply}

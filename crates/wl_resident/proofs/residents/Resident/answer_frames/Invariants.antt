@@ -1,7 +1,7 @@
 use Rattle.std.proofs.Common.{◌≡◌, None, length}
 use Rattle.wl_plain.specs.Desktop.{Resident}
-use Rattle.wl_laws.specs.NoMore.{OwnsToplevelsOnly}
-use Rattle.wl_laws.specs.Owning.{names_in}
+use Rattle.wl_records.specs.NoMore.{OwnsToplevelsOnly}
+use Rattle.wl_records.specs.Owning.{names_in}
 use Rattle.wl_resident.specs.Residents.{IsResident}
 use Rattle.wl_resident.proofs.Answering.{IsAnswered}
 use Rattle.wl_resident.proofs.residents.Resident.answer_frames.Given as goal

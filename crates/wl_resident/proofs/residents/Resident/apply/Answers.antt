@@ -7,15 +7,15 @@ use Rattle.wl_surface.specs.Kept.{Changes}
 use Rattle.wl_surface.specs.Request.{Commit}
 use Rattle.wl_surface.specs.Surfaces.{applying, asking, surface_at}
 use Rattle.wl_plain.specs.Demand.{CommitTree}
-use Rattle.wl_laws.specs.Owning.{by_number, effect_by, names_in}
+use Rattle.wl_records.specs.Owning.{by_number, effect_by, names_in}
 use Rattle.wl_resident.specs.Residents.{told_by}
 use Rattle.wl_plain.specs.Step.{after_surface}
-use Rattle.wl_laws.proofs.Toplevels.Judged.{commit, effect-same}
+use Rattle.wl_records.proofs.Toplevels.Judged.{commit, effect-same}
 use Rattle.wl_resident.proofs.Simply.{meets-as}
 use Rattle.wl_resident.proofs.Committing.{commit-peer, commit-told}
 use Rattle.wl_resident.proofs.Doing.{gone, had-by, lacked}
-use Rattle.wl_laws.proofs.Keeping.OwningAsks.{owned-committed-by}
-use Rattle.wl_laws.proofs.Keeping.OwningSurfaces.{AreKept-changed}
+use Rattle.wl_records.proofs.Keeping.OwningAsks.{owned-committed-by}
+use Rattle.wl_records.proofs.Keeping.OwningSurfaces.{AreKept-changed}
 use Rattle.wl_resident.proofs.Shelling.{owns-told}
 use Rattle.wl_resident.proofs.Numbers.{keeps-same}
 use Rattle.wl_resident.proofs.residents.Resident.apply.Goals as goal
@@ -23,8 +23,8 @@ use Rattle.wl_resident.proofs.Framing.{IsFramed, framed-applied}
 use Rattle.wl_plain.specs.Releases.{release_told, shown_at}
 use Rattle.wl_resident.specs.Freed.{IsFreedOf}
 use Rattle.wl_resident.proofs.Freeing.{freed-changed}
-use Rattle.wl_laws.proofs.Toplevels.Releases.{committed-released}
-use Rattle.wl_laws.proofs.Toplevels.Simply.{CommitSurface, answers_simply, changed_simply, committed_on, told_simply}
+use Rattle.wl_records.proofs.Toplevels.Releases.{committed-released}
+use Rattle.wl_records.proofs.Toplevels.Simply.{CommitSurface, answers_simply, changed_simply, committed_on, told_simply}
 use Rattle.wl_scene.specs.declared.owned.Owned.{Owned as Lent}
 
 pub returns-clause-applies : goal.returns-clause-applies

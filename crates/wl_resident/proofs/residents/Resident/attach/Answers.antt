@@ -4,11 +4,11 @@ use Rattle.wl_shell.specs.Kept.{kept_of}
 use Rattle.wl_surface.specs.Request.{Attach}
 use Rattle.wl_surface.specs.Surfaces.{surface_at}
 use Rattle.wl_surface.specs.declared.frames.Waiting.{Waiting}
-use Rattle.wl_laws.specs.Owning.{names_in}
+use Rattle.wl_records.specs.Owning.{names_in}
 use Rattle.wl_plain.specs.Step.{after_surface, asked_of}
 use Rattle.wl_plain.specs.WlSurface.{buffer_named}
 use Rattle.wl_resident.proofs.Doing.{had-by, let-go-so}
-use Rattle.wl_laws.proofs.Keeping.OwningAsks.{owned-asked}
+use Rattle.wl_records.proofs.Keeping.OwningAsks.{owned-asked}
 use Rattle.wl_resident.proofs.Stillness.{asked-still, still-then}
 use Rattle.wl_scene.specs.declared.owned.Owned.{Owned as Lent}
 use Rattle.wl_resident.proofs.residents.Resident.attach.Goals as goal

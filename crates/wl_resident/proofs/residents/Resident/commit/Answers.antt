@@ -4,14 +4,14 @@ use Rattle.wl_peer.specs.Peer.{counted}
 use Rattle.wl_shell.specs.Kept.{changing, commit_answer, kept_after, kept_of}
 use Rattle.wl_shell.specs.declared.acts.ShellAct.{ShellAct}
 use Rattle.wl_peer.specs.declared.refusals.Refusal.{Refusal}
-use Rattle.wl_laws.specs.Owning.{asks_by, kept_base, kept_id, names_in, shell_refusal}
+use Rattle.wl_records.specs.Owning.{asks_by, kept_base, kept_id, names_in, shell_refusal}
 use Rattle.wl_plain.specs.Step.{with_peer}
 use Rattle.wl_plain.specs.WlSurface.{will_show}
-use Rattle.wl_laws.proofs.Keeping.OwningReads.{accepted-effect, committed-by, pending-read}
+use Rattle.wl_records.proofs.Keeping.OwningReads.{accepted-effect, committed-by, pending-read}
 use Rattle.wl_plain.specs.Demand.{Demand, CommitTree}
 use Rattle.wl_plain.specs.Demanding.{commit_demand}
 use Rattle.wl_resident.specs.Residents.{AnswersAs, StacksSo}
-use Rattle.wl_laws.proofs.Toplevels.Serves.{only-peer}
+use Rattle.wl_records.proofs.Toplevels.Serves.{only-peer}
 use Rattle.wl_resident.proofs.Doing.{gone}
 use Rattle.wl_resident.proofs.Stackings.{commit-stacks}
 use Rattle.wl_resident.proofs.Shelling.{meets-from, names-counted, objects-counted, refused-as, told-err}

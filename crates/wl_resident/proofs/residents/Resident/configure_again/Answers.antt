@@ -6,14 +6,14 @@ use Rattle.wl_peer.specs.Told.{Said}
 use Rattle.wl_client.specs.View.{ClientView}
 use Rattle.wl_shell.specs.Kept.{Kept as KeptXdg, changing, configure_answer, kept_configured, kept_configuring, kept_of}
 use Rattle.wl_shell.specs.Shell.{next_serial, xdg_with}
-use Rattle.wl_laws.specs.Owning.{IsOwned, Names, kept_id, names_in, shell_refusal}
+use Rattle.wl_records.specs.Owning.{IsOwned, Names, kept_id, names_in, shell_refusal}
 use Rattle.wl_plain.specs.Ask.{ConfigureAgain, Ignore}
 use Rattle.wl_plain.specs.Step.{changed_by, with_peer}
-use Rattle.wl_laws.proofs.Keeping.OwningAsks.{owned-configured}
-use Rattle.wl_laws.proofs.Keeping.OwningReads.{configured-by}
+use Rattle.wl_records.proofs.Keeping.OwningAsks.{owned-configured}
+use Rattle.wl_records.proofs.Keeping.OwningReads.{configured-by}
 use Rattle.wl_resident.proofs.Shelling.{accepted, changing-same, drawn, events-told, names-counted, owns-told, refused-again, told-again, toplevel-answered, xdg-refused}
 use Rattle.wl_resident.proofs.Numbers.{keeps-names}
-use Rattle.wl_laws.proofs.Toplevels.Simply.{asks_simply}
+use Rattle.wl_records.proofs.Toplevels.Simply.{asks_simply}
 use Rattle.wl_resident.proofs.Simply.{simply}
 use Rattle.wl_resident.proofs.residents.Resident.configure_again.Goals as goal
 use Rattle.wl_resident.proofs.Framing.{IsFramed, framed-names, one-more}

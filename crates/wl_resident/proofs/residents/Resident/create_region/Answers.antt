@@ -3,11 +3,11 @@ use Rattle.wl_peer.specs.declared.actions.Action.TheVariants.{CreateRegion}
 use Rattle.wl_plain.specs.Ask.{Own}
 use Rattle.std.proofs.Common.{◌≡◌, Some, None, refl, subst, sym}
 use Rattle.wl_peer.specs.Objects.{entry_at_version}
-use Rattle.wl_laws.proofs.Keeping.OwningNames.{names-other-made}
+use Rattle.wl_records.proofs.Keeping.OwningNames.{names-other-made}
 use Rattle.wl_interface.specs.declared.interface.Interface.TheVariants.{WlRegion}
 use Rattle.wl_peer.specs.Peer.{counted}
 use Rattle.wl_shell.specs.Kept.{kept_of}
-use Rattle.wl_laws.specs.Owning.{IsOwned, Names}
+use Rattle.wl_records.specs.Owning.{IsOwned, Names}
 use Rattle.wl_plain.specs.Step.{changed_by, with_peer}
 use Rattle.wl_resident.proofs.Numbers.{keeps-names}
 use Rattle.wl_resident.proofs.Shelling.{holds-counted}

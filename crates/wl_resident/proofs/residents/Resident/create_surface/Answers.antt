@@ -7,14 +7,14 @@ use Rattle.wl_peer.specs.declared.refusals.Refusal.{Refusal}
 use Rattle.wl_plain.specs.Ask.{Ask, CreateSurface}
 use Rattle.wl_plain.specs.Demanding.{demands}
 use Rattle.wl_resident.specs.Residents.{AnswersSo}
-use Rattle.wl_laws.specs.Owning.{names_in, Names}
+use Rattle.wl_records.specs.Owning.{names_in, Names}
 use Rattle.wl_plain.specs.Step.{changed_by, with_peer}
 use Rattle.wl_plain.specs.WlSurface.{surface_created}
 use Rattle.wl_resident.proofs.Doing.{lacked}
 use Rattle.wl_resident.proofs.Numbers.{keeps-made}
-use Rattle.wl_laws.proofs.Keeping.OwningAsks.{owned-created}
-use Rattle.wl_laws.proofs.Keeping.OwningNames.{names-surface-made, targets-free}
-use Rattle.wl_laws.proofs.Keeping.Creating.{created-past, created-short, created-within}
+use Rattle.wl_records.proofs.Keeping.OwningAsks.{owned-created}
+use Rattle.wl_records.proofs.Keeping.OwningNames.{names-surface-made, targets-free}
+use Rattle.wl_records.proofs.Keeping.Creating.{created-past, created-short, created-within}
 use Rattle.wl_resident.proofs.Shelling.{accepted, holds-counted}
 use Rattle.wl_resident.proofs.Simply.{simply}
 use Rattle.wl_resident.proofs.Stillness.{created-still, same-still}

@@ -7,9 +7,9 @@ use Rattle.wl_plain.specs.Demand.{Demand, EndSurface}
 use Rattle.wl_plain.specs.Demanding.{surface_destroyed}
 use Rattle.wl_resident.specs.Residents.{AnswersSo}
 use Rattle.wl_plain.specs.Desktop.{Resident}
-use Rattle.wl_laws.specs.Owning.{names_in}
+use Rattle.wl_records.specs.Owning.{names_in}
 use Rattle.wl_plain.specs.WlSubsurface.{refuses}
-use Rattle.wl_laws.proofs.Keeping.OwningReads.{destroyed-by}
+use Rattle.wl_records.proofs.Keeping.OwningReads.{destroyed-by}
 use Rattle.wl_resident.proofs.Shelling.{absent-kept, counted-meets, refused-whole, surface-counted}
 use Rattle.wl_resident.proofs.Stillness.{same-still}
 use Rattle.wl_resident.proofs.residents.Resident.destroy.Goals as goal

@@ -4,9 +4,9 @@ use Rattle.wl_peer.specs.declared.refusals.ErrorCode.TheVariants.{DefunctSurface
 use Rattle.wl_shell.specs.Kept.{kept_of}
 use Rattle.wl_plain.specs.Ask.{EndObject}
 use Rattle.wl_plain.specs.Desktop.{Resident}
-use Rattle.wl_laws.specs.Owning.{names_in}
+use Rattle.wl_records.specs.Owning.{names_in}
 use Rattle.wl_plain.specs.XdgShell.{base_destroyed}
-use Rattle.wl_laws.proofs.Keeping.OwningReads.{base-unused, base-used}
+use Rattle.wl_records.proofs.Keeping.OwningReads.{base-unused, base-used}
 use Rattle.wl_resident.proofs.Shelling.{accepted, counted-does, object-held, refused-so}
 use Rattle.wl_resident.proofs.Simply.{simply}
 use Rattle.wl_resident.proofs.residents.Resident.destroy_base.Goals as goal

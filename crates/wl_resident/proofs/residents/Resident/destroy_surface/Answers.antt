@@ -13,14 +13,14 @@ use Rattle.wl_scene.specs.declared.owned.Owned.{Owned as Lent}
 use Rattle.wl_plain.specs.Changing.{callbacks_of}
 use Rattle.wl_plain.specs.Replies.{releases}
 use Rattle.wl_plain.specs.Demand.{EndSurface}
-use Rattle.wl_laws.specs.Owning.{Names, by_number, names_in, with_surface}
+use Rattle.wl_records.specs.Owning.{Names, by_number, names_in, with_surface}
 use Rattle.wl_plain.specs.Step.{after_surface, with_surfaces}
 use Rattle.wl_resident.proofs.Doing.{had-by, lacked}
-use Rattle.wl_laws.proofs.Keeping.OwningAsks.{owned-destroyed}
+use Rattle.wl_records.proofs.Keeping.OwningAsks.{owned-destroyed}
 use Rattle.wl_resident.proofs.Framing.{IsFramed, framed-destroy, left-by, numbered}
 use Rattle.wl_resident.proofs.Going.{are-heard, asked-read, going-removed, going-requests, going-told, surface-gone-with}
-use Rattle.wl_laws.proofs.Keeping.OwningXdg.{xdg-of-none}
-use Rattle.wl_laws.proofs.Toplevels.Judged.{ends}
+use Rattle.wl_records.proofs.Keeping.OwningXdg.{xdg-of-none}
+use Rattle.wl_records.proofs.Toplevels.Judged.{ends}
 use Rattle.wl_resident.proofs.Numbers.{keeps-gone}
 use Rattle.wl_resident.proofs.Simply.{meets-simply}
 use Rattle.wl_resident.proofs.Stillness.{destroyed-still, same-still, still-then}
@@ -28,8 +28,8 @@ use Rattle.wl_resident.proofs.residents.Resident.destroy_surface.Goals as goal
 use Rattle.wl_plain.specs.Releases.{release_told, shown_at}
 use Rattle.wl_resident.specs.Freed.{IsFreedOf}
 use Rattle.wl_resident.proofs.Freeing.{freed-left}
-use Rattle.wl_laws.proofs.Toplevels.Releases.{gone-released}
-use Rattle.wl_laws.proofs.Toplevels.Simply.{DestroySurface, changed_simply, told_simply}
+use Rattle.wl_records.proofs.Toplevels.Releases.{gone-released}
+use Rattle.wl_records.proofs.Toplevels.Simply.{DestroySurface, changed_simply, told_simply}
 
 pub returns-in_default-clause-does : goal.returns-in_default-clause-does
 returns-in_default-clause-does g c = λ named bare client r on is only.

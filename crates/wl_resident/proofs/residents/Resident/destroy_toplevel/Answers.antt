@@ -1,13 +1,13 @@
 use Rattle.wl_plain.specs.Demanding.{toplevel_destroyed}
-use Rattle.wl_laws.proofs.Toplevels.Judged.{gone-simple}
-use Rattle.wl_laws.proofs.Toplevels.Simply.{simply, DestroyToplevel, changed_simply}
+use Rattle.wl_records.proofs.Toplevels.Judged.{gone-simple}
+use Rattle.wl_records.proofs.Toplevels.Simply.{simply, DestroyToplevel, changed_simply}
 use Rattle.wl_shell.specs.Shell.{xdg_with}
 use Rattle.std.proofs.Common.{None, inr, ap, refl}
 use Rattle.wl_shell.specs.Kept.{kept_of}
 use Rattle.wl_peer.specs.Peer.{counted}
-use Rattle.wl_laws.specs.Owning.{names_in, Names}
+use Rattle.wl_records.specs.Owning.{names_in, Names}
 use Rattle.wl_plain.specs.Step.{with_peer}
-use Rattle.wl_laws.proofs.Keeping.OwningAsks.{owned-toplevel-gone}
+use Rattle.wl_records.proofs.Keeping.OwningAsks.{owned-toplevel-gone}
 use Rattle.wl_resident.proofs.Shelling.{toplevel-answered, toplevel-gone}
 use Rattle.wl_resident.proofs.Numbers.{keeps-toplevel}
 use Rattle.wl_resident.proofs.Simply.{answers-simply}

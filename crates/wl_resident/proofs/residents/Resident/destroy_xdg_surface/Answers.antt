@@ -4,11 +4,11 @@ use Rattle.std.specs.Prelude.{Ok, None}
 use Rattle.wl_peer.specs.Peer.{counted}
 use Rattle.wl_shell.specs.Kept.{destruction_answer, kept_of}
 use Rattle.wl_plain.specs.Ask.{DestroyXdgSurface}
-use Rattle.wl_laws.specs.Owning.{IsOwned, names_in, shell_refusal, with_xdg, Names}
+use Rattle.wl_records.specs.Owning.{IsOwned, names_in, shell_refusal, with_xdg, Names}
 use Rattle.wl_plain.specs.Step.{changed_by, with_peer}
 use Rattle.wl_plain.specs.XdgShell.{xdg_surface_destroyed}
-use Rattle.wl_laws.proofs.Keeping.OwningAsks.{owned-xdg-gone}
-use Rattle.wl_laws.proofs.Keeping.OwningReads.{bare-destroyed, xdg-destroyed-by}
+use Rattle.wl_records.proofs.Keeping.OwningAsks.{owned-xdg-gone}
+use Rattle.wl_records.proofs.Keeping.OwningReads.{bare-destroyed, xdg-destroyed-by}
 use Rattle.wl_resident.proofs.Shelling.{accepted, told-err, told-ok, xdg-answered, xdg-gone, xdg-refused}
 use Rattle.wl_resident.proofs.Numbers.{keeps-xdg}
 use Rattle.wl_resident.proofs.Simply.{simply}

@@ -1,6 +1,6 @@
 use Rattle.std.proofs.Common.{inr, sym, subst, refl}
 use Rattle.wl_shell.specs.Kept.{kept_of}
-use Rattle.wl_laws.specs.Owning.{IsOwned, Names}
+use Rattle.wl_records.specs.Owning.{IsOwned, Names}
 use Rattle.wl_plain.specs.Step.{removing}
 use Rattle.wl_resident.proofs.Shelling.{alone-gone}
 use Rattle.wl_resident.proofs.Numbers.{keeps-names}

@@ -6,13 +6,13 @@ use Rattle.wl_table.specs.declared.entry.Entry.{Entry}
 use Rattle.wl_shell.specs.Kept.{kept_of}
 use Rattle.wl_surface.specs.Request.{Frame}
 use Rattle.wl_plain.specs.Demand.{AskFrame}
-use Rattle.wl_laws.specs.Owning.{names_in}
+use Rattle.wl_records.specs.Owning.{names_in}
 use Rattle.wl_plain.specs.Step.{with_peer}
-use Rattle.wl_laws.proofs.Toplevels.Judged.{frames}
-use Rattle.wl_laws.proofs.Toplevels.Serves.{only-peer}
-use Rattle.wl_laws.proofs.Keeping.OwningAsks.{owned-asked}
-use Rattle.wl_laws.proofs.Keeping.OwningNames.{names-other-made}
-use Rattle.wl_laws.proofs.Toplevels.Simply.{AskingFrame, changed_simply}
+use Rattle.wl_records.proofs.Toplevels.Judged.{frames}
+use Rattle.wl_records.proofs.Toplevels.Serves.{only-peer}
+use Rattle.wl_records.proofs.Keeping.OwningAsks.{owned-asked}
+use Rattle.wl_records.proofs.Keeping.OwningNames.{names-other-made}
+use Rattle.wl_records.proofs.Toplevels.Simply.{AskingFrame, changed_simply}
 use Rattle.wl_resident.proofs.Doing.{lacked}
 use Rattle.wl_resident.proofs.Framing.{framed-frame}
 use Rattle.wl_resident.proofs.Numbers.{keeps-names}

@@ -5,12 +5,12 @@ use Rattle.wl_interface.specs.declared.interface.Interface.TheVariants.{XdgTople
 use Rattle.wl_peer.specs.Peer.{counted}
 use Rattle.wl_shell.specs.Kept.{kept_of, toplevel_answer}
 use Rattle.wl_plain.specs.Ask.{GetToplevel}
-use Rattle.wl_laws.specs.Owning.{names_in, shell_refusal, Names}
+use Rattle.wl_records.specs.Owning.{names_in, shell_refusal, Names}
 use Rattle.wl_plain.specs.Step.{with_peer, making, toplevel_given}
 use Rattle.wl_plain.specs.XdgShell.{is_no_toplevel, role_of, toplevel_made}
-use Rattle.wl_laws.proofs.Keeping.OwningAsks.{owned-toplevel-made}
-use Rattle.wl_laws.proofs.Keeping.OwningNames.{names-toplevel-made, targets-free}
-use Rattle.wl_laws.proofs.Keeping.OwningReads.{bare-toplevel, role-read, toplevel-made-by}
+use Rattle.wl_records.proofs.Keeping.OwningAsks.{owned-toplevel-made}
+use Rattle.wl_records.proofs.Keeping.OwningNames.{names-toplevel-made, targets-free}
+use Rattle.wl_records.proofs.Keeping.OwningReads.{bare-toplevel, role-read, toplevel-made-by}
 use Rattle.wl_resident.proofs.Shelling.{accepted, acts-given, holds-counted, role-given, told-err, told-ok, xdg-answered, xdg-refused}
 use Rattle.wl_resident.proofs.Numbers.{keeps-toplevel}
 use Rattle.wl_resident.proofs.Simply.{simply}

@@ -5,13 +5,13 @@ use Rattle.wl_peer.specs.Peer.{counted}
 use Rattle.wl_shell.specs.Kept.{kept_of, making_refused}
 use Rattle.wl_shell.specs.declared.error.ShellError.{ShellError}
 use Rattle.wl_plain.specs.Ask.{GetXdgSurface}
-use Rattle.wl_laws.specs.Owning.{asks_unless, names_in, shell_refusal, Names}
+use Rattle.wl_records.specs.Owning.{asks_unless, names_in, shell_refusal, Names}
 use Rattle.wl_plain.specs.Step.{changed_by, with_peer}
 use Rattle.wl_plain.specs.XdgShell.{has_any, is_foreign, role_of, xdg_surface_made}
 use Rattle.wl_resident.proofs.Doing.{lacked}
-use Rattle.wl_laws.proofs.Keeping.OwningAsks.{owned-xdg-made}
-use Rattle.wl_laws.proofs.Keeping.OwningNames.{names-xdg-made, targets-free}
-use Rattle.wl_laws.proofs.Keeping.OwningReads.{content-read, free-made, made-by, role-read}
+use Rattle.wl_records.proofs.Keeping.OwningAsks.{owned-xdg-made}
+use Rattle.wl_records.proofs.Keeping.OwningNames.{names-xdg-made, targets-free}
+use Rattle.wl_records.proofs.Keeping.OwningReads.{content-read, free-made, made-by, role-read}
 use Rattle.wl_resident.proofs.Shelling.{accepted, making-err, making-memory, making-ok, making-read, holds-counted, refused-so}
 use Rattle.wl_resident.proofs.Numbers.{keeps-xdg}
 use Rattle.wl_resident.proofs.Simply.{simply}

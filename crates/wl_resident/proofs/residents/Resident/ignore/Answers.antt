@@ -3,7 +3,7 @@ use Rattle.wl_plain.specs.Ask.{Ignore}
 use Rattle.std.proofs.Common.{refl, subst, sym}
 use Rattle.wl_peer.specs.Peer.{counted}
 use Rattle.wl_shell.specs.Kept.{kept_of}
-use Rattle.wl_laws.specs.Owning.{IsOwned, Names}
+use Rattle.wl_records.specs.Owning.{IsOwned, Names}
 use Rattle.wl_plain.specs.Step.{with_peer}
 use Rattle.wl_resident.proofs.Shelling.{names-counted}
 use Rattle.wl_resident.proofs.Numbers.{keeps-names}

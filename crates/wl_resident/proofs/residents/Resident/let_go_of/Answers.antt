@@ -3,7 +3,7 @@ use Rattle.wl_client.specs.Agreement.{IsPeer}
 use Rattle.wl_surface.specs.Request.{Buffer}
 use Rattle.wl_surface.specs.declared.content.Attached.{Attached}
 use Rattle.wl_plain.specs.Step.{letting_go}
-use Rattle.wl_laws.proofs.Keeping.Releases.{three-had}
+use Rattle.wl_records.proofs.Keeping.Releases.{three-had}
 use Rattle.wl_resident.proofs.residents.Resident.let_go_of.Goals as goal
 
 pub returns-clause-stores : goal.returns-clause-stores

@@ -7,7 +7,7 @@ use Rattle.std.specs.Prelude.{◌||◌}
 use Rattle.wl_plain.specs.Releases.{let_if, same_number}
 use Rattle.wl_plain.specs.Step.{is_over, with_peer}
 use Rattle.wl_resident.proofs.Doing.{kept-there, one-let}
-use Rattle.wl_laws.proofs.Keeping.Releases.{three-go}
+use Rattle.wl_records.proofs.Keeping.Releases.{three-go}
 use Rattle.wl_resident.proofs.residents.Resident.let_go_of_three.Goals as goal
 
 pub returns-clause-stores : goal.returns-clause-stores

@@ -2,7 +2,7 @@ use Rattle.std.proofs.Common.{◌∙◌, ap, subst, refl}
 use Rattle.wl_client.specs.Agreement.{IsPeer}
 use Rattle.wl_peer.specs.Peer.{Errs, Peer}
 use Rattle.wl_peer.specs.declared.refusals.Refusal.{Refusal}
-use Rattle.wl_laws.specs.Owning.{shell_refusal}
+use Rattle.wl_records.specs.Owning.{shell_refusal}
 use Rattle.wl_resident.proofs.residents.Resident.refuse_xdg_surface.Goals as goal
 
 pub returns-clause-errs : goal.returns-clause-errs

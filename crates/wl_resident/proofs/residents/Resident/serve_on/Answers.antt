@@ -3,8 +3,8 @@ use Rattle.std.specs.Prelude.{is_some}
 use Rattle.wl_wire.specs.Wire.{split_of}
 use Rattle.wl_peer.specs.declared.cause.Cause.{Cause}
 use Rattle.wl_plain.specs.LeftOut.{served_now}
-use Rattle.wl_laws.proofs.Toplevels.Messages.{serves-has}
-use Rattle.wl_laws.proofs.Toplevels.Touches.{touches_apart}
+use Rattle.wl_records.proofs.Toplevels.Messages.{serves-has}
+use Rattle.wl_records.proofs.Toplevels.Touches.{touches_apart}
 use Rattle.wl_laws.proofs.Runs.Through.{messages_lead_through}
 use Rattle.wl_laws.proofs.Marks.Stacks.{differ}
 use Rattle.wl_resident.specs.Residents.{IsResident}

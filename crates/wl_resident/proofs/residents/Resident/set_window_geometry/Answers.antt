@@ -4,11 +4,11 @@ use Rattle.wl_peer.specs.Peer.{counted}
 use Rattle.wl_surface.specs.Request.{SetWindowGeometry}
 use Rattle.wl_shell.specs.Kept.{geometry_answer, kept_of}
 use Rattle.wl_plain.specs.Ask.{AskSurface}
-use Rattle.wl_laws.specs.Owning.{IsOwned, Names, names_in, shell_refusal}
+use Rattle.wl_records.specs.Owning.{IsOwned, Names, names_in, shell_refusal}
 use Rattle.wl_plain.specs.Step.{changed_by, with_peer}
 use Rattle.wl_plain.specs.XdgShell.{geometry_set}
-use Rattle.wl_laws.proofs.Keeping.OwningAsks.{owned-geometry}
-use Rattle.wl_laws.proofs.Keeping.OwningReads.{geometry-set-by}
+use Rattle.wl_records.proofs.Keeping.OwningAsks.{owned-geometry}
+use Rattle.wl_records.proofs.Keeping.OwningReads.{geometry-set-by}
 use Rattle.wl_resident.proofs.Shelling.{accepted, asked-releases, geometry-keeps, names-counted, told-err, told-ok, wants-told, xdg-answered, xdg-refused}
 use Rattle.wl_resident.proofs.Numbers.{keeps-names}
 use Rattle.wl_resident.proofs.Simply.{simply}

@@ -6,7 +6,7 @@ use Rattle.wl_peer.specs.Peer.{counted}
 use Rattle.wl_surface.specs.Request.{SetBufferTransform}
 use Rattle.wl_plain.specs.Ask.{AskSurface}
 use Rattle.wl_plain.specs.Desktop.{Resident}
-use Rattle.wl_laws.specs.Owning.{names_in}
+use Rattle.wl_records.specs.Owning.{names_in}
 use Rattle.wl_plain.specs.Step.{with_peer}
 use Rattle.wl_plain.specs.WlSurface.{refuse, transform_set}
 use Rattle.wl_resident.proofs.Shelling.{accepted, asked-releases, counted-does, refused-so, surface-counted}

@@ -3,7 +3,7 @@ use Rattle.wl_scene.specs.declared.scene.Toplevel.{Toplevel}
 use Rattle.wl_scene.specs.Stacking.{is_of, standing_of}
 use Rattle.std.specs.Prelude.{find}
 use Rattle.std.specs.Option.{option_map}
-use Rattle.wl_laws.specs.Touching.{window_at}
+use Rattle.wl_records.specs.Touching.{window_at}
 use Rattle.wl_resident.specs.Marking.{IsRecordOf}
 use Rattle.wl_resident.specs.declared.marking.WindowRecord.{WindowRecord}
 use Rattle.wl_resident.proofs.Marked.{IsTold, never-untold, seated-record}

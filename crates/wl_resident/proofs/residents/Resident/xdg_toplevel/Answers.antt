@@ -9,8 +9,8 @@ use Rattle.wl_peer.specs.Requests.{toplevel_request}
 use Rattle.wl_peer.specs.ToplevelRequest.{ToplevelRequest}
 use Rattle.wl_plain.specs.Demand.{Demand, Asks}
 use Rattle.wl_resident.specs.Residents.{AnswersSo, StacksSo}
-use Rattle.wl_laws.proofs.Toplevels.Judged.{asks, toplevel-simple}
-use Rattle.wl_laws.proofs.Toplevels.Simply.{Asking, Simple, simply}
+use Rattle.wl_records.proofs.Toplevels.Judged.{asks, toplevel-simple}
+use Rattle.wl_records.proofs.Toplevels.Simply.{Asking, Simple, simply}
 use Rattle.wl_resident.proofs.Shelling.{toplevel-answered}
 use Rattle.wl_resident.proofs.Simply.{AnswersSimply, answers-simply, simply-answers}
 use Rattle.wl_resident.proofs.Stackings.{toplevel-destroy, toplevel-ignored, toplevel-of, toplevel-out, toplevel-state, toplevel-stays}

@@ -1,0 +1,3 @@
+-- A client by itself, and as one of a desktop.
+pub mod OwnOnly
+pub mod Served

@@ -1,0 +1,19 @@
+-- What is kept of a client stands for what it owns, and those toplevels stand that are mapped.
+pub mod Creating
+pub mod FramingWaits
+pub mod Letting
+pub mod OwningAsks
+pub mod OwningChanges
+pub mod OwningNames
+pub mod OwningReads
+pub mod OwningSurfaces
+pub mod OwningXdg
+pub mod Releases
+pub mod StandingAsks
+pub mod StandingBare
+pub mod StandingClients
+pub mod StandingDesks
+pub mod StandingFound
+pub mod StandingSteps
+pub mod StandingSurfaces
+pub mod StandingTurned

@@ -1,0 +1,4 @@
+pub mod Isolation
+pub mod Keeping
+pub mod Marks
+pub mod Toplevels
