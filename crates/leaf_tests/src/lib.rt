@@ -13,3 +13,5 @@ mod stores;
 mod surface_cases;
 #[cfg(test)]
 mod surfaces;
+#[cfg(test)]
+mod trees;
