@@ -17,6 +17,13 @@ const PIECE: usize = 4096;
 /// The most bytes of a side file's name: two numbers, and a point.
 const NAME: usize = 21;
 
+/// A store of a client.
+#[derive(Clone, Copy)]
+struct Target {
+    client: ClientNo,
+    store: StoreNo,
+}
+
 /// Each client that sent bytes gets its side files.
 pub(crate) fn fill_all<A: Allocator + Copy, C: Drop, S: SideFiles>(
     session: &mut Session<A>,
@@ -45,43 +52,45 @@ fn fill_seat<A: Allocator + Copy, C: Drop, S: SideFiles>(
 {
     if let Some(seat) = seat {
         if seat.has_sent {
-            fill_client(session, client, seat.number, seat.pools.asked, side, buf);
+            fill_client(session, client, seat, side, buf);
         }
     }
 }
 
-/// Fills each store of a client that may have so many.
-fn fill_client<A: Allocator + Copy, S: SideFiles>(
+/// Fills each store that a client may have.
+fn fill_client<A: Allocator + Copy, C: Drop, S: SideFiles>(
     session: &mut Session<A>,
     client: ClientNo,
-    number: u32,
-    stores: u32,
+    seat: &Seat<C>,
     side: &mut S,
     buf: &mut [u8],
 )
     requires { length buf.old ≡ 4096 }
     ensures { Takes (Fills client) session.old session.new }
 {
-    for before in 0..stores {
-        fill_store(session, client, before + 1, number, side, buf);
+    for before in 0..seat.pools.asked {
+        let target = Target {
+            client,
+            store: before + 1,
+        };
+        fill_store(session, target, seat.number, side, buf);
     }
 }
 
 /// Fills a store from its start on, if it is live. Where its file is missing or fails, the rest stays.
 fn fill_store<A: Allocator + Copy, S: SideFiles>(
     session: &mut Session<A>,
-    client: ClientNo,
-    store: StoreNo,
+    target: Target,
     number: u32,
     side: &mut S,
     buf: &mut [u8],
 )
     requires { length buf.old ≡ 4096 }
-    ensures { Takes (Puts client store) session.old session.new }
+    ensures { Takes (Puts target.client target.store) session.old session.new }
 {
-    if let Some(size) = session.store_size(client, store) {
-        if opens(number, store, side) {
-            put_file(session, client, store, size, side, buf);
+    if let Some(size) = session.store_size(target.client, target.store) {
+        if opens(number, target.store, side) {
+            put_file(session, target, size, side, buf);
         }
     }
 }
@@ -95,19 +104,18 @@ fn opens<S: SideFiles>(number: u32, store: StoreNo, side: &mut S) -> bool {
 /// Puts the open file's bytes into a store of this size, up to the end of either.
 fn put_file<A: Allocator + Copy, S: SideFiles>(
     session: &mut Session<A>,
-    client: ClientNo,
-    store: StoreNo,
+    target: Target,
     size: u32,
     side: &mut S,
     buf: &mut [u8],
 )
     requires { length buf.old ≡ 4096 }
-    ensures { Takes (Puts client store) session.old session.new }
+    ensures { Takes (Puts target.client target.store) session.old session.new }
 {
     let mut at = 0;
     while at < size {
         let room = PIECE.min((size - at) as usize);
-        let Ok(count) = put_piece(session, client, store, at, side, &mut buf[..room]) else {
+        let Ok(count) = put_piece(session, target, at, side, &mut buf[..room]) else {
             return;
         };
         if count == 0 {
@@ -120,20 +128,19 @@ fn put_file<A: Allocator + Copy, S: SideFiles>(
 /// Puts what one read of the open file gives into a store, and answers how many bytes. None only at the file's end.
 fn put_piece<A: Allocator + Copy, S: SideFiles>(
     session: &mut Session<A>,
-    client: ClientNo,
-    store: StoreNo,
+    target: Target,
     at: u32,
     side: &mut S,
     buf: &mut [u8],
 ) -> Result<u32, SideFault>
     requires { length buf.old ≤ PIECE }
-    ensures put { IfOk result (λ count. Takes (PutsOnce client store at count) session.old session.new) }
+    ensures put { IfOk result (λ count. Takes (PutsOnce target.client target.store at count) session.old session.new) }
     ensures kept { OnErr result (session.new ≡ session.old) }
     ensures within { IfOk result (λ count. count ≤ length buf.old) }
 {
     let count = side.read(buf)?;
     if count > 0 {
-        session.store(client, store, at, &buf[..count]);
+        session.store(target.client, target.store, at, &buf[..count]);
     }
     Ok(count as u32)
 }

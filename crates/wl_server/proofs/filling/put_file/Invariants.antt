@@ -7,7 +7,7 @@ use Rattle.wl_server.proofs.filling.put_file.Given as goal
 abbrev pub invariant-loop-at : goal.invariant-loop-at
 invariant-loop-at g l = record {
   within : l.at ≤ l.size;
-  steps : Takes (PutTo l.client l.store l.at) l.fn.session l.session;
+  steps : Takes (PutTo l.target.client l.target.store l.at) l.fn.session l.session;
 }
 
 abbrev pub decreases-loop-at : goal.decreases-loop-at

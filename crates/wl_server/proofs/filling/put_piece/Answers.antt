@@ -14,8 +14,8 @@ returns-clause-put g c =
       | then-count-gt0 w ↦
           (let some : 0 < length bytes = omega (arith, long, w.if-count-gt0) in
           let few : length bytes ≤ 4096 = omega (arith, long, c.in_ok-count.ensures.within, c.requires) in
-          rw w.session-is (Takes-one (PutsOnce c.args.client c.args.store c.args.at count) _ _ _ _ w.store.ensures.course (bytes, long, inr ((some, few), refl))))
+          rw w.session-is (Takes-one (PutsOnce c.args.target.client c.args.target.store c.args.at count) _ _ _ _ w.store.ensures.course (bytes, long, inr ((some, few), refl))))
       | else-count-gt0 w ↦
           (let none : count ≡ 0 = omega (arith, w.if-count-gt0) in
-          rw w.session-is (Takes-none (PutsOnce c.args.client c.args.store c.args.at count) _ _ refl (bytes, long, inl (none, refl))))
+          rw w.session-is (Takes-none (PutsOnce c.args.target.client c.args.target.store c.args.at count) _ _ refl (bytes, long, inl (none, refl))))
     ]
