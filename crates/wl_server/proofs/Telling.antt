@@ -11,14 +11,14 @@ use Rattle.wl_plain.specs.Act.{Act, Connect, Feed, Store, Leave, Tick, Send, Clo
 use Rattle.wl_plain.specs.Happenings.{Happening, Message, Receive, Single, Starve}
 use Rattle.wl_plain.specs.LeftOut.{served_now}
 use Rattle.wl_plain.specs.declared.answers.Done.{Done}
-use Rattle.wl_session.specs.Course.{AreParts, Course, Runs, TakesCourse, happenings, moment}
+use Rattle.wl_session.specs.Course.{AreParts, Runs, TakesCourse, happenings, moment}
 use Rattle.wl_session.specs.Agreeing.{Agrees}
 use Rattle.wl_plain.specs.Desktop.{Desktop}
 use Rattle.wl_session.specs.Events.{AreEvents, Event, Moment}
 use Rattle.wl_session.specs.View.{SessionView}
-use Rattle.wl_server.specs.Acting.{InTurn, Takes, Went}
+use Rattle.wl_server.specs.Acting.{InTurn, Takes}
 use Rattle.wl_server.specs.Phases.{AcceptsSome, Closes, Fills, Puts, Reads, Writes, puts_from}
-use Rattle.wl_server.specs.Telling.{IsToldOf, Reports, Telling, Tells, gathered, if_painted, pictured, reported}
+use Rattle.wl_server.specs.Telling.{Reports, Telling, Tells, gathered, if_painted, pictured, reported}
 use Rattle.wl_server.proofs.Taking.{went-none, went-one, went-then}
 
 -- ---- events one after another

@@ -76,63 +76,32 @@ pub fn turn<A: Allocator + Copy, H: Hub, W: Write + Drop, P: Write + Drop, S: Si
     ensures begun { IsServed (StartsTurn time) (λ events. ⊤) service.old.session service.new.session }
 {
     service.waiting.take(time);
-    take_turn(
-        hub,
-        &mut service.session,
-        &mut service.connections,
-        &mut service.report,
-        &mut service.ppm,
-        side,
-        time,
-    )
+    take_phases(hub, service, side, time)
 }
 
-/// Takes one turn but its pointer lines.
-fn take_turn<A: Allocator + Copy, H: Hub, W: Write, P: Write, S: SideFiles>(
+/// The phases of a turn, but that of the pointer lines.
+fn take_phases<A: Allocator + Copy, H: Hub, W: Write + Drop, P: Write + Drop, S: SideFiles>(
     hub: &mut H,
-    session: &mut Session<A>,
-    connections: &mut Connections<H::Conn>,
-    report: &mut W,
-    ppm: &mut Option<P>,
+    service: &mut Service<A, H::Conn, W, P>,
     side: &mut S,
     time: u32,
 ) -> Result<(), TurnError>
-    ensures taken { OnOk result (Tells (IsTurn time) session.old session.new (W.contents report.old) (W.contents report.new)
-        (images_in P.contents ppm.old) (images_in P.contents ppm.new)) }
-    ensures begun { Takes (StartsTurn time) session.old session.new }
+    ensures taken { OnOk result (Tells (IsTurn time) service.old.session service.new.session (W.contents service.old.report) (W.contents service.new.report)
+        (images_in P.contents service.old.ppm) (images_in P.contents service.new.ppm)) }
+    ensures begun { Takes (StartsTurn time) service.old.session service.new.session }
 {
-    take_phases(
+    let session = &mut service.session;
+    let seats = &mut service.connections.seats;
+    accept_all(
         hub,
         session,
-        &mut connections.seats,
-        &mut connections.accepted,
-        report,
-        ppm,
-        side,
-        time,
-    )
-}
-
-/// The phases of a turn.
-fn take_phases<A: Allocator + Copy, H: Hub, W: Write, P: Write, S: SideFiles>(
-    hub: &mut H,
-    session: &mut Session<A>,
-    seats: &mut [Option<Seat<H::Conn>>],
-    accepted: &mut u32,
-    report: &mut W,
-    ppm: &mut Option<P>,
-    side: &mut S,
-    time: u32,
-) -> Result<(), TurnError>
-    requires { length seats.old ≡ 32 }
-    ensures taken { OnOk result (Tells (IsTurn time) session.old session.new (W.contents report.old) (W.contents report.new)
-        (images_in P.contents ppm.old) (images_in P.contents ppm.new)) }
-    ensures begun { Takes (StartsTurn time) session.old session.new }
-{
-    accept_all(hub, session, seats, accepted, report)?;
+        seats,
+        &mut service.connections.accepted,
+        &mut service.report,
+    )?;
     read_all(hub, session, seats);
     fill_all(session, seats, side);
-    show(session, time, report, ppm)?;
+    show(session, time, &mut service.report, &mut service.ppm)?;
     write_all(hub, session, seats);
-    close_all(hub, session, seats, report)
+    close_all(hub, session, seats, &mut service.report)
 }
