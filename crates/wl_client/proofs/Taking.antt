@@ -8,8 +8,8 @@ use Rattle.wl_wire.specs.declared.header.Split.TheVariants.{Message as Whole, Mo
 use Rattle.wl_proto.specs.Messages.{Message, request_message}
 use Rattle.wl_table.specs.declared.entry.Entry.{Entry}
 use Rattle.wl_table.specs.Objects.{Held}
-use Rattle.wl_surface.specs.Kept.{IsAny, Numbered, Slots, StandForAll, has_at}
-use Rattle.wl_surface.specs.Surfaces.{Surface}
+use Rattle.wl_surface.specs.Slots.{IsAny, Numbered, Slots, StandForAll, has_at}
+use Rattle.wl_state.specs.Surface.{Surface}
 use Rattle.wl_peer.specs.declared.actions.Action.{Action}
 use Rattle.wl_peer.specs.declared.actions.Action.TheVariants.{Sync, GetRegistry, Bind, CreateRegion, AddToRegion, SubtractFromRegion, DestroyRegion, CreatePool, CreateBuffer, ResizePool, DestroyPool}
 use Rattle.wl_peer.specs.declared.actions.Action.TheVariants.{DestroyBuffer}

@@ -5,7 +5,7 @@ use Rattle.std.specs.Option.{option_map}
 use Rattle.wl_peer.specs.Objects.{nothing}
 use Rattle.wl_client.specs.View.{ClientView}
 use Rattle.wl_store.specs.Stores.{Stock}
-use Rattle.wl_surface.specs.Kept.{Slots, no_slots}
+use Rattle.wl_surface.specs.Slots.{Slots, no_slots}
 use Rattle.wl_surface.specs.Surfaces.{no_surfaces}
 use Rattle.wl_scene.specs.Lent.{slots_lent, slots_of}
 use Rattle.wl_scene.specs.Stacking.{Stack}

@@ -7,9 +7,10 @@ use Rattle.std.proofs.lemmas.List.{length-map}
 use Rattle.std.proofs.lemmas.Option.{slice_get-get_or, slice_get-map}
 use Rattle.wl_geom.specs.Region.{Area}
 use Rattle.wl_store.specs.Picture.{Shown}
-use Rattle.wl_surface.specs.Kept.{Counting, counting_in, counting_of, kept_at}
-use Rattle.wl_surface.specs.State.{within_bounds}
-use Rattle.wl_surface.specs.declared.surface.Current.{Current}
+use Rattle.wl_state.specs.Kept.{Counting, counting_in, counting_of}
+use Rattle.wl_surface.specs.Slots.{kept_at}
+use Rattle.wl_state.specs.State.{within_bounds}
+use Rattle.wl_state.specs.declared.state.Current.{Current}
 use Rattle.wl_client.specs.View.{ClientView}
 use Rattle.wl_paint.specs.Window.{Window}
 use Rattle.wl_scene.specs.Stacking.{Standing, standing_of}

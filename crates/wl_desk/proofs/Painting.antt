@@ -14,9 +14,10 @@ use Rattle.wl_store.specs.declared.color.Argb.{Argb}
 use Rattle.wl_store.specs.declared.place.Layout.{Layout}
 use Rattle.wl_store.specs.Picture.{Shown, color_at, lent, transparent}
 use Rattle.wl_store.specs.Transform.{buffer_point, is_turned, transform_of}
-use Rattle.wl_surface.specs.Request.{Buffer}
-use Rattle.wl_surface.specs.Kept.{Kept, Slots, Stands, StandsAt, buffer_of, counting_of, kept_at}
-use Rattle.wl_surface.specs.declared.content.Attached.{Attached}
+use Rattle.wl_state.specs.Request.{Buffer}
+use Rattle.wl_state.specs.Kept.{Kept, Stands, buffer_of, counting_of}
+use Rattle.wl_surface.specs.Slots.{Slots, StandsAt, kept_at}
+use Rattle.wl_state.specs.declared.content.Attached.{Attached}
 use Rattle.wl_paint.specs.Window.{Window as Lent, color_in as color-lent, in_window, is_said_opaque, over as over-one}
 use Rattle.wl_store.specs.Stores.{Stock, bytes_of}
 use Rattle.wl_store.specs.declared.transform.Transform.{Transform}
@@ -31,8 +32,9 @@ use Rattle.wl_records.proofs.Keeping.OwningSurfaces.{surface-read}
 use Rattle.wl_laws.proofs.Marks.Stacks.{and-both, and-left, and-right, differ}
 use Rattle.wl_blend.specs.Blend.{blended, div255}
 use Rattle.wl_blend.specs.declared.color.Rgb.{Rgb}
-use Rattle.wl_surface.specs.State.{History, Values, applied, height_of, width_of}
-use Rattle.wl_surface.specs.Surfaces.{Surface, history_in, is_there, surface_at}
+use Rattle.wl_state.specs.State.{History, Values, applied, height_of, width_of}
+use Rattle.wl_state.specs.Surface.{Surface, is_there}
+use Rattle.wl_surface.specs.Surfaces.{history_in, surface_at}
 use Rattle.wl_scene.specs.Lent.{AllShow, Shows, shows_buffer}
 use Rattle.wl_scene.specs.Windows.{Owner, Place, Window, corner_at, contains, owner_of, window_showing, window_with}
 use Rattle.wl_records.proofs.Toplevels.Windows.{windows-same}

@@ -5,9 +5,10 @@ use Rattle.wl_geom.specs.Region.{Area}
 use Rattle.wl_store.specs.Picture.{Shown, transparent}
 use Rattle.wl_store.specs.Stores.{picture_turned}
 use Rattle.wl_store.specs.declared.transform.Transform.{Transform}
-use Rattle.wl_surface.specs.Kept.{Counting, Slots, counting_of, kept_at}
-use Rattle.wl_surface.specs.State.{within_bounds}
-use Rattle.wl_surface.specs.declared.content.Attached.{Attached}
+use Rattle.wl_state.specs.Kept.{Counting, counting_of}
+use Rattle.wl_surface.specs.Slots.{Slots, kept_at}
+use Rattle.wl_state.specs.State.{within_bounds}
+use Rattle.wl_state.specs.declared.content.Attached.{Attached}
 use Rattle.wl_client.specs.View.{ClientView}
 use Rattle.wl_paint.specs.Window.{Window}
 use Rattle.wl_scene.specs.Stacking.{Standing}

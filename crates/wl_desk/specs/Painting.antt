@@ -4,7 +4,7 @@ use Rattle.std.specs.List.{All}
 use Rattle.std.specs.Option.{option_map}
 use Rattle.wl_geom.specs.Region.{Area, holds}
 use Rattle.wl_blend.specs.declared.color.Rgb.{Rgb}
-use Rattle.wl_surface.specs.Kept.{Slots}
+use Rattle.wl_surface.specs.Slots.{Slots}
 use Rattle.wl_peer.specs.Objects.{ById}
 use Rattle.wl_client.specs.View.{ClientView}
 use Rattle.wl_paint.specs.Window.{AreOpaqueAsSaid, scratch as painted}

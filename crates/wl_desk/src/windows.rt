@@ -2,8 +2,9 @@
 
 ghost use Rattle.std.specs.Prelude.{◌≡◌, ◌+ℤ◌, Some, None, option_copied};
 ghost use Rattle.std.specs.Option.{option_map};
-ghost use Rattle.wl_surface.specs.Kept.{counting_of, kept_at};
-ghost use Rattle.wl_surface.specs.State.{within_bounds};
+ghost use Rattle.wl_state.specs.Kept.{counting_of};
+ghost use Rattle.wl_surface.specs.Slots.{kept_at};
+ghost use Rattle.wl_state.specs.State.{within_bounds};
 ghost use Rattle.wl_scene.specs.Lent.{slots_lent};
 ghost use Rattle.wl_scene.specs.Stacking.{standing_of};
 ghost use Rattle.wl_paint.specs.Painting.{window_of};

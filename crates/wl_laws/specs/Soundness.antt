@@ -2,8 +2,8 @@
 use Rattle.std.specs.Prelude.{ℕ, suc, ◌≡◌, ◌≤◌, ◌==◌, Bool, true, false, Some, List, [], ◌∷◌, take}
 use Rattle.std.specs.List.{list_any}
 use Rattle.wl_peer.specs.Told.{Output}
-use Rattle.wl_surface.specs.Request.{Child}
-use Rattle.wl_surface.specs.State.{History, is_member, order}
+use Rattle.wl_state.specs.Request.{Child}
+use Rattle.wl_state.specs.State.{History, is_member, order}
 use Rattle.wl_surface.specs.Surfaces.{Link, Surfaces, history_in, link_at}
 use Rattle.wl_scene.specs.Stacking.{is_of}
 use Rattle.wl_scene.specs.Windows.{StackedPopup}

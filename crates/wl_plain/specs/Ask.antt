@@ -2,7 +2,7 @@
 use Rattle.std.specs.Prelude.{ℕ, Result, Ok, Err}
 use Rattle.wl_peer.specs.declared.actions.Action.{Action}
 use Rattle.wl_peer.specs.declared.refusals.Refusal.{Refusal}
-use Rattle.wl_surface.specs.Request.{Request}
+use Rattle.wl_state.specs.Request.{Request}
 
 pub data Ask : Type 0 where
   -- what is asked of a client's own interfaces

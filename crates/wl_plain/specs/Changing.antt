@@ -8,11 +8,12 @@ use Rattle.wl_interface.specs.declared.interface.Interface.TheVariants.{WlCallba
 use Rattle.wl_peer.specs.Objects.{with_id}
 use Rattle.wl_peer.specs.Peer.{removed}
 use Rattle.wl_peer.specs.Told.{Output}
-use Rattle.wl_surface.specs.Frames.{frames_asked}
-use Rattle.wl_surface.specs.Request.{Frame}
-use Rattle.wl_surface.specs.Surfaces.{Surfaces, buffers_of, history_in, with_change as with_surface_change, with_role}
+use Rattle.wl_state.specs.Frames.{frames_asked}
+use Rattle.wl_state.specs.Request.{Frame}
+use Rattle.wl_state.specs.Surface.{buffers_of, with_role}
+use Rattle.wl_surface.specs.Surfaces.{Surfaces, history_in, with_change as with_surface_change}
 use Rattle.wl_surface.specs.Trees.{committed_in, desynchronised_in, destroyed_in, linked, synchronised_in, unlinked}
-use Rattle.wl_surface.specs.declared.role.Role.TheVariants.{Popup as AsPopup, Cursor as AsCursor}
+use Rattle.wl_state.specs.declared.role.Role.TheVariants.{Popup as AsPopup, Cursor as AsCursor}
 use Rattle.wl_surface.specs.Waiting.{Callback}
 use Rattle.wl_shell.specs.Popups.{dismissing, is_parent_of, is_toplevel, new_popup, orphaning, parent_allows, parent_of, placing, popup_at}
 use Rattle.wl_shell.specs.Popups.{popup_changed, popups_of, with_grab, without_grab}

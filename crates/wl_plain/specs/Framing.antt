@@ -5,7 +5,7 @@ use Rattle.std.specs.List.{list_any}
 use Rattle.wl_peer.specs.declared.cause.Cause.{Cause}
 use Rattle.wl_peer.specs.Peer.{Peer, Queues}
 use Rattle.wl_surface.specs.declared.frames.Waiting.{Waiting}
-use Rattle.wl_surface.specs.Kept.{Numbered}
+use Rattle.wl_surface.specs.Slots.{Numbered}
 use Rattle.wl_surface.specs.Waiting.{AreWaiting, Callback, frames_at}
 use Rattle.wl_plain.specs.Changing.{without_callbacks}
 use Rattle.wl_plain.specs.Desktop.{Desktop, Resident, become, client_at}

@@ -5,9 +5,10 @@ use Rattle.wl_proto.specs.Messages.{says}
 use Rattle.wl_peer.specs.Peer.{released}
 use Rattle.wl_peer.specs.Told.{Said, said}
 use Rattle.wl_store.specs.Stores.{Stock}
-use Rattle.wl_surface.specs.Request.{Buffer}
-use Rattle.wl_surface.specs.State.{applied}
-use Rattle.wl_surface.specs.Surfaces.{Surface, is_busy}
+use Rattle.wl_state.specs.Request.{Buffer}
+use Rattle.wl_state.specs.State.{applied}
+use Rattle.wl_state.specs.Surface.{Surface}
+use Rattle.wl_surface.specs.Surfaces.{is_busy}
 use Rattle.wl_plain.specs.Desktop.{Resident}
 use Rattle.wl_plain.specs.Replies.{has_object}
 

@@ -6,9 +6,9 @@ use Rattle.wl_proto.specs.declared.wl_seat.WlSeatRequest.{WlSeatRequest}
 use Rattle.wl_proto.specs.declared.wl_seat.WlSeatRequest.TheVariants as seat
 use Rattle.wl_peer.specs.declared.refusals.ErrorCode.TheVariants.{MissingCapability, Role as HasAnotherRole}
 use Rattle.wl_peer.specs.declared.refusals.Refusal.{Refusal}
-use Rattle.wl_surface.specs.declared.role.Role.{Role}
-use Rattle.wl_surface.specs.declared.role.Role.TheVariants.{Toplevel as AsToplevel, Popup as AsPopup, Subsurface as AsSubsurface}
-use Rattle.wl_surface.specs.declared.role.Role.TheVariants.{Cursor as AsCursor}
+use Rattle.wl_state.specs.declared.role.Role.{Role}
+use Rattle.wl_state.specs.declared.role.Role.TheVariants.{Toplevel as AsToplevel, Popup as AsPopup, Subsurface as AsSubsurface}
+use Rattle.wl_state.specs.declared.role.Role.TheVariants.{Cursor as AsCursor}
 use Rattle.wl_shell.specs.Shell.{xdg_of}
 use Rattle.wl_plain.specs.Ask.{Ignore}
 use Rattle.wl_plain.specs.Demand.{Demand, Asks, GetPointer, MakeCursor}

@@ -11,12 +11,12 @@ use Rattle.wl_peer.specs.declared.refusals.ErrorCode.{ErrorCode}
 use Rattle.wl_peer.specs.declared.refusals.ErrorCode.TheVariants.{BadSurface, BadParent, Implementation}
 use Rattle.wl_peer.specs.declared.refusals.Refusal.{Refusal}
 use Rattle.wl_peer.specs.Told.{display_error}
-use Rattle.wl_surface.specs.Request.{Request, Member, Itself, Child, SetPosition, PlaceAbove, PlaceBelow}
+use Rattle.wl_state.specs.Request.{Request, Member, Itself, Child, SetPosition, PlaceAbove, PlaceBelow}
 use Rattle.wl_surface.specs.Surfaces.{Link, Surfaces, link_at}
 use Rattle.wl_surface.specs.Trees.{is_bad_parent, is_too_deep, link_of}
-use Rattle.wl_surface.specs.declared.role.Role.{Role}
-use Rattle.wl_surface.specs.declared.role.Role.TheVariants.{Toplevel as AsToplevel, Popup as AsPopup, Subsurface as AsSubsurface}
-use Rattle.wl_surface.specs.declared.role.Role.TheVariants.{Cursor as AsCursor}
+use Rattle.wl_state.specs.declared.role.Role.{Role}
+use Rattle.wl_state.specs.declared.role.Role.TheVariants.{Toplevel as AsToplevel, Popup as AsPopup, Subsurface as AsSubsurface}
+use Rattle.wl_state.specs.declared.role.Role.TheVariants.{Cursor as AsCursor}
 use Rattle.wl_shell.specs.Shell.{xdg_of}
 use Rattle.wl_plain.specs.Ask.{AskSurface, EndObject, Ignore}
 use Rattle.wl_plain.specs.Demand.{Demand, Asks, GetSubsurface, EndSubsurface, SetMode}

@@ -7,9 +7,10 @@ use Rattle.wl_peer.specs.declared.refusals.ErrorCode.TheVariants.{Implementation
 use Rattle.wl_peer.specs.declared.refusals.Refusal.{Refusal}
 use Rattle.wl_peer.specs.Buffers.{Buffer as Made}
 use Rattle.wl_peer.specs.Told.{display_error}
-use Rattle.wl_surface.specs.Request.{Buffer, SetBufferTransform}
-use Rattle.wl_surface.specs.State.{pending}
-use Rattle.wl_surface.specs.Surfaces.{history_in, is_there}
+use Rattle.wl_state.specs.Request.{Buffer, SetBufferTransform}
+use Rattle.wl_state.specs.State.{pending}
+use Rattle.wl_state.specs.Surface.{is_there}
+use Rattle.wl_surface.specs.Surfaces.{history_in}
 use Rattle.wl_plain.specs.Ask.{Ask, CreateSurface, AskSurface}
 use Rattle.wl_plain.specs.Desktop.{Resident}
 

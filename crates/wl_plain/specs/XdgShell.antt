@@ -5,11 +5,12 @@ use Rattle.std.specs.Option.{option_and_then, option_map_or}
 use Rattle.wl_geom.specs.declared.rect.Rect.{Rect}
 use Rattle.wl_peer.specs.declared.refusals.ErrorCode.TheVariants as error
 use Rattle.wl_peer.specs.declared.refusals.Refusal.{Refusal}
-use Rattle.wl_surface.specs.Request.{SetWindowGeometry}
-use Rattle.wl_surface.specs.Surfaces.{has_content, history_in, surface_at}
-use Rattle.wl_surface.specs.declared.role.Role.{Role}
-use Rattle.wl_surface.specs.declared.role.Role.TheVariants.{Toplevel as AsToplevel, Popup as AsPopup, Subsurface as AsSubsurface}
-use Rattle.wl_surface.specs.declared.role.Role.TheVariants.{Cursor as AsCursor}
+use Rattle.wl_state.specs.Request.{SetWindowGeometry}
+use Rattle.wl_state.specs.Surface.{has_content}
+use Rattle.wl_surface.specs.Surfaces.{history_in, surface_at}
+use Rattle.wl_state.specs.declared.role.Role.{Role}
+use Rattle.wl_state.specs.declared.role.Role.TheVariants.{Toplevel as AsToplevel, Popup as AsPopup, Subsurface as AsSubsurface}
+use Rattle.wl_state.specs.declared.role.Role.TheVariants.{Cursor as AsCursor}
 use Rattle.wl_shell.specs.Shell.{XdgSurface, answers_states, is_full, is_waiting, stage_of, xdg_of}
 use Rattle.wl_plain.specs.Ask.{Ask, AskSurface, EndObject, GetXdgSurface, DestroyXdgSurface, GetToplevel, Acknowledge, ConfigureAgain}
 use Rattle.wl_plain.specs.Ask.{Ignore}

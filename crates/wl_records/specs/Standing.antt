@@ -1,8 +1,8 @@
 -- Which toplevels stand: those that are mapped (xdg-shell.xml, xdg_surface: the initial commit, and mapping).
 use Rattle.std.specs.Prelude.{ℕ, ◌≡◌, Bool, true, false, Option, Some, None, List, nat_lt}
 use Rattle.std.specs.List.{list_all, list_any}
-use Rattle.wl_surface.specs.Request.{Request, SetBufferTransform}
-use Rattle.wl_surface.specs.State.{History}
+use Rattle.wl_state.specs.Request.{Request, SetBufferTransform}
+use Rattle.wl_state.specs.State.{History}
 use Rattle.wl_surface.specs.Surfaces.{Surfaces, history_in}
 use Rattle.wl_shell.specs.declared.stage.Stage.{Stage}
 use Rattle.wl_shell.specs.declared.stage.Stage.TheVariants as stage

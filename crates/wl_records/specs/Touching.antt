@@ -2,7 +2,7 @@
 use Rattle.std.specs.Prelude.{ℕ, ℤ, ◌-ℤ◌, ◌==◌, ◌&&◌, ◌||◌, if◌then◌else◌, unsigned_abs, Bool, false, Option, Some, None, List, find}
 use Rattle.std.specs.List.{list_any}
 use Rattle.wl_geom.specs.declared.rect.Rect.{Rect}
-use Rattle.wl_surface.specs.State.{is_damaged}
+use Rattle.wl_state.specs.State.{is_damaged}
 use Rattle.wl_scene.specs.Windows.{Window, contains}
 use Rattle.wl_scene.specs.Stacking.{windows_on}
 use Rattle.wl_plain.specs.Desktop.{Desktop, owned_in}

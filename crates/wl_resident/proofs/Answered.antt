@@ -10,7 +10,8 @@ use Rattle.wl_table.specs.declared.entry.Entry.{Entry}
 use Rattle.wl_client.specs.Agreement.{IsPeer}
 use Rattle.wl_peer.specs.Objects.{ById, interface_number, is_of, object_of, objects_in}
 use Rattle.wl_peer.specs.Peer.{Peer, Queues, removed}
-use Rattle.wl_surface.specs.Kept.{Kept as KeptSurface, Slots, StandsAt}
+use Rattle.wl_state.specs.Kept.{Kept as KeptSurface}
+use Rattle.wl_surface.specs.Slots.{Slots, StandsAt}
 use Rattle.wl_surface.specs.Surfaces.{Surfaces}
 use Rattle.wl_surface.specs.Waiting.{AreUndue, Callback, IsNextDue, is_in}
 use Rattle.wl_surface.specs.Frames.{frames_counting}

@@ -3,7 +3,7 @@ use Rattle.std.proofs.Common.{◌≡◌, ℕ, [], ◌∷◌, Bool, Option, Some,
 use Rattle.std.specs.Prelude.{if◌then◌else◌, Ok}
 use Rattle.std.specs.Option.{option_and_then, option_map}
 use Rattle.wl_peer.specs.Peer.{Peer}
-use Rattle.wl_surface.specs.Kept.{Slots}
+use Rattle.wl_surface.specs.Slots.{Slots}
 use Rattle.wl_shell.specs.Kept.{Kept, changing, commit_answer, kept_after}
 use Rattle.wl_shell.specs.Shell.{Stays, Configures, Maps, Unmaps, RoleObject, XdgSurface, Waiting, at_stage, xdg_of}
 use Rattle.wl_shell.specs.declared.acts.Placed.{Placed}

@@ -10,12 +10,14 @@ use Rattle.wl_store.specs.Stores.{Stock}
 use Rattle.wl_client.proofs.Peers.{IsPeer-stores}
 use Rattle.wl_client.specs.View.{ClientView}
 use Rattle.wl_peer.specs.Peer.{LacksMemory, Peer}
-use Rattle.wl_surface.specs.declared.content.Attached.{Attached}
-use Rattle.wl_surface.specs.Kept.{Changes, IsCopied, Numbered, Slots, buffer_of, had_at, StandForAll, StandsAt, kept_at, Kept as KeptSurface}
-use Rattle.wl_surface.specs.Request.{Request}
-use Rattle.wl_surface.specs.State.{Values, asked, committed, geometry_asked, is_commit}
-use Rattle.wl_surface.specs.Surfaces.{Surface, Surfaces, asking, surface_at}
-use Rattle.wl_surface.specs.Frames.{frames_of}
+use Rattle.wl_state.specs.declared.content.Attached.{Attached}
+use Rattle.wl_state.specs.Kept.{buffer_of, Kept as KeptSurface}
+use Rattle.wl_surface.specs.Slots.{Changes, IsCopied, Numbered, Slots, had_at, StandForAll, StandsAt, kept_at}
+use Rattle.wl_state.specs.Request.{Request}
+use Rattle.wl_state.specs.State.{Values, asked, committed, geometry_asked, is_commit}
+use Rattle.wl_state.specs.Surface.{Surface, asking}
+use Rattle.wl_surface.specs.Surfaces.{Surfaces, surface_at}
+use Rattle.wl_state.specs.Frames.{frames_of}
 use Rattle.wl_surface.specs.declared.frames.Waiting.{Waiting}
 use Rattle.wl_shell.specs.Kept.{kept_of}
 use Rattle.wl_scene.specs.declared.owned.Owned.{Owned as Lent}

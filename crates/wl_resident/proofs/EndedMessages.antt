@@ -8,11 +8,12 @@ use Rattle.std.proofs.lemmas.Int.{ints}
 use Rattle.wl_interface.specs.declared.interface.Interface.TheVariants.{WlSurface}
 use Rattle.wl_peer.specs.Objects.{ById}
 use Rattle.wl_geom.specs.Rect.{in_span}
-use Rattle.wl_surface.specs.Kept.{Numbered, StandForAll, changed_at}
-use Rattle.wl_surface.specs.Request.{Buffer, Commit, Request}
-use Rattle.wl_surface.specs.State.{History, Values, applied, counting, height_of, offset, pending, values, width_of}
-use Rattle.wl_surface.specs.Surfaces.{Surface, applying, asking, history_in, is_there, surface_at}
-use Rattle.wl_surface.proofs.Commits.{commit_takes_all}
+use Rattle.wl_surface.specs.Slots.{Numbered, StandForAll, changed_at}
+use Rattle.wl_state.specs.Request.{Buffer, Commit, Request}
+use Rattle.wl_state.specs.State.{History, Values, applied, counting, height_of, offset, pending, values, width_of}
+use Rattle.wl_state.specs.Surface.{Surface, applying, asking, is_there}
+use Rattle.wl_surface.specs.Surfaces.{history_in, surface_at}
+use Rattle.wl_state.proofs.Commits.{commit_takes_all}
 use Rattle.wl_shell.specs.Agreement.{IsKept}
 use Rattle.wl_shell.specs.Kept.{Kept as KeptXdg, kept_of}
 use Rattle.wl_shell.specs.Shell.{Unmaps, on_commit, stage_of, xdg_of, XdgSurface as Xdg}

@@ -13,11 +13,12 @@ use Rattle.wl_peer.specs.ToplevelRequest as toplevel
 use Rattle.wl_peer.proofs.Requests.{of-wl_surface}
 use Rattle.wl_geom.specs.declared.rect.Rect.{Rect}
 use Rattle.wl_paint.specs.Damage.{Damaged, has}
-use Rattle.wl_surface.specs.Applied.{newly_damaged}
-use Rattle.wl_surface.specs.Kept.{Changes, Numbered, Slots, StandForAll}
-use Rattle.wl_surface.specs.Request.{Commit}
-use Rattle.wl_surface.specs.State.{History}
-use Rattle.wl_surface.specs.Surfaces.{applying, asking, with_change}
+use Rattle.wl_state.specs.Shape.{newly_damaged}
+use Rattle.wl_surface.specs.Slots.{Changes, Numbered, Slots, StandForAll}
+use Rattle.wl_state.specs.Request.{Commit}
+use Rattle.wl_state.specs.State.{History}
+use Rattle.wl_state.specs.Surface.{applying, asking}
+use Rattle.wl_surface.specs.Surfaces.{with_change}
 use Rattle.wl_shell.specs.Shell.{Effect, Stays, Unconfigured, Configures, Maps, Unmaps, xdg_of}
 use Rattle.wl_scene.specs.Stacking.{Owned, Stack, Standing, is_of, without_surface_of}
 use Rattle.wl_scene.specs.Windows.{Window, contains}

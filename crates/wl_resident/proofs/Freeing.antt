@@ -6,10 +6,11 @@ use Rattle.std.specs.Prelude.{◌==◌, ◌||◌, not, count_by, filter, length}
 use Rattle.std.specs.List.{list_any}
 use Rattle.wl_peer.specs.Objects.{ById, with_id}
 use Rattle.wl_surface.specs.Applied.{AreFreed}
-use Rattle.wl_surface.specs.Kept.{IsAny, Numbered, Slots, changed_at, shows_at, with_at}
-use Rattle.wl_surface.specs.Request.{Buffer}
-use Rattle.wl_surface.specs.State.{held}
-use Rattle.wl_surface.specs.Surfaces.{Surface, is_busy, names, surface_at, with_change, without_surface}
+use Rattle.wl_surface.specs.Slots.{IsAny, Numbered, Slots, changed_at, shows_at, with_at}
+use Rattle.wl_state.specs.Request.{Buffer}
+use Rattle.wl_state.specs.State.{held}
+use Rattle.wl_state.specs.Surface.{Surface, names}
+use Rattle.wl_surface.specs.Surfaces.{is_busy, surface_at, with_change, without_surface}
 use Rattle.wl_plain.specs.Desktop.{Resident}
 use Rattle.wl_records.specs.Owning.{AreKept, by_number}
 use Rattle.wl_plain.specs.Releases.{shown_at}

@@ -9,11 +9,13 @@ use Rattle.std.proofs.lemmas.List.{append-nil}
 use Rattle.std.proofs.lemmas.List.Folds.{list_any-append}
 use Rattle.wl_interface.specs.declared.interface.Interface.TheVariants.{WlSurface}
 use Rattle.wl_peer.specs.Objects.{ById}
-use Rattle.wl_surface.specs.Kept.{IsCurrent, IsCurrentAt, Numbered, StandForAll}
-use Rattle.wl_surface.specs.Request.{Buffer, Member, Itself, Child}
-use Rattle.wl_surface.specs.State.{History, Values, applied, counting, height_of, order, position, width_of, within_bounds}
-use Rattle.wl_surface.specs.Surfaces.{Link, Surface, Surfaces, history_in, is_there, link_at, surface_at}
-use Rattle.wl_surface.specs.declared.surface.Current.{Current}
+use Rattle.wl_state.specs.Kept.{IsCurrent}
+use Rattle.wl_surface.specs.Slots.{IsCurrentAt, Numbered, StandForAll}
+use Rattle.wl_state.specs.Request.{Buffer, Member, Itself, Child}
+use Rattle.wl_state.specs.State.{History, Values, applied, counting, height_of, order, position, width_of, within_bounds}
+use Rattle.wl_state.specs.Surface.{Surface, is_there}
+use Rattle.wl_surface.specs.Surfaces.{Link, Surfaces, history_in, link_at, surface_at}
+use Rattle.wl_state.specs.declared.state.Current.{Current}
 use Rattle.wl_scene.specs.Lent.{AllShow, Shows, shows_buffer}
 use Rattle.wl_scene.specs.Stacking.{Owned, Stack, Standing, is_of, root_of, standing_of, windows_on}
 use Rattle.wl_scene.specs.declared.scene.Toplevel.{Toplevel}

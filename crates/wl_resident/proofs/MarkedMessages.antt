@@ -33,9 +33,11 @@ use Rattle.wl_peer.specs.declared.refusals.ErrorCode.TheVariants.{InvalidMethod}
 use Rattle.wl_peer.specs.declared.refusals.Refusal.{Refusal}
 use Rattle.wl_client.proofs.Passing.{judged-refused}
 use Rattle.wl_paint.specs.Damage.{Damaged, has}
-use Rattle.wl_surface.specs.Applied.{AreChanges, newly_damaged}
-use Rattle.wl_surface.specs.State.{History}
-use Rattle.wl_surface.specs.Surfaces.{Surface, history_in, surface_at}
+use Rattle.wl_state.specs.Shape.{newly_damaged}
+use Rattle.wl_surface.specs.Applied.{AreChanges}
+use Rattle.wl_state.specs.State.{History}
+use Rattle.wl_state.specs.Surface.{Surface}
+use Rattle.wl_surface.specs.Surfaces.{history_in, surface_at}
 use Rattle.wl_surface.specs.declared.applied.Applied.{Applied}
 use Rattle.wl_shell.specs.Kept.{kept_of}
 use Rattle.wl_shell.specs.Shell.{Effect, Stays, Unconfigured, Configures, Maps, Unmaps, is_full, xdg_at, xdg_of, xdg_with, XdgSurface as Xdg}

@@ -24,8 +24,9 @@ use Rattle.wl_client.specs.declared.served.Served.{Served}
 use Rattle.wl_client.specs.declared.served.Served.TheVariants as served
 use Rattle.wl_peer.specs.declared.actions.Action.TheVariants.{Sync, GetRegistry, Bind, CreateRegion, AddToRegion, SubtractFromRegion, DestroyRegion, CreatePool, CreateBuffer, ResizePool, DestroyPool}
 use Rattle.wl_peer.specs.declared.actions.Action.TheVariants.{DestroyBuffer}
-use Rattle.wl_surface.specs.Kept.{has_at}
-use Rattle.wl_surface.specs.Surfaces.{has, is_used}
+use Rattle.wl_surface.specs.Slots.{has_at}
+use Rattle.wl_state.specs.Surface.{has}
+use Rattle.wl_surface.specs.Surfaces.{is_used}
 use Rattle.wl_table.specs.Objects.{Held, entry_of}
 use Rattle.wl_table.specs.declared.entry.Entry.{Entry}
 use Rattle.wl_resident.specs.declared.residents.Resident.{Resident as Kept}

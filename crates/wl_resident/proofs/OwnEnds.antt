@@ -3,7 +3,8 @@ use Rattle.std.proofs.Common.{◌≡◌, ℕ, ◌<◌, List, Bool, true, false, 
 use Rattle.std.specs.Prelude.{◌||◌}
 use Rattle.std.specs.List.{list_any}
 use Rattle.std.proofs.Math.Bool.{or-false}
-use Rattle.wl_surface.specs.Kept.{Kept as KeptSurface, Numbered, StandForAll, StandsAt, place_at}
+use Rattle.wl_state.specs.Kept.{Kept as KeptSurface}
+use Rattle.wl_surface.specs.Slots.{Numbered, StandForAll, StandsAt, place_at}
 use Rattle.wl_paint.specs.Damage.{Damaged, has}
 use Rattle.wl_scene.specs.Stacking.{Stack}
 use Rattle.wl_resident.specs.Marking.{IsAsLarge, MarksOwnIf, is_shown_by}

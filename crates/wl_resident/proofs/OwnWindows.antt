@@ -9,11 +9,12 @@ use Rattle.std.proofs.lemmas.List.{append-nil}
 use Rattle.std.proofs.lemmas.List.Folds.{list_any-append, list_any_more}
 use Rattle.wl_interface.specs.declared.interface.Interface.TheVariants.{WlSurface}
 use Rattle.wl_peer.specs.Objects.{ById}
-use Rattle.wl_surface.specs.Kept.{IsCurrentAt, Numbered, Slots, StandForAll}
-use Rattle.wl_surface.specs.Request.{Buffer}
-use Rattle.wl_surface.specs.State.{History, applied}
-use Rattle.wl_surface.specs.Surfaces.{Surface, history_in, is_there, surface_at}
-use Rattle.wl_surface.specs.declared.surface.Current.{Current}
+use Rattle.wl_surface.specs.Slots.{IsCurrentAt, Numbered, Slots, StandForAll}
+use Rattle.wl_state.specs.Request.{Buffer}
+use Rattle.wl_state.specs.State.{History, applied}
+use Rattle.wl_state.specs.Surface.{Surface, is_there}
+use Rattle.wl_surface.specs.Surfaces.{history_in, surface_at}
+use Rattle.wl_state.specs.declared.state.Current.{Current}
 use Rattle.wl_paint.specs.Damage.{Damaged, has}
 use Rattle.wl_scene.specs.Lent.{AllShow, Shows, shows_buffer}
 use Rattle.wl_scene.specs.Stacking.{Owned, Stack, Standing, root_of, standing_of, windows_on}

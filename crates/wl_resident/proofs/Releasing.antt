@@ -1,10 +1,12 @@
 -- The buffer that a surface showed is the third of those that it had; one that is mapped showed none.
 use Rattle.std.proofs.Common.{◌≡◌, ℕ, zero, suc, slice_index_or, map, List, [], ◌∷◌, Bool, true, false, Option, Some, None, refl, ap, ◌∙◌}
 use Rattle.std.specs.Option.{option_map}
-use Rattle.wl_surface.specs.declared.content.Attached.{Attached}
-use Rattle.wl_surface.specs.Kept.{buffer_of, had_at, Slots}
-use Rattle.wl_surface.specs.Request.{Buffer}
-use Rattle.wl_surface.specs.Surfaces.{Surface, is_there, surface_at}
+use Rattle.wl_state.specs.declared.content.Attached.{Attached}
+use Rattle.wl_state.specs.Kept.{buffer_of}
+use Rattle.wl_surface.specs.Slots.{had_at, Slots}
+use Rattle.wl_state.specs.Request.{Buffer}
+use Rattle.wl_state.specs.Surface.{Surface, is_there}
+use Rattle.wl_surface.specs.Surfaces.{surface_at}
 use Rattle.wl_peer.specs.Peer.{Peer}
 use Rattle.wl_shell.specs.Shell.{Maps, XdgSurface, on_commit, xdg_of}
 use Rattle.wl_shell.specs.declared.stage.Stage.{Stage}

@@ -7,7 +7,7 @@ use Rattle.wl_interface.specs.declared.interface.Interface.TheVariants.{WlSurfac
 use Rattle.wl_peer.specs.Objects.{ById}
 use Rattle.wl_peer.specs.declared.cause.Cause.{Cause}
 use Rattle.wl_paint.specs.Damage.{Damaged, has}
-use Rattle.wl_surface.specs.Kept.{Numbered, Slots, StandForAll}
+use Rattle.wl_surface.specs.Slots.{Numbered, Slots, StandForAll}
 use Rattle.wl_surface.specs.declared.applied.Applied.{Applied}
 use Rattle.wl_shell.specs.Shell.{Maps}
 use Rattle.wl_scene.specs.Stacking.{Owned, Stack}

@@ -19,13 +19,13 @@ use Rattle.wl_peer.specs.Told.{Said}
 use Rattle.wl_client.specs.View.{ClientView}
 use Rattle.wl_peer.specs.declared.refusals.Refusal.{Refusal}
 use Rattle.wl_geom.specs.declared.rect.Rect.{Rect}
-use Rattle.wl_surface.specs.Kept.{Changes, Numbered, Slots, StandForAll, StandsAt, kept_at, role_at}
-use Rattle.wl_surface.specs.Request.{Request, SetWindowGeometry}
-use Rattle.wl_surface.specs.State.{History, is_commit}
-use Rattle.wl_surface.specs.Surfaces.{Surface, with_role}
-use Rattle.wl_surface.specs.declared.role.Role.{Role}
-use Rattle.wl_surface.specs.declared.role.Role.TheVariants.{Toplevel as AsToplevel}
-use Rattle.wl_surface.specs.declared.role.SurfaceError.{SurfaceError}
+use Rattle.wl_surface.specs.Slots.{Changes, Numbered, Slots, StandForAll, StandsAt, kept_at, role_at}
+use Rattle.wl_state.specs.Request.{Request, SetWindowGeometry}
+use Rattle.wl_state.specs.State.{History, is_commit}
+use Rattle.wl_state.specs.Surface.{Surface, with_role}
+use Rattle.wl_state.specs.declared.role.Role.{Role}
+use Rattle.wl_state.specs.declared.role.Role.TheVariants.{Toplevel as AsToplevel}
+use Rattle.wl_surface.specs.declared.error.SurfaceError.{SurfaceError}
 use Rattle.wl_shell.specs.Kept.{Kept as KeptXdg, changing, kept_of, making_refused}
 use Rattle.wl_shell.specs.Shell.{RoleObject, Shell, XdgSurface as Xdg, is_role, next_serial, xdg_at, xdg_with}
 use Rattle.wl_shell.specs.declared.error.ShellError.{ShellError}

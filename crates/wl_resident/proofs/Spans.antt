@@ -8,7 +8,7 @@ use Rattle.std.proofs.lemmas.Int.{ints}
 use Rattle.std.proofs.lemmas.List.Folds.{list_any_more}
 use Rattle.wl_geom.specs.declared.rect.Rect.{Rect}
 use Rattle.wl_geom.specs.Rect.{in_rect, in_span}
-use Rattle.wl_surface.specs.State.{is_damaged}
+use Rattle.wl_state.specs.State.{is_damaged}
 use Rattle.wl_laws.proofs.Marks.Stacks.{and-left, and-right}
 use Rattle.wl_paint.specs.Damage.{Damaged, has}
 use Rattle.wl_resident.specs.Marking.{AddsPoints, IsAsLarge, MarksChange, any_record_has, is_record_damaged, record_has}

@@ -4,12 +4,13 @@ use Rattle.std.specs.Prelude.{◌==◌, drop, is_some, Ok, Err, OnErr, OnOk}
 use Rattle.std.specs.Option.{option_map}
 use Rattle.std.proofs.lemmas.Bool.{eqb-true}
 use Rattle.std.proofs.lemmas.List.{take-append-le}
-use Rattle.wl_surface.specs.Kept.{Changes, Numbered, Slots, StandForAll, StandsAt, changed_at, kept_at, with_at, Kept as KeptSurface}
-use Rattle.wl_surface.specs.Request.{Request}
-use Rattle.wl_surface.specs.State.{counting}
-use Rattle.wl_surface.specs.Surfaces.{Surface, asking, new_surface, with_role}
-use Rattle.wl_surface.specs.declared.role.Role.{Role}
-use Rattle.wl_surface.specs.declared.role.SurfaceError.{SurfaceError}
+use Rattle.wl_state.specs.Kept.{Kept as KeptSurface}
+use Rattle.wl_surface.specs.Slots.{Changes, Numbered, Slots, StandForAll, StandsAt, changed_at, kept_at, with_at}
+use Rattle.wl_state.specs.Request.{Request}
+use Rattle.wl_state.specs.State.{counting}
+use Rattle.wl_state.specs.Surface.{Surface, asking, new_surface, with_role}
+use Rattle.wl_state.specs.declared.role.Role.{Role}
+use Rattle.wl_surface.specs.declared.error.SurfaceError.{SurfaceError}
 use Rattle.wl_shell.specs.Kept.{Kept as KeptXdg}
 use Rattle.wl_client.specs.Agreement.{IsPeer}
 use Rattle.wl_peer.specs.Peer.{Peer, with_rest}

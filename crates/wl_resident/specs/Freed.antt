@@ -1,7 +1,7 @@
 -- What a commit or an end of a surface frees of a client's buffers.
 use Rattle.std.specs.Prelude.{ℕ, ◌≡◌, ◌==◌, not, Option, Some, None, List}
 use Rattle.std.specs.List.{list_any}
-use Rattle.wl_surface.specs.Request.{Buffer}
+use Rattle.wl_state.specs.Request.{Buffer}
 use Rattle.wl_surface.specs.Surfaces.{is_busy}
 use Rattle.wl_plain.specs.Desktop.{Resident}
 

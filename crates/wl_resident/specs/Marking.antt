@@ -7,13 +7,13 @@ use Rattle.wl_geom.specs.Rect.{in_span}
 use Rattle.wl_store.specs.Transform.{transform_of}
 use Rattle.wl_peer.specs.declared.cause.Cause.{Cause}
 use Rattle.wl_surface.specs.Applied.{AreChanges}
-use Rattle.wl_surface.specs.Kept.{Changes, Numbered, Slots, StandForAll}
-use Rattle.wl_surface.specs.Request.{Commit as CommitAsked, Request}
+use Rattle.wl_surface.specs.Slots.{Changes, Numbered, Slots, StandForAll}
+use Rattle.wl_state.specs.Request.{Commit as CommitAsked, Request}
 use Rattle.wl_surface.specs.declared.applied.Applied.{Applied}
 use Rattle.wl_surface.specs.declared.applied.Change.{Change}
-use Rattle.wl_surface.specs.declared.surface.Current.{Current}
-use Rattle.wl_surface.specs.State.{History, applied, counting, height_of, is_damaged, width_of, within_bounds}
-use Rattle.wl_surface.specs.Surfaces.{Surface, applying, asking}
+use Rattle.wl_state.specs.declared.state.Current.{Current}
+use Rattle.wl_state.specs.State.{History, applied, counting, height_of, is_damaged, width_of, within_bounds}
+use Rattle.wl_state.specs.Surface.{Surface, applying, asking}
 use Rattle.wl_shell.specs.Kept.{kept_of}
 use Rattle.std.specs.Option.{option_map}
 use Rattle.wl_paint.specs.Damage.{Damaged, has}

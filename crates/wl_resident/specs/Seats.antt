@@ -6,7 +6,7 @@ use Rattle.wl_peer.specs.Objects.{ById}
 use Rattle.wl_peer.specs.Peer.{LacksMemory, Peer, ended}
 use Rattle.wl_client.specs.View.{ClientView}
 use Rattle.wl_peer.specs.declared.cause.Cause.{Cause}
-use Rattle.wl_surface.specs.Kept.{StandForAll, nobody, count as count_kept}
+use Rattle.wl_surface.specs.Slots.{StandForAll, nobody, count as count_kept}
 use Rattle.wl_scene.specs.Stacking.{Stack, mapped_on, without_client, without_surface_of}
 use Rattle.wl_scene.specs.declared.owned.Owned.{Owned}
 use Rattle.wl_resident.specs.Agreement.{IsScene, IsSeat, with_numbers}

@@ -3,7 +3,7 @@ use Rattle.std.specs.Prelude.{List, Option}
 use Rattle.wl_client.specs.View.{ClientView}
 use Rattle.wl_client.specs.declared.outputs.Output.{Output}
 use Rattle.wl_paint.specs.Damage.{Damaged}
-use Rattle.wl_surface.specs.Kept.{Slots}
+use Rattle.wl_surface.specs.Slots.{Slots}
 use Rattle.wl_shell.specs.Kept.{Book}
 use Rattle.wl_scene.specs.Stacking.{Stack}
 use Rattle.wl_scene.specs.declared.owned.Owned.{Owned}

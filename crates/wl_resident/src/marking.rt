@@ -6,7 +6,7 @@ ghost use Rattle.std.specs.Option.{option_map};
 ghost use Rattle.wl_interface.specs.declared.interface.Interface.TheVariants.{WlSurface};
 ghost use Rattle.wl_peer.specs.Objects.{ById};
 ghost use Rattle.wl_geom.specs.Rect.{in_rect, in_span};
-ghost use Rattle.wl_surface.specs.State.{within_bounds};
+ghost use Rattle.wl_state.specs.State.{within_bounds};
 ghost use Rattle.wl_paint.specs.Damage.{has};
 ghost use Rattle.wl_scene.specs.Stacking.{is_of, standing_of};
 ghost use Rattle.wl_plain.specs.Desktop.{Desktop, Resident as Plain};
@@ -15,7 +15,7 @@ ghost use Rattle.wl_records.specs.Owning.{targets_in};
 ghost use Rattle.wl_resident.specs.Seats.{IsSeated};
 ghost use Rattle.wl_resident.specs.declared.marking.WindowRecord.{WindowRecord as WindowAsKept};
 ghost use Rattle.wl_records.specs.Touching.{has_window_at, window_at};
-ghost use Rattle.wl_surface.specs.Kept.{Numbered, StandForAll};
+ghost use Rattle.wl_surface.specs.Slots.{Numbered, StandForAll};
 
 use crate::messages::{Asked, Kind};
 use crate::residents::Resident;

@@ -4,8 +4,9 @@ ghost use Rattle.std.specs.Prelude.{◌≡◌, ◌≤◌, None, Option, length, 
 ghost use Rattle.std.specs.Option.{option_map};
 ghost use Rattle.wl_client.specs.Agreement.{IsPeer};
 ghost use Rattle.wl_peer.specs.Peer.{Peer, Queues};
-ghost use Rattle.wl_surface.specs.Kept.{buffer_of, had_at};
-ghost use Rattle.wl_surface.specs.Surfaces.{Surface};
+ghost use Rattle.wl_state.specs.Kept.{buffer_of};
+ghost use Rattle.wl_surface.specs.Slots.{had_at};
+ghost use Rattle.wl_state.specs.Surface.{Surface};
 ghost use Rattle.wl_plain.specs.Desktop.{Resident as Plain};
 ghost use Rattle.wl_plain.specs.Releases.{is_released, release_of, release_told, shown_at};
 ghost use Rattle.wl_resident.specs.Freed.{IsFreedOf};

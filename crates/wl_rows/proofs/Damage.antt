@@ -2,8 +2,8 @@
 use Rattle.std.proofs.Common.{◌≡◌, ℕ, List, ◌++◌, Bool, true, false, Some, None, Option, refl}
 use Rattle.std.specs.Prelude.{pos, replicate}
 use Rattle.wl_geom.specs.declared.rect.Rect.{Rect}
-use Rattle.wl_surface.specs.Request.{Request, Damage}
-use Rattle.wl_surface.specs.State.{is_damaged}
+use Rattle.wl_state.specs.Request.{Request, Damage}
+use Rattle.wl_state.specs.State.{is_damaged}
 use Rattle.wl_surface.specs.Surfaces.{with_change}
 use Rattle.wl_surface.specs.Trees.{applied_tree, behaves_synchronised, depth, descends_from, height}
 use Rattle.wl_scene.specs.Windows.{tree}

@@ -4,10 +4,10 @@ use Rattle.std.specs.Prelude.{◌+ℤ◌, nat_lt, slice_get}
 use Rattle.std.specs.Option.{option_map}
 use Rattle.std.proofs.lemmas.Bool.Decides.{nat_tests}
 use Rattle.std.proofs.lemmas.Option.{get_or_from_slice_get, slice_get-map, slice_get_read}
-use Rattle.wl_surface.specs.Kept.{IsCurrentAt}
-use Rattle.wl_surface.specs.State.{within_bounds}
-use Rattle.wl_surface.specs.Surfaces.{Surface}
-use Rattle.wl_surface.specs.declared.surface.Current.{Current}
+use Rattle.wl_surface.specs.Slots.{IsCurrentAt}
+use Rattle.wl_state.specs.State.{within_bounds}
+use Rattle.wl_state.specs.Surface.{Surface}
+use Rattle.wl_state.specs.declared.state.Current.{Current}
 use Rattle.wl_scene.specs.declared.owned.Owned.{Owned as Lent}
 use Rattle.wl_scene.specs.declared.scene.Toplevel.{Toplevel}
 use Rattle.wl_scene.specs.declared.window.Window.{Window as Told}

@@ -4,10 +4,10 @@ use Rattle.std.specs.Option.{option_map}
 use Rattle.wl_scene.specs.Lent.{shown_with}
 use Rattle.wl_scene.specs.Stacking.{Standing}
 use Rattle.wl_scene.specs.declared.window.Window.{Window}
-use Rattle.wl_surface.specs.Kept.{IsCurrentAt}
-use Rattle.wl_surface.specs.State.{within_bounds}
-use Rattle.wl_surface.specs.Surfaces.{Surface}
-use Rattle.wl_surface.specs.declared.surface.Current.{Current}
+use Rattle.wl_surface.specs.Slots.{IsCurrentAt}
+use Rattle.wl_state.specs.State.{within_bounds}
+use Rattle.wl_state.specs.Surface.{Surface}
+use Rattle.wl_state.specs.declared.state.Current.{Current}
 
 -- a window of a toplevel, where and as large as this
 abbrev shown_at : Standing → ℤ → ℤ → ℕ → ℕ → Window

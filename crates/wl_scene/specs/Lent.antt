@@ -1,9 +1,10 @@
 -- What is lent of the clients to look at their windows, and what it stands for.
 use Rattle.std.specs.Prelude.{ℕ, zero, suc, ◌≡◌, Bool, true, false, Option, Some, None, List, [], slice_index_or}
 use Rattle.std.specs.List.{All}
-use Rattle.wl_surface.specs.State.{History, applied, height_of, width_of}
-use Rattle.wl_surface.specs.Surfaces.{history_in, is_there, surface_at}
-use Rattle.wl_surface.specs.Kept.{Slots, StandForAll, no_slots}
+use Rattle.wl_state.specs.State.{History, applied, height_of, width_of}
+use Rattle.wl_state.specs.Surface.{is_there}
+use Rattle.wl_surface.specs.Surfaces.{history_in, surface_at}
+use Rattle.wl_surface.specs.Slots.{Slots, StandForAll, no_slots}
 use Rattle.wl_scene.specs.declared.owned.Owned.{Owned as Lent}
 use Rattle.wl_scene.specs.declared.window.Window.{Window as Told}
 use Rattle.wl_scene.specs.Stacking.{Owned, Standing}

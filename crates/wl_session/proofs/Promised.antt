@@ -4,7 +4,7 @@ use Rattle.std.specs.Prelude.{◌==◌, ◌&&◌, ◌⊎◌, nat_lt, not}
 use Rattle.wl_store.specs.declared.color.Argb.{Argb}
 use Rattle.wl_peer.specs.declared.cause.Cause.{Cause}
 use Rattle.wl_peer.specs.Peer.{with_rest}
-use Rattle.wl_surface.specs.Request.{Buffer}
+use Rattle.wl_state.specs.Request.{Buffer}
 use Rattle.wl_plain.specs.declared.answers.Done.{Done}
 use Rattle.wl_plain.specs.Desktop.{Desktop, Resident, client_at, owned_of, with_client, toplevels_of}
 use Rattle.wl_plain.specs.Happenings.{Message, Receive, ReceivesAt, Single, Starve}

@@ -9,9 +9,10 @@ use Rattle.wl_store.specs.declared.color.Argb.{Argb}
 use Rattle.wl_store.specs.Transform.{buffer_point, is_turned, transform_of}
 use Rattle.wl_store.specs.declared.transform.Transform.{Transform}
 use Rattle.wl_store.specs.declared.transform.Transform.TheVariants.{Normal, Rotated90, Rotated180, Rotated270, Flipped, Flipped90, Flipped180, Flipped270}
-use Rattle.wl_surface.specs.Request.{Buffer}
-use Rattle.wl_surface.specs.State.{History, applied}
-use Rattle.wl_surface.specs.Surfaces.{Surface, Surfaces, history_in, listed}
+use Rattle.wl_state.specs.Request.{Buffer}
+use Rattle.wl_state.specs.State.{History, applied}
+use Rattle.wl_state.specs.Surface.{Surface, listed}
+use Rattle.wl_surface.specs.Surfaces.{Surfaces, history_in}
 use Rattle.wl_scene.specs.Stacking.{Owned, nothing_owned}
 use Rattle.wl_scene.specs.Windows.{Window, contains}
 use Rattle.std.proofs.lemmas.Bool.{eqb-false, eqb-true}

@@ -7,9 +7,9 @@ use Rattle.std.specs.Option.{option_map_or}
 use Rattle.wl_geom.specs.Region.{holds}
 use Rattle.wl_store.specs.Stores.{bytes_of}
 use Rattle.wl_store.specs.declared.color.Argb.{Argb}
-use Rattle.wl_surface.specs.Request.{Buffer}
-use Rattle.wl_surface.specs.State.{applied, held}
-use Rattle.wl_surface.specs.Surfaces.{Surface, listed}
+use Rattle.wl_state.specs.Request.{Buffer}
+use Rattle.wl_state.specs.State.{applied, held}
+use Rattle.wl_state.specs.Surface.{Surface, listed}
 use Rattle.wl_scene.specs.Windows.{Window, contains}
 use Rattle.wl_plain.specs.Desktop.{Desktop, Resident, Showing, client_at, owned_in}
 use Rattle.wl_plain.specs.Happenings.{Happening, Message, Receive, Single, Starve}

@@ -5,7 +5,7 @@ use Rattle.std.specs.List.{list_any}
 use Rattle.std.specs.Option.{option_map}
 use Rattle.std.proofs.lemmas.Bool.{eqb-true}
 use Rattle.std.proofs.lemmas.Bool.Decides.{nat_tests}
-use Rattle.wl_surface.specs.State.{History}
+use Rattle.wl_state.specs.State.{History}
 use Rattle.wl_shell.specs.Agreement.{AreApart, IsKept}
 use Rattle.wl_shell.specs.Kept.{Kept, first_kept}
 use Rattle.wl_shell.specs.Laws.{BaseRead, GoneShell, ChangedShell, NewShell, OtherHistory, ShellsStand}

@@ -4,9 +4,9 @@ use Rattle.std.specs.Prelude.{Ok, fold, is_some}
 use Rattle.std.specs.Option.{option_map}
 use Rattle.std.proofs.lemmas.List.{take_all, drop_all, length-append, length-take, take-append-le, drop-append-le}
 use Rattle.std.proofs.lemmas.List.Sums.{fold-append}
-use Rattle.wl_surface.specs.Request.{Request, Commit, SetWindowGeometry}
-use Rattle.wl_surface.specs.State.{History, apply, committed, geometry, geometry_asked}
-use Rattle.wl_surface.proofs.Commits.{committed-last}
+use Rattle.wl_state.specs.Request.{Request, Commit, SetWindowGeometry}
+use Rattle.wl_state.specs.State.{History, apply, committed, geometry, geometry_asked}
+use Rattle.wl_state.proofs.Commits.{committed-last}
 use Rattle.wl_shell.specs.declared.acts.ShellAct.{ShellAct}
 use Rattle.wl_shell.specs.declared.acts.ShellAct.TheVariants.{Configure, Map, Unmap, Nothing}
 use Rattle.wl_shell.specs.declared.stage.Stage.{Stage}

@@ -1,6 +1,6 @@
 -- What is kept of all xdg_surfaces of a client stands for them.
 use Rattle.std.specs.Prelude.{◌≡◌, ℕ, ◌==◌, if◌then◌else◌, [], ◌∷◌, Option, Some, None}
-use Rattle.wl_surface.specs.State.{History}
+use Rattle.wl_state.specs.State.{History}
 use Rattle.wl_shell.specs.Kept.{Kept, Stands}
 use Rattle.wl_shell.specs.Shell.{Shell, XdgSurface, xdg_at, xdg_of}
 

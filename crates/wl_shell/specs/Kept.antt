@@ -5,7 +5,7 @@ use Rattle.std.specs.Ordering.{nat_cmp, is_eq}
 use Rattle.std.specs.Prelude.{ℕ, pos, ◌≡◌, ◌≤◌, ◌==◌, ◌&&◌, ◌||◌, int_lt, Bool, true, false, if◌then◌else◌, is_some, Option, Some, None}
 use Rattle.std.specs.Prelude.{Result, Ok, Err, List, [], ◌∷◌, ◌++◌, length, drop, fold}
 use Rattle.wl_geom.specs.declared.rect.Rect.{Rect}
-use Rattle.wl_surface.specs.State.{History, geometry, geometry_asked}
+use Rattle.wl_state.specs.State.{History, geometry, geometry_asked}
 use Rattle.wl_shell.specs.declared.acts.ShellAct.{ShellAct}
 use Rattle.wl_shell.specs.declared.acts.ShellAct.TheVariants.{Configure, Map, Unmap, Nothing}
 use Rattle.wl_shell.specs.declared.error.ShellError.{ShellError}

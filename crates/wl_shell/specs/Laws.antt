@@ -5,8 +5,8 @@ use Rattle.std.specs.List.{list_any}
 use Rattle.wl_geom.specs.declared.rect.Rect.{Rect}
 use Rattle.wl_shell.specs.Moves.{moved_to}
 use Rattle.wl_shell.specs.Positioner.{Axis, placed_on}
-use Rattle.wl_surface.specs.Request.{Request, Commit, SetWindowGeometry}
-use Rattle.wl_surface.specs.State.{History, apply, geometry_asked}
+use Rattle.wl_state.specs.Request.{Request, Commit, SetWindowGeometry}
+use Rattle.wl_state.specs.State.{History, apply, geometry_asked}
 use Rattle.wl_shell.specs.declared.acts.ShellAct.{ShellAct}
 use Rattle.wl_shell.specs.Agreement.{IsShell, with_history}
 use Rattle.wl_shell.specs.Kept.{Kept, Stands, changing, commit_answer, first_kept, kept_acknowledging, kept_after, kept_asking}

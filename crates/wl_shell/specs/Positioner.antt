@@ -3,7 +3,7 @@ use Rattle.std.specs.Prelude.{ℕ, ℤ, pos, negsuc, ◌+ℤ◌, ◌-ℤ◌, neg
 use Rattle.std.specs.Prelude.{if◌then◌else◌, Option, Some, None, is_some}
 use Rattle.std.specs.Int.{int_min, int_max}
 use Rattle.wl_geom.specs.declared.rect.Rect.{Rect}
-use Rattle.wl_surface.specs.State.{within_bounds}
+use Rattle.wl_state.specs.State.{within_bounds}
 
 -- What was set. A rectangle of 0 by 0 counts as not set.
 pub record Positioner : Type 0 where

@@ -1,17 +1,15 @@
 -- What a commit changes.
-use Rattle.std.proofs.Common.{◌≡◌, ℕ, ◌++◌, List, [], ◌∷◌, Bool, true, false, Option, Some, None, take, drop, refl, ap, sym, ◌∙◌, arith}
+use Rattle.std.proofs.Common.{◌≡◌, ℕ, ◌++◌, List, [], ◌∷◌, Bool, true, false, Option, Some, None, refl, ap, sym, ◌∙◌, arith}
 use Rattle.std.specs.Prelude.{◌↔◌, not}
 use Rattle.wl_surface.specs.declared.applied.Change.{Change}
-use Rattle.wl_surface.specs.declared.applied.Shape.{Shape}
-use Rattle.wl_surface.specs.Applied.{AreFreed, with_freed, AreSame, HasShape, IsSameShape, newly_damaged, AreChanges, IsChange}
-use Rattle.wl_surface.specs.Kept.{IsAny, Kept, Numbered, StandForAll, StandsAt, StandsFor, buffer_of, changed_at, kept_shows, place_at, shown_of, shows_at, with_at}
-use Rattle.wl_surface.specs.Request.{Buffer, Commit, Request}
-use Rattle.wl_surface.specs.State.{History, damaged_rects}
-use Rattle.wl_surface.specs.Surfaces.{Surface, asking, names}
+use Rattle.wl_surface.specs.Applied.{AreFreed, with_freed, AreChanges, IsChange}
+use Rattle.wl_state.specs.Kept.{Kept, StandsFor, buffer_of, kept_shows}
+use Rattle.wl_surface.specs.Slots.{IsAny, Numbered, StandForAll, StandsAt, changed_at, place_at, shown_of, shows_at, with_at}
+use Rattle.wl_state.specs.Request.{Buffer}
+use Rattle.wl_state.specs.Surface.{Surface, names}
 use Rattle.slab.specs.Slab.{entries_from}
 use Rattle.std.specs.Option.{option_map}
-use Rattle.wl_surface.specs.declared.content.Attached.{Attached}
-use Rattle.wl_surface.proofs.Records.{held-committed}
+use Rattle.wl_state.specs.declared.content.Attached.{Attached}
 use Rattle.wl_surface.proofs.Slots.{IsAny-kept, shows-same}
 use Rattle.wl_geom.proofs.Counts.{list_any_is}
 use Rattle.wl_geom.specs.Rect.{bit}
@@ -19,32 +17,6 @@ use Rattle.std.specs.List.{list_any}
 use Rattle.std.proofs.lemmas.Bool.{eqb-true}
 use Rattle.std.proofs.lemmas.List.Sums.{sum_by-append}
 use Rattle.std.specs.Prelude.{cond, count_by, if◌then◌else◌, ◌&&◌, ◌||◌, ◌==◌, ◌+◌}
-
--- after a commit the damage that is held is what that commit applies
-pub damage-told : (k : Kept) (s : Surface) → StandsFor k (asking Commit s) → k.held_damage ≡ newly_damaged s.history
-damage-told k s t = t.history.held_damaged ∙ ap (λ (rs : List Request). take 1025 (damaged_rects (drop s.history.cut rs))) (held-committed s.history.requests)
-
--- the same shape is that of the same counting state
-same-shape : (a b : Shape) (old new : History) → HasShape a old → HasShape b new → AreSame a b → IsSameShape old new
-same-shape a b old new s t e = record {
-  width = sym s.width ∙ e.0.0 ∙ t.width;
-  height = sym s.height ∙ e.0.1 ∙ t.height;
-  transform = sym s.transform ∙ e.1 ∙ t.transform;
-  mapping = sym s.mapping ∙ e.2 ∙ t.mapping;
-  x = sym s.offset.0 ∙ e.3.0 ∙ t.offset.0;
-  y = sym s.offset.1 ∙ e.3.1 ∙ t.offset.1;
-}
-
-shape-same : (a b : Shape) (old new : History) → HasShape a old → HasShape b new → IsSameShape old new → AreSame a b
-shape-same a b old new s t e = (
-  (s.width ∙ e.width ∙ sym t.width, s.height ∙ e.height ∙ sym t.height),
-  s.transform ∙ e.transform ∙ sym t.transform,
-  s.mapping ∙ e.mapping ∙ sym t.mapping,
-  (s.offset.0 ∙ e.x ∙ sym t.offset.0, s.offset.1 ∙ e.y ∙ sym t.offset.1),
-)
-
-pub shapes-tell : (a b : Shape) (old new : History) → HasShape a old → HasShape b new → AreSame a b ↔ IsSameShape old new
-shapes-tell a b old new s t = (same-shape a b old new s t, shape-same a b old new s t)
 
 -- what isn't the same differs
 pub unlike : {P Q : Type 0} (b : Bool) → (b ≡ true) ↔ P → P ↔ Q → (not b ≡ false) ↔ Q

@@ -3,7 +3,7 @@ use Rattle.std.proofs.Common.{◌≡◌, ℕ, ◌==◌, List, [], ◌∷◌, Boo
 use Rattle.std.specs.Prelude.{filter, not}
 use Rattle.std.proofs.lemmas.Bool.{eqb-true}
 use Rattle.wl_surface.specs.declared.frames.Waiting.{Waiting}
-use Rattle.wl_surface.specs.Kept.{Numbered, with_at}
+use Rattle.wl_surface.specs.Slots.{Numbered, with_at}
 use Rattle.wl_surface.specs.Waiting.{AreWaiting, Callback, IsWaiting, applied_at, callbacks_of, frames_at, is_in, is_of, without_those_of}
 
 same-either : (m n : ℕ) → (m == n) ≡ (n == m)

@@ -2,7 +2,8 @@
 use Rattle.std.proofs.Common.{◌≡◌, ℕ, List, Option, Some, None, Result, Ok, Err, slice_set, ap, sym, ◌∙◌}
 use Rattle.std.specs.Prelude.{OnErr}
 use Rattle.std.proofs.lemmas.List.{set-get_or}
-use Rattle.wl_surface.specs.Kept.{Kept, Slots, place_at}
+use Rattle.wl_state.specs.Kept.{Kept}
+use Rattle.wl_surface.specs.Slots.{Slots, place_at}
 use Rattle.wl_surface.specs.declared.frames.Waiting.{Waiting}
 
 -- a surface that was lent comes back as it was

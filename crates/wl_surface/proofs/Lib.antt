@@ -1,10 +1,7 @@
 pub mod Changed
-pub mod Commits
 pub mod Counting
 pub mod Framed
 pub mod Gone
-pub mod Records
-pub mod Rows
 pub mod Slots
 pub mod Trees
 pub mod Waiting

@@ -1,9 +1,6 @@
 pub mod Applied
 pub mod Frames
-pub mod Kept
-pub mod Laws
-pub mod Request
-pub mod State
+pub mod Slots
 pub mod Surfaces
 pub mod Trees
 pub mod Waiting

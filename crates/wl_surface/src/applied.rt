@@ -1,13 +1,15 @@
 //! What a call changes of what surfaces show.
 
-ghost use Rattle.std.specs.Prelude.{◌≡◌, ◌↔◌, true};
-ghost use Rattle.wl_surface.specs.Applied.{AreSame};
+ghost use Rattle.std.specs.Prelude.{◌≡◌, IfOk, OnErr, OnOk};
+ghost use Rattle.wl_state.specs.Kept.{StandsFor};
+ghost use Rattle.wl_state.specs.Request.{Commit};
+ghost use Rattle.wl_state.specs.Surface.{Surface as Asked, applying, asking};
+ghost use Rattle.wl_surface.specs.Applied.{IsChange};
 
-use crate::content::{BufferNo, Offset};
 use crate::surfaces::SurfaceNo;
-use std::alloc::Allocator;
+use std::alloc::{AllocError, Allocator};
 use wl_geom::Rect;
-use wl_store::Transform;
+use wl_state::{BufferNo, SurfaceState};
 
 /// What a call changed: the surfaces that it applied or unmapped, the buffers that aren't busy any more (wayland.xml,
 /// wl_buffer.release), and the callbacks that go with a surface.
@@ -28,36 +30,21 @@ pub struct Change<A: Allocator> {
     pub rects: Vec<Rect, A>,
 }
 
-/// How a surface stands but for its colours: its size in pixels, how its buffer is turned, whether it has one, and how far it has moved.
-#[derive(Clone, Copy)]
-pub(crate) struct Shape {
-    pub(crate) w: u32,
-    pub(crate) h: u32,
-    pub(crate) transform: Transform,
-    pub(crate) is_mapped: bool,
-    pub(crate) offset: Offset,
-}
-
-impl Shape {
-    /// Whether both are the same.
-    pub(crate) fn is_same(self, other: Shape) -> bool
-        ensures { (result ≡ true) ↔ AreSame self other }
-    {
-        self.is_as_large(other)
-            && self.transform == other.transform
-            && self.is_mapped == other.is_mapped
-            && self.is_as_far(other)
-    }
-
-    fn is_as_large(self, other: Shape) -> bool
-        ensures { (result ≡ true) ↔ ((self.w ≡ other.w) × (self.h ≡ other.h)) }
-    {
-        self.w == other.w && self.h == other.h
-    }
-
-    fn is_as_far(self, other: Shape) -> bool
-        ensures { (result ≡ true) ↔ ((self.offset.x ≡ other.offset.x) × (self.offset.y ≡ other.offset.y)) }
-    {
-        self.offset.x == other.offset.x && self.offset.y == other.offset.y
-    }
+/// wl_surface.commit of a surface that isn't synchronised, and what it changes. Without memory nothing changes.
+pub(crate) fn commit_change<A: Allocator>(
+    state: &mut SurfaceState<A>,
+    surface: SurfaceNo,
+    alloc: A,
+) -> Result<Change<A>, AllocError>
+    ensures ok { OnOk result ((s : Asked) → StandsFor state.old s → StandsFor state.new (applying (asking Commit s))) }
+    ensures change { IfOk result (λ change. (s : Asked) → StandsFor state.old s → IsChange surface s.history change) }
+    ensures err { OnErr result (state.new ≡ state.old) }
+{
+    let before = state.shape();
+    let rects = state.commit_now(alloc)?;
+    Ok(Change {
+        surface,
+        whole: !before.is_same(state.shape()),
+        rects,
+    })
 }

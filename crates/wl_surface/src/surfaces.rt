@@ -6,20 +6,20 @@ ghost use Rattle.std.specs.Option.{option_map};
 ghost use Rattle.slab.specs.Slab.{entries};
 ghost use Rattle.wl_geom.specs.Region.{Change as RegionChange, Stands as Covers};
 ghost use Rattle.wl_surface.specs.Applied.{AreChanges, AreFreed, AreGone, with_freed, is_shown_at};
-ghost use Rattle.wl_surface.specs.Kept.{Changes, IsAny, changed_at, shown_of, IsCopied, IsCurrentAt, kept_at, one_if_kept, Numbered, StandForAll, buffer_of, content_at, count, counting_in, counting_of, had_at, has_at, is_transform, kept_has, kept_shows, nobody, pending_at, role_at, shows_at, with_at};
-ghost use Rattle.wl_surface.specs.Request.{Attach, Commit, Damage, Frame, SetBufferTransform, SetInputRegion, SetOpaqueRegion};
-ghost use Rattle.wl_surface.specs.Surfaces.{applying, asking, new_surface, with_role};
+ghost use Rattle.wl_state.specs.Kept.{buffer_of, counting_in, counting_of, kept_has, kept_shows};
+ghost use Rattle.wl_surface.specs.Slots.{Changes, IsAny, changed_at, shown_of, IsCopied, IsCurrentAt, kept_at, one_if_kept, Numbered, StandForAll, content_at, count, had_at, has_at, is_transform, nobody, pending_at, role_at, shows_at, with_at};
+ghost use Rattle.wl_state.specs.Request.{Attach, Commit, Damage, Frame, SetBufferTransform, SetInputRegion, SetOpaqueRegion};
+ghost use Rattle.wl_state.specs.Surface.{applying, asking, new_surface, with_role};
 ghost use Rattle.wl_surface.specs.Waiting.{AreUndue, AreWaiting, Callback, IsNewNumber, IsNextDue, applied_by, frames_at, is_in, callbacks_of as those_of, next_of, without_next, without_those_of};
 
-use crate::applied::{Applied, Change};
-use crate::content::{Attached, BufferNo};
+use crate::applied::{Applied, Change, commit_change};
 use crate::frames::{Waiting, apply_all, callbacks_of, next_place};
-use crate::role::{Role, SurfaceError};
-use crate::surface::{Current, Surface};
+use crate::error::SurfaceError;
 use slab::Slab;
 use std::alloc::{AllocError, Allocator};
 use std::marker::Model;
 use wl_geom::{Rect, Region};
+use wl_state::{Attached, BufferNo, Current, Role, SurfaceState};
 use wl_store::Transform;
 
 /// A surface's number among its client's.
@@ -32,13 +32,13 @@ pub const MAX_SURFACES: usize = 256;
 /// of each.
 #[derive(Drop)]
 pub struct Surfaces<A: Allocator> {
-    slots: Slab<Surface<A>, A>,
+    slots: Slab<SurfaceState<A>, A>,
     frames: Vec<Waiting, A>,
     alloc: A,
 }
 
 impl<A: Allocator> Model for Surfaces<A> {
-    ghost use Rattle.wl_surface.specs.Kept.{Slots};
+    ghost use Rattle.wl_surface.specs.Slots.{Slots};
 
     ghost Value = { Slots };
 
@@ -46,7 +46,7 @@ impl<A: Allocator> Model for Surfaces<A> {
 }
 
 /// Whether one of the surfaces has the buffer held or applied.
-fn any_shows<A: Allocator>(slots: &Slab<Surface<A>, A>, buffer: BufferNo) -> bool
+fn any_shows<A: Allocator>(slots: &Slab<SurfaceState<A>, A>, buffer: BufferNo) -> bool
     ensures { result ≡ list_any (λ e. kept_shows buffer e.1) (entries slots.now) }
 {
     for (_, kept) in slots.iter() {
@@ -58,7 +58,7 @@ fn any_shows<A: Allocator>(slots: &Slab<Surface<A>, A>, buffer: BufferNo) -> boo
 }
 
 /// Whether one of the surfaces has the buffer pending, held or applied.
-fn any_has<A: Allocator>(slots: &Slab<Surface<A>, A>, buffer: BufferNo) -> bool
+fn any_has<A: Allocator>(slots: &Slab<SurfaceState<A>, A>, buffer: BufferNo) -> bool
     ensures { result ≡ list_any (λ e. kept_has buffer e.1) (entries slots.now) }
 {
     for (_, kept) in slots.iter() {
@@ -78,7 +78,7 @@ fn is_among(numbers: &[BufferNo], number: BufferNo) -> bool
 
 /// Whether the buffer is busy, or among those that are freed.
 fn is_busy_or_among<A: Allocator>(
-    slots: &Slab<Surface<A>, A>,
+    slots: &Slab<SurfaceState<A>, A>,
     freed: &[BufferNo],
     number: BufferNo,
 ) -> bool
@@ -89,7 +89,7 @@ fn is_busy_or_among<A: Allocator>(
 
 /// Adds the buffer, if it isn't busy and isn't among them. There is room for it.
 fn add_freed<A: Allocator>(
-    slots: &Slab<Surface<A>, A>,
+    slots: &Slab<SurfaceState<A>, A>,
     buffer: Option<Attached>,
     freed: &mut Vec<BufferNo, A>,
 )
@@ -145,7 +145,7 @@ impl<A: Allocator + Copy> Surfaces<A> {
             return Err(SurfaceError::TooMany);
         }
         let alloc = self.alloc;
-        let number = self.slots.insert(Surface::new(alloc))?;
+        let number = self.slots.insert(SurfaceState::new(alloc))?;
         Ok(number)
     }
 
@@ -206,7 +206,7 @@ impl<A: Allocator + Copy> Surfaces<A> {
         let mut freed = Vec::with_capacity(alloc, 2)?;
         let (current, held) = self.shown(surface);
         if let Some(kept) = self.slots.get_mut(surface) {
-            changes.push_reserved(kept.commit_change(surface, alloc)?);
+            changes.push_reserved(commit_change(kept, surface, alloc)?);
         }
         apply_all(&mut self.frames, surface);
         add_freed(&self.slots, current, &mut freed);

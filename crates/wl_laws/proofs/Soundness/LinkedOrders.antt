@@ -5,11 +5,12 @@ use Rattle.std.specs.List.{list_any}
 use Rattle.std.specs.Option.{option_map}
 use Rattle.std.proofs.lemmas.Bool.{eqb-true, or_cases}
 use Rattle.std.proofs.lemmas.List.{take_all}
-use Rattle.wl_surface.specs.Request.{AddChild, Child, Itself, Member, Request}
-use Rattle.wl_surface.specs.State.{History, is_member, order, ordered}
-use Rattle.wl_surface.specs.Surfaces.{Surface, Surfaces, asking, history_in, surface_at, with_role}
+use Rattle.wl_state.specs.Request.{AddChild, Child, Itself, Member, Request}
+use Rattle.wl_state.specs.State.{History, is_member, order, ordered}
+use Rattle.wl_state.specs.Surface.{Surface, asking, with_role}
+use Rattle.wl_surface.specs.Surfaces.{Surfaces, history_in, surface_at}
 use Rattle.wl_surface.specs.Trees.{linked}
-use Rattle.wl_surface.specs.declared.role.Role.TheVariants.{Subsurface}
+use Rattle.wl_state.specs.declared.role.Role.TheVariants.{Subsurface}
 use Rattle.wl_laws.specs.Soundness.{AreOnce}
 use Rattle.wl_laws.proofs.Soundness.Orderly.{has_child}
 use Rattle.wl_laws.proofs.Lists.Keys.{found-map, found-passes, some-same}

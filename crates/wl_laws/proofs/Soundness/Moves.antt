@@ -4,9 +4,10 @@ use Rattle.std.specs.Prelude.{◌==◌, ◌&&◌, ◌||◌, is_some, find, filte
 use Rattle.std.specs.List.{list_any}
 use Rattle.std.specs.Option.{option_and_then, option_map}
 use Rattle.std.proofs.lemmas.Bool.{eqb-true, ne_eqb}
-use Rattle.wl_surface.specs.Request.{Request, Commit}
-use Rattle.wl_surface.specs.State.{History}
-use Rattle.wl_surface.specs.Surfaces.{Link, Surface, Surfaces, applying, asking, history_in, link_at, surface_at, with_change, without_surface}
+use Rattle.wl_state.specs.Request.{Request, Commit}
+use Rattle.wl_state.specs.State.{History}
+use Rattle.wl_state.specs.Surface.{Surface, applying, asking}
+use Rattle.wl_surface.specs.Surfaces.{Link, Surfaces, history_in, link_at, surface_at, with_change, without_surface}
 use Rattle.wl_surface.specs.Trees.{applied_tree, applied_unless, behaves_synchronised, children_of, committed_in, desynchronised_in, destroyed_in, ended_in, ending, in_mode, levels, links_with}
 use Rattle.wl_surface.specs.Trees.{released_in, synchronised_in, with_link}
 use Rattle.wl_plain.specs.Changing.{unlinked_at}

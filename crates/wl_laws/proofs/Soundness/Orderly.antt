@@ -11,12 +11,12 @@ use Rattle.wl_peer.specs.declared.actions.Action.TheVariants.{GetRegistry, Bind,
 use Rattle.wl_peer.specs.declared.cause.Cause.{Cause}
 use Rattle.wl_peer.specs.Judgement.{is_free}
 use Rattle.wl_peer.specs.Objects.{is_of}
-use Rattle.wl_surface.specs.Request.{Request, Child, AddChild, PlaceAbove, PlaceBelow}
-use Rattle.wl_surface.specs.State.{History, is_member, order}
+use Rattle.wl_state.specs.Request.{Request, Child, AddChild, PlaceAbove, PlaceBelow}
+use Rattle.wl_state.specs.State.{History, is_member, order}
 use Rattle.wl_surface.specs.Surfaces.{Link, Surfaces, history_in, link_at, surface_at}
 use Rattle.wl_surface.specs.Trees.{is_bad_parent, is_too_deep}
-use Rattle.wl_surface.specs.declared.role.Role.{Role}
-use Rattle.wl_surface.specs.declared.role.Role.TheVariants.{Subsurface as AsSubsurface}
+use Rattle.wl_state.specs.declared.role.Role.{Role}
+use Rattle.wl_state.specs.declared.role.Role.TheVariants.{Subsurface as AsSubsurface}
 use Rattle.wl_shell.specs.Popups.{is_toplevel_kind}
 use Rattle.wl_shell.specs.Shell.{Mapped, RoleObject, Shell, Toplevel, XdgSurface as Xdg, xdg_at, xdg_of, xdg_with}
 use Rattle.wl_scene.specs.Stacking.{Standing}

@@ -7,10 +7,10 @@ use Rattle.std.proofs.lemmas.Bool.{eqb-true}
 use Rattle.std.proofs.lemmas.Grind.{flat_map-append}
 use Rattle.std.proofs.lemmas.List.Folds.{list_any-append}
 use Rattle.wl_surface.specs.declared.frames.Waiting.{Waiting}
-use Rattle.wl_surface.specs.Kept.{Numbered, changed_at, with_at}
-use Rattle.wl_surface.specs.Frames.{frames_of}
-use Rattle.wl_surface.specs.Request.{Commit, Frame, Request}
-use Rattle.wl_surface.specs.Surfaces.{Surface, applying, asking}
+use Rattle.wl_surface.specs.Slots.{Numbered, changed_at, with_at}
+use Rattle.wl_state.specs.Frames.{frames_of}
+use Rattle.wl_state.specs.Request.{Commit, Frame, Request}
+use Rattle.wl_state.specs.Surface.{Surface, applying, asking}
 use Rattle.wl_surface.specs.Waiting.{AreWaiting, Callback, IsNewNumber, applied_at, frames_at}
 use Rattle.wl_surface.proofs.Counting.{asked-still, at-one, waiting-same}
 use Rattle.wl_plain.specs.Framing.{AreFramed}

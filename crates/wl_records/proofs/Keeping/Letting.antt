@@ -4,10 +4,11 @@ use Rattle.std.specs.Prelude.{◌==◌, ◌&&◌, ◌||◌, not, filter, fold, m
 use Rattle.wl_peer.specs.Buffers.{Buffer as Made}
 use Rattle.wl_peer.specs.Peer.{released}
 use Rattle.wl_store.specs.Stores.{Stock}
-use Rattle.wl_surface.specs.Request.{Buffer, Request}
-use Rattle.wl_surface.specs.State.{History, Values, applied, asked, committed, held, is_commit, pending, values}
-use Rattle.wl_surface.specs.Surfaces.{Surface, asking, buffers_of, has, history_in, is_used, listed, names, shows, surface_at}
-use Rattle.wl_surface.proofs.Records.{applied-kept, held-kept, values-asked}
+use Rattle.wl_state.specs.Request.{Buffer, Request}
+use Rattle.wl_state.specs.State.{History, Values, applied, asked, committed, held, is_commit, pending, values}
+use Rattle.wl_state.specs.Surface.{Surface, asking, buffers_of, has, listed, names, shows}
+use Rattle.wl_surface.specs.Surfaces.{history_in, is_used, surface_at}
+use Rattle.wl_state.proofs.Records.{applied-kept, held-kept, values-asked}
 use Rattle.wl_plain.specs.Desktop.{Resident}
 use Rattle.wl_plain.specs.Step.{after_surface, asked_of, buffers_had, each_once, is_number, is_over, letting_go, with_peer}
 use Rattle.std.specs.Option.{option_map}

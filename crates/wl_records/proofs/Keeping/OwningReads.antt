@@ -8,16 +8,18 @@ use Rattle.wl_geom.specs.declared.rect.Rect.{Rect}
 use Rattle.wl_peer.specs.declared.refusals.ErrorCode.TheVariants as error
 use Rattle.wl_peer.specs.declared.refusals.Refusal.{Refusal}
 use Rattle.wl_peer.specs.Objects.{with_id}
-use Rattle.wl_surface.specs.declared.content.Attached.{Attached}
-use Rattle.wl_surface.specs.declared.role.Role.{Role}
-use Rattle.wl_surface.specs.declared.role.Role.TheVariants.{Toplevel as AsToplevel, Popup as AsPopup, Subsurface as AsSubsurface, Cursor as AsCursor}
-use Rattle.wl_surface.specs.declared.surface.Current.{Current}
-use Rattle.wl_surface.specs.Kept.{Changes, IsAny, IsCurrentAt, Numbered, Slots, StandForAll, buffer_of, changed_at, content_at, has_at, kept_at, one_if_kept, pending_at, role_at, shows_at, with_at}
-use Rattle.wl_surface.specs.Kept.{count as count_kept}
+use Rattle.wl_state.specs.declared.content.Attached.{Attached}
+use Rattle.wl_state.specs.declared.role.Role.{Role}
+use Rattle.wl_state.specs.declared.role.Role.TheVariants.{Toplevel as AsToplevel, Popup as AsPopup, Subsurface as AsSubsurface, Cursor as AsCursor}
+use Rattle.wl_state.specs.declared.state.Current.{Current}
+use Rattle.wl_state.specs.Kept.{buffer_of}
+use Rattle.wl_surface.specs.Slots.{Changes, IsAny, IsCurrentAt, Numbered, Slots, StandForAll, changed_at, content_at, has_at, kept_at, one_if_kept, pending_at, role_at, shows_at, with_at}
+use Rattle.wl_surface.specs.Slots.{count as count_kept}
 use Rattle.wl_surface.specs.Applied.{AreFreed}
-use Rattle.wl_surface.specs.Request.{Buffer, Commit, SetWindowGeometry}
-use Rattle.wl_surface.specs.State.{History, applied, held, pending, values}
-use Rattle.wl_surface.specs.Surfaces.{Surface, applying, asking, has_content, history_in, is_busy, is_there, is_used, listed, surface_at, with_change, without_surface}
+use Rattle.wl_state.specs.Request.{Buffer, Commit, SetWindowGeometry}
+use Rattle.wl_state.specs.State.{History, applied, held, pending, values}
+use Rattle.wl_state.specs.Surface.{Surface, applying, asking, has_content, is_there, listed}
+use Rattle.wl_surface.specs.Surfaces.{history_in, is_busy, is_used, surface_at, with_change, without_surface}
 use Rattle.wl_shell.specs.declared.acts.ShellAct.{ShellAct}
 use Rattle.wl_shell.specs.declared.acts.ShellAct.TheVariants.{Configure, Map, Unmap, Nothing}
 use Rattle.wl_shell.specs.declared.error.ShellError.{ShellError}

@@ -6,11 +6,13 @@ use Rattle.std.specs.Option.{option_map}
 use Rattle.std.proofs.lemmas.Bool.{eqb-true, eqb-false, false_from_ne_true, ne_eqb}
 use Rattle.wl_geom.specs.declared.rect.Rect.{Rect}
 use Rattle.wl_peer.specs.Objects.{ById, with_id}
-use Rattle.wl_surface.specs.Kept.{Kept, Numbered, Slots, StandForAll, StandsAt, Changes, IsAny, changed_at, has_at, kept_at, one_if_kept, shows_at, with_at, count as count_kept}
-use Rattle.wl_surface.specs.Request.{Request, SetWindowGeometry}
-use Rattle.wl_surface.specs.State.{History, committed_from, is_commit}
-use Rattle.wl_surface.specs.Surfaces.{Surface, Surfaces, asking, has, history_in, is_busy, is_used, new_surface, shows, surface_at, with_change, with_new, without_surface}
-use Rattle.wl_surface.proofs.Records.{For-asked, still, undamaged}
+use Rattle.wl_state.specs.Kept.{Kept}
+use Rattle.wl_surface.specs.Slots.{Numbered, Slots, StandForAll, StandsAt, Changes, IsAny, changed_at, has_at, kept_at, one_if_kept, shows_at, with_at, count as count_kept}
+use Rattle.wl_state.specs.Request.{Request, SetWindowGeometry}
+use Rattle.wl_state.specs.State.{History, committed_from, is_commit}
+use Rattle.wl_state.specs.Surface.{Surface, asking, has, new_surface, shows}
+use Rattle.wl_surface.specs.Surfaces.{Surfaces, history_in, is_busy, is_used, surface_at, with_change, with_new, without_surface}
+use Rattle.wl_state.proofs.Records.{For-asked, still, undamaged}
 use Rattle.wl_records.specs.Owning.{AllCounts, AreKept, by_number}
 use Rattle.wl_laws.specs.Apart.{AreApartBy}
 use Rattle.wl_plain.specs.Step.{is_number}

@@ -5,9 +5,10 @@ use Rattle.std.specs.Option.{option_and_then, option_map}
 use Rattle.std.proofs.Math.Path.{fun_ext}
 use Rattle.std.proofs.lemmas.Bool.{eqb-true, eqb-false, ne_eqb}
 use Rattle.wl_peer.specs.Objects.{ById}
-use Rattle.wl_surface.specs.Kept.{Slots}
-use Rattle.wl_surface.specs.State.{History}
-use Rattle.wl_surface.specs.Surfaces.{Surface, Surfaces, history_in, new_surface, surface_at, with_change, with_new, without_surface}
+use Rattle.wl_surface.specs.Slots.{Slots}
+use Rattle.wl_state.specs.State.{History}
+use Rattle.wl_state.specs.Surface.{Surface, new_surface}
+use Rattle.wl_surface.specs.Surfaces.{Surfaces, history_in, surface_at, with_change, with_new, without_surface}
 use Rattle.wl_shell.specs.Agreement.{AreApart, IsKept, with_history}
 use Rattle.wl_shell.specs.Kept.{Kept, Stands, changing, with_kept}
 use Rattle.wl_shell.specs.Shell.{Shell, XdgSurface, is_role, xdg_at, xdg_of, xdg_with}

@@ -3,12 +3,13 @@ use Rattle.std.proofs.Common.{◌≡◌, ℕ, zero, suc, slice_index_or, map, Li
 use Rattle.std.specs.Prelude.{◌==◌, ◌||◌, not, filter, fold}
 use Rattle.wl_peer.specs.Peer.{released}
 use Rattle.wl_store.specs.Stores.{Stock}
-use Rattle.wl_surface.specs.Request.{Buffer}
+use Rattle.wl_state.specs.Request.{Buffer}
 use Rattle.std.specs.Option.{option_map}
-use Rattle.wl_surface.specs.declared.content.Attached.{Attached}
-use Rattle.wl_surface.specs.Kept.{buffer_of, had_at}
-use Rattle.wl_surface.specs.State.{held, pending}
-use Rattle.wl_surface.specs.Surfaces.{Surface, listed}
+use Rattle.wl_state.specs.declared.content.Attached.{Attached}
+use Rattle.wl_state.specs.Kept.{buffer_of}
+use Rattle.wl_surface.specs.Slots.{had_at}
+use Rattle.wl_state.specs.State.{held, pending}
+use Rattle.wl_state.specs.Surface.{Surface, listed}
 use Rattle.wl_plain.specs.Releases.{let_if, same_number}
 use Rattle.wl_plain.specs.Step.{buffers_had, each_once, without_buffer}
 

@@ -5,10 +5,11 @@ use Rattle.std.specs.Option.{option_map}
 use Rattle.std.proofs.lemmas.Bool.{eqb-false, eqb-true}
 use Rattle.wl_peer.specs.declared.actions.Action.{Action}
 use Rattle.wl_peer.specs.declared.actions.Action.TheVariants.{DestroyBuffer}
-use Rattle.wl_surface.specs.State.{History}
-use Rattle.wl_surface.specs.Surfaces.{Surface, Surfaces, history_in, new_surface, with_change, with_new, with_role, without_surface, asking}
-use Rattle.wl_surface.specs.declared.role.Role.TheVariants.{Toplevel as AsToplevel}
-use Rattle.wl_surface.specs.Request.{Frame}
+use Rattle.wl_state.specs.State.{History}
+use Rattle.wl_state.specs.Surface.{Surface, new_surface, with_role, asking}
+use Rattle.wl_surface.specs.Surfaces.{Surfaces, history_in, with_change, with_new, without_surface}
+use Rattle.wl_state.specs.declared.role.Role.TheVariants.{Toplevel as AsToplevel}
+use Rattle.wl_state.specs.Request.{Frame}
 use Rattle.wl_shell.specs.Agreement.{AreApart as AreToldApart}
 use Rattle.wl_shell.specs.Shell.{Effect, Unconfigured, RoleObject, Shell, XdgSurface, acknowledged, acknowledging, configuring, in_stage, new_toplevel, on_commit, stage_of, unmapping, without_role}
 use Rattle.wl_shell.specs.Shell.{without_xdg, xdg_at, xdg_of, with_change as with_xdg_change, with_new as with_new_xdg}

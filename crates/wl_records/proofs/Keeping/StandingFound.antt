@@ -43,7 +43,7 @@ use Rattle.wl_records.specs.NoMore.{AreToplevels}
 use Rattle.wl_records.specs.Standing.{turns_well}
 use Rattle.wl_plain.specs.WlSurface.{refuse, refuse_limit, transform_set, will_show}
 use Rattle.wl_peer.specs.declared.refusals.ErrorCode.TheVariants as error
-use Rattle.wl_surface.specs.Request.{SetBufferTransform, SetWindowGeometry}
+use Rattle.wl_state.specs.Request.{SetBufferTransform, SetWindowGeometry}
 use Rattle.wl_plain.specs.XdgShell.{configured_again, has_any, is_foreign, is_no_toplevel, role_of, state_asked, xdg_surface_made}
 use Rattle.wl_records.proofs.Toplevels.Judged.{effect-same}
 use Rattle.wl_laws.proofs.Lists.Keys.{found-by}

@@ -6,7 +6,7 @@ use Rattle.wl_wire.specs.declared.header.Split.{Split}
 use Rattle.wl_wire.specs.declared.header.Split.TheVariants.{Message as Whole, More, Bad}
 use Rattle.wl_peer.specs.Peer.{Peer}
 use Rattle.wl_peer.specs.Told.{Output}
-use Rattle.wl_surface.specs.Kept.{Slots}
+use Rattle.wl_surface.specs.Slots.{Slots}
 use Rattle.wl_shell.specs.Kept.{Kept}
 use Rattle.wl_scene.specs.Stacking.{nothing_owned, without_client}
 use Rattle.wl_plain.specs.declared.answers.Done.{Done}

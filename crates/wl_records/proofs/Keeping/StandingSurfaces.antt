@@ -4,11 +4,12 @@ use Rattle.std.specs.Prelude.{◌==◌, find, filter, if◌then◌else◌, not}
 use Rattle.std.specs.Option.{option_and_then, option_map}
 use Rattle.std.proofs.lemmas.Bool.{eqb-true, ne_eqb}
 use Rattle.std.proofs.lemmas.List.{take-append-le}
-use Rattle.wl_surface.specs.Request.{Request, Commit}
-use Rattle.wl_surface.specs.State.{History, Values, committed_from, is_commit, pending, values}
-use Rattle.wl_surface.specs.Surfaces.{Surface, Surfaces, applying, asking, history_in, is_there, new_surface, surface_at, with_change, with_new, with_role, without_surface}
-use Rattle.wl_surface.specs.declared.role.Role.{Role}
-use Rattle.wl_surface.proofs.Commits.{commit_takes_all}
+use Rattle.wl_state.specs.Request.{Request, Commit}
+use Rattle.wl_state.specs.State.{History, Values, committed_from, is_commit, pending, values}
+use Rattle.wl_state.specs.Surface.{Surface, applying, asking, is_there, new_surface, with_role}
+use Rattle.wl_surface.specs.Surfaces.{Surfaces, history_in, surface_at, with_change, with_new, without_surface}
+use Rattle.wl_state.specs.declared.role.Role.{Role}
+use Rattle.wl_state.proofs.Commits.{commit_takes_all}
 use Rattle.wl_scene.specs.Lent.{shows_buffer}
 use Rattle.wl_records.specs.Owning.{AllCounts}
 use Rattle.wl_laws.proofs.Lists.Keys.{differ, found-passes}

@@ -8,10 +8,11 @@ use Rattle.std.proofs.lemmas.List.Folds.{list_all-append}
 use Rattle.wl_store.specs.Transform.{transform_of}
 use Rattle.wl_store.specs.declared.transform.Transform.{Transform}
 use Rattle.wl_store.specs.declared.transform.Transform.TheVariants.{Normal, Rotated90, Rotated180, Rotated270, Flipped, Flipped90, Flipped180, Flipped270}
-use Rattle.wl_surface.specs.Request.{Request, SetBufferTransform, Commit, Frame}
-use Rattle.wl_surface.specs.State.{History, Values, applied, asked, first_values}
-use Rattle.wl_surface.specs.Surfaces.{Surface, Surfaces, asking, history_in, new_surface, surface_at, with_change, with_role, without_surface}
-use Rattle.wl_surface.specs.declared.role.Role.TheVariants.{Toplevel as AsToplevel}
+use Rattle.wl_state.specs.Request.{Request, SetBufferTransform, Commit, Frame}
+use Rattle.wl_state.specs.State.{History, Values, applied, asked, first_values}
+use Rattle.wl_state.specs.Surface.{Surface, asking, new_surface, with_role}
+use Rattle.wl_surface.specs.Surfaces.{Surfaces, history_in, surface_at, with_change, without_surface}
+use Rattle.wl_state.specs.declared.role.Role.TheVariants.{Toplevel as AsToplevel}
 use Rattle.wl_shell.specs.Shell.{Effect, Stays, Unconfigured, Configures, Maps, Unmaps, XdgSurface, xdg_at, xdg_of}
 use Rattle.wl_plain.specs.Ask.{CreateSurface, AskSurface, GetToplevel}
 use Rattle.wl_plain.specs.Desktop.{Desktop, Resident, owned_in}

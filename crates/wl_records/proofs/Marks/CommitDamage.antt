@@ -5,10 +5,10 @@ use Rattle.std.specs.List.{list_any}
 use Rattle.std.specs.Option.{option_map}
 use Rattle.wl_geom.specs.declared.rect.Rect.{Rect}
 use Rattle.wl_geom.specs.Rect.{in_rect}
-use Rattle.wl_surface.specs.Applied.{committed_now, newly_damaged}
-use Rattle.wl_surface.specs.Request.{Commit, Request}
-use Rattle.wl_surface.specs.State.{History, applied, committed, damaged_rects, height_of, is_damaged, width_of}
-use Rattle.wl_surface.proofs.Commits.{committed-last}
+use Rattle.wl_state.specs.Shape.{committed_now, newly_damaged}
+use Rattle.wl_state.specs.Request.{Commit, Request}
+use Rattle.wl_state.specs.State.{History, applied, committed, damaged_rects, height_of, is_damaged, width_of}
+use Rattle.wl_state.proofs.Commits.{committed-last}
 use Rattle.wl_plain.specs.Moments.{is_applied_at, is_applied_by}
 use Rattle.wl_laws.proofs.Lists.Keys.{none-some, some-same}
 

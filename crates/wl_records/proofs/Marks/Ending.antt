@@ -5,7 +5,7 @@ use Rattle.std.specs.List.{list_any}
 use Rattle.std.proofs.lemmas.Bool.{eqb-true, or_left}
 use Rattle.wl_peer.specs.declared.cause.Cause.{Cause}
 use Rattle.wl_shell.specs.Kept.{Kept}
-use Rattle.wl_surface.specs.Kept.{Slots}
+use Rattle.wl_surface.specs.Slots.{Slots}
 use Rattle.wl_scene.specs.Stacking.{Standing, windows_on, without_client}
 use Rattle.wl_scene.specs.Windows.{Window, contains}
 use Rattle.wl_plain.specs.Desktop.{Desktop, Resident, client_at, owned_in, owned_of, status_in, status_of, toplevels_of}

@@ -11,7 +11,7 @@ use Rattle.wl_peer.specs.Peer.{Peer, ended}
 use Rattle.wl_peer.specs.Told.{Output}
 use Rattle.wl_shell.specs.Kept.{Kept}
 use Rattle.wl_shell.specs.Shell.{Effect, Stays, Unconfigured, Configures, Maps, Unmaps}
-use Rattle.wl_surface.specs.Kept.{Slots}
+use Rattle.wl_surface.specs.Slots.{Slots}
 use Rattle.wl_scene.specs.Stacking.{is_of, without_client, without_surface_of}
 use Rattle.wl_scene.specs.Windows.{Window, contains}
 use Rattle.wl_plain.specs.Desktop.{Desktop, Resident, become, become_by, client_at, client_in, owned_in, resident_of, with_client, status_in, toplevels_of}

@@ -5,10 +5,10 @@ use Rattle.std.specs.List.{list_any}
 use Rattle.std.proofs.lemmas.Bool.{eqb-true, eqb-false}
 use Rattle.std.proofs.lemmas.List.{append-nil}
 use Rattle.std.proofs.lemmas.List.Elements.{filter-append}
-use Rattle.wl_surface.specs.State.{History}
+use Rattle.wl_state.specs.State.{History}
 use Rattle.wl_surface.specs.Surfaces.{Surfaces, history_in, without_surface}
-use Rattle.wl_surface.specs.declared.role.Role.TheVariants.{Toplevel as AsToplevel}
-use Rattle.wl_surface.specs.Request.{Frame}
+use Rattle.wl_state.specs.declared.role.Role.TheVariants.{Toplevel as AsToplevel}
+use Rattle.wl_state.specs.Request.{Frame}
 use Rattle.wl_shell.specs.Shell.{Effect, Stays, Unconfigured, Configures, Maps, Unmaps, xdg_at, xdg_of, XdgSurface as Xdg}
 use Rattle.wl_scene.specs.Stacking.{Standing, is_of}
 use Rattle.wl_scene.specs.Windows.{mapping_place}

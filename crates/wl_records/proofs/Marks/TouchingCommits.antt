@@ -5,9 +5,10 @@ use Rattle.std.specs.List.{list_any}
 use Rattle.std.specs.Option.{option_map}
 use Rattle.wl_peer.specs.Peer.{Peer}
 use Rattle.wl_geom.specs.declared.rect.Rect.{Rect}
-use Rattle.wl_surface.specs.Applied.{committed_now, newly_damaged}
-use Rattle.wl_surface.specs.State.{History}
-use Rattle.wl_surface.specs.Surfaces.{Surface, history_in, surface_at}
+use Rattle.wl_state.specs.Shape.{committed_now, newly_damaged}
+use Rattle.wl_state.specs.State.{History}
+use Rattle.wl_state.specs.Surface.{Surface}
+use Rattle.wl_surface.specs.Surfaces.{history_in, surface_at}
 use Rattle.wl_shell.specs.Shell.{Effect, Stays, Unconfigured, Configures, Maps, Unmaps, on_commit, stage_of, xdg_of, XdgSurface as Xdg}
 use Rattle.wl_shell.specs.declared.stage.Stage.{Stage}
 use Rattle.wl_shell.specs.declared.stage.Stage.TheVariants as stage

@@ -6,8 +6,8 @@ use Rattle.std.specs.Option.{option_map}
 use Rattle.std.proofs.lemmas.Bool.{or_left, or_right}
 use Rattle.std.proofs.lemmas.List.{append-nil}
 use Rattle.std.proofs.lemmas.List.Elements.{filter-append}
-use Rattle.wl_surface.specs.Request.{Buffer, Request}
-use Rattle.wl_surface.specs.State.{History, applied, counting, offset, values}
+use Rattle.wl_state.specs.Request.{Buffer, Request}
+use Rattle.wl_state.specs.State.{History, applied, counting, offset, values}
 use Rattle.wl_surface.specs.Surfaces.{Surfaces, history_in}
 use Rattle.wl_scene.proofs.Lone.{no-child, order-once}
 use Rattle.wl_scene.specs.Stacking.{Owned, Standing, is_of, root_of, windows_on}

@@ -6,9 +6,10 @@ use Rattle.std.specs.Option.{option_map}
 use Rattle.std.proofs.lemmas.Bool.{eqb-true, or_left, or_right}
 use Rattle.wl_peer.specs.Peer.{released}
 use Rattle.wl_store.specs.Stores.{Stock}
-use Rattle.wl_surface.specs.Request.{Buffer}
-use Rattle.wl_surface.specs.State.{History}
-use Rattle.wl_surface.specs.Surfaces.{Surface, buffers_of, has, is_used, with_change, without_surface}
+use Rattle.wl_state.specs.Request.{Buffer}
+use Rattle.wl_state.specs.State.{History}
+use Rattle.wl_state.specs.Surface.{Surface, buffers_of, has}
+use Rattle.wl_surface.specs.Surfaces.{is_used, with_change, without_surface}
 use Rattle.wl_plain.specs.Changing.{after_all}
 use Rattle.wl_plain.specs.Desktop.{Resident}
 use Rattle.wl_laws.specs.Apart.{AreApartBy}

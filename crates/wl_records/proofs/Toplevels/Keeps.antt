@@ -12,11 +12,12 @@ use Rattle.wl_peer.specs.Objects.{Object, Objects, is_of, with_id}
 use Rattle.wl_peer.specs.Peer.{Peer, changed, object_at_version}
 use Rattle.wl_peer.specs.Used.{has_used, keeps_store}
 use Rattle.wl_store.specs.Stores.{Stock}
-use Rattle.wl_surface.specs.Surfaces.{Surface, Surfaces, applying, asking, is_used, new_surface, surface_at, with_change, with_new, with_role, without_surface, history_in}
-use Rattle.wl_surface.specs.Request.{Commit, Frame}
-use Rattle.wl_surface.specs.declared.role.Role.TheVariants.{Toplevel as AsToplevel}
+use Rattle.wl_state.specs.Surface.{Surface, applying, asking, new_surface, with_role}
+use Rattle.wl_surface.specs.Surfaces.{Surfaces, is_used, surface_at, with_change, with_new, without_surface, history_in}
+use Rattle.wl_state.specs.Request.{Commit, Frame}
+use Rattle.wl_state.specs.declared.role.Role.TheVariants.{Toplevel as AsToplevel}
 use Rattle.wl_surface.specs.Waiting.{Callback}
-use Rattle.wl_surface.specs.Frames.{frames_asked}
+use Rattle.wl_state.specs.Frames.{frames_asked}
 use Rattle.wl_shell.specs.Shell.{Effect, Stays, Unconfigured, Configures, Maps, Unmaps, XdgSurface as Xdg, xdg_at, xdg_of}
 use Rattle.wl_plain.specs.Ask.{Own, CreateSurface, AskSurface, EndObject, GetXdgSurface, DestroyXdgSurface, GetToplevel, Acknowledge, ConfigureAgain, Ignore}
 use Rattle.wl_plain.specs.Desktop.{Resident}

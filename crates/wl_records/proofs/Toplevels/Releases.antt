@@ -9,12 +9,13 @@ use Rattle.wl_proto.specs.Messages.{says}
 use Rattle.wl_peer.specs.Buffers.{Buffer as Made}
 use Rattle.wl_peer.specs.Told.{Said, said}
 use Rattle.wl_peer.specs.Peer.{Peer, removed}
-use Rattle.wl_surface.specs.Request.{Buffer, Request, Commit}
-use Rattle.wl_surface.specs.State.{History, applied, committed, held, is_commit, values}
-use Rattle.wl_surface.specs.Surfaces.{Surface, Surfaces, applying, asking, is_busy, listed, names, new_surface, shows, surface_at, with_change, with_role, without_surface}
-use Rattle.wl_surface.specs.declared.role.Role.TheVariants.{Toplevel as AsToplevel}
+use Rattle.wl_state.specs.Request.{Buffer, Request, Commit}
+use Rattle.wl_state.specs.State.{History, applied, committed, held, is_commit, values}
+use Rattle.wl_state.specs.Surface.{Surface, applying, asking, listed, names, new_surface, shows, with_role}
+use Rattle.wl_surface.specs.Surfaces.{Surfaces, is_busy, surface_at, with_change, without_surface}
+use Rattle.wl_state.specs.declared.role.Role.TheVariants.{Toplevel as AsToplevel}
 use Rattle.wl_surface.specs.Waiting.{Callback}
-use Rattle.wl_surface.proofs.Records.{applied-kept, held-kept}
+use Rattle.wl_state.proofs.Records.{applied-kept, held-kept}
 use Rattle.wl_shell.specs.Shell.{Effect, Stays, Unconfigured, Configures, Maps, Unmaps, XdgSurface as Xdg, xdg_at, xdg_of}
 use Rattle.wl_plain.specs.Ask.{Ask, Own, CreateSurface, AskSurface, EndObject, GetXdgSurface, DestroyXdgSurface, GetToplevel, Acknowledge, ConfigureAgain, Ignore}
 use Rattle.wl_plain.specs.Desktop.{Resident}

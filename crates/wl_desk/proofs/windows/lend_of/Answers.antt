@@ -4,7 +4,8 @@ use Rattle.wl_desk.proofs.Lends.{window-absent, window-there}
 use Rattle.wl_desk.proofs.windows.lend_of.Goals as goal
 use Rattle.wl_desk.specs.Lent.{or_transparent}
 use Rattle.wl_scene.specs.Stacking.{standing_of}
-use Rattle.wl_surface.specs.Kept.{counting_of, kept_at}
+use Rattle.wl_state.specs.Kept.{counting_of}
+use Rattle.wl_surface.specs.Slots.{kept_at}
 
 pub returns-in_default : goal.returns-in_default
 returns-in_default g c =

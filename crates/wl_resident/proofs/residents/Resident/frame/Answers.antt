@@ -4,7 +4,7 @@ use Rattle.wl_interface.specs.declared.interface.Interface.TheVariants.{WlCallba
 use Rattle.wl_peer.specs.Peer.{counted}
 use Rattle.wl_table.specs.declared.entry.Entry.{Entry}
 use Rattle.wl_shell.specs.Kept.{kept_of}
-use Rattle.wl_surface.specs.Request.{Frame}
+use Rattle.wl_state.specs.Request.{Frame}
 use Rattle.wl_plain.specs.Demand.{AskFrame}
 use Rattle.wl_records.specs.Owning.{names_in}
 use Rattle.wl_plain.specs.Step.{with_peer}

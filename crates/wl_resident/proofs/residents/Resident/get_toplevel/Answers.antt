@@ -18,7 +18,7 @@ use Rattle.wl_resident.proofs.Stillness.{given-still, same-still}
 use Rattle.wl_resident.proofs.residents.Resident.get_toplevel.Goals as goal
 use Rattle.wl_resident.proofs.Framing.{IsFramed, framed-role, one-more}
 use Rattle.wl_surface.specs.declared.frames.Waiting.{Waiting}
-use Rattle.wl_surface.specs.declared.role.Role.TheVariants.{Toplevel as AsToplevel}
+use Rattle.wl_state.specs.declared.role.Role.TheVariants.{Toplevel as AsToplevel}
 
 pub returns-in-Ok-clause-answers : goal.returns-in-Ok-clause-answers
 returns-in-Ok-clause-answers g c = λ named free client r on is only.

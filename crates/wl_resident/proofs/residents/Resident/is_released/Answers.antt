@@ -1,7 +1,7 @@
 use Rattle.std.proofs.Common.{rules, tests, ◌≡◌, Bool, ap, sym, ◌∙◌}
 use Rattle.std.specs.Prelude.{◌==◌, ◌&&◌}
 use Rattle.std.specs.List.{list_any}
-use Rattle.wl_surface.specs.Kept.{buffer_of}
+use Rattle.wl_state.specs.Kept.{buffer_of}
 use Rattle.wl_plain.specs.Replies.{has_object}
 use Rattle.wl_resident.proofs.residents.Resident.is_released.Goals as goal
 use Rattle.std.proofs.lemmas.Iterator.{YieldsList-from_slice}

@@ -2,7 +2,7 @@ use Rattle.std.proofs.Common.{Bool, false, ap, subst, sym, ◌∙◌}
 use Rattle.std.specs.Option.{option_map}
 use Rattle.wl_store.specs.Stores.{Stock}
 use Rattle.wl_client.specs.Agreement.{IsPeer}
-use Rattle.wl_surface.specs.Kept.{buffer_of}
+use Rattle.wl_state.specs.Kept.{buffer_of}
 use Rattle.std.specs.Prelude.{◌||◌}
 use Rattle.wl_plain.specs.Releases.{let_if, same_number}
 use Rattle.wl_plain.specs.Step.{is_over, with_peer}

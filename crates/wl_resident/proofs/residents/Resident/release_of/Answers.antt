@@ -1,8 +1,8 @@
 use Rattle.std.proofs.Common.{Bool, Option, None, ap, subst, sym, ◌∙◌}
 use Rattle.std.specs.Prelude.{Some, if◌then◌else◌}
 use Rattle.std.specs.Option.{option_map}
-use Rattle.wl_surface.specs.Kept.{buffer_of}
-use Rattle.wl_surface.specs.declared.content.Attached.{Attached}
+use Rattle.wl_state.specs.Kept.{buffer_of}
+use Rattle.wl_state.specs.declared.content.Attached.{Attached}
 use Rattle.wl_plain.specs.Releases.{release_of}
 use Rattle.wl_resident.specs.Freed.{IsFreedOf}
 use Rattle.wl_resident.proofs.residents.Resident.release_of.Goals as goal

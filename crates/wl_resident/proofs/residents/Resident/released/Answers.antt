@@ -1,6 +1,6 @@
 use Rattle.std.proofs.Common.{Option, ap, slice_index_or, subst, sym, ◌∙◌}
-use Rattle.wl_surface.specs.Request.{Buffer}
-use Rattle.wl_surface.specs.declared.content.Attached.{Attached}
+use Rattle.wl_state.specs.Request.{Buffer}
+use Rattle.wl_state.specs.declared.content.Attached.{Attached}
 use Rattle.wl_plain.specs.Releases.{release_of}
 use Rattle.wl_resident.specs.Freed.{IsFreedOf}
 use Rattle.wl_resident.proofs.Releasing.{shown-had}

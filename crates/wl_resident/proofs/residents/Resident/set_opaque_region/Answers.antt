@@ -1,5 +1,5 @@
 use Rattle.std.proofs.Common.{refl, inl, inr, sym}
-use Rattle.wl_surface.specs.Request.{SetOpaqueRegion}
+use Rattle.wl_state.specs.Request.{SetOpaqueRegion}
 use Rattle.wl_resident.proofs.Doing.{asked-so, copied-named, lacked}
 use Rattle.wl_resident.proofs.Stillness.{asked-still, same-still}
 use Rattle.wl_shell.specs.Kept.{kept_of}

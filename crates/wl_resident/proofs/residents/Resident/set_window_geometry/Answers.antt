@@ -1,7 +1,7 @@
 use Rattle.wl_proto.specs.declared.xdg_surface.XdgSurfaceRequest.TheVariants as xdg
 use Rattle.std.proofs.Common.{ap, inr, refl, subst, sym, true}
 use Rattle.wl_peer.specs.Peer.{counted}
-use Rattle.wl_surface.specs.Request.{SetWindowGeometry}
+use Rattle.wl_state.specs.Request.{SetWindowGeometry}
 use Rattle.wl_shell.specs.Kept.{geometry_answer, kept_of}
 use Rattle.wl_plain.specs.Ask.{AskSurface}
 use Rattle.wl_records.specs.Owning.{IsOwned, Names, names_in, shell_refusal}

@@ -3,7 +3,7 @@ use Rattle.std.specs.Prelude.{Ok, if◌then◌else◌, unsigned_abs}
 use Rattle.std.proofs.lemmas.Int.{to_z-of_z}
 use Rattle.wl_peer.specs.declared.refusals.ErrorCode.TheVariants.{InvalidTransform}
 use Rattle.wl_peer.specs.Peer.{counted}
-use Rattle.wl_surface.specs.Request.{SetBufferTransform}
+use Rattle.wl_state.specs.Request.{SetBufferTransform}
 use Rattle.wl_plain.specs.Ask.{AskSurface}
 use Rattle.wl_plain.specs.Desktop.{Resident}
 use Rattle.wl_records.specs.Owning.{names_in}

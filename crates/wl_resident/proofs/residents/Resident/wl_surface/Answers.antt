@@ -3,7 +3,7 @@ use Rattle.std.specs.Prelude.{FitsSigned, Ok, is_some}
 use Rattle.std.proofs.lemmas.Int.{to_z-of_z}
 use Rattle.wl_geom.specs.declared.rect.Rect.{Rect}
 use Rattle.wl_peer.specs.Peer.{counted}
-use Rattle.wl_surface.specs.Request.{Attach, Damage, SetInputRegion, SetOpaqueRegion}
+use Rattle.wl_state.specs.Request.{Attach, Damage, SetInputRegion, SetOpaqueRegion}
 use Rattle.wl_plain.specs.Ask.{AskSurface}
 use Rattle.wl_plain.specs.Desktop.{Resident}
 use Rattle.wl_records.specs.Owning.{names_in}

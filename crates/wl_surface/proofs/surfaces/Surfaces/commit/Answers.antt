@@ -1,7 +1,8 @@
 use Rattle.std.proofs.Common.{◌≡◌, Option, map, ap, refl, sym, subst, ◌∙◌}
-use Rattle.wl_surface.specs.Kept.{Kept, StandsAt, changed_at}
-use Rattle.wl_surface.specs.Request.{Commit}
-use Rattle.wl_surface.specs.Surfaces.{Surface, applying, asking}
+use Rattle.wl_state.specs.Kept.{Kept}
+use Rattle.wl_surface.specs.Slots.{StandsAt, changed_at}
+use Rattle.wl_state.specs.Request.{Commit}
+use Rattle.wl_state.specs.Surface.{Surface, applying, asking}
 use Rattle.wl_surface.specs.Waiting.{applied_by}
 use Rattle.wl_surface.proofs.Counting.{waiting-committed}
 use Rattle.wl_surface.proofs.Waiting.{applied-all}
@@ -54,5 +55,5 @@ returns-clause-waits g c = λ all cs are. rw (returns-clause-frames g c) (waitin
 
 pub returns-in_err-commit_change-clause-err : goal.returns-in_err-commit_change-clause-err
 returns-in_err-commit_change-clause-err g c =
-    left-as-it-was c.from_residual-in_err-commit_change.result c.self.inside.slots.slots c.self.inside.frames.items c.args.surface c.in-Some.kept.now c.commit_change.new.self c.args.self.now
+    left-as-it-was c.from_residual-in_err-commit_change.result c.self.inside.slots.slots c.self.inside.frames.items c.args.surface c.in-Some.kept.now c.commit_change.new.state c.args.self.now
     (sym (rw c.in-Some.is at c.get_mut.ensures.value)) c.in_err-commit_change.ensures.err c.self.view_is

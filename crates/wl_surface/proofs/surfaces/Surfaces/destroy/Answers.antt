@@ -1,6 +1,6 @@
 use Rattle.wl_surface.proofs.Gone.{callbacks-gone, waiting-gone}
 use Rattle.std.proofs.Common.{None, rules, ◌∙◌}
-use Rattle.wl_surface.specs.Kept.{with_at}
+use Rattle.wl_surface.specs.Slots.{with_at}
 use Rattle.wl_surface.proofs.Changed.{freed-told, others-left}
 use Rattle.wl_surface.proofs.surfaces.Surfaces.destroy.Goals as goal
 

@@ -1,0 +1,4 @@
+pub mod Commits
+pub mod Records
+pub mod Rows
+pub mod Shapes

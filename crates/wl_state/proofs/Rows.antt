@@ -1,0 +1,127 @@
+-- Worked examples, computed on the definitions.
+use Rattle.std.proofs.Common.{◌≡◌, ℕ, List, [], ◌∷◌, ◌++◌, Option, Some, None, true, false, refl}
+use Rattle.std.specs.Prelude.{ℤ, pos, negsuc}
+use Rattle.wl_geom.specs.declared.rect.Rect.{Rect}
+use Rattle.wl_store.specs.declared.color.Format.TheVariants.{Xrgb8888}
+use Rattle.wl_state.specs.Request.{Buffer, Itself, Child, Request, Attach, Damage, SetWindowGeometry, Commit, AddChild, SetPosition, PlaceAbove, PlaceBelow}
+use Rattle.wl_state.specs.State.{History, applied, apply, between, committed, damaged_rects, geometry, held, height_of, is_damaged, offset, order, pending, position, width_of}
+use Rattle.wl_state.specs.Surface.{shows}
+
+-- a buffer of 40 by 40 pixels in store 1
+abbrev forty : ℕ → Buffer
+forty number = record { number = number; object = number; store = 1; offset = 6400; width = 40; height = 40; stride = 160; format = Xrgb8888 }
+
+abbrev rect : ℤ → ℤ → ℤ → ℤ → Rect
+rect x y w h = record { x = x; y = y; w = w; h = h }
+
+-- a buffer is attached, damaged and committed, and the next one is attached
+abbrev shown : List Request
+shown = Attach (Some (forty 1)) (pos 0) (pos 0) ∷ Damage (rect (pos 0) (pos 0) (pos 40) (pos 40)) ∷ Commit ∷ Attach (Some (forty 2)) (pos 3) (pos 0) ∷ []
+
+abbrev first : History
+first = record { requests = shown; cut = 3 }
+
+pub row_committed : committed shown ≡ 3
+row_committed = refl
+
+pub row_applied : (applied first).buffer ≡ Some (forty 1)
+row_applied = refl
+
+pub row_pending : (pending first).buffer ≡ Some (forty 2)
+row_pending = refl
+
+-- the second is busy once it is committed, and the first no longer
+abbrev second : History
+second = apply (record { requests = shown ++ Commit ∷ []; cut = 3 })
+
+pub row_busy : shows 2 second ≡ true
+row_busy = refl
+
+pub row_freed : shows 1 second ≡ false
+row_freed = refl
+
+-- the offset counts at the commit, and is held within its bounds
+pub row_offset : (offset second.requests).x ≡ pos 3
+row_offset = refl
+
+pub row_offset-pending : (offset shown).x ≡ pos 0
+row_offset-pending = refl
+
+pub row_offset-held : (offset (Attach None (pos 2147483647) (pos 0) ∷ Commit ∷ [])).x ≡ pos 16777216
+row_offset-held = refl
+
+pub row_offset-back : (offset (Attach None (pos 2147483647) (pos 0) ∷ Commit ∷ Attach None (negsuc 16777215) (pos 0) ∷ Commit ∷ [])).x ≡ pos 0
+row_offset-back = refl
+
+-- two commits of a synchronised subsurface: both are held until the surface is applied, with the damage of both
+abbrev pub small : ℕ → Buffer
+small number = record { number = number; object = number; store = 2; offset = 0; width = 4; height = 4; stride = 16; format = Xrgb8888 }
+
+abbrev twice : History
+twice =
+    record {
+      requests =
+          Attach (Some (small 18)) (pos 0) (pos 0) ∷ Commit ∷ Attach (Some (small 19)) (pos 0) (pos 0) ∷ Damage (rect (pos 0) (pos 0) (pos 1) (pos 1)) ∷ Commit
+          ∷ Attach (Some (small 20)) (pos 0) (pos 0) ∷ Damage (rect (pos 3) (pos 3) (pos 1) (pos 1)) ∷ Commit ∷ [];
+      cut = 2;
+    }
+
+pub row_held : (held twice).buffer ≡ Some (small 20)
+row_held = refl
+
+pub row_held-applied : (applied twice).buffer ≡ Some (small 18)
+row_held-applied = refl
+
+-- the buffer of the first of them isn't busy any more
+pub row_held-freed : shows 19 twice ≡ false
+row_held-freed = refl
+
+pub row_held-damage : damaged_rects (between 2 8 twice.requests) ≡ rect (pos 0) (pos 0) (pos 1) (pos 1) ∷ rect (pos 3) (pos 3) (pos 1) (pos 1) ∷ []
+row_held-damage = refl
+
+-- what lies outside the surface isn't damaged
+pub row_damage : is_damaged 40 40 (rect (pos 0) (pos 0) (pos 2147483647) (pos 1) ∷ []) 39 0 ≡ true
+row_damage = refl
+
+pub row_damage-outside : is_damaged 40 40 (rect (pos 0) (pos 0) (pos 2147483647) (pos 1) ∷ []) 40 0 ≡ false
+row_damage-outside = refl
+
+pub row_damage-empty : is_damaged 40 40 (rect (negsuc 2147483647) (pos 0) (pos 2147483647) (pos 2147483647) ∷ []) 0 0 ≡ false
+row_damage-empty = refl
+
+-- an odd transform exchanges the sides
+abbrev wide : Option Buffer
+wide = Some (record (forty 1) { width = 80 })
+
+pub row_turned : width_of wide 1 ≡ 40
+row_turned = refl
+
+pub row_turned-height : height_of wide 1 ≡ 80
+row_turned-height = refl
+
+-- a new child is topmost; placed below its parent it stands under it
+pub row_topmost : order (AddChild 1 ∷ AddChild 2 ∷ []) ≡ Itself ∷ Child 1 ∷ Child 2 ∷ []
+row_topmost = refl
+
+pub row_below : order (AddChild 1 ∷ AddChild 2 ∷ PlaceBelow 2 Itself ∷ []) ≡ Child 2 ∷ Itself ∷ Child 1 ∷ []
+row_below = refl
+
+pub row_above : order (AddChild 1 ∷ AddChild 2 ∷ PlaceAbove 1 (Child 2) ∷ []) ≡ Itself ∷ Child 2 ∷ Child 1 ∷ []
+row_above = refl
+
+-- beside a sibling that the order hasn't, it stays where it was
+pub row_stays : order (AddChild 1 ∷ AddChild 2 ∷ PlaceAbove 1 (Child 3) ∷ []) ≡ Itself ∷ Child 1 ∷ Child 2 ∷ []
+row_stays = refl
+
+pub row_position : position 1 (AddChild 1 ∷ SetPosition 1 (pos 4) (pos 5) ∷ SetPosition 2 (pos 6) (pos 7) ∷ []) ≡ (pos 4, pos 5)
+row_position = refl
+
+-- a window geometry counts once it is committed, and one that was asked before the role object was made never
+pub row_geometry : geometry 0 (record { requests = SetWindowGeometry (rect (pos 4) (pos 4) (pos 32) (pos 32)) ∷ Commit ∷ []; cut = 2 }) ≡ Some (rect (pos 4) (pos 4) (pos 32) (pos 32))
+row_geometry = refl
+
+pub row_geometry-pending : geometry 0 (record { requests = SetWindowGeometry (rect (pos 4) (pos 4) (pos 32) (pos 32)) ∷ []; cut = 0 }) ≡ None
+row_geometry-pending = refl
+
+pub row_geometry-used : geometry 2 (record { requests = SetWindowGeometry (rect (pos 4) (pos 4) (pos 32) (pos 32)) ∷ Commit ∷ Commit ∷ []; cut = 3 }) ≡ None
+row_geometry-used = refl

@@ -1,0 +1,53 @@
+//! Why a request on a surface is refused.
+
+use std::alloc::{AllocError, AllocFailed};
+use thiserror::Error;
+use wl_geom::RegionError;
+
+/// Why a surface isn't made or isn't changed.
+#[derive(Clone, Copy, Debug, PartialEq, Eq, Error)]
+pub enum SurfaceError {
+    /// The surface has another role.
+    #[error("the surface has another role")]
+    Role = 1,
+    /// The parent is the surface, or descends from it.
+    #[error("the parent descends from the surface")]
+    BadParent = 2,
+    /// The surface to be placed next to is neither the parent nor another child of it.
+    #[error("no parent and no sibling")]
+    NotSibling = 3,
+    /// There would be more than 16 levels below a root.
+    #[error("too many levels of subsurfaces")]
+    TooDeep = 4,
+    /// There are 256 surfaces.
+    #[error("too many surfaces")]
+    TooMany = 5,
+    /// The transform isn't one of 0 to 7.
+    #[error("no such transform")]
+    Transform = 6,
+    /// There is no memory for it.
+    #[error("out of memory")]
+    Memory = 7,
+}
+
+impl From<AllocError> for SurfaceError {
+    ghost use Rattle.std.specs.Prelude.{◌≡◌};
+    ghost use Rattle.wl_surface.specs.declared.error.SurfaceError.TheVariants.{Memory};
+
+    ghost from_gives = { λ _ e. e ≡ Memory };
+
+    fn from(_error: AllocError) -> Self {
+        SurfaceError::Memory
+    }
+}
+
+impl<T: Drop> From<AllocFailed<T>> for SurfaceError {
+    ghost use Rattle.std.specs.Prelude.{◌≡◌};
+    ghost use Rattle.wl_surface.specs.declared.error.SurfaceError.TheVariants.{Memory};
+
+    ghost from_gives = { λ _ e. e ≡ Memory };
+
+    fn from(_error: AllocFailed<T>) -> Self {
+        SurfaceError::Memory
+    }
+}
