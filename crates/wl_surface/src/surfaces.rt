@@ -13,8 +13,8 @@ ghost use Rattle.wl_state.specs.Surface.{applying, asking, new_surface, with_rol
 ghost use Rattle.wl_surface.specs.Waiting.{AreUndue, AreWaiting, Callback, IsNewNumber, IsNextDue, applied_by, frames_at, is_in, callbacks_of as those_of, next_of, without_next, without_those_of};
 
 use crate::applied::{Applied, Change, commit_change};
-use crate::frames::{Waiting, apply_all, callbacks_of, next_place};
 use crate::error::SurfaceError;
+use crate::frames::{Waiting, apply_all, callbacks_of, next_place};
 use slab::Slab;
 use std::alloc::{AllocError, Allocator};
 use std::marker::Model;
