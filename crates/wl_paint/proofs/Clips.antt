@@ -1,5 +1,5 @@
 -- Spans that are cut to an output.
-use Rattle.std.proofs.Common.{◌≡◌, ℕ, ◌≤◌, ◌+◌, Bool, ◌||◌, ◌&&◌, ◌≢◌, ◌<◌, ◌-◌, true, false, arith, refl, sym, ◌∙◌, inl, inr, pos, ℤ, ◌+ℤ◌, ◌-ℤ◌, max, min, ◌*◌, ◌/◌, ◌%◌}
+use Rattle.std.proofs.Common.{◌≡◌, ℕ, ◌≤◌, ◌+◌, Bool, ◌||◌, ◌&&◌, ◌≢◌, ◌<◌, ◌-◌, true, false, arith, sym, ◌∙◌, inl, inr, pos, ℤ, ◌+ℤ◌, ◌-ℤ◌, max, min, ◌*◌, ◌/◌, ◌%◌}
 use Rattle.std.specs.Prelude.{int_lt, nat_lt, unsigned_abs, ◌⊎◌}
 use Rattle.std.proofs.lemmas.Bool.{cases_lt}
 use Rattle.std.proofs.lemmas.Int.{ints}

@@ -4,7 +4,7 @@ ghost use Rattle.wl_paint.specs.Frame.{IsImage, color_at, filled, is_side};
 ghost use Rattle.wl_paint.specs.Window.{AreOpaqueAsSaid, scratch};
 
 use crate::damage::Damage;
-use crate::painting::paint_rows;
+use crate::painting::{Layers, paint_rows};
 use crate::windows::Windows;
 use std::alloc::{AllocError, Allocator};
 use std::marker::Model;
@@ -129,14 +129,11 @@ impl<A: Allocator> Framebuffer<A> {
         ensures background { self.new.background ≡ self.old.background }
         ensures channels { (self.old.background.r ≤ 255) × (self.old.background.g ≤ 255) × (self.old.background.b ≤ 255) }
     {
-        paint_rows(
-            &mut self.bytes,
-            self.width,
-            self.height,
-            damage,
+        let layers = Layers {
+            background: self.background,
             windows,
-            self.background,
-        );
+        };
+        paint_rows(&mut self.bytes, self.width, self.height, damage, &layers);
     }
 }
 

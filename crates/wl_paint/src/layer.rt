@@ -10,7 +10,7 @@ ghost use Rattle.wl_paint.specs.Painting.{OffsetIn, Shows, opaque, pixel_of, win
 ghost use Rattle.wl_paint.specs.Window.{HasAlphaAsSaid, over};
 
 use crate::source::{copy_colors, copy_opaque, lay_colors};
-use crate::span::part_in;
+use crate::span::{Part, part_in};
 use crate::windows::Painted;
 use std::alloc::Allocator;
 use wl_store::Picture;
@@ -68,17 +68,18 @@ pub(crate) fn hide<A: Allocator>(run: &mut [u8], x: u32, y: u32, window: &Painte
     copy_opaque(run, &window.picture, i, j)
 }
 
-/// Lays the points of the picture from (i, j) to the right over `count` pixels from pixel `first` on.
-fn lay_part(run: &mut [u8], first: usize, count: usize, picture: &Picture<'_>, i: u32, j: u32)
-    requires within { 4 * (first + count) ≤ length run.old }
-    requires short { count ≤ STRETCH }
-    requires columns { i + count ≤ surface_width picture.now.transform picture.now.layout }
+/// Lays the points of the picture from (i, j) to the right over a part of a run of pixels.
+fn lay_part(run: &mut [u8], part: Part, picture: &Picture<'_>, i: u32, j: u32)
+    requires within { 4 * (part.first + part.count) ≤ length run.old }
+    requires short { part.count ≤ STRETCH }
+    requires columns { i + part.count ≤ surface_width picture.now.transform picture.now.layout }
     requires row { j < surface_height picture.now.transform picture.now.layout }
-    ensures inside { (k : ℕ) → k < count → pixel_of run.new (first + k) ≡ opaque (blended (color_of run.old (first + k)) (color_at picture.now (i + k) j)) }
-    ensures outside { (k : ℕ) → (k < first) ⊎ (first + count ≤ k) → pixel_of run.new k ≡ pixel_of run.old k }
+    ensures inside { (k : ℕ) → k < part.count
+        → pixel_of run.new (part.first + k) ≡ opaque (blended (color_of run.old (part.first + k)) (color_at picture.now (i + k) j)) }
+    ensures outside { (k : ℕ) → (k < part.first) ⊎ (part.first + part.count ≤ k) → pixel_of run.new k ≡ pixel_of run.old k }
 {
-    let end = first + count;
-    lay_colors(&mut run[4 * first..4 * end], picture, i, j);
+    let end = part.first + part.count;
+    lay_colors(&mut run[4 * part.first..4 * end], picture, i, j);
 }
 
 /// Lays the window over a run of pixels that starts at (x, y).
@@ -96,12 +97,9 @@ pub(crate) fn lay_window<A: Allocator>(run: &mut [u8], x: u32, y: u32, window: &
     let Some(i) = offset_in(window.x, window.picture.width(), x + first) else {
         return;
     };
-    lay_part(
-        run,
-        first as usize,
-        (end - first) as usize,
-        &window.picture,
-        i,
-        j,
-    );
+    let part = Part {
+        first: first as usize,
+        count: (end - first) as usize,
+    };
+    lay_part(run, part, &window.picture, i, j);
 }

@@ -2,6 +2,13 @@ ghost use Rattle.std.specs.Prelude.{◌≡◌, ℕ, ℤ, ◌+◌, ◌+ℤ◌, �
 ghost use Rattle.wl_geom.specs.Rect.{in_span};
 ghost use Rattle.wl_paint.specs.Damage.{is_between};
 
+/// A part of a list of pixels: `count` of them, from pixel `first` on.
+#[derive(Clone, Copy)]
+pub(crate) struct Part {
+    pub first: usize,
+    pub count: usize,
+}
+
 /// The place, or the nearest from 0 to `size`.
 fn held_to(place: i64, size: u32) -> u32
     ensures same { (at : ℕ) → at < size → nat_lt at result ≡ int_lt (pos at) place }

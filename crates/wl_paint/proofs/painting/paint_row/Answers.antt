@@ -8,7 +8,7 @@ use Rattle.wl_paint.proofs.painting.paint_row.Goals as goal
 pub loop-start-preserved : goal.loop-start-preserved
 loop-start-preserved g c =
     IsPaintedTo-run (pixel_of c.args.pixels.now) (pixel_of c.loop-start.pixels) (pixel_of c.paint_part.new.pixels)
-    (λ x. AreOpaqueAsSaid (pos x) (pos c.args.y) (g.W.Windows.windows c.args.windows.now))
-    (λ x. scratch c.args.background (g.W.Windows.windows c.args.windows.now) (pos x) (pos c.args.y)) (λ x. has c.args.damage.now x c.args.y)
+    (λ x. AreOpaqueAsSaid (pos x) (pos c.args.y) (g.W.Windows.windows c.args.layers.now.windows.now))
+    (λ x. scratch c.args.layers.now.background (g.W.Windows.windows c.args.layers.now.windows.now) (pos x) (pos c.args.y)) (λ x. has c.args.damage.now x c.args.y)
     c.args.base c.args.damage.now.width c.loop-start.from c.in-Some.start c.in-Some.len c.min-count.result c.in-Some.ensures
     (omega (arith, c.min-count.ensures)) c.loop-start.invariant c.paint_part.ensures.inside c.paint_part.ensures.outside

@@ -8,8 +8,8 @@ use Rattle.wl_paint.proofs.painting.paint_row.Given as goal
 -- the row is painted up to `from`
 abbrev pub invariant-loop-start : goal.invariant-loop-start
 invariant-loop-start g l =
-    IsPaintedTo (pixel_of l.initial.pixels) (pixel_of l.pixels) (λ x. AreOpaqueAsSaid (pos x) (pos l.y) (g.W.Windows.windows l.windows))
-    (λ x. scratch l.background (g.W.Windows.windows l.windows) (pos x) (pos l.y)) (λ x. has l.damage x l.y) l.base l.damage.width l.from
+    IsPaintedTo (pixel_of l.initial.pixels) (pixel_of l.pixels) (λ x. AreOpaqueAsSaid (pos x) (pos l.y) (g.W.Windows.windows l.layers.windows.now))
+    (λ x. scratch l.layers.background (g.W.Windows.windows l.layers.windows.now) (pos x) (pos l.y)) (λ x. has l.damage x l.y) l.base l.damage.width l.from
 
 abbrev pub decreases-loop-start : goal.decreases-loop-start
 decreases-loop-start g l = l.damage.width - l.from

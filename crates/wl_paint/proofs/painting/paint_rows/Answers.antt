@@ -10,7 +10,7 @@ loop-y-preserved g c =
     let wide = c.requires.wide in
     let row = c.paint_row.ensures in
     IsPaintedAbove-row (pixel_of c.args.pixels.now) (pixel_of c.loop-y.pixels) (pixel_of c.paint_row.new.pixels)
-    (λ x y. AreOpaqueAsSaid (pos x) (pos y) (g.W.Windows.windows c.args.windows.now))
-    (λ x y. scratch c.args.background (g.W.Windows.windows c.args.windows.now) (pos x) (pos y)) (has c.args.damage.now)
+    (λ x y. AreOpaqueAsSaid (pos x) (pos y) (g.W.Windows.windows c.args.layers.now.windows.now))
+    (λ x y. scratch c.args.layers.now.background (g.W.Windows.windows c.args.layers.now.windows.now) (pos x) (pos y)) (has c.args.damage.now)
     c.args.width c.loop-y.y c.loop-y.invariant (λ x w d. row.damaged x (omega arith) d) (λ x w d. row.kept x (omega arith) d)
     (λ k h. row.outside k (rw (← wide) h))

@@ -7,5 +7,5 @@ use Rattle.wl_paint.proofs.painting.paint_rows.Given as goal
 -- the rows so far are painted
 abbrev pub invariant-loop-y : goal.invariant-loop-y
 invariant-loop-y g l =
-    IsPaintedAbove (pixel_of l.initial.pixels) (pixel_of l.pixels) (λ x y. AreOpaqueAsSaid (pos x) (pos y) (g.W.Windows.windows l.windows))
-    (λ x y. scratch l.background (g.W.Windows.windows l.windows) (pos x) (pos y)) (has l.damage) l.width l.y
+    IsPaintedAbove (pixel_of l.initial.pixels) (pixel_of l.pixels) (λ x y. AreOpaqueAsSaid (pos x) (pos y) (g.W.Windows.windows l.layers.windows.now))
+    (λ x y. scratch l.layers.background (g.W.Windows.windows l.layers.windows.now) (pos x) (pos y)) (has l.damage) l.width l.y

@@ -10,5 +10,5 @@ loop-k-preserved g c i h =
     let w = window_of c.window.result in
     let x = pos (c.args.x + i) in
     let y = pos c.args.y in
-    Shows-more _ _ _ _ _ (λ said. said) (sym (scratch-more c.args.background (g.W.Windows.windows c.args.windows.now) c.loop-k.k w x y c.window.ensures))
+    Shows-more _ _ _ _ _ (λ said. said) (sym (scratch-more c.args.layers.now.background (g.W.Windows.windows c.args.layers.now.windows.now) c.loop-k.k w x y c.window.ensures))
     (Shows-over _ _ (pixel_of c.loop-k.run i) _ x y w (c.lay_window.ensures i short) (c.loop-k.invariant i short))

@@ -6,5 +6,5 @@ use Rattle.wl_paint.proofs.painting.paint_run.Given as goal
 -- the windows so far are painted
 abbrev pub invariant-loop-k : goal.invariant-loop-k
 invariant-loop-k g l = (i : ℕ) → 4 * i < length l.run
-    → Shows (AreOpaqueAsSaid (pos (l.x + i)) (pos l.y) (g.W.Windows.windows l.windows))
-    (scratch l.fn.background (take l.k (g.W.Windows.windows l.windows)) (pos (l.x + i)) (pos l.y)) (pixel_of l.run i)
+    → Shows (AreOpaqueAsSaid (pos (l.x + i)) (pos l.y) (g.W.Windows.windows l.layers.windows.now))
+    (scratch l.layers.background (take l.k (g.W.Windows.windows l.layers.windows.now)) (pos (l.x + i)) (pos l.y)) (pixel_of l.run i)
