@@ -15,7 +15,7 @@ use wl_proto::Request;
 
 impl<A: Allocator + Copy> Client<A> {
     /// The request's own errors, and what it asks of the object; None where it is of another interface.
-    pub(crate) fn own_action(
+    pub fn own_action(
         &self,
         object: u32,
         version: u32,

@@ -1,9 +1,9 @@
 //! One message at a time, of a client whose surfaces use some of its buffers.
 
-ghost use Rattle.std.specs.Prelude.{ℕ, Bool, ◌≡◌, ◌≤◌, ◌<◌, drop, is_some, length, true, false, None};
+ghost use Rattle.std.specs.Prelude.{ℕ, Bool, ◌≡◌, ◌≤◌, ◌<◌, is_some, length, true, false, None};
 ghost use Rattle.wl_peer.specs.Objects.{KeepsSurfaces};
-ghost use Rattle.wl_peer.specs.Peer.{Errs, IsIdleAt, Peer, counted, with_rest};
-ghost use Rattle.wl_client.specs.Serving.{ActsWith, AnswersWith, AreUsed, ChangesTable, EndsSo, IsNext, IsOwnMessage, PassesTo, ServesWith, was_taken};
+ghost use Rattle.wl_peer.specs.Peer.{Errs, IsIdleAt, Peer, counted};
+ghost use Rattle.wl_client.specs.Serving.{ActsWith, AreUsed, ChangesTable, EndsSo, IsNext, IsOwnMessage, PassesTo, ServesWith, was_taken};
 
 use crate::clients::Client;
 use crate::first_message::First;
@@ -80,20 +80,22 @@ impl<A: Allocator + Copy> Client<A> {
         }
     }
 
-    /// The first message is taken, which is judged so.
-    fn take_own(
+    /// Takes the first message of a client that lives, where it is of this size and of one of the client's own interfaces, and asks this or is
+    /// refused by its own errors so. A wl_buffer that goes leaves its store the use of a buffer that one of the surfaces uses.
+    pub fn serve_own(
         &mut self,
         size: usize,
         judged: Result<Action, Refusal>,
         surfaces: &Surfaces<A>,
     ) -> Served
-        requires { IsOwnMessage self.old size judged }
+        requires lives { self.old.ended ≡ None }
+        requires own { IsOwnMessage self.old size judged }
         ensures taken { was_taken result ≡ true }
-        ensures answers { (used : ℕ → Bool) → AreUsed surfaces.now used → (p : Peer) → IsPeer self.old p
-            → (q : Peer) × AnswersWith used judged (with_rest (drop size self.old.rest) p) q × IsPeer self.new q }
+        ensures serves { (used : ℕ → Bool) → AreUsed surfaces.now used → (p : Peer) → IsPeer self.old p
+            → (q : Peer) × ServesWith used p q × IsPeer self.new q }
+        ensures less { length self.new.rest < length self.old.rest }
         ensures table { self.new.ended ≡ None → KeepsSurfaces self.old.objects self.new.objects }
         ensures cause { EndsSo result self.new.ended }
-        ensures rest { length self.new.rest ≤ length (drop size self.old.rest) }
     {
         self.take_first(size);
         match judged {
@@ -124,7 +126,7 @@ impl<A: Allocator + Copy> Client<A> {
             Next::More => Served::More,
             Next::Other => Served::Other,
             Next::Refused(refusal) => self.refused(refusal),
-            Next::Own(size, judged) => self.take_own(size, judged, surfaces),
+            Next::Own(size, judged) => self.serve_own(size, judged, surfaces),
         }
     }
 }

@@ -165,7 +165,7 @@ commit-of k target number e = absurd (cc)
 pub commit-marked : (a : Asked) (number : ℕ) → commit_by a ≡ Some number → marked_by a ≡ Some number
 commit-marked asked.More number e = absurd (cc)
 commit-marked (asked.Refused refusal) number e = absurd (cc)
-commit-marked asked.Own number e = absurd (cc)
+commit-marked (asked.Own size judged) number e = absurd (cc)
 commit-marked (asked.Request object version size target k) number e =
     let is = commit-of k target number e in ap (λ (q : Kind). marked_in q target) is.0 ∙ ap (λ (n : ℕ). Some n) is.1
 
@@ -178,7 +178,7 @@ module _ {A : Type 0} (v : Kept A) (r : Resident) (is : IsResident v r) (a : Ask
       at : (a : Asked) → IsAsked v.client a → commit_by a ≡ Some number → (id : ℕ) × (effect : Effect) × (ask ≡ CommitSurface id effect) × (targets_in WlSurface v.client.objects id ≡ Some number)
       at asked.More asks commits = absurd (cc)
       at (asked.Refused refusal) asks commits = absurd (cc)
-      at asked.Own asks commits = absurd (cc)
+      at (asked.Own size judged) asks commits = absurd (cc)
       at (asked.Request object version size target k) (m, passes, same) commits =
           let is_commit = commit-of k target number commits in
           let message : m ≡ wl_surface_request surface.Commit = rw is_commit.0 at same in

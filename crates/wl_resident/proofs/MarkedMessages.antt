@@ -6,7 +6,7 @@ use Rattle.std.proofs.lemmas.Bool.{eqb-false, eqb-true, or_left}
 use Rattle.wl_wire.specs.Wire.{Field, split_of}
 use Rattle.wl_wire.specs.declared.header.Split.{Split}
 use Rattle.wl_wire.specs.declared.header.Split.TheVariants.{Message as Whole, More, Bad}
-use Rattle.wl_proto.specs.Messages.{Message}
+use Rattle.wl_proto.specs.Messages.{Message, request_message}
 use Rattle.wl_interface.specs.declared.interface.Interface.{Interface}
 use Rattle.wl_interface.specs.declared.interface.Interface.TheVariants.{WlSurface, XdgToplevel}
 use Rattle.wl_proto.specs.declared.wl_compositor.WlCompositorRequest.TheVariants as compositor
@@ -335,10 +335,11 @@ module _ {A : Type 0} (v : Kept A) (r : Resident) (is : IsResident v r) where
       absurd (subst (λ (s : Split). AsksBy r s ask) (ap split_of (sym is.peer.rest) ∙ more) asks)
   asked-marks (asked.Refused refusal) why ask id asks t =
       absurd (refused-asks (split_of v.client.rest) refusal ask why (subst (λ (rest : List ℕ). AsksBy r (split_of rest) ask) (sym is.peer.rest) asks))
-  asked-marks asked.Own (object, version, size, target, m, passes, own) ask id asks t =
-      passed-touches (IsMarkedBy v asked.Own) object version size target m passes
-      (λ o effect. absurd (differ (sym (ap is_own (to-surface m.interface m.opcode m.fields surface.Commit o)) ∙ own)))
-      (λ o. absurd (differ (sym (ap is_own (to-toplevel m.interface m.opcode m.fields toplevel.Destroy o)) ∙ own))) ask id asks t
+  asked-marks (asked.Own size judged) own ask id asks t =
+      let m = request_message own.request in
+      passed-touches (IsMarkedBy v (asked.Own size judged)) own.object own.version size own.target m own.passes
+      (λ o effect. absurd (differ (sym (ap is_own (to-surface m.interface m.opcode m.fields surface.Commit o)) ∙ own.own)))
+      (λ o. absurd (differ (sym (ap is_own (to-toplevel m.interface m.opcode m.fields toplevel.Destroy o)) ∙ own.own))) ask id asks t
   asked-marks (asked.Request object version size target k) (m, passes, told) ask id asks t = request-marks object version size target k m passes told ask id asks t
 
 -- ---- surfaces keep their numbers through a message

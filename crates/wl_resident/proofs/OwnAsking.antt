@@ -8,14 +8,14 @@ use Rattle.wl_wire.specs.declared.header.Split.TheVariants.{Message as Whole, Mo
 use Rattle.wl_wire.specs.Wire.{split_of}
 use Rattle.wl_interface.specs.declared.interface.Interface.{Interface}
 use Rattle.wl_interface.specs.declared.interface.Interface.TheVariants.{WlDisplay, WlRegistry, WlRegion, WlSurface, WlShm, WlShmPool, WlBuffer, XdgSurface, XdgToplevel}
-use Rattle.wl_proto.specs.Messages.{Message}
+use Rattle.wl_proto.specs.Messages.{Message, request_message}
 use Rattle.wl_client.specs.Agreement.{IsPeer}
 use Rattle.wl_client.specs.First.{passing_in}
 use Rattle.wl_peer.specs.Judgement.{action_of, judge as judge_own}
 use Rattle.wl_peer.specs.Requests.{request_of}
 use Rattle.wl_peer.specs.Objects.{KeepsSurfaces, of_surface}
 use Rattle.wl_peer.specs.Peer.{IsIdleAt, Peer, known_of, with_rest, changed, counted}
-use Rattle.wl_client.specs.Serving.{AnswersWith, AreUsed, PassesTo, ServesWith, TakesWith, is_own, was_taken}
+use Rattle.wl_client.specs.Serving.{AnswersWith, AreUsed, IsOwnMessage, PassesTo, ServesWith, TakesWith, is_own, was_taken}
 use Rattle.wl_peer.specs.Used.{has_used, keeps_store}
 use Rattle.wl_client.specs.View.{ClientView}
 use Rattle.wl_peer.specs.declared.actions.Action.{Action}
@@ -51,28 +51,9 @@ use Rattle.wl_store.specs.Stores.{Stock}
 use Rattle.wl_scene.specs.Stacking.{Owned}
 use Rattle.wl_scene.specs.declared.owned.Owned.{Owned as Lent}
 
--- ---- it is taken
-
--- the message that passes is the one
-abbrev message-of : ClientView → Split → Result Message Refusal → Result Message Refusal
-message-of v (Whole object opcode size) other = passing_in v object opcode size
-message-of v Bad other = other
-message-of v More other = other
-
-one-passes : (v : ClientView) → PassesTo true v → PassesTo false v → ⊥
-one-passes v (object, version, size, target, m, passes, own) (object2, version2, size2, target2, m2, passes2, other) =
-    let same : Result.Ok m ≡ Ok m2 = sym passes.passes ∙ ap (λ (s : Split). message-of v s (Ok m)) (sym passes.first ∙ passes2.first) ∙ passes2.passes in
-    let it : m ≡ m2 = cc in
-    let both = sym own ∙ ap (λ (n : Message). is_own n.interface) it ∙ other in
-    cc
-
-pub own-taken : (v : ClientView) (s : Served) → v.ended ≡ None → PassesTo true v → (s ≡ served.More → IsIdleAt v.ended v.rest) → (s ≡ served.Other → (v.ended ≡ None) × PassesTo false v)
-    → was_taken s ≡ true
-own-taken v served.Done alive own more other = refl
-own-taken v (served.Refused object code) alive own more other = refl
-own-taken v served.More alive (object, version, size, target, m, passes, own) more other =
-    absurd (let idle = rw alive at more refl in let both = sym idle ∙ passes.first in cc)
-own-taken v served.Other alive own more other = absurd (one-passes v own (other refl).1)
+-- a message that is judged so passes, and is one of the client's own
+pub passes-own : (v : ClientView) (size : ℕ) (judged : Result Action Refusal) → IsOwnMessage v size judged → PassesTo true v
+passes-own v size judged own = (own.object, own.version, size, own.target, request_message own.request, own.passes, own.own)
 
 -- ---- what names surfaces stays
 

@@ -130,7 +130,7 @@ module _ {A : Type 0} (v : Kept A) (r : Resident) (is : IsResident v r) where
       passed-one object version size target m passes (kind-touches k m target number told marked) ask asks
   asked-touches asked.More is number marked ask asks = absurd (cc)
   asked-touches (asked.Refused refusal) is number marked ask asks = absurd (cc)
-  asked-touches asked.Own is number marked ask asks = absurd (cc)
+  asked-touches (asked.Own size judged) is number marked ask asks = absurd (cc)
 
 -- ---- a point that was added
 

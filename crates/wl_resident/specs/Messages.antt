@@ -6,7 +6,7 @@ use Rattle.wl_interface.specs.declared.interface.Interface.TheVariants.{XdgTople
 use Rattle.wl_proto.specs.Messages.{Message, wl_compositor_request, wl_seat_request, wl_subcompositor_request, wl_surface_request}
 use Rattle.wl_proto.specs.Messages.{xdg_surface_request, xdg_wm_base_request}
 use Rattle.wl_client.specs.First.{IsRefused, Passes}
-use Rattle.wl_client.specs.Serving.{PassesTo}
+use Rattle.wl_client.specs.Serving.{IsOwnMessage}
 use Rattle.wl_client.specs.View.{ClientView}
 use Rattle.wl_resident.specs.declared.messages.Asked.{Asked}
 use Rattle.wl_resident.specs.declared.messages.Asked.TheVariants as asked
@@ -30,5 +30,5 @@ IsKind kind.Unserved m = served_now.requests (request_of m) ≡ true
 abbrev pub IsAsked : ClientView → Asked → Type 0
 IsAsked v asked.More = split_of v.rest ≡ More
 IsAsked v (asked.Refused refusal) = IsRefused (split_of v.rest) v refusal
-IsAsked v asked.Own = PassesTo true v
+IsAsked v (asked.Own size judged) = IsOwnMessage v size judged
 IsAsked v (asked.Request object version size target kind) = (m : Message) × Passes v object version size target m × IsKind kind m

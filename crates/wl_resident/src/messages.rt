@@ -1,6 +1,6 @@
 //! The messages of one client, one after another.
 
-ghost use Rattle.std.specs.Prelude.{ℕ, ◌≡◌, ◌≢◌, ◌<◌, ◌≤◌, IfNone, IfSome, None, Some, is_some, length, true};
+ghost use Rattle.std.specs.Prelude.{ℕ, ◌≡◌, ◌≢◌, ◌<◌, ◌≤◌, IfNone, IfSome, None, Some, is_some, false, length, true};
 ghost use Rattle.wl_table.specs.Objects.{entry_of};
 ghost use Rattle.wl_proto.specs.Messages.{Message, request_message};
 ghost use Rattle.wl_proto.specs.declared.wl_surface.WlSurfaceRequest.TheVariants.{Commit};
@@ -16,7 +16,7 @@ ghost use Rattle.wl_plain.specs.Demanding.{demand_of};
 use crate::residents::{Outcome, Resident, Stacking};
 use crate::xdg_toplevel::{ToplevelAsked, asked_of};
 use std::alloc::Allocator;
-use wl_client::{First, Refusal};
+use wl_client::{Action, First, Refusal};
 use wl_proto::{
     Request, WlCompositorRequest, WlSeatRequest, WlSubcompositorRequest, WlSurfaceRequest,
     XdgSurfaceRequest, XdgWmBaseRequest,
@@ -32,19 +32,22 @@ pub(crate) enum Kind {
     Base(XdgWmBaseRequest),
     XdgSurface(XdgSurfaceRequest),
     Toplevel(ToplevelAsked),
-    /// It isn't served.
+    /// It isn't served here.
     Unserved,
 }
 
 /// What the first message of what came asks.
-#[derive(Clone, Copy)]
+#[derive(Drop)]
 pub(crate) enum Asked {
     /// No whole message is there.
     More,
     /// It is refused before its own errors are looked at.
     Refused(Refusal),
-    /// It is one of the client's own.
-    Own,
+    /// It is so many bytes long and of one of the client's own interfaces. It asks this, or is refused by its own errors.
+    Own {
+        size: usize,
+        judged: Result<Action, Refusal>,
+    },
     /// It is to this object, which has this version and target, and is so many bytes long.
     Request {
         object: u32,
@@ -55,29 +58,28 @@ pub(crate) enum Asked {
     },
 }
 
-/// What a request is that isn't one of the client's own; None of one that is.
-fn kind_of(request: &Request) -> Option<Kind>
-    ensures kind { IfSome result (λ kind. IsKind kind (request_message request.now)) }
-    ensures own { IfNone result (is_own (request_message request.now).interface ≡ true) }
+/// What a request is that isn't one of the client's own.
+fn kind_of(request: &Request) -> Kind
+    ensures { is_own (request_message request.now).interface ≡ false → IsKind result (request_message request.now) }
 {
     match request {
-        Request::WlCompositor(request) => Some(Kind::Compositor(*request)),
-        Request::WlSubcompositor(request) => Some(Kind::Subcompositor(*request)),
-        Request::WlSurface(request) => Some(Kind::Surface(*request)),
-        Request::WlSeat(request) => Some(Kind::Seat(*request)),
-        Request::XdgWmBase(request) => Some(Kind::Base(*request)),
-        Request::XdgSurface(request) => Some(Kind::XdgSurface(*request)),
-        Request::XdgToplevel(request) => Some(Kind::Toplevel(asked_of(request))),
+        Request::WlCompositor(request) => Kind::Compositor(*request),
+        Request::WlSubcompositor(request) => Kind::Subcompositor(*request),
+        Request::WlSurface(request) => Kind::Surface(*request),
+        Request::WlSeat(request) => Kind::Seat(*request),
+        Request::XdgWmBase(request) => Kind::Base(*request),
+        Request::XdgSurface(request) => Kind::XdgSurface(*request),
+        Request::XdgToplevel(request) => Kind::Toplevel(asked_of(request)),
         Request::WlDisplay(_)
         | Request::WlRegistry(_)
         | Request::WlRegion(_)
         | Request::WlShm(_)
         | Request::WlShmPool(_)
-        | Request::WlBuffer(_) => None,
-        Request::WlSubsurface(_)
+        | Request::WlBuffer(_)
+        | Request::WlSubsurface(_)
         | Request::WlPointer(_)
         | Request::XdgPositioner(_)
-        | Request::XdgPopup(_) => Some(Kind::Unserved),
+        | Request::XdgPopup(_) => Kind::Unserved,
     }
 }
 
@@ -95,14 +97,14 @@ impl<A: Allocator + Copy> Resident<A> {
                 size,
                 target,
                 request,
-            } => match kind_of(&request) {
-                None => Asked::Own,
-                Some(kind) => Asked::Request {
+            } => match self.client.own_action(object, version, &request) {
+                Some(judged) => Asked::Own { size, judged },
+                None => Asked::Request {
                     object,
                     version,
                     size,
                     target,
-                    kind,
+                    kind: kind_of(&request),
                 },
             },
         }
@@ -175,8 +177,10 @@ impl<A: Allocator + Copy> Resident<A> {
                 self.client.refuse(refusal);
                 Some(Outcome::of(Stacking::Stays))
             }
-            Asked::Own => {
-                let _served = self.client.serve(&self.owned.surfaces);
+            Asked::Own { size, judged } => {
+                let _served = self
+                    .client
+                    .serve_own(size, judged, &self.owned.surfaces);
                 Some(Outcome::of(Stacking::Stays))
             }
             Asked::Request {

@@ -1,5 +1,5 @@
 use Rattle.wl_client.proofs.Peers.{absent}
-use Rattle.wl_client.proofs.Taking.{serves-own, serves-refused}
+use Rattle.wl_client.proofs.Taking.{serves-refused}
 use Rattle.wl_client.proofs.clients.Client.serve.Goals as goal
 
 pub returns-in-Refused-clause-serves : goal.returns-in-Refused-clause-serves
@@ -8,6 +8,4 @@ returns-in-Refused-clause-serves g c = λ _ used are p is.
     (next.0, serves-refused used _ p next.0 c.in-Refused.refusal is (absent _ c.if-has_ended.ensures) c.in-Refused.ensures next.1, next.2)
 
 pub returns-in-Own-clause-serves : goal.returns-in-Own-clause-serves
-returns-in-Own-clause-serves g c = λ _ used are p is.
-    let next = c.take_own.ensures.answers used are p is in
-    (next.0, serves-own used _ p next.0 c.in-Own.size c.in-Own.judged is (absent _ c.if-has_ended.ensures) c.in-Own.ensures next.1, next.2)
+returns-in-Own-clause-serves g c = λ _. c.serve_own.ensures.serves

@@ -11,7 +11,7 @@ use Rattle.wl_resident.specs.declared.messages.Asked.TheVariants.{Own, Request}
 use Rattle.wl_resident.specs.declared.messages.Kind.{Kind}
 use Rattle.wl_resident.specs.declared.messages.Kind.TheVariants as kind
 use Rattle.wl_resident.proofs.Asking.{first-decided, first-refused, first-taken, fit-passed, new-passed}
-use Rattle.wl_resident.proofs.OwnAsking.{own-served, own-taken, used-of}
+use Rattle.wl_resident.proofs.OwnAsking.{own-served, passes-own, used-of}
 use Rattle.wl_resident.proofs.Shelling.{absent-kept}
 use Rattle.wl_resident.proofs.Stillness.{same-still, served-peer}
 use Rattle.wl_shell.specs.Kept.{kept_of}
@@ -49,10 +49,9 @@ returns-in-Request-clause-takes g c = λ client r on is only.
 pub returns-in-Own-clause-takes : goal.returns-in-Own-clause-takes
 returns-in-Own-clause-takes g c = rw c.of-in-Own.ensures (λ client r on is only.
     let v = c.args.self.now in
-    let asked : IsAsked v.client Own = rw c.in-Own.is at c.requires in
-    let taken = own-taken v.client c.serve-served.result (absent-kept v.client.ended (sym c.has_ended.ensures ∙ c.if-has_ended.false)) asked c.serve-served.ensures.more c.serve-served.ensures.other in
-    let served = c.serve-served.ensures.serves taken (λ number. is_used number r.owned.surfaces) (used-of v r is) r.peer is.peer in
-    own-served v _ r served.0 is asked refl c.serve-served.ensures.table served.1 served.2 client on only)
+    let asked : IsAsked v.client (Own c.in-Own.size c.in-Own.judged) = rw c.in-Own.is at c.requires in
+    let served = c.serve_own-served.ensures.serves (λ number. is_used number r.owned.surfaces) (used-of v r is) r.peer is.peer in
+    own-served v _ r served.0 is (passes-own v.client c.in-Own.size c.in-Own.judged asked) refl c.serve_own-served.ensures.table served.1 served.2 client on only)
 
 pub returns-in-Refused-clause-lives : goal.returns-in-Refused-clause-lives
 returns-in-Refused-clause-lives g c = search rules
