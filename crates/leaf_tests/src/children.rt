@@ -2,20 +2,19 @@ use std::alloc::Allocator;
 use test_support::Refusing;
 use wl_children::{Children, Member, Placed};
 
-// A child, by its number, at (0, 0).
+// Three children, by their numbers.
 const FIRST: Member = Member::Child(1);
+
 const SECOND: Member = Member::Child(2);
+
 const THIRD: Member = Member::Child(3);
 
 // Whether these stand in the stack, in this order from below, each at the place told.
 fn stack_is(places: &[Placed], expected: &[(Member, i32, i32)]) -> bool {
     places.len() == expected.len()
-        && places
-            .iter()
-            .zip(expected)
-            .all(|(place, (member, x, y))| {
-                place.member == *member && place.x == *x && place.y == *y
-            })
+        && places.iter().zip(expected).all(|(place, (member, x, y))| {
+            place.member == *member && place.x == *x && place.y == *y
+        })
 }
 
 // Whether these stand in the stack, in this order from below.
@@ -48,7 +47,12 @@ fn a_new_child_is_topmost(rt: HostRuntime) {
     let mut children = Children::new(rt.alloc());
     assert!(rt; is_alone(children.pending()) && is_alone(children.applied()));
     assert!(rt; added(&mut children, 2));
-    assert!(rt; stack_is(children.pending(), &[(Member::Itself, 0, 0), (FIRST, 0, 0), (SECOND, 0, 0)]));
+    assert!(rt;
+        stack_is(
+            children.pending(),
+            &[(Member::Itself, 0, 0), (FIRST, 0, 0), (SECOND, 0, 0)]
+        )
+    );
     assert!(rt; children.has_child(2) && !children.has_child(3));
     children.commit();
     assert!(rt; is_alone(children.applied()));
@@ -69,7 +73,12 @@ fn a_commit_applies_nothing(rt: HostRuntime) {
     assert!(rt; stack_is(children.applied(), &[(Member::Itself, 0, 0), (FIRST, 0, 0)]));
     assert!(rt; children.set_position(1, 9, 9).is_ok());
     children.apply();
-    assert!(rt; stack_is(children.applied(), &[(FIRST, 4, -1), (Member::Itself, 0, 0)]));
+    assert!(rt;
+        stack_is(
+            children.applied(),
+            &[(FIRST, 4, -1), (Member::Itself, 0, 0)]
+        )
+    );
     assert!(rt; stack_is(children.pending(), &[(FIRST, 9, 9), (Member::Itself, 0, 0)]));
 }
 
@@ -86,8 +95,12 @@ fn siblings_stand_in_order(rt: HostRuntime) {
     assert!(rt; order_is(children.pending(), &[THIRD, Member::Itself, FIRST, SECOND]));
     assert!(rt; children.place_above(2, THIRD).is_ok());
     assert!(rt; order_is(children.pending(), &[THIRD, SECOND, Member::Itself, FIRST]));
-    assert!(rt; children.place_above(2, SECOND).is_ok() && children.place_below(2, Member::Child(4)).is_ok());
-    assert!(rt; children.place_above(4, Member::Itself).is_ok() && children.set_position(4, 1, 1).is_ok());
+    assert!(rt;
+        children.place_above(2, SECOND).is_ok() && children.place_below(2, Member::Child(4)).is_ok()
+    );
+    assert!(rt;
+        children.place_above(4, Member::Itself).is_ok() && children.set_position(4, 1, 1).is_ok()
+    );
     assert!(rt; order_is(children.pending(), &[THIRD, SECOND, Member::Itself, FIRST]));
 }
 
@@ -102,10 +115,25 @@ fn a_child_that_goes_is_nowhere(rt: HostRuntime) {
     children.commit();
     assert!(rt; children.set_position(2, 5, 6).is_ok());
     children.remove(1);
-    assert!(rt; stack_is(children.applied(), &[(Member::Itself, 0, 0), (SECOND, 0, 0)]));
-    assert!(rt; stack_is(children.pending(), &[(Member::Itself, 0, 0), (SECOND, 5, 6)]));
+    assert!(rt;
+        stack_is(
+            children.applied(),
+            &[(Member::Itself, 0, 0), (SECOND, 0, 0)]
+        )
+    );
+    assert!(rt;
+        stack_is(
+            children.pending(),
+            &[(Member::Itself, 0, 0), (SECOND, 5, 6)]
+        )
+    );
     children.apply();
-    assert!(rt; stack_is(children.applied(), &[(Member::Itself, 0, 0), (SECOND, 0, 0)]));
+    assert!(rt;
+        stack_is(
+            children.applied(),
+            &[(Member::Itself, 0, 0), (SECOND, 0, 0)]
+        )
+    );
     assert!(rt; !children.has_child(1));
 }
 
@@ -114,7 +142,9 @@ fn a_child_that_goes_is_nowhere(rt: HostRuntime) {
 fn a_child_needs_memory(rt: HostRuntime) {
     let nothing = Refusing::new(rt.alloc(), 0);
     let mut alone = Children::new(&nothing);
-    assert!(rt; alone.set_position(1, 1, 1).is_ok() && alone.place_above(1, Member::Itself).is_ok());
+    assert!(rt;
+        alone.set_position(1, 1, 1).is_ok() && alone.place_above(1, Member::Itself).is_ok()
+    );
     alone.commit();
     alone.apply();
     alone.remove(1);
