@@ -178,9 +178,7 @@ impl<A: Allocator + Copy> Resident<A> {
                 Some(Outcome::of(Stacking::Stays))
             }
             Asked::Own { size, judged } => {
-                let _served = self
-                    .client
-                    .serve_own(size, judged, &self.owned.surfaces);
+                let _served = self.client.serve_own(size, judged, &self.owned.surfaces);
                 Some(Outcome::of(Stacking::Stays))
             }
             Asked::Request {
