@@ -1,0 +1,3 @@
+mod Books
+mod Links
+mod Modes

@@ -1,0 +1,8 @@
+use Rattle.wl_children.specs.Stacks.{removed}
+use Rattle.wl_family.proofs.Books.{stacks-changed}
+use Rattle.wl_family.proofs.stacks.take_out.Goals as goal
+
+pub returns-in-Some : goal.returns-in-Some
+returns-in-Some g c =
+    stacks-changed c.args.stacks.now (c.get_mut.follows.lender c.remove.new.self) c.args.parent c.in-Some.children.now c.remove.new.self c.in-Some.ensures.value
+    (c.get_mut.follows.holds c.remove.new.self) (removed c.args.child) c.remove.ensures
