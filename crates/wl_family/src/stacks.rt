@@ -10,7 +10,12 @@ use wl_children::{Children, Member, Placed};
 use wl_trees::SurfaceNo;
 
 /// A new child of a surface is topmost, pending. Without memory nothing changes.
-pub(crate) fn add_child<A: Allocator + Copy>(stacks: &mut BTreeMap<SurfaceNo, Children<A>, A>, parent: SurfaceNo, child: SurfaceNo, alloc: A) -> Result<(), AllocError>
+pub(crate) fn add_child<A: Allocator + Copy>(
+    stacks: &mut BTreeMap<SurfaceNo, Children<A>, A>,
+    parent: SurfaceNo,
+    child: SurfaceNo,
+    alloc: A,
+) -> Result<(), AllocError>
     ensures ok { OnOk result (stacks_kept stacks.new.entries ≡ changed_at parent (pending_as (added child)) (stacks_kept stacks.old.entries)) }
     ensures err { OnErr result (stacks.new.entries ≡ stacks.old.entries) }
 {
@@ -26,7 +31,13 @@ pub(crate) fn add_child<A: Allocator + Copy>(stacks: &mut BTreeMap<SurfaceNo, Ch
 }
 
 /// Pending, a child of a surface is moved, in pixels of the surface. Without memory nothing changes.
-pub(crate) fn move_child<A: Allocator + Copy>(stacks: &mut BTreeMap<SurfaceNo, Children<A>, A>, parent: SurfaceNo, child: SurfaceNo, x: i32, y: i32) -> Result<(), AllocError>
+pub(crate) fn move_child<A: Allocator + Copy>(
+    stacks: &mut BTreeMap<SurfaceNo, Children<A>, A>,
+    parent: SurfaceNo,
+    child: SurfaceNo,
+    x: i32,
+    y: i32,
+) -> Result<(), AllocError>
     ensures ok { OnOk result (stacks_kept stacks.new.entries ≡ changed_at parent (pending_as (moved child x y)) (stacks_kept stacks.old.entries)) }
     ensures err { OnErr result (stacks.new.entries ≡ stacks.old.entries) }
 {
@@ -37,7 +48,12 @@ pub(crate) fn move_child<A: Allocator + Copy>(stacks: &mut BTreeMap<SurfaceNo, C
 }
 
 /// Pending, a child of a surface comes right above a member. Without memory nothing changes.
-pub(crate) fn put_above<A: Allocator + Copy>(stacks: &mut BTreeMap<SurfaceNo, Children<A>, A>, parent: SurfaceNo, child: SurfaceNo, at: Member) -> Result<(), AllocError>
+pub(crate) fn put_above<A: Allocator + Copy>(
+    stacks: &mut BTreeMap<SurfaceNo, Children<A>, A>,
+    parent: SurfaceNo,
+    child: SurfaceNo,
+    at: Member,
+) -> Result<(), AllocError>
     ensures ok { OnOk result (stacks_kept stacks.new.entries ≡ changed_at parent (pending_as (placed_above child at)) (stacks_kept stacks.old.entries)) }
     ensures err { OnErr result (stacks.new.entries ≡ stacks.old.entries) }
 {
@@ -48,7 +64,12 @@ pub(crate) fn put_above<A: Allocator + Copy>(stacks: &mut BTreeMap<SurfaceNo, Ch
 }
 
 /// Pending, a child of a surface comes right below a member. Without memory nothing changes.
-pub(crate) fn put_below<A: Allocator + Copy>(stacks: &mut BTreeMap<SurfaceNo, Children<A>, A>, parent: SurfaceNo, child: SurfaceNo, at: Member) -> Result<(), AllocError>
+pub(crate) fn put_below<A: Allocator + Copy>(
+    stacks: &mut BTreeMap<SurfaceNo, Children<A>, A>,
+    parent: SurfaceNo,
+    child: SurfaceNo,
+    at: Member,
+) -> Result<(), AllocError>
     ensures ok { OnOk result (stacks_kept stacks.new.entries ≡ changed_at parent (pending_as (placed_below child at)) (stacks_kept stacks.old.entries)) }
     ensures err { OnErr result (stacks.new.entries ≡ stacks.old.entries) }
 {
@@ -59,7 +80,11 @@ pub(crate) fn put_below<A: Allocator + Copy>(stacks: &mut BTreeMap<SurfaceNo, Ch
 }
 
 /// A child is in none of a surface's.
-pub(crate) fn take_out<A: Allocator>(stacks: &mut BTreeMap<SurfaceNo, Children<A>, A>, parent: SurfaceNo, child: SurfaceNo)
+pub(crate) fn take_out<A: Allocator>(
+    stacks: &mut BTreeMap<SurfaceNo, Children<A>, A>,
+    parent: SurfaceNo,
+    child: SurfaceNo,
+)
     ensures { stacks_kept stacks.new.entries ≡ changed_at parent (removed child) (stacks_kept stacks.old.entries) }
 {
     if let Some(children) = stacks.get_mut(&parent) {
@@ -68,7 +93,10 @@ pub(crate) fn take_out<A: Allocator>(stacks: &mut BTreeMap<SurfaceNo, Children<A
 }
 
 /// What is pending of a surface's is held.
-pub(crate) fn hold<A: Allocator>(stacks: &mut BTreeMap<SurfaceNo, Children<A>, A>, surface: SurfaceNo)
+pub(crate) fn hold<A: Allocator>(
+    stacks: &mut BTreeMap<SurfaceNo, Children<A>, A>,
+    surface: SurfaceNo,
+)
     ensures { stacks_kept stacks.new.entries ≡ changed_at surface committed (stacks_kept stacks.old.entries) }
 {
     if let Some(children) = stacks.get_mut(&surface) {
@@ -77,7 +105,10 @@ pub(crate) fn hold<A: Allocator>(stacks: &mut BTreeMap<SurfaceNo, Children<A>, A
 }
 
 /// What is held of a surface's counts.
-pub(crate) fn apply_held<A: Allocator>(stacks: &mut BTreeMap<SurfaceNo, Children<A>, A>, surface: SurfaceNo)
+pub(crate) fn apply_held<A: Allocator>(
+    stacks: &mut BTreeMap<SurfaceNo, Children<A>, A>,
+    surface: SurfaceNo,
+)
     ensures { stacks_kept stacks.new.entries ≡ changed_at surface applied (stacks_kept stacks.old.entries) }
 {
     if let Some(children) = stacks.get_mut(&surface) {
@@ -86,7 +117,10 @@ pub(crate) fn apply_held<A: Allocator>(stacks: &mut BTreeMap<SurfaceNo, Children
 }
 
 /// What is applied of a surface's, or nothing, which stands for a surface without children.
-pub(crate) fn applied_of<A: Allocator>(stacks: &BTreeMap<SurfaceNo, Children<A>, A>, surface: SurfaceNo) -> &[Placed]
+pub(crate) fn applied_of<A: Allocator>(
+    stacks: &BTreeMap<SurfaceNo, Children<A>, A>,
+    surface: SurfaceNo,
+) -> &[Placed]
     ensures { whole result.now ≡ (stacks_kept stacks.now.entries surface).applied }
 {
     match stacks.get(&surface) {
