@@ -1,0 +1,4 @@
+mod Books
+mod Joins
+mod Links
+mod Modes
