@@ -127,14 +127,14 @@ any-none [] = refl
 any-none (n ∷ ns) = any-none ns
 
 -- its parent is this surface, or descends from it
-abbrev by_parent : ℕ → Surfaces → ℕ → Option Link → Bool
+abbrev pub by_parent : ℕ → Surfaces → ℕ → Option Link → Bool
 by_parent n all top o = of_parent false (λ parent. descends_from n all top parent) o
 
 -- the surface descends from a child of this one
-abbrev by_child : ℕ → Surfaces → ℕ → ℕ → Bool
+abbrev pub by_child : ℕ → Surfaces → ℕ → ℕ → Bool
 by_child n all top surface = list_any (λ child. descends_from n all child surface) (children_of top all)
 
-descends-once : (all : Surfaces) → AreOnceLinked all.links → (top surface : ℕ)
+pub descends-once : (all : Surfaces) → AreOnceLinked all.links → (top surface : ℕ)
     → list_any (λ child. surface == child) (children_of top all) ≡ of_parent false (λ parent. parent == top) (link_of surface all)
 descends-once all once top surface = child-any top (λ child. surface == child) all.links ∙ child-of top surface all.links once
 
@@ -151,7 +151,7 @@ descends-next n all top surface (Some l) first later =
     ∙ ap (λ b. l.parent == top || b) (later l.parent)
 
 -- A surface descends from a child of another one exactly where its parent is that or descends from it.
-descends-either : (n : ℕ) (all : Surfaces) → AreOnceLinked all.links → (top surface : ℕ) → by_child n all top surface ≡ by_parent n all top (link_of surface all)
+pub descends-either : (n : ℕ) (all : Surfaces) → AreOnceLinked all.links → (top surface : ℕ) → by_child n all top surface ≡ by_parent n all top (link_of surface all)
 unfolding descends_from
 descends-either zero all once top surface = descends-once all once top surface
 descends-either (suc n) all once top surface =

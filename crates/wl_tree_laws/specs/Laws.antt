@@ -1,11 +1,13 @@
 -- Laws of trees of surfaces (wayland.xml, wl_subcompositor and wl_subsurface).
-use Rattle.std.specs.Prelude.{ℕ, suc, ◌≡◌, ◌==◌, ◌&&◌, Bool, false, cond, not, List, [], ◌∷◌, map}
+use Rattle.std.specs.Prelude.{ℕ, suc, ◌≡◌, ◌≤◌, ◌==◌, ◌&&◌, Bool, true, false, cond, not, List, [], ◌∷◌, map}
 use Rattle.std.specs.List.{list_any}
 use Rattle.std.specs.Option.{option_map}
-use Rattle.wl_trees.specs.Trees.{Parents, depth_by, is_under}
+use Rattle.wl_trees.specs.declared.trees.Place.{Place}
+use Rattle.wl_trees.specs.Trees.{IsTreeHeight, StandFor, depth_by, has_place, is_under, level_at}
+use Rattle.wl_family.specs.Family.{Links, behaves_synchronised as behaves_by, parents_of}
 use Rattle.wl_state.specs.Surface.{applying}
 use Rattle.wl_surface.specs.Surfaces.{Link, Surfaces}
-use Rattle.wl_surface.specs.Trees.{applied_tree, depth, descends_from, link_of}
+use Rattle.wl_surface.specs.Trees.{applied_tree, behaves_synchronised, depth, descends_from, height, levels, link_of}
 
 -- a link of this child that hasn't ended
 abbrev pub is_live_of : ℕ → Link → Bool
@@ -26,14 +28,26 @@ AppliesDescendants =
     (all : Surfaces) → AreOnceLinked all.links → (n surface : ℕ)
     → applied_tree (suc n) surface all ≡ applied_where (descends_from n all surface) all
 
--- the parents that the links make
-abbrev pub parents_of : Surfaces → Parents
-parents_of all surface = option_map (λ l. l.parent) (link_of surface all)
+-- the links of a client as they are kept, by their children
+abbrev pub links_of : Surfaces → Links
+links_of all child = option_map (λ l. record { parent = l.parent; is_synchronised = l.synchronised }) (link_of child all)
 
--- By links and by parents a surface stands as deep.
+-- Of what is kept and by definition a surface stands as deep.
 abbrev pub HaveSameDepth : Type 0
-HaveSameDepth = (all : Surfaces) (n surface : ℕ) → depth n all surface ≡ depth_by n (parents_of all) surface
+HaveSameDepth = (all : Surfaces) (n surface : ℕ) → depth n all surface ≡ depth_by n (parents_of (links_of all)) surface
 
--- By links and by parents it descends from the same.
+-- Of both it descends from the same.
 abbrev pub HaveSameDescent : Type 0
-HaveSameDescent = (all : Surfaces) (n top surface : ℕ) → descends_from n all top surface ≡ is_under n (parents_of all) top surface
+HaveSameDescent =
+    (all : Surfaces) (n top surface : ℕ) → descends_from n all top surface ≡ is_under n (parents_of (links_of all)) top surface
+
+-- Of both it behaves synchronised, or of neither.
+abbrev pub HaveSameModes : Type 0
+HaveSameModes = (all : Surfaces) (n surface : ℕ) → behaves_synchronised n all surface ≡ behaves_by n (links_of all) surface
+
+-- Of both as many levels stand below it, where no place is deeper than 16.
+abbrev pub HaveSameHeight : Type 0
+HaveSameHeight =
+    (all : Surfaces) (places : List Place) → AreOnceLinked all.links → StandFor places (parents_of (links_of all))
+    → ((index : ℕ) → level_at index places ≤ 16) → (surface height_kept : ℕ) → has_place surface places ≡ true
+    → IsTreeHeight 16 (parents_of (links_of all)) places surface height_kept → height levels all surface ≡ height_kept

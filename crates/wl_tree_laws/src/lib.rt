@@ -1,20 +1,30 @@
-//! The laws of trees of surfaces: what it is to apply a surface with its children (wayland.xml, wl_subsurface), and that the definitions of a
-//! client's surfaces and those of flat trees say the same. Each law is a function that promises it.
+//! The laws of trees of surfaces: what it is to apply a surface with its children, and that what is kept of how surfaces hang together says the
+//! same as the definitions (wayland.xml, wl_subcompositor and wl_subsurface). Each law is a function that promises it.
 #![tactic(auto)]
 
-ghost use Rattle.wl_tree_laws.specs.Laws.{AppliesDescendants, HaveSameDepth, HaveSameDescent};
+ghost use Rattle.wl_tree_laws.specs.Laws.{AppliesDescendants, HaveSameDepth, HaveSameDescent, HaveSameHeight, HaveSameModes};
 
 /// To apply a surface is to apply it and each surface that descends from it, once, and no other, where each child has one link that lives.
 pub fn applies_descendants()
     ensures { AppliesDescendants }
 {}
 
-/// A surface stands as deep by the links of its client as by their parents alone.
+/// A surface stands as deep by the links that are kept as by definition.
 pub fn have_same_depth()
     ensures { HaveSameDepth }
 {}
 
-/// A surface descends from another by the links of its client as by their parents alone.
+/// A surface descends from another by the links that are kept as by definition.
 pub fn have_same_descent()
     ensures { HaveSameDescent }
+{}
+
+/// As many levels stand below a surface by the places that are kept as by definition.
+pub fn have_same_height()
+    ensures { HaveSameHeight }
+{}
+
+/// A surface behaves synchronised by the links that are kept exactly where it does by definition.
+pub fn have_same_modes()
+    ensures { HaveSameModes }
 {}

@@ -1,0 +1,278 @@
+-- How many levels stand below a surface: by its children, and by the depths of what is under it.
+use Rattle.std.proofs.Common.{◌≡◌, ℕ, zero, suc, ◌+◌, ◌≤◌, ◌⊎◌, inl, inr, ◌||◌, ◌==◌, Bool, true, false, Option, Some, None, List, [], ◌∷◌, refl, ap, sym, subst, ◌∙◌, arith, eq-eqb}
+use Rattle.std.specs.Prelude.{fold, max}
+use Rattle.std.specs.List.{list_any}
+use Rattle.std.proofs.lemmas.Bool.{eqb-true}
+use Rattle.std.proofs.Math.Nat.{le-max_left, le-max_right, max-eq_left, max-eq_right}
+use Rattle.wl_surface.specs.Surfaces.{Link, Surfaces}
+use Rattle.wl_surface.specs.Trees.{children_of, descends_from, height, levels, link_of, of_parent}
+use Rattle.wl_family.specs.Family.{parents_of}
+use Rattle.wl_trees.specs.declared.trees.Place.{Place}
+use Rattle.wl_trees.specs.Trees.{IsBelow, IsTreeHeight, Parents, StandFor, depth_by, has_place, level_at}
+use Rattle.wl_trees.proofs.Kept.{up-among}
+use Rattle.wl_trees.proofs.Link.{index-up}
+use Rattle.wl_trees.proofs.Moved.{nothing}
+use Rattle.wl_trees.proofs.Placed.{PlacedFrom, to-from}
+use Rattle.wl_trees.proofs.Under.{Among, Finds, among-has, depth-is, finds, has-among}
+use Rattle.wl_tree_laws.specs.Laws.{AreOnceLinked, HaveSameHeight, links_of}
+use Rattle.wl_tree_laws.proofs.Applying.{by_child, by_parent, descends-either, descends-once}
+use Rattle.wl_tree_laws.proofs.Parents.{same-descent}
+
+-- ---- the most of some numbers
+
+abbrev most : (ℕ → ℕ) → ℕ → List ℕ → ℕ
+most f a xs = fold (λ m x. max m (f x)) a xs
+
+most-start : (f : ℕ → ℕ) (a : ℕ) (xs : List ℕ) → a ≤ most f a xs
+most-start f a [] = omega arith
+most-start f a (x ∷ xs) = omega (arith, le-max_left a (f x), most-start f (max a (f x)) xs)
+
+most-each : (f : ℕ → ℕ) (a x : ℕ) (xs : List ℕ) → list_any (λ y. x == y) xs ≡ true → f x ≤ most f a xs
+most-each f a x [] there = absurd (cc)
+most-each f a x (y ∷ ys) there = at (x == y) refl there (most-start f (max a (f y)) ys) (most-each f (max a (f y)) x ys)
+  where
+    at : (b : Bool) → (x == y) ≡ b → (b || list_any (λ y. x == y) ys) ≡ true → max a (f y) ≤ most f (max a (f y)) ys
+        → (list_any (λ y. x == y) ys ≡ true → f x ≤ most f (max a (f y)) ys) → f x ≤ most f (max a (f y)) ys
+    at true e there start later = let same = eqb-true x y e in omega (arith, le-max_right a (f y), ap f same, start)
+    at false e there start later = later there
+
+either-most : (a b : ℕ) → (max a b ≡ a) ⊎ (max a b ≡ b)
+either-most zero b = inr (max-eq_right (omega arith))
+either-most (suc a) zero = inl (max-eq_left (omega arith))
+either-most (suc a) (suc b) = at (either-most a b)
+  where
+    at : (max a b ≡ a) ⊎ (max a b ≡ b) → (max (suc a) (suc b) ≡ suc a) ⊎ (max (suc a) (suc b) ≡ suc b)
+    at (inl e) = inl (max-eq_left (omega (arith, le-max_right a b, e)))
+    at (inr e) = inr (max-eq_right (omega (arith, le-max_left a b, e)))
+
+-- what it was, or that of one of them
+abbrev Reached : (ℕ → ℕ) → ℕ → List ℕ → ℕ → Type 0
+Reached f a xs m = (m ≡ a) ⊎ ((x : ℕ) × (list_any (λ y. x == y) xs ≡ true) × (m ≡ f x))
+
+here : (x : ℕ) (ys : List ℕ) → list_any (λ y. x == y) (x ∷ ys) ≡ true
+here x ys = ap (λ b. b || list_any (λ y. x == y) ys) (eq-eqb x x refl)
+
+later : (x y : ℕ) (ys : List ℕ) → list_any (λ y. x == y) ys ≡ true → list_any (λ y. x == y) (y ∷ ys) ≡ true
+later x y ys e = ap (λ b. (x == y) || b) e ∙ or-true (x == y)
+  where
+    or-true : (b : Bool) → (b || true) ≡ true
+    or-true true = refl
+    or-true false = refl
+
+most-reached : (f : ℕ → ℕ) (a : ℕ) (xs : List ℕ) → Reached f a xs (most f a xs)
+most-reached f a [] = inl refl
+most-reached f a (x ∷ xs) = at (most-reached f (max a (f x)) xs) (either-most a (f x))
+  where
+    at : Reached f (max a (f x)) xs (most f (max a (f x)) xs) → (max a (f x) ≡ a) ⊎ (max a (f x) ≡ f x) → Reached f a (x ∷ xs) (most f (max a (f x)) xs)
+    at (inl e) (inl g) = inl (e ∙ g)
+    at (inl e) (inr g) = inr (x, here x xs, e ∙ g)
+    at (inr (y, there, e)) g = inr (y, later y x xs there, e)
+
+-- ---- one of them has a property
+
+any-found : (p : ℕ → Bool) (xs : List ℕ) → list_any p xs ≡ true → (x : ℕ) × (p x ≡ true) × (list_any (λ y. x == y) xs ≡ true)
+any-found p [] e = absurd (cc)
+any-found p (x ∷ xs) e = at (p x) refl e (any-found p xs)
+  where
+    at : (b : Bool) → p x ≡ b → (b || list_any p xs) ≡ true → (list_any p xs ≡ true → (x : ℕ) × (p x ≡ true) × (list_any (λ y. x == y) xs ≡ true))
+        → (z : ℕ) × (p z ≡ true) × (list_any (λ y. z == y) (x ∷ xs) ≡ true)
+    at true f e next = (x, f, here x xs)
+    at false f e next = let found = next e in (found.0, found.1, later found.0 x xs found.2)
+
+any-here : (p : ℕ → Bool) (x : ℕ) (xs : List ℕ) → p x ≡ true → list_any (λ y. x == y) xs ≡ true → list_any p xs ≡ true
+any-here p x [] has there = absurd (cc)
+any-here p x (y ∷ ys) has there = at (x == y) refl there (any-here p x ys has)
+  where
+    or-true : (b : Bool) → (b || true) ≡ true
+    or-true true = refl
+    or-true false = refl
+
+    at : (b : Bool) → (x == y) ≡ b → (b || list_any (λ y. x == y) ys) ≡ true → (list_any (λ y. x == y) ys ≡ true → list_any p ys ≡ true) → (p y || list_any p ys) ≡ true
+    at true e there next = ap (λ b. b || list_any p ys) (ap p (sym (eqb-true x y e)) ∙ has)
+    at false e there next = ap (λ b. p y || b) (next there) ∙ or-true (p y)
+
+-- ---- depths in trees
+
+module _ (all : Surfaces) (places : List Place) (once : AreOnceLinked all.links) (stand : StandFor places (parents_of (links_of all)))
+    (within : (index : ℕ) → level_at index places ≤ 16) where
+  abbrev parents : Parents
+  parents = parents_of (links_of all)
+
+  abbrev deep : ℕ → ℕ
+  deep surface = depth_by 16 parents surface
+
+  placed : PlacedFrom parents nothing places
+  placed = to-from parents [] places stand.placed
+
+  among-low : (x : Place) → Among x places → x.level ≤ 16
+  among-low x among = up-among 16 places x (index-up 16 places (λ index less. within index)) among
+
+  among-deep : (x : Place) → Among x places → deep x.surface ≡ x.level
+  among-deep x among = depth-is parents places placed 16 x among (among-low x among)
+
+  -- nothing is deeper than 16
+  low : (surface : ℕ) → has_place surface places ≡ true → deep surface ≤ 16
+  low surface there =
+      let x = among-has surface places there in
+      let is = ap (λ n. depth_by 16 parents n) (sym x.1) ∙ among-deep x.0 x.2 in
+      omega (arith, is, among-low x.0 x.2)
+
+  -- a child and its parent
+  record IsChild (child parent : ℕ) : Type 0 where
+    child_there : has_place child places ≡ true
+    parent_there : has_place parent places ≡ true
+    deeper : deep child ≡ suc (deep parent)
+
+  child-there : (child parent : ℕ) → parents child ≡ Some parent → has_place child places ≡ true
+  child-there child parent is = at (has_place child places) refl
+    where
+      at : (b : Bool) → has_place child places ≡ b → has_place child places ≡ true
+      at true e = e
+      at false e = absurd (let none = stand.others child e in let both = sym none ∙ is in cc)
+
+  child-deeper : (child parent : ℕ) → parents child ≡ Some parent → IsChild child parent
+  child-deeper child parent is =
+      let there = child-there child parent is in
+      let x = among-has child places there in
+      let found = finds parents nothing places x.0 placed x.2 in
+      at there x.0 x.1 x.2 found.0 found.1 found.2
+    where
+      at : has_place child places ≡ true → (x : Place) → x.surface ≡ child → Among x places → (o : Option Place) → IsBelow parents x o → Finds nothing places x.level o → IsChild child parent
+      at there x same among None below found = absurd (let both = sym is ∙ (ap parents (sym same) ∙ below.0) in cc)
+      at there x same among (Some q) below (inl e) = absurd (cc)
+      at there x same among (Some q) below (inr found) =
+          let it : q ≡ found.0 = cc in
+          let inside = subst (λ (p : Place). Among p places) (sym it) found.2 in
+          let parent_is : q.surface ≡ parent = let both = sym below.0 ∙ (ap parents same ∙ is) in cc in
+          let child_deep = ap (λ n. depth_by 16 parents n) (sym same) ∙ among-deep x among in
+          let parent_deep = ap (λ n. depth_by 16 parents n) (sym parent_is) ∙ among-deep q inside in
+          record {
+            child_there = there;
+            parent_there = ap (λ n. has_place n places) (sym parent_is) ∙ has-among q places inside;
+            deeper = let up = below.1 in omega (arith, child_deep, parent_deep, up);
+          }
+
+  -- each of a surface's children is one
+  listed-child : (child top : ℕ) → list_any (λ c. child == c) (children_of top all) ≡ true → parents child ≡ Some top
+  listed-child child top there = at (link_of child all) refl (sym (descends-once all once top child) ∙ there)
+    where
+      at : (o : Option Link) → link_of child all ≡ o → of_parent false (λ parent. parent == top) o ≡ true → parents child ≡ Some top
+      at None e is = absurd (cc)
+      at (Some l) e is = rw e (ap Some (eqb-true l.parent top is))
+
+  -- ---- the height by children
+
+  high : (n surface other : ℕ) → descends_from n all surface other ≡ true → deep other ≤ deep surface + height n all surface
+  unfolding descends_from height
+  high zero surface other under = let same = ap deep (eqb-true other surface under) in omega (arith, same)
+  high (suc n) surface other under =
+      at (other == surface) refl (ap (λ b. other == surface || b) (descends-either n all once surface other) ∙ under) (high n)
+    where
+      at : (b : Bool) → (other == surface) ≡ b → (b || by_child n all surface other) ≡ true
+          → ((top x : ℕ) → descends_from n all top x ≡ true → deep x ≤ deep top + height n all top)
+          → deep other ≤ deep surface + most (λ child. suc (height n all child)) 0 (children_of surface all)
+      at true e under next = let same = ap deep (eqb-true other surface e) in omega (arith, same)
+      at false e under next =
+          let found = any-found (λ child. descends_from n all child other) (children_of surface all) under in
+          let child = child-deeper found.0 surface (listed-child found.0 surface found.2) in
+          let each = most-each (λ child. suc (height n all child)) 0 found.0 (children_of surface all) found.2 in
+          omega (arith, child.deeper, next found.0 other found.1, each)
+
+  -- one of those below is as deep
+  record IsReached (n surface : ℕ) : Type 0 where
+    other : ℕ
+    there : has_place other places ≡ true
+    under : descends_from n all surface other ≡ true
+    as_deep : deep other ≡ deep surface + height n all surface
+
+  itself : (n surface : ℕ) → descends_from n all surface surface ≡ true
+  unfolding descends_from
+  itself zero surface = eq-eqb surface surface refl
+  itself (suc n) surface = ap (λ b. b || by_parent n all surface (link_of surface all)) (eq-eqb surface surface refl)
+
+  below-child : (n surface other child : ℕ) → list_any (λ c. child == c) (children_of surface all) ≡ true → descends_from n all child other ≡ true
+      → descends_from (suc n) all surface other ≡ true
+  unfolding descends_from
+  below-child n surface other child listed under =
+      ap (λ b. other == surface || b)
+      (sym (descends-either n all once surface other) ∙ any-here (λ child. descends_from n all child other) child (children_of surface all) under listed)
+      ∙ or-true (other == surface)
+    where
+      or-true : (b : Bool) → (b || true) ≡ true
+      or-true true = refl
+      or-true false = refl
+
+  reached : (n surface : ℕ) → has_place surface places ≡ true → IsReached n surface
+  unfolding height
+  reached zero surface there = record { other = surface; there = there; under = itself zero surface; as_deep = omega arith }
+  reached (suc n) surface there = at (most-reached (λ child. suc (height n all child)) 0 (children_of surface all)) (reached n)
+    where
+      at : Reached (λ child. suc (height n all child)) 0 (children_of surface all) (height (suc n) all surface)
+          → ((top : ℕ) → has_place top places ≡ true → IsReached n top) → IsReached (suc n) surface
+      at (inl e) next = record { other = surface; there = there; under = itself (suc n) surface; as_deep = omega (arith, e) }
+      at (inr (child, listed, e)) next =
+          let is = child-deeper child surface (listed-child child surface listed) in
+          let far = next child is.child_there in
+          record {
+            other = far.other;
+            there = far.there;
+            under = below-child n surface far.other child listed far.under;
+            as_deep = let it = far.as_deep in let up = is.deeper in omega (arith, e, it, up);
+          }
+
+  -- ---- so many links are enough
+
+  deeper-below : (n top surface : ℕ) → descends_from n all top surface ≡ true → deep top ≤ deep surface
+  unfolding descends_from
+  deeper-below zero top surface under = let same = ap deep (eqb-true surface top under) in omega (arith, same)
+  deeper-below (suc n) top surface under = at (surface == top) (link_of surface all) refl refl under (deeper-below n top)
+    where
+      at : (b : Bool) (o : Option Link) → (surface == top) ≡ b → link_of surface all ≡ o → (b || of_parent false (λ parent. descends_from n all top parent) o) ≡ true
+          → ((x : ℕ) → descends_from n all top x ≡ true → deep top ≤ deep x) → deep top ≤ deep surface
+      at true o e f under next = let same = ap deep (eqb-true surface top e) in omega (arith, same)
+      at false None e f under next = absurd (cc)
+      at false (Some l) e f under next =
+          let is = child-deeper surface l.parent (rw f refl) in
+          let up = is.deeper in
+          omega (arith, up, next l.parent under)
+
+  within-links : (n m top surface : ℕ) → descends_from n all top surface ≡ true → deep surface ≤ deep top + m → descends_from m all top surface ≡ true
+  unfolding descends_from
+  within-links zero m top surface under near = subst (λ (x : ℕ). descends_from m all top x ≡ true) (sym (eqb-true surface top under)) (itself m top)
+  within-links (suc n) m top surface under near = at (surface == top) (link_of surface all) refl refl under (within-links n)
+    where
+      next-level : (m : ℕ) (l : Link) → link_of surface all ≡ Some l → descends_from n all top l.parent ≡ true → deep surface ≤ deep top + m
+          → ((k t x : ℕ) → descends_from n all t x ≡ true → deep x ≤ deep t + k → descends_from k all t x ≡ true) → descends_from m all top surface ≡ true
+      next-level zero l f under near next =
+          absurd (let is = child-deeper surface l.parent (rw f refl) in let up = is.deeper in omega (arith, up, near, deeper-below n top l.parent under))
+      next-level (suc k) l f under near next =
+          let is = child-deeper surface l.parent (rw f refl) in
+          let up = is.deeper in
+          let parent = next k top l.parent under (omega (arith, up, near)) in
+          ap (λ o. surface == top || of_parent false (λ parent. descends_from k all top parent) o) f ∙ (ap (λ b. surface == top || b) parent ∙ or-true (surface == top))
+        where
+          or-true : (b : Bool) → (b || true) ≡ true
+          or-true true = refl
+          or-true false = refl
+
+      at : (b : Bool) (o : Option Link) → (surface == top) ≡ b → link_of surface all ≡ o → (b || of_parent false (λ parent. descends_from n all top parent) o) ≡ true
+          → ((k t x : ℕ) → descends_from n all t x ≡ true → deep x ≤ deep t + k → descends_from k all t x ≡ true) → descends_from m all top surface ≡ true
+      at true o e f under next = subst (λ (x : ℕ). descends_from m all top x ≡ true) (sym (eqb-true surface top e)) (itself m top)
+      at false None e f under next = absurd (cc)
+      at false (Some l) e f under next = next-level m l f under near next
+
+  same-most : (surface kept : ℕ) → has_place surface places ≡ true → IsTreeHeight 16 parents places surface kept → height levels all surface ≡ kept
+  same-most surface kept there is =
+      let far = reached levels surface there in
+      let shallow = low far.other far.there in
+      let under = within-links levels 16 surface far.other far.under (omega (arith, shallow)) in
+      let told = is.most far.other far.there (sym (same-descent all 16 surface far.other) ∙ under) in
+      let deepest = is.there in
+      let inside = same-descent all 16 surface deepest.0 ∙ deepest.2 in
+      let most_low = low deepest.0 deepest.1 in
+      let by_children = high levels surface deepest.0 (within-links 16 levels surface deepest.0 inside (omega (arith, most_low))) in
+      let as_deep = far.as_deep in
+      omega (arith, as_deep, told, deepest.3, by_children)
+
+pub same-height : HaveSameHeight
+same-height all places once stand within surface kept there is = same-most all places once stand within surface kept there is
