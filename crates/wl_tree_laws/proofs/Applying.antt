@@ -20,7 +20,8 @@ same-id true s = refl
 same-id false s = refl
 
 -- to apply these, and then those, is to apply both
-applied-both : (p q : ℕ → Bool) (xs : List Surface) → map (λ (s : Surface). cond (q s.id) (applying s) s) (map (λ (s : Surface). cond (p s.id) (applying s) s) xs) ≡ map (λ (s : Surface). cond (p s.id || q s.id) (applying s) s) xs
+applied-both : (p q : ℕ → Bool) (xs : List Surface)
+    → map (λ (s : Surface). cond (q s.id) (applying s) s) (map (λ (s : Surface). cond (p s.id) (applying s) s) xs) ≡ map (λ (s : Surface). cond (p s.id || q s.id) (applying s) s) xs
 applied-both p q [] = refl
 applied-both p q (x ∷ xs) =
     let here = ap (λ (n : ℕ). cond (q n) (applying (cond (p x.id) (applying x) x)) (cond (p x.id) (applying x) x)) (same-id (p x.id) x) ∙ applied-one (p x.id) (q x.id) x in

@@ -1,3 +1,4 @@
 pub mod Applying
 pub mod Heights
 pub mod Parents
+pub mod Stacking

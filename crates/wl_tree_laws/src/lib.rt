@@ -2,6 +2,7 @@
 //! same as the definitions (wayland.xml, wl_subcompositor and wl_subsurface). Each law is a function that promises it.
 #![tactic(auto)]
 
+ghost use Rattle.wl_tree_laws.specs.Stacks.{StacksFollow};
 ghost use Rattle.wl_tree_laws.specs.Laws.{AppliesDescendants, HaveSameDepth, HaveSameDescent, HaveSameHeight, HaveSameModes};
 
 /// To apply a surface is to apply it and each surface that descends from it, once, and no other, where each child has one link that lives.
@@ -27,4 +28,9 @@ pub fn have_same_height()
 /// A surface behaves synchronised by the links that are kept exactly where it does by definition.
 pub fn have_same_modes()
     ensures { HaveSameModes }
+{}
+
+/// What each request of a surface makes of the stack of its children, and the end of a link, is what is done to the stack that is kept.
+pub fn stacks_follow()
+    ensures { StacksFollow }
 {}
