@@ -10,7 +10,8 @@ use Rattle.wl_children.specs.declared.placed.Member.{Member as Kept}
 use Rattle.wl_children.specs.declared.placed.Member.TheVariants as kept
 use Rattle.wl_children.specs.declared.placed.Placed.{Placed}
 use Rattle.wl_children.specs.Stacks.{above as above_kept, added, below as below_kept, has_member, is_of, moved, moved_place, placed as placed_kept, placed_above, placed_below, without as without_kept}
-use Rattle.wl_state.specs.Request.{AddChild, Attach, Child, Commit, Damage, Frame, Itself, Member, PlaceAbove, PlaceBelow, Request, SetBufferTransform, SetInputRegion, SetOpaqueRegion, SetPosition, SetWindowGeometry}
+use Rattle.wl_state.specs.Request.{AddChild, Attach, Child, Commit, Damage, Frame, Itself, Member, PlaceAbove, PlaceBelow, Request, SetBufferTransform}
+use Rattle.wl_state.specs.Request.{SetInputRegion, SetOpaqueRegion, SetPosition, SetWindowGeometry}
 use Rattle.wl_state.specs.State.{above, below, is_member, order, ordered, placed, position, position_asked, without}
 use Rattle.wl_tree_laws.specs.Stacks.{AreApart, IsKept, Kids, StacksFollow, has_child, is_about_children, place_of, stack_by, with_kid}
 
