@@ -2,3 +2,4 @@ pub mod Commits
 pub mod Records
 pub mod Rows
 pub mod Shapes
+pub mod Trees

@@ -5,3 +5,5 @@ pub mod Request
 pub mod Shape
 pub mod State
 pub mod Surface
+pub mod Surfaces
+pub mod Trees
