@@ -2,16 +2,15 @@
 use Rattle.std.proofs.Common.{◌≡◌, ℕ, ℤ, Bool, true, false, not, List, [], ◌∷◌, ◌++◌, Option, Some, None, cond, ◌||◌, refl, ap, ◌∙◌, arith, drop, length, take}
 use Rattle.std.proofs.lemmas.List.{take-append-le, take_all}
 use Rattle.std.proofs.lemmas.Bool.{false≢true}
-use Rattle.std.specs.Prelude.{find, pos}
+use Rattle.std.specs.Prelude.{find}
 use Rattle.std.specs.Option.{option_map_or}
-use Rattle.std.proofs.lemmas.List.Folds.{list_any-append}
 use Rattle.std.proofs.lemmas.Map.Views.{any-filter_same}
 use Rattle.wl_children.specs.declared.placed.Member.{Member}
 use Rattle.wl_children.specs.declared.placed.Member.TheVariants.{Itself, Child}
 use Rattle.wl_children.specs.declared.placed.Placed.{Placed}
 use Rattle.wl_children.specs.declared.stack.Side.{Side}
 use Rattle.wl_children.specs.declared.stack.Side.TheVariants.{Above, Below}
-use Rattle.wl_children.specs.Stacks.{above, added, below, beside, has_member, is_member, is_of, moved, moved_beside, moved_place, placed, whole, without}
+use Rattle.wl_children.specs.Stacks.{above, below, beside, has_member, is_member, is_of, moved, moved_beside, moved_place, placed, whole, without}
 
 -- a list with the surface itself is the whole stack
 pub whole-there : (ps : List Placed) → has_member Itself ps ≡ true → whole ps ≡ ps
@@ -52,7 +51,7 @@ moved-member child x y p = at (is_of (Child child) p)
     at true = refl
     at false = refl
 
-pub whole-moved : (child : ℕ) (x y : ℤ) (ps : List Placed) → whole (moved child x y ps) ≡ moved child x y (whole ps)
+whole-moved : (child : ℕ) (x y : ℤ) (ps : List Placed) → whole (moved child x y ps) ≡ moved child x y (whole ps)
 whole-moved child x y [] = refl
 whole-moved child x y (p ∷ ps) = refl
 
@@ -125,13 +124,3 @@ pub has-whole_placed : (side : Side) (child : ℕ) (at : Member) (ps : List Plac
     → has_member Itself (whole (placed (beside side) child at ps)) ≡ true
 has-whole_placed side child at ps has =
     ap (λ (qs : List Placed). has_member Itself qs) (whole-placed side child at ps has) ∙ has-placed side child at (whole ps) has
-
--- ---- a child is added
-
-pub has-added : (child : ℕ) (ps : List Placed) → has_member Itself ps ≡ true → has_member Itself (added child ps) ≡ true
-has-added child [] has = absurd (false≢true has)
-has-added child (p ∷ ps) has = list_any-append (is_of Itself) (p ∷ ps) (record { member = Child child; x = pos 0; y = pos 0 } ∷ []) ∙ left (has_member Itself (p ∷ ps)) has
-  where
-    left : (a : Bool) → a ≡ true → (a || (false || false)) ≡ true
-    left true e = refl
-    left false e = e

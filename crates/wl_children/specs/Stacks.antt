@@ -45,7 +45,7 @@ has_member m places = list_any (is_of m) places
 abbrev pub without : Member → List Placed → List Placed
 without m places = filter (λ p. not (is_of m p)) places
 
--- a place right above that of a member, or right below it
+-- a place comes right above that of a member, or right below it
 abbrev pub above : Placed → Member → List Placed → List Placed
 above p at [] = []
 above p at (x ∷ xs) = if is_of at x then x ∷ p ∷ xs else x ∷ above p at xs
@@ -54,13 +54,13 @@ abbrev pub below : Placed → Member → List Placed → List Placed
 below p at [] = []
 below p at (x ∷ xs) = if is_of at x then p ∷ x ∷ xs else x ∷ below p at xs
 
--- A place beside that of a member, which isn't the child's own.
+-- a child with this place comes beside another member, if that is there
 abbrev pub moved_beside : (Placed → Member → List Placed → List Placed) → ℕ → Member → List Placed → Placed → List Placed
 moved_beside beside child at places p =
     if has_member at (without (Child child) places) then beside p at (without (Child child) places) else places
 
--- A child's place beside a sibling's, or beside that of the surface itself; where there is no such child, or no such sibling, nothing
--- changes.
+-- A child comes beside a sibling, or beside the surface itself, with its position; where there is no such child, or no such sibling,
+-- nothing changes (wayland.xml, wl_subsurface.place_above).
 abbrev pub placed : (Placed → Member → List Placed → List Placed) → ℕ → Member → List Placed → List Placed
 placed beside child at places = option_map_or (moved_beside beside child at places) (find (is_of (Child child)) places) places
 
@@ -74,18 +74,18 @@ abbrev pub beside : Side → Placed → Member → List Placed → List Placed
 beside Above p at places = above p at places
 beside Below p at places = below p at places
 
--- a new child is topmost, where the corner of the surface is
+-- a new child is topmost, at (0, 0) (wayland.xml, wl_subcompositor.get_subsurface)
 abbrev pub added : ℕ → List Placed → List Placed
 added child places = places ++ record { member = Child child; x = pos 0; y = pos 0 } ∷ []
 
--- a child's place is another one
+-- a child is moved; the others stay where they are (wayland.xml, wl_subsurface.set_position)
 abbrev pub moved_place : ℕ → ℤ → ℤ → Placed → Placed
 moved_place child x y p = if is_of (Child child) p then record p { x = x; y = y } else p
 
 abbrev pub moved : ℕ → ℤ → ℤ → List Placed → List Placed
 moved child x y places = map (moved_place child x y) places
 
--- a child is in none of the three
+-- a child that goes is in none of the three (wayland.xml, wl_subsurface.destroy)
 abbrev pub removed : ℕ → Stacks → Stacks
 removed child s =
     record { pending = without (Child child) s.pending; held = without (Child child) s.held; applied = without (Child child) s.applied }

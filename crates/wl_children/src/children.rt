@@ -10,7 +10,7 @@ use std::marker::Model;
 use wl_trees::SurfaceNo;
 
 /// The stack of a surface and its children from below, and where the children are: pending, held and applied (wayland.xml, wl_subsurface).
-/// It is seen as these three lists. A surface without children takes no memory, nor does what is no other than held or applied.
+/// It is seen as these three lists. A surface without children takes no memory, and a list that wasn't changed since none of its own.
 #[derive(Drop)]
 pub struct Children<A: Allocator> {
     // as held, where it isn't there

@@ -1,7 +1,6 @@
 //! Who stands in the stack of a surface, and where.
 
-ghost use Rattle.std.specs.Prelude.{◌≡◌, find, position};
-ghost use Rattle.std.specs.List.{list_any};
+ghost use Rattle.std.specs.Prelude.{◌≡◌, find, pos, position};
 ghost use Rattle.wl_children.specs.Stacks.{has_member, is_member, is_of, moved, moved_place};
 
 use wl_trees::SurfaceNo;
@@ -59,6 +58,13 @@ pub(crate) fn index_of(places: &[Placed], member: Member) -> Option<usize>
 }
 
 impl Placed {
+    /// A member at (0, 0).
+    pub(crate) fn at_corner(member: Member) -> Placed
+        ensures { result ≡ record { member = member; x = pos 0; y = pos 0 } }
+    {
+        Placed { member, x: 0, y: 0 }
+    }
+
     /// The place of a child that is moved; that of anyone else stays as it is.
     fn moved(self, child: SurfaceNo, x: i32, y: i32) -> Placed
         ensures { result ≡ moved_place child x y self }

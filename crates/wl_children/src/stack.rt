@@ -1,6 +1,6 @@
 //! One stack of a surface and its children.
 
-ghost use Rattle.std.specs.Prelude.{◌≡◌, ◌<◌, ◌++◌, ◌∷◌, [], OnOk, OnErr, IfOk, vec_len, vec_capacity};
+ghost use Rattle.std.specs.Prelude.{◌≡◌, ◌<◌, OnOk, OnErr, IfOk, vec_len, vec_capacity};
 ghost use Rattle.wl_children.specs.Stacks.{added, alone, beside, has_member, moved, placed, whole, without};
 
 use crate::placed::{Member, Placed, index_of, is_place_of, move_child, place_of};
@@ -116,17 +116,9 @@ impl<A: Allocator> Stack<A> {
         ensures err { OnErr result (self.new ≡ self.old) }
     {
         if self.places.is_empty() {
-            self.places.push(Placed {
-                member: Member::Itself,
-                x: 0,
-                y: 0,
-            })?;
+            self.places.push(Placed::at_corner(Member::Itself))?;
         }
-        self.places.push(Placed {
-            member: Member::Child(child),
-            x: 0,
-            y: 0,
-        })?;
+        self.places.push(Placed::at_corner(Member::Child(child)))?;
         Ok(())
     }
 
