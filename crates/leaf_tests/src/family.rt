@@ -131,7 +131,9 @@ fn a_link_ends_in_the_middle(rt: HostRuntime) {
     assert!(rt; stack_is(&family, 1, &[ITSELF, child_at(4, 0, 0)]));
     family.remove(1);
     assert!(rt; !family.has(1) && family.link(1).is_none() && family.link(4).is_none());
-    assert!(rt; tree_is(&family, 0, &[0]) && tree_is(&family, 4, &[4]) && stack_is(&family, 1, &[]));
+    assert!(rt;
+        tree_is(&family, 0, &[0]) && tree_is(&family, 4, &[4]) && stack_is(&family, 1, &[])
+    );
 }
 
 // wl_subsurface.place_above and place_below: beside the parent and its other children, whose parent needn't have committed.
