@@ -2,3 +2,4 @@ mod Books
 mod Joins
 mod Links
 mod Modes
+mod Rows
