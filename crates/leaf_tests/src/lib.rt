@@ -4,6 +4,8 @@
 #[cfg(test)]
 mod children;
 #[cfg(test)]
+mod family;
+#[cfg(test)]
 mod regions;
 #[cfg(test)]
 mod scenes;

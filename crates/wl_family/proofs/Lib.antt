@@ -1,4 +1,7 @@
 mod Books
 mod Joins
 mod Links
+mod Members
 mod Modes
+mod Rows
+mod Stacked
