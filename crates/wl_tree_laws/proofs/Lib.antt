@@ -1,4 +1,5 @@
 pub mod Applying
+pub mod Hanging
 pub mod Heights
 pub mod Parents
 pub mod Stacking

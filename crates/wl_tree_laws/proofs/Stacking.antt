@@ -17,10 +17,10 @@ use Rattle.wl_tree_laws.specs.Stacks.{AreApart, IsKept, Kids, StacksFollow, has_
 
 -- ---- one request more
 
-order-last : (rs : List Request) (r : Request) → order (rs ++ r ∷ []) ≡ ordered (order rs) r
+pub order-last : (rs : List Request) (r : Request) → order (rs ++ r ∷ []) ≡ ordered (order rs) r
 order-last rs r = fold-append ordered (Itself ∷ []) rs (r ∷ [])
 
-position-last : (l : ℕ) (rs : List Request) (r : Request) → position l (rs ++ r ∷ []) ≡ position_asked l (position l rs) r
+pub position-last : (l : ℕ) (rs : List Request) (r : Request) → position l (rs ++ r ∷ []) ≡ position_asked l (position l rs) r
 position-last l rs r = fold-append (position_asked l) (pos 0, pos 0) rs (r ∷ [])
 
 -- ---- places of members
@@ -51,7 +51,7 @@ same-place kids rs new same (Child l) =
 
 -- ---- requests about nothing of it
 
-order-still : (ms : List Member) (r : Request) → is_about_children r ≡ false → ordered ms r ≡ ms
+pub order-still : (ms : List Member) (r : Request) → is_about_children r ≡ false → ordered ms r ≡ ms
 order-still ms (AddChild l) e = absurd (cc)
 order-still ms (SetPosition l x y) e = absurd (cc)
 order-still ms (PlaceAbove l at) e = absurd (cc)
@@ -65,11 +65,11 @@ order-still ms (SetBufferTransform n) e = refl
 order-still ms (SetWindowGeometry r) e = refl
 order-still ms Commit e = refl
 
-position-still : (l : ℕ) (at : ℤ × ℤ) (r : Request) → is_about_children r ≡ false → position_asked l at r ≡ at
+pub position-still : (l : ℕ) (at : ℤ × ℤ) (r : Request) → is_about_children r ≡ false → position_asked l at r ≡ at
 position-still l at (SetPosition k x y) e = absurd (cc)
 position-still l at r e = refl
 
-follow-still : (kids : Kids) (rs : List Request) (r : Request) → is_about_children r ≡ false → stack_by kids (rs ++ r ∷ []) ≡ stack_by kids rs
+pub follow-still : (kids : Kids) (rs : List Request) (r : Request) → is_about_children r ≡ false → stack_by kids (rs ++ r ∷ []) ≡ stack_by kids rs
 follow-still kids rs r e =
     ap (filter_map (place_of kids (rs ++ r ∷ []))) (order-last rs r ∙ order-still (order rs) r e)
     ∙ same-places (place_of kids (rs ++ r ∷ [])) (place_of kids rs)

@@ -1,2 +1,3 @@
+pub mod Hanging
 pub mod Laws
 pub mod Stacks

@@ -3,6 +3,7 @@
 #![tactic(auto)]
 
 ghost use Rattle.wl_tree_laws.specs.Stacks.{StacksFollow};
+ghost use Rattle.wl_tree_laws.specs.Hanging.{AppliesStack, AsksAlone, CommitsStack};
 ghost use Rattle.wl_tree_laws.specs.Laws.{AppliesDescendants, HaveSameDepth, HaveSameDescent, HaveSameHeight, HaveSameModes};
 
 /// To apply a surface is to apply it and each surface that descends from it, once, and no other, where each child has one link that lives.
@@ -33,4 +34,19 @@ pub fn have_same_modes()
 /// What each request of a surface makes of the stack of its children, and the end of a link, is what is done to the stack that is kept.
 pub fn stacks_follow()
     ensures { StacksFollow }
+{}
+
+/// What is asked of a surface itself changes nothing of how surfaces hang together.
+pub fn asks_alone()
+    ensures { AsksAlone }
+{}
+
+/// A commit makes what is pending of the stack of a surface held.
+pub fn commits_stack()
+    ensures { CommitsStack }
+{}
+
+/// To apply a surface makes what is held of its stack count.
+pub fn applies_stack()
+    ensures { AppliesStack }
 {}

@@ -1,0 +1,84 @@
+-- When what is kept of how the surfaces of a client hang together stands for what was asked of them, surfaces being named by their numbers
+-- (wayland.xml, wl_subcompositor and wl_subsurface).
+use Rattle.std.specs.Prelude.{ℕ, ℤ, pos, ◌≡◌, ◌≤◌, ◌==◌, Bool, true, false, cond, take, Option, Some, None, List, [], ◌∷◌}
+use Rattle.std.specs.List.{list_any}
+use Rattle.wl_children.specs.declared.placed.Member.{Member as Kept}
+use Rattle.wl_children.specs.Stacks.{Stacks, moved, placed_above, placed_below}
+use Rattle.wl_family.specs.Family.{Tied, applied, changed_at, childless, committed, in_mode, joined, left, links_in, pending_as, stacks_in}
+use Rattle.wl_family.specs.Family.{unlinked}
+use Rattle.wl_state.specs.Request.{Commit, Member, PlaceAbove, PlaceBelow, Request, SetPosition}
+use Rattle.wl_state.specs.State.{History, committed as committed_at, counting, is_commit, position}
+use Rattle.wl_state.specs.Surface.{Surface, applying, asking, with_role}
+use Rattle.wl_state.specs.Surfaces.{Link, Surfaces, history_in, link_at, with_change}
+use Rattle.wl_state.specs.Trees.{ending, in_mode as with_mode, linked, with_link}
+use Rattle.wl_state.specs.declared.role.Role.{Role}
+use Rattle.wl_tree_laws.specs.Laws.{AreOnceLinked, links_of}
+use Rattle.wl_tree_laws.specs.Stacks.{IsKept, Kids, has_child, is_about_children, stack_by}
+
+-- the child of each link that lives
+abbrev pub kid_of : Option Link → Option ℕ
+kid_of None = None
+kid_of (Some l) = cond l.has_ended None (Some l.child)
+
+abbrev pub kids_of : Surfaces → Kids
+kids_of all number = kid_of (link_at number all)
+
+-- the stacks that a surface's requests make: of all of them, of those up to the last commit, and of those that count
+abbrev pub stacks_by : Kids → History → Stacks
+stacks_by kids h =
+    record {
+      pending = stack_by kids h.requests;
+      held = stack_by kids (take (committed_at h.requests) h.requests);
+      applied = stack_by kids (counting h);
+    }
+
+abbrev pub stacks_at : Kids → Option History → Stacks
+stacks_at kids None = childless
+stacks_at kids (Some h) = stacks_by kids h
+
+-- what is kept stands for the links that live, and for the stacks that were asked
+pub record HangsAs (tied : Tied) (all : Surfaces) : Type 0 where
+  pub links : (child : ℕ) → links_in tied child ≡ links_of all child
+  pub stacks : (surface : ℕ) → stacks_in tied surface ≡ stacks_at (kids_of all) (history_in surface all)
+
+-- no two links have the same number
+abbrev pub AreNumbered : List Link → Type 0
+AreNumbered [] = Unit {0}
+AreNumbered (l ∷ ls) = (list_any (λ k. k.number == l.number) ls ≡ false) × AreNumbered ls
+
+-- Links are told apart by number and, while they live, by child; no more counts than was committed; a surface's requests name links to its
+-- own children alone, and each link that lives is named by those of its parent.
+pub record AreTied (all : Surfaces) : Type 0 where
+  pub once : AreOnceLinked all.links
+  pub apart : AreNumbered all.links
+  pub cuts : (surface : ℕ) (h : History) → history_in surface all ≡ Some h → h.cut ≤ committed_at h.requests
+  pub named : (surface link : ℕ) (h : History) → history_in surface all ≡ Some h → link_at link all ≡ None → has_child link h.requests ≡ false
+  pub placed : (surface link : ℕ) (h : History) → history_in surface all ≡ Some h → link_at link all ≡ None
+      → position link h.requests ≡ (pos 0, pos 0)
+  pub parents :
+      (surface number : ℕ) (h : History) (link : Link) → history_in surface all ≡ Some h → link_at number all ≡ Some link
+      → has_child number h.requests ≡ true → link.parent ≡ surface
+  pub listed : (number : ℕ) (link : Link) → link_at number all ≡ Some link → link.has_ended ≡ false
+      → (h : History) × (history_in link.parent all ≡ Some h) × (has_child number h.requests ≡ true)
+
+-- both: what is kept stands for what was asked, which is as it should be
+abbrev pub Hang : Tied → Surfaces → Type 0
+Hang tied all = HangsAs tied all × AreTied all
+
+-- What is asked of a surface itself changes nothing of how surfaces hang together.
+abbrev pub AsksAlone : Type 0
+AsksAlone =
+    (tied : Tied) (all : Surfaces) (surface : ℕ) (r : Request) → is_about_children r ≡ false → is_commit r ≡ false → Hang tied all
+    → Hang tied (with_change surface (asking r) all)
+
+-- A commit makes what is pending of the stack held.
+abbrev pub CommitsStack : Type 0
+CommitsStack =
+    (old new : Tied) (all : Surfaces) (surface : ℕ) → links_in new ≡ links_in old
+    → stacks_in new ≡ changed_at surface committed (stacks_in old) → Hang old all → Hang new (with_change surface (asking Commit) all)
+
+-- To apply a surface makes what is held of the stack count.
+abbrev pub AppliesStack : Type 0
+AppliesStack =
+    (old new : Tied) (all : Surfaces) (surface : ℕ) → links_in new ≡ links_in old
+    → stacks_in new ≡ changed_at surface applied (stacks_in old) → Hang old all → Hang new (with_change surface applying all)
