@@ -55,7 +55,7 @@ committed-more : (rs : List Request) (at last : ℕ) (r : Request) → is_commit
 committed-more [] at last r none = ap (λ b. if b then suc at else last) none
 committed-more (x ∷ xs) at last r none = committed-more xs (suc at) (if is_commit x then suc at else last) r none
 
-committed-same : (rs : List Request) (r : Request) → is_commit r ≡ false → committed_at (rs ++ r ∷ []) ≡ committed_at rs
+pub committed-same : (rs : List Request) (r : Request) → is_commit r ≡ false → committed_at (rs ++ r ∷ []) ≡ committed_at rs
 committed-same rs r none = committed-more rs 0 0 r none
 
 committed-bound : (rs : List Request) (at last : ℕ) → last ≤ at → committed_from at last rs ≤ at + length rs
@@ -67,17 +67,17 @@ committed-bound (x ∷ xs) at last le =
     choose true = omega arith
     choose false = omega (arith, le)
 
-committed-within : (rs : List Request) → committed_at rs ≤ length rs
+pub committed-within : (rs : List Request) → committed_at rs ≤ length rs
 committed-within rs = let le = committed-bound rs 0 0 (omega arith) in omega (arith, le)
 
 -- the commits of a list, and what counts of it, once a request more is asked that is none
-take-more : (n : ℕ) (rs : List Request) (r : Request) → n ≤ length rs → take n (rs ++ r ∷ []) ≡ take n rs
+pub take-more : (n : ℕ) (rs : List Request) (r : Request) → n ≤ length rs → take n (rs ++ r ∷ []) ≡ take n rs
 take-more n rs r le = take-append-le n rs (r ∷ []) le
 
 abbrev stacks_as : List Placed → List Placed → List Placed → Stacks
 stacks_as a b c = record { pending = a; held = b; applied = c }
 
-same-stacks : {a b c d e f : List Placed} → a ≡ d → b ≡ e → c ≡ f → stacks_as a b c ≡ stacks_as d e f
+pub same-stacks : {a b c d e f : List Placed} → a ≡ d → b ≡ e → c ≡ f → stacks_as a b c ≡ stacks_as d e f
 same-stacks e f g = rw (e, f, g) refl
 
 -- ---- one surface changes
@@ -145,7 +145,7 @@ module _ (all : Surfaces) (k : ℕ) (f : Surface → Surface) (g : History → H
       at n false e (Some h) is = refl
 
 -- the stacks of one surface change, those of the others stay
-changed-pointwise : (k : ℕ) (change : Stacks → Stacks) (old new : ℕ → Stacks) → new ≡ changed_at k change old → (n : ℕ) → new n ≡ cond (n == k) (change (old n)) (old n)
+pub changed-pointwise : (k : ℕ) (change : Stacks → Stacks) (old new : ℕ → Stacks) → new ≡ changed_at k change old → (n : ℕ) → new n ≡ cond (n == k) (change (old n)) (old n)
 changed-pointwise k change old new e n = ap (λ all. all n) e ∙ at (n == k) refl
   where
     at : (b : Bool) → (n == k) ≡ b → (if b then change (old k) else old n) ≡ cond b (change (old n)) (old n)
@@ -168,7 +168,7 @@ child-still l rs r about = ap (list_any (is_member (Child l))) (order-last rs r 
 place-still : (l : ℕ) (rs : List Request) (r : Request) → is_about_children r ≡ false → position l (rs ++ r ∷ []) ≡ position l rs
 place-still l rs r about = position-last l rs r ∙ position-still l (position l rs) r about
 
-abbrev with_asked : Request → History → History
+abbrev pub with_asked : Request → History → History
 with_asked r h = record h { requests = h.requests ++ r ∷ [] }
 
 pub asks-alone : AsksAlone

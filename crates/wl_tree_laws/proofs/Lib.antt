@@ -2,4 +2,5 @@ pub mod Applying
 pub mod Hanging
 pub mod Heights
 pub mod Parents
+pub mod Placing
 pub mod Stacking

@@ -256,7 +256,7 @@ follow-placed kids rs l child at k beside beside_kept apart is there sibling bes
     choose true put new e = sym e
     choose false put new e = refl
 
-follow-above : (kids : Kids) (rs : List Request) (l child : ℕ) (at : Member) (k : Kept) → AreApart kids → kids l ≡ Some child → has_child l rs ≡ true → IsKept kids at k
+pub follow-above : (kids : Kids) (rs : List Request) (l child : ℕ) (at : Member) (k : Kept) → AreApart kids → kids l ≡ Some child → has_child l rs ≡ true → IsKept kids at k
     → stack_by kids (rs ++ PlaceAbove l at ∷ []) ≡ placed_above child k (stack_by kids rs)
 follow-above kids rs l child at k apart is there sibling =
     let new = rs ++ PlaceAbove l at ∷ [] in
@@ -264,7 +264,7 @@ follow-above kids rs l child at k apart is there sibling =
     ∙ same-places (place_of kids new) (place_of kids rs) (same-place kids rs new (λ n. position-last n rs (PlaceAbove l at))) (placed above l at (order rs))
     ∙ follow-placed kids rs l child at k above above_kept apart is there sibling (λ q. above-filtered (place_of kids rs) at k q)
 
-follow-below : (kids : Kids) (rs : List Request) (l child : ℕ) (at : Member) (k : Kept) → AreApart kids → kids l ≡ Some child → has_child l rs ≡ true → IsKept kids at k
+pub follow-below : (kids : Kids) (rs : List Request) (l child : ℕ) (at : Member) (k : Kept) → AreApart kids → kids l ≡ Some child → has_child l rs ≡ true → IsKept kids at k
     → stack_by kids (rs ++ PlaceBelow l at ∷ []) ≡ placed_below child k (stack_by kids rs)
 follow-below kids rs l child at k apart is there sibling =
     let new = rs ++ PlaceBelow l at ∷ [] in
@@ -290,7 +290,7 @@ move-one : (b : Bool) (c : ℕ) (to at : ℤ × ℤ) → (if b then child_at c t
 move-one true c to at = refl
 move-one false c to at = refl
 
-follow-move : (kids : Kids) (rs : List Request) (l child : ℕ) (x y : ℤ) → AreApart kids → kids l ≡ Some child
+pub follow-move : (kids : Kids) (rs : List Request) (l child : ℕ) (x y : ℤ) → AreApart kids → kids l ≡ Some child
     → stack_by kids (rs ++ SetPosition l x y ∷ []) ≡ moved child x y (stack_by kids rs)
 follow-move kids rs l child x y apart is =
     let new = rs ++ SetPosition l x y ∷ [] in

@@ -5,7 +5,7 @@ use Rattle.std.specs.List.{list_any}
 use Rattle.wl_children.specs.declared.placed.Member.{Member as Kept}
 use Rattle.wl_children.specs.Stacks.{Stacks, moved, placed_above, placed_below}
 use Rattle.wl_family.specs.Family.{Tied, applied, changed_at, childless, committed, in_mode, joined, left, links_in, pending_as, stacks_in}
-use Rattle.wl_family.specs.Family.{unlinked}
+use Rattle.wl_family.specs.Family.{at_parent, unlinked}
 use Rattle.wl_state.specs.Request.{Commit, Member, PlaceAbove, PlaceBelow, Request, SetPosition}
 use Rattle.wl_state.specs.State.{History, committed as committed_at, counting, is_commit, position}
 use Rattle.wl_state.specs.Surface.{Surface, applying, asking, with_role}
@@ -82,3 +82,21 @@ abbrev pub AppliesStack : Type 0
 AppliesStack =
     (old new : Tied) (all : Surfaces) (surface : ℕ) → links_in new ≡ links_in old
     → stacks_in new ≡ changed_at surface applied (stacks_in old) → Hang old all → Hang new (with_change surface applying all)
+
+-- set_position of a link that lives: the place of the child is another one in what is pending of its parent.
+abbrev pub MovesChild : Type 0
+MovesChild =
+    (old new : Tied) (all : Surfaces) (number : ℕ) (link : Link) (x y : ℤ) → link_at number all ≡ Some link → link.has_ended ≡ false
+    → links_in new ≡ links_in old
+    → stacks_in new ≡ at_parent (λ parent. pending_as (moved link.child x y)) (links_in old link.child) (stacks_in old) → Hang old all
+    → Hang new (with_change link.parent (asking (SetPosition number x y)) all)
+
+-- place_above and place_below of a link that lives, with the parent or another child of it: so is the child placed in what is pending.
+abbrev pub PlacesChild : Type 0
+PlacesChild =
+    (old new : Tied) (all : Surfaces) (number : ℕ) (link : Link) (at : Member) (sibling : Kept) → link_at number all ≡ Some link
+    → link.has_ended ≡ false → IsKept (kids_of all) at sibling → links_in new ≡ links_in old → Hang old all
+    → (stacks_in new ≡ at_parent (λ parent. pending_as (placed_above link.child sibling)) (links_in old link.child) (stacks_in old)
+        → Hang new (with_change link.parent (asking (PlaceAbove number at)) all))
+    × (stacks_in new ≡ at_parent (λ parent. pending_as (placed_below link.child sibling)) (links_in old link.child) (stacks_in old)
+        → Hang new (with_change link.parent (asking (PlaceBelow number at)) all))

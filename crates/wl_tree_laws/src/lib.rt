@@ -3,7 +3,7 @@
 #![tactic(auto)]
 
 ghost use Rattle.wl_tree_laws.specs.Stacks.{StacksFollow};
-ghost use Rattle.wl_tree_laws.specs.Hanging.{AppliesStack, AsksAlone, CommitsStack};
+ghost use Rattle.wl_tree_laws.specs.Hanging.{AppliesStack, AsksAlone, CommitsStack, MovesChild, PlacesChild};
 ghost use Rattle.wl_tree_laws.specs.Laws.{AppliesDescendants, HaveSameDepth, HaveSameDescent, HaveSameHeight, HaveSameModes};
 
 /// To apply a surface is to apply it and each surface that descends from it, once, and no other, where each child has one link that lives.
@@ -49,4 +49,14 @@ pub fn commits_stack()
 /// To apply a surface makes what is held of its stack count.
 pub fn applies_stack()
     ensures { AppliesStack }
+{}
+
+/// A position that is asked is that of the child in what is pending of its parent.
+pub fn moves_child()
+    ensures { MovesChild }
+{}
+
+/// A child that is placed above or below its parent or another child of it is placed so in what is pending of the parent.
+pub fn places_child()
+    ensures { PlacesChild }
 {}
