@@ -1,6 +1,6 @@
 -- What is kept of how surfaces hang together, after each request.
-use Rattle.std.proofs.Common.{◌≡◌, ℕ, suc, ◌+◌, ◌≤◌, ◌<◌, ◌||◌, ◌==◌, Bool, true, false, cond, Option, Some, None, List, [], ◌∷◌, ◌++◌, map, length, take, refl, ap, sym, subst, ◌∙◌, arith, eq-eqb}
-use Rattle.std.specs.Prelude.{ℤ, pos, find, if◌then◌else◌}
+use Rattle.std.proofs.Common.{◌≡◌, ℕ, suc, ◌+◌, ◌≤◌, ◌==◌, Bool, true, false, cond, Option, Some, None, List, [], ◌∷◌, ◌++◌, map, length, take, refl, ap, sym, subst, ◌∙◌, arith}
+use Rattle.std.specs.Prelude.{find, if◌then◌else◌}
 use Rattle.std.specs.List.{list_any}
 use Rattle.std.specs.Option.{option_map}
 use Rattle.std.proofs.lemmas.Bool.{eqb-true}
@@ -9,12 +9,11 @@ use Rattle.wl_children.specs.declared.placed.Placed.{Placed}
 use Rattle.wl_children.specs.Stacks.{Stacks}
 use Rattle.wl_family.specs.Family.{Tied, applied, changed_at, childless, committed, links_in, stacks_in}
 use Rattle.wl_state.specs.Request.{Child, Commit, Request}
-use Rattle.wl_state.specs.State.{History, apply, committed as committed_at, committed_from, counting, is_commit, is_member, order, position}
+use Rattle.wl_state.specs.State.{History, apply, committed as committed_at, committed_from, is_commit, is_member, order, position}
 use Rattle.wl_state.specs.Surface.{Surface, applying, asking}
-use Rattle.wl_state.specs.Surfaces.{Link, Surfaces, history_in, link_at, with_change}
+use Rattle.wl_state.specs.Surfaces.{Surfaces, history_in, link_at, with_change}
 use Rattle.wl_state.proofs.Commits.{committed-last}
-use Rattle.wl_tree_laws.specs.Hanging.{AppliesStack, AreTied, AsksAlone, CommitsStack, Hang, HangsAs, kids_of, stacks_at, stacks_by}
-use Rattle.wl_tree_laws.specs.Laws.{links_of}
+use Rattle.wl_tree_laws.specs.Hanging.{AppliesStack, AreTied, AsksAlone, CommitsStack, HangsAs, kids_of, stacks_at, stacks_by}
 use Rattle.wl_tree_laws.specs.Stacks.{Kids, has_child, is_about_children, stack_by}
 use Rattle.wl_tree_laws.proofs.Stacking.{follow-still, order-last, order-still, position-last, position-still}
 

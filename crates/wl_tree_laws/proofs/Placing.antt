@@ -1,6 +1,6 @@
 -- What is kept of how surfaces hang together, once a child is placed.
-use Rattle.std.proofs.Common.{◌≡◌, ℕ, ◌≤◌, ◌||◌, ◌==◌, Bool, true, false, cond, Option, Some, None, List, [], ◌∷◌, ◌++◌, map, length, take, refl, ap, sym, subst, ◌∙◌, arith, eq-eqb}
-use Rattle.std.specs.Prelude.{ℤ, pos, find, filter, not, if◌then◌else◌}
+use Rattle.std.proofs.Common.{◌≡◌, ℕ, ◌≤◌, ◌||◌, ◌==◌, Bool, true, false, cond, Option, Some, None, List, [], ◌∷◌, ◌++◌, take, refl, ap, sym, subst, ◌∙◌, arith, eq-eqb}
+use Rattle.std.specs.Prelude.{ℤ, find, if◌then◌else◌}
 use Rattle.std.specs.List.{list_any}
 use Rattle.std.specs.Option.{option_map}
 use Rattle.std.proofs.lemmas.Bool.{eqb-true}
@@ -8,14 +8,13 @@ use Rattle.wl_children.specs.declared.placed.Member.{Member as Kept}
 use Rattle.wl_children.specs.declared.placed.Placed.{Placed}
 use Rattle.wl_children.specs.Stacks.{Stacks, moved, placed_above, placed_below}
 use Rattle.wl_family.specs.declared.link.Link.{Link as KeptLink}
-use Rattle.wl_family.specs.Family.{Tied, at_parent, changed_at, childless, links_in, pending_as, stacks_in}
+use Rattle.wl_family.specs.Family.{Tied, at_parent, childless, links_in, pending_as, stacks_in}
 use Rattle.wl_state.specs.Request.{Child, Itself, Member, PlaceAbove, PlaceBelow, Request, SetPosition}
 use Rattle.wl_state.specs.State.{History, above, below, committed as committed_at, is_commit, is_member, order, placed, position, position_asked, without}
 use Rattle.wl_state.specs.Surface.{asking}
 use Rattle.wl_state.specs.Surfaces.{Link, Surfaces, history_in, link_at, with_change}
-use Rattle.wl_state.specs.Trees.{link_of}
-use Rattle.wl_tree_laws.specs.Hanging.{AreNumbered, AreTied, Hang, HangsAs, MovesChild, PlacesChild, kid_of, kids_of, stacks_at, stacks_by}
-use Rattle.wl_tree_laws.specs.Laws.{AreOnceLinked, is_live_of, links_of}
+use Rattle.wl_tree_laws.specs.Hanging.{AreTied, Hang, MovesChild, PlacesChild, kid_of, kids_of, stacks_by}
+use Rattle.wl_tree_laws.specs.Laws.{AreOnceLinked, is_live_of}
 use Rattle.wl_tree_laws.specs.Stacks.{AreApart, IsKept, Kids, has_child, stack_by}
 use Rattle.wl_tree_laws.proofs.Hanging.{changed-pointwise, committed-same, committed-within, hangs-changed, same-stacks, take-more, tied-changed, with_asked}
 use Rattle.wl_tree_laws.proofs.Stacking.{follow-above, follow-below, follow-move, order-last, position-last}

@@ -25,7 +25,7 @@ position-last l rs r = fold-append (position_asked l) (pos 0, pos 0) rs (r ∷ [
 
 -- ---- places of members
 
-same-places : (f g : Member → Option Placed) → ((m : Member) → f m ≡ g m) → (ms : List Member) → filter_map f ms ≡ filter_map g ms
+pub same-places : (f g : Member → Option Placed) → ((m : Member) → f m ≡ g m) → (ms : List Member) → filter_map f ms ≡ filter_map g ms
 same-places f g same [] = refl
 same-places f g same (m ∷ ms) = rw (same m, same-places f g same ms) refl
 
@@ -84,7 +84,7 @@ with-other kids rs l child (Child k) apart =
     let other : (k == l) ≡ false = grind (arith, apart) in
     ap (λ b. option_map (λ child. record { member = kept.Child child; x = (position k rs).0; y = (position k rs).1 }) (cond b child (kids k))) other
 
-follow-others : (kids : Kids) (rs : List Request) (l : ℕ) (child : Option ℕ) → has_child l rs ≡ false → stack_by (with_kid l child kids) rs ≡ stack_by kids rs
+pub follow-others : (kids : Kids) (rs : List Request) (l : ℕ) (child : Option ℕ) → has_child l rs ≡ false → stack_by (with_kid l child kids) rs ≡ stack_by kids rs
 follow-others kids rs l child none = other-places (place_of (with_kid l child kids) rs) (place_of kids rs) l (with-other kids rs l child) (order rs) none
 
 follow-add : (kids : Kids) (rs : List Request) (l child : ℕ) → has_child l rs ≡ false → position l rs ≡ (pos 0, pos 0)
@@ -309,7 +309,7 @@ follow-move kids rs l child x y apart is =
 
 -- ---- the end of a link
 
-follow-lose : (kids : Kids) (rs : List Request) (l child : ℕ) → AreApart kids → kids l ≡ Some child
+pub follow-lose : (kids : Kids) (rs : List Request) (l child : ℕ) → AreApart kids → kids l ≡ Some child
     → stack_by (with_kid l None kids) rs ≡ without_kept (kept.Child child) (stack_by kids rs)
 follow-lose kids rs l child apart is =
     less (order rs) ∙ sym (filtered (place_of kids rs) (Child l) (kept.Child child) (same-member kids apart rs (Child l) (kept.Child child) is) (order rs))

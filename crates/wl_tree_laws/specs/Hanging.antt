@@ -2,16 +2,16 @@
 -- (wayland.xml, wl_subcompositor and wl_subsurface).
 use Rattle.std.specs.Prelude.{ℕ, ℤ, pos, ◌≡◌, ◌≤◌, ◌==◌, Bool, true, false, cond, take, Option, Some, None, List, [], ◌∷◌}
 use Rattle.std.specs.List.{list_any}
+use Rattle.std.specs.Option.{option_map}
 use Rattle.wl_children.specs.declared.placed.Member.{Member as Kept}
-use Rattle.wl_children.specs.Stacks.{Stacks, moved, placed_above, placed_below}
+use Rattle.wl_children.specs.Stacks.{Stacks, added, moved, placed_above, placed_below}
 use Rattle.wl_family.specs.Family.{Tied, applied, changed_at, childless, committed, in_mode, joined, left, links_in, pending_as, stacks_in}
 use Rattle.wl_family.specs.Family.{at_parent, unlinked}
 use Rattle.wl_state.specs.Request.{Commit, Member, PlaceAbove, PlaceBelow, Request, SetPosition}
 use Rattle.wl_state.specs.State.{History, committed as committed_at, counting, is_commit, position}
-use Rattle.wl_state.specs.Surface.{Surface, applying, asking, with_role}
+use Rattle.wl_state.specs.Surface.{applying, asking}
 use Rattle.wl_state.specs.Surfaces.{Link, Surfaces, history_in, link_at, with_change}
 use Rattle.wl_state.specs.Trees.{ending, in_mode as with_mode, linked, with_link}
-use Rattle.wl_state.specs.declared.role.Role.{Role}
 use Rattle.wl_tree_laws.specs.Laws.{AreOnceLinked, links_of}
 use Rattle.wl_tree_laws.specs.Stacks.{IsKept, Kids, has_child, is_about_children, stack_by}
 
@@ -97,6 +97,28 @@ PlacesChild =
     (old new : Tied) (all : Surfaces) (number : ℕ) (link : Link) (at : Member) (sibling : Kept) → link_at number all ≡ Some link
     → link.has_ended ≡ false → IsKept (kids_of all) at sibling → links_in new ≡ links_in old → Hang old all
     → (stacks_in new ≡ at_parent (λ parent. pending_as (placed_above link.child sibling)) (links_in old link.child) (stacks_in old)
-        → Hang new (with_change link.parent (asking (PlaceAbove number at)) all))
+    → Hang new (with_change link.parent (asking (PlaceAbove number at)) all))
     × (stacks_in new ≡ at_parent (λ parent. pending_as (placed_below link.child sibling)) (links_in old link.child) (stacks_in old)
-        → Hang new (with_change link.parent (asking (PlaceBelow number at)) all))
+    → Hang new (with_change link.parent (asking (PlaceBelow number at)) all))
+
+-- get_subsurface, where the child has no link that lives and the number is new: it is synchronised, and topmost in what is pending of its
+-- parent.
+abbrev pub JoinsChild : Type 0
+JoinsChild =
+    (old new : Tied) (all : Surfaces) (number child parent : ℕ) (h : History) → link_at number all ≡ None → links_in old child ≡ None
+    → history_in parent all ≡ Some h → links_in new ≡ joined child parent (links_in old)
+    → stacks_in new ≡ changed_at parent (pending_as (added child)) (stacks_in old) → Hang old all → Hang new (linked number child parent all)
+
+-- The end of a link that lives: the child is in no stack of its parent.
+abbrev pub EndsLink : Type 0
+EndsLink =
+    (old new : Tied) (all : Surfaces) (number : ℕ) (link : Link) → link_at number all ≡ Some link → link.has_ended ≡ false
+    → links_in new ≡ unlinked link.child (links_in old) → stacks_in new ≡ left link.child (links_in old link.child) (stacks_in old)
+    → Hang old all → Hang new (with_link number ending all)
+
+-- set_sync and set_desync of a link that lives
+abbrev pub SetsMode : Type 0
+SetsMode =
+    (old new : Tied) (all : Surfaces) (number : ℕ) (link : Link) (synchronised : Bool) → link_at number all ≡ Some link
+    → link.has_ended ≡ false → links_in new ≡ changed_at link.child (option_map (in_mode synchronised)) (links_in old)
+    → stacks_in new ≡ stacks_in old → Hang old all → Hang new (with_link number (with_mode synchronised) all)

@@ -3,7 +3,7 @@
 #![tactic(auto)]
 
 ghost use Rattle.wl_tree_laws.specs.Stacks.{StacksFollow};
-ghost use Rattle.wl_tree_laws.specs.Hanging.{AppliesStack, AsksAlone, CommitsStack, MovesChild, PlacesChild};
+ghost use Rattle.wl_tree_laws.specs.Hanging.{AppliesStack, AsksAlone, CommitsStack, MovesChild, PlacesChild, SetsMode};
 ghost use Rattle.wl_tree_laws.specs.Laws.{AppliesDescendants, HaveSameDepth, HaveSameDescent, HaveSameHeight, HaveSameModes};
 
 /// To apply a surface is to apply it and each surface that descends from it, once, and no other, where each child has one link that lives.
@@ -59,4 +59,9 @@ pub fn moves_child()
 /// A child that is placed above or below its parent or another child of it is placed so in what is pending of the parent.
 pub fn places_child()
     ensures { PlacesChild }
+{}
+
+/// A mode that is set is that of the child's link, and changes nothing else.
+pub fn sets_mode()
+    ensures { SetsMode }
 {}

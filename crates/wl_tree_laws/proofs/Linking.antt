@@ -1,0 +1,259 @@
+-- What is kept of how surfaces hang together, once links come, end or change their mode.
+use Rattle.std.proofs.Common.{◌≡◌, ℕ, ◌||◌, ◌&&◌, ◌==◌, Bool, true, false, cond, Option, Some, None, List, [], ◌∷◌, map, refl, ap, sym, ◌∙◌, arith, eq-eqb}
+use Rattle.std.specs.Prelude.{find, not, if◌then◌else◌}
+use Rattle.std.specs.List.{list_any}
+use Rattle.std.specs.Option.{option_map}
+use Rattle.std.proofs.lemmas.Bool.{eqb-true}
+use Rattle.std.proofs.Math.Path.{fun_ext}
+use Rattle.wl_family.specs.Family.{in_mode, links_in}
+use Rattle.wl_state.specs.Surfaces.{Link, Surfaces, history_in, link_at}
+use Rattle.wl_state.specs.Trees.{in_mode as with_mode, link_of, with_link}
+use Rattle.wl_tree_laws.specs.Hanging.{AreNumbered, AreTied, SetsMode, kid_of, kids_of, stacks_at}
+use Rattle.wl_tree_laws.specs.Laws.{AreOnceLinked, is_live_of}
+use Rattle.wl_tree_laws.proofs.Placing.{kept-link, kept_of, live-found, numbered}
+
+-- ---- one link changes
+
+changed-number : (b : Bool) (f : Link → Link) (l : Link) → (f l).number ≡ l.number → (cond b (f l) l).number ≡ l.number
+changed-number true f l same = same
+changed-number false f l same = refl
+
+-- the links by their numbers, where one changes
+at-changed : (n k : ℕ) (f : Link → Link) → ((l : Link) → (f l).number ≡ l.number) → (ls : List Link)
+    → find (λ (l : Link). l.number == n) (map (λ l. cond (l.number == k) (f l) l) ls) ≡ option_map (λ l. cond (n == k) (f l) l) (find (λ (l : Link). l.number == n) ls)
+at-changed n k f same [] = refl
+at-changed n k f same (x ∷ xs) = at (x.number == n) refl (at-changed n k f same xs)
+  where
+    at : (b : Bool) → (x.number == n) ≡ b
+        → find (λ (l : Link). l.number == n) (map (λ l. cond (l.number == k) (f l) l) xs) ≡ option_map (λ l. cond (n == k) (f l) l) (find (λ (l : Link). l.number == n) xs)
+        → find (λ (l : Link). l.number == n) (map (λ l. cond (l.number == k) (f l) l) (x ∷ xs)) ≡ option_map (λ l. cond (n == k) (f l) l) (find (λ (l : Link). l.number == n) (x ∷ xs))
+    at true e next =
+        let here = ap (λ m. m == n) (changed-number (x.number == k) f x (same x)) ∙ e in
+        rw (here, e) (ap (λ m. Some (cond (m == k) (f x) x)) (eqb-true x.number n e))
+    at false e next =
+        let here = ap (λ m. m == n) (changed-number (x.number == k) f x (same x)) ∙ e in
+        rw (here, e) next
+
+-- numbers stay apart
+numbered-none : (n k : ℕ) (f : Link → Link) → ((l : Link) → (f l).number ≡ l.number) → (ls : List Link)
+    → list_any (λ l. l.number == n) (map (λ l. cond (l.number == k) (f l) l) ls) ≡ list_any (λ l. l.number == n) ls
+numbered-none n k f same [] = refl
+numbered-none n k f same (x ∷ xs) =
+    let here = ap (λ m. m == n) (changed-number (x.number == k) f x (same x)) in
+    rw here (ap (λ b. x.number == n || b) (numbered-none n k f same xs))
+
+numbered-changed : (k : ℕ) (f : Link → Link) → ((l : Link) → (f l).number ≡ l.number) → (ls : List Link) → AreNumbered ls → AreNumbered (map (λ l. cond (l.number == k) (f l) l) ls)
+numbered-changed k f same [] apart = tt
+numbered-changed k f same (x ∷ xs) apart = (
+  ap (λ m. list_any (λ l. l.number == m) (map (λ l. cond (l.number == k) (f l) l) xs)) (changed-number (x.number == k) f x (same x))
+      ∙ (numbered-none x.number k f same xs ∙ apart.0),
+  numbered-changed k f same xs apart.1,
+)
+
+-- A change of a link that keeps its child and its parent, and makes none live that had ended.
+record KeepsLink (f : Link → Link) : Type 0 where
+  number : (l : Link) → (f l).number ≡ l.number
+  child : (l : Link) → (f l).child ≡ l.child
+  parent : (l : Link) → (f l).parent ≡ l.parent
+  ended : (l : Link) → l.has_ended ≡ true → (f l).has_ended ≡ true
+
+live-fewer : (ended new same : Bool) → (ended ≡ true → new ≡ true) → (not ended && same) ≡ false → (not new && same) ≡ false
+live-fewer true new same ends none = ap (λ b. not b && same) (ends refl)
+live-fewer false true same ends none = refl
+live-fewer false false same ends none = none
+
+or-false : (a b : Bool) → (a || b) ≡ false → (a ≡ false) × (b ≡ false)
+or-false false b e = (refl, e)
+or-false true b e = absurd (cc)
+
+both-false : (a b : Bool) → a ≡ false → b ≡ false → (a || b) ≡ false
+both-false a b e f = rw (e, f) refl
+
+changed-child : (b : Bool) (f : Link → Link) (l : Link) → KeepsLink f → (cond b (f l) l).child ≡ l.child
+changed-child true f l keeps = keeps.child l
+changed-child false f l keeps = refl
+
+changed-ended : (b : Bool) (f : Link → Link) (l : Link) → KeepsLink f → l.has_ended ≡ true → (cond b (f l) l).has_ended ≡ true
+changed-ended true f l keeps e = keeps.ended l e
+changed-ended false f l keeps e = e
+
+none-live : (c k : ℕ) (f : Link → Link) → KeepsLink f → (ls : List Link) → list_any (is_live_of c) ls ≡ false
+    → list_any (is_live_of c) (map (λ l. cond (l.number == k) (f l) l) ls) ≡ false
+none-live c k f keeps [] none = refl
+none-live c k f keeps (x ∷ xs) none =
+    let parts = or-false (is_live_of c x) (list_any (is_live_of c) xs) none in
+    both-false _ _
+    (ap (λ m. not (cond (x.number == k) (f x) x).has_ended && m == c) (changed-child (x.number == k) f x keeps)
+    ∙ live-fewer x.has_ended (cond (x.number == k) (f x) x).has_ended (x.child == c) (changed-ended (x.number == k) f x keeps) parts.0)
+    (none-live c k f keeps xs parts.1)
+
+once-changed : (k : ℕ) (f : Link → Link) → KeepsLink f → (ls : List Link) → AreOnceLinked ls → AreOnceLinked (map (λ l. cond (l.number == k) (f l) l) ls)
+once-changed k f keeps [] once = tt
+once-changed k f keeps (x ∷ xs) once = (
+  λ lives.
+      ap (λ c. list_any (is_live_of c) (map (λ l. cond (l.number == k) (f l) l) xs)) (changed-child (x.number == k) f x keeps)
+      ∙ none-live x.child k f keeps xs (once.0 (lived x.has_ended refl lives)),
+  once-changed k f keeps xs once.1,
+)
+  where
+    lived : (b : Bool) → x.has_ended ≡ b → (cond (x.number == k) (f x) x).has_ended ≡ false → x.has_ended ≡ false
+    lived false e lives = e
+    lived true e lives = absurd (let both = sym (changed-ended (x.number == k) f x keeps e) ∙ lives in cc)
+
+-- a link that changed is what it was made of
+record WasLink (o : Option Link) (f : Link → Link) (b : Bool) (new : Link) : Type 0 where
+  old : Link
+  here : o ≡ Some old
+  now : cond b (f old) old ≡ new
+
+was-link : (o : Option Link) (f : Link → Link) (b : Bool) (new : Link) → option_map (λ l. cond b (f l) l) o ≡ Some new → WasLink o f b new
+was-link None f b new e = absurd (cc)
+was-link (Some l) f b new e = record { old = l; here = refl; now = cc }
+
+gone-link : (o : Option Link) (g : Link → Link) → option_map g o ≡ None → o ≡ None
+gone-link None g e = refl
+gone-link (Some l) g e = absurd (cc)
+
+changed-parent : (b : Bool) (f : Link → Link) (l : Link) → KeepsLink f → (cond b (f l) l).parent ≡ l.parent
+changed-parent true f l keeps = keeps.parent l
+changed-parent false f l keeps = refl
+
+link-tied : (all : Surfaces) (k : ℕ) (f : Link → Link) → KeepsLink f → AreTied all → AreTied (with_link k f all)
+link-tied all k f keeps tied = record {
+  once = once-changed k f keeps all.links tied.once;
+  apart = numbered-changed k f keeps.number all.links tied.apart;
+  cuts = tied.cuts;
+  named = λ n l h there gone. tied.named n l h there (before l gone);
+  placed = λ n l h there gone. tied.placed n l h there (before l gone);
+  parents = λ n l h new there e has.
+      let was = was-link (link_at l all) f (l == k) new (sym (at-changed l k f keeps.number all.links) ∙ e) in
+      ap (λ (l : Link). l.parent) (sym was.now) ∙ (changed-parent (l == k) f was.old keeps ∙ tied.parents n l h was.old there was.here has);
+  listed = λ l new e lives.
+      let was = was-link (link_at l all) f (l == k) new (sym (at-changed l k f keeps.number all.links) ∙ e) in
+      let lived = lives-before l was.old new (l == k) was.now lives in
+      let is = tied.listed l was.old was.here lived in
+      let same = ap (λ (l : Link). l.parent) (sym was.now) ∙ changed-parent (l == k) f was.old keeps in
+      (is.0, ap (λ p. history_in p all) same ∙ is.1, is.2);
+}
+  where
+    before : (l : ℕ) → link_at l (with_link k f all) ≡ None → link_at l all ≡ None
+    before l gone = gone-link (link_at l all) (λ l2. cond (l == k) (f l2) l2) (sym (at-changed l k f keeps.number all.links) ∙ gone)
+
+    lives-before : (l : ℕ) (old new : Link) (b : Bool) → cond b (f old) old ≡ new → new.has_ended ≡ false → old.has_ended ≡ false
+    lives-before l old new b is lives = at old.has_ended refl
+      where
+        at : (e : Bool) → old.has_ended ≡ e → old.has_ended ≡ false
+        at false e = e
+        at true e = absurd (let both = sym (changed-ended b f old keeps e) ∙ (ap (λ (l : Link). l.has_ended) is ∙ lives) in cc)
+
+-- ---- the links that live, where one changes
+
+-- an ended link stays so, and one that lives too
+live-changed : (c k : ℕ) (f : Link → Link) → KeepsLink f → ((l : Link) → (f l).has_ended ≡ l.has_ended) → (ls : List Link)
+    → find (is_live_of c) (map (λ l. cond (l.number == k) (f l) l) ls) ≡ option_map (λ l. cond (l.number == k) (f l) l) (find (is_live_of c) ls)
+live-changed c k f keeps lives [] = refl
+live-changed c k f keeps lives (x ∷ xs) = at (is_live_of c x) refl (live-changed c k f keeps lives xs)
+  where
+    ended-same : (b : Bool) → (cond b (f x) x).has_ended ≡ x.has_ended
+    ended-same true = lives x
+    ended-same false = refl
+
+    is-same : (a b : Bool) (m n : ℕ) → a ≡ b → m ≡ n → (not a && m == c) ≡ (not b && n == c)
+    is-same a b m n e g = rw (e, g) refl
+
+    now : is_live_of c (cond (x.number == k) (f x) x) ≡ is_live_of c x
+    now = is-same _ _ _ _ (ended-same (x.number == k)) (changed-child (x.number == k) f x keeps)
+
+    at : (b : Bool) → is_live_of c x ≡ b
+        → find (is_live_of c) (map (λ l. cond (l.number == k) (f l) l) xs) ≡ option_map (λ l. cond (l.number == k) (f l) l) (find (is_live_of c) xs)
+        → find (is_live_of c) (map (λ l. cond (l.number == k) (f l) l) (x ∷ xs)) ≡ option_map (λ l. cond (l.number == k) (f l) l) (find (is_live_of c) (x ∷ xs))
+    at true e next = let here = now ∙ e in rw (here, e) refl
+    at false e next = let here = now ∙ e in rw (here, e) next
+
+no-number : (k : ℕ) (ls : List Link) (p : Link → Bool) (l : Link) → list_any (λ l. l.number == k) ls ≡ false → find p ls ≡ Some l → (l.number == k) ≡ false
+no-number k [] p l none e = absurd (cc)
+no-number k (x ∷ xs) p l none e = at (p x) e (or-false (x.number == k) _ none) (no-number k xs p l)
+  where
+    at : (b : Bool) → cond b (Some x) (find p xs) ≡ Some l → ((x.number == k) ≡ false) × (list_any (λ l. l.number == k) xs ≡ false)
+        → (list_any (λ l. l.number == k) xs ≡ false → find p xs ≡ Some l → (l.number == k) ≡ false) → (l.number == k) ≡ false
+    at true e parts next = let it : x ≡ l = cc in ap (λ (l : Link). l.number == k) (sym it) ∙ parts.0
+    at false e parts next = next parts.1 e
+
+-- what is found in another way is found by its number
+number-found : (p : Link → Bool) (ls : List Link) (l : Link) → AreNumbered ls → find p ls ≡ Some l → find (λ (k : Link). k.number == l.number) ls ≡ Some l
+number-found p [] l apart e = absurd (cc)
+number-found p (x ∷ xs) l apart e = at (p x) e (number-found p xs l apart.1)
+  where
+    at : (b : Bool) → cond b (Some x) (find p xs) ≡ Some l → (find p xs ≡ Some l → find (λ (k : Link). k.number == l.number) xs ≡ Some l)
+        → find (λ (k : Link). k.number == l.number) (x ∷ xs) ≡ Some l
+    at true e next = let it : x ≡ l = cc in let same : (x.number == l.number) ≡ true = eq-eqb x.number l.number (ap (λ (l : Link). l.number) it) in rw same (ap (λ (l : Link). Some l) it)
+    at false e next =
+        let other = no-number x.number xs p l apart.0 e in
+        let turned : (x.number == l.number) ≡ false = grind (arith, other) in
+        rw turned (next e)
+
+-- a link that lives is of the child that it is found by
+live-child : (c : ℕ) (ls : List Link) (l : Link) → find (is_live_of c) ls ≡ Some l → (l.child == c) ≡ true
+live-child c [] l e = absurd (cc)
+live-child c (x ∷ xs) l e = at (is_live_of c x) refl e (live-child c xs l)
+  where
+    second : (ended same : Bool) → (not ended && same) ≡ true → same ≡ true
+    second false same e = e
+    second true same e = absurd (cc)
+
+    at : (b : Bool) → is_live_of c x ≡ b → cond b (Some x) (find (is_live_of c) xs) ≡ Some l → (find (is_live_of c) xs ≡ Some l → (l.child == c) ≡ true) → (l.child == c) ≡ true
+    at true f e next = let it : x ≡ l = cc in ap (λ (l : Link). l.child == c) (sym it) ∙ second x.has_ended (x.child == c) f
+    at false f e next = next e
+
+-- ---- modes
+
+keeps-mode : (synchronised : Bool) → KeepsLink (with_mode synchronised)
+keeps-mode synchronised = record { number = λ l. refl; child = λ l. refl; parent = λ l. refl; ended = λ l e. e }
+
+same-kids-mode : (synchronised b : Bool) (o : Option Link) → kid_of (option_map (λ l. cond b (with_mode synchronised l) l) o) ≡ kid_of o
+same-kids-mode synchronised b None = refl
+same-kids-mode synchronised true (Some l) = refl
+same-kids-mode synchronised false (Some l) = refl
+
+kids-mode : (all : Surfaces) (number : ℕ) (synchronised : Bool) → kids_of (with_link number (with_mode synchronised) all) ≡ kids_of all
+kids-mode all number synchronised =
+    fun_ext (λ l. ap kid_of (at-changed l number (with_mode synchronised) (λ l. refl) all.links) ∙ same-kids-mode synchronised (l == number) (link_at l all))
+
+pub sets-mode : SetsMode
+sets-mode old new all number link synchronised there lives links stacks hang = (
+  record {
+    links = λ c. ap (λ book. book c) links ∙ (at c (c == link.child) refl ∙ ap (option_map kept_of) (sym (live-changed c number f (keeps-mode synchronised) (λ l. refl) all.links)));
+    stacks = λ n. ap (λ all. all n) stacks ∙ (hang.0.stacks n ∙ ap (λ kids. stacks_at kids (history_in n all)) (sym (kids-mode all number synchronised)));
+  },
+  link-tied all number f (keeps-mode synchronised) hang.1,
+)
+  where
+    f : Link → Link
+    f = with_mode synchronised
+
+    other : (c : ℕ) (o : Option Link) → link_of c all ≡ o → (c == link.child) ≡ false
+        → option_map kept_of o ≡ option_map kept_of (option_map (λ l. cond (l.number == number) (with_mode synchronised l) l) o)
+    other c None e apart = refl
+    other c (Some l) e apart = here (l.number == number) refl
+      where
+        here : (b : Bool) → (l.number == number) ≡ b → Option.Some (kept_of l) ≡ Some (kept_of (cond b (with_mode synchronised l) l))
+        here false g = refl
+        here true g =
+            absurd (let found = number-found (is_live_of c) all.links l hang.1.apart e in
+            let first : link_at number all ≡ Some l = ap (λ n. link_at n all) (sym (eqb-true l.number number g)) ∙ found in
+            let both : Option.Some link ≡ Some l = sym there ∙ first in
+            let same : link ≡ l = cc in
+            let is = live-child c all.links l e in
+            let child : c ≡ link.child = sym (ap (λ (l : Link). l.child) same ∙ eqb-true l.child c is) in
+            let yes = eq-eqb c link.child child in
+            let clash = sym yes ∙ apart in cc)
+
+    at : (c : ℕ) (b : Bool) → (c == link.child) ≡ b
+        → (if b then option_map (in_mode synchronised) (links_in old link.child) else links_in old c)
+        ≡ option_map kept_of (option_map (λ l. cond (l.number == number) (with_mode synchronised l) l) (link_of c all))
+    at c true e =
+        let child = eqb-true c link.child e in
+        let found : link_of c all ≡ Some link = ap (λ c. link_of c all) child ∙ live-found number all.links link hang.1.once there lives in
+        let is_it : (link.number == number) ≡ true = eq-eqb link.number number (numbered number all.links link there) in
+        rw (found, is_it) (ap (option_map (in_mode synchronised)) (kept-link old all number link hang there lives))
+    at c false e = hang.0.links c ∙ other c (link_of c all) refl e
