@@ -1,16 +1,25 @@
 -- What is kept of how surfaces hang together, once links come, end or change their mode.
-use Rattle.std.proofs.Common.{◌≡◌, ℕ, ◌||◌, ◌&&◌, ◌==◌, Bool, true, false, cond, Option, Some, None, List, [], ◌∷◌, map, refl, ap, sym, ◌∙◌, arith, eq-eqb}
-use Rattle.std.specs.Prelude.{find, not, if◌then◌else◌}
+use Rattle.std.proofs.Common.{◌≡◌, ℕ, ◌||◌, ◌&&◌, ◌==◌, Bool, true, false, cond, Option, Some, None, List, [], ◌∷◌, ◌++◌, map, take, drop, refl, ap, sym, ◌∙◌, arith, eq-eqb}
+use Rattle.std.specs.Prelude.{find, fold, not, if◌then◌else◌}
 use Rattle.std.specs.List.{list_any}
 use Rattle.std.specs.Option.{option_map}
 use Rattle.std.proofs.lemmas.Bool.{eqb-true}
+use Rattle.std.proofs.lemmas.List.{take-append-drop}
+use Rattle.std.proofs.lemmas.List.Folds.{list_any-append}
+use Rattle.std.proofs.lemmas.List.Sums.{fold-append}
 use Rattle.std.proofs.Math.Path.{fun_ext}
-use Rattle.wl_family.specs.Family.{in_mode, links_in}
+use Rattle.wl_children.specs.Stacks.{removed}
+use Rattle.wl_family.specs.Family.{in_mode, links_in, stacks_in}
+use Rattle.wl_state.specs.Request.{AddChild, Child, Itself, Member, PlaceAbove, PlaceBelow, Request}
+use Rattle.wl_state.specs.State.{History, above, below, committed as committed_at, is_member, order, ordered, placed, without}
 use Rattle.wl_state.specs.Surfaces.{Link, Surfaces, history_in, link_at}
-use Rattle.wl_state.specs.Trees.{in_mode as with_mode, link_of, with_link}
-use Rattle.wl_tree_laws.specs.Hanging.{AreNumbered, AreTied, SetsMode, kid_of, kids_of, stacks_at}
-use Rattle.wl_tree_laws.specs.Laws.{AreOnceLinked, is_live_of}
-use Rattle.wl_tree_laws.proofs.Placing.{kept-link, kept_of, live-found, numbered}
+use Rattle.wl_state.specs.Trees.{ending, in_mode as with_mode, link_of, with_link}
+use Rattle.wl_tree_laws.specs.Hanging.{AreNumbered, AreTied, EndsLink, SetsMode, kid_of, kids_of, stacks_at, stacks_by}
+use Rattle.wl_tree_laws.specs.Laws.{AreOnceLinked, is_live_of, links_of}
+use Rattle.wl_tree_laws.specs.Stacks.{Kids, has_child, with_kid}
+use Rattle.wl_tree_laws.proofs.Hanging.{same-stacks}
+use Rattle.wl_tree_laws.proofs.Placing.{any-above, any-below, any-without, apart-kids, kept-link, kept_of, kid-is, live-found, no-live, numbered, parent-pointwise}
+use Rattle.wl_tree_laws.proofs.Stacking.{follow-lose, follow-others}
 
 -- ---- one link changes
 
@@ -257,3 +266,152 @@ sets-mode old new all number link synchronised there lives links stacks hang = (
         let is_it : (link.number == number) ≡ true = eq-eqb link.number number (numbered number all.links link there) in
         rw (found, is_it) (ap (option_map (in_mode synchronised)) (kept-link old all number link hang there lives))
     at c false e = hang.0.links c ∙ other c (link_of c all) refl e
+
+-- ---- orders never lose who stands in them
+
+grows-beside : (l k : ℕ) (at : Member) (ms : List Member) (beside : Member → Member → List Member → List Member)
+    → ((q : Member → Bool) (c at : Member) (ms : List Member) → list_any (is_member at) ms ≡ true → list_any q (beside c at ms) ≡ (q c || list_any q ms))
+    → list_any (is_member (Child l)) (placed beside k at ms) ≡ false → list_any (is_member (Child l)) ms ≡ false
+grows-beside l k at ms beside besides none = here (list_any (is_member at) (without (Child k) ms)) refl none
+  where
+    here : (b : Bool) → list_any (is_member at) (without (Child k) ms) ≡ b
+        → list_any (is_member (Child l)) (if b then beside (Child k) at (without (Child k) ms) else ms) ≡ false → list_any (is_member (Child l)) ms ≡ false
+    here true e none =
+        let both = sym (besides (is_member (Child l)) (Child k) at (without (Child k) ms) e ∙ any-without (is_member (Child l)) (Child k) ms) ∙ none in
+        (or-false (is_member (Child l) (Child k)) (list_any (is_member (Child l)) ms) both).1
+    here false e none = none
+
+grows : (l : ℕ) (ms : List Member) (r : Request) → list_any (is_member (Child l)) (ordered ms r) ≡ false → list_any (is_member (Child l)) ms ≡ false
+grows l ms (AddChild k) none =
+    (or-false (list_any (is_member (Child l)) ms) _ (sym (list_any-append (is_member (Child l)) ms (Child k ∷ [])) ∙ none)).0
+grows l ms (PlaceAbove k at) none = grows-beside l k at ms above any-above none
+grows l ms (PlaceBelow k at) none = grows-beside l k at ms below any-below none
+grows l ms r none = none
+
+grows-all : (l : ℕ) (ms : List Member) (rs : List Request) → list_any (is_member (Child l)) (fold ordered ms rs) ≡ false → list_any (is_member (Child l)) ms ≡ false
+grows-all l ms [] none = none
+grows-all l ms (r ∷ rs) none = grows l ms r (grows-all l (ordered ms r) rs none)
+
+-- who isn't there at the end never was
+never-there : (l n : ℕ) (rs : List Request) → has_child l rs ≡ false → has_child l (take n rs) ≡ false
+never-there l n rs none =
+    let whole : fold ordered (order (take n rs)) (drop n rs) ≡ order rs = sym (fold-append ordered (Itself ∷ []) (take n rs) (drop n rs)) ∙ ap order (take-append-drop n rs) in
+    grows-all l (order (take n rs)) (drop n rs) (ap (list_any (is_member (Child l))) whole ∙ none)
+
+-- ---- the stacks of surfaces that a link is nothing to
+
+stacks-others : (kids : Kids) (h : History) (l : ℕ) (child : Option ℕ) → has_child l h.requests ≡ false → stacks_by (with_kid l child kids) h ≡ stacks_by kids h
+stacks-others kids h l child none =
+    same-stacks (follow-others kids h.requests l child none)
+    (follow-others kids (take (committed_at h.requests) h.requests) l child (never-there l (committed_at h.requests) h.requests none))
+    (follow-others kids (take h.cut h.requests) l child (never-there l h.cut h.requests none))
+
+-- ---- the end of a link
+
+keeps-ending : KeepsLink ending
+keeps-ending = record { number = λ l. refl; child = λ l. refl; parent = λ l. refl; ended = λ l e. refl }
+
+kids-ending : (all : Surfaces) (number : ℕ) → kids_of (with_link number ending all) ≡ with_kid number None (kids_of all)
+kids-ending all number = fun_ext (λ l. ap kid_of (at-changed l number ending (λ l. refl) all.links) ∙ at (l == number) (link_at l all))
+  where
+    at : (b : Bool) (o : Option Link) → kid_of (option_map (λ l. cond b (ending l) l) o) ≡ cond b None (kid_of o)
+    at true None = refl
+    at true (Some l) = refl
+    at false None = refl
+    at false (Some l) = refl
+
+none-found : (p : Link → Bool) (ls : List Link) → list_any p ls ≡ false → find p ls ≡ None
+none-found p [] none = refl
+none-found p (x ∷ xs) none = let parts = or-false (p x) (list_any p xs) none in rw parts.0 (none-found p xs parts.1)
+
+-- nothing changes where no link has the number
+none-changed : (k : ℕ) (f : Link → Link) (ls : List Link) → list_any (λ l. l.number == k) ls ≡ false → map (λ l. cond (l.number == k) (f l) l) ls ≡ ls
+none-changed k f [] none = refl
+none-changed k f (x ∷ xs) none =
+    let parts = or-false (x.number == k) (list_any (λ l. l.number == k) xs) none in rw parts.0 (ap (λ ls. x ∷ ls) (none-changed k f xs parts.1))
+
+ended-none : (number : ℕ) (ls : List Link) (link : Link) → AreOnceLinked ls → find (λ (l : Link). l.number == number) ls ≡ Some link → link.has_ended ≡ false
+    → list_any (is_live_of link.child) (map (λ l. cond (l.number == number) (ending l) l) ls) ≡ false
+ended-none number [] link once there lives = absurd (cc)
+ended-none number (x ∷ xs) link once there lives = at (x.number == number) refl there (ended-none number xs link once.1)
+  where
+    is-live : (ended same : Bool) → x.has_ended ≡ ended → (x.child == link.child) ≡ same → find (λ (l : Link). l.number == number) xs ≡ Some link
+        → is_live_of link.child x ≡ false
+    is-live true same e f found = rw e refl
+    is-live false false e f found = rw (e, f) refl
+    is-live false true e f found =
+        absurd (no-live link.child xs link (ap (λ c. list_any (is_live_of c) xs) (sym (eqb-true x.child link.child f)) ∙ once.0 e)
+        (live-found number xs link once.1 found lives))
+
+    at : (b : Bool) → (x.number == number) ≡ b → cond b (Some x) (find (λ (l : Link). l.number == number) xs) ≡ Some link
+        → (find (λ (l : Link). l.number == number) xs ≡ Some link → link.has_ended ≡ false
+        → list_any (is_live_of link.child) (map (λ l. cond (l.number == number) (ending l) l) xs) ≡ false)
+        → list_any (is_live_of link.child) (map (λ l. cond (l.number == number) (ending l) l) (x ∷ xs)) ≡ false
+    at true e found next =
+        let it : x ≡ link = cc in
+        let lives_too : x.has_ended ≡ false = ap (λ (l : Link). l.has_ended) it ∙ lives in
+        let rest = none-live x.child number ending keeps-ending xs (once.0 lives_too) in
+        rw e (ap (λ c. list_any (is_live_of c) (map (λ l. cond (l.number == number) (ending l) l) xs)) (ap (λ (l : Link). l.child) (sym it)) ∙ rest)
+    at false e found next = rw e (both-false _ _ (is-live x.has_ended (x.child == link.child) refl refl found) (next found lives))
+
+ended-others : (number c : ℕ) (ls : List Link) (link : Link) → AreNumbered ls → find (λ (l : Link). l.number == number) ls ≡ Some link → (link.child == c) ≡ false
+    → find (is_live_of c) (map (λ l. cond (l.number == number) (ending l) l) ls) ≡ find (is_live_of c) ls
+ended-others number c [] link apart there other = refl
+ended-others number c (x ∷ xs) link apart there other = at (x.number == number) refl there (ended-others number c xs link apart.1)
+  where
+    not-it : (ended : Bool) → (not ended && false) ≡ false
+    not-it true = refl
+    not-it false = refl
+
+    at : (b : Bool) → (x.number == number) ≡ b → cond b (Some x) (find (λ (l : Link). l.number == number) xs) ≡ Some link
+        → (find (λ (l : Link). l.number == number) xs ≡ Some link → (link.child == c) ≡ false
+        → find (is_live_of c) (map (λ l. cond (l.number == number) (ending l) l) xs) ≡ find (is_live_of c) xs)
+        → find (is_live_of c) (map (λ l. cond (l.number == number) (ending l) l) (x ∷ xs)) ≡ find (is_live_of c) (x ∷ xs)
+    at true e found next =
+        let it : x ≡ link = cc in
+        let apart_from : (x.child == c) ≡ false = ap (λ (l : Link). l.child == c) it ∙ other in
+        let dead : is_live_of c x ≡ false = ap (λ b. not x.has_ended && b) apart_from ∙ not-it x.has_ended in
+        let rest = none-changed number ending xs (ap (λ n. list_any (λ l. l.number == n) xs) (sym (eqb-true x.number number e)) ∙ apart.0) in
+        rw e (rw dead (ap (find (is_live_of c)) rest))
+    at false e found next = rw e (ap (λ o. cond (is_live_of c x) (Some x) o) (next found other))
+
+pub ends-link : EndsLink
+ends-link old new all number link there lives links stacks hang = (
+  record {
+    links = λ c. ap (λ book. book c) links ∙ at c (c == link.child) refl;
+    stacks = λ n.
+        parent-pointwise old all number link (removed link.child) (stacks_in new) hang there lives stacks n
+        ∙ ap (λ s. cond (n == link.parent) (removed link.child s) s) (hang.0.stacks n) ∙ stack n (n == link.parent) refl (history_in n all) refl
+        ∙ ap (λ kids. stacks_at kids (history_in n all)) (sym (kids-ending all number));
+  },
+  link-tied all number ending keeps-ending hang.1,
+)
+  where
+    kid : kids_of all number ≡ Some link.child
+    kid = kid-is all number link there lives
+
+    at : (c : ℕ) (b : Bool) → (c == link.child) ≡ b → (if b then None else links_in old c) ≡ links_of (with_link number ending all) c
+    at c true e =
+        let child = eqb-true c link.child e in
+        sym (ap (option_map kept_of) (ap (λ c. find (is_live_of c) (map (λ l. cond (l.number == number) (ending l) l) all.links)) child
+        ∙ none-found (is_live_of link.child) (map (λ (l : Link). cond (l.number == number) (ending l) l) all.links) (ended-none number all.links link hang.1.once there lives)))
+    at c false e =
+        let turned : (link.child == c) ≡ false = grind (arith, e) in
+        hang.0.links c ∙ ap (option_map kept_of) (sym (ended-others number c all.links link hang.1.apart there turned))
+
+    gone : (h : History) → stacks_by (with_kid number None (kids_of all)) h ≡ removed link.child (stacks_by (kids_of all) h)
+    gone h =
+        same-stacks (follow-lose (kids_of all) h.requests number link.child (apart-kids all hang.1) kid)
+        (follow-lose (kids_of all) (take (committed_at h.requests) h.requests) number link.child (apart-kids all hang.1) kid)
+        (follow-lose (kids_of all) (take h.cut h.requests) number link.child (apart-kids all hang.1) kid)
+
+    nothing-to : (n : ℕ) (h : History) → history_in n all ≡ Some h → (n == link.parent) ≡ false → (b : Bool) → has_child number h.requests ≡ b → has_child number h.requests ≡ false
+    nothing-to n h is apart false e = e
+    nothing-to n h is apart true e = absurd (let same = hang.1.parents n number h link is there e in let both = sym (eq-eqb n link.parent (sym same)) ∙ apart in cc)
+
+    stack : (n : ℕ) (b : Bool) → (n == link.parent) ≡ b → (o : Option History) → history_in n all ≡ o
+        → cond b (removed link.child (stacks_at (kids_of all) o)) (stacks_at (kids_of all) o) ≡ stacks_at (with_kid number None (kids_of all)) o
+    stack n true e None is = refl
+    stack n false e None is = refl
+    stack n true e (Some h) is = sym (gone h)
+    stack n false e (Some h) is = sym (stacks-others (kids_of all) h number None (nothing-to n h is e (has_child number h.requests) refl))

@@ -31,7 +31,7 @@ numbered k (x ∷ xs) l e = at (x.number == k) refl e (numbered k xs l)
     at true f e next = let it : x ≡ l = cc in ap (λ (l : Link). l.number) (sym it) ∙ eqb-true x.number k f
     at false f e next = next e
 
-no-live : (child : ℕ) (ls : List Link) (l : Link) → list_any (is_live_of child) ls ≡ false → find (is_live_of child) ls ≡ Some l → ⊥
+pub no-live : (child : ℕ) (ls : List Link) (l : Link) → list_any (is_live_of child) ls ≡ false → find (is_live_of child) ls ≡ Some l → ⊥
 no-live child [] l none e = absurd (cc)
 no-live child (x ∷ xs) l none e = at (is_live_of child x) refl none e (no-live child xs l)
   where
@@ -157,7 +157,7 @@ is-itself Itself (Child k) e = absurd (cc)
 is-itself (Child l) Itself e = absurd (cc)
 is-itself (Child l) (Child k) e = ap (λ n. Child n) (eqb-true l k e)
 
-any-above : (q : Member → Bool) (c at : Member) (ms : List Member) → list_any (is_member at) ms ≡ true → list_any q (above c at ms) ≡ (q c || list_any q ms)
+pub any-above : (q : Member → Bool) (c at : Member) (ms : List Member) → list_any (is_member at) ms ≡ true → list_any q (above c at ms) ≡ (q c || list_any q ms)
 any-above q c at [] there = absurd (cc)
 any-above q c at (m ∷ ms) there = here (is_member at m) refl there (any-above q c at ms)
   where
@@ -166,7 +166,7 @@ any-above q c at (m ∷ ms) there = here (is_member at m) refl there (any-above 
     here true e there next = rw e (or-swapped (q m) (q c) (list_any q ms))
     here false e there next = rw e (ap (λ b. q m || b) (next there) ∙ or-swapped (q m) (q c) (list_any q ms))
 
-any-below : (q : Member → Bool) (c at : Member) (ms : List Member) → list_any (is_member at) ms ≡ true → list_any q (below c at ms) ≡ (q c || list_any q ms)
+pub any-below : (q : Member → Bool) (c at : Member) (ms : List Member) → list_any (is_member at) ms ≡ true → list_any q (below c at ms) ≡ (q c || list_any q ms)
 any-below q c at [] there = absurd (cc)
 any-below q c at (m ∷ ms) there = here (is_member at m) refl there (any-below q c at ms)
   where
@@ -175,7 +175,7 @@ any-below q c at (m ∷ ms) there = here (is_member at m) refl there (any-below 
     here true e there next = rw e refl
     here false e there next = rw e (ap (λ b. q m || b) (next there) ∙ or-swapped (q m) (q c) (list_any q ms))
 
-any-without : (q : Member → Bool) (c : Member) (ms : List Member) → (q c || list_any q (without c ms)) ≡ (q c || list_any q ms)
+pub any-without : (q : Member → Bool) (c : Member) (ms : List Member) → (q c || list_any q (without c ms)) ≡ (q c || list_any q ms)
 any-without q c [] = refl
 any-without q c (m ∷ ms) = here (is_member c m) refl (any-without q c ms)
   where

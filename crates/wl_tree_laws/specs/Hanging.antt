@@ -52,7 +52,8 @@ pub record AreTied (all : Surfaces) : Type 0 where
   pub once : AreOnceLinked all.links
   pub apart : AreNumbered all.links
   pub cuts : (surface : ℕ) (h : History) → history_in surface all ≡ Some h → h.cut ≤ committed_at h.requests
-  pub named : (surface link : ℕ) (h : History) → history_in surface all ≡ Some h → link_at link all ≡ None → has_child link h.requests ≡ false
+  pub named : (surface link : ℕ) (h : History) → history_in surface all ≡ Some h → link_at link all ≡ None
+      → has_child link h.requests ≡ false
   pub placed : (surface link : ℕ) (h : History) → history_in surface all ≡ Some h → link_at link all ≡ None
       → position link h.requests ≡ (pos 0, pos 0)
   pub parents :
@@ -107,7 +108,8 @@ abbrev pub JoinsChild : Type 0
 JoinsChild =
     (old new : Tied) (all : Surfaces) (number child parent : ℕ) (h : History) → link_at number all ≡ None → links_in old child ≡ None
     → history_in parent all ≡ Some h → links_in new ≡ joined child parent (links_in old)
-    → stacks_in new ≡ changed_at parent (pending_as (added child)) (stacks_in old) → Hang old all → Hang new (linked number child parent all)
+    → stacks_in new ≡ changed_at parent (pending_as (added child)) (stacks_in old) → Hang old all
+    → Hang new (linked number child parent all)
 
 -- The end of a link that lives: the child is in no stack of its parent.
 abbrev pub EndsLink : Type 0

@@ -3,7 +3,7 @@
 #![tactic(auto)]
 
 ghost use Rattle.wl_tree_laws.specs.Stacks.{StacksFollow};
-ghost use Rattle.wl_tree_laws.specs.Hanging.{AppliesStack, AsksAlone, CommitsStack, MovesChild, PlacesChild, SetsMode};
+ghost use Rattle.wl_tree_laws.specs.Hanging.{AppliesStack, AsksAlone, CommitsStack, EndsLink, MovesChild, PlacesChild, SetsMode};
 ghost use Rattle.wl_tree_laws.specs.Laws.{AppliesDescendants, HaveSameDepth, HaveSameDescent, HaveSameHeight, HaveSameModes};
 
 /// To apply a surface is to apply it and each surface that descends from it, once, and no other, where each child has one link that lives.
@@ -64,4 +64,9 @@ pub fn places_child()
 /// A mode that is set is that of the child's link, and changes nothing else.
 pub fn sets_mode()
     ensures { SetsMode }
+{}
+
+/// Once a link has ended, its child is in none of the stacks of what was its parent.
+pub fn ends_link()
+    ensures { EndsLink }
 {}
