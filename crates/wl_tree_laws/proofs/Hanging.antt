@@ -39,7 +39,7 @@ find-changed n k f same (x ∷ xs) = at (x.id == n) refl (find-changed n k f sam
         rw (here, e) next
 
 -- what was asked of each surface, where that of one changes
-history-changed : (n k : ℕ) (f : Surface → Surface) (g : History → History) (all : Surfaces) → ((s : Surface) → (f s).id ≡ s.id) → ((s : Surface) → (f s).history ≡ g s.history)
+pub history-changed : (n k : ℕ) (f : Surface → Surface) (g : History → History) (all : Surfaces) → ((s : Surface) → (f s).id ≡ s.id) → ((s : Surface) → (f s).history ≡ g s.history)
     → history_in n (with_change k f all) ≡ option_map (λ h. cond (n == k) (g h) h) (history_in n all)
 history-changed n k f g all same changes = ap (option_map (λ s. s.history)) (find-changed n k f same all.surfaces) ∙ at (n == k) (find (λ s. s.id == n) all.surfaces)
   where
@@ -82,12 +82,12 @@ same-stacks e f g = rw (e, f, g) refl
 -- ---- one surface changes
 
 -- what was asked of a surface before, which now is that
-record WasAsked (o : Option History) (g : History → History) (b : Bool) (new : History) : Type 0 where
-  old : History
-  here : o ≡ Some old
-  now : cond b (g old) old ≡ new
+pub record WasAsked (o : Option History) (g : History → History) (b : Bool) (new : History) : Type 0 where
+  pub old : History
+  pub here : o ≡ Some old
+  pub now : cond b (g old) old ≡ new
 
-was-asked : (o : Option History) (g : History → History) (b : Bool) (new : History) → option_map (λ h. cond b (g h) h) o ≡ Some new → WasAsked o g b new
+pub was-asked : (o : Option History) (g : History → History) (b : Bool) (new : History) → option_map (λ h. cond b (g h) h) o ≡ Some new → WasAsked o g b new
 was-asked None g b new e = absurd (cc)
 was-asked (Some h) g b new e = record { old = h; here = refl; now = cc }
 

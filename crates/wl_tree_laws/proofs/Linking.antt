@@ -1,5 +1,5 @@
 -- What is kept of how surfaces hang together, once links come, end or change their mode.
-use Rattle.std.proofs.Common.{◌≡◌, ℕ, ◌||◌, ◌&&◌, ◌==◌, Bool, true, false, cond, Option, Some, None, List, [], ◌∷◌, ◌++◌, map, take, drop, refl, ap, sym, ◌∙◌, arith, eq-eqb}
+use Rattle.std.proofs.Common.{◌≡◌, ℕ, ◌||◌, ◌&&◌, ◌==◌, Bool, true, false, cond, Option, Some, None, List, [], ◌∷◌, map, take, drop, refl, ap, sym, ◌∙◌, arith, eq-eqb}
 use Rattle.std.specs.Prelude.{find, fold, not, if◌then◌else◌}
 use Rattle.std.specs.List.{list_any}
 use Rattle.std.specs.Option.{option_map}
@@ -71,7 +71,7 @@ live-fewer true new same ends none = ap (λ b. not b && same) (ends refl)
 live-fewer false true same ends none = refl
 live-fewer false false same ends none = none
 
-or-false : (a b : Bool) → (a || b) ≡ false → (a ≡ false) × (b ≡ false)
+pub or-false : (a b : Bool) → (a || b) ≡ false → (a ≡ false) × (b ≡ false)
 or-false false b e = (refl, e)
 or-false true b e = absurd (cc)
 
@@ -293,14 +293,14 @@ grows-all l ms [] none = none
 grows-all l ms (r ∷ rs) none = grows l ms r (grows-all l (ordered ms r) rs none)
 
 -- who isn't there at the end never was
-never-there : (l n : ℕ) (rs : List Request) → has_child l rs ≡ false → has_child l (take n rs) ≡ false
+pub never-there : (l n : ℕ) (rs : List Request) → has_child l rs ≡ false → has_child l (take n rs) ≡ false
 never-there l n rs none =
     let whole : fold ordered (order (take n rs)) (drop n rs) ≡ order rs = sym (fold-append ordered (Itself ∷ []) (take n rs) (drop n rs)) ∙ ap order (take-append-drop n rs) in
     grows-all l (order (take n rs)) (drop n rs) (ap (list_any (is_member (Child l))) whole ∙ none)
 
 -- ---- the stacks of surfaces that a link is nothing to
 
-stacks-others : (kids : Kids) (h : History) (l : ℕ) (child : Option ℕ) → has_child l h.requests ≡ false → stacks_by (with_kid l child kids) h ≡ stacks_by kids h
+pub stacks-others : (kids : Kids) (h : History) (l : ℕ) (child : Option ℕ) → has_child l h.requests ≡ false → stacks_by (with_kid l child kids) h ≡ stacks_by kids h
 stacks-others kids h l child none =
     same-stacks (follow-others kids h.requests l child none)
     (follow-others kids (take (committed_at h.requests) h.requests) l child (never-there l (committed_at h.requests) h.requests none))

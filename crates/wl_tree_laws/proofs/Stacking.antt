@@ -87,7 +87,7 @@ with-other kids rs l child (Child k) apart =
 pub follow-others : (kids : Kids) (rs : List Request) (l : ℕ) (child : Option ℕ) → has_child l rs ≡ false → stack_by (with_kid l child kids) rs ≡ stack_by kids rs
 follow-others kids rs l child none = other-places (place_of (with_kid l child kids) rs) (place_of kids rs) l (with-other kids rs l child) (order rs) none
 
-follow-add : (kids : Kids) (rs : List Request) (l child : ℕ) → has_child l rs ≡ false → position l rs ≡ (pos 0, pos 0)
+pub follow-add : (kids : Kids) (rs : List Request) (l child : ℕ) → has_child l rs ≡ false → position l rs ≡ (pos 0, pos 0)
     → stack_by (with_kid l (Some child) kids) (rs ++ AddChild l ∷ []) ≡ added child (stack_by kids rs)
 follow-add kids rs l child none at =
     let new = rs ++ AddChild l ∷ [] in

@@ -3,7 +3,7 @@
 #![tactic(auto)]
 
 ghost use Rattle.wl_tree_laws.specs.Stacks.{StacksFollow};
-ghost use Rattle.wl_tree_laws.specs.Hanging.{AppliesStack, AsksAlone, CommitsStack, EndsLink, MovesChild, PlacesChild, SetsMode};
+ghost use Rattle.wl_tree_laws.specs.Hanging.{AppliesStack, AsksAlone, CommitsStack, EndsLink, JoinsChild, MovesChild, PlacesChild, SetsMode};
 ghost use Rattle.wl_tree_laws.specs.Laws.{AppliesDescendants, HaveSameDepth, HaveSameDescent, HaveSameHeight, HaveSameModes};
 
 /// To apply a surface is to apply it and each surface that descends from it, once, and no other, where each child has one link that lives.
@@ -69,4 +69,9 @@ pub fn sets_mode()
 /// Once a link has ended, its child is in none of the stacks of what was its parent.
 pub fn ends_link()
     ensures { EndsLink }
+{}
+
+/// A child that is joined is synchronised, and topmost in what is pending of its parent.
+pub fn joins_child()
+    ensures { JoinsChild }
 {}
