@@ -40,7 +40,7 @@ use Rattle.wl_resident.proofs.Telling.{lives-of}
 use Rattle.wl_laws.proofs.Runs.Places.{client-kept}
 use Rattle.wl_records.proofs.Keeping.FramingWaits.{framed-none}
 use Rattle.wl_surface.specs.declared.frames.Waiting.{Waiting}
-use Rattle.wl_state.specs.Surfaces.{no_surfaces}
+use Rattle.wl_surface.specs.Surfaces.{no_surfaces}
 
 -- a client ends by this, where it lives
 abbrev pub ended_of : ℕ → Cause → Option Resident → Desktop → Desktop

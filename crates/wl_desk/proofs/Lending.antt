@@ -6,7 +6,7 @@ use Rattle.wl_peer.specs.Objects.{nothing}
 use Rattle.wl_client.specs.View.{ClientView}
 use Rattle.wl_store.specs.Stores.{Stock}
 use Rattle.wl_surface.specs.Slots.{Slots, no_slots}
-use Rattle.wl_state.specs.Surfaces.{no_surfaces}
+use Rattle.wl_surface.specs.Surfaces.{no_surfaces}
 use Rattle.wl_scene.specs.Lent.{slots_lent, slots_of}
 use Rattle.wl_scene.specs.Stacking.{Stack}
 use Rattle.wl_client.specs.declared.outputs.Output.{Output}

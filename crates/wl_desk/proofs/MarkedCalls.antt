@@ -9,7 +9,7 @@ use Rattle.wl_client.specs.View.{ClientView}
 use Rattle.wl_peer.specs.declared.cause.Cause.{Cause}
 use Rattle.wl_client.specs.declared.outputs.Output.{Output}
 use Rattle.wl_paint.specs.Damage.{Damaged, has}
-use Rattle.wl_state.specs.Surfaces.{history_in}
+use Rattle.wl_surface.specs.Surfaces.{history_in}
 use Rattle.wl_scene.specs.Stacking.{Owned as Owns, Stack, nothing_owned, windows_on}
 use Rattle.wl_scene.specs.Windows.{Window, contains}
 use Rattle.wl_resident.specs.Agreement.{Matches, IsPlace, numbers_in}

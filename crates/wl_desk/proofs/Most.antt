@@ -8,7 +8,7 @@ use Rattle.wl_peer.specs.Peer.{Peer, left_by}
 use Rattle.wl_peer.specs.Told.{Output as Sides}
 use Rattle.wl_peer.specs.declared.cause.Cause.{Cause}
 use Rattle.wl_paint.specs.Damage.{Damaged, has}
-use Rattle.wl_state.specs.Surfaces.{history_in}
+use Rattle.wl_surface.specs.Surfaces.{history_in}
 use Rattle.wl_scene.specs.Stacking.{Owned as Owns, is_of, windows_on}
 use Rattle.wl_scene.specs.Windows.{Window}
 use Rattle.wl_plain.specs.Act.{IsLeft, Leave}

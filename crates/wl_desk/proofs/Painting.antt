@@ -34,7 +34,7 @@ use Rattle.wl_blend.specs.Blend.{blended, div255}
 use Rattle.wl_blend.specs.declared.color.Rgb.{Rgb}
 use Rattle.wl_state.specs.State.{History, Values, applied, height_of, width_of}
 use Rattle.wl_state.specs.Surface.{Surface, is_there}
-use Rattle.wl_state.specs.Surfaces.{history_in, surface_at}
+use Rattle.wl_surface.specs.Surfaces.{history_in, surface_at}
 use Rattle.wl_scene.specs.Lent.{AllShow, Shows, shows_buffer}
 use Rattle.wl_scene.specs.Windows.{Owner, Place, Window, corner_at, contains, owner_of, window_showing, window_with}
 use Rattle.wl_records.proofs.Toplevels.Windows.{windows-same}

@@ -4,7 +4,7 @@ use Rattle.std.specs.List.{list_any}
 use Rattle.wl_peer.specs.Told.{Output}
 use Rattle.wl_state.specs.Request.{Child}
 use Rattle.wl_state.specs.State.{History, is_member, order}
-use Rattle.wl_state.specs.Surfaces.{Link, Surfaces, history_in, link_at}
+use Rattle.wl_surface.specs.Surfaces.{Link, Surfaces, history_in, link_at}
 use Rattle.wl_scene.specs.Stacking.{is_of}
 use Rattle.wl_scene.specs.Windows.{StackedPopup}
 use Rattle.wl_plain.specs.declared.answers.Done.{Done}

@@ -11,8 +11,8 @@ use Rattle.wl_peer.specs.Told.{Output}
 use Rattle.wl_state.specs.Frames.{frames_asked}
 use Rattle.wl_state.specs.Request.{Frame}
 use Rattle.wl_state.specs.Surface.{buffers_of, with_role}
-use Rattle.wl_state.specs.Surfaces.{Surfaces, history_in, with_change as with_surface_change}
-use Rattle.wl_state.specs.Trees.{committed_in, desynchronised_in, destroyed_in, linked, synchronised_in, unlinked}
+use Rattle.wl_surface.specs.Surfaces.{Surfaces, history_in, with_change as with_surface_change}
+use Rattle.wl_surface.specs.Trees.{committed_in, desynchronised_in, destroyed_in, linked, synchronised_in, unlinked}
 use Rattle.wl_state.specs.declared.role.Role.TheVariants.{Popup as AsPopup, Cursor as AsCursor}
 use Rattle.wl_surface.specs.Waiting.{Callback}
 use Rattle.wl_shell.specs.Popups.{dismissing, is_parent_of, is_toplevel, new_popup, orphaning, parent_allows, parent_of, placing, popup_at}

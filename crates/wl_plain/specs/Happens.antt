@@ -13,7 +13,7 @@ use Rattle.wl_peer.specs.declared.refusals.ErrorCode.TheVariants.{InvalidMethod}
 use Rattle.wl_peer.specs.declared.refusals.Refusal.{Refusal}
 use Rattle.wl_peer.specs.Peer.{Errs, IsIdle, LacksMemory, Peer, counted, ended, with_rest}
 use Rattle.wl_peer.specs.Told.{Output, Said, display_error, id_deleted, said}
-use Rattle.wl_state.specs.Frames.{frames_counting}
+use Rattle.wl_surface.specs.Frames.{frames_counting}
 use Rattle.wl_surface.specs.Waiting.{Callback}
 use Rattle.wl_shell.specs.Popups.{dismissing}
 use Rattle.wl_scene.specs.Pointer.{Pointer, Target, is_down, is_press, without_button}

@@ -1,7 +1,7 @@
 -- What a step applies and marks, by the desktops before it and after it.
 use Rattle.std.specs.Prelude.{ℕ, ℤ, int_le, pos, unsigned_abs, ◌&&◌, ◌||◌, Bool, false, Option, Some, None, List, [], ◌∷◌}
 use Rattle.wl_state.specs.State.{History, applied, between, damaged_rects, height_of, is_damaged, width_of}
-use Rattle.wl_state.specs.Surfaces.{history_in}
+use Rattle.wl_surface.specs.Surfaces.{history_in}
 use Rattle.wl_plain.specs.Desktop.{Desktop, Showing, owned_in}
 use Rattle.wl_plain.specs.Marks.{Applied, at_least, at_most}
 use Rattle.wl_plain.specs.Stacked.{all_windows}

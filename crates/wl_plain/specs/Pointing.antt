@@ -5,7 +5,7 @@ use Rattle.wl_wire.specs.Wire.{Word, Number}
 use Rattle.wl_interface.specs.declared.interface.Interface.TheVariants.{WlPointer}
 use Rattle.wl_proto.specs.Messages.{says}
 use Rattle.wl_peer.specs.Told.{Said, said}
-use Rattle.wl_state.specs.Surfaces.{history_in}
+use Rattle.wl_surface.specs.Surfaces.{history_in}
 use Rattle.wl_scene.specs.Pointer.{Target, fixed_from}
 use Rattle.wl_scene.specs.Stacking.{Standing, moved_to}
 use Rattle.wl_scene.specs.Windows.{Place, Window, moved}

@@ -8,7 +8,7 @@ use Rattle.wl_store.specs.Stores.{Stock}
 use Rattle.wl_state.specs.Request.{Buffer}
 use Rattle.wl_state.specs.State.{applied}
 use Rattle.wl_state.specs.Surface.{Surface}
-use Rattle.wl_state.specs.Surfaces.{is_busy}
+use Rattle.wl_surface.specs.Surfaces.{is_busy}
 use Rattle.wl_plain.specs.Desktop.{Resident}
 use Rattle.wl_plain.specs.Replies.{has_object}
 

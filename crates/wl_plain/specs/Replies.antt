@@ -9,7 +9,7 @@ use Rattle.wl_peer.specs.Told.{Said, id_deleted, said}
 use Rattle.wl_state.specs.Request.{Buffer}
 use Rattle.wl_state.specs.State.{History, applied, held}
 use Rattle.wl_state.specs.Surface.{listed}
-use Rattle.wl_state.specs.Surfaces.{Surfaces, is_busy}
+use Rattle.wl_surface.specs.Surfaces.{Surfaces, is_busy}
 use Rattle.wl_shell.specs.Popups.{is_among, popups_of}
 use Rattle.wl_shell.specs.Positioner.{Placed}
 use Rattle.wl_shell.specs.Shell.{Effect, Configures, Kind, Toplevel, IsPopup, RoleObject, Shell, XdgSurface, xdg_of}

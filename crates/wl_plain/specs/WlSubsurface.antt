@@ -12,8 +12,8 @@ use Rattle.wl_peer.specs.declared.refusals.ErrorCode.TheVariants.{BadSurface, Ba
 use Rattle.wl_peer.specs.declared.refusals.Refusal.{Refusal}
 use Rattle.wl_peer.specs.Told.{display_error}
 use Rattle.wl_state.specs.Request.{Request, Member, Itself, Child, SetPosition, PlaceAbove, PlaceBelow}
-use Rattle.wl_state.specs.Surfaces.{Link, Surfaces, link_at}
-use Rattle.wl_state.specs.Trees.{is_bad_parent, is_too_deep, link_of}
+use Rattle.wl_surface.specs.Surfaces.{Link, Surfaces, link_at}
+use Rattle.wl_surface.specs.Trees.{is_bad_parent, is_too_deep, link_of}
 use Rattle.wl_state.specs.declared.role.Role.{Role}
 use Rattle.wl_state.specs.declared.role.Role.TheVariants.{Toplevel as AsToplevel, Popup as AsPopup, Subsurface as AsSubsurface}
 use Rattle.wl_state.specs.declared.role.Role.TheVariants.{Cursor as AsCursor}

@@ -10,7 +10,7 @@ use Rattle.wl_peer.specs.Told.{display_error}
 use Rattle.wl_state.specs.Request.{Buffer, SetBufferTransform}
 use Rattle.wl_state.specs.State.{pending}
 use Rattle.wl_state.specs.Surface.{is_there}
-use Rattle.wl_state.specs.Surfaces.{history_in}
+use Rattle.wl_surface.specs.Surfaces.{history_in}
 use Rattle.wl_plain.specs.Ask.{Ask, CreateSurface, AskSurface}
 use Rattle.wl_plain.specs.Desktop.{Resident}
 

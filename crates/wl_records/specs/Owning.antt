@@ -12,7 +12,7 @@ use Rattle.wl_peer.specs.Told.{display_error}
 use Rattle.wl_peer.specs.Objects.{ById, interface_number, with_id}
 use Rattle.wl_surface.specs.Slots.{Numbered, Slots, StandForAll, count as count_kept}
 use Rattle.wl_state.specs.State.{History, committed}
-use Rattle.wl_state.specs.Surfaces.{Surfaces, history_in, surface_at}
+use Rattle.wl_surface.specs.Surfaces.{Surfaces, history_in, surface_at}
 use Rattle.wl_shell.specs.Agreement.{IsShell}
 use Rattle.wl_shell.specs.Kept.{Kept, Stands}
 use Rattle.wl_shell.specs.declared.acts.ShellAct.{ShellAct}

@@ -3,7 +3,7 @@ use Rattle.std.specs.Prelude.{ℕ, ◌≡◌, Bool, true, false, Option, Some, N
 use Rattle.std.specs.List.{list_all, list_any}
 use Rattle.wl_state.specs.Request.{Request, SetBufferTransform}
 use Rattle.wl_state.specs.State.{History}
-use Rattle.wl_state.specs.Surfaces.{Surfaces, history_in}
+use Rattle.wl_surface.specs.Surfaces.{Surfaces, history_in}
 use Rattle.wl_shell.specs.declared.stage.Stage.{Stage}
 use Rattle.wl_shell.specs.declared.stage.Stage.TheVariants as stage
 use Rattle.wl_shell.specs.Shell.{XdgSurface, stage_of, xdg_of}

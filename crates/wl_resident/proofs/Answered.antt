@@ -12,9 +12,9 @@ use Rattle.wl_peer.specs.Objects.{ById, interface_number, is_of, object_of, obje
 use Rattle.wl_peer.specs.Peer.{Peer, Queues, removed}
 use Rattle.wl_state.specs.Kept.{Kept as KeptSurface}
 use Rattle.wl_surface.specs.Slots.{Slots, StandsAt}
-use Rattle.wl_state.specs.Surfaces.{Surfaces}
+use Rattle.wl_surface.specs.Surfaces.{Surfaces}
 use Rattle.wl_surface.specs.Waiting.{AreUndue, Callback, IsNextDue, is_in}
-use Rattle.wl_state.specs.Frames.{frames_counting}
+use Rattle.wl_surface.specs.Frames.{frames_counting}
 use Rattle.wl_shell.specs.Kept.{Book, kept_of}
 use Rattle.wl_scene.specs.Stacking.{Owned}
 use Rattle.wl_plain.specs.Desktop.{Resident}

@@ -10,11 +10,11 @@ use Rattle.wl_peer.specs.Told.{Said}
 use Rattle.wl_client.proofs.Queueing.{queues-then, removed-over, removed-past}
 use Rattle.wl_interface.specs.declared.interface.Interface.TheVariants.{WlCallback}
 use Rattle.wl_state.specs.Frames.{frames_of}
-use Rattle.wl_state.specs.Frames.{frames_counting}
+use Rattle.wl_surface.specs.Frames.{frames_counting}
 use Rattle.wl_surface.specs.Slots.{IsAny, Slots}
 use Rattle.wl_state.specs.State.{counting}
 use Rattle.wl_state.specs.Surface.{Surface}
-use Rattle.wl_state.specs.Surfaces.{Surfaces}
+use Rattle.wl_surface.specs.Surfaces.{Surfaces}
 use Rattle.wl_surface.specs.Waiting.{AreUndue, Callback, IsUndue, applied_at, is_in}
 use Rattle.wl_plain.specs.Desktop.{Resident}
 use Rattle.wl_plain.specs.Framing.{done_due}

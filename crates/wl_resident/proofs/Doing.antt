@@ -16,7 +16,7 @@ use Rattle.wl_surface.specs.Slots.{Changes, IsCopied, Numbered, Slots, had_at, S
 use Rattle.wl_state.specs.Request.{Request}
 use Rattle.wl_state.specs.State.{Values, asked, committed, geometry_asked, is_commit}
 use Rattle.wl_state.specs.Surface.{Surface, asking}
-use Rattle.wl_state.specs.Surfaces.{Surfaces, surface_at}
+use Rattle.wl_surface.specs.Surfaces.{Surfaces, surface_at}
 use Rattle.wl_state.specs.Frames.{frames_of}
 use Rattle.wl_surface.specs.declared.frames.Waiting.{Waiting}
 use Rattle.wl_shell.specs.Kept.{kept_of}

@@ -12,7 +12,7 @@ use Rattle.wl_surface.specs.Slots.{Numbered, StandForAll, changed_at}
 use Rattle.wl_state.specs.Request.{Buffer, Commit, Request}
 use Rattle.wl_state.specs.State.{History, Values, applied, counting, height_of, offset, pending, values, width_of}
 use Rattle.wl_state.specs.Surface.{Surface, applying, asking, is_there}
-use Rattle.wl_state.specs.Surfaces.{history_in, surface_at}
+use Rattle.wl_surface.specs.Surfaces.{history_in, surface_at}
 use Rattle.wl_state.proofs.Commits.{commit_takes_all}
 use Rattle.wl_shell.specs.Agreement.{IsKept}
 use Rattle.wl_shell.specs.Kept.{Kept as KeptXdg, kept_of}

@@ -18,7 +18,7 @@ use Rattle.wl_surface.specs.Slots.{Changes, Numbered, Slots, StandForAll}
 use Rattle.wl_state.specs.Request.{Commit}
 use Rattle.wl_state.specs.State.{History}
 use Rattle.wl_state.specs.Surface.{applying, asking}
-use Rattle.wl_state.specs.Surfaces.{with_change}
+use Rattle.wl_surface.specs.Surfaces.{with_change}
 use Rattle.wl_shell.specs.Shell.{Effect, Stays, Unconfigured, Configures, Maps, Unmaps, xdg_of}
 use Rattle.wl_scene.specs.Stacking.{Owned, Stack, Standing, is_of, without_surface_of}
 use Rattle.wl_scene.specs.Windows.{Window, contains}

@@ -27,7 +27,7 @@ use Rattle.wl_resident.specs.View.{OwnedView, owned_view}
 use Rattle.wl_laws.proofs.Lists.Keys.{differ}
 use Rattle.wl_records.proofs.Keeping.FramingWaits.{framed-none}
 use Rattle.wl_surface.specs.declared.frames.Waiting.{Waiting}
-use Rattle.wl_state.specs.Surfaces.{no_surfaces}
+use Rattle.wl_surface.specs.Surfaces.{no_surfaces}
 
 -- ---- what is told, and ends a client
 

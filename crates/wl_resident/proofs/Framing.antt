@@ -15,7 +15,7 @@ use Rattle.wl_state.specs.Frames.{frames_of}
 use Rattle.wl_surface.specs.Slots.{Numbered, Slots, StandForAll, changed_at, kept_at, with_at}
 use Rattle.wl_state.specs.Request.{Commit, Frame, Request}
 use Rattle.wl_state.specs.Surface.{Surface, applying, asking, new_surface, with_role}
-use Rattle.wl_state.specs.Surfaces.{with_change, with_new, without_surface}
+use Rattle.wl_surface.specs.Surfaces.{with_change, with_new, without_surface}
 use Rattle.wl_surface.specs.Waiting.{AreWaiting, Callback, IsNewNumber, applied_at, frames_at, is_in}
 use Rattle.wl_state.specs.declared.role.Role.{Role}
 use Rattle.wl_surface.proofs.Counting.{asked-in-role, asked-still, at-new, at-one, counts-in-role, counts-still}

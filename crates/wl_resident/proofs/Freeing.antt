@@ -10,7 +10,7 @@ use Rattle.wl_surface.specs.Slots.{IsAny, Numbered, Slots, changed_at, shows_at,
 use Rattle.wl_state.specs.Request.{Buffer}
 use Rattle.wl_state.specs.State.{held}
 use Rattle.wl_state.specs.Surface.{Surface, names}
-use Rattle.wl_state.specs.Surfaces.{is_busy, surface_at, with_change, without_surface}
+use Rattle.wl_surface.specs.Surfaces.{is_busy, surface_at, with_change, without_surface}
 use Rattle.wl_plain.specs.Desktop.{Resident}
 use Rattle.wl_records.specs.Owning.{AreKept, by_number}
 use Rattle.wl_plain.specs.Releases.{shown_at}

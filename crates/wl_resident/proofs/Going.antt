@@ -16,7 +16,7 @@ use Rattle.wl_peer.specs.Told.{Said, id_deleted, released_told}
 use Rattle.wl_state.specs.Frames.{frames_asked}
 use Rattle.wl_surface.specs.Slots.{Slots}
 use Rattle.wl_state.specs.Surface.{Surface}
-use Rattle.wl_state.specs.Surfaces.{history_in, surface_at}
+use Rattle.wl_surface.specs.Surfaces.{history_in, surface_at}
 use Rattle.wl_surface.specs.Waiting.{Callback, frames_at, is_in}
 use Rattle.wl_plain.specs.Changing.{callbacks_of}
 use Rattle.wl_plain.specs.Desktop.{Resident}

@@ -14,7 +14,7 @@ use Rattle.wl_surface.specs.Slots.{IsCurrentAt, Numbered, StandForAll}
 use Rattle.wl_state.specs.Request.{Buffer, Member, Itself, Child}
 use Rattle.wl_state.specs.State.{History, Values, applied, counting, height_of, order, position, width_of, within_bounds}
 use Rattle.wl_state.specs.Surface.{Surface, is_there}
-use Rattle.wl_state.specs.Surfaces.{Link, Surfaces, history_in, link_at, surface_at}
+use Rattle.wl_surface.specs.Surfaces.{Link, Surfaces, history_in, link_at, surface_at}
 use Rattle.wl_state.specs.declared.state.Current.{Current}
 use Rattle.wl_scene.specs.Lent.{AllShow, Shows, shows_buffer}
 use Rattle.wl_scene.specs.Stacking.{Owned, Stack, Standing, is_of, root_of, standing_of, windows_on}

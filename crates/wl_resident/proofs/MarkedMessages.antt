@@ -37,7 +37,7 @@ use Rattle.wl_state.specs.Shape.{newly_damaged}
 use Rattle.wl_surface.specs.Applied.{AreChanges}
 use Rattle.wl_state.specs.State.{History}
 use Rattle.wl_state.specs.Surface.{Surface}
-use Rattle.wl_state.specs.Surfaces.{history_in, surface_at}
+use Rattle.wl_surface.specs.Surfaces.{history_in, surface_at}
 use Rattle.wl_surface.specs.declared.applied.Applied.{Applied}
 use Rattle.wl_shell.specs.Kept.{kept_of}
 use Rattle.wl_shell.specs.Shell.{Effect, Stays, Unconfigured, Configures, Maps, Unmaps, is_full, xdg_at, xdg_of, xdg_with, XdgSurface as Xdg}

@@ -26,7 +26,7 @@ use Rattle.wl_peer.specs.declared.actions.Action.TheVariants.{Sync, GetRegistry,
 use Rattle.wl_peer.specs.declared.actions.Action.TheVariants.{DestroyBuffer}
 use Rattle.wl_surface.specs.Slots.{has_at}
 use Rattle.wl_state.specs.Surface.{has}
-use Rattle.wl_state.specs.Surfaces.{is_used}
+use Rattle.wl_surface.specs.Surfaces.{is_used}
 use Rattle.wl_table.specs.Objects.{Held, entry_of}
 use Rattle.wl_table.specs.declared.entry.Entry.{Entry}
 use Rattle.wl_resident.specs.declared.residents.Resident.{Resident as Kept}

@@ -13,7 +13,7 @@ use Rattle.wl_surface.specs.Slots.{IsCurrentAt, Numbered, Slots, StandForAll}
 use Rattle.wl_state.specs.Request.{Buffer}
 use Rattle.wl_state.specs.State.{History, applied}
 use Rattle.wl_state.specs.Surface.{Surface, is_there}
-use Rattle.wl_state.specs.Surfaces.{history_in, surface_at}
+use Rattle.wl_surface.specs.Surfaces.{history_in, surface_at}
 use Rattle.wl_state.specs.declared.state.Current.{Current}
 use Rattle.wl_paint.specs.Damage.{Damaged, has}
 use Rattle.wl_scene.specs.Lent.{AllShow, Shows, shows_buffer}

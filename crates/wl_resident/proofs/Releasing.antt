@@ -6,7 +6,7 @@ use Rattle.wl_state.specs.Kept.{buffer_of}
 use Rattle.wl_surface.specs.Slots.{had_at, Slots}
 use Rattle.wl_state.specs.Request.{Buffer}
 use Rattle.wl_state.specs.Surface.{Surface, is_there}
-use Rattle.wl_state.specs.Surfaces.{surface_at}
+use Rattle.wl_surface.specs.Surfaces.{surface_at}
 use Rattle.wl_peer.specs.Peer.{Peer}
 use Rattle.wl_shell.specs.Shell.{Maps, XdgSurface, on_commit, xdg_of}
 use Rattle.wl_shell.specs.declared.stage.Stage.{Stage}

@@ -12,7 +12,7 @@ use Rattle.wl_peer.specs.Peer.{LacksMemory, Peer, Queues, counted, with_rest}
 use Rattle.wl_peer.specs.Told.{Said, display_error}
 use Rattle.wl_peer.specs.declared.refusals.ErrorCode.TheVariants.{InvalidMethod}
 use Rattle.std.specs.Option.{option_and_then}
-use Rattle.wl_state.specs.Surfaces.{history_in}
+use Rattle.wl_surface.specs.Surfaces.{history_in}
 use Rattle.wl_shell.specs.Agreement.{IsKept}
 use Rattle.wl_shell.specs.Kept.{kept_of}
 use Rattle.wl_client.specs.View.{ClientView}

@@ -2,7 +2,7 @@
 use Rattle.std.specs.Prelude.{ℕ, ◌≡◌, ◌==◌, not, Option, Some, None, List}
 use Rattle.std.specs.List.{list_any}
 use Rattle.wl_state.specs.Request.{Buffer}
-use Rattle.wl_state.specs.Surfaces.{is_busy}
+use Rattle.wl_surface.specs.Surfaces.{is_busy}
 use Rattle.wl_plain.specs.Desktop.{Resident}
 
 -- these buffers tell of one whether it isn't busy any more

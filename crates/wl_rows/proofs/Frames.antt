@@ -3,7 +3,7 @@ use Rattle.std.proofs.Common.{◌≡◌, ℕ, [], ◌∷◌, ◌++◌, Some, ref
 use Rattle.std.specs.Prelude.{ℤ, pos, negsuc, codes}
 use Rattle.wl_wire.specs.Wire.{Word, Number}
 use Rattle.wl_peer.specs.declared.cause.Cause.TheVariants.{Protocol}
-use Rattle.wl_state.specs.Trees.{applied_tree, behaves_synchronised}
+use Rattle.wl_surface.specs.Trees.{applied_tree, behaves_synchronised}
 use Rattle.wl_scene.specs.Windows.{tree}
 use Rattle.wl_plain.specs.Desktop.{Desktop}
 use Rattle.wl_rows.proofs.Steps.{asks, at, attach, buffer_release, commit, corners, create_buffer, create_surface, delete_id, done, event, sent, shown, start, status, tick, toplevel_configure, u32}

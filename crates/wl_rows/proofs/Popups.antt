@@ -3,7 +3,7 @@ use Rattle.std.proofs.Common.{◌≡◌, [], ◌∷◌, ◌++◌, Some, refl}
 use Rattle.std.specs.Prelude.{pos, codes}
 use Rattle.wl_wire.specs.Wire.{Word, Number}
 use Rattle.wl_peer.specs.declared.cause.Cause.TheVariants.{Protocol}
-use Rattle.wl_state.specs.Trees.{applied_tree, behaves_synchronised}
+use Rattle.wl_surface.specs.Trees.{applied_tree, behaves_synchronised}
 use Rattle.wl_scene.specs.Windows.{tree}
 use Rattle.wl_plain.specs.Desktop.{Desktop}
 use Rattle.wl_plain.specs.Popups.{geometry_corner_at}

@@ -9,7 +9,7 @@ use Rattle.wl_peer.specs.Peer.{stored_at}
 use Rattle.wl_peer.specs.Told.{Output}
 use Rattle.wl_store.specs.Stores.{size_of}
 use Rattle.wl_blend.specs.declared.color.Rgb.{Rgb}
-use Rattle.wl_state.specs.Trees.{applied_tree, behaves_synchronised, depth, descends_from, height}
+use Rattle.wl_surface.specs.Trees.{applied_tree, behaves_synchronised, depth, descends_from, height}
 use Rattle.wl_scene.specs.Windows.{Place, Window, tree}
 use Rattle.wl_plain.specs.Desktop.{Desktop, Resident, arrival, client_at, empty, with_client}
 use Rattle.wl_plain.specs.Moments.{marks_at_least}

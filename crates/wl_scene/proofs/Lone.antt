@@ -8,7 +8,7 @@ use Rattle.wl_state.specs.Request.{Buffer, Member, Itself, Child, Request, Attac
 use Rattle.wl_state.specs.Request.{SetPosition, PlaceAbove, PlaceBelow}
 use Rattle.wl_state.specs.State.{History, Values, above, applied, below, counting, height_of, is_member, order, ordered, width_of, without}
 use Rattle.wl_state.specs.Surface.{is_there}
-use Rattle.wl_state.specs.Surfaces.{Surfaces, history_in}
+use Rattle.wl_surface.specs.Surfaces.{Surfaces, history_in}
 use Rattle.wl_scene.specs.Lent.{AllShow, shown_by, shown_with, shows_buffer, told}
 use Rattle.wl_scene.specs.Stacking.{Owned, Standing, root_of, windows_on}
 use Rattle.wl_scene.specs.Windows.{Owner, Place, Window, corner_at, member_windows, owner_of, shown_windows, surface_windows, tree, window_of, window_with}

@@ -8,7 +8,7 @@ use Rattle.wl_store.specs.declared.color.Format.TheVariants.{Xrgb8888}
 use Rattle.wl_state.specs.Request.{Buffer, Itself, Request, Attach, SetInputRegion, Commit, AddChild, SetPosition, PlaceBelow}
 use Rattle.wl_state.specs.State.{History}
 use Rattle.wl_state.specs.Surface.{Surface}
-use Rattle.wl_state.specs.Surfaces.{Surfaces}
+use Rattle.wl_surface.specs.Surfaces.{Surfaces}
 use Rattle.wl_scene.specs.Pointer.{Pointer, first_pointer, fixed_from, is_press, settled}
 use Rattle.wl_scene.specs.Windows.{Place, Root, StackedPopup, Window, hit, mapping_place, tree, windows}
 

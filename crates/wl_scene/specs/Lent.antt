@@ -3,7 +3,7 @@ use Rattle.std.specs.Prelude.{ℕ, zero, suc, ◌≡◌, Bool, true, false, Opti
 use Rattle.std.specs.List.{All}
 use Rattle.wl_state.specs.State.{History, applied, height_of, width_of}
 use Rattle.wl_state.specs.Surface.{is_there}
-use Rattle.wl_state.specs.Surfaces.{history_in, surface_at}
+use Rattle.wl_surface.specs.Surfaces.{history_in, surface_at}
 use Rattle.wl_surface.specs.Slots.{Slots, StandForAll, no_slots}
 use Rattle.wl_scene.specs.declared.owned.Owned.{Owned as Lent}
 use Rattle.wl_scene.specs.declared.window.Window.{Window as Told}

@@ -3,7 +3,7 @@ use Rattle.std.specs.Prelude.{ℕ, ◌+◌, ◌%◌, ◌==◌, ◌&&◌, not, if
 use Rattle.std.specs.Option.{option_and_then}
 use Rattle.wl_geom.specs.declared.rect.Rect.{Rect}
 use Rattle.wl_state.specs.State.{History, geometry}
-use Rattle.wl_state.specs.Surfaces.{Surfaces, history_in, no_surfaces}
+use Rattle.wl_surface.specs.Surfaces.{Surfaces, history_in, no_surfaces}
 use Rattle.wl_shell.specs.Shell.{Shell, XdgSurface, xdg_of}
 use Rattle.wl_scene.specs.declared.scene.Toplevel.{Toplevel}
 use Rattle.wl_scene.specs.Windows.{Place, Root, Window, mapping_place, windows}

@@ -7,7 +7,7 @@ use Rattle.wl_geom.specs.Rect.{in_rect}
 use Rattle.wl_geom.specs.Region.{Change, holds}
 use Rattle.wl_state.specs.Request.{Buffer, Member, Itself, Child}
 use Rattle.wl_state.specs.State.{History, Values, applied, counting, height_of, offset, order, position, width_of, within_bounds}
-use Rattle.wl_state.specs.Surfaces.{Link, Surfaces, history_in, link_at}
+use Rattle.wl_surface.specs.Surfaces.{Link, Surfaces, history_in, link_at}
 
 -- a point, or the corner of a surface
 pub record Place : Type 0 where

@@ -12,7 +12,7 @@ use Rattle.wl_paint.specs.Damage.{has}
 use Rattle.wl_paint.specs.Frame.{Image, color_at}
 use Rattle.wl_scene.specs.Windows.{Window, contains}
 use Rattle.wl_state.specs.State.{History}
-use Rattle.wl_state.specs.Surfaces.{history_in}
+use Rattle.wl_surface.specs.Surfaces.{history_in}
 use Rattle.wl_desk.specs.Painting.{IsOpaqueAsSaid}
 use Rattle.wl_plain.specs.Act.{Act, Connect, Feed, Store, Leave, Tick, Send, Close, Motion, Button, IsClosed, closed_by}
 use Rattle.wl_plain.specs.declared.answers.Done.{Done}

@@ -12,7 +12,7 @@ use Rattle.wl_store.specs.declared.transform.Transform.TheVariants.{Normal, Rota
 use Rattle.wl_state.specs.Request.{Buffer}
 use Rattle.wl_state.specs.State.{History, applied}
 use Rattle.wl_state.specs.Surface.{Surface, listed}
-use Rattle.wl_state.specs.Surfaces.{Surfaces, history_in}
+use Rattle.wl_surface.specs.Surfaces.{Surfaces, history_in}
 use Rattle.wl_scene.specs.Stacking.{Owned, nothing_owned}
 use Rattle.wl_scene.specs.Windows.{Window, contains}
 use Rattle.std.proofs.lemmas.Bool.{eqb-false, eqb-true}

@@ -1,8 +1,7 @@
--- The frame requests of surfaces, by the numbers that they carry (wayland.xml, wl_surface.frame).
+-- The frame requests of a surface, by the numbers that they carry (wayland.xml, wl_surface.frame).
 use Rattle.std.specs.Prelude.{ℕ, Option, Some, None, List, [], ◌∷◌, flat_map}
 use Rattle.wl_state.specs.Request.{Request, Frame}
-use Rattle.wl_state.specs.State.{History, counting}
-use Rattle.wl_state.specs.Surfaces.{Surfaces}
+use Rattle.wl_state.specs.State.{History}
 
 -- those in a surface's list, in their order
 abbrev pub frames_of : List Request → List ℕ
@@ -15,7 +14,3 @@ frames_of requests = flat_map (λ request. frame_of request) requests
 abbrev pub frames_asked : Option History → List ℕ
 frames_asked None = []
 frames_asked (Some h) = frames_of h.requests
-
--- those of a client's surfaces that count
-abbrev pub frames_counting : Surfaces → List ℕ
-frames_counting all = flat_map (λ s. frames_of (counting s.history)) all.surfaces

@@ -5,5 +5,3 @@ pub mod Request
 pub mod Shape
 pub mod State
 pub mod Surface
-pub mod Surfaces
-pub mod Trees

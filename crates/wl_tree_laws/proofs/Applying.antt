@@ -3,8 +3,8 @@ use Rattle.std.proofs.Common.{◌≡◌, ℕ, zero, suc, ◌||◌, ◌&&◌, ◌
 use Rattle.std.specs.Prelude.{filter, find, fold, not}
 use Rattle.std.specs.List.{list_any}
 use Rattle.wl_state.specs.Surface.{Surface, applying}
-use Rattle.wl_state.specs.Surfaces.{Link, Surfaces, with_change}
-use Rattle.wl_state.specs.Trees.{applied_tree, children_of, descends_from, link_of, of_parent}
+use Rattle.wl_surface.specs.Surfaces.{Link, Surfaces, with_change}
+use Rattle.wl_surface.specs.Trees.{applied_tree, children_of, descends_from, link_of, of_parent}
 use Rattle.wl_tree_laws.specs.Laws.{AppliesDescendants, AreOnceLinked, applied_where, is_live_of}
 
 -- ---- what is applied where

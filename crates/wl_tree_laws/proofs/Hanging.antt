@@ -11,7 +11,7 @@ use Rattle.wl_family.specs.Family.{Tied, applied, changed_at, childless, committ
 use Rattle.wl_state.specs.Request.{Child, Commit, Request}
 use Rattle.wl_state.specs.State.{History, apply, committed as committed_at, committed_from, is_commit, is_member, order, position}
 use Rattle.wl_state.specs.Surface.{Surface, applying, asking}
-use Rattle.wl_state.specs.Surfaces.{Surfaces, history_in, link_at, with_change}
+use Rattle.wl_surface.specs.Surfaces.{Surfaces, history_in, link_at, with_change}
 use Rattle.wl_state.proofs.Commits.{committed-last}
 use Rattle.wl_tree_laws.specs.Hanging.{AppliesStack, AreTied, AsksAlone, CommitsStack, HangsAs, kids_of, stacks_at, stacks_by}
 use Rattle.wl_tree_laws.specs.Stacks.{Kids, has_child, is_about_children, stack_by}

@@ -4,8 +4,8 @@ use Rattle.std.specs.Prelude.{fold, max}
 use Rattle.std.specs.List.{list_any}
 use Rattle.std.proofs.lemmas.Bool.{eqb-true}
 use Rattle.std.proofs.Math.Nat.{le-max_left, le-max_right, max-eq_left, max-eq_right}
-use Rattle.wl_state.specs.Surfaces.{Link, Surfaces}
-use Rattle.wl_state.specs.Trees.{children_of, descends_from, height, levels, link_of, of_parent}
+use Rattle.wl_surface.specs.Surfaces.{Link, Surfaces}
+use Rattle.wl_surface.specs.Trees.{children_of, descends_from, height, levels, link_of, of_parent}
 use Rattle.wl_family.specs.Family.{parents_of}
 use Rattle.wl_trees.specs.declared.trees.Place.{Place}
 use Rattle.wl_trees.specs.Trees.{IsBelow, IsTreeHeight, Parents, StandFor, depth_by, has_place, level_at}

@@ -12,8 +12,8 @@ use Rattle.wl_state.specs.declared.role.Role.TheVariants.{Subsurface}
 use Rattle.wl_state.specs.Request.{AddChild, Child, Request}
 use Rattle.wl_state.specs.State.{History, committed as committed_at, is_member, order, position}
 use Rattle.wl_state.specs.Surface.{asking, with_role}
-use Rattle.wl_state.specs.Surfaces.{Link, Surfaces, history_in, link_at, with_change}
-use Rattle.wl_state.specs.Trees.{link_of, linked}
+use Rattle.wl_surface.specs.Surfaces.{Link, Surfaces, history_in, link_at, with_change}
+use Rattle.wl_surface.specs.Trees.{link_of, linked}
 use Rattle.wl_tree_laws.specs.Hanging.{AreNumbered, AreTied, JoinsChild, kid_of, kids_of, stacks_at, stacks_by}
 use Rattle.wl_tree_laws.specs.Laws.{AreOnceLinked, is_live_of}
 use Rattle.wl_tree_laws.specs.Stacks.{has_child, stack_by, with_kid}

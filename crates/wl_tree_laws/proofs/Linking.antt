@@ -12,8 +12,8 @@ use Rattle.wl_children.specs.Stacks.{removed}
 use Rattle.wl_family.specs.Family.{in_mode, links_in, stacks_in}
 use Rattle.wl_state.specs.Request.{AddChild, Child, Itself, Member, PlaceAbove, PlaceBelow, Request}
 use Rattle.wl_state.specs.State.{History, above, below, committed as committed_at, is_member, order, ordered, placed, without}
-use Rattle.wl_state.specs.Surfaces.{Link, Surfaces, history_in, link_at}
-use Rattle.wl_state.specs.Trees.{ending, in_mode as with_mode, link_of, with_link}
+use Rattle.wl_surface.specs.Surfaces.{Link, Surfaces, history_in, link_at}
+use Rattle.wl_surface.specs.Trees.{ending, in_mode as with_mode, link_of, with_link}
 use Rattle.wl_tree_laws.specs.Hanging.{AreNumbered, AreTied, EndsLink, SetsMode, kid_of, kids_of, stacks_at, stacks_by}
 use Rattle.wl_tree_laws.specs.Laws.{AreOnceLinked, is_live_of, links_of}
 use Rattle.wl_tree_laws.specs.Stacks.{Kids, has_child, with_kid}

@@ -3,8 +3,8 @@ use Rattle.std.proofs.Common.{◌≡◌, ℕ, zero, suc, ◌||◌, ◌==◌, fal
 use Rattle.std.specs.Option.{option_map, option_map_or}
 use Rattle.wl_family.specs.declared.link.Link.{Link as Kept}
 use Rattle.wl_family.specs.Family.{behaves_synchronised as behaves_by, parents_of}
-use Rattle.wl_state.specs.Surfaces.{Link}
-use Rattle.wl_state.specs.Trees.{behaves_synchronised, depth, descends_from, link_of, of_parent}
+use Rattle.wl_surface.specs.Surfaces.{Link}
+use Rattle.wl_surface.specs.Trees.{behaves_synchronised, depth, descends_from, link_of, of_parent}
 use Rattle.wl_trees.specs.Trees.{depth_by, is_under}
 use Rattle.wl_tree_laws.specs.Laws.{HaveSameDepth, HaveSameDescent, HaveSameModes, links_of}
 

@@ -12,7 +12,7 @@ use Rattle.wl_family.specs.Family.{Tied, at_parent, childless, links_in, pending
 use Rattle.wl_state.specs.Request.{Child, Itself, Member, PlaceAbove, PlaceBelow, Request, SetPosition}
 use Rattle.wl_state.specs.State.{History, above, below, committed as committed_at, is_commit, is_member, order, placed, position, position_asked, without}
 use Rattle.wl_state.specs.Surface.{asking}
-use Rattle.wl_state.specs.Surfaces.{Link, Surfaces, history_in, link_at, with_change}
+use Rattle.wl_surface.specs.Surfaces.{Link, Surfaces, history_in, link_at, with_change}
 use Rattle.wl_tree_laws.specs.Hanging.{AreTied, Hang, MovesChild, PlacesChild, kid_of, kids_of, stacks_by}
 use Rattle.wl_tree_laws.specs.Laws.{AreOnceLinked, is_live_of}
 use Rattle.wl_tree_laws.specs.Stacks.{AreApart, IsKept, Kids, has_child, stack_by}

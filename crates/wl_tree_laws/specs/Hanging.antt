@@ -10,8 +10,8 @@ use Rattle.wl_family.specs.Family.{at_parent, unlinked}
 use Rattle.wl_state.specs.Request.{Commit, Member, PlaceAbove, PlaceBelow, Request, SetPosition}
 use Rattle.wl_state.specs.State.{History, committed as committed_at, counting, is_commit, position}
 use Rattle.wl_state.specs.Surface.{applying, asking}
-use Rattle.wl_state.specs.Surfaces.{Link, Surfaces, history_in, link_at, with_change}
-use Rattle.wl_state.specs.Trees.{ending, in_mode as with_mode, linked, with_link}
+use Rattle.wl_surface.specs.Surfaces.{Link, Surfaces, history_in, link_at, with_change}
+use Rattle.wl_surface.specs.Trees.{ending, in_mode as with_mode, linked, with_link}
 use Rattle.wl_tree_laws.specs.Laws.{AreOnceLinked, links_of}
 use Rattle.wl_tree_laws.specs.Stacks.{IsKept, Kids, has_child, is_about_children, stack_by}
 

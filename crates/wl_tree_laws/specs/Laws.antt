@@ -6,8 +6,8 @@ use Rattle.wl_trees.specs.declared.trees.Place.{Place}
 use Rattle.wl_trees.specs.Trees.{IsTreeHeight, StandFor, depth_by, has_place, is_under, level_at}
 use Rattle.wl_family.specs.Family.{Links, behaves_synchronised as behaves_by, parents_of}
 use Rattle.wl_state.specs.Surface.{applying}
-use Rattle.wl_state.specs.Surfaces.{Link, Surfaces}
-use Rattle.wl_state.specs.Trees.{applied_tree, behaves_synchronised, depth, descends_from, height, levels, link_of}
+use Rattle.wl_surface.specs.Surfaces.{Link, Surfaces}
+use Rattle.wl_surface.specs.Trees.{applied_tree, behaves_synchronised, depth, descends_from, height, levels, link_of}
 
 -- a link of this child that hasn't ended
 abbrev pub is_live_of : ℕ → Link → Bool

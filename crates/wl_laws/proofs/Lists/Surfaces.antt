@@ -3,7 +3,7 @@ use Rattle.std.proofs.Common.{◌≡◌, ℕ, Bool, true, false, cond, refl, ap}
 use Rattle.std.specs.Prelude.{◌==◌}
 use Rattle.std.specs.Option.{option_map}
 use Rattle.wl_state.specs.Surface.{Surface}
-use Rattle.wl_state.specs.Surfaces.{Surfaces, surface_at, with_change}
+use Rattle.wl_surface.specs.Surfaces.{Surfaces, surface_at, with_change}
 use Rattle.wl_laws.proofs.Lists.Keys.{found-map}
 
 abbrev pub has_id : ℕ → Surface → Bool

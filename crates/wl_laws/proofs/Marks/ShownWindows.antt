@@ -3,7 +3,7 @@ use Rattle.std.proofs.Common.{◌≡◌, ℕ, zero, suc, Bool, true, false, List
 use Rattle.std.specs.Prelude.{◌+ℤ◌, flat_map, cond, map}
 use Rattle.wl_state.specs.Request.{Buffer, Member, Itself, Child}
 use Rattle.wl_state.specs.State.{History, applied, counting, height_of, order, position, width_of}
-use Rattle.wl_state.specs.Surfaces.{Link, history_in, link_at}
+use Rattle.wl_surface.specs.Surfaces.{Link, history_in, link_at}
 use Rattle.wl_scene.specs.Stacking.{Owned, root_of}
 use Rattle.wl_scene.specs.Windows.{Owner, Place, Root, StackedPopup, Window, child_windows, corner_at, member_windows, owner_of, roots_of, shown_windows, surface_windows, tree, window_with, windows}
 use Rattle.wl_scene.specs.Windows.{windows_of}

@@ -5,7 +5,7 @@ use Rattle.wl_peer.specs.declared.cause.Cause.TheVariants.{Memory}
 use Rattle.wl_peer.specs.Peer.{ended}
 use Rattle.wl_peer.specs.Told.{Output}
 use Rattle.wl_state.specs.State.{History}
-use Rattle.wl_state.specs.Surfaces.{history_in}
+use Rattle.wl_surface.specs.Surfaces.{history_in}
 use Rattle.wl_plain.specs.Desktop.{Desktop, Resident, client_at, owned_in}
 use Rattle.wl_plain.specs.Happenings.{Happening, Leads, Message, Receive, ReceivesAt, Single, Starve, StarvesAt}
 use Rattle.wl_laws.specs.Happenings.{MarkedThrough}

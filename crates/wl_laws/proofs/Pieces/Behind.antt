@@ -11,7 +11,7 @@ use Rattle.wl_shell.specs.Shell.{XdgSurface as Xdg, xdg_at}
 use Rattle.wl_plain.specs.Ask.{Ask, Own, CreateSurface, AskSurface, EndObject, GetXdgSurface, DestroyXdgSurface, GetToplevel, Acknowledge, ConfigureAgain, Ignore}
 use Rattle.wl_plain.specs.Desktop.{Resident}
 use Rattle.wl_peer.specs.Used.{has_used, keeps_store}
-use Rattle.wl_state.specs.Surfaces.{is_used}
+use Rattle.wl_surface.specs.Surfaces.{is_used}
 use Rattle.wl_plain.specs.Step.{answers_to, changed_by, making, own_changed, toplevel_given, with_peer}
 
 -- a client from which this came and wasn't taken yet

@@ -27,8 +27,8 @@ use Rattle.wl_peer.specs.Judgement.{after_new_id, judged, judged_at}
 use Rattle.wl_peer.specs.Objects.{Object, Objects, fits}
 use Rattle.wl_peer.specs.Peer.{Peer, removed, with_rest}
 use Rattle.wl_peer.specs.Told.{Said, display_error}
-use Rattle.wl_state.specs.Surfaces.{Link}
-use Rattle.wl_state.specs.Trees.{destroyed_in}
+use Rattle.wl_surface.specs.Surfaces.{Link}
+use Rattle.wl_surface.specs.Trees.{destroyed_in}
 use Rattle.wl_surface.specs.Waiting.{Callback}
 use Rattle.wl_shell.specs.Popups.{is_toplevel, parent_allows, parent_of, popup_at}
 use Rattle.wl_shell.specs.Positioner.{Positioner}

@@ -4,7 +4,7 @@ use Rattle.std.specs.Prelude.{◌==◌, ◌&&◌, ◌||◌, is_some}
 use Rattle.wl_peer.specs.declared.cause.Cause.{Cause}
 use Rattle.wl_peer.specs.Peer.{Peer, ended, has_room, queued, with_rest}
 use Rattle.wl_peer.specs.Told.{Said}
-use Rattle.wl_state.specs.Surfaces.{history_in}
+use Rattle.wl_surface.specs.Surfaces.{history_in}
 use Rattle.wl_scene.specs.Pointer.{Target, settled}
 use Rattle.wl_scene.specs.Stacking.{without_client}
 use Rattle.wl_scene.specs.Windows.{Place, Window}

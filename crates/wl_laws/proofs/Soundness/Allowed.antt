@@ -13,8 +13,8 @@ use Rattle.wl_proto.specs.declared.xdg_popup.XdgPopupRequest.TheVariants as popu
 use Rattle.wl_peer.specs.Requests.{number_in, word_in, pointer_request, popup_request, positioner_request, request_in, seat_request, subcompositor_request, subsurface_request, surface_request}
 use Rattle.wl_peer.specs.Requests.{toplevel_request, rect}
 use Rattle.wl_state.specs.Request.{Member, PlaceAbove, PlaceBelow}
-use Rattle.wl_state.specs.Surfaces.{Link, link_at}
-use Rattle.wl_state.specs.Trees.{is_bad_parent, is_too_deep}
+use Rattle.wl_surface.specs.Surfaces.{Link, link_at}
+use Rattle.wl_surface.specs.Trees.{is_bad_parent, is_too_deep}
 use Rattle.wl_shell.specs.Popups.{Popped, is_parent, is_popup_mapped, popup_at}
 use Rattle.wl_shell.specs.Positioner.{Positioner, is_anchor_rect, is_size}
 use Rattle.wl_shell.specs.Shell.{Effect, Stays, Unconfigured, Configures, Maps, Unmaps, XdgSurface as Xdg, is_full, xdg_at, xdg_of, xdg_with}

@@ -3,7 +3,7 @@ use Rattle.std.proofs.Common.{◌≡◌, ℕ, zero, suc, Option, Some, None, ref
 use Rattle.std.specs.Prelude.{replicate}
 use Rattle.wl_peer.specs.Told.{Output}
 use Rattle.wl_state.specs.State.{History}
-use Rattle.wl_state.specs.Surfaces.{Link, no_surfaces}
+use Rattle.wl_surface.specs.Surfaces.{Link, no_surfaces}
 use Rattle.wl_plain.specs.Desktop.{Resident, client_at, empty, owned_of, place}
 use Rattle.wl_plain.specs.Popups.{stacked_popups}
 use Rattle.wl_laws.specs.Soundness.{AreOnce, AreTrees, EmptyIsSound, IsLive, has_surface}

@@ -7,8 +7,8 @@ use Rattle.std.proofs.lemmas.Bool.{eqb-true, eqb-false}
 use Rattle.wl_state.specs.Request.{Request, Member, Itself, Child, Commit, AddChild, PlaceAbove, PlaceBelow}
 use Rattle.wl_state.specs.State.{History, above, below, is_member, order, ordered, without}
 use Rattle.wl_state.specs.Surface.{Surface, asking, new_surface, with_role}
-use Rattle.wl_state.specs.Surfaces.{Link, Surfaces, history_in, link_at, surface_at, with_change, with_new, without_surface}
-use Rattle.wl_state.specs.Trees.{committed_in, desynchronised_in, destroyed_in, ended_in, links_with, synchronised_in}
+use Rattle.wl_surface.specs.Surfaces.{Link, Surfaces, history_in, link_at, surface_at, with_change, with_new, without_surface}
+use Rattle.wl_surface.specs.Trees.{committed_in, desynchronised_in, destroyed_in, ended_in, links_with, synchronised_in}
 use Rattle.wl_state.specs.declared.role.Role.{Role}
 use Rattle.wl_plain.specs.Changing.{unlinked_at}
 use Rattle.wl_laws.specs.Apart.{AreApartBy}

@@ -3,8 +3,8 @@ use Rattle.std.proofs.Common.{◌≡◌, ℕ, suc, ◌+◌, ◌-◌, ◌≤◌, 
 use Rattle.std.specs.Prelude.{◌==◌, ◌||◌, ◌⊎◌}
 use Rattle.std.proofs.lemmas.Bool.{eqb-true, ltb-false}
 use Rattle.wl_state.specs.State.{History, is_member, order}
-use Rattle.wl_state.specs.Surfaces.{Link, Surfaces, history_in, link_at}
-use Rattle.wl_state.specs.Trees.{depth, descends_from, height, is_bad_parent, is_too_deep, levels, linked}
+use Rattle.wl_surface.specs.Surfaces.{Link, Surfaces, history_in, link_at}
+use Rattle.wl_surface.specs.Trees.{depth, descends_from, height, is_bad_parent, is_too_deep, levels, linked}
 use Rattle.wl_laws.specs.Apart.{AreApartBy}
 use Rattle.wl_laws.specs.Soundness.{AreOnce, AreTrees, IsLive, IsNoChild}
 use Rattle.wl_laws.proofs.Soundness.Orderly.{IsForest, has_child}

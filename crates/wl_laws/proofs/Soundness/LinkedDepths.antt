@@ -2,8 +2,8 @@
 use Rattle.std.proofs.Common.{◌≡◌, ℕ, zero, suc, ◌+◌, ◌≤◌, ◌<◌, Bool, true, false, List, [], ◌∷◌, Option, Some, None, cond, not, max, map, inl, inr, refl, ap, sym, subst, ◌∙◌, arith}
 use Rattle.std.specs.Prelude.{◌==◌, ◌&&◌, ◌||◌, ◌⊎◌, find, filter, fold}
 use Rattle.std.proofs.lemmas.Bool.{eqb-true, not-true, or_cases}
-use Rattle.wl_state.specs.Surfaces.{Link, Surfaces, link_at}
-use Rattle.wl_state.specs.Trees.{of_parent, depth, descends_from, height, levels, link_of}
+use Rattle.wl_surface.specs.Surfaces.{Link, Surfaces, link_at}
+use Rattle.wl_surface.specs.Trees.{of_parent, depth, descends_from, height, levels, link_of}
 use Rattle.wl_laws.specs.Soundness.{IsLive, IsNoChild}
 use Rattle.wl_laws.proofs.Soundness.Orderly.{IsForest}
 use Rattle.wl_laws.proofs.Lists.Keys.{found-by, found-fails, found-none, found-passes, some-same}

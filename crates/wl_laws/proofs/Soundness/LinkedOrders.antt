@@ -8,8 +8,8 @@ use Rattle.std.proofs.lemmas.List.{take_all}
 use Rattle.wl_state.specs.Request.{AddChild, Child, Itself, Member, Request}
 use Rattle.wl_state.specs.State.{History, is_member, order, ordered}
 use Rattle.wl_state.specs.Surface.{Surface, asking, with_role}
-use Rattle.wl_state.specs.Surfaces.{Surfaces, history_in, surface_at}
-use Rattle.wl_state.specs.Trees.{linked}
+use Rattle.wl_surface.specs.Surfaces.{Surfaces, history_in, surface_at}
+use Rattle.wl_surface.specs.Trees.{linked}
 use Rattle.wl_state.specs.declared.role.Role.TheVariants.{Subsurface}
 use Rattle.wl_laws.specs.Soundness.{AreOnce}
 use Rattle.wl_laws.proofs.Soundness.Orderly.{has_child}

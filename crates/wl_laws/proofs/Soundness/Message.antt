@@ -6,7 +6,7 @@ use Rattle.wl_peer.specs.declared.actions.Action.TheVariants.{Sync, GetRegistry,
 use Rattle.wl_peer.specs.declared.actions.Action.TheVariants.{DestroyBuffer}
 use Rattle.wl_peer.specs.Peer.{counted, with_rest}
 use Rattle.wl_state.specs.Request.{Frame}
-use Rattle.wl_state.specs.Surfaces.{Link, Surfaces}
+use Rattle.wl_surface.specs.Surfaces.{Link, Surfaces}
 use Rattle.wl_shell.specs.Positioner.{Positioner}
 use Rattle.wl_shell.specs.Shell.{Effect, Stays, Unconfigured, Configures, Maps, Unmaps, XdgSurface as Xdg, xdg_at, xdg_of}
 use Rattle.wl_plain.specs.Ask.{Ask, Own, CreateSurface, AskSurface, EndObject, GetXdgSurface, DestroyXdgSurface, GetToplevel, Acknowledge, ConfigureAgain, Ignore}

@@ -7,9 +7,9 @@ use Rattle.std.proofs.lemmas.Bool.{eqb-true, ne_eqb}
 use Rattle.wl_state.specs.Request.{Request, Commit}
 use Rattle.wl_state.specs.State.{History}
 use Rattle.wl_state.specs.Surface.{Surface, applying, asking}
-use Rattle.wl_state.specs.Surfaces.{Link, Surfaces, history_in, link_at, surface_at, with_change, without_surface}
-use Rattle.wl_state.specs.Trees.{applied_tree, applied_unless, behaves_synchronised, children_of, committed_in, desynchronised_in, destroyed_in, ended_in, ending, in_mode, levels, links_with}
-use Rattle.wl_state.specs.Trees.{released_in, synchronised_in, with_link}
+use Rattle.wl_surface.specs.Surfaces.{Link, Surfaces, history_in, link_at, surface_at, with_change, without_surface}
+use Rattle.wl_surface.specs.Trees.{applied_tree, applied_unless, behaves_synchronised, children_of, committed_in, desynchronised_in, destroyed_in, ended_in, ending, in_mode, levels, links_with}
+use Rattle.wl_surface.specs.Trees.{released_in, synchronised_in, with_link}
 use Rattle.wl_plain.specs.Changing.{unlinked_at}
 use Rattle.wl_laws.specs.Apart.{AreApartBy}
 use Rattle.wl_laws.specs.Soundness.{IsLive}

@@ -13,8 +13,8 @@ use Rattle.wl_peer.specs.Used.{changed_with, has_used, keeps_store}
 use Rattle.wl_state.specs.Frames.{frames_asked}
 use Rattle.wl_state.specs.Request.{Frame}
 use Rattle.wl_state.specs.Surface.{asking, with_role}
-use Rattle.wl_state.specs.Surfaces.{Surfaces, history_in, is_used, with_new, with_change as with_surface_change}
-use Rattle.wl_state.specs.Trees.{committed_in, desynchronised_in, destroyed_in, linked, synchronised_in}
+use Rattle.wl_surface.specs.Surfaces.{Surfaces, history_in, is_used, with_new, with_change as with_surface_change}
+use Rattle.wl_surface.specs.Trees.{committed_in, desynchronised_in, destroyed_in, linked, synchronised_in}
 use Rattle.wl_state.specs.declared.role.Role.TheVariants as role
 use Rattle.wl_surface.specs.Waiting.{Callback}
 use Rattle.wl_shell.specs.Popups.{Popped, dismissed_among, dismissed_with, dismissing, is_parent_of, orphan, orphaning, placing, popup_changed, with_grab, without_grab}

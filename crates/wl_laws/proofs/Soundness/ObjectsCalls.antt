@@ -7,7 +7,7 @@ use Rattle.wl_interface.specs.declared.interface.Interface.{Interface}
 use Rattle.wl_interface.specs.declared.interface.Interface.TheVariants.{WlCallback, WlSurface, WlSubsurface, XdgSurface, XdgToplevel, XdgPopup}
 use Rattle.wl_peer.specs.Objects.{Objects, interface_number, is_of}
 use Rattle.wl_peer.specs.Peer.{Peer, removed}
-use Rattle.wl_state.specs.Surfaces.{Surfaces}
+use Rattle.wl_surface.specs.Surfaces.{Surfaces}
 use Rattle.wl_surface.specs.Waiting.{Callback}
 use Rattle.wl_shell.specs.Shell.{Shell}
 use Rattle.wl_plain.specs.Desktop.{Subsurface}

@@ -6,7 +6,7 @@ use Rattle.std.proofs.lemmas.Bool.{eqb-true}
 use Rattle.wl_interface.specs.declared.interface.Interface.{Interface}
 use Rattle.wl_interface.specs.declared.interface.Interface.TheVariants.{WlCallback, WlSurface, WlSubsurface, XdgSurface, XdgToplevel, XdgPopup}
 use Rattle.wl_peer.specs.Objects.{Object, Objects, interface_number, is_of, with_id}
-use Rattle.wl_state.specs.Surfaces.{Surfaces, surface_at}
+use Rattle.wl_surface.specs.Surfaces.{Surfaces, surface_at}
 use Rattle.wl_surface.specs.Waiting.{Callback}
 use Rattle.wl_shell.specs.Shell.{Shell, XdgSurface as Xdg}
 use Rattle.wl_plain.specs.Desktop.{Resident, Subsurface}

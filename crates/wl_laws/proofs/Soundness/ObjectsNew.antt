@@ -8,7 +8,7 @@ use Rattle.wl_interface.specs.declared.interface.Interface.TheVariants.{WlCallba
 use Rattle.wl_peer.specs.Judgement.{is_free}
 use Rattle.wl_peer.specs.Objects.{Object, Objects, interface_number, is_of, with_id}
 use Rattle.wl_peer.specs.Peer.{object_at_version}
-use Rattle.wl_state.specs.Surfaces.{Surfaces}
+use Rattle.wl_surface.specs.Surfaces.{Surfaces}
 use Rattle.wl_surface.specs.Waiting.{Callback}
 use Rattle.wl_shell.specs.Popups.{new_popup}
 use Rattle.wl_shell.specs.Positioner.{Positioner}

@@ -4,7 +4,7 @@ use Rattle.std.specs.Prelude.{◌==◌, ◌&&◌, not, find}
 use Rattle.std.specs.List.{list_any}
 use Rattle.wl_interface.specs.declared.interface.Interface.TheVariants.{XdgToplevel, XdgPopup}
 use Rattle.wl_peer.specs.Objects.{Objects, is_of, with_id}
-use Rattle.wl_state.specs.Surfaces.{Surfaces}
+use Rattle.wl_surface.specs.Surfaces.{Surfaces}
 use Rattle.wl_surface.specs.Waiting.{Callback}
 use Rattle.wl_shell.specs.Popups.{is_toplevel_kind}
 use Rattle.wl_shell.specs.Shell.{RoleObject, Shell, XdgSurface as Xdg, is_role, with_change, without_role, xdg_with}

@@ -3,7 +3,7 @@ use Rattle.std.proofs.Common.{◌≡◌, ℕ, Bool, true, false, List, Option, S
 use Rattle.std.specs.Prelude.{◌==◌, ◌&&◌, not}
 use Rattle.std.specs.Option.{option_map}
 use Rattle.wl_peer.specs.Objects.{Objects}
-use Rattle.wl_state.specs.Surfaces.{Surfaces}
+use Rattle.wl_surface.specs.Surfaces.{Surfaces}
 use Rattle.wl_surface.specs.Waiting.{Callback}
 use Rattle.wl_interface.specs.declared.interface.Interface.TheVariants.{XdgSurface, XdgToplevel, XdgPopup}
 use Rattle.wl_shell.specs.Popups.{dismiss, dismissed_among, is_among, is_toplevel_kind, popup_changed, with_popup, with_popup_role}

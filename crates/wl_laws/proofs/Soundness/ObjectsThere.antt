@@ -6,9 +6,9 @@ use Rattle.std.proofs.lemmas.Bool.{eqb-true}
 use Rattle.wl_state.specs.declared.role.Role.TheVariants.{Subsurface}
 use Rattle.wl_state.specs.Request.{AddChild, Commit}
 use Rattle.wl_state.specs.Surface.{Surface, applying, asking, new_surface, with_role}
-use Rattle.wl_state.specs.Surfaces.{Link, Surfaces, link_at, surface_at, with_change, with_new}
-use Rattle.wl_state.specs.Trees.{applied_tree, applied_unless, behaves_synchronised, children_of, committed_in, desynchronised_in, destroyed_in, ended_in, in_mode, levels, linked, links_with}
-use Rattle.wl_state.specs.Trees.{released_in, with_link}
+use Rattle.wl_surface.specs.Surfaces.{Link, Surfaces, link_at, surface_at, with_change, with_new}
+use Rattle.wl_surface.specs.Trees.{applied_tree, applied_unless, behaves_synchronised, children_of, committed_in, desynchronised_in, destroyed_in, ended_in, in_mode, levels, linked, links_with}
+use Rattle.wl_surface.specs.Trees.{released_in, with_link}
 use Rattle.wl_plain.specs.Changing.{unlinked_at}
 use Rattle.wl_laws.proofs.Lists.Keys.{differ, found-map}
 use Rattle.wl_laws.proofs.Marks.Stacks.{equal-numbers}

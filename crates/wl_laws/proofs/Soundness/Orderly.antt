@@ -13,8 +13,8 @@ use Rattle.wl_peer.specs.Judgement.{is_free}
 use Rattle.wl_peer.specs.Objects.{is_of}
 use Rattle.wl_state.specs.Request.{Request, Child, AddChild, PlaceAbove, PlaceBelow}
 use Rattle.wl_state.specs.State.{History, is_member, order}
-use Rattle.wl_state.specs.Surfaces.{Link, Surfaces, history_in, link_at, surface_at}
-use Rattle.wl_state.specs.Trees.{is_bad_parent, is_too_deep}
+use Rattle.wl_surface.specs.Surfaces.{Link, Surfaces, history_in, link_at, surface_at}
+use Rattle.wl_surface.specs.Trees.{is_bad_parent, is_too_deep}
 use Rattle.wl_state.specs.declared.role.Role.{Role}
 use Rattle.wl_state.specs.declared.role.Role.TheVariants.{Subsurface as AsSubsurface}
 use Rattle.wl_shell.specs.Popups.{is_toplevel_kind}

@@ -5,7 +5,7 @@ use Rattle.std.specs.List.{list_any}
 use Rattle.std.specs.Option.{option_and_then, option_map, option_map_or}
 use Rattle.std.proofs.lemmas.Bool.{eqb-true, ne_eqb, or_left, or_right}
 use Rattle.wl_state.specs.Surface.{Surface, with_role, new_surface}
-use Rattle.wl_state.specs.Surfaces.{Link, Surfaces, surface_at, with_new as with_new_surface, with_change as with_surface_change}
+use Rattle.wl_surface.specs.Surfaces.{Link, Surfaces, surface_at, with_new as with_new_surface, with_change as with_surface_change}
 use Rattle.wl_state.specs.declared.role.Role.{Role}
 use Rattle.wl_state.specs.declared.role.Role.TheVariants.{Subsurface as AsSubsurface, Toplevel as AsToplevel, Popup as AsPopup, Cursor as AsCursor}
 use Rattle.wl_shell.specs.Popups.{Popped, dismiss, dismissed_among, dismissed_with, dismissing, is_among, is_parent_of, new_popup, orphan, orphaning, popup_changed, with_grab}
@@ -28,7 +28,7 @@ use Rattle.wl_laws.proofs.Lists.Surfaces.{has_id}
 use Rattle.wl_laws.proofs.Lists.Surfaces.{changed-found}
 use Rattle.wl_laws.proofs.Marks.Stacks.{equal-numbers, and-both, and-left, and-right, unless}
 use Rattle.wl_laws.proofs.Soundness.Standing.{found-first, found-kept}
-use Rattle.wl_state.specs.Trees.{linked}
+use Rattle.wl_surface.specs.Trees.{linked}
 use Rattle.wl_state.specs.Request.{AddChild, Frame}
 use Rattle.wl_laws.proofs.Soundness.Moves.{destroyed-live, destroyed-role, links-destroyed, trees-asked, trees-unlinked, unlinked-live, trees-committed, trees-desynchronised, trees-synchronised}
 use Rattle.wl_laws.proofs.Soundness.Linked.{linked-live}

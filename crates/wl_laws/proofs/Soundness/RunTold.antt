@@ -6,8 +6,8 @@ use Rattle.wl_peer.specs.declared.cause.Cause.{Cause}
 use Rattle.wl_peer.specs.Objects.{is_of}
 use Rattle.wl_peer.specs.Peer.{Peer, ended}
 use Rattle.wl_peer.specs.Told.{Said}
-use Rattle.wl_state.specs.Frames.{frames_counting}
-use Rattle.wl_state.specs.Surfaces.{Link, no_surfaces}
+use Rattle.wl_surface.specs.Frames.{frames_counting}
+use Rattle.wl_surface.specs.Surfaces.{Link, no_surfaces}
 use Rattle.wl_surface.specs.Waiting.{Callback}
 use Rattle.wl_shell.specs.Popups.{Popped, dismissing}
 use Rattle.wl_shell.specs.Shell.{Shell}

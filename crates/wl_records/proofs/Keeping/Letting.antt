@@ -7,7 +7,7 @@ use Rattle.wl_store.specs.Stores.{Stock}
 use Rattle.wl_state.specs.Request.{Buffer, Request}
 use Rattle.wl_state.specs.State.{History, Values, applied, asked, committed, held, is_commit, pending, values}
 use Rattle.wl_state.specs.Surface.{Surface, asking, buffers_of, has, listed, names, shows}
-use Rattle.wl_state.specs.Surfaces.{history_in, is_used, surface_at}
+use Rattle.wl_surface.specs.Surfaces.{history_in, is_used, surface_at}
 use Rattle.wl_state.proofs.Records.{applied-kept, held-kept, values-asked}
 use Rattle.wl_plain.specs.Desktop.{Resident}
 use Rattle.wl_plain.specs.Step.{after_surface, asked_of, buffers_had, each_once, is_number, is_over, letting_go, with_peer}

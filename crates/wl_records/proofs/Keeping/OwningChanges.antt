@@ -9,7 +9,7 @@ use Rattle.wl_state.specs.Kept.{Kept as KeptSurface}
 use Rattle.wl_surface.specs.Slots.{Numbered, Slots, StandForAll, StandsAt, kept_at, one_if_kept, with_at, count as count_kept}
 use Rattle.wl_state.specs.State.{History}
 use Rattle.wl_state.specs.Surface.{Surface, new_surface}
-use Rattle.wl_state.specs.Surfaces.{Surfaces, history_in, surface_at, with_new, without_surface}
+use Rattle.wl_surface.specs.Surfaces.{Surfaces, history_in, surface_at, with_new, without_surface}
 use Rattle.wl_shell.specs.Agreement.{IsKept, IsShell, with_history}
 use Rattle.wl_shell.specs.Kept.{Kept, Stands, changing, first_kept, with_kept}
 use Rattle.wl_shell.specs.Shell.{RoleObject, XdgSurface, is_role, with_change, without_xdg, xdg_at, xdg_of, xdg_with, with_new as with_new_xdg}

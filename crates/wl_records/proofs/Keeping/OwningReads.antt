@@ -19,7 +19,7 @@ use Rattle.wl_surface.specs.Applied.{AreFreed}
 use Rattle.wl_state.specs.Request.{Buffer, Commit, SetWindowGeometry}
 use Rattle.wl_state.specs.State.{History, applied, held, pending, values}
 use Rattle.wl_state.specs.Surface.{Surface, applying, asking, has_content, is_there, listed}
-use Rattle.wl_state.specs.Surfaces.{history_in, is_busy, is_used, surface_at, with_change, without_surface}
+use Rattle.wl_surface.specs.Surfaces.{history_in, is_busy, is_used, surface_at, with_change, without_surface}
 use Rattle.wl_shell.specs.declared.acts.ShellAct.{ShellAct}
 use Rattle.wl_shell.specs.declared.acts.ShellAct.TheVariants.{Configure, Map, Unmap, Nothing}
 use Rattle.wl_shell.specs.declared.error.ShellError.{ShellError}

@@ -11,7 +11,7 @@ use Rattle.wl_surface.specs.Slots.{Numbered, Slots, StandForAll, StandsAt, Chang
 use Rattle.wl_state.specs.Request.{Request, SetWindowGeometry}
 use Rattle.wl_state.specs.State.{History, committed_from, is_commit}
 use Rattle.wl_state.specs.Surface.{Surface, asking, has, new_surface, shows}
-use Rattle.wl_state.specs.Surfaces.{Surfaces, history_in, is_busy, is_used, surface_at, with_change, with_new, without_surface}
+use Rattle.wl_surface.specs.Surfaces.{Surfaces, history_in, is_busy, is_used, surface_at, with_change, with_new, without_surface}
 use Rattle.wl_state.proofs.Records.{For-asked, still, undamaged}
 use Rattle.wl_records.specs.Owning.{AllCounts, AreKept, by_number}
 use Rattle.wl_laws.specs.Apart.{AreApartBy}

@@ -8,7 +8,7 @@ use Rattle.wl_peer.specs.Objects.{ById}
 use Rattle.wl_surface.specs.Slots.{Slots}
 use Rattle.wl_state.specs.State.{History}
 use Rattle.wl_state.specs.Surface.{Surface, new_surface}
-use Rattle.wl_state.specs.Surfaces.{Surfaces, history_in, surface_at, with_change, with_new, without_surface}
+use Rattle.wl_surface.specs.Surfaces.{Surfaces, history_in, surface_at, with_change, with_new, without_surface}
 use Rattle.wl_shell.specs.Agreement.{AreApart, IsKept, with_history}
 use Rattle.wl_shell.specs.Kept.{Kept, Stands, changing, with_kept}
 use Rattle.wl_shell.specs.Shell.{Shell, XdgSurface, is_role, xdg_at, xdg_of, xdg_with}

@@ -8,7 +8,7 @@ use Rattle.wl_peer.specs.declared.actions.Action.TheVariants.{DestroyBuffer}
 use Rattle.wl_state.specs.Request.{Request, Frame}
 use Rattle.wl_state.specs.State.{History}
 use Rattle.wl_state.specs.Surface.{with_role, asking}
-use Rattle.wl_state.specs.Surfaces.{Surfaces, history_in, with_change, with_new, without_surface}
+use Rattle.wl_surface.specs.Surfaces.{Surfaces, history_in, with_change, with_new, without_surface}
 use Rattle.wl_state.specs.declared.role.Role.TheVariants.{Toplevel as AsToplevel}
 use Rattle.wl_shell.specs.Agreement.{AreApart as AreToldApart}
 use Rattle.wl_shell.specs.Shell.{Effect, Stays, RoleObject, Shell, XdgSurface, acknowledging, configuring, forgetting, in_stage, new_toplevel, on_commit, stage_of, unmapping, without_role}

@@ -7,7 +7,7 @@ use Rattle.wl_peer.specs.declared.actions.Action.{Action}
 use Rattle.wl_peer.specs.declared.actions.Action.TheVariants.{DestroyBuffer}
 use Rattle.wl_state.specs.State.{History}
 use Rattle.wl_state.specs.Surface.{Surface, new_surface, with_role, asking}
-use Rattle.wl_state.specs.Surfaces.{Surfaces, history_in, with_change, with_new, without_surface}
+use Rattle.wl_surface.specs.Surfaces.{Surfaces, history_in, with_change, with_new, without_surface}
 use Rattle.wl_state.specs.declared.role.Role.TheVariants.{Toplevel as AsToplevel}
 use Rattle.wl_state.specs.Request.{Frame}
 use Rattle.wl_shell.specs.Agreement.{AreApart as AreToldApart}

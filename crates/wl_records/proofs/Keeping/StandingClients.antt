@@ -4,7 +4,7 @@ use Rattle.std.specs.Prelude.{◌==◌}
 use Rattle.std.specs.List.{list_any}
 use Rattle.std.specs.Option.{option_map}
 use Rattle.std.proofs.lemmas.Bool.{eqb-true, eqb-false, ne_eqb}
-use Rattle.wl_state.specs.Surfaces.{history_in}
+use Rattle.wl_surface.specs.Surfaces.{history_in}
 use Rattle.wl_shell.specs.Agreement.{AreApart}
 use Rattle.wl_shell.specs.Shell.{RoleObject, Shell, XdgSurface, acknowledged, acknowledging, in_stage, xdg_at, xdg_of, without_xdg, with_change as with_xdg_change}
 use Rattle.wl_shell.specs.declared.stage.Stage.{Stage}

@@ -5,7 +5,7 @@ use Rattle.std.specs.List.{list_any}
 use Rattle.std.proofs.lemmas.Bool.{eqb-true, eqb-false}
 use Rattle.wl_peer.specs.declared.cause.Cause.{Cause}
 use Rattle.wl_peer.specs.Peer.{Peer}
-use Rattle.wl_state.specs.Surfaces.{history_in}
+use Rattle.wl_surface.specs.Surfaces.{history_in}
 use Rattle.wl_shell.specs.Shell.{Effect, Stays, Unconfigured, Configures, Maps, Unmaps}
 use Rattle.wl_scene.specs.Lent.{AllShow, shows_buffer}
 use Rattle.wl_scene.specs.Stacking.{Owned, Standing, is_of, nothing_owned, without_client}

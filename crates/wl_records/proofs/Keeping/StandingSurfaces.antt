@@ -7,7 +7,7 @@ use Rattle.std.proofs.lemmas.List.{take-append-le}
 use Rattle.wl_state.specs.Request.{Request, Commit}
 use Rattle.wl_state.specs.State.{History, Values, committed_from, is_commit, pending, values}
 use Rattle.wl_state.specs.Surface.{Surface, applying, asking, is_there, new_surface, with_role}
-use Rattle.wl_state.specs.Surfaces.{Surfaces, history_in, surface_at, with_change, with_new, without_surface}
+use Rattle.wl_surface.specs.Surfaces.{Surfaces, history_in, surface_at, with_change, with_new, without_surface}
 use Rattle.wl_state.specs.declared.role.Role.{Role}
 use Rattle.wl_state.proofs.Commits.{commit_takes_all}
 use Rattle.wl_scene.specs.Lent.{shows_buffer}

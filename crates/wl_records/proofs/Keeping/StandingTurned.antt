@@ -11,7 +11,7 @@ use Rattle.wl_store.specs.declared.transform.Transform.TheVariants.{Normal, Rota
 use Rattle.wl_state.specs.Request.{Request, SetBufferTransform, Commit, Frame}
 use Rattle.wl_state.specs.State.{History, Values, applied, asked, first_values}
 use Rattle.wl_state.specs.Surface.{Surface, asking, new_surface, with_role}
-use Rattle.wl_state.specs.Surfaces.{Surfaces, history_in, surface_at, with_change, without_surface}
+use Rattle.wl_surface.specs.Surfaces.{Surfaces, history_in, surface_at, with_change, without_surface}
 use Rattle.wl_state.specs.declared.role.Role.TheVariants.{Toplevel as AsToplevel}
 use Rattle.wl_shell.specs.Shell.{Effect, Stays, Unconfigured, Configures, Maps, Unmaps, XdgSurface, xdg_at, xdg_of}
 use Rattle.wl_plain.specs.Ask.{CreateSurface, AskSurface, GetToplevel}

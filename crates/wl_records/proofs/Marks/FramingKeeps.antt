@@ -8,7 +8,7 @@ use Rattle.wl_plain.specs.Framing.{FramesTold, FramesToldAt, FramesToldBy, done_
 use Rattle.wl_plain.specs.Happens.{frames_told, is_counting}
 use Rattle.wl_records.specs.NoMore.{NoMore, OwnsToplevelsAt, OwnsToplevelsOnly}
 use Rattle.wl_records.specs.Standing.{MappedStand}
-use Rattle.wl_state.specs.Frames.{frames_counting}
+use Rattle.wl_surface.specs.Frames.{frames_counting}
 use Rattle.wl_records.proofs.Toplevels.Desks.{become-has}
 use Rattle.wl_records.proofs.Toplevels.Keeps.{without-owns}
 use Rattle.wl_records.proofs.Toplevels.Messages.{told-objects}

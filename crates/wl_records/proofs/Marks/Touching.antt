@@ -7,7 +7,7 @@ use Rattle.std.proofs.lemmas.List.{take-append-le}
 use Rattle.wl_state.specs.Request.{Request}
 use Rattle.wl_state.specs.State.{History, applied, between, committed_from, damaged_rects, height_of, is_commit, is_damaged, width_of}
 use Rattle.wl_state.specs.Surface.{Surface, asking, new_surface}
-use Rattle.wl_state.specs.Surfaces.{Surfaces, history_in, surface_at, with_change, with_new, without_surface}
+use Rattle.wl_surface.specs.Surfaces.{Surfaces, history_in, surface_at, with_change, with_new, without_surface}
 use Rattle.wl_scene.specs.Lent.{shows_buffer}
 use Rattle.wl_scene.specs.Stacking.{is_of, windows_on}
 use Rattle.wl_plain.specs.Desktop.{Desktop, owned_in}

@@ -6,7 +6,7 @@ use Rattle.std.proofs.lemmas.Bool.{eqb-true, eqb-false}
 use Rattle.std.proofs.lemmas.List.{append-nil}
 use Rattle.std.proofs.lemmas.List.Elements.{filter-append}
 use Rattle.wl_state.specs.State.{History}
-use Rattle.wl_state.specs.Surfaces.{Surfaces, history_in, without_surface}
+use Rattle.wl_surface.specs.Surfaces.{Surfaces, history_in, without_surface}
 use Rattle.wl_state.specs.declared.role.Role.TheVariants.{Toplevel as AsToplevel}
 use Rattle.wl_state.specs.Request.{Frame}
 use Rattle.wl_shell.specs.Shell.{Effect, Stays, Unconfigured, Configures, Maps, Unmaps, xdg_at, xdg_of, XdgSurface as Xdg}

@@ -7,7 +7,7 @@ use Rattle.std.proofs.lemmas.Int.{ints}
 use Rattle.wl_geom.specs.declared.rect.Rect.{Rect}
 use Rattle.wl_geom.specs.Rect.{in_span}
 use Rattle.wl_state.specs.State.{is_damaged}
-use Rattle.wl_state.specs.Surfaces.{history_in}
+use Rattle.wl_surface.specs.Surfaces.{history_in}
 use Rattle.wl_scene.specs.Stacking.{is_of, windows_on}
 use Rattle.wl_scene.specs.Windows.{Window, contains}
 use Rattle.wl_plain.specs.Desktop.{Desktop, owned_in}

@@ -6,7 +6,7 @@ use Rattle.wl_wire.specs.declared.header.Split.{Split}
 use Rattle.wl_wire.specs.declared.header.Split.TheVariants.{Message as Whole, More, Bad}
 use Rattle.wl_peer.specs.declared.cause.Cause.{Cause}
 use Rattle.wl_peer.specs.Peer.{Peer}
-use Rattle.wl_state.specs.Surfaces.{surface_at}
+use Rattle.wl_surface.specs.Surfaces.{surface_at}
 use Rattle.wl_shell.specs.Shell.{Effect, Stays, Unconfigured, Configures, Maps, Unmaps, XdgSurface as Xdg, xdg_of}
 use Rattle.wl_plain.specs.Desktop.{Desktop, Resident, become, client_at, client_in, owned_in, owned_of, status_in}
 use Rattle.wl_plain.specs.Happens.{Serves}

@@ -8,7 +8,7 @@ use Rattle.std.proofs.lemmas.List.{append-nil}
 use Rattle.std.proofs.lemmas.List.Elements.{filter-append}
 use Rattle.wl_state.specs.Request.{Buffer, Request}
 use Rattle.wl_state.specs.State.{History, applied, counting, offset, values}
-use Rattle.wl_state.specs.Surfaces.{Surfaces, history_in}
+use Rattle.wl_surface.specs.Surfaces.{Surfaces, history_in}
 use Rattle.wl_scene.proofs.Lone.{no-child, order-once}
 use Rattle.wl_scene.specs.Stacking.{Owned, Standing, is_of, root_of, windows_on}
 use Rattle.wl_scene.specs.Windows.{Owner, Place, Window, corner_at, member_windows, moved, owner_of, shown_windows, surface_windows, tree, window_with}

@@ -9,7 +9,7 @@ use Rattle.wl_store.specs.Stores.{Stock}
 use Rattle.wl_state.specs.Request.{Buffer}
 use Rattle.wl_state.specs.State.{History}
 use Rattle.wl_state.specs.Surface.{Surface, buffers_of, has}
-use Rattle.wl_state.specs.Surfaces.{is_used, with_change, without_surface}
+use Rattle.wl_surface.specs.Surfaces.{is_used, with_change, without_surface}
 use Rattle.wl_plain.specs.Changing.{after_all}
 use Rattle.wl_plain.specs.Desktop.{Resident}
 use Rattle.wl_laws.specs.Apart.{AreApartBy}

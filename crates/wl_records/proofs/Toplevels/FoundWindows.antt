@@ -5,7 +5,7 @@ use Rattle.std.specs.List.{list_any}
 use Rattle.std.proofs.lemmas.Bool.{eqb-true, or_left, or_right}
 use Rattle.wl_state.specs.Request.{Buffer, Request}
 use Rattle.wl_state.specs.State.{History, applied, counting, height_of, offset, values, width_of}
-use Rattle.wl_state.specs.Surfaces.{history_in}
+use Rattle.wl_surface.specs.Surfaces.{history_in}
 use Rattle.wl_scene.specs.Stacking.{Owned, Standing, is_of, root_of, windows_on}
 use Rattle.wl_scene.specs.Windows.{Owner, Place, Window, moved, owner_of, window_showing, window_with}
 use Rattle.wl_laws.specs.Laws.{AreApart}

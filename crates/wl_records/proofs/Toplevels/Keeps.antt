@@ -13,7 +13,7 @@ use Rattle.wl_peer.specs.Peer.{Peer, changed, object_at_version}
 use Rattle.wl_peer.specs.Used.{has_used, keeps_store}
 use Rattle.wl_store.specs.Stores.{Stock}
 use Rattle.wl_state.specs.Surface.{Surface, applying, asking, new_surface, with_role}
-use Rattle.wl_state.specs.Surfaces.{Surfaces, is_used, surface_at, with_change, with_new, without_surface, history_in}
+use Rattle.wl_surface.specs.Surfaces.{Surfaces, is_used, surface_at, with_change, with_new, without_surface, history_in}
 use Rattle.wl_state.specs.Request.{Commit, Frame}
 use Rattle.wl_state.specs.declared.role.Role.TheVariants.{Toplevel as AsToplevel}
 use Rattle.wl_surface.specs.Waiting.{Callback}

@@ -3,7 +3,7 @@ use Rattle.std.proofs.Common.{◌≡◌, ℕ, suc, List, [], true, Option, Some,
 use Rattle.wl_state.specs.Request.{Buffer}
 use Rattle.wl_state.specs.State.{History, applied, counting}
 use Rattle.wl_state.specs.Surface.{is_there}
-use Rattle.wl_state.specs.Surfaces.{Surfaces, history_in}
+use Rattle.wl_surface.specs.Surfaces.{Surfaces, history_in}
 use Rattle.wl_scene.proofs.Lone.{no-child, order-once}
 use Rattle.wl_scene.specs.Lent.{shows_buffer}
 use Rattle.wl_scene.specs.Windows.{Owner, Place, Window, corner_at, member_windows, shown_windows, surface_windows, tree, window_of}

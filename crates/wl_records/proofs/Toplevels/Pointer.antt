@@ -4,7 +4,7 @@ use Rattle.std.specs.Prelude.{ℤ, ◌==◌, ◌&&◌, filter, if◌then◌else�
 use Rattle.wl_peer.specs.declared.cause.Cause.{Cause}
 use Rattle.wl_peer.specs.Peer.{Peer}
 use Rattle.wl_peer.specs.Told.{Said}
-use Rattle.wl_state.specs.Surfaces.{history_in}
+use Rattle.wl_surface.specs.Surfaces.{history_in}
 use Rattle.wl_shell.specs.Shell.{Shell}
 use Rattle.wl_scene.specs.Pointer.{Pointer, is_down, is_press}
 use Rattle.wl_scene.specs.Stacking.{Standing}

@@ -12,7 +12,7 @@ use Rattle.wl_peer.specs.Peer.{Peer, removed}
 use Rattle.wl_state.specs.Request.{Buffer, Request, Commit}
 use Rattle.wl_state.specs.State.{History, applied, committed, held, is_commit, values}
 use Rattle.wl_state.specs.Surface.{Surface, applying, asking, listed, names, new_surface, shows, with_role}
-use Rattle.wl_state.specs.Surfaces.{Surfaces, is_busy, surface_at, with_change, without_surface}
+use Rattle.wl_surface.specs.Surfaces.{Surfaces, is_busy, surface_at, with_change, without_surface}
 use Rattle.wl_state.specs.declared.role.Role.TheVariants.{Toplevel as AsToplevel}
 use Rattle.wl_surface.specs.Waiting.{Callback}
 use Rattle.wl_state.proofs.Records.{applied-kept, held-kept}

@@ -5,7 +5,7 @@ use Rattle.wl_peer.specs.Peer.{Errs, LacksMemory, Peer, Queues, counted}
 use Rattle.wl_peer.specs.Told.{Said, id_deleted}
 use Rattle.wl_state.specs.Request.{Commit}
 use Rattle.wl_state.specs.Surface.{applying, asking}
-use Rattle.wl_state.specs.Surfaces.{with_change, without_surface}
+use Rattle.wl_surface.specs.Surfaces.{with_change, without_surface}
 use Rattle.wl_shell.specs.Shell.{Effect, Stays, Unconfigured, Configures, Maps, Unmaps, Waiting, Mapped, XdgSurface as Xdg, in_stage, on_commit, stage_of, unmapping, without_role, xdg_of}
 use Rattle.wl_scene.specs.Stacking.{with_mapped, without_surface_of}
 use Rattle.wl_plain.specs.Ask.{Ask, AskSurface, Ignore}

@@ -5,7 +5,7 @@ use Rattle.wl_peer.specs.declared.cause.Cause.{Cause}
 use Rattle.wl_peer.specs.Peer.{Peer, removed}
 use Rattle.wl_shell.specs.Shell.{Effect, Stays, Unconfigured, Configures, Maps, Unmaps, XdgSurface as Xdg, xdg_of}
 use Rattle.wl_plain.specs.Desktop.{Resident}
-use Rattle.wl_state.specs.Surfaces.{without_surface}
+use Rattle.wl_surface.specs.Surfaces.{without_surface}
 use Rattle.wl_surface.specs.Waiting.{Callback}
 use Rattle.wl_plain.specs.Step.{after_surface, with_peer, removing, with_surfaces}
 use Rattle.wl_plain.specs.Changing.{callbacks_of, without_callbacks}

@@ -1,5 +1,5 @@
 use Rattle.wl_scene.proofs.owned.current_at.Goals as goal
-use Rattle.wl_state.specs.Surfaces.{surface_at}
+use Rattle.wl_surface.specs.Surfaces.{surface_at}
 
 pub returns-in-Some : goal.returns-in-Some
 returns-in-Some g c = λ owned stands.

@@ -6,7 +6,7 @@ use Rattle.wl_shell.specs.Kept.{Kept, changing, kept_after, kept_of}
 use Rattle.wl_surface.specs.Slots.{Changes}
 use Rattle.wl_state.specs.Request.{Commit}
 use Rattle.wl_state.specs.Surface.{applying, asking}
-use Rattle.wl_state.specs.Surfaces.{surface_at}
+use Rattle.wl_surface.specs.Surfaces.{surface_at}
 use Rattle.wl_plain.specs.Demand.{CommitTree}
 use Rattle.wl_records.specs.Owning.{by_number, effect_by, names_in}
 use Rattle.wl_resident.specs.Residents.{told_by}

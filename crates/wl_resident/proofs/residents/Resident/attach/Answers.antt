@@ -2,7 +2,7 @@ use Rattle.std.proofs.Common.{refl, inr, w32, List, subst, sym, ap}
 use Rattle.std.proofs.lemmas.Int.{to_z-of_z}
 use Rattle.wl_shell.specs.Kept.{kept_of}
 use Rattle.wl_state.specs.Request.{Attach}
-use Rattle.wl_state.specs.Surfaces.{surface_at}
+use Rattle.wl_surface.specs.Surfaces.{surface_at}
 use Rattle.wl_surface.specs.declared.frames.Waiting.{Waiting}
 use Rattle.wl_records.specs.Owning.{names_in}
 use Rattle.wl_plain.specs.Step.{after_surface, asked_of}

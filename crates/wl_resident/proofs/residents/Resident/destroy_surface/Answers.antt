@@ -7,7 +7,7 @@ use Rattle.wl_client.specs.View.{ClientView}
 use Rattle.wl_shell.specs.Kept.{kept_of}
 use Rattle.wl_table.specs.Objects.{Held}
 use Rattle.wl_state.specs.Frames.{frames_asked}
-use Rattle.wl_state.specs.Surfaces.{history_in, surface_at, without_surface}
+use Rattle.wl_surface.specs.Surfaces.{history_in, surface_at, without_surface}
 use Rattle.wl_surface.specs.Waiting.{Callback, is_in}
 use Rattle.wl_scene.specs.declared.owned.Owned.{Owned as Lent}
 use Rattle.wl_plain.specs.Changing.{callbacks_of}

@@ -1,6 +1,6 @@
 use Rattle.std.proofs.Common.{ap, sym, ◌∙◌}
 use Rattle.std.specs.Prelude.{not, ◌&&◌}
-use Rattle.wl_state.specs.Surfaces.{is_used}
+use Rattle.wl_surface.specs.Surfaces.{is_used}
 use Rattle.wl_records.specs.Owning.{by_number}
 use Rattle.wl_records.proofs.Keeping.OwningSurfaces.{used-read}
 use Rattle.wl_resident.proofs.residents.Resident.is_over.Goals as goal

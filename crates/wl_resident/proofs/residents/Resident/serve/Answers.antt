@@ -3,7 +3,7 @@ use Rattle.std.proofs.Common.{◌≡◌, ◌≢◌, ℕ, None, Some, arith, ap, 
 use Rattle.wl_proto.specs.declared.wl_surface.WlSurfaceRequest.TheVariants.{Commit}
 use Rattle.std.specs.Prelude.{is_some}
 use Rattle.wl_client.specs.View.{ClientView}
-use Rattle.wl_state.specs.Surfaces.{is_used}
+use Rattle.wl_surface.specs.Surfaces.{is_used}
 use Rattle.wl_table.specs.Objects.{entry_of}
 use Rattle.wl_resident.specs.Marking.{IsCommitted, TellsChange, commit_by, commit_in}
 use Rattle.wl_resident.specs.Messages.{IsAsked}

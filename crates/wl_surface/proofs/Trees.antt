@@ -5,9 +5,9 @@ use Rattle.std.specs.Option.{option_map}
 use Rattle.wl_state.specs.Request.{Buffer, Request, Attach}
 use Rattle.wl_state.specs.State.{applied}
 use Rattle.wl_state.specs.Surface.{asking}
-use Rattle.wl_state.specs.Surfaces.{Surfaces, history_in, is_busy, no_surfaces, with_change, with_new}
-use Rattle.wl_state.specs.Trees.{applied_tree, behaves_synchronised, committed_in, depth, descends_from, desynchronised_in, destroyed_in, height, is_bad_parent, is_too_deep, levels, linked}
-use Rattle.wl_state.specs.Trees.{synchronised_in, unlinked}
+use Rattle.wl_surface.specs.Surfaces.{Surfaces, history_in, is_busy, no_surfaces, with_change, with_new}
+use Rattle.wl_surface.specs.Trees.{applied_tree, behaves_synchronised, committed_in, depth, descends_from, desynchronised_in, destroyed_in, height, is_bad_parent, is_too_deep, levels, linked}
+use Rattle.wl_surface.specs.Trees.{synchronised_in, unlinked}
 use Rattle.wl_state.proofs.Rows.{small}
 
 abbrev asks : ℕ → Request → Surfaces → Surfaces
