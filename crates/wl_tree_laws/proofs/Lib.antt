@@ -1,4 +1,5 @@
 pub mod Applying
+pub mod Coming
 pub mod Hanging
 pub mod Heights
 pub mod Joining

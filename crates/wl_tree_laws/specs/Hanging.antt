@@ -6,12 +6,12 @@ use Rattle.std.specs.Option.{option_map}
 use Rattle.wl_children.specs.declared.placed.Member.{Member as Kept}
 use Rattle.wl_children.specs.Stacks.{Stacks, added, moved, placed_above, placed_below}
 use Rattle.wl_family.specs.Family.{Tied, applied, changed_at, childless, committed, in_mode, joined, left, links_in, pending_as, stacks_in}
-use Rattle.wl_family.specs.Family.{at_parent, unlinked}
+use Rattle.wl_family.specs.Family.{at_parent, unlinked, with_at}
 use Rattle.wl_state.specs.Request.{Commit, Member, PlaceAbove, PlaceBelow, Request, SetPosition}
 use Rattle.wl_state.specs.State.{History, committed as committed_at, counting, is_commit, position}
 use Rattle.wl_state.specs.Surface.{applying, asking}
-use Rattle.wl_surface.specs.Surfaces.{Link, Surfaces, history_in, link_at, with_change}
-use Rattle.wl_surface.specs.Trees.{ending, in_mode as with_mode, linked, with_link}
+use Rattle.wl_surface.specs.Surfaces.{Link, Surfaces, history_in, link_at, surface_at, with_change, with_new, without_surface}
+use Rattle.wl_surface.specs.Trees.{applied_tree, descends_from, ending, in_mode as with_mode, levels, linked, with_link}
 use Rattle.wl_tree_laws.specs.Laws.{AreOnceLinked, links_of}
 use Rattle.wl_tree_laws.specs.Stacks.{IsKept, Kids, has_child, is_about_children, stack_by}
 
@@ -124,3 +124,21 @@ SetsMode =
     (old new : Tied) (all : Surfaces) (number : ℕ) (link : Link) (synchronised : Bool) → link_at number all ≡ Some link
     → link.has_ended ≡ false → links_in new ≡ changed_at link.child (option_map (in_mode synchronised)) (links_in old)
     → stacks_in new ≡ stacks_in old → Hang old all → Hang new (with_link number (with_mode synchronised) all)
+
+-- To apply a surface makes what is held count of its stack, and of the stack of each surface that descends from it.
+abbrev pub AppliesTree : Type 0
+AppliesTree =
+    (old new : Tied) (all : Surfaces) (surface : ℕ) → links_in new ≡ links_in old
+    → ((n : ℕ) → stacks_in new n ≡ cond (descends_from 16 all surface n) (applied (stacks_in old n)) (stacks_in old n)) → Hang old all
+    → Hang new (applied_tree levels surface all)
+
+-- A new surface has no link, and no children.
+abbrev pub CreatesSurface : Type 0
+CreatesSurface = (tied : Tied) (all : Surfaces) (id : ℕ) → surface_at id all ≡ None → Hang tied all → Hang tied (with_new id all)
+
+-- A surface goes that no link which lives has as its child or parent.
+abbrev pub RemovesSurface : Type 0
+RemovesSurface =
+    (old new : Tied) (all : Surfaces) (id : ℕ)
+    → ((number : ℕ) (link : Link) → link_at number all ≡ Some link → link.has_ended ≡ false → (link.parent == id) ≡ false)
+    → links_in new ≡ links_in old → stacks_in new ≡ with_at id childless (stacks_in old) → Hang old all → Hang new (without_surface id all)

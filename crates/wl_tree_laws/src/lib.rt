@@ -3,7 +3,7 @@
 #![tactic(auto)]
 
 ghost use Rattle.wl_tree_laws.specs.Stacks.{StacksFollow};
-ghost use Rattle.wl_tree_laws.specs.Hanging.{AppliesStack, AsksAlone, CommitsStack, EndsLink, JoinsChild, MovesChild, PlacesChild, SetsMode};
+ghost use Rattle.wl_tree_laws.specs.Hanging.{AppliesStack, AppliesTree, AsksAlone, CommitsStack, CreatesSurface, EndsLink, JoinsChild, MovesChild, PlacesChild, RemovesSurface, SetsMode};
 ghost use Rattle.wl_tree_laws.specs.Laws.{AppliesDescendants, HaveSameDepth, HaveSameDescent, HaveSameHeight, HaveSameModes};
 
 /// To apply a surface is to apply it and each surface that descends from it, once, and no other, where each child has one link that lives.
@@ -74,4 +74,19 @@ pub fn ends_link()
 /// A child that is joined is synchronised, and topmost in what is pending of its parent.
 pub fn joins_child()
     ensures { JoinsChild }
+{}
+
+/// To apply a surface makes what is held count of the stacks of it and of each surface that descends from it.
+pub fn applies_tree()
+    ensures { AppliesTree }
+{}
+
+/// A new surface has no link and no children.
+pub fn creates_surface()
+    ensures { CreatesSurface }
+{}
+
+/// A surface goes that has no link to its parent and none to a child.
+pub fn removes_surface()
+    ensures { RemovesSurface }
 {}
