@@ -11,7 +11,7 @@ ghost use Rattle.wl_recording.specs.Side.{files_of};
 ghost use Rattle.wl_replay.specs.Told.{Counts, IsFirst, Stage, Stands};
 
 use crate::error::StepError;
-use crate::step::{Shown, take_line};
+use crate::step::{Asked, Shown, take_line};
 use std::alloc::Allocator;
 use std::io::{BufRead, Write};
 use wl_recording::{LineError, ReplayError, SideFiles, Summary, parse, read_line};
@@ -44,91 +44,103 @@ pub fn replay<A: Allocator + Copy, R: BufRead, W: Write, P: Write, S: SideFiles>
         (images_in P.contents ppm.old) (images_in P.contents ppm.new)) }
 {
     match Session::new(alloc, config) {
-        Ok(mut session) => play(alloc, &mut session, reader, writer, ppm, side),
+        Ok(session) => {
+            let mut player = Player {
+                session,
+                number: 1,
+                text: Vec::new(alloc),
+                piece: Vec::new(alloc),
+            };
+            player.play(reader, writer, ppm, side)
+        }
         Err(_) => Err(ReplayError::Memory),
     }
 }
 
-/// Plays a recording to a session.
-fn play<A: Allocator + Copy, R: BufRead, W: Write, P: Write, S: SideFiles>(
-    alloc: A,
-    session: &mut Session<A>,
-    reader: &mut R,
-    writer: &mut W,
-    ppm: &mut Option<P>,
-    side: &mut S,
-) -> Result<Summary, ReplayError>
-    ensures played { IfOk result (λ summary. (first : Stage) → Stands session.old first → IsPlayed (files_of S.opens S.gives S.fault_count) first side.old side.new summary (R.remaining reader.old) (W.contents writer.old) (W.contents writer.new)
-        (images_in P.contents ppm.old) (images_in P.contents ppm.new)) }
-    ensures stopped { IfErr result (λ error. (first : Stage) → Stands session.old first → StopsAs (files_of S.opens S.gives S.fault_count) error first side.old side.new (R.remaining reader.old) (W.contents writer.old) (W.contents writer.new)
-        (images_in P.contents ppm.old) (images_in P.contents ppm.new)) }
-{
-    let mut text = Vec::new(alloc);
-    let mut piece = Vec::new(alloc);
-    let mut frames = 0;
-    let mut clients = 0;
-    for lines in 0..MAX_LINES {
-        match play_line(
-            session,
-            lines + 1,
-            &mut text,
-            &mut piece,
-            reader,
-            writer,
-            ppm,
-            side,
-        )? {
-            None => return Ok(Summary {
-                lines,
-                frames,
-                clients,
-            }),
-            Some(shown) => {
-                frames += shown.frames;
-                clients += shown.clients;
-            }
-        }
-    }
-    if read_text(MAX_LINES + 1, reader, &mut text)? {
-        return Err(ReplayError::BadLine(MAX_LINES + 1));
-    }
-    Ok(Summary {
-        lines: MAX_LINES,
-        frames,
-        clients,
-    })
+/// A session that a recording is played to, with the line that is played.
+#[derive(Drop)]
+struct Player<A: Allocator> {
+    session: Session<A>,
+    /// The line's number, from 1 on.
+    number: u32,
+    /// The line without its line feed.
+    text: Vec<u8, A>,
+    /// The bytes that it spells.
+    piece: Vec<u8, A>,
 }
 
-/// Plays the next line. None at the end of the recording.
-fn play_line<A: Allocator + Copy, R: BufRead, W: Write, P: Write, S: SideFiles>(
-    session: &mut Session<A>,
-    number: u32,
-    text: &mut Vec<u8, A>,
-    piece: &mut Vec<u8, A>,
-    reader: &mut R,
-    writer: &mut W,
-    ppm: &mut Option<P>,
-    side: &mut S,
-) -> Result<Option<Shown>, ReplayError>
-    ensures played { IfOk result (λ shown. MatchOption shown (IsAtEnd (R.remaining reader.old) × (writer.new ≡ writer.old) × (ppm.new ≡ ppm.old) × (side.new ≡ side.old))
-        (λ shown. TakesOne (files_of S.opens S.gives S.fault_count) side.old side.new (R.remaining reader.old) (R.remaining reader.new) session.old session.new (W.contents writer.old) (W.contents writer.new)
-        (Counts (images_in P.contents ppm.old) (images_in P.contents ppm.new) shown.frames shown.clients))) }
-    ensures small { IfOk result (λ shown. MatchOption shown ⊤ (λ shown. (shown.frames ≤ 1) × (shown.clients ≤ 1))) }
-    ensures failed { IfErr result (λ error. FailsAt error number (R.remaining reader.old) ((writer.new ≡ writer.old) × (ppm.new ≡ ppm.old) × (side.new ≡ side.old))
-        ((writer.new ≡ writer.old) × (ppm.new ≡ ppm.old) × ((d : Desktop) → Agrees session.old.desk d
-        → IsLackingLine (files_of S.opens S.gives S.fault_count) (R.remaining reader.old) d side.old side.new))) }
-{
-    if !read_text(number, reader, text)? {
-        return Ok(None);
+impl<A: Allocator + Copy> Player<A> {
+    /// Plays a recording.
+    fn play<R: BufRead, W: Write, P: Write, S: SideFiles>(
+        &mut self,
+        reader: &mut R,
+        writer: &mut W,
+        ppm: &mut Option<P>,
+        side: &mut S,
+    ) -> Result<Summary, ReplayError>
+        ensures played { IfOk result (λ summary. (first : Stage) → Stands self.old.session first → IsPlayed (files_of S.opens S.gives S.fault_count) first side.old side.new summary (R.remaining reader.old) (W.contents writer.old) (W.contents writer.new)
+            (images_in P.contents ppm.old) (images_in P.contents ppm.new)) }
+        ensures stopped { IfErr result (λ error. (first : Stage) → Stands self.old.session first → StopsAs (files_of S.opens S.gives S.fault_count) error first side.old side.new (R.remaining reader.old) (W.contents writer.old) (W.contents writer.new)
+            (images_in P.contents ppm.old) (images_in P.contents ppm.new)) }
+    {
+        let mut frames = 0;
+        let mut clients = 0;
+        for lines in 0..MAX_LINES {
+            self.number = lines + 1;
+            match self.play_line(reader, writer, ppm, side)? {
+                None => return Ok(Summary {
+                    lines,
+                    frames,
+                    clients,
+                }),
+                Some(shown) => {
+                    frames += shown.frames;
+                    clients += shown.clients;
+                }
+            }
+        }
+        if read_text(MAX_LINES + 1, reader, &mut self.text)? {
+            return Err(ReplayError::BadLine(MAX_LINES + 1));
+        }
+        Ok(Summary {
+            lines: MAX_LINES,
+            frames,
+            clients,
+        })
     }
-    let Some(line) = parse(text, piece)? else {
-        return Err(ReplayError::BadLine(number));
-    };
-    match take_line(session, line, piece, writer, ppm, side) {
-        Ok(shown) => Ok(Some(shown)),
-        Err(StepError::Write) => Err(ReplayError::Write),
-        Err(StepError::Side) => Err(ReplayError::Side(number)),
-        Err(StepError::Memory) => Err(ReplayError::Memory),
+
+    /// Plays the next line. None at the end of the recording.
+    fn play_line<R: BufRead, W: Write, P: Write, S: SideFiles>(
+        &mut self,
+        reader: &mut R,
+        writer: &mut W,
+        ppm: &mut Option<P>,
+        side: &mut S,
+    ) -> Result<Option<Shown>, ReplayError>
+        ensures played { IfOk result (λ shown. MatchOption shown (IsAtEnd (R.remaining reader.old) × (writer.new ≡ writer.old) × (ppm.new ≡ ppm.old) × (side.new ≡ side.old))
+            (λ shown. TakesOne (files_of S.opens S.gives S.fault_count) side.old side.new (R.remaining reader.old) (R.remaining reader.new) self.old.session self.new.session (W.contents writer.old) (W.contents writer.new)
+            (Counts (images_in P.contents ppm.old) (images_in P.contents ppm.new) shown.frames shown.clients))) }
+        ensures small { IfOk result (λ shown. MatchOption shown ⊤ (λ shown. (shown.frames ≤ 1) × (shown.clients ≤ 1))) }
+        ensures failed { IfErr result (λ error. FailsAt error self.old.number (R.remaining reader.old) ((writer.new ≡ writer.old) × (ppm.new ≡ ppm.old) × (side.new ≡ side.old))
+            ((writer.new ≡ writer.old) × (ppm.new ≡ ppm.old) × ((d : Desktop) → Agrees self.old.session.desk d
+            → IsLackingLine (files_of S.opens S.gives S.fault_count) (R.remaining reader.old) d side.old side.new))) }
+    {
+        if !read_text(self.number, reader, &mut self.text)? {
+            return Ok(None);
+        }
+        let Some(line) = parse(&self.text, &mut self.piece)? else {
+            return Err(ReplayError::BadLine(self.number));
+        };
+        let asked = Asked {
+            line,
+            piece: &self.piece,
+        };
+        match take_line(&mut self.session, asked, writer, ppm, side) {
+            Ok(shown) => Ok(Some(shown)),
+            Err(StepError::Write) => Err(ReplayError::Write),
+            Err(StepError::Side) => Err(ReplayError::Side(self.number)),
+            Err(StepError::Memory) => Err(ReplayError::Memory),
+        }
     }
 }
 

@@ -31,45 +31,51 @@ const NOTHING: Shown = Shown {
     clients: 0,
 };
 
-/// Takes the step that a line asks, and tells of it. The bytes that it spells stand beside.
+/// What a line asks, and the bytes that it spells.
+#[derive(Clone, Copy)]
+pub(crate) struct Asked<'a> {
+    pub(crate) line: Line<'a>,
+    pub(crate) piece: &'a [u8],
+}
+
+/// Takes the step that a line asks, and tells of it.
 pub(crate) fn take_line<A: Allocator + Copy, W: Write, P: Write, S: SideFiles>(
     session: &mut Session<A>,
-    line: Line,
-    piece: &[u8],
+    asked: Asked<'_>,
     writer: &mut W,
     ppm: &mut Option<P>,
     side: &mut S,
 ) -> Result<Shown, StepError>
-    ensures told { IfOk result (λ shown. Leads (TellsLine (files_of S.opens S.gives S.fault_count) (meaning piece.now line.entry) side.old side.new) session.old session.new (W.contents writer.old) (W.contents writer.new)
+    ensures told { IfOk result (λ shown. Leads (TellsLine (files_of S.opens S.gives S.fault_count) (meaning asked.entry.piece.now asked.entry.line) side.old side.new) session.old session.new (W.contents writer.old) (W.contents writer.new)
         (Counts (images_in P.contents ppm.old) (images_in P.contents ppm.new) shown.frames shown.clients)) }
     ensures small { IfOk result (λ shown. (shown.frames ≤ 1) × (shown.clients ≤ 1)) }
     ensures calm { OnOk result (S.fault_count side.new ≡ S.fault_count side.old) }
     ensures lacking { result ≡ Err StepError.Side → (writer.new ≡ writer.old) × (ppm.new ≡ ppm.old) × ((d : Desktop) → Agrees session.old.desk d
-        → LacksAsked (files_of S.opens S.gives S.fault_count) (meaning piece.now line.entry) d side.old side.new) }
+        → LacksAsked (files_of S.opens S.gives S.fault_count) (meaning asked.entry.piece.now asked.entry.line) d side.old side.new) }
 {
-    if let Line::Nothing = line {
+    if let Line::Nothing = asked.line {
         return Ok(NOTHING);
     }
-    let shown = take_step(session, line, piece, writer, ppm, side)?;
+    let shown = take_step(session, asked, writer, ppm, side)?;
     tell_clients(session, writer).map_err(write_failed)?;
     Ok(shown)
 }
 
 fn take_step<A: Allocator + Copy, W: Write, P: Write, S: SideFiles>(
     session: &mut Session<A>,
-    line: Line,
-    piece: &[u8],
+    asked: Asked<'_>,
     writer: &mut W,
     ppm: &mut Option<P>,
     side: &mut S,
 ) -> Result<Shown, StepError>
-    ensures told { IfOk result (λ shown. Leads (TellsStep (files_of S.opens S.gives S.fault_count) (meaning piece.now line.entry) side.old side.new) session.old session.new (W.contents writer.old) (W.contents writer.new)
+    ensures told { IfOk result (λ shown. Leads (TellsStep (files_of S.opens S.gives S.fault_count) (meaning asked.entry.piece.now asked.entry.line) side.old side.new) session.old session.new (W.contents writer.old) (W.contents writer.new)
         (Counts (images_in P.contents ppm.old) (images_in P.contents ppm.new) shown.frames shown.clients)) }
     ensures small { IfOk result (λ shown. (shown.frames ≤ 1) × (shown.clients ≤ 1)) }
     ensures calm { OnOk result (S.fault_count side.new ≡ S.fault_count side.old) }
     ensures lacking { result ≡ Err StepError.Side → (writer.new ≡ writer.old) × (ppm.new ≡ ppm.old) × ((d : Desktop) → Agrees session.old.desk d
-        → LacksAsked (files_of S.opens S.gives S.fault_count) (meaning piece.now line.entry) d side.old side.new) }
+        → LacksAsked (files_of S.opens S.gives S.fault_count) (meaning asked.entry.piece.now asked.entry.line) d side.old side.new) }
 {
+    let Asked { line, piece } = asked;
     match line {
         Line::Connect => {
             let clients = connect(session, writer)?;

@@ -8,37 +8,37 @@ use Rattle.wl_replay.proofs.step.take_step.Goals as goal
 
 pub returns-in_ok-feed-in-Bytes-clause-told : goal.returns-in_ok-feed-in-Bytes-clause-told
 returns-in_ok-feed-in-Bytes-clause-told g c =
-    Leads-at (files_of g.S.SideFiles.opens g.S.SideFiles.gives g.S.SideFiles.fault_count) c.args.side.now c.args.side.now c.args.line (line.Bytes c.in-Bytes.client) c.args.piece.now
-    (TellsBytes c.in-Bytes.client c.args.piece.now) _ _ _ _ _ _ c.in-Bytes.is
+    Leads-at (files_of g.S.SideFiles.opens g.S.SideFiles.gives g.S.SideFiles.fault_count) c.args.side.now c.args.side.now c.args.asked.line (line.Bytes c.in-Bytes.client) c.args.asked.piece.now
+    (TellsBytes c.in-Bytes.client c.args.asked.piece.now) _ _ _ _ _ _ c.in-Bytes.is
     (λ old new told tells. (tells, refl)) (Counts-silent _ 0) c.in_ok-feed-in-Bytes.ensures.told
 
 pub returns-in_ok-store-in-Store-clause-told : goal.returns-in_ok-store-in-Store-clause-told
 returns-in_ok-store-in-Store-clause-told g c =
-    Leads-at (files_of g.S.SideFiles.opens g.S.SideFiles.gives g.S.SideFiles.fault_count) c.args.side.now c.args.side.now c.args.line (line.Store c.in-Store.place) c.args.piece.now
-    (TellsStore c.in-Store.place c.args.piece.now) _ _ _ _ _ _ c.in-Store.is
+    Leads-at (files_of g.S.SideFiles.opens g.S.SideFiles.gives g.S.SideFiles.fault_count) c.args.side.now c.args.side.now c.args.asked.line (line.Store c.in-Store.place) c.args.asked.piece.now
+    (TellsStore c.in-Store.place c.args.asked.piece.now) _ _ _ _ _ _ c.in-Store.is
     (λ old new told tells. (tells, refl)) (Counts-silent _ 0) c.in_ok-store-in-Store.ensures.told
 
 pub returns-in_ok-gone-in-Gone-clause-told : goal.returns-in_ok-gone-in-Gone-clause-told
 returns-in_ok-gone-in-Gone-clause-told g c =
-    Leads-at (files_of g.S.SideFiles.opens g.S.SideFiles.gives g.S.SideFiles.fault_count) c.args.side.now c.args.side.now c.args.line (line.Gone c.in-Gone.client) c.args.piece.now
+    Leads-at (files_of g.S.SideFiles.opens g.S.SideFiles.gives g.S.SideFiles.fault_count) c.args.side.now c.args.side.now c.args.asked.line (line.Gone c.in-Gone.client) c.args.asked.piece.now
     (TellsGone c.in-Gone.client) _ _ _ _ _ _ c.in-Gone.is
     (λ old new told tells. (tells, refl)) (Counts-silent _ 0) c.in_ok-gone-in-Gone.ensures.told
 
 pub returns-in-Nothing-clause-told : goal.returns-in-Nothing-clause-told
 returns-in-Nothing-clause-told g c =
-    Leads-at (files_of g.S.SideFiles.opens g.S.SideFiles.gives g.S.SideFiles.fault_count) c.args.side.now c.args.side.now c.args.line line.Nothing c.args.piece.now TellsNothing _ _ _ _ _ _
+    Leads-at (files_of g.S.SideFiles.opens g.S.SideFiles.gives g.S.SideFiles.fault_count) c.args.side.now c.args.side.now c.args.asked.line line.Nothing c.args.asked.piece.now TellsNothing _ _ _ _ _ _
     c.in-Nothing.is (λ old new told tells. (tells, refl)) (λ told counts. counts)
     (Leads-nothing c.args.session.now (g.W.Write.contents c.args.writer.now) _)
 
 pub returns-in_ok-clients-in-Connect-clause-told : goal.returns-in_ok-clients-in-Connect-clause-told
 returns-in_ok-clients-in-Connect-clause-told g c =
-    Leads-at (files_of g.S.SideFiles.opens g.S.SideFiles.gives g.S.SideFiles.fault_count) c.args.side.now c.args.side.now c.args.line line.Connect c.args.piece.now TellsConnect _ _ _ _ _ _
+    Leads-at (files_of g.S.SideFiles.opens g.S.SideFiles.gives g.S.SideFiles.fault_count) c.args.side.now c.args.side.now c.args.asked.line line.Connect c.args.asked.piece.now TellsConnect _ _ _ _ _ _
     c.in-Connect.is
     (λ old new told tells. (tells, refl)) (Counts-silent _ c.in_ok-clients-in-Connect.clients) c.in_ok-clients-in-Connect.ensures.told
 
 pub returns-in_ok-tick-in-Tick-clause-told : goal.returns-in_ok-tick-in-Tick-clause-told
 returns-in_ok-tick-in-Tick-clause-told g c =
-    Leads-at (files_of g.S.SideFiles.opens g.S.SideFiles.gives g.S.SideFiles.fault_count) c.args.side.now c.args.side.now c.args.line (line.Tick c.in-Tick.time) c.args.piece.now
+    Leads-at (files_of g.S.SideFiles.opens g.S.SideFiles.gives g.S.SideFiles.fault_count) c.args.side.now c.args.side.now c.args.asked.line (line.Tick c.in-Tick.time) c.args.asked.piece.now
     (TellsTick c.in-Tick.time) _ _ _ _ _ _ c.in-Tick.is
     (λ old new told tells. (tells, refl)) (λ told counts. counts) c.in_ok-tick-in-Tick.ensures.told
 
@@ -47,5 +47,5 @@ returns-in_ok-put_file-in-File-clause-told g c =
     let files = files_of g.S.SideFiles.opens g.S.SideFiles.gives g.S.SideFiles.fault_count in
     let from = c.args.side.now in
     let to = c.put_file.new.side in
-    Leads-at files from to c.args.line (line.File c.in-File.place c.in-File.name) c.args.piece.now (TellsFile files c.in-File.place c.in-File.name.now from to) _ _ _ _ _ _ c.in-File.is
+    Leads-at files from to c.args.asked.line (line.File c.in-File.place c.in-File.name) c.args.asked.piece.now (TellsFile files c.in-File.place c.in-File.name.now from to) _ _ _ _ _ _ c.in-File.is
     (λ old new told tells. tells) (Counts-silent _ 0) c.in_ok-put_file-in-File.ensures.told

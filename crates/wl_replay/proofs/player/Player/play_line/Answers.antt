@@ -1,6 +1,6 @@
 use Rattle.std.proofs.Common.{ℕ, List, Ok, Some, inr, refl, sym, ap, ◌∙◌}
 use Rattle.wl_recording.specs.Line.{asked_by, meaning}
-use Rattle.wl_replay.proofs.player.play_line.Goals as goal
+use Rattle.wl_replay.proofs.player.Player.play_line.Goals as goal
 
 pub returns-in-Ok-clause-played : goal.returns-in-Ok-clause-played
 returns-in-Ok-clause-played g c =
