@@ -6,6 +6,8 @@ mod children;
 #[cfg(test)]
 mod family;
 #[cfg(test)]
+mod held;
+#[cfg(test)]
 mod regions;
 #[cfg(test)]
 mod scenes;

@@ -81,7 +81,7 @@ asked-so old new r id number request is named plain keeps other asks_none frames
             let table : new.client.objects ≡ old.client.objects = ap (λ (w : ClientView). w.objects) same in
             subst (λ (ws : List Waiting). IsFramed ws new.client.objects (changed_by (AskSurface id request) r)) (sym frames)
             (framed-asked old.owned.surfaces.frames old.client.objects new.client.objects r (changed_by (AskSurface id request) r) refl (no-more r.peer.requests) is.frames old.owned.surfaces
-            is.owns.surfaces id number request asks_none named
+            is.owns.surfaces id number request asks_none plain named
             (ap names_in table) refl);
         numbers = λ alive. keeps-same old.client.objects new.client.objects (ap (λ (w : ClientView). w.objects) same);
       },

@@ -14,9 +14,10 @@ use Rattle.wl_surface.specs.declared.frames.Waiting.{Waiting}
 use Rattle.wl_state.specs.Frames.{frames_of}
 use Rattle.wl_surface.specs.Slots.{Numbered, Slots, StandForAll, changed_at, kept_at, with_at}
 use Rattle.wl_state.specs.Request.{Commit, Frame, Request}
+use Rattle.wl_state.specs.State.{is_commit}
 use Rattle.wl_state.specs.Surface.{Surface, applying, asking, new_surface, with_role}
 use Rattle.wl_surface.specs.Surfaces.{with_change, with_new, without_surface}
-use Rattle.wl_surface.specs.Waiting.{AreWaiting, Callback, IsNewNumber, applied_at, frames_at, is_in}
+use Rattle.wl_surface.specs.Waiting.{AreWaiting, Callback, IsNewNumber, counted_at, frames_at, is_in}
 use Rattle.wl_state.specs.declared.role.Role.{Role}
 use Rattle.wl_surface.proofs.Counting.{asked-in-role, asked-still, at-new, at-one, counts-in-role, counts-still}
 use Rattle.wl_table.specs.Objects.{Held}
@@ -47,9 +48,9 @@ pub no-more : (n : ℕ) → n ≤ n
 no-more n = omega arith
 
 module _ (frames : List Waiting) (old new : Held) (r after : Resident) (callbacks : after.callbacks ≡ r.callbacks) (more : r.peer.requests ≤ after.peer.requests) (f : IsFramed frames old r) where
-  -- neither what was asked for nor what counts changes
+  -- neither what was asked for nor what is held or counts changes
   pub framed-left : ((number : ℕ) → frames_at (numbered new after number) ≡ frames_at (numbered old r number))
-      → ((number : ℕ) → applied_at (numbered new after number) ≡ applied_at (numbered old r number))
+      → ((number : ℕ) → counted_at (numbered new after number) ≡ counted_at (numbered old r number))
       → IsFramed frames new after
   framed-left asked counts =
       let le : r.peer.requests + 1 ≤ after.peer.requests + 1 = omega (arith, more) in
@@ -60,7 +61,7 @@ module _ (frames : List Waiting) (old new : Held) (r after : Resident) (callback
   pub framed-kept : targets_in WlSurface new ≡ targets_in WlSurface old → after.owned.surfaces ≡ r.owned.surfaces → IsFramed frames new after
   framed-kept names surfaces =
       let same : numbered new after ≡ numbered old r = ap (λ n. by_number n after.owned.surfaces) names ∙ ap (λ all. by_number (targets_in WlSurface old) all) surfaces in
-      framed-left (λ number. ap (λ (all : Numbered). frames_at (all number)) same) (λ number. ap (λ (all : Numbered). applied_at (all number)) same)
+      framed-left (λ number. ap (λ (all : Numbered). frames_at (all number)) same) (λ number. ap (λ (all : Numbered). counted_at (all number)) same)
 
   pub framed-names : names_in new ≡ names_in old → after.owned.surfaces ≡ r.owned.surfaces → IsFramed frames new after
   framed-names names surfaces = framed-kept (ap (λ (n : Names). n.surfaces) names) surfaces
@@ -68,7 +69,7 @@ module _ (frames : List Waiting) (old new : Held) (r after : Resident) (callback
   module _ (slots : Slots) (is : AreKept (targets_in WlSurface old) slots r.owned.surfaces) (id number : ℕ) where
     -- one surface changes
     framed-changed : (change : Surface → Surface) → ((s : Surface) → (change s).id ≡ s.id) → frames_at (option_map change (numbered old r number)) ≡ frames_at (numbered old r number)
-        → applied_at (option_map change (numbered old r number)) ≡ applied_at (numbered old r number) → targets_in WlSurface old id ≡ Some number → targets_in WlSurface new ≡ targets_in WlSurface old
+        → counted_at (option_map change (numbered old r number)) ≡ counted_at (numbered old r number) → targets_in WlSurface old id ≡ Some number → targets_in WlSurface new ≡ targets_in WlSurface old
         → after.owned.surfaces ≡ with_change id change r.owned.surfaces → IsFramed frames new after
     framed-changed change keeps asked counts named names surfaces =
         let same : numbered new after ≡ changed_at number change (numbered old r) =
@@ -76,13 +77,13 @@ module _ (frames : List Waiting) (old new : Held) (r after : Resident) (callback
         ∙ fun_ext (surfaces-changed (targets_in WlSurface old) slots r.owned.surfaces is id number named change keeps) in
         framed-left
         (λ n. ap (λ (all : Numbered). frames_at (all n)) same ∙ at-one frames_at number change (numbered old r) asked n)
-        (λ n. ap (λ (all : Numbered). applied_at (all n)) same ∙ at-one applied_at number change (numbered old r) counts n)
+        (λ n. ap (λ (all : Numbered). counted_at (all n)) same ∙ at-one counted_at number change (numbered old r) counts n)
 
     -- this is asked of one, which asks for no frame
-    pub framed-asked : (request : Request) → frames_of (request ∷ []) ≡ [] → targets_in WlSurface old id ≡ Some number → names_in new ≡ names_in old
+    pub framed-asked : (request : Request) → frames_of (request ∷ []) ≡ [] → is_commit request ≡ false → targets_in WlSurface old id ≡ Some number → names_in new ≡ names_in old
         → after.owned.surfaces ≡ with_change id (asking request) r.owned.surfaces → IsFramed frames new after
-    framed-asked request none named names surfaces =
-        framed-changed (asking request) (λ s. refl) (asked-still request none (numbered old r number)) (counts-still request (kept_at slots number) (numbered old r number) (is.stand number)) named
+    framed-asked request none no_commit named names surfaces =
+        framed-changed (asking request) (λ s. refl) (asked-still request none (numbered old r number)) (counts-still request no_commit (kept_at slots number) (numbered old r number) (is.stand number)) named
         (ap (λ (n : Names). n.surfaces) names) surfaces
 
     pub framed-role : (role : Role) → targets_in WlSurface old id ≡ Some number → targets_in WlSurface new ≡ targets_in WlSurface old
@@ -101,7 +102,7 @@ module _ (frames : List Waiting) (old new : Held) (r after : Resident) (callback
         let none = (created (numbered old r) id is.stand).0 in
         framed-left
         (λ n. ap (λ (all : Numbered). frames_at (all n)) same ∙ at-new frames_at number id (numbered old r) none refl n)
-        (λ n. ap (λ (all : Numbered). applied_at (all n)) same ∙ at-new applied_at number id (numbered old r) none refl n)
+        (λ n. ap (λ (all : Numbered). counted_at (all n)) same ∙ at-new counted_at number id (numbered old r) none refl n)
 
 -- ---- the callbacks that are left
 

@@ -2,7 +2,7 @@
 use Rattle.std.proofs.Common.{◌≡◌, ℕ, ◌++◌, List, [], ◌∷◌, Bool, true, false, Option, Some, None, refl, ap, sym, ◌∙◌, arith}
 use Rattle.std.specs.Prelude.{◌↔◌, not}
 use Rattle.wl_surface.specs.declared.applied.Change.{Change}
-use Rattle.wl_surface.specs.Applied.{AreFreed, with_freed, AreChanges, IsChange}
+use Rattle.wl_surface.specs.Applied.{AreApplied, AreFreed, with_freed, AreChanges, IsApplied, IsChange}
 use Rattle.wl_state.specs.Kept.{Kept, StandsFor, buffer_of, kept_shows}
 use Rattle.wl_surface.specs.Slots.{IsAny, Numbered, StandForAll, StandsAt, changed_at, place_at, shown_of, shows_at, with_at}
 use Rattle.wl_state.specs.Request.{Buffer}
@@ -34,6 +34,16 @@ told-some number k (Some s) c t tells = (c, refl, tells s t)
 pub told-none : (A : Type 0) (number : ℕ) (at : Option Surface) → StandsAt None at → AreChanges {A = A} number at []
 told-none A number None t = refl
 told-none A number (Some s) t = absurd (t)
+
+-- so it is where a surface is applied
+pub applied-some : {A : Type 0} (number : ℕ) (k : Kept) (at : Option Surface) (c : Change A) → StandsAt (Some k) at → ((s : Surface) → StandsFor k s → IsApplied number s.history c)
+    → AreApplied number at (Some c)
+applied-some number k None c t tells = absurd (t)
+applied-some number k (Some s) c t tells = (c, refl, tells s t)
+
+pub applied-none : (A : Type 0) (number : ℕ) (at : Option Surface) → StandsAt None at → AreApplied {A = A} number at None
+applied-none A number None t = refl
+applied-none A number (Some s) t = absurd (t)
 
 -- ---- freed buffers
 

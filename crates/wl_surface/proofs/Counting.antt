@@ -12,9 +12,10 @@ use Rattle.wl_surface.specs.Slots.{Numbered, StandsAt, changed_at, with_at}
 use Rattle.wl_state.specs.declared.role.Role.{Role}
 use Rattle.wl_state.specs.Request.{Commit, Request}
 use Rattle.wl_state.specs.Surface.{Surface, applying, asking, new_surface, with_role}
-use Rattle.wl_surface.specs.Waiting.{AreUndue, AreWaiting, Callback, IsNextDue, IsUndue, IsWaiting, applied_at, applied_by, frames_at, is_in, next_of, without_next}
+use Rattle.wl_surface.specs.Waiting.{AreUndue, AreWaiting, Callback, IsNextDue, IsUndue, IsWaiting, applied_at, applied_by, committed_by, counted_at, frames_at, held_at, held_by, is_in, next_of, without_next}
 use Rattle.wl_surface.proofs.Framed.{uncounted}
-use Rattle.wl_state.proofs.Records.{applied-kept, held-committed}
+use Rattle.wl_state.proofs.Records.{applied-kept, held-committed, held-kept}
+use Rattle.wl_state.specs.State.{is_commit}
 
 same-number : (n : ℕ) → (n == n) ≡ true
 same-number n = grind (arith)
@@ -29,12 +30,13 @@ or-false false = refl
 
 -- ---- nothing changes of what was asked for and of what counts
 
-module _ (all now : Numbered) (asked : (number : ℕ) → frames_at (now number) ≡ frames_at (all number)) (counts : (number : ℕ) → applied_at (now number) ≡ applied_at (all number)) where
+module _ (all now : Numbered) (asked : (number : ℕ) → frames_at (now number) ≡ frames_at (all number)) (counts : (number : ℕ) → counted_at (now number) ≡ counted_at (all number)) where
   waits-same : (w : Waiting) (c : Callback) → IsWaiting w all c → IsWaiting w now c
   waits-same w c t = record {
     id = t.id;
     asked = λ number. ap (λ ns. is_in ns c) (asked number) ∙ t.asked number;
-    applied = ap (λ ns. is_in ns c) (counts w.surface) ∙ t.applied;
+    held = ap (λ (ns : List ℕ × List ℕ). is_in ns.0 c) (counts w.surface) ∙ t.held;
+    applied = ap (λ (ns : List ℕ × List ℕ). is_in ns.1 c) (counts w.surface) ∙ t.applied;
   }
 
   pub waiting-same : (ws : List Waiting) (cs : List Callback) → AreWaiting ws all cs → AreWaiting ws now cs
@@ -51,13 +53,27 @@ pub asked-still : (r : Request) → frames_of (r ∷ []) ≡ [] → (at : Option
 asked-still r e None = refl
 asked-still r e (Some s) = frames-last s.history.requests r e
 
-pub counts-still : (r : Request) (slot : Option Kept) (at : Option Surface) → StandsAt slot at → applied_at (option_map (asking r) at) ≡ applied_at at
-counts-still r slot None t = refl
-counts-still r None (Some s) t = absurd t
-counts-still r (Some k) (Some s) t = ap frames_of (applied-kept s.history r t.history.cut_within t.history.commits_within)
+applied-still : (r : Request) (slot : Option Kept) (at : Option Surface) → StandsAt slot at → applied_at (option_map (asking r) at) ≡ applied_at at
+applied-still r slot None t = refl
+applied-still r None (Some s) t = absurd t
+applied-still r (Some k) (Some s) t = ap frames_of (applied-kept s.history r t.history.cut_within t.history.commits_within)
+
+held-still : (r : Request) → is_commit r ≡ false → (slot : Option Kept) (at : Option Surface) → StandsAt slot at → held_at (option_map (asking r) at) ≡ held_at at
+held-still r e slot None t = refl
+held-still r e None (Some s) t = absurd t
+held-still r e (Some k) (Some s) t = ap frames_of (held-kept s.history.requests r e t.history.commits_within)
+
+abbrev pair : List ℕ → List ℕ → List ℕ × List ℕ
+pair held applied = (held, applied)
+
+pub counts-still : (r : Request) → is_commit r ≡ false → (slot : Option Kept) (at : Option Surface) → StandsAt slot at → counted_at (option_map (asking r) at) ≡ counted_at at
+counts-still r e slot at t = both (held-still r e slot at t) (applied-still r slot at t)
+  where
+    both : {a b c d : List ℕ} → a ≡ b → c ≡ d → ◌≡◌ {A = List ℕ × List ℕ} (a, c) (b, d)
+    both {b} {c} e f = ap (λ (x : List ℕ). pair x c) e ∙ ap (λ (y : List ℕ). pair b y) f
 
 -- one surface changes, of which neither does
-pub at-one : (read : Option Surface → List ℕ) (surface : ℕ) (change : Surface → Surface) (all : Numbered) → read (option_map change (all surface)) ≡ read (all surface)
+pub at-one : {X : Type 0} (read : Option Surface → X) (surface : ℕ) (change : Surface → Surface) (all : Numbered) → read (option_map change (all surface)) ≡ read (all surface)
     → (number : ℕ) → read (changed_at surface change all number) ≡ read (all number)
 at-one read surface change all e number = by (number == surface) refl
   where
@@ -66,7 +82,7 @@ at-one read surface change all e number = by (number == surface) refl
     by false is = refl
 
 -- a surface comes, of which nothing was asked
-pub at-new : (read : Option Surface → List ℕ) (surface id : ℕ) (all : Numbered) → all surface ≡ None → read (Some (new_surface id)) ≡ read None
+pub at-new : {X : Type 0} (read : Option Surface → X) (surface id : ℕ) (all : Numbered) → all surface ≡ None → read (Some (new_surface id)) ≡ read None
     → (number : ℕ) → read (with_at surface (Some (new_surface id)) all number) ≡ read (all number)
 at-new read surface id all none e number = by (number == surface) refl
   where
@@ -79,39 +95,113 @@ pub asked-in-role : (role : Role) (at : Option Surface) → frames_at (option_ma
 asked-in-role role None = refl
 asked-in-role role (Some s) = refl
 
-pub counts-in-role : (role : Role) (at : Option Surface) → applied_at (option_map (with_role role) at) ≡ applied_at at
+pub counts-in-role : (role : Role) (at : Option Surface) → counted_at (option_map (with_role role) at) ≡ counted_at at
 counts-in-role role None = refl
 counts-in-role role (Some s) = refl
 
--- ---- a commit applies all of its surface
+-- ---- a commit that is held, a surface that is applied, and a commit that is applied at once
 
-abbrev committing : Surface → Surface
-committing s = applying (asking Commit s)
-
-commit-asks : (at : Option Surface) → frames_at (option_map committing at) ≡ frames_at at
+commit-asks : (at : Option Surface) → frames_at (option_map (asking Commit) at) ≡ frames_at at
 commit-asks None = refl
 commit-asks (Some s) = frames-last s.history.requests Commit refl
 
-commit-applies : (at : Option Surface) → applied_at (option_map committing at) ≡ frames_at at
-commit-applies None = refl
-commit-applies (Some s) = ap frames_of (held-committed s.history.requests) ∙ frames-last s.history.requests Commit refl
+commit-holds : (at : Option Surface) → held_at (option_map (asking Commit) at) ≡ frames_at at
+commit-holds None = refl
+commit-holds (Some s) = ap frames_of (held-committed s.history.requests) ∙ frames-last s.history.requests Commit refl
+
+apply-asks : (at : Option Surface) → frames_at (option_map applying at) ≡ frames_at at
+apply-asks None = refl
+apply-asks (Some s) = refl
+
+apply-holds : (at : Option Surface) → held_at (option_map applying at) ≡ held_at at
+apply-holds None = refl
+apply-holds (Some s) = refl
+
+apply-applies : (at : Option Surface) → applied_at (option_map applying at) ≡ held_at at
+apply-applies None = refl
+apply-applies (Some s) = refl
+
+in-turn : (at : Option Surface) → option_map (λ s. applying (asking Commit s)) at ≡ option_map applying (option_map (asking Commit) at)
+in-turn None = refl
+in-turn (Some s) = refl
 
 module _ (surface : ℕ) (all : Numbered) where
-  waits-committed : (w : Waiting) (c : Callback) → IsWaiting w all c → IsWaiting (applied_by surface w) (changed_at surface committing all) c
+  asked-so : (change : Surface → Surface) → ((at : Option Surface) → frames_at (option_map change at) ≡ frames_at at) → (number : ℕ)
+      → frames_at (changed_at surface change all number) ≡ frames_at (all number)
+  asked-so change e number = by (number == surface)
+    where
+      by : (b : Bool) → frames_at (cond b (option_map change (all number)) (all number)) ≡ frames_at (all number)
+      by true = e (all number)
+      by false = refl
+
+  module _ (stands : (number : ℕ) → (slot : Option Kept) × StandsAt slot (all number)) where
+    waits-held : (w : Waiting) (c : Callback) → IsWaiting w all c → IsWaiting (held_by surface w) (changed_at surface (asking Commit) all) c
+    waits-held w c t = record {
+      id = t.id;
+      asked = λ number. ap (λ ns. is_in ns c) (asked-so (asking Commit) commit-asks number) ∙ t.asked number;
+      held = holds (w.surface == surface);
+      applied = counts (w.surface == surface);
+    } where
+      holds : (b : Bool) → is_in (held_at (cond b (option_map (asking Commit) (all w.surface)) (all w.surface))) c ≡ (w.is_held || b)
+      holds true = ap (λ ns. is_in ns c) (commit-holds (all w.surface)) ∙ t.asked w.surface ∙ same-number w.surface ∙ sym (or-true w.is_held)
+      holds false = t.held ∙ sym (or-false w.is_held)
+
+      counts : (b : Bool) → is_in (applied_at (cond b (option_map (asking Commit) (all w.surface)) (all w.surface))) c ≡ w.is_applied
+      counts true = ap (λ ns. is_in ns c) (applied-still Commit (stands w.surface).0 (all w.surface) (stands w.surface).1) ∙ t.applied
+      counts false = t.applied
+
+    pub waiting-held : (ws : List Waiting) (cs : List Callback) → AreWaiting ws all cs → AreWaiting (map (held_by surface) ws) (changed_at surface (asking Commit) all) cs
+    waiting-held [] [] t = tt
+    waiting-held [] (c ∷ cs) t = absurd t
+    waiting-held (w ∷ ws) [] t = absurd t
+    waiting-held (w ∷ ws) (c ∷ cs) t = (waits-held w c t.0, waiting-held ws cs t.1)
+
+  waits-applied : (w : Waiting) (c : Callback) → IsWaiting w all c → IsWaiting (applied_by surface w) (changed_at surface applying all) c
+  waits-applied w c t = record {
+    id = t.id;
+    asked = λ number. ap (λ ns. is_in ns c) (asked-so applying apply-asks number) ∙ t.asked number;
+    held = holds (w.surface == surface);
+    applied = counts (w.surface == surface);
+  } where
+    holds : (b : Bool) → is_in (held_at (cond b (option_map applying (all w.surface)) (all w.surface))) c ≡ w.is_held
+    holds true = ap (λ ns. is_in ns c) (apply-holds (all w.surface)) ∙ t.held
+    holds false = t.held
+
+    counts : (b : Bool) → is_in (applied_at (cond b (option_map applying (all w.surface)) (all w.surface))) c ≡ cond b w.is_held w.is_applied
+    counts true = ap (λ ns. is_in ns c) (apply-applies (all w.surface)) ∙ t.held
+    counts false = t.applied
+
+  pub waiting-applied : (ws : List Waiting) (cs : List Callback) → AreWaiting ws all cs → AreWaiting (map (applied_by surface) ws) (changed_at surface applying all) cs
+  waiting-applied [] [] t = tt
+  waiting-applied [] (c ∷ cs) t = absurd t
+  waiting-applied (w ∷ ws) [] t = absurd t
+  waiting-applied (w ∷ ws) (c ∷ cs) t = (waits-applied w c t.0, waiting-applied ws cs t.1)
+
+  abbrev committing : Surface → Surface
+  committing s = applying (asking Commit s)
+
+  waits-committed : (w : Waiting) (c : Callback) → IsWaiting w all c → IsWaiting (applied_by surface (held_by surface w)) (changed_at surface (λ s. applying (asking Commit s)) all) c
   waits-committed w c t = record {
     id = t.id;
-    asked = λ number. by number (number == surface) ∙ t.asked number;
-    applied = counted (w.surface == surface);
+    asked = λ number. ap (λ ns. is_in ns c) (asked-so committing (λ at. ap frames_at (in-turn at) ∙ apply-asks (option_map (asking Commit) at) ∙ commit-asks at) number) ∙ t.asked number;
+    held = holds (w.surface == surface);
+    applied = counts (w.surface == surface);
   } where
-    by : (number : ℕ) (b : Bool) → is_in (frames_at (cond b (option_map committing (all number)) (all number))) c ≡ is_in (frames_at (all number)) c
-    by number true = ap (λ ns. is_in ns c) (commit-asks (all number))
-    by number false = refl
+    here : (at : Option Surface) → all w.surface ≡ at → is_in (frames_at at) c ≡ true
+    here at e = ap (λ x. is_in (frames_at x) c) (sym e) ∙ t.asked w.surface ∙ same-number w.surface
 
-    counted : (b : Bool) → is_in (applied_at (cond b (option_map committing (all w.surface)) (all w.surface))) c ≡ (w.is_applied || b)
-    counted true = ap (λ ns. is_in ns c) (commit-applies (all w.surface)) ∙ t.asked w.surface ∙ same-number w.surface ∙ sym (or-true w.is_applied)
-    counted false = t.applied ∙ sym (or-false w.is_applied)
+    of-both : is_in (held_at (option_map (asking Commit) (all w.surface))) c ≡ true
+    of-both = ap (λ ns. is_in ns c) (commit-holds (all w.surface)) ∙ here (all w.surface) refl
 
-  pub waiting-committed : (ws : List Waiting) (cs : List Callback) → AreWaiting ws all cs → AreWaiting (map (applied_by surface) ws) (changed_at surface (λ s. applying (asking Commit s)) all) cs
+    holds : (b : Bool) → is_in (held_at (cond b (option_map committing (all w.surface)) (all w.surface))) c ≡ (w.is_held || b)
+    holds true = ap (λ at. is_in (held_at at) c) (in-turn (all w.surface)) ∙ ap (λ ns. is_in ns c) (apply-holds (option_map (asking Commit) (all w.surface))) ∙ of-both ∙ sym (or-true w.is_held)
+    holds false = t.held ∙ sym (or-false w.is_held)
+
+    counts : (b : Bool) → is_in (applied_at (cond b (option_map committing (all w.surface)) (all w.surface))) c ≡ cond b (w.is_held || b) w.is_applied
+    counts true = ap (λ at. is_in (applied_at at) c) (in-turn (all w.surface)) ∙ ap (λ ns. is_in ns c) (apply-applies (option_map (asking Commit) (all w.surface))) ∙ of-both ∙ sym (or-true w.is_held)
+    counts false = t.applied
+
+  pub waiting-committed : (ws : List Waiting) (cs : List Callback) → AreWaiting ws all cs → AreWaiting (committed_by surface ws) (changed_at surface (λ s. applying (asking Commit s)) all) cs
   waiting-committed [] [] t = tt
   waiting-committed [] (c ∷ cs) t = absurd t
   waiting-committed (w ∷ ws) [] t = absurd t

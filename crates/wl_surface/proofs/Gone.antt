@@ -4,7 +4,7 @@ use Rattle.std.specs.Prelude.{filter, not}
 use Rattle.std.proofs.lemmas.Bool.{eqb-true}
 use Rattle.wl_surface.specs.declared.frames.Waiting.{Waiting}
 use Rattle.wl_surface.specs.Slots.{Numbered, with_at}
-use Rattle.wl_surface.specs.Waiting.{AreWaiting, Callback, IsWaiting, applied_at, callbacks_of, frames_at, is_in, is_of, without_those_of}
+use Rattle.wl_surface.specs.Waiting.{AreWaiting, Callback, IsWaiting, applied_at, callbacks_of, frames_at, held_at, is_in, is_of, without_those_of}
 
 same-either : (m n : ℕ) → (m == n) ≡ (n == m)
 same-either m n = grind (arith)
@@ -31,6 +31,7 @@ module _ (surface : ℕ) (all : Numbered) where
   waits-left w c differs t = record {
     id = t.id;
     asked = λ number. by number (number == surface) refl;
+    held = ap (λ b. is_in (held_at (cond b None (all w.surface))) c) differs ∙ t.held;
     applied = ap (λ b. is_in (applied_at (cond b None (all w.surface))) c) differs ∙ t.applied;
   } where
     by : (number : ℕ) (b : Bool) → (number == surface) ≡ b → is_in (frames_at (cond b None (all number))) c ≡ (number == w.surface)

@@ -11,7 +11,7 @@ use Rattle.wl_state.specs.Kept.{Kept}
 use Rattle.wl_surface.specs.Slots.{Changes, Numbered, StandsAt}
 use Rattle.wl_state.specs.Request.{Frame}
 use Rattle.wl_state.specs.Surface.{Surface, asking}
-use Rattle.wl_surface.specs.Waiting.{applied_by, next_of, without_next}
+use Rattle.wl_surface.specs.Waiting.{next_of, without_next}
 use Rattle.wl_state.proofs.Records.{For-asked, still, undamaged}
 
 -- ---- a frame request: nothing of it is kept of the surface
@@ -98,9 +98,9 @@ mapped-done f [] i d less e = absurd (omega arith)
 mapped-done f (x ∷ xs) zero d less e = ap (λ y. y ∷ xs) (sym e)
 mapped-done f (x ∷ xs) (suc i) d less e = ap (λ ys. f x ∷ ys) (mapped-done f xs i d (omega (arith, less)) e)
 
--- a commit changed the requests in their place
-pub applied-all : (surface : ℕ) (before now frames : List Waiting) (len : ℕ) → now ≡ map (applied_by surface) before → before ≡ frames → length before ≡ len
-    → take len (now ++ drop (length now) frames) ≡ map (applied_by surface) frames
-applied-all surface before now frames len e same long =
-    ap (λ n. take n (now ++ drop (length now) frames)) (sym (ap length e ∙ length-map before (applied_by surface) ∙ long)) ∙ take-append_seam now (drop (length now) frames)
-    ∙ e ∙ ap (λ ws. map (applied_by surface) ws) same
+-- the requests changed in their place
+pub changed-all : (change : Waiting → Waiting) (before now frames : List Waiting) (len : ℕ) → now ≡ map change before → before ≡ frames → length before ≡ len
+    → take len (now ++ drop (length now) frames) ≡ map change frames
+changed-all change before now frames len e same long =
+    ap (λ n. take n (now ++ drop (length now) frames)) (sym (ap length e ∙ length-map before change ∙ long)) ∙ take-append_seam now (drop (length now) frames)
+    ∙ e ∙ ap (λ ws. map change ws) same

@@ -1,12 +1,12 @@
 -- What a call changes of what surfaces show.
 use Rattle.std.specs.Prelude.{ℕ, ◌≡◌, ◌==◌, ◌&&◌, ◌↔◌, ◌++◌, Bool, true, false, not, ◌||◌, if◌then◌else◌, cond, Option, Some, None, List}
-use Rattle.std.specs.Prelude.{[], ◌∷◌, count_by}
+use Rattle.std.specs.Prelude.{[], ◌∷◌, count_by, take}
 use Rattle.std.specs.List.{list_any}
 use Rattle.wl_surface.specs.declared.applied.Change.{Change}
 use Rattle.wl_state.specs.Shape.{IsSameShape, committed_now, newly_damaged}
 use Rattle.wl_surface.specs.Slots.{IsAny, Numbered, shows_at}
 use Rattle.wl_state.specs.Request.{Buffer}
-use Rattle.wl_state.specs.State.{History, applied}
+use Rattle.wl_state.specs.State.{History, applied, apply, between, committed, damaged_rects}
 use Rattle.wl_state.specs.Surface.{Surface, is_there}
 
 -- what is told of a surface that is committed
@@ -14,6 +14,18 @@ pub record IsChange {A : Type 0} (number : ℕ) (h : History) (c : Change A) : T
   pub surface : c.surface ≡ number
   pub whole : (c.whole ≡ false) ↔ IsSameShape h (committed_now h)
   pub rects : c.rects.items ≡ newly_damaged h
+
+-- What is told of a surface that is applied. Its damage is what was asked for since it was applied before: of the rectangles the first
+-- 1,025, since more than 1,024 damage the whole surface.
+pub record IsApplied {A : Type 0} (number : ℕ) (h : History) (c : Change A) : Type 0 where
+  pub surface : c.surface ≡ number
+  pub whole : (c.whole ≡ false) ↔ IsSameShape h (apply h)
+  pub rects : c.rects.items ≡ take 1025 (damaged_rects (between h.cut (committed h.requests) h.requests))
+
+-- it is told of a surface that is there
+abbrev pub AreApplied : {A : Type 0} → ℕ → Option Surface → Option (Change A) → Type 0
+AreApplied number None change = change ≡ None
+AreApplied {A} number (Some s) change = (c : Change A) × (change ≡ Some c) × IsApplied number s.history c
 
 -- one change is told of a surface that is there
 abbrev pub AreChanges : {A : Type 0} → ℕ → Option Surface → List (Change A) → Type 0

@@ -1,9 +1,10 @@
 -- The frame requests that wait, and the callbacks that they are for (wayland.xml, wl_surface.frame).
-use Rattle.std.specs.Prelude.{ℕ, ◌≡◌, ◌==◌, ◌||◌, Bool, true, false, cond, not, Option, Some, None, List, [], ◌∷◌, ◌++◌, filter, find, map}
+use Rattle.std.specs.Prelude.{ℕ, ◌≡◌, ◌==◌, ◌||◌, if◌then◌else◌, Bool, true, false, cond, not, Option, Some, None, List, [], ◌∷◌, ◌++◌, filter, find, map}
 use Rattle.std.specs.List.{list_any}
 use Rattle.std.specs.Option.{option_map}
 use Rattle.wl_surface.specs.declared.frames.Waiting.{Waiting}
 use Rattle.wl_state.specs.Frames.{frames_of}
+use Rattle.wl_state.specs.Kept.{held_list}
 use Rattle.wl_surface.specs.Slots.{Numbered}
 use Rattle.wl_state.specs.State.{counting}
 use Rattle.wl_state.specs.Surface.{Surface}
@@ -19,9 +20,17 @@ pub record Callback : Type 0 where
 abbrev pub is_of : ℕ → Waiting → Bool
 is_of surface w = w.surface == surface
 
--- a commit of this surface applies it
+-- a commit of this surface holds it
+abbrev pub held_by : ℕ → Waiting → Waiting
+held_by surface w = record w { is_held = w.is_held || is_of surface w }
+
+-- once this surface is applied, what is held of it counts
 abbrev pub applied_by : ℕ → Waiting → Waiting
-applied_by surface w = record w { is_applied = w.is_applied || is_of surface w }
+applied_by surface w = record w { is_applied = if is_of surface w then w.is_held else w.is_applied }
+
+-- both: a commit that is applied at once
+abbrev pub committed_by : ℕ → List Waiting → List Waiting
+committed_by surface frames = map (applied_by surface) (map (held_by surface) frames)
 
 -- the callbacks of a surface, in the order of their requests
 abbrev pub callbacks_of : ℕ → List Waiting → List ℕ
@@ -41,22 +50,30 @@ without_next (w ∷ ws) = cond w.is_applied ws (w ∷ without_next ws)
 
 -- ---- what it stands for
 
--- the numbers of the frame requests of a surface, and of those that count
+-- the numbers of the frame requests of a surface, of those up to its last commit, and of those that count
 abbrev pub frames_at : Option Surface → List ℕ
 frames_at None = []
 frames_at (Some s) = frames_of s.history.requests
+
+abbrev pub held_at : Option Surface → List ℕ
+held_at None = []
+held_at (Some s) = frames_of (held_list s.history.requests)
 
 abbrev pub applied_at : Option Surface → List ℕ
 applied_at None = []
 applied_at (Some s) = frames_of (counting s.history)
 
+abbrev pub counted_at : Option Surface → List ℕ × List ℕ
+counted_at at = (held_at at, applied_at at)
+
 abbrev pub is_in : List ℕ → Callback → Bool
 is_in numbers c = list_any (λ n. n == c.number) numbers
 
--- What is kept of a callback: its id, the surface that it was requested of, and whether that request counts.
+-- What is kept of a callback: its id, the surface that it was requested of, whether a commit came after that request, and whether it counts.
 pub record IsWaiting (w : Waiting) (all : Numbered) (c : Callback) : Type 0 where
   pub id : w.callback ≡ c.id
   pub asked : (number : ℕ) → is_in (frames_at (all number)) c ≡ (number == w.surface)
+  pub held : is_in (held_at (all w.surface)) c ≡ w.is_held
   pub applied : is_in (applied_at (all w.surface)) c ≡ w.is_applied
 
 abbrev pub AreWaiting : List Waiting → Numbered → List Callback → Type 0

@@ -4,7 +4,7 @@ ghost use Rattle.std.specs.Prelude.{◌≡◌, IfOk, OnErr, OnOk};
 ghost use Rattle.wl_state.specs.Kept.{StandsFor};
 ghost use Rattle.wl_state.specs.Request.{Commit};
 ghost use Rattle.wl_state.specs.Surface.{Surface as Asked, applying, asking};
-ghost use Rattle.wl_surface.specs.Applied.{IsChange};
+ghost use Rattle.wl_surface.specs.Applied.{IsApplied, IsChange};
 
 use crate::surfaces::SurfaceNo;
 use std::alloc::{AllocError, Allocator};
@@ -47,4 +47,22 @@ pub(crate) fn commit_change<A: Allocator>(
         whole: !before.is_same(state.shape()),
         rects,
     })
+}
+
+/// The surface is applied, and what that changes.
+pub(crate) fn apply_change<A: Allocator>(
+    state: &mut SurfaceState<A>,
+    surface: SurfaceNo,
+    alloc: A,
+) -> Change<A>
+    ensures stands { (s : Asked) → StandsFor state.old s → StandsFor state.new (applying s) }
+    ensures change { (s : Asked) → StandsFor state.old s → IsApplied surface s.history result }
+{
+    let before = state.shape();
+    let rects = state.apply(alloc);
+    Change {
+        surface,
+        whole: !before.is_same(state.shape()),
+        rects,
+    }
 }

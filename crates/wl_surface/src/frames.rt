@@ -2,33 +2,57 @@
 
 ghost use Rattle.std.specs.Prelude.{◌≡◌, IfOk, map};
 ghost use Rattle.std.specs.List.{position};
-ghost use Rattle.wl_surface.specs.Waiting.{applied_by, callbacks_of as those_of};
+ghost use Rattle.wl_surface.specs.Waiting.{applied_by, callbacks_of as those_of, held_by};
 
 use crate::surfaces::SurfaceNo;
 use std::alloc::{AllocError, Allocator};
 
-/// A callback that waits (wayland.xml, wl_surface.frame): the surface that it was requested of, and its id. It is applied once a commit of its
-/// surface came after it.
+/// A callback that waits (wayland.xml, wl_surface.frame): the surface that it was requested of, and its id. It is held once a commit of its
+/// surface came after it, and applied once the surface is applied after that.
 #[derive(Clone, Copy)]
 pub(crate) struct Waiting {
     pub(crate) surface: SurfaceNo,
     pub(crate) callback: u32,
+    pub(crate) is_held: bool,
     pub(crate) is_applied: bool,
 }
 
 impl Waiting {
     /// What a commit of the surface makes of it.
+    fn held_by(self, surface: SurfaceNo) -> Waiting
+        ensures { result ≡ held_by surface self }
+    {
+        Waiting {
+            is_held: self.is_held || self.surface == surface,
+            ..self
+        }
+    }
+
+    /// What it makes of it that the surface is applied.
     fn applied_by(self, surface: SurfaceNo) -> Waiting
         ensures { result ≡ applied_by surface self }
     {
         Waiting {
-            is_applied: self.is_applied || self.surface == surface,
+            is_applied: if self.surface == surface {
+                self.is_held
+            } else {
+                self.is_applied
+            },
             ..self
         }
     }
 }
 
-/// A commit of the surface applies its requests.
+/// A commit of the surface holds its requests.
+pub(crate) fn hold_all(frames: &mut [Waiting], surface: SurfaceNo)
+    ensures { frames.new ≡ map (held_by surface) frames.old }
+{
+    for waiting in frames.iter_mut() {
+        *waiting = waiting.held_by(surface);
+    }
+}
+
+/// Once the surface is applied, so are its requests that are held.
 pub(crate) fn apply_all(frames: &mut [Waiting], surface: SurfaceNo)
     ensures { frames.new ≡ map (applied_by surface) frames.old }
 {

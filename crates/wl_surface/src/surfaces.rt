@@ -5,16 +5,16 @@ ghost use Rattle.std.specs.List.{list_any};
 ghost use Rattle.std.specs.Option.{option_map};
 ghost use Rattle.slab.specs.Slab.{entries};
 ghost use Rattle.wl_geom.specs.Region.{Change as RegionChange, Stands as Covers};
-ghost use Rattle.wl_surface.specs.Applied.{AreChanges, AreFreed, AreGone, with_freed, is_shown_at};
+ghost use Rattle.wl_surface.specs.Applied.{AreApplied, AreChanges, AreFreed, AreGone, with_freed, is_shown_at};
 ghost use Rattle.wl_state.specs.Kept.{buffer_of, counting_in, counting_of, kept_has, kept_shows};
 ghost use Rattle.wl_surface.specs.Slots.{Changes, IsAny, changed_at, shown_of, IsCopied, IsCurrentAt, kept_at, one_if_kept, Numbered, StandForAll, content_at, count, had_at, has_at, is_transform, nobody, pending_at, role_at, shows_at, with_at};
 ghost use Rattle.wl_state.specs.Request.{Attach, Commit, Damage, Frame, SetBufferTransform, SetInputRegion, SetOpaqueRegion};
 ghost use Rattle.wl_state.specs.Surface.{applying, asking, new_surface, with_role};
-ghost use Rattle.wl_surface.specs.Waiting.{AreUndue, AreWaiting, Callback, IsNewNumber, IsNextDue, applied_by, frames_at, is_in, callbacks_of as those_of, next_of, without_next, without_those_of};
+ghost use Rattle.wl_surface.specs.Waiting.{AreUndue, AreWaiting, Callback, IsNewNumber, IsNextDue, applied_by, committed_by, frames_at, held_by, is_in, callbacks_of as those_of, next_of, without_next, without_those_of};
 
-use crate::applied::{Applied, Change, commit_change};
+use crate::applied::{Applied, Change, apply_change, commit_change};
 use crate::error::SurfaceError;
-use crate::frames::{Waiting, apply_all, callbacks_of, next_place};
+use crate::frames::{Waiting, apply_all, callbacks_of, hold_all, next_place};
 use slab::Slab;
 use std::alloc::{AllocError, Allocator};
 use std::marker::Model;
@@ -191,7 +191,7 @@ impl<A: Allocator + Copy> Surfaces<A> {
     /// nothing changes.
     pub fn commit(&mut self, surface: SurfaceNo) -> Result<Applied<A>, SurfaceError>
         ensures ok { OnOk result (Changes self.old self.new surface (λ s. applying (asking Commit s))) }
-        ensures frames { OnOk result (self.new.frames ≡ map (applied_by surface) self.old.frames) }
+        ensures frames { OnOk result (self.new.frames ≡ committed_by surface self.old.frames) }
         ensures waits { OnOk result ((all : Numbered) (cs : List Callback) → AreWaiting self.old.frames all cs
             → AreWaiting self.new.frames (changed_at surface (λ s. applying (asking Commit s)) all) cs) }
         ensures changes { IfOk result (λ applied. (all : Numbered) → StandForAll self.old all → AreChanges surface (all surface) applied.changes.items) }
@@ -208,6 +208,7 @@ impl<A: Allocator + Copy> Surfaces<A> {
         if let Some(kept) = self.slots.get_mut(surface) {
             changes.push_reserved(commit_change(kept, surface, alloc)?);
         }
+        hold_all(&mut self.frames, surface);
         apply_all(&mut self.frames, surface);
         add_freed(&self.slots, current, &mut freed);
         add_freed(&self.slots, held, &mut freed);
@@ -216,6 +217,23 @@ impl<A: Allocator + Copy> Surfaces<A> {
             freed,
             callbacks: Vec::new(alloc),
         })
+    }
+
+    /// The surface is applied: what is held of it counts, its frame requests among that, and what that changes is told. Nothing is told where
+    /// there is none of this number.
+    pub fn apply(&mut self, surface: SurfaceNo) -> Option<Change<A>>
+        ensures stand { Changes self.old self.new surface applying }
+        ensures frames { self.new.frames ≡ map (applied_by surface) self.old.frames }
+        ensures waits { (all : Numbered) (cs : List Callback) → AreWaiting self.old.frames all cs
+            → AreWaiting self.new.frames (changed_at surface applying all) cs }
+        ensures change { (all : Numbered) → StandForAll self.old all → AreApplied surface (all surface) result }
+    {
+        apply_all(&mut self.frames, surface);
+        let alloc = self.alloc;
+        match self.slots.get_mut(surface) {
+            Some(kept) => Some(apply_change(kept, surface, alloc)),
+            None => None,
+        }
     }
 
     /// wl_surface.destroy: the surface is gone, its frame requests with it, and what that changes is told. Nothing changes where there is
@@ -280,7 +298,7 @@ impl<A: Allocator> Surfaces<A> {
     /// wl_surface.frame: a callback that waits until a commit applies it and a frame is shown. Without memory nothing changes.
     pub fn frame(&mut self, surface: SurfaceNo, callback: u32) -> Result<(), SurfaceError>
         ensures ok { OnOk result ((n : ℕ) → Changes self.old self.new surface (asking (Frame n))) }
-        ensures frames { OnOk result (self.new.frames ≡ (if is_some (kept_at self.old surface) then self.old.frames ++ record { surface = surface; callback = callback; is_applied = false } ∷ [] else self.old.frames)) }
+        ensures frames { OnOk result (self.new.frames ≡ (if is_some (kept_at self.old surface) then self.old.frames ++ record { surface = surface; callback = callback; is_held = false; is_applied = false } ∷ [] else self.old.frames)) }
         ensures waits { OnOk result ((all : Numbered) (cs : List Callback) → StandForAll self.old all → AreWaiting self.old.frames all cs → is_some (all surface) ≡ true → (n : ℕ) → IsNewNumber n all cs
             → AreWaiting self.new.frames (changed_at surface (asking (Frame n)) all) (cs ++ record { number = n; id = callback } ∷ [])) }
         ensures err { OnErr result (self.new ≡ self.old) }
@@ -292,8 +310,26 @@ impl<A: Allocator> Surfaces<A> {
         self.frames.push(Waiting {
             surface,
             callback,
+            is_held: false,
             is_applied: false,
         })?;
+        Ok(())
+    }
+
+    /// wl_surface.commit of a surface that behaves synchronised (wayland.xml, wl_subsurface): what is pending is held, the surface's frame
+    /// requests with it, and counts once the surface is applied. Without memory nothing changes.
+    pub fn hold(&mut self, surface: SurfaceNo) -> Result<(), SurfaceError>
+        ensures ok { OnOk result (Changes self.old self.new surface (asking Commit)) }
+        ensures frames { OnOk result (self.new.frames ≡ map (held_by surface) self.old.frames) }
+        ensures waits { OnOk result ((all : Numbered) (cs : List Callback) → StandForAll self.old all → AreWaiting self.old.frames all cs
+            → AreWaiting self.new.frames (changed_at surface (asking Commit) all) cs) }
+        ensures err { OnErr result (self.new ≡ self.old) }
+        ensures cause { IfErr result (λ e. e ≡ SurfaceError.Memory) }
+    {
+        if let Some(kept) = self.slots.get_mut(surface) {
+            kept.commit()?;
+        }
+        hold_all(&mut self.frames, surface);
         Ok(())
     }
 

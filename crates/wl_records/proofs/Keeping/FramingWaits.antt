@@ -11,14 +11,14 @@ use Rattle.wl_surface.specs.Slots.{Numbered, changed_at, with_at}
 use Rattle.wl_state.specs.Frames.{frames_of}
 use Rattle.wl_state.specs.Request.{Commit, Frame, Request}
 use Rattle.wl_state.specs.Surface.{Surface, applying, asking}
-use Rattle.wl_surface.specs.Waiting.{AreWaiting, Callback, IsNewNumber, applied_at, frames_at}
+use Rattle.wl_surface.specs.Waiting.{AreWaiting, Callback, IsNewNumber, counted_at, frames_at}
 use Rattle.wl_surface.proofs.Counting.{asked-still, at-one, waiting-same}
 use Rattle.wl_plain.specs.Framing.{AreFramed}
 use Rattle.wl_laws.proofs.Lists.Keys.{differ}
 
--- where neither what was asked for nor what counts changes
+-- where neither what was asked for nor what is held or counts changes
 pub framed-same : (frames : List Waiting) (all now : Numbered) (bound more : ℕ) (cs : List Callback) → ((number : ℕ) → frames_at (now number) ≡ frames_at (all number))
-    → ((number : ℕ) → applied_at (now number) ≡ applied_at (all number)) → bound ≤ more
+    → ((number : ℕ) → counted_at (now number) ≡ counted_at (all number)) → bound ≤ more
     → AreFramed frames all bound cs → AreFramed frames now more cs
 framed-same frames all now bound more cs asked counts le f =
     record {

@@ -6,7 +6,7 @@ use Rattle.wl_surface.proofs.frames.callbacks_of.Goals.{then-waiting-surface+in_
 
 pub loop-waiting-preserved : goal.loop-waiting-preserved
 loop-waiting-preserved g c =
-    let none : Waiting = record { surface = 0; callback = 0; is_applied = false } in
+    let none : Waiting = record { surface = 0; callback = 0; is_held = false; is_applied = false } in
     let frames = c.args.frames.now in
     let i = c.loop-waiting.waiting-index in
     let was = c.loop-waiting.callbacks.items in

@@ -27,7 +27,7 @@ returns-clause-does g c = λ named r is.
     let after = after_surface c.args.object r then in
     let framed =
     subst (λ (ws : List Waiting). IsFramed ws v.client.objects after) (sym c.attach.ensures.frames)
-    (framed-asked v.owned.surfaces.frames v.client.objects v.client.objects r after refl (no-more r.peer.requests) is.frames v.owned.surfaces is.owns.surfaces c.args.object c.args.surface request refl
+    (framed-asked v.owned.surfaces.frames v.client.objects v.client.objects r after refl (no-more r.peer.requests) is.frames v.owned.surfaces is.owns.surfaces c.args.object c.args.surface request refl refl
     named refl refl) in (
       after.peer,
       inr refl,

@@ -35,7 +35,7 @@ returns-in-Ok-clause-answers g c = λ named client r on is only.
         numbers = λ alive. keeps-names v.client.objects c.count.new.self.objects (names-counted v.client c.count.new.self c.count.ensures.only);
         frames = λ alive. framed-asked v.owned.surfaces.frames v.client.objects c.count.new.self.objects r (changed_by (AskSurface x.surface (SetWindowGeometry rect)) (with_peer (counted r.peer) r))
             refl (one-more r.peer.requests) is.frames
-            v.owned.surfaces is.owns.surfaces x.surface c.args.surface (SetWindowGeometry rect) refl one.surface (names-counted v.client c.count.new.self c.count.ensures.only) refl;
+            v.owned.surfaces is.owns.surfaces x.surface c.args.surface (SetWindowGeometry rect) refl refl one.surface (names-counted v.client c.count.new.self c.count.ensures.only) refl;
         owns = λ alive. subst (λ (n : Names). IsOwned n v.owned.surfaces (kept_of c.geometry.new.self) (changed_by (AskSurface x.surface (SetWindowGeometry rect)) r).owned)
             (sym (names-counted v.client c.count.new.self c.count.ensures.only))
             (owned-geometry names v.owned.surfaces kept r is.owns c.args.surface k x h one rect (kept_of c.geometry.new.self) c.in-Ok.ensures.ok);

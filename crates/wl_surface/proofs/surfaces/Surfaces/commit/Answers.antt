@@ -3,9 +3,9 @@ use Rattle.wl_state.specs.Kept.{Kept}
 use Rattle.wl_surface.specs.Slots.{StandsAt, changed_at}
 use Rattle.wl_state.specs.Request.{Commit}
 use Rattle.wl_state.specs.Surface.{Surface, applying, asking}
-use Rattle.wl_surface.specs.Waiting.{applied_by}
+use Rattle.wl_surface.specs.Waiting.{applied_by, committed_by, held_by}
 use Rattle.wl_surface.proofs.Counting.{waiting-committed}
-use Rattle.wl_surface.proofs.Waiting.{applied-all}
+use Rattle.wl_surface.proofs.Waiting.{changed-all}
 use Rattle.wl_surface.proofs.Changed.{freed-told, others-changed, told-none, told-some}
 use Rattle.wl_surface.proofs.Left.{left-as-it-was}
 use Rattle.wl_surface.proofs.Slots.{Changes-at, Changes-none}
@@ -47,8 +47,10 @@ returns-clause-frames g c =
       | in-Some+in_ok-commit_change w ↦ rw (← c.self.view_is, w.self-inside-is) refl
       | in_default w ↦ rw (← c.self.view_is, w.self-inside-is) refl
     ] in
-    applied-all c.args.surface c.deref_mut.result.now c.apply_all.new.frames c.match-get_mut.self-inside.frames.items _ c.apply_all.ensures c.deref_mut.ensures.value c.deref_mut.ensures.len
-    ∙ ap (λ ws. map (applied_by c.args.surface) ws) same
+    let held = changed-all (held_by c.args.surface) c.deref_mut.result.now c.hold_all.new.frames c.match-get_mut.self-inside.frames.items _ c.hold_all.ensures c.deref_mut.ensures.value c.deref_mut.ensures.len in
+    changed-all (applied_by c.args.surface) c.deref_mut-2.result.now c.apply_all.new.frames _ _ c.apply_all.ensures c.deref_mut-2.ensures.value c.deref_mut-2.ensures.len
+    ∙ ap (λ ws. map (applied_by c.args.surface) ws) held
+    ∙ ap (committed_by c.args.surface) same
 
 pub returns-clause-waits : goal.returns-clause-waits
 returns-clause-waits g c = λ all cs are. rw (returns-clause-frames g c) (waiting-committed c.args.surface all c.args.self.now.frames cs are)
