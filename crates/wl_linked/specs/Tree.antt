@@ -1,0 +1,67 @@
+-- What is applied of a tree of surfaces, and what is told of it (wayland.xml, wl_subsurface).
+use Rattle.std.specs.Prelude.{ℕ, ◌≡◌, ◌==◌, Bool, true, false, if◌then◌else◌, Option, Some, None, List, [], ◌∷◌, ◌++◌}
+use Rattle.std.specs.List.{list_any}
+use Rattle.std.specs.Option.{option_map}
+use Rattle.wl_family.specs.Family.{applied}
+use Rattle.wl_children.specs.Stacks.{Stacks}
+use Rattle.wl_surface.specs.declared.applied.Change.{Change}
+use Rattle.wl_surface.specs.Applied.{AreApplied}
+use Rattle.wl_surface.specs.Slots.{Numbered, shows_at}
+use Rattle.wl_surface.specs.Surfaces.{Surfaces, with_change}
+use Rattle.wl_surface.specs.Trees.{behaves_synchronised, descends_from, levels}
+use Rattle.wl_state.specs.Request.{Buffer, Commit}
+use Rattle.wl_state.specs.Surface.{applying, asking}
+use Rattle.wl_linked.specs.Linked.{numbered}
+
+abbrev pub is_among : List ℕ → ℕ → Bool
+is_among numbers number = list_any (λ n. n == number) numbers
+
+-- no number stands twice
+abbrev pub AreOnce : List ℕ → Type 0
+AreOnce [] = Unit {0}
+AreOnce (n ∷ ns) = (is_among ns n ≡ false) × AreOnce ns
+
+-- these surfaces are applied
+abbrev pub applied_among : List ℕ → Numbered → Numbered
+applied_among numbers all number = if is_among numbers number then option_map applying (all number) else all number
+
+-- and so are their stacks
+abbrev pub stacks_among : List ℕ → (ℕ → Stacks) → ℕ → Stacks
+stacks_among numbers stacks number = if is_among numbers number then applied (stacks number) else stacks number
+
+-- one of these surfaces shows the buffer
+abbrev pub shown_among : List ℕ → Numbered → ℕ → Bool
+shown_among numbers all buffer = list_any (λ n. shows_at buffer (all n)) numbers
+
+-- the number of a buffer, if there is one
+abbrev pub numbers_of : Option Buffer → List ℕ
+numbers_of None = []
+numbers_of (Some b) = b.number ∷ []
+
+abbrev pub listed : {X : Type 0} → Option X → List X
+listed None = []
+listed (Some x) = x ∷ []
+
+-- of each of these in turn it is told what it changes that it is applied
+abbrev pub AreTold : {A : Type 0} → List ℕ → Numbered → List (Change A) → Type 0
+AreTold [] all changes = changes ≡ []
+AreTold {A} (n ∷ ns) all changes =
+    (one : Option (Change A)) × (others : List (Change A)) × AreApplied n (all n) one × AreTold ns all others
+    × (changes ≡ listed one ++ others)
+
+-- The surface and those that descend from it are applied, each once, and of each it is told what that changes.
+pub record IsTold {A : Type 0} (surface : ℕ) (all : Surfaces) (changes : List (Change A)) : Type 0 where
+  pub numbers : List ℕ
+  pub once : AreOnce numbers
+  pub those : (number : ℕ) → is_among numbers number ≡ descends_from 16 all surface number
+  pub told : AreTold numbers (numbered all) changes
+
+-- nothing is told of a commit that is held
+abbrev pub IsToldUnless : {A : Type 0} → Bool → ℕ → Surfaces → List (Change A) → Type 0
+IsToldUnless true surface all changes = changes ≡ []
+IsToldUnless false surface all changes = IsTold surface all changes
+
+-- wl_surface.commit
+abbrev pub IsCommitTold : {A : Type 0} → ℕ → Surfaces → List (Change A) → Type 0
+IsCommitTold surface all changes =
+    IsToldUnless (behaves_synchronised levels all surface) surface (with_change surface (asking Commit) all) changes

@@ -1,0 +1,164 @@
+//! The surfaces of a client with the links between them.
+
+ghost use Rattle.std.specs.Prelude.{ℕ, ℤ, [], ◌≡◌, true, false, is_some, IfErr, IfOk, List, OnErr, OnOk, Option, Some, None, Err};
+ghost use Rattle.wl_family.specs.Family.{is_bad_sibling, links_in, member_of};
+ghost use Rattle.wl_linked.specs.Linked.{IsLink, IsRefused, Stand, is_taken, link_refusal, numbered, surface_error};
+ghost use Rattle.wl_linked.specs.Tree.{IsCommitTold};
+ghost use Rattle.wl_state.specs.Request.{Member, PlaceAbove, PlaceBelow, SetPosition};
+ghost use Rattle.wl_state.specs.Surface.{asking};
+ghost use Rattle.wl_surface.specs.Applied.{AreFreed};
+ghost use Rattle.wl_surface.specs.Surfaces.{Link, Surfaces as Asked, link_at, no_surfaces, surface_at, with_change};
+ghost use Rattle.wl_surface.specs.Trees.{committed_in, linked, synchronised_in};
+ghost use Rattle.wl_surface.specs.Waiting.{AreWaiting, Callback};
+ghost use Rattle.wl_tree_laws.specs.Hanging.{kids_of};
+ghost use Rattle.wl_tree_laws.specs.Stacks.{IsKept};
+
+use std::alloc::{AllocError, Allocator};
+use wl_family::{Family, PlaceError};
+use wl_surface::{Applied, BufferNo, Change, Role, SurfaceError, SurfaceNo, Surfaces};
+
+/// The surfaces of a client, and how they hang together. What is asked of one surface by itself is asked of `surfaces`; what is asked of a
+/// link, and what applies a tree, of both.
+#[derive(Drop)]
+pub struct Linked<A: Allocator> {
+    pub surfaces: Surfaces<A>,
+    pub family: Family<A>,
+    alloc: A,
+}
+
+/// Why a child isn't placed, among the errors of surfaces.
+fn place_error(error: PlaceError) -> SurfaceError
+    ensures { result ≡ surface_error error }
+{
+    match error {
+        PlaceError::BadSurface => SurfaceError::NotSibling,
+        PlaceError::Memory => SurfaceError::Memory,
+    }
+}
+
+impl<A: Allocator + Copy> Linked<A> {
+    /// No surfaces, and no links.
+    pub fn new(alloc: A) -> Self
+        ensures stand { Stand result.surfaces result.family no_surfaces }
+        ensures frames { result.surfaces.frames ≡ [] }
+    {
+        Linked {
+            surfaces: Surfaces::new(alloc),
+            family: Family::new(alloc),
+            alloc,
+        }
+    }
+
+    /// wl_subcompositor.get_subsurface: a link from a child to its parent. The child is a subsurface from now on, synchronised at first, and
+    /// topmost, at (0, 0), once the parent is committed and applied.
+    ///
+    /// # Errors
+    ///
+    /// In this order: `TooDeep` where there would be more than 16 levels below a root, `Role` where the child has another role or a link that
+    /// lives, `BadParent` where the parent is the child or descends from it, `Memory`. None changes anything.
+    pub fn subsurface(&mut self, child: SurfaceNo, parent: SurfaceNo) -> Result<(), SurfaceError>
+        ensures ok { OnOk result ((all : Asked) (number : ℕ) → Stand self.old.surfaces self.old.family all → link_at number all ≡ None
+            → is_some (surface_at child all) ≡ true → is_some (surface_at parent all) ≡ true
+            → Stand self.new.surfaces self.new.family (linked number child parent all)) }
+        ensures refused { (all : Asked) → Stand self.old.surfaces self.old.family all → IsRefused (link_refusal all child parent) result }
+        ensures err { OnErr result ((all : Asked) → Stand self.old.surfaces self.old.family all
+            → is_some (surface_at child all) ≡ true → is_some (surface_at parent all) ≡ true → Stand self.new.surfaces self.new.family all) }
+        ensures frames { self.new.surfaces.frames ≡ self.old.surfaces.frames }
+    {
+        if self.family.is_too_deep(child, parent) {
+            return Err(SurfaceError::TooDeep);
+        }
+        if self.is_taken(child) {
+            return Err(SurfaceError::Role);
+        }
+        if self.family.is_under(child, parent) {
+            return Err(SurfaceError::BadParent);
+        }
+        self.family.join(child, parent)?;
+        self.surfaces.give_role(child, Role::Subsurface)
+    }
+
+    /// Whether a surface has another role than that of a subsurface, or a link that lives.
+    fn is_taken(&self, child: SurfaceNo) -> bool
+        ensures taken { (all : Asked) → Stand self.now.surfaces self.now.family all → result ≡ is_taken all child }
+        ensures free { result ≡ false → links_in self.now.family child ≡ None }
+    {
+        let has_other_role = match self.surfaces.role(child) {
+            None | Some(Role::Subsurface) => false,
+            Some(_) => true,
+        };
+        has_other_role || self.family.link(child).is_some()
+    }
+
+    /// wl_subsurface.set_position: once the parent is committed and applied, the child's upper left corner is so many pixels right and down
+    /// from the parent's. Nothing changes where the child has no link, nor without memory.
+    pub fn set_position(&mut self, child: SurfaceNo, x: i32, y: i32) -> Result<(), SurfaceError>
+        ensures ok { OnOk result ((all : Asked) (number : ℕ) (link : Link) → IsLink all number child link → Stand self.old.surfaces self.old.family all
+            → Stand self.new.surfaces self.new.family (with_change link.parent (asking (SetPosition number x y)) all)) }
+        ensures surfaces { self.new.surfaces ≡ self.old.surfaces }
+        ensures err { OnErr result (self.new ≡ self.old) }
+        ensures cause { IfErr result (λ e. e ≡ SurfaceError.Memory) }
+    {
+        self.family.set_position(child, x, y)?;
+        Ok(())
+    }
+
+    /// wl_subsurface.place_above: once the parent is committed and applied, the child stands right above a sibling, or above the parent.
+    /// Nothing changes where the child has no link.
+    ///
+    /// # Errors
+    ///
+    /// `NotSibling` where the other surface is neither the parent nor another child of it, or else `Memory`. Neither changes anything.
+    pub fn place_above(
+        &mut self,
+        child: SurfaceNo,
+        sibling: SurfaceNo,
+    ) -> Result<(), SurfaceError>
+        ensures ok { OnOk result ((all : Asked) (number : ℕ) (link : Link) (at : Member) → IsLink all number child link
+            → IsKept (kids_of all) at (member_of link.parent sibling) → Stand self.old.surfaces self.old.family all
+            → Stand self.new.surfaces self.new.family (with_change link.parent (asking (PlaceAbove number at)) all)) }
+        ensures bad { is_bad_sibling child sibling (links_in self.old.family) ≡ true → result ≡ Err SurfaceError.NotSibling }
+        ensures cause { is_bad_sibling child sibling (links_in self.old.family) ≡ false → IfErr result (λ e. e ≡ SurfaceError.Memory) }
+        ensures surfaces { self.new.surfaces ≡ self.old.surfaces }
+        ensures err { OnErr result (self.new ≡ self.old) }
+    {
+        match self.family.place_above(child, sibling) {
+            Ok(()) => Ok(()),
+            Err(error) => Err(place_error(error)),
+        }
+    }
+
+    /// wl_subsurface.place_below: once the parent is committed and applied, the child stands right below a sibling, or below the parent.
+    /// Nothing changes where the child has no link.
+    ///
+    /// # Errors
+    ///
+    /// `NotSibling` where the other surface is neither the parent nor another child of it, or else `Memory`. Neither changes anything.
+    pub fn place_below(
+        &mut self,
+        child: SurfaceNo,
+        sibling: SurfaceNo,
+    ) -> Result<(), SurfaceError>
+        ensures ok { OnOk result ((all : Asked) (number : ℕ) (link : Link) (at : Member) → IsLink all number child link
+            → IsKept (kids_of all) at (member_of link.parent sibling) → Stand self.old.surfaces self.old.family all
+            → Stand self.new.surfaces self.new.family (with_change link.parent (asking (PlaceBelow number at)) all)) }
+        ensures bad { is_bad_sibling child sibling (links_in self.old.family) ≡ true → result ≡ Err SurfaceError.NotSibling }
+        ensures cause { is_bad_sibling child sibling (links_in self.old.family) ≡ false → IfErr result (λ e. e ≡ SurfaceError.Memory) }
+        ensures surfaces { self.new.surfaces ≡ self.old.surfaces }
+        ensures err { OnErr result (self.new ≡ self.old) }
+    {
+        match self.family.place_below(child, sibling) {
+            Ok(()) => Ok(()),
+            Err(error) => Err(place_error(error)),
+        }
+    }
+
+    /// wl_subsurface.set_sync: the child's commits are held until its parent is applied. Nothing changes where it has no link.
+    pub fn set_sync(&mut self, child: SurfaceNo)
+        ensures stand { (all : Asked) (number : ℕ) (link : Link) → IsLink all number child link → Stand self.old.surfaces self.old.family all
+            → Stand self.new.surfaces self.new.family (synchronised_in number all) }
+        ensures surfaces { self.new.surfaces ≡ self.old.surfaces }
+    {
+        self.family.set_synchronised(child, true);
+    }
+}

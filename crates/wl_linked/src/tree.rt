@@ -1,0 +1,108 @@
+//! What is applied of a tree of surfaces, surface by surface.
+
+ghost use Rattle.std.specs.Prelude.{ℕ, [], ◌≡◌, ◌≤◌, ◌+◌, ◌++◌, ◌==◌, ◌&&◌, not, cond, Bool, List, length, count_by, vec_len, vec_capacity, IfOk, OnOk, option_map};
+ghost use Rattle.wl_family.specs.Family.{links_in, parents_of, stacks_in};
+ghost use Rattle.wl_linked.specs.Tree.{AreOnce, AreTold, applied_among, is_among, numbers_of, shown_among, stacks_among};
+ghost use Rattle.wl_state.specs.Kept.{buffer_of};
+ghost use Rattle.wl_surface.specs.Slots.{IsAny, Numbered, StandForAll, shows_at};
+ghost use Rattle.wl_surface.specs.Waiting.{AreWaiting, Callback};
+ghost use Rattle.wl_trees.specs.Trees.{is_under};
+
+use std::alloc::{AllocError, Allocator};
+use wl_family::Family;
+use wl_surface::{Attached, BufferNo, Change, SurfaceNo, Surfaces};
+
+/// The surface and those that descend from it, by their numbers.
+pub(crate) fn below<A: Allocator + Copy>(
+    family: &Family<A>,
+    surface: SurfaceNo,
+    alloc: A,
+) -> Result<Vec<SurfaceNo, A>, AllocError>
+    ensures those { IfOk result (λ below. (number : ℕ) → is_among below.items number ≡ is_under 16 (parents_of (links_in family.now)) surface number) }
+    ensures once { IfOk result (λ below. AreOnce below.items) }
+{
+    let tree = family.tree(surface);
+    let mut below = Vec::new(alloc);
+    if tree.is_empty() {
+        below.push(surface)?;
+        return Ok(below);
+    }
+    for place in tree {
+        below.push(place.surface)?;
+    }
+    Ok(below)
+}
+
+/// The number of the buffer, if there is one, behind the others.
+fn add_number<A: Allocator>(
+    numbers: &mut Vec<BufferNo, A>,
+    buffer: Option<Attached>,
+) -> Result<(), AllocError>
+    ensures { OnOk result (numbers.new.items ≡ numbers.old.items ++ numbers_of (option_map buffer_of buffer)) }
+{
+    match buffer {
+        Some(attached) => numbers.push(attached.number)?,
+        None => (),
+    }
+    Ok(())
+}
+
+/// The buffers that these surfaces have applied and held.
+pub(crate) fn shown_of<A: Allocator + Copy>(
+    surfaces: &Surfaces<A>,
+    numbers: &[SurfaceNo],
+    alloc: A,
+) -> Result<Vec<BufferNo, A>, AllocError>
+    ensures { IfOk result (λ shown. (all : Numbered) → StandForAll surfaces.now all
+        → (buffer : ℕ) → is_among shown.items buffer ≡ shown_among numbers.now all buffer) }
+{
+    let mut shown = Vec::new(alloc);
+    for number in numbers {
+        let [_, held, applied] = surfaces.buffers(*number);
+        add_number(&mut shown, applied)?;
+        add_number(&mut shown, held)?;
+    }
+    Ok(shown)
+}
+
+/// Adds those of these buffers that aren't busy, each once. There is room for them.
+pub(crate) fn add_freed<A: Allocator>(
+    surfaces: &Surfaces<A>,
+    shown: &[BufferNo],
+    freed: &mut Vec<BufferNo, A>,
+)
+    requires none { freed.old.items ≡ [] }
+    requires room { length shown.now ≤ vec_capacity freed.old }
+    ensures { (all : Numbered) → StandForAll surfaces.now all → (buffer : ℕ) (is : Bool) → IsAny (shows_at buffer) all is
+        → count_by (λ n. n == buffer) freed.new.items ≡ cond (is_among shown.now buffer && not is) 1 0 }
+{
+    for buffer in shown {
+        if !surfaces.is_busy(*buffer) && !freed.contains(buffer) {
+            freed.push_reserved(*buffer);
+        }
+    }
+}
+
+/// Applies these surfaces in turn, and adds what that changes. There is room for it.
+pub(crate) fn apply_each<A: Allocator + Copy>(
+    surfaces: &mut Surfaces<A>,
+    family: &mut Family<A>,
+    numbers: &[SurfaceNo],
+    changes: &mut Vec<Change<A>, A>,
+)
+    requires none { changes.old.items ≡ [] }
+    requires room { length numbers.now ≤ vec_capacity changes.old }
+    ensures stand { (all : Numbered) → StandForAll surfaces.old all → StandForAll surfaces.new (applied_among numbers.now all) }
+    ensures waits { (all : Numbered) (cs : List Callback) → AreWaiting surfaces.old.frames all cs → AreWaiting surfaces.new.frames (applied_among numbers.now all) cs }
+    ensures told { (all : Numbered) → StandForAll surfaces.old all → AreOnce numbers.now → AreTold numbers.now all changes.new.items }
+    ensures links { links_in family.new ≡ links_in family.old }
+    ensures places { family.new.places ≡ family.old.places }
+    ensures stacks { stacks_in family.new ≡ stacks_among numbers.now (stacks_in family.old) }
+{
+    for number in numbers {
+        if let Some(change) = surfaces.apply(*number) {
+            changes.push_reserved(change);
+        }
+        family.apply(*number);
+    }
+}
