@@ -1,4 +1,5 @@
 mod Books
+pub mod Depths
 mod Joins
 mod Links
 mod Members
