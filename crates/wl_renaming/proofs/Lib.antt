@@ -1,0 +1,4 @@
+pub mod Changing
+pub mod Known
+pub mod Lists
+pub mod Reading
