@@ -31,3 +31,8 @@ HasEnds all l = l.has_ended ≡ false → (has_surface l.child all ≡ true) × 
 pub record IsRenaming (f : ℕ → ℕ) (all : Surfaces) : Type 0 where
   pub apart : AreToldApart f all
   pub ends : All (HasEnds all) all.links
+
+-- What was made of the surfaces, under the other names, is what was made of the renamed ones, and f renames it still.
+pub record IsRenamedAs (f : ℕ → ℕ) (here there : Surfaces) : Type 0 where
+  pub same : renamed f here ≡ there
+  pub still : IsRenaming f here

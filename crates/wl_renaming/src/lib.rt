@@ -2,6 +2,8 @@
 //! done to them (wayland.xml, wl_subcompositor and wl_subsurface). Each law is a function that promises it.
 #![tactic(auto)]
 
+ghost use Rattle.wl_renaming.specs.Changes.{AppliesTree, ChangesSurface, CommitsSurface, CreatesSurface, Desynchronises, DestroysSurface};
+ghost use Rattle.wl_renaming.specs.Changes.{LinksSurfaces, NamesNone, RemovesSurface, Synchronises, Unlinks};
 ghost use Rattle.wl_renaming.specs.Laws.{FindsLinks, KeepsDescent, KeepsPlaces, KeepsRefusals, ReadsSurfaces};
 
 /// Under another name a surface has the same history, the same link to its parent and the same children (wayland.xml, wl_subsurface).
@@ -27,4 +29,59 @@ pub fn keeps_descent()
 /// Under other names the same surfaces are refused as a child and a parent (wayland.xml, wl_subcompositor.get_subsurface).
 pub fn keeps_refusals()
     ensures { KeepsRefusals }
+{}
+
+/// A change that goes by no id, made of a surface, is made of it under its other name, and the names tell surfaces apart still.
+pub fn changes_surface()
+    ensures { ChangesSurface }
+{}
+
+/// To ask a request of a surface, to apply it and to give it a role goes by no id (wayland.xml, wl_surface).
+pub fn names_none()
+    ensures { NamesNone }
+{}
+
+/// Under another name a surface is applied with the same children (wayland.xml, wl_subsurface).
+pub fn applies_tree()
+    ensures { AppliesTree }
+{}
+
+/// Under another name a commit applies the same surfaces, or none (wayland.xml, wl_surface.commit and wl_subsurface).
+pub fn commits_surface()
+    ensures { CommitsSurface }
+{}
+
+/// Under other names a child is linked to its parent the same (wayland.xml, wl_subcompositor.get_subsurface).
+pub fn links_surfaces()
+    ensures { LinksSurfaces }
+{}
+
+/// Under other names a wl_subsurface becomes synchronised the same (wayland.xml, wl_subsurface.set_sync).
+pub fn synchronises()
+    ensures { Synchronises }
+{}
+
+/// Under other names a wl_subsurface that lives becomes desynchronised, and what it held is applied (wayland.xml, wl_subsurface.set_desync).
+pub fn desynchronises()
+    ensures { Desynchronises }
+{}
+
+/// Under other names the link of a wl_subsurface ends, and its child is applied (wayland.xml, wl_subsurface.destroy).
+pub fn unlinks()
+    ensures { Unlinks }
+{}
+
+/// A new surface gets a name that no other has, and all are told apart still (wayland.xml, wl_compositor.create_surface).
+pub fn creates_surface()
+    ensures { CreatesSurface }
+{}
+
+/// Under another name the same surface goes.
+pub fn removes_surface()
+    ensures { RemovesSurface }
+{}
+
+/// Under another name the same surface is destroyed, with its links to its parent and to its children (wayland.xml, wl_surface.destroy).
+pub fn destroys_surface()
+    ensures { DestroysSurface }
 {}
