@@ -149,12 +149,9 @@ pub desynchronised-renamed : {f : ℕ → ℕ} {known : ℕ → Bool} {all : Sur
     → ((l : Link) → link_at number all ≡ Some l → l.has_ended ≡ false)
     → Knows f known (desynchronised_in number all) × (desynchronised_in number (renamed f all) ≡ renamed f (desynchronised_in number all))
 desynchronised-renamed {f} {known} {all} k number lives =
-    let done = at (link_at number all) (λ l e. l-known l e) in
+    let done = at (link_at number all) l-known in
     (done.0, ap₂ (λ (o : Option Link) (x : Surfaces). released_in o (renamed f all) x) (link-renamed f all number) (with-link-renamed f all number (in_mode false) (λ l. refl)) ∙ done.1)
   where
-    new : Surfaces
-    new = with_link number (in_mode false) all
-
     new-known : Knows f known (with_link number (in_mode false) all)
     new-known = with-link-known k number (in_mode false) (λ l between. between)
 

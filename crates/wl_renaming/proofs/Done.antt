@@ -1,15 +1,14 @@
 -- The laws of what is done to surfaces.
 use Rattle.std.proofs.Common.{◌≡◌, ℕ, ◌==◌, Bool, true, Option, Some, None, is_some, refl, ap, sym, ◌∙◌, eqb-true}
-use Rattle.std.specs.List.{AllByRecursion as Each}
 use Rattle.std.proofs.lemmas.List.Elements.{All-from_recursion}
 use Rattle.wl_state.specs.Surface.{Surface}
 use Rattle.wl_surface.specs.Surfaces.{Surfaces, surface_at}
-use Rattle.wl_renaming.specs.Changes.{AppliesTree, ChangesSurface, CommitsSurface, CreatesSurface, Desynchronises, DestroysSurface, LinksSurfaces, NamesNone, RemovesSurface}
+use Rattle.wl_renaming.specs.Changes.{AppliesTree, ChangesSurface, CommitsSurface, CreatesSurface, Desynchronises, DestroysSurface, LinksSurfaces, HeedNoNames, RemovesSurface}
 use Rattle.wl_renaming.specs.Changes.{Synchronises, Unlinks}
 use Rattle.wl_renaming.specs.Renaming.{HasEnds, IsRenamedAs, IsRenaming, has_surface, renamed}
 use Rattle.wl_renaming.proofs.Changing.{change-known, change-renamed, commit-renamed, desynchronised-renamed, destroyed-renamed, linked-renamed, new-renamed, synchronised-renamed}
 use Rattle.wl_renaming.proofs.Changing.{tree-renamed, unlinked-renamed, without-renamed}
-use Rattle.wl_renaming.proofs.Ending.{destroyed-known, new-known}
+use Rattle.wl_renaming.proofs.Ending.{destroyed-known, gone-known, new-known}
 use Rattle.wl_renaming.proofs.Known.{known-there}
 use Rattle.wl_renaming.proofs.Lists.{each-weaker, found}
 use Rattle.wl_renaming.proofs.Reading.{IsBetween, Knows}
@@ -40,8 +39,8 @@ changes-surface f all is id change heeds there =
     let k = known-there f all is in
     renamed-as (change-known k id change (λ s. (heeds s).0)) (change-renamed k id change (λ s. sym (heeds s).1) there)
 
-pub names-none : NamesNone
-names-none f request role = (λ s. (refl, refl), λ s. (refl, refl), λ s. (refl, refl))
+pub heed-no-names : HeedNoNames
+heed-no-names f request role = (λ s. (refl, refl), λ s. (refl, refl), λ s. (refl, refl))
 
 pub applies-tree : AppliesTree
 applies-tree f all is n id there = let done = tree-renamed n id all (known-there f all is) there in renamed-as done.0 done.1
@@ -66,7 +65,7 @@ pub creates-surface : CreatesSurface
 creates-surface f all is id apart = renamed-as (new-known (known-there f all is) id apart) (new-renamed f all id)
 
 pub removes-surface : RemovesSurface
-removes-surface f all is id there = sym (without-renamed (known-there f all is) id there)
+removes-surface f all is id there = let k = known-there f all is in (sym (without-renamed k id there), λ none. renaming (gone-known k id none))
 
 pub destroys-surface : DestroysSurface
 destroys-surface f all is id there =

@@ -1,16 +1,16 @@
 -- Who is known once a surface has come or gone.
-use Rattle.std.proofs.Common.{◌≡◌, ℕ, zero, suc, ◌⊎◌, inl, inr, ◌==◌, ◌&&◌, ◌||◌, Bool, true, false, cond, not, Option, Some, None, List, [], ◌∷◌, ◌++◌, map, is_some, refl, ap, sym, ◌∙◌, arith, eqb-true, eq-eqb}
-use Rattle.std.specs.Prelude.{filter, find, fold}
+use Rattle.std.proofs.Common.{◌≡◌, ℕ, zero, suc, ◌⊎◌, inl, inr, ◌==◌, ◌&&◌, ◌||◌, Bool, true, false, cond, not, Option, Some, None, List, [], ◌∷◌, is_some, refl, ap, sym, subst, ◌∙◌, arith}
+use Rattle.std.proofs.Common.{eqb-true, eq-eqb}
+use Rattle.std.specs.Prelude.{filter, fold}
 use Rattle.std.specs.List.{AllByRecursion as Each, list_any}
 use Rattle.std.specs.Option.{option_or}
-use Rattle.std.proofs.lemmas.Bool.{and_from, and_parts, eqb-false, not-true, or_cases}
+use Rattle.std.proofs.lemmas.Bool.{and_from, and_parts, or_cases}
 use Rattle.std.proofs.lemmas.List.Folds.{find-append}
 use Rattle.wl_state.specs.Surface.{Surface, applying, new_surface}
 use Rattle.wl_surface.specs.Surfaces.{Link, Surfaces, surface_at, with_change, with_new, without_surface}
 use Rattle.wl_surface.specs.Trees.{applied_tree, children_of, destroyed_in, ended_in, ending, levels, links_with, with_link}
-use Rattle.wl_renaming.specs.Renaming.{has_surface}
 use Rattle.wl_renaming.proofs.Changing.{links-with-renamed}
-use Rattle.wl_renaming.proofs.Lists.{each-append, each-filtered, each-mapped, each-weaker}
+use Rattle.wl_renaming.proofs.Lists.{each-append, each-both, each-filtered, each-mapped, each-weaker, find-kept}
 use Rattle.wl_renaming.proofs.Reading.{IsBetween, Knows}
 
 -- ---- a surface comes
@@ -101,8 +101,8 @@ kept-any p [] = tt
 kept-any p (x ∷ xs) = (
   λ is. rw is (or-left (x.number == x.number) (list_any (λ (r : Link). r.number == x.number) (filter p xs)) (eq-eqb x.number x.number refl)),
   each-weaker (λ (l : Link). p l ≡ true → list_any (λ (r : Link). r.number == l.number) (filter p xs) ≡ true)
-  (λ (l : Link). p l ≡ true → list_any (λ (r : Link). r.number == l.number) (filter p (x ∷ xs)) ≡ true)
-  (λ l is passes. more l (p x) (is passes)) xs (kept-any p xs),
+      (λ (l : Link). p l ≡ true → list_any (λ (r : Link). r.number == l.number) (filter p (x ∷ xs)) ≡ true)
+      (λ l is passes. more l (p x) (is passes)) xs (kept-any p xs),
 )
   where
     more : (l : Link) (b : Bool) → list_any (λ (r : Link). r.number == l.number) (filter p xs) ≡ true
@@ -110,27 +110,17 @@ kept-any p (x ∷ xs) = (
     more l true is = or-right (x.number == l.number) (list_any (λ (r : Link). r.number == l.number) (filter p xs)) is
     more l false is = is
 
--- once the links of a surface have ended, none that lives is of it
+-- each link of a surface that lives is among its links
+all-left : (id : ℕ) (all : Surfaces) → Each (IsLeft id (links_with id all)) all.links
+all-left id all =
+    each-weaker (λ (l : Link). (not l.has_ended && is_with id l) ≡ true → list_any (λ (r : Link). r.number == l.number) (links_with id all) ≡ true) (IsLeft id (links_with id all))
+    (λ l is lives those. is (and_from (not l.has_ended) (is_with id l) (ap not lives) those)) all.links (kept-any (λ (l : Link). not l.has_ended && is_with id l) all.links)
+
+-- once they have ended, none that lives is of it
 none-left : (id : ℕ) (all : Surfaces) → Each (IsLeft id []) (fold ended_in all (links_with id all)).links
-none-left id all =
-    fold-left id (links_with id all) all
-    (each-weaker (λ (l : Link). (not l.has_ended && is_with id l) ≡ true → list_any (λ (r : Link). r.number == l.number) (links_with id all) ≡ true) (IsLeft id (links_with id all))
-    (λ l is lives those. is (and_from (not l.has_ended) (is_with id l) (ap not lives) those)) all.links (kept-any (λ (l : Link). not l.has_ended && is_with id l) all.links))
+none-left id all = fold-left id (links_with id all) all (all-left id all)
 
 -- ---- a surface goes
-
-find-kept : {X : Type 0} (p q : X → Bool) → ((x : X) → p x ≡ true → q x ≡ true) → (xs : List X) → find p (filter q xs) ≡ find p xs
-find-kept p q keeps [] = refl
-find-kept p q keeps (x ∷ xs) = at (q x) (p x) refl refl (find-kept p q keeps xs)
-  where
-    at : (b c : Bool) → q x ≡ b → p x ≡ c → find p (filter q xs) ≡ find p xs → find p (cond b (x ∷ filter q xs) (filter q xs)) ≡ cond c (Some x) (find p xs)
-    at true c e g next = rw g (ap (cond c (Some x)) next)
-    at false true e g next = absurd (let is = keeps x g in cc)
-    at false false e g next = next
-
-each-both : {X : Type 0} (P Q : X → Type 0) (xs : List X) → Each P xs → Each Q xs → Each (λ x. P x × Q x) xs
-each-both P Q [] these those = tt
-each-both P Q (x ∷ xs) these those = ((these.0, those.0), each-both P Q xs these.1 those.1)
 
 pub without-known : {f : ℕ → ℕ} {known : ℕ → Bool} {all : Surfaces} → Knows f known all → (id : ℕ) → Each (IsLeft id []) all.links
     → Knows f (λ a. known a && not (a == id)) (without_surface id all)
@@ -159,6 +149,10 @@ without-known {f} {known} {all} k id none = record {
     ends l are apart =
         let others = neither (l.child == id) (l.parent == id) apart in
         (and_from (known l.child) (not (l.child == id)) are.0 others.0, and_from (known l.parent) (not (l.parent == id)) are.1 others.1)
+
+pub gone-known : {f : ℕ → ℕ} {known : ℕ → Bool} {all : Surfaces} → Knows f known all → (id : ℕ) → links_with id all ≡ []
+    → Knows f (λ a. known a && not (a == id)) (without_surface id all)
+gone-known {f} {known} {all} k id none = without-known k id (subst (λ (rs : List Link). Each (IsLeft id rs) all.links) none (all-left id all))
 
 pub destroyed-known : {f : ℕ → ℕ} {known : ℕ → Bool} {all : Surfaces} → Knows f known all → (id : ℕ) → known id ≡ true
     → Knows f (λ a. known a && not (a == id)) (destroyed_in id all)

@@ -4,3 +4,4 @@ pub mod Ending
 pub mod Known
 pub mod Lists
 pub mod Reading
+mod Rows

@@ -22,6 +22,10 @@ pub each-append : {X : Type 0} (P : X → Type 0) (xs ys : List X) → Each P xs
 each-append P [] ys each more = more
 each-append P (x ∷ xs) ys each more = (each.0, each-append P xs ys each.1 more)
 
+pub each-both : {X : Type 0} (P Q : X → Type 0) (xs : List X) → Each P xs → Each Q xs → Each (λ x. P x × Q x) xs
+each-both P Q [] these those = tt
+each-both P Q (x ∷ xs) these those = ((these.0, those.0), each-both P Q xs these.1 those.1)
+
 -- of what a filter keeps, its test is true too
 pub each-filtered : {X : Type 0} (p : X → Bool) (P : X → Type 0) (xs : List X) → Each P xs → Each (λ x. P x × (p x ≡ true)) (filter p xs)
 each-filtered p P [] each = tt
@@ -77,3 +81,18 @@ fold-mapped {S} step other change g Good P one (x ∷ xs) each s good =
     let next = one s x good each.0 in
     let rest = fold-mapped step other change g Good P one xs each.1 (step s x) next.0 in
     (rest.0, ap (λ (t : S). fold other t (map g xs)) next.1 ∙ rest.1)
+
+-- two ways to make one list
+pub map-same : {X Y : Type 0} (g h : X → Y) (xs : List X) → Each (λ x. g x ≡ h x) xs → map g xs ≡ map h xs
+map-same g h [] same = refl
+map-same {Y = Y} g h (x ∷ xs) same = ap₂ (λ (y : Y) (ys : List Y). y ∷ ys) same.0 (map-same g h xs same.1)
+
+-- a filter that keeps what is sought
+pub find-kept : {X : Type 0} (p q : X → Bool) → ((x : X) → p x ≡ true → q x ≡ true) → (xs : List X) → find p (filter q xs) ≡ find p xs
+find-kept p q keeps [] = refl
+find-kept p q keeps (x ∷ xs) = at (q x) (p x) refl refl (find-kept p q keeps xs)
+  where
+    at : (b c : Bool) → q x ≡ b → p x ≡ c → find p (filter q xs) ≡ find p xs → find p (cond b (x ∷ filter q xs) (filter q xs)) ≡ cond c (Some x) (find p xs)
+    at true c e g next = rw g (ap (cond c (Some x)) next)
+    at false true e g next = absurd (let is = keeps x g in cc)
+    at false false e g next = next

@@ -1,11 +1,12 @@
 -- What is done to surfaces is done to them under other names, and they can be renamed still (wayland.xml, wl_surface, wl_subcompositor and
 -- wl_subsurface).
-use Rattle.std.specs.Prelude.{ℕ, ◌≡◌, true, false, Some}
+use Rattle.std.specs.Prelude.{ℕ, ◌≡◌, true, false, Some, []}
 use Rattle.wl_state.specs.declared.role.Role.{Role}
 use Rattle.wl_state.specs.Request.{Request}
 use Rattle.wl_state.specs.Surface.{Surface, applying, asking, with_role}
 use Rattle.wl_surface.specs.Surfaces.{Link, Surfaces, link_at, with_change, with_new, without_surface}
-use Rattle.wl_surface.specs.Trees.{applied_tree, committed_in, desynchronised_in, destroyed_in, linked, synchronised_in, unlinked}
+use Rattle.wl_surface.specs.Trees.{applied_tree, committed_in, desynchronised_in, destroyed_in, linked, links_with, synchronised_in}
+use Rattle.wl_surface.specs.Trees.{unlinked}
 use Rattle.wl_renaming.specs.Renaming.{IsRenamedAs, IsRenaming, has_surface, renamed, renamed_surface}
 
 -- ---- one surface
@@ -21,8 +22,8 @@ ChangesSurface =
     → has_surface id all ≡ true → IsRenamedAs f (with_change id change all) (with_change (f id) change (renamed f all))
 
 -- Such changes are to ask a request of it, to apply it, and to give it a role.
-abbrev pub NamesNone : Type 0
-NamesNone =
+abbrev pub HeedNoNames : Type 0
+HeedNoNames =
     (f : ℕ → ℕ) (request : Request) (role : Role)
     → HeedsNoName f (asking request) × HeedsNoName f applying × HeedsNoName f (with_role role)
 
@@ -75,11 +76,12 @@ CreatesSurface =
     (f : ℕ → ℕ) (all : Surfaces) → IsRenaming f all → (id : ℕ) → ((a : ℕ) → has_surface a all ≡ true → f a ≡ f id → a ≡ id)
     → IsRenamedAs f (with_new id all) (with_new (f id) (renamed f all))
 
--- A surface that is there goes.
+-- A surface that is there goes, and if none of its links lives, the others can be renamed still.
 abbrev pub RemovesSurface : Type 0
 RemovesSurface =
     (f : ℕ → ℕ) (all : Surfaces) → IsRenaming f all → (id : ℕ) → has_surface id all ≡ true
-    → renamed f (without_surface id all) ≡ without_surface (f id) (renamed f all)
+    → (renamed f (without_surface id all) ≡ without_surface (f id) (renamed f all))
+    × (links_with id all ≡ [] → IsRenaming f (without_surface id all))
 
 -- wl_surface.destroy of a surface that is there
 abbrev pub DestroysSurface : Type 0

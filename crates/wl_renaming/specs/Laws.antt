@@ -1,7 +1,7 @@
 -- Surfaces keep what is read of them, and how they hang together, under other names (wayland.xml, wl_subcompositor and wl_subsurface).
-use Rattle.std.specs.Prelude.{ℕ, ◌≡◌, true, map}
+use Rattle.std.specs.Prelude.{ℕ, ◌≡◌, true, not, List, map, filter}
 use Rattle.std.specs.Option.{option_map}
-use Rattle.wl_surface.specs.Surfaces.{Surfaces, history_in, link_at, surface_at}
+use Rattle.wl_surface.specs.Surfaces.{Link, Surfaces, history_in, link_at, surface_at}
 use Rattle.wl_surface.specs.Trees.{behaves_synchronised, children_of, depth, descends_from, height, is_bad_parent, is_too_deep, link_of}
 use Rattle.wl_renaming.specs.Renaming.{IsRenaming, has_surface, renamed, renamed_link, renamed_surface}
 
@@ -46,3 +46,20 @@ KeepsRefusals =
     (f : ℕ → ℕ) (all : Surfaces) → IsRenaming f all → (child parent : ℕ) → has_surface child all ≡ true → has_surface parent all ≡ true
     → (is_too_deep (renamed f all) (f child) (f parent) ≡ is_too_deep all child parent)
     × (is_bad_parent (renamed f all) (f child) (f parent) ≡ is_bad_parent all child parent)
+
+-- ---- other names
+
+-- the links that haven't ended
+abbrev pub living : Surfaces → List Link
+living all = filter (λ l. not l.has_ended) all.links
+
+-- By g the surfaces that are there, and the links that live, have the names that f gives them.
+pub record IsNamedAs (f g : ℕ → ℕ) (all : Surfaces) : Type 0 where
+  pub renaming : IsRenaming g all
+  pub surfaces : (renamed g all).surfaces ≡ (renamed f all).surfaces
+  pub links : living (renamed g all) ≡ living (renamed f all)
+
+-- What other ids are called makes no difference, so that an id which is used again may get another name.
+abbrev pub NamesThoseThere : Type 0
+NamesThoseThere =
+    (f g : ℕ → ℕ) (all : Surfaces) → IsRenaming f all → ((id : ℕ) → has_surface id all ≡ true → g id ≡ f id) → IsNamedAs f g all

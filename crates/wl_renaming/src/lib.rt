@@ -1,17 +1,17 @@
-//! The laws of names: what a client's surfaces are called makes no difference to what is read of them, to how they hang together, and to what is
-//! done to them (wayland.xml, wl_subcompositor and wl_subsurface). Each law is a function that promises it.
+//! The laws of names: what a client's surfaces are called makes no difference to what is read of them, to how they hang together, and to
+//! what is done to them (wayland.xml, wl_subcompositor and wl_subsurface). Each law is a function that promises it.
 #![tactic(auto)]
 
 ghost use Rattle.wl_renaming.specs.Changes.{AppliesTree, ChangesSurface, CommitsSurface, CreatesSurface, Desynchronises, DestroysSurface};
-ghost use Rattle.wl_renaming.specs.Changes.{LinksSurfaces, NamesNone, RemovesSurface, Synchronises, Unlinks};
-ghost use Rattle.wl_renaming.specs.Laws.{FindsLinks, KeepsDescent, KeepsPlaces, KeepsRefusals, ReadsSurfaces};
+ghost use Rattle.wl_renaming.specs.Changes.{LinksSurfaces, HeedNoNames, RemovesSurface, Synchronises, Unlinks};
+ghost use Rattle.wl_renaming.specs.Laws.{FindsLinks, KeepsDescent, KeepsPlaces, KeepsRefusals, NamesThoseThere, ReadsSurfaces};
 
 /// Under another name a surface has the same history, the same link to its parent and the same children (wayland.xml, wl_subsurface).
 pub fn reads_surfaces()
     ensures { ReadsSurfaces }
 {}
 
-/// A wl_subsurface is found by its number, whatever its surfaces are called.
+/// A wl_subsurface is found by its number, whatever its surfaces are called (wayland.xml, wl_subcompositor.get_subsurface).
 pub fn finds_links()
     ensures { FindsLinks }
 {}
@@ -21,7 +21,7 @@ pub fn keeps_places()
     ensures { KeepsPlaces }
 {}
 
-/// Under other names the same surfaces descend from a surface.
+/// Under other names the same surfaces descend from a surface (wayland.xml, wl_subcompositor.get_subsurface).
 pub fn keeps_descent()
     ensures { KeepsDescent }
 {}
@@ -31,14 +31,20 @@ pub fn keeps_refusals()
     ensures { KeepsRefusals }
 {}
 
+/// Names that differ only for ids that no surface has are the same for the surfaces and for the links that live: an id may be used again
+/// (wayland.xml, wl_display.delete_id).
+pub fn names_those_there()
+    ensures { NamesThoseThere }
+{}
+
 /// A change that goes by no id, made of a surface, is made of it under its other name, and the names tell surfaces apart still.
 pub fn changes_surface()
     ensures { ChangesSurface }
 {}
 
 /// To ask a request of a surface, to apply it and to give it a role goes by no id (wayland.xml, wl_surface).
-pub fn names_none()
-    ensures { NamesNone }
+pub fn heed_no_names()
+    ensures { HeedNoNames }
 {}
 
 /// Under another name a surface is applied with the same children (wayland.xml, wl_subsurface).
@@ -61,7 +67,8 @@ pub fn synchronises()
     ensures { Synchronises }
 {}
 
-/// Under other names a wl_subsurface that lives becomes desynchronised, and what it held is applied (wayland.xml, wl_subsurface.set_desync).
+/// Under other names a wl_subsurface that lives becomes desynchronised, and what it held is applied (wayland.xml,
+/// wl_subsurface.set_desync).
 pub fn desynchronises()
     ensures { Desynchronises }
 {}
@@ -76,7 +83,7 @@ pub fn creates_surface()
     ensures { CreatesSurface }
 {}
 
-/// Under another name the same surface goes.
+/// Under another name the same surface goes, and the others are told apart still (wayland.xml, wl_surface.destroy).
 pub fn removes_surface()
     ensures { RemovesSurface }
 {}
