@@ -2,7 +2,7 @@
 
 ghost use Rattle.std.specs.Prelude.{ℕ, ℤ, [], ◌≡◌, true, false, is_some, IfErr, IfOk, List, OnErr, OnOk, Option, Some, None, Err};
 ghost use Rattle.wl_family.specs.Family.{is_bad_sibling, links_in, member_of};
-ghost use Rattle.wl_linked.specs.Linked.{IsLink, IsRefused, Stand, is_taken, link_refusal, numbered, surface_error};
+ghost use Rattle.wl_linked.specs.Linked.{IsLink, IsRefused, Stand, is_other_role, is_taken, link_refusal, numbered, surface_error};
 ghost use Rattle.wl_linked.specs.Tree.{IsCommitTold};
 ghost use Rattle.wl_state.specs.Request.{Member, PlaceAbove, PlaceBelow, SetPosition};
 ghost use Rattle.wl_state.specs.Surface.{asking};
@@ -33,6 +33,16 @@ fn place_error(error: PlaceError) -> SurfaceError
     match error {
         PlaceError::BadSurface => SurfaceError::NotSibling,
         PlaceError::Memory => SurfaceError::Memory,
+    }
+}
+
+/// Whether a role isn't that of a subsurface.
+fn is_other_role(role: Option<Role>) -> bool
+    ensures { result ≡ is_other_role role }
+{
+    match role {
+        None | Some(Role::Subsurface) => false,
+        Some(Role::Toplevel | Role::Popup | Role::Cursor) => true,
     }
 }
 
@@ -83,11 +93,7 @@ impl<A: Allocator + Copy> Linked<A> {
         ensures taken { (all : Asked) → Stand self.now.surfaces self.now.family all → result ≡ is_taken all child }
         ensures free { result ≡ false → links_in self.now.family child ≡ None }
     {
-        let has_other_role = match self.surfaces.role(child) {
-            None | Some(Role::Subsurface) => false,
-            Some(_) => true,
-        };
-        has_other_role || self.family.link(child).is_some()
+        is_other_role(self.surfaces.role(child)) || self.family.link(child).is_some()
     }
 
     /// wl_subsurface.set_position: once the parent is committed and applied, the child's upper left corner is so many pixels right and down
