@@ -1,0 +1,14 @@
+use Rattle.std.proofs.Common.{refl, ◌∙◌}
+use Rattle.wl_state.specs.Request.{PlaceBelow}
+use Rattle.wl_children.specs.Stacks.{placed_below}
+use Rattle.wl_family.specs.Family.{member_of}
+use Rattle.wl_tree_laws.proofs.Placing.{places-child}
+use Rattle.wl_linked.proofs.Standing.{asked-stands, sibling-placed}
+use Rattle.wl_linked.proofs.linked.Linked.place_below.Goals as goal
+
+pub returns-in-Ok-clause-ok : goal.returns-in-Ok-clause-ok
+returns-in-Ok-clause-ok g c = λ all number link at is kept stand.
+    let v = c.args.self.now in
+    asked-stands v.surfaces v.family c.place_below.new.self all link.parent (PlaceBelow number at) refl c.place_below.ensures.places stand
+    ((places-child v.family c.place_below.new.self all number link at (member_of link.parent c.args.sibling) is.here is.lives kept c.place_below.ensures.links stand.hang).1
+    (c.in-Ok.ensures.stacks ∙ sibling-placed placed_below v.family all number link c.args.child c.args.sibling is stand.hang))

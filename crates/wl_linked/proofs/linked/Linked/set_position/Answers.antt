@@ -1,0 +1,15 @@
+use Rattle.std.proofs.Common.{◌≡◌, refl, subst, sym}
+use Rattle.wl_children.specs.Stacks.{moved}
+use Rattle.wl_family.specs.Family.{at_parent, links_in, pending_as, stacks_in}
+use Rattle.wl_state.specs.Request.{SetPosition}
+use Rattle.wl_tree_laws.proofs.Placing.{moves-child}
+use Rattle.wl_linked.proofs.Standing.{asked-stands}
+use Rattle.wl_linked.proofs.linked.Linked.set_position.Goals as goal
+
+pub returns-clause-ok : goal.returns-clause-ok
+returns-clause-ok g c = λ all number link is stand.
+    let v = c.args.self.now in
+    asked-stands v.surfaces v.family c.set_position.new.self all link.parent (SetPosition number c.args.x c.args.y) refl c.set_position.ensures.places stand
+    (moves-child v.family c.set_position.new.self all number link c.args.x c.args.y is.here is.lives c.set_position.ensures.links
+    (subst (λ n. stacks_in c.set_position.new.self ≡ at_parent (λ parent. pending_as (moved n c.args.x c.args.y)) (links_in v.family n) (stacks_in v.family)) (sym is.of_child)
+    (simp (to_z-of_z w32 c.args.x c.ranges.x, to_z-of_z w32 c.args.y c.ranges.y) at c.in_ok-set_position.ensures.stacks)) stand.hang)
