@@ -1,22 +1,18 @@
 -- How many levels stand below a surface: by its children, and by the depths of what is under it.
 use Rattle.std.proofs.Common.{◌≡◌, ℕ, zero, suc, ◌+◌, ◌≤◌, ◌⊎◌, inl, inr, ◌||◌, ◌==◌, Bool, true, false, Option, Some, None, List, [], ◌∷◌, refl, ap, sym, subst, ◌∙◌, arith, eq-eqb}
-use Rattle.std.specs.Prelude.{fold, max}
+use Rattle.std.specs.Prelude.{fold, max, nat_lt}
 use Rattle.std.specs.List.{list_any}
 use Rattle.std.proofs.lemmas.Bool.{eqb-true}
 use Rattle.std.proofs.Math.Nat.{le-max_left, le-max_right, max-eq_left, max-eq_right}
 use Rattle.wl_surface.specs.Surfaces.{Link, Surfaces}
-use Rattle.wl_surface.specs.Trees.{children_of, descends_from, height, levels, link_of, of_parent}
-use Rattle.wl_family.specs.Family.{parents_of}
+use Rattle.wl_surface.specs.Trees.{children_of, descends_from, height, is_bad_parent, is_too_deep, levels, link_of, of_parent}
+use Rattle.wl_family.specs.Family.{IsHeightBelow, IsTooDeep, Links, parents_of}
+use Rattle.wl_family.proofs.Depths.{deeper, depth-least, near, same-below, same-depths}
 use Rattle.wl_trees.specs.declared.trees.Place.{Place}
-use Rattle.wl_trees.specs.Trees.{IsBelow, IsTreeHeight, Parents, StandFor, depth_by, has_place, level_at}
-use Rattle.wl_trees.proofs.Kept.{up-among}
-use Rattle.wl_trees.proofs.Link.{index-up}
-use Rattle.wl_trees.proofs.Moved.{nothing}
-use Rattle.wl_trees.proofs.Placed.{PlacedFrom, to-from}
-use Rattle.wl_trees.proofs.Under.{Among, Finds, among-has, depth-is, finds, has-among}
-use Rattle.wl_tree_laws.specs.Laws.{AreOnceLinked, HaveSameHeight, links_of}
+use Rattle.wl_trees.specs.Trees.{Parents, StandFor, depth_by, is_under, level_at}
+use Rattle.wl_tree_laws.specs.Laws.{AreOnceLinked, HaveSameHeight, HaveSameRefusals, links_of}
 use Rattle.wl_tree_laws.proofs.Applying.{by_child, by_parent, descends-either, descends-once}
-use Rattle.wl_tree_laws.proofs.Parents.{same-descent}
+use Rattle.wl_tree_laws.proofs.Parents.{same-depth, same-descent}
 
 -- ---- the most of some numbers
 
@@ -101,56 +97,12 @@ module _ (all : Surfaces) (places : List Place) (once : AreOnceLinked all.links)
   abbrev deep : ℕ → ℕ
   deep surface = depth_by 16 parents surface
 
-  placed : PlacedFrom parents nothing places
-  placed = to-from parents [] places stand.placed
-
-  among-low : (x : Place) → Among x places → x.level ≤ 16
-  among-low x among = up-among 16 places x (index-up 16 places (λ index less. within index)) among
-
-  among-deep : (x : Place) → Among x places → deep x.surface ≡ x.level
-  among-deep x among = depth-is parents places placed 16 x among (among-low x among)
+  child-deeper : (child parent : ℕ) → parents child ≡ Some parent → deep child ≡ suc (deep parent)
+  child-deeper child parent is = deeper parents places stand within child parent is
 
   -- nothing is deeper than 16
-  low : (surface : ℕ) → has_place surface places ≡ true → deep surface ≤ 16
-  low surface there =
-      let x = among-has surface places there in
-      let is = ap (λ n. depth_by 16 parents n) (sym x.1) ∙ among-deep x.0 x.2 in
-      omega (arith, is, among-low x.0 x.2)
-
-  -- a child and its parent
-  record IsChild (child parent : ℕ) : Type 0 where
-    child_there : has_place child places ≡ true
-    parent_there : has_place parent places ≡ true
-    deeper : deep child ≡ suc (deep parent)
-
-  child-there : (child parent : ℕ) → parents child ≡ Some parent → has_place child places ≡ true
-  child-there child parent is = at (has_place child places) refl
-    where
-      at : (b : Bool) → has_place child places ≡ b → has_place child places ≡ true
-      at true e = e
-      at false e = absurd (let none = stand.others child e in let both = sym none ∙ is in cc)
-
-  child-deeper : (child parent : ℕ) → parents child ≡ Some parent → IsChild child parent
-  child-deeper child parent is =
-      let there = child-there child parent is in
-      let x = among-has child places there in
-      let found = finds parents nothing places x.0 placed x.2 in
-      at there x.0 x.1 x.2 found.0 found.1 found.2
-    where
-      at : has_place child places ≡ true → (x : Place) → x.surface ≡ child → Among x places → (o : Option Place) → IsBelow parents x o → Finds nothing places x.level o → IsChild child parent
-      at there x same among None below found = absurd (let both = sym is ∙ (ap parents (sym same) ∙ below.0) in cc)
-      at there x same among (Some q) below (inl e) = absurd (cc)
-      at there x same among (Some q) below (inr found) =
-          let it : q ≡ found.0 = cc in
-          let inside = subst (λ (p : Place). Among p places) (sym it) found.2 in
-          let parent_is : q.surface ≡ parent = let both = sym below.0 ∙ (ap parents same ∙ is) in cc in
-          let child_deep = ap (λ n. depth_by 16 parents n) (sym same) ∙ among-deep x among in
-          let parent_deep = ap (λ n. depth_by 16 parents n) (sym parent_is) ∙ among-deep q inside in
-          record {
-            child_there = there;
-            parent_there = ap (λ n. has_place n places) (sym parent_is) ∙ has-among q places inside;
-            deeper = let up = below.1 in omega (arith, child_deep, parent_deep, up);
-          }
+  low : (surface : ℕ) → deep surface ≤ 16
+  low surface = depth-least 16 parents surface
 
   -- each of a surface's children is one
   listed-child : (child top : ℕ) → list_any (λ c. child == c) (children_of top all) ≡ true → parents child ≡ Some top
@@ -176,12 +128,11 @@ module _ (all : Surfaces) (places : List Place) (once : AreOnceLinked all.links)
           let found = any-found (λ child. descends_from n all child other) (children_of surface all) under in
           let child = child-deeper found.0 surface (listed-child found.0 surface found.2) in
           let each = most-each (λ child. suc (height n all child)) 0 found.0 (children_of surface all) found.2 in
-          omega (arith, child.deeper, next found.0 other found.1, each)
+          omega (arith, child, next found.0 other found.1, each)
 
   -- one of those below is as deep
   record IsReached (n surface : ℕ) : Type 0 where
     other : ℕ
-    there : has_place other places ≡ true
     under : descends_from n all surface other ≡ true
     as_deep : deep other ≡ deep surface + height n all surface
 
@@ -202,77 +153,52 @@ module _ (all : Surfaces) (places : List Place) (once : AreOnceLinked all.links)
       or-true true = refl
       or-true false = refl
 
-  reached : (n surface : ℕ) → has_place surface places ≡ true → IsReached n surface
+  reached : (n surface : ℕ) → IsReached n surface
   unfolding height
-  reached zero surface there = record { other = surface; there = there; under = itself zero surface; as_deep = omega arith }
-  reached (suc n) surface there = at (most-reached (λ child. suc (height n all child)) 0 (children_of surface all)) (reached n)
+  reached zero surface = record { other = surface; under = itself zero surface; as_deep = omega arith }
+  reached (suc n) surface = at (most-reached (λ child. suc (height n all child)) 0 (children_of surface all)) (reached n)
     where
-      at : Reached (λ child. suc (height n all child)) 0 (children_of surface all) (height (suc n) all surface)
-          → ((top : ℕ) → has_place top places ≡ true → IsReached n top) → IsReached (suc n) surface
-      at (inl e) next = record { other = surface; there = there; under = itself (suc n) surface; as_deep = omega (arith, e) }
+      at : Reached (λ child. suc (height n all child)) 0 (children_of surface all) (height (suc n) all surface) → ((top : ℕ) → IsReached n top) → IsReached (suc n) surface
+      at (inl e) next = record { other = surface; under = itself (suc n) surface; as_deep = omega (arith, e) }
       at (inr (child, listed, e)) next =
-          let is = child-deeper child surface (listed-child child surface listed) in
-          let far = next child is.child_there in
+          let up = child-deeper child surface (listed-child child surface listed) in
+          let far = next child in
           record {
             other = far.other;
-            there = far.there;
             under = below-child n surface far.other child listed far.under;
-            as_deep = let it = far.as_deep in let up = is.deeper in omega (arith, e, it, up);
+            as_deep = let it = far.as_deep in omega (arith, e, it, up);
           }
 
-  -- ---- so many links are enough
-
-  deeper-below : (n top surface : ℕ) → descends_from n all top surface ≡ true → deep top ≤ deep surface
-  unfolding descends_from
-  deeper-below zero top surface under = let same = ap deep (eqb-true surface top under) in omega (arith, same)
-  deeper-below (suc n) top surface under = at (surface == top) (link_of surface all) refl refl under (deeper-below n top)
-    where
-      at : (b : Bool) (o : Option Link) → (surface == top) ≡ b → link_of surface all ≡ o → (b || of_parent false (λ parent. descends_from n all top parent) o) ≡ true
-          → ((x : ℕ) → descends_from n all top x ≡ true → deep top ≤ deep x) → deep top ≤ deep surface
-      at true o e f under next = let same = ap deep (eqb-true surface top e) in omega (arith, same)
-      at false None e f under next = absurd (cc)
-      at false (Some l) e f under next =
-          let is = child-deeper surface l.parent (rw f refl) in
-          let up = is.deeper in
-          omega (arith, up, next l.parent under)
-
+  -- so many links are enough
   within-links : (n m top surface : ℕ) → descends_from n all top surface ≡ true → deep surface ≤ deep top + m → descends_from m all top surface ≡ true
-  unfolding descends_from
-  within-links zero m top surface under near = subst (λ (x : ℕ). descends_from m all top x ≡ true) (sym (eqb-true surface top under)) (itself m top)
-  within-links (suc n) m top surface under near = at (surface == top) (link_of surface all) refl refl under (within-links n)
-    where
-      next-level : (m : ℕ) (l : Link) → link_of surface all ≡ Some l → descends_from n all top l.parent ≡ true → deep surface ≤ deep top + m
-          → ((k t x : ℕ) → descends_from n all t x ≡ true → deep x ≤ deep t + k → descends_from k all t x ≡ true) → descends_from m all top surface ≡ true
-      next-level zero l f under near next =
-          absurd (let is = child-deeper surface l.parent (rw f refl) in let up = is.deeper in omega (arith, up, near, deeper-below n top l.parent under))
-      next-level (suc k) l f under near next =
-          let is = child-deeper surface l.parent (rw f refl) in
-          let up = is.deeper in
-          let parent = next k top l.parent under (omega (arith, up, near)) in
-          ap (λ o. surface == top || of_parent false (λ parent. descends_from k all top parent) o) f ∙ (ap (λ b. surface == top || b) parent ∙ or-true (surface == top))
-        where
-          or-true : (b : Bool) → (b || true) ≡ true
-          or-true true = refl
-          or-true false = refl
+  within-links n m top surface under close =
+      same-descent all m top surface ∙ near parents places stand within n m top surface (sym (same-descent all n top surface) ∙ under) close
 
-      at : (b : Bool) (o : Option Link) → (surface == top) ≡ b → link_of surface all ≡ o → (b || of_parent false (λ parent. descends_from n all top parent) o) ≡ true
-          → ((k t x : ℕ) → descends_from n all t x ≡ true → deep x ≤ deep t + k → descends_from k all t x ≡ true) → descends_from m all top surface ≡ true
-      at true o e f under next = subst (λ (x : ℕ). descends_from m all top x ≡ true) (sym (eqb-true surface top e)) (itself m top)
-      at false None e f under next = absurd (cc)
-      at false (Some l) e f under next = next-level m l f under near next
-
-  same-most : (surface kept : ℕ) → has_place surface places ≡ true → IsTreeHeight 16 parents places surface kept → height levels all surface ≡ kept
-  same-most surface kept there is =
-      let far = reached levels surface there in
-      let shallow = low far.other far.there in
-      let under = within-links levels 16 surface far.other far.under (omega (arith, shallow)) in
-      let told = is.most far.other far.there (sym (same-descent all 16 surface far.other) ∙ under) in
+  same-most : (surface kept : ℕ) → IsHeightBelow parents surface kept → height levels all surface ≡ kept
+  same-most surface kept is =
+      let far = reached levels surface in
+      let under = within-links levels 16 surface far.other far.under (omega (arith, low far.other)) in
+      let told = is.most far.other (sym (same-descent all 16 surface far.other) ∙ under) in
       let deepest = is.there in
-      let inside = same-descent all 16 surface deepest.0 ∙ deepest.2 in
-      let most_low = low deepest.0 deepest.1 in
-      let by_children = high levels surface deepest.0 (within-links 16 levels surface deepest.0 inside (omega (arith, most_low))) in
+      let inside = same-descent all 16 surface deepest.0 ∙ deepest.1 in
+      let by_children = high levels surface deepest.0 (within-links 16 levels surface deepest.0 inside (omega (arith, low deepest.0))) in
       let as_deep = far.as_deep in
-      omega (arith, as_deep, told, deepest.3, by_children)
+      omega (arith, as_deep, told, deepest.2, by_children)
+
+  -- ---- which children are refused
+
+  same-too-deep : (child parent : ℕ) (is : Bool) → IsTooDeep child parent (links_of all) is → is_too_deep all child parent ≡ is
+  same-too-deep child parent is (height_kept, below, told) =
+      ap (λ n. nat_lt 16 (n + 1 + height levels all child)) (same-depth all levels parent ∙ same-depths parents places stand within parent)
+      ∙ (ap (λ n. nat_lt 16 (depth_by 16 parents parent + 1 + n)) (same-most child height_kept below) ∙ sym told)
+
+  same-bad-parent : (child parent : ℕ) → is_bad_parent all child parent ≡ is_under 16 parents child parent
+  same-bad-parent child parent = same-descent all levels child parent ∙ same-below parents places stand within child parent
 
 pub same-height : HaveSameHeight
-same-height all places once stand within surface kept there is = same-most all places once stand within surface kept there is
+same-height all places once stand within surface kept is = same-most all places once stand within surface kept is
+
+pub same-refusals : HaveSameRefusals
+same-refusals all places once stand within links same child parent =
+    subst (λ (ls : Links). ((is : Bool) → IsTooDeep child parent ls is → is_too_deep all child parent ≡ is) × (is_bad_parent all child parent ≡ is_under 16 (parents_of ls) child parent)) (sym same)
+    (same-too-deep all places once stand within child parent, same-bad-parent all places once stand within child parent)

@@ -1,13 +1,14 @@
 -- Laws of trees of surfaces (wayland.xml, wl_subcompositor and wl_subsurface).
-use Rattle.std.specs.Prelude.{ℕ, suc, ◌≡◌, ◌≤◌, ◌==◌, ◌&&◌, Bool, true, false, cond, not, List, [], ◌∷◌, map}
+use Rattle.std.specs.Prelude.{ℕ, suc, ◌≡◌, ◌≤◌, ◌==◌, ◌&&◌, Bool, false, cond, not, List, [], ◌∷◌, map}
 use Rattle.std.specs.List.{list_any}
 use Rattle.std.specs.Option.{option_map}
 use Rattle.wl_trees.specs.declared.trees.Place.{Place}
-use Rattle.wl_trees.specs.Trees.{IsTreeHeight, StandFor, depth_by, has_place, is_under, level_at}
-use Rattle.wl_family.specs.Family.{Links, behaves_synchronised as behaves_by, parents_of}
+use Rattle.wl_trees.specs.Trees.{StandFor, depth_by, is_under, level_at}
+use Rattle.wl_family.specs.Family.{IsHeightBelow, IsTooDeep, Links, behaves_synchronised as behaves_by, parents_of}
 use Rattle.wl_state.specs.Surface.{applying}
 use Rattle.wl_surface.specs.Surfaces.{Link, Surfaces}
 use Rattle.wl_surface.specs.Trees.{applied_tree, behaves_synchronised, depth, descends_from, height, levels, link_of}
+use Rattle.wl_surface.specs.Trees.{is_bad_parent, is_too_deep}
 
 -- a link of this child that hasn't ended
 abbrev pub is_live_of : ℕ → Link → Bool
@@ -45,9 +46,17 @@ HaveSameDescent =
 abbrev pub HaveSameModes : Type 0
 HaveSameModes = (all : Surfaces) (n surface : ℕ) → behaves_synchronised n all surface ≡ behaves_by n (links_of all) surface
 
--- Of both as many levels stand below it, where no place is deeper than 16.
+-- Of both as many levels stand below it, where no place is deeper than 16; below a surface without a place none do.
 abbrev pub HaveSameHeight : Type 0
 HaveSameHeight =
     (all : Surfaces) (places : List Place) → AreOnceLinked all.links → StandFor places (parents_of (links_of all))
-    → ((index : ℕ) → level_at index places ≤ 16) → (surface height_kept : ℕ) → has_place surface places ≡ true
-    → IsTreeHeight 16 (parents_of (links_of all)) places surface height_kept → height levels all surface ≡ height_kept
+    → ((index : ℕ) → level_at index places ≤ 16) → (surface height_kept : ℕ)
+    → IsHeightBelow (parents_of (links_of all)) surface height_kept → height levels all surface ≡ height_kept
+
+-- By both the same children are refused (wl_subcompositor.get_subsurface), where no place is deeper than 16.
+abbrev pub HaveSameRefusals : Type 0
+HaveSameRefusals =
+    (all : Surfaces) (places : List Place) → AreOnceLinked all.links → StandFor places (parents_of (links_of all))
+    → ((index : ℕ) → level_at index places ≤ 16) → (links : Links) → links ≡ links_of all → (child parent : ℕ)
+    → ((is : Bool) → IsTooDeep child parent links is → is_too_deep all child parent ≡ is)
+    × (is_bad_parent all child parent ≡ is_under 16 (parents_of links) child parent)

@@ -4,7 +4,7 @@
 
 ghost use Rattle.wl_tree_laws.specs.Stacks.{StacksFollow};
 ghost use Rattle.wl_tree_laws.specs.Hanging.{AppliesStack, AppliesTree, AsksAlone, CommitsStack, CreatesSurface, EndsLink, JoinsChild, MovesChild, PlacesChild, RemovesSurface, SetsMode};
-ghost use Rattle.wl_tree_laws.specs.Laws.{AppliesDescendants, HaveSameDepth, HaveSameDescent, HaveSameHeight, HaveSameModes};
+ghost use Rattle.wl_tree_laws.specs.Laws.{AppliesDescendants, HaveSameDepth, HaveSameDescent, HaveSameHeight, HaveSameModes, HaveSameRefusals};
 
 /// To apply a surface is to apply it and each surface that descends from it, once, and no other, where each child has one link that lives.
 pub fn applies_descendants()
@@ -21,9 +21,14 @@ pub fn have_same_descent()
     ensures { HaveSameDescent }
 {}
 
-/// As many levels stand below a surface by the places that are kept as by definition.
+/// As many levels stand below a surface by the links that are kept as by definition.
 pub fn have_same_height()
     ensures { HaveSameHeight }
+{}
+
+/// A child is refused by the links that are kept exactly where it is by definition: as too deep, and as one that its parent descends from.
+pub fn have_same_refusals()
+    ensures { HaveSameRefusals }
 {}
 
 /// A surface behaves synchronised by the links that are kept exactly where it does by definition.
