@@ -1,21 +1,26 @@
 -- What is kept stands for what was asked, after each request of a link.
-use Rattle.std.proofs.Common.{◌≡◌, ℕ, ℤ, ◌==◌, ◌||◌, Bool, true, false, cond, Option, Some, None, List, [], ◌∷◌, map, refl, ap, sym, subst, ◌∙◌}
+use Rattle.std.proofs.Common.{◌≡◌, ℕ, ◌==◌, ◌||◌, Bool, true, false, cond, Option, Some, None, List, [], ◌∷◌, ◌++◌, map, refl, ap, sym, subst, ◌∙◌}
 use Rattle.std.specs.Prelude.{find, is_some}
 use Rattle.std.specs.Option.{option_map}
 use Rattle.std.proofs.lemmas.Bool.{eqb-true}
 use Rattle.wl_children.specs.declared.placed.Member.{Member}
 use Rattle.wl_children.specs.declared.placed.Placed.{Placed}
-use Rattle.wl_family.specs.Family.{Tied, at_parent, is_there, links_in, member_of, pending_as, stacks_in, untied}
+use Rattle.wl_children.specs.Stacks.{Stacks, added}
+use Rattle.wl_family.specs.Family.{Links, Tied, at_parent, changed_at as stacks_changed_at, is_there, joined, links_in, member_of, pending_as, stacks_in, untied}
 use Rattle.wl_state.specs.Kept.{Kept}
 use Rattle.wl_state.specs.Request.{Request, AddChild, Attach, Commit, Damage, Frame, PlaceAbove, PlaceBelow, SetBufferTransform, SetInputRegion, SetOpaqueRegion, SetPosition, SetWindowGeometry}
-use Rattle.wl_state.specs.Surface.{Surface, asking}
+use Rattle.wl_state.specs.declared.role.Role.TheVariants.{Subsurface}
+use Rattle.wl_state.specs.State.{History}
+use Rattle.wl_state.specs.Surface.{Surface, asking, with_role}
 use Rattle.wl_state.proofs.Records.{For-asked, still, undamaged}
-use Rattle.wl_surface.specs.Slots.{Numbered, Slots, StandForAll, StandsAt, changed_at, kept_at, nobody}
-use Rattle.wl_surface.specs.Surfaces.{Link, Surfaces, no_surfaces, surface_at, with_change}
+use Rattle.wl_surface.specs.Slots.{Changes, Numbered, Slots, StandForAll, StandsAt, changed_at, kept_at, nobody}
+use Rattle.wl_surface.specs.Surfaces.{Link, Surfaces, history_in, link_at, no_surfaces, surface_at, with_change}
 use Rattle.wl_trees.specs.declared.trees.Place.{Place}
 use Rattle.wl_trees.specs.Trees.{has_place}
 use Rattle.wl_tree_laws.specs.Hanging.{AreTied, Hang}
 use Rattle.wl_tree_laws.specs.Stacks.{is_about_children}
+use Rattle.wl_surface.specs.Trees.{linked}
+use Rattle.wl_tree_laws.proofs.Joining.{joins-child}
 use Rattle.wl_tree_laws.proofs.Placing.{kept-link}
 use Rattle.wl_linked.specs.Linked.{IsLink, Stand, numbered}
 
@@ -140,3 +145,62 @@ nothing-stands slots tied stand none = record {
   hang = subst (λ (t : Tied). Hang t no_surfaces) (sym none) (record { links = λ child. refl; stacks = λ surface. refl }, nothing-tied);
   there = λ n is. absurd (let e : is_there n untied ≡ true = sym (ap (is_there n) none) ∙ is in cc);
 }
+
+-- ---- a link more
+
+hangs-still : (old new : Tied) (all : Surfaces) → links_in new ≡ links_in old → stacks_in new ≡ stacks_in old → Hang old all → Hang new all
+hangs-still old new all links stacks hang = (
+  record { links = λ child. ap (λ (ls : Links). ls child) links ∙ hang.0.links child; stacks = λ surface. ap (λ (ss : ℕ → Stacks). ss surface) stacks ∙ hang.0.stacks surface },
+  hang.1,
+)
+
+-- one of the two that a link is between is there, and so are those that were
+come-there : (child parent n : ℕ) (old : Tied) (all : Surfaces) → is_some (surface_at child all) ≡ true → is_some (surface_at parent all) ≡ true
+    → (is_there n old ≡ true → is_some (surface_at n all) ≡ true) → (n == child || (n == parent || is_there n old)) ≡ true → is_some (surface_at n all) ≡ true
+come-there child parent n old all first second before is = at (n == child) (n == parent) refl refl is
+  where
+    at : (a b : Bool) → (n == child) ≡ a → (n == parent) ≡ b → (a || (b || is_there n old)) ≡ true → is_some (surface_at n all) ≡ true
+    at true b e f is = ap (λ k. is_some (surface_at k all)) (eqb-true n child e) ∙ first
+    at false true e f is = ap (λ k. is_some (surface_at k all)) (eqb-true n parent f) ∙ second
+    at false false e f is = before is
+
+-- where there is no memory for it
+pub unlinked-stands : (slots : Slots) (old new : Tied) (all : Surfaces) (child parent : ℕ) → links_in new ≡ links_in old → stacks_in new ≡ stacks_in old
+    → ((n : ℕ) → is_there n new ≡ true → (n == child || (n == parent || is_there n old)) ≡ true) → Stand slots old all → is_some (surface_at child all) ≡ true
+    → is_some (surface_at parent all) ≡ true → Stand slots new all
+unlinked-stands slots old new all child parent links stacks come stand first second = record {
+  surfaces = stand.surfaces;
+  hang = hangs-still old new all links stacks stand.hang;
+  there = λ n is. come-there child parent n old all first second (stand.there n) (come n is);
+}
+
+-- the child has its role, and what is asked of the parent is not seen in what is kept of it
+pub linked-stands : (slots given : Slots) (old new : Tied) (all : Surfaces) (number child parent : ℕ) → Changes slots given child (with_role Subsurface)
+    → links_in new ≡ joined child parent (links_in old) → stacks_in new ≡ stacks_changed_at parent (pending_as (added child)) (stacks_in old) → links_in old child ≡ None
+    → ((n : ℕ) → is_there n new ≡ true → (n == child || (n == parent || is_there n old)) ≡ true) → Stand slots old all → link_at number all ≡ None
+    → is_some (surface_at child all) ≡ true → is_some (surface_at parent all) ≡ true → Stand given new (linked number child parent all)
+linked-stands slots given old new all number child parent changes links stacks root come stand free first second = record {
+  surfaces = surfaces;
+  hang = hang (history_in parent all) refl;
+  there = λ n is. there-changed inner parent (asking (AddChild number)) (λ s. refl) n ∙ there-changed more child (with_role Subsurface) (λ s. refl) n
+      ∙ come-there child parent n old all first second (stand.there n) (come n is);
+} where
+  more : Surfaces
+  more = record all { links = all.links ++ record { number = number; child = child; parent = parent; synchronised = true; has_ended = false } ∷ [] }
+
+  inner : Surfaces
+  inner = with_change child (with_role Subsurface) more
+
+  surfaces : StandForAll given (numbered (linked number child parent all))
+  surfaces =
+      stand-changed given inner parent (asking (AddChild number)) (λ s. refl)
+      (unseen given (numbered inner) parent (AddChild number) refl
+      (stand-changed given more child (with_role Subsurface) (λ s. refl) (changes.stand (numbered all) stand.surfaces)))
+
+  hang : (o : Option History) → history_in parent all ≡ o → Hang new (linked number child parent all)
+  hang None e = absurd (gone (surface_at parent all) second e)
+    where
+      gone : (o : Option Surface) → is_some o ≡ true → option_map (λ (s : Surface). s.history) o ≡ None → ⊥
+      gone None f g = absurd (cc)
+      gone (Some s) f g = absurd (cc)
+  hang (Some h) e = joins-child old new all number child parent h free root e links stacks stand.hang

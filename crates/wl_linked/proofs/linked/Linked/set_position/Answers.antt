@@ -1,4 +1,5 @@
-use Rattle.std.proofs.Common.{◌≡◌, refl, subst, sym}
+use Rattle.std.proofs.Common.{◌≡◌, refl, subst, sym, w32}
+use Rattle.std.proofs.lemmas.Int.{to_z-of_z}
 use Rattle.wl_children.specs.Stacks.{moved}
 use Rattle.wl_family.specs.Family.{at_parent, links_in, pending_as, stacks_in}
 use Rattle.wl_state.specs.Request.{SetPosition}
