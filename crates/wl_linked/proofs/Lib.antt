@@ -1,2 +1,3 @@
-pub mod Standing
+pub mod Applying
 pub mod Refusing
+pub mod Standing

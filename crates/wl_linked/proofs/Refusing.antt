@@ -1,12 +1,12 @@
 -- Which links are refused.
 use Rattle.std.proofs.Common.{◌≡◌, ◌≢◌, ℕ, Bool, true, false, Option, Some, None, Result, Ok, Err, refl, ap, sym, subst, ◌∙◌}
-use Rattle.std.specs.Prelude.{◌||◌, IfErr, IsErr, OnErr, OnOk, if◌then◌else◌, is_some}
+use Rattle.std.specs.Prelude.{◌||◌, IfErr, IsErr, IsErrAnd, OnErr, OnOk, if◌then◌else◌, is_some}
 use Rattle.std.specs.Option.{option_map}
 use Rattle.std.proofs.Math.Path.{fun_ext}
 use Rattle.wl_trees.specs.Trees.{StandFor, is_under}
 use Rattle.wl_family.specs.Family.{HangTogether, IsTooDeep, Links, Tied, links_in, parents_of}
 use Rattle.wl_state.specs.declared.role.Role.{Role}
-use Rattle.wl_state.specs.declared.role.Role.TheVariants as role
+use Rattle.wl_state.specs.declared.role.Role.TheVariants as roles
 use Rattle.wl_surface.specs.declared.error.SurfaceError.{SurfaceError}
 use Rattle.wl_surface.specs.declared.error.SurfaceError.TheVariants as error
 use Rattle.wl_surface.specs.Slots.{Slots, role_at}
@@ -90,16 +90,16 @@ module _ (slots : Slots) (tied : Tied) (all : Surfaces) (child parent : ℕ) (ha
 -- ---- a surface that isn't taken is given its role
 
 abbrev IsOther : Option Role → Type 0
-IsOther role = (other : Role) × (role ≡ Some other) × (other ≢ role.Subsurface)
+IsOther role = (other : Role) × (role ≡ Some other) × (other ≢ roles.Subsurface)
 
 other-taken : (o : Option Role) → is_other_role o ≡ false → IsOther o → ⊥
-other-taken o free (other, e, differs) = at other (sym (ap is_other_role e) ∙ free) differs
+other-taken o free is = at is.0 (sym (ap is_other_role is.1) ∙ free) is.2
   where
-    at : (r : Role) → is_other_role (Some r) ≡ false → r ≢ role.Subsurface → ⊥
-    at role.Toplevel f d = absurd (cc)
-    at role.Popup f d = absurd (cc)
-    at role.Subsurface f d = d refl
-    at role.Cursor f d = absurd (cc)
+    at : (r : Role) → is_other_role (Some r) ≡ false → r ≢ roles.Subsurface → ⊥
+    at roles.Toplevel f d = absurd (cc)
+    at roles.Popup f d = absurd (cc)
+    at roles.Subsurface f d = d refl
+    at roles.Cursor f d = absurd (cc)
 
 or-false : (a b : Bool) → (a || b) ≡ false → a ≡ false
 or-false true b e = e
@@ -112,7 +112,7 @@ never-refused all child taken r e free refused is =
 
 pub given : {T : Type 0} (r : Result T SurfaceError) → (IsErr r → ⊥) → IfErr r (λ e. e ≡ error.Memory)
 given (Ok x) never = tt
-given (Err e) never = absurd (never tt)
+given (Err e) never = absurd (never refl)
 
 pub on-ok : {T P Q : Type 0} (r : Result T SurfaceError) → OnOk r P → (P → Q) → OnOk r Q
 on-ok (Ok x) p to = to p
@@ -120,4 +120,8 @@ on-ok (Err e) p to = tt
 
 pub on-err : {T Q : Type 0} (r : Result T SurfaceError) → (IsErr r → Q) → OnErr r Q
 on-err (Ok x) to = tt
-on-err (Err e) to = to tt
+on-err (Err e) to = to refl
+
+pub of-memory : {T : Type 0} (r : Result T SurfaceError) → IsErrAnd r (λ e. e ≡ error.Memory) → IfErr r (λ e. e ≡ error.Memory)
+of-memory (Ok x) h = tt
+of-memory (Err e) h = h

@@ -1,5 +1,5 @@
 -- What is applied of a tree of surfaces, and what is told of it (wayland.xml, wl_subsurface).
-use Rattle.std.specs.Prelude.{ℕ, ◌≡◌, ◌==◌, Bool, true, false, if◌then◌else◌, Option, Some, None, List, [], ◌∷◌, ◌++◌}
+use Rattle.std.specs.Prelude.{ℕ, ◌≡◌, ◌==◌, ◌||◌, not, Bool, true, false, if◌then◌else◌, Option, Some, None, List, [], ◌∷◌, ◌++◌}
 use Rattle.std.specs.List.{list_any}
 use Rattle.std.specs.Option.{option_map}
 use Rattle.wl_family.specs.Family.{applied}
@@ -8,7 +8,7 @@ use Rattle.wl_surface.specs.declared.applied.Change.{Change}
 use Rattle.wl_surface.specs.Applied.{AreApplied}
 use Rattle.wl_surface.specs.Slots.{Numbered, shows_at}
 use Rattle.wl_surface.specs.Surfaces.{Surfaces, with_change}
-use Rattle.wl_surface.specs.Trees.{behaves_synchronised, descends_from, levels}
+use Rattle.wl_surface.specs.Trees.{behaves_synchronised, descends_from, in_mode, levels, with_link}
 use Rattle.wl_state.specs.Request.{Buffer, Commit}
 use Rattle.wl_state.specs.Surface.{applying, asking}
 use Rattle.wl_linked.specs.Linked.{numbered}
@@ -65,3 +65,12 @@ IsToldUnless false surface all changes = IsTold surface all changes
 abbrev pub IsCommitTold : {A : Type 0} → ℕ → Surfaces → List (Change A) → Type 0
 IsCommitTold surface all changes =
     IsToldUnless (behaves_synchronised levels all surface) surface (with_change surface (asking Commit) all) changes
+
+-- wl_subsurface.set_desync: something is told where the child behaved synchronised, and doesn't any more.
+abbrev pub IsDesyncTold : {A : Type 0} → ℕ → ℕ → Surfaces → List (Change A) → Type 0
+IsDesyncTold number child all changes =
+    IsToldUnless (not (behaves_synchronised levels all child) || behaves_synchronised levels (unheld number all) child) child
+    (unheld number all) changes
+  where
+    unheld : ℕ → Surfaces → Surfaces
+    unheld number all = with_link number (in_mode false) all

@@ -2,6 +2,7 @@
 //! a link applies over whole trees (wayland.xml).
 #![tactic(auto)]
 
+mod commits;
 mod linked;
 mod tree;
 

@@ -23,7 +23,7 @@ use wl_surface::{Applied, BufferNo, Change, Role, SurfaceError, SurfaceNo, Surfa
 pub struct Linked<A: Allocator> {
     pub surfaces: Surfaces<A>,
     pub family: Family<A>,
-    alloc: A,
+    pub(crate) alloc: A,
 }
 
 /// Why a child isn't placed, among the errors of surfaces.

@@ -1,5 +1,5 @@
 use Rattle.std.proofs.Common.{refl}
-use Rattle.wl_linked.proofs.Refusing.{deep-so, given, memory-so, never-refused, on-err, on-ok, parent-so, role-so}
+use Rattle.wl_linked.proofs.Refusing.{deep-so, given, memory-so, never-refused, of-memory, on-err, on-ok, parent-so, role-so}
 use Rattle.wl_linked.proofs.Standing.{linked-stands, unlinked-stands}
 use Rattle.wl_linked.proofs.linked.Linked.subsurface.Goals as goal
 
@@ -24,7 +24,8 @@ pub returns-in_err-join-clause-refused : goal.returns-in_err-join-clause-refused
 returns-in_err-join-clause-refused g c = λ all stand.
     let v = c.args.self.now in
     memory-so v.surfaces v.family all c.args.child c.args.parent c.is_too_deep.ensures.stand stand c.is_too_deep.result c.is_too_deep.ensures.deep c.if-is_too_deep.false
-    c.is_taken.result (c.is_taken.ensures.taken all stand) c.if-is_taken.false c.is_under.result c.is_under.ensures c.from_residual.result c.if-is_under.false c.from_residual.ensures
+    c.is_taken.result (c.is_taken.ensures.taken all stand) c.if-is_taken.false c.is_under.result c.is_under.ensures c.from_residual.result c.if-is_under.false
+    (of-memory c.from_residual.result c.from_residual.ensures.1)
 
 pub returns-in_err-join-clause-err : goal.returns-in_err-join-clause-err
 returns-in_err-join-clause-err g c = on-err c.from_residual.result (λ _ all stand first second.

@@ -1,0 +1,208 @@
+//! Commits, the modes of links and their ends, and the trees that these apply.
+
+ghost use Rattle.std.specs.Prelude.{ℕ, [], ◌≡◌, ◌==◌, ◌&&◌, not, cond, Bool, List, None, count_by, false, IfErr, IfOk, OnErr, OnOk};
+ghost use Rattle.wl_family.specs.Family.{links_in, parents_of, stacks_in};
+ghost use Rattle.wl_linked.specs.Linked.{IsLink, Stand, numbered};
+ghost use Rattle.wl_linked.specs.Room.{HasRoom};
+ghost use Rattle.wl_linked.specs.Tree.{AreOnce, AreTold, IsCommitTold, IsDesyncTold, IsTold, applied_among, is_among, shown_among, stacks_among};
+ghost use Rattle.wl_state.specs.Request.{Commit};
+ghost use Rattle.wl_state.specs.Surface.{asking};
+ghost use Rattle.wl_surface.specs.Applied.{AreFreed};
+ghost use Rattle.wl_surface.specs.Slots.{IsAny, Numbered, StandForAll, shows_at};
+ghost use Rattle.wl_surface.specs.Surfaces.{Link, Surfaces as Asked, with_change};
+ghost use Rattle.wl_surface.specs.Trees.{applied_tree, committed_in, desynchronised_in, ended_in, ending, levels, with_link};
+ghost use Rattle.wl_surface.specs.Waiting.{AreWaiting, Callback};
+ghost use Rattle.wl_trees.specs.Trees.{is_under};
+
+use crate::linked::Linked;
+use crate::tree::{add_freed, apply_each, below, shown_of};
+use std::alloc::{AllocError, Allocator};
+use wl_surface::{Applied, BufferNo, Change, SurfaceError, SurfaceNo};
+
+/// What is found before a tree is applied, while nothing has changed yet: its surfaces, the buffers that these show, and room for what
+/// is told.
+#[derive(Drop)]
+pub(crate) struct Room<A: Allocator> {
+    pub(crate) below: Vec<SurfaceNo, A>,
+    pub(crate) shown: Vec<BufferNo, A>,
+    pub(crate) changes: Vec<Change<A>, A>,
+    pub(crate) freed: Vec<BufferNo, A>,
+}
+
+impl<A: Allocator + Copy> Linked<A> {
+    /// wl_surface.commit: what is pending is held and, unless the surface behaves synchronised, applied with what descends from it. What that
+    /// changes is told. Without memory nothing changes.
+    pub fn commit(&mut self, surface: SurfaceNo) -> Result<Applied<A>, SurfaceError>
+        ensures ok { OnOk result ((all : Asked) → Stand self.old.surfaces self.old.family all → Stand self.new.surfaces self.new.family (committed_in surface all)) }
+        ensures waits { OnOk result ((all : Asked) (cs : List Callback) → Stand self.old.surfaces self.old.family all → AreWaiting self.old.surfaces.frames (numbered all) cs
+            → AreWaiting self.new.surfaces.frames (numbered (committed_in surface all)) cs) }
+        ensures changes { IfOk result (λ applied. (all : Asked) → Stand self.old.surfaces self.old.family all → IsCommitTold surface all applied.changes.items) }
+        ensures freed { IfOk result (λ applied. (all : Asked) → Stand self.old.surfaces self.old.family all
+            → AreFreed applied.freed.items (numbered all) (numbered (committed_in surface all))) }
+        ensures callbacks { IfOk result (λ applied. applied.callbacks.items ≡ []) }
+        ensures err { OnErr result (self.new ≡ self.old) }
+        ensures cause { IfErr result (λ e. e ≡ SurfaceError.Memory) }
+    {
+        if self.family.behaves_synchronised(surface) {
+            return self.hold(surface);
+        }
+        self.commit_now(surface)
+    }
+
+    /// A commit of a surface that behaves synchronised.
+    fn hold(&mut self, surface: SurfaceNo) -> Result<Applied<A>, SurfaceError>
+        ensures ok { OnOk result ((all : Asked) → Stand self.old.surfaces self.old.family all → Stand self.new.surfaces self.new.family (with_change surface (asking Commit) all)) }
+        ensures waits { OnOk result ((all : Asked) (cs : List Callback) → Stand self.old.surfaces self.old.family all → AreWaiting self.old.surfaces.frames (numbered all) cs
+            → AreWaiting self.new.surfaces.frames (numbered (with_change surface (asking Commit) all)) cs) }
+        ensures changes { IfOk result (λ applied. applied.changes.items ≡ []) }
+        ensures freed { IfOk result (λ applied. (all : Asked) → Stand self.old.surfaces self.old.family all
+            → AreFreed applied.freed.items (numbered all) (numbered (with_change surface (asking Commit) all))) }
+        ensures callbacks { IfOk result (λ applied. applied.callbacks.items ≡ []) }
+        ensures err { OnErr result (self.new ≡ self.old) }
+        ensures cause { IfErr result (λ e. e ≡ SurfaceError.Memory) }
+    {
+        let alloc = self.alloc;
+        let shown = shown_of(&self.surfaces, &[surface], alloc)?;
+        let mut freed = Vec::with_capacity(alloc, shown.len())?;
+        self.surfaces.hold(surface)?;
+        self.family.commit(surface);
+        add_freed(&self.surfaces, &shown, &mut freed);
+        Ok(Applied {
+            changes: Vec::new(alloc),
+            freed,
+            callbacks: Vec::new(alloc),
+        })
+    }
+
+    /// A commit of a surface that doesn't.
+    fn commit_now(&mut self, surface: SurfaceNo) -> Result<Applied<A>, SurfaceError>
+        ensures ok { OnOk result ((all : Asked) → Stand self.old.surfaces self.old.family all
+            → Stand self.new.surfaces self.new.family (applied_tree levels surface (with_change surface (asking Commit) all))) }
+        ensures waits { OnOk result ((all : Asked) (cs : List Callback) → Stand self.old.surfaces self.old.family all → AreWaiting self.old.surfaces.frames (numbered all) cs
+            → AreWaiting self.new.surfaces.frames (numbered (applied_tree levels surface (with_change surface (asking Commit) all))) cs) }
+        ensures changes { IfOk result (λ applied. (all : Asked) → Stand self.old.surfaces self.old.family all
+            → IsTold surface (with_change surface (asking Commit) all) applied.changes.items) }
+        ensures freed { IfOk result (λ applied. (all : Asked) → Stand self.old.surfaces self.old.family all
+            → AreFreed applied.freed.items (numbered all) (numbered (applied_tree levels surface (with_change surface (asking Commit) all)))) }
+        ensures callbacks { IfOk result (λ applied. applied.callbacks.items ≡ []) }
+        ensures err { OnErr result (self.new ≡ self.old) }
+        ensures cause { IfErr result (λ e. e ≡ SurfaceError.Memory) }
+    {
+        let room = self.room(surface)?;
+        self.surfaces.hold(surface)?;
+        self.family.commit(surface);
+        Ok(self.apply_tree(room))
+    }
+
+    /// wl_subsurface.set_desync: the child's commits are applied at once, unless a surface above it is synchronised. What was held is applied
+    /// where it behaved synchronised and doesn't any more. Nothing changes where it has no link, nor without memory.
+    pub fn set_desync(&mut self, child: SurfaceNo) -> Result<Applied<A>, SurfaceError>
+        ensures ok { OnOk result ((all : Asked) (number : ℕ) (link : Link) → IsLink all number child link → Stand self.old.surfaces self.old.family all
+            → Stand self.new.surfaces self.new.family (desynchronised_in number all)) }
+        ensures waits { OnOk result ((all : Asked) (number : ℕ) (link : Link) (cs : List Callback) → IsLink all number child link → Stand self.old.surfaces self.old.family all
+            → AreWaiting self.old.surfaces.frames (numbered all) cs → AreWaiting self.new.surfaces.frames (numbered (desynchronised_in number all)) cs) }
+        ensures changes { IfOk result (λ applied. (all : Asked) (number : ℕ) (link : Link) → IsLink all number child link → Stand self.old.surfaces self.old.family all
+            → IsDesyncTold number child all applied.changes.items) }
+        ensures freed { IfOk result (λ applied. (all : Asked) (number : ℕ) (link : Link) → IsLink all number child link → Stand self.old.surfaces self.old.family all
+            → AreFreed applied.freed.items (numbered all) (numbered (desynchronised_in number all))) }
+        ensures callbacks { IfOk result (λ applied. applied.callbacks.items ≡ []) }
+        ensures none { links_in self.old.family child ≡ None → IfOk result (λ applied. applied.changes.items ≡ []) }
+        ensures err { OnErr result (self.new ≡ self.old) }
+        ensures cause { IfErr result (λ e. e ≡ SurfaceError.Memory) }
+    {
+        let was_synchronised = self.family.behaves_synchronised(child);
+        let room = self.room(child)?;
+        self.family.set_synchronised(child, false);
+        if !was_synchronised || self.family.behaves_synchronised(child) {
+            return Ok(self.nothing());
+        }
+        Ok(self.apply_tree(room))
+    }
+
+    /// wl_subsurface.destroy: the link of the child ends, which is applied with what descends from it. Nothing changes where it has no link,
+    /// nor without memory.
+    pub fn remove_subsurface(&mut self, child: SurfaceNo) -> Result<Applied<A>, SurfaceError>
+        ensures ok { OnOk result ((all : Asked) (number : ℕ) (link : Link) → IsLink all number child link → Stand self.old.surfaces self.old.family all
+            → Stand self.new.surfaces self.new.family (ended_in all link)) }
+        ensures waits { OnOk result ((all : Asked) (number : ℕ) (link : Link) (cs : List Callback) → IsLink all number child link → Stand self.old.surfaces self.old.family all
+            → AreWaiting self.old.surfaces.frames (numbered all) cs → AreWaiting self.new.surfaces.frames (numbered (ended_in all link)) cs) }
+        ensures changes { IfOk result (λ applied. (all : Asked) (number : ℕ) (link : Link) → IsLink all number child link → Stand self.old.surfaces self.old.family all
+            → IsTold child (with_link number ending all) applied.changes.items) }
+        ensures freed { IfOk result (λ applied. (all : Asked) (number : ℕ) (link : Link) → IsLink all number child link → Stand self.old.surfaces self.old.family all
+            → AreFreed applied.freed.items (numbered all) (numbered (ended_in all link))) }
+        ensures callbacks { IfOk result (λ applied. applied.callbacks.items ≡ []) }
+        ensures none { links_in self.old.family child ≡ None → OnOk result (self.new ≡ self.old) }
+        ensures err { OnErr result (self.new ≡ self.old) }
+        ensures cause { IfErr result (λ e. e ≡ SurfaceError.Memory) }
+    {
+        if self.family.link(child).is_none() {
+            return Ok(self.nothing());
+        }
+        let room = self.room(child)?;
+        self.family.leave(child);
+        Ok(self.apply_tree(room))
+    }
+
+    /// Nothing is told.
+    fn nothing(&self) -> Applied<A>
+        ensures changes { result.changes.items ≡ [] }
+        ensures freed { result.freed.items ≡ [] }
+        ensures callbacks { result.callbacks.items ≡ [] }
+    {
+        Applied {
+            changes: Vec::new(self.alloc),
+            freed: Vec::new(self.alloc),
+            callbacks: Vec::new(self.alloc),
+        }
+    }
+
+    /// Room for what it changes that the surface is applied with what descends from it.
+    fn room(&self, surface: SurfaceNo) -> Result<Room<A>, AllocError>
+        ensures those { IfOk result (λ room. (number : ℕ) → is_among room.below.items number ≡ is_under 16 (parents_of (links_in self.now.family)) surface number) }
+        ensures once { IfOk result (λ room. AreOnce room.below.items) }
+        ensures shown { IfOk result (λ room. (all : Numbered) → StandForAll self.now.surfaces all
+            → (buffer : ℕ) → is_among room.shown.items buffer ≡ shown_among room.below.items all buffer) }
+        ensures room { IfOk result HasRoom }
+    {
+        let below = below(&self.family, surface, self.alloc)?;
+        let shown = shown_of(&self.surfaces, &below, self.alloc)?;
+        let changes = Vec::with_capacity(self.alloc, below.len())?;
+        let freed = Vec::with_capacity(self.alloc, shown.len())?;
+        Ok(Room {
+            below,
+            shown,
+            changes,
+            freed,
+        })
+    }
+
+    /// Applies these surfaces, and tells what that changes.
+    fn apply_tree(&mut self, room: Room<A>) -> Applied<A>
+        requires room { HasRoom room }
+        ensures stand { (all : Numbered) → StandForAll self.old.surfaces all → StandForAll self.new.surfaces (applied_among room.below.items all) }
+        ensures waits { (all : Numbered) (cs : List Callback) → AreWaiting self.old.surfaces.frames all cs
+            → AreWaiting self.new.surfaces.frames (applied_among room.below.items all) cs }
+        ensures told { (all : Numbered) → StandForAll self.old.surfaces all → AreOnce room.below.items → AreTold room.below.items all result.changes.items }
+        ensures freed { (all : Numbered) → StandForAll self.new.surfaces all → (buffer : ℕ) (is : Bool) → IsAny (shows_at buffer) all is
+            → count_by (λ n. n == buffer) result.freed.items ≡ cond (is_among room.shown.items buffer && not is) 1 0 }
+        ensures callbacks { result.callbacks.items ≡ [] }
+        ensures links { links_in self.new.family ≡ links_in self.old.family }
+        ensures places { self.new.family.places ≡ self.old.family.places }
+        ensures stacks { stacks_in self.new.family ≡ stacks_among room.below.items (stacks_in self.old.family) }
+    {
+        let mut changes = room.changes;
+        let mut freed = room.freed;
+        apply_each(
+            &mut self.surfaces,
+            &mut self.family,
+            &room.below,
+            &mut changes,
+        );
+        add_freed(&self.surfaces, &room.shown, &mut freed);
+        Applied {
+            changes,
+            freed,
+            callbacks: Vec::new(self.alloc),
+        }
+    }
+}
