@@ -1,1 +1,2 @@
 pub mod TreeBelow
+pub mod TreeShown
