@@ -1,2 +1,3 @@
 pub mod TreeBelow
 pub mod TreeShown
+pub mod TreeFreed
