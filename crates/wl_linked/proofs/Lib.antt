@@ -1,3 +1,4 @@
 pub mod TreeBelow
 pub mod TreeShown
 pub mod TreeFreed
+pub mod TreeApplied
