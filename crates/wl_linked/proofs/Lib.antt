@@ -1,3 +1,7 @@
 pub mod Applying
 pub mod Refusing
 pub mod Standing
+pub mod TreeApplied
+pub mod TreeBelow
+pub mod TreeFreed
+pub mod TreeShown

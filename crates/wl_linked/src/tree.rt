@@ -65,6 +65,13 @@ pub(crate) fn shown_of<A: Allocator + Copy>(
     Ok(shown)
 }
 
+/// Whether the number is among these.
+fn has_number(numbers: &[BufferNo], number: BufferNo) -> bool
+    ensures { result ≡ is_among numbers.now number }
+{
+    numbers.iter().any(|other| *other == number)
+}
+
 /// Adds those of these buffers that aren't busy, each once. There is room for them.
 pub(crate) fn add_freed<A: Allocator>(
     surfaces: &Surfaces<A>,
@@ -77,7 +84,7 @@ pub(crate) fn add_freed<A: Allocator>(
         → count_by (λ n. n == buffer) freed.new.items ≡ cond (is_among shown.now buffer && not is) 1 0 }
 {
     for buffer in shown {
-        if !surfaces.is_busy(*buffer) && !freed.contains(buffer) {
+        if !surfaces.is_busy(*buffer) && !has_number(freed, *buffer) {
             freed.push_reserved(*buffer);
         }
     }
