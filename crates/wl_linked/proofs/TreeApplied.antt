@@ -1,5 +1,6 @@
 -- Surfaces are applied in turn: what that makes of all, and what is told of it.
-use Rattle.std.proofs.Common.{◌≡◌, ℕ, zero, suc, ◌+◌, ◌<◌, ◌==◌, ◌||◌, cond, if◌then◌else◌, Bool, true, false, Option, Some, None, List, [], ◌∷◌, ◌++◌, take, length, refl, ap, sym, subst, ◌∙◌, arith, eq-eqb, append_assoc, append-nil}
+use Rattle.std.proofs.Common.{◌≡◌, ℕ, zero, suc, ◌+◌, ◌<◌, ◌==◌, ◌||◌, cond, if◌then◌else◌, Bool, true, false, Option, Some, None}
+use Rattle.std.proofs.Common.{List, [], ◌∷◌, ◌++◌, take, length, refl, ap, sym, subst, ◌∙◌, arith, eq-eqb, append_assoc, append-nil}
 use Rattle.std.specs.Prelude.{slice_index_or}
 use Rattle.std.specs.Option.{option_map}
 use Rattle.std.proofs.Math.Path.{fun_ext}
@@ -16,6 +17,7 @@ use Rattle.wl_surface.specs.Waiting.{AreWaiting, Callback}
 use Rattle.wl_surface.specs.declared.frames.Waiting.{Waiting}
 use Rattle.wl_linked.specs.Tree.{AreOnce, AreTold, applied_among, is_among, listed, stacks_among}
 
+-- two numbers are the same in either order
 turned : (n m : ℕ) → (n == m) ≡ (m == n)
 turned n m = at (n == m) refl
   where
@@ -35,6 +37,7 @@ twice : (o : Option Surface) → option_map applying (option_map applying o) ≡
 twice None = refl
 twice (Some s) = refl
 
+-- the numbers of one place more
 among-more : (numbers : List ℕ) (i d other : ℕ) → i < length numbers → is_among (take (i + 1) numbers) other ≡ (is_among (take i numbers) other || (other == slice_index_or numbers i d))
 among-more numbers i d other less =
     list_any_more (λ n. n == other) numbers i d less ∙ ap (λ b. is_among (take i numbers) other || b) (turned (slice_index_or numbers i d) other)
@@ -73,6 +76,7 @@ stacks-more numbers i d less stacks =
     at other true e = ap (λ n. applied (stacks_among (take i numbers) stacks n)) (sym (eqb-true other (slice_index_or numbers i d) e)) ∙ both other (is_among (take i numbers) other) true
     at other false e = both other (is_among (take i numbers) other) false
 
+-- what is kept stands for that, the callbacks that wait do, and so are the stacks
 pub stand-next : (numbers : List ℕ) (i d : ℕ) → i < length numbers → (all : Numbered) (new : Slots)
     → StandForAll new (changed_at (slice_index_or numbers i d) applying (applied_among (take i numbers) all)) → StandForAll new (applied_among (take (i + 1) numbers) all)
 stand-next numbers i d less all new stand = subst (λ (now : Numbered). StandForAll new now) (applied-more numbers i d less all) stand
@@ -93,6 +97,7 @@ or-none : (a b : Bool) → (a || b) ≡ false → (a ≡ false) × (b ≡ false)
 or-none false b e = (refl, e)
 or-none true b e = absurd (cc)
 
+-- a number is none of those that it isn't among
 none-is : (m : ℕ) (ns : List ℕ) (i d : ℕ) → i < length ns → is_among ns m ≡ false → (m == slice_index_or ns i d) ≡ false
 none-is m [] i d less none = absurd (omega arith)
 none-is m (n ∷ ns) zero d less none = turned m n ∙ (or-none (n == m) (is_among ns m) none).0
@@ -117,13 +122,14 @@ told-more (m ∷ ms) n all changes one told applied = (
   ap (λ cs. cs ++ listed one) told.4 ∙ append_assoc (listed told.0) told.1 (listed one),
 )
 
+-- so it is from the changes before to those after
 pub told-next : {A : Type 0} (numbers : List ℕ) (i d : ℕ) (all : Numbered) (was new : List (Change A)) (one : Option (Change A)) → i < length numbers → AreOnce numbers
     → AreTold (take i numbers) all was → AreApplied (slice_index_or numbers i d) (applied_among (take i numbers) all (slice_index_or numbers i d)) one → new ≡ was ++ listed one
     → AreTold (take (i + 1) numbers) all new
 told-next {A} numbers i d all was new one less once told applied is =
     let n = slice_index_or numbers i d in
     let here : applied_among (take i numbers) all n ≡ all n =
-        ap (λ (b : Bool). if b then option_map applying (all n) else all n) (once-before numbers i d less once) in
+    ap (λ (b : Bool). if b then option_map applying (all n) else all n) (once-before numbers i d less once) in
     let this : AreApplied n (all n) one = subst (λ (at : Option Surface). AreApplied n at one) here applied in
     subst (λ (cs : List (Change A)). AreTold (take (i + 1) numbers) all cs) (sym is)
     (subst (λ (ns : List ℕ). AreTold ns all (was ++ listed one)) (sym (take_more numbers i d less)) (told-more (take i numbers) n all was one told this))

@@ -31,11 +31,13 @@ none-taken (suc n) surface (p ∷ ps) none = at (p.surface == surface) none (non
     at true e rest = e
     at false e rest = rest e
 
+-- nor has it one past the first
 none-dropped : (n surface : ℕ) (places : List Place) → has_place surface places ≡ false → has_place surface (drop n places) ≡ false
 none-dropped zero surface places none = none
 none-dropped (suc n) surface [] none = refl
 none-dropped (suc n) surface (p ∷ ps) none = none-dropped n surface ps (or-rest (p.surface == surface) (has_place surface ps) none)
 
+-- nor in a run
 none-run : (start count surface : ℕ) (places : List Place) → has_place surface places ≡ false → has_place surface (run_at start count places) ≡ false
 none-run start count surface places none = none-taken count surface (drop start places) (none-dropped start surface places none)
 
@@ -50,6 +52,7 @@ once-taken zero places once = tt
 once-taken (suc n) [] once = tt
 once-taken (suc n) (p ∷ ps) once = (none-taken n p.surface ps once.0, once-taken n ps once.1)
 
+-- and so are their numbers
 once-numbered : (places : List Place) → HaveOnce places → AreOnce (numbered_in places)
 once-numbered [] once = tt
 once-numbered (p ∷ ps) once = (among-has p.surface ps ∙ once.0, once-numbered ps once.1)

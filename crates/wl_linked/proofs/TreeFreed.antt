@@ -25,6 +25,7 @@ only-answer q all false true s t = absurd (differ (sym (s t.0) ∙ t.1)) where
   differ : false ≡ true → ⊥
   differ e = absurd (cc)
 
+-- one more behind the others is counted, and one before them
 counted-more : (xs : List ℕ) (n b : ℕ) → count_of b (xs ++ n ∷ []) ≡ count_of b xs + one_if (n == b)
 counted-more xs n b =
     let e : count_of b (xs ++ n ∷ []) ≡ count_of b xs + (0 + one_if (n == b)) = sum_by-append (λ m. one_if (m == b)) xs (n ∷ []) in
@@ -49,6 +50,7 @@ among-counted (x ∷ xs) b is e = at (x == b) (sym (counted-first x xs b) ∙ e)
         positive true g = refl
         positive false g = absurd (omega (arith, g))
 
+-- how tests go with what is known
 or-false : (b : Bool) → (b || false) ≡ b
 or-false true = refl
 or-false false = refl
@@ -87,19 +89,23 @@ module _ (all : Numbered) (shown freed : List ℕ) (i d : ℕ) (less : i < lengt
   abbrev here : ℕ
   here = slice_index_or shown i d
 
+  -- what is counted of one shown buffer more
   more : (buffer : ℕ) (is : Bool) → one_if (is_among (take (i + 1) shown) buffer && not is) ≡ one_if ((is_among (take i shown) buffer || (here == buffer)) && not is)
   more buffer is = ap (λ b. one_if (b && not is)) (list_any_more (λ n. n == buffer) shown i d less)
 
+  -- where that is the buffer asked for, both answers are the same
   same-answer : (buffer : ℕ) (is : Bool) → IsAny (shows_at buffer) all is → (here == buffer) ≡ true → busy ≡ is
   same-answer buffer is any e =
       only-answer (shows_at buffer) all busy is (subst (λ n. IsAny (shows_at n) all busy) (eqb-true here buffer e) answer) any
 
+  -- it is busy
   pub next-busy : busy ≡ true → (buffer : ℕ) (is : Bool) → IsAny (shows_at buffer) all is
       → count_by (λ n. n == buffer) freed ≡ cond (is_among (take (i + 1) shown) buffer && not is) 1 0
   next-busy e buffer is any =
       so_far buffer is any
       ∙ (ap one_if (passed-busy (is_among (take i shown) buffer) busy is (here == buffer) (same-answer buffer is any) e) ∙ sym (more buffer is))
 
+  -- it isn't, but is freed before
   pub next-freed : (lent : List ℕ) → lent ≡ freed → (among : Bool) → among ≡ is_among lent here → among ≡ true → (buffer : ℕ) (is : Bool) → IsAny (shows_at buffer) all is
       → count_by (λ n. n == buffer) freed ≡ cond (is_among (take (i + 1) shown) buffer && not is) 1 0
   next-freed lent same among told e buffer is any =
@@ -110,7 +116,9 @@ module _ (all : Numbered) (shown freed : List ℕ) (i d : ℕ) (less : i < lengt
           sym (among-counted freed buffer (is_among (take i shown) buffer && not is) (so_far buffer is any))
           ∙ (ap (λ n. is_among freed n) (sym (eqb-true here buffer f)) ∙ (ap (λ (ns : List ℕ). is_among ns here) (sym same) ∙ (sym told ∙ e)))
 
-  pub next-added : busy ≡ false → (lent : List ℕ) → lent ≡ freed → (among : Bool) → among ≡ is_among lent here → among ≡ false → (new : List ℕ) → new ≡ freed ++ here ∷ [] → (buffer : ℕ) (is : Bool) → IsAny (shows_at buffer) all is
+  -- it is freed now
+  pub next-added : busy ≡ false → (lent : List ℕ) → lent ≡ freed → (among : Bool) → among ≡ is_among lent here → among ≡ false → (new : List ℕ) → new ≡ freed ++ here ∷ []
+      → (buffer : ℕ) (is : Bool) → IsAny (shows_at buffer) all is
       → count_by (λ n. n == buffer) new ≡ cond (is_among (take (i + 1) shown) buffer && not is) 1 0
   next-added e lent same among told f new added buffer is any =
       ap (λ (ns : List ℕ). count_of buffer ns) added
@@ -122,5 +130,5 @@ module _ (all : Numbered) (shown freed : List ℕ) (i d : ℕ) (less : i < lengt
       now h = (
         sym (same-answer buffer is any h) ∙ e,
         sym (among-counted freed buffer (is_among (take i shown) buffer && not is) (so_far buffer is any))
-        ∙ (ap (λ n. is_among freed n) (sym (eqb-true here buffer h)) ∙ (ap (λ (ns : List ℕ). is_among ns here) (sym same) ∙ (sym told ∙ f))),
+            ∙ (ap (λ n. is_among freed n) (sym (eqb-true here buffer h)) ∙ (ap (λ (ns : List ℕ). is_among ns here) (sym same) ∙ (sym told ∙ f))),
       )

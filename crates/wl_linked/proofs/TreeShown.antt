@@ -11,6 +11,7 @@ use Rattle.wl_state.specs.Surface.{Surface, names}
 use Rattle.wl_surface.specs.Slots.{Numbered, had_at, shows_at}
 use Rattle.wl_linked.specs.Tree.{is_among, numbers_of, shown_among}
 
+-- nothing else is tested
 or-false : (b : Bool) → (b || false) ≡ b
 or-false true = refl
 or-false false = refl

@@ -1,6 +1,6 @@
 //! What is applied of a tree of surfaces, surface by surface.
 
-ghost use Rattle.std.specs.Prelude.{ℕ, [], ◌≡◌, ◌≤◌, ◌+◌, ◌++◌, ◌==◌, ◌&&◌, not, cond, Bool, List, length, count_by, vec_len, vec_capacity, IfOk, OnOk, option_map};
+ghost use Rattle.std.specs.Prelude.{ℕ, [], ◌≡◌, ◌≤◌, ◌+◌, ◌++◌, ◌==◌, ◌&&◌, not, cond, Bool, List, length, count_by, vec_capacity, IfOk, OnOk, option_map};
 ghost use Rattle.wl_family.specs.Family.{links_in, parents_of, stacks_in};
 ghost use Rattle.wl_linked.specs.Tree.{AreOnce, AreTold, applied_among, is_among, numbers_of, shown_among, stacks_among};
 ghost use Rattle.wl_state.specs.Kept.{buffer_of};

@@ -1,9 +1,10 @@
-use Rattle.std.proofs.Common.{◌≡◌, ℕ, List, Bool, ◌&&◌, not, cond, ap, ◌∙◌, arith}
+use Rattle.std.proofs.Common.{ℕ, List, ◌&&◌, not, cond, ap, ◌∙◌, arith}
 use Rattle.std.proofs.lemmas.List.{take_all}
 use Rattle.wl_linked.specs.Tree.{is_among}
 use Rattle.wl_linked.proofs.TreeFreed.{next-added, next-busy, next-freed}
 use Rattle.wl_linked.proofs.tree.add_freed.Goals as goal
-use Rattle.wl_linked.proofs.tree.add_freed.Goals.{then-not-is_busy+then-not-has_number, else-not-is_busy, else-not-is_busy-via-then-not-is_busy+else-not-has_number, else-not-is_busy-via-else-not-is_busy}
+use Rattle.wl_linked.proofs.tree.add_freed.Goals.{then-not-is_busy+then-not-has_number, else-not-is_busy}
+use Rattle.wl_linked.proofs.tree.add_freed.Goals.{else-not-is_busy-via-then-not-is_busy+else-not-has_number, else-not-is_busy-via-else-not-is_busy}
 
 pub loop-buffer-preserved : goal.loop-buffer-preserved
 loop-buffer-preserved g c =
@@ -18,8 +19,8 @@ loop-buffer-preserved g c =
             len = omega (arith, w.push_reserved.ensures.len, c.loop-buffer.invariant.len);
             capacity = cc;
             counted = λ all stand.
-              next-added all shown freed i 0 less busy (c.is_busy.ensures all stand) (c.loop-buffer.invariant.counted all stand) w.if-not-is_busy.true w.deref.result.now
-              w.deref.ensures.value w.has_number.result w.has_number.ensures w.if-not-has_number.true w.push_reserved.new.self.items w.push_reserved.ensures.items;
+                next-added all shown freed i 0 less busy (c.is_busy.ensures all stand) (c.loop-buffer.invariant.counted all stand) w.if-not-is_busy.true w.deref.result.now
+                w.deref.ensures.value w.has_number.result w.has_number.ensures w.if-not-has_number.true w.push_reserved.new.self.items w.push_reserved.ensures.items;
           })
       | else-not-is_busy w ↦ elim w.else-not-is_busy.branch [
         | else-not-is_busy-via-then-not-is_busy+else-not-has_number v ↦
@@ -27,15 +28,15 @@ loop-buffer-preserved g c =
               len = omega (arith, c.loop-buffer.invariant.len);
               capacity = c.loop-buffer.invariant.capacity;
               counted = λ all stand.
-                next-freed all shown freed i 0 less busy (c.is_busy.ensures all stand) (c.loop-buffer.invariant.counted all stand) v.deref.result.now v.deref.ensures.value
-                v.has_number.result v.has_number.ensures v.if-not-has_number.false;
+                  next-freed all shown freed i 0 less busy (c.is_busy.ensures all stand) (c.loop-buffer.invariant.counted all stand) v.deref.result.now v.deref.ensures.value
+                  v.has_number.result v.has_number.ensures v.if-not-has_number.false;
             })
         | else-not-is_busy-via-else-not-is_busy v ↦
             rw w.freed-is (record {
               len = omega (arith, c.loop-buffer.invariant.len);
               capacity = c.loop-buffer.invariant.capacity;
               counted = λ all stand.
-                next-busy all shown freed i 0 less busy (c.is_busy.ensures all stand) (c.loop-buffer.invariant.counted all stand) v.if-not-is_busy.false;
+                  next-busy all shown freed i 0 less busy (c.is_busy.ensures all stand) (c.loop-buffer.invariant.counted all stand) v.if-not-is_busy.false;
             })
       ]
     ]

@@ -1,4 +1,4 @@
-use Rattle.std.proofs.Common.{◌≡◌, ◌∙◌, arith, take}
+use Rattle.std.proofs.Common.{◌∙◌, arith, take}
 use Rattle.wl_linked.specs.Tree.{applied_among}
 use Rattle.wl_linked.proofs.TreeApplied.{none-listed, some-listed, stacks-next, stand-next, told-next, waits-next}
 use Rattle.wl_linked.proofs.tree.apply_each.Goals as goal
@@ -20,14 +20,14 @@ loop-number-preserved g c =
       ];
       stand = λ all stand. stand-next numbers i 0 less all c.apply.new.self (c.apply.ensures.stand.stand (applied_among (take i numbers) all) (c.loop-number.invariant.stand all stand));
       waits = λ all cs wait.
-        waits-next numbers i 0 less all c.apply.new.self.frames cs (c.apply.ensures.waits (applied_among (take i numbers) all) cs (c.loop-number.invariant.waits all cs wait));
+          waits-next numbers i 0 less all c.apply.new.self.frames cs (c.apply.ensures.waits (applied_among (take i numbers) all) cs (c.loop-number.invariant.waits all cs wait));
       told = λ all stand once.
-        told-next numbers i 0 all c.loop-number.changes.items c.match-apply.changes.items c.apply.result less once (c.loop-number.invariant.told all stand once)
-        (c.apply.ensures.change (applied_among (take i numbers) all) (c.loop-number.invariant.stand all stand))
-        (elim c.match-apply.branch [
-          | in-Some w ↦ rw w.changes-is (some-listed c.loop-number.changes.items w.push_reserved.new.self.items c.apply.result w.in-Some.change w.in-Some.is w.push_reserved.ensures.items)
-          | in_default w ↦ rw w.changes-is (none-listed c.loop-number.changes.items c.apply.result w.in_default.is)
-        ]);
+          told-next numbers i 0 all c.loop-number.changes.items c.match-apply.changes.items c.apply.result less once (c.loop-number.invariant.told all stand once)
+          (c.apply.ensures.change (applied_among (take i numbers) all) (c.loop-number.invariant.stand all stand))
+          (elim c.match-apply.branch [
+            | in-Some w ↦ rw w.changes-is (some-listed c.loop-number.changes.items w.push_reserved.new.self.items c.apply.result w.in-Some.change w.in-Some.is w.push_reserved.ensures.items)
+            | in_default w ↦ rw w.changes-is (none-listed c.loop-number.changes.items c.apply.result w.in_default.is)
+          ]);
       links = c.apply-in-loop-number.ensures.links ∙ c.loop-number.invariant.links;
       places = c.apply-in-loop-number.ensures.places ∙ c.loop-number.invariant.places;
       stacks = stacks-next numbers i 0 less _ _ _ c.loop-number.invariant.stacks c.apply-in-loop-number.ensures.stacks;
