@@ -87,6 +87,7 @@ module _ (slots new : Slots) (tied after : Tied) (all : Surfaces) (surface : ℕ
 
   -- the surface itself is among them
   pub itself-below : is_among below surface ≡ true
+  unfolding descends_from
   itself-below = descend surface ∙ here (surface == surface) (grind (arith))
     where
       here : (b : Bool) → b ≡ true → (b || of_parent false (λ parent. descends_from 15 all surface parent) (link_of surface all)) ≡ true
@@ -132,3 +133,18 @@ freed-so old now below shown freed candidates others counted b was is w i = coun
     same was true w i = and-false (is_among shown b) ∙ sym (and-false was)
     same true false w i = ap (λ x. x && true) (there w.0 w.1 i (is_among below w.0) refl)
     same false false w i = ap (λ x. x && true) (candidates b ∙ any-none (λ n. shows_at b (old n)) below w)
+
+-- ---- those that aren't applied
+
+pub unapplied : (below : List ℕ) (named : Numbered) (n : ℕ) → is_among below n ≡ false → applied_among below named n ≡ named n
+unapplied below named n e = ap (λ b. if b then option_map applying (named n) else named n) e
+
+pub other-than : (below : List ℕ) (surface n : ℕ) → is_among below surface ≡ true → is_among below n ≡ false → (n == surface) ≡ false
+other-than below surface n there none = at (n == surface) refl
+  where
+    at : (b : Bool) → (n == surface) ≡ b → (n == surface) ≡ false
+    at false e = e
+    at true e = absurd (differ (sym there ∙ ap (is_among below) (sym (eqb-true n surface e)) ∙ none))
+      where
+        differ : true ≡ false → ⊥
+        differ f = absurd (cc)

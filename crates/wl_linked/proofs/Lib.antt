@@ -1,4 +1,5 @@
 pub mod Applying
+pub mod Committing
 pub mod Refusing
 pub mod Standing
 pub mod TreeApplied

@@ -106,17 +106,21 @@ impl<A: Allocator + Copy> Linked<A> {
         ensures freed { IfOk result (λ applied. (all : Asked) (number : ℕ) (link : Link) → IsLink all number child link → Stand self.old.surfaces self.old.family all
             → AreFreed applied.freed.items (numbered all) (numbered (desynchronised_in number all))) }
         ensures callbacks { IfOk result (λ applied. applied.callbacks.items ≡ []) }
-        ensures none { links_in self.old.family child ≡ None → IfOk result (λ applied. applied.changes.items ≡ []) }
+        ensures none { links_in self.old.family child ≡ None → OnOk result (self.new ≡ self.old) }
         ensures err { OnErr result (self.new ≡ self.old) }
         ensures cause { IfErr result (λ e. e ≡ SurfaceError.Memory) }
     {
+        if self.family.link(child).is_none() {
+            return Ok(self.nothing());
+        }
         let was_synchronised = self.family.behaves_synchronised(child);
         let room = self.room(child)?;
         self.family.set_synchronised(child, false);
-        if !was_synchronised || self.family.behaves_synchronised(child) {
-            return Ok(self.nothing());
+        let is_synchronised = self.family.behaves_synchronised(child);
+        if was_synchronised && !is_synchronised {
+            return Ok(self.apply_tree(room));
         }
-        Ok(self.apply_tree(room))
+        Ok(self.nothing())
     }
 
     /// wl_subsurface.destroy: the link of the child ends, which is applied with what descends from it. Nothing changes where it has no link,

@@ -1,0 +1,21 @@
+use Rattle.std.proofs.Common.{sym, subst}
+use Rattle.wl_surface.specs.Slots.{Numbered}
+use Rattle.wl_surface.specs.Waiting.{AreWaiting}
+use Rattle.wl_linked.specs.Linked.{numbered}
+use Rattle.wl_linked.proofs.Committing.{held-freed, held-stands, numbered-held}
+use Rattle.wl_linked.proofs.linked.Linked.hold.Goals as goal
+
+pub returns-clause-ok : goal.returns-clause-ok
+returns-clause-ok g c = λ all stand.
+    let v = c.args.self.now in
+    held-stands v.surfaces c.hold.new.self v.family c.commit.new.self all c.args.surface c.in_ok-hold.ensures.ok c.commit.ensures.stacks c.commit.ensures.places c.commit.ensures.links stand
+
+pub returns-clause-waits : goal.returns-clause-waits
+returns-clause-waits g c = λ all cs stand are.
+    subst (λ (named : Numbered). AreWaiting c.hold.new.self.frames named cs) (sym (numbered-held c.args.surface all)) (c.in_ok-hold.ensures.waits (numbered all) cs stand.surfaces are)
+
+pub returns-clause-freed : goal.returns-clause-freed
+returns-clause-freed g c = λ all stand.
+    let after = (returns-clause-ok g c all stand).surfaces in
+    held-freed all c.args.surface c.in_ok-shown.shown.items c.add_freed.new.freed.items (c.in_ok-shown.ensures (numbered all) stand.surfaces)
+    (λ b is any. rw c.deref.ensures.value at c.add_freed.ensures _ after b is any)
