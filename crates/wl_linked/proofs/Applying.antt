@@ -148,3 +148,23 @@ other-than below surface n there none = at (n == surface) refl
       where
         differ : true ≡ false → ⊥
         differ f = absurd (cc)
+
+module _ (slots new : Slots) (tied after : Tied) (all : Surfaces) (surface : ℕ) (below : List ℕ) (stand : Stand slots tied all)
+    (those : (n : ℕ) → is_among below n ≡ is_under 16 (parents_of (links_in tied)) surface n) where
+  -- the buffers that it frees that a tree is applied
+  pub tree-freed : (shown freed : List ℕ) → ((b : ℕ) → is_among shown b ≡ shown_among below (numbered all) b)
+      → ((b : ℕ) (is : Bool) → IsAny (shows_at b) (numbered (applied_tree levels surface all)) is → count_by (λ n. n == b) freed ≡ cond (is_among shown b && not is) 1 0)
+      → AreFreed freed (numbered all) (numbered (applied_tree levels surface all))
+  tree-freed shown freed candidates counted =
+      freed-so (numbered all) (numbered (applied_tree levels surface all)) below shown freed candidates
+      (λ n none b. ap (λ (named : Numbered). shows_at b (named n)) (numbered-so slots new tied after all surface below stand those) ∙ ap (shows_at b) (unapplied below (numbered all) n none)) counted
+
+-- where nothing is applied, nothing is freed
+pub nothing-freed : (named : Numbered) → AreFreed [] named named
+nothing-freed named b true true w i = refl
+nothing-freed named b false false w i = refl
+nothing-freed named b true false w i = absurd (differ (sym w.1 ∙ i w.0))
+  where
+    differ : true ≡ false → ⊥
+    differ f = absurd (cc)
+nothing-freed named b false true w i = refl

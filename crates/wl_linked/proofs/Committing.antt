@@ -1,6 +1,8 @@
 -- A commit, held or applied at once.
 use Rattle.std.proofs.Common.{◌≡◌, ℕ, ◌==◌, ◌||◌, Bool, true, false, cond, List, [], ◌∷◌, refl, ap, sym, subst, ◌∙◌, arith}
-use Rattle.std.specs.Prelude.{◌&&◌, count_by, not}
+use Rattle.std.specs.Prelude.{◌&&◌, IfOk, Result, Ok, Err, count_by, not}
+use Rattle.wl_surface.specs.declared.applied.Change.{Change}
+use Rattle.wl_surface.specs.declared.error.SurfaceError.{SurfaceError}
 use Rattle.std.specs.Option.{option_map}
 use Rattle.std.proofs.Math.Path.{fun_ext}
 use Rattle.wl_children.specs.Stacks.{Stacks}
@@ -12,12 +14,12 @@ use Rattle.wl_state.specs.Surface.{asking}
 use Rattle.wl_surface.specs.Applied.{AreFreed}
 use Rattle.wl_surface.specs.Slots.{Changes, IsAny, Numbered, Slots, StandForAll, changed_at, shows_at}
 use Rattle.wl_surface.specs.Surfaces.{Surfaces, with_change}
-use Rattle.wl_surface.specs.Trees.{applied_tree, behaves_synchronised, levels}
+use Rattle.wl_surface.specs.Trees.{applied_tree, applied_unless, behaves_synchronised, committed_in, levels}
 use Rattle.wl_tree_laws.specs.Laws.{links_of}
 use Rattle.wl_tree_laws.proofs.Hanging.{commits-stack}
 use Rattle.wl_tree_laws.proofs.Parents.{same-modes}
 use Rattle.wl_linked.specs.Linked.{Stand, numbered}
-use Rattle.wl_linked.specs.Tree.{applied_among, is_among, shown_among, stacks_among}
+use Rattle.wl_linked.specs.Tree.{IsCommitTold, IsTold, IsToldUnless, applied_among, is_among, shown_among, stacks_among}
 use Rattle.wl_linked.proofs.Applying.{freed-so, itself-below, numbered-so, other-than, tree-stands, unapplied}
 use Rattle.wl_linked.proofs.Standing.{numbered-changed, stand-changed, there-changed}
 
@@ -80,3 +82,23 @@ module _ (slots mid new : Slots) (tied between after : Tied) (all : Surfaces) (s
 -- it behaves synchronised by what is kept where it does by definition
 pub same-mode : (slots : Slots) (tied : Tied) (all : Surfaces) (surface : ℕ) → Stand slots tied all → behaves_synchronised levels all surface ≡ behaves_by 17 (links_in tied) surface
 same-mode slots tied all surface stand = same-modes all 17 surface ∙ ap (λ (links : Links). behaves_by 17 links surface) (sym (fun_ext stand.hang.0.links))
+
+module _ (slots : Slots) (tied : Tied) (all : Surfaces) (surface : ℕ) (b : Bool) (is : b ≡ behaves_by 17 (links_in tied) surface) (stand : Stand slots tied all) where
+  mode : behaves_synchronised levels all surface ≡ b
+  mode = same-mode slots tied all surface stand ∙ sym is
+
+  pub commit-held : b ≡ true → committed_in surface all ≡ held surface all
+  commit-held e = ap (λ x. applied_unless x surface (held surface all)) (mode ∙ e)
+
+  pub commit-now : b ≡ false → committed_in surface all ≡ applied_tree levels surface (held surface all)
+  commit-now e = ap (λ x. applied_unless x surface (held surface all)) (mode ∙ e)
+
+  pub told-held : {A : Type 0} (changes : List (Change A)) → b ≡ true → changes ≡ [] → IsCommitTold surface all changes
+  told-held changes e none = subst (λ x. IsToldUnless x surface (held surface all) changes) (sym (mode ∙ e)) none
+
+  pub told-now : {A : Type 0} (changes : List (Change A)) → b ≡ false → IsTold surface (held surface all) changes → IsCommitTold surface all changes
+  told-now changes e told = subst (λ x. IsToldUnless x surface (held surface all) changes) (sym (mode ∙ e)) told
+
+pub if-ok : {T : Type 0} {P Q : T → Type 0} (r : Result T SurfaceError) → IfOk r P → ((x : T) → P x → Q x) → IfOk r Q
+if-ok (Ok x) p to = to x p
+if-ok (Err e) p to = tt

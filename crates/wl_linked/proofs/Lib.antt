@@ -1,5 +1,6 @@
 pub mod Applying
 pub mod Committing
+pub mod Ending
 pub mod Refusing
 pub mod Standing
 pub mod TreeApplied

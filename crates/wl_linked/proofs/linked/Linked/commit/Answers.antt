@@ -1,0 +1,54 @@
+use Rattle.std.proofs.Common.{sym, subst, ◌∙◌}
+use Rattle.wl_surface.specs.Applied.{AreFreed}
+use Rattle.wl_surface.specs.Surfaces.{Surfaces}
+use Rattle.wl_surface.specs.Waiting.{AreWaiting}
+use Rattle.wl_linked.specs.Linked.{Stand, numbered}
+use Rattle.wl_linked.proofs.Committing.{commit-held, commit-now, if-ok, told-held, told-now}
+use Rattle.wl_linked.proofs.Refusing.{on-ok}
+use Rattle.wl_linked.proofs.linked.Linked.commit.Goals as goal
+
+pub returns-then-behaves_synchronised-clause-ok : goal.returns-then-behaves_synchronised-clause-ok
+returns-then-behaves_synchronised-clause-ok g c = on-ok c.hold.result c.hold.ensures.ok (λ stands all stand.
+    let v = c.args.self.now in
+    subst (λ (a : Surfaces). Stand c.hold.new.self.surfaces c.hold.new.self.family a)
+    (sym (commit-held v.surfaces v.family all c.args.surface c.behaves_synchronised.result c.behaves_synchronised.ensures stand c.if-behaves_synchronised.true)) (stands all stand))
+
+pub returns-then-behaves_synchronised-clause-waits : goal.returns-then-behaves_synchronised-clause-waits
+returns-then-behaves_synchronised-clause-waits g c = on-ok c.hold.result c.hold.ensures.waits (λ waits all cs stand are.
+    let v = c.args.self.now in
+    subst (λ (a : Surfaces). AreWaiting c.hold.new.self.surfaces.frames (numbered a) cs)
+    (sym (commit-held v.surfaces v.family all c.args.surface c.behaves_synchronised.result c.behaves_synchronised.ensures stand c.if-behaves_synchronised.true)) (waits all cs stand are))
+
+pub returns-then-behaves_synchronised-clause-changes : goal.returns-then-behaves_synchronised-clause-changes
+returns-then-behaves_synchronised-clause-changes g c = if-ok c.hold.result c.hold.ensures.changes (λ applied told all stand.
+    let v = c.args.self.now in
+    told-held v.surfaces v.family all c.args.surface c.behaves_synchronised.result c.behaves_synchronised.ensures stand applied.changes.items c.if-behaves_synchronised.true told)
+
+pub returns-then-behaves_synchronised-clause-freed : goal.returns-then-behaves_synchronised-clause-freed
+returns-then-behaves_synchronised-clause-freed g c = if-ok c.hold.result c.hold.ensures.freed (λ applied freed all stand.
+    let v = c.args.self.now in
+    subst (λ (a : Surfaces). AreFreed applied.freed.items (numbered all) (numbered a))
+    (sym (commit-held v.surfaces v.family all c.args.surface c.behaves_synchronised.result c.behaves_synchronised.ensures stand c.if-behaves_synchronised.true)) (freed all stand))
+
+pub returns-clause-ok : goal.returns-clause-ok
+returns-clause-ok g c = on-ok c.commit_now.result c.commit_now.ensures.ok (λ stands all stand.
+    let v = c.args.self.now in
+    subst (λ (a : Surfaces). Stand c.commit_now.new.self.surfaces c.commit_now.new.self.family a)
+    (sym (commit-now v.surfaces v.family all c.args.surface c.behaves_synchronised.result c.behaves_synchronised.ensures stand c.if-behaves_synchronised.false)) (stands all stand))
+
+pub returns-clause-waits : goal.returns-clause-waits
+returns-clause-waits g c = on-ok c.commit_now.result c.commit_now.ensures.waits (λ waits all cs stand are.
+    let v = c.args.self.now in
+    subst (λ (a : Surfaces). AreWaiting c.commit_now.new.self.surfaces.frames (numbered a) cs)
+    (sym (commit-now v.surfaces v.family all c.args.surface c.behaves_synchronised.result c.behaves_synchronised.ensures stand c.if-behaves_synchronised.false)) (waits all cs stand are))
+
+pub returns-clause-changes : goal.returns-clause-changes
+returns-clause-changes g c = if-ok c.commit_now.result c.commit_now.ensures.changes (λ applied told all stand.
+    let v = c.args.self.now in
+    told-now v.surfaces v.family all c.args.surface c.behaves_synchronised.result c.behaves_synchronised.ensures stand applied.changes.items c.if-behaves_synchronised.false (told all stand))
+
+pub returns-clause-freed : goal.returns-clause-freed
+returns-clause-freed g c = if-ok c.commit_now.result c.commit_now.ensures.freed (λ applied freed all stand.
+    let v = c.args.self.now in
+    subst (λ (a : Surfaces). AreFreed applied.freed.items (numbered all) (numbered a))
+    (sym (commit-now v.surfaces v.family all c.args.surface c.behaves_synchronised.result c.behaves_synchronised.ensures stand c.if-behaves_synchronised.false)) (freed all stand))
