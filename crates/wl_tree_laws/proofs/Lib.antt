@@ -1,5 +1,6 @@
 pub mod Applying
 pub mod Coming
+pub mod Descending
 pub mod Hanging
 pub mod Heights
 pub mod Joining
