@@ -48,6 +48,15 @@ under-fewer (suc n) fewer parents top surface are under =
     at (inr q) (inl none) next = absurd (let both = sym none ∙ q.1 in cc)
     at (inr q) (inr same) next = under-step n parents top surface q.0 (sym same ∙ q.1) (next q.0 q.2)
 
+-- nor does it by more levels that are looked at
+pub under-more : (n : ℕ) (parents : Parents) (top surface : ℕ) → is_under n parents top surface ≡ true → is_under (suc n) parents top surface ≡ true
+under-more zero parents top surface under = subst (λ s. is_under 1 parents top s ≡ true) (sym (under-zero parents top surface under)) (under-here 1 parents top)
+under-more (suc n) parents top surface under = at (under-cases n parents top surface under) (λ s. under-more n parents top s)
+  where
+    at : IsByParent n parents top surface → ((s : ℕ) → is_under n parents top s ≡ true → is_under (suc n) parents top s ≡ true) → is_under (suc (suc n)) parents top surface ≡ true
+    at (inl e) next = subst (λ s. is_under (suc (suc n)) parents top s ≡ true) (sym e) (under-here (suc (suc n)) parents top)
+    at (inr q) next = under-step (suc n) parents top surface q.0 q.1 (next q.0 q.2)
+
 -- what stands below a child stands below its parent, by a link more
 pub under-parent : (n : ℕ) (parents : Parents) (child top surface : ℕ) → parents child ≡ Some top → is_under n parents child surface ≡ true → is_under (suc n) parents top surface ≡ true
 under-parent zero parents child top surface is under =

@@ -1,6 +1,7 @@
 pub mod Applying
 pub mod Coming
 pub mod Descending
+pub mod Ending
 pub mod Hanging
 pub mod Heights
 pub mod Joining

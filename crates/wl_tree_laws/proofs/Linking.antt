@@ -75,7 +75,7 @@ pub or-false : (a b : Bool) → (a || b) ≡ false → (a ≡ false) × (b ≡ f
 or-false false b e = (refl, e)
 or-false true b e = absurd (cc)
 
-both-false : (a b : Bool) → a ≡ false → b ≡ false → (a || b) ≡ false
+pub both-false : (a b : Bool) → a ≡ false → b ≡ false → (a || b) ≡ false
 both-false a b e f = rw (e, f) refl
 
 changed-child : (b : Bool) (f : Link → Link) (l : Link) → KeepsLink f → (cond b (f l) l).child ≡ l.child
@@ -320,12 +320,12 @@ kids-ending all number = fun_ext (λ l. ap kid_of (at-changed l number ending (�
     at false None = refl
     at false (Some l) = refl
 
-none-found : (p : Link → Bool) (ls : List Link) → list_any p ls ≡ false → find p ls ≡ None
+pub none-found : (p : Link → Bool) (ls : List Link) → list_any p ls ≡ false → find p ls ≡ None
 none-found p [] none = refl
 none-found p (x ∷ xs) none = let parts = or-false (p x) (list_any p xs) none in rw parts.0 (none-found p xs parts.1)
 
 -- nothing changes where no link has the number
-none-changed : (k : ℕ) (f : Link → Link) (ls : List Link) → list_any (λ l. l.number == k) ls ≡ false → map (λ l. cond (l.number == k) (f l) l) ls ≡ ls
+pub none-changed : (k : ℕ) (f : Link → Link) (ls : List Link) → list_any (λ l. l.number == k) ls ≡ false → map (λ l. cond (l.number == k) (f l) l) ls ≡ ls
 none-changed k f [] none = refl
 none-changed k f (x ∷ xs) none =
     let parts = or-false (x.number == k) (list_any (λ l. l.number == k) xs) none in rw parts.0 (ap (λ ls. x ∷ ls) (none-changed k f xs parts.1))

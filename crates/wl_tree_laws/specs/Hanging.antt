@@ -11,8 +11,8 @@ use Rattle.wl_state.specs.Request.{Commit, Member, PlaceAbove, PlaceBelow, Reque
 use Rattle.wl_state.specs.State.{History, committed as committed_at, counting, is_commit, position}
 use Rattle.wl_state.specs.Surface.{applying, asking}
 use Rattle.wl_surface.specs.Surfaces.{Link, Surfaces, history_in, link_at, surface_at, with_change, with_new, without_surface}
-use Rattle.wl_surface.specs.Trees.{applied_tree, descends_from, ending, in_mode as with_mode, levels, linked, with_link}
-use Rattle.wl_tree_laws.specs.Laws.{AreOnceLinked, links_of}
+use Rattle.wl_surface.specs.Trees.{applied_tree, descends_from, destroyed_in, ending, in_mode as with_mode, levels, linked, with_link}
+use Rattle.wl_tree_laws.specs.Laws.{AreOnceLinked, applied_where, ended_with, links_of}
 use Rattle.wl_tree_laws.specs.Stacks.{IsKept, Kids, has_child, is_about_children, stack_by}
 
 -- the child of each link that lives
@@ -142,3 +142,10 @@ RemovesSurface =
     (old new : Tied) (all : Surfaces) (id : ℕ)
     → ((number : ℕ) (link : Link) → link_at number all ≡ Some link → link.has_ended ≡ false → (link.parent == id) ≡ false)
     → links_in new ≡ links_in old → stacks_in new ≡ with_at id childless (stacks_in old) → Hang old all → Hang new (without_surface id all)
+
+-- The end of a surface with its links: each surface that descends from it is applied, and no other.
+abbrev pub EndsLinks : Type 0
+EndsLinks =
+    (all : Surfaces) (surface : ℕ) → AreOnceLinked all.links → AreNumbered all.links
+    → destroyed_in surface all
+    ≡ without_surface surface (record (applied_where (descends_from levels all surface) all) { links = ended_with surface all.links })
