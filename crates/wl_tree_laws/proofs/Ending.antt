@@ -15,8 +15,9 @@ use Rattle.wl_trees.specs.Trees.{Parents, is_under, without}
 use Rattle.wl_tree_laws.specs.Hanging.{AreNumbered, EndsLinks}
 use Rattle.wl_tree_laws.specs.Laws.{AreOnceLinked, applied_where, ended_with, is_live_of, links_of}
 use Rattle.wl_tree_laws.proofs.Applying.{applied-both, applies-descendants, child-of, is_child, same-id}
+use Rattle.wl_tree_laws.proofs.Changing.{both-false, or-false}
 use Rattle.wl_tree_laws.proofs.Descending.{AreFewer, under-child, under-fewer, under-more, under-parent}
-use Rattle.wl_tree_laws.proofs.Linking.{both-false, none-changed, none-found, or-false}
+use Rattle.wl_tree_laws.proofs.Linking.{none-changed, none-found}
 use Rattle.wl_tree_laws.proofs.Parents.{same-descent}
 use Rattle.wl_tree_laws.proofs.Placing.{kept_of}
 
@@ -47,7 +48,7 @@ end-again : (b : Bool) (l : Link) → l.has_ended ≡ true → cond b (ending l)
 end-again true l e = ap (λ (b : Bool). record l { has_ended = b }) (sym e)
 end-again false l e = refl
 
-live-parts : (ended same : Bool) → (not ended && same) ≡ true → (ended ≡ false) × (same ≡ true)
+pub live-parts : (ended same : Bool) → (not ended && same) ≡ true → (ended ≡ false) × (same ≡ true)
 live-parts false same e = (refl, e)
 live-parts true same e = absurd (cc)
 
@@ -74,10 +75,10 @@ once-ended surface (d ∷ ds) rest once = (
     lived false lives = lives
 
 -- the link of a child is what it was, or it was with the surface and has ended
-abbrev IsLeft : ℕ → ℕ → Option Link → Option Link → Type 0
+abbrev pub IsLeft : ℕ → ℕ → Option Link → Option Link → Type 0
 IsLeft surface c new old = (new ≡ old) ⊎ ((new ≡ None) × (l : Link) × (old ≡ Some l) × (touches surface l ≡ true) × ((l.child == c) ≡ true))
 
-found-ended : (surface c : ℕ) (ds rest : List Link) → AreOnceLinked (ds ++ rest)
+pub found-ended : (surface c : ℕ) (ds rest : List Link) → AreOnceLinked (ds ++ rest)
     → IsLeft surface c (find (is_live_of c) (ended_with surface ds ++ rest)) (find (is_live_of c) (ds ++ rest))
 found-ended surface c [] rest once = inl refl
 found-ended surface c (d ∷ ds) rest once = at (is_live_of c d) (touches surface d) refl refl (found-ended surface c ds rest once.1)
