@@ -15,12 +15,12 @@ applied-one true false s = refl
 applied-one false true s = refl
 applied-one false false s = refl
 
-same-id : (p : Bool) (s : Surface) → (cond p (applying s) s).id ≡ s.id
+pub same-id : (p : Bool) (s : Surface) → (cond p (applying s) s).id ≡ s.id
 same-id true s = refl
 same-id false s = refl
 
 -- to apply these, and then those, is to apply both
-applied-both : (p q : ℕ → Bool) (xs : List Surface)
+pub applied-both : (p q : ℕ → Bool) (xs : List Surface)
     → map (λ (s : Surface). cond (q s.id) (applying s) s) (map (λ (s : Surface). cond (p s.id) (applying s) s) xs) ≡ map (λ (s : Surface). cond (p s.id || q s.id) (applying s) s) xs
 applied-both p q [] = refl
 applied-both p q (x ∷ xs) =
@@ -34,7 +34,7 @@ applied-same p q same (x ∷ xs) = rw (same x.id) (ap (λ (ys : List Surface). c
 -- ---- descent, seen from above
 
 -- a child, by a link that lives, of this surface
-abbrev is_below : ℕ → Link → Bool
+abbrev pub is_below : ℕ → Link → Bool
 is_below top l = not l.has_ended && l.parent == top
 
 any-cons : (b : Bool) (p : ℕ → Bool) (n : ℕ) (ns : List ℕ) (rest : Bool) → list_any p ns ≡ rest → list_any p (cond b (n ∷ ns) ns) ≡ ((b && p n) || rest)
@@ -53,7 +53,7 @@ child-any top p (l ∷ ls) =
     ∙ any-cons (is_below top l) p l.child (map (λ (k : Link). k.child) (filter (is_below top) ls)) _ (child-any top p ls)
 
 -- of the links of a child that live, whether one is to this parent
-abbrev is_child : ℕ → ℕ → Link → Bool
+abbrev pub is_child : ℕ → ℕ → Link → Bool
 is_child top child l = is_below top l && child == l.child
 
 no-child : (ended same below : Bool) (rest : Bool) → ((not ended && same) || rest) ≡ false → ((not ended && below) && same) ≡ false
@@ -102,7 +102,7 @@ found-child top child l ls false true e f once later =
     or-none false = refl
 
 -- a surface is a child of another one exactly where that is the parent by its link
-child-of : (top child : ℕ) (ls : List Link) → AreOnceLinked ls
+pub child-of : (top child : ℕ) (ls : List Link) → AreOnceLinked ls
     → list_any (is_child top child) ls ≡ of_parent false (λ parent. parent == top) (find (is_live_of child) ls)
 child-of top child [] once = refl
 child-of top child (l ∷ ls) once = found-child top child l ls l.has_ended (l.child == child) refl refl once.0 (child-of top child ls once.1)

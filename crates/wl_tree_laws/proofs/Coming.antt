@@ -7,11 +7,11 @@ use Rattle.std.proofs.lemmas.List.Folds.{find-append}
 use Rattle.wl_family.specs.Family.{applied, childless, stacks_in}
 use Rattle.wl_state.specs.State.{History, apply, committed as committed_at, position}
 use Rattle.wl_state.specs.Surface.{Surface, applying, new_surface}
-use Rattle.wl_surface.specs.Surfaces.{Link, Surfaces, history_in, surface_at, with_new, without_surface}
+use Rattle.wl_surface.specs.Surfaces.{Link, Surfaces, history_in, link_at, surface_at, with_new, without_surface}
 use Rattle.wl_surface.specs.Trees.{descends_from}
 use Rattle.wl_tree_laws.specs.Hanging.{AppliesTree, AreTied, CreatesSurface, Hang, RemovesSurface, kids_of, stacks_at}
 use Rattle.wl_tree_laws.specs.Laws.{applied_where}
-use Rattle.wl_tree_laws.specs.Stacks.{has_child}
+use Rattle.wl_tree_laws.specs.Stacks.{Kids, has_child}
 use Rattle.wl_tree_laws.proofs.Applying.{applies-descendants}
 use Rattle.wl_tree_laws.proofs.Hanging.{WasAsked, was-asked}
 
@@ -36,7 +36,7 @@ find-applied n p (x ∷ xs) = at (x.id == n) refl (find-applied n p xs)
         let here = ap (λ m. m == n) (same-id (p x.id)) ∙ e in
         rw (here, e) next
 
-history-applied : (n : ℕ) (p : ℕ → Bool) (all : Surfaces) → history_in n (applied_where p all) ≡ option_map (λ h. cond (p n) (apply h) h) (history_in n all)
+pub history-applied : (n : ℕ) (p : ℕ → Bool) (all : Surfaces) → history_in n (applied_where p all) ≡ option_map (λ h. cond (p n) (apply h) h) (history_in n all)
 history-applied n p all = ap (option_map (λ s. s.history)) (find-applied n p all.surfaces) ∙ at (p n) (find (λ s. s.id == n) all.surfaces)
   where
     at : (b : Bool) (o : Option Surface) → option_map (λ s. s.history) (option_map (λ s. cond b (applying s) s) o) ≡ option_map (λ h. cond b (apply h) h) (option_map (λ s. s.history) o)
@@ -48,7 +48,7 @@ same-requests : (b : Bool) (h : History) → (cond b (apply h) h).requests ≡ h
 same-requests true h = refl
 same-requests false h = refl
 
-tied-applied : (p : ℕ → Bool) (all : Surfaces) → AreTied all → AreTied (applied_where p all)
+pub tied-applied : (p : ℕ → Bool) (all : Surfaces) → AreTied all → AreTied (applied_where p all)
 tied-applied p all tied = record {
   once = tied.once;
   apart = tied.apart;
@@ -75,6 +75,13 @@ tied-applied p all tied = record {
     cut true old new is le = subst (λ (h : History). h.cut ≤ committed_at h.requests) is (omega arith)
     cut false old new is le = subst (λ (h : History). h.cut ≤ committed_at h.requests) is le
 
+-- the stacks of a surface that is applied
+pub stacks-applied : (kids : Kids) (b : Bool) (o : Option History) → cond b (applied (stacks_at kids o)) (stacks_at kids o) ≡ stacks_at kids (option_map (λ h. cond b (apply h) h) o)
+stacks-applied kids true None = refl
+stacks-applied kids false None = refl
+stacks-applied kids true (Some h) = refl
+stacks-applied kids false (Some h) = refl
+
 pub applies-tree : AppliesTree
 applies-tree old new all surface links stacks hang =
     let p : ℕ → Bool = descends_from 16 all surface in
@@ -82,17 +89,10 @@ applies-tree old new all surface links stacks hang =
       record {
         links = λ c. ap (λ book. book c) links ∙ hang.0.links c;
         stacks = λ n.
-            stacks n ∙ (ap (λ s. cond (p n) (applied s) s) (hang.0.stacks n) ∙ (at (p n) (history_in n all) ∙ ap (stacks_at (kids_of all)) (sym (history-applied n p all))));
+            stacks n ∙ (ap (λ s. cond (p n) (applied s) s) (hang.0.stacks n) ∙ (stacks-applied (kids_of all) (p n) (history_in n all) ∙ ap (stacks_at (kids_of all)) (sym (history-applied n p all))));
       },
       tied-applied p all hang.1,
     )
-  where
-    at : (b : Bool) (o : Option History)
-        → cond b (applied (stacks_at (kids_of all) o)) (stacks_at (kids_of all) o) ≡ stacks_at (kids_of all) (option_map (λ h. cond b (apply h) h) o)
-    at true None = refl
-    at false None = refl
-    at true (Some h) = refl
-    at false (Some h) = refl
 
 -- ---- a surface comes
 
@@ -184,12 +184,34 @@ find-without n id (x ∷ xs) = at (x.id == id) (x.id == n) refl refl (find-witho
         let other : (n == id) ≡ false = ap (λ m. m == id) (sym (eqb-true x.id n f)) ∙ e in rw e (rw (f, other) refl)
     at false false e f next = rw e (rw f next)
 
-history-without : (n id : ℕ) (all : Surfaces) → history_in n (without_surface id all) ≡ cond (n == id) None (history_in n all)
+pub history-without : (n id : ℕ) (all : Surfaces) → history_in n (without_surface id all) ≡ cond (n == id) None (history_in n all)
 history-without n id all = ap (option_map (λ s. s.history)) (find-without n id all.surfaces) ∙ at (n == id) (surface_at n all)
   where
     at : (b : Bool) (o : Option Surface) → option_map (λ s. s.history) (cond b None o) ≡ cond b None (option_map (λ s. s.history) o)
     at true o = refl
     at false o = refl
+
+-- all is as it should be without a surface that is no parent by a link that lives
+pub tied-without : (all : Surfaces) (id : ℕ) → ((number : ℕ) (link : Link) → link_at number all ≡ Some link → link.has_ended ≡ false → (link.parent == id) ≡ false) → AreTied all
+    → AreTied (without_surface id all)
+tied-without all id apart tied = record {
+  once = tied.once;
+  apart = tied.apart;
+  cuts = λ n h e. tied.cuts n h (before n h e);
+  named = λ n l h e gone. tied.named n l h (before n h e) gone;
+  placed = λ n l h e gone. tied.placed n l h (before n h e) gone;
+  parents = λ n l h link e there has. tied.parents n l h link (before n h e) there has;
+  listed = λ l link there lives.
+      let is = tied.listed l link there lives in
+      (is.0, history-without link.parent id all ∙ (ap (λ b. cond b None (history_in link.parent all)) (apart l link there lives) ∙ is.1), is.2);
+}
+  where
+    there : (b : Bool) (o : Option History) (h : History) → cond b None o ≡ Some h → o ≡ Some h
+    there true o h e = absurd (cc)
+    there false o h e = e
+
+    before : (n : ℕ) (h : History) → history_in n (without_surface id all) ≡ Some h → history_in n all ≡ Some h
+    before n h e = there (n == id) (history_in n all) h (sym (history-without n id all) ∙ e)
 
 pub removes-surface : RemovesSurface
 removes-surface old new all id apart links stacks hang = (
@@ -197,26 +219,9 @@ removes-surface old new all id apart links stacks hang = (
     links = λ c. ap (λ book. book c) links ∙ hang.0.links c;
     stacks = λ n. ap (λ all. all n) stacks ∙ (at n (n == id) ∙ ap (stacks_at (kids_of all)) (sym (history-without n id all)));
   },
-  record {
-    once = hang.1.once;
-    apart = hang.1.apart;
-    cuts = λ n h e. hang.1.cuts n h (before n h e);
-    named = λ n l h e gone. hang.1.named n l h (before n h e) gone;
-    placed = λ n l h e gone. hang.1.placed n l h (before n h e) gone;
-    parents = λ n l h link e there has. hang.1.parents n l h link (before n h e) there has;
-    listed = λ l link there lives.
-        let is = hang.1.listed l link there lives in
-        (is.0, history-without link.parent id all ∙ (ap (λ b. cond b None (history_in link.parent all)) (apart l link there lives) ∙ is.1), is.2);
-  },
+  tied-without all id apart hang.1,
 )
   where
     at : (n : ℕ) (b : Bool) → (if b then childless else stacks_in old n) ≡ stacks_at (kids_of all) (cond b None (history_in n all))
     at n true = refl
     at n false = hang.0.stacks n
-
-    there : (b : Bool) (o : Option History) (h : History) → cond b None o ≡ Some h → o ≡ Some h
-    there true o h e = absurd (cc)
-    there false o h e = e
-
-    before : (n : ℕ) (h : History) → history_in n (without_surface id all) ≡ Some h → history_in n all ≡ Some h
-    before n h e = there (n == id) (history_in n all) h (sym (history-without n id all) ∙ e)

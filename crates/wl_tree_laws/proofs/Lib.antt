@@ -1,5 +1,9 @@
 pub mod Applying
+pub mod Changing
 pub mod Coming
+pub mod Descending
+pub mod Destroying
+pub mod Ending
 pub mod Hanging
 pub mod Heights
 pub mod Joining

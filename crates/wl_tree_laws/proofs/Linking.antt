@@ -17,17 +17,14 @@ use Rattle.wl_surface.specs.Trees.{ending, in_mode as with_mode, link_of, with_l
 use Rattle.wl_tree_laws.specs.Hanging.{AreNumbered, AreTied, EndsLink, SetsMode, kid_of, kids_of, stacks_at, stacks_by}
 use Rattle.wl_tree_laws.specs.Laws.{AreOnceLinked, is_live_of, links_of}
 use Rattle.wl_tree_laws.specs.Stacks.{Kids, has_child, with_kid}
+use Rattle.wl_tree_laws.proofs.Changing.{KeepsLink, both-false, changed-child, changed-number, each-tied, keeps-where, none-live, or-false}
 use Rattle.wl_tree_laws.proofs.Hanging.{same-stacks}
 use Rattle.wl_tree_laws.proofs.Placing.{any-above, any-below, any-without, apart-kids, kept-link, kept_of, kid-is, live-found, no-live, numbered, parent-pointwise}
 use Rattle.wl_tree_laws.proofs.Stacking.{follow-lose, follow-others}
 
 -- ---- one link changes
 
-changed-number : (b : Bool) (f : Link → Link) (l : Link) → (f l).number ≡ l.number → (cond b (f l) l).number ≡ l.number
-changed-number true f l same = same
-changed-number false f l same = refl
-
--- the links by their numbers, where one changes
+-- by their numbers
 at-changed : (n k : ℕ) (f : Link → Link) → ((l : Link) → (f l).number ≡ l.number) → (ls : List Link)
     → find (λ (l : Link). l.number == n) (map (λ l. cond (l.number == k) (f l) l) ls) ≡ option_map (λ l. cond (n == k) (f l) l) (find (λ (l : Link). l.number == n) ls)
 at-changed n k f same [] = refl
@@ -43,117 +40,8 @@ at-changed n k f same (x ∷ xs) = at (x.number == n) refl (at-changed n k f sam
         let here = ap (λ m. m == n) (changed-number (x.number == k) f x (same x)) ∙ e in
         rw (here, e) next
 
--- numbers stay apart
-numbered-none : (n k : ℕ) (f : Link → Link) → ((l : Link) → (f l).number ≡ l.number) → (ls : List Link)
-    → list_any (λ l. l.number == n) (map (λ l. cond (l.number == k) (f l) l) ls) ≡ list_any (λ l. l.number == n) ls
-numbered-none n k f same [] = refl
-numbered-none n k f same (x ∷ xs) =
-    let here = ap (λ m. m == n) (changed-number (x.number == k) f x (same x)) in
-    rw here (ap (λ b. x.number == n || b) (numbered-none n k f same xs))
-
-numbered-changed : (k : ℕ) (f : Link → Link) → ((l : Link) → (f l).number ≡ l.number) → (ls : List Link) → AreNumbered ls → AreNumbered (map (λ l. cond (l.number == k) (f l) l) ls)
-numbered-changed k f same [] apart = tt
-numbered-changed k f same (x ∷ xs) apart = (
-  ap (λ m. list_any (λ l. l.number == m) (map (λ l. cond (l.number == k) (f l) l) xs)) (changed-number (x.number == k) f x (same x))
-      ∙ (numbered-none x.number k f same xs ∙ apart.0),
-  numbered-changed k f same xs apart.1,
-)
-
--- A change of a link that keeps its child and its parent, and makes none live that had ended.
-record KeepsLink (f : Link → Link) : Type 0 where
-  number : (l : Link) → (f l).number ≡ l.number
-  child : (l : Link) → (f l).child ≡ l.child
-  parent : (l : Link) → (f l).parent ≡ l.parent
-  ended : (l : Link) → l.has_ended ≡ true → (f l).has_ended ≡ true
-
-live-fewer : (ended new same : Bool) → (ended ≡ true → new ≡ true) → (not ended && same) ≡ false → (not new && same) ≡ false
-live-fewer true new same ends none = ap (λ b. not b && same) (ends refl)
-live-fewer false true same ends none = refl
-live-fewer false false same ends none = none
-
-pub or-false : (a b : Bool) → (a || b) ≡ false → (a ≡ false) × (b ≡ false)
-or-false false b e = (refl, e)
-or-false true b e = absurd (cc)
-
-both-false : (a b : Bool) → a ≡ false → b ≡ false → (a || b) ≡ false
-both-false a b e f = rw (e, f) refl
-
-changed-child : (b : Bool) (f : Link → Link) (l : Link) → KeepsLink f → (cond b (f l) l).child ≡ l.child
-changed-child true f l keeps = keeps.child l
-changed-child false f l keeps = refl
-
-changed-ended : (b : Bool) (f : Link → Link) (l : Link) → KeepsLink f → l.has_ended ≡ true → (cond b (f l) l).has_ended ≡ true
-changed-ended true f l keeps e = keeps.ended l e
-changed-ended false f l keeps e = e
-
-none-live : (c k : ℕ) (f : Link → Link) → KeepsLink f → (ls : List Link) → list_any (is_live_of c) ls ≡ false
-    → list_any (is_live_of c) (map (λ l. cond (l.number == k) (f l) l) ls) ≡ false
-none-live c k f keeps [] none = refl
-none-live c k f keeps (x ∷ xs) none =
-    let parts = or-false (is_live_of c x) (list_any (is_live_of c) xs) none in
-    both-false _ _
-    (ap (λ m. not (cond (x.number == k) (f x) x).has_ended && m == c) (changed-child (x.number == k) f x keeps)
-    ∙ live-fewer x.has_ended (cond (x.number == k) (f x) x).has_ended (x.child == c) (changed-ended (x.number == k) f x keeps) parts.0)
-    (none-live c k f keeps xs parts.1)
-
-once-changed : (k : ℕ) (f : Link → Link) → KeepsLink f → (ls : List Link) → AreOnceLinked ls → AreOnceLinked (map (λ l. cond (l.number == k) (f l) l) ls)
-once-changed k f keeps [] once = tt
-once-changed k f keeps (x ∷ xs) once = (
-  λ lives.
-      ap (λ c. list_any (is_live_of c) (map (λ l. cond (l.number == k) (f l) l) xs)) (changed-child (x.number == k) f x keeps)
-      ∙ none-live x.child k f keeps xs (once.0 (lived x.has_ended refl lives)),
-  once-changed k f keeps xs once.1,
-)
-  where
-    lived : (b : Bool) → x.has_ended ≡ b → (cond (x.number == k) (f x) x).has_ended ≡ false → x.has_ended ≡ false
-    lived false e lives = e
-    lived true e lives = absurd (let both = sym (changed-ended (x.number == k) f x keeps e) ∙ lives in cc)
-
--- a link that changed is what it was made of
-record WasLink (o : Option Link) (f : Link → Link) (b : Bool) (new : Link) : Type 0 where
-  old : Link
-  here : o ≡ Some old
-  now : cond b (f old) old ≡ new
-
-was-link : (o : Option Link) (f : Link → Link) (b : Bool) (new : Link) → option_map (λ l. cond b (f l) l) o ≡ Some new → WasLink o f b new
-was-link None f b new e = absurd (cc)
-was-link (Some l) f b new e = record { old = l; here = refl; now = cc }
-
-gone-link : (o : Option Link) (g : Link → Link) → option_map g o ≡ None → o ≡ None
-gone-link None g e = refl
-gone-link (Some l) g e = absurd (cc)
-
-changed-parent : (b : Bool) (f : Link → Link) (l : Link) → KeepsLink f → (cond b (f l) l).parent ≡ l.parent
-changed-parent true f l keeps = keeps.parent l
-changed-parent false f l keeps = refl
-
 link-tied : (all : Surfaces) (k : ℕ) (f : Link → Link) → KeepsLink f → AreTied all → AreTied (with_link k f all)
-link-tied all k f keeps tied = record {
-  once = once-changed k f keeps all.links tied.once;
-  apart = numbered-changed k f keeps.number all.links tied.apart;
-  cuts = tied.cuts;
-  named = λ n l h there gone. tied.named n l h there (before l gone);
-  placed = λ n l h there gone. tied.placed n l h there (before l gone);
-  parents = λ n l h new there e has.
-      let was = was-link (link_at l all) f (l == k) new (sym (at-changed l k f keeps.number all.links) ∙ e) in
-      ap (λ (l : Link). l.parent) (sym was.now) ∙ (changed-parent (l == k) f was.old keeps ∙ tied.parents n l h was.old there was.here has);
-  listed = λ l new e lives.
-      let was = was-link (link_at l all) f (l == k) new (sym (at-changed l k f keeps.number all.links) ∙ e) in
-      let lived = lives-before l was.old new (l == k) was.now lives in
-      let is = tied.listed l was.old was.here lived in
-      let same = ap (λ (l : Link). l.parent) (sym was.now) ∙ changed-parent (l == k) f was.old keeps in
-      (is.0, ap (λ p. history_in p all) same ∙ is.1, is.2);
-}
-  where
-    before : (l : ℕ) → link_at l (with_link k f all) ≡ None → link_at l all ≡ None
-    before l gone = gone-link (link_at l all) (λ l2. cond (l == k) (f l2) l2) (sym (at-changed l k f keeps.number all.links) ∙ gone)
-
-    lives-before : (l : ℕ) (old new : Link) (b : Bool) → cond b (f old) old ≡ new → new.has_ended ≡ false → old.has_ended ≡ false
-    lives-before l old new b is lives = at old.has_ended refl
-      where
-        at : (e : Bool) → old.has_ended ≡ e → old.has_ended ≡ false
-        at false e = e
-        at true e = absurd (let both = sym (changed-ended b f old keeps e) ∙ (ap (λ (l : Link). l.has_ended) is ∙ lives) in cc)
+link-tied all k f keeps tied = each-tied (λ l. cond (l.number == k) (f l) l) (keeps-where (λ l. l.number == k) f keeps) all tied
 
 -- ---- the links that live, where one changes
 
@@ -202,7 +90,7 @@ number-found p (x ∷ xs) l apart e = at (p x) e (number-found p xs l apart.1)
         rw turned (next e)
 
 -- a link that lives is of the child that it is found by
-live-child : (c : ℕ) (ls : List Link) (l : Link) → find (is_live_of c) ls ≡ Some l → (l.child == c) ≡ true
+pub live-child : (c : ℕ) (ls : List Link) (l : Link) → find (is_live_of c) ls ≡ Some l → (l.child == c) ≡ true
 live-child c [] l e = absurd (cc)
 live-child c (x ∷ xs) l e = at (is_live_of c x) refl e (live-child c xs l)
   where
@@ -308,7 +196,7 @@ stacks-others kids h l child none =
 
 -- ---- the end of a link
 
-keeps-ending : KeepsLink ending
+pub keeps-ending : KeepsLink ending
 keeps-ending = record { number = λ l. refl; child = λ l. refl; parent = λ l. refl; ended = λ l e. refl }
 
 kids-ending : (all : Surfaces) (number : ℕ) → kids_of (with_link number ending all) ≡ with_kid number None (kids_of all)
@@ -320,12 +208,12 @@ kids-ending all number = fun_ext (λ l. ap kid_of (at-changed l number ending (�
     at false None = refl
     at false (Some l) = refl
 
-none-found : (p : Link → Bool) (ls : List Link) → list_any p ls ≡ false → find p ls ≡ None
+pub none-found : (p : Link → Bool) (ls : List Link) → list_any p ls ≡ false → find p ls ≡ None
 none-found p [] none = refl
 none-found p (x ∷ xs) none = let parts = or-false (p x) (list_any p xs) none in rw parts.0 (none-found p xs parts.1)
 
 -- nothing changes where no link has the number
-none-changed : (k : ℕ) (f : Link → Link) (ls : List Link) → list_any (λ l. l.number == k) ls ≡ false → map (λ l. cond (l.number == k) (f l) l) ls ≡ ls
+pub none-changed : (k : ℕ) (f : Link → Link) (ls : List Link) → list_any (λ l. l.number == k) ls ≡ false → map (λ l. cond (l.number == k) (f l) l) ls ≡ ls
 none-changed k f [] none = refl
 none-changed k f (x ∷ xs) none =
     let parts = or-false (x.number == k) (list_any (λ l. l.number == k) xs) none in rw parts.0 (ap (λ ls. x ∷ ls) (none-changed k f xs parts.1))
@@ -350,7 +238,7 @@ ended-none number (x ∷ xs) link once there lives = at (x.number == number) ref
     at true e found next =
         let it : x ≡ link = cc in
         let lives_too : x.has_ended ≡ false = ap (λ (l : Link). l.has_ended) it ∙ lives in
-        let rest = none-live x.child number ending keeps-ending xs (once.0 lives_too) in
+        let rest = none-live (λ l. cond (l.number == number) (ending l) l) (keeps-where (λ l. l.number == number) ending keeps-ending) x.child xs (once.0 lives_too) in
         rw e (ap (λ c. list_any (is_live_of c) (map (λ l. cond (l.number == number) (ending l) l) xs)) (ap (λ (l : Link). l.child) (sym it)) ∙ rest)
     at false e found next = rw e (both-false _ _ (is-live x.has_ended (x.child == link.child) refl refl found) (next found lives))
 

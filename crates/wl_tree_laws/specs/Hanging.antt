@@ -1,18 +1,18 @@
 -- When what is kept of how the surfaces of a client hang together stands for what was asked of them, surfaces being named by their numbers
 -- (wayland.xml, wl_subcompositor and wl_subsurface).
-use Rattle.std.specs.Prelude.{ℕ, ℤ, pos, ◌≡◌, ◌≤◌, ◌==◌, Bool, true, false, cond, take, Option, Some, None, List, [], ◌∷◌}
+use Rattle.std.specs.Prelude.{ℕ, ℤ, pos, ◌≡◌, ◌≤◌, ◌==◌, ◌&&◌, not, Bool, true, false, cond, take, Option, Some, None, List, [], ◌∷◌}
 use Rattle.std.specs.List.{list_any}
 use Rattle.std.specs.Option.{option_map}
 use Rattle.wl_children.specs.declared.placed.Member.{Member as Kept}
 use Rattle.wl_children.specs.Stacks.{Stacks, added, moved, placed_above, placed_below}
-use Rattle.wl_family.specs.Family.{Tied, applied, changed_at, childless, committed, in_mode, joined, left, links_in, pending_as, stacks_in}
-use Rattle.wl_family.specs.Family.{at_parent, unlinked, with_at}
+use Rattle.wl_family.specs.Family.{HangTogether, Tied, applied, at_parent, changed_at, childless, committed, in_mode, joined, left}
+use Rattle.wl_family.specs.Family.{links_in, orphaned, pending_as, stacks_in, unlinked, with_at}
 use Rattle.wl_state.specs.Request.{Commit, Member, PlaceAbove, PlaceBelow, Request, SetPosition}
 use Rattle.wl_state.specs.State.{History, committed as committed_at, counting, is_commit, position}
 use Rattle.wl_state.specs.Surface.{applying, asking}
 use Rattle.wl_surface.specs.Surfaces.{Link, Surfaces, history_in, link_at, surface_at, with_change, with_new, without_surface}
-use Rattle.wl_surface.specs.Trees.{applied_tree, descends_from, ending, in_mode as with_mode, levels, linked, with_link}
-use Rattle.wl_tree_laws.specs.Laws.{AreOnceLinked, links_of}
+use Rattle.wl_surface.specs.Trees.{applied_tree, descends_from, destroyed_in, ending, in_mode as with_mode, levels, linked, with_link}
+use Rattle.wl_tree_laws.specs.Laws.{AreOnceLinked, applied_where, ended_with, links_of}
 use Rattle.wl_tree_laws.specs.Stacks.{IsKept, Kids, has_child, is_about_children, stack_by}
 
 -- the child of each link that lives
@@ -142,3 +142,22 @@ RemovesSurface =
     (old new : Tied) (all : Surfaces) (id : ℕ)
     → ((number : ℕ) (link : Link) → link_at number all ≡ Some link → link.has_ended ≡ false → (link.parent == id) ≡ false)
     → links_in new ≡ links_in old → stacks_in new ≡ with_at id childless (stacks_in old) → Hang old all → Hang new (without_surface id all)
+
+-- The end of a surface with its links: each surface that descends from it is applied, and no other.
+abbrev pub EndsLinks : Type 0
+EndsLinks =
+    (all : Surfaces) (surface : ℕ) → AreOnceLinked all.links → AreNumbered all.links
+    → destroyed_in surface all
+    ≡ without_surface surface (record (applied_where (descends_from levels all surface) all) { links = ended_with surface all.links })
+
+-- the stacks that are left as a surface goes: none of its own, and it stands in none of its parent's
+abbrev pub left_without : ℕ → Tied → ℕ → Stacks
+left_without surface tied = with_at surface childless (left surface (links_in tied surface) (stacks_in tied))
+
+-- A surface ends with its links: it is gone, and what is held counts of the stack of each other surface that descended from it.
+abbrev pub DestroysSurface : Type 0
+DestroysSurface =
+    (old new : Tied) (all : Surfaces) (surface : ℕ) → HangTogether old → links_in new ≡ orphaned surface (links_in old)
+    → ((n : ℕ) → stacks_in new n
+    ≡ cond (descends_from 16 all surface n && not (n == surface)) (applied (left_without surface old n)) (left_without surface old n))
+    → Hang old all → Hang new (destroyed_in surface all)

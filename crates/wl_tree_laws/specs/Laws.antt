@@ -1,5 +1,5 @@
 -- Laws of trees of surfaces (wayland.xml, wl_subcompositor and wl_subsurface).
-use Rattle.std.specs.Prelude.{ℕ, suc, ◌≡◌, ◌≤◌, ◌==◌, ◌&&◌, Bool, false, cond, not, List, [], ◌∷◌, map}
+use Rattle.std.specs.Prelude.{ℕ, suc, ◌≡◌, ◌≤◌, ◌==◌, ◌&&◌, Bool, false, ◌||◌, cond, not, List, [], ◌∷◌, map}
 use Rattle.std.specs.List.{list_any}
 use Rattle.std.specs.Option.{option_map}
 use Rattle.wl_trees.specs.declared.trees.Place.{Place}
@@ -7,7 +7,7 @@ use Rattle.wl_trees.specs.Trees.{StandFor, depth_by, is_under, level_at}
 use Rattle.wl_family.specs.Family.{IsHeightBelow, IsTooDeep, Links, behaves_synchronised as behaves_by, parents_of}
 use Rattle.wl_state.specs.Surface.{applying}
 use Rattle.wl_surface.specs.Surfaces.{Link, Surfaces}
-use Rattle.wl_surface.specs.Trees.{applied_tree, behaves_synchronised, depth, descends_from, height, levels, link_of}
+use Rattle.wl_surface.specs.Trees.{applied_tree, behaves_synchronised, depth, descends_from, ending, height, levels, link_of}
 use Rattle.wl_surface.specs.Trees.{is_bad_parent, is_too_deep}
 
 -- a link of this child that hasn't ended
@@ -28,6 +28,10 @@ abbrev pub AppliesDescendants : Type 0
 AppliesDescendants =
     (all : Surfaces) → AreOnceLinked all.links → (n surface : ℕ)
     → applied_tree (suc n) surface all ≡ applied_where (descends_from n all surface) all
+
+-- the links that are with this surface, as their child or their parent, have ended
+abbrev pub ended_with : ℕ → List Link → List Link
+ended_with surface links = map (λ l. cond (l.child == surface || l.parent == surface) (ending l) l) links
 
 -- the links of a client as they are kept, by their children
 abbrev pub links_of : Surfaces → Links

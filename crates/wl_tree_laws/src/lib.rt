@@ -3,7 +3,7 @@
 #![tactic(auto)]
 
 ghost use Rattle.wl_tree_laws.specs.Stacks.{StacksFollow};
-ghost use Rattle.wl_tree_laws.specs.Hanging.{AppliesStack, AppliesTree, AsksAlone, CommitsStack, CreatesSurface, EndsLink, JoinsChild, MovesChild, PlacesChild, RemovesSurface, SetsMode};
+ghost use Rattle.wl_tree_laws.specs.Hanging.{AppliesStack, AppliesTree, AsksAlone, CommitsStack, CreatesSurface, DestroysSurface, EndsLink, EndsLinks, JoinsChild, MovesChild, PlacesChild, RemovesSurface, SetsMode};
 ghost use Rattle.wl_tree_laws.specs.Laws.{AppliesDescendants, HaveSameDepth, HaveSameDescent, HaveSameHeight, HaveSameModes, HaveSameRefusals};
 
 /// To apply a surface is to apply it and each surface that descends from it, once, and no other, where each child has one link that lives.
@@ -94,4 +94,14 @@ pub fn creates_surface()
 /// A surface goes that has no link to its parent and none to a child.
 pub fn removes_surface()
     ensures { RemovesSurface }
+{}
+
+/// As a surface ends with its links, each surface that descends from it is applied, once, and no other.
+pub fn ends_links()
+    ensures { EndsLinks }
+{}
+
+/// A surface ends with its links: what is held counts of the stacks of each other surface that descended from it.
+pub fn destroys_surface()
+    ensures { DestroysSurface }
 {}
