@@ -1,5 +1,5 @@
 -- What is kept stands for what was asked, once a tree is applied, and what is told of that is so.
-use Rattle.std.proofs.Common.{◌≡◌, ℕ, ◌==◌, ◌||◌, Bool, true, false, cond, Option, Some, None, List, [], ◌∷◌, map, refl, ap, sym, subst, ◌∙◌, arith}
+use Rattle.std.proofs.Common.{◌≡◌, ℕ, ◌==◌, ◌||◌, Bool, true, false, cond, Option, Some, None, List, [], ◌∷◌, ◌++◌, map, refl, ap, sym, subst, ◌∙◌, arith}
 use Rattle.std.specs.Prelude.{◌&&◌, count_by, find, if◌then◌else◌, is_some, not}
 use Rattle.std.specs.List.{list_any}
 use Rattle.std.specs.Option.{option_map}
@@ -8,19 +8,19 @@ use Rattle.std.proofs.lemmas.Bool.{eqb-true}
 use Rattle.wl_children.specs.Stacks.{Stacks}
 use Rattle.wl_trees.specs.declared.trees.Place.{Place}
 use Rattle.wl_trees.specs.Trees.{has_place, is_under}
-use Rattle.wl_family.specs.Family.{Links, Tied, applied, is_there, links_in, parents_of, stacks_in}
+use Rattle.wl_family.specs.Family.{Links, Tied, applied, links_in, parents_of, stacks_in}
 use Rattle.wl_state.specs.Surface.{Surface, applying}
 use Rattle.wl_surface.specs.declared.applied.Change.{Change}
 use Rattle.wl_surface.specs.Applied.{AreFreed}
-use Rattle.wl_surface.specs.Slots.{IsAny, Numbered, Slots, StandForAll, StandsAt, kept_at, shows_at}
+use Rattle.wl_surface.specs.Slots.{IsAny, Numbered, Slots, StandForAll, shows_at}
 use Rattle.wl_surface.specs.Surfaces.{Surfaces, surface_at}
 use Rattle.wl_surface.specs.Trees.{applied_tree, descends_from, levels, link_of, of_parent}
-use Rattle.wl_tree_laws.specs.Laws.{applied_where, links_of}
+use Rattle.wl_tree_laws.specs.Laws.{links_of}
 use Rattle.wl_tree_laws.proofs.Applying.{applies-descendants}
 use Rattle.wl_tree_laws.proofs.Coming.{applies-tree}
 use Rattle.wl_tree_laws.proofs.Parents.{same-descent}
 use Rattle.wl_linked.specs.Linked.{Stand, numbered}
-use Rattle.wl_linked.specs.Tree.{AreOnce, AreTold, IsTold, applied_among, is_among, shown_among, stacks_among}
+use Rattle.wl_linked.specs.Tree.{AreOnce, AreTold, AreToldAfter, IsTold, applied_among, is_among, shown_among, stacks_among}
 
 -- ---- surfaces of which some are applied
 
@@ -28,7 +28,7 @@ kept-id : (b : Bool) (s : Surface) → (cond b (applying s) s).id ≡ s.id
 kept-id true s = refl
 kept-id false s = refl
 
-found-where : (n : ℕ) (p : ℕ → Bool) (xs : List Surface)
+pub found-where : (n : ℕ) (p : ℕ → Bool) (xs : List Surface)
     → find (λ s. s.id == n) (map (λ s. cond (p s.id) (applying s) s) xs) ≡ (if p n then option_map applying (find (λ s. s.id == n) xs) else find (λ s. s.id == n) xs)
 found-where n p [] = by (p n)
   where
@@ -51,7 +51,7 @@ found-where n p (x ∷ xs) = at (x.id == n) refl (found-where n p xs)
         let first = ap (λ m. m == n) (kept-id (p x.id) x) ∙ e in
         rw (first, e) next
 
-same-there : (b : Bool) (o : Option Surface) → is_some (if b then option_map applying o else o) ≡ is_some o
+pub same-there : (b : Bool) (o : Option Surface) → is_some (if b then option_map applying o else o) ≡ is_some o
 same-there true None = refl
 same-there true (Some s) = refl
 same-there false o = refl
@@ -82,8 +82,13 @@ module _ (slots new : Slots) (tied after : Tied) (all : Surfaces) (surface : ℕ
         ∙ stand.there n (subst (λ (ps : List Place). has_place n ps ≡ true) places is);
   }
 
-  pub tree-told : {A : Type 0} (changes : List (Change A)) → AreOnce below → AreTold below (numbered all) changes → IsTold surface all changes
-  tree-told changes once told = record { numbers = below; once = once; those = descend; told = told }
+  pub tree-told : {A : Type 0} (before changes : List (Change A)) → before ≡ [] → AreOnce below → AreToldAfter before below (numbered all) changes → IsTold surface all changes
+  tree-told before changes none once told = record {
+    numbers = below;
+    once = once;
+    those = descend;
+    told = subst (λ cs. AreTold below (numbered all) cs) (sym (told.1 ∙ ap (λ cs. cs ++ told.0) none)) told.2;
+  }
 
   -- the surface itself is among them
   pub itself-below : is_among below surface ≡ true

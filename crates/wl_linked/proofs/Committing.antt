@@ -1,21 +1,19 @@
 -- A commit, held or applied at once.
-use Rattle.std.proofs.Common.{◌≡◌, ℕ, ◌==◌, ◌||◌, Bool, true, false, cond, List, [], ◌∷◌, refl, ap, sym, subst, ◌∙◌, arith}
+use Rattle.std.proofs.Common.{◌≡◌, ℕ, ◌==◌, Bool, true, false, cond, List, [], ◌∷◌, refl, ap, sym, subst, ◌∙◌, arith}
 use Rattle.std.specs.Prelude.{◌&&◌, IfOk, Result, Ok, Err, count_by, not}
 use Rattle.wl_surface.specs.declared.applied.Change.{Change}
 use Rattle.wl_surface.specs.declared.error.SurfaceError.{SurfaceError}
 use Rattle.std.specs.Option.{option_map}
 use Rattle.std.proofs.Math.Path.{fun_ext}
-use Rattle.wl_children.specs.Stacks.{Stacks}
 use Rattle.wl_trees.specs.declared.trees.Place.{Place}
 use Rattle.wl_trees.specs.Trees.{has_place, is_under}
-use Rattle.wl_family.specs.Family.{Links, Tied, behaves_synchronised as behaves_by, changed_at as stacks_changed_at, committed, is_there, links_in, parents_of, stacks_in}
+use Rattle.wl_family.specs.Family.{Links, Tied, behaves_synchronised as behaves_by, changed_at as stacks_changed_at, committed, links_in, parents_of, stacks_in}
 use Rattle.wl_state.specs.Request.{Commit}
 use Rattle.wl_state.specs.Surface.{asking}
 use Rattle.wl_surface.specs.Applied.{AreFreed}
 use Rattle.wl_surface.specs.Slots.{Changes, IsAny, Numbered, Slots, StandForAll, changed_at, shows_at}
 use Rattle.wl_surface.specs.Surfaces.{Surfaces, with_change}
 use Rattle.wl_surface.specs.Trees.{applied_tree, applied_unless, behaves_synchronised, committed_in, levels}
-use Rattle.wl_tree_laws.specs.Laws.{links_of}
 use Rattle.wl_tree_laws.proofs.Hanging.{commits-stack}
 use Rattle.wl_tree_laws.proofs.Parents.{same-modes}
 use Rattle.wl_linked.specs.Linked.{Stand, numbered}

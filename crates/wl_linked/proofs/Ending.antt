@@ -1,16 +1,15 @@
 -- The end of a link, and a child that isn't synchronised any more.
-use Rattle.std.proofs.Common.{◌≡◌, ℕ, zero, suc, ◌==◌, ◌||◌, Bool, true, false, cond, Option, Some, None, List, refl, ap, sym, subst, ◌∙◌}
-use Rattle.std.specs.Prelude.{◌&&◌, if◌then◌else◌, is_some, not}
+use Rattle.std.proofs.Common.{◌≡◌, ℕ, zero, suc, ◌==◌, ◌||◌, Bool, true, false, Option, Some, None, List, refl, ap, sym, subst, ◌∙◌}
+use Rattle.std.specs.Prelude.{if◌then◌else◌, is_some, not}
 use Rattle.std.specs.Option.{option_map, option_map_or}
 use Rattle.std.proofs.Math.Path.{fun_ext}
 use Rattle.std.proofs.lemmas.Bool.{eqb-true}
-use Rattle.wl_children.specs.Stacks.{Stacks}
 use Rattle.wl_trees.specs.declared.trees.Place.{Place}
 use Rattle.wl_trees.specs.Trees.{has_place, is_under}
 use Rattle.wl_family.specs.declared.link.Link.{Link as KeptLink}
 use Rattle.wl_family.specs.Family.{Links, Tied, behaves_synchronised as behaves_by, changed_at, in_mode as kept_mode, is_there, left, links_in, parents_of, stacks_in, unlinked}
 use Rattle.wl_surface.specs.Slots.{Slots}
-use Rattle.wl_surface.specs.Surfaces.{Link, Surfaces, link_at}
+use Rattle.wl_surface.specs.Surfaces.{Link, Surfaces}
 use Rattle.wl_surface.specs.Trees.{applied_tree, applied_unless, behaves_synchronised, desynchronised_in, ended_in, ending, in_mode, levels, released_in, with_link}
 use Rattle.wl_tree_laws.proofs.Linking.{ends-link, sets-mode}
 use Rattle.wl_tree_laws.proofs.Placing.{kept-link, numbered as number-found}

@@ -1,7 +1,9 @@
 pub mod Applying
 pub mod Committing
+pub mod Destroying
 pub mod Ending
 pub mod Refusing
+pub mod Shown
 pub mod Standing
 pub mod TreeApplied
 pub mod TreeBelow

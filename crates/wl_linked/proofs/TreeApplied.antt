@@ -15,7 +15,7 @@ use Rattle.wl_surface.specs.Applied.{AreApplied}
 use Rattle.wl_surface.specs.Slots.{Numbered, Slots, StandForAll, changed_at}
 use Rattle.wl_surface.specs.Waiting.{AreWaiting, Callback}
 use Rattle.wl_surface.specs.declared.frames.Waiting.{Waiting}
-use Rattle.wl_linked.specs.Tree.{AreOnce, AreTold, applied_among, is_among, listed, stacks_among}
+use Rattle.wl_linked.specs.Tree.{AreOnce, AreTold, AreToldAfter, applied_among, is_among, listed, stacks_among}
 
 -- two numbers are the same in either order
 turned : (n m : ℕ) → (n == m) ≡ (m == n)
@@ -133,6 +133,16 @@ told-next {A} numbers i d all was new one less once told applied is =
     let this : AreApplied n (all n) one = subst (λ (at : Option Surface). AreApplied n at one) here applied in
     subst (λ (cs : List (Change A)). AreTold (take (i + 1) numbers) all cs) (sym is)
     (subst (λ (ns : List ℕ). AreTold ns all (was ++ listed one)) (sym (take_more numbers i d less)) (told-more (take i numbers) n all was one told this))
+
+-- behind what was told before
+pub told-behind : {A : Type 0} (numbers : List ℕ) (i d : ℕ) (all : Numbered) (before was new : List (Change A)) (one : Option (Change A)) → i < length numbers → AreOnce numbers
+    → AreToldAfter before (take i numbers) all was → AreApplied (slice_index_or numbers i d) (applied_among (take i numbers) all (slice_index_or numbers i d)) one → new ≡ was ++ listed one
+    → AreToldAfter before (take (i + 1) numbers) all new
+told-behind numbers i d all before was new one less once told applied is = (
+  told.0 ++ listed one,
+  is ∙ ap (λ cs. cs ++ listed one) told.1 ∙ append_assoc before told.0 (listed one),
+  told-next numbers i d all told.0 (told.0 ++ listed one) one less once told.2 applied refl,
+)
 
 -- the change that is told, or none
 pub some-listed : {X : Type 0} (was new : List X) (one : Option X) (x : X) → one ≡ Some x → new ≡ was ++ x ∷ [] → new ≡ was ++ listed one

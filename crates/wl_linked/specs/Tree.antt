@@ -5,9 +5,9 @@ use Rattle.std.specs.Option.{option_map}
 use Rattle.wl_family.specs.Family.{applied}
 use Rattle.wl_children.specs.Stacks.{Stacks}
 use Rattle.wl_surface.specs.declared.applied.Change.{Change}
-use Rattle.wl_surface.specs.Applied.{AreApplied}
+use Rattle.wl_surface.specs.Applied.{AreApplied, AreGone}
 use Rattle.wl_surface.specs.Slots.{Numbered, shows_at}
-use Rattle.wl_surface.specs.Surfaces.{Surfaces, with_change}
+use Rattle.wl_surface.specs.Surfaces.{Surfaces, surface_at, with_change, without_surface}
 use Rattle.wl_surface.specs.Trees.{behaves_synchronised, descends_from, in_mode, levels, with_link}
 use Rattle.wl_state.specs.Request.{Buffer, Commit}
 use Rattle.wl_state.specs.Surface.{applying, asking}
@@ -49,6 +49,10 @@ AreTold {A} (n ∷ ns) all changes =
     (one : Option (Change A)) × (others : List (Change A)) × AreApplied n (all n) one × AreTold ns all others
     × (changes ≡ listed one ++ others)
 
+-- so it is told behind what was told before
+abbrev pub AreToldAfter : {A : Type 0} → List (Change A) → List ℕ → Numbered → List (Change A) → Type 0
+AreToldAfter {A} before numbers all changes = (told : List (Change A)) × (changes ≡ before ++ told) × AreTold numbers all told
+
 -- The surface and those that descend from it are applied, each once, and of each it is told what that changes.
 pub record IsTold {A : Type 0} (surface : ℕ) (all : Surfaces) (changes : List (Change A)) : Type 0 where
   pub numbers : List ℕ
@@ -74,3 +78,14 @@ IsDesyncTold number child all changes =
   where
     unheld : ℕ → Surfaces → Surfaces
     unheld number all = with_link number (in_mode false) all
+
+-- wl_surface.destroy: it is told of the surface, where it showed a buffer, and of those that descended from it, which are applied.
+pub record IsEndTold {A : Type 0} (surface : ℕ) (all : Surfaces) (changes : List (Change A)) : Type 0 where
+  pub own : List (Change A)
+  pub others : List (Change A)
+  pub gone : AreGone surface (surface_at surface all) own
+  pub numbers : List ℕ
+  pub once : AreOnce numbers
+  pub those : (number : ℕ) → is_among numbers number ≡ descends_from 16 all surface number
+  pub told : AreTold numbers (numbered (without_surface surface all)) others
+  pub together : changes ≡ own ++ others

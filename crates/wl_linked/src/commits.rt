@@ -1,17 +1,17 @@
 //! Commits, the modes of links and their ends, and the trees that these apply.
 
-ghost use Rattle.std.specs.Prelude.{ℕ, [], ◌≡◌, ◌==◌, ◌&&◌, not, cond, Bool, List, None, count_by, false, IfErr, IfOk, OnErr, OnOk};
-ghost use Rattle.wl_family.specs.Family.{links_in, parents_of, stacks_in};
+ghost use Rattle.std.specs.Prelude.{ℕ, [], ◌≡◌, ◌==◌, ◌&&◌, not, cond, Bool, List, None, count_by, filter, map, IfErr, IfOk, OnErr, OnOk};
+ghost use Rattle.wl_family.specs.Family.{HangTogether, links_in, parents_of, stacks_in};
 ghost use Rattle.wl_linked.specs.Linked.{IsLink, Stand, numbered};
 ghost use Rattle.wl_linked.specs.Room.{HasRoom};
-ghost use Rattle.wl_linked.specs.Tree.{AreOnce, AreTold, IsCommitTold, IsDesyncTold, IsTold, applied_among, is_among, shown_among, stacks_among};
+ghost use Rattle.wl_linked.specs.Tree.{AreOnce, AreToldAfter, IsCommitTold, IsDesyncTold, IsEndTold, IsTold, applied_among, is_among, shown_among, stacks_among};
 ghost use Rattle.wl_state.specs.Request.{Commit};
 ghost use Rattle.wl_state.specs.Surface.{asking};
-ghost use Rattle.wl_surface.specs.Applied.{AreFreed};
+ghost use Rattle.wl_surface.specs.Applied.{AreFreed, AreGone, is_shown_at};
 ghost use Rattle.wl_surface.specs.Slots.{IsAny, Numbered, StandForAll, shows_at};
-ghost use Rattle.wl_surface.specs.Surfaces.{Link, Surfaces as Asked, with_change};
-ghost use Rattle.wl_surface.specs.Trees.{applied_tree, committed_in, desynchronised_in, ended_in, ending, levels, with_link};
-ghost use Rattle.wl_surface.specs.Waiting.{AreWaiting, Callback};
+ghost use Rattle.wl_surface.specs.Surfaces.{Link, Surfaces as Asked, surface_at, with_change};
+ghost use Rattle.wl_surface.specs.Trees.{applied_tree, committed_in, destroyed_in, desynchronised_in, ended_in, ending, levels, with_link};
+ghost use Rattle.wl_surface.specs.Waiting.{AreWaiting, Callback, frames_at, is_in};
 ghost use Rattle.wl_trees.specs.Trees.{is_under};
 
 use crate::linked::Linked;
@@ -88,7 +88,7 @@ impl<A: Allocator + Copy> Linked<A> {
         ensures err { OnErr result (self.new ≡ self.old) }
         ensures cause { IfErr result (λ e. e ≡ SurfaceError.Memory) }
     {
-        let room = self.room(surface)?;
+        let room = self.room(surface, Vec::new(self.alloc))?;
         self.surfaces.hold(surface)?;
         self.family.commit(surface);
         Ok(self.apply_tree(room))
@@ -114,7 +114,7 @@ impl<A: Allocator + Copy> Linked<A> {
             return Ok(self.nothing());
         }
         let was_synchronised = self.family.behaves_synchronised(child);
-        let room = self.room(child)?;
+        let room = self.room(child, Vec::new(self.alloc))?;
         self.family.set_synchronised(child, false);
         let is_synchronised = self.family.behaves_synchronised(child);
         if was_synchronised && !is_synchronised {
@@ -142,9 +142,35 @@ impl<A: Allocator + Copy> Linked<A> {
         if self.family.link(child).is_none() {
             return Ok(self.nothing());
         }
-        let room = self.room(child)?;
+        let room = self.room(child, Vec::new(self.alloc))?;
         self.family.leave(child);
         Ok(self.apply_tree(room))
+    }
+
+    /// wl_surface.destroy: the surface is gone with its frame requests, and its links end, that to its parent and those to its children. What
+    /// descended from it is applied. Nothing changes without memory.
+    pub fn destroy(&mut self, surface: SurfaceNo) -> Result<Applied<A>, SurfaceError>
+        ensures ok { OnOk result ((all : Asked) → Stand self.old.surfaces self.old.family all → Stand self.new.surfaces self.new.family (destroyed_in surface all)) }
+        ensures waits { OnOk result ((all : Asked) (cs : List Callback) → Stand self.old.surfaces self.old.family all → AreWaiting self.old.surfaces.frames (numbered all) cs
+            → AreWaiting self.new.surfaces.frames (numbered (destroyed_in surface all)) (filter (λ c. not (is_in (frames_at (surface_at surface all)) c)) cs)) }
+        ensures changes { IfOk result (λ applied. (all : Asked) → Stand self.old.surfaces self.old.family all → IsEndTold surface all applied.changes.items) }
+        ensures freed { IfOk result (λ applied. (all : Asked) → Stand self.old.surfaces self.old.family all
+            → AreFreed applied.freed.items (numbered all) (numbered (destroyed_in surface all))) }
+        ensures callbacks { IfOk result (λ applied. (all : Asked) (cs : List Callback) → AreWaiting self.old.surfaces.frames (numbered all) cs
+            → applied.callbacks.items ≡ map (λ (c : Callback). c.id) (filter (is_in (frames_at (surface_at surface all))) cs)) }
+        ensures err { OnErr result (self.new ≡ self.old) }
+        ensures cause { IfErr result (λ e. e ≡ SurfaceError.Memory) }
+    {
+        let told = self.own_end(surface)?;
+        let room = self.room(surface, told)?;
+        let gone = self.surfaces.destroy(surface)?;
+        self.family.remove(surface);
+        let applied = self.apply_tree(room);
+        Ok(Applied {
+            changes: applied.changes,
+            freed: applied.freed,
+            callbacks: gone.callbacks,
+        })
     }
 
     /// Nothing is told.
@@ -160,17 +186,45 @@ impl<A: Allocator + Copy> Linked<A> {
         }
     }
 
-    /// Room for what it changes that the surface is applied with what descends from it.
-    fn room(&self, surface: SurfaceNo) -> Result<Room<A>, AllocError>
+    /// Whether a surface shows a buffer.
+    fn is_shown(&self, surface: SurfaceNo) -> bool
+        ensures { (all : Numbered) → StandForAll self.now.surfaces all → result ≡ is_shown_at (all surface) }
+    {
+        match self.surfaces.current(surface) {
+            Some(current) => current.buffer.is_some(),
+            None => false,
+        }
+    }
+
+    /// What it changes that a surface goes: that it shows no buffer any more.
+    fn own_end(&self, surface: SurfaceNo) -> Result<Vec<Change<A>, A>, AllocError>
+        ensures { IfOk result (λ changes. (all : Numbered) → StandForAll self.now.surfaces all → AreGone surface (all surface) changes.items) }
+    {
+        let mut changes = Vec::new(self.alloc);
+        if self.is_shown(surface) {
+            changes.push(Change {
+                surface,
+                whole: true,
+                rects: Vec::new(self.alloc),
+            })?;
+        }
+        Ok(changes)
+    }
+
+    /// Room for what it changes that the surface is applied with what descends from it, behind what is told before.
+    fn room(&self, surface: SurfaceNo, told: Vec<Change<A>, A>) -> Result<Room<A>, AllocError>
         ensures those { IfOk result (λ room. (number : ℕ) → is_among room.below.items number ≡ is_under 16 (parents_of (links_in self.now.family)) surface number) }
         ensures once { IfOk result (λ room. AreOnce room.below.items) }
         ensures shown { IfOk result (λ room. (all : Numbered) → StandForAll self.now.surfaces all
             → (buffer : ℕ) → is_among room.shown.items buffer ≡ shown_among room.below.items all buffer) }
+        ensures told { IfOk result (λ room. room.changes.items ≡ told.items) }
         ensures room { IfOk result HasRoom }
+        ensures hang { HangTogether self.now.family }
     {
         let below = below(&self.family, surface, self.alloc)?;
         let shown = shown_of(&self.surfaces, &below, self.alloc)?;
-        let changes = Vec::with_capacity(self.alloc, below.len())?;
+        let mut changes = told;
+        changes.reserve(below.len())?;
         let freed = Vec::with_capacity(self.alloc, shown.len())?;
         Ok(Room {
             below,
@@ -186,7 +240,7 @@ impl<A: Allocator + Copy> Linked<A> {
         ensures stand { (all : Numbered) → StandForAll self.old.surfaces all → StandForAll self.new.surfaces (applied_among room.below.items all) }
         ensures waits { (all : Numbered) (cs : List Callback) → AreWaiting self.old.surfaces.frames all cs
             → AreWaiting self.new.surfaces.frames (applied_among room.below.items all) cs }
-        ensures told { (all : Numbered) → StandForAll self.old.surfaces all → AreOnce room.below.items → AreTold room.below.items all result.changes.items }
+        ensures told { (all : Numbered) → StandForAll self.old.surfaces all → AreOnce room.below.items → AreToldAfter room.changes.items room.below.items all result.changes.items }
         ensures freed { (all : Numbered) → StandForAll self.new.surfaces all → (buffer : ℕ) (is : Bool) → IsAny (shows_at buffer) all is
             → count_by (λ n. n == buffer) result.freed.items ≡ cond (is_among room.shown.items buffer && not is) 1 0 }
         ensures callbacks { result.callbacks.items ≡ [] }

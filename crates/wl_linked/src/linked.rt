@@ -115,11 +115,7 @@ impl<A: Allocator + Copy> Linked<A> {
     /// # Errors
     ///
     /// `NotSibling` where the other surface is neither the parent nor another child of it, or else `Memory`. Neither changes anything.
-    pub fn place_above(
-        &mut self,
-        child: SurfaceNo,
-        sibling: SurfaceNo,
-    ) -> Result<(), SurfaceError>
+    pub fn place_above(&mut self, child: SurfaceNo, sibling: SurfaceNo) -> Result<(), SurfaceError>
         ensures ok { OnOk result ((all : Asked) (number : ℕ) (link : Link) (at : Member) → IsLink all number child link
             → IsKept (kids_of all) at (member_of link.parent sibling) → Stand self.old.surfaces self.old.family all
             → Stand self.new.surfaces self.new.family (with_change link.parent (asking (PlaceAbove number at)) all)) }
@@ -140,11 +136,7 @@ impl<A: Allocator + Copy> Linked<A> {
     /// # Errors
     ///
     /// `NotSibling` where the other surface is neither the parent nor another child of it, or else `Memory`. Neither changes anything.
-    pub fn place_below(
-        &mut self,
-        child: SurfaceNo,
-        sibling: SurfaceNo,
-    ) -> Result<(), SurfaceError>
+    pub fn place_below(&mut self, child: SurfaceNo, sibling: SurfaceNo) -> Result<(), SurfaceError>
         ensures ok { OnOk result ((all : Asked) (number : ℕ) (link : Link) (at : Member) → IsLink all number child link
             → IsKept (kids_of all) at (member_of link.parent sibling) → Stand self.old.surfaces self.old.family all
             → Stand self.new.surfaces self.new.family (with_change link.parent (asking (PlaceBelow number at)) all)) }

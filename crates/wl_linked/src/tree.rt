@@ -1,8 +1,8 @@
 //! What is applied of a tree of surfaces, surface by surface.
 
-ghost use Rattle.std.specs.Prelude.{ℕ, [], ◌≡◌, ◌≤◌, ◌+◌, ◌++◌, ◌==◌, ◌&&◌, not, cond, Bool, List, length, count_by, vec_capacity, IfOk, OnOk, option_map};
-ghost use Rattle.wl_family.specs.Family.{links_in, parents_of, stacks_in};
-ghost use Rattle.wl_linked.specs.Tree.{AreOnce, AreTold, applied_among, is_among, numbers_of, shown_among, stacks_among};
+ghost use Rattle.std.specs.Prelude.{ℕ, [], ◌≡◌, ◌≤◌, ◌+◌, ◌++◌, ◌==◌, ◌&&◌, not, cond, Bool, List, length, count_by, vec_capacity, vec_len, IfOk, OnOk, option_map};
+ghost use Rattle.wl_family.specs.Family.{HangTogether, links_in, parents_of, stacks_in};
+ghost use Rattle.wl_linked.specs.Tree.{AreOnce, AreToldAfter, applied_among, is_among, numbers_of, shown_among, stacks_among};
 ghost use Rattle.wl_state.specs.Kept.{buffer_of};
 ghost use Rattle.wl_surface.specs.Slots.{IsAny, Numbered, StandForAll, shows_at};
 ghost use Rattle.wl_surface.specs.Waiting.{AreWaiting, Callback};
@@ -20,6 +20,7 @@ pub(crate) fn below<A: Allocator + Copy>(
 ) -> Result<Vec<SurfaceNo, A>, AllocError>
     ensures those { IfOk result (λ below. (number : ℕ) → is_among below.items number ≡ is_under 16 (parents_of (links_in family.now)) surface number) }
     ensures once { IfOk result (λ below. AreOnce below.items) }
+    ensures hang { HangTogether family.now }
 {
     let tree = family.tree(surface);
     let mut below = Vec::new(alloc);
@@ -97,11 +98,10 @@ pub(crate) fn apply_each<A: Allocator + Copy>(
     numbers: &[SurfaceNo],
     changes: &mut Vec<Change<A>, A>,
 )
-    requires none { changes.old.items ≡ [] }
-    requires room { length numbers.now ≤ vec_capacity changes.old }
+    requires room { vec_len changes.old + length numbers.now ≤ vec_capacity changes.old }
     ensures stand { (all : Numbered) → StandForAll surfaces.old all → StandForAll surfaces.new (applied_among numbers.now all) }
     ensures waits { (all : Numbered) (cs : List Callback) → AreWaiting surfaces.old.frames all cs → AreWaiting surfaces.new.frames (applied_among numbers.now all) cs }
-    ensures told { (all : Numbered) → StandForAll surfaces.old all → AreOnce numbers.now → AreTold numbers.now all changes.new.items }
+    ensures told { (all : Numbered) → StandForAll surfaces.old all → AreOnce numbers.now → AreToldAfter changes.old.items numbers.now all changes.new.items }
     ensures links { links_in family.new ≡ links_in family.old }
     ensures places { family.new.places ≡ family.old.places }
     ensures stacks { stacks_in family.new ≡ stacks_among numbers.now (stacks_in family.old) }

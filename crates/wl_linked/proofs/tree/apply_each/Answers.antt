@@ -1,6 +1,6 @@
 use Rattle.std.proofs.Common.{◌∙◌, arith, take}
 use Rattle.wl_linked.specs.Tree.{applied_among}
-use Rattle.wl_linked.proofs.TreeApplied.{none-listed, some-listed, stacks-next, stand-next, told-next, waits-next}
+use Rattle.wl_linked.proofs.TreeApplied.{none-listed, some-listed, stacks-next, stand-next, told-behind, waits-next}
 use Rattle.wl_linked.proofs.tree.apply_each.Goals as goal
 use Rattle.wl_linked.proofs.tree.apply_each.Goals.{in-Some, in_default}
 
@@ -22,7 +22,7 @@ loop-number-preserved g c =
       waits = λ all cs wait.
           waits-next numbers i 0 less all c.apply.new.self.frames cs (c.apply.ensures.waits (applied_among (take i numbers) all) cs (c.loop-number.invariant.waits all cs wait));
       told = λ all stand once.
-          told-next numbers i 0 all c.loop-number.changes.items c.match-apply.changes.items c.apply.result less once (c.loop-number.invariant.told all stand once)
+          told-behind numbers i 0 all c.args.changes.now.items c.loop-number.changes.items c.match-apply.changes.items c.apply.result less once (c.loop-number.invariant.told all stand once)
           (c.apply.ensures.change (applied_among (take i numbers) all) (c.loop-number.invariant.stand all stand))
           (elim c.match-apply.branch [
             | in-Some w ↦ rw w.changes-is (some-listed c.loop-number.changes.items w.push_reserved.new.self.items c.apply.result w.in-Some.change w.in-Some.is w.push_reserved.ensures.items)

@@ -1,4 +1,4 @@
-use Rattle.std.proofs.Common.{sym, subst, ◌∙◌}
+use Rattle.std.proofs.Common.{sym, subst}
 use Rattle.wl_surface.specs.Applied.{AreFreed}
 use Rattle.wl_surface.specs.Surfaces.{Surfaces}
 use Rattle.wl_surface.specs.Waiting.{AreWaiting}

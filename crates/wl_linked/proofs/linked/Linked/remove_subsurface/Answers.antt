@@ -56,7 +56,7 @@ returns-clause-changes g c = λ all number link is stand.
     tree-told v.surfaces new.surfaces c.leave.new.self new.family (with_link number ending all) c.args.child c.in_ok-room.room.below.items
     (ended-stands v.surfaces v.family c.leave.new.self all number c.args.child link c.in_ok-room.room.below.items is stand c.leave.ensures.links c.leave.ensures.there c.leave.ensures.stacks c.in_ok-room.ensures.those)
     (ended-those v.surfaces v.family c.leave.new.self all number c.args.child link c.in_ok-room.room.below.items is stand c.leave.ensures.links c.leave.ensures.there c.leave.ensures.stacks c.in_ok-room.ensures.those)
-    c.apply_tree.result.changes.items c.in_ok-room.ensures.once (c.apply_tree.ensures.told (numbered all) stand.surfaces c.in_ok-room.ensures.once)
+    c.in_ok-room.room.changes.items c.apply_tree.result.changes.items (c.in_ok-room.ensures.told ∙ c.new.ensures.items) c.in_ok-room.ensures.once (c.apply_tree.ensures.told (numbered all) stand.surfaces c.in_ok-room.ensures.once)
 
 pub returns-clause-freed : goal.returns-clause-freed
 returns-clause-freed g c = λ all number link is stand.

@@ -1,4 +1,4 @@
-use Rattle.std.proofs.Common.{◌≡◌, false, true, sym, subst}
+use Rattle.std.proofs.Common.{◌≡◌, false, true, sym, subst, ◌∙◌}
 use Rattle.std.specs.Prelude.{◌||◌, not}
 use Rattle.wl_surface.specs.Applied.{AreFreed}
 use Rattle.wl_surface.specs.Slots.{Numbered}
@@ -35,14 +35,14 @@ returns-then-not-is_synchronised-clause-ok g c = λ all number link is stand.
     let e = c.apply_tree.ensures in
     subst (λ (a : Surfaces). Stand new.surfaces new.family a)
     (sym (desynchronised-is v.surfaces v.family c.set_synchronised.new.self all number c.args.child link c.in_ok-room.room.below.items is stand
-     c.set_synchronised.ensures.links c.set_synchronised.ensures.places c.set_synchronised.ensures.stacks c.in_ok-room.ensures.those
+    c.set_synchronised.ensures.links c.set_synchronised.ensures.places c.set_synchronised.ensures.stacks c.in_ok-room.ensures.those
     c.behaves_synchronised-was_synchronised.result c.behaves_synchronised-is_synchronised.result c.behaves_synchronised-was_synchronised.ensures c.behaves_synchronised-is_synchronised.ensures false
     (goes c.behaves_synchronised-was_synchronised.result c.behaves_synchronised-is_synchronised.result c.if-was_synchronised.true c.if-not-is_synchronised.true)))
     (tree-stands v.surfaces new.surfaces c.set_synchronised.new.self new.family (with_link number (in_mode false) all) c.args.child c.in_ok-room.room.below.items
     (unheld-stands v.surfaces v.family c.set_synchronised.new.self all number c.args.child link c.in_ok-room.room.below.items is stand
-     c.set_synchronised.ensures.links c.set_synchronised.ensures.places c.set_synchronised.ensures.stacks c.in_ok-room.ensures.those)
+    c.set_synchronised.ensures.links c.set_synchronised.ensures.places c.set_synchronised.ensures.stacks c.in_ok-room.ensures.those)
     (unheld-those v.surfaces v.family c.set_synchronised.new.self all number c.args.child link c.in_ok-room.room.below.items is stand
-     c.set_synchronised.ensures.links c.set_synchronised.ensures.places c.set_synchronised.ensures.stacks c.in_ok-room.ensures.those)
+    c.set_synchronised.ensures.links c.set_synchronised.ensures.places c.set_synchronised.ensures.stacks c.in_ok-room.ensures.those)
     e.stand e.links e.places e.stacks)
 
 pub returns-then-not-is_synchronised-clause-waits : goal.returns-then-not-is_synchronised-clause-waits
@@ -52,15 +52,15 @@ returns-then-not-is_synchronised-clause-waits g c = λ all number link cs is sta
     let e = c.apply_tree.ensures in
     subst (λ (a : Surfaces). AreWaiting new.surfaces.frames (numbered a) cs)
     (sym (desynchronised-is v.surfaces v.family c.set_synchronised.new.self all number c.args.child link c.in_ok-room.room.below.items is stand
-     c.set_synchronised.ensures.links c.set_synchronised.ensures.places c.set_synchronised.ensures.stacks c.in_ok-room.ensures.those
+    c.set_synchronised.ensures.links c.set_synchronised.ensures.places c.set_synchronised.ensures.stacks c.in_ok-room.ensures.those
     c.behaves_synchronised-was_synchronised.result c.behaves_synchronised-is_synchronised.result c.behaves_synchronised-was_synchronised.ensures c.behaves_synchronised-is_synchronised.ensures false
     (goes c.behaves_synchronised-was_synchronised.result c.behaves_synchronised-is_synchronised.result c.if-was_synchronised.true c.if-not-is_synchronised.true)))
     (subst (λ (named : Numbered). AreWaiting new.surfaces.frames named cs)
     (sym (numbered-so v.surfaces new.surfaces c.set_synchronised.new.self new.family (with_link number (in_mode false) all) c.args.child c.in_ok-room.room.below.items
     (unheld-stands v.surfaces v.family c.set_synchronised.new.self all number c.args.child link c.in_ok-room.room.below.items is stand
-     c.set_synchronised.ensures.links c.set_synchronised.ensures.places c.set_synchronised.ensures.stacks c.in_ok-room.ensures.those)
+    c.set_synchronised.ensures.links c.set_synchronised.ensures.places c.set_synchronised.ensures.stacks c.in_ok-room.ensures.those)
     (unheld-those v.surfaces v.family c.set_synchronised.new.self all number c.args.child link c.in_ok-room.room.below.items is stand
-     c.set_synchronised.ensures.links c.set_synchronised.ensures.places c.set_synchronised.ensures.stacks c.in_ok-room.ensures.those)))
+    c.set_synchronised.ensures.links c.set_synchronised.ensures.places c.set_synchronised.ensures.stacks c.in_ok-room.ensures.those)))
     (e.waits (numbered all) cs are))
 
 pub returns-then-not-is_synchronised-clause-changes : goal.returns-then-not-is_synchronised-clause-changes
@@ -70,15 +70,15 @@ returns-then-not-is_synchronised-clause-changes g c = λ all number link is stan
     let e = c.apply_tree.ensures in
     subst (λ b. IsToldUnless b c.args.child (with_link number (in_mode false) all) c.apply_tree.result.changes.items)
     (sym (stays-so v.surfaces v.family c.set_synchronised.new.self all number c.args.child link c.in_ok-room.room.below.items is stand
-     c.set_synchronised.ensures.links c.set_synchronised.ensures.places c.set_synchronised.ensures.stacks c.in_ok-room.ensures.those
+    c.set_synchronised.ensures.links c.set_synchronised.ensures.places c.set_synchronised.ensures.stacks c.in_ok-room.ensures.those
     c.behaves_synchronised-was_synchronised.result c.behaves_synchronised-is_synchronised.result c.behaves_synchronised-was_synchronised.ensures c.behaves_synchronised-is_synchronised.ensures false
     (goes c.behaves_synchronised-was_synchronised.result c.behaves_synchronised-is_synchronised.result c.if-was_synchronised.true c.if-not-is_synchronised.true)))
     (tree-told v.surfaces new.surfaces c.set_synchronised.new.self new.family (with_link number (in_mode false) all) c.args.child c.in_ok-room.room.below.items
     (unheld-stands v.surfaces v.family c.set_synchronised.new.self all number c.args.child link c.in_ok-room.room.below.items is stand
-     c.set_synchronised.ensures.links c.set_synchronised.ensures.places c.set_synchronised.ensures.stacks c.in_ok-room.ensures.those)
+    c.set_synchronised.ensures.links c.set_synchronised.ensures.places c.set_synchronised.ensures.stacks c.in_ok-room.ensures.those)
     (unheld-those v.surfaces v.family c.set_synchronised.new.self all number c.args.child link c.in_ok-room.room.below.items is stand
-     c.set_synchronised.ensures.links c.set_synchronised.ensures.places c.set_synchronised.ensures.stacks c.in_ok-room.ensures.those)
-    c.apply_tree.result.changes.items c.in_ok-room.ensures.once (e.told (numbered all) stand.surfaces c.in_ok-room.ensures.once))
+    c.set_synchronised.ensures.links c.set_synchronised.ensures.places c.set_synchronised.ensures.stacks c.in_ok-room.ensures.those)
+    c.in_ok-room.room.changes.items c.apply_tree.result.changes.items (c.in_ok-room.ensures.told ∙ c.new.ensures.items) c.in_ok-room.ensures.once (e.told (numbered all) stand.surfaces c.in_ok-room.ensures.once))
 
 pub returns-then-not-is_synchronised-clause-freed : goal.returns-then-not-is_synchronised-clause-freed
 returns-then-not-is_synchronised-clause-freed g c = λ all number link is stand.
@@ -86,16 +86,16 @@ returns-then-not-is_synchronised-clause-freed g c = λ all number link is stand.
     let new = c.apply_tree.new.self in
     let e = c.apply_tree.ensures in
     let desync = desynchronised-is v.surfaces v.family c.set_synchronised.new.self all number c.args.child link c.in_ok-room.room.below.items is stand
-     c.set_synchronised.ensures.links c.set_synchronised.ensures.places c.set_synchronised.ensures.stacks c.in_ok-room.ensures.those
+    c.set_synchronised.ensures.links c.set_synchronised.ensures.places c.set_synchronised.ensures.stacks c.in_ok-room.ensures.those
     c.behaves_synchronised-was_synchronised.result c.behaves_synchronised-is_synchronised.result c.behaves_synchronised-was_synchronised.ensures c.behaves_synchronised-is_synchronised.ensures false
     (goes c.behaves_synchronised-was_synchronised.result c.behaves_synchronised-is_synchronised.result c.if-was_synchronised.true c.if-not-is_synchronised.true) in
     let after = subst (λ (a : Surfaces). Stand new.surfaces new.family a) desync (returns-then-not-is_synchronised-clause-ok g c all number link is stand) in
     subst (λ (a : Surfaces). AreFreed c.apply_tree.result.freed.items (numbered all) (numbered a)) (sym desync)
     (tree-freed v.surfaces new.surfaces c.set_synchronised.new.self new.family (with_link number (in_mode false) all) c.args.child c.in_ok-room.room.below.items
     (unheld-stands v.surfaces v.family c.set_synchronised.new.self all number c.args.child link c.in_ok-room.room.below.items is stand
-     c.set_synchronised.ensures.links c.set_synchronised.ensures.places c.set_synchronised.ensures.stacks c.in_ok-room.ensures.those)
+    c.set_synchronised.ensures.links c.set_synchronised.ensures.places c.set_synchronised.ensures.stacks c.in_ok-room.ensures.those)
     (unheld-those v.surfaces v.family c.set_synchronised.new.self all number c.args.child link c.in_ok-room.room.below.items is stand
-     c.set_synchronised.ensures.links c.set_synchronised.ensures.places c.set_synchronised.ensures.stacks c.in_ok-room.ensures.those)
+    c.set_synchronised.ensures.links c.set_synchronised.ensures.places c.set_synchronised.ensures.stacks c.in_ok-room.ensures.those)
     c.in_ok-room.room.shown.items c.apply_tree.result.freed.items (c.in_ok-room.ensures.shown (numbered all) stand.surfaces) (e.freed _ after.surfaces))
 
 pub returns-clause-ok : goal.returns-clause-ok
@@ -107,10 +107,10 @@ returns-clause-ok g c = λ all number link is stand.
     ] in
     subst (λ (a : Surfaces). Stand v.surfaces c.set_synchronised.new.self a)
     (sym (desynchronised-is v.surfaces v.family c.set_synchronised.new.self all number c.args.child link c.in_ok-room.room.below.items is stand
-     c.set_synchronised.ensures.links c.set_synchronised.ensures.places c.set_synchronised.ensures.stacks c.in_ok-room.ensures.those
+    c.set_synchronised.ensures.links c.set_synchronised.ensures.places c.set_synchronised.ensures.stacks c.in_ok-room.ensures.those
     c.behaves_synchronised-was_synchronised.result c.behaves_synchronised-is_synchronised.result c.behaves_synchronised-was_synchronised.ensures c.behaves_synchronised-is_synchronised.ensures true stays))
     (unheld-stands v.surfaces v.family c.set_synchronised.new.self all number c.args.child link c.in_ok-room.room.below.items is stand
-     c.set_synchronised.ensures.links c.set_synchronised.ensures.places c.set_synchronised.ensures.stacks c.in_ok-room.ensures.those)
+    c.set_synchronised.ensures.links c.set_synchronised.ensures.places c.set_synchronised.ensures.stacks c.in_ok-room.ensures.those)
 
 pub returns-clause-waits : goal.returns-clause-waits
 returns-clause-waits g c = λ all number link cs is stand are.
@@ -121,7 +121,7 @@ returns-clause-waits g c = λ all number link cs is stand are.
     ] in
     subst (λ (a : Surfaces). AreWaiting v.surfaces.frames (numbered a) cs)
     (sym (desynchronised-is v.surfaces v.family c.set_synchronised.new.self all number c.args.child link c.in_ok-room.room.below.items is stand
-     c.set_synchronised.ensures.links c.set_synchronised.ensures.places c.set_synchronised.ensures.stacks c.in_ok-room.ensures.those
+    c.set_synchronised.ensures.links c.set_synchronised.ensures.places c.set_synchronised.ensures.stacks c.in_ok-room.ensures.those
     c.behaves_synchronised-was_synchronised.result c.behaves_synchronised-is_synchronised.result c.behaves_synchronised-was_synchronised.ensures c.behaves_synchronised-is_synchronised.ensures true stays))
     are
 
@@ -134,7 +134,7 @@ returns-clause-changes g c = λ all number link is stand.
     ] in
     subst (λ b. IsToldUnless b c.args.child (with_link number (in_mode false) all) c.nothing-2.result.changes.items)
     (sym (stays-so v.surfaces v.family c.set_synchronised.new.self all number c.args.child link c.in_ok-room.room.below.items is stand
-     c.set_synchronised.ensures.links c.set_synchronised.ensures.places c.set_synchronised.ensures.stacks c.in_ok-room.ensures.those
+    c.set_synchronised.ensures.links c.set_synchronised.ensures.places c.set_synchronised.ensures.stacks c.in_ok-room.ensures.those
     c.behaves_synchronised-was_synchronised.result c.behaves_synchronised-is_synchronised.result c.behaves_synchronised-was_synchronised.ensures c.behaves_synchronised-is_synchronised.ensures true stays))
     c.nothing-2.ensures.changes
 
@@ -147,6 +147,6 @@ returns-clause-freed g c = λ all number link is stand.
     ] in
     subst (λ (a : Surfaces). AreFreed c.nothing-2.result.freed.items (numbered all) (numbered a))
     (sym (desynchronised-is v.surfaces v.family c.set_synchronised.new.self all number c.args.child link c.in_ok-room.room.below.items is stand
-     c.set_synchronised.ensures.links c.set_synchronised.ensures.places c.set_synchronised.ensures.stacks c.in_ok-room.ensures.those
+    c.set_synchronised.ensures.links c.set_synchronised.ensures.places c.set_synchronised.ensures.stacks c.in_ok-room.ensures.those
     c.behaves_synchronised-was_synchronised.result c.behaves_synchronised-is_synchronised.result c.behaves_synchronised-was_synchronised.ensures c.behaves_synchronised-is_synchronised.ensures true stays))
     (rw c.nothing-2.ensures.freed (nothing-freed (numbered all)))

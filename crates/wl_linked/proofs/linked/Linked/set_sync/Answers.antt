@@ -1,4 +1,4 @@
-use Rattle.std.proofs.Common.{refl, true}
+use Rattle.std.proofs.Common.{true}
 use Rattle.wl_tree_laws.proofs.Linking.{sets-mode}
 use Rattle.wl_linked.proofs.linked.Linked.set_sync.Goals as goal
 

@@ -1,4 +1,3 @@
-use Rattle.std.proofs.Common.{refl}
 use Rattle.wl_linked.proofs.Refusing.{deep-so, given, memory-so, never-refused, of-memory, on-err, on-ok, parent-so, role-so}
 use Rattle.wl_linked.proofs.Standing.{linked-stands, unlinked-stands}
 use Rattle.wl_linked.proofs.linked.Linked.subsurface.Goals as goal
