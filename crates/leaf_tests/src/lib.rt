@@ -2,10 +2,6 @@
 #![tactic(auto)]
 
 #[cfg(test)]
-mod children;
-#[cfg(test)]
-mod family;
-#[cfg(test)]
 mod held;
 #[cfg(test)]
 mod regions;
@@ -19,5 +15,3 @@ mod stores;
 mod surface_cases;
 #[cfg(test)]
 mod surfaces;
-#[cfg(test)]
-mod trees;

@@ -1,0 +1,11 @@
+//! Tests of the crates of subsurfaces, with allocations that are refused.
+#![tactic(auto)]
+
+#[cfg(test)]
+mod children;
+#[cfg(test)]
+mod family;
+#[cfg(test)]
+mod linked;
+#[cfg(test)]
+mod trees;
