@@ -22,7 +22,8 @@ use Rattle.wl_laws.proofs.Runs.Places.{other-become, status-become}
 use Rattle.wl_records.proofs.Marks.TouchingSteps.{told-marks-nothing}
 use Rattle.wl_scene.specs.Stacking.{Stack}
 use Rattle.wl_resident.specs.Agreement.{Matches, numbers_in}
-use Rattle.wl_resident.specs.Marking.{IsAsLarge, MarksAtLeast, MarksMost, MarksOwnIf}
+use Rattle.wl_marking.specs.Marking.{IsAsLarge}
+use Rattle.wl_resident.specs.Marking.{MarksAtLeast, MarksMost, MarksOwnIf}
 use Rattle.wl_resident.specs.Seats.{IsSeated}
 use Rattle.wl_resident.specs.View.{DeskView, MarkedDesk}
 use Rattle.wl_resident.specs.declared.residents.Resident.{Resident as Kept}

@@ -8,7 +8,7 @@ use Rattle.wl_client.specs.declared.outputs.Output.{Output}
 use Rattle.wl_paint.specs.Damage.{Damaged, has}
 use Rattle.wl_scene.specs.Stacking.{Stack}
 use Rattle.wl_resident.specs.Agreement.{IsPlace, Matches}
-use Rattle.wl_resident.specs.Marking.{IsAsLarge}
+use Rattle.wl_marking.specs.Marking.{IsAsLarge}
 use Rattle.wl_resident.specs.View.{DeskView, MarkedDesk, OwnedView, owned_view}
 use Rattle.wl_resident.specs.declared.residents.Resident.{Resident as Kept}
 use Rattle.wl_plain.specs.Act.{lowest, next_of}

@@ -10,7 +10,7 @@ ghost use Rattle.wl_plain.specs.Act.{Connect, Feed, Store, Leave, Tick, Send, Cl
 ghost use Rattle.wl_desk.specs.Agreeing.{Agrees, MarksNothing, MarksStep, TakesStep};
 ghost use Rattle.wl_resident.specs.Marking.{MarksAtLeast, MarksAtMost, MarksMost, MarksThrough};
 ghost use Rattle.wl_desk.specs.Feeding.{Ends, IsIdleIn, kept_at, kept_while, rest_in, served_as, served_of};
-ghost use Rattle.wl_resident.specs.Marking.{IsAsLarge};
+ghost use Rattle.wl_marking.specs.Marking.{IsAsLarge};
 ghost use Rattle.wl_desk.specs.Framing.{MarksIfEnds, WasTold};
 ghost use Rattle.wl_desk.specs.Residents.{resident_at};
 ghost use Rattle.wl_desk.specs.Painting.{IsOpaqueAsSaid};

@@ -50,11 +50,12 @@ use Rattle.wl_records.proofs.Marks.TouchingCommits.{IsAppliedBy}
 use Rattle.wl_records.proofs.Marks.TouchingMarks.{either-of}
 use Rattle.wl_records.proofs.Marks.TouchingMessages.{asks-find}
 use Rattle.wl_resident.specs.Agreement.{IsStack, with_numbers}
-use Rattle.wl_resident.specs.Marking.{IsRecordOf, MarksAtLeast, MarksMost, MarksThrough, any_record_has, commit_by, is_shown_by, marked_by, marked_in}
+use Rattle.wl_marking.specs.Marking.{any_record_has}
+use Rattle.wl_resident.specs.Marking.{IsRecordOf, MarksAtLeast, MarksMost, MarksThrough, commit_by, is_shown_by, marked_by, marked_in}
 use Rattle.wl_resident.specs.Messages.{IsAsked}
 use Rattle.wl_resident.specs.Residents.{IsResident}
 use Rattle.wl_resident.specs.Seats.{IsSeated}
-use Rattle.wl_resident.specs.declared.marking.WindowRecord.{WindowRecord}
+use Rattle.wl_marking.specs.declared.record.WindowRecord.{WindowRecord}
 use Rattle.wl_resident.specs.declared.messages.Asked.{Asked}
 use Rattle.wl_resident.specs.declared.messages.Asked.TheVariants as asked
 use Rattle.wl_resident.specs.declared.messages.Kind.{Kind}

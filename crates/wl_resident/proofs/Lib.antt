@@ -24,7 +24,6 @@ pub mod MarkedMessages
 pub mod Within
 pub mod Marked
 pub mod Toplevels
-pub mod Spans
 pub mod EndedMessages
 pub mod EndedThrough
 pub mod ServedThrough

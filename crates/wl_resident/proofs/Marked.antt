@@ -26,7 +26,7 @@ use Rattle.wl_records.specs.Touching.{is_window_of, window_at}
 use Rattle.wl_resident.specs.Agreement.{IsStack, IsStanding, with_numbers}
 use Rattle.wl_resident.specs.Marking.{IsRecordOf, record_showing}
 use Rattle.wl_resident.specs.Seats.{IsSeated}
-use Rattle.wl_resident.specs.declared.marking.WindowRecord.{WindowRecord}
+use Rattle.wl_marking.specs.declared.record.WindowRecord.{WindowRecord}
 use Rattle.wl_resident.specs.declared.residents.Resident.{Resident as Kept}
 use Rattle.wl_records.proofs.Keeping.OwningSurfaces.{surface-named, surface-read}
 use Rattle.wl_records.proofs.Toplevels.OneWindow.{one-window, window_list}

@@ -50,9 +50,10 @@ use Rattle.wl_plain.specs.Demanding.{toplevel_demand, toplevel_destroyed, xdg_as
 use Rattle.wl_records.proofs.Toplevels.Judged.{simple-peer, simply-ok}
 use Rattle.wl_plain.specs.Desktop.{Desktop, Resident, client_in, owned_in, owned_of, status_in, status_of}
 use Rattle.wl_resident.proofs.Toplevels.{MarksToplevels}
-use Rattle.wl_resident.specs.Marking.{AddsPoints, AreUnlinked, IsRecordOf, MarksChange, TellsChange, any_record_has, commit_by, commit_in, is_record_damaged, marked_by, marked_in, record_has}
+use Rattle.wl_marking.specs.Marking.{AddsPoints, MarksChange, any_record_has, is_record_damaged, record_has}
+use Rattle.wl_resident.specs.Marking.{AreUnlinked, IsRecordOf, TellsChange, commit_by, commit_in, marked_by, marked_in}
 use Rattle.wl_resident.specs.Marking.{rects_applied, rects_changed}
-use Rattle.wl_resident.specs.declared.marking.WindowRecord.{WindowRecord}
+use Rattle.wl_marking.specs.declared.record.WindowRecord.{WindowRecord}
 use Rattle.wl_resident.specs.Messages.{IsAsked, IsKind}
 use Rattle.wl_records.specs.Owning.{by_number, names_in, target_as, targets_in}
 use Rattle.wl_plain.specs.Marks.{has_same_record}

@@ -7,7 +7,8 @@ use Rattle.wl_state.specs.Kept.{Kept as KeptSurface}
 use Rattle.wl_surface.specs.Slots.{Numbered, StandForAll, StandsAt, place_at}
 use Rattle.wl_paint.specs.Damage.{Damaged, has}
 use Rattle.wl_scene.specs.Stacking.{Stack}
-use Rattle.wl_resident.specs.Marking.{IsAsLarge, MarksOwnIf, is_shown_by}
+use Rattle.wl_marking.specs.Marking.{IsAsLarge}
+use Rattle.wl_resident.specs.Marking.{MarksOwnIf, is_shown_by}
 use Rattle.wl_resident.specs.declared.residents.Resident.{Resident as Kept}
 use Rattle.wl_resident.proofs.OwnWindows.{numbered, numbered-stand, seated-shown}
 

@@ -24,7 +24,8 @@ use Rattle.wl_plain.specs.Desktop.{Desktop, Resident, owned_in, owned_of}
 use Rattle.wl_records.specs.Owning.{AreKept, by_number, targets_in}
 use Rattle.wl_records.specs.Touching.{has_window_at}
 use Rattle.wl_resident.specs.Agreement.{IsStack, IsStanding, with_numbers}
-use Rattle.wl_resident.specs.Marking.{IsAsLarge, is_shown_by, record_has, record_showing, shows_point}
+use Rattle.wl_marking.specs.Marking.{IsAsLarge, record_has}
+use Rattle.wl_resident.specs.Marking.{is_shown_by, record_showing, shows_point}
 use Rattle.wl_resident.specs.Seats.{IsSeated}
 use Rattle.wl_resident.specs.declared.residents.Resident.{Resident as Kept}
 use Rattle.wl_records.proofs.Keeping.OwningSurfaces.{surface-read}

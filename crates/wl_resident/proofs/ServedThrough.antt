@@ -37,11 +37,12 @@ use Rattle.wl_laws.proofs.Marks.Stacks.{and-left, differ, unless}
 use Rattle.wl_laws.proofs.Runs.Through.{messages_lead_through}
 use Rattle.wl_records.proofs.Marks.TouchingCommits.{maps-none}
 use Rattle.wl_records.proofs.Marks.TouchingMessages.{asks-find}
-use Rattle.wl_resident.specs.Marking.{IsCommitted, IsRecordOf, IsStill, MarksAtLeast, MarksMost, any_record_has, commit_by, is_shown_by, was_shown}
+use Rattle.wl_marking.specs.Marking.{any_record_has}
+use Rattle.wl_resident.specs.Marking.{IsCommitted, IsRecordOf, IsStill, MarksAtLeast, MarksMost, commit_by, is_shown_by, was_shown}
 use Rattle.wl_resident.specs.Messages.{IsAsked}
 use Rattle.wl_resident.specs.Residents.{IsResident}
 use Rattle.wl_resident.specs.Seats.{IsClearedBy, IsRestackedBy, IsSeated}
-use Rattle.wl_resident.specs.declared.marking.WindowRecord.{WindowRecord}
+use Rattle.wl_marking.specs.declared.record.WindowRecord.{WindowRecord}
 use Rattle.wl_resident.specs.declared.messages.Asked.{Asked}
 use Rattle.wl_resident.specs.declared.residents.Resident.{Resident as Kept}
 use Rattle.wl_resident.specs.declared.residents.Stacking.{Stacking}

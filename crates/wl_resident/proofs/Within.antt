@@ -44,12 +44,13 @@ use Rattle.wl_laws.proofs.Marks.Stacks.{differ}
 use Rattle.wl_records.proofs.Marks.TouchingDamage.{serves-within}
 use Rattle.wl_records.proofs.Marks.TouchingMarks.{either-of}
 use Rattle.wl_records.proofs.Marks.TouchingMessages.{touched-peer}
-use Rattle.wl_resident.specs.Marking.{AddsPoints, AreUnlinked, IsRecordOf, MarksAtMost, MarksChange, TellsChange, any_record_has, commit_by, is_record_damaged, marked_by, marked_in, record_has}
+use Rattle.wl_marking.specs.Marking.{AddsPoints, MarksChange, any_record_has, is_record_damaged, record_has}
+use Rattle.wl_resident.specs.Marking.{AreUnlinked, IsRecordOf, MarksAtMost, TellsChange, commit_by, marked_by, marked_in}
 use Rattle.wl_resident.specs.Marking.{rects_applied}
 use Rattle.wl_resident.specs.Messages.{IsAsked, IsKind}
 use Rattle.wl_resident.specs.Residents.{IsResident, KeepsNumbers, asked_by}
 use Rattle.wl_resident.specs.Seats.{IsSeated}
-use Rattle.wl_resident.specs.declared.marking.WindowRecord.{WindowRecord}
+use Rattle.wl_marking.specs.declared.record.WindowRecord.{WindowRecord}
 use Rattle.wl_resident.specs.declared.messages.Asked.{Asked}
 use Rattle.wl_resident.specs.declared.messages.Asked.TheVariants as asked
 use Rattle.wl_resident.specs.declared.messages.Kind.{Kind}

@@ -21,22 +21,18 @@ use Rattle.wl_scene.specs.Stacking.{Stack, Standing}
 use Rattle.wl_scene.specs.Windows.{Place, Window, corner_at}
 use Rattle.wl_plain.specs.Desktop.{Desktop, Resident, owned_in, status_in}
 use Rattle.wl_records.specs.Touching.{has_window_at}
+use Rattle.wl_marking.specs.Marking.{IsAsLarge, any_record_has}
 use Rattle.wl_resident.specs.Seats.{IsSeated}
 use Rattle.wl_peer.specs.Objects.{ById}
 use Rattle.wl_plain.specs.Moments.{marks_at_least, marks_at_least_through, marks_at_most, marks_at_most_through}
 use Rattle.wl_plain.specs.Stacked.{all_windows}
-use Rattle.wl_resident.specs.declared.marking.WindowRecord.{WindowRecord}
+use Rattle.wl_marking.specs.declared.record.WindowRecord.{WindowRecord}
 use Rattle.wl_resident.specs.declared.messages.Asked.{Asked}
 use Rattle.wl_resident.specs.declared.messages.Asked.TheVariants as asked
 use Rattle.wl_resident.specs.declared.messages.Kind.{Kind}
 use Rattle.wl_resident.specs.declared.messages.Kind.TheVariants as kind
 use Rattle.wl_resident.specs.declared.residents.Resident.{Resident as Kept}
 use Rattle.wl_resident.specs.declared.xdg_toplevel.ToplevelAsked.TheVariants.{Destruction}
-
--- the damage of an output with the same sides
-pub record IsAsLarge (old new : Damaged) : Type 0 where
-  pub width : new.width ≡ old.width
-  pub height : new.height ≡ old.height
 
 -- no surface of a client is linked to another
 abbrev pub AreUnlinked : Desktop → Type 0
@@ -106,14 +102,6 @@ IsRecordOf (Some k) (Some w) = ((k.x ≡ w.corner.x) × (k.y ≡ w.corner.y)) ×
     × (k.transform ≡ transform_of w.transform) × (nat_lt w.transform 8 ≡ true)
 IsRecordOf k w = ⊥
 
--- its window contains the point
-abbrev pub record_has : ℤ → ℤ → WindowRecord → Bool
-record_has x y k = in_span k.x (pos k.w) x && in_span k.y (pos k.h) y
-
-abbrev pub any_record_has : ℤ → ℤ → Option WindowRecord → Bool
-any_record_has x y None = false
-any_record_has x y (Some k) = record_has x y k
-
 -- so did the one before a commit that was applied
 abbrev pub was_shown : Bool → Option WindowRecord → ℤ → ℤ → Bool
 was_shown applied was x y = applied && any_record_has x y was
@@ -129,10 +117,6 @@ shows_point x y place (Some h) =
 abbrev pub is_shown_by : ℕ → Numbered → ℤ → ℤ → Standing → Bool
 is_shown_by c all x y k = (k.client == c) && shows_point x y k.place (option_map (λ (s : Surface). s.history) (all k.surface))
 
--- its surface's damage, these rectangles, holds the point (wayland.xml, wl_surface.damage)
-abbrev pub is_record_damaged : List Rect → ℤ → ℤ → WindowRecord → Bool
-is_record_damaged rects x y k = record_has x y k && is_damaged k.w k.h rects (unsigned_abs (x -ℤ k.x)) (unsigned_abs (y -ℤ k.y))
-
 -- the damage that a commit applied to its surface, if there was one
 abbrev pub rects_changed : {A : Type 0} → List (Change A) → List Rect
 rects_changed [] = []
@@ -141,19 +125,6 @@ rects_changed (change ∷ changes) = change.rects.items
 abbrev pub rects_applied : {A : Type 0} → Option (Applied A) → List Rect
 rects_applied None = []
 rects_applied (Some applied) = rects_changed applied.changes.items
-
--- these points are to be painted too, and no others
-abbrev pub AddsPoints : (ℤ → ℤ → Bool) → Damaged → Damaged → Type 0
-AddsPoints p old new = (x y : ℕ) → x < old.width → y < old.height → has new x y ≡ (has old x y || p (pos x) (pos y))
-
--- What changes of a surface's window is marked, whose record was this and is that: where the record stayed, the applied damage; else all of
--- the window, as it was and as it is.
-pub record MarksChange (was is : Option WindowRecord) (rects : List Rect) (old new : Damaged) : Type 0 where
-  pub stayed : (k : WindowRecord) → was ≡ Some k → is ≡ Some k → AddsPoints (λ x y. is_record_damaged rects x y k) old new
-  pub changed : was ≢ is → AddsPoints (λ x y. any_record_has x y was || any_record_has x y is) old new
-  pub nothing : was ≡ None → is ≡ None → AddsPoints (λ x y. false) old new
-  pub more : (x y : ℕ) → x < old.width → y < old.height → has old x y ≡ true → has new x y ≡ true
-  pub sides : IsAsLarge old new
 
 -- the number of the surface whose window what is asked may change
 abbrev pub marked_in : Kind → ℕ → Option ℕ

@@ -1,7 +1,8 @@
 //! One client is served, and its toplevels come to the stack and go.
 
 ghost use Rattle.std.specs.Prelude.{ℕ, ◌≡◌, ◌<◌, ◌≤◌, List, None, Some, length, true, false};
-ghost use Rattle.wl_resident.specs.Marking.{AreUnlinked, IsAsLarge, MarksAtLeast, MarksAtMost, MarksOwn, MarksThrough};
+ghost use Rattle.wl_marking.specs.Marking.{IsAsLarge};
+ghost use Rattle.wl_resident.specs.Marking.{AreUnlinked, MarksAtLeast, MarksAtMost, MarksOwn, MarksThrough};
 ghost use Rattle.wl_peer.specs.Objects.{ById};
 ghost use Rattle.wl_store.specs.Stores.{write_refusal};
 ghost use Rattle.wl_scene.specs.Stacking.{Stack};
@@ -15,10 +16,11 @@ ghost use Rattle.wl_plain.specs.Happens.{Serves};
 ghost use Rattle.wl_plain.specs.Through.{ServesThrough};
 ghost use Rattle.wl_plain.specs.Act.{IsLeft, IsSent, IsStored, stored_of};
 
-use crate::marking::{mark_change, touched_by};
+use crate::marking::{rects_of, touched_by};
 use crate::residents::{Resident, Stacking};
 use std::alloc::Allocator;
 use wl_client::{Cause, Client, StoreNo};
+use wl_marking::mark_change;
 use wl_paint::Damage;
 use wl_plain::{ClientNo, Done, Stored};
 use wl_scene::{Owned, Scene, Surface};
@@ -106,7 +108,7 @@ impl<A: Allocator + Copy> Resident<A> {
             self.mark_end(scene, damage, client, was, &outcome.applied);
         } else {
             let is = self.window(scene, client, touched);
-            mark_change(damage, was, is, &outcome.applied);
+            mark_change(damage, was, is, rects_of(&outcome.applied));
         }
         self.empty(scene, client, alloc);
         true

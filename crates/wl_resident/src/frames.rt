@@ -8,7 +8,8 @@ ghost use Rattle.wl_plain.specs.Framing.{FramesToldAt, done_due};
 ghost use Rattle.wl_plain.specs.Happens.{frames_told};
 ghost use Rattle.wl_records.specs.NoMore.{NoMore, OwnsToplevelsOnly};
 ghost use Rattle.wl_records.specs.Owning.{names_in};
-ghost use Rattle.wl_resident.specs.Marking.{IsAsLarge, MarksOwnIf};
+ghost use Rattle.wl_marking.specs.Marking.{IsAsLarge};
+ghost use Rattle.wl_resident.specs.Marking.{MarksOwnIf};
 ghost use Rattle.wl_resident.specs.Residents.{IsLeft, IsResident};
 ghost use Rattle.wl_resident.specs.Seats.{IsSeated};
 

@@ -1,6 +1,6 @@
 use Rattle.std.proofs.Common.{◌≡◌}
 use Rattle.wl_plain.specs.Desktop.{Desktop}
-use Rattle.wl_resident.specs.Marking.{IsAsLarge}
+use Rattle.wl_marking.specs.Marking.{IsAsLarge}
 use Rattle.wl_desk.specs.Agreeing.{Agrees}
 use Rattle.wl_desk.proofs.Framing.{HasTold}
 use Rattle.wl_desk.proofs.desks.Desk.frames.Given as goal

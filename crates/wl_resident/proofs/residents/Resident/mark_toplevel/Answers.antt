@@ -3,7 +3,7 @@ use Rattle.std.specs.Prelude.{◌||◌}
 use Rattle.wl_paint.specs.Damage.{has}
 use Rattle.wl_surface.specs.Slots.{IsCurrentAt}
 use Rattle.wl_scene.specs.Stacking.{standing_of}
-use Rattle.wl_resident.specs.Marking.{record_has}
+use Rattle.wl_marking.specs.Marking.{record_has}
 use Rattle.wl_resident.proofs.OwnWindows.{shown-here}
 use Rattle.wl_resident.proofs.residents.Resident.mark_toplevel.Goals as goal
 

@@ -5,7 +5,7 @@ use Rattle.std.specs.Prelude.{find}
 use Rattle.std.specs.Option.{option_map}
 use Rattle.wl_records.specs.Touching.{window_at}
 use Rattle.wl_resident.specs.Marking.{IsRecordOf}
-use Rattle.wl_resident.specs.declared.marking.WindowRecord.{WindowRecord}
+use Rattle.wl_marking.specs.declared.record.WindowRecord.{WindowRecord}
 use Rattle.wl_resident.proofs.Marked.{IsTold, never-untold, seated-record}
 use Rattle.wl_resident.proofs.residents.Resident.window.Goals as goal
 

@@ -1,8 +1,8 @@
 use Rattle.std.proofs.Common.{ℤ, pos, ◌≡◌, ◌∙◌, ◌+ℤ◌, w32, to_z, of_z, subst, true, arith}
 use Rattle.std.specs.Prelude.{◌&&◌, int_le, int_lt}
 use Rattle.std.proofs.lemmas.Int.{ints}
-use Rattle.wl_resident.proofs.Spans.{span-cut}
-use Rattle.wl_resident.proofs.marking.span_on_output.Goals as goal
+use Rattle.wl_marking.proofs.Spans.{span-cut}
+use Rattle.wl_marking.proofs.span.span_on_output.Goals as goal
 
 pub returns : goal.returns
 returns c = λ z less.

@@ -4,9 +4,9 @@ use Rattle.std.specs.List.{list_any}
 use Rattle.wl_geom.specs.Rect.{in_rect}
 use Rattle.wl_geom.specs.declared.rect.Rect.{Rect}
 use Rattle.wl_paint.specs.Damage.{has}
-use Rattle.wl_resident.specs.Marking.{AddsPoints, record_has}
-use Rattle.wl_resident.proofs.Spans.{damaged-few, damaged-many, partly-more}
-use Rattle.wl_resident.proofs.marking.mark_damage.Goals as goal
+use Rattle.wl_marking.specs.Marking.{AddsPoints, record_has}
+use Rattle.wl_marking.proofs.Spans.{damaged-few, damaged-many, partly-more}
+use Rattle.wl_marking.proofs.marking.mark_damage.Goals as goal
 
 pub loop-rect-preserved : goal.loop-rect-preserved
 loop-rect-preserved g c =

@@ -9,16 +9,23 @@ use Rattle.std.proofs.lemmas.List.Folds.{list_any_more}
 use Rattle.wl_geom.specs.declared.rect.Rect.{Rect}
 use Rattle.wl_geom.specs.Rect.{in_rect, in_span}
 use Rattle.wl_state.specs.State.{is_damaged}
-use Rattle.wl_laws.proofs.Marks.Stacks.{and-left, and-right}
 use Rattle.wl_paint.specs.Damage.{Damaged, has}
-use Rattle.wl_resident.specs.Marking.{AddsPoints, IsAsLarge, MarksChange, any_record_has, is_record_damaged, record_has}
-use Rattle.wl_resident.specs.declared.marking.WindowRecord.{WindowRecord}
+use Rattle.wl_marking.specs.Marking.{AddsPoints, IsAsLarge, MarksChange, any_record_has, is_record_damaged, record_has}
+use Rattle.wl_marking.specs.declared.record.WindowRecord.{WindowRecord}
 
 -- ---- spans
 
 -- a span whose ends were held within the output's places
 pub span-held : (first end f e z : ℤ) → int_le f z ≡ int_le first z → int_lt z e ≡ int_lt z end → in_span f (e -ℤ f) z ≡ (int_le first z && int_lt z end)
 span-held first end f e z starts ends = grind (arith, ints)
+
+and-left : (a b : Bool) → (a && b) ≡ true → a ≡ true
+and-left true b e = refl
+and-left false b e = e
+
+and-right : (a b : Bool) → (a && b) ≡ true → b ≡ true
+and-right true b e = e
+and-right false b e = absurd (cc)
 
 pub four : (a b c d : Bool) → ((a && b) && (c && d)) ≡ ((a && c) && (b && d))
 four true true true d = refl

@@ -2,8 +2,8 @@ use Rattle.std.proofs.Common.{pos, ◌≡◌, ◌∙◌, w32, to_z, of_z, ap, ru
 use Rattle.std.specs.Prelude.{◌-ℤ◌, ◌&&◌}
 use Rattle.std.proofs.lemmas.Int.{ints}
 use Rattle.wl_geom.specs.Rect.{in_span}
-use Rattle.wl_resident.proofs.Spans.{part-of}
-use Rattle.wl_resident.proofs.marking.WindowRecord.part.Goals as goal
+use Rattle.wl_marking.proofs.Spans.{part-of}
+use Rattle.wl_marking.proofs.record.WindowRecord.part.Goals as goal
 
 pub returns : goal.returns
 returns c = λ x y wide high.

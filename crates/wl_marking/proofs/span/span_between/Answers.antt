@@ -2,8 +2,8 @@ use Rattle.std.proofs.Common.{pos, ◌≡◌, ◌-ℤ◌, w32, w64, to_z, of_z, 
 use Rattle.std.specs.Prelude.{int_le, int_lt}
 use Rattle.std.proofs.lemmas.Int.{ints}
 use Rattle.wl_geom.specs.Rect.{in_span}
-use Rattle.wl_resident.proofs.Spans.{span-held}
-use Rattle.wl_resident.proofs.marking.span_between.Goals as goal
+use Rattle.wl_marking.proofs.Spans.{span-held}
+use Rattle.wl_marking.proofs.span.span_between.Goals as goal
 
 pub returns : goal.returns
 returns c = λ z less.
