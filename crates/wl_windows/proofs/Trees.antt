@@ -125,14 +125,11 @@ told-zero : (owner : Owner) (all : Surfaces) (surface : ℕ) (place : Place) →
 unfolding tree
 told-zero owner all surface place = refl
 
-pub told-nothing : (levels : ℕ) (owner : Owner) (all : Surfaces) (surface : ℕ) (place : Place) → levels ≡ 0 → told_tree levels owner all surface place ≡ []
-told-nothing levels owner all surface place e = ap (λ n. told_tree n owner all surface place) e ∙ told-zero owner all surface place
-
-pub told-hidden : (levels : ℕ) (owner : Owner) (all : Surfaces) (surface : ℕ) (place : Place) → window_at all surface place ≡ None
+hidden-nothing : (levels : ℕ) (owner : Owner) (all : Surfaces) (surface : ℕ) (place : Place) → window_at all surface place ≡ None
     → told_tree levels owner all surface place ≡ []
 unfolding tree
-told-hidden zero owner all surface place e = refl
-told-hidden (suc levels) owner all surface place e =
+hidden-nothing zero owner all surface place e = refl
+hidden-nothing (suc levels) owner all surface place e =
     surface-hidden (λ child at. tree levels owner all child at) owner all surface place (history_in surface all) e
 
 told-next : (levels : ℕ) (owner : Owner) (all : Surfaces) (surface : ℕ) (place : Place) (window : TreeWindow) → window_at all surface place ≡ Some window
@@ -142,7 +139,7 @@ unfolding tree
 told-next levels owner all surface place window e =
     surface-told (λ child at. tree levels owner all child at) owner all surface place window (history_in surface all) e
 
-pub told-shown : (slots : Slots) (tied : Tied) (all : Surfaces) (levels less : ℕ) (owner : Owner) (surface : ℕ) (place : Place) (window : TreeWindow) (stack : List Placed)
+told-shown : (slots : Slots) (tied : Tied) (all : Surfaces) (levels less : ℕ) (owner : Owner) (surface : ℕ) (place : Place) (window : TreeWindow) (stack : List Placed)
     → Stand slots tied all → levels ≡ suc less → window_at all surface place ≡ Some window → whole stack ≡ (stacks_in tied surface).applied
     → told_tree levels owner all surface place ≡ flat_map (placed_windows (told_tree less owner all) window) (whole stack)
 told-shown slots tied all levels less owner surface place window stack stand e shown kept =
@@ -150,27 +147,48 @@ told-shown slots tied all levels less owner surface place window stack stand e s
     ∙ (told-next less owner all surface place window shown
     ∙ ap (flat_map (placed_windows (told_tree less owner all) window)) (sym (kept ∙ ap (λ s. s.applied) (stand.hang.0.stacks surface))))
 
--- a surface without children
-pub told-alone : (slots : Slots) (tied : Tied) (all : Surfaces) (levels less : ℕ) (owner : Owner) (surface : ℕ) (place : Place) (window : TreeWindow) (stack : List Placed)
-    → Stand slots tied all → levels ≡ suc less → window_at all surface place ≡ Some window → whole stack ≡ (stacks_in tied surface).applied → stack ≡ []
-    → told_tree levels owner all surface place ≡ window ∷ []
-told-alone slots tied all levels less owner surface place window stack stand e shown kept none =
-    told-shown slots tied all levels less owner surface place window stack stand e shown kept
-    ∙ ap (λ (ps : List Placed). flat_map (placed_windows (told_tree less owner all) window) (whole ps)) none
-
--- one with children
-pub told-stack : (slots : Slots) (tied : Tied) (all : Surfaces) (levels less : ℕ) (owner : Owner) (surface : ℕ) (place : Place) (window : TreeWindow) (stack : List Placed)
-    → Stand slots tied all → levels ≡ suc less → window_at all surface place ≡ Some window → whole stack ≡ (stacks_in tied surface).applied
-    → (length stack == 0) ≡ false → told_tree levels owner all surface place ≡ flat_map (placed_windows (told_tree less owner all) window) stack
-told-stack slots tied all levels less owner surface place window [] stand e shown kept some = absurd (cc)
-told-stack slots tied all levels less owner surface place window (p ∷ ps) stand e shown kept some =
-    told-shown slots tied all levels less owner surface place window (p ∷ ps) stand e shown kept
-
 -- ---- the list that the windows come to
 
-pub none-behind : (was more : List TreeWindow) → more ≡ [] → was ≡ was ++ more
+none-behind : (was more : List TreeWindow) → more ≡ [] → was ≡ was ++ more
 none-behind was more e = sym (ap (λ ws. was ++ ws) e ∙ append-nil was)
 
+same-behind : (was more told now : List TreeWindow) → now ≡ was ++ more → told ≡ more → now ≡ was ++ told
+same-behind was more told now e same = e ∙ ap (λ ws. was ++ ws) (sym same)
+
+-- nothing at level 0
+pub told-nothing : (levels : ℕ) (owner : Owner) (all : Surfaces) (surface : ℕ) (place : Place) (was : List TreeWindow) → levels ≡ 0
+    → was ≡ was ++ told_tree levels owner all surface place
+told-nothing levels owner all surface place was e =
+    none-behind was (told_tree levels owner all surface place) (ap (λ n. told_tree n owner all surface place) e ∙ told-zero owner all surface place)
+
+-- nothing of a surface that is hidden
+pub told-hidden : (levels : ℕ) (owner : Owner) (all : Surfaces) (surface : ℕ) (place : Place) (shown : Option TreeWindow) (was : List TreeWindow)
+    → shown ≡ window_at all surface place → shown ≡ None → was ≡ was ++ told_tree levels owner all surface place
+told-hidden levels owner all surface place shown was is none =
+    none-behind was (told_tree levels owner all surface place) (hidden-nothing levels owner all surface place (sym is ∙ none))
+
+-- a surface without children
+pub told-alone : (slots : Slots) (tied : Tied) (all : Surfaces) (levels less : ℕ) (owner : Owner) (surface : ℕ) (place : Place) (shown : Option TreeWindow)
+    (window : TreeWindow) (stack : List Placed) (is_empty : Bool) (was now : List TreeWindow) → Stand slots tied all → levels ≡ suc less
+    → shown ≡ window_at all surface place → shown ≡ Some window → whole stack ≡ (stacks_in tied surface).applied → is_empty ≡ (length stack == 0)
+    → is_empty ≡ true → now ≡ was ++ window ∷ [] → now ≡ was ++ told_tree levels owner all surface place
+told-alone slots tied all levels less owner surface place shown window [] is_empty was now stand e is some kept empty test added =
+    same-behind was (window ∷ []) (told_tree levels owner all surface place) now added
+    (told-shown slots tied all levels less owner surface place window [] stand e (sym is ∙ some) kept)
+told-alone slots tied all levels less owner surface place shown window (p ∷ ps) is_empty was now stand e is some kept empty test added =
+    absurd (grind (arith, nat_tests))
+
+-- one with children
+pub told-stack : (slots : Slots) (tied : Tied) (all : Surfaces) (levels less : ℕ) (owner : Owner) (surface : ℕ) (place : Place) (shown : Option TreeWindow)
+    (window : TreeWindow) (stack : List Placed) (is_empty : Bool) (was now : List TreeWindow) → Stand slots tied all → levels ≡ suc less
+    → shown ≡ window_at all surface place → shown ≡ Some window → whole stack ≡ (stacks_in tied surface).applied → is_empty ≡ (length stack == 0)
+    → is_empty ≡ false → now ≡ was ++ flat_map (placed_windows (told_tree less owner all) window) stack → now ≡ was ++ told_tree levels owner all surface place
+told-stack slots tied all levels less owner surface place shown window [] is_empty was now stand e is some kept empty test added = absurd (cc)
+told-stack slots tied all levels less owner surface place shown window (p ∷ ps) is_empty was now stand e is some kept empty test added =
+    same-behind was (flat_map (placed_windows (told_tree less owner all) window) (p ∷ ps)) (told_tree levels owner all surface place) now added
+    (told-shown slots tied all levels less owner surface place window (p ∷ ps) stand e (sym is ∙ some) kept)
+
+-- one place of the stack more
 pub more-behind : (f : Placed → List TreeWindow) (stack : List Placed) (i : ℕ) (d : Placed) (was mid now : List TreeWindow) → i < length stack
     → mid ≡ was ++ flat_map f (take i stack) → now ≡ mid ++ f (slice_index_or stack i d) → now ≡ was ++ flat_map f (take (i + 1) stack)
 more-behind f stack i d was mid now less so_far next =
@@ -182,13 +200,6 @@ more-behind f stack i d was mid now less so_far next =
 pub continues-next : (was mid now : List TreeWindow) → Continues was mid → Continues mid now → Continues was now
 continues-next was mid now first second =
     (first.0 ++ second.0, second.1 ∙ (ap (λ ws. ws ++ second.0) first.1 ∙ append_assoc was first.0 second.0))
-
-pub same-behind : (was more told now : List TreeWindow) → now ≡ was ++ more → told ≡ more → now ≡ was ++ told
-same-behind was more told now e same = e ∙ ap (λ ws. was ++ ws) (sym same)
-
-pub is-none : (stack : List Placed) → (length stack == 0) ≡ true → stack ≡ []
-is-none [] e = refl
-is-none (p ∷ ps) e = absurd (grind (arith, nat_tests))
 
 -- no position from a corner
 pub place-there : (x y a b : ℤ) → a ≡ x → b ≡ y → place_beside (record { x = a; y = b }) (record { x = pos 0; y = pos 0 }) ≡ record { x = x; y = y }

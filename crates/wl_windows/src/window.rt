@@ -62,13 +62,19 @@ pub(crate) fn window_of<A: Allocator + Copy>(
     ensures { (all : Asked) → Stand linked.now.surfaces linked.now.family all → result ≡ window_at all surface (place_beside corner.now position.now) }
 {
     let current = linked.surfaces.current(surface)?;
-    current.buffer?;
-    Some(TreeWindow {
-        surface,
-        x: held_sum(corner.x, position.x, current.offset.x),
-        y: held_sum(corner.y, position.y, current.offset.y),
-        w: current.w,
-        h: current.h,
-        transform: current.transform,
-    })
+    match current.buffer {
+        None => None,
+        Some(_) => {
+            let x = held_sum(corner.x, position.x, current.offset.x);
+            let y = held_sum(corner.y, position.y, current.offset.y);
+            Some(TreeWindow {
+                surface,
+                x,
+                y,
+                w: current.w,
+                h: current.h,
+                transform: current.transform,
+            })
+        }
+    }
 }

@@ -1,7 +1,6 @@
 //! The windows of a tree of surfaces, from bottom to top.
 
 ghost use Rattle.std.specs.Prelude.{◌≡◌, ◌++◌, flat_map, map, OnErr, OnOk};
-ghost use Rattle.wl_children.specs.Stacks.{whole};
 ghost use Rattle.wl_linked.specs.Linked.{Stand};
 ghost use Rattle.wl_scene.specs.Windows.{Owner, tree};
 ghost use Rattle.wl_surface.specs.Surfaces.{Surfaces as Asked};

@@ -1,11 +1,11 @@
-use Rattle.std.proofs.Common.{◌≡◌, ◌-◌, [], ◌∷◌, ◌++◌, ◌∙◌, suc, ap, sym, flat_map, arith}
+use Rattle.std.proofs.Common.{◌≡◌, ◌-◌, ◌++◌, ◌∙◌, suc, ap, flat_map, arith}
 use Rattle.std.proofs.lemmas.List.{take_all}
 use Rattle.std.proofs.lemmas.Result.{on_ok_weaker}
 use Rattle.wl_linked.specs.Linked.{Stand}
 use Rattle.wl_scene.specs.Windows.{Owner}
 use Rattle.wl_surface.specs.Surfaces.{Surfaces as Asked}
 use Rattle.wl_windows.specs.Windows.{place_beside, placed_windows, told_tree}
-use Rattle.wl_windows.proofs.Trees.{continues-next, is-none, more-behind, none-behind, same-behind, told-alone, told-hidden, told-nothing, told-stack}
+use Rattle.wl_windows.proofs.Trees.{continues-next, more-behind, told-alone, told-hidden, told-nothing, told-stack}
 use Rattle.wl_windows.proofs.windows.+tree.Goals as goal
 
 pub add_stack-loop-placed-preserved : goal.add_stack-loop-placed-preserved
@@ -25,36 +25,31 @@ add_stack-returns-clause-ok g t c = λ all owner stand.
 
 pub add_tree-returns-then-levels-eq0-clause-ok : goal.add_tree-returns-then-levels-eq0-clause-ok
 add_tree-returns-then-levels-eq0-clause-ok g t c = λ all owner stand.
-    none-behind c.args.windows.now.items (told_tree c.args.levels owner all c.args.surface (place_beside c.args.corner.now c.args.position.now))
-    (told-nothing c.args.levels owner all c.args.surface (place_beside c.args.corner.now c.args.position.now) c.if-levels-eq0.true)
+    told-nothing c.args.levels owner all c.args.surface (place_beside c.args.corner.now c.args.position.now) c.args.windows.now.items c.if-levels-eq0.true
 
 pub add_tree-returns-in_default-clause-ok : goal.add_tree-returns-in_default-clause-ok
 add_tree-returns-in_default-clause-ok g t c = λ all owner stand.
-    none-behind c.args.windows.now.items (told_tree c.args.levels owner all c.args.surface (place_beside c.args.corner.now c.args.position.now))
-    (told-hidden c.args.levels owner all c.args.surface (place_beside c.args.corner.now c.args.position.now) (sym (c.window_of.ensures all stand) ∙ c.in_default.is))
+    told-hidden c.args.levels owner all c.args.surface (place_beside c.args.corner.now c.args.position.now) c.window_of.result c.args.windows.now.items
+    (c.window_of.ensures all stand) c.in_default.is
 
 pub add_tree-returns-then-is_empty-clause-ok : goal.add_tree-returns-then-is_empty-clause-ok
 add_tree-returns-then-is_empty-clause-ok g t c = λ all owner stand.
     let less : c.args.levels ≡ suc (c.args.levels - 1) = omega arith in
-    let place = place_beside c.args.corner.now c.args.position.now in
-    same-behind c.args.windows.now.items (c.in-Some.window ∷ []) (told_tree c.args.levels owner all c.args.surface place) c.push.new.self.items
+    told-alone c.args.linked.now.surfaces c.args.linked.now.family all c.args.levels (c.args.levels - 1) owner c.args.surface
+    (place_beside c.args.corner.now c.args.position.now) c.window_of.result c.in-Some.window c.stack-stack.result.now c.is_empty.result c.args.windows.now.items
+    c.push.new.self.items stand less (c.window_of.ensures all stand) c.in-Some.is c.stack-stack.ensures.stack c.is_empty.ensures c.if-is_empty.true
     c.in_ok-push.ensures.items
-    (told-alone c.args.linked.now.surfaces c.args.linked.now.family all c.args.levels (c.args.levels - 1) owner c.args.surface place c.in-Some.window
-    c.stack-stack.result.now stand less (sym (c.window_of.ensures all stand) ∙ c.in-Some.is) c.stack-stack.ensures.stack
-    (is-none c.stack-stack.result.now (sym c.is_empty.ensures ∙ c.if-is_empty.true)))
 
 pub add_tree-returns-clause-ok : goal.add_tree-returns-clause-ok
 add_tree-returns-clause-ok g t c =
     let less : c.args.levels ≡ suc (c.args.levels - 1) = omega arith in
     let place = place_beside c.args.corner.now c.args.position.now in
-    let stack = c.stack-stack.result.now in
     on_ok_weaker
     {Q = (all : Asked) (owner : Owner) → Stand c.args.linked.now.surfaces c.args.linked.now.family all
     → c.add_stack.new.windows.items ≡ c.args.windows.now.items ++ told_tree c.args.levels owner all c.args.surface place}
     c.add_stack.result
     (λ told all owner stand.
-    same-behind c.args.windows.now.items (flat_map (placed_windows (told_tree (c.args.levels - 1) owner all) c.in-Some.window) stack)
-    (told_tree c.args.levels owner all c.args.surface place) c.add_stack.new.windows.items (told all owner stand)
-    (told-stack c.args.linked.now.surfaces c.args.linked.now.family all c.args.levels (c.args.levels - 1) owner c.args.surface place c.in-Some.window
-    stack stand less (sym (c.window_of.ensures all stand) ∙ c.in-Some.is) c.stack-stack.ensures.stack (sym c.is_empty.ensures ∙ c.if-is_empty.false)))
+    told-stack c.args.linked.now.surfaces c.args.linked.now.family all c.args.levels (c.args.levels - 1) owner c.args.surface place c.window_of.result
+    c.in-Some.window c.stack-stack.result.now c.is_empty.result c.args.windows.now.items c.add_stack.new.windows.items stand less
+    (c.window_of.ensures all stand) c.in-Some.is c.stack-stack.ensures.stack c.is_empty.ensures c.if-is_empty.false (told all owner stand))
     c.add_stack.ensures.ok
