@@ -13,7 +13,8 @@ use wl_store::Transform;
 /// The coordinates of a surface are held within -16,777,216 to 16,777,216 pixels.
 const BOUND: i64 = 16_777_216;
 
-/// A window of a tree: its surface, where its upper left corner is on the output, and its size, in pixels, and how its buffer is turned.
+/// A window of a tree: its surface, where its upper left corner is on the output and its size, in pixels, and how its buffer is turned
+/// (wayland.xml, wl_surface.set_buffer_transform).
 #[derive(Clone, Copy, Debug, PartialEq, Eq)]
 pub struct TreeWindow {
     pub surface: SurfaceNo,
@@ -51,15 +52,17 @@ fn held_sum(corner: i32, position: i32, offset: i32) -> i32
     held(i64::from(corner) + i64::from(position) + i64::from(offset))
 }
 
-/// The window of a surface that is placed at this position from the corner of its parent, or from a point of the output: its corner is there
-/// plus its own offset. `None` where it shows no buffer, or isn't there.
+/// The window of a surface that is placed at this position, in pixels, from the corner of its parent (wayland.xml,
+/// wl_subsurface.set_position), or from a point of the output: its corner is there plus its own offset. `None` where it shows no buffer, or
+/// isn't there.
 pub(crate) fn window_of<A: Allocator + Copy>(
     linked: &Linked<A>,
     surface: SurfaceNo,
     corner: &Point,
     position: &Point,
 ) -> Option<TreeWindow>
-    ensures { (all : Asked) → Stand linked.now.surfaces linked.now.family all → result ≡ window_at all surface (place_beside corner.now position.now) }
+    ensures { (all : Asked) → Stand linked.now.surfaces linked.now.family all
+        → result ≡ window_at all surface (place_beside corner.now position.now) }
 {
     let current = linked.surfaces.current(surface)?;
     match current.buffer {

@@ -93,9 +93,9 @@ fn add_tree<A: Allocator + Copy>(
     add_stack(linked, levels - 1, &window, stack, windows)
 }
 
-/// Adds the windows of the tree of a root that is placed there on the output, in pixels, behind the others, from bottom to top: of each surface
-/// that shows a buffer the children below it with theirs, itself, and the children above it with theirs. Nothing of a surface without a
-/// buffer is shown, nor are its children (wayland.xml, wl_surface.attach, wl_subcompositor and wl_subsurface).
+/// Adds the windows of the tree of a root that is placed there on the output, in pixels, behind the others, from bottom to top: of each
+/// surface that shows a buffer the children below it with theirs, itself, and the children above it with theirs. A surface without a buffer
+/// isn't shown, and neither are its children (wayland.xml, wl_surface.attach, wl_subcompositor and wl_subsurface).
 ///
 /// # Errors
 ///
