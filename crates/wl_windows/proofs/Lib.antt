@@ -1,0 +1,3 @@
+mod Rows
+pub mod Shown
+pub mod Trees

@@ -1,0 +1,65 @@
+-- The windows of a tree of surfaces, as they are told, and those of its parts (wayland.xml, wl_subcompositor and wl_subsurface).
+use Rattle.std.specs.Prelude.{ℕ, ℤ, ◌+ℤ◌, ◌≡◌, List, [], ◌∷◌, ◌++◌, map, Option, Some, None, option_and_then}
+use Rattle.wl_children.specs.declared.placed.Member.{Member}
+use Rattle.wl_children.specs.declared.placed.Member.TheVariants.{Itself, Child}
+use Rattle.wl_children.specs.declared.placed.Placed.{Placed}
+use Rattle.wl_scene.specs.Windows.{Owner, Place, Window, corner_at, tree}
+use Rattle.wl_state.specs.Request.{Buffer}
+use Rattle.wl_state.specs.State.{History, Values, applied, height_of, width_of}
+use Rattle.wl_store.specs.Transform.{transform_of}
+use Rattle.wl_surface.specs.Surfaces.{Surfaces, history_in}
+use Rattle.wl_windows.specs.declared.window.Point.{Point}
+use Rattle.wl_windows.specs.declared.window.TreeWindow.{TreeWindow}
+
+-- what is told of a window
+abbrev pub told_of : Window → TreeWindow
+told_of w =
+    record {
+      surface = w.surface;
+      x = w.corner.x;
+      y = w.corner.y;
+      w = w.width;
+      h = w.height;
+      transform = transform_of w.transform;
+    }
+
+-- the windows of a tree, down to so many levels
+abbrev pub told_tree : ℕ → Owner → Surfaces → ℕ → Place → List TreeWindow
+told_tree levels owner all surface place = map told_of (tree levels owner all surface place)
+
+-- the window of a surface with its corner there, if it shows a buffer
+abbrev pub window_with : ℕ → Place → Values → Option Buffer → Option TreeWindow
+window_with surface corner v None = None
+window_with surface corner v (Some buffer) =
+    Some
+    (record {
+      surface = surface;
+      x = corner.x;
+      y = corner.y;
+      w = width_of (Some buffer) v.transform;
+      h = height_of (Some buffer) v.transform;
+      transform = transform_of v.transform;
+    })
+
+abbrev pub window_in : ℕ → Place → History → Option TreeWindow
+window_in surface place h = window_with surface (corner_at place h) (applied h) (applied h).buffer
+
+-- the window of a surface that is placed there, if it is there and shows a buffer
+abbrev pub window_at : Surfaces → ℕ → Place → Option TreeWindow
+window_at all surface place = option_and_then (window_in surface place) (history_in surface all)
+
+-- a position from a corner
+abbrev pub place_beside : Point → Point → Place
+place_beside corner position = record { x = corner.x +ℤ position.x; y = corner.y +ℤ position.y }
+
+-- what stands at one place in the stack of a surface with this window: the window itself, or the windows of a child
+abbrev pub member_windows : (ℕ → Place → List TreeWindow) → TreeWindow → ℤ → ℤ → Member → List TreeWindow
+member_windows tree_of window x y Itself = window ∷ []
+member_windows tree_of window x y (Child child) = tree_of child (record { x = window.x +ℤ x; y = window.y +ℤ y })
+
+abbrev pub placed_windows : (ℕ → Place → List TreeWindow) → TreeWindow → Placed → List TreeWindow
+placed_windows tree_of window p = member_windows tree_of window p.x p.y p.member
+
+-- some more came behind, or none
+abbrev pub Continues : List TreeWindow → List TreeWindow → Type 0
+Continues old new = (more : List TreeWindow) × (new ≡ old ++ more)

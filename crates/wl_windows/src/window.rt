@@ -1,0 +1,83 @@
+//! The window of a surface of a tree.
+
+ghost use Rattle.std.specs.Prelude.{◌≡◌, ◌+ℤ◌};
+ghost use Rattle.wl_linked.specs.Linked.{Stand};
+ghost use Rattle.wl_state.specs.State.{within_bounds};
+ghost use Rattle.wl_surface.specs.Surfaces.{Surfaces as Asked};
+ghost use Rattle.wl_windows.specs.Windows.{place_beside, window_at};
+
+use std::alloc::Allocator;
+use wl_linked::{Linked, SurfaceNo};
+use wl_store::Transform;
+
+/// The coordinates of a surface are held within -16,777,216 to 16,777,216 pixels.
+const BOUND: i64 = 16_777_216;
+
+/// A window of a tree: its surface, where its upper left corner is on the output and its size, in pixels, and how its buffer is turned
+/// (wayland.xml, wl_surface.set_buffer_transform).
+#[derive(Clone, Copy, Debug, PartialEq, Eq)]
+pub struct TreeWindow {
+    pub surface: SurfaceNo,
+    pub x: i32,
+    pub y: i32,
+    pub w: u32,
+    pub h: u32,
+    pub transform: Transform,
+}
+
+/// So many pixels to the right and down: from the output's corner, or from that of another surface.
+#[derive(Clone, Copy, Debug)]
+pub(crate) struct Point {
+    pub x: i32,
+    pub y: i32,
+}
+
+/// A coordinate in pixels, held within the bounds.
+fn held(exact: i64) -> i32
+    ensures { result ≡ within_bounds exact }
+{
+    if exact < -BOUND {
+        return -16_777_216;
+    }
+    if exact > BOUND {
+        return 16_777_216;
+    }
+    exact as i32
+}
+
+/// The sum of a corner, a position from it and an offset, in pixels, held within the bounds.
+fn held_sum(corner: i32, position: i32, offset: i32) -> i32
+    ensures { result ≡ within_bounds ((corner +ℤ position) +ℤ offset) }
+{
+    held(i64::from(corner) + i64::from(position) + i64::from(offset))
+}
+
+/// The window of a surface that is placed at this position, in pixels, from the corner of its parent (wayland.xml,
+/// wl_subsurface.set_position), or from a point of the output: its corner is there plus its own offset. `None` where it shows no buffer, or
+/// isn't there.
+pub(crate) fn window_of<A: Allocator + Copy>(
+    linked: &Linked<A>,
+    surface: SurfaceNo,
+    corner: &Point,
+    position: &Point,
+) -> Option<TreeWindow>
+    ensures { (all : Asked) → Stand linked.now.surfaces linked.now.family all
+        → result ≡ window_at all surface (place_beside corner.now position.now) }
+{
+    let current = linked.surfaces.current(surface)?;
+    match current.buffer {
+        None => None,
+        Some(_) => {
+            let x = held_sum(corner.x, position.x, current.offset.x);
+            let y = held_sum(corner.y, position.y, current.offset.y);
+            Some(TreeWindow {
+                surface,
+                x,
+                y,
+                w: current.w,
+                h: current.h,
+                transform: current.transform,
+            })
+        }
+    }
+}

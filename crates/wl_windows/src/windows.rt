@@ -1,0 +1,122 @@
+//! The windows of a tree of surfaces, from bottom to top.
+
+ghost use Rattle.std.specs.Prelude.{◌≡◌, ◌++◌, flat_map, map, OnErr, OnOk};
+ghost use Rattle.wl_linked.specs.Linked.{Stand};
+ghost use Rattle.wl_scene.specs.Windows.{Owner, tree};
+ghost use Rattle.wl_surface.specs.Surfaces.{Surfaces as Asked};
+ghost use Rattle.wl_windows.specs.Windows.{Continues, place_beside, placed_windows, told_of, told_tree};
+
+use crate::window::{Point, TreeWindow, window_of};
+use std::alloc::{AllocError, Allocator};
+use wl_children::{Member, Placed};
+use wl_linked::{Linked, SurfaceNo};
+
+/// The levels of a tree: subsurfaces stand at most 16 levels below their root.
+const LEVELS: u8 = 17;
+
+/// Adds what stands at one place in the stack of a surface with this window: the window itself, or the windows of a child, down to so many
+/// levels.
+#[cycle(tree)]
+fn add_placed<A: Allocator + Copy>(
+    linked: &Linked<A>,
+    levels: u8,
+    window: &TreeWindow,
+    placed: &Placed,
+    windows: &mut Vec<TreeWindow, A>,
+) -> Result<(), AllocError>
+    ensures ok { OnOk result ((all : Asked) (owner : Owner) → Stand linked.now.surfaces linked.now.family all
+        → windows.new.items ≡ windows.old.items ++ placed_windows (told_tree levels owner all) window.now placed.now) }
+    ensures more { Continues windows.old.items windows.new.items }
+{
+    match placed.member {
+        Member::Itself => windows.push(*window)?,
+        Member::Child(child) => {
+            let corner = Point {
+                x: window.x,
+                y: window.y,
+            };
+            let position = Point {
+                x: placed.x,
+                y: placed.y,
+            };
+            add_tree(linked, levels, child, &corner, &position, windows)?;
+        }
+    }
+    Ok(())
+}
+
+/// Adds what stands in the stack of a surface with this window, from below, down to so many levels.
+#[cycle(tree)]
+fn add_stack<A: Allocator + Copy>(
+    linked: &Linked<A>,
+    levels: u8,
+    window: &TreeWindow,
+    stack: &[Placed],
+    windows: &mut Vec<TreeWindow, A>,
+) -> Result<(), AllocError>
+    ensures ok { OnOk result ((all : Asked) (owner : Owner) → Stand linked.now.surfaces linked.now.family all
+        → windows.new.items ≡ windows.old.items ++ flat_map (placed_windows (told_tree levels owner all) window.now) stack.now) }
+    ensures more { Continues windows.old.items windows.new.items }
+{
+    for placed in stack {
+        add_placed(linked, levels, window, placed, windows)?;
+    }
+    Ok(())
+}
+
+/// Adds the windows of the tree of a surface that is placed at this position from the corner of its parent, or from a point of the output,
+/// down to so many levels.
+#[cycle(tree)]
+fn add_tree<A: Allocator + Copy>(
+    linked: &Linked<A>,
+    levels: u8,
+    surface: SurfaceNo,
+    corner: &Point,
+    position: &Point,
+    windows: &mut Vec<TreeWindow, A>,
+) -> Result<(), AllocError>
+    ensures ok { OnOk result ((all : Asked) (owner : Owner) → Stand linked.now.surfaces linked.now.family all
+        → windows.new.items ≡ windows.old.items ++ told_tree levels owner all surface (place_beside corner.now position.now)) }
+    ensures more { Continues windows.old.items windows.new.items }
+{
+    if levels == 0 {
+        return Ok(());
+    }
+    let Some(window) = window_of(linked, surface, corner, position) else {
+        return Ok(());
+    };
+    let stack = linked.family.stack(surface);
+    if stack.is_empty() {
+        windows.push(window)?;
+        return Ok(());
+    }
+    add_stack(linked, levels - 1, &window, stack, windows)
+}
+
+/// Adds the windows of the tree of a root that is placed there on the output, in pixels, behind the others, from bottom to top: of each
+/// surface that shows a buffer the children below it with theirs, itself, and the children above it with theirs. A surface without a buffer
+/// isn't shown, and neither are its children (wayland.xml, wl_surface.attach, wl_subcompositor and wl_subsurface).
+///
+/// # Errors
+///
+/// An `Err` is for want of memory, and adds nothing.
+pub fn add_windows<A: Allocator + Copy>(
+    linked: &Linked<A>,
+    root: SurfaceNo,
+    x: i32,
+    y: i32,
+    windows: &mut Vec<TreeWindow, A>,
+) -> Result<(), AllocError>
+    ensures ok { OnOk result ((all : Asked) (owner : Owner) → Stand linked.now.surfaces linked.now.family all
+        → windows.new.items ≡ windows.old.items ++ map told_of (tree 17 owner all root (record { x = x; y = y }))) }
+    ensures err { OnErr result (windows.new.items ≡ windows.old.items) }
+{
+    let before = windows.len();
+    let corner = Point { x, y };
+    let position = Point { x: 0, y: 0 };
+    let added = add_tree(linked, LEVELS, root, &corner, &position, windows);
+    if added.is_err() {
+        windows.truncate(before);
+    }
+    added
+}
