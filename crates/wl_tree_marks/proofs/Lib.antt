@@ -1,0 +1,5 @@
+mod Lists
+mod Records
+mod Damage
+mod Tree
+mod Whole
