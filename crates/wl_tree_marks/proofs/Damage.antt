@@ -7,7 +7,7 @@ use Rattle.wl_scene.specs.Windows.{Window, contains}
 use Rattle.wl_plain.specs.Marks.{Applied, AreDistinct, at_least, has_moved_past, in_output, is_before, is_changed_at, is_damaged_at, is_kept_in, is_restacked_at, shared_by}
 use Rattle.wl_laws.proofs.Marks.Stacks.{AreSame, Each, and-left, and-right, each-false, each-map, unless}
 use Rattle.wl_tree_marks.specs.Laws.{AreUndamaged, MarksDamageAlone, among, is_struck_at}
-use Rattle.wl_tree_marks.proofs.Lists.{any-as, any-middle, any-none, any-of, each-first, each-one, each-second, none-first, none-second}
+use Rattle.wl_tree_marks.proofs.Lists.{any-as, any-middle, any-none, any-of, each-first, each-second, none-first, none-second}
 use Rattle.wl_tree_marks.proofs.Records.{before-same, each-kept, one-before, same-append, same-self, same-tested, same-turned}
 
 module _ (x y : ℤ) where
@@ -48,10 +48,10 @@ module _ (x y : ℤ) where
   none-restacked old new same apart =
       unless (is_restacked_at old new x y)
       (λ e.
-      any-of ⊥ (λ w. list_any (moves old new w) old) (λ w. Unit {0}) old (each-one old) e
-      (λ w one f.
-      any-of ⊥ (moves old new w) (λ v. Unit {0}) old (each-one old) f
-      (λ v one g.
+      any-of ⊥ (λ w. list_any (moves old new w) old) old e
+      (λ w f.
+      any-of ⊥ (moves old new w) old f
+      (λ v g.
       let past = and-left (has_moved_past old new w v) (shared_by old w v x y || shared_by new w v x y) g in
       one-before w v old apart (and-left (is_before w v old) (is_before v w new) past)
       (before-same v w old new same ∙ and-right (is_before w v old) (is_before v w new) past))))

@@ -1,6 +1,6 @@
 -- Lists of which some or all elements pass a test.
 use Rattle.std.proofs.Common.{◌≡◌, Bool, true, false, List, [], ◌∷◌, ◌++◌, cond, refl, ap, sym, ◌∙◌}
-use Rattle.std.specs.Prelude.{◌||◌, filter}
+use Rattle.std.specs.Prelude.{◌&&◌, ◌||◌, filter}
 use Rattle.std.specs.List.{list_all, list_any}
 use Rattle.std.proofs.lemmas.Bool.{or_left, or_right}
 use Rattle.std.proofs.lemmas.List.Folds.{list_any-append}
@@ -13,15 +13,10 @@ pub either-of : (P : Type 0) (a b : Bool) → (a || b) ≡ true → (a ≡ true 
 either-of P true b e f g = f refl
 either-of P false b e f g = g e
 
--- what follows from any of a list, where each has something
-pub any-of : {X : Type 0} (P : Type 0) (p : X → Bool) (Q : X → Type 0) (xs : List X) → Each Q xs → list_any p xs ≡ true
-    → ((x : X) → Q x → p x ≡ true → P) → P
-any-of P p Q [] each e f = absurd (differ e)
-any-of P p Q (x ∷ xs) each e f = either-of P (p x) (list_any p xs) e (f x each.0) (λ g. any-of P p Q xs each.1 g f)
-
-pub each-one : {X : Type 0} (xs : List X) → Each (λ x. Unit {0}) xs
-each-one [] = tt
-each-one (x ∷ xs) = (tt, each-one xs)
+-- what follows from each of a list that passes
+pub any-of : {X : Type 0} (P : Type 0) (p : X → Bool) (xs : List X) → list_any p xs ≡ true → ((x : X) → p x ≡ true → P) → P
+any-of P p [] e f = absurd (differ e)
+any-of P p (x ∷ xs) e f = either-of P (p x) (list_any p xs) e (f x) (λ g. any-of P p xs g f)
 
 -- one that passes a first test passes a second, where that follows for each that has something more
 pub any-each-more : {X : Type 0} (p q : X → Bool) (P : X → Type 0) → ((x : X) → P x → p x ≡ true → q x ≡ true) → (xs : List X)
@@ -45,6 +40,14 @@ any-none p (x ∷ xs) each = ap (λ b. b || list_any p xs) each.0 ∙ any-none p
 pub each-all : {X : Type 0} (p : X → Bool) (xs : List X) → list_all p xs ≡ true → Each (λ x. p x ≡ true) xs
 each-all p [] e = tt
 each-all p (x ∷ xs) e = (and-left (p x) (list_all p xs) e, each-all p xs (and-right (p x) (list_all p xs) e))
+
+pub all-each : {X : Type 0} (p : X → Bool) (xs : List X) → Each (λ x. p x ≡ true) xs → list_all p xs ≡ true
+all-each p [] each = refl
+all-each p (x ∷ xs) each = ap (λ b. b && list_all p xs) each.0 ∙ all-each p xs each.1
+
+pub each-of : {X : Type 0} (P : X → Type 0) → ((x : X) → P x) → (xs : List X) → Each P xs
+each-of P f [] = tt
+each-of P f (x ∷ xs) = (f x, each-of P f xs)
 
 -- ---- one list after the other
 

@@ -61,7 +61,7 @@ same-append (w ∷ ws) (v ∷ vs) us bs e f = (e.0, same-append ws vs us bs e.1 
 same-append [] (v ∷ vs) us bs e f = absurd e
 same-append (w ∷ ws) [] us bs e f = absurd e
 
--- as it is tested
+-- so they do where the test says so
 pub same-tested : (ws vs : List Window) → same_records ws vs ≡ true → AreSame ws vs
 same-tested [] [] e = tt
 same-tested (w ∷ ws) (v ∷ vs) e =
@@ -103,7 +103,7 @@ before-same a b (w ∷ ws) [] e = absurd e
 
 -- ---- surfaces that have one window each
 
--- an order of two is that of one list after another, which has only the first of them or both
+-- what another stands before is there
 before-there : (w v : Window) (xs : List Window) → is_before w v xs ≡ true → list_any (is_same_surface v) xs ≡ true
 before-there w v [] e = e
 before-there w v (x ∷ xs) e = or_right (is_same_surface v x) (list_any (is_same_surface v) xs) (at (is_same_surface w x) e (before-there w v xs))
@@ -113,7 +113,7 @@ before-there w v (x ∷ xs) e = or_right (is_same_surface v x) (list_any (is_sam
     at true f later = f
     at false f later = later f
 
--- a surface that has a window has no other in the rest
+-- of the surface of the first window none of the others is
 others-apart : (w x : Window) (xs : List Window) → list_any (is_same_surface x) xs ≡ false → is_same_surface w x ≡ true
     → list_any (is_same_surface w) xs ≡ false
 others-apart w x xs apart same = unless (list_any (is_same_surface w) xs) (λ there. differ (sym apart ∙ any-surface w x xs same there))

@@ -7,7 +7,7 @@ use Rattle.wl_scene.specs.Windows.{Window, contains}
 use Rattle.wl_plain.specs.Marks.{Applied, AreDistinct, has_moved_past, has_same_record, in_output, is_before, is_changed_at, is_damaged_at, is_kept_in, is_restacked_at, is_same_surface, shared_by}
 use Rattle.wl_laws.proofs.Marks.Stacks.{Each, and-both, and-left, and-right, any-more, differ, each-map}
 use Rattle.wl_tree_marks.specs.Laws.{AreUndamaged, MarksTreeAlone, among, is_in_any, is_struck_at}
-use Rattle.wl_tree_marks.proofs.Lists.{any-first, any-of, any-second, any-three, each-one, either-of}
+use Rattle.wl_tree_marks.proofs.Lists.{any-first, any-of, any-second, any-three, either-of}
 use Rattle.wl_tree_marks.proofs.Records.{apart-first, apart-second, before-first, before-in-first, before-in-second, before-second, distinct-second, each-kept, one-before, same-self}
 use Rattle.wl_tree_marks.proofs.Damage.{first-undamaged, none-changed, none-damaged, second-undamaged}
 
@@ -66,10 +66,10 @@ module _ (below above was is : List Window) (x y : ℤ) where
 
   restacked-in-tree : AreDistinct old → AreDistinct new → is_restacked_at old new x y ≡ true → (is_in_any x y was || is_in_any x y is) ≡ true
   restacked-in-tree apart apart' e =
-      any-of ((is_in_any x y was || is_in_any x y is) ≡ true) (λ w. list_any (moves w) old) (λ w. Unit {0}) old (each-one old) e
-      (λ w one f.
-      any-of ((is_in_any x y was || is_in_any x y is) ≡ true) (moves w) (λ v. Unit {0}) old (each-one old) f
-      (λ v one g.
+      any-of ((is_in_any x y was || is_in_any x y is) ≡ true) (λ w. list_any (moves w) old) old e
+      (λ w f.
+      any-of ((is_in_any x y was || is_in_any x y is) ≡ true) (moves w) old f
+      (λ v g.
       let past = and-left (has_moved_past old new w v) (shared_by old w v x y || shared_by new w v x y) g in
       shared-in-tree below above was is apart apart' w v (and-left (is_before w v old) (is_before v w new) past)
       (and-right (is_before w v old) (is_before v w new) past) x y

@@ -1,5 +1,5 @@
 -- Which windows have a tree that changed: where the records of one tree's windows differ, all of them, and where they don't, none.
-use Rattle.std.proofs.Common.{◌≡◌, ℕ, Bool, true, false, List, [], ◌∷◌, ◌++◌, refl, ap, ◌∙◌}
+use Rattle.std.proofs.Common.{◌≡◌, ℕ, Bool, true, false, List, ◌++◌, refl, ap, ◌∙◌}
 use Rattle.std.specs.Prelude.{ℤ, ◌&&◌, ◌||◌, None, Option, not, filter}
 use Rattle.std.specs.List.{list_all, list_any}
 use Rattle.std.proofs.lemmas.Bool.{and_right, or_from, or_left, or_right}
@@ -9,7 +9,8 @@ use Rattle.wl_scene.specs.Windows.{Window, contains}
 use Rattle.wl_plain.specs.Marks.{at_least, has_changed_tree, in_output, is_allowed_at, is_of_tree, is_raised, same_records}
 use Rattle.wl_laws.proofs.Marks.Stacks.{Each, and-both, and-left, and-right, each-both, each-false, each-map}
 use Rattle.wl_tree_marks.specs.Laws.{IsOneTree, MarksNothingMore, MayMarkWholeTree, among, is_in_any}
-use Rattle.wl_tree_marks.proofs.Lists.{any-as, any-each-more, any-first, any-none, any-second, each-all, each-append, each-first, each-second, either-of, filter-all, filter-none, none-first, none-second, none-turned}
+use Rattle.wl_tree_marks.proofs.Lists.{any-as, any-each-more, any-first, any-none, any-second}
+use Rattle.wl_tree_marks.proofs.Lists.{each-all, each-append, each-first, each-of, each-second, either-of, filter-all, filter-none, none-first, none-second, none-turned}
 use Rattle.wl_tree_marks.proofs.Records.{records-self, tree-turned}
 
 -- ---- the tree of a window among the others
@@ -57,12 +58,8 @@ module _ (below above was is : List Window) (one : IsOneTree below above was is)
   apart-turned : Each (λ w. list_any (is_of_tree w) (was ++ is) ≡ false) (below ++ above)
   apart-turned =
       each-map (λ w. list_any (λ v. is_of_tree v w) (was ++ is) ≡ false) (λ w. list_any (is_of_tree w) (was ++ is) ≡ false)
-      (λ w e. any-as (is_of_tree w) (λ v. is_of_tree v w) (was ++ is) (turned w (was ++ is)) ∙ e) (below ++ above)
+      (λ w e. any-as (is_of_tree w) (λ v. is_of_tree v w) (was ++ is) (each-of (λ v. is_of_tree w v ≡ is_of_tree v w) (tree-turned w) (was ++ is)) ∙ e) (below ++ above)
       (none-turned is_of_tree (was ++ is) (below ++ above) (each-false (λ w. list_any (is_of_tree w) (below ++ above)) (was ++ is) one.apart))
-    where
-      turned : (w : Window) (vs : List Window) → Each (λ v. is_of_tree w v ≡ is_of_tree v w) vs
-      turned w [] = tt
-      turned w (v ∷ vs) = (tree-turned w v, turned w vs)
 
   -- the trees of the others don't differ
   others-unchanged : Each (λ w. has_changed_tree old new w ≡ false) (below ++ above)
