@@ -1,0 +1,7 @@
+mod Lists
+mod Records
+mod Damage
+mod Roots
+mod Rows
+mod Tree
+mod Whole
