@@ -1,2 +1,3 @@
+mod Linking
 mod Named
 mod Renaming

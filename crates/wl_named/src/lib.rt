@@ -2,7 +2,8 @@
 //! request (wayland.xml, wl_surface, wl_subcompositor and wl_subsurface). Each law is a function that promises it.
 #![tactic(auto)]
 
-ghost use Rattle.wl_named.specs.Named.{AsksNamed, CommitsNamed, CreatesNamed, LinksNamed, RenamesNamed, RolesNamed, StaysNamed};
+ghost use Rattle.wl_named.specs.Named.{AsksNamed, CommitsNamed, CreatesNamed, DestroysNamed, DesynchronisesNamed, LinksNamed, MovesNamed};
+ghost use Rattle.wl_named.specs.Named.{PlacesNamed, RenamesNamed, RolesNamed, StaysNamed, SynchronisesNamed, UnlinksNamed};
 
 /// A request of a surface itself, other than a commit, is asked of it under its number (wayland.xml, wl_surface).
 pub fn asks_named()
@@ -27,6 +28,36 @@ pub fn links_named()
 /// Where a child is refused, what is kept stands for the same surfaces (wayland.xml, wl_subcompositor.get_subsurface).
 pub fn stays_named()
     ensures { StaysNamed }
+{}
+
+/// A child is moved by its link (wayland.xml, wl_subsurface.set_position).
+pub fn moves_named()
+    ensures { MovesNamed }
+{}
+
+/// A child is placed by its link, beside its parent or another child of it (wayland.xml, wl_subsurface.place_above and place_below).
+pub fn places_named()
+    ensures { PlacesNamed }
+{}
+
+/// A child becomes synchronised by its link (wayland.xml, wl_subsurface.set_sync).
+pub fn synchronises_named()
+    ensures { SynchronisesNamed }
+{}
+
+/// A child becomes desynchronised by its link (wayland.xml, wl_subsurface.set_desync).
+pub fn desynchronises_named()
+    ensures { DesynchronisesNamed }
+{}
+
+/// The link of a child ends, and no other (wayland.xml, wl_subsurface.destroy).
+pub fn unlinks_named()
+    ensures { UnlinksNamed }
+{}
+
+/// A surface is destroyed under its number (wayland.xml, wl_surface.destroy).
+pub fn destroys_named()
+    ensures { DestroysNamed }
 {}
 
 /// Names that give the surfaces which are there the same numbers serve as well: an id that is used again may get another number (wayland.xml,
