@@ -99,7 +99,7 @@ numbers-named : (names : ℕ → ℕ) (n : ℕ) (ls : List Link) → list_any (�
 numbers-named names n [] = refl
 numbers-named names n (l ∷ ls) = ap (λ b. l.number == n || b) (numbers-named names n ls)
 
-numbered-named : (names : ℕ → ℕ) (ls : List Link) → AreNumbered (map (renamed_link names) ls) → AreNumbered ls
+pub numbered-named : (names : ℕ → ℕ) (ls : List Link) → AreNumbered (map (renamed_link names) ls) → AreNumbered ls
 numbered-named names [] apart = tt
 numbered-named names (l ∷ ls) apart = (numbers-named names l.number ls ∙ apart.0, numbered-named names ls apart.1)
 

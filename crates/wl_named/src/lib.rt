@@ -4,6 +4,8 @@
 
 ghost use Rattle.wl_named.specs.Named.{AsksNamed, CommitsNamed, CreatesNamed, DestroysNamed, DesynchronisesNamed, LinksNamed, MovesNamed};
 ghost use Rattle.wl_named.specs.Named.{PlacesNamed, RenamesNamed, RolesNamed, StaysNamed, SynchronisesNamed, UnlinksNamed};
+ghost use Rattle.wl_named.specs.Reading.{BuffersNamed, FindsNamed, FreesNamed, HoldsNamed, NumbersNamed, ReadsNamed, RefusesNamed, SiblingsNamed};
+ghost use Rattle.wl_named.specs.Reading.{TiesNamed};
 
 /// A request of a surface itself, other than a commit, is asked of it under its number (wayland.xml, wl_surface).
 pub fn asks_named()
@@ -69,4 +71,49 @@ pub fn renames_named()
 /// A new surface is kept under a number that no other has (wayland.xml, wl_compositor.create_surface).
 pub fn creates_named()
     ensures { CreatesNamed }
+{}
+
+/// What is read of a surface under its number is so of it by its id (wayland.xml, wl_surface).
+pub fn reads_named()
+    ensures { ReadsNamed }
+{}
+
+/// Under a number is a surface that is there by its id, or none (wayland.xml, wl_surface).
+pub fn numbers_named()
+    ensures { NumbersNamed }
+{}
+
+/// The same buffers are busy, and the same are used, whatever the surfaces are called (wayland.xml, wl_buffer.release).
+pub fn buffers_named()
+    ensures { BuffersNamed }
+{}
+
+/// A buffer is busy, or used, where it is that of a surface under some number (wayland.xml, wl_buffer.release).
+pub fn holds_named()
+    ensures { HoldsNamed }
+{}
+
+/// The buffers that are freed were busy and aren't any more (wayland.xml, wl_buffer.release).
+pub fn frees_named()
+    ensures { FreesNamed }
+{}
+
+/// The link that is kept of a child is the one that lives (wayland.xml, wl_subsurface).
+pub fn ties_named()
+    ensures { TiesNamed }
+{}
+
+/// The link of a child that lives is found by its number (wayland.xml, wl_subcompositor.get_subsurface).
+pub fn finds_named()
+    ensures { FindsNamed }
+{}
+
+/// The same siblings are refused (wayland.xml, wl_subsurface.place_above and place_below).
+pub fn siblings_named()
+    ensures { SiblingsNamed }
+{}
+
+/// For the same reason a child is refused (wayland.xml, wl_subcompositor.get_subsurface).
+pub fn refuses_named()
+    ensures { RefusesNamed }
 {}

@@ -1,0 +1,86 @@
+-- The links that are kept under numbers, and those that live, by ids.
+use Rattle.std.proofs.Common.{◌≡◌, ℕ, ◌==◌, ◌&&◌, ◌||◌, Bool, true, false, cond, not, Option, Some, None, List, [], ◌∷◌, refl, ap, ap₂, sym, ◌∙◌, eq-eqb, eqb-true, arith}
+use Rattle.std.specs.Prelude.{find}
+use Rattle.std.specs.List.{AllByRecursion as Each, list_any}
+use Rattle.std.specs.Option.{option_map, option_map_or}
+use Rattle.wl_family.specs.declared.link.Link.{Link as Kept}
+use Rattle.wl_family.specs.Family.{Tied, is_child, links_in}
+use Rattle.wl_surface.specs.Slots.{Slots}
+use Rattle.wl_surface.specs.Surfaces.{Link, Surfaces, link_at}
+use Rattle.wl_surface.specs.Trees.{link_of}
+use Rattle.wl_tree_laws.specs.Hanging.{AreNumbered, kid_of, kids_of}
+use Rattle.wl_tree_laws.specs.Laws.{is_live_of, links_of}
+use Rattle.wl_tree_laws.proofs.Changing.{or-false}
+use Rattle.wl_tree_laws.proofs.Ending.{live-parts}
+use Rattle.wl_tree_laws.proofs.Placing.{kept_of, kid-is}
+use Rattle.wl_linked.specs.Linked.{IsLink}
+use Rattle.wl_renaming.specs.Renaming.{has_surface, renamed_link}
+use Rattle.wl_renaming.proofs.Known.{known-there, reads-surfaces}
+use Rattle.wl_renaming.proofs.Lists.{each-from, found}
+use Rattle.wl_renaming.proofs.Reading.{parent-known, same-name}
+use Rattle.wl_named.specs.Named.{StandBy}
+use Rattle.wl_named.specs.Reading.{FindsNamed, SiblingsNamed, TiesNamed, kept_by}
+use Rattle.wl_named.proofs.Linking.{numbered-named}
+
+pub ties-named : TiesNamed
+ties-named names slots tied all id there by =
+    by.stands.hang.0.links (names id) ∙ (ap (option_map kept_of) (reads-surfaces names all by.renaming id there).link ∙ at (link_of id all))
+  where
+    at : (o : Option Link) → option_map kept_of (option_map (renamed_link names) o) ≡ option_map (kept_by names) o
+    at None = refl
+    at (Some l) = refl
+
+-- ---- a link that lives, by its number
+
+each-none : (q : Link → Bool) (ls : List Link) → list_any q ls ≡ false → Each (λ l. q l ≡ false) ls
+each-none q [] none = tt
+each-none q (l ∷ ls) none = let parts = or-false (q l) (list_any q ls) none in (parts.0, each-none q ls parts.1)
+
+found-numbered : (p : Link → Bool) (ls : List Link) (link : Link) → AreNumbered ls → find p ls ≡ Some link → find (λ (l : Link). l.number == link.number) ls ≡ Some link
+found-numbered p [] link apart e = absurd (cc)
+found-numbered p (l ∷ ls) link apart e = at (p l) e (λ f. found-numbered p ls link apart.1 f)
+  where
+    at : (b : Bool) → cond b (Some l) (find p ls) ≡ Some link → (find p ls ≡ Some link → find (λ (l : Link). l.number == link.number) ls ≡ Some link)
+        → find (λ (l : Link). l.number == link.number) (l ∷ ls) ≡ Some link
+    at true e later =
+        let same : l ≡ link = cc in
+        ap (λ b. cond b (Some l) (find (λ (l : Link). l.number == link.number) ls)) (eq-eqb l.number link.number (ap (λ (l : Link). l.number) same)) ∙ ap (λ (l : Link). Some l) same
+    at false e later =
+        let other = (found p (λ (k : Link). (k.number == l.number) ≡ false) ls (each-none (λ k. k.number == l.number) ls apart.0) link e).0 in
+        let turned : (l.number == link.number) ≡ false = grind (arith, other) in
+        rw turned (later e)
+
+pub finds-named : FindsNamed
+finds-named names slots tied all id link by e =
+    let here = found-numbered (is_live_of id) all.links link (numbered-named names all.links by.stands.hang.1.apart) e in
+    let is = live-parts link.has_ended (link.child == id)
+    (found (is_live_of id) (λ (l : Link). Unit {0}) all.links (each-from (λ (l : Link). Unit {0}) (λ l. tt) all.links) link e).1 in
+    let child = eqb-true link.child id is.1 in
+    (record { here = here; lives = is.0; of_child = child }, kid-is all link.number link here is.0 ∙ ap (λ n. Some n) child)
+
+-- ---- siblings
+
+pub siblings-named : SiblingsNamed
+siblings-named names slots tied all child sibling below beside by = at (link_of child all) refl (ties-named names slots tied all child below by)
+  where
+    child-same : (parent : ℕ) → has_surface parent all ≡ true → (o : Option Link) → link_of sibling all ≡ o → links_in tied (names sibling) ≡ option_map (kept_by names) o
+        → is_child (names parent) (links_in tied) (names sibling) ≡ is_child parent (links_of all) sibling
+    child-same parent above None e f = rw (e, f) refl
+    child-same parent above (Some k) e f =
+        let there = parent-known (known-there names all by.renaming) sibling k e in
+        rw (e, f) (same-name (known-there names all by.renaming) k.parent parent there above)
+
+    bad-same : (a b c d e f : Bool) → a ≡ d → b ≡ e → c ≡ f → not (a || (not b && c)) ≡ not (d || (not e && f))
+    bad-same a b c d e f p q r = rw (p, q, r) refl
+
+    at : (o : Option Link) → link_of child all ≡ o → links_in tied (names child) ≡ option_map (kept_by names) o
+        → option_map_or (λ (l : Kept). not (names sibling == l.parent || (not (names sibling == names child) && is_child l.parent (links_in tied) (names sibling)))) (links_in tied (names child)) false
+        ≡ option_map_or (λ (l : Kept). not (sibling == l.parent || (not (sibling == child) && is_child l.parent (links_of all) sibling))) (links_of all child) false
+    at None e f = rw (e, f) refl
+    at (Some l) e f =
+        let k = known-there names all by.renaming in
+        let above = parent-known k child l e in
+        rw (e, f)
+        (bad-same (names sibling == names l.parent) (names sibling == names child) (is_child (names l.parent) (links_in tied) (names sibling)) (sibling == l.parent) (sibling == child)
+        (is_child l.parent (links_of all) sibling) (same-name k sibling l.parent beside above) (same-name k sibling child beside below)
+        (child-same l.parent above (link_of sibling all) refl (ties-named names slots tied all sibling beside by)))
