@@ -5,12 +5,12 @@ use Rattle.std.specs.Prelude.{find}
 use Rattle.std.specs.List.{AllByRecursion as Each, list_any}
 use Rattle.std.specs.Option.{option_map, option_or}
 use Rattle.std.proofs.lemmas.Bool.{eqb-true}
-use Rattle.std.proofs.lemmas.List.Elements.{recursion_from_All}
+use Rattle.std.proofs.lemmas.List.Elements.{All-nil, recursion_from_All}
 use Rattle.std.proofs.lemmas.List.Folds.{find-append}
 use Rattle.wl_family.specs.Family.{Tied}
 use Rattle.wl_state.specs.Surface.{Surface, new_surface}
 use Rattle.wl_surface.specs.Slots.{Numbered, Slots, StandForAll, StandsAt, kept_at, with_at}
-use Rattle.wl_surface.specs.Surfaces.{Link, Surfaces, history_in, link_at, surface_at, with_new}
+use Rattle.wl_surface.specs.Surfaces.{Link, Surfaces, history_in, link_at, no_surfaces, surface_at, with_new}
 use Rattle.wl_tree_laws.specs.Hanging.{AreNumbered, AreTied, Hang, kid_of, kids_of, stacks_at}
 use Rattle.wl_tree_laws.specs.Laws.{AreOnceLinked, is_live_of}
 use Rattle.wl_tree_laws.specs.Stacks.{Kids}
@@ -22,7 +22,8 @@ use Rattle.wl_renaming.proofs.Done.{creates-surface}
 use Rattle.wl_renaming.proofs.Known.{names-those-there}
 use Rattle.wl_renaming.proofs.Lists.{each-from, each-weaker, found}
 use Rattle.wl_renaming.proofs.Reading.{if-lives, link-renamed, lives-of}
-use Rattle.wl_named.specs.Named.{CreatesNamed, RenamesNamed, StandBy, with_name}
+use Rattle.wl_named.specs.Reading.{ShowsNamed}
+use Rattle.wl_named.specs.Named.{BeginsNamed, CreatesNamed, RenamesNamed, StandBy, with_name}
 use Rattle.wl_named.proofs.Named.{named-as, there-named}
 
 module _ (f g : ℕ → ℕ) where
@@ -155,7 +156,15 @@ renames-named names others slots tied all same by =
         (λ l ends lives. let are = ends lives in ap₂ (λ (c p : ℕ). record l { child = c; parent = p }) (same l.child are.0) (same l.parent are.1)) all.links
         (recursion_from_All (HasEnds all) all.links by.renaming.ends)
 
--- ---- a new surface
+pub shows-named : ShowsNamed
+shows-named names others all is same =
+    ap (λ (xs : List Surface). numbered (record (renamed names all) { surfaces = xs })) (names-those-there names others all is same).surfaces
+
+-- ---- no surfaces, and a new one
+
+pub begins-named : BeginsNamed
+begins-named names slots tied stands =
+    record { stands = stands; renaming = record { apart = λ a b here there same. absurd (cc); ends = All-nil (HasEnds no_surfaces) } }
 
 -- a number that no surface has is given to it
 new-stands : (slots new : Slots) (tied : Tied) (those : Surfaces) (number : ℕ)

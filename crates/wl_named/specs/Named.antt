@@ -7,7 +7,7 @@ use Rattle.wl_state.specs.Request.{Member, PlaceAbove, PlaceBelow, Request, SetP
 use Rattle.wl_state.specs.State.{is_commit}
 use Rattle.wl_state.specs.Surface.{asking, new_surface, with_role}
 use Rattle.wl_surface.specs.Slots.{Changes, Numbered, Slots, StandForAll, with_at}
-use Rattle.wl_surface.specs.Surfaces.{Link, Surfaces, link_at, surface_at, with_change, with_new}
+use Rattle.wl_surface.specs.Surfaces.{Link, Surfaces, link_at, no_surfaces, surface_at, with_change, with_new}
 use Rattle.wl_surface.specs.Trees.{committed_in, desynchronised_in, destroyed_in, ended_in, linked, synchronised_in, unlinked}
 use Rattle.wl_tree_laws.specs.Hanging.{kids_of}
 use Rattle.wl_tree_laws.specs.Stacks.{IsKept, is_about_children}
@@ -30,6 +30,10 @@ MakesBy child slots tied new after change =
     → Stand new after (change number link those)
 
 -- ---- one surface
+
+-- at first, with no surfaces
+abbrev pub BeginsNamed : Type 0
+BeginsNamed = (names : ℕ → ℕ) (slots : Slots) (tied : Tied) → Stand slots tied no_surfaces → StandBy names slots tied no_surfaces
 
 -- a request other than a commit, and not about children, of a surface that is there
 abbrev pub AsksNamed : Type 0

@@ -1,15 +1,19 @@
 -- What is read of surfaces under their numbers is so of them by their ids (wayland.xml, wl_surface, wl_subcompositor and wl_subsurface).
-use Rattle.std.specs.Prelude.{ℕ, ◌≡◌, ◌≢◌, ◌==◌, ◌&&◌, not, Bool, true, cond, Option, Some, None, List, All, count_by}
+use Rattle.std.specs.Prelude.{ℕ, ◌≡◌, ◌≢◌, ◌==◌, ◌&&◌, not, Bool, true, cond, Option, Some, None, List, All, count_by, map}
 use Rattle.std.specs.Option.{option_map}
+use Rattle.wl_children.specs.declared.placed.Member.{Member}
+use Rattle.wl_children.specs.declared.placed.Member.TheVariants.{Itself, Child}
+use Rattle.wl_children.specs.declared.placed.Placed.{Placed}
+use Rattle.wl_children.specs.Stacks.{Stacks}
 use Rattle.wl_family.specs.declared.link.Link.{Link as Kept}
-use Rattle.wl_family.specs.Family.{Tied, is_bad_sibling, links_in}
+use Rattle.wl_family.specs.Family.{Tied, is_bad_sibling, links_in, stacks_in}
 use Rattle.wl_state.specs.Surface.{Surface}
 use Rattle.wl_surface.specs.Applied.{AreFreed}
 use Rattle.wl_surface.specs.Slots.{IsAny, Slots, content_at, had_at, has_at, pending_at, role_at, shows_at}
-use Rattle.wl_surface.specs.Surfaces.{Link, Surfaces, is_busy, is_used, surface_at}
+use Rattle.wl_surface.specs.Surfaces.{Link, Surfaces, history_in, is_busy, is_used, surface_at}
 use Rattle.wl_surface.specs.Trees.{link_of}
 use Rattle.wl_surface.specs.Waiting.{applied_at, frames_at, held_at}
-use Rattle.wl_tree_laws.specs.Hanging.{kids_of}
+use Rattle.wl_tree_laws.specs.Hanging.{kids_of, stacks_at}
 use Rattle.wl_tree_laws.specs.Laws.{links_of}
 use Rattle.wl_linked.specs.Linked.{IsLink, link_refusal, numbered}
 use Rattle.wl_renaming.specs.Renaming.{IsRenaming, has_surface, renamed, renamed_surface}
@@ -40,6 +44,12 @@ NumbersNamed =
     (names : ℕ → ℕ) (all : Surfaces) → IsRenaming names all → (number : ℕ)
     → ((s : Surface) → numbered (renamed names all) number ≡ Some s → (id : ℕ) × (has_surface id all ≡ true) × (names id ≡ number))
     × (((id : ℕ) → has_surface id all ≡ true → names id ≢ number) → numbered (renamed names all) number ≡ None)
+
+-- Other names that give the surfaces which are there the same numbers show the same under each number.
+abbrev pub ShowsNamed : Type 0
+ShowsNamed =
+    (names others : ℕ → ℕ) (all : Surfaces) → IsRenaming names all → ((id : ℕ) → has_surface id all ≡ true → others id ≡ names id)
+    → numbered (renamed others all) ≡ numbered (renamed names all)
 
 -- ---- buffers
 
@@ -97,3 +107,23 @@ abbrev pub RefusesNamed : Type 0
 RefusesNamed =
     (names : ℕ → ℕ) (all : Surfaces) → IsRenaming names all → (child parent : ℕ) → has_surface child all ≡ true
     → has_surface parent all ≡ true → link_refusal (renamed names all) (names child) (names parent) ≡ link_refusal all child parent
+
+-- ---- stacks
+
+-- who stands in a stack, under its number
+abbrev pub member_by : (ℕ → ℕ) → Member → Member
+member_by names Itself = Itself
+member_by names (Child child) = Child (names child)
+
+abbrev pub stack_by : (ℕ → ℕ) → List Placed → List Placed
+stack_by names stack = map (λ (p : Placed). record p { member = member_by names p.member }) stack
+
+abbrev pub stacks_by : (ℕ → ℕ) → Stacks → Stacks
+stacks_by names s =
+    record { pending = stack_by names s.pending; held = stack_by names s.held; applied = stack_by names s.applied }
+
+-- The stacks that are kept of a surface are those that its requests make, each child under its number.
+abbrev pub StacksNamed : Type 0
+StacksNamed =
+    (names : ℕ → ℕ) (slots : Slots) (tied : Tied) (all : Surfaces) (id : ℕ) → has_surface id all ≡ true → StandBy names slots tied all
+    → stacks_in tied (names id) ≡ stacks_by names (stacks_at (kids_of all) (history_in id all))

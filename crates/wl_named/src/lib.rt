@@ -2,10 +2,15 @@
 //! request (wayland.xml, wl_surface, wl_subcompositor and wl_subsurface). Each law is a function that promises it.
 #![tactic(auto)]
 
-ghost use Rattle.wl_named.specs.Named.{AsksNamed, CommitsNamed, CreatesNamed, DestroysNamed, DesynchronisesNamed, LinksNamed, MovesNamed};
-ghost use Rattle.wl_named.specs.Named.{PlacesNamed, RenamesNamed, RolesNamed, StaysNamed, SynchronisesNamed, UnlinksNamed};
+ghost use Rattle.wl_named.specs.Named.{AsksNamed, BeginsNamed, CommitsNamed, CreatesNamed, DestroysNamed, DesynchronisesNamed, LinksNamed};
+ghost use Rattle.wl_named.specs.Named.{MovesNamed, PlacesNamed, RenamesNamed, RolesNamed, StaysNamed, SynchronisesNamed, UnlinksNamed};
 ghost use Rattle.wl_named.specs.Reading.{BuffersNamed, FindsNamed, FreesNamed, HoldsNamed, NumbersNamed, ReadsNamed, RefusesNamed, SiblingsNamed};
-ghost use Rattle.wl_named.specs.Reading.{TiesNamed};
+ghost use Rattle.wl_named.specs.Reading.{ShowsNamed, StacksNamed, TiesNamed};
+
+/// At first there are no surfaces.
+pub fn begins_named()
+    ensures { BeginsNamed }
+{}
 
 /// A request of a surface itself, other than a commit, is asked of it under its number (wayland.xml, wl_surface).
 pub fn asks_named()
@@ -83,6 +88,11 @@ pub fn numbers_named()
     ensures { NumbersNamed }
 {}
 
+/// Other names of the same numbers show the same under each number (wayland.xml, wl_display.delete_id).
+pub fn shows_named()
+    ensures { ShowsNamed }
+{}
+
 /// The same buffers are busy, and the same are used, whatever the surfaces are called (wayland.xml, wl_buffer.release).
 pub fn buffers_named()
     ensures { BuffersNamed }
@@ -116,4 +126,9 @@ pub fn siblings_named()
 /// For the same reason a child is refused (wayland.xml, wl_subcompositor.get_subsurface).
 pub fn refuses_named()
     ensures { RefusesNamed }
+{}
+
+/// The stacks that are kept of a surface are those that its requests make (wayland.xml, wl_subsurface.place_above and place_below).
+pub fn stacks_named()
+    ensures { StacksNamed }
 {}
