@@ -13,7 +13,7 @@ use Rattle.wl_state.specs.Surface.{asking}
 use Rattle.wl_surface.specs.Surfaces.{Link, Surfaces, link_at}
 use Rattle.wl_surface.specs.Trees.{ended_in, unlinked}
 use Rattle.wl_tree_laws.specs.Hanging.{AreNumbered, kid_of, kids_of}
-use Rattle.wl_tree_laws.specs.Stacks.{IsKept, Kids}
+use Rattle.wl_tree_laws.specs.Stacks.{IsKept}
 use Rattle.wl_tree_laws.proofs.Changing.{or-false}
 use Rattle.wl_linked.specs.Linked.{IsLink, Stand}
 use Rattle.wl_renaming.specs.Renaming.{HasEnds, IsRenaming, has_surface, renamed, renamed_link}

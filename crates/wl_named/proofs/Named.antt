@@ -5,7 +5,7 @@ use Rattle.wl_children.specs.Stacks.{Stacks}
 use Rattle.wl_family.specs.Family.{Tied, stacks_in}
 use Rattle.wl_state.specs.declared.role.Role.{Role}
 use Rattle.wl_state.specs.declared.role.Role.TheVariants.{Subsurface}
-use Rattle.wl_state.specs.Request.{Commit, Request}
+use Rattle.wl_state.specs.Request.{Commit}
 use Rattle.wl_state.specs.Surface.{Surface, asking, with_role}
 use Rattle.wl_surface.specs.Slots.{Numbered, Slots, StandForAll, changed_at}
 use Rattle.wl_surface.specs.Surfaces.{Surfaces, link_at, surface_at, with_change}

@@ -1,23 +1,20 @@
 -- What is read of surfaces under their numbers is so of them by their ids.
-use Rattle.std.proofs.Common.{◌≡◌, ◌≢◌, ℕ, ◌==◌, ◌&&◌, ◌||◌, Bool, true, false, cond, not, Option, Some, None, List, [], ◌∷◌, map, is_some, refl, ap, ap₂, sym, subst, ◌∙◌, eqb-true}
+use Rattle.std.proofs.Common.{◌≡◌, ◌≢◌, ℕ, ◌==◌, ◌||◌, Bool, true, false, cond, Option, Some, None, List, [], ◌∷◌, map, is_some, refl, ap, ap₂, sym, ◌∙◌, eqb-true}
 use Rattle.std.specs.Prelude.{find, if◌then◌else◌}
 use Rattle.std.specs.List.{AllByRecursion as Each, list_any}
 use Rattle.std.specs.Option.{option_map}
 use Rattle.std.proofs.lemmas.List.Elements.{recursion_from_All}
-use Rattle.wl_state.specs.declared.role.Role.{Role}
 use Rattle.wl_state.specs.State.{History}
 use Rattle.wl_state.specs.Surface.{Surface, has, shows}
-use Rattle.wl_surface.specs.declared.error.SurfaceError.{SurfaceError}
 use Rattle.wl_surface.specs.declared.error.SurfaceError.TheVariants as error
-use Rattle.wl_surface.specs.Slots.{IsAny, IsCurrentAt, Numbered, content_at, had_at, has_at, pending_at, role_at, shows_at}
+use Rattle.wl_surface.specs.Slots.{IsAny, Numbered, content_at, had_at, has_at, pending_at, role_at, shows_at}
 use Rattle.wl_surface.specs.Surfaces.{Link, Surfaces, is_busy, is_used, surface_at}
 use Rattle.wl_surface.specs.Trees.{link_of}
 use Rattle.wl_surface.specs.Waiting.{applied_at, frames_at, held_at}
-use Rattle.wl_linked.specs.Linked.{is_other_role, is_taken, link_refusal, numbered}
+use Rattle.wl_linked.specs.Linked.{is_other_role, numbered}
 use Rattle.wl_renaming.specs.Renaming.{IsRenaming, has_surface, renamed, renamed_link, renamed_surface}
 use Rattle.wl_renaming.proofs.Known.{keeps-refusals, known-there, reads-surfaces}
-use Rattle.wl_renaming.proofs.Lists.{found}
-use Rattle.wl_named.specs.Reading.{AreFound, BuffersNamed, FreesNamed, HoldsNamed, IsReadBy, NumbersNamed, ReadsNamed, RefusesNamed}
+use Rattle.wl_named.specs.Reading.{AreFound, BuffersNamed, FreesNamed, HoldsNamed, NumbersNamed, ReadsNamed, RefusesNamed}
 
 -- ---- one surface
 

@@ -1,5 +1,5 @@
 -- What is kept stands for surfaces by any names that give those which are there their numbers.
-use Rattle.std.proofs.Common.{◌≡◌, ℕ, ◌==◌, ◌&&◌, ◌||◌, Bool, true, false, cond, not, Option, Some, None, List, [], ◌∷◌, map, is_some, refl, ap, ap₂, sym, subst, ◌∙◌, eq-eqb, arith}
+use Rattle.std.proofs.Common.{◌≡◌, ℕ, ◌==◌, ◌||◌, Bool, true, false, cond, Option, Some, None, List, [], ◌∷◌, map, is_some, refl, ap, ap₂, sym, subst, ◌∙◌, eq-eqb, arith}
 use Rattle.std.proofs.Math.Path.{fun_ext}
 use Rattle.std.specs.Prelude.{find}
 use Rattle.std.specs.List.{AllByRecursion as Each, list_any}
@@ -11,7 +11,7 @@ use Rattle.wl_family.specs.Family.{Tied}
 use Rattle.wl_state.specs.Surface.{Surface, new_surface}
 use Rattle.wl_surface.specs.Slots.{Numbered, Slots, StandForAll, StandsAt, kept_at, with_at}
 use Rattle.wl_surface.specs.Surfaces.{Link, Surfaces, history_in, link_at, no_surfaces, surface_at, with_new}
-use Rattle.wl_tree_laws.specs.Hanging.{AreNumbered, AreTied, Hang, kid_of, kids_of, stacks_at}
+use Rattle.wl_tree_laws.specs.Hanging.{AreNumbered, AreTied, kid_of, kids_of, stacks_at}
 use Rattle.wl_tree_laws.specs.Laws.{AreOnceLinked, is_live_of}
 use Rattle.wl_tree_laws.specs.Stacks.{Kids}
 use Rattle.wl_tree_laws.proofs.Coming.{creates-surface as creates-hanging}
@@ -20,7 +20,7 @@ use Rattle.wl_linked.specs.Linked.{Stand, numbered}
 use Rattle.wl_renaming.specs.Renaming.{HasEnds, has_surface, renamed, renamed_link}
 use Rattle.wl_renaming.proofs.Done.{creates-surface}
 use Rattle.wl_renaming.proofs.Known.{names-those-there}
-use Rattle.wl_renaming.proofs.Lists.{each-from, each-weaker, found}
+use Rattle.wl_renaming.proofs.Lists.{each-weaker, found}
 use Rattle.wl_renaming.proofs.Reading.{if-lives, link-renamed, lives-of}
 use Rattle.wl_named.specs.Reading.{ShowsNamed}
 use Rattle.wl_named.specs.Named.{BeginsNamed, CreatesNamed, RenamesNamed, StandBy, with_name}

@@ -1,30 +1,27 @@
 -- The links that are kept under numbers, and those that live, by ids.
-use Rattle.std.proofs.Common.{◌≡◌, ℕ, ◌==◌, ◌&&◌, ◌||◌, Bool, true, false, cond, not, Option, Some, None, List, [], ◌∷◌, refl, ap, ap₂, sym, ◌∙◌, eq-eqb, eqb-true, arith}
+use Rattle.std.proofs.Common.{◌≡◌, ℕ, ◌==◌, ◌&&◌, ◌||◌, Bool, true, false, cond, not, Option, Some, None, List, [], ◌∷◌, refl, ap, ◌∙◌, eq-eqb, eqb-true, arith}
 use Rattle.std.specs.Prelude.{filter_map, find, take}
 use Rattle.std.specs.List.{AllByRecursion as Each, list_any}
 use Rattle.std.specs.Option.{option_map, option_map_or}
 use Rattle.wl_children.specs.declared.placed.Member.TheVariants as kept
 use Rattle.wl_children.specs.declared.placed.Placed.{Placed}
 use Rattle.wl_family.specs.declared.link.Link.{Link as Kept}
-use Rattle.wl_family.specs.Family.{Tied, is_child, links_in}
+use Rattle.wl_family.specs.Family.{is_child, links_in}
 use Rattle.wl_state.specs.Request.{Child, Itself, Member, Request}
 use Rattle.wl_state.specs.State.{History, committed as committed_at, counting, order, position}
-use Rattle.wl_surface.specs.Slots.{Slots}
-use Rattle.wl_surface.specs.Surfaces.{Link, Surfaces, history_in, link_at}
+use Rattle.wl_surface.specs.Surfaces.{Link, history_in}
 use Rattle.wl_surface.specs.Trees.{link_of}
-use Rattle.wl_tree_laws.specs.Hanging.{AreNumbered, kid_of, kids_of, stacks_at}
+use Rattle.wl_tree_laws.specs.Hanging.{AreNumbered, kids_of, stacks_at}
 use Rattle.wl_tree_laws.specs.Laws.{is_live_of, links_of}
 use Rattle.wl_tree_laws.specs.Stacks.{Kids, place_of}
 use Rattle.wl_tree_laws.proofs.Hanging.{same-stacks}
 use Rattle.wl_tree_laws.proofs.Changing.{or-false}
 use Rattle.wl_tree_laws.proofs.Ending.{live-parts}
 use Rattle.wl_tree_laws.proofs.Placing.{kept_of, kid-is}
-use Rattle.wl_linked.specs.Linked.{IsLink}
 use Rattle.wl_renaming.specs.Renaming.{has_surface, renamed, renamed_link}
 use Rattle.wl_renaming.proofs.Known.{known-there, reads-surfaces}
 use Rattle.wl_renaming.proofs.Lists.{each-from, found}
 use Rattle.wl_renaming.proofs.Reading.{parent-known, same-name}
-use Rattle.wl_named.specs.Named.{StandBy}
 use Rattle.wl_named.specs.Reading.{FindsNamed, SiblingsNamed, StacksNamed, TiesNamed, kept_by, member_by, stack_by, stacks_by}
 use Rattle.wl_named.proofs.Linking.{kids-named, numbered-named}
 
@@ -94,29 +91,29 @@ siblings-named names slots tied all child sibling below beside by = at (link_of 
 -- ---- stacks
 
 module _ (names : ℕ → ℕ) (kids more : Kids) (same : (number : ℕ) → more number ≡ option_map names (kids number)) where
-  place-named : (rs : List Request) (m : Member)
-      → place_of more rs m ≡ option_map (λ (p : Placed). record p { member = member_by names p.member }) (place_of kids rs m)
+  abbrev placed_by : Placed → Placed
+  placed_by p = record p { member = member_by names p.member }
+
+  place-named : (rs : List Request) (m : Member) → place_of more rs m ≡ option_map placed_by (place_of kids rs m)
   place-named rs Itself = refl
-  place-named rs (Child number) = ap (option_map (λ child. record { member = kept.Child child; x = (position number rs).0; y = (position number rs).1 })) (same number) ∙ at (kids number)
+  place-named rs (Child number) = ap (option_map here) (same number) ∙ at (kids number)
     where
-      at : (o : Option ℕ)
-          → option_map (λ child. record { member = kept.Child child; x = (position number rs).0; y = (position number rs).1 }) (option_map names o)
-          ≡ option_map (λ (p : Placed). record p { member = member_by names p.member })
-          (option_map (λ child. record { member = kept.Child child; x = (position number rs).0; y = (position number rs).1 }) o)
+      here : ℕ → Placed
+      here child = record { member = kept.Child child; x = (position number rs).0; y = (position number rs).1 }
+
+      at : (o : Option ℕ) → option_map here (option_map names o) ≡ option_map placed_by (option_map here o)
       at None = refl
       at (Some child) = refl
 
   places-named : (rs : List Request) (ms : List Member) → filter_map (place_of more rs) ms ≡ stack_by names (filter_map (place_of kids rs) ms)
   places-named rs [] = refl
-  places-named rs (m ∷ ms) = at (place_of kids rs m) (place_of more rs m) refl refl (place-named rs m) (places-named rs ms)
+  places-named rs (m ∷ ms) = at (place_of kids rs m) refl (place-named rs m) (places-named rs ms)
     where
-      at : (o p : Option Placed) → place_of kids rs m ≡ o → place_of more rs m ≡ p → place_of more rs m ≡ option_map (λ (p : Placed). record p { member = member_by names p.member }) (place_of kids rs m)
+      at : (o : Option Placed) → place_of kids rs m ≡ o → place_of more rs m ≡ option_map placed_by (place_of kids rs m)
           → filter_map (place_of more rs) ms ≡ stack_by names (filter_map (place_of kids rs) ms)
           → filter_map (place_of more rs) (m ∷ ms) ≡ stack_by names (filter_map (place_of kids rs) (m ∷ ms))
-      at None p e f both next = let g = both ∙ ap (option_map (λ (p : Placed). record p { member = member_by names p.member })) e in rw (g, e) next
-      at (Some o) p e f both next =
-          let g = both ∙ ap (option_map (λ (p : Placed). record p { member = member_by names p.member })) e in
-          rw (g, e) (ap (λ (ps : List Placed). record o { member = member_by names o.member } ∷ ps) next)
+      at None e both next = let there = both ∙ ap (option_map placed_by) e in rw (there, e) next
+      at (Some p) e both next = let there = both ∙ ap (option_map placed_by) e in rw (there, e) (ap (λ (ps : List Placed). placed_by p ∷ ps) next)
 
   pub stacks-same : (o : Option History) → stacks_at more o ≡ stacks_by names (stacks_at kids o)
   stacks-same None = refl

@@ -129,8 +129,8 @@ DestroysNamed =
     (names : ℕ → ℕ) (slots new : Slots) (tied after : Tied) (all : Surfaces) (id : ℕ) → has_surface id all ≡ true
     → StandBy names slots tied all → Makes slots tied new after (destroyed_in (names id)) → StandBy names new after (destroyed_in id all)
 
--- By other names, which give the surfaces that are there the same numbers, what is kept stands for them too. So an id that is used again may
--- get another number.
+-- By other names, which give the surfaces that are there the same numbers, what is kept stands for them too. So an id that is used again
+-- may get another number.
 abbrev pub RenamesNamed : Type 0
 RenamesNamed =
     (names others : ℕ → ℕ) (slots : Slots) (tied : Tied) (all : Surfaces)

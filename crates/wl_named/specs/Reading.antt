@@ -1,5 +1,5 @@
 -- What is read of surfaces under their numbers is so of them by their ids (wayland.xml, wl_surface, wl_subcompositor and wl_subsurface).
-use Rattle.std.specs.Prelude.{ℕ, ◌≡◌, ◌≢◌, ◌==◌, ◌&&◌, not, Bool, true, cond, Option, Some, None, List, All, count_by, map}
+use Rattle.std.specs.Prelude.{ℕ, ◌≡◌, ◌≢◌, ◌==◌, ◌&&◌, not, Bool, true, cond, Some, None, List, All, count_by, map}
 use Rattle.std.specs.Option.{option_map}
 use Rattle.wl_children.specs.declared.placed.Member.{Member}
 use Rattle.wl_children.specs.declared.placed.Member.TheVariants.{Itself, Child}

@@ -1,11 +1,11 @@
-//! The surfaces of a client are named by the ids of their wl_surface objects, and kept under numbers. What is kept stands for them after each
-//! request (wayland.xml, wl_surface, wl_subcompositor and wl_subsurface). Each law is a function that promises it.
+//! The surfaces of a client are named by the ids of their wl_surface objects, and kept under numbers. What is kept stands for them after
+//! each request (wayland.xml, wl_surface, wl_subcompositor and wl_subsurface). Each law is a function that promises it.
 #![tactic(auto)]
 
 ghost use Rattle.wl_named.specs.Named.{AsksNamed, BeginsNamed, CommitsNamed, CreatesNamed, DestroysNamed, DesynchronisesNamed, LinksNamed};
 ghost use Rattle.wl_named.specs.Named.{MovesNamed, PlacesNamed, RenamesNamed, RolesNamed, StaysNamed, SynchronisesNamed, UnlinksNamed};
-ghost use Rattle.wl_named.specs.Reading.{BuffersNamed, FindsNamed, FreesNamed, HoldsNamed, NumbersNamed, ReadsNamed, RefusesNamed, SiblingsNamed};
-ghost use Rattle.wl_named.specs.Reading.{ShowsNamed, StacksNamed, TiesNamed};
+ghost use Rattle.wl_named.specs.Reading.{BuffersNamed, FindsNamed, FreesNamed, HoldsNamed, NumbersNamed, ReadsNamed, RefusesNamed};
+ghost use Rattle.wl_named.specs.Reading.{ShowsNamed, SiblingsNamed, StacksNamed, TiesNamed};
 
 /// At first there are no surfaces.
 pub fn begins_named()
@@ -67,8 +67,8 @@ pub fn destroys_named()
     ensures { DestroysNamed }
 {}
 
-/// Names that give the surfaces which are there the same numbers serve as well: an id that is used again may get another number (wayland.xml,
-/// wl_display.delete_id).
+/// Names that give the surfaces which are there the same numbers serve as well: an id that is used again may get another number
+/// (wayland.xml, wl_display.delete_id).
 pub fn renames_named()
     ensures { RenamesNamed }
 {}
@@ -88,7 +88,7 @@ pub fn numbers_named()
     ensures { NumbersNamed }
 {}
 
-/// Other names of the same numbers show the same under each number (wayland.xml, wl_display.delete_id).
+/// Other names that give the surfaces the same numbers show the same under each (wayland.xml, wl_display.delete_id).
 pub fn shows_named()
     ensures { ShowsNamed }
 {}
