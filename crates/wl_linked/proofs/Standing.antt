@@ -135,7 +135,7 @@ nothing-tied = record {
   cuts = λ surface h e. absurd (cc);
   named = λ surface link h e none. absurd (cc);
   placed = λ surface link h e none. absurd (cc);
-  parents = λ surface number h link e there has. absurd (cc);
+  parents = λ surface number h link e there lives has. absurd (cc);
   listed = λ number link e lives. absurd (cc);
 }
 

@@ -126,8 +126,10 @@ module _ (g : Link → Link) (keeps : KeepsLink g) where
       cuts = tied.cuts;
       named = λ n l h there gone. tied.named n l h there (before l gone);
       placed = λ n l h there gone. tied.placed n l h there (before l gone);
-      parents = λ n l h new there e has.
-          let it = was l new e in ap (λ (l : Link). l.parent) (sym it.now) ∙ (keeps.parent it.old ∙ tied.parents n l h it.old there it.here has);
+      parents = λ n l h new there e lives has.
+          let it = was l new e in
+          let lives_too = lived it.old it.old.has_ended refl (ap (λ (l : Link). l.has_ended) it.now ∙ lives) in
+          ap (λ (l : Link). l.parent) (sym it.now) ∙ (keeps.parent it.old ∙ tied.parents n l h it.old there it.here lives_too has);
       listed = λ l new e lives.
           let it = was l new e in
           let is = tied.listed l it.old it.here (lived it.old it.old.has_ended refl (ap (λ (l : Link). l.has_ended) it.now ∙ lives)) in

@@ -55,8 +55,8 @@ tied-applied p all tied = record {
   cuts = λ n new e. let was = before n new e in cut (p n) was.old new was.now (tied.cuts n was.old was.here);
   named = λ n l new e gone. let was = before n new e in ap (λ rs. has_child l rs) (requests n was.old new was.now) ∙ tied.named n l was.old was.here gone;
   placed = λ n l new e gone. let was = before n new e in ap (λ rs. position l rs) (requests n was.old new was.now) ∙ tied.placed n l was.old was.here gone;
-  parents = λ n l new link e there has.
-      let was = before n new e in tied.parents n l was.old link was.here there (ap (λ rs. has_child l rs) (sym (requests n was.old new was.now)) ∙ has);
+  parents = λ n l new link e there lives has.
+      let was = before n new e in tied.parents n l was.old link was.here there lives (ap (λ rs. has_child l rs) (sym (requests n was.old new was.now)) ∙ has);
   listed = λ l link there lives.
       let is = tied.listed l link there lives in (
         cond (p link.parent) (apply is.0) is.0,
@@ -130,7 +130,7 @@ creates-surface tied all id none hang = (
     cuts = λ n h e. cut h (before n h e).which (λ f. hang.1.cuts n h f);
     named = λ n l h e gone. name l h (before n h e).which (λ f. hang.1.named n l h f gone);
     placed = λ n l h e gone. place l h (before n h e).which (λ f. hang.1.placed n l h f gone);
-    parents = λ n l h link e there has. parent n l h link (before n h e).which has (λ f. hang.1.parents n l h link f there has);
+    parents = λ n l h link e there lives has. parent n l h link (before n h e).which has (λ f. hang.1.parents n l h link f there lives has);
     listed = λ l link there lives.
         let is = hang.1.listed l link there lives in
         (is.0, history-new link.parent id all ∙ ap (λ o. option_or o (cond (id == link.parent) (Some nothing_asked) None)) is.1, is.2);
@@ -200,7 +200,7 @@ tied-without all id apart tied = record {
   cuts = λ n h e. tied.cuts n h (before n h e);
   named = λ n l h e gone. tied.named n l h (before n h e) gone;
   placed = λ n l h e gone. tied.placed n l h (before n h e) gone;
-  parents = λ n l h link e there has. tied.parents n l h link (before n h e) there has;
+  parents = λ n l h link e there lives has. tied.parents n l h link (before n h e) there lives has;
   listed = λ l link there lives.
       let is = tied.listed l link there lives in
       (is.0, history-without link.parent id all ∙ (ap (λ b. cond b None (history_in link.parent all)) (apart l link there lives) ∙ is.1), is.2);

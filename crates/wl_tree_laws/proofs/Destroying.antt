@@ -99,27 +99,26 @@ abbrev less : ℕ → Option ℕ → Option ℕ
 less surface None = None
 less surface (Some child) = cond (surface == child) None (Some child)
 
-kid-left : (surface n : ℕ) (o : Option Link) → ((link : Link) → o ≡ Some link → link.parent ≡ n) → (n == surface) ≡ false → kid_of (option_map (end_one surface) o) ≡ less surface (kid_of o)
+kid-left : (surface n : ℕ) (o : Option Link) → ((link : Link) → o ≡ Some link → link.has_ended ≡ false → link.parent ≡ n) → (n == surface) ≡ false
+    → kid_of (option_map (end_one surface) o) ≡ less surface (kid_of o)
 kid-left surface n None parent other = refl
 kid-left surface n (Some l) parent other =
-    let apart : (l.parent == surface) ≡ false = ap (λ p. p == surface) (parent l refl) ∙ other in
-    at l.has_ended (l.child == surface) refl refl apart
+    at l.has_ended (l.child == surface) refl refl (λ lives. ap (λ p. p == surface) (parent l refl lives) ∙ other)
   where
-    at : (ended same : Bool) → l.has_ended ≡ ended → (l.child == surface) ≡ same → (l.parent == surface) ≡ false → kid_of (Some (end_one surface l)) ≡ less surface (kid_of (Some l))
-    at ended true e f g =
+    dead : (b : Bool) → l.has_ended ≡ true → kid_of (Some (cond b (ending l) l)) ≡ less surface (kid_of (Some l))
+    dead true e = rw e refl
+    dead false e = rw e refl
+
+    at : (ended same : Bool) → l.has_ended ≡ ended → (l.child == surface) ≡ same → (l.has_ended ≡ false → (l.parent == surface) ≡ false)
+        → kid_of (Some (end_one surface l)) ≡ less surface (kid_of (Some l))
+    at true same e f g = dead (touches surface l) e
+    at false true e f g =
         let turned : (surface == l.child) ≡ true = grind (arith, f) in
-        rw f (gone ended e turned)
-      where
-        gone : (ended : Bool) → l.has_ended ≡ ended → (surface == l.child) ≡ true → kid_of (Some (ending l)) ≡ less surface (kid_of (Some l))
-        gone true e turned = rw e refl
-        gone false e turned = rw (e, turned) refl
-    at ended false e f g =
+        rw f (rw (e, turned) refl)
+    at false false e f g =
         let turned : (surface == l.child) ≡ false = grind (arith, f) in
-        rw (f, g) (stays ended e turned)
-      where
-        stays : (ended : Bool) → l.has_ended ≡ ended → (surface == l.child) ≡ false → kid_of (Some l) ≡ less surface (kid_of (Some l))
-        stays true e turned = rw e refl
-        stays false e turned = rw (e, turned) refl
+        let apart = g e in
+        rw (f, apart) (rw (e, turned) refl)
 
 -- ---- the stacks that are left
 
@@ -211,7 +210,7 @@ module _ (old : Tied) (all : Surfaces) (surface : ℕ) (together : HangTogether 
   kid-named : (n k : ℕ) (h : History) → (n == surface) ≡ false → history_in n all ≡ Some h → has_child k h.requests ≡ true → kids_left k ≡ less surface (kids k)
   kid-named n k h other is named =
       ap kid_of (at-each (end_one surface) (keeps-end surface) k all.links)
-      ∙ kid-left surface n (link_at k all) (λ link there. hang.1.parents n k h link is there named) other
+      ∙ kid-left surface n (link_at k all) (λ link there lives. hang.1.parents n k h link is there lives named) other
 
   -- it was a child of its parent alone
   kid-others : (n k : ℕ) (h : History) → history_in n all ≡ Some h → has_child k h.requests ≡ true
@@ -222,7 +221,7 @@ module _ (old : Tied) (all : Surfaces) (surface : ℕ) (together : HangTogether 
       it link false e lives same = refl
       it link true e lives same =
           absurd (let found = ap (λ c. link_of c all) (eqb-true surface link.child same) ∙ live-found k all.links link hang.1.once e lives in
-          let both = sym (eq-eqb n link.parent (sym (hang.1.parents n k h link is e named))) ∙ apart link found in cc)
+          let both = sym (eq-eqb n link.parent (sym (hang.1.parents n k h link is e lives named))) ∙ apart link found in cc)
 
       living : (link : Link) (b : Bool) → link.has_ended ≡ b → link_at k all ≡ Some link → less surface (cond b None (Some link.child)) ≡ cond b None (Some link.child)
       living link true lives e = refl

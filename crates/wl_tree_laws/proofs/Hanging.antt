@@ -105,8 +105,8 @@ module _ (all : Surfaces) (k : ℕ) (f : Surface → Surface) (g : History → H
     cuts = λ n new e. let was = asked-before n new e in cut n was.old new (n == k) was.now (tied.cuts n was.old was.here);
     named = λ n l new e none. let was = asked-before n new e in sym (child n l was.old new (n == k) refl was.here was.now) ∙ tied.named n l was.old was.here none;
     placed = λ n l new e none. let was = asked-before n new e in sym (place l was.old new (n == k) none was.now) ∙ tied.placed n l was.old was.here none;
-    parents = λ n l new link e there has.
-        let was = asked-before n new e in tied.parents n l was.old link was.here there (child n l was.old new (n == k) refl was.here was.now ∙ has);
+    parents = λ n l new link e there lives has.
+        let was = asked-before n new e in tied.parents n l was.old link was.here there lives (child n l was.old new (n == k) refl was.here was.now ∙ has);
     listed = λ l link there lives.
         let is = tied.listed l link there lives in
         let now = history-changed link.parent k f g all same changes ∙ ap (option_map (λ h. cond (link.parent == k) (g h) h)) is.1 in

@@ -134,10 +134,10 @@ module _ (all : Surfaces) (number child parent : ℕ) (h : History) (gone : link
         let was = before n new e in
         let both = none-more (link_at l all) (number == l) new_link (sym (at-more l) ∙ none) in
         placed-more l (n == parent) was.old new was.now (tied.placed n l was.old was.here both.0);
-    parents = λ n l new link e f has.
+    parents = λ n l new link e f lives has.
         let was = before n new e in
         let found = found-more (link_at l all) (number == l) new_link link (sym (at-more l) ∙ f) in
-        parents-more n l was.old new link was.here was.now found.which has;
+        parents-more n l was.old new link was.here was.now found.which lives has;
     listed = λ l link f lives. let found = found-more (link_at l all) (number == l) new_link link (sym (at-more l) ∙ f) in listed-more l link found.which lives;
   }
     where
@@ -177,12 +177,13 @@ module _ (all : Surfaces) (number child parent : ℕ) (h : History) (gone : link
           at false e is = inl (ap (λ (h : History). has_child l h.requests) is ∙ has)
 
       parents-more : (n l : ℕ) (old new : History) (link : Link) → history_in n all ≡ Some old → cond (n == parent) (more old) old ≡ new
-          → ((link_at l all ≡ Some link) × Unit {0}) ⊎ ((link_at l all ≡ None) × ((number == l) ≡ true) × (new_link ≡ link)) → has_child l new.requests ≡ true → link.parent ≡ n
-      parents-more n l old new link here is which has = at which (child-before n l old new is has)
+          → ((link_at l all ≡ Some link) × Unit {0}) ⊎ ((link_at l all ≡ None) × ((number == l) ≡ true) × (new_link ≡ link)) → link.has_ended ≡ false
+          → has_child l new.requests ≡ true → link.parent ≡ n
+      parents-more n l old new link here is which lives has = at which (child-before n l old new is has)
         where
           at : ((link_at l all ≡ Some link) × Unit {0}) ⊎ ((link_at l all ≡ None) × ((number == l) ≡ true) × (new_link ≡ link))
               → (has_child l old.requests ≡ true) ⊎ (((l == number) ≡ true) × ((n == parent) ≡ true)) → link.parent ≡ n
-          at (inl found) (inl has) = tied.parents n l old link here found.0 has
+          at (inl found) (inl has) = tied.parents n l old link here found.0 lives has
           at (inl found) (inr now) = absurd (let both = sym found.0 ∙ (ap (λ k. link_at k all) (eqb-true l number now.0) ∙ gone) in cc)
           at (inr fresh) (inl has) = absurd (let both = sym has ∙ tied.named n l old here fresh.0 in cc)
           at (inr fresh) (inr now) = ap (λ (l : Link). l.parent) (sym fresh.2) ∙ sym (eqb-true n parent now.1)

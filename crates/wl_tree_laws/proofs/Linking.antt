@@ -295,7 +295,7 @@ ends-link old new all number link there lives links stacks hang = (
 
     nothing-to : (n : ℕ) (h : History) → history_in n all ≡ Some h → (n == link.parent) ≡ false → (b : Bool) → has_child number h.requests ≡ b → has_child number h.requests ≡ false
     nothing-to n h is apart false e = e
-    nothing-to n h is apart true e = absurd (let same = hang.1.parents n number h link is there e in let both = sym (eq-eqb n link.parent (sym same)) ∙ apart in cc)
+    nothing-to n h is apart true e = absurd (let same = hang.1.parents n number h link is there lives e in let both = sym (eq-eqb n link.parent (sym same)) ∙ apart in cc)
 
     stack : (n : ℕ) (b : Bool) → (n == link.parent) ≡ b → (o : Option History) → history_in n all ≡ o
         → cond b (removed link.child (stacks_at (kids_of all) o)) (stacks_at (kids_of all) o) ≡ stacks_at (with_kid number None (kids_of all)) o

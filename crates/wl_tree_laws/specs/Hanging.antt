@@ -46,8 +46,8 @@ abbrev pub AreNumbered : List Link → Type 0
 AreNumbered [] = Unit {0}
 AreNumbered (l ∷ ls) = (list_any (λ k. k.number == l.number) ls ≡ false) × AreNumbered ls
 
--- Links are told apart by number and, while they live, by child; no more counts than was committed; a surface's requests name links to its
--- own children alone, and each link that lives is named by those of its parent.
+-- Links are told apart by number and, while they live, by child; no more counts than was committed; of the links that live a surface's
+-- requests name those to its own children alone, and each is named by those of its parent.
 pub record AreTied (all : Surfaces) : Type 0 where
   pub once : AreOnceLinked all.links
   pub apart : AreNumbered all.links
@@ -58,7 +58,7 @@ pub record AreTied (all : Surfaces) : Type 0 where
       → position link h.requests ≡ (pos 0, pos 0)
   pub parents :
       (surface number : ℕ) (h : History) (link : Link) → history_in surface all ≡ Some h → link_at number all ≡ Some link
-      → has_child number h.requests ≡ true → link.parent ≡ surface
+      → link.has_ended ≡ false → has_child number h.requests ≡ true → link.parent ≡ surface
   pub listed : (number : ℕ) (link : Link) → link_at number all ≡ Some link → link.has_ended ≡ false
       → (h : History) × (history_in link.parent all ≡ Some h) × (has_child number h.requests ≡ true)
 

@@ -1,0 +1,5 @@
+mod Linking
+mod Named
+mod Reading
+mod Renaming
+mod Tying
