@@ -40,7 +40,7 @@ returns-clause-serves g c = λ some others base d r is more.
 pub returns-clause-sides : goal.returns-clause-sides
 returns-clause-sides g c = elim c.if-has_ended-2.branch [
   | then-has_ended-2 w ↦ rw (w.damage-is) w.mark_end.ensures.sides
-  | else-has_ended-2 w ↦ rw (w.damage-is) w.mark_change.ensures.sides
+  | else-has_ended-2 w ↦ rw (w.damage-is) (rw w.rects_of.ensures at w.mark_change.ensures).sides
 ]
 
 pub returns-in_default-clause-idle : goal.returns-in_default-clause-idle
@@ -93,7 +93,7 @@ returns-clause-marks g c = λ some others base d r unlinked before more e q serv
           (λ id number surface named. c.window-was.ensures.window others base d r before id number surface named)
           (is-there e q after) applied
           (λ number commit lives all stand. c.in-Some.ensures.change number commit (lived-before split r client stacking old mid new was now takes settled lives) all stand)
-          (same ∙ lives-of on.client.ended (ended ∙ w.if-has_ended-2.false)) c.args.damage.now w.mark_change.new.damage w.mark_change.ensures))
+          (same ∙ lives-of on.client.ended (ended ∙ w.if-has_ended-2.false)) c.args.damage.now w.mark_change.new.damage (rw w.rects_of.ensures at w.mark_change.ensures)))
     ]
 
 pub returns-clause-within : goal.returns-clause-within
@@ -131,7 +131,7 @@ returns-clause-within g c = λ some others base d r width height unlinked before
           (λ id number surface named. c.window-was.ensures.window others base d r before id number surface named)
           (is-there e q after) applied
           (λ number commit lives all stand. c.in-Some.ensures.change number commit (lived-before split r client stacking old mid new was now takes settled lives) all stand)
-          c.args.damage.now w.mark_change.new.damage w.mark_change.ensures width height)
+          c.args.damage.now w.mark_change.new.damage (rw w.rects_of.ensures at w.mark_change.ensures) width height)
     ]
 
 pub returns-clause-through : goal.returns-clause-through
@@ -179,14 +179,14 @@ returns-clause-through g c = λ some others base d r width height unlinked befor
           (λ id number surface named. c.window-was.ensures.window others base d r before id number surface named)
           (is-there e q after) applied
           (λ number commit lives all stand. c.in-Some.ensures.change number commit (lived-before split r client stacking old mid new was now takes settled lives) all stand)
-          (same ∙ lives-of on.client.ended (ended ∙ w.if-has_ended-2.false)) c.args.damage.now w.mark_change.new.damage w.mark_change.ensures))
+          (same ∙ lives-of on.client.ended (ended ∙ w.if-has_ended-2.false)) c.args.damage.now w.mark_change.new.damage (rw w.rects_of.ensures at w.mark_change.ensures)))
           (λ e q serves after. message-within client others base d e r q old new was now before after unlinked more serves asked c.asked-asked.ensures
           (keeps-numbers split r client stacking old mid new was now takes settled) c.touched_by-touched.result c.touched_by-touched.ensures c.window-was.result w.window-is.result
           c.window-was.ensures.none w.window-is.ensures.none
           (λ id number surface named. c.window-was.ensures.window others base d r before id number surface named)
           (is-there e q after) applied
           (λ number commit lives all stand. c.in-Some.ensures.change number commit (lived-before split r client stacking old mid new was now takes settled lives) all stand)
-          c.args.damage.now w.mark_change.new.damage w.mark_change.ensures width height
+          c.args.damage.now w.mark_change.new.damage (rw w.rects_of.ensures at w.mark_change.ensures) width height
           (status client others base d e r q old new was now before after ∙ lives)))
     ] in
     (leads.0, leads.1, leads.2, leads.3, leads.4, through-by d leads.2 c.args.damage.now c.if-has_ended-2.damage width height leads.5)
