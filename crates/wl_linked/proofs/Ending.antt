@@ -89,7 +89,8 @@ module _ (slots : Slots) (tied mid : Tied) (all : Surfaces) (number child : ℕ)
   pub unheld-stands : Stand slots mid (with_link number (in_mode false) all)
   unheld-stands = record {
     surfaces = stand.surfaces;
-    hang = sets-mode tied mid all number link false is.here is.lives (subst (λ c. links_in mid ≡ changed_at c (option_map (kept_mode false)) (links_in tied)) (sym is.of_child) links) stacks stand.hang;
+    hang = sets-mode tied mid all number link false is.here is.lives (subst (λ c. links_in mid ≡ changed_at c (option_map (kept_mode false)) (links_in tied)) (sym
+        is.of_child) links) stacks stand.hang;
     there = λ n e. stand.there n (subst (λ (ps : List Place). has_place n ps ≡ true) places e);
   }
 
@@ -110,7 +111,8 @@ module _ (slots : Slots) (tied mid : Tied) (all : Surfaces) (number child : ℕ)
     pub desynchronised-is : (b : Bool) → (not was || now) ≡ b → desynchronised_in number all ≡ applied_unless b child (with_link number (in_mode false) all)
     desynchronised-is b e =
         ap (λ (o : Option Link). released_in o all (with_link number (in_mode false) all)) is.here
-        ∙ ap (λ c. applied_unless (not (behaves_synchronised levels all c) || behaves_synchronised levels (with_link number (in_mode false) all) c) c (with_link number (in_mode false) all)) is.of_child
+        ∙ ap (λ c. applied_unless (not (behaves_synchronised levels all c) || behaves_synchronised levels (with_link number (in_mode false) all) c) c (with_link number
+            (in_mode false) all)) is.of_child
         ∙ ap (λ x. applied_unless x child (with_link number (in_mode false) all)) (stays-so b e)
 
 -- it behaved synchronised, and doesn't any more; or it stays as it was

@@ -1,5 +1,5 @@
--- What is kept of a client's surfaces and of the links between them, and when it stands for what was asked (wayland.xml, wl_subcompositor and
--- wl_subsurface). The surfaces are named by their numbers.
+-- What is kept of a client's surfaces and of the links between them, and when it stands for what was asked (wayland.xml,
+-- wl_subcompositor and wl_subsurface). The surfaces are named by their numbers.
 use Rattle.std.specs.Prelude.{ℕ, ◌≡◌, ◌||◌, Bool, true, false, if◌then◌else◌, is_some, IfErr, Option, Some, None, Result, Err}
 use Rattle.wl_family.specs.declared.error.PlaceError.{PlaceError}
 use Rattle.wl_family.specs.declared.error.PlaceError.TheVariants as place

@@ -78,7 +78,8 @@ returns-then-not-is_synchronised-clause-changes g c = λ all number link is stan
     c.set_synchronised.ensures.links c.set_synchronised.ensures.places c.set_synchronised.ensures.stacks c.in_ok-room.ensures.those)
     (unheld-those v.surfaces v.family c.set_synchronised.new.self all number c.args.child link c.in_ok-room.room.below.items is stand
     c.set_synchronised.ensures.links c.set_synchronised.ensures.places c.set_synchronised.ensures.stacks c.in_ok-room.ensures.those)
-    c.in_ok-room.room.changes.items c.apply_tree.result.changes.items (c.in_ok-room.ensures.told ∙ c.new.ensures.items) c.in_ok-room.ensures.once (e.told (numbered all) stand.surfaces c.in_ok-room.ensures.once))
+    c.in_ok-room.room.changes.items c.apply_tree.result.changes.items (c.in_ok-room.ensures.told ∙ c.new.ensures.items) c.in_ok-room.ensures.once (e.told (numbered all)
+        stand.surfaces c.in_ok-room.ensures.once))
 
 pub returns-then-not-is_synchronised-clause-freed : goal.returns-then-not-is_synchronised-clause-freed
 returns-then-not-is_synchronised-clause-freed g c = λ all number link is stand.
@@ -102,13 +103,15 @@ pub returns-clause-ok : goal.returns-clause-ok
 returns-clause-ok g c = λ all number link is stand.
     let v = c.args.self.now in
     let stays : (not c.behaves_synchronised-was_synchronised.result || c.behaves_synchronised-is_synchronised.result) ≡ true = elim c.else-was_synchronised.branch [
-      | else-was_synchronised-via-then-was_synchronised+else-not-is_synchronised w ↦ stays-now c.behaves_synchronised-was_synchronised.result c.behaves_synchronised-is_synchronised.result w.if-not-is_synchronised.false
+      | else-was_synchronised-via-then-was_synchronised+else-not-is_synchronised w ↦ stays-now c.behaves_synchronised-was_synchronised.result
+          c.behaves_synchronised-is_synchronised.result w.if-not-is_synchronised.false
       | else-was_synchronised-via-else-was_synchronised w ↦ stays-before c.behaves_synchronised-was_synchronised.result c.behaves_synchronised-is_synchronised.result w.if-was_synchronised.false
     ] in
     subst (λ (a : Surfaces). Stand v.surfaces c.set_synchronised.new.self a)
     (sym (desynchronised-is v.surfaces v.family c.set_synchronised.new.self all number c.args.child link c.in_ok-room.room.below.items is stand
     c.set_synchronised.ensures.links c.set_synchronised.ensures.places c.set_synchronised.ensures.stacks c.in_ok-room.ensures.those
-    c.behaves_synchronised-was_synchronised.result c.behaves_synchronised-is_synchronised.result c.behaves_synchronised-was_synchronised.ensures c.behaves_synchronised-is_synchronised.ensures true stays))
+    c.behaves_synchronised-was_synchronised.result c.behaves_synchronised-is_synchronised.result c.behaves_synchronised-was_synchronised.ensures
+        c.behaves_synchronised-is_synchronised.ensures true stays))
     (unheld-stands v.surfaces v.family c.set_synchronised.new.self all number c.args.child link c.in_ok-room.room.below.items is stand
     c.set_synchronised.ensures.links c.set_synchronised.ensures.places c.set_synchronised.ensures.stacks c.in_ok-room.ensures.those)
 
@@ -116,37 +119,43 @@ pub returns-clause-waits : goal.returns-clause-waits
 returns-clause-waits g c = λ all number link cs is stand are.
     let v = c.args.self.now in
     let stays : (not c.behaves_synchronised-was_synchronised.result || c.behaves_synchronised-is_synchronised.result) ≡ true = elim c.else-was_synchronised.branch [
-      | else-was_synchronised-via-then-was_synchronised+else-not-is_synchronised w ↦ stays-now c.behaves_synchronised-was_synchronised.result c.behaves_synchronised-is_synchronised.result w.if-not-is_synchronised.false
+      | else-was_synchronised-via-then-was_synchronised+else-not-is_synchronised w ↦ stays-now c.behaves_synchronised-was_synchronised.result
+          c.behaves_synchronised-is_synchronised.result w.if-not-is_synchronised.false
       | else-was_synchronised-via-else-was_synchronised w ↦ stays-before c.behaves_synchronised-was_synchronised.result c.behaves_synchronised-is_synchronised.result w.if-was_synchronised.false
     ] in
     subst (λ (a : Surfaces). AreWaiting v.surfaces.frames (numbered a) cs)
     (sym (desynchronised-is v.surfaces v.family c.set_synchronised.new.self all number c.args.child link c.in_ok-room.room.below.items is stand
     c.set_synchronised.ensures.links c.set_synchronised.ensures.places c.set_synchronised.ensures.stacks c.in_ok-room.ensures.those
-    c.behaves_synchronised-was_synchronised.result c.behaves_synchronised-is_synchronised.result c.behaves_synchronised-was_synchronised.ensures c.behaves_synchronised-is_synchronised.ensures true stays))
+    c.behaves_synchronised-was_synchronised.result c.behaves_synchronised-is_synchronised.result c.behaves_synchronised-was_synchronised.ensures
+        c.behaves_synchronised-is_synchronised.ensures true stays))
     are
 
 pub returns-clause-changes : goal.returns-clause-changes
 returns-clause-changes g c = λ all number link is stand.
     let v = c.args.self.now in
     let stays : (not c.behaves_synchronised-was_synchronised.result || c.behaves_synchronised-is_synchronised.result) ≡ true = elim c.else-was_synchronised.branch [
-      | else-was_synchronised-via-then-was_synchronised+else-not-is_synchronised w ↦ stays-now c.behaves_synchronised-was_synchronised.result c.behaves_synchronised-is_synchronised.result w.if-not-is_synchronised.false
+      | else-was_synchronised-via-then-was_synchronised+else-not-is_synchronised w ↦ stays-now c.behaves_synchronised-was_synchronised.result
+          c.behaves_synchronised-is_synchronised.result w.if-not-is_synchronised.false
       | else-was_synchronised-via-else-was_synchronised w ↦ stays-before c.behaves_synchronised-was_synchronised.result c.behaves_synchronised-is_synchronised.result w.if-was_synchronised.false
     ] in
     subst (λ b. IsToldUnless b c.args.child (with_link number (in_mode false) all) c.nothing-2.result.changes.items)
     (sym (stays-so v.surfaces v.family c.set_synchronised.new.self all number c.args.child link c.in_ok-room.room.below.items is stand
     c.set_synchronised.ensures.links c.set_synchronised.ensures.places c.set_synchronised.ensures.stacks c.in_ok-room.ensures.those
-    c.behaves_synchronised-was_synchronised.result c.behaves_synchronised-is_synchronised.result c.behaves_synchronised-was_synchronised.ensures c.behaves_synchronised-is_synchronised.ensures true stays))
+    c.behaves_synchronised-was_synchronised.result c.behaves_synchronised-is_synchronised.result c.behaves_synchronised-was_synchronised.ensures
+        c.behaves_synchronised-is_synchronised.ensures true stays))
     c.nothing-2.ensures.changes
 
 pub returns-clause-freed : goal.returns-clause-freed
 returns-clause-freed g c = λ all number link is stand.
     let v = c.args.self.now in
     let stays : (not c.behaves_synchronised-was_synchronised.result || c.behaves_synchronised-is_synchronised.result) ≡ true = elim c.else-was_synchronised.branch [
-      | else-was_synchronised-via-then-was_synchronised+else-not-is_synchronised w ↦ stays-now c.behaves_synchronised-was_synchronised.result c.behaves_synchronised-is_synchronised.result w.if-not-is_synchronised.false
+      | else-was_synchronised-via-then-was_synchronised+else-not-is_synchronised w ↦ stays-now c.behaves_synchronised-was_synchronised.result
+          c.behaves_synchronised-is_synchronised.result w.if-not-is_synchronised.false
       | else-was_synchronised-via-else-was_synchronised w ↦ stays-before c.behaves_synchronised-was_synchronised.result c.behaves_synchronised-is_synchronised.result w.if-was_synchronised.false
     ] in
     subst (λ (a : Surfaces). AreFreed c.nothing-2.result.freed.items (numbered all) (numbered a))
     (sym (desynchronised-is v.surfaces v.family c.set_synchronised.new.self all number c.args.child link c.in_ok-room.room.below.items is stand
     c.set_synchronised.ensures.links c.set_synchronised.ensures.places c.set_synchronised.ensures.stacks c.in_ok-room.ensures.those
-    c.behaves_synchronised-was_synchronised.result c.behaves_synchronised-is_synchronised.result c.behaves_synchronised-was_synchronised.ensures c.behaves_synchronised-is_synchronised.ensures true stays))
+    c.behaves_synchronised-was_synchronised.result c.behaves_synchronised-is_synchronised.result c.behaves_synchronised-was_synchronised.ensures
+        c.behaves_synchronised-is_synchronised.ensures true stays))
     (rw c.nothing-2.ensures.freed (nothing-freed (numbered all)))
