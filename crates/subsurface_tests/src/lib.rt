@@ -9,3 +9,5 @@ mod family;
 mod linked;
 #[cfg(test)]
 mod trees;
+#[cfg(test)]
+mod windows;
