@@ -2,4 +2,5 @@ mod Linking
 mod Named
 mod Reading
 mod Renaming
+mod Telling
 mod Tying

@@ -6,6 +6,10 @@ ghost use Rattle.wl_named.specs.Named.{AsksNamed, BeginsNamed, CommitsNamed, Cre
 ghost use Rattle.wl_named.specs.Named.{MovesNamed, PlacesNamed, RenamesNamed, RolesNamed, StaysNamed, SynchronisesNamed, UnlinksNamed};
 ghost use Rattle.wl_named.specs.Reading.{BuffersNamed, FindsNamed, FreesNamed, HoldsNamed, NumbersNamed, ReadsNamed, RefusesNamed};
 ghost use Rattle.wl_named.specs.Reading.{ShowsNamed, SiblingsNamed, StacksNamed, TiesNamed};
+ghost use Rattle.wl_named.specs.Telling.{TellsCommit, TellsDesync, TellsEnd, TellsUnlink};
+
+use std::alloc::Allocator;
+use wl_surface::Change;
 
 /// At first there are no surfaces.
 pub fn begins_named()
@@ -131,4 +135,24 @@ pub fn refuses_named()
 /// The stacks that are kept of a surface are those that its requests make (wayland.xml, wl_subsurface.place_above and place_below).
 pub fn stacks_named()
     ensures { StacksNamed }
+{}
+
+/// What is told of a commit is told of surfaces by their ids (wayland.xml, wl_surface.commit).
+pub fn tells_commit<A: Allocator>(changes: &[Change<A>])
+    ensures { TellsCommit changes.now }
+{}
+
+/// What is told as a child becomes desynchronised is told of surfaces by their ids (wayland.xml, wl_subsurface.set_desync).
+pub fn tells_desync<A: Allocator>(changes: &[Change<A>])
+    ensures { TellsDesync changes.now }
+{}
+
+/// What is told as a link ends is told of surfaces by their ids (wayland.xml, wl_subsurface.destroy).
+pub fn tells_unlink<A: Allocator>(changes: &[Change<A>])
+    ensures { TellsUnlink changes.now }
+{}
+
+/// What is told as a surface ends is told of surfaces by their ids (wayland.xml, wl_surface.destroy).
+pub fn tells_end<A: Allocator>(changes: &[Change<A>])
+    ensures { TellsEnd changes.now }
 {}
