@@ -6,6 +6,7 @@ use wl_linked::{Applied, Attached, BufferNo, Linked, Role, SurfaceError, Surface
 use wl_store::layout;
 
 const ROOT: SurfaceNo = 0;
+
 const CHILD: SurfaceNo = 1;
 
 const ITSELF: Placed = Placed {
@@ -22,7 +23,11 @@ fn child_at(child: SurfaceNo, x: i32, y: i32) -> Placed {
     }
 }
 
-fn stack_is<A: Allocator + Copy>(linked: &Linked<A>, surface: SurfaceNo, wanted: &[Placed]) -> bool {
+fn stack_is<A: Allocator + Copy>(
+    linked: &Linked<A>,
+    surface: SurfaceNo,
+    wanted: &[Placed],
+) -> bool {
     linked.family.stack(surface) == wanted
 }
 
@@ -73,11 +78,8 @@ fn tells<A: Allocator>(
     match answer {
         Ok(applied) => {
             applied.changes.len() == wanted.len()
-                && applied
-                    .changes
-                    .iter()
-                    .zip(wanted)
-                    .all(|(change, row)| change.surface == row.0 && change.rects.len() == row.1)
+                && applied.changes.iter().zip(wanted).all(|(change, row)| change.surface == row.0
+                    && change.rects.len() == row.1)
                 && applied.freed.as_slice() == freed
         }
         Err(_) => false,
@@ -203,7 +205,9 @@ fn applies_all_or_nothing<A: Allocator + Copy>(linked: &mut Linked<A>) -> Option
     attach(linked, CHILD, 19);
     committed(linked, CHILD)?;
     let seen = match committed(linked, ROOT) {
-        Some(told) => told == 2 && shown(linked, ROOT) == Some(11) && shown(linked, CHILD) == Some(19),
+        Some(told) => told == 2
+            && shown(linked, ROOT) == Some(11)
+            && shown(linked, CHILD) == Some(19),
         None => shown(linked, ROOT) == Some(10) && shown(linked, CHILD) == Some(18),
     };
     Some(seen)

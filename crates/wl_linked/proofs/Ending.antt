@@ -112,7 +112,7 @@ module _ (slots : Slots) (tied mid : Tied) (all : Surfaces) (number child : ℕ)
     desynchronised-is b e =
         ap (λ (o : Option Link). released_in o all (with_link number (in_mode false) all)) is.here
         ∙ ap (λ c. applied_unless (not (behaves_synchronised levels all c) || behaves_synchronised levels (with_link number (in_mode false) all) c) c (with_link number
-            (in_mode false) all)) is.of_child
+        (in_mode false) all)) is.of_child
         ∙ ap (λ x. applied_unless x child (with_link number (in_mode false) all)) (stays-so b e)
 
 -- it behaved synchronised, and doesn't any more; or it stays as it was

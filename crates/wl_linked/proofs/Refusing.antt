@@ -82,12 +82,12 @@ module _ (slots : Slots) (tied : Tied) (all : Surfaces) (child parent : ℕ) (ha
       pub parent-so : under ≡ true → IsRefused {T = Unit {0}} (link_refusal all child parent) (Err error.BadParent)
       parent-so e =
           parent-refused (is_too_deep all child parent) (is_taken all child) (is_bad_parent all child parent) (both-refuse.0 is deep ∙ shallow) (sym is_so ∙ free)
-              (both-refuse.1 ∙ sym stands_under ∙ e)
+          (both-refuse.1 ∙ sym stands_under ∙ e)
 
       pub memory-so : {T : Type 0} (r : Result T SurfaceError) → under ≡ false → IfErr r (λ e. e ≡ error.Memory) → IsRefused (link_refusal all child parent) r
       memory-so r e h =
           memory-refused (is_too_deep all child parent) (is_taken all child) (is_bad_parent all child parent) r (both-refuse.0 is deep ∙ shallow) (sym is_so ∙ free)
-              (both-refuse.1 ∙ sym stands_under ∙ e) h
+          (both-refuse.1 ∙ sym stands_under ∙ e) h
 
 -- ---- a surface that isn't taken is given its role
 

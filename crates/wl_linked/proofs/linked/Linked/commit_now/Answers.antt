@@ -32,7 +32,7 @@ returns-clause-changes g c = λ all stand.
     let those = mid-those v.surfaces c.hold.new.self new.surfaces v.family c.commit.new.self new.family all c.args.surface c.in_ok-room.room.below.items
     c.in_ok-hold.ensures.ok c.commit.ensures.stacks c.commit.ensures.places c.commit.ensures.links c.in_ok-room.ensures.those stand in
     tree-told c.hold.new.self new.surfaces c.commit.new.self new.family (held c.args.surface all) c.args.surface c.in_ok-room.room.below.items mid those
-        c.in_ok-room.room.changes.items c.apply_tree.result.changes.items
+    c.in_ok-room.room.changes.items c.apply_tree.result.changes.items
     (c.in_ok-room.ensures.told ∙ c.new.ensures.items) c.in_ok-room.ensures.once (c.apply_tree.ensures.told (numbered (held c.args.surface all)) mid.surfaces c.in_ok-room.ensures.once)
 
 pub returns-clause-freed : goal.returns-clause-freed

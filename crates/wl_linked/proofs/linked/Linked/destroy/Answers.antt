@@ -12,7 +12,7 @@ returns-clause-ok g c = λ all stand.
     let new = c.apply_tree-applied.new.self in
     let e = c.apply_tree-applied.ensures in
     destroyed-stands v.surfaces c.destroy.new.self new.surfaces v.family c.remove.new.self new.family all c.args.surface c.in_ok-room.room.below.items
-        c.in_ok-room.ensures.hang stand c.in_ok-room.ensures.those
+    c.in_ok-room.ensures.hang stand c.in_ok-room.ensures.those
     (c.in_ok-gone.ensures.ok (numbered all) stand.surfaces) e.stand c.remove.ensures.links c.remove.ensures.stacks c.remove.ensures.there e.links e.places e.stacks
 
 pub returns-clause-waits : goal.returns-clause-waits
@@ -22,7 +22,7 @@ returns-clause-waits g c = λ all cs stand are.
     let others = filter (λ (x : Callback). not (is_in (frames_at (numbered all c.args.surface)) x)) cs in
     subst (λ (named : Numbered). AreWaiting new.surfaces.frames named others)
     (sym (numbered-destroyed v.surfaces c.destroy.new.self new.surfaces v.family c.remove.new.self new.family all c.args.surface c.in_ok-room.room.below.items
-        c.in_ok-room.ensures.hang stand c.in_ok-room.ensures.those))
+    c.in_ok-room.ensures.hang stand c.in_ok-room.ensures.those))
     (c.apply_tree-applied.ensures.waits (with_at c.args.surface None (numbered all)) others (c.in_ok-gone.ensures.waits (numbered all) cs are))
 
 pub returns-clause-changes : goal.returns-clause-changes
@@ -30,7 +30,7 @@ returns-clause-changes g c = λ all stand.
     let v = c.args.self.now in
     let new = c.apply_tree-applied.new.self in
     destroyed-told v.surfaces c.destroy.new.self new.surfaces v.family c.remove.new.self new.family all c.args.surface c.in_ok-room.room.below.items
-        c.in_ok-room.ensures.hang stand c.in_ok-room.ensures.those
+    c.in_ok-room.ensures.hang stand c.in_ok-room.ensures.those
     c.in_ok-told.told.items c.apply_tree-applied.result.changes.items c.in_ok-room.room.changes.items (c.in_ok-told.ensures (numbered all) stand.surfaces) c.in_ok-room.ensures.told
     c.in_ok-room.ensures.once
     (c.apply_tree-applied.ensures.told (with_at c.args.surface None (numbered all)) (c.in_ok-gone.ensures.ok (numbered all) stand.surfaces) c.in_ok-room.ensures.once)
@@ -41,7 +41,7 @@ returns-clause-freed g c = λ all stand.
     let new = c.apply_tree-applied.new.self in
     let after = (returns-clause-ok g c all stand).surfaces in
     destroyed-freed v.surfaces c.destroy.new.self new.surfaces v.family c.remove.new.self new.family all c.args.surface c.in_ok-room.room.below.items
-        c.in_ok-room.ensures.hang stand c.in_ok-room.ensures.those
+    c.in_ok-room.ensures.hang stand c.in_ok-room.ensures.those
     c.in_ok-room.room.shown.items c.apply_tree-applied.result.freed.items (c.in_ok-room.ensures.shown (numbered all) stand.surfaces) (c.apply_tree-applied.ensures.freed _ after)
 
 pub returns-clause-callbacks : goal.returns-clause-callbacks

@@ -32,12 +32,12 @@ returns-clause-ok g c = λ all number link is stand.
     let e = c.apply_tree.ensures in
     subst (λ (a : Surfaces). Stand new.surfaces new.family a)
     (sym (ended-is v.surfaces v.family c.leave.new.self all number c.args.child link c.in_ok-room.room.below.items is stand c.leave.ensures.links c.leave.ensures.there
-        c.leave.ensures.stacks c.in_ok-room.ensures.those))
+    c.leave.ensures.stacks c.in_ok-room.ensures.those))
     (tree-stands v.surfaces new.surfaces c.leave.new.self new.family (with_link number ending all) c.args.child c.in_ok-room.room.below.items
     (ended-stands v.surfaces v.family c.leave.new.self all number c.args.child link c.in_ok-room.room.below.items is stand c.leave.ensures.links c.leave.ensures.there
-        c.leave.ensures.stacks c.in_ok-room.ensures.those)
+    c.leave.ensures.stacks c.in_ok-room.ensures.those)
     (ended-those v.surfaces v.family c.leave.new.self all number c.args.child link c.in_ok-room.room.below.items is stand c.leave.ensures.links c.leave.ensures.there
-        c.leave.ensures.stacks c.in_ok-room.ensures.those)
+    c.leave.ensures.stacks c.in_ok-room.ensures.those)
     e.stand e.links e.places e.stacks)
 
 pub returns-clause-waits : goal.returns-clause-waits
@@ -46,13 +46,13 @@ returns-clause-waits g c = λ all number link cs is stand are.
     let new = c.apply_tree.new.self in
     subst (λ (a : Surfaces). AreWaiting new.surfaces.frames (numbered a) cs)
     (sym (ended-is v.surfaces v.family c.leave.new.self all number c.args.child link c.in_ok-room.room.below.items is stand c.leave.ensures.links c.leave.ensures.there
-        c.leave.ensures.stacks c.in_ok-room.ensures.those))
+    c.leave.ensures.stacks c.in_ok-room.ensures.those))
     (subst (λ (named : Numbered). AreWaiting new.surfaces.frames named cs)
     (sym (numbered-so v.surfaces new.surfaces c.leave.new.self new.family (with_link number ending all) c.args.child c.in_ok-room.room.below.items
     (ended-stands v.surfaces v.family c.leave.new.self all number c.args.child link c.in_ok-room.room.below.items is stand c.leave.ensures.links c.leave.ensures.there
-        c.leave.ensures.stacks c.in_ok-room.ensures.those)
+    c.leave.ensures.stacks c.in_ok-room.ensures.those)
     (ended-those v.surfaces v.family c.leave.new.self all number c.args.child link c.in_ok-room.room.below.items is stand c.leave.ensures.links c.leave.ensures.there
-        c.leave.ensures.stacks c.in_ok-room.ensures.those)))
+    c.leave.ensures.stacks c.in_ok-room.ensures.those)))
     (c.apply_tree.ensures.waits (numbered all) cs are))
 
 pub returns-clause-changes : goal.returns-clause-changes
@@ -61,23 +61,23 @@ returns-clause-changes g c = λ all number link is stand.
     let new = c.apply_tree.new.self in
     tree-told v.surfaces new.surfaces c.leave.new.self new.family (with_link number ending all) c.args.child c.in_ok-room.room.below.items
     (ended-stands v.surfaces v.family c.leave.new.self all number c.args.child link c.in_ok-room.room.below.items is stand c.leave.ensures.links c.leave.ensures.there
-        c.leave.ensures.stacks c.in_ok-room.ensures.those)
+    c.leave.ensures.stacks c.in_ok-room.ensures.those)
     (ended-those v.surfaces v.family c.leave.new.self all number c.args.child link c.in_ok-room.room.below.items is stand c.leave.ensures.links c.leave.ensures.there
-        c.leave.ensures.stacks c.in_ok-room.ensures.those)
+    c.leave.ensures.stacks c.in_ok-room.ensures.those)
     c.in_ok-room.room.changes.items c.apply_tree.result.changes.items (c.in_ok-room.ensures.told ∙ c.new.ensures.items) c.in_ok-room.ensures.once
-        (c.apply_tree.ensures.told (numbered all) stand.surfaces c.in_ok-room.ensures.once)
+    (c.apply_tree.ensures.told (numbered all) stand.surfaces c.in_ok-room.ensures.once)
 
 pub returns-clause-freed : goal.returns-clause-freed
 returns-clause-freed g c = λ all number link is stand.
     let v = c.args.self.now in
     let new = c.apply_tree.new.self in
     let ended = ended-is v.surfaces v.family c.leave.new.self all number c.args.child link c.in_ok-room.room.below.items is stand c.leave.ensures.links
-        c.leave.ensures.there c.leave.ensures.stacks c.in_ok-room.ensures.those in
+    c.leave.ensures.there c.leave.ensures.stacks c.in_ok-room.ensures.those in
     let after = subst (λ (a : Surfaces). Stand new.surfaces new.family a) ended (returns-clause-ok g c all number link is stand) in
     subst (λ (a : Surfaces). AreFreed c.apply_tree.result.freed.items (numbered all) (numbered a)) (sym ended)
     (tree-freed v.surfaces new.surfaces c.leave.new.self new.family (with_link number ending all) c.args.child c.in_ok-room.room.below.items
     (ended-stands v.surfaces v.family c.leave.new.self all number c.args.child link c.in_ok-room.room.below.items is stand c.leave.ensures.links c.leave.ensures.there
-        c.leave.ensures.stacks c.in_ok-room.ensures.those)
+    c.leave.ensures.stacks c.in_ok-room.ensures.those)
     (ended-those v.surfaces v.family c.leave.new.self all number c.args.child link c.in_ok-room.room.below.items is stand c.leave.ensures.links c.leave.ensures.there
-        c.leave.ensures.stacks c.in_ok-room.ensures.those)
+    c.leave.ensures.stacks c.in_ok-room.ensures.those)
     c.in_ok-room.room.shown.items c.apply_tree.result.freed.items (c.in_ok-room.ensures.shown (numbered all) stand.surfaces) (c.apply_tree.ensures.freed _ after.surfaces))

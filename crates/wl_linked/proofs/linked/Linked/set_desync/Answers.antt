@@ -79,7 +79,7 @@ returns-then-not-is_synchronised-clause-changes g c = λ all number link is stan
     (unheld-those v.surfaces v.family c.set_synchronised.new.self all number c.args.child link c.in_ok-room.room.below.items is stand
     c.set_synchronised.ensures.links c.set_synchronised.ensures.places c.set_synchronised.ensures.stacks c.in_ok-room.ensures.those)
     c.in_ok-room.room.changes.items c.apply_tree.result.changes.items (c.in_ok-room.ensures.told ∙ c.new.ensures.items) c.in_ok-room.ensures.once (e.told (numbered all)
-        stand.surfaces c.in_ok-room.ensures.once))
+    stand.surfaces c.in_ok-room.ensures.once))
 
 pub returns-then-not-is_synchronised-clause-freed : goal.returns-then-not-is_synchronised-clause-freed
 returns-then-not-is_synchronised-clause-freed g c = λ all number link is stand.
@@ -111,7 +111,7 @@ returns-clause-ok g c = λ all number link is stand.
     (sym (desynchronised-is v.surfaces v.family c.set_synchronised.new.self all number c.args.child link c.in_ok-room.room.below.items is stand
     c.set_synchronised.ensures.links c.set_synchronised.ensures.places c.set_synchronised.ensures.stacks c.in_ok-room.ensures.those
     c.behaves_synchronised-was_synchronised.result c.behaves_synchronised-is_synchronised.result c.behaves_synchronised-was_synchronised.ensures
-        c.behaves_synchronised-is_synchronised.ensures true stays))
+    c.behaves_synchronised-is_synchronised.ensures true stays))
     (unheld-stands v.surfaces v.family c.set_synchronised.new.self all number c.args.child link c.in_ok-room.room.below.items is stand
     c.set_synchronised.ensures.links c.set_synchronised.ensures.places c.set_synchronised.ensures.stacks c.in_ok-room.ensures.those)
 
@@ -127,7 +127,7 @@ returns-clause-waits g c = λ all number link cs is stand are.
     (sym (desynchronised-is v.surfaces v.family c.set_synchronised.new.self all number c.args.child link c.in_ok-room.room.below.items is stand
     c.set_synchronised.ensures.links c.set_synchronised.ensures.places c.set_synchronised.ensures.stacks c.in_ok-room.ensures.those
     c.behaves_synchronised-was_synchronised.result c.behaves_synchronised-is_synchronised.result c.behaves_synchronised-was_synchronised.ensures
-        c.behaves_synchronised-is_synchronised.ensures true stays))
+    c.behaves_synchronised-is_synchronised.ensures true stays))
     are
 
 pub returns-clause-changes : goal.returns-clause-changes
@@ -142,7 +142,7 @@ returns-clause-changes g c = λ all number link is stand.
     (sym (stays-so v.surfaces v.family c.set_synchronised.new.self all number c.args.child link c.in_ok-room.room.below.items is stand
     c.set_synchronised.ensures.links c.set_synchronised.ensures.places c.set_synchronised.ensures.stacks c.in_ok-room.ensures.those
     c.behaves_synchronised-was_synchronised.result c.behaves_synchronised-is_synchronised.result c.behaves_synchronised-was_synchronised.ensures
-        c.behaves_synchronised-is_synchronised.ensures true stays))
+    c.behaves_synchronised-is_synchronised.ensures true stays))
     c.nothing-2.ensures.changes
 
 pub returns-clause-freed : goal.returns-clause-freed
@@ -157,5 +157,5 @@ returns-clause-freed g c = λ all number link is stand.
     (sym (desynchronised-is v.surfaces v.family c.set_synchronised.new.self all number c.args.child link c.in_ok-room.room.below.items is stand
     c.set_synchronised.ensures.links c.set_synchronised.ensures.places c.set_synchronised.ensures.stacks c.in_ok-room.ensures.those
     c.behaves_synchronised-was_synchronised.result c.behaves_synchronised-is_synchronised.result c.behaves_synchronised-was_synchronised.ensures
-        c.behaves_synchronised-is_synchronised.ensures true stays))
+    c.behaves_synchronised-is_synchronised.ensures true stays))
     (rw c.nothing-2.ensures.freed (nothing-freed (numbered all)))
