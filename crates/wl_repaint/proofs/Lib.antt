@@ -1,0 +1,6 @@
+mod Between
+mod Law
+mod Lists
+mod Marked
+mod Rows
+mod Same

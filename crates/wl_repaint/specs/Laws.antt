@@ -1,0 +1,56 @@
+-- What is marked where one tree of surfaces changed, by the plain windows of the tree.
+use Rattle.std.specs.Prelude.{ℕ, ℤ, ◌≡◌, pos, ◌==◌, nat_lt, ◌&&◌, ◌||◌, true, false, if◌then◌else◌, Option, List, ◌++◌, map}
+use Rattle.std.specs.List.{All, list_all, list_any}
+use Rattle.wl_plain.specs.Marks.{Applied, AreDistinct, at_least, at_most, in_output, same_records}
+use Rattle.wl_scene.specs.Windows.{Window}
+use Rattle.wl_state.specs.State.{is_damaged}
+use Rattle.wl_surface.specs.declared.applied.Change.{Change}
+use Rattle.wl_tree_marks.specs.Laws.{AreUndamaged, among, has_root, is_in_any, is_struck_at}
+use Rattle.wl_windows.specs.Windows.{told_of}
+use Rattle.wl_repaint.specs.Repaint.{marks, same_windows}
+
+-- The windows `was` and `is` are of the tree with this root of this client, and each transform is a number of wl_output.transform.
+pub record AreOfTree (client root : ℕ) (was is : List Window) : Type 0 where
+  pub rooted : list_all (has_root client root) (was ++ is) ≡ true
+  pub numbered : list_all (λ w. nat_lt w.transform 8) (was ++ is) ≡ true
+
+-- The damage that was applied to the window's surface, by points of the surface, is what these changes tell of it.
+abbrev pub IsAppliedBy : {A : Type 0} → List (Change A) → Applied → Window → Type 0
+IsAppliedBy changes applied w =
+    (x y : ℕ) → applied w.owner.client w.surface (pos x) (pos y)
+    ≡ list_any (λ c. (c.surface == w.surface) && is_damaged w.width w.height c.rects.items x y) changes
+
+-- The windows of a tree are told to be the same where they keep their records.
+abbrev pub SameAsRecords : Type 0
+SameAsRecords =
+    (client root : ℕ) (was is : List Window) → AreOfTree client root was is
+    → same_windows (map told_of was) (map told_of is) ≡ same_records was is
+
+-- What is marked of the told windows of a tree is, where the windows keep their records, the damage that was applied, each at its window's
+-- corner, and where they don't, all points of the windows, before and after.
+abbrev pub MarksAsApplied : Type 0 → Type 0
+MarksAsApplied A =
+    (client root : ℕ) (was is : List Window) → AreOfTree client root was is → (changes : List (Change A)) (applied : Applied)
+    → All (IsAppliedBy changes applied) is → (x y : ℤ) → marks (map told_of was) (map told_of is) changes x y
+    ≡ (if same_records was is then list_any (is_struck_at applied x y) is else (is_in_any x y was || is_in_any x y is))
+
+-- A step changes the windows of one tree, from `was` to `is`, and damages no others: those below the tree and above it, none of which is of
+-- the tree. No surface has two windows.
+pub record ChangesOneTree (client root : ℕ) (below above was is : List Window) (applied : Applied) : Type 0 where
+  pub of_tree : AreOfTree client root was is
+  pub apart : list_any (has_root client root) (below ++ above) ≡ false
+  pub before : AreDistinct (among below above was)
+  pub after : AreDistinct (among below above is)
+  pub undamaged : AreUndamaged applied (below ++ above)
+
+-- What is marked of the told windows of the one tree that a step changes is all that the step has to mark, and in the output nothing that
+-- it may not mark.
+abbrev pub MarksBetween : Type 0 → Type 0
+MarksBetween A =
+    (client root : ℕ) (below above was is : List Window) (changes : List (Change A)) (applied : Applied)
+    → ChangesOneTree client root below above was is applied → All (IsAppliedBy changes applied) is
+    → (raised : Option (ℕ × ℕ)) (width height : ℕ) (x y : ℤ)
+    → (at_least width height applied (among below above was) (among below above is) x y ≡ true
+    → marks (map told_of was) (map told_of is) changes x y ≡ true)
+    × ((in_output width height x y && marks (map told_of was) (map told_of is) changes x y) ≡ true
+    → at_most width height applied raised (among below above was) (among below above is) x y ≡ true)
