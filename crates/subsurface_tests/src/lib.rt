@@ -8,6 +8,8 @@ mod family;
 #[cfg(test)]
 mod linked;
 #[cfg(test)]
+mod repaint;
+#[cfg(test)]
 mod trees;
 #[cfg(test)]
 mod windows;
