@@ -10,9 +10,12 @@ use Rattle.wl_peer.specs.declared.refusals.ErrorCode.TheVariants as error
 use Rattle.wl_peer.specs.declared.refusals.Refusal.{Refusal}
 use Rattle.wl_peer.specs.Told.{display_error}
 use Rattle.wl_peer.specs.Objects.{ById, interface_number, with_id}
+use Rattle.wl_family.specs.Family.{Tied, is_there}
 use Rattle.wl_surface.specs.Slots.{Numbered, Slots, StandForAll, count as count_kept}
 use Rattle.wl_state.specs.State.{History, committed}
 use Rattle.wl_surface.specs.Surfaces.{Surfaces, history_in, surface_at}
+use Rattle.wl_tree_laws.specs.Hanging.{Hang}
+use Rattle.wl_renaming.specs.Renaming.{renamed}
 use Rattle.wl_shell.specs.Agreement.{IsShell}
 use Rattle.wl_shell.specs.Kept.{Kept, Stands}
 use Rattle.wl_shell.specs.declared.acts.ShellAct.{ShellAct}
@@ -72,9 +75,13 @@ by_id numbers kept = λ id. option_and_then kept (numbers id)
 abbrev pub AllCounts : History → Type 0
 AllCounts h = h.cut ≡ committed h.requests
 
--- What is kept stands for the surfaces, each under a number of its own. None of them is linked to another, so that what one commits counts
--- at once.
-pub record AreKept (numbers : ById ℕ) (slots : Slots) (all : Surfaces) : Type 0 where
+-- the number of the surface with this id: any, where there is none
+abbrev pub number_in : ById ℕ → ℕ → ℕ
+number_in numbers id = option_map_or (λ number. number) (numbers id) 0
+
+-- What is kept stands for the surfaces, each under a number of its own, and for how they hang together. None of them is linked to another,
+-- so that what one commits counts at once.
+pub record AreKept (numbers : ById ℕ) (slots : Slots) (tied : Tied) (all : Surfaces) : Type 0 where
   pub links : all.links ≡ []
   pub numbered : (id : ℕ) → is_some (numbers id) ≡ is_some (surface_at id all)
   pub once : (a b number : ℕ) → numbers a ≡ Some number → numbers b ≡ Some number → a ≡ b
@@ -82,6 +89,8 @@ pub record AreKept (numbers : ById ℕ) (slots : Slots) (all : Surfaces) : Type 
   pub counts : (id : ℕ) (h : History) → history_in id all ≡ Some h → AllCounts h
   pub stand : StandForAll slots (by_number numbers all)
   pub count : count_kept slots ≡ length all.surfaces
+  pub hang : Hang tied (renamed (number_in numbers) all)
+  pub there : (number : ℕ) → is_there number tied ≡ true → (id : ℕ) × (numbers id ≡ Some number)
 
 -- the number of the surface of an xdg_surface
 abbrev pub number_of : ById ℕ → Option Xdg → Option ℕ
@@ -89,8 +98,8 @@ number_of numbers x = option_and_then (λ x. numbers x.surface) x
 
 -- What is kept stands for what a client owns. An xdg_surface and a toplevel name the number of their surface, and only a surface has
 -- something of the shell's under its number.
-pub record IsOwned (names : Names) (slots : Slots) (kept : ℕ → Option Kept) (o : Owned) : Type 0 where
-  pub surfaces : AreKept names.surfaces slots o.surfaces
+pub record IsOwned (names : Names) (slots : Slots) (tied : Tied) (kept : ℕ → Option Kept) (o : Owned) : Type 0 where
+  pub surfaces : AreKept names.surfaces slots tied o.surfaces
   pub shell : IsShell (by_id names.surfaces kept) (λ id. history_in id o.surfaces) o.shell
   pub known : (number : ℕ) → is_some (kept number) ≡ true → (id : ℕ) × (names.surfaces id ≡ Some number)
   pub named : (id : ℕ) → names.shell id ≡ number_of names.surfaces (xdg_at id o.shell)

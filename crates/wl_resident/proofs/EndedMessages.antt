@@ -139,7 +139,7 @@ module _ {A : Type 0} (c : ℕ) (others : ℕ → ById ℕ) (base d : Desktop) (
   abbrev pub all_then : Numbered
   all_then = numbered c others base d r old stack before
 
-  pub stand_then : StandForAll old.owned.surfaces all_then
+  pub stand_then : StandForAll old.owned.linked.surfaces all_then
   stand_then = numbered-stand c others base d r old stack before
 
   -- the surface of a toplevel of the client's is named
@@ -153,8 +153,8 @@ module _ {A : Type 0} (c : ℕ) (others : ℕ → ById ℕ) (base d : Desktop) (
   -- and it is there
   row-there : (id number : ℕ) → named_then id ≡ Some number → (s : Surface) × (all_then number ≡ Some s)
   row-there id number named =
-      let there = surface-named named_then old.owned.surfaces r.owned.surfaces before.seat.owns.surfaces id number named in
-      (there.0, surface-read named_then old.owned.surfaces r.owned.surfaces before.seat.owns.surfaces id number named ∙ there.1)
+      let there = surface-named named_then old.owned.linked.surfaces old.owned.linked.family r.owned.surfaces before.seat.owns.surfaces id number named in
+      (there.0, surface-read named_then old.owned.linked.surfaces old.owned.linked.family r.owned.surfaces before.seat.owns.surfaces id number named ∙ there.1)
 
   -- and has an xdg_surface
   row-xdg : (id number : ℕ) → named_then id ≡ Some number → Has d.standing c id → is_some (kept_of old.owned.shell number) ≡ true
@@ -242,7 +242,7 @@ module _ {A : Type 0} (c : ℕ) (others : ℕ → ById ℕ) (base d : Desktop) (
               ∙ ap (option_map (λ s. applying (asking Commit s))) there.1)
               ∙ bare-shows x y k.place (applying (asking Commit there.0)).history
               (ap (λ (v : Values). v.buffer) (commit_takes_all there.0.history.requests there.0.history.cut).1
-              ∙ bare there.0 (sym (surface-read named_then old.owned.surfaces r.owned.surfaces before.seat.owns.surfaces id number named) ∙ there.1))
+              ∙ bare there.0 (sym (surface-read named_then old.owned.linked.surfaces old.owned.linked.family r.owned.surfaces before.seat.owns.surfaces id number named) ∙ there.1))
 
           at : (k : Standing) (b : Bool) → is_of c number k ≡ b → is_shown_by c all_committed x y k ≡ true → is_shown_by c all_then x y k ≡ true
           at k false e here = sym (row-else k e) ∙ here

@@ -246,7 +246,7 @@ module _ {A : Type 0} (c : ℕ) (others : ℕ → ById ℕ) (base d : Desktop) (
 
   module _ (s : Struck c r d path e) (id number : ℕ) (effect : Effect) (is : s.ask ≡ CommitSurface id effect) (named : targets_in WlSurface old.client.objects id ≡ Some number)
       (record_was : Option WindowRecord) (first : IsRecordOf record_was (window_at c id d))
-      (slots : Slots) (changes : Changes old.owned.surfaces slots number (λ s. applying (asking Commit s)))
+      (slots : Slots) (changes : Changes old.owned.linked.surfaces slots number (λ s. applying (asking Commit s)))
       (marks : (all : Numbered) → StandForAll slots all → (x y : ℕ) → x < was.width → y < was.height
       → has new x y ≡ (has was x y || (any_record_has (pos x) (pos y) record_was || list_any (is_shown_by c all (pos x) (pos y)) stack.standing))) where
     abbrev names : ById ℕ
@@ -266,7 +266,7 @@ module _ {A : Type 0} (c : ℕ) (others : ℕ → ById ℕ) (base d : Desktop) (
     kept-own : AreKept names slots (owned_in s.own c).surfaces
     kept-own =
         subst (λ all. AreKept names slots all) (sym surfaces-own)
-        (AreKept-changed names old.owned.surfaces r.owned.surfaces before.seat.owns.surfaces id number named (λ s. applying (asking Commit s)) (λ s. refl) slots (λ s counts. refl) changes)
+        (AreKept-changed names old.owned.linked.surfaces old.owned.linked.family r.owned.surfaces before.seat.owns.surfaces id number named (λ s. applying (asking Commit s)) (λ s. refl) slots (λ s counts. refl) changes)
 
     abbrev all_own : Numbered
     all_own = by_number names (owned_in s.own c).surfaces

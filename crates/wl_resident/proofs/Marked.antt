@@ -200,19 +200,19 @@ module _ {A : Type 0} (c id number : ℕ) (current : Current A) (h : History) (i
 
 -- what counts of the surface of this number is told
 abbrev pub IsTold : {A : Type 0} → Kept A → ℕ → Option (Current A) → Type 0
-IsTold v number told = (all : Numbered) → StandForAll v.owned.surfaces all → IsCurrentAt told (all number)
+IsTold v number told = (all : Numbered) → StandForAll v.owned.linked.surfaces all → IsCurrentAt told (all number)
 
 module _ {A : Type 0} (c : ℕ) (others : ℕ → ById ℕ) (base d : Desktop) (r : Resident) (v : Kept A) (stack : Stack) (seated : IsSeated c others base v stack d r) (id number : ℕ)
     (named : targets_in WlSurface v.client.objects id ≡ Some number) where
-  kept : AreKept (targets_in WlSurface v.client.objects) v.owned.surfaces r.owned.surfaces
+  kept : AreKept (targets_in WlSurface v.client.objects) v.owned.linked.surfaces v.owned.linked.family r.owned.surfaces
   kept = seated.seat.owns.surfaces
 
   there : (s : Surface) × (surface_at id r.owned.surfaces ≡ Some s) × (s.id ≡ id)
-  there = surface-named (targets_in WlSurface v.client.objects) v.owned.surfaces r.owned.surfaces kept id number named
+  there = surface-named (targets_in WlSurface v.client.objects) v.owned.linked.surfaces v.owned.linked.family r.owned.surfaces kept id number named
 
   told-there : (told : Option (Current A)) → IsTold v number told → IsCurrentAt told (Some there.0)
   told-there told is =
-      subst (λ (o : Option Surface). IsCurrentAt told o) (surface-read (targets_in WlSurface v.client.objects) v.owned.surfaces r.owned.surfaces kept id number named ∙ there.1)
+      subst (λ (o : Option Surface). IsCurrentAt told o) (surface-read (targets_in WlSurface v.client.objects) v.owned.linked.surfaces v.owned.linked.family r.owned.surfaces kept id number named ∙ there.1)
       (is (by_number (targets_in WlSurface v.client.objects) r.owned.surfaces) kept.stand)
 
   -- something is told of it

@@ -316,7 +316,7 @@ module _ {A : Type 0} (v : Kept A) (r : Resident) (is : IsResident v r) where
 
       toplevel-number : m.interface ≡ XdgToplevel → (x : Xdg) → xdg_with object r.owned.shell ≡ Some x → targets_in WlSurface v.client.objects x.surface ≡ Some target
       toplevel-number i x found =
-          let there = toplevel-named (names_in v.client.objects) v.owned.surfaces (kept_of v.owned.shell) r.owned is.owns object target (named i) in
+          let there = toplevel-named (names_in v.client.objects) v.owned.linked.surfaces v.owned.linked.family (kept_of v.owned.shell) r.owned is.owns object target (named i) in
           let both = sym there.4 ∙ found in
           let same : there.1 ≡ x = cc in
           subst (λ (z : Xdg). targets_in WlSurface v.client.objects z.surface ≡ Some target) same there.3.surface
@@ -523,7 +523,7 @@ module _ {A : Type 0} (c : ℕ) (others : ℕ → ById ℕ) (base d e : Desktop)
     numbers_then = targets_in WlSurface old.client.objects
 
     there : (s : Surface) × (surface_at id r.owned.surfaces ≡ Some s) × (s.id ≡ id)
-    there = surface-named numbers_then old.owned.surfaces r.owned.surfaces before.seat.owns.surfaces id number named
+    there = surface-named numbers_then old.owned.linked.surfaces old.owned.linked.family r.owned.surfaces before.seat.owns.surfaces id number named
 
     history-then : history_of d c id ≡ Some there.0.history
     history-then = ap (λ (o : Owned). history_in id o.surfaces) owned-then ∙ ap (option_map (λ (s : Surface). s.history)) there.1
@@ -532,7 +532,7 @@ module _ {A : Type 0} (c : ℕ) (others : ℕ → ById ℕ) (base d e : Desktop)
     told-rects commit =
         let told = commits number commit lives (by_number numbers_then r.owned.surfaces) before.seat.owns.surfaces.stand in
         let change : AreChanges number (Some there.0) told.0.changes.items =
-        subst (λ (o : Option Surface). AreChanges number o told.0.changes.items) (surface-read numbers_then old.owned.surfaces r.owned.surfaces before.seat.owns.surfaces id number named
+        subst (λ (o : Option Surface). AreChanges number o told.0.changes.items) (surface-read numbers_then old.owned.linked.surfaces old.owned.linked.family r.owned.surfaces before.seat.owns.surfaces id number named
         ∙ there.1) told.2 in
         ap rects_applied told.1 ∙ ap rects_changed change.1 ∙ change.2.rects
 

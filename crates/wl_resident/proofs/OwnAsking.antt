@@ -127,8 +127,8 @@ own-left {A} old new r then q is owned callbacks more same keeps peer = record {
   peer = peer;
   owns = λ alive. rw (names-kept old.client.objects new.client.objects (keeps alive), same, owned) is.owns;
   frames = λ alive.
-      subst (λ (o : Lent A). IsFramed o.surfaces.frames new.client.objects then) (sym same)
-      (framed-names old.owned.surfaces.frames old.client.objects new.client.objects r then callbacks more is.frames (names-kept old.client.objects new.client.objects (keeps alive))
+      subst (λ (o : Lent A). IsFramed o.linked.surfaces.frames new.client.objects then) (sym same)
+      (framed-names old.owned.linked.surfaces.frames old.client.objects new.client.objects r then callbacks more is.frames (names-kept old.client.objects new.client.objects (keeps alive))
       (ap (λ (o : Owned). o.surfaces) owned));
   numbers = λ alive. keeps-names old.client.objects new.client.objects (names-kept old.client.objects new.client.objects (keeps alive));
 }
@@ -162,10 +162,10 @@ own-answered old new r left (Ok action) q is owned callbacks more same keeps act
 own-answered old new r left (Err refusal) q is owned callbacks more same keeps errs peer = (q, errs, own-left old new r left q is owned callbacks more same keeps peer)
 
 -- the buffers that its surfaces use
-pub used-of : {A : Type 0} (old : Kept A) (r : Resident) → IsResident old r → AreUsed old.owned.surfaces (λ number. is_used number r.owned.surfaces)
+pub used-of : {A : Type 0} (old : Kept A) (r : Resident) → IsResident old r → AreUsed old.owned.linked.surfaces (λ number. is_used number r.owned.surfaces)
 used-of old r is =
     let numbers = (names_in old.client.objects).surfaces in
-    let slots = old.owned.surfaces in
+    let slots = old.owned.linked.surfaces in
     (by_number numbers r.owned.surfaces, is.owns.surfaces.stand, λ number. any-is numbers slots r.owned.surfaces is.owns.surfaces (λ s. has number s.history) (has_at number) refl (λ s. refl))
 
 pub own-served : {A : Type 0} (old new : Kept A) (r : Resident) (q : Peer) → IsResident old r → PassesTo true old.client → new.owned ≡ old.owned

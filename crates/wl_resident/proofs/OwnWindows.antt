@@ -112,14 +112,14 @@ module _ (c : ℕ) (x y : ℤ) (owned : ℕ → Owned) (links : (owned c).surfac
 -- ---- a desk's
 
 module _ {A : Type 0} (c : ℕ) (others : ℕ → ById ℕ) (base d : Desktop) (r : Resident) (v : Kept A) (stack : Stack) (seated : IsSeated c others base v stack d r) where
-  kept : AreKept (targets_in WlSurface v.client.objects) v.owned.surfaces r.owned.surfaces
+  kept : AreKept (targets_in WlSurface v.client.objects) v.owned.linked.surfaces v.owned.linked.family r.owned.surfaces
   kept = seated.seat.owns.surfaces
 
   -- its surfaces by their numbers
   abbrev pub numbered : Numbered
   numbered = by_number (targets_in WlSurface v.client.objects) r.owned.surfaces
 
-  pub numbered-stand : StandForAll v.owned.surfaces numbered
+  pub numbered-stand : StandForAll v.owned.linked.surfaces numbered
   numbered-stand = kept.stand
 
   owned-is : owned_in d c ≡ r.owned
@@ -127,7 +127,7 @@ module _ {A : Type 0} (c : ℕ) (others : ℕ → ById ℕ) (base d : Desktop) (
 
   read : (id number : ℕ) → with_numbers c (targets_in WlSurface v.client.objects) others c id ≡ Some number → numbered number ≡ surface_at id (owned_in d c).surfaces
   read id number named =
-      surface-read (targets_in WlSurface v.client.objects) v.owned.surfaces r.owned.surfaces kept id number
+      surface-read (targets_in WlSurface v.client.objects) v.owned.linked.surfaces v.owned.linked.family r.owned.surfaces kept id number
       (sym (ap (λ (numbers : ById ℕ). numbers id) (numbers-same c (targets_in WlSurface v.client.objects) others)) ∙ named)
       ∙ sym (ap (λ (o : Owned). surface_at id o.surfaces) owned-is)
 
@@ -173,8 +173,8 @@ scene-shown c slots toplevels stack old new same are all stand x y wide high =
 -- and so the client's windows
 pub scene-marked : {A : Type 0} (c : ℕ) (others : ℕ → ById ℕ) (base d : Desktop) (r : Resident) (v : Kept A) (stack : Stack) → IsSeated c others base v stack d r
     → (toplevels : List Toplevel) (old new : Damaged) → map standing_of toplevels ≡ stack.standing
-    → AreMarked v.owned.surfaces c toplevels old new → (x y : ℕ) → x < old.width → y < old.height → has new x y ≡ (has old x y || has_window_at c (pos x) (pos y) d)
+    → AreMarked v.owned.linked.surfaces c toplevels old new → (x y : ℕ) → x < old.width → y < old.height → has new x y ≡ (has old x y || has_window_at c (pos x) (pos y) d)
 scene-marked c others base d r v stack seated toplevels old new same are x y wide high =
     let all = numbered c others base d r v stack seated in
-    scene-shown c v.owned.surfaces toplevels stack old new same are all (numbered-stand c others base d r v stack seated) x y wide high
+    scene-shown c v.owned.linked.surfaces toplevels stack old new same are all (numbered-stand c others base d r v stack seated) x y wide high
     ∙ ap (λ (b : Bool). has old x y || b) (seated-shown c others base d r v stack seated (pos x) (pos y))

@@ -111,7 +111,7 @@ module _ {A : Type 0} (c : ℕ) (others : ℕ → ById ℕ) (base d : Desktop) (
     (restacked : IsRestackedBy mid.client.ended c stacking mid on stack between) (owned : on.owned ≡ mid.owned) (cleared : IsClearedBy on.client.ended c on new between now)
     (over : is_some on.client.ended ≡ true)
     (applied : Option (Applied A)) (decides : (number : ℕ) → commit_by a ≡ Some number → TakesSimplyAs (is_some applied) (split_of r.peer.rest) r old mid)
-    (commits : (number : ℕ) → commit_by a ≡ Some number → IsCommitted old.owned.surfaces mid.owned.surfaces number applied) (nothing : commit_by a ≡ None → applied ≡ None)
+    (commits : (number : ℕ) → commit_by a ≡ Some number → IsCommitted old.owned.linked.surfaces old.owned.linked.family mid.owned.surfaces number applied) (nothing : commit_by a ≡ None → applied ≡ None)
     (still : commit_by a ≡ None → IsStill old mid)
     (record_was : Option WindowRecord) (first : (id number : ℕ) → commit_by a ≡ Some number → targets_in WlSurface old.client.objects id ≡ Some number → IsRecordOf record_was (window_at c id d))
     (d0 d2 : Damaged)
@@ -183,8 +183,8 @@ module _ {A : Type 0} (c : ℕ) (others : ℕ → ById ℕ) (base d : Desktop) (
         let s = served-as false (subst (λ (o : Option (Applied A)). TakesSimplyAs (is_some o) (split_of r.peer.rest) r old mid) none (decides number commit)) in
         (s.0, s.1, s.2, s.5, s.7, by s.3 s.0 s.1 s.2 s.5 s.6 s.4 s.7)
       where
-        same : mid.owned.surfaces ≡ old.owned.surfaces
-        same = subst (λ (o : Option (Applied A)). IsCommitted old.owned.surfaces mid.owned.surfaces number o) none (commits number commit)
+        same : mid.owned.surfaces ≡ old.owned.linked.surfaces
+        same = subst (λ (o : Option (Applied A)). IsCommitted old.owned.linked.surfaces old.owned.linked.family mid.owned.surfaces number o) none (commits number commit)
 
         own : IsOwn
         own x y wide high =
@@ -201,8 +201,8 @@ module _ {A : Type 0} (c : ℕ) (others : ℕ → ById ℕ) (base d : Desktop) (
         by true e q path through route (inr turned) after = absurd (differ turned.0)
 
     module _ (told : Applied A) (is : applied ≡ Some told) where
-      changes : IsCommitted old.owned.surfaces mid.owned.surfaces number (Some told)
-      changes = subst (λ (o : Option (Applied A)). IsCommitted old.owned.surfaces mid.owned.surfaces number o) is (commits number commit)
+      changes : IsCommitted old.owned.linked.surfaces old.owned.linked.family mid.owned.surfaces number (Some told)
+      changes = subst (λ (o : Option (Applied A)). IsCommitted old.owned.linked.surfaces old.owned.linked.family mid.owned.surfaces number o) is (commits number commit)
 
       marked-with : (all : Numbered) → StandForAll mid.owned.surfaces all → (x y : ℕ) → x < d0.width → y < d0.height
           → has d2 x y ≡ (has d0 x y || (any_record_has (pos x) (pos y) record_was || list_any (is_shown_by c all (pos x) (pos y)) stack.standing))

@@ -175,7 +175,7 @@ pub xdg-answered : {A : Type 0} (old new : Kept A) (object number version : ℕ)
     → AnswersWhole (xdg_asked r (Some x) version request) c r d old new)
     → AnswersWhole (xdg_demand r object version request) c r d old new
 xdg-answered old new object number version request c d r is named answers =
-    let one = xdg-named (names_in old.client.objects) old.owned.surfaces (kept_of old.owned.shell) r.owned is.owns object number named in
+    let one = xdg-named (names_in old.client.objects) old.owned.linked.surfaces old.owned.linked.family (kept_of old.owned.shell) r.owned is.owns object number named in
     subst (λ (o : Option Xdg). AnswersWhole (xdg_asked r o version request) c r d old new) (sym one.4) (answers one.0 one.1 one.2 one.3 one.5)
 
 -- the object is a toplevel
@@ -184,7 +184,7 @@ pub toplevel-answered : {A : Type 0} (old new : Kept A) (object number : ℕ) (j
     → AnswersSimply (judged (Some x)) r old new)
     → AnswersSimply (judged (xdg_with object r.owned.shell)) r old new
 toplevel-answered old new object number judged r is named answers =
-    let one = toplevel-named (names_in old.client.objects) old.owned.surfaces (kept_of old.owned.shell) r.owned is.owns object number named in
+    let one = toplevel-named (names_in old.client.objects) old.owned.linked.surfaces old.owned.linked.family (kept_of old.owned.shell) r.owned is.owns object number named in
     subst (λ (o : Option Xdg). AnswersSimply (judged o) r old new) (sym one.4) (answers one.0 one.1 one.2 one.3 one.5)
 
 -- what the shell answered is told
@@ -227,8 +227,8 @@ counted-on {A} old mid r is only same peer = record {
   peer = peer;
   owns = subst (λ (n : Names). IsOwned n mid.owned.surfaces (kept_of mid.owned.shell) r.owned) (sym (names-counted old.client mid.client only))
       (rw same is.owns);
-  frames = subst (λ (o : Lent A). IsFramed o.surfaces.frames mid.client.objects (with_peer (counted r.peer) r)) (sym same)
-      (framed-names old.owned.surfaces.frames old.client.objects mid.client.objects r (with_peer (counted r.peer) r) refl (one-more r.peer.requests) is.frames
+  frames = subst (λ (o : Lent A). IsFramed o.linked.surfaces.frames mid.client.objects (with_peer (counted r.peer) r)) (sym same)
+      (framed-names old.owned.linked.surfaces.frames old.client.objects mid.client.objects r (with_peer (counted r.peer) r) refl (one-more r.peer.requests) is.frames
       (names-counted old.client mid.client only) refl);
 }
 
@@ -346,7 +346,7 @@ changing-same number kept = fun_ext (λ other. at other (other == number) refl)
 
 -- what is owned was left as it was
 pub owns-told : {A : Type 0} (new : Kept A) (owned : Lent A) (names : Names) (o : Owned) → names_in new.client.objects ≡ names → new.owned ≡ owned
-    → IsOwned names owned.surfaces (kept_of owned.shell) o → IsOwned (names_in new.client.objects) new.owned.surfaces (kept_of new.owned.shell) o
+    → IsOwned names owned.surfaces (kept_of owned.shell) o → IsOwned (names_in new.client.objects) new.owned.linked.surfaces new.owned.linked.family (kept_of new.owned.shell) o
 owns-told new owned names o named same is = rw (named, same) is
 
 -- what was read is what the definition reads

@@ -59,7 +59,7 @@ module _ {A : Type 0} (c : ℕ) (others : ℕ → ById ℕ) (base d : Desktop) (
       owns : IsOwned (names_in mid.client.objects) mid.owned.surfaces (kept_of mid.owned.shell) r.owned
       owns =
           subst (λ (held : Held). IsOwned (names_in held) mid.owned.surfaces (kept_of mid.owned.shell) r.owned) (sym (told.lives none))
-          (subst (λ (o : Keeps A). IsOwned (names_in old.client.objects) o.surfaces (kept_of o.shell) r.owned) (sym told.owned) is.seat.owns)
+          (subst (λ (o : Keeps A). IsOwned (names_in old.client.objects) o.linked.surfaces o.linked.family (kept_of o.shell) r.owned) (sym told.owned) is.seat.owns)
 
   nameless : is_some q.status ≡ true → AreNameless mid.client.objects
   nameless some = at (told.gone some)
@@ -121,7 +121,7 @@ module _ {A : Type 0} (c : ℕ) (others : ℕ → ById ℕ) (base d : Desktop) (
       owns : IsOwned (names_in mid.client.objects) mid.owned.surfaces (kept_of mid.owned.shell) r.owned
       owns =
           subst (λ (held : Held). IsOwned (names_in held) mid.owned.surfaces (kept_of mid.owned.shell) r.owned) (sym table)
-          (subst (λ (o : Keeps A). IsOwned (names_in old.client.objects) o.surfaces (kept_of o.shell) r.owned) (sym owned) is.seat.owns)
+          (subst (λ (o : Keeps A). IsOwned (names_in old.client.objects) o.linked.surfaces o.linked.family (kept_of o.shell) r.owned) (sym owned) is.seat.owns)
 
 pub sent-so : (n : ℕ) (p : Peer) → ((sent_by n p).status ≡ p.status) × ((sent_by n p).requests ≡ p.requests)
 sent-so n p = at (nat_le n (length p.unsent))

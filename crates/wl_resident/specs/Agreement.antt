@@ -21,7 +21,7 @@ use Rattle.wl_resident.specs.View.{DeskView, OwnedView}
 -- nothing.
 pub record IsSeat (v : ClientView) (o : OwnedView) (r : Resident) : Type 0 where
   pub peer : IsPeer v r.peer
-  pub owns : IsOwned (names_in v.objects) o.surfaces (kept_of o.shell) r.owned
+  pub owns : IsOwned (names_in v.objects) o.surfaces o.family (kept_of o.shell) r.owned
   pub frames : AreFramed o.surfaces.frames (by_number (targets_in WlSurface v.objects) r.owned.surfaces) (r.peer.requests + 1) r.callbacks
   pub ended : is_some r.peer.status ≡ true → OwnsNothing r
 

@@ -77,8 +77,8 @@ counted_at at = option_map (λ (s : Surface). counting s.history) at
 -- What counts of each surface with an xdg_surface stays what it was, whether the client lives on or not.
 abbrev pub IsStill : {A : Type 0} → Kept A → Kept A → Type 0
 IsStill old new =
-    (all : Numbered) → StandForAll old.owned.surfaces all
-    → (later : Numbered) × StandForAll new.owned.surfaces later
+    (all : Numbered) → StandForAll old.owned.linked.surfaces all
+    → (later : Numbered) × StandForAll new.owned.linked.surfaces later
     × ((number : ℕ) (s : Surface) → all number ≡ Some s → is_some (kept_of old.owned.shell number) ≡ true
     → counted_at (later number) ≡ Some (counting s.history))
 
@@ -148,7 +148,7 @@ commit_by asked = None
 -- A client that lives on was told this of a commit of the surface with this number.
 abbrev pub TellsChange : {A : Type 0} → Kept A → Kept A → ℕ → Option (Applied A) → Type 0
 TellsChange {A} old new number applied =
-    new.client.ended ≡ None → (all : Numbered) → StandForAll old.owned.surfaces all → (a : Applied A) × (applied ≡ Some a)
+    new.client.ended ≡ None → (all : Numbered) → StandForAll old.owned.linked.surfaces all → (a : Applied A) × (applied ≡ Some a)
     × AreChanges number (all number) a.changes.items
 
 -- What a commit of the surface with this number, which told this, made of what is kept of the client's surfaces.

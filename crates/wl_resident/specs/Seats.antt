@@ -6,7 +6,9 @@ use Rattle.wl_peer.specs.Objects.{ById}
 use Rattle.wl_peer.specs.Peer.{LacksMemory, Peer, ended}
 use Rattle.wl_client.specs.View.{ClientView}
 use Rattle.wl_peer.specs.declared.cause.Cause.{Cause}
-use Rattle.wl_surface.specs.Slots.{StandForAll, nobody, count as count_kept}
+use Rattle.wl_linked.specs.Linked.{Stand}
+use Rattle.wl_surface.specs.Slots.{count as count_kept}
+use Rattle.wl_surface.specs.Surfaces.{no_surfaces}
 use Rattle.wl_scene.specs.Stacking.{Stack, mapped_on, without_client, without_surface_of}
 use Rattle.wl_scene.specs.declared.owned.Owned.{Owned}
 use Rattle.wl_resident.specs.Agreement.{IsScene, IsSeat, with_numbers}
@@ -60,11 +62,11 @@ abbrev pub IsRestackedBy : {A : Type 0} → Option Cause → ℕ → Stacking �
 IsRestackedBy None c stacking old new was is = IsRestacked c stacking old new was is
 IsRestackedBy (Some cause) c stacking old new was is = (new ≡ old) × (is ≡ was)
 
--- nothing is kept of surfaces and of the shell
+-- nothing is kept of surfaces, of links and of the shell
 pub record IsBare {A : Type 0} (owned : Owned A) : Type 0 where
-  pub surfaces : StandForAll owned.surfaces nobody
-  pub count : count_kept owned.surfaces ≡ 0
-  pub frames : owned.surfaces.frames ≡ []
+  pub surfaces : Stand owned.linked.surfaces owned.linked.family no_surfaces
+  pub count : count_kept owned.linked.surfaces ≡ 0
+  pub frames : owned.linked.surfaces.frames ≡ []
   pub shell : owned.shell ≡ []
 
 -- Where the client ended, nothing is left of what it owned, and none of its toplevels stands.

@@ -26,9 +26,9 @@ impl<A: Allocator + Copy> Resident<A> {
         ensures tells { self.old.client.ended ≡ None → (r : Plain) → IsResident self.old r → OwnsToplevelsOnly r
             → (q : Peer) × Queues (frames_told time r) (done_due r).peer q × IsLeft self.old self.new (done_due r) q
             × (self.new.client.ended ≡ None → names_in self.new.client.objects ≡ names_in self.old.client.objects) }
-        ensures places { self.new.owned.surfaces.places ≡ self.old.owned.surfaces.places }
+        ensures places { self.new.owned.linked.surfaces.places ≡ self.old.owned.linked.surfaces.places }
     {
-        while let Some(callback) = self.owned.surfaces.next_frame() {
+        while let Some(callback) = self.owned.linked.surfaces.next_frame() {
             self.client.finish(callback, time);
             if self.client.has_ended() {
                 return;

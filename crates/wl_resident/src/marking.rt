@@ -104,19 +104,19 @@ impl<A: Allocator + Copy> Resident<A> {
             → IsRecordOf result (window_at client id d) }
     {
         let surface = surface?;
-        let current = self.owned.surfaces.current(surface)?;
+        let current = self.owned.linked.surfaces.current(surface)?;
         let toplevel = toplevel_of(scene, Surface { client, surface })?;
         Some(record_of(&toplevel, &current))
     }
 
     /// The window of a toplevel is marked, if it is the client's.
     fn mark_toplevel(&self, damage: &mut Damage<A>, client: ClientNo, toplevel: &Toplevel)
-        ensures points { (all : Numbered) → StandForAll self.now.owned.surfaces all → (x y : ℕ) → x < damage.old.width → y < damage.old.height
+        ensures points { (all : Numbered) → StandForAll self.now.owned.linked.surfaces all → (x y : ℕ) → x < damage.old.width → y < damage.old.height
             → has damage.new x y ≡ (has damage.old x y || is_shown_by client all (pos x) (pos y) (standing_of toplevel.now)) }
         ensures sides { IsAsLarge damage.old damage.new }
     {
         if toplevel.surface.client == client {
-            if let Some(current) = self.owned.surfaces.current(toplevel.surface.surface) {
+            if let Some(current) = self.owned.linked.surfaces.current(toplevel.surface.surface) {
                 mark_window(damage, Some(record_of(toplevel, &current)));
             }
         }
@@ -127,7 +127,7 @@ impl<A: Allocator + Copy> Resident<A> {
         ensures marks { (others : ℕ → ById ℕ) (base d : Desktop) (r : Plain) → IsSeated client others base self.now scene.now d r
             → (x y : ℕ) → x < damage.old.width → y < damage.old.height
             → has damage.new x y ≡ (has damage.old x y || has_window_at client (pos x) (pos y) d) }
-        ensures shown { (all : Numbered) → StandForAll self.now.owned.surfaces all → (x y : ℕ) → x < damage.old.width → y < damage.old.height
+        ensures shown { (all : Numbered) → StandForAll self.now.owned.linked.surfaces all → (x y : ℕ) → x < damage.old.width → y < damage.old.height
             → has damage.new x y ≡ (has damage.old x y || list_any (is_shown_by client all (pos x) (pos y)) scene.now.standing) }
         ensures sides { IsAsLarge damage.old damage.new }
     {
@@ -146,7 +146,7 @@ impl<A: Allocator + Copy> Resident<A> {
         was: Option<WindowRecord>,
         applied: &Option<Applied<A>>,
     )
-        ensures points { (all : Numbered) → StandForAll self.now.owned.surfaces all → (x y : ℕ) → x < damage.old.width → y < damage.old.height
+        ensures points { (all : Numbered) → StandForAll self.now.owned.linked.surfaces all → (x y : ℕ) → x < damage.old.width → y < damage.old.height
             → has damage.new x y ≡ (has damage.old x y || (was_shown (is_some applied.now) was (pos x) (pos y) || list_any (is_shown_by client all (pos x) (pos y)) scene.now.standing)) }
         ensures sides { IsAsLarge damage.old damage.new }
     {

@@ -31,7 +31,7 @@ impl<A: Allocator + Copy> Resident<A> {
         ensures rest { length self.new.client.rest ≤ length self.old.client.rest }
         ensures still { IsStill self.old self.new }
     {
-        match self.owned.surfaces.create() {
+        match self.owned.linked.surfaces.create() {
             Ok(surface) => {
                 let entry = Entry {
                     interface: Interface::WlSurface,
@@ -56,7 +56,7 @@ impl<A: Allocator + Copy> Resident<A> {
     fn create_region(&mut self, version: u32, id: u32)
         ensures answers { IsFree self.old id → AnswersDemand (λ r. Ok (Asks (Own (CreateRegion id version)))) self.old self.new }
         ensures rest { length self.new.client.rest ≤ length self.old.client.rest }
-        ensures surfaces { self.new.owned.surfaces ≡ self.old.owned.surfaces }
+        ensures surfaces { self.new.owned.linked.surfaces ≡ self.old.owned.linked.surfaces }
     {
         self.client.count();
         self.client.create_region(id, version);

@@ -1,13 +1,13 @@
 -- What is lent, and what is told of it.
-use Rattle.std.proofs.Common.{◌≡◌, ℕ, zero, suc, ◌<◌, ◌≤◌, ◌-◌, List, Option, Some, None, true, refl, ap, sym, ◌∙◌, map, length, get_or, arith}
+use Rattle.std.proofs.Common.{◌≡◌, ℕ, zero, suc, ◌<◌, ◌≤◌, ◌-◌, List, Option, Some, None, true, false, refl, ap, sym, ◌∙◌, map, length, get_or, arith}
 use Rattle.std.specs.Prelude.{◌+ℤ◌, nat_lt, slice_get}
 use Rattle.std.specs.Option.{option_map}
 use Rattle.std.proofs.lemmas.Bool.Decides.{nat_tests}
+use Rattle.std.proofs.lemmas.List.{get_or_past}
 use Rattle.std.proofs.lemmas.Option.{get_or_from_slice_get, slice_get-map, slice_get_read}
-use Rattle.wl_surface.specs.Slots.{IsCurrentAt}
-use Rattle.wl_state.specs.State.{within_bounds}
 use Rattle.wl_state.specs.Surface.{Surface}
 use Rattle.wl_state.specs.declared.state.Current.{Current}
+use Rattle.wl_surface.specs.Slots.{no_slots}
 use Rattle.wl_scene.specs.declared.owned.Owned.{Owned as Lent}
 use Rattle.wl_scene.specs.declared.scene.Toplevel.{Toplevel}
 use Rattle.wl_scene.specs.declared.window.Window.{Window as Told}
@@ -22,6 +22,14 @@ slots-at lent (suc n) index slot some is within e =
     let same : index ≡ n = omega (arith, is) in
     let less : index < length lent = grind (arith, nat_tests) in
     ap slots_of (sym (get_or_from_slice_get lent index slot None (slice_get_read lent (length lent) index slot refl less e)) ∙ ap (λ i. get_or lent i None) same)
+
+-- past the end nothing is lent
+pub slots-past : {A : Type 0} (lent : List (Option (Lent A))) (c index : ℕ) → 1 ≤ c → index ≡ c - 1 → false ≡ nat_lt index (length lent) → no_slots ≡ slots_lent lent c
+slots-past lent zero index some is past = absurd (omega (arith, some))
+slots-past lent (suc n) index some is past =
+    let same : index ≡ n = omega (arith, is) in
+    let beyond : length lent ≤ n = grind (arith, nat_tests) in
+    sym (ap slots_of (get_or_past lent n None beyond))
 
 pub shown-at : (owned : ℕ → Owned) (ts : List Toplevel) (k : ℕ) (t : Toplevel) (r : Told) → slice_get ts k ≡ Some t → r ≡ shown_by owned (standing_of t)
     → slice_get (map (shown_by owned) (map standing_of ts)) k ≡ Some r

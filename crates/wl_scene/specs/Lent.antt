@@ -13,7 +13,7 @@ use Rattle.wl_scene.specs.Windows.{Window, corner_at}
 -- what is kept of the surfaces of a client: nothing, where nothing is lent
 abbrev pub slots_of : {A : Type 0} → Option (Lent A) → Slots
 slots_of None = no_slots
-slots_of (Some lent) = lent.surfaces
+slots_of (Some lent) = lent.linked.surfaces
 
 -- What client c owns is lent at index c - 1. There is no client 0.
 abbrev pub slots_lent : {A : Type 0} → List (Option (Lent A)) → ℕ → Slots

@@ -8,13 +8,15 @@ ghost use Rattle.wl_scene.specs.Stacking.{Owned as Asked};
 
 use crate::scene::Surface;
 use std::alloc::Allocator;
+use wl_linked::Linked;
 use wl_shell::Shell;
-use wl_surface::{Current, Surfaces};
+use wl_surface::Current;
 
-/// What a client owns of the scene: its surfaces (wayland.xml, wl_surface) and its xdg_surfaces (xdg-shell.xml, xdg_surface).
+/// What a client owns of the scene: its surfaces with the links between them (wayland.xml, wl_surface and wl_subsurface), and its xdg_surfaces
+/// (xdg-shell.xml, xdg_surface).
 #[derive(Drop)]
 pub struct Owned<A: Allocator> {
-    pub surfaces: Surfaces<A>,
+    pub linked: Linked<A>,
     pub shell: Shell<A>,
 }
 
@@ -39,7 +41,7 @@ pub(crate) fn current_at<A: Allocator>(
     ensures { (owned : ℕ → Asked) → Stands lent.now owned → IsCurrentAt result (surface_at surface.surface (owned surface.client).surfaces) }
 {
     match lent_of(lent, surface.client) {
-        Some(owned) => owned.surfaces.current(surface.surface),
+        Some(owned) => owned.linked.surfaces.current(surface.surface),
         None => None,
     }
 }

@@ -100,113 +100,114 @@ effect-owned id Unmaps x r = refl
 
 -- ---- what is asked
 
-module _ (names : Names) (slots : Slots) (kept : ℕ → Option Kept) (r : Resident) (is : IsOwned names slots kept r.owned) where
+module _ (names : Names) (slots : Slots) (tied : Tied) (kept : ℕ → Option Kept) (r : Resident) (is : IsOwned names slots tied kept r.owned) where
   pub owned-created : (id version number : ℕ) (new : Slots) (now : Names) → names.surfaces id ≡ None
       → ((named : Numbered) (id : ℕ) → StandForAll slots named → (named number ≡ None) × StandForAll new (with_at number (Some (new_surface id)) named)) → count_kept new ≡ count_kept slots + 1
-      → now ≡ with_surface id (Some number) names → IsOwned now new kept (changed_simply (Asking (CreateSurface id version)) r).owned
+      → now ≡ with_surface id (Some number) names → IsOwned now new tied kept (changed_simply (Asking (CreateSurface id version)) r).owned
   owned-created id version number new now free created counted same =
-      subst (λ (n : Names). IsOwned n new kept (changed_simply (Asking (CreateSurface id version)) r).owned) (sym same) (IsOwned-made names slots kept r.owned is id number new free created counted)
+      subst (λ (n : Names). IsOwned n new tied kept (changed_simply (Asking (CreateSurface id version)) r).owned) (sym same) (IsOwned-made names slots tied kept r.owned is id number new free created counted)
 
-  pub owned-destroyed : (id number : ℕ) (new : Slots) (now : Names) → names.surfaces id ≡ Some number → xdg_of id r.owned.shell ≡ None
-      → ((named : Numbered) → StandForAll slots named → StandForAll new (with_at number None named)) → count_kept new + one_if_kept (kept_at slots number) ≡ count_kept slots
-      → now ≡ with_surface id None names → IsOwned now new kept (changed_simply (DestroySurface id) r).owned
-  owned-destroyed id number new now named none left counted same =
-      subst (λ (n : Names). IsOwned n new kept (changed_simply (DestroySurface id) r).owned) (sym same) (IsOwned-left names slots kept r.owned is id number new named none left counted)
+  pub owned-destroyed : (id number : ℕ) (new : Slots) (without : Tied) (now : Names) → names.surfaces id ≡ Some number → xdg_of id r.owned.shell ≡ None
+      → Makes slots tied new without (destroyed_in number) → now ≡ with_surface id None names → IsOwned now new without kept (changed_simply (DestroySurface id) r).owned
+  owned-destroyed id number new without now named none makes same =
+      subst (λ (n : Names). IsOwned n new without kept (changed_simply (DestroySurface id) r).owned) (sym same) (IsOwned-left names slots tied kept r.owned is id number new without named none makes)
 
   -- a surface that is there has a history
   there : (id number : ℕ) → names.surfaces id ≡ Some number → (h : History) × (history_in id r.owned.surfaces ≡ Some h)
   there id number named =
-      let one = surface-named names.surfaces slots r.owned.surfaces is.surfaces id number named in
+      let one = surface-named names.surfaces slots tied r.owned.surfaces is.surfaces id number named in
       (one.0.history, ap (option_map (λ (s : Surface). s.history)) one.1)
 
   -- of a surface all but a window geometry
-  pub owned-asked : (id number : ℕ) (request : Request) (new : Slots) → names.surfaces id ≡ Some number → is_commit request ≡ false → ((asked : Option Rect) → geometry_asked asked request ≡ asked)
+  pub owned-asked : (id number : ℕ) (request : Request) (new : Slots) → names.surfaces id ≡ Some number → is_about_children request ≡ false → is_commit request ≡ false → ((asked : Option Rect) → geometry_asked asked request ≡ asked)
       → Changes slots new number (asking request)
-      → IsOwned names new kept (changed_simply (Asking (AskSurface id request)) r).owned
-  owned-asked id number request new named plain other changes =
+      → IsOwned names new tied kept (changed_simply (Asking (AskSurface id request)) r).owned
+  owned-asked id number request new named about plain other changes =
       let one = there id number named in
-      IsOwned-history names slots kept r.owned is id one.0 (one_more request one.0) new (with_surface_change id (asking request) r.owned.surfaces)
-      (AreKept-changed names.surfaces slots r.owned.surfaces is.surfaces id number named (asking request) (λ s. refl) new (counts-asking request plain) changes)
+      IsOwned-history names slots tied kept r.owned is id one.0 (one_more request one.0) new tied (with_surface_change id (asking request) r.owned.surfaces)
+      (AreKept-changed names.surfaces slots tied r.owned.surfaces is.surfaces id number named (asking request) (λ s. refl) new tied (counts-asking request plain)
+      (asked-by names.surfaces slots tied r.owned.surfaces is.surfaces id number named request new about plain changes))
       one.1
       (histories-to id (asking request) (one_more request) r.owned.surfaces one.0 (λ s. refl) (λ s. refl) one.1)
       (λ k x stands. changes_stand.other request k x one.0 other stands)
 
   pub owned-xdg-made : (id version base surface number : ℕ) (after : ℕ → Option Kept) (now : Names) → names.surfaces surface ≡ Some number → kept number ≡ None → names.shell id ≡ None
       → after ≡ with_kept number (Some (first_kept id base)) kept → now ≡ with_xdg id (Some number) names
-      → IsOwned now slots after (changed_simply (Asking (GetXdgSurface id version base surface)) r).owned
+      → IsOwned now slots tied after (changed_simply (Asking (GetXdgSurface id version base surface)) r).owned
   owned-xdg-made id version base surface number after now named free unnamed keeps same =
-      subst (λ (n : Names). IsOwned n slots after (changed_simply (Asking (GetXdgSurface id version base surface)) r).owned) (sym same)
-      (subst (λ (ks : ℕ → Option Kept). IsOwned (with_xdg id (Some number) names) slots ks (changed_simply (Asking (GetXdgSurface id version base surface)) r).owned) (sym keeps)
-      (IsOwned-shelled names slots kept r.owned is id base surface number named free unnamed))
+      subst (λ (n : Names). IsOwned n slots tied after (changed_simply (Asking (GetXdgSurface id version base surface)) r).owned) (sym same)
+      (subst (λ (ks : ℕ → Option Kept). IsOwned (with_xdg id (Some number) names) slots tied ks (changed_simply (Asking (GetXdgSurface id version base surface)) r).owned) (sym keeps)
+      (IsOwned-shelled names slots tied kept r.owned is id base surface number named free unnamed))
 
   module _ (number : ℕ) (k : Kept) (x : XdgSurface) (h : History) (one : IsXdg names kept r.owned number k x h) where
     -- its surface stays
     stepped-still : (change : Kept → Kept) (step : XdgSurface → XdgSurface) → KeepsRole step → Stands (change k) (step x) h
-        → IsOwned names slots (changing number change kept) (record r.owned { shell = with_change x.id step r.owned.shell })
+        → IsOwned names slots tied (changing number change kept) (record r.owned { shell = with_change x.id step r.owned.shell })
     stepped-still change step keeps stands =
-        IsOwned-stepped names slots kept r.owned is number k x h one change step h slots r.owned.surfaces keeps is.surfaces
+        IsOwned-stepped names slots tied kept r.owned is number k x h one change step h slots tied r.owned.surfaces keeps is.surfaces
         (sym (histories-same x.surface (Some h) (λ other. history_in other r.owned.surfaces) one.history)) stands
 
     pub owned-geometry : (rect : Rect) (after : ℕ → Option Kept) → after ≡ changing number (kept_asking rect) kept
-        → IsOwned names slots after (changed_simply (Asking (AskSurface x.surface (SetWindowGeometry rect))) r).owned
+        → IsOwned names slots tied after (changed_simply (Asking (AskSurface x.surface (SetWindowGeometry rect))) r).owned
     owned-geometry rect after keeps =
         let request = SetWindowGeometry rect in
         let all = with_surface_change x.surface (asking request) r.owned.surfaces in
-        let stepped : IsOwned names slots (changing number (kept_asking rect) kept) (record { surfaces = all; shell = with_change x.id (λ y. y) r.owned.shell }) =
-        IsOwned-stepped names slots kept r.owned is number k x h one (kept_asking rect) (λ y. y) (one_more request h) slots all itself-keeps
-        (AreKept-changed names.surfaces slots r.owned.surfaces is.surfaces x.surface number one.surface (asking request) (λ s. refl) slots (counts-asking request refl)
-        (geometry-asked slots number rect))
+        let stepped : IsOwned names slots tied (changing number (kept_asking rect) kept) (record { surfaces = all; shell = with_change x.id (λ y. y) r.owned.shell }) =
+        IsOwned-stepped names slots tied kept r.owned is number k x h one (kept_asking rect) (λ y. y) (one_more request h) slots tied all itself-keeps
+        (AreKept-changed names.surfaces slots tied r.owned.surfaces is.surfaces x.surface number one.surface (asking request) (λ s. refl) slots tied (counts-asking request refl)
+        (asked-by names.surfaces slots tied r.owned.surfaces is.surfaces x.surface number one.surface request slots refl refl (geometry-asked slots number rect)))
         (histories-to x.surface (asking request) (one_more request) r.owned.surfaces h (λ s. refl) (λ s. refl) one.history)
         (changes_stand.geometry rect k x h one.stands) in
-        subst (λ (ks : ℕ → Option Kept). IsOwned names slots ks (changed_simply (Asking (AskSurface x.surface request)) r).owned) (sym keeps)
-        (subst (λ (s : Shell). IsOwned names slots (changing number (kept_asking rect) kept) (record { surfaces = all; shell = s })) (changed-same x.id r.owned.shell) stepped)
+        subst (λ (ks : ℕ → Option Kept). IsOwned names slots tied ks (changed_simply (Asking (AskSurface x.surface request)) r).owned) (sym keeps)
+        (subst (λ (s : Shell). IsOwned names slots tied (changing number (kept_asking rect) kept) (record { surfaces = all; shell = s })) (changed-same x.id r.owned.shell) stepped)
 
     pub owned-xdg-gone : (after : ℕ → Option Kept) (now : Names) → x.role ≡ None → after ≡ with_kept number None kept → now ≡ with_xdg x.id None names
-        → IsOwned now slots after (changed_simply (Asking (DestroyXdgSurface x.id)) r).owned
+        → IsOwned now slots tied after (changed_simply (Asking (DestroyXdgSurface x.id)) r).owned
     owned-xdg-gone after now bare keeps same =
-        subst (λ (n : Names). IsOwned n slots after (changed_simply (Asking (DestroyXdgSurface x.id)) r).owned) (sym same)
-        (subst (λ (ks : ℕ → Option Kept). IsOwned (with_xdg x.id None names) slots ks (changed_simply (Asking (DestroyXdgSurface x.id)) r).owned) (sym keeps)
-        (IsOwned-unshelled names slots kept r.owned is number k x h one bare))
+        subst (λ (n : Names). IsOwned n slots tied after (changed_simply (Asking (DestroyXdgSurface x.id)) r).owned) (sym same)
+        (subst (λ (ks : ℕ → Option Kept). IsOwned (with_xdg x.id None names) slots tied ks (changed_simply (Asking (DestroyXdgSurface x.id)) r).owned) (sym keeps)
+        (IsOwned-unshelled names slots tied kept r.owned is number k x h one bare))
 
     pub owned-toplevel-made : (id version : ℕ) (new : Slots) (after : ℕ → Option Kept) (now : Names) → x.role ≡ None → names.toplevels id ≡ None → Changes slots new number (with_role AsToplevel)
-        → after ≡ changing number (kept_toplevel id) kept → now ≡ with_toplevel id (Some number) names → IsOwned now new after (changed_simply (Asking (GetToplevel id version x.id)) r).owned
+        → after ≡ changing number (kept_toplevel id) kept → now ≡ with_toplevel id (Some number) names → IsOwned now new tied after (changed_simply (Asking (GetToplevel id version x.id)) r).owned
     owned-toplevel-made id version new after now bare free changes keeps same =
         let all = with_surface_change x.surface (with_role AsToplevel) r.owned.surfaces in
         let since : asked_so_far x.surface r ≡ length h.requests = ap (λ (g : Option History). option_map_or (λ (h : History). length h.requests) g 0) one.history in
         let step = new_toplevel id (asked_so_far x.surface r) in
         let stands : Stands (kept_toplevel id k) (step x) h = subst (λ n. Stands (kept_toplevel id k) (new_toplevel id n x) h) (sym since) (changes_stand.toplevel id k x h one.stands) in
-        subst (λ (n : Names). IsOwned n new after (changed_simply (Asking (GetToplevel id version x.id)) r).owned) (sym same)
-        (subst (λ (ks : ℕ → Option Kept). IsOwned (with_toplevel id (Some number) names) new ks (changed_simply (Asking (GetToplevel id version x.id)) r).owned) (sym keeps)
-        (subst (λ (o : Option XdgSurface). IsOwned (with_toplevel id (Some number) names) new (changing number (kept_toplevel id) kept) (toplevel_given id x.id o r).owned) (sym one.at_id)
-        (IsOwned-toplevel names slots kept r.owned is number k x h one id (kept_toplevel id) step (record { id = id; kind = _; stage = Fresh }) h new all (λ y. refl) (λ y. refl) bare refl refl free
-        (AreKept-changed names.surfaces slots r.owned.surfaces is.surfaces x.surface number one.surface (with_role AsToplevel) (λ s. refl) new (λ s counts. counts) changes)
+        subst (λ (n : Names). IsOwned n new tied after (changed_simply (Asking (GetToplevel id version x.id)) r).owned) (sym same)
+        (subst (λ (ks : ℕ → Option Kept). IsOwned (with_toplevel id (Some number) names) new tied ks (changed_simply (Asking (GetToplevel id version x.id)) r).owned) (sym keeps)
+        (subst (λ (o : Option XdgSurface). IsOwned (with_toplevel id (Some number) names) new tied (changing number (kept_toplevel id) kept) (toplevel_given id x.id o r).owned) (sym one.at_id)
+        (IsOwned-toplevel names slots tied kept r.owned is number k x h one id (kept_toplevel id) step (record { id = id; kind = _; stage = Fresh }) h new all (λ y. refl) (λ y. refl) bare refl refl free
+        (AreKept-changed names.surfaces slots tied r.owned.surfaces is.surfaces x.surface number one.surface (with_role AsToplevel) (λ s. refl) new tied (λ s counts. counts)
+        (role-by names.surfaces slots tied r.owned.surfaces is.surfaces x.surface number one.surface AsToplevel new changes))
         (histories-to x.surface (with_role AsToplevel) (λ g. g) r.owned.surfaces h (λ s. refl) (λ s. refl) one.history)
         stands)))
 
     pub owned-acknowledged : (serial : ℕ) (after : ℕ → Option Kept) → after ≡ changing number (kept_acknowledging serial) kept
-        → IsOwned names slots after (changed_simply (Asking (Acknowledge x.id serial)) r).owned
+        → IsOwned names slots tied after (changed_simply (Asking (Acknowledge x.id serial)) r).owned
     owned-acknowledged serial after keeps =
-        subst (λ (ks : ℕ → Option Kept). IsOwned names slots ks (changed_simply (Asking (Acknowledge x.id serial)) r).owned) (sym keeps)
+        subst (λ (ks : ℕ → Option Kept). IsOwned names slots tied ks (changed_simply (Asking (Acknowledge x.id serial)) r).owned) (sym keeps)
         (stepped-still (kept_acknowledging serial) (acknowledging serial) (acknowledging-keeps serial) (changes_stand.acknowledgement serial k x h one.stands))
 
-    pub owned-configured : (after : ℕ → Option Kept) → after ≡ changing number (kept_configuring r.peer.serial) kept → IsOwned names slots after (changed_simply (Asking (ConfigureAgain x.id)) r).owned
+    pub owned-configured : (after : ℕ → Option Kept) → after ≡ changing number (kept_configuring r.peer.serial) kept → IsOwned names slots tied after (changed_simply (Asking (ConfigureAgain x.id)) r).owned
     owned-configured after keeps =
-        subst (λ (ks : ℕ → Option Kept). IsOwned names slots ks (changed_simply (Asking (ConfigureAgain x.id)) r).owned) (sym keeps)
+        subst (λ (ks : ℕ → Option Kept). IsOwned names slots tied ks (changed_simply (Asking (ConfigureAgain x.id)) r).owned) (sym keeps)
         (stepped-still (kept_configuring r.peer.serial) (configuring r.peer.serial) (configuring-keeps r.peer.serial) (changes_stand.configure r.peer.serial k x h one.stands))
 
     pub owned-toplevel-gone : (id : ℕ) (after : ℕ → Option Kept) (now : Names) → is_role id x.role ≡ true → after ≡ changing number kept_without_role kept → now ≡ with_toplevel id None names
-        → IsOwned now slots after (changed_simply (DestroyToplevel id x.id x.surface) r).owned
+        → IsOwned now slots tied after (changed_simply (DestroyToplevel id x.id x.surface) r).owned
     owned-toplevel-gone id after now its keeps same =
-        subst (λ (n : Names). IsOwned n slots after (changed_simply (DestroyToplevel id x.id x.surface) r).owned) (sym same)
-        (subst (λ (ks : ℕ → Option Kept). IsOwned (with_toplevel id None names) slots ks (changed_simply (DestroyToplevel id x.id x.surface) r).owned) (sym keeps)
-        (IsOwned-untoplevel names slots kept r.owned is number k x h one id kept_without_role without_role h slots r.owned.surfaces (λ y. refl) (λ y. refl) its refl is.surfaces
+        subst (λ (n : Names). IsOwned n slots tied after (changed_simply (DestroyToplevel id x.id x.surface) r).owned) (sym same)
+        (subst (λ (ks : ℕ → Option Kept). IsOwned (with_toplevel id None names) slots tied ks (changed_simply (DestroyToplevel id x.id x.surface) r).owned) (sym keeps)
+        (IsOwned-untoplevel names slots tied kept r.owned is number k x h one id kept_without_role without_role h slots r.owned.surfaces (λ y. refl) (λ y. refl) its refl is.surfaces
         (sym (histories-same x.surface (Some h) (λ other. history_in other r.owned.surfaces) one.history)) (changes_stand.destruction k x h one.stands)))
 
     -- a commit of its surface
-    committed-with : (shows : Bool) (act : ShellAct) (new : Slots) → Changes slots new number (λ s. applying (asking Commit s)) → commit_answer shows (Some k) ≡ Ok act
-        → IsOwned names new (changing number (kept_after r.peer.serial act) kept)
+    committed-with : (shows : Bool) (act : ShellAct) (new : Slots) (tying : Tied) → Makes slots tied new tying (committed_in number) → commit_answer shows (Some k) ≡ Ok act
+        → IsOwned names new tying (changing number (kept_after r.peer.serial act) kept)
         (effect_on x.surface (on_commit (stage_of x) shows) (Some x) (after_surface x.surface r (committed_on x.surface r))).owned
-    committed-with shows act new changes answer =
+    committed-with shows act new tying makes answer =
         let commits : Surface → Surface = λ s. applying (asking Commit s) in
         let all = with_surface_change x.surface commits r.owned.surfaces in
         let then = after_surface x.surface r (committed_on x.surface r) in
@@ -218,50 +219,52 @@ module _ (names : Names) (slots : Slots) (kept : ℕ → Option Kept) (r : Resid
         ∙ ap (λ b. option_map_or (λ (h : History). length h.requests) (cond b (Some now) (history_in x.surface r.owned.surfaces)) 0) (eq-eqb x.surface x.surface refl) in
         let stands : Stands (kept_after r.peer.serial act k) (with_effect r.peer.serial (asked_so_far x.surface then) effect x) now =
         subst (λ n. Stands (kept_after r.peer.serial act k) (with_effect r.peer.serial n effect x) now) (sym since) (changes_stand.commit shows r.peer.serial act k x h answer one.stands) in
-        subst (λ (o : Owned). IsOwned names new (changing number (kept_after r.peer.serial act) kept) o) (sym (effect-owned x.surface effect x then))
-        (IsOwned-stepped names slots kept r.owned is number k x h one (kept_after r.peer.serial act) (with_effect r.peer.serial (asked_so_far x.surface then) effect) now new all
+        subst (λ (o : Owned). IsOwned names new tying (changing number (kept_after r.peer.serial act) kept) o) (sym (effect-owned x.surface effect x then))
+        (IsOwned-stepped names slots tied kept r.owned is number k x h one (kept_after r.peer.serial act) (with_effect r.peer.serial (asked_so_far x.surface then) effect) now new tying all
         (effect-keeps r.peer.serial (asked_so_far x.surface then) effect)
-        (AreKept-changed names.surfaces slots r.owned.surfaces is.surfaces x.surface number one.surface commits (λ s. refl) new (λ s counts. refl) changes)
+        (AreKept-changed names.surfaces slots tied r.owned.surfaces is.surfaces x.surface number one.surface commits (λ s. refl) new tying (λ s counts. refl)
+        (committed-by names.surfaces slots tied r.owned.surfaces is.surfaces x.surface number one.surface new tying makes))
         histories stands)
 
-  pub owned-committed : (id number : ℕ) (shows : Bool) (act : ShellAct) (new : Slots) (after : ℕ → Option Kept) → names.surfaces id ≡ Some number
-      → Changes slots new number (λ s. applying (asking Commit s))
+  pub owned-committed : (id number : ℕ) (shows : Bool) (act : ShellAct) (new : Slots) (tying : Tied) (after : ℕ → Option Kept) → names.surfaces id ≡ Some number
+      → Makes slots tied new tying (committed_in number)
       → commit_answer shows (kept number) ≡ Ok act → after ≡ changing number (kept_after r.peer.serial act) kept
-      → IsOwned names new after (changed_simply (CommitSurface id (effect_for shows (xdg_of id r.owned.shell))) r).owned
-  owned-committed id number shows act new after named changes answer keeps =
-      subst (λ (ks : ℕ → Option Kept). IsOwned names new ks (changed_simply (CommitSurface id (effect_for shows (xdg_of id r.owned.shell))) r).owned) (sym keeps) (at (kept number) refl)
+      → IsOwned names new tying after (changed_simply (CommitSurface id (effect_for shows (xdg_of id r.owned.shell))) r).owned
+  owned-committed id number shows act new tying after named makes answer keeps =
+      subst (λ (ks : ℕ → Option Kept). IsOwned names new tying ks (changed_simply (CommitSurface id (effect_for shows (xdg_of id r.owned.shell))) r).owned) (sym keeps) (at (kept number) refl)
     where
       commits : Surface → Surface
       commits s = applying (asking Commit s)
 
       at : (o : Option Kept) → kept number ≡ o
-          → IsOwned names new (changing number (kept_after r.peer.serial act) kept) (changed_simply (CommitSurface id (effect_for shows (xdg_of id r.owned.shell))) r).owned
+          → IsOwned names new tying (changing number (kept_after r.peer.serial act) kept) (changed_simply (CommitSurface id (effect_for shows (xdg_of id r.owned.shell))) r).owned
       at None here =
-          let none = xdg-of-none names slots kept r.owned is id number named here in
+          let none = xdg-of-none names slots tied kept r.owned is id number named here in
           let history = there id number named in
-          subst (λ (o : Option XdgSurface). IsOwned names new (changing number (kept_after r.peer.serial act) kept)
+          subst (λ (o : Option XdgSurface). IsOwned names new tying (changing number (kept_after r.peer.serial act) kept)
           (effect_on id (effect_for shows o) o (after_surface id r (committed_on id r))).owned) (sym none)
-          (subst (λ (ks : ℕ → Option Kept). IsOwned names new ks (record r.owned { surfaces = with_surface_change id commits r.owned.surfaces }))
+          (subst (λ (ks : ℕ → Option Kept). IsOwned names new tying ks (record r.owned { surfaces = with_surface_change id commits r.owned.surfaces }))
           (sym (changing-none number (kept_after r.peer.serial act) kept here))
-          (renumbered names slots kept r.owned is names.surfaces new (with_surface_change id commits r.owned.surfaces) id (Some (apply (one_more Commit history.0)))
-          (AreKept-changed names.surfaces slots r.owned.surfaces is.surfaces id number named commits (λ s. refl) new (λ s counts. refl) changes)
+          (renumbered names slots tied kept r.owned is names.surfaces new tying (with_surface_change id commits r.owned.surfaces) id (Some (apply (one_more Commit history.0)))
+          (AreKept-changed names.surfaces slots tied r.owned.surfaces is.surfaces id number named commits (λ s. refl) new tying (λ s counts. refl)
+          (committed-by names.surfaces slots tied r.owned.surfaces is.surfaces id number named new tying makes))
           none
           (histories-to id commits (λ g. apply (one_more Commit g)) r.owned.surfaces history.0 (λ s. refl) (λ s. refl) history.1)
           refl (λ x some found. refl) is.known))
       at (Some k) here =
-          let xdg = xdg-of names slots kept r.owned is id number k named here in
-          let done = committed-with number k xdg.0 xdg.1 xdg.2 shows act new changes (ap (commit_answer shows) (sym here) ∙ answer) in
-          subst (λ (o : Option XdgSurface). IsOwned names new (changing number (kept_after r.peer.serial act) kept)
+          let xdg = xdg-of names slots tied kept r.owned is id number k named here in
+          let done = committed-with number k xdg.0 xdg.1 xdg.2 shows act new tying makes (ap (commit_answer shows) (sym here) ∙ answer) in
+          subst (λ (o : Option XdgSurface). IsOwned names new tying (changing number (kept_after r.peer.serial act) kept)
           (effect_on id (effect_for shows o) o (after_surface id r (committed_on id r))).owned) (sym xdg.3)
-          (subst (λ i. IsOwned names new (changing number (kept_after r.peer.serial act) kept)
+          (subst (λ i. IsOwned names new tying (changing number (kept_after r.peer.serial act) kept)
           (effect_on i (on_commit (stage_of xdg.0) shows) (Some xdg.0) (after_surface i r (committed_on i r))).owned) xdg.4 done)
 
   -- the same by what the shell answered
-  pub owned-committed-by : (id number : ℕ) (shows : Bool) (act : ShellAct) (new : Slots) (after : ℕ → Option Kept) → names.surfaces id ≡ Some number
-      → Changes slots new number (λ s. applying (asking Commit s))
-      → commit_answer shows (kept number) ≡ Ok act → after ≡ changing number (kept_after r.peer.serial act) kept → IsOwned names new after (changed_simply (CommitSurface id (effect_by act)) r).owned
-  owned-committed-by id number shows act new after named changes answer keeps =
-      subst (λ effect. IsOwned names new after (changed_simply (CommitSurface id effect) r).owned) (at (kept number) refl) (owned-committed id number shows act new after named changes answer keeps)
+  pub owned-committed-by : (id number : ℕ) (shows : Bool) (act : ShellAct) (new : Slots) (tying : Tied) (after : ℕ → Option Kept) → names.surfaces id ≡ Some number
+      → Makes slots tied new tying (committed_in number)
+      → commit_answer shows (kept number) ≡ Ok act → after ≡ changing number (kept_after r.peer.serial act) kept → IsOwned names new tying after (changed_simply (CommitSurface id (effect_by act)) r).owned
+  owned-committed-by id number shows act new tying after named makes answer keeps =
+      subst (λ effect. IsOwned names new tying after (changed_simply (CommitSurface id effect) r).owned) (at (kept number) refl) (owned-committed id number shows act new tying after named makes answer keeps)
     where
       of-act : (a : ShellAct) → ◌≡◌ {A = Result ShellAct ShellError} (Ok a) (Ok act) → effect_by a ≡ effect_by act
       of-act a e = let same : a ≡ act = cc in ap effect_by same
@@ -275,9 +278,9 @@ module _ (names : Names) (slots : Slots) (kept : ℕ → Option Kept) (r : Resid
       by-effect Unmaps serials full e answer = of-act Unmap answer
 
       at : (o : Option Kept) → kept number ≡ o → effect_for shows (xdg_of id r.owned.shell) ≡ effect_by act
-      at None here = ap (effect_for shows) (xdg-of-none names slots kept r.owned is id number named here) ∙ of-act Nothing (ap (commit_answer shows) (sym here) ∙ answer)
+      at None here = ap (effect_for shows) (xdg-of-none names slots tied kept r.owned is id number named here) ∙ of-act Nothing (ap (commit_answer shows) (sym here) ∙ answer)
       at (Some k) here =
-          let xdg = xdg-of names slots kept r.owned is id number k named here in
+          let xdg = xdg-of names slots tied kept r.owned is id number k named here in
           ap (effect_for shows) xdg.3
           ∙ ap (λ (role : Option RoleObject). on_commit (option_map (λ object. object.stage) role) shows) (sym xdg.2.stands.role)
           ∙ by-effect (on_commit (stage_in k) shows) k.serials (is_full k.serials) refl (ap (commit_answer shows) (sym here) ∙ answer)

@@ -66,16 +66,16 @@ cut-within (Some k) (Some s) h stands there =
     let all : s.history.cut ≤ length s.history.requests = omega (arith, first, second) in
     subst (λ (g : History). g.cut ≤ length g.requests) (some-same s.history h there) all
 
-module _ (names : Names) (slots : Slots) (kept : ℕ → Option Kept) (o : Owned) (is : IsOwned names slots kept o) where
+module _ (names : Names) (slots : Slots) (tied : Tied) (kept : ℕ → Option Kept) (o : Owned) (is : IsOwned names slots tied kept o) where
   -- ---- surfaces
 
   -- other numbers of surfaces, by which what is kept of the xdg_surfaces is the same
-  pub renumbered : (numbers : ById ℕ) (new : Slots) (all : Surfaces) (id : ℕ) (h : Option History) → AreKept numbers new all → xdg_of id o.shell ≡ None
+  pub renumbered : (numbers : ById ℕ) (new : Slots) (tying : Tied) (all : Surfaces) (id : ℕ) (h : Option History) → AreKept numbers new tying all → xdg_of id o.shell ≡ None
       → (λ other. history_in other all) ≡ with_history id h (λ other. history_in other o.surfaces)
       → by_id numbers kept ≡ by_id names.surfaces kept → ((x : XdgSurface) → names.surfaces x.surface ≢ None → xdg_of x.surface o.shell ≡ Some x → names.surfaces x.surface ≡ numbers x.surface)
       → ((number : ℕ) → is_some (kept number) ≡ true → (id : ℕ) × (numbers id ≡ Some number))
-      → IsOwned (record names { surfaces = numbers }) new kept (record o { surfaces = all })
-  renumbered numbers new all id h are none_of histories same reads known = record {
+      → IsOwned (record names { surfaces = numbers }) new tying kept (record o { surfaces = all })
+  renumbered numbers new tying all id h are none_of histories same reads known = record {
     surfaces = are;
     shell =
         subst (λ (hs : ℕ → Option History). IsShell (by_id numbers kept) hs o.shell) (sym histories)
@@ -89,18 +89,18 @@ module _ (names : Names) (slots : Slots) (kept : ℕ → Option Kept) (o : Owned
     where
       reads-by : (p : XdgSurface → Bool) (x : XdgSurface) → find p o.shell ≡ Some x → names.surfaces x.surface ≡ numbers x.surface
       reads-by p x found =
-          let one = xdg-found names slots kept o is p x found in
+          let one = xdg-found names slots tied kept o is p x found in
           reads x (λ none. none-some one.0 (sym none ∙ one.3.surface)) one.3.of_surface
 
   -- one comes
   pub IsOwned-made : (id number : ℕ) (new : Slots) → names.surfaces id ≡ None → ((named : Numbered) (id : ℕ) → StandForAll slots named → (named number ≡ None)
       × StandForAll new (with_at number (Some (new_surface id)) named)) → count_kept new ≡ count_kept slots + 1
-      → IsOwned (with_surface id (Some number) names) new kept (record o { surfaces = with_new id o.surfaces })
+      → IsOwned (with_surface id (Some number) names) new tied kept (record o { surfaces = with_new id o.surfaces })
   IsOwned-made id number new free created counted =
-      renumbered (with_id id (Some number) names.surfaces) new (with_new id o.surfaces) id (Some (new_surface id).history)
-      (AreKept-made names.surfaces slots o.surfaces is.surfaces id number free new created counted)
-      (xdg-of-nobody names slots kept o is id free)
-      (histories-made id o.surfaces (surface-absent names.surfaces slots o.surfaces is.surfaces id free))
+      renumbered (with_id id (Some number) names.surfaces) new tied (with_new id o.surfaces) id (Some (new_surface id).history)
+      (AreKept-made names.surfaces slots tied o.surfaces is.surfaces id number free new created counted)
+      (xdg-of-nobody names slots tied kept o is id free)
+      (histories-made id o.surfaces (surface-absent names.surfaces slots tied o.surfaces is.surfaces id free))
       (fun_ext (λ other. same other (other == id) refl))
       (λ x there found. sym (with_id-other id x.surface (Some number) names.surfaces (ne_eqb x.surface id (λ e. there (ap names.surfaces e ∙ free)))))
       (λ other some. let was = is.known other some in
@@ -111,28 +111,27 @@ module _ (names : Names) (slots : Slots) (kept : ℕ → Option Kept) (o : Owned
         where
           at : (k : Option Kept) → kept number ≡ k → k ≡ None
           at None e = refl
-          at (Some k) e = let was = is.known number (ap is_some e) in absurd (unnumbered names.surfaces slots o.surfaces is.surfaces id number free new created was.0 was.1)
+          at (Some k) e = let was = is.known number (ap is_some e) in absurd (unnumbered names.surfaces slots tied o.surfaces is.surfaces id number free new created was.0 was.1)
 
       same : (other : ℕ) (b : Bool) → (other == id) ≡ b → option_and_then kept (cond b (Some number) (names.surfaces other)) ≡ option_and_then kept (names.surfaces other)
       same other true here = nobody ∙ sym (ap (option_and_then kept) (ap names.surfaces (eqb-true other id here) ∙ free))
       same other false here = refl
 
   -- one without an xdg_surface goes
-  pub IsOwned-left : (id number : ℕ) (new : Slots) → names.surfaces id ≡ Some number → xdg_of id o.shell ≡ None
-      → ((named : Numbered) → StandForAll slots named → StandForAll new (with_at number None named)) → count_kept new + one_if_kept (kept_at slots number) ≡ count_kept slots
-      → IsOwned (with_surface id None names) new kept (record o { surfaces = without_surface id o.surfaces })
-  IsOwned-left id number new named none_of left counted =
-      renumbered (with_id id None names.surfaces) new (without_surface id o.surfaces) id None
-      (AreKept-left names.surfaces slots o.surfaces is.surfaces id number named new left counted)
+  pub IsOwned-left : (id number : ℕ) (new : Slots) (without : Tied) → names.surfaces id ≡ Some number → xdg_of id o.shell ≡ None
+      → Makes slots tied new without (destroyed_in number) → IsOwned (with_surface id None names) new without kept (record o { surfaces = without_surface id o.surfaces })
+  IsOwned-left id number new without named none_of makes =
+      renumbered (with_id id None names.surfaces) new without (without_surface id o.surfaces) id None
+      (AreKept-left names.surfaces slots tied o.surfaces is.surfaces id number named new without makes)
       none_of
-      (let there = surface-named names.surfaces slots o.surfaces is.surfaces id number named in histories-left id o.surfaces there.0 is.surfaces.apart there.1)
+      (let there = surface-named names.surfaces slots tied o.surfaces is.surfaces id number named in histories-left id o.surfaces there.0 is.surfaces.apart there.1)
       (fun_ext (λ other. same other (other == id) refl))
       (λ x there found. sym (with_id-other id x.surface None names.surfaces (ne_eqb x.surface id (λ e. none-some x (sym none_of ∙ ap (λ i. xdg_of i o.shell) (sym e) ∙ found)))))
       (λ other some. let was = is.known other some in
       (was.0, with_id-other id was.0 None names.surfaces (ne_eqb was.0 id (λ e. away other some (some-same other number (sym was.1 ∙ ap names.surfaces e ∙ named)))) ∙ was.1))
     where
       nobody : kept number ≡ None
-      nobody = xdg-kept-none names slots kept o is id number named none_of
+      nobody = xdg-kept-none names slots tied kept o is id number named none_of
 
       away : (other : ℕ) → is_some (kept other) ≡ true → other ≡ number → ⊥
       away other some same = differ (sym some ∙ ap (λ n. is_some (kept n)) same ∙ ap is_some nobody)
@@ -142,10 +141,10 @@ module _ (names : Names) (slots : Slots) (kept : ℕ → Option Kept) (o : Owned
       same other false here = refl
 
   -- one has another history, which what is kept of its xdg_surface stands for too
-  pub IsOwned-history : (id : ℕ) (h g : History) (new : Slots) (all : Surfaces) → AreKept names.surfaces new all → history_in id o.surfaces ≡ Some h
+  pub IsOwned-history : (id : ℕ) (h g : History) (new : Slots) (tying : Tied) (all : Surfaces) → AreKept names.surfaces new tying all → history_in id o.surfaces ≡ Some h
       → (λ other. history_in other all) ≡ with_history id (Some g) (λ other. history_in other o.surfaces)
-      → ((k : Kept) (x : XdgSurface) → Stands k x h → Stands k x g) → IsOwned names new kept (record o { surfaces = all })
-  IsOwned-history id h g new all are there histories stands = record {
+      → ((k : Kept) (x : XdgSurface) → Stands k x h → Stands k x g) → IsOwned names new tying kept (record o { surfaces = all })
+  IsOwned-history id h g new tying all are there histories stands = record {
     surfaces = are;
     shell = subst (λ (hs : ℕ → Option History). IsShell (by_id names.surfaces kept) hs o.shell) (sym histories) (record { each = λ other. at other (other == id) refl; apart = is.shell.apart });
     known = is.known;
@@ -204,10 +203,10 @@ module _ (names : Names) (slots : Slots) (kept : ℕ → Option Kept) (o : Owned
         ∙ number-kept names.surfaces (stepped step) (xdg_at other o.shell) (stepped-keeps (λ z. z.surface) step keeps_surface))
 
     -- its role object stays
-    pub IsOwned-stepped : (change : Kept → Kept) (step : XdgSurface → XdgSurface) (g : History) (new : Slots) (all : Surfaces) → KeepsRole step → AreKept names.surfaces new all
+    pub IsOwned-stepped : (change : Kept → Kept) (step : XdgSurface → XdgSurface) (g : History) (new : Slots) (tying : Tied) (all : Surfaces) → KeepsRole step → AreKept names.surfaces new tying all
         → (λ other. history_in other all) ≡ with_history x.surface (Some g) (λ other. history_in other o.surfaces) → Stands (change k) (step x) g
-        → IsOwned names new (changing number change kept) (record { surfaces = all; shell = with_change x.id step o.shell })
-    IsOwned-stepped change step g new all keeps are histories stands = record {
+        → IsOwned names new tying (changing number change kept) (record { surfaces = all; shell = with_change x.id step o.shell })
+    IsOwned-stepped change step g new tying all keeps are histories stands = record {
       surfaces = are;
       shell = shell-after change step g all keeps.id keeps.surface histories stands;
       known = known-after change;
@@ -222,9 +221,9 @@ module _ (names : Names) (slots : Slots) (kept : ℕ → Option Kept) (o : Owned
     -- it gets a toplevel
     pub IsOwned-toplevel : (id : ℕ) (change : Kept → Kept) (step : XdgSurface → XdgSurface) (object : RoleObject) (g : History) (new : Slots) (all : Surfaces) → ((y : XdgSurface) → (step y).id ≡ y.id)
         → ((y : XdgSurface) → (step y).surface ≡ y.surface)
-        → x.role ≡ None → (step x).role ≡ Some object → object.id ≡ id → names.toplevels id ≡ None → AreKept names.surfaces new all
+        → x.role ≡ None → (step x).role ≡ Some object → object.id ≡ id → names.toplevels id ≡ None → AreKept names.surfaces new tied all
         → (λ other. history_in other all) ≡ with_history x.surface (Some g) (λ other. history_in other o.surfaces) → Stands (change k) (step x) g
-        → IsOwned (with_toplevel id (Some number) names) new (changing number change kept) (record { surfaces = all; shell = with_change x.id step o.shell })
+        → IsOwned (with_toplevel id (Some number) names) new tied (changing number change kept) (record { surfaces = all; shell = with_change x.id step o.shell })
     IsOwned-toplevel id change step object g new all keeps_id keeps_surface was now it free are histories stands = record {
       surfaces = are;
       shell = shell-after change step g all keeps_id keeps_surface histories stands;
@@ -236,10 +235,10 @@ module _ (names : Names) (slots : Slots) (kept : ℕ → Option Kept) (o : Owned
     }
       where
         apart : AreApartBy has_xdg o.shell
-        apart = xdgs-apart names slots kept o is
+        apart = xdgs-apart names slots tied kept o is
 
         none : xdg_with id o.shell ≡ None
-        none = toplevel-unnamed names slots kept o is id free
+        none = toplevel-unnamed names slots tied kept o is id free
 
         at : (other : ℕ) (b : Bool) → (other == id) ≡ b → cond b (Some number) (names.toplevels other) ≡ number_of names.surfaces (xdg_with other (with_change x.id step o.shell))
         at other true here =
@@ -255,9 +254,9 @@ module _ (names : Names) (slots : Slots) (kept : ℕ → Option Kept) (o : Owned
     -- its toplevel goes
     pub IsOwned-untoplevel : (id : ℕ) (change : Kept → Kept) (step : XdgSurface → XdgSurface) (g : History) (new : Slots) (all : Surfaces) → ((y : XdgSurface) → (step y).id ≡ y.id)
         → ((y : XdgSurface) → (step y).surface ≡ y.surface)
-        → is_role id x.role ≡ true → (step x).role ≡ None → AreKept names.surfaces new all
+        → is_role id x.role ≡ true → (step x).role ≡ None → AreKept names.surfaces new tied all
         → (λ other. history_in other all) ≡ with_history x.surface (Some g) (λ other. history_in other o.surfaces) → Stands (change k) (step x) g
-        → IsOwned (with_toplevel id None names) new (changing number change kept) (record { surfaces = all; shell = with_change x.id step o.shell })
+        → IsOwned (with_toplevel id None names) new tied (changing number change kept) (record { surfaces = all; shell = with_change x.id step o.shell })
     IsOwned-untoplevel id change step g new all keeps_id keeps_surface was now are histories stands = record {
       surfaces = are;
       shell = shell-after change step g all keeps_id keeps_surface histories stands;
@@ -268,7 +267,7 @@ module _ (names : Names) (slots : Slots) (kept : ℕ → Option Kept) (o : Owned
     }
       where
         apart : AreApartBy has_xdg o.shell
-        apart = xdgs-apart names slots kept o is
+        apart = xdgs-apart names slots tied kept o is
 
         only : (other : ℕ) (object : Option RoleObject) → is_role id object ≡ true → (other == id) ≡ false → is_role other object ≡ false
         only other None it away = refl
@@ -283,7 +282,7 @@ module _ (names : Names) (slots : Slots) (kept : ℕ → Option Kept) (o : Owned
             (ap (is_role other) now)))
 
     -- it goes, without a role object
-    pub IsOwned-unshelled : x.role ≡ None → IsOwned (with_xdg x.id None names) slots (with_kept number None kept) (record o { shell = without_xdg x.id o.shell })
+    pub IsOwned-unshelled : x.role ≡ None → IsOwned (with_xdg x.id None names) slots tied (with_kept number None kept) (record o { shell = without_xdg x.id o.shell })
     IsOwned-unshelled bare = record {
       surfaces = is.surfaces;
       shell =
@@ -297,7 +296,7 @@ module _ (names : Names) (slots : Slots) (kept : ℕ → Option Kept) (o : Owned
     }
       where
         apart : AreApartBy has_xdg o.shell
-        apart = xdgs-apart names slots kept o is
+        apart = xdgs-apart names slots tied kept o is
 
         known : (other : ℕ) (b : Bool) → (other == number) ≡ b → is_some (cond b None (kept other)) ≡ true → (id : ℕ) × (names.surfaces id ≡ Some other)
         known other true here some = absurd (differ (sym some))
@@ -312,7 +311,7 @@ module _ (names : Names) (slots : Slots) (kept : ℕ → Option Kept) (o : Owned
   -- ---- an xdg_surface comes
 
   pub IsOwned-shelled : (id base surface number : ℕ) → names.surfaces surface ≡ Some number → kept number ≡ None → names.shell id ≡ None
-      → IsOwned (with_xdg id (Some number) names) slots (with_kept number (Some (first_kept id base)) kept) (record o { shell = with_new_xdg id base surface o.shell })
+      → IsOwned (with_xdg id (Some number) names) slots tied (with_kept number (Some (first_kept id base)) kept) (record o { shell = with_new_xdg id base surface o.shell })
   IsOwned-shelled id base surface number named free unnamed = record {
     surfaces = is.surfaces;
     shell =
@@ -320,7 +319,7 @@ module _ (names : Names) (slots : Slots) (kept : ℕ → Option Kept) (o : Owned
         (sym (by_id-with names.surfaces is.surfaces.once surface number named (Some (first_kept id base)) kept))
         (shells_stand.made id base surface there.0.history (by_id names.surfaces kept) (λ other. history_in other o.surfaces) o.shell is.shell (ap (option_and_then kept) named ∙ free) none history
         (cut-within (kept_at slots number) (by_number names.surfaces o.surfaces number) there.0.history (is.surfaces.stand number)
-        (ap (option_map (λ (s : Surface). s.history)) (surface-read names.surfaces slots o.surfaces is.surfaces surface number named) ∙ history)));
+        (ap (option_map (λ (s : Surface). s.history)) (surface-read names.surfaces slots tied o.surfaces is.surfaces surface number named) ∙ history)));
     known = λ other some. known other (other == number) refl some;
     named = λ other. at other (other == id) refl;
     toplevels = λ other. is.toplevels other ∙ sym (ap (number_of names.surfaces) (new-elsewhere (has_role other) o.shell (newest id base surface) refl));
@@ -328,13 +327,13 @@ module _ (names : Names) (slots : Slots) (kept : ℕ → Option Kept) (o : Owned
   }
     where
       there : (s : Surface) × (surface_at surface o.surfaces ≡ Some s) × (s.id ≡ surface)
-      there = surface-named names.surfaces slots o.surfaces is.surfaces surface number named
+      there = surface-named names.surfaces slots tied o.surfaces is.surfaces surface number named
 
       history : history_in surface o.surfaces ≡ Some there.0.history
       history = ap (option_map (λ (s : Surface). s.history)) there.1
 
       none : xdg_at id o.shell ≡ None
-      none = xdg-unnamed names slots kept o is id unnamed
+      none = xdg-unnamed names slots tied kept o is id unnamed
 
       known : (other : ℕ) (b : Bool) → (other == number) ≡ b → is_some (cond b (Some (first_kept id base)) (kept other)) ≡ true → (i : ℕ) × (names.surfaces i ≡ Some other)
       known other true here some = (surface, named ∙ ap Some (sym (eqb-true other number here)))

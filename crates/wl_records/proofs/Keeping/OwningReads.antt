@@ -59,13 +59,13 @@ once-after : (a b : Option Buffer) → each_once (listed a ++ listed b ++ listed
 once-after None b = twice b
 once-after (Some a) b = ap (λ bs. a ∷ without_buffer a.number bs) (twice b)
 
-module _ (names : Names) (slots : Slots) (kept : ℕ → Option Kept) (r : Resident) (is : IsOwned names slots kept r.owned) where
+module _ (names : Names) (slots : Slots) (tied : Tied) (kept : ℕ → Option Kept) (r : Resident) (is : IsOwned names slots tied kept r.owned) where
   -- ---- a surface
 
   -- what is told of what is kept under its number is told of the surface
   pub read : (P : Option Surface → Type 0) (id number : ℕ) → names.surfaces id ≡ Some number → ((all : Numbered) → StandForAll slots all → P (all number)) → P (surface_at id r.owned.surfaces)
   read P id number named told =
-      subst P (surface-read names.surfaces slots r.owned.surfaces is.surfaces id number named) (told (by_number names.surfaces r.owned.surfaces) is.surfaces.stand)
+      subst P (surface-read names.surfaces slots tied r.owned.surfaces is.surfaces id number named) (told (by_number names.surfaces r.owned.surfaces) is.surfaces.stand)
 
   pub role-read : (id number : ℕ) (result : Option Role) → names.surfaces id ≡ Some number → ((all : Numbered) → StandForAll slots all → result ≡ role_at (all number)) → result ≡ role_of r id
   role-read id number result named told = read (λ at. result ≡ role_at at) id number named told ∙ at (surface_at id r.owned.surfaces)
@@ -114,38 +114,45 @@ module _ (names : Names) (slots : Slots) (kept : ℕ → Option Kept) (r : Resid
           ∙ ap (λ b. each_once (listed b ++ listed (option_map buffer_of c.buffer))) (sym waits)
 
   pub used : (buffer : ℕ) (result : Bool) → ((all : Numbered) → StandForAll slots all → IsAny (has_at buffer) all result) → is_used buffer r.owned.surfaces ≡ result
-  used buffer result told = used-read names.surfaces slots r.owned.surfaces is.surfaces buffer result (told (by_number names.surfaces r.owned.surfaces) is.surfaces.stand)
+  used buffer result told = used-read names.surfaces slots tied r.owned.surfaces is.surfaces buffer result (told (by_number names.surfaces r.owned.surfaces) is.surfaces.stand)
 
   pub busy : (buffer : ℕ) (result : Bool) → ((all : Numbered) → StandForAll slots all → IsAny (shows_at buffer) all result) → is_busy buffer r.owned.surfaces ≡ result
-  busy buffer result told = busy-read names.surfaces slots r.owned.surfaces is.surfaces buffer result (told (by_number names.surfaces r.owned.surfaces) is.surfaces.stand)
+  busy buffer result told = busy-read names.surfaces slots tied r.owned.surfaces is.surfaces buffer result (told (by_number names.surfaces r.owned.surfaces) is.surfaces.stand)
 
   -- what stops being busy by a commit, or as a surface goes, is freed once
-  pub freed-committed : (id number : ℕ) (new : Slots) (freed : List ℕ) → names.surfaces id ≡ Some number → Changes slots new number (λ s. applying (asking Commit s))
-      → ((all : Numbered) → StandForAll slots all → AreFreed freed all (changed_at number (λ s. applying (asking Commit s)) all))
+  pub freed-committed : (id number : ℕ) (freed : List ℕ) → names.surfaces id ≡ Some number
+      → ((those : Surfaces) → Stand slots tied those → AreFreed freed (numbered those) (numbered (committed_in number those)))
       → (buffer : ℕ) → count_by (λ n. n == buffer) freed ≡ cond (is_busy buffer r.owned.surfaces && not (is_busy buffer (with_change id (λ s. applying (asking Commit s)) r.owned.surfaces))) 1 0
-  freed-committed id number new freed named changes told buffer =
-      let commits : Surface → Surface = λ s. applying (asking Commit s) in
-      let after = with_change id commits r.owned.surfaces in
-      let now = AreKept-changed names.surfaces slots r.owned.surfaces is.surfaces id number named commits (λ s. refl) new (λ s counts. refl) changes in
-      told (by_number names.surfaces r.owned.surfaces) is.surfaces.stand buffer (is_busy buffer r.owned.surfaces) (is_busy buffer after)
-      (busy-is names.surfaces slots r.owned.surfaces is.surfaces buffer)
-      (subst (λ (all : Numbered). IsAny (shows_at buffer) all (is_busy buffer after)) (fun_ext (surfaces-changed names.surfaces slots r.owned.surfaces is.surfaces id number named commits (λ s. refl)))
-      (busy-is names.surfaces new after now buffer))
+  freed-committed id number freed named told buffer =
+      subst (λ (after : Surfaces). count_by (λ n. n == buffer) freed ≡ cond (is_busy buffer r.owned.surfaces && not (is_busy buffer after)) 1 0) (at-once-here id r.owned.surfaces is.surfaces.links)
+      (freed-committed-by names.surfaces slots tied r.owned.surfaces is.surfaces id number named freed found told buffer)
+    where
+      commits : Surface → Surface
+      commits s = cond (s.id == id) (applying (asking Commit s)) s
 
-  pub freed-left : (id number : ℕ) (new : Slots) (freed : List ℕ) → names.surfaces id ≡ Some number → ((all : Numbered) → StandForAll slots all → StandForAll new (with_at number None all))
-      → count_kept new + one_if_kept (kept_at slots number) ≡ count_kept slots
-      → ((all : Numbered) → StandForAll slots all → AreFreed freed all (with_at number None all))
+      found : AreFound (committed_in id r.owned.surfaces)
+      found = subst (λ (after : Surfaces). AreFound after) (sym (at-once-here id r.owned.surfaces is.surfaces.links))
+          (are-found (with_change id (λ s. applying (asking Commit s)) r.owned.surfaces) (apart-map has_id commits r.owned.surfaces.surfaces (λ other s. same other s (s.id == id)) is.surfaces.apart))
+        where
+          same : (other : ℕ) (s : Surface) (b : Bool) → ((cond b (applying (asking Commit s)) s).id == other) ≡ (s.id == other)
+          same other s true = refl
+          same other s false = refl
+
+
+  pub freed-left : (id number : ℕ) (freed : List ℕ) → names.surfaces id ≡ Some number
+      → ((those : Surfaces) → Stand slots tied those → AreFreed freed (numbered those) (numbered (destroyed_in number those)))
       → (buffer : ℕ) → count_by (λ n. n == buffer) freed ≡ cond (is_busy buffer r.owned.surfaces && not (is_busy buffer (without_surface id r.owned.surfaces))) 1 0
-  freed-left id number new freed named left counted told buffer =
-      let after = without_surface id r.owned.surfaces in
-      let now = AreKept-left names.surfaces slots r.owned.surfaces is.surfaces id number named new left counted in
-      told (by_number names.surfaces r.owned.surfaces) is.surfaces.stand buffer (is_busy buffer r.owned.surfaces) (is_busy buffer after)
-      (busy-is names.surfaces slots r.owned.surfaces is.surfaces buffer)
-      (subst (λ (all : Numbered). IsAny (shows_at buffer) all (is_busy buffer after)) (fun_ext (surfaces-left names.surfaces slots r.owned.surfaces is.surfaces id number named new))
-      (busy-is (with_id id None names.surfaces) new after now buffer))
+  freed-left id number freed named told buffer =
+      subst (λ (after : Surfaces). count_by (λ n. n == buffer) freed ≡ cond (is_busy buffer r.owned.surfaces && not (is_busy buffer after)) 1 0) (destroyed-alone id r.owned.surfaces is.surfaces.links)
+      (freed-left-by names.surfaces slots tied r.owned.surfaces is.surfaces id number named freed found told buffer)
+    where
+      found : AreFound (destroyed_in id r.owned.surfaces)
+      found = subst (λ (after : Surfaces). AreFound after) (sym (destroyed-alone id r.owned.surfaces is.surfaces.links))
+          (are-found (without_surface id r.owned.surfaces) (apart-left has_id (λ s. not (s.id == id)) r.owned.surfaces.surfaces is.surfaces.apart))
+
 
   pub destroyed-by : (id number : ℕ) → names.surfaces id ≡ Some number → surface_destroyed r id ≡ (if is_some (kept number) then refuses id error.SurfaceHasRoleObject else Ok (EndSurface id))
-  destroyed-by id number named = ap (λ b. if b then refuses id error.SurfaceHasRoleObject else Ok (EndSurface id)) (sym (xdg-there names slots kept r.owned is id number named))
+  destroyed-by id number named = ap (λ b. if b then refuses id error.SurfaceHasRoleObject else Ok (EndSurface id)) (sym (xdg-there names slots tied kept r.owned is id number named))
 
   -- ---- a commit
 
@@ -153,9 +160,9 @@ module _ (names : Names) (slots : Slots) (kept : ℕ → Option Kept) (r : Resid
   effect-read id number named = at (kept number) refl
     where
       at : (o : Option Kept) → kept number ≡ o → effect_of r id ≡ option_map_or (λ k. on_commit (stage_in k) (will_show r id)) o Stays
-      at None here = ap (effect_for (will_show r id)) (xdg-of-none names slots kept r.owned is id number named here)
+      at None here = ap (effect_for (will_show r id)) (xdg-of-none names slots tied kept r.owned is id number named here)
       at (Some k) here =
-          let xdg = xdg-of names slots kept r.owned is id number k named here in
+          let xdg = xdg-of names slots tied kept r.owned is id number k named here in
           ap (effect_for (will_show r id)) xdg.3 ∙ ap (λ (role : Option RoleObject). on_commit (option_map (λ object. object.stage) role) (will_show r id)) (sym xdg.2.stands.role)
 
   pub committed-by : (id number base object : ℕ) → AreToplevels r.owned.shell → names.surfaces id ≡ Some number
@@ -174,9 +181,9 @@ module _ (names : Names) (slots : Slots) (kept : ℕ → Option Kept) (r : Resid
       at : (o : Option Kept) → kept number ≡ o
           → committed_by (xdg_of id r.owned.shell) id (effect_for (will_show r id) (xdg_of id r.owned.shell)) ≡ asks_by (λ act. CommitTree id) (shell_refusal base (kept_id o) object)
           (commit_answer (will_show r id) o)
-      at None here = ap (λ (o : Option XdgSurface). committed_by o id (effect_for (will_show r id) o)) (xdg-of-none names slots kept r.owned is id number named here)
+      at None here = ap (λ (o : Option XdgSurface). committed_by o id (effect_for (will_show r id) o)) (xdg-of-none names slots tied kept r.owned is id number named here)
       at (Some k) here =
-          let xdg = xdg-of names slots kept r.owned is id number k named here in
+          let xdg = xdg-of names slots tied kept r.owned is id number k named here in
           let x = xdg.0 in
           let stands = xdg.2.stands in
           ap (λ (o : Option XdgSurface). committed_by o id (effect_for (will_show r id) o)) xdg.3
@@ -213,7 +220,7 @@ module _ (names : Names) (slots : Slots) (kept : ℕ → Option Kept) (r : Resid
       (making_refused (is_foreign (role_of r surface)) (has_any r surface) (kept number))
   made-by base version id surface number xdg object named =
       ap (λ b. if is_foreign (role_of r surface) || b then refuse base error.Role else (if has_any r surface then refuse base error.InvalidSurfaceState else Ok
-      (GetXdgSurface id version base surface))) (sym (xdg-there names slots kept r.owned is surface number named))
+      (GetXdgSurface id version base surface))) (sym (xdg-there names slots tied kept r.owned is surface number named))
       ∙ at (is_foreign (role_of r surface) || is_some (kept number)) (has_any r surface)
     where
       at : (b c : Bool) → (if b then refuse base error.Role else (if c then refuse base error.InvalidSurfaceState else Ok (GetXdgSurface id version base surface)))

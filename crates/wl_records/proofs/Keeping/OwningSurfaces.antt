@@ -6,19 +6,22 @@ use Rattle.std.specs.Option.{option_map}
 use Rattle.std.proofs.lemmas.Bool.{eqb-true, eqb-false, false_from_ne_true, ne_eqb}
 use Rattle.wl_geom.specs.declared.rect.Rect.{Rect}
 use Rattle.wl_peer.specs.Objects.{ById, with_id}
-use Rattle.wl_state.specs.Kept.{Kept}
+use Rattle.wl_family.specs.Family.{Tied}
 use Rattle.wl_surface.specs.Slots.{Numbered, Slots, StandForAll, StandsAt, Changes, IsAny, changed_at, has_at, kept_at, one_if_kept, shows_at, with_at, count as count_kept}
 use Rattle.wl_state.specs.Request.{Request, SetWindowGeometry}
 use Rattle.wl_state.specs.State.{History, committed_from, is_commit}
 use Rattle.wl_state.specs.Surface.{Surface, asking, has, new_surface, shows}
 use Rattle.wl_surface.specs.Surfaces.{Surfaces, history_in, is_busy, is_used, surface_at, with_change, with_new, without_surface}
 use Rattle.wl_state.proofs.Records.{For-asked, still, undamaged}
-use Rattle.wl_records.specs.Owning.{AllCounts, AreKept, by_number}
+use Rattle.wl_surface.specs.Trees.{destroyed_in}
+use Rattle.wl_named.specs.Named.{Makes, StandBy}
+use Rattle.wl_records.specs.Owning.{AllCounts, AreKept, by_number, number_in}
 use Rattle.wl_laws.specs.Apart.{AreApartBy}
 use Rattle.wl_plain.specs.Step.{is_number}
 use Rattle.wl_laws.proofs.Lists.Keys.{any-found, apart-left, apart-map, differ, found-any, found-by, found-fails, found-map, found-none, found-passes, left-elsewhere, left-here, length-left}
 use Rattle.wl_laws.proofs.Lists.Keys.{length-map, length-new, new-apart, new-elsewhere, new-here, none-first, none-later, none-some, some-same, gone}
 use Rattle.wl_records.proofs.Keeping.OwningNames.{with_id-here, with_id-other}
+use Rattle.wl_records.proofs.Keeping.OwningTies.{count-left, count-same, is-kept, left-by, made-by, stand-kept, there-kept}
 use Rattle.wl_laws.proofs.Lists.Surfaces.{has_id}
 
 -- ---- numbers
@@ -52,7 +55,11 @@ numbers-apart numbers (x ∷ xs) once apart = (λ number is. found-none (has_num
         let same : y.id ≡ x.id = once y.id x.id number (number-is number (numbers y.id) (found-passes (has_number numbers number) xs y found)) (number-is number (numbers x.id) is) in
         differ (sym (eq-eqb y.id x.id same) ∙ found-fails (has_id x.id) (has_number numbers number) xs y found (apart.0 x.id (eq-eqb x.id x.id refl)))
 
-module _ (numbers : ById ℕ) (slots : Slots) (all : Surfaces) (is : AreKept numbers slots all) where
+-- something is kept under the numbers of surfaces, and under no others
+kept-at : (slots : Slots) (all : Numbered) → StandForAll slots all → (number : ℕ) → is_some (kept_at slots number) ≡ is_some (all number)
+kept-at slots all stand number = is-kept (kept_at slots number) (all number) (stand number)
+
+module _ (numbers : ById ℕ) (slots : Slots) (tied : Tied) (all : Surfaces) (is : AreKept numbers slots tied all) where
   pub told-apart : AreApartBy (has_number numbers) all.surfaces
   told-apart = numbers-apart numbers all.surfaces is.once is.apart
 
@@ -166,16 +173,34 @@ module _ (numbers : ById ℕ) (slots : Slots) (all : Surfaces) (is : AreKept num
         at (Some s) e found =
             subst (λ (g : History). AllCounts g) (some-same (one s).history h found) (still (s.id == id) s (is.counts other s.history (ap (option_map (λ (s : Surface). s.history)) e)))
 
-    pub AreKept-changed : (new : Slots) → ((s : Surface) → AllCounts s.history → AllCounts (change s).history) → Changes slots new number change → AreKept numbers new (with_change id change all)
-    AreKept-changed new counts changes = record {
-      counts = counts-changed counts;
-      links = is.links;
-      numbered = λ other. is.numbered other ∙ sym (still-there one (surface_at other all)) ∙ ap is_some (sym (found-map (has_id other) one all.surfaces (λ s. ap (λ i. i == other) (one-id s))));
-      once = is.once;
-      apart = apart-map has_id one all.surfaces (λ other s. ap (λ i. i == other) (one-id s)) is.apart;
-      stand = λ other. subst (λ (o : Option Surface). StandsAt (kept_at new other) o) (sym (surfaces-changed other)) (changes.stand (by_number numbers all) is.stand other);
-      count = changes.count ∙ is.count ∙ sym (length-map one all.surfaces);
-    }
+    -- under each number something is kept where it was
+    pub kept-count : (new : Slots) → StandForAll new (by_number numbers (with_change id change all)) → count_kept new ≡ count_kept slots
+    kept-count new stand = count-same new.places slots.places (λ other. is-kept (kept_at new other) (by_number numbers (with_change id change all) other) (stand other)
+        ∙ ap is_some (surfaces-changed other) ∙ at (other == number) (by_number numbers all other) ∙ sym (is-kept (kept_at slots other) (by_number numbers all other) (is.stand other)))
+      where
+        at : (b : Bool) (o : Option Surface) → is_some (cond b (option_map change o) o) ≡ is_some o
+        at true o = still-there change o
+        at false o = refl
+
+    numbered-changed : (other : ℕ) → is_some (numbers other) ≡ is_some (surface_at other (with_change id change all))
+    numbered-changed other =
+        is.numbered other ∙ sym (still-there one (surface_at other all)) ∙ ap is_some (sym (found-map (has_id other) one all.surfaces (λ s. ap (λ i. i == other) (one-id s))))
+
+    pub AreKept-changed : (new : Slots) (after : Tied) → ((s : Surface) → AllCounts s.history → AllCounts (change s).history)
+        → StandBy (number_in numbers) new after (with_change id change all) → AreKept numbers new after (with_change id change all)
+    AreKept-changed new after counts by =
+        let stands = stand-kept numbers new after (with_change id change all) numbered-changed is.once by in
+        record {
+          counts = counts-changed counts;
+          links = is.links;
+          numbered = numbered-changed;
+          once = is.once;
+          apart = apart-map has_id one all.surfaces (λ other s. ap (λ i. i == other) (one-id s)) is.apart;
+          stand = stands;
+          count = kept-count new stands ∙ is.count ∙ sym (length-map one all.surfaces);
+          hang = by.stands.hang;
+          there = there-kept numbers new after (with_change id change all) numbered-changed is.once by;
+        }
 
   -- ---- one comes
 
@@ -243,8 +268,10 @@ module _ (numbers : ById ℕ) (slots : Slots) (all : Surfaces) (is : AreKept num
             is.counts other h (ap (option_map (λ (s : Surface). s.history))
             (sym (new-elsewhere (has_id other) all.surfaces (new_surface id) (ne_eqb id other (λ same. eqb-false other id here (sym same))))) ∙ found)
 
-    pub AreKept-made : count_kept new ≡ count_kept slots + 1 → AreKept now new (with_new id all)
-    AreKept-made counted = record {
+    pub AreKept-made : count_kept new ≡ count_kept slots + 1 → AreKept now new tied (with_new id all)
+    AreKept-made counted =
+        let by = made-by numbers slots tied all is id number new free (surface-absent id free) created in
+        record {
       counts = counts-made;
       links = is.links;
       numbered = numbered-now;
@@ -252,6 +279,8 @@ module _ (numbers : ById ℕ) (slots : Slots) (all : Surfaces) (is : AreKept num
       apart = new-apart has_id all.surfaces (new_surface id) (λ other same. ap (λ i. surface_at i all) (sym (eqb-true id other same)) ∙ surface-absent id free) is.apart;
       stand = λ other. subst (λ (o : Option Surface). StandsAt (kept_at new other) o) (sym (surfaces-made other)) ((created (by_number numbers all) id is.stand).1 other);
       count = counted ∙ ap (λ n. n + 1) is.count ∙ sym (length-new all.surfaces (new_surface id));
+      hang = by.stands.hang;
+      there = there-kept now new tied (with_new id all) numbered-now once-now by;
     }
 
   -- ---- one goes
@@ -312,29 +341,35 @@ module _ (numbers : ById ℕ) (slots : Slots) (all : Surfaces) (is : AreKept num
             left-elsewhere has_id id there.0 (has_number numbers other) all.surfaces is.apart there.1
             (ap (is_number other) (ap numbers there.2 ∙ named) ∙ ne_eqb number other (λ same. eqb-false other number here (sym same)))
 
-    pub AreKept-left : ((named : Numbered) → StandForAll slots named → StandForAll new (with_at number None named)) → count_kept new + one_if_kept (kept_at slots number) ≡ count_kept slots
-        → AreKept after new (without_surface id all)
-    AreKept-left left counted = record {
-      counts = counts-left;
-      links = is.links;
-      numbered = numbered-after;
-      once = λ a b other x y. is.once a b other (was a other x).0 (was b other y).0;
-      apart = apart-left has_id (λ s. not (s.id == id)) all.surfaces is.apart;
-      stand = λ other. subst (λ (o : Option Surface). StandsAt (kept_at new other) o) (sym (surfaces-left other)) (left (by_number numbers all) is.stand other);
-      count = fewer;
-    }
-      where
-        kept-there : (slot : Option Kept) (s : Surface) → StandsAt slot (Some s) → one_if_kept slot ≡ 1
-        kept-there None s stands = absurd stands
-        kept-there (Some k) s stands = refl
+    once-after : (a b other : ℕ) → after a ≡ Some other → after b ≡ Some other → a ≡ b
+    once-after a b other x y = is.once a b other (was a other x).0 (was b other y).0
 
-        fewer : count_kept new ≡ length (without_surface id all).surfaces
-        fewer =
+    pub AreKept-left : (without : Tied) → Makes slots tied new without (destroyed_in number) → AreKept after new without (without_surface id all)
+    AreKept-left without makes =
+        let by = left-by numbers slots tied all is id number named new without makes in
+        let stands = stand-kept after new without (without_surface id all) numbered-after once-after by in
+        record {
+          counts = counts-left;
+          links = is.links;
+          numbered = numbered-after;
+          once = once-after;
+          apart = apart-left has_id (λ s. not (s.id == id)) all.surfaces is.apart;
+          stand = stands;
+          count = fewer stands;
+          hang = by.stands.hang;
+          there = there-kept after new without (without_surface id all) numbered-after once-after by;
+        }
+      where
+        fewer : StandForAll new (by_number after (without_surface id all)) → count_kept new ≡ length (without_surface id all).surfaces
+        fewer stands =
             let there = surface-named id number named in
-            let one = kept-there (kept_at slots number) there.0 (subst (λ (o : Option Surface). StandsAt (kept_at slots number) o) (surface-read id number named ∙ there.1) (is.stand number)) in
             let shorter = length-left has_id id there.0 all.surfaces is.apart there.1 in
+            let one = count-left slots.places new.places number (kept-at slots (by_number numbers all) is.stand number ∙ ap is_some (surface-read id number named ∙ there.1))
+            (kept-at new (by_number after (without_surface id all)) stands number ∙ ap is_some (surfaces-left number ∙ ap (λ b. cond b None (by_number numbers all number)) (eq-eqb number number refl)))
+            (λ other away. kept-at slots (by_number numbers all) is.stand other ∙ sym (kept-at new (by_number after (without_surface id all)) stands other
+            ∙ ap is_some (surfaces-left other ∙ ap (λ b. cond b None (by_number numbers all other)) away))) in
             let same = is.count in
-            omega (arith, counted, one, shorter, same)
+            omega (arith, one, shorter, same)
 
 -- ---- what counts
 
@@ -356,7 +391,7 @@ geometry-stands rect (Some k) (Some s) t =
     (still k s.history t.history)
     (undamaged k s.history (SetWindowGeometry rect) refl t.history)
 
-pub geometry-asked : (slots : Slots) (number : ℕ) (rect : Rect) → Changes slots slots number (asking (SetWindowGeometry rect))
+pub geometry-asked : (slots : Slots) (tied : Tied) (number : ℕ) (rect : Rect) → Changes slots slots number (asking (SetWindowGeometry rect))
 geometry-asked slots number rect = record { stand = λ all stand other. at all other (other == number) (stand other); count = refl }
   where
     at : (all : Numbered) (other : ℕ) (b : Bool) → StandsAt (kept_at slots other) (all other)

@@ -140,7 +140,7 @@ numbered-xdg : (numbers : ById ℕ) (o : Option XdgSurface) (number : ℕ) → n
 numbered-xdg numbers None number e = absurd (cc)
 numbered-xdg numbers (Some x) number e = (x, refl, e)
 
-module _ (names : Names) (slots : Slots) (kept : ℕ → Option Kept) (o : Owned) (is : IsOwned names slots kept o) where
+module _ (names : Names) (slots : Slots) (tied : Tied) (kept : ℕ → Option Kept) (o : Owned) (is : IsOwned names slots tied kept o) where
   pub xdgs-apart : AreApartBy has_xdg o.shell
   xdgs-apart = ids-apart o.shell is.shell.apart
 

@@ -163,12 +163,12 @@ gone-most c d e x y more later over inside there = or_left (marks_at_least d e x
 
 -- ---- a message that ends its client
 
-module _ (c : ℕ) (there : Resident) (d : Desktop) (is : client_at c d ≡ Some there) (names : Names) (slots : Slots) (kept : ℕ → Option Kept)
-    (owned : IsOwned names slots kept there.owned) (stand : MappedStand d) (more : NoMore d) where
+module _ (c : ℕ) (there : Resident) (d : Desktop) (is : client_at c d ≡ Some there) (names : Names) (slots : Slots) (tied : Tied) (kept : ℕ → Option Kept)
+    (owned : IsOwned names slots tied kept there.owned) (stand : MappedStand d) (more : NoMore d) where
   -- What a message marks at least that ends its client lies in a window that it had.
   pub gone-least : (e : Desktop) (x y : ℤ) → Serves served_now c d e → is_some (status_in c e) ≡ true → marks_at_least d e x y ≡ true → has_window_at c x y d ≡ true
   gone-least e x y serves over marked =
-      at (serves-exactly c there d is names slots kept owned stand (no-links d more) x y e more serves (sym (marks-same d e x y more (serves-has touches_apart c d e more serves)) ∙ marked))
+      at (serves-exactly c there d is names slots tied kept owned stand (no-links d more) x y e more serves (sym (marks-same d e x y more (serves-has touches_apart c d e more serves)) ∙ marked))
     where
       at : MarkedExactlyBy c there x y d e → has_window_at c x y d ≡ true
       at (inl k) = k.1

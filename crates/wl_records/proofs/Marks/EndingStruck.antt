@@ -81,8 +81,8 @@ asks-apart r (Whole object opcode size) ask only asks = touches_apart r object o
 asks-apart r Bad ask only asks = absurd asks
 asks-apart r More ask only asks = absurd asks
 
-module _ (c : ℕ) (there : Resident) (d : Desktop) (is : client_at c d ≡ Some there) (names : Names) (slots : Slots) (kept : ℕ → Option Kept)
-    (owned : IsOwned names slots kept there.owned) (stand : MappedStand d) (more : NoMore d) (path : List Desktop) (e : Desktop) (s : Struck c there d path e) where
+module _ (c : ℕ) (there : Resident) (d : Desktop) (is : client_at c d ≡ Some there) (names : Names) (slots : Slots) (tied : Tied) (kept : ℕ → Option Kept)
+    (owned : IsOwned names slots tied kept there.owned) (stand : MappedStand d) (more : NoMore d) (path : List Desktop) (e : Desktop) (s : Struck c there d path e) where
   -- ---- its two desktops
 
   -- the client that asks, what it becomes, and what becomes of the stack
@@ -123,7 +123,7 @@ module _ (c : ℕ) (there : Resident) (d : Desktop) (is : client_at c d ≡ Some
 
   -- On both, the mapped toplevels stand, each once.
   stands : StandAfter c s.ask asking d
-  stands = asked-stand c there d is names slots kept owned stand only.roles s.ask s.before s.asks
+  stands = asked-stand c there d is names slots tied kept owned stand only.roles s.ask s.before s.asks
 
   pub own-stand : MappedStand s.own
   own-stand = subst MappedStand (sym s.own_is) (done-stand c s.ask asking there s.told d is stands stand)
@@ -140,11 +140,11 @@ module _ (c : ℕ) (there : Resident) (d : Desktop) (is : client_at c d ≡ Some
   end-over = ap (λ (x : Desktop). is_some (status_in c x)) s.last ∙ ap (λ o. is_some o) (status-become c made (ended s.cause s.told) on there found)
 
   mapped : AreMapped c asking.owned d.standing
-  mapped = here-mapped c there d is names slots kept owned stand (no-links d more)
+  mapped = here-mapped c there d is names slots tied kept owned stand (no-links d more)
 
   -- what is asked finds what it needs
   finds : Finds s.ask asking
-  finds = asks-find c there d is names slots kept owned stand (no-links d more) (split_of there.peer.rest) s.ask s.before s.asks
+  finds = asks-find c there d is names slots tied kept owned stand (no-links d more) (split_of there.peer.rest) s.ask s.before s.asks
 
   -- the second is what is left of the first where the client ends there
   end-so : e ≡ become c made (ended s.cause s.told) s.own

@@ -57,7 +57,7 @@ asks-one r (Whole object opcode size) ask other asks too = same ask other (sym a
 asks-one r Bad ask other asks too = absurd asks
 asks-one r More ask other asks too = absurd asks
 
-module _ (c : ℕ) (there : Resident) (d : Desktop) (is : client_at c d ≡ Some there) (names : Names) (slots : Slots) (kept : ℕ → Option Kept) (owned : IsOwned names slots kept there.owned)
+module _ (c : ℕ) (there : Resident) (d : Desktop) (is : client_at c d ≡ Some there) (names : Names) (slots : Slots) (tied : Tied) (kept : ℕ → Option Kept) (owned : IsOwned names slots tied kept there.owned)
     (stand : MappedStand d)
     (unlinked : (c : ℕ) → (owned_in d c).surfaces.links ≡ []) (x y : ℤ) where
   -- what becomes of the desktop where this is done
@@ -82,18 +82,18 @@ module _ (c : ℕ) (there : Resident) (d : Desktop) (is : client_at c d ≡ Some
     where
       lives : q.status ≡ None → (o : Option ℕ) → touched ask (with_peer p there) ≡ o → IsMarkedSo (done ask p q)
       lives alive None none f =
-          absurd (differ (sym (untouched-marks-nothing c there d is unlinked stand.apart ask (with_peer p there) q refl alive x y (here-mapped c there d is names slots kept owned stand unlinked)
-          owned.surfaces.counts (asks-find c there d is names slots kept owned stand unlinked (split_of there.peer.rest) ask p asks) none) ∙ f))
+          absurd (differ (sym (untouched-marks-nothing c there d is unlinked stand.apart ask (with_peer p there) q refl alive x y (here-mapped c there d is names slots tied kept owned stand unlinked)
+          owned.surfaces.counts (asks-find c there d is names slots tied kept owned stand unlinked (split_of there.peer.rest) ask p asks) none) ∙ f))
       lives alive (Some id) t f =
           inr (
-            done-status c there d is names slots kept owned stand unlinked ask p q ∙ alive,
+            done-status c there d is names slots tied kept owned stand unlinked ask p q ∙ alive,
             ask,
             asks,
             (
               id,
               sym (touched-peer ask p there) ∙ t,
               λ rects applied. done-exactly c there d is unlinked stand.apart ask (with_peer p there) q refl alive
-                  (here-mapped c there d is names slots kept owned stand unlinked) owned.surfaces.counts (asks-find c there d is names slots kept owned stand unlinked (split_of there.peer.rest) ask p
+                  (here-mapped c there d is names slots tied kept owned stand unlinked) owned.surfaces.counts (asks-find c there d is names slots tied kept owned stand unlinked (split_of there.peer.rest) ask p
                   asks) id t rects applied x y f,
             ),
           )
@@ -101,7 +101,7 @@ module _ (c : ℕ) (there : Resident) (d : Desktop) (is : client_at c d ≡ Some
       at : (s : Option Cause) → q.status ≡ s → IsMarkedSo (done ask p q)
       at None alive = lives alive (touched ask (with_peer p there)) refl
       at (Some cause) over = λ f. inl (
-        ap (λ s. is_some s) (done-status c there d is names slots kept owned stand unlinked ask p q ∙ over),
+        ap (λ s. is_some s) (done-status c there d is names slots tied kept owned stand unlinked ask p q ∙ over),
         asked-end-touches c there d is unlinked stand.apart ask
             (with_peer p there) q cause over x y f,
       )
@@ -125,15 +125,15 @@ module _ (c : ℕ) (there : Resident) (d : Desktop) (is : client_at c d ≡ Some
 
   done-marks : (ask : Simple) → AsksBy there (split_of there.peer.rest) ask → (p q : Peer) → IsWithinSo (done ask p q)
   done-marks ask asks p q = λ alive other too id t rects applied inside changes.
-      by (sym (done-status c there d is names slots kept owned stand unlinked ask p q) ∙ alive) id rects inside changes
+      by (sym (done-status c there d is names slots tied kept owned stand unlinked ask p q) ∙ alive) id rects inside changes
       (subst (λ a. (touched a there ≡ Some id) × IsAppliedBy a (history_of d c id) rects) (asks-one there (split_of there.peer.rest) other ask too asks) (t, applied))
     where
       by : q.status ≡ None → (id : ℕ) (rects : List Rect) → in_output d.output.width d.output.height x y ≡ true
           → changes_at rects x y (window_at c id d) (window_at c id (done ask p q)) ≡ true → (touched ask there ≡ Some id) × IsAppliedBy ask (history_of d c id) rects
           → marks_of_toplevels d (done ask p q) x y ≡ true
       by alive id rects inside changes so =
-          done-within c there d is unlinked stand.apart ask (with_peer p there) q refl alive (here-mapped c there d is names slots kept owned stand unlinked) owned.surfaces.counts
-          (asks-find c there d is names slots kept owned stand unlinked (split_of there.peer.rest) ask p asks) id (touched-peer ask p there ∙ so.0) rects so.1 x y inside changes
+          done-within c there d is unlinked stand.apart ask (with_peer p there) q refl alive (here-mapped c there d is names slots tied kept owned stand unlinked) owned.surfaces.counts
+          (asks-find c there d is names slots tied kept owned stand unlinked (split_of there.peer.rest) ask p asks) id (touched-peer ask p there ∙ so.0) rects so.1 x y inside changes
 
   -- A point of the output at which the message of a client that lives on changes the window of the surface that it touches is marked at least,
   pub serves-least : (new : Desktop) → NoMore d → Serves served_now c d new → IsWithinSo new

@@ -23,6 +23,7 @@ use Rattle.wl_plain.specs.Step.{after_surface, asked_so_far, configured, configu
 use Rattle.wl_records.specs.NoMore.{AreToplevels, IsToplevel, OwnsToplevelsOnly}
 use Rattle.wl_plain.specs.Happens.{wants_memory}
 use Rattle.wl_plain.specs.WlSurface.{will_show}
+use Rattle.wl_records.proofs.Keeping.OwningTies.{at-once}
 use Rattle.wl_records.proofs.Toplevels.Buffers.{changed-after, gone-after}
 use Rattle.wl_records.proofs.Toplevels.Judged.{IsToplevelAt, Same, asks, commit, effect-same, ends, found-toplevel, frames, goes, move, none-popped}
 use Rattle.wl_records.proofs.Toplevels.Simply.{CommitSurface, DestroySurface, DestroyToplevel, Simple, changed_simply, committed_on, effect_for, effect_of, effect_on, stacked_simply, answers_simply}
@@ -103,22 +104,6 @@ ended-same id r only =
     ∙ ap (λ q. ended_after id r q) (gone-after id r only.apart)
 
 -- ---- a commit
-
-fused : (id : ℕ) (ss : List Surface) → map (λ s. cond (s.id == id) (applying s) s) (map (λ s. cond (s.id == id) (asking Commit s) s) ss) ≡ map (λ s. cond (s.id == id) (applying (asking Commit s)) s)
-    ss
-fused id [] = refl
-fused id (s ∷ ss) =
-    ap (λ x. x ∷ map (λ s. cond (s.id == id) (applying s) s) (map (λ s. cond (s.id == id) (asking Commit s) s) ss)) (at (s.id == id) refl)
-    ∙ ap (λ xs. cond (s.id == id) (applying (asking Commit s)) s ∷ xs) (fused id ss)
-  where
-    at : (b : Bool) → (s.id == id) ≡ b → cond ((cond b (asking Commit s) s).id == id) (applying (cond b (asking Commit s) s)) (cond b (asking Commit s) s) ≡ cond b (applying (asking Commit s)) s
-    at true e = ap (λ c. cond c (applying (asking Commit s)) (asking Commit s)) e
-    at false e = ap (λ c. cond c (applying s) s) e
-
--- without links it is applied at once
-at-once : (id : ℕ) (ss : List Surface) → committed_in id (record { surfaces = ss; links = [] }) ≡ with_surface_change id (λ s. applying (asking Commit s)) (record { surfaces = ss; links = [] })
-unfolding applied_tree behaves_synchronised
-at-once id ss = ap (λ xs. let all : Surfaces = record { surfaces = xs; links = [] } in all) (fused id ss)
 
 committed-plain : (id : ℕ) (r : Resident) → tree_committed id (plain r) ≡ after_all (plain r) (committed_on id (plain r))
 unfolding plain

@@ -1,4 +1,4 @@
-use Rattle.std.proofs.Common.{rules}
+use Rattle.std.proofs.Common.{rules, ◌∙◌}
 use Rattle.wl_scene.specs.Stacking.{standing_of}
 use Rattle.wl_scene.proofs.Shown.{absent, present}
 use Rattle.wl_scene.proofs.window.window_of.Goals as goal
@@ -9,4 +9,4 @@ returns-in_default g c = λ owned stands.
 
 pub returns : goal.returns
 returns g c = λ owned stands.
-    let e = present c.in-Some.current (standing_of c.args.toplevel.now) _ (c.in-Some.ensures owned stands) in search rules
+    c.window_showing.ensures ∙ present c.in-Some.current (standing_of c.args.toplevel.now) _ (c.in-Some.ensures owned stands)

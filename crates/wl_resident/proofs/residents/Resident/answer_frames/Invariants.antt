@@ -11,7 +11,7 @@ abbrev pub invariant-loop-callback : goal.invariant-loop-callback
 invariant-loop-callback g l =
     (l.fn.self.client.ended ≡ None → (r : Resident) → IsResident l.fn.self r → OwnsToplevelsOnly r
     → (mid : Resident) × IsAnswered l.time r mid × IsResident l.self mid × (names_in l.self.client.objects ≡ names_in l.fn.self.client.objects))
-    × (l.self.owned.surfaces.places ≡ l.fn.self.owned.surfaces.places)
+    × (l.self.owned.linked.surfaces.places ≡ l.fn.self.owned.linked.surfaces.places)
 
 abbrev pub decreases-loop-callback : goal.decreases-loop-callback
-decreases-loop-callback g l = length l.self.owned.surfaces.frames
+decreases-loop-callback g l = length l.self.owned.linked.surfaces.frames

@@ -27,17 +27,17 @@ returns-in-Ok-clause-answers g c = λ named client r on is only.
     let names = names_in v.client.objects in
     let kept = kept_of v.owned.shell in
     let shows = c.is_some-has_buffer.result in
-    let will : shows ≡ will_show r object = c.is_some-has_buffer.ensures ∙ pending-read names v.owned.surfaces kept r is.owns object number c.pending_buffer.result named c.pending_buffer.ensures in
+    let will : shows ≡ will_show r object = c.is_some-has_buffer.ensures ∙ pending-read names v.owned.linked.surfaces v.owned.linked.family kept r is.owns object number c.pending_buffer.result named c.pending_buffer.ensures in
     let answer = sym c.on_commit.ensures.answer ∙ c.in-Ok.is in
-    let judged = committed-by names v.owned.surfaces kept r is.owns object number 0 0 only.roles named
+    let judged = committed-by names v.owned.linked.surfaces v.owned.linked.family kept r is.owns object number 0 0 only.roles named
     ∙ ap (λ (b : Bool). asks_by (λ (a : ShellAct). CommitTree object) (shell_refusal 0 (kept_id (kept number)) 0) (commit_answer b (kept number))) (sym will)
     ∙ ap (asks_by (λ (a : ShellAct). CommitTree object) (shell_refusal 0 (kept_id (kept number)) 0)) answer in
     let serial : c.serial-serial.result ≡ r.peer.serial = c.serial-serial.ensures ∙ is.peer.serial in
     let shell = c.in-Ok.ensures.ok ∙ ap (λ (n : ℕ). changing number (kept_after n act) kept) serial in
-    let comes = accepted-effect names v.owned.surfaces kept r is.owns object number act only.roles named (ap (λ (b : Bool). commit_answer b (kept number)) (sym will) ∙ answer) in
+    let comes = accepted-effect names v.owned.linked.surfaces v.owned.linked.family kept r is.owns object number act only.roles named (ap (λ (b : Bool). commit_answer b (kept number)) (sym will) ∙ answer) in
     let applied = c.apply-applied.ensures.applies client (with_peer (counted r.peer) r) on names object kept shows (only-peer r (counted r.peer) refl only) comes
     (c.count.ensures.counts r.peer is.peer) is.owns
-    (framed-names v.owned.surfaces.frames v.client.objects v.client.objects r (with_peer (counted r.peer) r) refl (one-more r.peer.requests) is.frames refl refl)
+    (framed-names v.owned.linked.surfaces.frames v.client.objects v.client.objects r (with_peer (counted r.peer) r) refl (one-more r.peer.requests) is.frames refl refl)
     (names-counted v.client c.count.new.self c.count.ensures.only) named answer serial shell in
     let done = is_some c.apply-applied.result in
     subst (λ (j : Result Demand Refusal). AnswersAs done j client r on v c.apply-applied.new.self) (sym judged)
@@ -56,11 +56,11 @@ returns-in-Err-clause-answers g c = rw c.of.ensures (λ named client r on is onl
     let xdg = c.xdg_surface_of-xdg_surface.result in
     let base = kept_base (kept_of c.on_commit.new.self number) in
     let will : c.is_some-has_buffer.result ≡ will_show r object = c.is_some-has_buffer.ensures
-    ∙ pending-read names v.owned.surfaces kept r is.owns object number c.pending_buffer.result named c.pending_buffer.ensures in
+    ∙ pending-read names v.owned.linked.surfaces v.owned.linked.family kept r is.owns object number c.pending_buffer.result named c.pending_buffer.ensures in
     let same : kept_id (kept number) ≡ xdg = sym (c.xdg_surface_of-xdg_surface.ensures ∙ ap (λ b. kept_id (kept_of b number)) c.in-Err.ensures.err) in
     let judged = told-err (commit_demand r object) (λ (a : ShellAct). CommitTree object) (shell_refusal base (kept_id (kept number)) xdg) (commit_answer (will_show r object) (kept number))
     c.on_commit.result error
-    (committed-by names v.owned.surfaces kept r is.owns object number base xdg only.roles named)
+    (committed-by names v.owned.linked.surfaces v.owned.linked.family kept r is.owns object number base xdg only.roles named)
     (c.on_commit.ensures.answer ∙ ap (λ (b : Bool). commit_answer b (kept number)) will) c.in-Err.is in
     refused-as _ _ client r on (commit_demand r object) (shell_refusal base xdg xdg error) (judged ∙ ap (λ i. Err (shell_refusal base i xdg error)) same)
     c.refuse_xdg_surface.ensures.ended
@@ -74,11 +74,11 @@ returns-in-Ok-clause-stacks g c = λ named r is only.
     let names = names_in v.client.objects in
     let kept = kept_of v.owned.shell in
     let will : c.is_some-has_buffer.result ≡ will_show r object = c.is_some-has_buffer.ensures
-    ∙ pending-read names v.owned.surfaces kept r is.owns object number c.pending_buffer.result named c.pending_buffer.ensures in
-    let judged = committed-by names v.owned.surfaces kept r is.owns object number 0 0 only.roles named
+    ∙ pending-read names v.owned.linked.surfaces v.owned.linked.family kept r is.owns object number c.pending_buffer.result named c.pending_buffer.ensures in
+    let judged = committed-by names v.owned.linked.surfaces v.owned.linked.family kept r is.owns object number 0 0 only.roles named
     ∙ ap (λ (b : Bool). asks_by (λ (a : ShellAct). CommitTree object) (shell_refusal 0 (kept_id (kept number)) 0) (commit_answer b (kept number))) (sym will)
     ∙ ap (asks_by (λ (a : ShellAct). CommitTree object) (shell_refusal 0 (kept_id (kept number)) 0)) (sym c.on_commit.ensures.answer ∙ c.in-Ok.is) in
-    let comes = accepted-effect names v.owned.surfaces kept r is.owns object number c.in-Ok.act only.roles named (ap (λ (b : Bool). commit_answer b (kept number)) (sym will)
+    let comes = accepted-effect names v.owned.linked.surfaces v.owned.linked.family kept r is.owns object number c.in-Ok.act only.roles named (ap (λ (b : Bool). commit_answer b (kept number)) (sym will)
     ∙ sym c.on_commit.ensures.answer ∙ c.in-Ok.is) in
     commit-stacks v r object number c.in-Ok.act (commit_demand r object) c.stacking_of.result named judged comes c.stacking_of.ensures
 
@@ -99,11 +99,11 @@ returns-in-Err-clause-stacks g c = λ named r is only.
     let xdg = c.xdg_surface_of-xdg_surface.result in
     let base = kept_base (kept_of c.on_commit.new.self number) in
     let will : c.is_some-has_buffer.result ≡ will_show r object = c.is_some-has_buffer.ensures
-    ∙ pending-read names v.owned.surfaces kept r is.owns object number c.pending_buffer.result named c.pending_buffer.ensures in
+    ∙ pending-read names v.owned.linked.surfaces v.owned.linked.family kept r is.owns object number c.pending_buffer.result named c.pending_buffer.ensures in
     let same : kept_id (kept number) ≡ xdg = sym (c.xdg_surface_of-xdg_surface.ensures ∙ ap (λ b. kept_id (kept_of b number)) c.in-Err.ensures.err) in
     let judged = told-err (commit_demand r object) (λ (a : ShellAct). CommitTree object) (shell_refusal base (kept_id (kept number)) xdg) (commit_answer (will_show r object) (kept number))
     c.on_commit.result error
-    (committed-by names v.owned.surfaces kept r is.owns object number base xdg only.roles named)
+    (committed-by names v.owned.linked.surfaces v.owned.linked.family kept r is.owns object number base xdg only.roles named)
     (c.on_commit.ensures.answer ∙ ap (λ (b : Bool). commit_answer b (kept number)) will) c.in-Err.is in
     subst (λ (j : Result Demand Refusal). StacksSo v r j c.of.result.stacking) (sym judged) tt
 

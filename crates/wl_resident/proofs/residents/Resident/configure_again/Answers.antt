@@ -47,11 +47,11 @@ returns-in-Ok-true-clause-answers g c = λ named client r on is only.
         frames = λ alive.
             let table = ap names_in (c.tell_configure.ensures.table alive ∙ ap (λ (w : ClientView). w.objects) c.draw_serial.ensures) ∙ names-counted v.client c.count.new.self c.count.ensures.only in
             let after = changed_by (ConfigureAgain x.id) (with_peer (counted r.peer) r) in
-            subst (λ (o : Lent _). IsFramed o.surfaces.frames new.client.objects after) (sym c.tell_configure.ensures.owned)
-            (framed-names v.owned.surfaces.frames v.client.objects new.client.objects r after refl (one-more r.peer.requests) is.frames table refl);
+            subst (λ (o : Lent _). IsFramed o.linked.surfaces.frames new.client.objects after) (sym c.tell_configure.ensures.owned)
+            (framed-names v.owned.linked.surfaces.frames v.client.objects new.client.objects r after refl (one-more r.peer.requests) is.frames table refl);
         owns = λ alive. owns-told new _ names _ (ap names_in (c.tell_configure.ensures.table alive ∙ ap (λ (w : ClientView). w.objects) c.draw_serial.ensures)
             ∙ names-counted v.client c.count.new.self c.count.ensures.only) c.tell_configure.ensures.owned
-            (owned-configured names v.owned.surfaces kept r is.owns number k x h one (kept_of c.configure.new.self)
+            (owned-configured names v.owned.linked.surfaces v.owned.linked.family kept r is.owns number k x h one (kept_of c.configure.new.self)
             (c.in-Ok-true.ensures.ok ∙ ap (λ b. changing number (kept_configured b c.serial-serial.result) kept) c.in-Ok-true.field-0-test
             ∙ ap (λ n. changing number (kept_configuring n) kept) serial));
       },
@@ -76,10 +76,10 @@ returns-in-Ok-false-clause-answers g c = λ named client r on is only.
       record {
         peer = count.ensures.counts r.peer is.peer;
         numbers = λ alive. keeps-names v.client.objects count.new.self.objects (names-counted v.client count.new.self count.ensures.only);
-        frames = λ alive. framed-names v.owned.surfaces.frames v.client.objects count.new.self.objects r (with_peer (counted r.peer) r) refl (one-more r.peer.requests) is.frames
+        frames = λ alive. framed-names v.owned.linked.surfaces.frames v.client.objects count.new.self.objects r (with_peer (counted r.peer) r) refl (one-more r.peer.requests) is.frames
             (names-counted v.client count.new.self count.ensures.only) refl;
-        owns = λ alive. subst (λ (n : Names). IsOwned n v.owned.surfaces (kept_of c.configure.new.self) r.owned) (sym (names-counted v.client count.new.self count.ensures.only))
-            (subst (λ (ks : ℕ → Option KeptXdg). IsOwned names v.owned.surfaces ks r.owned)
+        owns = λ alive. subst (λ (n : Names). IsOwned n v.owned.linked.surfaces v.owned.linked.family (kept_of c.configure.new.self) r.owned) (sym (names-counted v.client count.new.self count.ensures.only))
+            (subst (λ (ks : ℕ → Option KeptXdg). IsOwned names v.owned.linked.surfaces ks r.owned)
             (sym (c.in-Ok-false.ensures.ok ∙ ap (λ b. changing number (kept_configured b c.serial-serial.result) kept) c.in-Ok-false.field-0-test ∙ changing-same number kept)) is.owns);
       },
     )))
@@ -103,7 +103,7 @@ returns-in-Err-clause-answers g c = λ named client r on is only.
     (c.refuse_xdg_surface.ensures.errs r.peer is.peer)))
 
 pub returns-in-Ok-true-clause-surfaces : goal.returns-in-Ok-true-clause-surfaces
-returns-in-Ok-true-clause-surfaces g c = ap (λ (o : Lent _). o.surfaces) c.tell_configure.ensures.owned
+returns-in-Ok-true-clause-surfaces g c = ap (λ (o : Lent _). o.linked.surfaces) c.tell_configure.ensures.owned
 
 pub returns-in-Ok-false-clause-surfaces : goal.returns-in-Ok-false-clause-surfaces
 returns-in-Ok-false-clause-surfaces g c = refl

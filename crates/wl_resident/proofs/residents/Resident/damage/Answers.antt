@@ -18,9 +18,9 @@ returns-in-Err-clause-does g c = λ named r is.
 pub returns-in-Ok-clause-still : goal.returns-in-Ok-clause-still
 returns-in-Ok-clause-still g c =
     let v = c.args.self.now in
-    asked-still v.owned.surfaces (kept_of v.owned.shell) c.damage.new.self c.args.surface _ c.in-Ok.ensures.ok
+    asked-still v.owned.linked.surfaces v.owned.linked.family (kept_of v.owned.shell) c.damage.new.self c.args.surface _ c.in-Ok.ensures.ok
 
 pub returns-in-Err-clause-still : goal.returns-in-Err-clause-still
 returns-in-Err-clause-still g c =
     let v = c.args.self.now in
-    same-still v.owned.surfaces (kept_of v.owned.shell) c.damage.new.self c.in-Err.ensures.err
+    same-still v.owned.linked.surfaces v.owned.linked.family (kept_of v.owned.shell) c.damage.new.self c.in-Err.ensures.err

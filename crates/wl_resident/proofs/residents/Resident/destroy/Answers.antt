@@ -19,7 +19,7 @@ returns-then-has_xdg_surface-clause-answers g c = λ named client r on is only.
     let v = c.args.self.now in
     let id = c.args.object in
     let there = sym c.has_xdg_surface.ensures ∙ c.if-has_xdg_surface.true in
-    let judged = destroyed-by (names_in v.client.objects) v.owned.surfaces (kept_of v.owned.shell) r is.owns id c.args.surface named
+    let judged = destroyed-by (names_in v.client.objects) v.owned.linked.surfaces v.owned.linked.family (kept_of v.owned.shell) r is.owns id c.args.surface named
     ∙ ap (λ (b : Bool). if b then refuses id SurfaceHasRoleObject else Ok (EndSurface id)) there in
     refused-whole _ _ client r on (surface_destroyed r id) _ (judged ∙ ap (λ (f : Refusal). Err f) (sym c.of-refusal.ensures)) c.refuse.ensures.ended (c.refuse.ensures.errs r.peer is.peer)
 
@@ -28,7 +28,7 @@ returns-clause-answers g c = λ named client r on is only.
     let v = c.args.self.now in
     let id = c.args.object in
     let there = sym c.has_xdg_surface.ensures ∙ c.if-has_xdg_surface.false in
-    let judged = destroyed-by (names_in v.client.objects) v.owned.surfaces (kept_of v.owned.shell) r is.owns id c.args.surface named
+    let judged = destroyed-by (names_in v.client.objects) v.owned.linked.surfaces v.owned.linked.family (kept_of v.owned.shell) r is.owns id c.args.surface named
     ∙ ap (λ (b : Bool). if b then refuses id SurfaceHasRoleObject else Ok (EndSurface id)) there in
     subst (λ (j : Result Demand Refusal). AnswersSo j client r on v c.destroy_surface.new.self) (sym judged)
     (counted-meets v (record { client = c.count.new.self; owned = v.owned }) c.destroy_surface.new.self client r on (λ (q : Resident). EndSurface id) is only c.count.ensures.only refl
@@ -38,7 +38,7 @@ returns-clause-answers g c = λ named client r on is only.
 pub returns-then-has_xdg_surface-clause-still : goal.returns-then-has_xdg_surface-clause-still
 returns-then-has_xdg_surface-clause-still g c =
     let v = c.args.self.now in
-    same-still v.owned.surfaces (kept_of v.owned.shell) v.owned.surfaces refl
+    same-still v.owned.linked.surfaces v.owned.linked.family (kept_of v.owned.shell) v.owned.linked.surfaces refl
 
 pub returns-clause-still : goal.returns-clause-still
 returns-clause-still g c = let there = sym c.has_xdg_surface.ensures ∙ c.if-has_xdg_surface.false in c.destroy_surface.ensures.still (absent-kept _ there)

@@ -44,16 +44,16 @@ returns-clause-does g c = λ named bare client r on is only.
     let id = c.args.object in
     let names = names_in v.client.objects in
     let shell = kept_of v.owned.shell in
-    let none = xdg-of-none names v.owned.surfaces shell r.owned is.owns id c.args.surface named bare in
-    let had = had-by names.surfaces v.owned.surfaces r.owned.surfaces id c.args.surface c.buffers-had.result is.owns.surfaces named c.buffers-had.ensures in
-    let destroyed = λ (now : Names) (same : now ≡ with_surface id None names). owned-destroyed names v.owned.surfaces shell r is.owns id c.args.surface c.destroy.new.self now named none
+    let none = xdg-of-none names v.owned.linked.surfaces v.owned.linked.family shell r.owned is.owns id c.args.surface named bare in
+    let had = had-by names.surfaces v.owned.linked.surfaces v.owned.linked.family r.owned.surfaces id c.args.surface c.buffers-had.result is.owns.surfaces named c.buffers-had.ensures in
+    let destroyed = λ (now : Names) (same : now ≡ with_surface id None names). owned-destroyed names v.owned.linked.surfaces v.owned.linked.family shell r is.owns id c.args.surface c.destroy.new.self now named none
     c.in-Ok.ensures.ok c.in-Ok.ensures.count same in
     let bare_names = with_surface id None names in
     let then = with_surfaces (without_surface id r.owned.surfaces) r in
     let owned = destroyed bare_names refl in
     let peer = c.let_go_of.ensures.stores then bare_names.surfaces is.peer owned.surfaces (surface_at id r.owned.surfaces) had in
     let waits = is.frames.waits in
-    let asked = asked-read v.client.objects r v.owned.surfaces is.owns.surfaces id c.args.surface named in
+    let asked = asked-read v.client.objects r v.owned.linked.surfaces is.owns.surfaces id c.args.surface named in
     let cs = callbacks_of id r in
     let calls = c.deref-2.result.now in
     let ids : calls ≡ map (λ (x : Callback). x.id) cs =
@@ -61,7 +61,7 @@ returns-clause-does g c = λ named bare client r on is only.
     let after = after_surface id r then in
     let told = c.remove_with.ensures.removes after.peer peer in
     let went = going-removed cs calls after.peer ids in
-    let freed = freed-left names.surfaces v.owned.surfaces r then is.owns.surfaces id c.args.surface named c.in-Ok.applied.freed.items c.destroy.new.self refl owned.surfaces
+    let freed = freed-left names.surfaces v.owned.linked.surfaces v.owned.linked.family r then is.owns.surfaces id c.args.surface named c.in-Ok.applied.freed.items c.destroy.new.self refl owned.surfaces
     (c.in-Ok.ensures.freed (by_number names.surfaces r.owned.surfaces) is.owns.surfaces.stand) in
     let at = surface_at id r.owned.surfaces in
     let released = c.released-released.ensures then is.peer at had (subst (λ (numbers : List ℕ). IsFreedOf numbers (shown_at at) then) (sym c.deref.ensures.value) freed) in
@@ -78,8 +78,8 @@ returns-clause-does g c = λ named bare client r on is only.
         peer = told.2;
         numbers = λ alive. keeps-gone v.client.objects c.remove_with.new.self.objects id (table alive);
         frames = λ alive.
-            subst (λ (o : Lent _). IsFramed o.surfaces.frames c.remove_with.new.self.objects (changed_simply (DestroySurface id) r)) (sym c.let_go_of.ensures.owned)
-            (framed-destroy v.client.objects c.remove_with.new.self.objects r (changed_simply (DestroySurface id) r) v.owned.surfaces is.owns.surfaces is.frames id c.args.surface named
+            subst (λ (o : Lent _). IsFramed o.linked.surfaces.frames c.remove_with.new.self.objects (changed_simply (DestroySurface id) r)) (sym c.let_go_of.ensures.owned)
+            (framed-destroy v.client.objects c.remove_with.new.self.objects r (changed_simply (DestroySurface id) r) v.owned.linked.surfaces is.owns.surfaces is.frames id c.args.surface named
             c.destroy.new.self c.in-Ok.ensures.waits
             (going-requests cs after.peer) (left-by (frames_asked (history_in id r.owned.surfaces)) r.callbacks ∙ ap (λ ns. filter (λ x. not (is_in ns x)) r.callbacks) (sym asked))
             (ap (λ (n : Names). n.surfaces) (table alive)) refl);
@@ -90,10 +90,10 @@ returns-clause-does g c = λ named bare client r on is only.
 pub returns-in_default-clause-still : goal.returns-in_default-clause-still
 returns-in_default-clause-still g c = λ bare.
     let v = c.args.self.now in
-    same-still v.owned.surfaces (kept_of v.owned.shell) c.destroy.new.self c.in_default.ensures.err
+    same-still v.owned.linked.surfaces v.owned.linked.family (kept_of v.owned.shell) c.destroy.new.self c.in_default.ensures.err
 
 pub returns-clause-still : goal.returns-clause-still
 returns-clause-still g c = λ bare.
     let v = c.args.self.now in
-    still-then v.owned.surfaces (kept_of v.owned.shell) c.destroy.new.self c.let_go_of.new.self.owned.surfaces (ap (λ (o : Lent _). o.surfaces) c.let_go_of.ensures.owned)
-    (destroyed-still v.owned.surfaces (kept_of v.owned.shell) c.destroy.new.self c.args.surface bare c.in-Ok.ensures.ok)
+    still-then v.owned.linked.surfaces v.owned.linked.family (kept_of v.owned.shell) c.destroy.new.self c.let_go_of.new.self.owned.linked.surfaces (ap (λ (o : Lent _). o.linked.surfaces) c.let_go_of.ensures.owned)
+    (destroyed-still v.owned.linked.surfaces v.owned.linked.family (kept_of v.owned.shell) c.destroy.new.self c.args.surface bare c.in-Ok.ensures.ok)

@@ -11,7 +11,7 @@ loop-toplevel-preserved g c =
 pub returns-clause-marks : goal.returns-clause-marks
 returns-clause-marks g c = λ others base d r seated x y wide high.
     let toplevels = c.toplevels-toplevel-items.result.now in
-    let slots = c.args.self.now.owned.surfaces in
+    let slots = c.args.self.now.owned.linked.surfaces in
     let all : AreMarked slots c.args.client toplevels c.args.damage.now c.loop-toplevel.damage =
     subst (λ (ts : List Toplevel). AreMarked slots c.args.client ts c.args.damage.now c.loop-toplevel.damage) (take_all c.loop-toplevel.toplevel-index toplevels (omega arith))
     c.loop-toplevel.invariant
@@ -21,7 +21,7 @@ returns-clause-marks g c = λ others base d r seated x y wide high.
 pub returns-clause-shown : goal.returns-clause-shown
 returns-clause-shown g c = λ all stand x y wide high.
     let toplevels = c.toplevels-toplevel-items.result.now in
-    let slots = c.args.self.now.owned.surfaces in
+    let slots = c.args.self.now.owned.linked.surfaces in
     let are : AreMarked slots c.args.client toplevels c.args.damage.now c.loop-toplevel.damage =
     subst (λ (ts : List Toplevel). AreMarked slots c.args.client ts c.args.damage.now c.loop-toplevel.damage) (take_all c.loop-toplevel.toplevel-index toplevels (omega arith))
     c.loop-toplevel.invariant

@@ -112,7 +112,7 @@ returns-in-Own-clause-commits g c = λ number commits. let both = sym commits �
 pub returns-in-Request-clause-commits : goal.returns-in-Request-clause-commits
 returns-in-Request-clause-commits g c = λ number commits.
     let is = commits-in c.in-Request.kind c.in-Request.target number (sym (ap commit_by c.in-Request.is) ∙ commits) in
-    subst (λ (n : ℕ). IsCommitted c.args.self.now.owned.surfaces c.answer.new.self.owned.surfaces n c.answer.result.applied) is.1 (c.answer.ensures.commits is.0)
+    subst (λ (n : ℕ). IsCommitted c.args.self.now.owned.linked.surfaces c.answer.new.self.owned.linked.surfaces n c.answer.result.applied) is.1 (c.answer.ensures.commits is.0)
 
 pub returns-in-Request-clause-decides : goal.returns-in-Request-clause-decides
 returns-in-Request-clause-decides g c = λ number commits client r on is only.
@@ -130,12 +130,12 @@ returns-in-Request-clause-decides g c = λ number commits client r on is only.
 pub returns-in-Refused-clause-still : goal.returns-in-Refused-clause-still
 returns-in-Refused-clause-still g c = λ none p is.
     let v = c.args.self.now in
-    same-still v.owned.surfaces (kept_of v.owned.shell) v.owned.surfaces refl
+    same-still v.owned.linked.surfaces v.owned.linked.family (kept_of v.owned.shell) v.owned.linked.surfaces refl
 
 pub returns-in-Own-clause-still : goal.returns-in-Own-clause-still
 returns-in-Own-clause-still g c = λ none p is.
     let v = c.args.self.now in
-    same-still v.owned.surfaces (kept_of v.owned.shell) v.owned.surfaces refl
+    same-still v.owned.linked.surfaces v.owned.linked.family (kept_of v.owned.shell) v.owned.linked.surfaces refl
 
 pub returns-in-Request-clause-still : goal.returns-in-Request-clause-still
 returns-in-Request-clause-still g c = λ none p is. c.answer.ensures.still (other-in c.in-Request.kind c.in-Request.target (sym (ap commit_by c.in-Request.is) ∙ none))

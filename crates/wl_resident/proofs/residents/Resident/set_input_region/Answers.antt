@@ -21,9 +21,9 @@ pub returns-in-Ok-clause-still : goal.returns-in-Ok-clause-still
 returns-in-Ok-clause-still g c = λ p is.
     let v = c.args.self.now in
     let copied = copied-named _ p c.args.region _ c.region-region.ensures is in
-    asked-still v.owned.surfaces (kept_of v.owned.shell) c.set_input.new.self c.args.surface _ (c.in-Ok.ensures.ok (p.regions c.args.region) copied)
+    asked-still v.owned.linked.surfaces v.owned.linked.family (kept_of v.owned.shell) c.set_input.new.self c.args.surface _ (c.in-Ok.ensures.ok (p.regions c.args.region) copied)
 
 pub returns-in-Err-clause-still : goal.returns-in-Err-clause-still
 returns-in-Err-clause-still g c = λ p is.
     let v = c.args.self.now in
-    same-still v.owned.surfaces (kept_of v.owned.shell) c.set_input.new.self c.in-Err.ensures.err
+    same-still v.owned.linked.surfaces v.owned.linked.family (kept_of v.owned.shell) c.set_input.new.self c.in-Err.ensures.err

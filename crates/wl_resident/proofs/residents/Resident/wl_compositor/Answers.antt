@@ -8,4 +8,4 @@ returns-in-CreateSurface-clause-still g c = c.create_surface.ensures.still
 pub returns-in-CreateRegion-clause-still : goal.returns-in-CreateRegion-clause-still
 returns-in-CreateRegion-clause-still g c =
     let v = c.args.self.now in
-    same-still v.owned.surfaces (kept_of v.owned.shell) c.create_region.new.self.owned.surfaces c.create_region.ensures.surfaces
+    same-still v.owned.linked.surfaces v.owned.linked.family (kept_of v.owned.shell) c.create_region.new.self.owned.linked.surfaces c.create_region.ensures.surfaces

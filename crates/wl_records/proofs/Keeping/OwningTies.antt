@@ -1,0 +1,324 @@
+-- How the surfaces of a client hang together goes on being kept.
+use Rattle.std.proofs.Common.{◌≡◌, ℕ, suc, ◌+◌, List, [], ◌∷◌, Bool, true, false, Option, Some, None, cond, length, refl, ap, sym, subst, ◌∙◌, arith, eq-eqb}
+use Rattle.std.specs.Prelude.{◌==◌, ◌&&◌, count_by, find, is_some, map, not}
+use Rattle.std.specs.List.{All, AllByRecursion as Each}
+use Rattle.std.specs.Option.{option_map, option_map_or}
+use Rattle.std.proofs.Math.Path.{fun_ext}
+use Rattle.std.proofs.lemmas.Bool.{eqb-true, false_from_ne_true}
+use Rattle.std.proofs.lemmas.List.Elements.{All-from_recursion, All-nil}
+use Rattle.wl_peer.specs.Objects.{ById, with_id}
+use Rattle.wl_family.specs.Family.{Tied, is_there}
+use Rattle.wl_state.specs.Kept.{Kept, StandsFor}
+use Rattle.wl_state.specs.Request.{Commit, Request}
+use Rattle.wl_state.specs.State.{is_commit}
+use Rattle.wl_state.specs.Surface.{Surface, applying, asking, new_surface, with_role}
+use Rattle.wl_state.specs.declared.role.Role.{Role}
+use Rattle.wl_surface.specs.Slots.{Changes, Numbered, Slots, StandForAll, StandsAt, count as count_kept, kept_at, place_at, with_at}
+use Rattle.wl_surface.specs.Surfaces.{Link, Surfaces, is_busy, surface_at, with_change, with_new, without_surface}
+use Rattle.wl_surface.specs.Applied.{AreFreed}
+use Rattle.wl_surface.specs.Trees.{applied_tree, behaves_synchronised, committed_in, destroyed_in}
+use Rattle.wl_tree_laws.specs.Stacks.{is_about_children}
+use Rattle.wl_linked.specs.Linked.{Stand, numbered}
+use Rattle.wl_renaming.specs.Renaming.{HasEnds, IsRenamedAs, IsRenaming, has_surface, renamed, renamed_surface}
+use Rattle.wl_renaming.proofs.Done.{commits-surface, destroys-surface}
+use Rattle.wl_renaming.proofs.Known.{known-there}
+use Rattle.wl_renaming.proofs.Lists.{each-weaker}
+use Rattle.wl_named.specs.Named.{Makes, StandBy, with_name}
+use Rattle.wl_named.proofs.Linking.{destroys-named}
+use Rattle.wl_named.proofs.Named.{asks-named, commits-named, roles-named, there-named}
+use Rattle.wl_named.specs.Reading.{AreFound}
+use Rattle.wl_named.proofs.Reading.{frees-named, numbers-named}
+use Rattle.wl_named.proofs.Renaming.{creates-named, renames-named}
+use Rattle.wl_plain.specs.Step.{is_number}
+use Rattle.wl_laws.specs.Apart.{AreApartBy}
+use Rattle.wl_laws.proofs.Lists.Keys.{differ, gone}
+use Rattle.wl_laws.proofs.Lists.Surfaces.{has_id}
+use Rattle.wl_records.specs.Owning.{AreKept, by_number, number_in}
+use Rattle.wl_records.proofs.Keeping.OwningNames.{with_id-here, with_id-other}
+
+-- ---- how many are kept
+
+nothing-at : (n : ℕ) → place_at [] n ≡ None
+nothing-at 0 = refl
+nothing-at (suc n) = refl
+
+-- as many, where something is kept under the same numbers
+pub count-same : (xs ys : List (Option Kept)) → ((n : ℕ) → is_some (place_at xs n) ≡ is_some (place_at ys n)) → count_by is_some xs ≡ count_by is_some ys
+count-same [] [] same = refl
+count-same [] (y ∷ ys) same =
+    let first : is_some y ≡ false = sym (same 0) in
+    let rest = count-same [] ys (λ n. ap is_some (nothing-at n) ∙ same (suc n)) in
+    rw first rest
+count-same (x ∷ xs) [] same =
+    let first : is_some x ≡ false = same 0 in
+    let rest = count-same xs [] (λ n. same (suc n) ∙ sym (ap is_some (nothing-at n))) in
+    rw first rest
+count-same (x ∷ xs) (y ∷ ys) same =
+    let first : is_some x ≡ is_some y = same 0 in
+    let rest = count-same xs ys (λ n. same (suc n)) in
+    ap (λ b. cond b (suc (count_by is_some xs)) (count_by is_some xs)) first ∙ ap (λ k. cond (is_some y) (suc k) k) rest
+
+-- one fewer, where one goes
+pub count-left : (xs ys : List (Option Kept)) (number : ℕ) → is_some (place_at xs number) ≡ true → is_some (place_at ys number) ≡ false
+    → ((n : ℕ) → (n == number) ≡ false → is_some (place_at xs n) ≡ is_some (place_at ys n)) → count_by is_some ys + 1 ≡ count_by is_some xs
+count-left [] ys number here gone same = absurd (differ (sym (ap is_some (nothing-at number)) ∙ here))
+count-left (x ∷ xs) [] 0 here gone same =
+    let first : is_some x ≡ true = here in
+    let rest = count-same xs [] (λ n. same (suc n) refl ∙ sym (ap is_some (nothing-at n))) in
+    sym (ap (λ b. cond b (suc (count_by is_some xs)) (count_by is_some xs)) first ∙ ap suc rest)
+count-left (x ∷ xs) (y ∷ ys) 0 here gone same =
+    let first : is_some x ≡ true = here in
+    let other : is_some y ≡ false = gone in
+    let rest = count-same xs ys (λ n. same (suc n) refl) in
+    ap (λ b. cond b (suc (count_by is_some ys)) (count_by is_some ys) + 1) other
+    ∙ more (count_by is_some ys) (count_by is_some xs) rest
+    ∙ sym (ap (λ b. cond b (suc (count_by is_some xs)) (count_by is_some xs)) first)
+  where
+    more : (a b : ℕ) → b ≡ a → a + 1 ≡ suc b
+    more a b e = omega (arith, e)
+count-left (x ∷ xs) [] (suc k) here gone same =
+    let first : is_some x ≡ false = same 0 refl in
+    let rest = count-left xs [] k here (ap is_some (nothing-at k)) (λ n away. same (suc n) away ∙ sym (ap is_some (nothing-at n))) in
+    rest ∙ sym (ap (λ b. cond b (suc (count_by is_some xs)) (count_by is_some xs)) first)
+count-left (x ∷ xs) (y ∷ ys) (suc k) here gone same =
+    let first : is_some x ≡ is_some y = same 0 refl in
+    let rest = count-left xs ys k here gone (λ n away. same (suc n) away) in
+    at (is_some y) rest ∙ sym (ap (λ b. cond b (suc (count_by is_some xs)) (count_by is_some xs)) first)
+  where
+    at : (b : Bool) → count_by is_some ys + 1 ≡ count_by is_some xs → cond b (suc (count_by is_some ys)) (count_by is_some ys) + 1 ≡ cond b (suc (count_by is_some xs)) (count_by is_some xs)
+    at true e = omega (arith, e)
+    at false e = e
+
+-- something is kept just where there is a surface
+pub is-kept : (slot : Option Kept) (at : Option Surface) → StandsAt slot at → is_some slot ≡ is_some at
+is-kept None None t = refl
+is-kept (Some k) None t = absurd t
+is-kept None (Some s) t = absurd t
+is-kept (Some k) (Some s) t = refl
+
+-- ---- a surface under another name
+
+stands-renamed : (f : ℕ → ℕ) (slot : Option Kept) (at : Option Surface) → StandsAt slot at → StandsAt slot (option_map (renamed_surface f) at)
+stands-renamed f None None t = tt
+stands-renamed f (Some k) None t = absurd t
+stands-renamed f None (Some s) t = absurd t
+stands-renamed f (Some k) (Some s) t = record { history = t.history; role = t.role }
+
+stands-renamed-back : (f : ℕ → ℕ) (slot : Option Kept) (at : Option Surface) → StandsAt slot (option_map (renamed_surface f) at) → StandsAt slot at
+stands-renamed-back f None None t = tt
+stands-renamed-back f (Some k) None t = absurd t
+stands-renamed-back f None (Some s) t = absurd t
+stands-renamed-back f (Some k) (Some s) t = record { history = t.history; role = t.role }
+
+there-some : {X : Type 0} (o : Option X) → is_some o ≡ true → (x : X) × (o ≡ Some x)
+there-some None e = absurd (cc)
+there-some (Some x) e = (x, refl)
+
+pub number-of-name : (numbers : ById ℕ) (id number : ℕ) → numbers id ≡ Some number → number_in numbers id ≡ number
+number-of-name numbers id number e = ap (λ (o : Option ℕ). option_map_or (λ n. n) o 0) e
+
+-- ---- where the ids that have numbers are those of the surfaces
+
+module _ (numbers : ById ℕ) (all : Surfaces) (numbered_by : (id : ℕ) → is_some (numbers id) ≡ is_some (surface_at id all))
+    (once : (a b number : ℕ) → numbers a ≡ Some number → numbers b ≡ Some number → a ≡ b) where
+  abbrev name : ℕ → ℕ
+  name id = number_in numbers id
+
+  -- a surface that is there has a number
+  pub named-there : (id : ℕ) → has_surface id all ≡ true → numbers id ≡ Some (name id)
+  named-there id there =
+      let one = there-some (numbers id) (numbered_by id ∙ there) in
+      one.1 ∙ ap Some (sym (number-of-name numbers id one.0 one.1))
+
+  pub names-apart : (a b : ℕ) → has_surface a all ≡ true → has_surface b all ≡ true → name a ≡ name b → a ≡ b
+  names-apart a b there_a there_b same = once a b (name a) (named-there a there_a) (named-there b there_b ∙ ap Some (sym same))
+
+  same-test : (number : ℕ) (s : Surface) → has_surface s.id all ≡ true → (name s.id == number) ≡ is_number number (numbers s.id)
+  same-test number s there = sym (ap (is_number number) (named-there s.id there))
+
+  found-renamed : (number : ℕ) (xs : List Surface) → Each (λ (s : Surface). has_surface s.id all ≡ true) xs
+      → find (λ (s : Surface). s.id == number) (map (renamed_surface name) xs) ≡ option_map (renamed_surface name) (find (λ (s : Surface). is_number number (numbers s.id)) xs)
+  found-renamed number [] each = refl
+  found-renamed number (x ∷ xs) each =
+      ap (λ b. cond b (Some (renamed_surface name x)) (find (λ (s : Surface). s.id == number) (map (renamed_surface name) xs))) (same-test number x each.0)
+      ∙ at (is_number number (numbers x.id)) (found-renamed number xs each.1)
+    where
+      at : (b : Bool) → find (λ (s : Surface). s.id == number) (map (renamed_surface name) xs) ≡ option_map (renamed_surface name) (find (λ (s : Surface). is_number number (numbers s.id)) xs)
+          → cond b (Some (renamed_surface name x)) (find (λ (s : Surface). s.id == number) (map (renamed_surface name) xs))
+          ≡ option_map (renamed_surface name) (cond b (Some x) (find (λ (s : Surface). is_number number (numbers s.id)) xs))
+      at true e = refl
+      at false e = e
+
+  module _ (is : IsRenaming name all) where
+    -- under its number each is the one of its id, but for its name
+    pub read-renamed : (number : ℕ) → numbered (renamed name all) number ≡ option_map (renamed_surface name) (by_number numbers all number)
+    read-renamed number = found-renamed number all.surfaces (known-there name all is).named
+
+    pub stand-renamed : (slots : Slots) → StandForAll slots (by_number numbers all) → StandForAll slots (numbered (renamed name all))
+    stand-renamed slots stand number =
+        subst (λ (o : Option Surface). StandsAt (kept_at slots number) o) (sym (read-renamed number)) (stands-renamed name (kept_at slots number) (by_number numbers all number) (stand number))
+
+    pub stand-back : (slots : Slots) → StandForAll slots (numbered (renamed name all)) → StandForAll slots (by_number numbers all)
+    stand-back slots stand number =
+        stands-renamed-back name (kept_at slots number) (by_number numbers all number)
+        (subst (λ (o : Option Surface). StandsAt (kept_at slots number) o) (read-renamed number) (stand number))
+
+    -- a number under which a surface is there is that of an id
+    pub id-of : (number : ℕ) → is_some (surface_at number (renamed name all)) ≡ true → (id : ℕ) × (numbers id ≡ Some number)
+    id-of number there =
+        let one = there-some (surface_at number (renamed name all)) there in
+        let it = (numbers-named name all is number).0 one.0 one.1 in
+        (it.0, named-there it.0 it.1 ∙ ap Some it.2)
+
+-- ---- without links
+
+fused : (id : ℕ) (ss : List Surface) → map (λ s. cond (s.id == id) (applying s) s) (map (λ s. cond (s.id == id) (asking Commit s) s) ss) ≡ map (λ s. cond (s.id == id) (applying (asking Commit s)) s)
+    ss
+fused id [] = refl
+fused id (s ∷ ss) =
+    ap (λ x. x ∷ map (λ s. cond (s.id == id) (applying s) s) (map (λ s. cond (s.id == id) (asking Commit s) s) ss)) (at (s.id == id) refl)
+    ∙ ap (λ xs. cond (s.id == id) (applying (asking Commit s)) s ∷ xs) (fused id ss)
+  where
+    at : (b : Bool) → (s.id == id) ≡ b → cond ((cond b (asking Commit s) s).id == id) (applying (cond b (asking Commit s) s)) (cond b (asking Commit s) s) ≡ cond b (applying (asking Commit s)) s
+    at true e = ap (λ c. cond c (applying (asking Commit s)) (asking Commit s)) e
+    at false e = ap (λ c. cond c (applying s) s) e
+
+-- what is committed is applied at once
+pub at-once : (id : ℕ) (ss : List Surface) → committed_in id (record { surfaces = ss; links = [] }) ≡ with_change id (λ s. applying (asking Commit s)) (record { surfaces = ss; links = [] })
+unfolding applied_tree behaves_synchronised
+at-once id ss = ap (λ xs. let all : Surfaces = record { surfaces = xs; links = [] } in all) (fused id ss)
+
+bare : (all : Surfaces) → all.links ≡ [] → record { surfaces = all.surfaces; links = [] } ≡ all
+bare all none = ap (λ ls. let those : Surfaces = record { surfaces = all.surfaces; links = ls } in those) (sym none)
+
+pub at-once-here : (id : ℕ) (all : Surfaces) → all.links ≡ [] → committed_in id all ≡ with_change id (λ s. applying (asking Commit s)) all
+at-once-here id all none =
+    subst (λ (x : Surfaces). committed_in id x ≡ with_change id (λ s. applying (asking Commit s)) x) (bare all none) (at-once id all.surfaces)
+
+-- and a surface goes alone
+pub destroyed-alone : (id : ℕ) (all : Surfaces) → all.links ≡ [] → destroyed_in id all ≡ without_surface id all
+destroyed-alone id all none = subst (λ (x : Surfaces). destroyed_in id x ≡ without_surface id x) (bare all none) refl
+
+-- ---- of what is kept
+
+no-ends : (all : Surfaces) → all.links ≡ [] → All (HasEnds all) all.links
+no-ends all none = subst (λ (ls : List Link). All (HasEnds all) ls) (sym none) (All-nil (HasEnds all))
+
+module _ (numbers : ById ℕ) (slots : Slots) (tied : Tied) (all : Surfaces) (is : AreKept numbers slots tied all) where
+  pub renaming-of : IsRenaming (number_in numbers) all
+  renaming-of = record { apart = names-apart numbers all is.numbered is.once; ends = no-ends all is.links }
+
+  pub stand-by : StandBy (number_in numbers) slots tied all
+  stand-by = record {
+    stands = record {
+      surfaces = stand-renamed numbers all is.numbered is.once renaming-of slots is.stand;
+      hang = is.hang;
+      there = λ number there. here number (is.there number there);
+    };
+    renaming = renaming-of;
+  }
+    where
+      here : (number : ℕ) → (id : ℕ) × (numbers id ≡ Some number) → is_some (surface_at number (renamed (number_in numbers) all)) ≡ true
+      here number one =
+          let here_too = sym (is.numbered one.0) ∙ ap is_some one.1 in
+          subst (λ n. is_some (surface_at n (renamed (number_in numbers) all)) ≡ true) (number-of-name numbers one.0 number one.1)
+          (there-named (number_in numbers) all renaming-of one.0 here_too)
+
+  -- ---- one changes
+
+  module _ (id number : ℕ) (named : numbers id ≡ Some number) where
+    pub own : number_in numbers id ≡ number
+    own = number-of-name numbers id number named
+
+    pub present : has_surface id all ≡ true
+    present = sym (is.numbered id) ∙ ap is_some named
+
+    pub asked-by : (request : Request) (new : Slots) → is_about_children request ≡ false → is_commit request ≡ false → Changes slots new number (asking request)
+        → StandBy (number_in numbers) new tied (with_change id (asking request) all)
+    asked-by request new about plain changes =
+        asks-named (number_in numbers) slots new tied all id request about plain present stand-by (subst (λ n. Changes slots new n (asking request)) (sym own) changes)
+
+    pub role-by : (role : Role) (new : Slots) → Changes slots new number (with_role role) → StandBy (number_in numbers) new tied (with_change id (with_role role) all)
+    role-by role new changes =
+        roles-named (number_in numbers) slots new tied all id role present stand-by (subst (λ n. Changes slots new n (with_role role)) (sym own) changes)
+
+    pub committed-by : (new : Slots) (after : Tied) → Makes slots tied new after (committed_in number)
+        → StandBy (number_in numbers) new after (with_change id (λ s. applying (asking Commit s)) all)
+    committed-by new after makes =
+        subst (λ (x : Surfaces). StandBy (number_in numbers) new after x) (at-once-here id all is.links)
+        (commits-named (number_in numbers) slots new tied after all id present stand-by (subst (λ n. Makes slots tied new after (committed_in n)) (sym own) makes))
+
+    -- one goes
+    pub left-by : (new : Slots) (after : Tied) → Makes slots tied new after (destroyed_in number)
+        → StandBy (number_in (with_id id None numbers)) new after (without_surface id all)
+    left-by new after makes =
+        renames-named (number_in numbers) (number_in (with_id id None numbers)) new after (without_surface id all)
+        (λ other there. ap (λ (o : Option ℕ). option_map_or (λ n. n) o 0) (with_id-other id other None numbers (elsewhere other there)))
+        (subst (λ (x : Surfaces). StandBy (number_in numbers) new after x) (destroyed-alone id all is.links)
+        (destroys-named (number_in numbers) slots new tied after all id present stand-by (subst (λ n. Makes slots tied new after (destroyed_in n)) (sym own) makes)))
+      where
+        elsewhere : (other : ℕ) → has_surface other (without_surface id all) ≡ true → (other == id) ≡ false
+        elsewhere other there = false_from_ne_true (other == id) (λ e. differ (sym (ap is_some (ap (λ i. surface_at i (without_surface id all)) (eqb-true other id e) ∙ gone (has_id id) all.surfaces)) ∙ there))
+
+  -- ---- one comes
+
+  pub made-by : (id number : ℕ) (new : Slots) → numbers id ≡ None → surface_at id all ≡ None
+      → ((named : Numbered) (id : ℕ) → StandForAll slots named → (named number ≡ None) × StandForAll new (with_at number (Some (new_surface id)) named))
+      → StandBy (number_in (with_id id (Some number) numbers)) new tied (with_new id all)
+  made-by id number new free none created =
+      subst (λ (f : ℕ → ℕ). StandBy f new tied (with_new id all)) (fun_ext (λ other. same other (other == id) refl))
+      (creates-named (number_in numbers) slots new tied all id number none stand-by created)
+    where
+      same : (other : ℕ) (b : Bool) → (other == id) ≡ b → cond b number (number_in numbers other) ≡ option_map_or (λ n. n) (cond b (Some number) (numbers other)) 0
+      same other true e = refl
+      same other false e = refl
+
+-- ---- what stands by their numbers is kept
+
+module _ (numbers : ById ℕ) (new : Slots) (after : Tied) (all : Surfaces) (numbered_by : (id : ℕ) → is_some (numbers id) ≡ is_some (surface_at id all))
+    (once : (a b number : ℕ) → numbers a ≡ Some number → numbers b ≡ Some number → a ≡ b) (by : StandBy (number_in numbers) new after all) where
+  pub stand-kept : StandForAll new (by_number numbers all)
+  stand-kept = stand-back numbers all numbered_by once by.renaming new by.stands.surfaces
+
+  pub there-kept : (number : ℕ) → is_there number after ≡ true → (id : ℕ) × (numbers id ≡ Some number)
+  there-kept number there = id-of numbers all numbered_by once by.renaming number (by.stands.there number there)
+
+-- ---- buffers that aren't busy any more
+
+found-apart : (xs : List Surface) → AreApartBy has_id xs → Each (λ (s : Surface). find (λ (t : Surface). t.id == s.id) xs ≡ Some s) xs
+found-apart [] apart = tt
+found-apart (x ∷ xs) apart = (
+  ap (λ b. cond b (Some x) (find (λ (t : Surface). t.id == x.id) xs)) (eq-eqb x.id x.id refl),
+  each-weaker (λ (s : Surface). find (λ (t : Surface). t.id == s.id) xs ≡ Some s) (λ (s : Surface). find (λ (t : Surface). t.id == s.id) (x ∷ xs) ≡ Some s)
+      (λ s here. later s (x.id == s.id) refl here) xs (found-apart xs apart.1),
+)
+  where
+    later : (s : Surface) (b : Bool) → (x.id == s.id) ≡ b → find (λ (t : Surface). t.id == s.id) xs ≡ Some s → cond b (Some x) (find (λ (t : Surface). t.id == s.id) xs) ≡ Some s
+    later s true same here = absurd (differ (ap is_some (sym (apart.0 s.id same) ∙ here)))
+    later s false same here = here
+
+pub are-found : (all : Surfaces) → AreApartBy has_id all.surfaces → AreFound all
+are-found all apart = All-from_recursion (λ (s : Surface). surface_at s.id all ≡ Some s) all.surfaces (found-apart all.surfaces apart)
+
+module _ (numbers : ById ℕ) (slots : Slots) (tied : Tied) (all : Surfaces) (is : AreKept numbers slots tied all) (id number : ℕ) (named : numbers id ≡ Some number) (freed : List ℕ) where
+  freed-by : (op by_number : Surfaces → Surfaces) → IsRenamedAs (number_in numbers) (op all) (by_number (renamed (number_in numbers) all)) → AreFound (op all)
+      → ((those : Surfaces) → Stand slots tied those → AreFreed freed (numbered those) (numbered (by_number those)))
+      → (buffer : ℕ) → count_by (λ n. n == buffer) freed ≡ cond (is_busy buffer all && not (is_busy buffer (op all))) 1 0
+  freed-by op by_number as found told buffer =
+      frees-named (number_in numbers) all (op all) freed (renaming-of numbers slots tied all is) as.still (are-found all is.apart) found
+      (subst (λ (x : Surfaces). AreFreed freed (numbered (renamed (number_in numbers) all)) (numbered x)) (sym as.same)
+      (told (renamed (number_in numbers) all) (stand-by numbers slots tied all is).stands)) buffer
+
+  pub freed-committed-by : AreFound (committed_in id all) → ((those : Surfaces) → Stand slots tied those → AreFreed freed (numbered those) (numbered (committed_in number those)))
+      → (buffer : ℕ) → count_by (λ n. n == buffer) freed ≡ cond (is_busy buffer all && not (is_busy buffer (committed_in id all))) 1 0
+  freed-committed-by found told =
+      freed-by (committed_in id) (committed_in number)
+      (subst (λ n. IsRenamedAs (number_in numbers) (committed_in id all) (committed_in n (renamed (number_in numbers) all))) (number-of-name numbers id number named)
+      (commits-surface (number_in numbers) all (renaming-of numbers slots tied all is) id (present numbers slots tied all is id number named))) found told
+
+  pub freed-left-by : AreFound (destroyed_in id all) → ((those : Surfaces) → Stand slots tied those → AreFreed freed (numbered those) (numbered (destroyed_in number those)))
+      → (buffer : ℕ) → count_by (λ n. n == buffer) freed ≡ cond (is_busy buffer all && not (is_busy buffer (destroyed_in id all))) 1 0
+  freed-left-by found told =
+      freed-by (destroyed_in id) (destroyed_in number)
+      (subst (λ n. IsRenamedAs (number_in numbers) (destroyed_in id all) (destroyed_in n (renamed (number_in numbers) all))) (number-of-name numbers id number named)
+      (destroys-surface (number_in numbers) all (renaming-of numbers slots tied all is) id (present numbers slots tied all is id number named))) found told
