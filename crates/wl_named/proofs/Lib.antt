@@ -1,6 +1,6 @@
-mod Linking
-mod Named
-mod Reading
-mod Renaming
-mod Telling
-mod Tying
+pub mod Linking
+pub mod Named
+pub mod Reading
+pub mod Renaming
+pub mod Telling
+pub mod Tying

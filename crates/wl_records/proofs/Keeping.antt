@@ -7,6 +7,7 @@ pub mod OwningChanges
 pub mod OwningNames
 pub mod OwningReads
 pub mod OwningSurfaces
+pub mod OwningTies
 pub mod OwningXdg
 pub mod Releases
 pub mod StandingAsks

@@ -2,6 +2,7 @@
 use Rattle.std.proofs.Common.{◌≡◌, ℕ, ◌<◌, Bool, true, false, refl, ap, sym, ◌∙◌, arith}
 use Rattle.std.specs.Prelude.{MatchBool, nat_le, if◌then◌else◌, Ok}
 use Rattle.std.proofs.lemmas.Bool.{leb-true}
+use Rattle.wl_family.specs.Family.{Tied}
 use Rattle.wl_surface.specs.Slots.{Slots, count as count_kept}
 use Rattle.wl_surface.specs.declared.error.SurfaceError.{SurfaceError}
 use Rattle.wl_surface.specs.declared.error.SurfaceError.TheVariants.{TooMany, Memory}

@@ -3,6 +3,7 @@ use Rattle.std.proofs.Common.{◌≡◌, ℕ, ◌+◌, List, [], ◌∷◌, Bool
 use Rattle.std.specs.Prelude.{◌==◌, Ok, Result}
 use Rattle.std.specs.Option.{option_map, option_map_or}
 use Rattle.wl_geom.specs.declared.rect.Rect.{Rect}
+use Rattle.wl_family.specs.Family.{Tied}
 use Rattle.wl_surface.specs.Slots.{Changes, Numbered, Slots, StandForAll, kept_at, one_if_kept, with_at, count as count_kept}
 use Rattle.wl_state.specs.Request.{Request, Commit, SetWindowGeometry}
 use Rattle.wl_state.specs.State.{History, apply, geometry_asked, is_commit}
@@ -20,6 +21,9 @@ use Rattle.wl_shell.specs.declared.acts.ShellAct.TheVariants.{Configure, Map, Un
 use Rattle.wl_shell.specs.declared.error.ShellError.{ShellError}
 use Rattle.wl_shell.specs.declared.stage.Stage.{Stage}
 use Rattle.wl_shell.proofs.Standing.{changes_stand}
+use Rattle.wl_named.specs.Named.{Makes}
+use Rattle.wl_surface.specs.Trees.{committed_in, destroyed_in}
+use Rattle.wl_tree_laws.specs.Stacks.{is_about_children}
 use Rattle.wl_scene.specs.Stacking.{Owned}
 use Rattle.wl_plain.specs.Ask.{CreateSurface, AskSurface, GetXdgSurface, DestroyXdgSurface, GetToplevel, Acknowledge, ConfigureAgain}
 use Rattle.wl_plain.specs.Desktop.{Resident}
@@ -28,6 +32,7 @@ use Rattle.wl_plain.specs.Step.{after_surface, asked_so_far, toplevel_given}
 use Rattle.wl_records.proofs.Keeping.OwningChanges.{IsOwned-history, IsOwned-left, IsOwned-made, IsOwned-shelled, IsOwned-stepped, IsOwned-toplevel, IsOwned-unshelled, IsOwned-untoplevel, changing-none}
 use Rattle.wl_records.proofs.Keeping.OwningChanges.{renumbered}
 use Rattle.wl_records.proofs.Keeping.OwningSurfaces.{AreKept-changed, counts-asking, geometry-asked, surface-named}
+use Rattle.wl_records.proofs.Keeping.OwningTies.{asked-by, committed-by, role-by}
 use Rattle.wl_records.proofs.Keeping.OwningXdg.{histories-changed, histories-same, xdg-of, xdg-of-none}
 use Rattle.wl_records.proofs.Toplevels.Simply.{Asking, CommitSurface, DestroySurface, DestroyToplevel, changed_simply, committed_on, effect_for, effect_on}
 

@@ -6,6 +6,7 @@ use Rattle.std.proofs.Math.Path.{fun_ext}
 use Rattle.std.proofs.lemmas.Bool.{eqb-true, eqb-false, ne_eqb}
 use Rattle.wl_peer.specs.Objects.{ById, with_id}
 use Rattle.wl_state.specs.Kept.{Kept as KeptSurface}
+use Rattle.wl_family.specs.Family.{Tied}
 use Rattle.wl_surface.specs.Slots.{Numbered, Slots, StandForAll, StandsAt, kept_at, one_if_kept, with_at, count as count_kept}
 use Rattle.wl_state.specs.State.{History}
 use Rattle.wl_state.specs.Surface.{Surface, new_surface}
@@ -15,6 +16,8 @@ use Rattle.wl_shell.specs.Kept.{Kept, Stands, changing, first_kept, with_kept}
 use Rattle.wl_shell.specs.Shell.{RoleObject, XdgSurface, is_role, with_change, without_xdg, xdg_at, xdg_of, xdg_with, with_new as with_new_xdg}
 use Rattle.wl_shell.proofs.Agreeing.{newest}
 use Rattle.wl_shell.proofs.Shells.{shells_stand}
+use Rattle.wl_named.specs.Named.{Makes}
+use Rattle.wl_surface.specs.Trees.{destroyed_in}
 use Rattle.wl_scene.specs.Stacking.{Owned}
 use Rattle.wl_records.specs.Owning.{AreKept, IsOwned, IsXdg, KeepsRole, Names, by_id, by_number, number_of, with_surface, with_toplevel, with_xdg}
 use Rattle.wl_laws.specs.Apart.{AreApartBy}

@@ -7,6 +7,7 @@ use Rattle.std.proofs.lemmas.Bool.{eqb-true, eqb-false, false_from_ne_true, ne_e
 use Rattle.wl_geom.specs.declared.rect.Rect.{Rect}
 use Rattle.wl_peer.specs.Objects.{ById, with_id}
 use Rattle.wl_family.specs.Family.{Tied}
+use Rattle.wl_state.specs.Kept.{Kept}
 use Rattle.wl_surface.specs.Slots.{Numbered, Slots, StandForAll, StandsAt, Changes, IsAny, changed_at, has_at, kept_at, one_if_kept, shows_at, with_at, count as count_kept}
 use Rattle.wl_state.specs.Request.{Request, SetWindowGeometry}
 use Rattle.wl_state.specs.State.{History, committed_from, is_commit}
@@ -391,7 +392,7 @@ geometry-stands rect (Some k) (Some s) t =
     (still k s.history t.history)
     (undamaged k s.history (SetWindowGeometry rect) refl t.history)
 
-pub geometry-asked : (slots : Slots) (tied : Tied) (number : ℕ) (rect : Rect) → Changes slots slots number (asking (SetWindowGeometry rect))
+pub geometry-asked : (slots : Slots) (number : ℕ) (rect : Rect) → Changes slots slots number (asking (SetWindowGeometry rect))
 geometry-asked slots number rect = record { stand = λ all stand other. at all other (other == number) (stand other); count = refl }
   where
     at : (all : Numbered) (other : ℕ) (b : Bool) → StandsAt (kept_at slots other) (all other)

@@ -1,11 +1,12 @@
 -- How the surfaces of a client hang together goes on being kept.
-use Rattle.std.proofs.Common.{◌≡◌, ℕ, suc, ◌+◌, List, [], ◌∷◌, Bool, true, false, Option, Some, None, cond, length, refl, ap, sym, subst, ◌∙◌, arith, eq-eqb}
+use Rattle.std.proofs.Common.{◌≡◌, ℕ, zero, suc, ◌+◌, List, [], ◌∷◌, Bool, true, false, Option, Some, None, cond, length, refl, ap, sym, subst, ◌∙◌, arith, eq-eqb}
 use Rattle.std.specs.Prelude.{◌==◌, ◌&&◌, count_by, find, is_some, map, not}
 use Rattle.std.specs.List.{All, AllByRecursion as Each}
 use Rattle.std.specs.Option.{option_map, option_map_or}
 use Rattle.std.proofs.Math.Path.{fun_ext}
-use Rattle.std.proofs.lemmas.Bool.{eqb-true, false_from_ne_true}
+use Rattle.std.proofs.lemmas.Bool.{eqb-false, eqb-true, false_from_ne_true, ne_eqb}
 use Rattle.std.proofs.lemmas.List.Elements.{All-from_recursion, All-nil}
+use Rattle.std.proofs.lemmas.List.Sums.{sum_by-cons}
 use Rattle.wl_peer.specs.Objects.{ById, with_id}
 use Rattle.wl_family.specs.Family.{Tied, is_there}
 use Rattle.wl_state.specs.Kept.{Kept, StandsFor}
@@ -13,7 +14,7 @@ use Rattle.wl_state.specs.Request.{Commit, Request}
 use Rattle.wl_state.specs.State.{is_commit}
 use Rattle.wl_state.specs.Surface.{Surface, applying, asking, new_surface, with_role}
 use Rattle.wl_state.specs.declared.role.Role.{Role}
-use Rattle.wl_surface.specs.Slots.{Changes, Numbered, Slots, StandForAll, StandsAt, count as count_kept, kept_at, place_at, with_at}
+use Rattle.wl_surface.specs.Slots.{Changes, Numbered, Slots, StandForAll, StandsAt, kept_at, one_if_kept, place_at, with_at}
 use Rattle.wl_surface.specs.Surfaces.{Link, Surfaces, is_busy, surface_at, with_change, with_new, without_surface}
 use Rattle.wl_surface.specs.Applied.{AreFreed}
 use Rattle.wl_surface.specs.Trees.{applied_tree, behaves_synchronised, committed_in, destroyed_in}
@@ -39,55 +40,66 @@ use Rattle.wl_records.proofs.Keeping.OwningNames.{with_id-here, with_id-other}
 -- ---- how many are kept
 
 nothing-at : (n : ℕ) → place_at [] n ≡ None
-nothing-at 0 = refl
+nothing-at zero = refl
 nothing-at (suc n) = refl
+
+count-more : (x : Option Kept) (xs : List (Option Kept)) → count_by is_some (x ∷ xs) ≡ one_if_kept x + count_by is_some xs
+count-more x xs = sum_by-cons one_if_kept x xs
+
+count-none : (x : Option Kept) (xs : List (Option Kept)) → is_some x ≡ false → count_by is_some (x ∷ xs) ≡ count_by is_some xs
+count-none x xs none = let more = count-more x xs ∙ ap (λ b. cond b 1 0 + count_by is_some xs) none in omega (arith, more)
 
 -- as many, where something is kept under the same numbers
 pub count-same : (xs ys : List (Option Kept)) → ((n : ℕ) → is_some (place_at xs n) ≡ is_some (place_at ys n)) → count_by is_some xs ≡ count_by is_some ys
 count-same [] [] same = refl
 count-same [] (y ∷ ys) same =
-    let first : is_some y ≡ false = sym (same 0) in
+    let first : is_some y ≡ false = sym (same zero) in
     let rest = count-same [] ys (λ n. ap is_some (nothing-at n) ∙ same (suc n)) in
-    rw first rest
+    rest ∙ sym (count-none y ys first)
 count-same (x ∷ xs) [] same =
-    let first : is_some x ≡ false = same 0 in
+    let first : is_some x ≡ false = same zero in
     let rest = count-same xs [] (λ n. same (suc n) ∙ sym (ap is_some (nothing-at n))) in
-    rw first rest
+    count-none x xs first ∙ rest
 count-same (x ∷ xs) (y ∷ ys) same =
-    let first : is_some x ≡ is_some y = same 0 in
+    let first : is_some x ≡ is_some y = same zero in
     let rest = count-same xs ys (λ n. same (suc n)) in
-    ap (λ b. cond b (suc (count_by is_some xs)) (count_by is_some xs)) first ∙ ap (λ k. cond (is_some y) (suc k) k) rest
+    count-more x xs ∙ ap (λ b. cond b 1 0 + count_by is_some xs) first ∙ ap (λ k. one_if_kept y + k) rest ∙ sym (count-more y ys)
+
+no-zero : (n : ℕ) → (suc n == zero) ≡ false
+no-zero n = ne_eqb (suc n) zero (λ e. absurd (omega (arith, e)))
+
+zero-no : (n : ℕ) → (zero == suc n) ≡ false
+zero-no n = ne_eqb zero (suc n) (λ e. absurd (omega (arith, e)))
+
+next-apart : (n k : ℕ) → (n == k) ≡ false → (suc n == suc k) ≡ false
+next-apart n k away = ne_eqb (suc n) (suc k) (λ e. eqb-false n k away (omega (arith, e)))
 
 -- one fewer, where one goes
 pub count-left : (xs ys : List (Option Kept)) (number : ℕ) → is_some (place_at xs number) ≡ true → is_some (place_at ys number) ≡ false
     → ((n : ℕ) → (n == number) ≡ false → is_some (place_at xs n) ≡ is_some (place_at ys n)) → count_by is_some ys + 1 ≡ count_by is_some xs
-count-left [] ys number here gone same = absurd (differ (sym (ap is_some (nothing-at number)) ∙ here))
-count-left (x ∷ xs) [] 0 here gone same =
-    let first : is_some x ≡ true = here in
-    let rest = count-same xs [] (λ n. same (suc n) refl ∙ sym (ap is_some (nothing-at n))) in
-    sym (ap (λ b. cond b (suc (count_by is_some xs)) (count_by is_some xs)) first ∙ ap suc rest)
-count-left (x ∷ xs) (y ∷ ys) 0 here gone same =
-    let first : is_some x ≡ true = here in
-    let other : is_some y ≡ false = gone in
-    let rest = count-same xs ys (λ n. same (suc n) refl) in
-    ap (λ b. cond b (suc (count_by is_some ys)) (count_by is_some ys) + 1) other
-    ∙ more (count_by is_some ys) (count_by is_some xs) rest
-    ∙ sym (ap (λ b. cond b (suc (count_by is_some xs)) (count_by is_some xs)) first)
+count-left [] ys number here went same = absurd (differ (sym here ∙ ap is_some (nothing-at number)))
+count-left (x ∷ xs) [] zero here went same =
+    let rest = count-same xs [] (λ n. same (suc n) (no-zero n) ∙ sym (ap is_some (nothing-at n))) in
+    let more = count-more x xs ∙ ap (λ b. cond b 1 0 + count_by is_some xs) here in
+    let none : count_by is_some (nobody-kept) ≡ 0 = refl in
+    omega (arith, rest, more, none)
   where
-    more : (a b : ℕ) → b ≡ a → a + 1 ≡ suc b
-    more a b e = omega (arith, e)
-count-left (x ∷ xs) [] (suc k) here gone same =
-    let first : is_some x ≡ false = same 0 refl in
-    let rest = count-left xs [] k here (ap is_some (nothing-at k)) (λ n away. same (suc n) away ∙ sym (ap is_some (nothing-at n))) in
-    rest ∙ sym (ap (λ b. cond b (suc (count_by is_some xs)) (count_by is_some xs)) first)
-count-left (x ∷ xs) (y ∷ ys) (suc k) here gone same =
-    let first : is_some x ≡ is_some y = same 0 refl in
-    let rest = count-left xs ys k here gone (λ n away. same (suc n) away) in
-    at (is_some y) rest ∙ sym (ap (λ b. cond b (suc (count_by is_some xs)) (count_by is_some xs)) first)
-  where
-    at : (b : Bool) → count_by is_some ys + 1 ≡ count_by is_some xs → cond b (suc (count_by is_some ys)) (count_by is_some ys) + 1 ≡ cond b (suc (count_by is_some xs)) (count_by is_some xs)
-    at true e = omega (arith, e)
-    at false e = e
+    nobody-kept : List (Option Kept)
+    nobody-kept = []
+count-left (x ∷ xs) (y ∷ ys) zero here went same =
+    let rest = count-same xs ys (λ n. same (suc n) (no-zero n)) in
+    let more = count-more x xs ∙ ap (λ b. cond b 1 0 + count_by is_some xs) here in
+    let less = count-more y ys ∙ ap (λ b. cond b 1 0 + count_by is_some ys) went in
+    omega (arith, rest, more, less)
+count-left (x ∷ xs) [] (suc k) here went same =
+    let first : is_some x ≡ false = same zero (zero-no k) in
+    let rest = count-left xs [] k here (ap is_some (nothing-at k)) (λ n away. same (suc n) (next-apart n k away) ∙ sym (ap is_some (nothing-at n))) in
+    rest ∙ sym (count-none x xs first)
+count-left (x ∷ xs) (y ∷ ys) (suc k) here went same =
+    let rest = count-left xs ys k here went (λ n away. same (suc n) (next-apart n k away)) in
+    let more = count-more x xs ∙ ap (λ b. cond b 1 0 + count_by is_some xs) (same zero (zero-no k)) in
+    let less = count-more y ys in
+    omega (arith, rest, more, less)
 
 -- something is kept just where there is a surface
 pub is-kept : (slot : Option Kept) (at : Option Surface) → StandsAt slot at → is_some slot ≡ is_some at
@@ -258,7 +270,7 @@ module _ (numbers : ById ℕ) (slots : Slots) (tied : Tied) (all : Surfaces) (is
         (destroys-named (number_in numbers) slots new tied after all id present stand-by (subst (λ n. Makes slots tied new after (destroyed_in n)) (sym own) makes)))
       where
         elsewhere : (other : ℕ) → has_surface other (without_surface id all) ≡ true → (other == id) ≡ false
-        elsewhere other there = false_from_ne_true (other == id) (λ e. differ (sym (ap is_some (ap (λ i. surface_at i (without_surface id all)) (eqb-true other id e) ∙ gone (has_id id) all.surfaces)) ∙ there))
+        elsewhere other there = false_from_ne_true (other == id) (λ e. differ (sym there ∙ ap is_some (ap (λ i. surface_at i (without_surface id all)) (eqb-true other id e) ∙ gone (has_id id) all.surfaces)))
 
   -- ---- one comes
 
@@ -294,7 +306,7 @@ found-apart (x ∷ xs) apart = (
 )
   where
     later : (s : Surface) (b : Bool) → (x.id == s.id) ≡ b → find (λ (t : Surface). t.id == s.id) xs ≡ Some s → cond b (Some x) (find (λ (t : Surface). t.id == s.id) xs) ≡ Some s
-    later s true same here = absurd (differ (ap is_some (sym (apart.0 s.id same) ∙ here)))
+    later s true same here = absurd (differ (ap is_some (sym here ∙ apart.0 s.id same)))
     later s false same here = here
 
 pub are-found : (all : Surfaces) → AreApartBy has_id all.surfaces → AreFound all
@@ -304,9 +316,9 @@ module _ (numbers : ById ℕ) (slots : Slots) (tied : Tied) (all : Surfaces) (is
   freed-by : (op by_number : Surfaces → Surfaces) → IsRenamedAs (number_in numbers) (op all) (by_number (renamed (number_in numbers) all)) → AreFound (op all)
       → ((those : Surfaces) → Stand slots tied those → AreFreed freed (numbered those) (numbered (by_number those)))
       → (buffer : ℕ) → count_by (λ n. n == buffer) freed ≡ cond (is_busy buffer all && not (is_busy buffer (op all))) 1 0
-  freed-by op by_number as found told buffer =
-      frees-named (number_in numbers) all (op all) freed (renaming-of numbers slots tied all is) as.still (are-found all is.apart) found
-      (subst (λ (x : Surfaces). AreFreed freed (numbered (renamed (number_in numbers) all)) (numbered x)) (sym as.same)
+  freed-by op by_number same found told buffer =
+      frees-named (number_in numbers) all (op all) freed (renaming-of numbers slots tied all is) same.still (are-found all is.apart) found
+      (subst (λ (x : Surfaces). AreFreed freed (numbered (renamed (number_in numbers) all)) (numbered x)) (sym same.same)
       (told (renamed (number_in numbers) all) (stand-by numbers slots tied all is).stands)) buffer
 
   pub freed-committed-by : AreFound (committed_in id all) → ((those : Surfaces) → Stand slots tied those → AreFreed freed (numbered those) (numbered (committed_in number those)))

@@ -3,6 +3,7 @@ use Rattle.std.proofs.Common.{◌≡◌, ℕ, List, [], ◌∷◌, Bool, true, f
 use Rattle.std.specs.Prelude.{ℤ, ◌==◌, ◌&&◌, ◌||◌, filter, is_some, not}
 use Rattle.std.specs.List.{list_any}
 use Rattle.std.proofs.lemmas.Bool.{eqb-true, or_left}
+use Rattle.wl_family.specs.Family.{Tied}
 use Rattle.wl_peer.specs.declared.cause.Cause.{Cause}
 use Rattle.wl_shell.specs.Kept.{Kept}
 use Rattle.wl_surface.specs.Slots.{Slots}

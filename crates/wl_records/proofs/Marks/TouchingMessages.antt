@@ -1,6 +1,7 @@
 -- What one message of a client marks at least lies in the windows of one surface, or, where the client ends, in windows that it had.
 use Rattle.std.proofs.Common.{◌≡◌, ℕ, [], true, Option, Some, None, refl, ap, sym, subst, ◌∙◌, inl, inr}
 use Rattle.std.specs.Prelude.{ℤ, ◌⊎◌, is_some}
+use Rattle.wl_family.specs.Family.{Tied}
 use Rattle.wl_wire.specs.Wire.{split_of}
 use Rattle.wl_wire.specs.declared.header.Split.{Split}
 use Rattle.wl_wire.specs.declared.header.Split.TheVariants.{Message as Whole, More, Bad}
