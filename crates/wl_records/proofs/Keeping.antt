@@ -2,6 +2,7 @@
 pub mod Creating
 pub mod FramingWaits
 pub mod Letting
+pub mod OwningAlone
 pub mod OwningAsks
 pub mod OwningChanges
 pub mod OwningNames

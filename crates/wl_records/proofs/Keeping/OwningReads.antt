@@ -124,38 +124,6 @@ module _ (names : Names) (slots : Slots) (tied : Tied) (kept : ℕ → Option Ke
   pub busy : (buffer : ℕ) (result : Bool) → ((all : Numbered) → StandForAll slots all → IsAny (shows_at buffer) all result) → is_busy buffer r.owned.surfaces ≡ result
   busy buffer result told = busy-read names.surfaces slots tied r.owned.surfaces is.surfaces buffer result (told (by_number names.surfaces r.owned.surfaces) is.surfaces.stand)
 
-  -- what stops being busy by a commit, or as a surface goes, is freed once
-  pub freed-committed : (id number : ℕ) (freed : List ℕ) → names.surfaces id ≡ Some number
-      → ((those : Surfaces) → Stand slots tied those → AreFreed freed (numbered those) (numbered (committed_in number those)))
-      → (buffer : ℕ) → count_by (λ n. n == buffer) freed ≡ cond (is_busy buffer r.owned.surfaces && not (is_busy buffer (with_change id (λ s. applying (asking Commit s)) r.owned.surfaces))) 1 0
-  freed-committed id number freed named told buffer =
-      subst (λ (after : Surfaces). count_by (λ n. n == buffer) freed ≡ cond (is_busy buffer r.owned.surfaces && not (is_busy buffer after)) 1 0) (at-once-here id r.owned.surfaces is.surfaces.links)
-      (freed-committed-by names.surfaces slots tied r.owned.surfaces is.surfaces id number named freed found told buffer)
-    where
-      commits : Surface → Surface
-      commits s = cond (s.id == id) (applying (asking Commit s)) s
-
-      found : AreFound (committed_in id r.owned.surfaces)
-      found = subst (λ (after : Surfaces). AreFound after) (sym (at-once-here id r.owned.surfaces is.surfaces.links))
-          (are-found (with_change id (λ s. applying (asking Commit s)) r.owned.surfaces) (apart-map has_id commits r.owned.surfaces.surfaces (λ other s. same other s (s.id == id)) is.surfaces.apart))
-        where
-          same : (other : ℕ) (s : Surface) (b : Bool) → ((cond b (applying (asking Commit s)) s).id == other) ≡ (s.id == other)
-          same other s true = refl
-          same other s false = refl
-
-
-  pub freed-left : (id number : ℕ) (freed : List ℕ) → names.surfaces id ≡ Some number
-      → ((those : Surfaces) → Stand slots tied those → AreFreed freed (numbered those) (numbered (destroyed_in number those)))
-      → (buffer : ℕ) → count_by (λ n. n == buffer) freed ≡ cond (is_busy buffer r.owned.surfaces && not (is_busy buffer (without_surface id r.owned.surfaces))) 1 0
-  freed-left id number freed named told buffer =
-      subst (λ (after : Surfaces). count_by (λ n. n == buffer) freed ≡ cond (is_busy buffer r.owned.surfaces && not (is_busy buffer after)) 1 0) (destroyed-alone id r.owned.surfaces is.surfaces.links)
-      (freed-left-by names.surfaces slots tied r.owned.surfaces is.surfaces id number named freed found told buffer)
-    where
-      found : AreFound (destroyed_in id r.owned.surfaces)
-      found = subst (λ (after : Surfaces). AreFound after) (sym (destroyed-alone id r.owned.surfaces is.surfaces.links))
-          (are-found (without_surface id r.owned.surfaces) (apart-left has_id (λ s. not (s.id == id)) r.owned.surfaces.surfaces is.surfaces.apart))
-
-
   pub destroyed-by : (id number : ℕ) → names.surfaces id ≡ Some number → surface_destroyed r id ≡ (if is_some (kept number) then refuses id error.SurfaceHasRoleObject else Ok (EndSurface id))
   destroyed-by id number named = ap (λ b. if b then refuses id error.SurfaceHasRoleObject else Ok (EndSurface id)) (sym (xdg-there names slots tied kept r.owned is id number named))
 

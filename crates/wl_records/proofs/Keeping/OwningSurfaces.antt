@@ -273,16 +273,16 @@ module _ (numbers : ById ℕ) (slots : Slots) (tied : Tied) (all : Surfaces) (is
     AreKept-made counted =
         let by = made-by numbers slots tied all is id number new free (surface-absent id free) created in
         record {
-      counts = counts-made;
-      links = is.links;
-      numbered = numbered-now;
-      once = once-now;
-      apart = new-apart has_id all.surfaces (new_surface id) (λ other same. ap (λ i. surface_at i all) (sym (eqb-true id other same)) ∙ surface-absent id free) is.apart;
-      stand = λ other. subst (λ (o : Option Surface). StandsAt (kept_at new other) o) (sym (surfaces-made other)) ((created (by_number numbers all) id is.stand).1 other);
-      count = counted ∙ ap (λ n. n + 1) is.count ∙ sym (length-new all.surfaces (new_surface id));
-      hang = by.stands.hang;
-      there = there-kept now new tied (with_new id all) numbered-now once-now by;
-    }
+          counts = counts-made;
+          links = is.links;
+          numbered = numbered-now;
+          once = once-now;
+          apart = new-apart has_id all.surfaces (new_surface id) (λ other same. ap (λ i. surface_at i all) (sym (eqb-true id other same)) ∙ surface-absent id free) is.apart;
+          stand = λ other. subst (λ (o : Option Surface). StandsAt (kept_at new other) o) (sym (surfaces-made other)) ((created (by_number numbers all) id is.stand).1 other);
+          count = counted ∙ ap (λ n. n + 1) is.count ∙ sym (length-new all.surfaces (new_surface id));
+          hang = by.stands.hang;
+          there = there-kept now new tied (with_new id all) numbered-now once-now by;
+        }
 
   -- ---- one goes
 

@@ -116,7 +116,7 @@ stands-renamed f (Some k) None t = absurd t
 stands-renamed f None (Some s) t = absurd t
 stands-renamed f (Some k) (Some s) t = record { history = t.history; role = t.role }
 
-stands-renamed-back : (f : ℕ → ℕ) (slot : Option Kept) (at : Option Surface) → StandsAt slot (option_map (renamed_surface f) at) → StandsAt slot at
+pub stands-renamed-back : (f : ℕ → ℕ) (slot : Option Kept) (at : Option Surface) → StandsAt slot (option_map (renamed_surface f) at) → StandsAt slot at
 stands-renamed-back f None None t = tt
 stands-renamed-back f (Some k) None t = absurd t
 stands-renamed-back f None (Some s) t = absurd t
@@ -294,43 +294,3 @@ module _ (numbers : ById ℕ) (new : Slots) (after : Tied) (all : Surfaces) (num
 
   pub there-kept : (number : ℕ) → is_there number after ≡ true → (id : ℕ) × (numbers id ≡ Some number)
   there-kept number there = id-of numbers all numbered_by once by.renaming number (by.stands.there number there)
-
--- ---- buffers that aren't busy any more
-
-found-apart : (xs : List Surface) → AreApartBy has_id xs → Each (λ (s : Surface). find (λ (t : Surface). t.id == s.id) xs ≡ Some s) xs
-found-apart [] apart = tt
-found-apart (x ∷ xs) apart = (
-  ap (λ b. cond b (Some x) (find (λ (t : Surface). t.id == x.id) xs)) (eq-eqb x.id x.id refl),
-  each-weaker (λ (s : Surface). find (λ (t : Surface). t.id == s.id) xs ≡ Some s) (λ (s : Surface). find (λ (t : Surface). t.id == s.id) (x ∷ xs) ≡ Some s)
-      (λ s here. later s (x.id == s.id) refl here) xs (found-apart xs apart.1),
-)
-  where
-    later : (s : Surface) (b : Bool) → (x.id == s.id) ≡ b → find (λ (t : Surface). t.id == s.id) xs ≡ Some s → cond b (Some x) (find (λ (t : Surface). t.id == s.id) xs) ≡ Some s
-    later s true same here = absurd (differ (ap is_some (sym here ∙ apart.0 s.id same)))
-    later s false same here = here
-
-pub are-found : (all : Surfaces) → AreApartBy has_id all.surfaces → AreFound all
-are-found all apart = All-from_recursion (λ (s : Surface). surface_at s.id all ≡ Some s) all.surfaces (found-apart all.surfaces apart)
-
-module _ (numbers : ById ℕ) (slots : Slots) (tied : Tied) (all : Surfaces) (is : AreKept numbers slots tied all) (id number : ℕ) (named : numbers id ≡ Some number) (freed : List ℕ) where
-  freed-by : (op by_number : Surfaces → Surfaces) → IsRenamedAs (number_in numbers) (op all) (by_number (renamed (number_in numbers) all)) → AreFound (op all)
-      → ((those : Surfaces) → Stand slots tied those → AreFreed freed (numbered those) (numbered (by_number those)))
-      → (buffer : ℕ) → count_by (λ n. n == buffer) freed ≡ cond (is_busy buffer all && not (is_busy buffer (op all))) 1 0
-  freed-by op by_number same found told buffer =
-      frees-named (number_in numbers) all (op all) freed (renaming-of numbers slots tied all is) same.still (are-found all is.apart) found
-      (subst (λ (x : Surfaces). AreFreed freed (numbered (renamed (number_in numbers) all)) (numbered x)) (sym same.same)
-      (told (renamed (number_in numbers) all) (stand-by numbers slots tied all is).stands)) buffer
-
-  pub freed-committed-by : AreFound (committed_in id all) → ((those : Surfaces) → Stand slots tied those → AreFreed freed (numbered those) (numbered (committed_in number those)))
-      → (buffer : ℕ) → count_by (λ n. n == buffer) freed ≡ cond (is_busy buffer all && not (is_busy buffer (committed_in id all))) 1 0
-  freed-committed-by found told =
-      freed-by (committed_in id) (committed_in number)
-      (subst (λ n. IsRenamedAs (number_in numbers) (committed_in id all) (committed_in n (renamed (number_in numbers) all))) (number-of-name numbers id number named)
-      (commits-surface (number_in numbers) all (renaming-of numbers slots tied all is) id (present numbers slots tied all is id number named))) found told
-
-  pub freed-left-by : AreFound (destroyed_in id all) → ((those : Surfaces) → Stand slots tied those → AreFreed freed (numbered those) (numbered (destroyed_in number those)))
-      → (buffer : ℕ) → count_by (λ n. n == buffer) freed ≡ cond (is_busy buffer all && not (is_busy buffer (destroyed_in id all))) 1 0
-  freed-left-by found told =
-      freed-by (destroyed_in id) (destroyed_in number)
-      (subst (λ n. IsRenamedAs (number_in numbers) (destroyed_in id all) (destroyed_in n (renamed (number_in numbers) all))) (number-of-name numbers id number named)
-      (destroys-surface (number_in numbers) all (renaming-of numbers slots tied all is) id (present numbers slots tied all is id number named))) found told
