@@ -11,6 +11,9 @@ use Rattle.wl_client.specs.Agreement.{IsPeer}
 use Rattle.wl_peer.specs.Objects.{ById, interface_number, is_of, object_of, objects_in}
 use Rattle.wl_peer.specs.Peer.{Peer, Queues, removed}
 use Rattle.wl_state.specs.Kept.{Kept as KeptSurface}
+use Rattle.wl_family.specs.Family.{Tied, is_there}
+use Rattle.wl_tree_laws.specs.Hanging.{Hang}
+use Rattle.wl_renaming.specs.Renaming.{renamed}
 use Rattle.wl_surface.specs.Slots.{Slots, StandsAt}
 use Rattle.wl_surface.specs.Surfaces.{Surfaces}
 use Rattle.wl_surface.specs.Waiting.{AreUndue, Callback, IsNextDue, is_in}
@@ -20,7 +23,7 @@ use Rattle.wl_scene.specs.Stacking.{Owned}
 use Rattle.wl_plain.specs.Desktop.{Resident}
 use Rattle.wl_plain.specs.Framing.{done_due}
 use Rattle.wl_plain.specs.Happens.{callbacks_due, frame_told, frames_told}
-use Rattle.wl_records.specs.Owning.{AreKept, IsOwned, Names, by_number, names_in, names_surface, targets_in}
+use Rattle.wl_records.specs.Owning.{AreKept, IsOwned, Names, by_number, number_in, names_in, names_surface, targets_in}
 use Rattle.wl_records.proofs.Keeping.FramingWaits.{framed-less}
 use Rattle.wl_laws.proofs.Soundness.ObjectsHas.{has_callback}
 use Rattle.wl_records.proofs.Keeping.OwningNames.{names-other-gone}
@@ -49,8 +52,8 @@ callback-gone old new id is holds = at (entry_of old id) refl is
 
 -- ---- what is kept of the surfaces stands for them whatever callbacks are kept
 
-kept-places : (numbers : ById ℕ) (a b : Slots) (all : Surfaces) → b.places ≡ a.places → AreKept numbers a all → AreKept numbers b all
-kept-places numbers a b all same is =
+kept-places : (numbers : ById ℕ) (a b : Slots) (tied other : Tied) (all : Surfaces) → b.places ≡ a.places → other ≡ tied → AreKept numbers a tied all → AreKept numbers b other all
+kept-places numbers a b tied other all same ties is =
     record {
       links = is.links;
       numbered = is.numbered;
@@ -59,18 +62,21 @@ kept-places numbers a b all same is =
       counts = is.counts;
       stand = λ number. subst (λ (ps : List (Option KeptSurface)). StandsAt (slice_index_or ps number None) (by_number numbers all number)) (sym same) (is.stand number);
       count = ap (λ (ps : List (Option KeptSurface)). count_by is_some ps) same ∙ is.count;
+      hang = subst (λ (t : Tied). Hang t (renamed (number_in numbers) all)) (sym ties) is.hang;
+      there = λ number here. is.there number (ap (λ (t : Tied). is_there number t) (sym ties) ∙ here);
     }
 
-owned-places : (names now : Names) (a b : Slots) (shell other : Book) (o : Owned) → b.places ≡ a.places → now ≡ names → other ≡ shell → IsOwned names a (kept_of shell) o
-    → IsOwned now b (kept_of other) o
-owned-places names now a b shell other o same named kept is =
+owned-places : (names now : Names) (a b : Slots) (tied tying : Tied) (shell other : Book) (o : Owned) → b.places ≡ a.places → tying ≡ tied → now ≡ names → other ≡ shell
+    → IsOwned names a tied (kept_of shell) o → IsOwned now b tying (kept_of other) o
+owned-places names now a b tied tying shell other o same ties named kept is =
     rw (named, kept)
-    (record { surfaces = kept-places names.surfaces a b o.surfaces same is.surfaces; shell = is.shell; known = is.known; named = is.named; toplevels = is.toplevels; roles = is.roles })
+    (record { surfaces = kept-places names.surfaces a b tied tying o.surfaces same ties is.surfaces; shell = is.shell; known = is.known; named = is.named; toplevels = is.toplevels; roles = is.roles })
 
 -- ---- one more is answered
 
 module _ {A : Type 0} (time : ℕ) (old now new : Kept A) (r mid : Resident) (a : IsAnswered time r mid) (is : IsResident now mid) (id : ℕ)
     (due : IsNextDue id (numbered now.client.objects mid) mid.callbacks new.owned.linked.surfaces.frames) (places : new.owned.linked.surfaces.places ≡ now.owned.linked.surfaces.places)
+    (ties : new.owned.linked.family ≡ now.owned.linked.family)
     (shell : new.owned.shell ≡ now.owned.shell)
     (m : Peer) (queues : Queues (frame_told time id) (removed id mid.peer) m) (peer : IsPeer new.client m) where
   abbrev numbers : ById ℕ
@@ -125,7 +131,8 @@ module _ {A : Type 0} (time : ℕ) (old now new : Kept A) (r mid : Resident) (a 
         answered-on time mid due.before due.after c m a.status due.all_are nothing-before counts told r lives a,
         record {
           peer = peer;
-          owns = owned-places (names_in now.client.objects) (names_in new.client.objects) now.owned.linked.surfaces new.owned.linked.surfaces now.owned.shell new.owned.shell mid.owned places names shell is.owns;
+          owns = owned-places (names_in now.client.objects) (names_in new.client.objects) now.owned.linked.surfaces new.owned.linked.surfaces now.owned.linked.family new.owned.linked.family now.owned.shell
+              new.owned.shell mid.owned places ties names shell is.owns;
           frames = rw (requests, ap (λ (n : Names). n.surfaces) names) left;
         },
         names,

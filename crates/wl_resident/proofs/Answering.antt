@@ -10,6 +10,7 @@ use Rattle.wl_peer.specs.Told.{Said}
 use Rattle.wl_client.proofs.Queueing.{queues-then, removed-over, removed-past}
 use Rattle.wl_interface.specs.declared.interface.Interface.TheVariants.{WlCallback}
 use Rattle.wl_state.specs.Frames.{frames_of}
+use Rattle.wl_family.specs.Family.{Tied}
 use Rattle.wl_surface.specs.Frames.{frames_counting}
 use Rattle.wl_surface.specs.Slots.{IsAny, Slots}
 use Rattle.wl_state.specs.State.{counting}
@@ -35,12 +36,12 @@ any-flat : (p : ℕ → Bool) (f : Surface → List ℕ) (xs : List Surface) →
 any-flat p f [] = refl
 any-flat p f (x ∷ xs) = list_any-append p (f x) (flat_map f xs) ∙ ap (λ b. list_any p (f x) || b) (any-flat p f xs)
 
-module _ (numbers : ById ℕ) (slots : Slots) (all : Surfaces) (is : AreKept numbers slots all) where
+module _ (numbers : ById ℕ) (slots : Slots) (tied : Tied) (all : Surfaces) (is : AreKept numbers slots tied all) where
   abbrev counts_here : Callback → Surface → Bool
   counts_here c s = is_in (frames_of (counting s.history)) c
 
   counts-any : (c : Callback) → IsAny (λ at. is_in (applied_at at) c) (by_number numbers all) (list_any (counts_here c) all.surfaces)
-  counts-any c = any-is numbers slots all is (counts_here c) (λ at. is_in (applied_at at) c) refl (λ s. refl)
+  counts-any c = any-is numbers slots tied all is (counts_here c) (λ at. is_in (applied_at at) c) refl (λ s. refl)
 
   read : (c : Callback) → is_in (frames_counting all) c ≡ list_any (counts_here c) all.surfaces
   read c = any-flat (λ n. n == c.number) (λ s. frames_of (counting s.history)) all.surfaces

@@ -3,6 +3,7 @@ use Rattle.std.proofs.Common.{◌≡◌, ℕ, [], ◌∷◌, Bool, Option, Some,
 use Rattle.std.specs.Prelude.{if◌then◌else◌, Ok}
 use Rattle.std.specs.Option.{option_and_then, option_map}
 use Rattle.wl_peer.specs.Peer.{Peer}
+use Rattle.wl_family.specs.Family.{Tied}
 use Rattle.wl_surface.specs.Slots.{Slots}
 use Rattle.wl_shell.specs.Kept.{Kept, changing, commit_answer, kept_after}
 use Rattle.wl_shell.specs.Shell.{Stays, Configures, Maps, Unmaps, RoleObject, XdgSurface, Waiting, at_stage, xdg_of}
@@ -41,12 +42,12 @@ unconfigured : (shows : Bool) (o : Option Kept) (placed : Option Placed) → com
 unconfigured shows None placed e = absurd (cc)
 unconfigured shows (Some k) placed e = (k, refl)
 
-module _ (names : Names) (slots : Slots) (kept : ℕ → Option Kept) (r : Resident) (is : IsOwned names slots kept r.owned) (id number : ℕ) (named : names.surfaces id ≡ Some number) (shows : Bool) where
+module _ (names : Names) (slots : Slots) (tied : Tied) (kept : ℕ → Option Kept) (r : Resident) (is : IsOwned names slots tied kept r.owned) (id number : ℕ) (named : names.surfaces id ≡ Some number) (shows : Bool) where
   pub commit-peer : (act : ShellAct) → commit_answer shows (kept number) ≡ Ok act → (changed_simply (CommitSurface id (effect_by act)) r).peer ≡ drawn_by act
       (after_surface id r (committed_on id r)).peer
   commit-peer (Configure placed) answer =
       let k = unconfigured shows (kept number) placed answer in
-      let xdg = xdg-of names slots kept r.owned is id number k.0 named k.1 in
+      let xdg = xdg-of names slots tied kept r.owned is id number k.0 named k.1 in
       ap (λ (o : Option XdgSurface). (effect_on id Configures o (after_surface id r (committed_on id r))).peer) xdg.3
   commit-peer Map answer = mapped-peer id (xdg_of id r.owned.shell) (after_surface id r (committed_on id r))
   commit-peer Unmap answer = unmapped-peer id (xdg_of id r.owned.shell) (after_surface id r (committed_on id r))
@@ -56,7 +57,7 @@ module _ (names : Names) (slots : Slots) (kept : ℕ → Option Kept) (r : Resid
       → told_by act serial (changing number (kept_after serial act) kept number) ≡ answers_simply (CommitSurface id (effect_by act)) r
   commit-told (Configure placed) serial answer same =
       let k = unconfigured shows (kept number) placed answer in
-      let xdg = xdg-of names slots kept r.owned is id number k.0 named k.1 in
+      let xdg = xdg-of names slots tied kept r.owned is id number k.0 named k.1 in
       let now : changing number (kept_after serial (Configure placed)) kept number ≡ Some (kept_after serial (Configure placed) k.0) =
       ap (λ (b : Bool). if b then option_map (kept_after serial (Configure placed)) (kept number) else kept number) (eq-eqb number number refl)
       ∙ ap (option_map (kept_after serial (Configure placed))) k.1 in

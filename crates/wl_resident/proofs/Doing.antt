@@ -12,6 +12,7 @@ use Rattle.wl_client.specs.View.{ClientView}
 use Rattle.wl_peer.specs.Peer.{LacksMemory, Peer}
 use Rattle.wl_state.specs.declared.content.Attached.{Attached}
 use Rattle.wl_state.specs.Kept.{buffer_of, Kept as KeptSurface}
+use Rattle.wl_family.specs.Family.{Tied}
 use Rattle.wl_surface.specs.Slots.{Changes, IsCopied, Numbered, Slots, had_at, StandForAll, StandsAt, kept_at}
 use Rattle.wl_state.specs.Request.{Request}
 use Rattle.wl_state.specs.State.{Values, asked, committed, geometry_asked, is_commit}
@@ -33,6 +34,7 @@ use Rattle.wl_resident.specs.Residents.{IsLeft, IsResident, IsSurface, KeepsFram
 use Rattle.wl_plain.specs.Step.{changed_by}
 use Rattle.wl_records.proofs.Keeping.Letting.{asked-keeps}
 use Rattle.wl_resident.proofs.Numbers.{keeps-same}
+use Rattle.wl_tree_laws.specs.Stacks.{is_about_children}
 use Rattle.wl_resident.proofs.Framing.{IsFramed, framed-asked, no-more}
 use Rattle.wl_records.proofs.Keeping.OwningAsks.{owned-asked}
 use Rattle.wl_records.proofs.Keeping.OwningSurfaces.{surface-named, surface-read}
@@ -62,12 +64,12 @@ cut-bounds None s stands = absurd stands
 cut-bounds (Some k) s stands = (stands.history.cut_within, stands.history.commits_within)
 
 -- A request of a surface that is no commit, attaches nothing and asks for no window geometry.
-pub asked-so : {A : Type 0} (old new : Kept A) (r : Resident) (id number : ℕ) (request : Request) → IsResident old r → IsSurface old id number → is_commit request ≡ false
+pub asked-so : {A : Type 0} (old new : Kept A) (r : Resident) (id number : ℕ) (request : Request) → IsResident old r → IsSurface old id number → is_about_children request ≡ false → is_commit request ≡ false
     → ((v : Values) → (asked v request).buffer ≡ v.buffer)
     → ((g : Option Rect) → geometry_asked g request ≡ g) → frames_of (request ∷ []) ≡ [] → new.owned.linked.surfaces.frames ≡ old.owned.linked.surfaces.frames
-    → Changes old.owned.linked.surfaces new.owned.linked.surfaces number (asking request) → new.client ≡ old.client → kept_of new.owned.shell ≡ kept_of old.owned.shell
+    → Changes old.owned.linked.surfaces new.owned.linked.surfaces number (asking request) → new.owned.linked.family ≡ old.owned.linked.family → new.client ≡ old.client → kept_of new.owned.shell ≡ kept_of old.owned.shell
     → ((changed_by (AskSurface id request) r).peer ≡ r.peer) × IsLeft old new (changed_by (AskSurface id request) r) r.peer
-asked-so old new r id number request is named plain keeps other asks_none frames changes same shell =
+asked-so old new r id number request is named about plain keeps other asks_none frames changes ties same shell =
     let names = names_in old.client.objects in
     let there = surface-named names.surfaces old.owned.linked.surfaces old.owned.linked.family r.owned.surfaces is.owns.surfaces id number named in
     let read = surface-read names.surfaces old.owned.linked.surfaces old.owned.linked.family r.owned.surfaces is.owns.surfaces id number named ∙ there.1 in
@@ -76,11 +78,11 @@ asked-so old new r id number request is named plain keeps other asks_none frames
       ap (λ (q : Resident). q.peer) none,
       record {
         peer = rw same is.peer;
-        owns = λ alive. rw (same, shell) (owned-asked names old.owned.linked.surfaces old.owned.linked.family (kept_of old.owned.shell) r is.owns id number request new.owned.linked.surfaces named plain other changes);
+        owns = λ alive. rw (same, shell, ties) (owned-asked names old.owned.linked.surfaces old.owned.linked.family (kept_of old.owned.shell) r is.owns id number request new.owned.linked.surfaces named about plain other changes);
         frames = λ alive.
             let table : new.client.objects ≡ old.client.objects = ap (λ (w : ClientView). w.objects) same in
             subst (λ (ws : List Waiting). IsFramed ws new.client.objects (changed_by (AskSurface id request) r)) (sym frames)
-            (framed-asked old.owned.linked.surfaces.frames old.client.objects new.client.objects r (changed_by (AskSurface id request) r) refl (no-more r.peer.requests) is.frames old.owned.linked.surfaces
+            (framed-asked old.owned.linked.surfaces.frames old.client.objects new.client.objects r (changed_by (AskSurface id request) r) refl (no-more r.peer.requests) is.frames old.owned.linked.surfaces old.owned.linked.family
             is.owns.surfaces id number request asks_none plain named
             (ap names_in table) refl);
         numbers = λ alive. keeps-same old.client.objects new.client.objects (ap (λ (w : ClientView). w.objects) same);
@@ -102,7 +104,7 @@ pub one-let : (v w : ClientView) (r : Resident) (change : Stock → Stock) → I
     → IsPeer w (record r.peer { stores = change r.peer.stores })
 one-let v w r change is only stores = subst (λ (x : ClientView). IsPeer x (record r.peer { stores = change r.peer.stores })) (sym only) (IsPeer-stores v r.peer change w.stores stores is)
 
-pub kept-there : {A : Type 0} (v w : Lent A) (numbers : ById ℕ) (all : Surfaces) → w ≡ v → AreKept numbers v.surfaces all → AreKept numbers w.surfaces all
+pub kept-there : {A : Type 0} (v w : Lent A) (numbers : ById ℕ) (all : Surfaces) → w ≡ v → AreKept numbers v.linked.surfaces v.linked.family all → AreKept numbers w.linked.surfaces w.linked.family all
 kept-there v w numbers all same kept = rw same kept
 
 -- The buffers that a surface had are let go of, once what was asked of it stands: so it was done.
@@ -118,9 +120,9 @@ let-go-so old v w after still owns frames only same peer =
     }
 
 -- what a surface had, by its id
-pub had-by : (numbers : ById ℕ) (slots : Slots) (all : Surfaces) (id number : ℕ) (had : List (Option Attached)) → AreKept numbers slots all → numbers id ≡ Some number
+pub had-by : (numbers : ById ℕ) (slots : Slots) (tied : Tied) (all : Surfaces) (id number : ℕ) (had : List (Option Attached)) → AreKept numbers slots tied all → numbers id ≡ Some number
     → ((named : Numbered) → StandForAll slots named → map (option_map buffer_of) had ≡ had_at (named number)) → map (option_map buffer_of) had ≡ had_at (surface_at id all)
-had-by numbers slots all id number had kept named reads = reads (by_number numbers all) kept.stand ∙ ap had_at (surface-read numbers slots all kept id number named)
+had-by numbers slots tied all id number had kept named reads = reads (by_number numbers all) kept.stand ∙ ap had_at (surface-read numbers slots tied all kept id number named)
 
 -- the object that is in the table names its surface
 pub named-by : (held : Held) (id number : ℕ) (entry : Entry) → entry_of held id ≡ Some entry → entry.interface ≡ WlSurface → entry.target ≡ number → targets_in WlSurface held id ≡ Some number

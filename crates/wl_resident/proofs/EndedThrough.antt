@@ -14,7 +14,12 @@ use Rattle.wl_peer.proofs.Requests.{of-wl_surface}
 use Rattle.wl_geom.specs.declared.rect.Rect.{Rect}
 use Rattle.wl_paint.specs.Damage.{Damaged, has}
 use Rattle.wl_state.specs.Shape.{newly_damaged}
-use Rattle.wl_surface.specs.Slots.{Changes, Numbered, Slots, StandForAll}
+use Rattle.wl_family.specs.Family.{Tied}
+use Rattle.wl_surface.specs.Trees.{committed_in}
+use Rattle.wl_named.specs.Named.{Makes}
+use Rattle.wl_records.proofs.Keeping.OwningAlone.{alone-stand}
+use Rattle.wl_records.proofs.Keeping.OwningTies.{committed-by}
+use Rattle.wl_surface.specs.Slots.{Numbered, Slots, StandForAll}
 use Rattle.wl_state.specs.Request.{Commit}
 use Rattle.wl_state.specs.State.{History}
 use Rattle.wl_state.specs.Surface.{applying, asking}
@@ -222,7 +227,7 @@ module _ {A : Type 0} (c : ℕ) (others : ℕ → ById ℕ) (base d : Desktop) (
           stays = own-stays;
           least = λ x y wide high inside marked.
               own-marks x y wide high
-              (gone-least c r d before.based.there _ _ _ before.seat.owns before.mapped more e (pos x) (pos y) serves over (twice-least d e (pos x) (pos y) later apart marked));
+              (gone-least c r d before.based.there _ _ _ _ before.seat.owns before.mapped more e (pos x) (pos y) serves over (twice-least d e (pos x) (pos y) later apart marked));
           most = λ x y wide high inside clean marked.
               twice-most d e (pos x) (pos y) (gone-most c d e (pos x) (pos y) more later over inside (own-only x y wide high clean marked));
         })
@@ -234,11 +239,11 @@ module _ {A : Type 0} (c : ℕ) (others : ℕ → ById ℕ) (base d : Desktop) (
       least = λ x y wide high inside marked.
           own-marks x y wide high
           (either-of (marks_at_least d s.own (pos x) (pos y)) (has_window_at c (pos x) (pos y) s.own) (has_window_at c (pos x) (pos y) d)
-          (struck-least c r d before.based.there _ _ _ before.seat.owns before.mapped more path e s (pos x) (pos y) marked)
-          (λ changed. struck-was c r d before.based.there _ _ _ before.seat.owns before.mapped more path e s (pos x) (pos y) inside none changed)
-          (λ there. struck-kept c r d before.based.there _ _ _ before.seat.owns before.mapped more path e s (pos x) (pos y) inside none there));
+          (struck-least c r d before.based.there _ _ _ _ before.seat.owns before.mapped more path e s (pos x) (pos y) marked)
+          (λ changed. struck-was c r d before.based.there _ _ _ _ before.seat.owns before.mapped more path e s (pos x) (pos y) inside none changed)
+          (λ there. struck-kept c r d before.based.there _ _ _ _ before.seat.owns before.mapped more path e s (pos x) (pos y) inside none there));
       most = λ x y wide high inside clean marked.
-          struck-most c r d before.based.there _ _ _ before.seat.owns before.mapped more path e s (pos x) (pos y) inside
+          struck-most c r d before.based.there _ _ _ _ before.seat.owns before.mapped more path e s (pos x) (pos y) inside
           (or_left (has_window_at c (pos x) (pos y) d) _ (own-only x y wide high clean marked));
     }
 
@@ -246,7 +251,7 @@ module _ {A : Type 0} (c : ℕ) (others : ℕ → ById ℕ) (base d : Desktop) (
 
   module _ (s : Struck c r d path e) (id number : ℕ) (effect : Effect) (is : s.ask ≡ CommitSurface id effect) (named : targets_in WlSurface old.client.objects id ≡ Some number)
       (record_was : Option WindowRecord) (first : IsRecordOf record_was (window_at c id d))
-      (slots : Slots) (changes : Changes old.owned.linked.surfaces slots number (λ s. applying (asking Commit s)))
+      (slots : Slots) (tied : Tied) (makes : Makes old.owned.linked.surfaces old.owned.linked.family slots tied (committed_in number))
       (marks : (all : Numbered) → StandForAll slots all → (x y : ℕ) → x < was.width → y < was.height
       → has new x y ≡ (has was x y || (any_record_has (pos x) (pos y) record_was || list_any (is_shown_by c all (pos x) (pos y)) stack.standing))) where
     abbrev names : ById ℕ
@@ -258,15 +263,16 @@ module _ {A : Type 0} (c : ℕ) (others : ℕ → ById ℕ) (base d : Desktop) (
     -- what it owns after the message's own change
     owned-own : owned_in s.own c ≡ (changed_simply (CommitSurface id effect) asker).owned
     owned-own =
-        ap owned_of (at-own c r d before.based.there _ _ _ before.seat.owns before.mapped more path e s) ∙ ap (λ (a : Simple). (changed_simply a asker).owned) is
+        ap owned_of (at-own c r d before.based.there _ _ _ _ before.seat.owns before.mapped more path e s) ∙ ap (λ (a : Simple). (changed_simply a asker).owned) is
 
     surfaces-own : (owned_in s.own c).surfaces ≡ with_change id (λ s. applying (asking Commit s)) r.owned.surfaces
     surfaces-own = ap (λ (o : Owned). o.surfaces) owned-own ∙ effect-surfaces id effect (xdg_of id r.owned.shell) _
 
-    kept-own : AreKept names slots (owned_in s.own c).surfaces
+    kept-own : AreKept names slots tied (owned_in s.own c).surfaces
     kept-own =
-        subst (λ all. AreKept names slots all) (sym surfaces-own)
-        (AreKept-changed names old.owned.linked.surfaces old.owned.linked.family r.owned.surfaces before.seat.owns.surfaces id number named (λ s. applying (asking Commit s)) (λ s. refl) slots (λ s counts. refl) changes)
+        subst (λ all. AreKept names slots tied all) (sym surfaces-own)
+        (AreKept-changed names old.owned.linked.surfaces old.owned.linked.family r.owned.surfaces before.seat.owns.surfaces id number named (λ s. applying (asking Commit s)) (λ s. refl) slots tied
+        (λ s counts. refl) (committed-by names old.owned.linked.surfaces old.owned.linked.family r.owned.surfaces before.seat.owns.surfaces id number named slots tied makes))
 
     abbrev all_own : Numbered
     all_own = by_number names (owned_in s.own c).surfaces
@@ -280,8 +286,8 @@ module _ {A : Type 0} (c : ℕ) (others : ℕ → ById ℕ) (base d : Desktop) (
     shown-own : (x y : ℤ) (ks : List Standing) → IsStack (with_numbers c names others) ks s.own.standing → list_any (is_shown_by c all_own x y) ks ≡ has_window_at c x y s.own
     shown-own x y ks are =
         windows-shown c x y (owned_in s.own) kept-own.links (with_numbers c names others) all_own
-        (λ id number named. surface-read names slots (owned_in s.own c).surfaces kept-own id number (sym (ap (λ (f : ById ℕ). f id) (numbers-same c names others)) ∙ named))
-        ks s.own.standing are (all-show s.own (own-stand c r d before.based.there _ _ _ before.seat.owns before.mapped more path e s))
+        (λ id number named. surface-read names slots tied (owned_in s.own c).surfaces kept-own id number (sym (ap (λ (f : ById ℕ). f id) (numbers-same c names others)) ∙ named))
+        ks s.own.standing are (all-show s.own (own-stand c r d before.based.there _ _ _ _ before.seat.owns before.mapped more path e s))
 
     -- What stands then stood before; what is shown of it is one of its windows, as they were or as they are.
     record Shows (x y : ℤ) : Type 0 where
@@ -297,7 +303,7 @@ module _ {A : Type 0} (c : ℕ) (others : ℕ → ById ℕ) (base d : Desktop) (
 
     effect-is : effect_of r id ≡ effect
     effect-is =
-        (subst (λ (a : Simple). Finds a asker) is (asks-find c r d before.based.there _ _ _ before.seat.owns before.mapped (no-links d more) (split_of r.peer.rest) s.ask s.before s.asks)).0
+        (subst (λ (a : Simple). Finds a asker) is (asks-find c r d before.based.there _ _ _ _ before.seat.owns before.mapped (no-links d more) (split_of r.peer.rest) s.ask s.before s.asks)).0
 
     all-shown : (x y : ℤ) → Shows x y
     all-shown x y = at effect effect-is standing-own is
@@ -308,7 +314,7 @@ module _ {A : Type 0} (c : ℕ) (others : ℕ → ById ℕ) (base d : Desktop) (
         at Configures comes same asks = stays-shown x y same
         at Maps comes same asks =
             absurd (s.some_told (ap (λ (a : Simple). told_simply a asker) asks
-            ∙ maps-quiet _ _ r id s.before before.seat.owns.surfaces (subst (λ (o : Owned). AreMapped c o d.standing) (ap owned_of before.based.there) (before.mapped.each c)).bare comes))
+            ∙ maps-quiet _ _ _ r id s.before before.seat.owns.surfaces (subst (λ (o : Owned). AreMapped c o d.standing) (ap owned_of before.based.there) (before.mapped.each c)).bare comes))
         at Unmaps comes same asks =
             let left : IsStack (with_numbers c names others) (without_surface_of c number stack.standing) s.own.standing =
             subst (λ ss. IsStack (with_numbers c names others) (without_surface_of c number stack.standing) ss) (sym same)
@@ -317,7 +323,7 @@ module _ {A : Type 0} (c : ℕ) (others : ℕ → ById ℕ) (base d : Desktop) (
             record {
               shows = λ there. any-of-filter (is_shown_by c all_own x y) (λ k. not (is_of c number k)) stack.standing (shown-own x y (without_surface_of c number stack.standing) left ∙ there);
               all = all_committed c others base d r old stack before x y id number named;
-              stand = changes.stand _ (stand_then c others base d r old stack before);
+              stand = alone-stand names old.owned.linked.surfaces old.owned.linked.family r.owned.surfaces before.seat.owns.surfaces number slots tied makes;
               within = λ there.
                   or_left (has_window_at c x y d) _
                   (bare-shown c others base d r old stack before x y id number named (λ t found. unmaps-bare r id t comes found) there);
@@ -333,7 +339,7 @@ module _ {A : Type 0} (c : ℕ) (others : ℕ → ById ℕ) (base d : Desktop) (
 
     changed-shown : (x y : ℕ) → x < was.width → y < was.height → marks_at_least d s.own (pos x) (pos y) ≡ true → has new x y ≡ true
     changed-shown x y wide high changed =
-        let there = struck-own c r d before.based.there _ _ _ before.seat.owns before.mapped more path e s (pos x) (pos y) changed in
+        let there = struck-own c r d before.based.there _ _ _ _ before.seat.owns before.mapped more path e s (pos x) (pos y) changed in
         let same : there.0 ≡ id = sym (some-same id there.0 (sym (ap (λ (a : Simple). touched a r) is) ∙ there.1)) in
         let rects = applied-some s.ask (history_of d c there.0) in
         let either = subst (λ n. (any_contains (pos x) (pos y) (window_at c n d) || any_contains (pos x) (pos y) (window_at c n s.own)) ≡ true) same
@@ -347,14 +353,14 @@ module _ {A : Type 0} (c : ℕ) (others : ℕ → ById ℕ) (base d : Desktop) (
       stays = λ x y wide high there. marks all_own kept-own.stand x y wide high ∙ or_left (has was x y) _ there;
       least = λ x y wide high inside marked.
           either-of (marks_at_least d s.own (pos x) (pos y)) (has_window_at c (pos x) (pos y) s.own) (has new x y)
-          (struck-least c r d before.based.there _ _ _ before.seat.owns before.mapped more path e s (pos x) (pos y) marked)
+          (struck-least c r d before.based.there _ _ _ _ before.seat.owns before.mapped more path e s (pos x) (pos y) marked)
           (λ changed. changed-shown x y wide high changed) (λ there. changes-shown x y wide high there);
       most = λ x y wide high inside clean marked.
           let here = all-shown (pos x) (pos y) in
           let added : (any_record_has (pos x) (pos y) record_was || list_any (is_shown_by c here.all (pos x) (pos y)) stack.standing) ≡ true =
           sym (ap (λ b. b || (any_record_has (pos x) (pos y) record_was || list_any (is_shown_by c here.all (pos x) (pos y)) stack.standing)) clean)
           ∙ sym (marks here.all here.stand x y wide high) ∙ marked in
-          struck-most c r d before.based.there _ _ _ before.seat.owns before.mapped more path e s (pos x) (pos y) inside
+          struck-most c r d before.based.there _ _ _ _ before.seat.owns before.mapped more path e s (pos x) (pos y) inside
           (either-of (any_record_has (pos x) (pos y) record_was) (list_any (is_shown_by c here.all (pos x) (pos y)) stack.standing)
           (has_window_at c (pos x) (pos y) d || has_window_at c (pos x) (pos y) s.own) added
           (λ f. or_left (has_window_at c (pos x) (pos y) d) _ (record-window c id d record_was (pos x) (pos y) first f)) here.within);

@@ -22,6 +22,8 @@ use Rattle.wl_resident.specs.Agreement.{IsSeat}
 use Rattle.wl_plain.specs.Desktop.{Resident, resident_of}
 use Rattle.wl_records.specs.Owning.{IsOwned, names_in, target_as, targets_in, by_number}
 use Rattle.wl_plain.specs.Framing.{AreFramed}
+use Rattle.wl_surface.specs.Slots.{Slots, StandForAll, kept_at, nobody, count as count_kept}
+use Rattle.wl_records.proofs.Keeping.OwningTies.{count-same, is-kept, nothing-at}
 use Rattle.wl_resident.specs.Seats.{IsBare}
 use Rattle.wl_resident.specs.View.{OwnedView, owned_view}
 use Rattle.wl_laws.proofs.Lists.Keys.{differ}
@@ -90,7 +92,11 @@ nameless-over v q is over = nameless-none v.objects (is.objects ∙ ap (λ (x : 
 none-kept : (book : Book) (number : ℕ) → book ≡ [] → kept_of book number ≡ None
 none-kept book number e = rw e refl
 
-pub owns-nothing : {A : Type 0} (held : Held) (owned : Owned A) → AreNameless held → IsBare owned → IsOwned (names_in held) owned.surfaces (kept_of owned.shell) nothing_owned
+-- nothing is kept where there are no surfaces
+none-counted : (slots : Slots) → StandForAll slots nobody → count_kept slots ≡ 0
+none-counted slots stand = count-same slots.places [] (λ n. is-kept (kept_at slots n) None (stand n) ∙ sym (ap is_some (nothing-at n)))
+
+pub owns-nothing : {A : Type 0} (held : Held) (owned : Owned A) → AreNameless held → IsBare owned → IsOwned (names_in held) owned.linked.surfaces owned.linked.family (kept_of owned.shell) nothing_owned
 owns-nothing held owned none bare =
     record {
       surfaces = record {
@@ -99,8 +105,10 @@ owns-nothing held owned none bare =
         once = λ a b number e f. absurd (no-some number (sym (none.surfaces a) ∙ e));
         apart = tt;
         counts = λ id h e. absurd (cc);
-        stand = bare.surfaces;
-        count = bare.count;
+        stand = bare.surfaces.surfaces;
+        count = none-counted owned.linked.surfaces bare.surfaces.surfaces;
+        hang = bare.surfaces.hang;
+        there = λ number here. absurd (differ (sym (bare.surfaces.there number here)));
       };
       shell = record { each = λ surface. rw (none.surfaces surface) tt; apart = tt };
       known = λ number e. absurd (differ (sym e ∙ ap (λ o. is_some o) (none-kept owned.shell number bare.shell)));
@@ -162,8 +170,8 @@ nameless-seat v o r seat gone =
       toplevels = λ id. owns.toplevels id;
     }
   where
-    owns : IsOwned (names_in v.objects) o.surfaces (kept_of o.shell) nothing_owned
-    owns = subst (λ (x : Resident). IsOwned (names_in v.objects) o.surfaces (kept_of o.shell) x.owned) (seat.ended gone) seat.owns
+    owns : IsOwned (names_in v.objects) o.surfaces o.family (kept_of o.shell) nothing_owned
+    owns = subst (λ (x : Resident). IsOwned (names_in v.objects) o.surfaces o.family (kept_of o.shell) x.owned) (seat.ended gone) seat.owns
 
     none-there : (n : Option ℕ) → is_some n ≡ false → n ≡ None
     none-there None e = refl

@@ -10,6 +10,7 @@ use Rattle.wl_peer.specs.Objects.{with_id}
 use Rattle.wl_peer.specs.Peer.{Peer, Queues, QueuesOr, ended, has_room, queued}
 use Rattle.wl_peer.specs.Told.{Said}
 use Rattle.wl_peer.specs.declared.cause.Cause.{Cause}
+use Rattle.wl_family.specs.Family.{Tied}
 use Rattle.wl_surface.specs.declared.frames.Waiting.{Waiting}
 use Rattle.wl_state.specs.Frames.{frames_of}
 use Rattle.wl_surface.specs.Slots.{Numbered, Slots, StandForAll, changed_at, kept_at, with_at}
@@ -66,7 +67,7 @@ module _ (frames : List Waiting) (old new : Held) (r after : Resident) (callback
   pub framed-names : names_in new ≡ names_in old → after.owned.surfaces ≡ r.owned.surfaces → IsFramed frames new after
   framed-names names surfaces = framed-kept (ap (λ (n : Names). n.surfaces) names) surfaces
 
-  module _ (slots : Slots) (is : AreKept (targets_in WlSurface old) slots r.owned.surfaces) (id number : ℕ) where
+  module _ (slots : Slots) (tied : Tied) (is : AreKept (targets_in WlSurface old) slots tied r.owned.surfaces) (id number : ℕ) where
     -- one surface changes
     framed-changed : (change : Surface → Surface) → ((s : Surface) → (change s).id ≡ s.id) → frames_at (option_map change (numbered old r number)) ≡ frames_at (numbered old r number)
         → counted_at (option_map change (numbered old r number)) ≡ counted_at (numbered old r number) → targets_in WlSurface old id ≡ Some number → targets_in WlSurface new ≡ targets_in WlSurface old
@@ -74,7 +75,7 @@ module _ (frames : List Waiting) (old new : Held) (r after : Resident) (callback
     framed-changed change keeps asked counts named names surfaces =
         let same : numbered new after ≡ changed_at number change (numbered old r) =
         ap (λ n. by_number n after.owned.surfaces) names ∙ ap (λ all. by_number (targets_in WlSurface old) all) surfaces
-        ∙ fun_ext (surfaces-changed (targets_in WlSurface old) slots r.owned.surfaces is id number named change keeps) in
+        ∙ fun_ext (surfaces-changed (targets_in WlSurface old) slots tied r.owned.surfaces is id number named change keeps) in
         framed-left
         (λ n. ap (λ (all : Numbered). frames_at (all n)) same ∙ at-one frames_at number change (numbered old r) asked n)
         (λ n. ap (λ (all : Numbered). counted_at (all n)) same ∙ at-one counted_at number change (numbered old r) counts n)
@@ -98,7 +99,7 @@ module _ (frames : List Waiting) (old new : Held) (r after : Resident) (callback
     framed-made made created free names surfaces =
         let same : numbered new after ≡ with_at number (Some (new_surface id)) (numbered old r) =
         ap (λ n. by_number n after.owned.surfaces) names ∙ ap (λ all. by_number (with_id id (Some number) (targets_in WlSurface old)) all) surfaces
-        ∙ fun_ext (surfaces-made (targets_in WlSurface old) slots r.owned.surfaces is id number free made created) in
+        ∙ fun_ext (surfaces-made (targets_in WlSurface old) slots tied r.owned.surfaces is id number free made created) in
         let none = (created (numbered old r) id is.stand).0 in
         framed-left
         (λ n. ap (λ (all : Numbered). frames_at (all n)) same ∙ at-new frames_at number id (numbered old r) none refl n)
@@ -152,17 +153,17 @@ left-by numbers cs = left-among numbers cs cs (λ c any. any)
 
 -- ---- a frame callback is asked for, a commit applies all of its surface, and a surface goes
 
-module _ (old new : Held) (r after : Resident) (slots : Slots) (is : AreKept (targets_in WlSurface old) slots r.owned.surfaces) (f : IsFramed slots.frames old r) (id number : ℕ)
+module _ (old new : Held) (r after : Resident) (slots : Slots) (tied : Tied) (is : AreKept (targets_in WlSurface old) slots tied r.owned.surfaces) (f : IsFramed slots.frames old r) (id number : ℕ)
     (named : targets_in WlSurface old id ≡ Some number) where
   there : is_some (numbered old r number) ≡ true
-  there = ap is_some (surface-read (targets_in WlSurface old) slots r.owned.surfaces is id number named) ∙ sym (is.numbered id) ∙ ap is_some named
+  there = ap is_some (surface-read (targets_in WlSurface old) slots tied r.owned.surfaces is id number named) ∙ sym (is.numbered id) ∙ ap is_some named
 
   changed-so : (change : Surface → Surface) → ((s : Surface) → (change s).id ≡ s.id) → targets_in WlSurface new ≡ targets_in WlSurface old
       → after.owned.surfaces ≡ with_change id change r.owned.surfaces
       → numbered new after ≡ changed_at number change (numbered old r)
   changed-so change keeps names surfaces =
       ap (λ n. by_number n after.owned.surfaces) names ∙ ap (λ all. by_number (targets_in WlSurface old) all) surfaces
-      ∙ fun_ext (surfaces-changed (targets_in WlSurface old) slots r.owned.surfaces is id number named change keeps)
+      ∙ fun_ext (surfaces-changed (targets_in WlSurface old) slots tied r.owned.surfaces is id number named change keeps)
 
   -- The number of the request is that of the client's last one.
   pub framed-frame : (frames : List Waiting) (n callback : ℕ) → n ≡ r.peer.requests + 1 → after.peer.requests ≡ n
@@ -178,16 +179,17 @@ module _ (old new : Held) (r after : Resident) (slots : Slots) (is : AreKept (ta
       rw (changed-so (asking (Frame n)) (λ s. refl) (ap (λ (x : Names). x.surfaces) names) surfaces, calls, counted) more
 
   pub framed-commit : (frames : List Waiting)
-      → ((all : Numbered) (cs : List Callback) → AreWaiting slots.frames all cs → AreWaiting frames (changed_at number (λ s. applying (asking Commit s)) all) cs)
+      → (AreWaiting slots.frames (numbered old r) r.callbacks → AreWaiting frames (changed_at number (λ s. applying (asking Commit s)) (numbered old r)) r.callbacks)
       → after.peer.requests ≡ r.peer.requests → after.callbacks ≡ r.callbacks → names_in new ≡ names_in old → after.owned.surfaces ≡ with_change id (λ s. applying (asking Commit s)) r.owned.surfaces
       → IsFramed frames new after
   framed-commit frames waits counted calls names surfaces =
       let all = numbered old r in
       rw (changed-so (λ s. applying (asking Commit s)) (λ s. refl) (ap (λ (x : Names). x.surfaces) names) surfaces, calls, counted)
-      (framed-committed slots.frames frames all number (r.peer.requests + 1) r.callbacks f (waits all r.callbacks f.waits))
+      (framed-committed slots.frames frames all number (r.peer.requests + 1) r.callbacks f (waits f.waits))
 
   pub framed-destroy : (left : Slots)
-      → ((all : Numbered) (cs : List Callback) → AreWaiting slots.frames all cs → AreWaiting left.frames (with_at number None all) (filter (λ c. not (is_in (frames_at (all number)) c)) cs))
+      → (AreWaiting slots.frames (numbered old r) r.callbacks
+      → AreWaiting left.frames (with_at number None (numbered old r)) (filter (λ c. not (is_in (frames_at (numbered old r number)) c)) r.callbacks))
       → after.peer.requests ≡ r.peer.requests → after.callbacks ≡ filter (λ c. not (is_in (frames_at (numbered old r number)) c)) r.callbacks
       → targets_in WlSurface new ≡ with_id id None (targets_in WlSurface old)
       → after.owned.surfaces ≡ without_surface id r.owned.surfaces → IsFramed left.frames new after
@@ -195,9 +197,9 @@ module _ (old new : Held) (r after : Resident) (slots : Slots) (is : AreKept (ta
       let all = numbered old r in
       let same : numbered new after ≡ with_at number None all =
       ap (λ n. by_number n after.owned.surfaces) names ∙ ap (λ xs. by_number (with_id id None (targets_in WlSurface old)) xs) surfaces
-      ∙ fun_ext (surfaces-left (targets_in WlSurface old) slots r.owned.surfaces is id number named left) in
+      ∙ fun_ext (surfaces-left (targets_in WlSurface old) slots tied r.owned.surfaces is id number named left) in
       rw (same, calls, counted)
-      (framed-gone slots.frames left.frames all number (r.peer.requests + 1) r.callbacks (filter (λ c. not (is_in (frames_at (all number)) c)) r.callbacks) f (waits all r.callbacks f.waits))
+      (framed-gone slots.frames left.frames all number (r.peer.requests + 1) r.callbacks (filter (λ c. not (is_in (frames_at (all number)) c)) r.callbacks) f (waits f.waits))
 
 effect-callbacks : (surface : ℕ) (effect : Effect) (o : Option Xdg) (r : Resident) → (effect_on surface effect o r).callbacks ≡ r.callbacks
 effect-callbacks surface effect None r = refl
@@ -216,18 +218,21 @@ effect-requests surface Maps (Some x) r = refl
 effect-requests surface Unmaps (Some x) r = refl
 
 -- whatever a commit comes to for the shell
-pub framed-applied : (old new : Held) (names : Names) (r : Resident) (id number : ℕ) (effect : Effect) (slots now : Slots) → names_in old ≡ names → new ≡ old
-    → AreKept names.surfaces slots r.owned.surfaces → names.surfaces id ≡ Some number
+pub framed-applied : (old new : Held) (names : Names) (r : Resident) (id number : ℕ) (effect : Effect) (slots : Slots) (tied : Tied) (now : Slots) → names_in old ≡ names → new ≡ old
+    → AreKept names.surfaces slots tied r.owned.surfaces → names.surfaces id ≡ Some number
     → AreFramed slots.frames (by_number names.surfaces r.owned.surfaces) (r.peer.requests + 1) r.callbacks
-    → ((all : Numbered) (cs : List Callback) → AreWaiting slots.frames all cs → AreWaiting now.frames (changed_at number (λ s. applying (asking Commit s)) all) cs)
+    → (AreWaiting slots.frames (by_number names.surfaces r.owned.surfaces) r.callbacks
+    → AreWaiting now.frames (changed_at number (λ s. applying (asking Commit s)) (by_number names.surfaces r.owned.surfaces)) r.callbacks)
     → IsFramed now.frames new (changed_simply (CommitSurface id effect) r)
-framed-applied old new names r id number effect slots now are table is named f waits =
-    let kept = subst (λ (n : Names). AreKept n.surfaces slots r.owned.surfaces) (sym are) is in
+framed-applied old new names r id number effect slots tied now are table is named f waits =
+    let kept = subst (λ (n : Names). AreKept n.surfaces slots tied r.owned.surfaces) (sym are) is in
     let there = subst (λ (n : Names). n.surfaces id ≡ Some number) (sym are) named in
     let framed = subst (λ (n : Names). AreFramed slots.frames (by_number n.surfaces r.owned.surfaces) (r.peer.requests + 1) r.callbacks) (sym are) f in
+    let waiting = subst (λ (n : Names). AreWaiting slots.frames (by_number n.surfaces r.owned.surfaces) r.callbacks
+        → AreWaiting now.frames (changed_at number (λ s. applying (asking Commit s)) (by_number n.surfaces r.owned.surfaces)) r.callbacks) (sym are) waits in
     let o = xdg_of id r.owned.shell in
     let after = after_surface id r (committed_on id r) in
-    framed-commit old new r (effect_on id effect o after) slots kept framed id number there now.frames waits (effect-requests id effect o after) (effect-callbacks id effect o after)
+    framed-commit old new r (effect_on id effect o after) slots tied kept framed id number there now.frames waiting (effect-requests id effect o after) (effect-callbacks id effect o after)
     (ap names_in table)
     (effect-surfaces id effect o after)
 

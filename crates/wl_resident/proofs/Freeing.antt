@@ -5,6 +5,7 @@ use Rattle.std.proofs.lemmas.List.Sums.{length-filter}
 use Rattle.std.specs.Prelude.{◌==◌, ◌||◌, not, count_by, filter, length}
 use Rattle.std.specs.List.{list_any}
 use Rattle.wl_peer.specs.Objects.{ById, with_id}
+use Rattle.wl_family.specs.Family.{Tied}
 use Rattle.wl_surface.specs.Applied.{AreFreed}
 use Rattle.wl_surface.specs.Slots.{IsAny, Numbered, Slots, changed_at, shows_at, with_at}
 use Rattle.wl_state.specs.Request.{Buffer}
@@ -51,27 +52,27 @@ freed-of freed old new number r (Some b) is busy are =
 
 -- ---- of a surface that commits, or goes
 
-module _ (numbers : ById ℕ) (slots : Slots) (r after : Resident) (kept : AreKept numbers slots r.owned.surfaces) (id number : ℕ) (named : numbers id ≡ Some number) (freed : List ℕ)
-    (new : Slots) where
+module _ (numbers : ById ℕ) (slots : Slots) (tied : Tied) (r after : Resident) (kept : AreKept numbers slots tied r.owned.surfaces) (id number : ℕ) (named : numbers id ≡ Some number) (freed : List ℕ)
+    (new : Slots) (without : Tied) where
   shown : shown_at (by_number numbers r.owned.surfaces number) ≡ shown_at (surface_at id r.owned.surfaces)
-  shown = ap shown_at (surface-read numbers slots r.owned.surfaces kept id number named)
+  shown = ap shown_at (surface-read numbers slots tied r.owned.surfaces kept id number named)
 
   pub freed-changed : (change : Surface → Surface) → ((s : Surface) → (change s).id ≡ s.id) → after.owned.surfaces ≡ with_change id change r.owned.surfaces
-      → AreKept numbers new after.owned.surfaces
+      → AreKept numbers new without after.owned.surfaces
       → AreFreed freed (by_number numbers r.owned.surfaces) (changed_at number change (by_number numbers r.owned.surfaces))
       → IsFreedOf freed (shown_at (surface_at id r.owned.surfaces)) after
   freed-changed change keeps is are freed_are =
       freed-of freed (by_number numbers r.owned.surfaces) (changed_at number change (by_number numbers r.owned.surfaces)) number after (shown_at (surface_at id r.owned.surfaces)) shown
       (λ buffer.
       any-same (shows_at buffer) (by_number numbers after.owned.surfaces) (changed_at number change (by_number numbers r.owned.surfaces))
-      (λ other. ap (λ all. by_number numbers all other) is ∙ surfaces-changed numbers slots r.owned.surfaces kept id number named change keeps other) (is_busy buffer after.owned.surfaces)
-      (busy-is numbers new after.owned.surfaces are buffer)) freed_are
+      (λ other. ap (λ all. by_number numbers all other) is ∙ surfaces-changed numbers slots tied r.owned.surfaces kept id number named change keeps other) (is_busy buffer after.owned.surfaces)
+      (busy-is numbers new without after.owned.surfaces are buffer)) freed_are
 
-  pub freed-left : after.owned.surfaces ≡ without_surface id r.owned.surfaces → AreKept (with_id id None numbers) new after.owned.surfaces
+  pub freed-left : after.owned.surfaces ≡ without_surface id r.owned.surfaces → AreKept (with_id id None numbers) new without after.owned.surfaces
       → AreFreed freed (by_number numbers r.owned.surfaces) (with_at number None (by_number numbers r.owned.surfaces)) → IsFreedOf freed (shown_at (surface_at id r.owned.surfaces)) after
   freed-left is are freed_are =
       freed-of freed (by_number numbers r.owned.surfaces) (with_at number None (by_number numbers r.owned.surfaces)) number after (shown_at (surface_at id r.owned.surfaces)) shown
       (λ buffer.
       any-same (shows_at buffer) (by_number (with_id id None numbers) after.owned.surfaces) (with_at number None (by_number numbers r.owned.surfaces))
-      (λ other. ap (λ all. by_number (with_id id None numbers) all other) is ∙ surfaces-left numbers slots r.owned.surfaces kept id number named new other) (is_busy buffer after.owned.surfaces)
-      (busy-is (with_id id None numbers) new after.owned.surfaces are buffer)) freed_are
+      (λ other. ap (λ all. by_number (with_id id None numbers) all other) is ∙ surfaces-left numbers slots tied r.owned.surfaces kept id number named new other) (is_busy buffer after.owned.surfaces)
+      (busy-is (with_id id None numbers) new without after.owned.surfaces are buffer)) freed_are

@@ -14,6 +14,7 @@ use Rattle.wl_peer.specs.Peer.{Peer, all_removed, removed}
 use Rattle.wl_client.specs.Serving.{HoldsWithout}
 use Rattle.wl_peer.specs.Told.{Said, id_deleted, released_told}
 use Rattle.wl_state.specs.Frames.{frames_asked}
+use Rattle.wl_family.specs.Family.{Tied}
 use Rattle.wl_surface.specs.Slots.{Slots}
 use Rattle.wl_state.specs.Surface.{Surface}
 use Rattle.wl_surface.specs.Surfaces.{history_in, surface_at}
@@ -92,9 +93,9 @@ are-heard id r held calls only same ids other any =
     (sym (any-ids other (callbacks_of id r)) ∙ ap (list_any (λ i. other == i)) (sym ids) ∙ any))
 
 -- what was asked for of a surface, by its number and by its id
-pub asked-read : (held : Held) (r : Resident) (slots : Slots) → AreKept (targets_in WlSurface held) slots r.owned.surfaces → (id number : ℕ) → targets_in WlSurface held id ≡ Some number
+pub asked-read : (held : Held) (r : Resident) (slots : Slots) (tied : Tied) → AreKept (targets_in WlSurface held) slots tied r.owned.surfaces → (id number : ℕ) → targets_in WlSurface held id ≡ Some number
     → frames_at (numbered held r number) ≡ frames_asked (history_in id r.owned.surfaces)
-asked-read held r slots kept id number named = ap frames_at (surface-read (targets_in WlSurface held) slots r.owned.surfaces kept id number named) ∙ at (surface_at id r.owned.surfaces)
+asked-read held r slots tied kept id number named = ap frames_at (surface-read (targets_in WlSurface held) slots tied r.owned.surfaces kept id number named) ∙ at (surface_at id r.owned.surfaces)
   where
     at : (o : Option Surface) → frames_at o ≡ frames_asked (option_map (λ s. s.history) o)
     at None = refl

@@ -88,6 +88,7 @@ use Rattle.wl_resident.proofs.Doing.{named-by}
 use Rattle.wl_resident.proofs.Ends.{lacks-over, over-ended}
 use Rattle.wl_records.proofs.Toplevels.Back.{AsksBy}
 use Rattle.wl_records.proofs.Keeping.OwningXdg.{toplevel-named}
+use Rattle.wl_records.proofs.Keeping.OwningAlone.{alone-told}
 use Rattle.wl_records.proofs.Keeping.OwningSurfaces.{surface-named, surface-read}
 use Rattle.wl_laws.proofs.Runs.Places.{number-other}
 use Rattle.wl_laws.proofs.Marks.Stacks.{and-left, and-right, differ, fields, or-left, or-right, recorded, unless}
@@ -530,10 +531,11 @@ module _ {A : Type 0} (c : ℕ) (others : ℕ → ById ℕ) (base d e : Desktop)
 
     told-rects : commit_by a ≡ Some number → rects_applied applied ≡ newly_damaged there.0.history
     told-rects commit =
-        let told = commits number commit lives (by_number numbers_then r.owned.surfaces) before.seat.owns.surfaces.stand in
+        let told = commits number commit lives in
+        let changes = alone-told numbers_then old.owned.linked.surfaces old.owned.linked.family r.owned.surfaces before.seat.owns.surfaces number told.0.changes.items told.2 in
         let change : AreChanges number (Some there.0) told.0.changes.items =
         subst (λ (o : Option Surface). AreChanges number o told.0.changes.items) (surface-read numbers_then old.owned.linked.surfaces old.owned.linked.family r.owned.surfaces before.seat.owns.surfaces id number named
-        ∙ there.1) told.2 in
+        ∙ there.1) changes in
         ap rects_applied told.1 ∙ ap rects_changed change.1 ∙ change.2.rects
 
     pub applied-by : (ask : Simple) → IsCommitOf a ask number → IsAppliedBy ask (history_of d c id) (rects_applied applied)
@@ -580,7 +582,7 @@ module _ {A : Type 0} (c : ℕ) (others : ℕ → ById ℕ) (base d e : Desktop)
       least : marks_of_toplevels d e (pos x) (pos y) ≡ false
       least =
           unless (marks_of_toplevels d e (pos x) (pos y))
-          (λ f. not-marked (serves-exactly c r d before.based.there _ _ _ before.seat.owns before.mapped (seated-unlinked c others base d old was r before unlinked) (pos x) (pos y) e more serves f))
+          (λ f. not-marked (serves-exactly c r d before.based.there _ _ _ _ before.seat.owns before.mapped (seated-unlinked c others base d old was r before unlinked) (pos x) (pos y) e more serves f))
 
     -- What a message of a client that lives on marks at least is to be painted, as is what was.
     pub message-marks : MarksToplevels d e d0 d2

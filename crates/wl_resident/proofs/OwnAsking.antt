@@ -24,6 +24,7 @@ use Rattle.wl_client.specs.declared.served.Served.{Served}
 use Rattle.wl_client.specs.declared.served.Served.TheVariants as served
 use Rattle.wl_peer.specs.declared.actions.Action.TheVariants.{Sync, GetRegistry, Bind, CreateRegion, AddToRegion, SubtractFromRegion, DestroyRegion, CreatePool, CreateBuffer, ResizePool, DestroyPool}
 use Rattle.wl_peer.specs.declared.actions.Action.TheVariants.{DestroyBuffer}
+use Rattle.wl_family.specs.Family.{Tied}
 use Rattle.wl_surface.specs.Slots.{has_at}
 use Rattle.wl_state.specs.Surface.{has}
 use Rattle.wl_surface.specs.Surfaces.{is_used}
@@ -166,7 +167,7 @@ pub used-of : {A : Type 0} (old : Kept A) (r : Resident) → IsResident old r �
 used-of old r is =
     let numbers = (names_in old.client.objects).surfaces in
     let slots = old.owned.linked.surfaces in
-    (by_number numbers r.owned.surfaces, is.owns.surfaces.stand, λ number. any-is numbers slots r.owned.surfaces is.owns.surfaces (λ s. has number s.history) (has_at number) refl (λ s. refl))
+    (by_number numbers r.owned.surfaces, is.owns.surfaces.stand, λ number. any-is numbers slots _ r.owned.surfaces is.owns.surfaces (λ s. has number s.history) (has_at number) refl (λ s. refl))
 
 pub own-served : {A : Type 0} (old new : Kept A) (r : Resident) (q : Peer) → IsResident old r → PassesTo true old.client → new.owned ≡ old.owned
     → (new.client.ended ≡ None → KeepsSurfaces old.client.objects new.client.objects)

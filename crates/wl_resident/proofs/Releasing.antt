@@ -3,6 +3,7 @@ use Rattle.std.proofs.Common.{◌≡◌, ℕ, zero, suc, slice_index_or, map, Li
 use Rattle.std.specs.Option.{option_map}
 use Rattle.wl_state.specs.declared.content.Attached.{Attached}
 use Rattle.wl_state.specs.Kept.{buffer_of}
+use Rattle.wl_family.specs.Family.{Tied}
 use Rattle.wl_surface.specs.Slots.{had_at, Slots}
 use Rattle.wl_state.specs.Request.{Buffer}
 use Rattle.wl_state.specs.Surface.{Surface, is_there}
@@ -67,9 +68,9 @@ shows-none (Some s) e = at (shown_at (Some s)) e
     at (Some b) e = absurd (cc)
 
 -- it showed no buffer, so that none is released
-pub maps-quiet : (numbers : ById ℕ) (slots : Slots) (r : Resident) (id : ℕ) (p : Peer) → AreKept numbers slots r.owned.surfaces → AreBare r.owned → effect_of r id ≡ Maps
+pub maps-quiet : (numbers : ById ℕ) (slots : Slots) (tied : Tied) (r : Resident) (id : ℕ) (p : Peer) → AreKept numbers slots tied r.owned.surfaces → AreBare r.owned → effect_of r id ≡ Maps
     → told_simply (CommitSurface id Maps) (with_peer p r) ≡ []
-maps-quiet numbers slots r id p kept bare maps =
+maps-quiet numbers slots tied r id p kept bare maps =
     committed-released id Maps (with_peer p r) kept.apart (kept.counts id)
     ∙ ap (λ (o : Option Buffer). release_told (release_of o (committed_on id (with_peer p r))))
     (shows-none (surface_at id r.owned.surfaces) (bare id (maps-waits (xdg_of id r.owned.shell) (will_show r id) maps)))

@@ -7,7 +7,9 @@ use Rattle.wl_interface.specs.declared.interface.Interface.TheVariants.{WlSurfac
 use Rattle.wl_peer.specs.Objects.{ById}
 use Rattle.wl_peer.specs.declared.cause.Cause.{Cause}
 use Rattle.wl_paint.specs.Damage.{Damaged, has}
-use Rattle.wl_surface.specs.Slots.{Numbered, Slots, StandForAll}
+use Rattle.wl_linked.specs.declared.linked.Linked.{Linked}
+use Rattle.wl_records.proofs.Keeping.OwningAlone.{alone-stand}
+use Rattle.wl_surface.specs.Slots.{Numbered, StandForAll}
 use Rattle.wl_surface.specs.declared.applied.Applied.{Applied}
 use Rattle.wl_shell.specs.Shell.{Maps}
 use Rattle.wl_scene.specs.Stacking.{Owned, Stack}
@@ -100,7 +102,7 @@ lives-leads c others base d r old new stack now done d0 d2 before more lives s l
 
     at : (b : Bool) (e : Desktop) (q : Resident) (path : List Desktop) → ServesThrough served_now c d path e → RouteBy b c r d path e → IsSeated c others base new now e q → Follows d path d0 d2
     at false e q path through route after = absurd (alive e q after route.1)
-    at true e q path through (inr struck) after = absurd (alive e q after (end-over c r d before.based.there _ _ _ before.seat.owns before.mapped more path e struck))
+    at true e q path through (inr struck) after = absurd (alive e q after (end-over c r d before.based.there _ _ _ _ before.seat.owns before.mapped more path e struck))
     at true e q path through (inl route) after =
         let serves : Serves served_now c d e = (messages_lead_through served_now c d e).0 path through in
         follows-lives d e path d0 d2 route.0 (serves-has touches_apart c d e more serves) after.mapped.apart (least e q serves after) (most e q serves after)
@@ -111,11 +113,11 @@ module _ {A : Type 0} (c : ℕ) (others : ℕ → ById ℕ) (base d : Desktop) (
     (restacked : IsRestackedBy mid.client.ended c stacking mid on stack between) (owned : on.owned ≡ mid.owned) (cleared : IsClearedBy on.client.ended c on new between now)
     (over : is_some on.client.ended ≡ true)
     (applied : Option (Applied A)) (decides : (number : ℕ) → commit_by a ≡ Some number → TakesSimplyAs (is_some applied) (split_of r.peer.rest) r old mid)
-    (commits : (number : ℕ) → commit_by a ≡ Some number → IsCommitted old.owned.linked.surfaces old.owned.linked.family mid.owned.surfaces number applied) (nothing : commit_by a ≡ None → applied ≡ None)
+    (commits : (number : ℕ) → commit_by a ≡ Some number → IsCommitted old.owned.linked mid.owned.linked number applied) (nothing : commit_by a ≡ None → applied ≡ None)
     (still : commit_by a ≡ None → IsStill old mid)
     (record_was : Option WindowRecord) (first : (id number : ℕ) → commit_by a ≡ Some number → targets_in WlSurface old.client.objects id ≡ Some number → IsRecordOf record_was (window_at c id d))
     (d0 d2 : Damaged)
-    (marks : (all : Numbered) → StandForAll on.owned.surfaces all → (x y : ℕ) → x < d0.width → y < d0.height
+    (marks : (all : Numbered) → StandForAll on.owned.linked.surfaces all → (x y : ℕ) → x < d0.width → y < d0.height
     → has d2 x y ≡ (has d0 x y || (was_shown (is_some applied) record_was (pos x) (pos y) || list_any (is_shown_by c all (pos x) (pos y)) between.standing))) where
   resident : IsResident old r
   resident = record { peer = before.seat.peer; owns = before.seat.owns; frames = before.seat.frames }
@@ -124,10 +126,10 @@ module _ {A : Type 0} (c : ℕ) (others : ℕ → ById ℕ) (base d : Desktop) (
   settled = settled-by mid.client.ended c stacking mid on new stack between now refl restacked cleared
 
   -- by what is kept after the message, on the stack as it was
-  marked : (all : Numbered) → StandForAll mid.owned.surfaces all → (x y : ℕ) → x < d0.width → y < d0.height
+  marked : (all : Numbered) → StandForAll mid.owned.linked.surfaces all → (x y : ℕ) → x < d0.width → y < d0.height
       → has d2 x y ≡ (has d0 x y || (was_shown (is_some applied) record_was (pos x) (pos y) || list_any (is_shown_by c all (pos x) (pos y)) stack.standing))
   marked all stand x y wide high =
-      marks all (subst (λ o. StandForAll o.surfaces all) (sym owned) stand) x y wide high
+      marks all (subst (λ o. StandForAll o.linked.surfaces all) (sym owned) stand) x y wide high
       ∙ ap (λ (s : Stack). has d0 x y || (was_shown (is_some applied) record_was (pos x) (pos y) || list_any (is_shown_by c all (pos x) (pos y)) s.standing))
       (ended-stack mid.client.ended c stacking mid on stack between refl restacked over)
 
@@ -159,7 +161,7 @@ module _ {A : Type 0} (c : ℕ) (others : ℕ → ById ℕ) (base d : Desktop) (
     where
       own : IsOwn
       own x y wide high =
-          let later = still none (all_then c others base d r old stack before) (stand_then c others base d r old stack before) in
+          let later = still none (targets_in WlSurface old.client.objects) r.owned.surfaces before.seat.owns.surfaces in
           marked later.0 later.1 x y wide high
           ∙ ap (λ (o : Option (Applied A)). has d0 x y || (was_shown (is_some o) record_was (pos x) (pos y) || list_any (is_shown_by c later.0 (pos x) (pos y)) stack.standing)) (nothing none)
           ∙ ap (λ b. has d0 x y || b) (still-shown c others base d r old stack before (pos x) (pos y) later.0 later.2)
@@ -183,12 +185,12 @@ module _ {A : Type 0} (c : ℕ) (others : ℕ → ById ℕ) (base d : Desktop) (
         let s = served-as false (subst (λ (o : Option (Applied A)). TakesSimplyAs (is_some o) (split_of r.peer.rest) r old mid) none (decides number commit)) in
         (s.0, s.1, s.2, s.5, s.7, by s.3 s.0 s.1 s.2 s.5 s.6 s.4 s.7)
       where
-        same : mid.owned.surfaces ≡ old.owned.linked.surfaces
-        same = subst (λ (o : Option (Applied A)). IsCommitted old.owned.linked.surfaces old.owned.linked.family mid.owned.surfaces number o) none (commits number commit)
+        same : mid.owned.linked ≡ old.owned.linked
+        same = subst (λ (o : Option (Applied A)). IsCommitted old.owned.linked mid.owned.linked number o) none (commits number commit)
 
         own : IsOwn
         own x y wide high =
-            marked (all_then c others base d r old stack before) (subst (λ (slots : Slots). StandForAll slots (all_then c others base d r old stack before)) (sym same)
+            marked (all_then c others base d r old stack before) (subst (λ (l : Linked A). StandForAll l.surfaces (all_then c others base d r old stack before)) (sym same)
             (stand_then c others base d r old stack before)) x y wide high
             ∙ ap (λ (o : Option (Applied A)). has d0 x y || (was_shown (is_some o) record_was (pos x) (pos y)
             || list_any (is_shown_by c (all_then c others base d r old stack before) (pos x) (pos y)) stack.standing)) none
@@ -201,10 +203,10 @@ module _ {A : Type 0} (c : ℕ) (others : ℕ → ById ℕ) (base d : Desktop) (
         by true e q path through route (inr turned) after = absurd (differ turned.0)
 
     module _ (told : Applied A) (is : applied ≡ Some told) where
-      changes : IsCommitted old.owned.linked.surfaces old.owned.linked.family mid.owned.surfaces number (Some told)
-      changes = subst (λ (o : Option (Applied A)). IsCommitted old.owned.linked.surfaces old.owned.linked.family mid.owned.surfaces number o) is (commits number commit)
+      changes : IsCommitted old.owned.linked mid.owned.linked number (Some told)
+      changes = subst (λ (o : Option (Applied A)). IsCommitted old.owned.linked mid.owned.linked number o) is (commits number commit)
 
-      marked-with : (all : Numbered) → StandForAll mid.owned.surfaces all → (x y : ℕ) → x < d0.width → y < d0.height
+      marked-with : (all : Numbered) → StandForAll mid.owned.linked.surfaces all → (x y : ℕ) → x < d0.width → y < d0.height
           → has d2 x y ≡ (has d0 x y || (any_record_has (pos x) (pos y) record_was || list_any (is_shown_by c all (pos x) (pos y)) stack.standing))
       marked-with all stand x y wide high =
           marked all stand x y wide high
@@ -216,9 +218,10 @@ module _ {A : Type 0} (c : ℕ) (others : ℕ → ById ℕ) (base d : Desktop) (
           let commit_is = commit-asks old r resident a asks number commit (CommitSurface id Maps) told in
           let same : id ≡ commit_is.0 = ap surface_of commit_is.2 in
           let named : targets_in WlSurface old.client.objects id ≡ Some number = subst (λ n. targets_in WlSurface old.client.objects n ≡ Some number) (sym same) commit_is.3 in
-          let maps : effect_of r id ≡ Maps = (asks-find c r d before.based.there _ _ _ before.seat.owns before.mapped (no-links d more) (split_of r.peer.rest) (CommitSurface id Maps) r.peer told).0 in
+          let maps : effect_of r id ≡ Maps = (asks-find c r d before.based.there _ _ _ _ before.seat.owns before.mapped (no-links d more) (split_of r.peer.rest) (CommitSurface id Maps) r.peer told).0 in
           let none = maps-none c r d (subst (λ (o : Owned). AreMapped c o d.standing) (ap owned_of before.based.there) (before.mapped.each c)) id maps in
-          marked-with (all_committed c others base d r old stack before (pos x) (pos y) id number named) (changes.stand _ (stand_then c others base d r old stack before)) x y wide high
+          marked-with (all_committed c others base d r old stack before (pos x) (pos y) id number named) (alone-stand (targets_in WlSurface old.client.objects) old.owned.linked.surfaces old.owned.linked.family r.owned.surfaces before.seat.owns.surfaces number mid.owned.linked.surfaces
+          mid.owned.linked.family changes) x y wide high
           ∙ ap (λ b. has d0 x y || (any_record_has (pos x) (pos y) record_was || b)) (unstood-shown c others base d r old stack before (pos x) (pos y) id number named none)
           ∙ ap (λ b. has d0 x y || b) (absorbed (any_record_has (pos x) (pos y) record_was) (has_window_at c (pos x) (pos y) d)
           (λ f. record-window c id d record_was (pos x) (pos y) (first id number commit named) f))
@@ -231,7 +234,7 @@ module _ {A : Type 0} (c : ℕ) (others : ℕ → ById ℕ) (base d : Desktop) (
       struck-by e path struck =
           let commit_is = commit-asks old r resident a asks number commit struck.ask struck.asks in
           follows-commit c others base d r old stack before more path e d0 d2 struck commit_is.0 number commit_is.1 commit_is.2 commit_is.3 record_was (first commit_is.0 number commit commit_is.3)
-          mid.owned.surfaces changes marked-with
+          mid.owned.linked.surfaces mid.owned.linked.family changes marked-with
 
       by : (b : Bool) (e : Desktop) (q : Resident) (path : List Desktop) → ServesThrough served_now c d path e → RouteBy b c r d path e → TurnedIn true b (split_of r.peer.rest) r
           → IsSeated c others base new now e q → Follows d path d0 d2
@@ -268,7 +271,7 @@ module _ {A : Type 0} (c : ℕ) (others : ℕ → ById ℕ) (base d : Desktop) (
       there : (x y : ℕ) → x < d0.width → y < d0.height → marks_at_least d e (pos x) (pos y) ≡ true → has d2 x y ≡ true
       there x y wide high least =
           let inside = and-left (in_output d.output.width d.output.height (pos x) (pos y)) _ least in
-          let window = gone-least c r d before.based.there _ _ _ before.seat.owns before.mapped more e (pos x) (pos y) serves (ended-on e q after) least in
+          let window = gone-least c r d before.based.there _ _ _ _ before.seat.owns before.mapped more e (pos x) (pos y) serves (ended-on e q after) least in
           let l = ended-leads in
           let last : Serves served_now c d l.0 = (messages_lead_through served_now c d l.0).0 l.2 l.3 in
           let direct = over-least c d l.0 (pos x) (pos y) more (serves-has touches_apart c d l.0 more last) (ended-on l.0 l.1 l.4) inside window in

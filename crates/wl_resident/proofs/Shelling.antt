@@ -19,6 +19,7 @@ use Rattle.wl_peer.specs.Told.{Said}
 use Rattle.wl_client.specs.View.{ClientView}
 use Rattle.wl_peer.specs.declared.refusals.Refusal.{Refusal}
 use Rattle.wl_geom.specs.declared.rect.Rect.{Rect}
+use Rattle.wl_family.specs.Family.{Tied}
 use Rattle.wl_surface.specs.Slots.{Changes, Numbered, Slots, StandForAll, StandsAt, kept_at, role_at}
 use Rattle.wl_state.specs.Request.{Request, SetWindowGeometry}
 use Rattle.wl_state.specs.State.{History, is_commit}
@@ -208,11 +209,11 @@ xdg-refused old new mid r object number k x h error judged one same e still ende
     refused old new r judged (shell_refusal (kept_base (mid number)) object object error) (e ∙ ap (λ (f : Refusal). Err f) told) ended errs
 
 -- a window geometry lets no store go
-pub geometry-keeps : (numbers : ById ℕ) (slots : Slots) (r : Resident) (id number : ℕ) (rect : Rect) → AreKept numbers slots r.owned.surfaces → numbers id ≡ Some number
+pub geometry-keeps : (numbers : ById ℕ) (slots : Slots) (tied : Tied) (r : Resident) (id number : ℕ) (rect : Rect) → AreKept numbers slots tied r.owned.surfaces → numbers id ≡ Some number
     → (changed_by (AskSurface id (SetWindowGeometry rect)) r).peer ≡ r.peer
-geometry-keeps numbers slots r id number rect kept named =
-    let there = surface-named numbers slots r.owned.surfaces kept id number named in
-    let read = surface-read numbers slots r.owned.surfaces kept id number named ∙ there.1 in
+geometry-keeps numbers slots tied r id number rect kept named =
+    let there = surface-named numbers slots tied r.owned.surfaces kept id number named in
+    let read = surface-read numbers slots tied r.owned.surfaces kept id number named ∙ there.1 in
     let bounds = cut-bounds (kept_at slots number) there.0 (subst (λ (o : Option Surface). StandsAt (kept_at slots number) o) read (kept.stand number)) in
     ap (λ (q : Resident). q.peer) (asked-keeps (SetWindowGeometry rect) refl (λ v. refl) id r there.0 there.1 bounds.0 bounds.1)
 
@@ -225,7 +226,7 @@ pub counted-on : {A : Type 0} (old mid : Kept A) (r : Resident) → IsResident o
     → IsPeer mid.client (counted r.peer) → IsResident mid (with_peer (counted r.peer) r)
 counted-on {A} old mid r is only same peer = record {
   peer = peer;
-  owns = subst (λ (n : Names). IsOwned n mid.owned.surfaces (kept_of mid.owned.shell) r.owned) (sym (names-counted old.client mid.client only))
+  owns = subst (λ (n : Names). IsOwned n mid.owned.linked.surfaces mid.owned.linked.family (kept_of mid.owned.shell) r.owned) (sym (names-counted old.client mid.client only))
       (rw same is.owns);
   frames = subst (λ (o : Lent A). IsFramed o.linked.surfaces.frames mid.client.objects (with_peer (counted r.peer) r)) (sym same)
       (framed-names old.owned.linked.surfaces.frames old.client.objects mid.client.objects r (with_peer (counted r.peer) r) refl (one-more r.peer.requests) is.frames
@@ -251,12 +252,12 @@ acts-given xdg id version r q (inr done) =
     inr (done ∙ ap (λ (p : Peer). made id (object_at_version XdgToplevel version) p) (sym (given-peer id xdg (xdg_at xdg r.owned.shell) one_more)))
 
 -- a role that fits is given
-pub role-given : (names : Names) (slots : Slots) (kept : ℕ → Option KeptXdg) (r : Resident) → IsOwned names slots kept r.owned
+pub role-given : (names : Names) (slots : Slots) (tied : Tied) (kept : ℕ → Option KeptXdg) (r : Resident) → IsOwned names slots tied kept r.owned
     → (id number : ℕ) (had : Option Role) (told : Result (Unit {0}) SurfaceError) (new : Slots) → names.surfaces id ≡ Some number → is_no_toplevel (role_of r id) ≡ false
     → ((all : Numbered) → StandForAll slots all → had ≡ role_at (all number))
     → ((all : Numbered) → StandForAll slots all → (IsErr told) ↔ ((other : Role) × (role_at (all number) ≡ Some other) × (other ≢ AsToplevel)))
     → OnOk told (Changes slots new number (with_role AsToplevel)) → Changes slots new number (with_role AsToplevel)
-role-given names slots kept r is id number had told new named fits reads refuses ok = at told refl ok
+role-given names slots tied kept r is id number had told new named fits reads refuses ok = at told refl ok
   where
     all : Numbered
     all = by_number names.surfaces r.owned.surfaces
@@ -265,7 +266,7 @@ role-given names slots kept r is id number had told new named fits reads refuses
     at (Ok u) e ok = ok
     at (Err error) e ok =
         let other = (refuses all is.surfaces.stand).0 (rw e refl) in
-        absurd (role-fits (role_of r id) fits (other.0, sym (role-read names slots kept r is id number had named reads) ∙ reads all is.surfaces.stand ∙ other.1, other.2))
+        absurd (role-fits (role_of r id) fits (other.0, sym (role-read names slots tied kept r is id number had named reads) ∙ reads all is.surfaces.stand ∙ other.1, other.2))
 
 -- ---- an xdg_surface that is made
 
@@ -346,7 +347,7 @@ changing-same number kept = fun_ext (λ other. at other (other == number) refl)
 
 -- what is owned was left as it was
 pub owns-told : {A : Type 0} (new : Kept A) (owned : Lent A) (names : Names) (o : Owned) → names_in new.client.objects ≡ names → new.owned ≡ owned
-    → IsOwned names owned.surfaces (kept_of owned.shell) o → IsOwned (names_in new.client.objects) new.owned.linked.surfaces new.owned.linked.family (kept_of new.owned.shell) o
+    → IsOwned names owned.linked.surfaces owned.linked.family (kept_of owned.shell) o → IsOwned (names_in new.client.objects) new.owned.linked.surfaces new.owned.linked.family (kept_of new.owned.shell) o
 owns-told new owned names o named same is = rw (named, same) is
 
 -- what was read is what the definition reads
@@ -398,12 +399,12 @@ pub wants-told : (b : Bool) (told answers : List Said) (p after q : Peer) → to
 wants-told b told answers p after q same h = subst (λ (es : List Said). WantsOr b (Queues es after q) p q) (sym same) h
 
 -- a request of a surface that is no commit releases nothing
-pub asked-releases : (numbers : ById ℕ) (slots : Slots) (r : Resident) (id number : ℕ) (request : Request) → is_commit request ≡ false → AreKept numbers slots r.owned.surfaces
+pub asked-releases : (numbers : ById ℕ) (slots : Slots) (tied : Tied) (r : Resident) (id number : ℕ) (request : Request) → is_commit request ≡ false → AreKept numbers slots tied r.owned.surfaces
     → numbers id ≡ Some number
     → told_simply (Asking (AskSurface id request)) r ≡ answers_to (AskSurface id request) r
-asked-releases numbers slots r id number request plain kept named =
-    let there = surface-named numbers slots r.owned.surfaces kept id number named in
-    let read = surface-read numbers slots r.owned.surfaces kept id number named ∙ there.1 in
+asked-releases numbers slots tied r id number request plain kept named =
+    let there = surface-named numbers slots tied r.owned.surfaces kept id number named in
+    let read = surface-read numbers slots tied r.owned.surfaces kept id number named ∙ there.1 in
     let bounds = cut-bounds (kept_at slots number) there.0 (subst (λ (o : Option Surface). StandsAt (kept_at slots number) o) read (kept.stand number)) in
     requested-still id request plain r there.0 kept.apart there.1 bounds.0 bounds.1
 

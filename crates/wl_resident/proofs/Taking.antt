@@ -289,7 +289,7 @@ module _ {A : Type 0} (c : ℕ) (others : ℕ → ById ℕ) (base d : Desktop) (
         }),
       )
     where
-      framed-by : Queues (told_simply ask (with_peer p r)) changed.peer q → AreFramed mid.owned.surfaces.frames (by_number (numbers mid) changed.owned.surfaces) (q.requests + 1) changed.callbacks
+      framed-by : Queues (told_simply ask (with_peer p r)) changed.peer q → AreFramed mid.owned.linked.surfaces.frames (by_number (numbers mid) changed.owned.surfaces) (q.requests + 1) changed.callbacks
       framed-by h = rw (told-requests (told_simply ask (with_peer p r)) changed.peer q h told) (is.left.frames none)
 
   -- ---- one that ended
@@ -520,8 +520,8 @@ served done c others base d r stacking old mid new was now is lives more takes s
     let owns = is.seat.owns in
     let bare = (subst (λ (o : Owned). AreMapped c o d.standing) (ap owned_of is.based.there) (is.mapped.each c)).bare in
     let quiet : (id object opcode : ℕ) (body : List ℕ) (p : Peer) → judge r object opcode body ≡ Ok (CommitSurface id Maps) → told_simply (CommitSurface id Maps) (with_peer p r) ≡ [] =
-    λ id object opcode body p e. maps-quiet _ _ r id p owns.surfaces bare (judge-finds r object opcode body owns.shell.apart (CommitSurface id Maps) e).0 in
+    λ id object opcode body p e. maps-quiet _ _ _ r id p owns.surfaces bare (judge-finds r object opcode body owns.shell.apart (CommitSurface id Maps) e).0 in
     let t = taken c others base d r stacking old mid new was now is.based is.seat.owns.surfaces.once is.scene settled done (split_of r.peer.rest) alive quiet takes stacks in
     let through = served-through t.2 c r d t.0 is.based.there alive more t.4 in
     let serves : Serves served_now c d t.0 = (messages_lead_through served_now c d t.0).0 through.0 through.1 in
-    (t.0, t.1, through.0, t.2, t.3, through.1, through.2, sits-seated c others base new now t.0 t.1 t.5 (serves-stand c r d is.based.there _ _ _ is.seat.owns is.mapped t.0 more serves))
+    (t.0, t.1, through.0, t.2, t.3, through.1, through.2, sits-seated c others base new now t.0 t.1 t.5 (serves-stand c r d is.based.there _ _ _ _ is.seat.owns is.mapped t.0 more serves))

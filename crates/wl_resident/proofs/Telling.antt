@@ -56,9 +56,9 @@ module _ {A : Type 0} (c : ℕ) (others : ℕ → ById ℕ) (base d : Desktop) (
             (record { standing = is.scene.standing; next = is.scene.next });
       }))
     where
-      owns : IsOwned (names_in mid.client.objects) mid.owned.surfaces (kept_of mid.owned.shell) r.owned
+      owns : IsOwned (names_in mid.client.objects) mid.owned.linked.surfaces mid.owned.linked.family (kept_of mid.owned.shell) r.owned
       owns =
-          subst (λ (held : Held). IsOwned (names_in held) mid.owned.surfaces (kept_of mid.owned.shell) r.owned) (sym (told.lives none))
+          subst (λ (held : Held). IsOwned (names_in held) mid.owned.linked.surfaces mid.owned.linked.family (kept_of mid.owned.shell) r.owned) (sym (told.lives none))
           (subst (λ (o : Keeps A). IsOwned (names_in old.client.objects) o.linked.surfaces o.linked.family (kept_of o.shell) r.owned) (sym told.owned) is.seat.owns)
 
   nameless : is_some q.status ≡ true → AreNameless mid.client.objects
@@ -118,9 +118,9 @@ module _ {A : Type 0} (c : ℕ) (others : ℕ → ById ℕ) (base d : Desktop) (
       kept : (become_by q.status c r q d ≡ become_by None c r q d) × (left_by q.status r q ≡ record r { peer = q })
       kept = become-kept q.status c r q d is.based.there is.mapped nothing
 
-      owns : IsOwned (names_in mid.client.objects) mid.owned.surfaces (kept_of mid.owned.shell) r.owned
+      owns : IsOwned (names_in mid.client.objects) mid.owned.linked.surfaces mid.owned.linked.family (kept_of mid.owned.shell) r.owned
       owns =
-          subst (λ (held : Held). IsOwned (names_in held) mid.owned.surfaces (kept_of mid.owned.shell) r.owned) (sym table)
+          subst (λ (held : Held). IsOwned (names_in held) mid.owned.linked.surfaces mid.owned.linked.family (kept_of mid.owned.shell) r.owned) (sym table)
           (subst (λ (o : Keeps A). IsOwned (names_in old.client.objects) o.linked.surfaces o.linked.family (kept_of o.shell) r.owned) (sym owned) is.seat.owns)
 
 pub sent-so : (n : ℕ) (p : Peer) → ((sent_by n p).status ≡ p.status) × ((sent_by n p).requests ≡ p.requests)

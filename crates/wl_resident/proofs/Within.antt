@@ -218,7 +218,7 @@ module _ {A : Type 0} (c : ℕ) (others : ℕ → ById ℕ) (base d e : Desktop)
           let m : IsMarkedBy old a told.0 id = asked-marks old r resident a asks told.0 id told.1 t.1 in
           let asked_number : surface_number ≡ Some m.0 = by_asked ∙ m.1 in
           let named = still-named c others base d e r q old new was now before after more serves keeps told.0 id m.0 told.1 t.1 m.2 lives in
-          serves-within c r d before.based.there _ _ _ before.seat.owns before.mapped (seated-unlinked c others base d old was r before unlinked) (pos x) (pos y) e more serves alive told.0 told.1 id
+          serves-within c r d before.based.there _ _ _ _ before.seat.owns before.mapped (seated-unlinked c others base d old was r before unlinked) (pos x) (pos y) e more serves alive told.0 told.1 id
           t.1
           (rects_applied applied) (applied-by c others base d e r q old new was now before after a applied commits id m.0 m.2 lives told.0 m.3) inside
           (changes-there c id d e record_was record_is (first id m.0 asked_number m.2) (second id m.0 asked_number named) (rects_applied applied) d0 d2 changes x y wide high clean marked)

@@ -6,20 +6,26 @@ use Rattle.wl_geom.specs.declared.rect.Rect.{Rect}
 use Rattle.wl_geom.specs.Rect.{in_span}
 use Rattle.wl_store.specs.Transform.{transform_of}
 use Rattle.wl_peer.specs.declared.cause.Cause.{Cause}
-use Rattle.wl_surface.specs.Applied.{AreChanges}
-use Rattle.wl_surface.specs.Slots.{Changes, Numbered, Slots, StandForAll}
-use Rattle.wl_state.specs.Request.{Commit as CommitAsked, Request}
+use Rattle.wl_surface.specs.Slots.{Numbered, StandForAll}
+use Rattle.wl_surface.specs.Surfaces.{Surfaces}
+use Rattle.wl_surface.specs.Trees.{committed_in}
+use Rattle.wl_linked.specs.Linked.{Stand}
+use Rattle.wl_linked.specs.Tree.{IsCommitTold}
+use Rattle.wl_named.specs.Named.{Makes}
+use Rattle.wl_linked.specs.declared.linked.Linked.{Linked}
+use Rattle.wl_state.specs.Request.{Request}
 use Rattle.wl_surface.specs.declared.applied.Applied.{Applied}
 use Rattle.wl_surface.specs.declared.applied.Change.{Change}
 use Rattle.wl_state.specs.declared.state.Current.{Current}
 use Rattle.wl_state.specs.State.{History, applied, counting, height_of, is_damaged, width_of, within_bounds}
-use Rattle.wl_state.specs.Surface.{Surface, applying, asking}
+use Rattle.wl_state.specs.Surface.{Surface}
 use Rattle.wl_shell.specs.Kept.{kept_of}
 use Rattle.std.specs.Option.{option_map}
 use Rattle.wl_paint.specs.Damage.{Damaged, has}
 use Rattle.wl_scene.specs.Stacking.{Stack, Standing}
 use Rattle.wl_scene.specs.Windows.{Place, Window, corner_at}
 use Rattle.wl_plain.specs.Desktop.{Desktop, Resident, owned_in, status_in}
+use Rattle.wl_records.specs.Owning.{AreKept, by_number}
 use Rattle.wl_records.specs.Touching.{has_window_at}
 use Rattle.wl_marking.specs.Marking.{IsAsLarge, any_record_has}
 use Rattle.wl_resident.specs.Seats.{IsSeated}
@@ -74,12 +80,16 @@ MarksOwn ended c kept stack old new = MarksOwnIf (is_none ended) c kept stack ol
 abbrev pub counted_at : Option Surface → Option (List Request)
 counted_at at = option_map (λ (s : Surface). counting s.history) at
 
+-- what is kept of a client's surfaces stands for these, which have these numbers by their ids
+abbrev pub AreKeptBy : {A : Type 0} → ById ℕ → Linked A → Surfaces → Type 0
+AreKeptBy numbers linked all = AreKept numbers linked.surfaces linked.family all
+
 -- What counts of each surface with an xdg_surface stays what it was, whether the client lives on or not.
 abbrev pub IsStill : {A : Type 0} → Kept A → Kept A → Type 0
 IsStill old new =
-    (all : Numbered) → StandForAll old.owned.linked.surfaces all
+    (numbers : ById ℕ) (all : Surfaces) → AreKeptBy numbers old.owned.linked all
     → (later : Numbered) × StandForAll new.owned.linked.surfaces later
-    × ((number : ℕ) (s : Surface) → all number ≡ Some s → is_some (kept_of old.owned.shell number) ≡ true
+    × ((number : ℕ) (s : Surface) → by_number numbers all number ≡ Some s → is_some (kept_of old.owned.shell number) ≡ true
     → counted_at (later number) ≡ Some (counting s.history))
 
 -- ---- the window of a surface
@@ -148,13 +158,13 @@ commit_by asked = None
 -- A client that lives on was told this of a commit of the surface with this number.
 abbrev pub TellsChange : {A : Type 0} → Kept A → Kept A → ℕ → Option (Applied A) → Type 0
 TellsChange {A} old new number applied =
-    new.client.ended ≡ None → (all : Numbered) → StandForAll old.owned.linked.surfaces all → (a : Applied A) × (applied ≡ Some a)
-    × AreChanges number (all number) a.changes.items
+    new.client.ended ≡ None → (a : Applied A) × (applied ≡ Some a)
+    × ((all : Surfaces) → Stand old.owned.linked.surfaces old.owned.linked.family all → IsCommitTold number all a.changes.items)
 
 -- What a commit of the surface with this number, which told this, made of what is kept of the client's surfaces.
-abbrev pub IsCommitted : {A : Type 0} → Slots → Slots → ℕ → Option (Applied A) → Type 0
+abbrev pub IsCommitted : {A : Type 0} → Linked A → Linked A → ℕ → Option (Applied A) → Type 0
 IsCommitted old new number None = new ≡ old
-IsCommitted old new number (Some applied) = Changes old new number (λ s. applying (asking CommitAsked s))
+IsCommitted old new number (Some applied) = Makes old.surfaces old.family new.surfaces new.family (committed_in number)
 
 -- What is to be painted stays so. What a step through these desktops marks at least is to be painted too, and nothing else than what it
 -- marks at most.

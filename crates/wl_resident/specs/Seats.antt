@@ -7,7 +7,6 @@ use Rattle.wl_peer.specs.Peer.{LacksMemory, Peer, ended}
 use Rattle.wl_client.specs.View.{ClientView}
 use Rattle.wl_peer.specs.declared.cause.Cause.{Cause}
 use Rattle.wl_linked.specs.Linked.{Stand}
-use Rattle.wl_surface.specs.Slots.{count as count_kept}
 use Rattle.wl_surface.specs.Surfaces.{no_surfaces}
 use Rattle.wl_scene.specs.Stacking.{Stack, mapped_on, without_client, without_surface_of}
 use Rattle.wl_scene.specs.declared.owned.Owned.{Owned}
@@ -65,7 +64,6 @@ IsRestackedBy (Some cause) c stacking old new was is = (new ≡ old) × (is ≡ 
 -- nothing is kept of surfaces, of links and of the shell
 pub record IsBare {A : Type 0} (owned : Owned A) : Type 0 where
   pub surfaces : Stand owned.linked.surfaces owned.linked.family no_surfaces
-  pub count : count_kept owned.linked.surfaces ≡ 0
   pub frames : owned.linked.surfaces.frames ≡ []
   pub shell : owned.shell ≡ []
 

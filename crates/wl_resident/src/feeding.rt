@@ -20,19 +20,19 @@ use crate::marking::{rects_of, touched_by};
 use crate::residents::{Resident, Stacking};
 use std::alloc::Allocator;
 use wl_client::{Cause, Client, StoreNo};
+use wl_linked::Linked;
 use wl_marking::mark_change;
 use wl_paint::Damage;
 use wl_plain::{ClientNo, Done, Stored};
 use wl_scene::{Owned, Scene, Surface};
 use wl_shell::Shell;
-use wl_surface::Surfaces;
 
 /// Nothing is owned.
 pub fn bare<A: Allocator + Copy>(alloc: A) -> Owned<A>
     ensures { IsBare result }
 {
     Owned {
-        surfaces: Surfaces::new(alloc),
+        linked: Linked::new(alloc),
         shell: Shell::new(alloc),
     }
 }

@@ -118,7 +118,7 @@ impl<A: Allocator + Copy> Resident<A> {
             → Stacks (λ r. demand_of served_now r object version m) self.old result.stacking }
         ensures decides { kind ≡ Kind.Surface Commit → (m : Message) → IsKind kind m → entry_of self.old.client.objects object ≡ Some (record { interface = m.interface; version = version; target = target })
             → AnswersDemandAs (is_some result.applied) (λ r. demand_of served_now r object version m) self.old self.new }
-        ensures commits { kind ≡ Kind.Surface Commit → IsCommitted self.old.owned.linked.surfaces self.new.owned.linked.surfaces target result.applied }
+        ensures commits { kind ≡ Kind.Surface Commit → IsCommitted self.old.owned.linked self.new.owned.linked target result.applied }
         ensures change { kind ≡ Kind.Surface Commit → TellsChange self.old self.new target result.applied }
         ensures nothing { kind ≢ Kind.Surface Commit → result.applied ≡ None }
         ensures rest { length self.new.client.rest ≤ length self.old.client.rest }
@@ -161,7 +161,7 @@ impl<A: Allocator + Copy> Resident<A> {
         ensures lives { IfSome result (λ s. self.old.client.ended ≡ None) }
         ensures takes { IfSome result (λ s. TakesMessage self.old self.new s.stacking) }
         ensures decides { IfSome result (λ s. (number : ℕ) → commit_by asked ≡ Some number → TakesMessageAs (is_some s.applied) self.old self.new) }
-        ensures commits { IfSome result (λ s. (number : ℕ) → commit_by asked ≡ Some number → IsCommitted self.old.owned.linked.surfaces self.new.owned.linked.surfaces number s.applied) }
+        ensures commits { IfSome result (λ s. (number : ℕ) → commit_by asked ≡ Some number → IsCommitted self.old.owned.linked self.new.owned.linked number s.applied) }
         ensures change { IfSome result (λ s. (number : ℕ) → commit_by asked ≡ Some number → TellsChange self.old self.new number s.applied) }
         ensures nothing { IfSome result (λ s. commit_by asked ≡ None → s.applied ≡ None) }
         ensures idle { IfNone result ((self.new ≡ self.old) × IsIdleAt self.old.client.ended self.old.client.rest) }

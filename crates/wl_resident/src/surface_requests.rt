@@ -105,14 +105,14 @@ impl<A: Allocator + Copy> Resident<A> {
 
     /// Whether no surface has a buffer any more, and its wl_buffer is gone.
     fn is_over(&self, buffer: Attached) -> bool
-        ensures { (r : Plain) (numbers : ById ℕ) → IsPeer self.now.client r.peer → AreKept numbers self.now.owned.linked.surfaces r.owned.surfaces → result ≡ is_over r (buffer_of buffer) }
+        ensures { (r : Plain) (numbers : ById ℕ) → IsPeer self.now.client r.peer → AreKept numbers self.now.owned.linked.surfaces self.now.owned.linked.family r.owned.surfaces → result ≡ is_over r (buffer_of buffer) }
     {
         !self.is_named(buffer) && !self.owned.linked.surfaces.is_used(buffer.number)
     }
 
     /// Lets the store of a buffer go that is over, unless it went before.
     fn let_go_if_over(&mut self, buffer: Option<Attached>, went: bool)
-        ensures stores { (r : Plain) (numbers : ById ℕ) → IsPeer self.old.client r.peer → AreKept numbers self.old.owned.linked.surfaces r.owned.surfaces
+        ensures stores { (r : Plain) (numbers : ById ℕ) → IsPeer self.old.client r.peer → AreKept numbers self.old.owned.linked.surfaces self.old.owned.linked.family r.owned.surfaces
             → self.new.client.stores ≡ let_if (is_over r) went (option_map buffer_of buffer) self.old.client.stores }
         ensures only { self.new.client ≡ record self.old.client { stores = self.new.client.stores } }
         ensures owned { self.new.owned ≡ self.old.owned }
@@ -131,7 +131,7 @@ impl<A: Allocator + Copy> Resident<A> {
         second: Option<Attached>,
         third: Option<Attached>,
     )
-        ensures stores { (r : Plain) (numbers : ById ℕ) → IsPeer self.old.client r.peer → AreKept numbers self.old.owned.linked.surfaces r.owned.surfaces
+        ensures stores { (r : Plain) (numbers : ById ℕ) → IsPeer self.old.client r.peer → AreKept numbers self.old.owned.linked.surfaces self.old.owned.linked.family r.owned.surfaces
             → IsPeer self.new.client (letting_go (listed (option_map buffer_of first) ++ listed (option_map buffer_of second) ++ listed (option_map buffer_of third)) r).peer }
         ensures only { self.new.client ≡ record self.old.client { stores = self.new.client.stores } }
         ensures owned { self.new.owned ≡ self.old.owned }
@@ -143,7 +143,7 @@ impl<A: Allocator + Copy> Resident<A> {
 
     /// Lets the stores of the buffers that a surface had go, of those that are over, each once.
     fn let_go_of(&mut self, had: [Option<Attached>; 3])
-        ensures stores { (r : Plain) (numbers : ById ℕ) → IsPeer self.old.client r.peer → AreKept numbers self.old.owned.linked.surfaces r.owned.surfaces
+        ensures stores { (r : Plain) (numbers : ById ℕ) → IsPeer self.old.client r.peer → AreKept numbers self.old.owned.linked.surfaces self.old.owned.linked.family r.owned.surfaces
             → (at : Option Surface) → map (option_map buffer_of) had ≡ had_at at → IsPeer self.new.client (letting_go (buffers_had (option_map (λ (s : Surface). s.history) at)) r).peer }
         ensures only { self.new.client ≡ record self.old.client { stores = self.new.client.stores } }
         ensures owned { self.new.owned ≡ self.old.owned }
@@ -159,7 +159,7 @@ impl<A: Allocator + Copy> Resident<A> {
         ensures still { kept_of self.old.owned.shell surface ≡ None → IsStill self.old self.new }
     {
         let had = self.owned.linked.surfaces.buffers(surface);
-        let Ok(applied) = self.owned.linked.surfaces.destroy(surface) else {
+        let Ok(applied) = self.owned.linked.destroy(surface) else {
             self.client.lack_memory();
             return;
         };
@@ -225,7 +225,7 @@ impl<A: Allocator + Copy> Resident<A> {
             → AnswersDemandAs (is_some result.applied) (λ r. demand_of served_now r object version (wl_surface_request Commit)) self.old self.new }
         ensures stacks { IsSurface self.old object surface
             → Stacks (λ r. demand_of served_now r object version (wl_surface_request Commit)) self.old result.stacking }
-        ensures commits { IsCommitted self.old.owned.linked.surfaces self.new.owned.linked.surfaces surface result.applied }
+        ensures commits { IsCommitted self.old.owned.linked self.new.owned.linked surface result.applied }
         ensures change { TellsChange self.old self.new surface result.applied }
         ensures rest { length self.new.client.rest ≤ length self.old.client.rest }
     {
@@ -255,17 +255,17 @@ impl<A: Allocator + Copy> Resident<A> {
     /// What is pending of a surface counts, and what that came to for the shell is told. Answers what was applied; None without memory for it.
     fn apply(&mut self, surface: SurfaceNo, act: ShellAct, serial: u32) -> Option<Applied<A>>
         ensures applies { (c : ℕ) (r : Plain) (d : Desktop) (names : Names) (object : ℕ) (kept : ℕ → Option KeptXdg) (shows : Bool) → OwnsToplevelsOnly r
-            → effect_of_commit r object ≡ effect_by act → IsPeer self.old.client r.peer → IsOwned names self.old.owned.linked.surfaces kept r.owned
+            → effect_of_commit r object ≡ effect_by act → IsPeer self.old.client r.peer → IsOwned names self.old.owned.linked.surfaces self.old.owned.linked.family kept r.owned
             → AreFramed self.old.owned.linked.surfaces.frames (by_number names.surfaces r.owned.surfaces) (r.peer.requests + 1) r.callbacks
             → names_in self.old.client.objects ≡ names → names.surfaces object ≡ Some surface → commit_answer shows (kept surface) ≡ Ok act → serial ≡ r.peer.serial
             → kept_of self.old.owned.shell ≡ changing surface (kept_after r.peer.serial act) kept
             → MeetsAs (is_some result) c (CommitTree object) r d self.old self.new }
-        ensures commits { IsCommitted self.old.owned.linked.surfaces self.new.owned.linked.surfaces surface result }
+        ensures commits { IsCommitted self.old.owned.linked self.new.owned.linked surface result }
         ensures change { TellsChange self.old self.new surface result }
         ensures rest { length self.new.client.rest ≤ length self.old.client.rest }
     {
         let had = self.owned.linked.surfaces.buffers(surface);
-        let Ok(applied) = self.owned.linked.surfaces.commit(surface) else {
+        let Ok(applied) = self.owned.linked.commit(surface) else {
             self.client.lack_memory();
             return None;
         };
@@ -364,7 +364,7 @@ impl<A: Allocator + Copy> Resident<A> {
             → Stacks (λ r. demand_of served_now r object version (wl_surface_request request.now)) self.old result.stacking }
         ensures decides { request.now ≡ Commit → IsSurface self.old object surface
             → AnswersDemandAs (is_some result.applied) (λ r. demand_of served_now r object version (wl_surface_request request.now)) self.old self.new }
-        ensures commits { request.now ≡ Commit → IsCommitted self.old.owned.linked.surfaces self.new.owned.linked.surfaces surface result.applied }
+        ensures commits { request.now ≡ Commit → IsCommitted self.old.owned.linked self.new.owned.linked surface result.applied }
         ensures change { request.now ≡ Commit → TellsChange self.old self.new surface result.applied }
         ensures nothing { request.now ≢ Commit → result.applied ≡ None }
         ensures rest { length self.new.client.rest ≤ length self.old.client.rest }

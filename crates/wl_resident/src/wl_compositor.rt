@@ -56,7 +56,7 @@ impl<A: Allocator + Copy> Resident<A> {
     fn create_region(&mut self, version: u32, id: u32)
         ensures answers { IsFree self.old id → AnswersDemand (λ r. Ok (Asks (Own (CreateRegion id version)))) self.old self.new }
         ensures rest { length self.new.client.rest ≤ length self.old.client.rest }
-        ensures surfaces { self.new.owned.linked.surfaces ≡ self.old.owned.linked.surfaces }
+        ensures surfaces { self.new.owned.linked ≡ self.old.owned.linked }
     {
         self.client.count();
         self.client.create_region(id, version);

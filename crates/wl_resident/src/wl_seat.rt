@@ -16,7 +16,7 @@ impl<A: Allocator + Copy> Resident<A> {
     pub(crate) fn wl_seat(&mut self, object: u32, version: u32, request: &WlSeatRequest)
         ensures answers { AnswersDemand (λ r. demand_of served_now r object version (wl_seat_request request.now)) self.old self.new }
         ensures rest { length self.new.client.rest ≤ length self.old.client.rest }
-        ensures surfaces { self.new.owned.linked.surfaces ≡ self.old.owned.linked.surfaces }
+        ensures surfaces { self.new.owned.linked ≡ self.old.owned.linked }
     {
         match *request {
             WlSeatRequest::GetPointer { .. } => self.refuse_unserved(),

@@ -16,7 +16,7 @@ impl<A: Allocator + Copy> Resident<A> {
     fn destroy_subcompositor(&mut self, object: u32, version: u32)
         ensures answers { IsSubcompositor self.old object → AnswersDemand (λ r. demand_of served_now r object version (wl_subcompositor_request Destroy)) self.old self.new }
         ensures rest { length self.new.client.rest ≤ length self.old.client.rest }
-        ensures surfaces { self.new.owned.linked.surfaces ≡ self.old.owned.linked.surfaces }
+        ensures surfaces { self.new.owned.linked ≡ self.old.owned.linked }
     {
         self.client.count();
         self.end_object(object);
@@ -31,7 +31,7 @@ impl<A: Allocator + Copy> Resident<A> {
     )
         ensures answers { IsSubcompositor self.old object → AnswersDemand (λ r. demand_of served_now r object version (wl_subcompositor_request request.now)) self.old self.new }
         ensures rest { length self.new.client.rest ≤ length self.old.client.rest }
-        ensures surfaces { self.new.owned.linked.surfaces ≡ self.old.owned.linked.surfaces }
+        ensures surfaces { self.new.owned.linked ≡ self.old.owned.linked }
     {
         match *request {
             WlSubcompositorRequest::Destroy => self.destroy_subcompositor(object, version),

@@ -83,7 +83,7 @@ impl<A: Allocator + Copy> Resident<A> {
         ensures errs { (p : Peer) → IsPeer self.old.client p
             → (q : Peer) × Errs (shell_refusal (kept_base (kept_of self.old.owned.shell surface)) object object error) p q × IsPeer self.new.client q }
         ensures rest { length self.new.client.rest ≤ length self.old.client.rest }
-        ensures surfaces { self.new.owned.linked.surfaces ≡ self.old.owned.linked.surfaces }
+        ensures surfaces { self.new.owned.linked ≡ self.old.owned.linked }
     {
         let refusal = refusal_of(self.base_of(surface), object, object, error);
         self.client.refuse(refusal);
@@ -93,7 +93,7 @@ impl<A: Allocator + Copy> Resident<A> {
     fn destroy_xdg_surface(&mut self, object: u32, version: u32, surface: SurfaceNo)
         ensures answers { IsXdgSurface self.old object surface → AnswersDemand (λ r. demand_of served_now r object version (xdg_surface_request Destroy)) self.old self.new }
         ensures rest { length self.new.client.rest ≤ length self.old.client.rest }
-        ensures surfaces { self.new.owned.linked.surfaces ≡ self.old.owned.linked.surfaces }
+        ensures surfaces { self.new.owned.linked ≡ self.old.owned.linked }
     {
         match self.owned.shell.destroy_xdg_surface(surface) {
             Ok(()) => {
@@ -132,7 +132,7 @@ impl<A: Allocator + Copy> Resident<A> {
         ensures answers { IsXdgSurface self.old object surface
             → AnswersDemand (λ r. demand_of served_now r object version (xdg_surface_request (SetWindowGeometry rect.x rect.y rect.w rect.h))) self.old self.new }
         ensures rest { length self.new.client.rest ≤ length self.old.client.rest }
-        ensures surfaces { self.new.owned.linked.surfaces ≡ self.old.owned.linked.surfaces }
+        ensures surfaces { self.new.owned.linked ≡ self.old.owned.linked }
     {
         match self.owned.shell.geometry(surface, rect) {
             Ok(()) => self.client.count(),
@@ -145,7 +145,7 @@ impl<A: Allocator + Copy> Resident<A> {
         ensures answers { IsXdgSurface self.old object surface
             → AnswersDemand (λ r. demand_of served_now r object version (xdg_surface_request (AckConfigure serial))) self.old self.new }
         ensures rest { length self.new.client.rest ≤ length self.old.client.rest }
-        ensures surfaces { self.new.owned.linked.surfaces ≡ self.old.owned.linked.surfaces }
+        ensures surfaces { self.new.owned.linked ≡ self.old.owned.linked }
     {
         match self.owned.shell.ack(surface, serial) {
             Ok(()) => self.client.count(),

@@ -90,7 +90,7 @@ impl<A: Allocator + Copy> Resident<A> {
     fn destroy_toplevel(&mut self, object: u32, surface: SurfaceNo)
         ensures answers { IsToplevel self.old object surface → AnswersDemand (λ r. toplevel_destroyed object (xdg_with object r.owned.shell)) self.old self.new }
         ensures rest { length self.new.client.rest ≤ length self.old.client.rest }
-        ensures surfaces { self.new.owned.linked.surfaces ≡ self.old.owned.linked.surfaces }
+        ensures surfaces { self.new.owned.linked ≡ self.old.owned.linked }
     {
         self.client.count();
         self.owned.shell.destroy_toplevel(surface);
@@ -162,7 +162,7 @@ impl<A: Allocator + Copy> Resident<A> {
     fn configure_again(&mut self, object: u32, surface: SurfaceNo)
         ensures answers { IsToplevel self.old object surface → AnswersDemand (λ r. demands (state_asked (xdg_with object r.owned.shell))) self.old self.new }
         ensures rest { length self.new.client.rest ≤ length self.old.client.rest }
-        ensures surfaces { self.new.owned.linked.surfaces ≡ self.old.owned.linked.surfaces }
+        ensures surfaces { self.new.owned.linked ≡ self.old.owned.linked }
     {
         let xdg_surface = self.xdg_surface_of(surface);
         let serial = self.client.serial();
@@ -189,7 +189,7 @@ impl<A: Allocator + Copy> Resident<A> {
         ensures stacks { IsToplevel self.old object surface → (version : ℕ) (m : Message) → m.interface ≡ XdgToplevel → asked ≡ asked_by (toplevel_request m.opcode m.fields)
             → Stacks (λ r. demand_of served_now r object version m) self.old result }
         ensures rest { length self.new.client.rest ≤ length self.old.client.rest }
-        ensures surfaces { self.new.owned.linked.surfaces ≡ self.old.owned.linked.surfaces }
+        ensures surfaces { self.new.owned.linked ≡ self.old.owned.linked }
     {
         match asked {
             ToplevelAsked::Destruction => {

@@ -44,7 +44,7 @@ impl<A: Allocator + Copy> Resident<A> {
     pub(crate) fn ignore(&mut self)
         ensures answers { AnswersDemand (λ r. Ok (Asks Ignore)) self.old self.new }
         ensures rest { length self.new.client.rest ≤ length self.old.client.rest }
-        ensures surfaces { self.new.owned.linked.surfaces ≡ self.old.owned.linked.surfaces }
+        ensures surfaces { self.new.owned.linked ≡ self.old.owned.linked }
     {
         self.client.count();
     }
@@ -53,7 +53,7 @@ impl<A: Allocator + Copy> Resident<A> {
     pub(crate) fn refuse_unserved(&mut self)
         ensures answers { AnswersDemand (λ r. past_limit) self.old self.new }
         ensures rest { length self.new.client.rest ≤ length self.old.client.rest }
-        ensures surfaces { self.new.owned.linked.surfaces ≡ self.old.owned.linked.surfaces }
+        ensures surfaces { self.new.owned.linked ≡ self.old.owned.linked }
     {
         self.client
             .refuse(Refusal::of_display(ErrorCode::Implementation));
@@ -74,7 +74,7 @@ impl<A: Allocator + Copy> Resident<A> {
     pub(crate) fn end_object(&mut self, object: u32)
         ensures does { GoesAlone self.old object → Does (λ r. EndObject object) self.old self.new }
         ensures rest { length self.new.client.rest ≤ length self.old.client.rest }
-        ensures surfaces { self.new.owned.linked.surfaces ≡ self.old.owned.linked.surfaces }
+        ensures surfaces { self.new.owned.linked ≡ self.old.owned.linked }
     {
         self.client.remove(object);
     }
@@ -83,7 +83,7 @@ impl<A: Allocator + Copy> Resident<A> {
     fn destroy_base(&mut self, object: u32, version: u32)
         ensures answers { IsBase self.old object → AnswersDemand (λ r. demand_of served_now r object version (xdg_wm_base_request Destroy)) self.old self.new }
         ensures rest { length self.new.client.rest ≤ length self.old.client.rest }
-        ensures surfaces { self.new.owned.linked.surfaces ≡ self.old.owned.linked.surfaces }
+        ensures surfaces { self.new.owned.linked ≡ self.old.owned.linked }
     {
         match self.owned.shell.check_base(object) {
             Ok(()) => {
@@ -108,7 +108,7 @@ impl<A: Allocator + Copy> Resident<A> {
         ensures answers { IsFree self.old id → IsSurface self.old surface number
             → AnswersDemand (λ r. demand_of served_now r object version (xdg_wm_base_request (GetXdgSurface id surface))) self.old self.new }
         ensures rest { length self.new.client.rest ≤ length self.old.client.rest }
-        ensures surfaces { self.new.owned.linked.surfaces ≡ self.old.owned.linked.surfaces }
+        ensures surfaces { self.new.owned.linked ≡ self.old.owned.linked }
     {
         let has_other_role = is_foreign_role(self.owned.linked.surfaces.role(number));
         let has_content = self.owned.linked.surfaces.has_content(number);
@@ -142,7 +142,7 @@ impl<A: Allocator + Copy> Resident<A> {
         ensures answers { IsBase self.old object → NewIsFree self.old (xdg_wm_base_request request.now) → ObjectsFit self.old (xdg_wm_base_request request.now)
             → AnswersDemand (λ r. demand_of served_now r object version (xdg_wm_base_request request.now)) self.old self.new }
         ensures rest { length self.new.client.rest ≤ length self.old.client.rest }
-        ensures surfaces { self.new.owned.linked.surfaces ≡ self.old.owned.linked.surfaces }
+        ensures surfaces { self.new.owned.linked ≡ self.old.owned.linked }
     {
         match *request {
             XdgWmBaseRequest::Destroy => self.destroy_base(object, version),

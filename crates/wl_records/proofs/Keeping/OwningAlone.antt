@@ -1,7 +1,6 @@
 -- What is made, and told, of a surface that is linked to none, of the surfaces by the numbers that are kept.
 use Rattle.std.proofs.Common.{◌≡◌, ℕ, suc, drop, arith, List, [], ◌∷◌, ◌++◌, Bool, true, false, Option, Some, None, cond, map, refl, ap, sym, subst, ◌∙◌, eq-eqb}
-use Rattle.std.specs.Prelude.{◌==◌, ◌||◌, filter, find, is_some, not, take}
-use Rattle.std.specs.List.{list_any}
+use Rattle.std.specs.Prelude.{◌==◌, ◌||◌, filter, find, not, take}
 use Rattle.std.specs.Option.{option_map}
 use Rattle.std.proofs.lemmas.Bool.{eqb-true}
 use Rattle.std.proofs.lemmas.List.{append-nil, take-append-le}
@@ -18,8 +17,8 @@ use Rattle.wl_surface.specs.Applied.{AreApplied, AreChanges, AreFreed}
 use Rattle.wl_surface.specs.declared.applied.Change.{Change}
 use Rattle.wl_surface.specs.declared.frames.Waiting.{Waiting}
 use Rattle.wl_surface.specs.Slots.{IsAny, Numbered, Slots, StandForAll, StandsAt, changed_at, kept_at, shows_at, with_at}
-use Rattle.wl_surface.specs.Surfaces.{Link, Surfaces, surface_at, with_change, without_surface}
-use Rattle.wl_surface.specs.Trees.{behaves_synchronised, committed_in, descends_from, destroyed_in, levels}
+use Rattle.wl_surface.specs.Surfaces.{Surfaces, surface_at, with_change}
+use Rattle.wl_surface.specs.Trees.{behaves_synchronised, committed_in, descends_from, destroyed_in}
 use Rattle.wl_surface.specs.Waiting.{AreWaiting, Callback, counted_at, frames_at, is_in}
 use Rattle.wl_surface.proofs.Counting.{waiting-same}
 use Rattle.wl_linked.specs.Linked.{Stand, numbered}

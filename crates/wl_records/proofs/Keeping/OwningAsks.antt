@@ -4,7 +4,7 @@ use Rattle.std.specs.Prelude.{◌==◌, Ok, Result}
 use Rattle.std.specs.Option.{option_map, option_map_or}
 use Rattle.wl_geom.specs.declared.rect.Rect.{Rect}
 use Rattle.wl_family.specs.Family.{Tied}
-use Rattle.wl_surface.specs.Slots.{Changes, Numbered, Slots, StandForAll, kept_at, one_if_kept, with_at, count as count_kept}
+use Rattle.wl_surface.specs.Slots.{Changes, Numbered, Slots, StandForAll, with_at, count as count_kept}
 use Rattle.wl_state.specs.Request.{Request, Commit, SetWindowGeometry}
 use Rattle.wl_state.specs.State.{History, apply, geometry_asked, is_commit}
 use Rattle.wl_state.specs.Surface.{Surface, applying, asking, new_surface, with_role}

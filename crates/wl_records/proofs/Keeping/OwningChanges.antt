@@ -7,7 +7,7 @@ use Rattle.std.proofs.lemmas.Bool.{eqb-true, eqb-false, ne_eqb}
 use Rattle.wl_peer.specs.Objects.{ById, with_id}
 use Rattle.wl_state.specs.Kept.{Kept as KeptSurface}
 use Rattle.wl_family.specs.Family.{Tied}
-use Rattle.wl_surface.specs.Slots.{Numbered, Slots, StandForAll, StandsAt, kept_at, one_if_kept, with_at, count as count_kept}
+use Rattle.wl_surface.specs.Slots.{Numbered, Slots, StandForAll, StandsAt, kept_at, with_at, count as count_kept}
 use Rattle.wl_state.specs.State.{History}
 use Rattle.wl_state.specs.Surface.{Surface, new_surface}
 use Rattle.wl_surface.specs.Surfaces.{Surfaces, history_in, surface_at, with_new, without_surface}

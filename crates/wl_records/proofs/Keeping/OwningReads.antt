@@ -1,13 +1,11 @@
 -- What is read of what is kept of a client is what the plain desktop asks.
-use Rattle.std.proofs.Common.{◌≡◌, ◌≢◌, ℕ, ◌+◌, List, [], ◌∷◌, ◌++◌, take, Bool, true, false, Option, Some, None, Result, cond, refl, ap, sym, subst, ◌∙◌, eq-eqb}
-use Rattle.std.specs.Prelude.{◌==◌, ◌&&◌, ◌||◌, int_lt, pos, IfSome, IsSomeAnd, Ok, Err, count_by, is_some, not, if◌then◌else◌}
+use Rattle.std.proofs.Common.{◌≡◌, ◌≢◌, ℕ, List, [], ◌∷◌, ◌++◌, take, Bool, true, false, Option, Some, None, Result, cond, refl, ap, sym, subst, ◌∙◌, eq-eqb}
+use Rattle.std.specs.Prelude.{◌==◌, ◌&&◌, ◌||◌, int_lt, pos, IfSome, IsSomeAnd, Ok, Err, is_some, not, if◌then◌else◌}
 use Rattle.std.specs.List.{list_any}
 use Rattle.std.specs.Option.{option_and_then, option_map, option_map_or}
-use Rattle.std.proofs.Math.Path.{fun_ext}
 use Rattle.wl_geom.specs.declared.rect.Rect.{Rect}
 use Rattle.wl_peer.specs.declared.refusals.ErrorCode.TheVariants as error
 use Rattle.wl_peer.specs.declared.refusals.Refusal.{Refusal}
-use Rattle.wl_peer.specs.Objects.{with_id}
 use Rattle.wl_state.specs.declared.content.Attached.{Attached}
 use Rattle.wl_state.specs.declared.role.Role.{Role}
 use Rattle.wl_state.specs.declared.role.Role.TheVariants.{Toplevel as AsToplevel, Popup as AsPopup, Subsurface as AsSubsurface, Cursor as AsCursor}
@@ -15,11 +13,10 @@ use Rattle.wl_state.specs.declared.state.Current.{Current}
 use Rattle.wl_state.specs.Kept.{buffer_of}
 use Rattle.wl_family.specs.Family.{Tied}
 use Rattle.wl_surface.specs.Slots.{IsAny, IsCurrentAt, Numbered, Slots, StandForAll, content_at, has_at, pending_at, role_at, shows_at}
-use Rattle.wl_surface.specs.Applied.{AreFreed}
-use Rattle.wl_state.specs.Request.{Buffer, Commit, SetWindowGeometry}
+use Rattle.wl_state.specs.Request.{Buffer, SetWindowGeometry}
 use Rattle.wl_state.specs.State.{History, applied, held, pending, values}
-use Rattle.wl_state.specs.Surface.{Surface, applying, asking, has_content, is_there, listed}
-use Rattle.wl_surface.specs.Surfaces.{Surfaces, history_in, is_busy, is_used, surface_at, with_change, without_surface}
+use Rattle.wl_state.specs.Surface.{Surface, has_content, is_there, listed}
+use Rattle.wl_surface.specs.Surfaces.{history_in, is_busy, is_used, surface_at}
 use Rattle.wl_shell.specs.declared.acts.ShellAct.{ShellAct}
 use Rattle.wl_shell.specs.declared.acts.ShellAct.TheVariants.{Configure, Map, Unmap, Nothing}
 use Rattle.wl_shell.specs.declared.error.ShellError.{ShellError}
@@ -29,9 +26,6 @@ use Rattle.wl_shell.specs.Kept.{Kept, acknowledgement_answer, commit_answer, con
 use Rattle.wl_shell.specs.Kept.{toplevel_answer}
 use Rattle.wl_shell.specs.Shell.{Effect, Stays, Unconfigured, Configures, Maps, Unmaps, RoleObject, XdgSurface, answers_states, is_full, is_waiting, on_commit, stage_of, xdg_of}
 use Rattle.wl_shell.proofs.Shells.{shells_stand}
-use Rattle.wl_surface.specs.Trees.{committed_in, destroyed_in}
-use Rattle.wl_linked.specs.Linked.{Stand, numbered}
-use Rattle.wl_named.specs.Reading.{AreFound}
 use Rattle.wl_plain.specs.Ask.{AskSurface, EndObject, GetXdgSurface, DestroyXdgSurface, GetToplevel, Acknowledge, ConfigureAgain, Ignore}
 use Rattle.wl_plain.specs.Desktop.{Resident}
 use Rattle.wl_records.specs.Owning.{AllCounts, IsOwned, IsXdg, Names, asks_by, asks_unless, by_id, by_number, configuring_if, effect_by, kept_id, shell_refusal}
@@ -39,10 +33,8 @@ use Rattle.wl_plain.specs.Step.{buffers_had, configures_told, each_once, role_co
 use Rattle.wl_plain.specs.WlSurface.{refuse, refuse_limit, will_show}
 use Rattle.wl_plain.specs.XdgShell.{acknowledged_by, base_destroyed, configured_again, geometry_set, has_any, is_foreign, is_no_toplevel, role_of, toplevel_made, xdg_surface_destroyed}
 use Rattle.wl_plain.specs.XdgShell.{xdg_surface_made}
-use Rattle.wl_laws.proofs.Lists.Keys.{apart-left, apart-map, none-some, some-same}
-use Rattle.wl_laws.proofs.Lists.Surfaces.{has_id}
+use Rattle.wl_laws.proofs.Lists.Keys.{none-some, some-same}
 use Rattle.wl_records.proofs.Keeping.OwningSurfaces.{busy-read, surface-read, used-read}
-use Rattle.wl_records.proofs.Keeping.OwningTies.{are-found, at-once-here, destroyed-alone, freed-committed-by, freed-left-by}
 use Rattle.wl_records.proofs.Keeping.OwningXdg.{xdg-of, xdg-of-none, xdg-there}
 use Rattle.wl_records.proofs.Toplevels.Simply.{effect_for, effect_of}
 use Rattle.wl_plain.specs.Demand.{EndSurface, CommitTree}

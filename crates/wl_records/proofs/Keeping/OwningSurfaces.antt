@@ -8,7 +8,7 @@ use Rattle.wl_geom.specs.declared.rect.Rect.{Rect}
 use Rattle.wl_peer.specs.Objects.{ById, with_id}
 use Rattle.wl_family.specs.Family.{Tied}
 use Rattle.wl_state.specs.Kept.{Kept}
-use Rattle.wl_surface.specs.Slots.{Numbered, Slots, StandForAll, StandsAt, Changes, IsAny, changed_at, has_at, kept_at, one_if_kept, shows_at, with_at, count as count_kept}
+use Rattle.wl_surface.specs.Slots.{Numbered, Slots, StandForAll, StandsAt, Changes, IsAny, changed_at, has_at, kept_at, shows_at, with_at, count as count_kept}
 use Rattle.wl_state.specs.Request.{Request, SetWindowGeometry}
 use Rattle.wl_state.specs.State.{History, committed_from, is_commit}
 use Rattle.wl_state.specs.Surface.{Surface, asking, has, new_surface, shows}

@@ -1,45 +1,40 @@
 -- How the surfaces of a client hang together goes on being kept.
-use Rattle.std.proofs.Common.{◌≡◌, ℕ, zero, suc, ◌+◌, List, [], ◌∷◌, Bool, true, false, Option, Some, None, cond, length, refl, ap, sym, subst, ◌∙◌, arith, eq-eqb}
-use Rattle.std.specs.Prelude.{◌==◌, ◌&&◌, count_by, find, is_some, map, not}
+use Rattle.std.proofs.Common.{◌≡◌, ℕ, zero, suc, ◌+◌, List, [], ◌∷◌, Bool, true, false, Option, Some, None, cond, refl, ap, sym, subst, ◌∙◌, arith}
+use Rattle.std.specs.Prelude.{◌==◌, count_by, find, is_some, map}
 use Rattle.std.specs.List.{All, AllByRecursion as Each}
 use Rattle.std.specs.Option.{option_map, option_map_or}
 use Rattle.std.proofs.Math.Path.{fun_ext}
 use Rattle.std.proofs.lemmas.Bool.{eqb-false, eqb-true, false_from_ne_true, ne_eqb}
-use Rattle.std.proofs.lemmas.List.Elements.{All-from_recursion, All-nil}
+use Rattle.std.proofs.lemmas.List.Elements.{All-nil}
 use Rattle.std.proofs.lemmas.List.Sums.{sum_by-cons}
 use Rattle.wl_peer.specs.Objects.{ById, with_id}
 use Rattle.wl_family.specs.Family.{Tied, is_there}
-use Rattle.wl_state.specs.Kept.{Kept, StandsFor}
+use Rattle.wl_state.specs.Kept.{Kept}
 use Rattle.wl_state.specs.Request.{Commit, Request}
 use Rattle.wl_state.specs.State.{is_commit}
 use Rattle.wl_state.specs.Surface.{Surface, applying, asking, new_surface, with_role}
 use Rattle.wl_state.specs.declared.role.Role.{Role}
 use Rattle.wl_surface.specs.Slots.{Changes, Numbered, Slots, StandForAll, StandsAt, kept_at, one_if_kept, place_at, with_at}
-use Rattle.wl_surface.specs.Surfaces.{Link, Surfaces, is_busy, surface_at, with_change, with_new, without_surface}
-use Rattle.wl_surface.specs.Applied.{AreFreed}
+use Rattle.wl_surface.specs.Surfaces.{Link, Surfaces, surface_at, with_change, with_new, without_surface}
 use Rattle.wl_surface.specs.Trees.{applied_tree, behaves_synchronised, committed_in, destroyed_in}
 use Rattle.wl_tree_laws.specs.Stacks.{is_about_children}
-use Rattle.wl_linked.specs.Linked.{Stand, numbered}
-use Rattle.wl_renaming.specs.Renaming.{HasEnds, IsRenamedAs, IsRenaming, has_surface, renamed, renamed_surface}
-use Rattle.wl_renaming.proofs.Done.{commits-surface, destroys-surface}
+use Rattle.wl_linked.specs.Linked.{numbered}
+use Rattle.wl_renaming.specs.Renaming.{HasEnds, IsRenaming, has_surface, renamed, renamed_surface}
 use Rattle.wl_renaming.proofs.Known.{known-there}
-use Rattle.wl_renaming.proofs.Lists.{each-weaker}
-use Rattle.wl_named.specs.Named.{Makes, StandBy, with_name}
+use Rattle.wl_named.specs.Named.{Makes, StandBy}
 use Rattle.wl_named.proofs.Linking.{destroys-named}
 use Rattle.wl_named.proofs.Named.{asks-named, commits-named, roles-named, there-named}
-use Rattle.wl_named.specs.Reading.{AreFound}
-use Rattle.wl_named.proofs.Reading.{frees-named, numbers-named}
+use Rattle.wl_named.proofs.Reading.{numbers-named}
 use Rattle.wl_named.proofs.Renaming.{creates-named, renames-named}
 use Rattle.wl_plain.specs.Step.{is_number}
-use Rattle.wl_laws.specs.Apart.{AreApartBy}
 use Rattle.wl_laws.proofs.Lists.Keys.{differ, gone}
 use Rattle.wl_laws.proofs.Lists.Surfaces.{has_id}
 use Rattle.wl_records.specs.Owning.{AreKept, by_number, number_in}
-use Rattle.wl_records.proofs.Keeping.OwningNames.{with_id-here, with_id-other}
+use Rattle.wl_records.proofs.Keeping.OwningNames.{with_id-other}
 
 -- ---- how many are kept
 
-nothing-at : (n : ℕ) → place_at [] n ≡ None
+pub nothing-at : (n : ℕ) → place_at [] n ≡ None
 nothing-at zero = refl
 nothing-at (suc n) = refl
 

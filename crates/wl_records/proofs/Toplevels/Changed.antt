@@ -3,9 +3,8 @@ use Rattle.std.proofs.Common.{◌≡◌, ℕ, List, [], ◌∷◌, ◌++◌, Boo
 use Rattle.std.specs.Prelude.{◌==◌, ◌⊎◌, flat_map, fold}
 use Rattle.std.specs.Option.{option_map, option_map_or}
 use Rattle.wl_state.specs.Request.{Commit}
-use Rattle.wl_state.specs.Surface.{Surface, applying, asking}
-use Rattle.wl_surface.specs.Surfaces.{Link, Surfaces, with_change as with_surface_change, without_surface}
-use Rattle.wl_surface.specs.Trees.{applied_tree, behaves_synchronised, committed_in}
+use Rattle.wl_state.specs.Surface.{applying, asking}
+use Rattle.wl_surface.specs.Surfaces.{Link, without_surface}
 use Rattle.wl_shell.specs.Popups.{Popped, by_number, dismissed_after, dismissed_among, dismissing, is_parent_of, is_toplevel, is_toplevel_kind, orphan, orphaning, placing, popped_of, popup_changed}
 use Rattle.wl_shell.specs.Popups.{popups_of, with_popup, with_popup_role, without_grab}
 use Rattle.wl_shell.specs.declared.stage.Stage.{Stage}

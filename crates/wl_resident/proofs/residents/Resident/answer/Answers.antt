@@ -1,3 +1,4 @@
+use Rattle.wl_linked.specs.declared.linked.Linked.{Linked}
 use Rattle.std.proofs.Common.{◌≡◌, ap, refl, subst, sym, rules, ◌∙◌}
 use Rattle.std.specs.Prelude.{is_some}
 use Rattle.wl_proto.specs.Messages.{Message, wl_surface_request}
@@ -213,7 +214,7 @@ returns-in-Compositor-clause-still g c = λ other p is. c.wl_compositor.ensures.
 pub returns-in-Subcompositor-clause-still : goal.returns-in-Subcompositor-clause-still
 returns-in-Subcompositor-clause-still g c = λ other p is.
     let v = c.args.self.now in
-    same-still v.owned.linked.surfaces v.owned.linked.family (kept_of v.owned.shell) c.wl_subcompositor.new.self.owned.linked.surfaces c.wl_subcompositor.ensures.surfaces
+    same-still v.owned.linked.surfaces v.owned.linked.family (kept_of v.owned.shell) c.wl_subcompositor.new.self.owned.linked.surfaces (ap (λ (l : Linked _). l.surfaces) c.wl_subcompositor.ensures.surfaces)
 
 pub returns-in-XdgSurface-clause-still : goal.returns-in-XdgSurface-clause-still
 returns-in-XdgSurface-clause-still g c = λ other p is. c.xdg_surface.ensures.still
@@ -221,19 +222,19 @@ returns-in-XdgSurface-clause-still g c = λ other p is. c.xdg_surface.ensures.st
 pub returns-in-Toplevel-clause-still : goal.returns-in-Toplevel-clause-still
 returns-in-Toplevel-clause-still g c = λ other p is.
     let v = c.args.self.now in
-    same-still v.owned.linked.surfaces v.owned.linked.family (kept_of v.owned.shell) c.xdg_toplevel.new.self.owned.linked.surfaces c.xdg_toplevel.ensures.surfaces
+    same-still v.owned.linked.surfaces v.owned.linked.family (kept_of v.owned.shell) c.xdg_toplevel.new.self.owned.linked.surfaces (ap (λ (l : Linked _). l.surfaces) c.xdg_toplevel.ensures.surfaces)
 
 pub returns-in-Seat-clause-still : goal.returns-in-Seat-clause-still
 returns-in-Seat-clause-still g c = λ other p is.
     let v = c.args.self.now in
-    same-still v.owned.linked.surfaces v.owned.linked.family (kept_of v.owned.shell) c.wl_seat.new.self.owned.linked.surfaces c.wl_seat.ensures.surfaces
+    same-still v.owned.linked.surfaces v.owned.linked.family (kept_of v.owned.shell) c.wl_seat.new.self.owned.linked.surfaces (ap (λ (l : Linked _). l.surfaces) c.wl_seat.ensures.surfaces)
 
 pub returns-in-Base-clause-still : goal.returns-in-Base-clause-still
 returns-in-Base-clause-still g c = λ other p is.
     let v = c.args.self.now in
-    same-still v.owned.linked.surfaces v.owned.linked.family (kept_of v.owned.shell) c.xdg_wm_base.new.self.owned.linked.surfaces c.xdg_wm_base.ensures.surfaces
+    same-still v.owned.linked.surfaces v.owned.linked.family (kept_of v.owned.shell) c.xdg_wm_base.new.self.owned.linked.surfaces (ap (λ (l : Linked _). l.surfaces) c.xdg_wm_base.ensures.surfaces)
 
 pub returns-in-Unserved-clause-still : goal.returns-in-Unserved-clause-still
 returns-in-Unserved-clause-still g c = λ other p is.
     let v = c.args.self.now in
-    same-still v.owned.linked.surfaces v.owned.linked.family (kept_of v.owned.shell) c.refuse_unserved.new.self.owned.linked.surfaces c.refuse_unserved.ensures.surfaces
+    same-still v.owned.linked.surfaces v.owned.linked.family (kept_of v.owned.shell) c.refuse_unserved.new.self.owned.linked.surfaces (ap (λ (l : Linked _). l.surfaces) c.refuse_unserved.ensures.surfaces)

@@ -79,7 +79,7 @@ returns-in-Ok-false-clause-answers g c = λ named client r on is only.
         frames = λ alive. framed-names v.owned.linked.surfaces.frames v.client.objects count.new.self.objects r (with_peer (counted r.peer) r) refl (one-more r.peer.requests) is.frames
             (names-counted v.client count.new.self count.ensures.only) refl;
         owns = λ alive. subst (λ (n : Names). IsOwned n v.owned.linked.surfaces v.owned.linked.family (kept_of c.configure.new.self) r.owned) (sym (names-counted v.client count.new.self count.ensures.only))
-            (subst (λ (ks : ℕ → Option KeptXdg). IsOwned names v.owned.linked.surfaces ks r.owned)
+            (subst (λ (ks : ℕ → Option KeptXdg). IsOwned names v.owned.linked.surfaces v.owned.linked.family ks r.owned)
             (sym (c.in-Ok-false.ensures.ok ∙ ap (λ b. changing number (kept_configured b c.serial-serial.result) kept) c.in-Ok-false.field-0-test ∙ changing-same number kept)) is.owns);
       },
     )))
@@ -103,7 +103,7 @@ returns-in-Err-clause-answers g c = λ named client r on is only.
     (c.refuse_xdg_surface.ensures.errs r.peer is.peer)))
 
 pub returns-in-Ok-true-clause-surfaces : goal.returns-in-Ok-true-clause-surfaces
-returns-in-Ok-true-clause-surfaces g c = ap (λ (o : Lent _). o.linked.surfaces) c.tell_configure.ensures.owned
+returns-in-Ok-true-clause-surfaces g c = ap (λ (o : Lent _). o.linked) c.tell_configure.ensures.owned
 
 pub returns-in-Ok-false-clause-surfaces : goal.returns-in-Ok-false-clause-surfaces
 returns-in-Ok-false-clause-surfaces g c = refl

@@ -1,3 +1,4 @@
+use Rattle.wl_linked.specs.declared.linked.Linked.{Linked}
 use Rattle.std.proofs.Common.{refl, inl, subst, sym, List, ap, ◌∙◌}
 use Rattle.wl_interface.specs.declared.interface.Interface.TheVariants.{WlSurface}
 use Rattle.wl_peer.specs.Peer.{counted}
@@ -30,7 +31,7 @@ returns-in-Ok-clause-answers g c = λ free client r on is only.
     let made = c.add.ensures.makes (counted r.peer) (c.count.ensures.counts r.peer is.peer) in
     let names = names-surface-made v.client.objects c.add.new.self.objects id _ free refl in
     accepted _ r (surface_created r id c.args.version) (CreateSurface id c.args.version)
-    (created-within (names_in v.client.objects) v.owned.linked.surfaces r id c.args.version (is.owns.surfaces) c.in-Ok.ensures.room) (
+    (created-within (names_in v.client.objects) v.owned.linked.surfaces v.owned.linked.family r id c.args.version (is.owns.surfaces) c.in-Ok.ensures.room) (
       made.0,
       made.1,
       record {
@@ -43,7 +44,7 @@ returns-in-Ok-clause-answers g c = λ free client r on is only.
             let now = names (holds-counted v.client c.count.new.self c.add.new.self.objects id _ c.count.ensures.only (c.add.ensures.table alive)) in
             let after = changed_by (CreateSurface id c.args.version) (with_peer (counted r.peer) r) in
             subst (λ (ws : List Waiting). IsFramed ws c.add.new.self.objects after) (sym c.create.ensures.frames)
-            (framed-made v.owned.linked.surfaces.frames v.client.objects c.add.new.self.objects r after refl (one-more r.peer.requests) is.frames v.owned.linked.surfaces is.owns.surfaces id c.in-Ok.surface
+            (framed-made v.owned.linked.surfaces.frames v.client.objects c.add.new.self.objects r after refl (one-more r.peer.requests) is.frames v.owned.linked.surfaces v.owned.linked.family is.owns.surfaces id c.in-Ok.surface
             c.create.new.self c.in-Ok.ensures.ok
             (targets-free WlSurface v.client.objects id free) (ap (λ (n : Names). n.surfaces) now) refl);
         numbers = λ alive. keeps-made v.client.objects c.add.new.self.objects id c.in-Ok.surface (targets-free WlSurface v.client.objects id free)
@@ -56,7 +57,7 @@ returns-then-is_too_many-clause-answers g c = λ free client r on is only.
     let v = c.args.self.now in
     let many = c.is_too_many.ensures.0 c.if-is_too_many.true in
     subst (λ (j : Result Ask Refusal). AnswersSo (demands j) client r on v c.refuse_unserved.new.self)
-    (sym (created-past (names_in v.client.objects) v.owned.linked.surfaces r c.args.id c.args.version c.in-Err.error is.owns.surfaces c.in-Err.ensures.cause many))
+    (sym (created-past (names_in v.client.objects) v.owned.linked.surfaces v.owned.linked.family r c.args.id c.args.version c.in-Err.error is.owns.surfaces c.in-Err.ensures.cause many))
     (rw c.in-Err.ensures.err at c.refuse_unserved.ensures.answers client r on is only)
 
 pub returns-else-is_too_many-clause-answers : goal.returns-else-is_too_many-clause-answers
@@ -68,7 +69,7 @@ returns-else-is_too_many-clause-answers g c = λ free client r on is only.
     let then = with_peer (counted r.peer) r in
     let lacks = lacked v _ (changed_by ask then) then (c.lack_memory.ensures.lacks (counted r.peer) (c.count-else-is_too_many.ensures.counts r.peer is.peer)) c.lack_memory.ensures.ended in
     accepted _ r (surface_created r id c.args.version) ask
-    (created-short (names_in v.client.objects) v.owned.linked.surfaces r id c.args.version c.in-Err.error is.owns.surfaces c.in-Err.ensures.cause
+    (created-short (names_in v.client.objects) v.owned.linked.surfaces v.owned.linked.family r id c.args.version c.in-Err.error is.owns.surfaces c.in-Err.ensures.cause
     (λ many. absurd (let told = c.is_too_many.ensures.1 many in let not = c.if-is_too_many.false in cc)))
     (lacks.0, inl lacks.1, lacks.2))
 
@@ -80,7 +81,7 @@ returns-in-Ok-clause-still g c =
 pub returns-then-is_too_many-clause-still : goal.returns-then-is_too_many-clause-still
 returns-then-is_too_many-clause-still g c =
     let v = c.args.self.now in
-    same-still v.owned.linked.surfaces v.owned.linked.family (kept_of v.owned.shell) c.refuse_unserved.new.self.owned.linked.surfaces (c.refuse_unserved.ensures.surfaces ∙ c.in-Err.ensures.err)
+    same-still v.owned.linked.surfaces v.owned.linked.family (kept_of v.owned.shell) c.refuse_unserved.new.self.owned.linked.surfaces (ap (λ (l : Linked _). l.surfaces) c.refuse_unserved.ensures.surfaces ∙ c.in-Err.ensures.err)
 
 pub returns-else-is_too_many-clause-still : goal.returns-else-is_too_many-clause-still
 returns-else-is_too_many-clause-still g c =

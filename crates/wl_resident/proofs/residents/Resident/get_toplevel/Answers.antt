@@ -1,3 +1,4 @@
+use Rattle.wl_linked.specs.declared.linked.Linked.{Linked}
 use Rattle.wl_proto.specs.declared.xdg_surface.XdgSurfaceRequest.TheVariants as xdg
 use Rattle.std.proofs.Common.{◌≡◌, ap, refl, sym, ◌∙◌, List, subst}
 use Rattle.std.specs.Prelude.{Some}
@@ -54,7 +55,7 @@ returns-in-Ok-clause-answers g c = λ named free client r on is only.
             (subst (λ (ws : List Waiting). IsFramed ws c.add.new.self.objects (making XdgToplevel id version (toplevel_given id x.id (Some x) then))) (sym c.give_role-given.ensures.frames)
             (framed-role v.owned.linked.surfaces.frames v.client.objects c.add.new.self.objects r (making XdgToplevel id version (toplevel_given id x.id (Some x) then)) refl (one-more r.peer.requests)
             is.frames
-            v.owned.linked.surfaces is.owns.surfaces x.surface number AsToplevel one.surface (ap (λ (n : Names). n.surfaces) now) refl));
+            v.owned.linked.surfaces v.owned.linked.family is.owns.surfaces x.surface number AsToplevel one.surface (ap (λ (n : Names). n.surfaces) now) refl));
         owns = λ alive. owned-toplevel-made names v.owned.linked.surfaces v.owned.linked.family kept (with_peer (counted r.peer) r) is.owns number k x h one id version c.give_role-given.new.self (kept_of c.get_toplevel.new.self)
             (names_in c.add.new.self.objects) bare.0
             (targets-free XdgToplevel v.client.objects id free)
@@ -92,4 +93,4 @@ returns-in-Ok-clause-still g c =
 pub returns-in-Err-clause-still : goal.returns-in-Err-clause-still
 returns-in-Err-clause-still g c =
     let v = c.args.self.now in
-    same-still v.owned.linked.surfaces v.owned.linked.family (kept_of v.owned.shell) c.refuse_xdg_surface.new.self.owned.linked.surfaces c.refuse_xdg_surface.ensures.surfaces
+    same-still v.owned.linked.surfaces v.owned.linked.family (kept_of v.owned.shell) c.refuse_xdg_surface.new.self.owned.linked.surfaces (ap (λ (l : Linked _). l.surfaces) c.refuse_xdg_surface.ensures.surfaces)

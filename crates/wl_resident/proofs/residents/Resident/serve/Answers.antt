@@ -112,7 +112,7 @@ returns-in-Own-clause-commits g c = λ number commits. let both = sym commits �
 pub returns-in-Request-clause-commits : goal.returns-in-Request-clause-commits
 returns-in-Request-clause-commits g c = λ number commits.
     let is = commits-in c.in-Request.kind c.in-Request.target number (sym (ap commit_by c.in-Request.is) ∙ commits) in
-    subst (λ (n : ℕ). IsCommitted c.args.self.now.owned.linked.surfaces c.answer.new.self.owned.linked.surfaces n c.answer.result.applied) is.1 (c.answer.ensures.commits is.0)
+    subst (λ (n : ℕ). IsCommitted c.args.self.now.owned.linked c.answer.new.self.owned.linked n c.answer.result.applied) is.1 (c.answer.ensures.commits is.0)
 
 pub returns-in-Request-clause-decides : goal.returns-in-Request-clause-decides
 returns-in-Request-clause-decides g c = λ number commits client r on is only.

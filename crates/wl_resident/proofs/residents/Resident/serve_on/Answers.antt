@@ -92,7 +92,7 @@ returns-clause-marks g c = λ some others base d r unlinked before more e q serv
           (keeps-numbers split r client stacking old mid new was now takes settled) c.touched_by-touched.result c.touched_by-touched.ensures c.window-was.result w.window-is.result
           (λ id number surface named. c.window-was.ensures.window others base d r before id number surface named)
           (is-there e q after) applied
-          (λ number commit lives all stand. c.in-Some.ensures.change number commit (lived-before split r client stacking old mid new was now takes settled lives) all stand)
+          (λ number commit lives. c.in-Some.ensures.change number commit (lived-before split r client stacking old mid new was now takes settled lives))
           (same ∙ lives-of on.client.ended (ended ∙ w.if-has_ended-2.false)) c.args.damage.now w.mark_change.new.damage (rw w.rects_of.ensures at w.mark_change.ensures)))
     ]
 
@@ -130,7 +130,7 @@ returns-clause-within g c = λ some others base d r width height unlinked before
           c.window-was.ensures.none w.window-is.ensures.none
           (λ id number surface named. c.window-was.ensures.window others base d r before id number surface named)
           (is-there e q after) applied
-          (λ number commit lives all stand. c.in-Some.ensures.change number commit (lived-before split r client stacking old mid new was now takes settled lives) all stand)
+          (λ number commit lives. c.in-Some.ensures.change number commit (lived-before split r client stacking old mid new was now takes settled lives))
           c.args.damage.now w.mark_change.new.damage (rw w.rects_of.ensures at w.mark_change.ensures) width height)
     ]
 
@@ -178,14 +178,14 @@ returns-clause-through g c = λ some others base d r width height unlinked befor
           (keeps-numbers split r client stacking old mid new was now takes settled) c.touched_by-touched.result c.touched_by-touched.ensures c.window-was.result w.window-is.result
           (λ id number surface named. c.window-was.ensures.window others base d r before id number surface named)
           (is-there e q after) applied
-          (λ number commit lives all stand. c.in-Some.ensures.change number commit (lived-before split r client stacking old mid new was now takes settled lives) all stand)
+          (λ number commit lives. c.in-Some.ensures.change number commit (lived-before split r client stacking old mid new was now takes settled lives))
           (same ∙ lives-of on.client.ended (ended ∙ w.if-has_ended-2.false)) c.args.damage.now w.mark_change.new.damage (rw w.rects_of.ensures at w.mark_change.ensures)))
           (λ e q serves after. message-within client others base d e r q old new was now before after unlinked more serves asked c.asked-asked.ensures
           (keeps-numbers split r client stacking old mid new was now takes settled) c.touched_by-touched.result c.touched_by-touched.ensures c.window-was.result w.window-is.result
           c.window-was.ensures.none w.window-is.ensures.none
           (λ id number surface named. c.window-was.ensures.window others base d r before id number surface named)
           (is-there e q after) applied
-          (λ number commit lives all stand. c.in-Some.ensures.change number commit (lived-before split r client stacking old mid new was now takes settled lives) all stand)
+          (λ number commit lives. c.in-Some.ensures.change number commit (lived-before split r client stacking old mid new was now takes settled lives))
           c.args.damage.now w.mark_change.new.damage (rw w.rects_of.ensures at w.mark_change.ensures) width height
           (status client others base d e r q old new was now before after ∙ lives)))
     ] in

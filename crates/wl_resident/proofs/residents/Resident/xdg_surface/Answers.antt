@@ -1,4 +1,5 @@
-use Rattle.std.proofs.Common.{rules, w32}
+use Rattle.wl_linked.specs.declared.linked.Linked.{Linked}
+use Rattle.std.proofs.Common.{ap, rules, w32}
 use Rattle.std.specs.Prelude.{FitsSigned}
 use Rattle.std.proofs.lemmas.Int.{to_z-of_z}
 use Rattle.wl_resident.proofs.Stillness.{same-still}
@@ -24,22 +25,22 @@ returns-in-SetWindowGeometry-clause-answers g c = λ named free.
 pub returns-in-Destroy-clause-still : goal.returns-in-Destroy-clause-still
 returns-in-Destroy-clause-still g c =
     let v = c.args.self.now in
-    same-still v.owned.linked.surfaces v.owned.linked.family (kept_of v.owned.shell) c.destroy_xdg_surface.new.self.owned.linked.surfaces c.destroy_xdg_surface.ensures.surfaces
+    same-still v.owned.linked.surfaces v.owned.linked.family (kept_of v.owned.shell) c.destroy_xdg_surface.new.self.owned.linked.surfaces (ap (λ (l : Linked _). l.surfaces) c.destroy_xdg_surface.ensures.surfaces)
 
 pub returns-in-GetPopup-clause-still : goal.returns-in-GetPopup-clause-still
 returns-in-GetPopup-clause-still g c =
     let v = c.args.self.now in
-    same-still v.owned.linked.surfaces v.owned.linked.family (kept_of v.owned.shell) c.refuse_unserved.new.self.owned.linked.surfaces c.refuse_unserved.ensures.surfaces
+    same-still v.owned.linked.surfaces v.owned.linked.family (kept_of v.owned.shell) c.refuse_unserved.new.self.owned.linked.surfaces (ap (λ (l : Linked _). l.surfaces) c.refuse_unserved.ensures.surfaces)
 
 pub returns-in-SetWindowGeometry-clause-still : goal.returns-in-SetWindowGeometry-clause-still
 returns-in-SetWindowGeometry-clause-still g c =
     let v = c.args.self.now in
-    same-still v.owned.linked.surfaces v.owned.linked.family (kept_of v.owned.shell) c.set_window_geometry.new.self.owned.linked.surfaces c.set_window_geometry.ensures.surfaces
+    same-still v.owned.linked.surfaces v.owned.linked.family (kept_of v.owned.shell) c.set_window_geometry.new.self.owned.linked.surfaces (ap (λ (l : Linked _). l.surfaces) c.set_window_geometry.ensures.surfaces)
 
 pub returns-in-AckConfigure-clause-still : goal.returns-in-AckConfigure-clause-still
 returns-in-AckConfigure-clause-still g c =
     let v = c.args.self.now in
-    same-still v.owned.linked.surfaces v.owned.linked.family (kept_of v.owned.shell) c.ack_configure.new.self.owned.linked.surfaces c.ack_configure.ensures.surfaces
+    same-still v.owned.linked.surfaces v.owned.linked.family (kept_of v.owned.shell) c.ack_configure.new.self.owned.linked.surfaces (ap (λ (l : Linked _). l.surfaces) c.ack_configure.ensures.surfaces)
 
 pub returns-in-GetToplevel-clause-still : goal.returns-in-GetToplevel-clause-still
 returns-in-GetToplevel-clause-still g c = c.get_toplevel.ensures.still
