@@ -67,7 +67,7 @@ use Rattle.wl_resident.specs.declared.messages.Kind.{Kind}
 use Rattle.wl_resident.specs.declared.messages.Kind.TheVariants as kind
 use Rattle.wl_resident.specs.declared.residents.Resident.{Resident as Kept}
 use Rattle.wl_resident.proofs.Doing.{named-by}
-use Rattle.wl_resident.proofs.EndedMessages.{all_committed, bare-shown, stand_then, unmaps-bare}
+use Rattle.wl_resident.proofs.EndedMessages.{all_committed, bare-shown, unmaps-bare}
 use Rattle.wl_resident.proofs.MarkedMessages.{asked-marks, found-of, has-so, passed-touches}
 use Rattle.wl_resident.proofs.OwnWindows.{windows-shown}
 use Rattle.wl_resident.proofs.Releasing.{maps-quiet}

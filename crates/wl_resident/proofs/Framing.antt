@@ -229,7 +229,7 @@ framed-applied old new names r id number effect slots tied now are table is name
     let there = subst (λ (n : Names). n.surfaces id ≡ Some number) (sym are) named in
     let framed = subst (λ (n : Names). AreFramed slots.frames (by_number n.surfaces r.owned.surfaces) (r.peer.requests + 1) r.callbacks) (sym are) f in
     let waiting = subst (λ (n : Names). AreWaiting slots.frames (by_number n.surfaces r.owned.surfaces) r.callbacks
-        → AreWaiting now.frames (changed_at number (λ s. applying (asking Commit s)) (by_number n.surfaces r.owned.surfaces)) r.callbacks) (sym are) waits in
+    → AreWaiting now.frames (changed_at number (λ s. applying (asking Commit s)) (by_number n.surfaces r.owned.surfaces)) r.callbacks) (sym are) waits in
     let o = xdg_of id r.owned.shell in
     let after = after_surface id r (committed_on id r) in
     framed-commit old new r (effect_on id effect o after) slots tied kept framed id number there now.frames waiting (effect-requests id effect o after) (effect-callbacks id effect o after)

@@ -55,7 +55,7 @@ use Rattle.wl_resident.specs.Marking.{AreUnlinked, IsRecordOf, TellsChange, comm
 use Rattle.wl_resident.specs.Marking.{rects_applied, rects_changed}
 use Rattle.wl_marking.specs.declared.record.WindowRecord.{WindowRecord}
 use Rattle.wl_resident.specs.Messages.{IsAsked, IsKind}
-use Rattle.wl_records.specs.Owning.{by_number, names_in, target_as, targets_in}
+use Rattle.wl_records.specs.Owning.{names_in, target_as, targets_in}
 use Rattle.wl_plain.specs.Marks.{has_same_record}
 use Rattle.wl_plain.specs.Moments.{history_of}
 use Rattle.wl_resident.specs.Residents.{IsLeft, IsResident, KeepsNumbers, asked_by}

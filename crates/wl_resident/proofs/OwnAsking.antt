@@ -4,27 +4,23 @@ use Rattle.std.specs.Prelude.{Ok, Err}
 use Rattle.std.specs.Option.{option_and_then}
 use Rattle.std.proofs.Math.Path.{fun_ext}
 use Rattle.wl_wire.specs.declared.header.Split.{Split}
-use Rattle.wl_wire.specs.declared.header.Split.TheVariants.{Message as Whole, More, Bad}
+use Rattle.wl_wire.specs.declared.header.Split.TheVariants.{Message as Whole}
 use Rattle.wl_wire.specs.Wire.{split_of}
 use Rattle.wl_interface.specs.declared.interface.Interface.{Interface}
 use Rattle.wl_interface.specs.declared.interface.Interface.TheVariants.{WlDisplay, WlRegistry, WlRegion, WlSurface, WlShm, WlShmPool, WlBuffer, XdgSurface, XdgToplevel}
 use Rattle.wl_proto.specs.Messages.{Message, request_message}
 use Rattle.wl_client.specs.Agreement.{IsPeer}
-use Rattle.wl_client.specs.First.{passing_in}
 use Rattle.wl_peer.specs.Judgement.{action_of, judge as judge_own}
 use Rattle.wl_peer.specs.Requests.{request_of}
 use Rattle.wl_peer.specs.Objects.{KeepsSurfaces, of_surface}
-use Rattle.wl_peer.specs.Peer.{IsIdleAt, Peer, known_of, with_rest, changed, counted}
-use Rattle.wl_client.specs.Serving.{AnswersWith, AreUsed, IsOwnMessage, PassesTo, ServesWith, TakesWith, is_own, was_taken}
+use Rattle.wl_peer.specs.Peer.{Peer, known_of, with_rest, changed, counted}
+use Rattle.wl_client.specs.Serving.{AnswersWith, AreUsed, IsOwnMessage, PassesTo, ServesWith, TakesWith, is_own}
 use Rattle.wl_peer.specs.Used.{has_used, keeps_store}
 use Rattle.wl_client.specs.View.{ClientView}
 use Rattle.wl_peer.specs.declared.actions.Action.{Action}
 use Rattle.wl_peer.specs.declared.refusals.Refusal.{Refusal}
-use Rattle.wl_client.specs.declared.served.Served.{Served}
-use Rattle.wl_client.specs.declared.served.Served.TheVariants as served
 use Rattle.wl_peer.specs.declared.actions.Action.TheVariants.{Sync, GetRegistry, Bind, CreateRegion, AddToRegion, SubtractFromRegion, DestroyRegion, CreatePool, CreateBuffer, ResizePool, DestroyPool}
 use Rattle.wl_peer.specs.declared.actions.Action.TheVariants.{DestroyBuffer}
-use Rattle.wl_family.specs.Family.{Tied}
 use Rattle.wl_surface.specs.Slots.{has_at}
 use Rattle.wl_state.specs.Surface.{has}
 use Rattle.wl_surface.specs.Surfaces.{is_used}

@@ -90,9 +90,11 @@ created-still old tied kept new number creates numbers surfaces are =
 -- A surface without an xdg_surface is destroyed.
 pub destroyed-still : (old : Slots) (tied : Tied) (kept : ℕ → Option KeptXdg) (new : Slots) (without : Tied) (number : ℕ) → kept number ≡ None
     → Makes old tied new without (destroyed_in number) → StaysStill old tied kept new
-destroyed-still old tied kept new without number bare makes numbers surfaces are =
-    (with_at number None (by_number numbers surfaces), left-stand numbers old tied surfaces are number new without makes,
-        λ other s there has. by (by_number numbers surfaces) other (other == number) refl s there has)
+destroyed-still old tied kept new without number bare makes numbers surfaces are = (
+  with_at number None (by_number numbers surfaces),
+  left-stand numbers old tied surfaces are number new without makes,
+  λ other s there has. by (by_number numbers surfaces) other (other == number) refl s there has,
+)
   where
     by : (all : Numbered) (other : ℕ) (b : Bool) → (other == number) ≡ b → (s : Surface) → all other ≡ Some s → is_some (kept other) ≡ true
         → counted_at (cond b None (all other)) ≡ Some (counting s.history)

@@ -1,5 +1,5 @@
 -- What the desk marks to be painted again.
-use Rattle.std.specs.Prelude.{ℕ, ℤ, List, [], ◌∷◌, ◌≡◌, ◌≢◌, ◌==◌, ◌<◌, ◌+ℤ◌, ◌-ℤ◌, ◌&&◌, ◌||◌, nat_lt, pos, unsigned_abs, Bool, false}
+use Rattle.std.specs.Prelude.{ℕ, ℤ, List, [], ◌∷◌, ◌≡◌, ◌==◌, ◌<◌, ◌+ℤ◌, ◌&&◌, ◌||◌, nat_lt, pos, Bool, false}
 use Rattle.std.specs.Prelude.{true, Option, Some, None, is_none, is_some}
 use Rattle.wl_proto.specs.declared.wl_surface.WlSurfaceRequest.TheVariants.{Commit}
 use Rattle.wl_geom.specs.declared.rect.Rect.{Rect}
@@ -17,7 +17,7 @@ use Rattle.wl_state.specs.Request.{Request}
 use Rattle.wl_surface.specs.declared.applied.Applied.{Applied}
 use Rattle.wl_surface.specs.declared.applied.Change.{Change}
 use Rattle.wl_state.specs.declared.state.Current.{Current}
-use Rattle.wl_state.specs.State.{History, applied, counting, height_of, is_damaged, width_of, within_bounds}
+use Rattle.wl_state.specs.State.{History, applied, counting, height_of, width_of, within_bounds}
 use Rattle.wl_state.specs.Surface.{Surface}
 use Rattle.wl_shell.specs.Kept.{kept_of}
 use Rattle.std.specs.Option.{option_map}

@@ -178,7 +178,9 @@ impl<A: Allocator + Copy> Resident<A> {
                 Some(Outcome::of(Stacking::Stays))
             }
             Asked::Own { size, judged } => {
-                let _served = self.client.serve_own(size, judged, &self.owned.linked.surfaces);
+                let _served = self
+                    .client
+                    .serve_own(size, judged, &self.owned.linked.surfaces);
                 Some(Outcome::of(Stacking::Stays))
             }
             Asked::Request {

@@ -11,7 +11,7 @@ use Rattle.wl_state.specs.Request.{Commit}
 use Rattle.wl_state.specs.Surface.{applying, asking}
 use Rattle.wl_surface.specs.Surfaces.{surface_at}
 use Rattle.wl_plain.specs.Demand.{CommitTree}
-use Rattle.wl_records.specs.Owning.{by_number, effect_by, names_in}
+use Rattle.wl_records.specs.Owning.{effect_by, names_in}
 use Rattle.wl_resident.specs.Residents.{told_by}
 use Rattle.wl_plain.specs.Step.{after_surface}
 use Rattle.wl_records.proofs.Toplevels.Judged.{commit, effect-same}

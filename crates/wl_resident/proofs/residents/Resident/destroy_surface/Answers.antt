@@ -15,11 +15,11 @@ use Rattle.wl_scene.specs.declared.owned.Owned.{Owned as Lent}
 use Rattle.wl_plain.specs.Changing.{callbacks_of}
 use Rattle.wl_plain.specs.Replies.{releases}
 use Rattle.wl_plain.specs.Demand.{EndSurface}
-use Rattle.wl_records.specs.Owning.{Names, by_number, names_in, with_surface}
+use Rattle.wl_records.specs.Owning.{Names, names_in, with_surface}
 use Rattle.wl_plain.specs.Step.{after_surface, with_surfaces}
 use Rattle.wl_resident.proofs.Doing.{had-by, lacked}
 use Rattle.wl_records.proofs.Keeping.OwningAsks.{owned-destroyed}
-use Rattle.wl_resident.proofs.Framing.{IsFramed, framed-destroy, left-by, numbered}
+use Rattle.wl_resident.proofs.Framing.{IsFramed, framed-destroy, left-by}
 use Rattle.wl_resident.proofs.Going.{are-heard, asked-read, going-removed, going-requests, going-told, surface-gone-with}
 use Rattle.wl_records.proofs.Keeping.OwningXdg.{xdg-of-none}
 use Rattle.wl_records.proofs.Toplevels.Judged.{ends}

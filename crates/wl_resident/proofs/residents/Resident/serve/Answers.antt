@@ -12,7 +12,6 @@ use Rattle.wl_resident.specs.declared.messages.Kind.{Kind}
 use Rattle.wl_resident.specs.declared.messages.Kind.TheVariants as kind
 use Rattle.wl_resident.proofs.Asking.{first-decided, first-refused, first-taken, fit-passed, new-passed}
 use Rattle.wl_resident.proofs.OwnAsking.{own-served, passes-own, used-of}
-use Rattle.wl_resident.proofs.Shelling.{absent-kept}
 use Rattle.wl_resident.proofs.Stillness.{same-still, served-peer}
 use Rattle.wl_shell.specs.Kept.{kept_of}
 use Rattle.wl_resident.proofs.residents.Resident.serve.Goals as goal
