@@ -5,6 +5,9 @@ use Rattle.std.specs.Option.{option_map}
 use Rattle.wl_peer.specs.Objects.{nothing}
 use Rattle.wl_client.specs.View.{ClientView}
 use Rattle.wl_store.specs.Stores.{Stock}
+use Rattle.wl_family.specs.Family.{Tied, untied}
+use Rattle.wl_linked.specs.Linked.{Stand}
+use Rattle.wl_linked.proofs.Standing.{nothing-stands}
 use Rattle.wl_surface.specs.Slots.{Slots, no_slots}
 use Rattle.wl_surface.specs.Surfaces.{no_surfaces}
 use Rattle.wl_scene.specs.Lent.{slots_lent, slots_of}
@@ -23,7 +26,10 @@ use Rattle.wl_desk.proofs.Desktops.{at-map}
 use Rattle.wl_records.proofs.Keeping.StandingDesks.{all-show}
 
 -- nothing is kept of a client that isn't there
-nothing-kept : AreKept nothing no_slots no_surfaces
+bare : Stand no_slots untied no_surfaces
+bare = nothing-stands no_slots untied (λ number. tt) refl
+
+nothing-kept : AreKept nothing no_slots untied no_surfaces
 nothing-kept = record {
   links = refl;
   numbered = λ id. refl;
@@ -32,6 +38,8 @@ nothing-kept = record {
   counts = λ id h found. absurd (cc);
   stand = λ number. tt;
   count = refl;
+  hang = bare.hang;
+  there = λ number here. absurd (let both = sym (bare.there number here) in cc);
 }
 
 abbrev slots_seen : Option OwnedView → Slots
@@ -48,9 +56,9 @@ stores_in x = option_map (λ v. v.stores) x
 abbrev stores_of : Option Resident → Option Stock
 stores_of r = option_map (λ r. r.peer.stores) r
 
-place-lent : (x : Option ClientView) (o : Option OwnedView) (r : Option Resident) → IsPlace x o r → (stores_in x ≡ stores_of r) × AreKept (numbers_of x) (slots_seen o) (owned_of r).surfaces
-place-lent None None None here = (refl, nothing-kept)
-place-lent (Some v) (Some o) (Some r) here = (ap Some here.peer.stores, here.owns.surfaces)
+place-lent : (x : Option ClientView) (o : Option OwnedView) (r : Option Resident) → IsPlace x o r → (stores_in x ≡ stores_of r) × ((tied : Tied) × AreKept (numbers_of x) (slots_seen o) tied (owned_of r).surfaces)
+place-lent None None None here = (refl, (untied, nothing-kept))
+place-lent (Some v) (Some o) (Some r) here = (ap Some here.peer.stores, (o.family, here.owns.surfaces))
 place-lent None None (Some r) here = absurd here
 place-lent None (Some o) None here = absurd here
 place-lent None (Some o) (Some r) here = absurd here
@@ -66,18 +74,19 @@ module _ {A : Type 0} (output : Output) (rs : List (Option (Kept A))) (stack : S
   slots-here k =
       ap slots_of (at-map (λ (r : Kept A). r.owned) rs k) ∙ slots-seen (slice_index_or rs k None) ∙ ap slots_seen (sym (at-map (λ (r : Kept A). owned_view r.owned) rs k))
 
-  here : (k : ℕ) → (stores_in (slice_index_or v.clients k None) ≡ stores_of (place d.clients k)) × AreKept (numbers_of (slice_index_or v.clients k None)) (slots_seen
-      (slice_index_or v.owned k None))
-      (owned_of (place d.clients k)).surfaces
+  here : (k : ℕ) → (stores_in (slice_index_or v.clients k None) ≡ stores_of (place d.clients k))
+      × ((tied : Tied) × AreKept (numbers_of (slice_index_or v.clients k None)) (slots_seen (slice_index_or v.owned k None)) tied (owned_of (place d.clients k)).surfaces)
   here k = place-lent (slice_index_or v.clients k None) (slice_index_or v.owned k None) (place d.clients k) (a.clients k)
 
   stores-lent : (c : ℕ) → stores_in (client_lent v.clients c) ≡ stores_of (client_at c d)
   stores-lent zero = refl
   stores-lent (suc k) = (here k).0
 
-  surfaces-lent : (c : ℕ) → AreKept (numbers_in v.clients c) (slots_lent (owned_lent rs) c) (owned_in d c).surfaces
-  surfaces-lent zero = nothing-kept
-  surfaces-lent (suc k) = subst (λ (slots : Slots). AreKept (numbers_of (slice_index_or v.clients k None)) slots (owned_of (place d.clients k)).surfaces) (sym (slots-here k)) (here k).1
+  surfaces-lent : (c : ℕ) → (tied : Tied) × AreKept (numbers_in v.clients c) (slots_lent (owned_lent rs) c) tied (owned_in d c).surfaces
+  surfaces-lent zero = (untied, nothing-kept)
+  surfaces-lent (suc k) =
+      let kept = (here k).1 in
+      (kept.0, subst (λ (slots : Slots). AreKept (numbers_of (slice_index_or v.clients k None)) slots kept.0 (owned_of (place d.clients k)).surfaces) (sym (slots-here k)) kept.1)
 
   pub agrees-lent : AreLent (client_lent v.clients) (slots_lent (owned_lent rs)) (numbers_in v.clients) v.scene.standing d
   agrees-lent = record {

@@ -16,6 +16,7 @@ use Rattle.wl_store.specs.Picture.{Shown, color_at, lent, transparent}
 use Rattle.wl_store.specs.Transform.{buffer_point, is_turned, transform_of}
 use Rattle.wl_state.specs.Request.{Buffer}
 use Rattle.wl_state.specs.Kept.{Kept, Stands, buffer_of, counting_of}
+use Rattle.wl_family.specs.Family.{Tied}
 use Rattle.wl_surface.specs.Slots.{Slots, StandsAt, kept_at}
 use Rattle.wl_state.specs.declared.content.Attached.{Attached}
 use Rattle.wl_paint.specs.Window.{Window as Lent, color_in as color-lent, in_window, is_said_opaque, over as over-one}
@@ -202,10 +203,10 @@ on-first owned t ts unlinked shows =
 
 module _ (x y : ℤ) (nowhere : Area) (clients : ℕ → Option ClientView) (slots : ℕ → Slots) (numbers : ℕ → ById ℕ) (d : Desktop)
     (stores : (c : ℕ) → option_map (λ (v : ClientView). v.stores) (clients c) ≡ option_map (λ (r : Resident). r.peer.stores) (client_at c d))
-    (kept : (c : ℕ) → AreKept (numbers c) (slots c) (owned_in d c).surfaces) where
+    (kept : (c : ℕ) → (tied : Tied) × AreKept (numbers c) (slots c) tied (owned_in d c).surfaces) where
   stands : (c id number : ℕ) → numbers c id ≡ Some number → StandsAt (kept_at (slots c) number) (surface_at id (owned_in d c).surfaces)
   stands c id number named =
-      subst (λ (o : Option Surface). StandsAt (kept_at (slots c) number) o) (surface-read (numbers c) (slots c) (owned_in d c).surfaces (kept c) id number named) ((kept c).stand number)
+      subst (λ (o : Option Surface). StandsAt (kept_at (slots c) number) o) (surface-read (numbers c) (slots c) (kept c).0 (owned_in d c).surfaces (kept c).1 id number named) ((kept c).1.stand number)
 
   all-painted : (ss ts : List Standing) → IsStack numbers ss ts → AllShow (owned_in d) ts → (under : Rgb) → IsColor under
       → fold (over-one x y) under (windows_lent clients slots nowhere ss) ≡ fold (over d x y) under (windows_on (owned_in d) ts)
@@ -219,7 +220,7 @@ module _ (x y : ℤ) (nowhere : Area) (clients : ℕ → Option ClientView) (slo
       (surface_at t.surface (owned_in d t.client).surfaces)
       (windows_lent clients slots nowhere ss) (windows_on (owned_in d) ts) under (stands t.client t.surface s.surface are.0.surface) shows color
       (λ u is. all-painted ss ts are.1 (λ k e less. show (suc k) e (omega arith)) u is)
-      ∙ ap (fold (over d x y) under) (sym (on-first (owned_in d) t ts (kept t.client).links shows)))
+      ∙ ap (fold (over d x y) under) (sym (on-first (owned_in d) t ts (kept t.client).1.links shows)))
 
 pub paints_the_desktop : PaintsTheDesktop
 paints_the_desktop background nowhere clients slots numbers standing d x y color is more =
@@ -330,7 +331,7 @@ module _ (x y : ℤ) (d : Desktop) (client : Option ClientView) (owner : Owner) 
 
 module _ (x y : ℤ) (nowhere : Area) (clients : ℕ → Option ClientView) (slots : ℕ → Slots) (numbers : ℕ → ById ℕ) (d : Desktop)
     (stores : (c : ℕ) → option_map (λ (v : ClientView). v.stores) (clients c) ≡ option_map (λ (r : Resident). r.peer.stores) (client_at c d))
-    (kept : (c : ℕ) → AreKept (numbers c) (slots c) (owned_in d c).surfaces) where
+    (kept : (c : ℕ) → (tied : Tied) × AreKept (numbers c) (slots c) tied (owned_in d c).surfaces) where
   all-said : (ss ts : List Standing) → IsStack numbers ss ts → AllShow (owned_in d) ts → All (IsSo d x y) (windows_on (owned_in d) ts) → All (IsLentSo x y) (windows_lent clients slots nowhere ss)
   all-said [] [] are show so = λ k e less. absurd (omega (arith, less))
   all-said [] (t ∷ ts) are show so = absurd are
@@ -344,7 +345,7 @@ module _ (x y : ℤ) (nowhere : Area) (clients : ℕ → Option ClientView) (slo
       (surface_at t.surface (owned_in d t.client).surfaces)
       (windows_lent clients slots nowhere ss) (windows_on (owned_in d) ts) (stands x y nowhere clients slots numbers d stores kept t.client t.surface s.surface are.0.surface) shows
       (λ rest. all-said ss ts are.1 (λ k e less. show (suc k) e (omega arith)) rest)
-      (subst (λ (ws : List Window). All (IsSo d x y) ws) (on-first (owned_in d) t ts (kept t.client).links shows) so))
+      (subst (λ (ws : List Window). All (IsSo d x y) ws) (on-first (owned_in d) t ts (kept t.client).1.links shows) so))
 
 pub lends_opaque_as_said : LendsOpaqueAsSaid
 lends_opaque_as_said nowhere clients slots numbers standing d x y is more so =

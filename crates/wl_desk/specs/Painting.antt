@@ -14,6 +14,7 @@ use Rattle.wl_scene.specs.Windows.{contains}
 use Rattle.wl_resident.specs.Agreement.{IsStack}
 use Rattle.wl_plain.specs.Desktop.{Desktop, client_at, owned_in}
 use Rattle.wl_records.specs.NoMore.{NoMore}
+use Rattle.wl_family.specs.Family.{Tied}
 use Rattle.wl_desk.specs.Lent.{windows_lent}
 use Rattle.wl_records.specs.Owning.{AreKept}
 use Rattle.wl_plain.specs.Scratch.{color_in, scratch}
@@ -23,7 +24,7 @@ use Rattle.wl_plain.specs.Stacked.{all_windows}
 pub record AreLent (clients : ℕ → Option ClientView) (slots : ℕ → Slots) (numbers : ℕ → ById ℕ) (standing : List Standing)
     (d : Desktop) : Type 0 where
   pub stores : (c : ℕ) → option_map (λ v. v.stores) (clients c) ≡ option_map (λ r. r.peer.stores) (client_at c d)
-  pub surfaces : (c : ℕ) → AreKept (numbers c) (slots c) (owned_in d c).surfaces
+  pub surfaces : (c : ℕ) → (tied : Tied) × AreKept (numbers c) (slots c) tied (owned_in d c).surfaces
   pub toplevels : IsStack numbers standing d.standing
   pub shown : AllShow (owned_in d) d.standing
 

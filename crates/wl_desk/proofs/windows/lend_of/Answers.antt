@@ -12,7 +12,7 @@ returns-in_default g c =
     let t = c.args.toplevel.now in
     let r = c.args.resident.now in
     c.absent.ensures
-    ∙ window-absent (Some r.client) c.args.nowhere.now (standing_of t).place (option_map counting_of (kept_at r.owned.surfaces t.surface.surface)) c.in_default.ensures.kept
+    ∙ window-absent (Some r.client) c.args.nowhere.now (standing_of t).place (option_map counting_of (kept_at r.owned.linked.surfaces t.surface.surface)) c.in_default.ensures.kept
 
 pub returns : goal.returns
 returns g c =
@@ -20,5 +20,5 @@ returns g c =
     let r = c.args.resident.now in
     let x : to_z w32 (of_z w32 c.corner_of-x.result.0) ≡ c.corner_of-x.result.0 = search rules in
     let y : to_z w32 (of_z w32 c.corner_of-x.result.1) ≡ c.corner_of-x.result.1 = search rules in
-    rw (x, y) (window-there (Some r.client) c.args.nowhere.now (standing_of t).place (option_map counting_of (kept_at r.owned.surfaces t.surface.surface))
+    rw (x, y) (window-there (Some r.client) c.args.nowhere.now (standing_of t).place (option_map counting_of (kept_at r.owned.linked.surfaces t.surface.surface))
     c.in-Some.current _ _ _ c.in-Some.ensures.kept c.corner_of-x.ensures.x c.corner_of-x.ensures.y (c.or_transparent.ensures ∙ ap or_transparent c.picture_of.ensures))
