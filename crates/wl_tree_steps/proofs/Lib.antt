@@ -1,0 +1,11 @@
+mod Commits
+mod Descents
+mod Ends
+mod Fewer
+mod Modes
+mod Others
+mod Reading
+mod Staying
+mod Damage
+mod Owners
+mod Standing
