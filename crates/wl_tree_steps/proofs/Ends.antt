@@ -17,7 +17,8 @@ use Rattle.wl_laws.proofs.Lists.Keys.{some-same}
 use Rattle.wl_laws.proofs.Marks.Stacks.{differ, or-left, or-right, unless}
 use Rattle.wl_laws.proofs.Soundness.LinkedDepths.{descends-itself}
 use Rattle.wl_laws.proofs.Soundness.Trees.{or-none}
-use Rattle.wl_tree_steps.specs.Laws.{DestructionKeepsOthers, EndKeepsOthers, KeepsOthers}
+use Rattle.wl_tree_steps.specs.Laws.{KeepsOthers}
+use Rattle.wl_tree_steps.specs.Requests.{DestructionKeepsOthers, EndKeepsOthers}
 use Rattle.wl_tree_steps.proofs.Commits.{applied-keeps, kept-where}
 use Rattle.wl_tree_steps.proofs.Fewer.{gone-kids, had-parents, is-other, kept-kid, kid-link, once-kept}
 use Rattle.wl_tree_steps.proofs.Staying.{child-under}
@@ -95,17 +96,19 @@ module _ (all : Surfaces) (once : AreOnceLinked all.links) (number : ℕ) (link 
       (had-parents (ending_at link.number) (keeps-one link.number) all once)
       (record {
         histories = λ s none. refl;
-        kids = ending-kid;
-        gone = gone-kids (ending_at link.number) (keeps-one link.number) all;
+        kids = λ n child named is none. ending-kid n child is none;
+        gone = λ n named e. gone-kids (ending_at link.number) (keeps-one link.number) all n e;
       })
 
 pub end-keeps-others : EndKeepsOthers
-end-keeps-others all once apart number link here =
-    subst (λ (ls : List Link). KeepsOthers link.child all (fold ended_in all ls)) (sym (filter-one number all.links link apart here)) (at (not link.has_ended))
+end-keeps-others all once apart number link here = (
+  subst (λ (ls : List Link). KeepsOthers link.child all (fold ended_in all ls)) (sym (filter-one number all.links link apart here)) (at (not link.has_ended)),
+  ended-keeps all once number link here,
+)
   where
     at : (b : Bool) → KeepsOthers link.child all (fold ended_in all (cond b (link ∷ []) []))
     at true = ended-keeps all once number link here
-    at false = record { histories = λ s none. refl; kids = λ n child is none. is; gone = λ n is. is }
+    at false = record { histories = λ s none. refl; kids = λ n child named is none. is; gone = λ n named is. is }
 
 -- ---- a surface goes with its links
 
@@ -135,7 +138,11 @@ module _ (all : Surfaces) (once : AreOnceLinked all.links) (id : ℕ) where
           ∙ child-under all n k 16 id id once (record { here = at-k; lives = lives }) (eqb-true k.parent id e) (descends-itself 16 all id))))
 
   left-keeps : KeepsOthers id all (without_surface id left)
-  left-keeps = record { histories = left-history; kids = left-kid; gone = gone-kids (end_one id) keeps-ends all }
+  left-keeps = record {
+    histories = left-history;
+    kids = λ n child named is none. left-kid n child is none;
+    gone = λ n named e. gone-kids (end_one id) keeps-ends all n e;
+  }
 
 pub destruction-keeps-others : DestructionKeepsOthers
 destruction-keeps-others all once apart id = subst (λ (x : Surfaces). KeepsOthers id all x) (sym (ends-links all id once apart)) (left-keeps all once id)

@@ -1,11 +1,13 @@
+mod Coming
 mod Commits
+mod Damage
 mod Descents
+mod Distinct
 mod Ends
 mod Fewer
 mod Modes
 mod Others
-mod Reading
-mod Staying
-mod Damage
 mod Owners
+mod Reading
 mod Standing
+mod Staying

@@ -6,7 +6,8 @@ use Rattle.wl_surface.specs.Surfaces.{Link, Surfaces, link_at}
 use Rattle.wl_surface.specs.Trees.{behaves_synchronised, in_mode, levels, released_in, with_link}
 use Rattle.wl_tree_laws.specs.Hanging.{kid_of, kids_of}
 use Rattle.wl_tree_laws.proofs.Changing.{KeepsLink, at-each, keeps-where}
-use Rattle.wl_tree_steps.specs.Laws.{KeepsOthers, ModeKeepsAll, ModeKeepsOthers}
+use Rattle.wl_tree_steps.specs.Laws.{KeepsOthers}
+use Rattle.wl_tree_steps.specs.Requests.{ModeKeepsAll, ModeKeepsOthers}
 use Rattle.wl_tree_steps.proofs.Commits.{unless-keeps}
 use Rattle.wl_tree_steps.proofs.Fewer.{had-parents, once-kept}
 
@@ -30,7 +31,7 @@ kids-mode synchronised number n all =
     ap kid_of (at-each (in_mode_at synchronised number) (keeps-mode synchronised number) n all.links) ∙ kid-mode synchronised number (link_at n all)
 
 pub mode-keeps-all : ModeKeepsAll
-mode-keeps-all all number synchronised = record { counts = λ s. refl; kids = λ n. kids-mode synchronised number n all }
+mode-keeps-all all number synchronised = record { counts = λ s. refl; cuts = λ s. refl; kids = λ n named. kids-mode synchronised number n all }
 
 pub mode-keeps-others : ModeKeepsOthers
 mode-keeps-others all once number link e =
@@ -40,6 +41,6 @@ mode-keeps-others all once number link e =
     (once-kept (in_mode_at false number) (keeps-mode false number) all.links once) (had-parents (in_mode_at false number) (keeps-mode false number) all once)
     (record {
       histories = λ s none. refl;
-      kids = λ n child is none. kids-mode false number n all ∙ is;
-      gone = λ n is. kids-mode false number n all ∙ is;
+      kids = λ n child named is none. kids-mode false number n all ∙ is;
+      gone = λ n named is. kids-mode false number n all ∙ is;
     }))

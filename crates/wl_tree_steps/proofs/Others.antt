@@ -25,7 +25,7 @@ module _ (all : Surfaces) (id root : ℕ) (trees : AreTrees all) (apart : AreNum
   pub keeps-tree : (new : Surfaces) → KeepsOthers id all new → KeepsTree root all new
   keeps-tree new keeps = record {
     counts = λ surface under. ap (option_map counting) (keeps.histories surface (none-under surface under));
-    kids = λ number child is under. keeps.kids number child is (none-under child under);
+    kids = λ number child named is under. keeps.kids number child named is (none-under child under);
     gone = keeps.gone;
   }
 

@@ -14,11 +14,14 @@ use Rattle.wl_laws.specs.Laws.{AreApart}
 use Rattle.wl_laws.proofs.Marks.Stacks.{Each, and-both, differ, each-both, each-false, each-map, equal-numbers, or-left, or-right, same-number, unless}
 use Rattle.wl_laws.proofs.Soundness.Trees.{all-there, each-append, or-none}
 use Rattle.wl_tree_marks.specs.Laws.{AreUndamaged, among, has_root}
-use Rattle.wl_tree_steps.specs.Standing.{AreRooted, ChangesAmong, ChangesBelow, NoStandingChanges, OneStandingChanges, applied_in, standing_owner, windows_in}
+use Rattle.wl_tree_steps.specs.Laws.{cut_in}
+use Rattle.wl_tree_steps.specs.Standing.{AreRooted, ChangesAmong, ChangesBelow, NoStandingChanges, NoWindowChanges, OneStandingChanges, applied_in, standing_owner, windows_in}
 use Rattle.wl_tree_steps.proofs.Damage.{and-none, applies-nothing}
 use Rattle.wl_tree_steps.proofs.Descents.{roots-apart}
 use Rattle.wl_tree_steps.proofs.Others.{none-under, other-trees-stay}
 use Rattle.wl_tree_steps.proofs.Owners.{tree-owned, tree-under}
+use Rattle.wl_tree_steps.proofs.Reading.{each-always}
+use Rattle.wl_tree_steps.proofs.Staying.{all-trees-stay}
 
 -- ---- lists
 
@@ -49,7 +52,7 @@ none-at p (x ∷ xs) y ys e = none-at p xs y ys (or-right (p x) (list_any p (xs 
 
 -- ---- the windows of toplevels, one after another
 
-windows-first : (owned : ℕ → Owned) (s : Standing) (ss : List Standing) → windows_on owned (s ∷ ss) ≡ windows_in (owned s.client).surfaces s ++ windows_on owned ss
+pub windows-first : (owned : ℕ → Owned) (s : Standing) (ss : List Standing) → windows_on owned (s ∷ ss) ≡ windows_in (owned s.client).surfaces s ++ windows_on owned ss
 windows-first owned s ss = ap (λ ws. ws ++ windows_on owned ss) (append-nil _)
 
 windows-both : (owned : ℕ → Owned) (ss rs : List Standing) → windows_on owned (ss ++ rs) ≡ windows_on owned ss ++ windows_on owned rs
@@ -80,10 +83,10 @@ windows-each P owned (s ∷ ss) each =
 
 -- ---- each toplevel
 
-abbrev standing_same : Standing → Standing → Bool
+abbrev pub standing_same : Standing → Standing → Bool
 standing_same s r = is_of s.client s.surface r
 
-standing-self : (s : Standing) → standing_same s s ≡ true
+pub standing-self : (s : Standing) → standing_same s s ≡ true
 standing-self s = and-both (s.client == s.client) (s.surface == s.surface) (same-number s.client) (same-number s.surface)
 
 -- what is known of the client's toplevels that stand
@@ -97,12 +100,15 @@ from-standing client standing P known =
 abbrev IsUndamaged : (ℕ → Owned) → (ℕ → Owned) → Window → Type 0
 IsUndamaged owned new w = (x y : ℤ) → applied_in owned new w.owner.client w.surface x y ≡ false
 
-history-undamaged : (owned new : ℕ → Owned) (w : Window) → history_in w.surface (new w.owner.client).surfaces ≡ history_in w.surface (owned w.owner.client).surfaces → IsUndamaged owned new w
-history-undamaged owned new w same x y =
+cut-undamaged : (owned new : ℕ → Owned) (w : Window) → cut_in w.surface (new w.owner.client).surfaces ≡ cut_in w.surface (owned w.owner.client).surfaces
+    → IsUndamaged owned new w
+cut-undamaged owned new w same x y =
     ap (λ b. (int_le (pos 0) x && int_le (pos 0) y) && b)
-    (applies-nothing (history_in w.surface (owned w.owner.client).surfaces) (history_in w.surface (new w.owner.client).surfaces) (ap (option_map (λ (h : History). h.cut)) same)
-    (unsigned_abs x) (unsigned_abs y))
+    (applies-nothing (history_in w.surface (owned w.owner.client).surfaces) (history_in w.surface (new w.owner.client).surfaces) same (unsigned_abs x) (unsigned_abs y))
     ∙ and-none (int_le (pos 0) x && int_le (pos 0) y)
+
+history-undamaged : (owned new : ℕ → Owned) (w : Window) → history_in w.surface (new w.owner.client).surfaces ≡ history_in w.surface (owned w.owner.client).surfaces → IsUndamaged owned new w
+history-undamaged owned new w same = cut-undamaged owned new w (ap (option_map (λ (h : History). h.cut)) same)
 
 undamaged-all : (owned new : ℕ → Owned) (ws : List Window) → Each (IsUndamaged owned new) ws → AreUndamaged (applied_in owned new) ws
 undamaged-all owned new ws each x y =
@@ -273,3 +279,22 @@ module _ (client id : ℕ) (owned new : ℕ → Owned) (changes : ChangesBelow c
 
 pub one-standing-changes : OneStandingChanges
 one-standing-changes client id owned new changes below above s is apart rooted under = changes-among client id owned new changes below above s is apart rooted under
+
+-- ---- nothing that counts changes
+
+pub no-window-changes : NoWindowChanges
+no-window-changes client owned new others keeps trees once = (
+  λ standing. windows-same owned new standing (each-always (AreSame owned new) (λ s. same s (s.client == client) refl) standing),
+  λ windows. undamaged-all owned new windows (each-always (IsUndamaged owned new) (λ w. cut-undamaged owned new w (cut w (w.owner.client == client) refl)) windows),
+)
+  where
+    same : (s : Standing) (b : Bool) → (s.client == client) ≡ b → AreSame owned new s
+    same s true e =
+        subst (λ c. windows_in (new c).surfaces s ≡ windows_in (owned c).surfaces s) (sym (eqb-true s.client client e))
+        (all-trees-stay (owned client).surfaces (new client).surfaces trees once keeps (standing_owner s) s.surface s.place)
+    same s false e = ap (λ (xs : Surfaces). windows_in xs s) (others s.client e)
+
+    cut : (w : Window) (b : Bool) → (w.owner.client == client) ≡ b → cut_in w.surface (new w.owner.client).surfaces ≡ cut_in w.surface (owned w.owner.client).surfaces
+    cut w true e =
+        subst (λ c. cut_in w.surface (new c).surfaces ≡ cut_in w.surface (owned c).surfaces) (sym (eqb-true w.owner.client client e)) (keeps.cuts w.surface)
+    cut w false e = ap (cut_in w.surface) (others w.owner.client e)

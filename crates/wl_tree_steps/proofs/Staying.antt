@@ -14,7 +14,7 @@ use Rattle.wl_laws.specs.Soundness.{AreTrees, IsLive}
 use Rattle.wl_laws.proofs.Marks.Stacks.{each-map, same-number}
 use Rattle.wl_laws.proofs.Soundness.LinkedDepths.{descends-itself}
 use Rattle.wl_laws.proofs.Soundness.Trees.{all-there}
-use Rattle.wl_tree_steps.specs.Laws.{AllTreesStay, KeepsTree, TreeStays}
+use Rattle.wl_tree_steps.specs.Laws.{AllTreesStay, IsNamed, KeepsTree, TreeStays}
 use Rattle.wl_tree_steps.proofs.Descents.{by-parent, within}
 use Rattle.wl_tree_steps.proofs.Reading.{Next, flat-each, kid_by, member_by, reads-surface, shown_by, surface_by}
 
@@ -38,13 +38,16 @@ module _ (all new : Surfaces) (root : ℕ) (trees : AreTrees all) (once : AreOnc
       → kid_by next (counting h) corner l (kids_of new l) ≡ kid_by old (counting h) corner l (kids_of all l)
   kid-stays m next old low same surface h corner l under here there = at (link_at l all) refl
     where
+      named : IsNamed l all
+      named = record { surface = surface; history = h; here = here; there = there }
+
       none : kids_of all l ≡ None → kid_by next (counting h) corner l (kids_of new l) ≡ kid_by old (counting h) corner l (kids_of all l)
-      none e = ap (kid_by next (counting h) corner l) (keeps.gone l e) ∙ sym (ap (kid_by old (counting h) corner l) e)
+      none e = ap (kid_by next (counting h) corner l) (keeps.gone l named e) ∙ sym (ap (kid_by old (counting h) corner l) e)
 
       some : (link : Link) → IsLive l link all → kids_of all l ≡ Some link.child → kid_by next (counting h) corner l (kids_of new l) ≡ kid_by old (counting h) corner l (kids_of all l)
       some link live e =
           let below = child-under all l link m root surface once live (trees.parents surface h.cut l h link here there live) under in
-          ap (kid_by next (counting h) corner l) (keeps.kids l link.child e (within (suc m) 17 all root link.child low below))
+          ap (kid_by next (counting h) corner l) (keeps.kids l link.child named e (within (suc m) 17 all root link.child low below))
           ∙ (same link.child _ below ∙ sym (ap (kid_by old (counting h) corner l) e))
 
       lives : (link : Link) (b : Bool) → link.has_ended ≡ b → link_at l all ≡ Some link → kid_by next (counting h) corner l (kids_of new l) ≡ kid_by old (counting h) corner l (kids_of all l)
@@ -93,4 +96,8 @@ tree-stays all new root trees once keeps owner place = tree-kept all new root tr
 pub all-trees-stay : AllTreesStay
 all-trees-stay all new trees once keeps owner root place =
     tree-stays all new root trees once
-    (record { counts = λ surface under. keeps.counts surface; kids = λ number child is under. keeps.kids number ∙ is; gone = λ number e. keeps.kids number ∙ e }) owner place
+    (record {
+      counts = λ surface under. keeps.counts surface;
+      kids = λ number child named is under. keeps.kids number named ∙ is;
+      gone = λ number named e. keeps.kids number named ∙ e;
+    }) owner place

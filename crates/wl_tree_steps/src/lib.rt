@@ -1,9 +1,12 @@
-//! The laws of what a request of one tree of surfaces leaves as it was in the other trees: what was asked of their surfaces, and their windows
-//! (wayland.xml, wl_subcompositor and wl_subsurface). Each law is a function that promises it.
+//! The laws of what a request of one tree of surfaces leaves as it was in the other trees: what was asked of their surfaces, and their
+//! windows (wayland.xml, wl_subcompositor and wl_subsurface). Each law is a function that promises it.
 #![tactic(auto)]
 
-ghost use Rattle.wl_tree_steps.specs.Laws.{AllTreesStay, CommitKeepsOthers, DestructionKeepsOthers, EndKeepsOthers, HasRoot, ModeKeepsAll, ModeKeepsOthers, NoChildIsTop, OtherTreesStay, RequestKeepsAll, RequestKeepsOthers, RoleKeepsAll, RootsApart, TreeStays};
-ghost use Rattle.wl_tree_steps.specs.Standing.{AppliesNothing, NoStandingChanges, OneStandingChanges};
+ghost use Rattle.wl_tree_steps.specs.Laws.{AllTreesStay, HasRoot, NoChildIsTop, OtherTreesStay, RootsApart, TreeStays};
+ghost use Rattle.wl_tree_steps.specs.Requests.{CommitKeepsOthers, CreationKeepsOthers, DestructionKeepsOthers, EndKeepsOthers};
+ghost use Rattle.wl_tree_steps.specs.Requests.{HeldCommitKeepsAll, LinkKeepsAll, ModeKeepsAll, ModeKeepsOthers, RequestKeepsAll};
+ghost use Rattle.wl_tree_steps.specs.Requests.{RequestKeepsOthers, RoleKeepsAll};
+ghost use Rattle.wl_tree_steps.specs.Standing.{AppliesNothing, NoStandingChanges, NoWindowChanges, OneStandingChanges, StandingIsDistinct};
 
 /// A tree of which what counts of each surface stays, and the child of each link that lives, shows the same windows.
 pub fn tree_stays()
@@ -35,9 +38,24 @@ pub fn other_trees_stay()
     ensures { OtherTreesStay }
 {}
 
+/// A new surface changes no other surface.
+pub fn creation_keeps_others()
+    ensures { CreationKeepsOthers }
+{}
+
 /// A commit keeps the surfaces that don't descend from the one that is committed.
 pub fn commit_keeps_others()
     ensures { CommitKeepsOthers }
+{}
+
+/// A commit of a surface that behaves synchronised changes nothing that counts.
+pub fn held_commit_keeps_all()
+    ensures { HeldCommitKeepsAll }
+{}
+
+/// A new link changes nothing that counts.
+pub fn link_keeps_all()
+    ensures { LinkKeepsAll }
 {}
 
 /// A request of a surface keeps all other surfaces.
@@ -55,7 +73,7 @@ pub fn role_keeps_all()
     ensures { RoleKeepsAll }
 {}
 
-/// A mode by itself changes nothing that is shown.
+/// A mode by itself changes nothing that counts.
 pub fn mode_keeps_all()
     ensures { ModeKeepsAll }
 {}
@@ -88,4 +106,14 @@ pub fn one_standing_changes()
 /// Where it descends from no toplevel that stands, no window changes.
 pub fn no_standing_changes()
     ensures { NoStandingChanges }
+{}
+
+/// Where nothing that counts changes, no window does, and no damage is applied.
+pub fn no_window_changes()
+    ensures { NoWindowChanges }
+{}
+
+/// Where no toplevel stands twice, and none has a parent, no surface has two windows.
+pub fn standing_is_distinct()
+    ensures { StandingIsDistinct }
 {}
