@@ -9,5 +9,6 @@ mod Modes
 mod Others
 mod Owners
 mod Reading
+mod Rows
 mod Standing
 mod Staying
