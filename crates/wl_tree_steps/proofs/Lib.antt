@@ -1,0 +1,14 @@
+mod Coming
+mod Commits
+mod Damage
+mod Descents
+mod Distinct
+mod Ends
+mod Fewer
+mod Modes
+mod Others
+mod Owners
+mod Reading
+mod Rows
+mod Standing
+mod Staying
