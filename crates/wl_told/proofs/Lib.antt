@@ -1,0 +1,5 @@
+pub mod Calls
+pub mod Going
+pub mod Links
+pub mod Rects
+pub mod Telling

@@ -1,0 +1,42 @@
+//! The laws of what is told of surfaces: the damage that a call tells of is exactly the damage that it applies (wayland.xml, wl_surface.damage
+//! and wl_subsurface). Each law is a function that promises it.
+#![tactic(auto)]
+
+ghost use Rattle.wl_told.specs.Laws.{CommitTellsApplied, DesyncTellsApplied, EndTellsApplied, FirstSayAll, KeptAreShallow, LinkEndTellsApplied, UnlinkTellsApplied};
+
+use std::alloc::Allocator;
+
+/// Of more than 1,024 rectangles the first say as much as all, where these are more than 1,024 too: the whole surface is damaged.
+pub fn first_say_all()
+    ensures { FirstSayAll }
+{}
+
+/// What a commit tells of each surface is the damage that it applies to it, and of one that it doesn't apply nothing.
+pub fn commit_tells_applied<A: Allocator>()
+    ensures { CommitTellsApplied A }
+{}
+
+/// So is what wl_subsurface.set_desync tells, where the link lives.
+pub fn desync_tells_applied<A: Allocator>()
+    ensures { DesyncTellsApplied A }
+{}
+
+/// So is what the end of a link tells that lives.
+pub fn link_end_tells_applied<A: Allocator>()
+    ensures { LinkEndTellsApplied A }
+{}
+
+/// So it is where each link of a number ends, of which one lives.
+pub fn unlink_tells_applied<A: Allocator>()
+    ensures { UnlinkTellsApplied A }
+{}
+
+/// Surfaces that something is kept of stand no deeper than 16.
+pub fn kept_are_shallow()
+    ensures { KeptAreShallow }
+{}
+
+/// So is what the end of a surface tells of the others, where none stands deeper than 16.
+pub fn end_tells_applied<A: Allocator>()
+    ensures { EndTellsApplied A }
+{}
