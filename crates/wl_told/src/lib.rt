@@ -3,6 +3,7 @@
 #![tactic(auto)]
 
 ghost use Rattle.wl_told.specs.Laws.{CommitTellsApplied, DesyncTellsApplied, EndTellsApplied, FirstSayAll, KeptAreShallow, LinkEndTellsApplied, UnlinkTellsApplied};
+ghost use Rattle.wl_told.specs.Windows.{BetweenIsApplied, TellsWindows};
 
 use std::alloc::Allocator;
 
@@ -39,4 +40,14 @@ pub fn kept_are_shallow()
 /// So is what the end of a surface tells of the others, where none stands deeper than 16.
 pub fn end_tells_applied<A: Allocator>()
     ensures { EndTellsApplied A }
+{}
+
+/// What was applied between two desktops is what was applied to each client's surfaces.
+pub fn between_is_applied()
+    ensures { BetweenIsApplied }
+{}
+
+/// What is told of surfaces is told of each window of a tree of them.
+pub fn tells_windows<A: Allocator>()
+    ensures { TellsWindows A }
 {}
