@@ -57,7 +57,7 @@ LinkEndTellsApplied A =
     (number child : ℕ) (link : Link) (all : Surfaces) (changes : List (Change A)) → AreOnceLinked all.links
     → IsLink all number child link → IsTold child (with_link number ending all) changes → TellsApplied changes all (ended_in all link)
 
--- So it does as each link of this number ends, of which one lives.
+-- The same by the link's number, which no other link has.
 abbrev pub UnlinkTellsApplied : Type 0 → Type 0
 UnlinkTellsApplied A =
     (number child : ℕ) (link : Link) (all : Surfaces) (changes : List (Change A)) → AreOnceLinked all.links → AreNumbered all.links
@@ -67,7 +67,7 @@ UnlinkTellsApplied A =
 abbrev pub AreShallow : Surfaces → Type 0
 AreShallow all = (surface : ℕ) → depth levels all surface ≤ 16
 
--- So it is with surfaces that something is kept of.
+-- What is kept stands for such surfaces.
 abbrev pub KeptAreShallow : Type 0
 KeptAreShallow = (slots : Slots) (tied : Tied) (all : Surfaces) → HangTogether tied → Stand slots tied all → AreShallow all
 

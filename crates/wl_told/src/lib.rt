@@ -17,27 +17,27 @@ pub fn commit_tells_applied<A: Allocator>()
     ensures { CommitTellsApplied A }
 {}
 
-/// So is what wl_subsurface.set_desync tells, where the link lives.
+/// What wl_subsurface.set_desync tells of each surface is the damage that it applies to it, where the link lives.
 pub fn desync_tells_applied<A: Allocator>()
     ensures { DesyncTellsApplied A }
 {}
 
-/// So is what the end of a link tells that lives.
+/// What is told of each surface as a link ends that lives is the damage that this applies to it (wl_subsurface.destroy).
 pub fn link_end_tells_applied<A: Allocator>()
     ensures { LinkEndTellsApplied A }
 {}
 
-/// So it is where each link of a number ends, of which one lives.
+/// So it is where the link is ended by its number, which no other link has (wl_subsurface.destroy).
 pub fn unlink_tells_applied<A: Allocator>()
     ensures { UnlinkTellsApplied A }
 {}
 
-/// Surfaces that something is kept of stand no deeper than 16.
+/// What is kept stands for surfaces of which none is deeper than 16 below its root.
 pub fn kept_are_shallow()
     ensures { KeptAreShallow }
 {}
 
-/// So is what the end of a surface tells of the others, where none stands deeper than 16.
+/// What is told as a surface goes is the damage that this applies to the others, where none stands deeper than 16 (wl_surface.destroy).
 pub fn end_tells_applied<A: Allocator>()
     ensures { EndTellsApplied A }
 {}
