@@ -1,3 +1,6 @@
+mod Between
+mod Lists
 mod Names
 mod Shown
+mod Told
 mod Trees

@@ -3,6 +3,8 @@
 //! promises it.
 #![tactic(auto)]
 
+mod marks;
 mod windows;
 
+pub use marks::{marks_applied_by_name, marks_between_by_name, marks_heed_no_names, same_by_name};
 pub use windows::{shows_those_there, tells_trees_by_name, trees_heed_no_names};
