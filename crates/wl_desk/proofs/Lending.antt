@@ -56,7 +56,8 @@ stores_in x = option_map (λ v. v.stores) x
 abbrev stores_of : Option Resident → Option Stock
 stores_of r = option_map (λ r. r.peer.stores) r
 
-place-lent : (x : Option ClientView) (o : Option OwnedView) (r : Option Resident) → IsPlace x o r → (stores_in x ≡ stores_of r) × ((tied : Tied) × AreKept (numbers_of x) (slots_seen o) tied (owned_of r).surfaces)
+place-lent : (x : Option ClientView) (o : Option OwnedView) (r : Option Resident) → IsPlace x o r → (stores_in x ≡ stores_of r) ×
+    ((tied : Tied) × AreKept (numbers_of x) (slots_seen o) tied (owned_of r).surfaces)
 place-lent None None None here = (refl, (untied, nothing-kept))
 place-lent (Some v) (Some o) (Some r) here = (ap Some here.peer.stores, (o.family, here.owns.surfaces))
 place-lent None None (Some r) here = absurd here

@@ -89,7 +89,12 @@ fn lend_of<'a, A: Allocator + Copy>(
     ensures { window_of result ≡ window_kept (Some resident.now.client) nowhere.now (standing_of toplevel.now).place
         (option_map counting_of (kept_at resident.now.owned.linked.surfaces toplevel.now.surface.surface)) }
 {
-    let Some(current) = resident.owned.linked.surfaces.current(toplevel.surface.surface) else {
+    let Some(current) = resident
+        .owned
+        .linked
+        .surfaces
+        .current(toplevel.surface.surface)
+    else {
         return absent(toplevel, nowhere);
     };
     let (x, y) = corner_of(toplevel, current.offset);

@@ -125,13 +125,15 @@ module _ {A : Type 0} (time : ℕ) (old now new : Kept A) (r mid : Resident) (a 
       let next : Resident = without_it time mid due.before due.after c m a.status due.all_are nothing-before counts told in
       let names = callback-gone now.client.objects new.client.objects id heard holds in
       let requests = told-requests (frame_told time c.id) (removed c.id mid.peer) m told lives in
-      let left = framed-less now.owned.linked.surfaces.frames new.owned.linked.surfaces.frames (numbered now.client.objects mid) (mid.peer.requests + 1) mid.callbacks (due.before ++ due.after) is.frames due.others
+      let left = framed-less now.owned.linked.surfaces.frames new.owned.linked.surfaces.frames (numbered now.client.objects mid) (mid.peer.requests + 1) mid.callbacks (due.before ++ due.after)
+      is.frames due.others
       in (
         next,
         answered-on time mid due.before due.after c m a.status due.all_are nothing-before counts told r lives a,
         record {
           peer = peer;
-          owns = owned-places (names_in now.client.objects) (names_in new.client.objects) now.owned.linked.surfaces new.owned.linked.surfaces now.owned.linked.family new.owned.linked.family now.owned.shell
+          owns = owned-places (names_in now.client.objects) (names_in new.client.objects) now.owned.linked.surfaces new.owned.linked.surfaces now.owned.linked.family new.owned.linked.family
+              now.owned.shell
               new.owned.shell mid.owned places ties names shell is.owns;
           frames = rw (requests, ap (λ (n : Names). n.surfaces) names) left;
         },

@@ -42,7 +42,8 @@ unconfigured : (shows : Bool) (o : Option Kept) (placed : Option Placed) → com
 unconfigured shows None placed e = absurd (cc)
 unconfigured shows (Some k) placed e = (k, refl)
 
-module _ (names : Names) (slots : Slots) (tied : Tied) (kept : ℕ → Option Kept) (r : Resident) (is : IsOwned names slots tied kept r.owned) (id number : ℕ) (named : names.surfaces id ≡ Some number) (shows : Bool) where
+module _ (names : Names) (slots : Slots) (tied : Tied) (kept : ℕ → Option Kept) (r : Resident) (is : IsOwned names slots tied kept r.owned) (id number : ℕ)
+    (named : names.surfaces id ≡ Some number) (shows : Bool) where
   pub commit-peer : (act : ShellAct) → commit_answer shows (kept number) ≡ Ok act → (changed_simply (CommitSurface id (effect_by act)) r).peer ≡ drawn_by act
       (after_surface id r (committed_on id r)).peer
   commit-peer (Configure placed) answer =

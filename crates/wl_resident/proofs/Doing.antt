@@ -64,25 +64,30 @@ cut-bounds None s stands = absurd stands
 cut-bounds (Some k) s stands = (stands.history.cut_within, stands.history.commits_within)
 
 -- A request of a surface that is no commit, attaches nothing and asks for no window geometry.
-pub asked-so : {A : Type 0} (old new : Kept A) (r : Resident) (id number : ℕ) (request : Request) → IsResident old r → IsSurface old id number → is_about_children request ≡ false → is_commit request ≡ false
+pub asked-so : {A : Type 0} (old new : Kept A) (r : Resident) (id number : ℕ) (request : Request) → IsResident old r → IsSurface old id number → is_about_children request ≡ false → is_commit
+    request ≡ false
     → ((v : Values) → (asked v request).buffer ≡ v.buffer)
     → ((g : Option Rect) → geometry_asked g request ≡ g) → frames_of (request ∷ []) ≡ [] → new.owned.linked.surfaces.frames ≡ old.owned.linked.surfaces.frames
-    → Changes old.owned.linked.surfaces new.owned.linked.surfaces number (asking request) → new.owned.linked.family ≡ old.owned.linked.family → new.client ≡ old.client → kept_of new.owned.shell ≡ kept_of old.owned.shell
+    → Changes old.owned.linked.surfaces new.owned.linked.surfaces number (asking request) → new.owned.linked.family ≡ old.owned.linked.family → new.client ≡ old.client → kept_of new.owned.shell
+    ≡ kept_of old.owned.shell
     → ((changed_by (AskSurface id request) r).peer ≡ r.peer) × IsLeft old new (changed_by (AskSurface id request) r) r.peer
 asked-so old new r id number request is named about plain keeps other asks_none frames changes ties same shell =
     let names = names_in old.client.objects in
     let there = surface-named names.surfaces old.owned.linked.surfaces old.owned.linked.family r.owned.surfaces is.owns.surfaces id number named in
     let read = surface-read names.surfaces old.owned.linked.surfaces old.owned.linked.family r.owned.surfaces is.owns.surfaces id number named ∙ there.1 in
-    let bounds = cut-bounds (kept_at old.owned.linked.surfaces number) there.0 (subst (λ (o : Option Surface). StandsAt (kept_at old.owned.linked.surfaces number) o) read (is.owns.surfaces.stand number)) in
+    let bounds = cut-bounds (kept_at old.owned.linked.surfaces number) there.0
+    (subst (λ (o : Option Surface). StandsAt (kept_at old.owned.linked.surfaces number) o) read (is.owns.surfaces.stand number)) in
     let none = asked-keeps request plain keeps id r there.0 there.1 bounds.0 bounds.1 in (
       ap (λ (q : Resident). q.peer) none,
       record {
         peer = rw same is.peer;
-        owns = λ alive. rw (same, shell, ties) (owned-asked names old.owned.linked.surfaces old.owned.linked.family (kept_of old.owned.shell) r is.owns id number request new.owned.linked.surfaces named about plain other changes);
+        owns = λ alive. rw (same, shell, ties)
+            (owned-asked names old.owned.linked.surfaces old.owned.linked.family (kept_of old.owned.shell) r is.owns id number request new.owned.linked.surfaces named about plain other changes);
         frames = λ alive.
             let table : new.client.objects ≡ old.client.objects = ap (λ (w : ClientView). w.objects) same in
             subst (λ (ws : List Waiting). IsFramed ws new.client.objects (changed_by (AskSurface id request) r)) (sym frames)
-            (framed-asked old.owned.linked.surfaces.frames old.client.objects new.client.objects r (changed_by (AskSurface id request) r) refl (no-more r.peer.requests) is.frames old.owned.linked.surfaces old.owned.linked.family
+            (framed-asked old.owned.linked.surfaces.frames old.client.objects new.client.objects r (changed_by (AskSurface id request) r) refl (no-more r.peer.requests) is.frames
+            old.owned.linked.surfaces old.owned.linked.family
             is.owns.surfaces id number request asks_none plain named
             (ap names_in table) refl);
         numbers = λ alive. keeps-same old.client.objects new.client.objects (ap (λ (w : ClientView). w.objects) same);

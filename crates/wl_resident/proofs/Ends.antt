@@ -96,7 +96,8 @@ none-kept book number e = rw e refl
 none-counted : (slots : Slots) → StandForAll slots nobody → count_kept slots ≡ 0
 none-counted slots stand = count-same slots.places [] (λ n. is-kept (kept_at slots n) None (stand n) ∙ sym (ap is_some (nothing-at n)))
 
-pub owns-nothing : {A : Type 0} (held : Held) (owned : Owned A) → AreNameless held → IsBare owned → IsOwned (names_in held) owned.linked.surfaces owned.linked.family (kept_of owned.shell) nothing_owned
+pub owns-nothing : {A : Type 0} (held : Held) (owned : Owned A) → AreNameless held → IsBare owned → IsOwned (names_in held) owned.linked.surfaces owned.linked.family (kept_of owned.shell)
+    nothing_owned
 owns-nothing held owned none bare =
     record {
       surfaces = record {

@@ -84,7 +84,8 @@ module _ (frames : List Waiting) (old new : Held) (r after : Resident) (callback
     pub framed-asked : (request : Request) → frames_of (request ∷ []) ≡ [] → is_commit request ≡ false → targets_in WlSurface old id ≡ Some number → names_in new ≡ names_in old
         → after.owned.surfaces ≡ with_change id (asking request) r.owned.surfaces → IsFramed frames new after
     framed-asked request none no_commit named names surfaces =
-        framed-changed (asking request) (λ s. refl) (asked-still request none (numbered old r number)) (counts-still request no_commit (kept_at slots number) (numbered old r number) (is.stand number)) named
+        framed-changed (asking request) (λ s. refl) (asked-still request none (numbered old r number))
+        (counts-still request no_commit (kept_at slots number) (numbered old r number) (is.stand number)) named
         (ap (λ (n : Names). n.surfaces) names) surfaces
 
     pub framed-role : (role : Role) → targets_in WlSurface old id ≡ Some number → targets_in WlSurface new ≡ targets_in WlSurface old

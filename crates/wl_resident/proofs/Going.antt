@@ -93,7 +93,8 @@ are-heard id r held calls only same ids other any =
     (sym (any-ids other (callbacks_of id r)) ∙ ap (list_any (λ i. other == i)) (sym ids) ∙ any))
 
 -- what was asked for of a surface, by its number and by its id
-pub asked-read : (held : Held) (r : Resident) (slots : Slots) (tied : Tied) → AreKept (targets_in WlSurface held) slots tied r.owned.surfaces → (id number : ℕ) → targets_in WlSurface held id ≡ Some number
+pub asked-read : (held : Held) (r : Resident) (slots : Slots) (tied : Tied) → AreKept (targets_in WlSurface held) slots tied r.owned.surfaces → (id number : ℕ) → targets_in WlSurface held id
+    ≡ Some number
     → frames_at (numbered held r number) ≡ frames_asked (history_in id r.owned.surfaces)
 asked-read held r slots tied kept id number named = ap frames_at (surface-read (targets_in WlSurface held) slots tied r.owned.surfaces kept id number named) ∙ at (surface_at id r.owned.surfaces)
   where

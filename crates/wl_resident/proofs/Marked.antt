@@ -212,7 +212,8 @@ module _ {A : Type 0} (c : ℕ) (others : ℕ → ById ℕ) (base d : Desktop) (
 
   told-there : (told : Option (Current A)) → IsTold v number told → IsCurrentAt told (Some there.0)
   told-there told is =
-      subst (λ (o : Option Surface). IsCurrentAt told o) (surface-read (targets_in WlSurface v.client.objects) v.owned.linked.surfaces v.owned.linked.family r.owned.surfaces kept id number named ∙ there.1)
+      subst (λ (o : Option Surface). IsCurrentAt told o)
+      (surface-read (targets_in WlSurface v.client.objects) v.owned.linked.surfaces v.owned.linked.family r.owned.surfaces kept id number named ∙ there.1)
       (is (by_number (targets_in WlSurface v.client.objects) r.owned.surfaces) kept.stand)
 
   -- something is told of it

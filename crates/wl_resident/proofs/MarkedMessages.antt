@@ -534,7 +534,8 @@ module _ {A : Type 0} (c : ℕ) (others : ℕ → ById ℕ) (base d e : Desktop)
         let told = commits number commit lives in
         let changes = alone-told numbers_then old.owned.linked.surfaces old.owned.linked.family r.owned.surfaces before.seat.owns.surfaces number told.0.changes.items told.2 in
         let change : AreChanges number (Some there.0) told.0.changes.items =
-        subst (λ (o : Option Surface). AreChanges number o told.0.changes.items) (surface-read numbers_then old.owned.linked.surfaces old.owned.linked.family r.owned.surfaces before.seat.owns.surfaces id number named
+        subst (λ (o : Option Surface). AreChanges number o told.0.changes.items)
+        (surface-read numbers_then old.owned.linked.surfaces old.owned.linked.family r.owned.surfaces before.seat.owns.surfaces id number named
         ∙ there.1) changes in
         ap rects_applied told.1 ∙ ap rects_changed change.1 ∙ change.2.rects
 

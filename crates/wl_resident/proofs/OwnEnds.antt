@@ -14,7 +14,8 @@ use Rattle.wl_resident.proofs.OwnWindows.{numbered, numbered-stand, seated-shown
 
 -- what was kept of the surfaces is kept still, and what it shows is marked
 pub own-marked : {A : Type 0} (c : ℕ) (kept mid : Kept A) (stack : Stack) (old new : Damaged) → mid.owned.linked.surfaces.places ≡ kept.owned.linked.surfaces.places
-    → ((all : Numbered) → StandForAll mid.owned.linked.surfaces all → (x y : ℕ) → x < old.width → y < old.height → has new x y ≡ (has old x y || list_any (is_shown_by c all (pos x) (pos y)) stack.standing))
+    → ((all : Numbered) → StandForAll mid.owned.linked.surfaces all → (x y : ℕ) → x < old.width → y < old.height → has new x y
+    ≡ (has old x y || list_any (is_shown_by c all (pos x) (pos y)) stack.standing))
     → IsAsLarge old new → MarksOwnIf true c kept stack old new
 own-marked c kept mid stack old new same points sides = (
   sides,

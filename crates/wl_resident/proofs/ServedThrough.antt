@@ -218,9 +218,11 @@ module _ {A : Type 0} (c : ℕ) (others : ℕ → ById ℕ) (base d : Desktop) (
           let commit_is = commit-asks old r resident a asks number commit (CommitSurface id Maps) told in
           let same : id ≡ commit_is.0 = ap surface_of commit_is.2 in
           let named : targets_in WlSurface old.client.objects id ≡ Some number = subst (λ n. targets_in WlSurface old.client.objects n ≡ Some number) (sym same) commit_is.3 in
-          let maps : effect_of r id ≡ Maps = (asks-find c r d before.based.there _ _ _ _ before.seat.owns before.mapped (no-links d more) (split_of r.peer.rest) (CommitSurface id Maps) r.peer told).0 in
+          let maps : effect_of r id ≡ Maps = (asks-find c r d before.based.there _ _ _ _ before.seat.owns before.mapped (no-links d more) (split_of r.peer.rest) (CommitSurface id Maps) r.peer
+          told).0 in
           let none = maps-none c r d (subst (λ (o : Owned). AreMapped c o d.standing) (ap owned_of before.based.there) (before.mapped.each c)) id maps in
-          marked-with (all_committed c others base d r old stack before (pos x) (pos y) id number named) (alone-stand (targets_in WlSurface old.client.objects) old.owned.linked.surfaces old.owned.linked.family r.owned.surfaces before.seat.owns.surfaces number mid.owned.linked.surfaces
+          marked-with (all_committed c others base d r old stack before (pos x) (pos y) id number named)
+          (alone-stand (targets_in WlSurface old.client.objects) old.owned.linked.surfaces old.owned.linked.family r.owned.surfaces before.seat.owns.surfaces number mid.owned.linked.surfaces
           mid.owned.linked.family changes) x y wide high
           ∙ ap (λ b. has d0 x y || (any_record_has (pos x) (pos y) record_was || b)) (unstood-shown c others base d r old stack before (pos x) (pos y) id number named none)
           ∙ ap (λ b. has d0 x y || b) (absorbed (any_record_has (pos x) (pos y) record_was) (has_window_at c (pos x) (pos y) d)

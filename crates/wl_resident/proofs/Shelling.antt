@@ -347,7 +347,8 @@ changing-same number kept = fun_ext (λ other. at other (other == number) refl)
 
 -- what is owned was left as it was
 pub owns-told : {A : Type 0} (new : Kept A) (owned : Lent A) (names : Names) (o : Owned) → names_in new.client.objects ≡ names → new.owned ≡ owned
-    → IsOwned names owned.linked.surfaces owned.linked.family (kept_of owned.shell) o → IsOwned (names_in new.client.objects) new.owned.linked.surfaces new.owned.linked.family (kept_of new.owned.shell) o
+    → IsOwned names owned.linked.surfaces owned.linked.family (kept_of owned.shell) o → IsOwned (names_in new.client.objects) new.owned.linked.surfaces new.owned.linked.family
+    (kept_of new.owned.shell) o
 owns-told new owned names o named same is = rw (named, same) is
 
 -- what was read is what the definition reads

@@ -289,7 +289,8 @@ module _ {A : Type 0} (c : ℕ) (others : ℕ → ById ℕ) (base d : Desktop) (
         }),
       )
     where
-      framed-by : Queues (told_simply ask (with_peer p r)) changed.peer q → AreFramed mid.owned.linked.surfaces.frames (by_number (numbers mid) changed.owned.surfaces) (q.requests + 1) changed.callbacks
+      framed-by : Queues (told_simply ask (with_peer p r)) changed.peer q → AreFramed mid.owned.linked.surfaces.frames (by_number (numbers mid) changed.owned.surfaces) (q.requests + 1)
+          changed.callbacks
       framed-by h = rw (told-requests (told_simply ask (with_peer p r)) changed.peer q h told) (is.left.frames none)
 
   -- ---- one that ended

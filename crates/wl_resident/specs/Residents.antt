@@ -47,7 +47,8 @@ Owns v r = IsOwned (names_in v.client.objects) v.owned.linked.surfaces v.owned.l
 -- the frame callbacks that are kept are those of the client, whose frame requests have numbers up to that of its last request
 abbrev pub KeepsFrames : {A : Type 0} → Kept A → Resident → Type 0
 KeepsFrames v r =
-    AreFramed v.owned.linked.surfaces.frames (by_number (targets_in WlSurface v.client.objects) r.owned.surfaces) (r.peer.requests + 1) r.callbacks
+    AreFramed v.owned.linked.surfaces.frames (by_number (targets_in WlSurface v.client.objects) r.owned.surfaces) (r.peer.requests + 1)
+    r.callbacks
 
 -- a client that lives
 pub record IsResident {A : Type 0} (v : Kept A) (r : Resident) : Type 0 where

@@ -29,7 +29,8 @@ use Rattle.wl_plain.specs.Ask.{CreateSurface, AskSurface, GetXdgSurface, Destroy
 use Rattle.wl_plain.specs.Desktop.{Resident}
 use Rattle.wl_records.specs.Owning.{IsOwned, IsXdg, KeepsRole, Names, effect_by, with_surface, with_toplevel, with_xdg}
 use Rattle.wl_plain.specs.Step.{after_surface, asked_so_far, toplevel_given}
-use Rattle.wl_records.proofs.Keeping.OwningChanges.{IsOwned-history, IsOwned-left, IsOwned-made, IsOwned-shelled, IsOwned-stepped, IsOwned-toplevel, IsOwned-unshelled, IsOwned-untoplevel, changing-none}
+use Rattle.wl_records.proofs.Keeping.OwningChanges.{IsOwned-history, IsOwned-left, IsOwned-made, IsOwned-shelled}
+use Rattle.wl_records.proofs.Keeping.OwningChanges.{IsOwned-stepped, IsOwned-toplevel, IsOwned-unshelled, IsOwned-untoplevel, changing-none}
 use Rattle.wl_records.proofs.Keeping.OwningChanges.{renumbered}
 use Rattle.wl_records.proofs.Keeping.OwningSurfaces.{AreKept-changed, counts-asking, geometry-asked, surface-named}
 use Rattle.wl_records.proofs.Keeping.OwningTies.{asked-by, committed-by, role-by}
@@ -110,7 +111,8 @@ module _ (names : Names) (slots : Slots) (tied : Tied) (kept : ℕ → Option Ke
       → ((named : Numbered) (id : ℕ) → StandForAll slots named → (named number ≡ None) × StandForAll new (with_at number (Some (new_surface id)) named)) → count_kept new ≡ count_kept slots + 1
       → now ≡ with_surface id (Some number) names → IsOwned now new tied kept (changed_simply (Asking (CreateSurface id version)) r).owned
   owned-created id version number new now free created counted same =
-      subst (λ (n : Names). IsOwned n new tied kept (changed_simply (Asking (CreateSurface id version)) r).owned) (sym same) (IsOwned-made names slots tied kept r.owned is id number new free created counted)
+      subst (λ (n : Names). IsOwned n new tied kept (changed_simply (Asking (CreateSurface id version)) r).owned) (sym same)
+      (IsOwned-made names slots tied kept r.owned is id number new free created counted)
 
   pub owned-destroyed : (id number : ℕ) (new : Slots) (without : Tied) (now : Names) → names.surfaces id ≡ Some number → xdg_of id r.owned.shell ≡ None
       → Makes slots tied new without (destroyed_in number) → now ≡ with_surface id None names → IsOwned now new without kept (changed_simply (DestroySurface id) r).owned
@@ -124,7 +126,8 @@ module _ (names : Names) (slots : Slots) (tied : Tied) (kept : ℕ → Option Ke
       (one.0.history, ap (option_map (λ (s : Surface). s.history)) one.1)
 
   -- of a surface all but a window geometry
-  pub owned-asked : (id number : ℕ) (request : Request) (new : Slots) → names.surfaces id ≡ Some number → is_about_children request ≡ false → is_commit request ≡ false → ((asked : Option Rect) → geometry_asked asked request ≡ asked)
+  pub owned-asked : (id number : ℕ) (request : Request) (new : Slots) → names.surfaces id ≡ Some number → is_about_children request ≡ false → is_commit request ≡ false →
+      ((asked : Option Rect) → geometry_asked asked request ≡ asked)
       → Changes slots new number (asking request)
       → IsOwned names new tied kept (changed_simply (Asking (AskSurface id request)) r).owned
   owned-asked id number request new named about plain other changes =
@@ -183,7 +186,8 @@ module _ (names : Names) (slots : Slots) (tied : Tied) (kept : ℕ → Option Ke
         subst (λ (n : Names). IsOwned n new tied after (changed_simply (Asking (GetToplevel id version x.id)) r).owned) (sym same)
         (subst (λ (ks : ℕ → Option Kept). IsOwned (with_toplevel id (Some number) names) new tied ks (changed_simply (Asking (GetToplevel id version x.id)) r).owned) (sym keeps)
         (subst (λ (o : Option XdgSurface). IsOwned (with_toplevel id (Some number) names) new tied (changing number (kept_toplevel id) kept) (toplevel_given id x.id o r).owned) (sym one.at_id)
-        (IsOwned-toplevel names slots tied kept r.owned is number k x h one id (kept_toplevel id) step (record { id = id; kind = _; stage = Fresh }) h new all (λ y. refl) (λ y. refl) bare refl refl free
+        (IsOwned-toplevel names slots tied kept r.owned is number k x h one id (kept_toplevel id) step (record { id = id; kind = _; stage = Fresh }) h new all (λ y. refl) (λ y. refl) bare refl
+        refl free
         (AreKept-changed names.surfaces slots tied r.owned.surfaces is.surfaces x.surface number one.surface (with_role AsToplevel) (λ s. refl) new tied (λ s counts. counts)
         (role-by names.surfaces slots tied r.owned.surfaces is.surfaces x.surface number one.surface AsToplevel new changes))
         (histories-to x.surface (with_role AsToplevel) (λ g. g) r.owned.surfaces h (λ s. refl) (λ s. refl) one.history)
@@ -195,7 +199,8 @@ module _ (names : Names) (slots : Slots) (tied : Tied) (kept : ℕ → Option Ke
         subst (λ (ks : ℕ → Option Kept). IsOwned names slots tied ks (changed_simply (Asking (Acknowledge x.id serial)) r).owned) (sym keeps)
         (stepped-still (kept_acknowledging serial) (acknowledging serial) (acknowledging-keeps serial) (changes_stand.acknowledgement serial k x h one.stands))
 
-    pub owned-configured : (after : ℕ → Option Kept) → after ≡ changing number (kept_configuring r.peer.serial) kept → IsOwned names slots tied after (changed_simply (Asking (ConfigureAgain x.id)) r).owned
+    pub owned-configured : (after : ℕ → Option Kept) → after ≡ changing number (kept_configuring r.peer.serial) kept → IsOwned names slots tied after
+        (changed_simply (Asking (ConfigureAgain x.id)) r).owned
     owned-configured after keeps =
         subst (λ (ks : ℕ → Option Kept). IsOwned names slots tied ks (changed_simply (Asking (ConfigureAgain x.id)) r).owned) (sym keeps)
         (stepped-still (kept_configuring r.peer.serial) (configuring r.peer.serial) (configuring-keeps r.peer.serial) (changes_stand.configure r.peer.serial k x h one.stands))
@@ -267,9 +272,11 @@ module _ (names : Names) (slots : Slots) (tied : Tied) (kept : ℕ → Option Ke
   -- the same by what the shell answered
   pub owned-committed-by : (id number : ℕ) (shows : Bool) (act : ShellAct) (new : Slots) (tying : Tied) (after : ℕ → Option Kept) → names.surfaces id ≡ Some number
       → Makes slots tied new tying (committed_in number)
-      → commit_answer shows (kept number) ≡ Ok act → after ≡ changing number (kept_after r.peer.serial act) kept → IsOwned names new tying after (changed_simply (CommitSurface id (effect_by act)) r).owned
+      → commit_answer shows (kept number) ≡ Ok act → after ≡ changing number (kept_after r.peer.serial act) kept → IsOwned names new tying after
+      (changed_simply (CommitSurface id (effect_by act)) r).owned
   owned-committed-by id number shows act new tying after named makes answer keeps =
-      subst (λ effect. IsOwned names new tying after (changed_simply (CommitSurface id effect) r).owned) (at (kept number) refl) (owned-committed id number shows act new tying after named makes answer keeps)
+      subst (λ effect. IsOwned names new tying after (changed_simply (CommitSurface id effect) r).owned) (at (kept number) refl)
+      (owned-committed id number shows act new tying after named makes answer keeps)
     where
       of-act : (a : ShellAct) → ◌≡◌ {A = Result ShellAct ShellError} (Ok a) (Ok act) → effect_by a ≡ effect_by act
       of-act a e = let same : a ≡ act = cc in ap effect_by same

@@ -366,7 +366,8 @@ module _ (numbers : ById ℕ) (slots : Slots) (tied : Tied) (all : Surfaces) (is
             let there = surface-named id number named in
             let shorter = length-left has_id id there.0 all.surfaces is.apart there.1 in
             let one = count-left slots.places new.places number (kept-at slots (by_number numbers all) is.stand number ∙ ap is_some (surface-read id number named ∙ there.1))
-            (kept-at new (by_number after (without_surface id all)) stands number ∙ ap is_some (surfaces-left number ∙ ap (λ b. cond b None (by_number numbers all number)) (eq-eqb number number refl)))
+            (kept-at new (by_number after (without_surface id all)) stands number ∙ ap is_some
+            (surfaces-left number ∙ ap (λ b. cond b None (by_number numbers all number)) (eq-eqb number number refl)))
             (λ other away. kept-at slots (by_number numbers all) is.stand other ∙ sym (kept-at new (by_number after (without_surface id all)) stands other
             ∙ ap is_some (surfaces-left other ∙ ap (λ b. cond b None (by_number numbers all other)) away))) in
             let same = is.count in

@@ -265,7 +265,8 @@ module _ (numbers : ById ℕ) (slots : Slots) (tied : Tied) (all : Surfaces) (is
         (destroys-named (number_in numbers) slots new tied after all id present stand-by (subst (λ n. Makes slots tied new after (destroyed_in n)) (sym own) makes)))
       where
         elsewhere : (other : ℕ) → has_surface other (without_surface id all) ≡ true → (other == id) ≡ false
-        elsewhere other there = false_from_ne_true (other == id) (λ e. differ (sym there ∙ ap is_some (ap (λ i. surface_at i (without_surface id all)) (eqb-true other id e) ∙ gone (has_id id) all.surfaces)))
+        elsewhere other there = false_from_ne_true (other == id)
+            (λ e. differ (sym there ∙ ap is_some (ap (λ i. surface_at i (without_surface id all)) (eqb-true other id e) ∙ gone (has_id id) all.surfaces)))
 
   -- ---- one comes
 

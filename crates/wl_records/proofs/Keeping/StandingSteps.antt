@@ -29,7 +29,8 @@ use Rattle.wl_records.proofs.Keeping.StandingDesks.{become-stand, done-stand, ea
 use Rattle.wl_records.proofs.Keeping.StandingFound.{Finds, finds-peer, judge-finds}
 use Rattle.wl_records.proofs.Toplevels.Simply.{Simple}
 
-module _ (c : ℕ) (there : Resident) (d : Desktop) (is : client_at c d ≡ Some there) (names : Names) (slots : Slots) (tied : Tied) (kept : ℕ → Option Kept) (owned : IsOwned names slots tied kept there.owned)
+module _ (c : ℕ) (there : Resident) (d : Desktop) (is : client_at c d ≡ Some there) (names : Names) (slots : Slots) (tied : Tied) (kept : ℕ → Option Kept)
+    (owned : IsOwned names slots tied kept there.owned)
     (stand : MappedStand d) where
   -- ---- a message
 

@@ -58,7 +58,8 @@ asks-one r (Whole object opcode size) ask other asks too = same ask other (sym a
 asks-one r Bad ask other asks too = absurd asks
 asks-one r More ask other asks too = absurd asks
 
-module _ (c : ℕ) (there : Resident) (d : Desktop) (is : client_at c d ≡ Some there) (names : Names) (slots : Slots) (tied : Tied) (kept : ℕ → Option Kept) (owned : IsOwned names slots tied kept there.owned)
+module _ (c : ℕ) (there : Resident) (d : Desktop) (is : client_at c d ≡ Some there) (names : Names) (slots : Slots) (tied : Tied) (kept : ℕ → Option Kept)
+    (owned : IsOwned names slots tied kept there.owned)
     (stand : MappedStand d)
     (unlinked : (c : ℕ) → (owned_in d c).surfaces.links ≡ []) (x y : ℤ) where
   -- what becomes of the desktop where this is done
@@ -94,7 +95,8 @@ module _ (c : ℕ) (there : Resident) (d : Desktop) (is : client_at c d ≡ Some
               id,
               sym (touched-peer ask p there) ∙ t,
               λ rects applied. done-exactly c there d is unlinked stand.apart ask (with_peer p there) q refl alive
-                  (here-mapped c there d is names slots tied kept owned stand unlinked) owned.surfaces.counts (asks-find c there d is names slots tied kept owned stand unlinked (split_of there.peer.rest) ask p
+                  (here-mapped c there d is names slots tied kept owned stand unlinked) owned.surfaces.counts
+                  (asks-find c there d is names slots tied kept owned stand unlinked (split_of there.peer.rest) ask p
                   asks) id t rects applied x y f,
             ),
           )

@@ -39,7 +39,8 @@ touched-peer (CommitSurface id effect) p r = refl
 touched-peer (DestroyToplevel id xdg top) p r = refl
 touched-peer ask p r = refl
 
-module _ (c : ℕ) (there : Resident) (d : Desktop) (is : client_at c d ≡ Some there) (names : Names) (slots : Slots) (tied : Tied) (kept : ℕ → Option Kept) (owned : IsOwned names slots tied kept there.owned)
+module _ (c : ℕ) (there : Resident) (d : Desktop) (is : client_at c d ≡ Some there) (names : Names) (slots : Slots) (tied : Tied) (kept : ℕ → Option Kept)
+    (owned : IsOwned names slots tied kept there.owned)
     (stand : MappedStand d)
     (unlinked : (c : ℕ) → (owned_in d c).surfaces.links ≡ []) where
   pub here-mapped : AreMapped c there.owned d.standing

@@ -214,7 +214,8 @@ returns-in-Compositor-clause-still g c = λ other p is. c.wl_compositor.ensures.
 pub returns-in-Subcompositor-clause-still : goal.returns-in-Subcompositor-clause-still
 returns-in-Subcompositor-clause-still g c = λ other p is.
     let v = c.args.self.now in
-    same-still v.owned.linked.surfaces v.owned.linked.family (kept_of v.owned.shell) c.wl_subcompositor.new.self.owned.linked.surfaces (ap (λ (l : Linked _). l.surfaces) c.wl_subcompositor.ensures.surfaces)
+    same-still v.owned.linked.surfaces v.owned.linked.family (kept_of v.owned.shell) c.wl_subcompositor.new.self.owned.linked.surfaces
+    (ap (λ (l : Linked _). l.surfaces) c.wl_subcompositor.ensures.surfaces)
 
 pub returns-in-XdgSurface-clause-still : goal.returns-in-XdgSurface-clause-still
 returns-in-XdgSurface-clause-still g c = λ other p is. c.xdg_surface.ensures.still
@@ -237,4 +238,5 @@ returns-in-Base-clause-still g c = λ other p is.
 pub returns-in-Unserved-clause-still : goal.returns-in-Unserved-clause-still
 returns-in-Unserved-clause-still g c = λ other p is.
     let v = c.args.self.now in
-    same-still v.owned.linked.surfaces v.owned.linked.family (kept_of v.owned.shell) c.refuse_unserved.new.self.owned.linked.surfaces (ap (λ (l : Linked _). l.surfaces) c.refuse_unserved.ensures.surfaces)
+    same-still v.owned.linked.surfaces v.owned.linked.family (kept_of v.owned.shell) c.refuse_unserved.new.self.owned.linked.surfaces
+    (ap (λ (l : Linked _). l.surfaces) c.refuse_unserved.ensures.surfaces)

@@ -18,7 +18,8 @@ loop-callback-preserved g c = (
       let due = c.in-Some.ensures.due _ so.0.callbacks so.2.frames.waits in
       let told = c.finish.ensures.tells so.0.peer so.2.peer in
       let alive = lives-of c.finish.new.self.ended (sym c.has_ended.ensures ∙ c.if-has_ended.false) in
-      let next = next-answered c.args.time c.args.self.now now new r so.0 so.1 so.2 c.in-Some.callback due c.in-Some.ensures.places refl refl told.0 told.1 told.2 alive (c.finish.ensures.table alive) in
+      let next = next-answered c.args.time c.args.self.now now new r so.0 so.1 so.2 c.in-Some.callback due c.in-Some.ensures.places refl refl told.0 told.1 told.2 alive
+      (c.finish.ensures.table alive) in
       (next.0, next.1, next.2, next.3 ∙ so.3),
   c.in-Some.ensures.places ∙ c.loop-callback.invariant.1,
 )

@@ -41,21 +41,25 @@ returns-clause-applies g c = λ client r on names object kept shows only comes i
     let then = committed_on object r in
     let after = after_surface object r then in
     let had = had-by names.surfaces v.owned.linked.surfaces v.owned.linked.family r.owned.surfaces object number c.buffers-had.result owned.surfaces named c.buffers-had.ensures in
-    let are = AreKept-changed names.surfaces v.owned.linked.surfaces v.owned.linked.family r.owned.surfaces owned.surfaces object number named (λ s. applying (asking Commit s)) (λ s. refl) c.commit.new.self.surfaces
-    c.commit.new.self.family (λ s counts. refl) (committed-by names.surfaces v.owned.linked.surfaces v.owned.linked.family r.owned.surfaces owned.surfaces object number named c.commit.new.self.surfaces
+    let are = AreKept-changed names.surfaces v.owned.linked.surfaces v.owned.linked.family r.owned.surfaces owned.surfaces object number named (λ s. applying (asking Commit s)) (λ s. refl)
+    c.commit.new.self.surfaces
+    c.commit.new.self.family (λ s counts. refl)
+    (committed-by names.surfaces v.owned.linked.surfaces v.owned.linked.family r.owned.surfaces owned.surfaces object number named c.commit.new.self.surfaces
     c.commit.new.self.family c.in-Ok.ensures.ok) in
     let peer = c.let_go_of.ensures.stores then names.surfaces is are (surface_at object r.owned.surfaces) had in
     let told = c.tell_act.ensures.told after.peer peer in
     let same : kept_of c.let_go_of.new.self.owned.shell number ≡ changing number (kept_after c.args.serial act) kept number =
     ap (λ o. kept_of o.shell number) c.let_go_of.ensures.owned ∙ ap (λ (k : ℕ → Option Kept). k number) (shell ∙ ap (λ n. changing number (kept_after n act) kept) (sym serial)) in
-    let freed = freed-changed names.surfaces v.owned.linked.surfaces v.owned.linked.family r then owned.surfaces object number named c.in-Ok.applied.freed.items c.commit.new.self.surfaces c.commit.new.self.family
+    let freed = freed-changed names.surfaces v.owned.linked.surfaces v.owned.linked.family r then owned.surfaces object number named c.in-Ok.applied.freed.items c.commit.new.self.surfaces
+    c.commit.new.self.family
     (λ s. applying (asking Commit s)) (λ s. refl) refl are
     (alone-freed names.surfaces v.owned.linked.surfaces v.owned.linked.family r.owned.surfaces owned.surfaces number c.in-Ok.applied.freed.items c.in-Ok.ensures.freed) in
     let at = surface_at object r.owned.surfaces in
     let released = c.released-released.ensures then is at had (subst (λ (numbers : List ℕ). IsFreedOf numbers (shown_at at) then) (sym c.deref.ensures.value) freed) in
     let telling = release_told c.released-released.result in
     let events : told_by act c.args.serial (kept_of c.let_go_of.new.self.owned.shell number) ++ telling ≡ told_simply ask r =
-    ap (λ (es : List Said). es ++ telling) (ap (told_by act c.args.serial) same ∙ commit-told names v.owned.linked.surfaces v.owned.linked.family kept r owned object number named shows act c.args.serial answer serial)
+    ap (λ (es : List Said). es ++ telling)
+    (ap (told_by act c.args.serial) same ∙ commit-told names v.owned.linked.surfaces v.owned.linked.family kept r owned object number named shows act c.args.serial answer serial)
     ∙ ap (λ (es : List Said). answers_simply ask r ++ es) (ap release_told released ∙ sym (committed-released object (effect_by act) r owned.surfaces.apart (owned.surfaces.counts object))) in
     let left = commit-peer names v.owned.linked.surfaces v.owned.linked.family kept r owned object number named shows act answer in (
       told.0,
@@ -67,13 +71,15 @@ returns-clause-applies g c = λ client r on names object kept shows only comes i
         frames = λ alive.
             let table = c.tell_act.ensures.table alive ∙ ap (λ (w : ClientView). w.objects) c.let_go_of.ensures.only in
             subst (λ (o : Lent _). IsFramed o.linked.surfaces.frames c.tell_act.new.self.client.objects (changed_simply ask r)) (sym (c.tell_act.ensures.owned ∙ c.let_go_of.ensures.owned))
-            (framed-applied v.client.objects c.tell_act.new.self.client.objects names r object number (effect_by act) v.owned.linked.surfaces v.owned.linked.family c.commit.new.self.surfaces names_are table
+            (framed-applied v.client.objects c.tell_act.new.self.client.objects names r object number (effect_by act) v.owned.linked.surfaces v.owned.linked.family c.commit.new.self.surfaces
+            names_are table
             owned.surfaces named framed
             (alone-waits names.surfaces v.owned.linked.surfaces v.owned.linked.family r.owned.surfaces owned.surfaces number c.commit.new.self.surfaces.frames c.in-Ok.ensures.waits r.callbacks));
         owns = λ alive. owns-told c.tell_act.new.self _ names _
             (ap names_in (c.tell_act.ensures.table alive ∙ ap (λ (w : ClientView). w.objects) c.let_go_of.ensures.only) ∙ names_are)
             (c.tell_act.ensures.owned ∙ c.let_go_of.ensures.owned)
-            (owned-committed-by names v.owned.linked.surfaces v.owned.linked.family kept r owned object number shows act c.commit.new.self.surfaces c.commit.new.self.family (kept_of v.owned.shell) named c.in-Ok.ensures.ok answer shell);
+            (owned-committed-by names v.owned.linked.surfaces v.owned.linked.family kept r owned object number shows act c.commit.new.self.surfaces c.commit.new.self.family
+            (kept_of v.owned.shell) named c.in-Ok.ensures.ok answer shell);
       },
     ))
 
@@ -85,7 +91,8 @@ returns-in_default-clause-applies g c = λ client r on names object kept shows o
 
 pub returns-clause-commits : goal.returns-clause-commits
 returns-clause-commits g c =
-    subst (λ (o : Lent _). Makes c.args.self.now.owned.linked.surfaces c.args.self.now.owned.linked.family o.linked.surfaces o.linked.family (committed_in c.args.surface)) (sym (c.tell_act.ensures.owned ∙ c.let_go_of.ensures.owned))
+    subst (λ (o : Lent _). Makes c.args.self.now.owned.linked.surfaces c.args.self.now.owned.linked.family o.linked.surfaces o.linked.family (committed_in c.args.surface))
+    (sym (c.tell_act.ensures.owned ∙ c.let_go_of.ensures.owned))
     c.in-Ok.ensures.ok
 
 pub returns-clause-change : goal.returns-clause-change

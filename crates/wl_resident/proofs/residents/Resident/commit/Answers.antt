@@ -27,14 +27,16 @@ returns-in-Ok-clause-answers g c = λ named client r on is only.
     let names = names_in v.client.objects in
     let kept = kept_of v.owned.shell in
     let shows = c.is_some-has_buffer.result in
-    let will : shows ≡ will_show r object = c.is_some-has_buffer.ensures ∙ pending-read names v.owned.linked.surfaces v.owned.linked.family kept r is.owns object number c.pending_buffer.result named c.pending_buffer.ensures in
+    let will : shows ≡ will_show r object = c.is_some-has_buffer.ensures ∙ pending-read names v.owned.linked.surfaces v.owned.linked.family kept r is.owns object number c.pending_buffer.result
+    named c.pending_buffer.ensures in
     let answer = sym c.on_commit.ensures.answer ∙ c.in-Ok.is in
     let judged = committed-by names v.owned.linked.surfaces v.owned.linked.family kept r is.owns object number 0 0 only.roles named
     ∙ ap (λ (b : Bool). asks_by (λ (a : ShellAct). CommitTree object) (shell_refusal 0 (kept_id (kept number)) 0) (commit_answer b (kept number))) (sym will)
     ∙ ap (asks_by (λ (a : ShellAct). CommitTree object) (shell_refusal 0 (kept_id (kept number)) 0)) answer in
     let serial : c.serial-serial.result ≡ r.peer.serial = c.serial-serial.ensures ∙ is.peer.serial in
     let shell = c.in-Ok.ensures.ok ∙ ap (λ (n : ℕ). changing number (kept_after n act) kept) serial in
-    let comes = accepted-effect names v.owned.linked.surfaces v.owned.linked.family kept r is.owns object number act only.roles named (ap (λ (b : Bool). commit_answer b (kept number)) (sym will) ∙ answer) in
+    let comes = accepted-effect names v.owned.linked.surfaces v.owned.linked.family kept r is.owns object number act only.roles named
+    (ap (λ (b : Bool). commit_answer b (kept number)) (sym will) ∙ answer) in
     let applied = c.apply-applied.ensures.applies client (with_peer (counted r.peer) r) on names object kept shows (only-peer r (counted r.peer) refl only) comes
     (c.count.ensures.counts r.peer is.peer) is.owns
     (framed-names v.owned.linked.surfaces.frames v.client.objects v.client.objects r (with_peer (counted r.peer) r) refl (one-more r.peer.requests) is.frames refl refl)
@@ -78,7 +80,8 @@ returns-in-Ok-clause-stacks g c = λ named r is only.
     let judged = committed-by names v.owned.linked.surfaces v.owned.linked.family kept r is.owns object number 0 0 only.roles named
     ∙ ap (λ (b : Bool). asks_by (λ (a : ShellAct). CommitTree object) (shell_refusal 0 (kept_id (kept number)) 0) (commit_answer b (kept number))) (sym will)
     ∙ ap (asks_by (λ (a : ShellAct). CommitTree object) (shell_refusal 0 (kept_id (kept number)) 0)) (sym c.on_commit.ensures.answer ∙ c.in-Ok.is) in
-    let comes = accepted-effect names v.owned.linked.surfaces v.owned.linked.family kept r is.owns object number c.in-Ok.act only.roles named (ap (λ (b : Bool). commit_answer b (kept number)) (sym will)
+    let comes = accepted-effect names v.owned.linked.surfaces v.owned.linked.family kept r is.owns object number c.in-Ok.act only.roles named
+    (ap (λ (b : Bool). commit_answer b (kept number)) (sym will)
     ∙ sym c.on_commit.ensures.answer ∙ c.in-Ok.is) in
     commit-stacks v r object number c.in-Ok.act (commit_demand r object) c.stacking_of.result named judged comes c.stacking_of.ensures
 

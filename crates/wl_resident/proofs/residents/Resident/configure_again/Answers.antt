@@ -78,7 +78,8 @@ returns-in-Ok-false-clause-answers g c = λ named client r on is only.
         numbers = λ alive. keeps-names v.client.objects count.new.self.objects (names-counted v.client count.new.self count.ensures.only);
         frames = λ alive. framed-names v.owned.linked.surfaces.frames v.client.objects count.new.self.objects r (with_peer (counted r.peer) r) refl (one-more r.peer.requests) is.frames
             (names-counted v.client count.new.self count.ensures.only) refl;
-        owns = λ alive. subst (λ (n : Names). IsOwned n v.owned.linked.surfaces v.owned.linked.family (kept_of c.configure.new.self) r.owned) (sym (names-counted v.client count.new.self count.ensures.only))
+        owns = λ alive. subst (λ (n : Names). IsOwned n v.owned.linked.surfaces v.owned.linked.family (kept_of c.configure.new.self) r.owned)
+            (sym (names-counted v.client count.new.self count.ensures.only))
             (subst (λ (ks : ℕ → Option KeptXdg). IsOwned names v.owned.linked.surfaces v.owned.linked.family ks r.owned)
             (sym (c.in-Ok-false.ensures.ok ∙ ap (λ b. changing number (kept_configured b c.serial-serial.result) kept) c.in-Ok-false.field-0-test ∙ changing-same number kept)) is.owns);
       },

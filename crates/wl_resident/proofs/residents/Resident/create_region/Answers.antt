@@ -21,7 +21,8 @@ returns-clause-answers g c = λ free client r on is only.
     let v = c.args.self.now in
     let made = c.create_region.ensures.acts (counted r.peer) (c.count.ensures.counts r.peer is.peer) in
     let named = λ (alive : c.create_region.new.self.ended ≡ None). names-other-made v.client.objects c.create_region.new.self.objects c.args.id (entry_at_version WlRegion c.args.version) free refl
-    (holds-counted v.client c.count.new.self c.create_region.new.self.objects c.args.id (Some (entry_at_version WlRegion c.args.version)) c.count.ensures.only (c.create_region.ensures.table alive)) in (
+    (holds-counted v.client c.count.new.self c.create_region.new.self.objects c.args.id (Some (entry_at_version WlRegion c.args.version)) c.count.ensures.only
+    (c.create_region.ensures.table alive)) in (
       made.0,
       made.1,
       record {

@@ -36,7 +36,8 @@ returns-in-Ok-clause-answers g c = λ free client r on is only.
       made.1,
       record {
         peer = made.2;
-        owns = λ alive. owned-created (names_in v.client.objects) v.owned.linked.surfaces v.owned.linked.family (kept_of v.owned.shell) (with_peer (counted r.peer) r) is.owns id c.args.version c.in-Ok.surface c.create.new.self
+        owns = λ alive. owned-created (names_in v.client.objects) v.owned.linked.surfaces v.owned.linked.family (kept_of v.owned.shell) (with_peer (counted r.peer) r) is.owns id c.args.version
+            c.in-Ok.surface c.create.new.self
             (names_in c.add.new.self.objects)
             (targets-free WlSurface v.client.objects id free) c.in-Ok.ensures.ok c.in-Ok.ensures.count
             (names (holds-counted v.client c.count.new.self c.add.new.self.objects id _ c.count.ensures.only (c.add.ensures.table alive)));
@@ -44,7 +45,8 @@ returns-in-Ok-clause-answers g c = λ free client r on is only.
             let now = names (holds-counted v.client c.count.new.self c.add.new.self.objects id _ c.count.ensures.only (c.add.ensures.table alive)) in
             let after = changed_by (CreateSurface id c.args.version) (with_peer (counted r.peer) r) in
             subst (λ (ws : List Waiting). IsFramed ws c.add.new.self.objects after) (sym c.create.ensures.frames)
-            (framed-made v.owned.linked.surfaces.frames v.client.objects c.add.new.self.objects r after refl (one-more r.peer.requests) is.frames v.owned.linked.surfaces v.owned.linked.family is.owns.surfaces id c.in-Ok.surface
+            (framed-made v.owned.linked.surfaces.frames v.client.objects c.add.new.self.objects r after refl (one-more r.peer.requests) is.frames v.owned.linked.surfaces v.owned.linked.family
+            is.owns.surfaces id c.in-Ok.surface
             c.create.new.self c.in-Ok.ensures.ok
             (targets-free WlSurface v.client.objects id free) (ap (λ (n : Names). n.surfaces) now) refl);
         numbers = λ alive. keeps-made v.client.objects c.add.new.self.objects id c.in-Ok.surface (targets-free WlSurface v.client.objects id free)
@@ -81,7 +83,8 @@ returns-in-Ok-clause-still g c =
 pub returns-then-is_too_many-clause-still : goal.returns-then-is_too_many-clause-still
 returns-then-is_too_many-clause-still g c =
     let v = c.args.self.now in
-    same-still v.owned.linked.surfaces v.owned.linked.family (kept_of v.owned.shell) c.refuse_unserved.new.self.owned.linked.surfaces (ap (λ (l : Linked _). l.surfaces) c.refuse_unserved.ensures.surfaces ∙ c.in-Err.ensures.err)
+    same-still v.owned.linked.surfaces v.owned.linked.family (kept_of v.owned.shell) c.refuse_unserved.new.self.owned.linked.surfaces
+    (ap (λ (l : Linked _). l.surfaces) c.refuse_unserved.ensures.surfaces ∙ c.in-Err.ensures.err)
 
 pub returns-else-is_too_many-clause-still : goal.returns-else-is_too_many-clause-still
 returns-else-is_too_many-clause-still g c =

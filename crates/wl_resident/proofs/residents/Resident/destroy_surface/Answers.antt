@@ -48,7 +48,8 @@ returns-clause-does g c = λ named bare client r on is only.
     let shell = kept_of v.owned.shell in
     let none = xdg-of-none names v.owned.linked.surfaces v.owned.linked.family shell r.owned is.owns id c.args.surface named bare in
     let had = had-by names.surfaces v.owned.linked.surfaces v.owned.linked.family r.owned.surfaces id c.args.surface c.buffers-had.result is.owns.surfaces named c.buffers-had.ensures in
-    let destroyed = λ (now : Names) (same : now ≡ with_surface id None names). owned-destroyed names v.owned.linked.surfaces v.owned.linked.family shell r is.owns id c.args.surface c.destroy.new.self.surfaces c.destroy.new.self.family now named none
+    let destroyed = λ (now : Names) (same : now ≡ with_surface id None names). owned-destroyed names v.owned.linked.surfaces v.owned.linked.family shell r is.owns id c.args.surface
+    c.destroy.new.self.surfaces c.destroy.new.self.family now named none
     c.in-Ok.ensures.ok same in
     let bare_names = with_surface id None names in
     let then = with_surfaces (without_surface id r.owned.surfaces) r in
@@ -64,7 +65,8 @@ returns-clause-does g c = λ named bare client r on is only.
     let after = after_surface id r then in
     let told = c.remove_with.ensures.removes after.peer peer in
     let went = going-removed cs calls after.peer ids in
-    let freed = freed-left names.surfaces v.owned.linked.surfaces v.owned.linked.family r then is.owns.surfaces id c.args.surface named c.in-Ok.applied.freed.items c.destroy.new.self.surfaces c.destroy.new.self.family refl owned.surfaces
+    let freed = freed-left names.surfaces v.owned.linked.surfaces v.owned.linked.family r then is.owns.surfaces id c.args.surface named c.in-Ok.applied.freed.items c.destroy.new.self.surfaces
+    c.destroy.new.self.family refl owned.surfaces
     (left-freed names.surfaces v.owned.linked.surfaces v.owned.linked.family r.owned.surfaces is.owns.surfaces c.args.surface c.in-Ok.applied.freed.items c.in-Ok.ensures.freed) in
     let at = surface_at id r.owned.surfaces in
     let released = c.released-released.ensures then is.peer at had (subst (λ (numbers : List ℕ). IsFreedOf numbers (shown_at at) then) (sym c.deref.ensures.value) freed) in
@@ -82,9 +84,11 @@ returns-clause-does g c = λ named bare client r on is only.
         numbers = λ alive. keeps-gone v.client.objects c.remove_with.new.self.objects id (table alive);
         frames = λ alive.
             subst (λ (o : Lent _). IsFramed o.linked.surfaces.frames c.remove_with.new.self.objects (changed_simply (DestroySurface id) r)) (sym c.let_go_of.ensures.owned)
-            (framed-destroy v.client.objects c.remove_with.new.self.objects r (changed_simply (DestroySurface id) r) v.owned.linked.surfaces v.owned.linked.family is.owns.surfaces is.frames id c.args.surface named
+            (framed-destroy v.client.objects c.remove_with.new.self.objects r (changed_simply (DestroySurface id) r) v.owned.linked.surfaces v.owned.linked.family is.owns.surfaces is.frames id
+            c.args.surface named
             c.destroy.new.self.surfaces
-            (left-waits names.surfaces v.owned.linked.surfaces v.owned.linked.family r.owned.surfaces is.owns.surfaces c.args.surface c.destroy.new.self.surfaces.frames c.in-Ok.ensures.waits r.callbacks)
+            (left-waits names.surfaces v.owned.linked.surfaces v.owned.linked.family r.owned.surfaces is.owns.surfaces c.args.surface c.destroy.new.self.surfaces.frames c.in-Ok.ensures.waits
+            r.callbacks)
             (going-requests cs after.peer) (left-by (frames_asked (history_in id r.owned.surfaces)) r.callbacks ∙ ap (λ ns. filter (λ x. not (is_in ns x)) r.callbacks) (sym asked))
             (ap (λ (n : Names). n.surfaces) (table alive)) refl);
         owns = λ alive. rw c.let_go_of.ensures.owned (destroyed (names_in c.remove_with.new.self.objects) (table alive));
@@ -99,5 +103,6 @@ returns-in_default-clause-still g c = λ bare.
 pub returns-clause-still : goal.returns-clause-still
 returns-clause-still g c = λ bare.
     let v = c.args.self.now in
-    still-then v.owned.linked.surfaces v.owned.linked.family (kept_of v.owned.shell) c.destroy.new.self.surfaces c.let_go_of.new.self.owned.linked.surfaces (ap (λ (o : Lent _). o.linked.surfaces) c.let_go_of.ensures.owned)
+    still-then v.owned.linked.surfaces v.owned.linked.family (kept_of v.owned.shell) c.destroy.new.self.surfaces c.let_go_of.new.self.owned.linked.surfaces
+    (ap (λ (o : Lent _). o.linked.surfaces) c.let_go_of.ensures.owned)
     (destroyed-still v.owned.linked.surfaces v.owned.linked.family (kept_of v.owned.shell) c.destroy.new.self.surfaces c.destroy.new.self.family c.args.surface bare c.in-Ok.ensures.ok)

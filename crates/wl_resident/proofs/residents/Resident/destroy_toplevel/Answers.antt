@@ -31,7 +31,8 @@ returns-clause-answers g c = λ named client r on is only.
         frames = λ alive. framed-kept v.owned.linked.surfaces.frames v.client.objects c.remove.new.self.objects r (changed_simply (DestroyToplevel c.args.object x.id x.surface)
             (with_peer (counted r.peer) r)) refl (one-more r.peer.requests) is.frames
             (ap (λ (n : Names). n.surfaces) (toplevel-gone v.client c.count.new.self c.remove.new.self c.args.object c.args.surface c.count.ensures.only named (c.remove.ensures.table alive))) refl;
-        owns = λ alive. owned-toplevel-gone (names_in v.client.objects) v.owned.linked.surfaces v.owned.linked.family (kept_of v.owned.shell) r is.owns c.args.surface k x h one c.args.object (kept_of c.destroy_toplevel.new.self)
+        owns = λ alive. owned-toplevel-gone (names_in v.client.objects) v.owned.linked.surfaces v.owned.linked.family (kept_of v.owned.shell) r is.owns c.args.surface k x h one c.args.object
+            (kept_of c.destroy_toplevel.new.self)
             (names_in c.remove.new.self.objects) its
             c.destroy_toplevel.ensures
             (toplevel-gone v.client c.count.new.self c.remove.new.self c.args.object c.args.surface c.count.ensures.only named (c.remove.ensures.table alive));

@@ -33,7 +33,8 @@ returns-in-Ok-clause-answers g c = λ named free client r on is only.
     xdg-answered v _ c.args.object number c.args.version (xdg.GetToplevel c.args.id) client on r is named
     (λ k x h one same. simply _ _ client on r only (toplevel_made r x c.args.version c.args.id) (
     let other : c.is_other_role-has_other_role.result ≡ is_no_toplevel (role_of r x.surface) =
-    c.is_other_role-has_other_role.ensures ∙ ap is_no_toplevel (role-read names v.owned.linked.surfaces v.owned.linked.family kept r is.owns x.surface number c.role.result one.surface c.role.ensures) in
+    c.is_other_role-has_other_role.ensures ∙ ap is_no_toplevel
+    (role-read names v.owned.linked.surfaces v.owned.linked.family kept r is.owns x.surface number c.role.result one.surface c.role.ensures) in
     let answer : c.get_toplevel.result ≡ toplevel_answer (is_no_toplevel (role_of r x.surface)) (kept number) = c.get_toplevel.ensures.answer ∙ ap (λ b. toplevel_answer b (kept number)) other in
     let bare = bare-toplevel names kept r number k x h one c.args.object (is_no_toplevel (role_of r x.surface)) (sym answer ∙ c.in-Ok.is) in
     accepted _ r (toplevel_made r x version id) (GetToplevel id version x.id)
@@ -56,10 +57,12 @@ returns-in-Ok-clause-answers g c = λ named free client r on is only.
             (framed-role v.owned.linked.surfaces.frames v.client.objects c.add.new.self.objects r (making XdgToplevel id version (toplevel_given id x.id (Some x) then)) refl (one-more r.peer.requests)
             is.frames
             v.owned.linked.surfaces v.owned.linked.family is.owns.surfaces x.surface number AsToplevel one.surface (ap (λ (n : Names). n.surfaces) now) refl));
-        owns = λ alive. owned-toplevel-made names v.owned.linked.surfaces v.owned.linked.family kept (with_peer (counted r.peer) r) is.owns number k x h one id version c.give_role-given.new.self (kept_of c.get_toplevel.new.self)
+        owns = λ alive. owned-toplevel-made names v.owned.linked.surfaces v.owned.linked.family kept (with_peer (counted r.peer) r) is.owns number k x h one id version c.give_role-given.new.self
+            (kept_of c.get_toplevel.new.self)
             (names_in c.add.new.self.objects) bare.0
             (targets-free XdgToplevel v.client.objects id free)
-            (role-given names v.owned.linked.surfaces v.owned.linked.family kept r is.owns x.surface number c.role.result c.give_role-given.result c.give_role-given.new.self one.surface bare.1 c.role.ensures
+            (role-given names v.owned.linked.surfaces v.owned.linked.family kept r is.owns x.surface number c.role.result c.give_role-given.result c.give_role-given.new.self one.surface bare.1
+            c.role.ensures
             c.give_role-given.ensures.refused c.give_role-given.ensures.ok)
             c.in-Ok.ensures.ok
             (names-toplevel-made v.client.objects c.add.new.self.objects id (record { interface = XdgToplevel; version = version; target = number }) free refl
@@ -77,7 +80,8 @@ returns-in-Err-clause-answers g c = λ named free client r on is only.
     xdg-answered v _ c.args.object number c.args.version (xdg.GetToplevel c.args.id) client on r is named
     (λ k x h one same. simply _ _ client on r only (toplevel_made r x c.args.version c.args.id) (
     let other : c.is_other_role-has_other_role.result ≡ is_no_toplevel (role_of r x.surface) =
-    c.is_other_role-has_other_role.ensures ∙ ap is_no_toplevel (role-read names v.owned.linked.surfaces v.owned.linked.family kept r is.owns x.surface number c.role.result one.surface c.role.ensures) in
+    c.is_other_role-has_other_role.ensures ∙ ap is_no_toplevel
+    (role-read names v.owned.linked.surfaces v.owned.linked.family kept r is.owns x.surface number c.role.result one.surface c.role.ensures) in
     xdg-refused v _ (kept_of c.get_toplevel.new.self) r c.args.object number k x h c.in-Err.error (toplevel_made r x c.args.version c.args.id) one same
     (told-err _ _ (shell_refusal x.base x.id c.args.object) _ c.get_toplevel.result c.in-Err.error (toplevel-made-by names kept r number k x h one c.args.object c.args.version c.args.id)
     (c.get_toplevel.ensures.answer ∙ ap (λ b. toplevel_answer b (kept number)) other) c.in-Err.is)
@@ -88,9 +92,11 @@ returns-in-Err-clause-answers g c = λ named free client r on is only.
 pub returns-in-Ok-clause-still : goal.returns-in-Ok-clause-still
 returns-in-Ok-clause-still g c =
     let v = c.args.self.now in
-    given-still v.owned.linked.surfaces v.owned.linked.family (kept_of v.owned.shell) c.give_role-given.new.self c.args.surface AsToplevel c.give_role-given.result c.give_role-given.ensures.ok c.give_role-given.ensures.err
+    given-still v.owned.linked.surfaces v.owned.linked.family (kept_of v.owned.shell) c.give_role-given.new.self c.args.surface AsToplevel c.give_role-given.result c.give_role-given.ensures.ok
+    c.give_role-given.ensures.err
 
 pub returns-in-Err-clause-still : goal.returns-in-Err-clause-still
 returns-in-Err-clause-still g c =
     let v = c.args.self.now in
-    same-still v.owned.linked.surfaces v.owned.linked.family (kept_of v.owned.shell) c.refuse_xdg_surface.new.self.owned.linked.surfaces (ap (λ (l : Linked _). l.surfaces) c.refuse_xdg_surface.ensures.surfaces)
+    same-still v.owned.linked.surfaces v.owned.linked.family (kept_of v.owned.shell) c.refuse_xdg_surface.new.self.owned.linked.surfaces
+    (ap (λ (l : Linked _). l.surfaces) c.refuse_xdg_surface.ensures.surfaces)

@@ -30,7 +30,8 @@ returns-in-Ok-clause-answers g c = λ free named client r on is only.
     let number = c.args.number in
     let version = c.args.version in
     let ask = GetXdgSurface id version base surface in
-    let role = c.is_foreign_role-has_other_role.ensures ∙ ap is_foreign (role-read names v.owned.linked.surfaces v.owned.linked.family kept r is.owns surface number c.role.result named c.role.ensures) in
+    let role = c.is_foreign_role-has_other_role.ensures ∙ ap is_foreign
+    (role-read names v.owned.linked.surfaces v.owned.linked.family kept r is.owns surface number c.role.result named c.role.ensures) in
     let content = content-read names v.owned.linked.surfaces v.owned.linked.family kept r is.owns surface number c.has_content-has_content.result named c.has_content-has_content.ensures in
     let refuses = making-read _ _ _ _ (kept number) c.get_xdg_surface.result role content c.get_xdg_surface.ensures.refused in
     let none = making-ok (making_refused (is_foreign (role_of r surface)) (has_any r surface) (kept number)) c.get_xdg_surface.result refuses c.in-Ok.is in
@@ -51,7 +52,8 @@ returns-in-Ok-clause-answers g c = λ free named client r on is only.
             (c.add.ensures.table alive)) in
             framed-kept v.owned.linked.surfaces.frames v.client.objects c.add.new.self.objects r (changed_by ask (with_peer (counted r.peer) r)) refl (one-more r.peer.requests) is.frames
             (ap (λ (n : Names). n.surfaces) now) refl;
-        owns = λ alive. owned-xdg-made names v.owned.linked.surfaces v.owned.linked.family kept r is.owns id version base surface number (kept_of c.get_xdg_surface.new.self) (names_in c.add.new.self.objects) named
+        owns = λ alive. owned-xdg-made names v.owned.linked.surfaces v.owned.linked.family kept r is.owns id version base surface number (kept_of c.get_xdg_surface.new.self)
+            (names_in c.add.new.self.objects) named
             (free-made (is_foreign (role_of r surface)) (has_any r surface) (kept number) none).2
             (targets-free XdgSurface v.client.objects id free)
             c.in-Ok.ensures.ok
@@ -73,7 +75,8 @@ returns-then-is_memory-clause-answers g c = λ free named client r on is only.
     let number = c.args.number in
     let version = c.args.version in
     let ask = GetXdgSurface id version base surface in
-    let role = c.is_foreign_role-has_other_role.ensures ∙ ap is_foreign (role-read names v.owned.linked.surfaces v.owned.linked.family kept r is.owns surface number c.role.result named c.role.ensures) in
+    let role = c.is_foreign_role-has_other_role.ensures ∙ ap is_foreign
+    (role-read names v.owned.linked.surfaces v.owned.linked.family kept r is.owns surface number c.role.result named c.role.ensures) in
     let content = content-read names v.owned.linked.surfaces v.owned.linked.family kept r is.owns surface number c.has_content-has_content.result named c.has_content-has_content.ensures in
     let refuses = making-read _ _ _ _ (kept number) c.get_xdg_surface.result role content c.get_xdg_surface.ensures.refused in
     let none = making-memory (is_foreign (role_of r surface)) (has_any r surface) (kept number) c.get_xdg_surface.result refuses (c.in-Err.is
@@ -96,7 +99,8 @@ returns-else-is_memory-clause-answers g c = λ free named client r on is only.
     let number = c.args.number in
     let version = c.args.version in
     let ask = GetXdgSurface id version base surface in
-    let role = c.is_foreign_role-has_other_role.ensures ∙ ap is_foreign (role-read names v.owned.linked.surfaces v.owned.linked.family kept r is.owns surface number c.role.result named c.role.ensures) in
+    let role = c.is_foreign_role-has_other_role.ensures ∙ ap is_foreign
+    (role-read names v.owned.linked.surfaces v.owned.linked.family kept r is.owns surface number c.role.result named c.role.ensures) in
     let content = content-read names v.owned.linked.surfaces v.owned.linked.family kept r is.owns surface number c.has_content-has_content.result named c.has_content-has_content.ensures in
     let refuses = making-read _ _ _ _ (kept number) c.get_xdg_surface.result role content c.get_xdg_surface.ensures.refused in
     let some = making-err (making_refused (is_foreign (role_of r surface)) (has_any r surface) (kept number)) c.get_xdg_surface.result c.in-Err.error refuses c.in-Err.is

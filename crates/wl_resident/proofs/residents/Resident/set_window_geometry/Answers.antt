@@ -28,15 +28,19 @@ returns-in-Ok-clause-answers g c = λ named client r on is only.
     (told-ok _ _ (shell_refusal x.base x.id c.args.object) (geometry_answer rect (kept c.args.surface)) c.geometry.result judged c.geometry.ensures.answer c.in-Ok.is) (
       counted r.peer,
       wants-told true _ _ (counted r.peer) (changed_by (AskSurface x.surface (SetWindowGeometry rect)) (with_peer (counted r.peer) r)).peer (counted r.peer)
-          (asked-releases names.surfaces v.owned.linked.surfaces v.owned.linked.family (with_peer (counted r.peer) r) x.surface c.args.surface (SetWindowGeometry rect) refl is.owns.surfaces one.surface)
+          (asked-releases names.surfaces v.owned.linked.surfaces v.owned.linked.family (with_peer (counted r.peer) r) x.surface c.args.surface (SetWindowGeometry rect) refl is.owns.surfaces
+          one.surface)
           (inr (sym (geometry-keeps names.surfaces v.owned.linked.surfaces v.owned.linked.family (with_peer (counted r.peer) r) x.surface c.args.surface rect is.owns.surfaces one.surface))),
       record {
         peer = c.count.ensures.counts r.peer is.peer;
         numbers = λ alive. keeps-names v.client.objects c.count.new.self.objects (names-counted v.client c.count.new.self c.count.ensures.only);
-        frames = λ alive. framed-asked v.owned.linked.surfaces.frames v.client.objects c.count.new.self.objects r (changed_by (AskSurface x.surface (SetWindowGeometry rect)) (with_peer (counted r.peer) r))
+        frames = λ alive. framed-asked v.owned.linked.surfaces.frames v.client.objects c.count.new.self.objects r
+            (changed_by (AskSurface x.surface (SetWindowGeometry rect)) (with_peer (counted r.peer) r))
             refl (one-more r.peer.requests) is.frames
-            v.owned.linked.surfaces v.owned.linked.family is.owns.surfaces x.surface c.args.surface (SetWindowGeometry rect) refl refl one.surface (names-counted v.client c.count.new.self c.count.ensures.only) refl;
-        owns = λ alive. subst (λ (n : Names). IsOwned n v.owned.linked.surfaces v.owned.linked.family (kept_of c.geometry.new.self) (changed_by (AskSurface x.surface (SetWindowGeometry rect)) r).owned)
+            v.owned.linked.surfaces v.owned.linked.family is.owns.surfaces x.surface c.args.surface (SetWindowGeometry rect) refl refl one.surface
+            (names-counted v.client c.count.new.self c.count.ensures.only) refl;
+        owns = λ alive. subst (λ (n : Names). IsOwned n v.owned.linked.surfaces v.owned.linked.family (kept_of c.geometry.new.self)
+            (changed_by (AskSurface x.surface (SetWindowGeometry rect)) r).owned)
             (sym (names-counted v.client c.count.new.self c.count.ensures.only))
             (owned-geometry names v.owned.linked.surfaces v.owned.linked.family kept r is.owns c.args.surface k x h one rect (kept_of c.geometry.new.self) c.in-Ok.ensures.ok);
       },

@@ -37,7 +37,8 @@ returns-clause-answers g c = λ named client r on is only.
     accepted _ r (transform_set id z) ask judged
     (counted-does v (record { client = c.count.new.self; owned = v.owned }) c.set_buffer_transform.new.self r (λ (q : Resident). ask) is c.count.ensures.only refl
     (c.count.ensures.counts r.peer is.peer)
-    (asked-releases (names_in v.client.objects).surfaces v.owned.linked.surfaces v.owned.linked.family (with_peer (counted r.peer) r) id c.args.surface (SetBufferTransform (unsigned_abs z)) refl is.owns.surfaces named)
+    (asked-releases (names_in v.client.objects).surfaces v.owned.linked.surfaces v.owned.linked.family (with_peer (counted r.peer) r) id c.args.surface (SetBufferTransform (unsigned_abs z)) refl
+    is.owns.surfaces named)
     (does valid (surface-counted v.client c.count.new.self id c.args.surface c.count.ensures.only named))))
 
 pub returns-then-not-is_valid-clause-still : goal.returns-then-not-is_valid-clause-still

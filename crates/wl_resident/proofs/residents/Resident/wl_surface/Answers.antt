@@ -26,7 +26,8 @@ returns-in-Attach-clause-answers g c = λ named new client r on is only.
     (simply _ _ client on r only (Ok (AskSurface id (Attach (buffer_named r c.in-Attach.buffer) x y)))
     (counted-does v (record { client = c.count.new.self; owned = v.owned }) c.attach.new.self r (λ (q : Resident). AskSurface id (Attach (buffer_named q c.in-Attach.buffer) x y)) is
     c.count.ensures.only refl (c.count.ensures.counts r.peer is.peer)
-    (asked-releases (names_in v.client.objects).surfaces v.owned.linked.surfaces v.owned.linked.family (with_peer (counted r.peer) r) id c.args.surface (Attach (buffer_named r c.in-Attach.buffer) x y) refl is.owns.surfaces named)
+    (asked-releases (names_in v.client.objects).surfaces v.owned.linked.surfaces v.owned.linked.family (with_peer (counted r.peer) r) id c.args.surface
+    (Attach (buffer_named r c.in-Attach.buffer) x y) refl is.owns.surfaces named)
     (does (surface-counted v.client c.count.new.self id c.args.surface c.count.ensures.only named))))
 
 pub returns-in-Damage-clause-answers : goal.returns-in-Damage-clause-answers
@@ -57,7 +58,8 @@ returns-in-SetOpaqueRegion-clause-answers g c = λ named new client r on is only
     (simply _ _ client on r only (Ok (AskSurface id (SetOpaqueRegion (region_named r region))))
     (counted-does v (record { client = count.new.self; owned = v.owned }) c.set_opaque_region.new.self r (λ (q : Resident). AskSurface id (SetOpaqueRegion (region_named q region))) is
     count.ensures.only refl (count.ensures.counts r.peer is.peer)
-    (asked-releases (names_in v.client.objects).surfaces v.owned.linked.surfaces v.owned.linked.family (with_peer (counted r.peer) r) id c.args.surface (SetOpaqueRegion (region_named r region)) refl is.owns.surfaces named)
+    (asked-releases (names_in v.client.objects).surfaces v.owned.linked.surfaces v.owned.linked.family (with_peer (counted r.peer) r) id c.args.surface (SetOpaqueRegion (region_named r region))
+    refl is.owns.surfaces named)
     (c.set_opaque_region.ensures.does (surface-counted v.client count.new.self id c.args.surface count.ensures.only named))))
 
 pub returns-in-SetInputRegion-clause-answers : goal.returns-in-SetInputRegion-clause-answers
@@ -70,7 +72,8 @@ returns-in-SetInputRegion-clause-answers g c = λ named new client r on is only.
     (simply _ _ client on r only (Ok (AskSurface id (SetInputRegion (region_named r region))))
     (counted-does v (record { client = count.new.self; owned = v.owned }) c.set_input_region.new.self r (λ (q : Resident). AskSurface id (SetInputRegion (region_named q region))) is count.ensures.only
     refl (count.ensures.counts r.peer is.peer)
-    (asked-releases (names_in v.client.objects).surfaces v.owned.linked.surfaces v.owned.linked.family (with_peer (counted r.peer) r) id c.args.surface (SetInputRegion (region_named r region)) refl is.owns.surfaces named)
+    (asked-releases (names_in v.client.objects).surfaces v.owned.linked.surfaces v.owned.linked.family (with_peer (counted r.peer) r) id c.args.surface (SetInputRegion (region_named r region))
+    refl is.owns.surfaces named)
     (c.set_input_region.ensures.does (surface-counted v.client count.new.self id c.args.surface count.ensures.only named))))
 
 pub returns-in-Attach-clause-rest : goal.returns-in-Attach-clause-rest

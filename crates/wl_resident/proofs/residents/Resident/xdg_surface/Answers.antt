@@ -25,17 +25,20 @@ returns-in-SetWindowGeometry-clause-answers g c = λ named free.
 pub returns-in-Destroy-clause-still : goal.returns-in-Destroy-clause-still
 returns-in-Destroy-clause-still g c =
     let v = c.args.self.now in
-    same-still v.owned.linked.surfaces v.owned.linked.family (kept_of v.owned.shell) c.destroy_xdg_surface.new.self.owned.linked.surfaces (ap (λ (l : Linked _). l.surfaces) c.destroy_xdg_surface.ensures.surfaces)
+    same-still v.owned.linked.surfaces v.owned.linked.family (kept_of v.owned.shell) c.destroy_xdg_surface.new.self.owned.linked.surfaces
+    (ap (λ (l : Linked _). l.surfaces) c.destroy_xdg_surface.ensures.surfaces)
 
 pub returns-in-GetPopup-clause-still : goal.returns-in-GetPopup-clause-still
 returns-in-GetPopup-clause-still g c =
     let v = c.args.self.now in
-    same-still v.owned.linked.surfaces v.owned.linked.family (kept_of v.owned.shell) c.refuse_unserved.new.self.owned.linked.surfaces (ap (λ (l : Linked _). l.surfaces) c.refuse_unserved.ensures.surfaces)
+    same-still v.owned.linked.surfaces v.owned.linked.family (kept_of v.owned.shell) c.refuse_unserved.new.self.owned.linked.surfaces
+    (ap (λ (l : Linked _). l.surfaces) c.refuse_unserved.ensures.surfaces)
 
 pub returns-in-SetWindowGeometry-clause-still : goal.returns-in-SetWindowGeometry-clause-still
 returns-in-SetWindowGeometry-clause-still g c =
     let v = c.args.self.now in
-    same-still v.owned.linked.surfaces v.owned.linked.family (kept_of v.owned.shell) c.set_window_geometry.new.self.owned.linked.surfaces (ap (λ (l : Linked _). l.surfaces) c.set_window_geometry.ensures.surfaces)
+    same-still v.owned.linked.surfaces v.owned.linked.family (kept_of v.owned.shell) c.set_window_geometry.new.self.owned.linked.surfaces
+    (ap (λ (l : Linked _). l.surfaces) c.set_window_geometry.ensures.surfaces)
 
 pub returns-in-AckConfigure-clause-still : goal.returns-in-AckConfigure-clause-still
 returns-in-AckConfigure-clause-still g c =
