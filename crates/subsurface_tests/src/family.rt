@@ -136,6 +136,21 @@ fn a_link_ends_in_the_middle(rt: HostRuntime) {
     );
 }
 
+// wl_subcompositor.get_subsurface and wl_subsurface.destroy: a chain has one root, also the longest, and two once a link in it has ended.
+#[test]
+fn a_chain_has_one_root(rt: HostRuntime) {
+    let mut family = Family::new(rt.alloc());
+    assert!(rt; added(&mut family, MAX_DEPTH + 1) && chained(&mut family, 3));
+    assert!(rt; family.root(0) == 0 && family.root(1) == 0 && family.root(2) == 0);
+    assert!(rt; family.root(3) == 3 && family.root(MAX_DEPTH + 1) == MAX_DEPTH + 1);
+    assert!(rt; joins(&mut family, 3, 2) && family.root(3) == 0);
+    family.leave(1);
+    assert!(rt; family.root(0) == 0 && family.root(1) == 1 && family.root(2) == 1);
+    let mut deep = Family::new(rt.alloc());
+    assert!(rt; added(&mut deep, MAX_DEPTH + 1) && chained(&mut deep, MAX_DEPTH + 1));
+    assert!(rt; deep.root(MAX_DEPTH) == 0);
+}
+
 // wl_subsurface.place_above and place_below: beside the parent and its other children, whose parent needn't have committed.
 #[test]
 fn a_child_is_placed_beside_its_siblings(rt: HostRuntime) {

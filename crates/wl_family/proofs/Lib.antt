@@ -4,5 +4,6 @@ mod Joins
 mod Links
 mod Members
 mod Modes
+pub mod Roots
 mod Rows
 mod Stacked

@@ -10,4 +10,5 @@ pub mod Joining
 pub mod Linking
 pub mod Parents
 pub mod Placing
+pub mod Roots
 pub mod Stacking

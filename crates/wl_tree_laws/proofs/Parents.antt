@@ -9,7 +9,7 @@ use Rattle.wl_trees.specs.Trees.{depth_by, is_under}
 use Rattle.wl_tree_laws.specs.Laws.{HaveSameDepth, HaveSameDescent, HaveSameModes, links_of}
 
 -- what is kept of a link
-abbrev kept_of : Link → Kept
+abbrev pub kept_of : Link → Kept
 kept_of l = record { parent = l.parent; is_synchronised = l.synchronised }
 
 -- what is said of the parent is said of it by what is kept

@@ -1,10 +1,10 @@
 -- Laws of trees of surfaces (wayland.xml, wl_subcompositor and wl_subsurface).
-use Rattle.std.specs.Prelude.{ℕ, suc, ◌≡◌, ◌≤◌, ◌==◌, ◌&&◌, Bool, false, ◌||◌, cond, not, List, [], ◌∷◌, map}
+use Rattle.std.specs.Prelude.{ℕ, suc, ◌≡◌, ◌≤◌, ◌==◌, ◌&&◌, Bool, true, false, ◌||◌, cond, not, None, List, [], ◌∷◌, map}
 use Rattle.std.specs.List.{list_any}
 use Rattle.std.specs.Option.{option_map}
 use Rattle.wl_trees.specs.declared.trees.Place.{Place}
 use Rattle.wl_trees.specs.Trees.{StandFor, depth_by, is_under, level_at}
-use Rattle.wl_family.specs.Family.{IsHeightBelow, IsTooDeep, Links, behaves_synchronised as behaves_by, parents_of}
+use Rattle.wl_family.specs.Family.{IsHeightBelow, IsTooDeep, Links, behaves_synchronised as behaves_by, parents_of, root_by}
 use Rattle.wl_state.specs.Surface.{applying}
 use Rattle.wl_surface.specs.Surfaces.{Link, Surfaces}
 use Rattle.wl_surface.specs.Trees.{applied_tree, behaves_synchronised, depth, descends_from, ending, height, levels, link_of}
@@ -64,3 +64,15 @@ HaveSameRefusals =
     → ((index : ℕ) → level_at index places ≤ 16) → (links : Links) → links ≡ links_of all → (child parent : ℕ)
     → ((is : Bool) → IsTooDeep child parent links is → is_too_deep all child parent ≡ is)
     × (is_bad_parent all child parent ≡ is_under 16 (parents_of links) child parent)
+
+-- A surface without a link that lives, from which this one descends: the only such one, at however many levels that is looked at.
+pub record IsOnlyRoot (all : Surfaces) (surface root : ℕ) : Type 0 where
+  pub unlinked : link_of root all ≡ None
+  pub above : descends_from levels all root surface ≡ true
+  pub only : (n other : ℕ) → link_of other all ≡ None → descends_from n all other surface ≡ true → other ≡ root
+
+-- What is reached from a surface by going from child to parent is the root of its tree, where no place is deeper than 16.
+abbrev pub HasOneRoot : Type 0
+HasOneRoot =
+    (all : Surfaces) (places : List Place) → StandFor places (parents_of (links_of all)) → ((index : ℕ) → level_at index places ≤ 16)
+    → (surface : ℕ) → IsOnlyRoot all surface (root_by 16 (parents_of (links_of all)) surface)

@@ -4,7 +4,7 @@
 
 ghost use Rattle.wl_tree_laws.specs.Stacks.{StacksFollow};
 ghost use Rattle.wl_tree_laws.specs.Hanging.{AppliesStack, AppliesTree, AsksAlone, CommitsStack, CreatesSurface, DestroysSurface, EndsLink, EndsLinks, JoinsChild, MovesChild, PlacesChild, RemovesSurface, SetsMode};
-ghost use Rattle.wl_tree_laws.specs.Laws.{AppliesDescendants, HaveSameDepth, HaveSameDescent, HaveSameHeight, HaveSameModes, HaveSameRefusals};
+ghost use Rattle.wl_tree_laws.specs.Laws.{AppliesDescendants, HasOneRoot, HaveSameDepth, HaveSameDescent, HaveSameHeight, HaveSameModes, HaveSameRefusals};
 
 /// To apply a surface is to apply it and each surface that descends from it, once, and no other, where each child has one link that lives.
 pub fn applies_descendants()
@@ -34,6 +34,12 @@ pub fn have_same_refusals()
 /// A surface behaves synchronised by the links that are kept exactly where it does by definition.
 pub fn have_same_modes()
     ensures { HaveSameModes }
+{}
+
+/// The surface that is reached from one by the links that are kept, from child to parent, is the only root by definition from which that one
+/// descends, where no surface stands deeper than 16.
+pub fn has_one_root()
+    ensures { HasOneRoot }
 {}
 
 /// What each request of a surface makes of the stack of its children, and the end of a link, is what is done to the stack that is kept.
