@@ -105,7 +105,7 @@ and-false : (x : Bool) → (x && false) ≡ false
 and-false true = refl
 and-false false = refl
 
-any-there : (q : ℕ → Bool) (n : ℕ) (ns : List ℕ) → is_among ns n ≡ true → q n ≡ true → list_any q ns ≡ true
+pub any-there : (q : ℕ → Bool) (n : ℕ) (ns : List ℕ) → is_among ns n ≡ true → q n ≡ true → list_any q ns ≡ true
 any-there q n [] is e = absurd (cc)
 any-there q n (m ∷ ms) is e = at (m == n) refl is (λ later. any-there q n ms later e)
   where

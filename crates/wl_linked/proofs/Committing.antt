@@ -1,6 +1,6 @@
 -- A commit, held or applied at once.
 use Rattle.std.proofs.Common.{◌≡◌, ℕ, ◌==◌, Bool, true, false, cond, List, [], ◌∷◌, refl, ap, sym, subst, ◌∙◌, arith}
-use Rattle.std.specs.Prelude.{◌&&◌, IfOk, Result, Ok, Err, count_by, not}
+use Rattle.std.specs.Prelude.{◌&&◌, IfOk, Result, Ok, Err, count_by, if◌then◌else◌, not}
 use Rattle.wl_surface.specs.declared.applied.Change.{Change}
 use Rattle.wl_surface.specs.declared.error.SurfaceError.{SurfaceError}
 use Rattle.std.specs.Option.{option_map}
@@ -13,11 +13,11 @@ use Rattle.wl_state.specs.Surface.{asking}
 use Rattle.wl_surface.specs.Applied.{AreFreed}
 use Rattle.wl_surface.specs.Slots.{Changes, IsAny, Numbered, Slots, StandForAll, changed_at, shows_at}
 use Rattle.wl_surface.specs.Surfaces.{Surfaces, with_change}
-use Rattle.wl_surface.specs.Trees.{applied_tree, applied_unless, behaves_synchronised, committed_in, levels}
+use Rattle.wl_surface.specs.Trees.{applied_tree, applied_unless, behaves_synchronised, committed_in, descends_from, levels}
 use Rattle.wl_tree_laws.proofs.Hanging.{commits-stack}
 use Rattle.wl_tree_laws.proofs.Parents.{same-modes}
 use Rattle.wl_linked.specs.Linked.{Stand, numbered}
-use Rattle.wl_linked.specs.Tree.{IsCommitTold, IsTold, IsToldUnless, applied_among, is_among, shown_among, stacks_among}
+use Rattle.wl_linked.specs.Tree.{IsCommitTold, IsTold, IsToldUnless, applied_among, is_among, is_committed, shown_among, stacks_among}
 use Rattle.wl_linked.proofs.Applying.{freed-so, itself-below, numbered-so, other-than, tree-stands, unapplied}
 use Rattle.wl_linked.proofs.Standing.{numbered-changed, stand-changed, there-changed}
 
@@ -96,6 +96,12 @@ module _ (slots : Slots) (tied : Tied) (all : Surfaces) (surface : ℕ) (b : Boo
 
   pub told-now : {A : Type 0} (changes : List (Change A)) → b ≡ false → IsTold surface (held surface all) changes → IsCommitTold surface all changes
   told-now changes e told = subst (λ x. IsToldUnless x surface (held surface all) changes) (sym (mode ∙ e)) told
+
+  pub committed-held : b ≡ true → (n : ℕ) → (n == surface) ≡ is_committed surface all n
+  committed-held e n = sym (ap (λ x. if x then n == surface else descends_from 16 all surface n) (mode ∙ e))
+
+  pub committed-now : b ≡ false → (n : ℕ) → descends_from 16 all surface n ≡ is_committed surface all n
+  committed-now e n = sym (ap (λ x. if x then n == surface else descends_from 16 all surface n) (mode ∙ e))
 
 pub if-ok : {T : Type 0} {P Q : T → Type 0} (r : Result T SurfaceError) → IfOk r P → ((x : T) → P x → Q x) → IfOk r Q
 if-ok (Ok x) p to = to x p

@@ -1,6 +1,6 @@
 -- The end of a link, and a child that isn't synchronised any more.
 use Rattle.std.proofs.Common.{◌≡◌, ℕ, zero, suc, ◌==◌, ◌||◌, Bool, true, false, Option, Some, None, List, refl, ap, sym, subst, ◌∙◌}
-use Rattle.std.specs.Prelude.{if◌then◌else◌, is_some, not}
+use Rattle.std.specs.Prelude.{◌&&◌, if◌then◌else◌, is_some, not}
 use Rattle.std.specs.Option.{option_map, option_map_or}
 use Rattle.std.proofs.Math.Path.{fun_ext}
 use Rattle.std.proofs.lemmas.Bool.{eqb-true}
@@ -10,11 +10,11 @@ use Rattle.wl_family.specs.declared.link.Link.{Link as KeptLink}
 use Rattle.wl_family.specs.Family.{Links, Tied, behaves_synchronised as behaves_by, changed_at, in_mode as kept_mode, is_there, left, links_in, parents_of, stacks_in, unlinked}
 use Rattle.wl_surface.specs.Slots.{Slots}
 use Rattle.wl_surface.specs.Surfaces.{Link, Surfaces}
-use Rattle.wl_surface.specs.Trees.{applied_tree, applied_unless, behaves_synchronised, desynchronised_in, ended_in, ending, in_mode, levels, released_in, with_link}
+use Rattle.wl_surface.specs.Trees.{applied_tree, applied_unless, behaves_synchronised, descends_from, desynchronised_in, ended_in, ending, in_mode, levels, released_in, with_link}
 use Rattle.wl_tree_laws.proofs.Linking.{ends-link, sets-mode}
 use Rattle.wl_tree_laws.proofs.Placing.{kept-link, numbered as number-found}
 use Rattle.wl_linked.specs.Linked.{IsLink, Stand}
-use Rattle.wl_linked.specs.Tree.{is_among}
+use Rattle.wl_linked.specs.Tree.{is_among, is_released}
 use Rattle.wl_linked.proofs.Committing.{same-mode}
 
 none-of : {X : Type 0} (o : Option X) → is_some o ≡ false → o ≡ None
@@ -114,6 +114,23 @@ module _ (slots : Slots) (tied mid : Tied) (all : Surfaces) (number child : ℕ)
         ∙ ap (λ c. applied_unless (not (behaves_synchronised levels all c) || behaves_synchronised levels (with_link number (in_mode false) all) c) c (with_link number
         (in_mode false) all)) is.of_child
         ∙ ap (λ x. applied_unless x child (with_link number (in_mode false) all)) (stays-so b e)
+
+    released-is : (n : ℕ) → is_released number child all n ≡ (was && (not now && descends_from 16 all child n))
+    released-is n =
+        ap (λ b. b && (not (behaves_synchronised levels (with_link number (in_mode false) all) child) && descends_from 16 all child n))
+        (same-mode slots tied all child stand ∙ sym was_so)
+        ∙ ap (λ b. was && (not b && descends_from 16 all child n)) (same-mode slots mid (with_link number (in_mode false) all) child unheld-stands ∙ sym now_so)
+
+    pub released-so : was ≡ true → now ≡ false → (n : ℕ) → is_released number child all n ≡ descends_from 16 all child n
+    released-so e f n = released-is n ∙ (ap (λ b. b && (not now && descends_from 16 all child n)) e ∙ ap (λ b. not b && descends_from 16 all child n) f)
+
+    pub unreleased-so : (not was || now) ≡ true → (n : ℕ) → is_released number child all n ≡ false
+    unreleased-so e n = released-is n ∙ by was now (descends_from 16 all child n) e
+      where
+        by : (a b d : Bool) → (not a || b) ≡ true → (a && (not b && d)) ≡ false
+        by false b d f = refl
+        by true true d f = refl
+        by true false d f = absurd (cc)
 
 -- it behaved synchronised, and doesn't any more; or it stays as it was
 pub goes : (was now : Bool) → was ≡ true → now ≡ false → (not was || now) ≡ false

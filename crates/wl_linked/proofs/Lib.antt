@@ -3,6 +3,7 @@ pub mod Committing
 pub mod Destroying
 pub mod Ending
 pub mod Refusing
+pub mod Showing
 pub mod Shown
 pub mod Standing
 pub mod TreeApplied

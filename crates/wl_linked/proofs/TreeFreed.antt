@@ -1,12 +1,16 @@
 -- Those of some buffers that aren't busy, each once.
-use Rattle.std.proofs.Common.{◌≡◌, ℕ, ◌+◌, ◌<◌, ◌==◌, ◌||◌, ◌&&◌, not, cond, Bool, true, false, Option, List, [], ◌∷◌, ◌++◌, take, length, refl, ap, sym, subst, ◌∙◌, arith}
+use Rattle.std.proofs.Common.{◌≡◌, ℕ, zero, suc, ◌+◌, ◌<◌, ◌≤◌, ◌==◌, ◌||◌, ◌&&◌, not, cond, Bool, true, false, Option, List, [], ◌∷◌, ◌++◌, map, take, length, refl, ap, sym, subst, ◌∙◌, arith}
 use Rattle.std.specs.Prelude.{count_by, slice_index_or}
 use Rattle.std.proofs.lemmas.Bool.{eqb-true}
+use Rattle.std.proofs.lemmas.List.{length-map}
 use Rattle.std.proofs.lemmas.List.Folds.{list_any_more}
 use Rattle.std.proofs.lemmas.List.Sums.{sum_by-append}
+use Rattle.wl_state.specs.declared.content.Attached.{Attached}
+use Rattle.wl_state.specs.Kept.{buffer_of}
+use Rattle.wl_state.specs.Request.{Buffer}
 use Rattle.wl_state.specs.Surface.{Surface}
 use Rattle.wl_surface.specs.Slots.{IsAny, Numbered, shows_at}
-use Rattle.wl_linked.specs.Tree.{is_among}
+use Rattle.wl_linked.specs.Tree.{is_among, numbers_of}
 
 abbrev one_if : Bool → ℕ
 one_if b = cond b 1 0
@@ -84,14 +88,29 @@ freed-now among is true now =
     let after : one_if ((among || true) && not is) ≡ 1 = ap (λ b. one_if (b && not is)) (or-true among) ∙ ap (λ b. one_if (not b)) (now refl).0 in
     omega (arith, before, after)
 
-module _ (all : Numbered) (shown freed : List ℕ) (i d : ℕ) (less : i < length shown) (busy : Bool) (answer : IsAny (shows_at (slice_index_or shown i d)) all busy)
-    (so_far : (buffer : ℕ) (is : Bool) → IsAny (shows_at buffer) all is → count_of buffer freed ≡ one_if (is_among (take i shown) buffer && not is)) where
-  abbrev here : ℕ
-  here = slice_index_or shown i d
+-- the number of a buffer at its place
+pub number-at : (shown : List Attached) (i : ℕ) (a : Attached) → i < length shown → a ≡ slice_index_or shown i a → slice_index_or (numbers_of (map buffer_of shown)) i 0 ≡ a.number
+number-at [] i a less e = absurd (omega (arith, less))
+number-at (x ∷ xs) zero a less e = ap (λ (b : Attached). b.number) (sym e)
+number-at (x ∷ xs) (suc i) a less e = number-at xs i a (omega (arith, less)) e
 
+pub number-less : (shown : List Attached) (i : ℕ) → i < length shown → i < length (numbers_of (map buffer_of shown))
+number-less shown i less =
+    let e = length-map (map buffer_of shown) (λ (b : Buffer). b.number) ∙ length-map shown buffer_of in
+    omega (arith, e, less)
+
+pub number-all : (shown : List Attached) (i : ℕ) → length shown ≤ i → length (numbers_of (map buffer_of shown)) ≤ i
+number-all shown i most =
+    let e = length-map (map buffer_of shown) (λ (b : Buffer). b.number) ∙ length-map shown buffer_of in
+    omega (arith, e, most)
+
+module _ (all : Numbered) (shown freed : List ℕ) (i d : ℕ) (less : i < length shown) (here : ℕ) (is_here : slice_index_or shown i d ≡ here)
+    (busy : Bool) (answer : IsAny (shows_at here) all busy)
+    (so_far : (buffer : ℕ) (is : Bool) → IsAny (shows_at buffer) all is → count_of buffer freed ≡ one_if (is_among (take i shown) buffer && not is)) where
   -- what is counted of one shown buffer more
   more : (buffer : ℕ) (is : Bool) → one_if (is_among (take (i + 1) shown) buffer && not is) ≡ one_if ((is_among (take i shown) buffer || (here == buffer)) && not is)
-  more buffer is = ap (λ b. one_if (b && not is)) (list_any_more (λ n. n == buffer) shown i d less)
+  more buffer is =
+      ap (λ b. one_if (b && not is)) (list_any_more (λ n. n == buffer) shown i d less ∙ ap (λ n. is_among (take i shown) buffer || (n == buffer)) is_here)
 
   -- where that is the buffer asked for, both answers are the same
   same-answer : (buffer : ℕ) (is : Bool) → IsAny (shows_at buffer) all is → (here == buffer) ≡ true → busy ≡ is

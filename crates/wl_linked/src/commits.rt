@@ -4,27 +4,35 @@ ghost use Rattle.std.specs.Prelude.{ℕ, [], ◌≡◌, ◌==◌, ◌&&◌, not,
 ghost use Rattle.wl_family.specs.Family.{HangTogether, links_in, parents_of, stacks_in};
 ghost use Rattle.wl_linked.specs.Linked.{IsLink, Stand, numbered};
 ghost use Rattle.wl_linked.specs.Room.{HasRoom};
-ghost use Rattle.wl_linked.specs.Tree.{AreOnce, AreToldAfter, IsCommitTold, IsDesyncTold, IsEndTold, IsTold, applied_among, is_among, shown_among, stacks_among};
+ghost use Rattle.wl_linked.specs.Tree.{AreOnce, AreShown, AreToldAfter, IsCommitTold, IsDesyncTold, IsEndTold, IsTold, applied_among, is_among, is_committed, is_released, numbers_of, shown_by, stacks_among};
+ghost use Rattle.wl_state.specs.Kept.{buffer_of};
 ghost use Rattle.wl_state.specs.Request.{Commit};
 ghost use Rattle.wl_state.specs.Surface.{asking};
 ghost use Rattle.wl_surface.specs.Applied.{AreFreed, AreGone, is_shown_at};
 ghost use Rattle.wl_surface.specs.Slots.{IsAny, Numbered, StandForAll, shows_at};
 ghost use Rattle.wl_surface.specs.Surfaces.{Link, Surfaces as Asked, surface_at, with_change};
-ghost use Rattle.wl_surface.specs.Trees.{applied_tree, committed_in, destroyed_in, desynchronised_in, ended_in, ending, levels, with_link};
+ghost use Rattle.wl_surface.specs.Trees.{applied_tree, committed_in, descends_from, destroyed_in, desynchronised_in, ended_in, ending, levels, with_link};
 ghost use Rattle.wl_surface.specs.Waiting.{AreWaiting, Callback, frames_at, is_in};
 ghost use Rattle.wl_trees.specs.Trees.{is_under};
 
 use crate::linked::Linked;
 use crate::tree::{add_freed, apply_each, below, shown_of};
 use std::alloc::{AllocError, Allocator};
-use wl_surface::{Applied, BufferNo, Change, SurfaceError, SurfaceNo};
+use wl_surface::{Applied, Attached, BufferNo, Change, SurfaceError, SurfaceNo};
+
+/// What a call applied, and the buffers that the surfaces which it applied, held or ended showed before it, as they were attached.
+#[derive(Drop)]
+pub struct Told<A: Allocator> {
+    pub applied: Applied<A>,
+    pub shown: Vec<Attached, A>,
+}
 
 /// What is found before a tree is applied, while nothing has changed yet: its surfaces, the buffers that these show, and room for what
 /// is told.
 #[derive(Drop)]
 pub(crate) struct Room<A: Allocator> {
     pub(crate) below: Vec<SurfaceNo, A>,
-    pub(crate) shown: Vec<BufferNo, A>,
+    pub(crate) shown: Vec<Attached, A>,
     pub(crate) changes: Vec<Change<A>, A>,
     pub(crate) freed: Vec<BufferNo, A>,
 }
@@ -32,14 +40,16 @@ pub(crate) struct Room<A: Allocator> {
 impl<A: Allocator + Copy> Linked<A> {
     /// wl_surface.commit: what is pending is held and, unless the surface behaves synchronised, applied with what descends from it. What that
     /// changes is told. Without memory nothing changes.
-    pub fn commit(&mut self, surface: SurfaceNo) -> Result<Applied<A>, SurfaceError>
+    pub fn commit(&mut self, surface: SurfaceNo) -> Result<Told<A>, SurfaceError>
         ensures ok { OnOk result ((all : Asked) → Stand self.old.surfaces self.old.family all → Stand self.new.surfaces self.new.family (committed_in surface all)) }
         ensures waits { OnOk result ((all : Asked) (cs : List Callback) → Stand self.old.surfaces self.old.family all → AreWaiting self.old.surfaces.frames (numbered all) cs
             → AreWaiting self.new.surfaces.frames (numbered (committed_in surface all)) cs) }
-        ensures changes { IfOk result (λ applied. (all : Asked) → Stand self.old.surfaces self.old.family all → IsCommitTold surface all applied.changes.items) }
-        ensures freed { IfOk result (λ applied. (all : Asked) → Stand self.old.surfaces self.old.family all
-            → AreFreed applied.freed.items (numbered all) (numbered (committed_in surface all))) }
-        ensures callbacks { IfOk result (λ applied. applied.callbacks.items ≡ []) }
+        ensures changes { IfOk result (λ told. (all : Asked) → Stand self.old.surfaces self.old.family all → IsCommitTold surface all told.applied.changes.items) }
+        ensures freed { IfOk result (λ told. (all : Asked) → Stand self.old.surfaces self.old.family all
+            → AreFreed told.applied.freed.items (numbered all) (numbered (committed_in surface all))) }
+        ensures shown { IfOk result (λ told. (all : Asked) → Stand self.old.surfaces self.old.family all
+            → AreShown (is_committed surface all) all (map buffer_of told.shown.items)) }
+        ensures callbacks { IfOk result (λ told. told.applied.callbacks.items ≡ []) }
         ensures err { OnErr result (self.new ≡ self.old) }
         ensures cause { IfErr result (λ e. e ≡ SurfaceError.Memory) }
     {
@@ -50,14 +60,15 @@ impl<A: Allocator + Copy> Linked<A> {
     }
 
     /// A commit of a surface that behaves synchronised.
-    fn hold(&mut self, surface: SurfaceNo) -> Result<Applied<A>, SurfaceError>
+    fn hold(&mut self, surface: SurfaceNo) -> Result<Told<A>, SurfaceError>
         ensures ok { OnOk result ((all : Asked) → Stand self.old.surfaces self.old.family all → Stand self.new.surfaces self.new.family (with_change surface (asking Commit) all)) }
         ensures waits { OnOk result ((all : Asked) (cs : List Callback) → Stand self.old.surfaces self.old.family all → AreWaiting self.old.surfaces.frames (numbered all) cs
             → AreWaiting self.new.surfaces.frames (numbered (with_change surface (asking Commit) all)) cs) }
-        ensures changes { IfOk result (λ applied. applied.changes.items ≡ []) }
-        ensures freed { IfOk result (λ applied. (all : Asked) → Stand self.old.surfaces self.old.family all
-            → AreFreed applied.freed.items (numbered all) (numbered (with_change surface (asking Commit) all))) }
-        ensures callbacks { IfOk result (λ applied. applied.callbacks.items ≡ []) }
+        ensures changes { IfOk result (λ told. told.applied.changes.items ≡ []) }
+        ensures freed { IfOk result (λ told. (all : Asked) → Stand self.old.surfaces self.old.family all
+            → AreFreed told.applied.freed.items (numbered all) (numbered (with_change surface (asking Commit) all))) }
+        ensures shown { IfOk result (λ told. (all : Asked) → Stand self.old.surfaces self.old.family all → AreShown (λ n. n == surface) all (map buffer_of told.shown.items)) }
+        ensures callbacks { IfOk result (λ told. told.applied.callbacks.items ≡ []) }
         ensures err { OnErr result (self.new ≡ self.old) }
         ensures cause { IfErr result (λ e. e ≡ SurfaceError.Memory) }
     {
@@ -67,24 +78,27 @@ impl<A: Allocator + Copy> Linked<A> {
         self.surfaces.hold(surface)?;
         self.family.commit(surface);
         add_freed(&self.surfaces, &shown, &mut freed);
-        Ok(Applied {
+        let applied = Applied {
             changes: Vec::new(alloc),
             freed,
             callbacks: Vec::new(alloc),
-        })
+        };
+        Ok(Told { applied, shown })
     }
 
     /// A commit of a surface that doesn't.
-    fn commit_now(&mut self, surface: SurfaceNo) -> Result<Applied<A>, SurfaceError>
+    fn commit_now(&mut self, surface: SurfaceNo) -> Result<Told<A>, SurfaceError>
         ensures ok { OnOk result ((all : Asked) → Stand self.old.surfaces self.old.family all
             → Stand self.new.surfaces self.new.family (applied_tree levels surface (with_change surface (asking Commit) all))) }
         ensures waits { OnOk result ((all : Asked) (cs : List Callback) → Stand self.old.surfaces self.old.family all → AreWaiting self.old.surfaces.frames (numbered all) cs
             → AreWaiting self.new.surfaces.frames (numbered (applied_tree levels surface (with_change surface (asking Commit) all))) cs) }
-        ensures changes { IfOk result (λ applied. (all : Asked) → Stand self.old.surfaces self.old.family all
-            → IsTold surface (with_change surface (asking Commit) all) applied.changes.items) }
-        ensures freed { IfOk result (λ applied. (all : Asked) → Stand self.old.surfaces self.old.family all
-            → AreFreed applied.freed.items (numbered all) (numbered (applied_tree levels surface (with_change surface (asking Commit) all)))) }
-        ensures callbacks { IfOk result (λ applied. applied.callbacks.items ≡ []) }
+        ensures changes { IfOk result (λ told. (all : Asked) → Stand self.old.surfaces self.old.family all
+            → IsTold surface (with_change surface (asking Commit) all) told.applied.changes.items) }
+        ensures freed { IfOk result (λ told. (all : Asked) → Stand self.old.surfaces self.old.family all
+            → AreFreed told.applied.freed.items (numbered all) (numbered (applied_tree levels surface (with_change surface (asking Commit) all)))) }
+        ensures shown { IfOk result (λ told. (all : Asked) → Stand self.old.surfaces self.old.family all
+            → AreShown (descends_from 16 all surface) all (map buffer_of told.shown.items)) }
+        ensures callbacks { IfOk result (λ told. told.applied.callbacks.items ≡ []) }
         ensures err { OnErr result (self.new ≡ self.old) }
         ensures cause { IfErr result (λ e. e ≡ SurfaceError.Memory) }
     {
@@ -96,16 +110,18 @@ impl<A: Allocator + Copy> Linked<A> {
 
     /// wl_subsurface.set_desync: the child's commits are applied at once, unless a surface above it is synchronised. What was held is applied
     /// where it behaved synchronised and doesn't any more. Nothing changes where it has no link, nor without memory.
-    pub fn set_desync(&mut self, child: SurfaceNo) -> Result<Applied<A>, SurfaceError>
+    pub fn set_desync(&mut self, child: SurfaceNo) -> Result<Told<A>, SurfaceError>
         ensures ok { OnOk result ((all : Asked) (number : ℕ) (link : Link) → IsLink all number child link → Stand self.old.surfaces self.old.family all
             → Stand self.new.surfaces self.new.family (desynchronised_in number all)) }
         ensures waits { OnOk result ((all : Asked) (number : ℕ) (link : Link) (cs : List Callback) → IsLink all number child link → Stand self.old.surfaces self.old.family all
             → AreWaiting self.old.surfaces.frames (numbered all) cs → AreWaiting self.new.surfaces.frames (numbered (desynchronised_in number all)) cs) }
-        ensures changes { IfOk result (λ applied. (all : Asked) (number : ℕ) (link : Link) → IsLink all number child link → Stand self.old.surfaces self.old.family all
-            → IsDesyncTold number child all applied.changes.items) }
-        ensures freed { IfOk result (λ applied. (all : Asked) (number : ℕ) (link : Link) → IsLink all number child link → Stand self.old.surfaces self.old.family all
-            → AreFreed applied.freed.items (numbered all) (numbered (desynchronised_in number all))) }
-        ensures callbacks { IfOk result (λ applied. applied.callbacks.items ≡ []) }
+        ensures changes { IfOk result (λ told. (all : Asked) (number : ℕ) (link : Link) → IsLink all number child link → Stand self.old.surfaces self.old.family all
+            → IsDesyncTold number child all told.applied.changes.items) }
+        ensures freed { IfOk result (λ told. (all : Asked) (number : ℕ) (link : Link) → IsLink all number child link → Stand self.old.surfaces self.old.family all
+            → AreFreed told.applied.freed.items (numbered all) (numbered (desynchronised_in number all))) }
+        ensures shown { IfOk result (λ told. (all : Asked) (number : ℕ) (link : Link) → IsLink all number child link → Stand self.old.surfaces self.old.family all
+            → AreShown (is_released number child all) all (map buffer_of told.shown.items)) }
+        ensures callbacks { IfOk result (λ told. told.applied.callbacks.items ≡ []) }
         ensures none { links_in self.old.family child ≡ None → OnOk result (self.new ≡ self.old) }
         ensures err { OnErr result (self.new ≡ self.old) }
         ensures cause { IfErr result (λ e. e ≡ SurfaceError.Memory) }
@@ -125,16 +141,18 @@ impl<A: Allocator + Copy> Linked<A> {
 
     /// wl_subsurface.destroy: the link of the child ends, which is applied with what descends from it. Nothing changes where it has no link,
     /// nor without memory.
-    pub fn remove_subsurface(&mut self, child: SurfaceNo) -> Result<Applied<A>, SurfaceError>
+    pub fn remove_subsurface(&mut self, child: SurfaceNo) -> Result<Told<A>, SurfaceError>
         ensures ok { OnOk result ((all : Asked) (number : ℕ) (link : Link) → IsLink all number child link → Stand self.old.surfaces self.old.family all
             → Stand self.new.surfaces self.new.family (ended_in all link)) }
         ensures waits { OnOk result ((all : Asked) (number : ℕ) (link : Link) (cs : List Callback) → IsLink all number child link → Stand self.old.surfaces self.old.family all
             → AreWaiting self.old.surfaces.frames (numbered all) cs → AreWaiting self.new.surfaces.frames (numbered (ended_in all link)) cs) }
-        ensures changes { IfOk result (λ applied. (all : Asked) (number : ℕ) (link : Link) → IsLink all number child link → Stand self.old.surfaces self.old.family all
-            → IsTold child (with_link number ending all) applied.changes.items) }
-        ensures freed { IfOk result (λ applied. (all : Asked) (number : ℕ) (link : Link) → IsLink all number child link → Stand self.old.surfaces self.old.family all
-            → AreFreed applied.freed.items (numbered all) (numbered (ended_in all link))) }
-        ensures callbacks { IfOk result (λ applied. applied.callbacks.items ≡ []) }
+        ensures changes { IfOk result (λ told. (all : Asked) (number : ℕ) (link : Link) → IsLink all number child link → Stand self.old.surfaces self.old.family all
+            → IsTold child (with_link number ending all) told.applied.changes.items) }
+        ensures freed { IfOk result (λ told. (all : Asked) (number : ℕ) (link : Link) → IsLink all number child link → Stand self.old.surfaces self.old.family all
+            → AreFreed told.applied.freed.items (numbered all) (numbered (ended_in all link))) }
+        ensures shown { IfOk result (λ told. (all : Asked) (number : ℕ) (link : Link) → IsLink all number child link → Stand self.old.surfaces self.old.family all
+            → AreShown (descends_from 16 all child) all (map buffer_of told.shown.items)) }
+        ensures callbacks { IfOk result (λ told. told.applied.callbacks.items ≡ []) }
         ensures none { links_in self.old.family child ≡ None → OnOk result (self.new ≡ self.old) }
         ensures err { OnErr result (self.new ≡ self.old) }
         ensures cause { IfErr result (λ e. e ≡ SurfaceError.Memory) }
@@ -149,40 +167,48 @@ impl<A: Allocator + Copy> Linked<A> {
 
     /// wl_surface.destroy: the surface is gone with its frame requests, and its links end, that to its parent and those to its children. What
     /// descended from it is applied. Nothing changes without memory.
-    pub fn destroy(&mut self, surface: SurfaceNo) -> Result<Applied<A>, SurfaceError>
+    pub fn destroy(&mut self, surface: SurfaceNo) -> Result<Told<A>, SurfaceError>
         ensures ok { OnOk result ((all : Asked) → Stand self.old.surfaces self.old.family all → Stand self.new.surfaces self.new.family (destroyed_in surface all)) }
         ensures waits { OnOk result ((all : Asked) (cs : List Callback) → Stand self.old.surfaces self.old.family all → AreWaiting self.old.surfaces.frames (numbered all) cs
             → AreWaiting self.new.surfaces.frames (numbered (destroyed_in surface all)) (filter (λ c. not (is_in (frames_at (surface_at surface all)) c)) cs)) }
-        ensures changes { IfOk result (λ applied. (all : Asked) → Stand self.old.surfaces self.old.family all → IsEndTold surface all applied.changes.items) }
-        ensures freed { IfOk result (λ applied. (all : Asked) → Stand self.old.surfaces self.old.family all
-            → AreFreed applied.freed.items (numbered all) (numbered (destroyed_in surface all))) }
-        ensures callbacks { IfOk result (λ applied. (all : Asked) (cs : List Callback) → AreWaiting self.old.surfaces.frames (numbered all) cs
-            → applied.callbacks.items ≡ map (λ (c : Callback). c.id) (filter (is_in (frames_at (surface_at surface all))) cs)) }
+        ensures changes { IfOk result (λ told. (all : Asked) → Stand self.old.surfaces self.old.family all → IsEndTold surface all told.applied.changes.items) }
+        ensures freed { IfOk result (λ told. (all : Asked) → Stand self.old.surfaces self.old.family all
+            → AreFreed told.applied.freed.items (numbered all) (numbered (destroyed_in surface all))) }
+        ensures shown { IfOk result (λ told. (all : Asked) → Stand self.old.surfaces self.old.family all
+            → AreShown (descends_from 16 all surface) all (map buffer_of told.shown.items)) }
+        ensures callbacks { IfOk result (λ told. (all : Asked) (cs : List Callback) → AreWaiting self.old.surfaces.frames (numbered all) cs
+            → told.applied.callbacks.items ≡ map (λ (c : Callback). c.id) (filter (is_in (frames_at (surface_at surface all))) cs)) }
         ensures err { OnErr result (self.new ≡ self.old) }
         ensures cause { IfErr result (λ e. e ≡ SurfaceError.Memory) }
     {
-        let told = self.own_end(surface)?;
-        let room = self.room(surface, told)?;
+        let own = self.own_end(surface)?;
+        let room = self.room(surface, own)?;
         let gone = self.surfaces.destroy(surface)?;
         self.family.remove(surface);
-        let applied = self.apply_tree(room);
-        Ok(Applied {
+        let Told { applied, shown } = self.apply_tree(room);
+        let applied = Applied {
             changes: applied.changes,
             freed: applied.freed,
             callbacks: gone.callbacks,
-        })
+        };
+        Ok(Told { applied, shown })
     }
 
     /// Nothing is told.
-    fn nothing(&self) -> Applied<A>
-        ensures changes { result.changes.items ≡ [] }
-        ensures freed { result.freed.items ≡ [] }
-        ensures callbacks { result.callbacks.items ≡ [] }
+    fn nothing(&self) -> Told<A>
+        ensures changes { result.applied.changes.items ≡ [] }
+        ensures freed { result.applied.freed.items ≡ [] }
+        ensures callbacks { result.applied.callbacks.items ≡ [] }
+        ensures shown { result.shown.items ≡ [] }
     {
-        Applied {
+        let applied = Applied {
             changes: Vec::new(self.alloc),
             freed: Vec::new(self.alloc),
             callbacks: Vec::new(self.alloc),
+        };
+        Told {
+            applied,
+            shown: Vec::new(self.alloc),
         }
     }
 
@@ -215,8 +241,7 @@ impl<A: Allocator + Copy> Linked<A> {
     fn room(&self, surface: SurfaceNo, told: Vec<Change<A>, A>) -> Result<Room<A>, AllocError>
         ensures those { IfOk result (λ room. (number : ℕ) → is_among room.below.items number ≡ is_under 16 (parents_of (links_in self.now.family)) surface number) }
         ensures once { IfOk result (λ room. AreOnce room.below.items) }
-        ensures shown { IfOk result (λ room. (all : Numbered) → StandForAll self.now.surfaces all
-            → (buffer : ℕ) → is_among room.shown.items buffer ≡ shown_among room.below.items all buffer) }
+        ensures shown { IfOk result (λ room. (all : Numbered) → StandForAll self.now.surfaces all → map buffer_of room.shown.items ≡ shown_by room.below.items all) }
         ensures told { IfOk result (λ room. room.changes.items ≡ told.items) }
         ensures room { IfOk result HasRoom }
         ensures hang { HangTogether self.now.family }
@@ -235,15 +260,16 @@ impl<A: Allocator + Copy> Linked<A> {
     }
 
     /// Applies these surfaces, and tells what that changes.
-    fn apply_tree(&mut self, room: Room<A>) -> Applied<A>
+    fn apply_tree(&mut self, room: Room<A>) -> Told<A>
         requires room { HasRoom room }
         ensures stand { (all : Numbered) → StandForAll self.old.surfaces all → StandForAll self.new.surfaces (applied_among room.below.items all) }
         ensures waits { (all : Numbered) (cs : List Callback) → AreWaiting self.old.surfaces.frames all cs
             → AreWaiting self.new.surfaces.frames (applied_among room.below.items all) cs }
-        ensures told { (all : Numbered) → StandForAll self.old.surfaces all → AreOnce room.below.items → AreToldAfter room.changes.items room.below.items all result.changes.items }
+        ensures told { (all : Numbered) → StandForAll self.old.surfaces all → AreOnce room.below.items → AreToldAfter room.changes.items room.below.items all result.applied.changes.items }
         ensures freed { (all : Numbered) → StandForAll self.new.surfaces all → (buffer : ℕ) (is : Bool) → IsAny (shows_at buffer) all is
-            → count_by (λ n. n == buffer) result.freed.items ≡ cond (is_among room.shown.items buffer && not is) 1 0 }
-        ensures callbacks { result.callbacks.items ≡ [] }
+            → count_by (λ n. n == buffer) result.applied.freed.items ≡ cond (is_among (numbers_of (map buffer_of room.shown.items)) buffer && not is) 1 0 }
+        ensures shown { result.shown.items ≡ room.shown.items }
+        ensures callbacks { result.applied.callbacks.items ≡ [] }
         ensures links { links_in self.new.family ≡ links_in self.old.family }
         ensures places { self.new.family.places ≡ self.old.family.places }
         ensures stacks { stacks_in self.new.family ≡ stacks_among room.below.items (stacks_in self.old.family) }
@@ -257,10 +283,14 @@ impl<A: Allocator + Copy> Linked<A> {
             &mut changes,
         );
         add_freed(&self.surfaces, &room.shown, &mut freed);
-        Applied {
+        let applied = Applied {
             changes,
             freed,
             callbacks: Vec::new(self.alloc),
+        };
+        Told {
+            applied,
+            shown: room.shown,
         }
     }
 }

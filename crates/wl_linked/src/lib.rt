@@ -6,6 +6,7 @@ mod commits;
 mod linked;
 mod tree;
 
+pub use commits::Told;
 pub use linked::Linked;
 pub use wl_surface::{
     Applied, Attached, BufferNo, Change, Current, Role, SurfaceError, SurfaceNo, Surfaces,

@@ -65,7 +65,8 @@ impl<A: Allocator + Copy> Linked<A> {
     /// # Errors
     ///
     /// In this order: `TooDeep` where there would be more than 16 levels below a root, `Role` where the child has another role or a link that
-    /// lives, `BadParent` where the parent is the child or descends from it, `Memory`. None changes anything.
+    /// lives, `BadParent` where the parent is the child or descends from it, `Memory`. The first three change nothing. Without memory the
+    /// surfaces and links are the same; a place for either surface may stay in the family.
     pub fn subsurface(&mut self, child: SurfaceNo, parent: SurfaceNo) -> Result<(), SurfaceError>
         ensures ok { OnOk result ((all : Asked) (number : ℕ) → Stand self.old.surfaces self.old.family all → link_at number all ≡ None
             → is_some (surface_at child all) ≡ true → is_some (surface_at parent all) ≡ true
@@ -101,10 +102,14 @@ impl<A: Allocator + Copy> Linked<A> {
     pub fn set_position(&mut self, child: SurfaceNo, x: i32, y: i32) -> Result<(), SurfaceError>
         ensures ok { OnOk result ((all : Asked) (number : ℕ) (link : Link) → IsLink all number child link → Stand self.old.surfaces self.old.family all
             → Stand self.new.surfaces self.new.family (with_change link.parent (asking (SetPosition number x y)) all)) }
+        ensures none { links_in self.old.family child ≡ None → OnOk result (self.new ≡ self.old) }
         ensures surfaces { self.new.surfaces ≡ self.old.surfaces }
         ensures err { OnErr result (self.new ≡ self.old) }
         ensures cause { IfErr result (λ e. e ≡ SurfaceError.Memory) }
     {
+        if self.family.link(child).is_none() {
+            return Ok(());
+        }
         self.family.set_position(child, x, y)?;
         Ok(())
     }
@@ -119,11 +124,15 @@ impl<A: Allocator + Copy> Linked<A> {
         ensures ok { OnOk result ((all : Asked) (number : ℕ) (link : Link) (at : Member) → IsLink all number child link
             → IsKept (kids_of all) at (member_of link.parent sibling) → Stand self.old.surfaces self.old.family all
             → Stand self.new.surfaces self.new.family (with_change link.parent (asking (PlaceAbove number at)) all)) }
+        ensures none { links_in self.old.family child ≡ None → OnOk result (self.new ≡ self.old) }
         ensures bad { is_bad_sibling child sibling (links_in self.old.family) ≡ true → result ≡ Err SurfaceError.NotSibling }
         ensures cause { is_bad_sibling child sibling (links_in self.old.family) ≡ false → IfErr result (λ e. e ≡ SurfaceError.Memory) }
         ensures surfaces { self.new.surfaces ≡ self.old.surfaces }
         ensures err { OnErr result (self.new ≡ self.old) }
     {
+        if self.family.link(child).is_none() {
+            return Ok(());
+        }
         match self.family.place_above(child, sibling) {
             Ok(()) => Ok(()),
             Err(error) => Err(place_error(error)),
@@ -140,11 +149,15 @@ impl<A: Allocator + Copy> Linked<A> {
         ensures ok { OnOk result ((all : Asked) (number : ℕ) (link : Link) (at : Member) → IsLink all number child link
             → IsKept (kids_of all) at (member_of link.parent sibling) → Stand self.old.surfaces self.old.family all
             → Stand self.new.surfaces self.new.family (with_change link.parent (asking (PlaceBelow number at)) all)) }
+        ensures none { links_in self.old.family child ≡ None → OnOk result (self.new ≡ self.old) }
         ensures bad { is_bad_sibling child sibling (links_in self.old.family) ≡ true → result ≡ Err SurfaceError.NotSibling }
         ensures cause { is_bad_sibling child sibling (links_in self.old.family) ≡ false → IfErr result (λ e. e ≡ SurfaceError.Memory) }
         ensures surfaces { self.new.surfaces ≡ self.old.surfaces }
         ensures err { OnErr result (self.new ≡ self.old) }
     {
+        if self.family.link(child).is_none() {
+            return Ok(());
+        }
         match self.family.place_below(child, sibling) {
             Ok(()) => Ok(()),
             Err(error) => Err(place_error(error)),

@@ -1,8 +1,8 @@
 //! What is applied of a tree of surfaces, surface by surface.
 
-ghost use Rattle.std.specs.Prelude.{ℕ, [], ◌≡◌, ◌≤◌, ◌+◌, ◌++◌, ◌==◌, ◌&&◌, not, cond, Bool, List, length, count_by, vec_capacity, vec_len, IfOk, OnOk, option_map};
+ghost use Rattle.std.specs.Prelude.{ℕ, [], ◌≡◌, ◌≤◌, ◌+◌, ◌++◌, ◌==◌, ◌&&◌, not, cond, Bool, List, length, map, count_by, vec_capacity, vec_len, IfOk, OnOk};
 ghost use Rattle.wl_family.specs.Family.{HangTogether, links_in, parents_of, stacks_in};
-ghost use Rattle.wl_linked.specs.Tree.{AreOnce, AreToldAfter, applied_among, is_among, numbers_of, shown_among, stacks_among};
+ghost use Rattle.wl_linked.specs.Tree.{AreOnce, AreToldAfter, applied_among, is_among, listed, numbers_of, shown_by, stacks_among};
 ghost use Rattle.wl_state.specs.Kept.{buffer_of};
 ghost use Rattle.wl_surface.specs.Slots.{IsAny, Numbered, StandForAll, shows_at};
 ghost use Rattle.wl_surface.specs.Waiting.{AreWaiting, Callback};
@@ -34,34 +34,33 @@ pub(crate) fn below<A: Allocator + Copy>(
     Ok(below)
 }
 
-/// The number of the buffer, if there is one, behind the others.
-fn add_number<A: Allocator>(
-    numbers: &mut Vec<BufferNo, A>,
+/// The buffer, if there is one, behind the others.
+fn add_buffer<A: Allocator>(
+    buffers: &mut Vec<Attached, A>,
     buffer: Option<Attached>,
 ) -> Result<(), AllocError>
-    ensures { OnOk result (numbers.new.items ≡ numbers.old.items ++ numbers_of (option_map buffer_of buffer)) }
+    ensures { OnOk result (buffers.new.items ≡ buffers.old.items ++ listed buffer) }
 {
     match buffer {
-        Some(attached) => numbers.push(attached.number)?,
+        Some(attached) => buffers.push(attached)?,
         None => (),
     }
     Ok(())
 }
 
-/// The buffers that these surfaces have applied and held.
+/// The buffers that these surfaces have applied and held, as they were attached.
 pub(crate) fn shown_of<A: Allocator + Copy>(
     surfaces: &Surfaces<A>,
     numbers: &[SurfaceNo],
     alloc: A,
-) -> Result<Vec<BufferNo, A>, AllocError>
-    ensures { IfOk result (λ shown. (all : Numbered) → StandForAll surfaces.now all
-        → (buffer : ℕ) → is_among shown.items buffer ≡ shown_among numbers.now all buffer) }
+) -> Result<Vec<Attached, A>, AllocError>
+    ensures { IfOk result (λ shown. (all : Numbered) → StandForAll surfaces.now all → map buffer_of shown.items ≡ shown_by numbers.now all) }
 {
     let mut shown = Vec::new(alloc);
     for number in numbers {
         let [_, held, applied] = surfaces.buffers(*number);
-        add_number(&mut shown, applied)?;
-        add_number(&mut shown, held)?;
+        add_buffer(&mut shown, applied)?;
+        add_buffer(&mut shown, held)?;
     }
     Ok(shown)
 }
@@ -76,17 +75,18 @@ fn has_number(numbers: &[BufferNo], number: BufferNo) -> bool
 /// Adds those of these buffers that aren't busy, each once. There is room for them.
 pub(crate) fn add_freed<A: Allocator>(
     surfaces: &Surfaces<A>,
-    shown: &[BufferNo],
+    shown: &[Attached],
     freed: &mut Vec<BufferNo, A>,
 )
     requires none { freed.old.items ≡ [] }
     requires room { length shown.now ≤ vec_capacity freed.old }
     ensures { (all : Numbered) → StandForAll surfaces.now all → (buffer : ℕ) (is : Bool) → IsAny (shows_at buffer) all is
-        → count_by (λ n. n == buffer) freed.new.items ≡ cond (is_among shown.now buffer && not is) 1 0 }
+        → count_by (λ n. n == buffer) freed.new.items ≡ cond (is_among (numbers_of (map buffer_of shown.now)) buffer && not is) 1 0 }
 {
     for buffer in shown {
-        if !surfaces.is_busy(*buffer) && !has_number(freed, *buffer) {
-            freed.push_reserved(*buffer);
+        let number = buffer.number;
+        if !surfaces.is_busy(number) && !has_number(freed, number) {
+            freed.push_reserved(number);
         }
     }
 }

@@ -1,10 +1,14 @@
-use Rattle.std.proofs.Common.{sym, subst}
+use Rattle.std.proofs.Common.{◌==◌, map, sym, subst}
+use Rattle.wl_state.specs.Kept.{buffer_of}
 use Rattle.wl_surface.specs.Applied.{AreFreed}
 use Rattle.wl_surface.specs.Surfaces.{Surfaces}
+use Rattle.wl_surface.specs.Trees.{descends_from}
 use Rattle.wl_surface.specs.Waiting.{AreWaiting}
 use Rattle.wl_linked.specs.Linked.{Stand, numbered}
-use Rattle.wl_linked.proofs.Committing.{commit-held, commit-now, if-ok, told-held, told-now}
+use Rattle.wl_linked.specs.Tree.{is_committed}
+use Rattle.wl_linked.proofs.Committing.{commit-held, commit-now, committed-held, committed-now, if-ok, told-held, told-now}
 use Rattle.wl_linked.proofs.Refusing.{on-ok}
+use Rattle.wl_linked.proofs.Showing.{shown-such}
 use Rattle.wl_linked.proofs.linked.Linked.commit.Goals as goal
 
 pub returns-then-behaves_synchronised-clause-ok : goal.returns-then-behaves_synchronised-clause-ok
@@ -20,14 +24,14 @@ returns-then-behaves_synchronised-clause-waits g c = on-ok c.hold.result c.hold.
     (sym (commit-held v.surfaces v.family all c.args.surface c.behaves_synchronised.result c.behaves_synchronised.ensures stand c.if-behaves_synchronised.true)) (waits all cs stand are))
 
 pub returns-then-behaves_synchronised-clause-changes : goal.returns-then-behaves_synchronised-clause-changes
-returns-then-behaves_synchronised-clause-changes g c = if-ok c.hold.result c.hold.ensures.changes (λ applied told all stand.
+returns-then-behaves_synchronised-clause-changes g c = if-ok c.hold.result c.hold.ensures.changes (λ told are all stand.
     let v = c.args.self.now in
-    told-held v.surfaces v.family all c.args.surface c.behaves_synchronised.result c.behaves_synchronised.ensures stand applied.changes.items c.if-behaves_synchronised.true told)
+    told-held v.surfaces v.family all c.args.surface c.behaves_synchronised.result c.behaves_synchronised.ensures stand told.applied.changes.items c.if-behaves_synchronised.true are)
 
 pub returns-then-behaves_synchronised-clause-freed : goal.returns-then-behaves_synchronised-clause-freed
-returns-then-behaves_synchronised-clause-freed g c = if-ok c.hold.result c.hold.ensures.freed (λ applied freed all stand.
+returns-then-behaves_synchronised-clause-freed g c = if-ok c.hold.result c.hold.ensures.freed (λ told freed all stand.
     let v = c.args.self.now in
-    subst (λ (a : Surfaces). AreFreed applied.freed.items (numbered all) (numbered a))
+    subst (λ (a : Surfaces). AreFreed told.applied.freed.items (numbered all) (numbered a))
     (sym (commit-held v.surfaces v.family all c.args.surface c.behaves_synchronised.result c.behaves_synchronised.ensures stand c.if-behaves_synchronised.true)) (freed all stand))
 
 pub returns-clause-ok : goal.returns-clause-ok
@@ -43,12 +47,24 @@ returns-clause-waits g c = on-ok c.commit_now.result c.commit_now.ensures.waits 
     (sym (commit-now v.surfaces v.family all c.args.surface c.behaves_synchronised.result c.behaves_synchronised.ensures stand c.if-behaves_synchronised.false)) (waits all cs stand are))
 
 pub returns-clause-changes : goal.returns-clause-changes
-returns-clause-changes g c = if-ok c.commit_now.result c.commit_now.ensures.changes (λ applied told all stand.
+returns-clause-changes g c = if-ok c.commit_now.result c.commit_now.ensures.changes (λ told are all stand.
     let v = c.args.self.now in
-    told-now v.surfaces v.family all c.args.surface c.behaves_synchronised.result c.behaves_synchronised.ensures stand applied.changes.items c.if-behaves_synchronised.false (told all stand))
+    told-now v.surfaces v.family all c.args.surface c.behaves_synchronised.result c.behaves_synchronised.ensures stand told.applied.changes.items c.if-behaves_synchronised.false (are all stand))
 
 pub returns-clause-freed : goal.returns-clause-freed
-returns-clause-freed g c = if-ok c.commit_now.result c.commit_now.ensures.freed (λ applied freed all stand.
+returns-clause-freed g c = if-ok c.commit_now.result c.commit_now.ensures.freed (λ told freed all stand.
     let v = c.args.self.now in
-    subst (λ (a : Surfaces). AreFreed applied.freed.items (numbered all) (numbered a))
+    subst (λ (a : Surfaces). AreFreed told.applied.freed.items (numbered all) (numbered a))
     (sym (commit-now v.surfaces v.family all c.args.surface c.behaves_synchronised.result c.behaves_synchronised.ensures stand c.if-behaves_synchronised.false)) (freed all stand))
+
+pub returns-then-behaves_synchronised-clause-shown : goal.returns-then-behaves_synchronised-clause-shown
+returns-then-behaves_synchronised-clause-shown g c = if-ok c.hold.result c.hold.ensures.shown (λ told shown all stand.
+    let v = c.args.self.now in
+    shown-such (λ n. n == c.args.surface) (is_committed c.args.surface all) all (map buffer_of told.shown.items)
+    (committed-held v.surfaces v.family all c.args.surface c.behaves_synchronised.result c.behaves_synchronised.ensures stand c.if-behaves_synchronised.true) (shown all stand))
+
+pub returns-clause-shown : goal.returns-clause-shown
+returns-clause-shown g c = if-ok c.commit_now.result c.commit_now.ensures.shown (λ told shown all stand.
+    let v = c.args.self.now in
+    shown-such (descends_from 16 all c.args.surface) (is_committed c.args.surface all) all (map buffer_of told.shown.items)
+    (committed-now v.surfaces v.family all c.args.surface c.behaves_synchronised.result c.behaves_synchronised.ensures stand c.if-behaves_synchronised.false) (shown all stand))

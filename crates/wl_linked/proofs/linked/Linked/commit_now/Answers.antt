@@ -1,9 +1,14 @@
-use Rattle.std.proofs.Common.{sym, subst, ◌∙◌}
+use Rattle.std.proofs.Common.{map, sym, subst, ◌∙◌}
+use Rattle.wl_state.specs.Kept.{buffer_of}
 use Rattle.wl_surface.specs.Slots.{Numbered}
+use Rattle.wl_surface.specs.Trees.{descends_from}
 use Rattle.wl_surface.specs.Waiting.{AreWaiting}
 use Rattle.wl_linked.specs.Linked.{numbered}
-use Rattle.wl_linked.proofs.Applying.{tree-told}
+use Rattle.wl_linked.specs.Tree.{numbers_of}
+use Rattle.wl_linked.proofs.Applying.{descend, tree-told}
 use Rattle.wl_linked.proofs.Committing.{held, mid-stands, mid-those, now-freed, now-numbered, now-stands, numbered-held}
+use Rattle.wl_linked.proofs.Showing.{are-shown}
+use Rattle.wl_linked.proofs.TreeShown.{among-shown}
 use Rattle.wl_linked.proofs.linked.Linked.commit_now.Goals as goal
 
 pub returns-clause-ok : goal.returns-clause-ok
@@ -32,7 +37,7 @@ returns-clause-changes g c = λ all stand.
     let those = mid-those v.surfaces c.hold.new.self new.surfaces v.family c.commit.new.self new.family all c.args.surface c.in_ok-room.room.below.items
     c.in_ok-hold.ensures.ok c.commit.ensures.stacks c.commit.ensures.places c.commit.ensures.links c.in_ok-room.ensures.those stand in
     tree-told c.hold.new.self new.surfaces c.commit.new.self new.family (held c.args.surface all) c.args.surface c.in_ok-room.room.below.items mid those
-    c.in_ok-room.room.changes.items c.apply_tree.result.changes.items
+    c.in_ok-room.room.changes.items c.apply_tree.result.applied.changes.items
     (c.in_ok-room.ensures.told ∙ c.new.ensures.items) c.in_ok-room.ensures.once (c.apply_tree.ensures.told (numbered (held c.args.surface all)) mid.surfaces c.in_ok-room.ensures.once)
 
 pub returns-clause-freed : goal.returns-clause-freed
@@ -42,4 +47,11 @@ returns-clause-freed g c = λ all stand.
     let after = (returns-clause-ok g c all stand).surfaces in
     now-freed v.surfaces c.hold.new.self new.surfaces v.family c.commit.new.self new.family all c.args.surface c.in_ok-room.room.below.items
     c.in_ok-hold.ensures.ok c.commit.ensures.stacks c.commit.ensures.places c.commit.ensures.links c.in_ok-room.ensures.those stand
-    c.in_ok-room.room.shown.items c.apply_tree.result.freed.items (c.in_ok-room.ensures.shown (numbered all) stand.surfaces) (c.apply_tree.ensures.freed _ after)
+    (numbers_of (map buffer_of c.in_ok-room.room.shown.items)) c.apply_tree.result.applied.freed.items (among-shown c.in_ok-room.room.below.items (numbered all) c.in_ok-room.room.shown.items (c.in_ok-room.ensures.shown (numbered all) stand.surfaces)) (c.apply_tree.ensures.freed _ after)
+
+pub returns-clause-shown : goal.returns-clause-shown
+returns-clause-shown g c = λ all stand.
+    let v = c.args.self.now in
+    rw c.apply_tree.ensures.shown
+    (are-shown c.in_ok-room.room.below.items (descends_from 16 all c.args.surface) all c.in_ok-room.room.shown.items
+    (descend v.surfaces v.surfaces v.family v.family all c.args.surface c.in_ok-room.room.below.items stand c.in_ok-room.ensures.those) (c.in_ok-room.ensures.shown (numbered all) stand.surfaces))

@@ -1,8 +1,12 @@
-use Rattle.std.proofs.Common.{sym, subst}
+use Rattle.std.proofs.Common.{◌==◌, [], ◌∷◌, map, sym, subst}
+use Rattle.wl_state.specs.Kept.{buffer_of}
 use Rattle.wl_surface.specs.Slots.{Numbered}
 use Rattle.wl_surface.specs.Waiting.{AreWaiting}
 use Rattle.wl_linked.specs.Linked.{numbered}
+use Rattle.wl_linked.specs.Tree.{numbers_of}
 use Rattle.wl_linked.proofs.Committing.{held-freed, held-stands, numbered-held}
+use Rattle.wl_linked.proofs.Showing.{among-alone, are-shown}
+use Rattle.wl_linked.proofs.TreeShown.{among-shown}
 use Rattle.wl_linked.proofs.linked.Linked.hold.Goals as goal
 
 pub returns-clause-ok : goal.returns-clause-ok
@@ -17,5 +21,10 @@ returns-clause-waits g c = λ all cs stand are.
 pub returns-clause-freed : goal.returns-clause-freed
 returns-clause-freed g c = λ all stand.
     let after = (returns-clause-ok g c all stand).surfaces in
-    held-freed all c.args.surface c.in_ok-shown.shown.items c.add_freed.new.freed.items (c.in_ok-shown.ensures (numbered all) stand.surfaces)
+    held-freed all c.args.surface (numbers_of (map buffer_of c.in_ok-shown.shown.items)) c.add_freed.new.freed.items
+    (among-shown (c.args.surface ∷ []) (numbered all) c.in_ok-shown.shown.items (c.in_ok-shown.ensures (numbered all) stand.surfaces))
     (λ b is any. rw c.deref.ensures.value at c.add_freed.ensures _ after b is any)
+
+pub returns-clause-shown : goal.returns-clause-shown
+returns-clause-shown g c = λ all stand.
+    are-shown (c.args.surface ∷ []) (λ n. n == c.args.surface) all c.in_ok-shown.shown.items (among-alone c.args.surface) (c.in_ok-shown.ensures (numbered all) stand.surfaces)

@@ -4,7 +4,12 @@ use Rattle.wl_children.specs.Stacks.{placed_above}
 use Rattle.wl_family.specs.Family.{member_of}
 use Rattle.wl_tree_laws.proofs.Placing.{places-child}
 use Rattle.wl_linked.proofs.Standing.{asked-stands, sibling-placed}
+use Rattle.wl_linked.proofs.Ending.{never-none}
 use Rattle.wl_linked.proofs.linked.Linked.place_above.Goals as goal
+
+pub returns-then-is_none-clause-ok : goal.returns-then-is_none-clause-ok
+returns-then-is_none-clause-ok g c = λ all number link at is kept stand.
+    never-none c.args.self.now.surfaces c.args.self.now.family all number c.args.child link c.link.result is stand c.link.ensures c.if-is_none.ensures
 
 pub returns-in-Ok-clause-ok : goal.returns-in-Ok-clause-ok
 returns-in-Ok-clause-ok g c = λ all number link at is kept stand.

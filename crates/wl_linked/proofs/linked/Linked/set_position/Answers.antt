@@ -5,7 +5,12 @@ use Rattle.wl_family.specs.Family.{at_parent, links_in, pending_as, stacks_in}
 use Rattle.wl_state.specs.Request.{SetPosition}
 use Rattle.wl_tree_laws.proofs.Placing.{moves-child}
 use Rattle.wl_linked.proofs.Standing.{asked-stands}
+use Rattle.wl_linked.proofs.Ending.{never-none}
 use Rattle.wl_linked.proofs.linked.Linked.set_position.Goals as goal
+
+pub returns-then-is_none-clause-ok : goal.returns-then-is_none-clause-ok
+returns-then-is_none-clause-ok g c = λ all number link is stand.
+    never-none c.args.self.now.surfaces c.args.self.now.family all number c.args.child link c.link.result is stand c.link.ensures c.if-is_none.ensures
 
 pub returns-clause-ok : goal.returns-clause-ok
 returns-clause-ok g c = λ all number link is stand.
