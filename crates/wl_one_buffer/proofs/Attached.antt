@@ -7,8 +7,8 @@ use Rattle.wl_state.specs.declared.role.Role.TheVariants.{Subsurface}
 use Rattle.wl_state.specs.State.{History, Values, asked, first_values, values, committed}
 use Rattle.wl_state.specs.Surface.{Surface, applying, asking, buffers_of, listed, new_surface, with_role}
 use Rattle.wl_surface.specs.Surfaces.{Link, Surfaces, history_in, link_at, with_change, with_new, without_surface}
-use Rattle.wl_surface.specs.Trees.{applied_tree, applied_unless, behaves_synchronised, children_of, committed_in, desynchronised_in, destroyed_in, ended_in, ending, in_mode, levels, linked, links_with}
-use Rattle.wl_surface.specs.Trees.{released_in, with_link}
+use Rattle.wl_surface.specs.Trees.{applied_tree, applied_unless, behaves_synchronised, children_of, committed_in, desynchronised_in, destroyed_in, ended_in, ending, in_mode}
+use Rattle.wl_surface.specs.Trees.{levels, linked, links_with, released_in, with_link}
 use Rattle.wl_plain.specs.Changing.{unlinked_at}
 use Rattle.wl_one_buffer.specs.OneBuffer.{Attaches, IsAmong, IsAttached, IsAttachedBy, IsAttachedTo}
 
@@ -20,8 +20,8 @@ FewerOr New old new = (b : Buffer) → IsAttached b new → IsAttached b old ⊎
 abbrev pub Fewer : Surfaces → Surfaces → Type 0
 Fewer old new = (b : Buffer) → IsAttached b new → IsAttached b old
 
-abbrev None_of : Buffer → Type 0
-None_of b = ⊥
+abbrev Nothing : Buffer → Type 0
+Nothing b = ⊥
 
 left-on : {A B C : Type 0} → (A → B) → A ⊎ C → B ⊎ C
 left-on f (inl a) = inl (f a)
@@ -67,7 +67,7 @@ fewer-asked id request all never b h = at (or-asked id request all b h)
 pub fewer-changed : (id : ℕ) (change : Surface → Surface) → ((s : Surface) → (change s).history.requests ≡ s.history.requests) → (all : Surfaces)
     → Fewer all (with_change id change all)
 fewer-changed id change same all b h =
-    only (changed-to None_of id change (λ b s k. inl (subst (λ (rs : List Request). IsAttachedBy b rs) (same s) k)) all.surfaces b h)
+    only (changed-to Nothing id change (λ b s k. inl (subst (λ (rs : List Request). IsAttachedBy b rs) (same s) k)) all.surfaces b h)
 
 -- ---- surfaces come and go
 

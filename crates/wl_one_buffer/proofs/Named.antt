@@ -27,7 +27,8 @@ use Rattle.wl_peer.specs.Buffers.{Buffer as Made}
 use Rattle.wl_peer.specs.Judgement.{action_of}
 use Rattle.wl_peer.specs.Objects.{ById}
 use Rattle.wl_peer.specs.Peer.{known_of}
-use Rattle.wl_peer.specs.Requests.{Request as Asked, ToDisplay, ToRegistry, ToCompositor, ToRegion, ToSurface, ToShm, ToPool, ToBuffer, ToSubcompositor, ToSubsurface, ToSeat, ToPointer, ToBase, ToPositioner}
+use Rattle.wl_peer.specs.Requests.{Request as Asked, ToDisplay, ToRegistry, ToCompositor, ToRegion, ToSurface, ToShm, ToPool, ToBuffer}
+use Rattle.wl_peer.specs.Requests.{ToSubcompositor, ToSubsurface, ToSeat, ToPointer, ToBase, ToPositioner}
 use Rattle.wl_peer.specs.Requests.{ToXdgSurface, ToToplevel, ToPopup, ToNothing, request_of, rect}
 use Rattle.wl_peer.specs.ToplevelRequest.{ToplevelRequest}
 use Rattle.wl_peer.specs.ToplevelRequest as toplevel

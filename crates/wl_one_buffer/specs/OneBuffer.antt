@@ -33,12 +33,14 @@ IsAttachedTo b (s ∷ ss) = IsAttachedBy b s.history.requests ⊎ IsAttachedTo b
 abbrev pub IsAttached : Buffer → Surfaces → Type 0
 IsAttached b all = IsAttachedTo b all.surfaces
 
--- Of a client that made so many requests, with these wl_buffers by their ids and these surfaces: two buffers that were attached are the same
--- where they have one number; a buffer that was attached and a wl_buffer that is there are, too; and so are two wl_buffers. No number is
+-- Of a client that made so many requests, with these wl_buffers by their ids and these surfaces: two buffers that were attached are the
+-- same where they have one number; so are a buffer that was attached and a wl_buffer that is there, and so are two wl_buffers. No number is
 -- past that of the last request, since a wl_buffer has the number of the request that made it (wayland.xml, wl_shm_pool.create_buffer).
 pub record OneBuffer (requests : ℕ) (buffers : ById Made) (all : Surfaces) : Type 0 where
   pub attached_once : (a b : Buffer) → IsAttached a all → IsAttached b all → a.number ≡ b.number → a ≡ b
-  pub named : (id : ℕ) (made : Made) (b : Buffer) → buffers id ≡ Some made → IsAttached b all → b.number ≡ made.number → b ≡ buffer_of id made
+  pub named :
+      (id : ℕ) (made : Made) (b : Buffer) → buffers id ≡ Some made → IsAttached b all → b.number ≡ made.number
+      → b ≡ buffer_of id made
   pub made_once : (k l : ℕ) (a b : Made) → buffers k ≡ Some a → buffers l ≡ Some b → a.number ≡ b.number → k ≡ l
   pub attached_before : (b : Buffer) → IsAttached b all → b.number ≤ requests
   pub made_before : (id : ℕ) (made : Made) → buffers id ≡ Some made → made.number ≤ requests

@@ -1,15 +1,17 @@
-//! The number of a wl_buffer determines it: two buffers that a client attached to its surfaces are the same where they have one number, and so is
-//! a wl_buffer that it still has, whatever happened (wayland.xml, wl_buffer and wl_surface.attach). Each law is a function that promises it.
+//! The number of a wl_buffer determines it: two buffers that a client attached to its surfaces are the same where they have one number, and
+//! so is a wl_buffer that it still has, whatever happened (wayland.xml, wl_buffer and wl_surface.attach). Each law is a function that
+//! promises it.
 #![tactic(auto)]
 
-ghost use Rattle.wl_one_buffer.specs.OneBuffer.{ArrivalHasOneBuffer, EmptyHasOneBuffer, HadAreAttached, HappensKeepsOneBuffer, RunHasOneBuffer};
+ghost use Rattle.wl_one_buffer.specs.OneBuffer.{ArrivalHasOneBuffer, EmptyHasOneBuffer, HadAreAttached};
+ghost use Rattle.wl_one_buffer.specs.OneBuffer.{HappensKeepsOneBuffer, RunHasOneBuffer};
 
-/// A client that has just connected attached nothing.
+/// A client that has just connected has one buffer of each number, since it attached none.
 pub fn arrival_has_one_buffer()
     ensures { ArrivalHasOneBuffer }
 {}
 
-/// A desktop without clients has no client with two buffers of one number.
+/// So has each client of a desktop without any.
 pub fn empty_has_one_buffer()
     ensures { EmptyHasOneBuffer }
 {}
