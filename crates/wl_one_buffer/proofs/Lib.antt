@@ -1,0 +1,5 @@
+pub mod Attached
+pub mod Keeping
+pub mod Messages
+pub mod Named
+pub mod Running
