@@ -1,2 +1,4 @@
+pub mod Alike
+pub mod Lists
 pub mod Orders
 pub mod Stores

@@ -25,17 +25,26 @@ GoInAnyOrder =
 
 -- ---- buffers by their numbers
 
--- a number says which of these buffers it is
+-- a number says which of these buffers it is: of one number they have one store, and are one object's
 abbrev pub AreOne : List Buffer → Type 0
-AreOne buffers = (b c : Buffer) → Contains buffers b → Contains buffers c → b.number ≡ c.number → b ≡ c
+AreOne buffers =
+    (b c : Buffer) → Contains buffers b → Contains buffers c → b.number ≡ c.number → (b.store ≡ c.store) × (b.object ≡ c.object)
 
--- a buffer of this number is among them, and passes
+-- one of them has this number
+abbrev pub has_number : ℕ → List Buffer → Bool
+has_number number buffers = list_any (λ b. b.number == number) buffers
+
+-- one of them has this number, and passes
 abbrev pub has_passing : (Buffer → Bool) → ℕ → List Buffer → Bool
 has_passing passes number buffers = list_any (λ b. (b.number == number) && passes b) buffers
+
+-- whether a buffer passes is said by its number and its object
+abbrev pub IsByNumber : (Buffer → Bool) → Type 0
+IsByNumber passes = (b c : Buffer) → b.number ≡ c.number → b.object ≡ c.object → passes b ≡ passes c
 
 -- Of two lists the same stores go where those that pass have the same numbers.
 abbrev pub LetsGoAlike : Type 0
 LetsGoAlike =
-    (passes : Buffer → Bool) (buffers others : List Buffer) (stores : Stock) → AreOne (buffers ++ others)
+    (passes : Buffer → Bool) (buffers others : List Buffer) (stores : Stock) → IsByNumber passes → AreOne (buffers ++ others)
     → ((number : ℕ) → has_passing passes number buffers ≡ has_passing passes number others)
     → gone_with (filter passes (each_once buffers)) stores ≡ gone_with (filter passes (each_once others)) stores

@@ -2,7 +2,7 @@
 //! whose stores go, and which wl_buffers are released. Each law is a function that promises it.
 #![tactic(auto)]
 
-ghost use Rattle.wl_tree_buffers.specs.Laws.{GoInAnyOrder, ReleasesCommute};
+ghost use Rattle.wl_tree_buffers.specs.Laws.{GoInAnyOrder, LetsGoAlike, ReleasesCommute};
 
 /// Two stores have one use less each, whichever comes first.
 pub fn releases_commute()
@@ -12,4 +12,9 @@ pub fn releases_commute()
 /// The stores of buffers go in any order.
 pub fn go_in_any_order()
     ensures { GoInAnyOrder }
+{}
+
+/// Of two lists of buffers the same stores go where those that pass a test have the same numbers.
+pub fn lets_go_alike()
+    ensures { LetsGoAlike }
 {}
