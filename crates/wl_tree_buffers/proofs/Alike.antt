@@ -92,7 +92,7 @@ apart-once (b ∷ bs) =
 -- ---- those that pass, each once
 
 -- those of one number pass, or none
-abbrev Alike : (Buffer → Bool) → List Buffer → Type 0
+abbrev pub Alike : (Buffer → Bool) → List Buffer → Type 0
 Alike p [] = Unit {0}
 Alike p (b ∷ bs) = Each (λ c. b.number ≡ c.number → p c ≡ p b) bs × Alike p bs
 
