@@ -1,6 +1,7 @@
 -- The windows of the output from bottom to top, and what becomes of those of one tree (xdg-shell.xml, xdg_surface; wayland.xml,
 -- wl_subsurface).
-use Rattle.std.specs.Prelude.{ℕ, suc, ◌-◌, ◌≡◌, ◌==◌, ◌&&◌, not, if◌then◌else◌, List, [], ◌∷◌, ◌++◌, Bool, true, false, drop, filter, length, map, take}
+use Rattle.std.specs.Prelude.{ℕ, suc, ◌-◌, ◌≡◌, ◌==◌, ◌&&◌, not, if◌then◌else◌, List, [], ◌∷◌, ◌++◌}
+use Rattle.std.specs.Prelude.{Bool, true, false, drop, filter, length, map, take}
 use Rattle.std.specs.List.{list_all, list_any}
 use Rattle.wl_windows.specs.declared.window.TreeWindow.{TreeWindow}
 use Rattle.wl_stacked.specs.declared.stacked.Stacked.{Stacked}

@@ -36,7 +36,8 @@ fn count_of(all: &[Stacked], client: u32, root: SurfaceNo) -> usize
 /// Where the windows of the tree of a root stand. `None` where it has none.
 fn run_of(all: &[Stacked], client: u32, root: SurfaceNo) -> Option<Run>
     requires { AreTogether all.now }
-    ensures { MatchOption result (list_any (is_of client root) all.now ≡ false) (λ run. IsRun (is_of client root) run.start run.count all.now) }
+    ensures { MatchOption result (list_any (is_of client root) all.now ≡ false)
+        (λ run. IsRun (is_of client root) run.start run.count all.now) }
 {
     let start = position_of(all, client, root)?;
     let count = count_of(all, client, root);
