@@ -1,0 +1,8 @@
+use Rattle.std.proofs.Common.{map}
+use Rattle.wl_stacked.specs.Stacked.{is_of, stacked}
+use Rattle.wl_stacked.proofs.Places.{placed-run}
+use Rattle.wl_stacked.proofs.replaces_a_run.Goals as goal
+
+pub returns : goal.returns
+returns c = λ client root windows below first others above none here all over.
+    placed-run (is_of client root) (map (stacked client root) windows) below first others above none here all over

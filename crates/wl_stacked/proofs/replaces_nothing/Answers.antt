@@ -1,0 +1,7 @@
+use Rattle.std.proofs.Common.{map}
+use Rattle.wl_stacked.specs.Stacked.{is_of, stacked}
+use Rattle.wl_stacked.proofs.Together.{place-none}
+use Rattle.wl_stacked.proofs.replaces_nothing.Goals as goal
+
+pub returns : goal.returns
+returns c = λ client root windows all none. place-none (is_of client root) (map (stacked client root) windows) all none

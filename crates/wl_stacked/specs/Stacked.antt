@@ -1,0 +1,83 @@
+-- The windows of the output from bottom to top, and what becomes of those of one tree (xdg-shell.xml, xdg_surface; wayland.xml,
+-- wl_subsurface).
+use Rattle.std.specs.Prelude.{ℕ, suc, ◌-◌, ◌≡◌, ◌==◌, ◌&&◌, not, if◌then◌else◌, List, [], ◌∷◌, ◌++◌}
+use Rattle.std.specs.Prelude.{Bool, true, false, drop, filter, length, map, take}
+use Rattle.std.specs.List.{list_all, list_any}
+use Rattle.wl_windows.specs.declared.window.TreeWindow.{TreeWindow}
+use Rattle.wl_stacked.specs.declared.stacked.Stacked.{Stacked}
+
+-- the window is of the tree of this root
+abbrev pub is_of : ℕ → ℕ → Stacked → Bool
+is_of client root s = (s.client == client) && (s.root == root)
+
+-- a window of the tree of this root
+abbrev pub stacked : ℕ → ℕ → TreeWindow → Stacked
+stacked client root window = record { client = client; root = root; window = window }
+
+abbrev pub tree_of : ℕ → ℕ → List Stacked → List Stacked
+tree_of client root all = filter (λ s. is_of client root s) all
+
+abbrev pub without_tree : ℕ → ℕ → List Stacked → List Stacked
+without_tree client root all = filter (λ s. not (is_of client root s)) all
+
+abbrev pub without_client : ℕ → List Stacked → List Stacked
+without_client client all = filter (λ s. not (s.client == client)) all
+
+-- ---- windows that stand together
+
+-- those that pass the test stand at the front, and none behind
+abbrev pub are_in_front : {X : Type 0} → (X → Bool) → List X → Bool
+are_in_front test [] = true
+are_in_front test (x ∷ xs) = if test x then are_in_front test xs else not (list_any test xs)
+
+-- those that pass the test stand one behind another
+abbrev pub are_a_run : {X : Type 0} → (X → Bool) → List X → Bool
+are_a_run test [] = true
+are_a_run test (x ∷ xs) = if test x then are_in_front test xs else are_a_run test xs
+
+-- the windows of each tree stand together
+abbrev pub AreTogether : List Stacked → Type 0
+AreTogether all = (client root : ℕ) → are_a_run (is_of client root) all ≡ true
+
+-- Those that pass the test are `count`, one behind another, and the first of them stands at `start`.
+pub record IsRun (test : Stacked → Bool) (start count : ℕ) (all : List Stacked) : Type 0 where
+  pub below : List Stacked
+  pub first : Stacked
+  pub others : List Stacked
+  pub above : List Stacked
+  pub whole : all ≡ below ++ ((first ∷ others) ++ above)
+  pub begins : length below ≡ start
+  pub counted : suc (length others) ≡ count
+  pub none_below : list_any test below ≡ false
+  pub is_first : test first ≡ true
+  pub are_others : list_all test others ≡ true
+  pub none_above : list_any test above ≡ false
+
+-- ---- others in their place
+
+-- the new ones in the place of the first that passes the test, and none of the old ones that pass it
+abbrev pub in_place : {X : Type 0} → (X → Bool) → List X → List X → List X
+in_place test new [] = []
+in_place test new (x ∷ xs) = if test x then new ++ filter (λ y. not (test y)) xs else x ∷ in_place test new xs
+
+-- These are the windows of the tree of this root now, where its windows stood: nothing changes where it had none.
+abbrev pub replaced : ℕ → ℕ → List TreeWindow → List Stacked → List Stacked
+replaced client root windows all = in_place (is_of client root) (map (stacked client root) windows) all
+
+-- The windows of a tree that stand together are others now, and what stands below them and above them stays.
+abbrev pub ReplacesARun : Type 0
+ReplacesARun =
+    (client root : ℕ) (windows : List TreeWindow) (below : List Stacked) (first : Stacked) (others above : List Stacked)
+    → list_any (is_of client root) below ≡ false → is_of client root first ≡ true → list_all (is_of client root) others ≡ true
+    → list_any (is_of client root) above ≡ false
+    → replaced client root windows (below ++ ((first ∷ others) ++ above)) ≡ below ++ (map (stacked client root) windows ++ above)
+
+-- Nothing changes where no window of the tree is there.
+abbrev pub ReplacesNothing : Type 0
+ReplacesNothing =
+    (client root : ℕ) (windows : List TreeWindow) (all : List Stacked) → list_any (is_of client root) all ≡ false
+    → replaced client root windows all ≡ all
+
+-- the last so many before the others
+abbrev pub last_first : ℕ → List Stacked → List Stacked
+last_first count xs = drop (length xs - count) xs ++ take (length xs - count) xs

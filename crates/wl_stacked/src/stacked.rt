@@ -1,0 +1,60 @@
+//! A window of the output, and whose it is.
+
+ghost use Rattle.std.specs.Prelude.{◌≡◌, ◌++◌, ◌==◌, OnErr, OnOk, map};
+ghost use Rattle.wl_stacked.specs.Stacked.{is_of, stacked};
+
+use std::alloc::{AllocError, Allocator};
+use wl_surface::SurfaceNo;
+use wl_windows::TreeWindow;
+
+/// A window of the output, with the client and the root surface of its tree.
+#[derive(Clone, Copy, Debug)]
+pub struct Stacked {
+    pub client: u32,
+    pub root: SurfaceNo,
+    pub window: TreeWindow,
+}
+
+/// Whether a window is of the tree of this root.
+pub(crate) fn is_of_tree(stacked: &Stacked, client: u32, root: SurfaceNo) -> bool
+    ensures { result ≡ is_of client root stacked.now }
+{
+    stacked.client == client && stacked.root == root
+}
+
+/// Whether a window is a client's.
+pub(crate) fn is_of_client(stacked: &Stacked, client: u32) -> bool
+    ensures { result ≡ (stacked.now.client == client) }
+{
+    stacked.client == client
+}
+
+/// The windows of the tree of a root come on top of the others.
+///
+/// # Errors
+///
+/// An `Err` is for want of memory, and adds nothing.
+pub(crate) fn add_all<A: Allocator>(
+    all: &mut Vec<Stacked, A>,
+    client: u32,
+    root: SurfaceNo,
+    windows: &[TreeWindow],
+) -> Result<(), AllocError>
+    ensures ok { OnOk result (all.new.items ≡ all.old.items ++ map (stacked client root) windows.now) }
+    ensures err { OnErr result (all.new.items ≡ all.old.items) }
+{
+    let before = all.len();
+    all.try_reserve(windows.len())?;
+    for window in windows {
+        let stacked = Stacked {
+            client,
+            root,
+            window: *window,
+        };
+        if all.push(stacked).is_err() {
+            all.truncate(before);
+            return Err(AllocError);
+        }
+    }
+    Ok(())
+}

@@ -1,0 +1,117 @@
+//! The windows of the output from bottom to top.
+
+ghost use Rattle.std.specs.Prelude.{◌≡◌, ◌++◌, [], OnErr, OnOk, false, map};
+ghost use Rattle.std.specs.List.{list_any};
+ghost use Rattle.wl_stacked.specs.Stacked.{AreTogether, is_of, replaced, stacked, tree_of, without_client, without_tree};
+
+use crate::runs::{replace_in, tree_in};
+use crate::stacked::{Stacked, add_all, is_of_client, is_of_tree};
+use std::alloc::{AllocError, Allocator};
+use std::marker::Model;
+use wl_surface::SurfaceNo;
+use wl_windows::TreeWindow;
+
+/// The windows of all mapped toplevels from bottom to top: of each toplevel those of its tree together (xdg-shell.xml, xdg_surface;
+/// wayland.xml, wl_subsurface). They are seen as that list.
+#[derive(Drop)]
+pub struct StackedWindows<A: Allocator> {
+    windows: Vec<Stacked, A>,
+}
+
+impl<A: Allocator> Model for StackedWindows<A> {
+    ghost use Rattle.std.specs.Prelude.{List};
+    ghost use Rattle.wl_stacked.specs.Stacked.{AreTogether};
+    ghost use Rattle.wl_stacked.specs.declared.stacked.Stacked.{Stacked};
+
+    ghost Value = { List Stacked };
+
+    ghost view = { λ all. all.windows.items };
+
+    ghost invariant = { λ all. AreTogether all.windows.items };
+}
+
+impl<A: Allocator> StackedWindows<A> {
+    /// No windows.
+    pub fn new(alloc: A) -> Self
+        ensures { result ≡ [] }
+    {
+        StackedWindows {
+            windows: Vec::new(alloc),
+        }
+    }
+
+    /// The windows, from bottom to top.
+    pub fn windows(&self) -> &[Stacked]
+        ensures windows { result.now ≡ self.now }
+        ensures together { AreTogether self.now }
+    {
+        &self.windows[..]
+    }
+
+    /// Whether a window of the tree of this root is there.
+    pub fn has_tree(&self, client: u32, root: SurfaceNo) -> bool
+        ensures { result ≡ list_any (is_of client root) self.now }
+    {
+        self.windows
+            .iter()
+            .any(|stacked| is_of_tree(stacked, client, root))
+    }
+
+    /// The windows of the tree of a root, from bottom to top.
+    pub fn tree(&self, client: u32, root: SurfaceNo) -> &[Stacked]
+        ensures { result.now ≡ tree_of client root self.now }
+    {
+        tree_in(&self.windows, client, root)
+    }
+
+    /// The windows of the tree of a root come on top of the others, which are of other trees.
+    ///
+    /// # Errors
+    ///
+    /// An `Err` is for want of memory, and changes nothing.
+    pub fn push(
+        &mut self,
+        client: u32,
+        root: SurfaceNo,
+        windows: &[TreeWindow],
+    ) -> Result<(), AllocError>
+        requires { list_any (is_of client root) self.old ≡ false }
+        ensures ok { OnOk result (self.new ≡ self.old ++ map (stacked client root) windows.now) }
+        ensures err { OnErr result (self.new ≡ self.old) }
+    {
+        add_all(&mut self.windows, client, root, windows)
+    }
+
+    /// The windows of the tree of a root are these now, where the tree stands. Nothing changes where no window of it is there.
+    ///
+    /// # Errors
+    ///
+    /// An `Err` is for want of memory, and changes nothing.
+    pub fn replace(
+        &mut self,
+        client: u32,
+        root: SurfaceNo,
+        windows: &[TreeWindow],
+    ) -> Result<(), AllocError>
+        ensures ok { OnOk result (self.new ≡ replaced client root windows.now self.old) }
+        ensures err { OnErr result (self.new ≡ self.old) }
+    {
+        replace_in(&mut self.windows, client, root, windows)
+    }
+
+    /// The windows of the tree of a root go.
+    pub fn remove(&mut self, client: u32, root: SurfaceNo)
+        ensures { self.new ≡ without_tree client root self.old }
+    {
+        self.windows
+            .retain(|stacked| !is_of_tree(stacked, client, root));
+    }
+
+    /// All windows of a client go.
+    pub fn remove_client(&mut self, client: u32)
+        ensures { self.new ≡ without_client client self.old }
+    {
+        self.windows
+            .retain(|stacked| !is_of_client(stacked, client));
+    }
+}
