@@ -159,14 +159,14 @@ impl<A: Allocator + Copy> Resident<A> {
         ensures still { kept_of self.old.owned.shell surface ≡ None → IsStill self.old self.new }
     {
         let had = self.owned.linked.surfaces.buffers(surface);
-        let Ok(applied) = self.owned.linked.destroy(surface) else {
+        let Ok(told) = self.owned.linked.destroy(surface) else {
             self.client.lack_memory();
             return;
         };
-        let released = self.released(had, &applied.freed);
+        let released = self.released(had, &told.applied.freed);
         self.let_go_of(had);
         self.client
-            .remove_with(object, &applied.callbacks, released);
+            .remove_with(object, &told.applied.callbacks, released);
     }
 
     /// wl_surface.attach of the buffer with this id, or of none for null, at this offset in pixels.
@@ -265,14 +265,14 @@ impl<A: Allocator + Copy> Resident<A> {
         ensures rest { length self.new.client.rest ≤ length self.old.client.rest }
     {
         let had = self.owned.linked.surfaces.buffers(surface);
-        let Ok(applied) = self.owned.linked.commit(surface) else {
+        let Ok(told) = self.owned.linked.commit(surface) else {
             self.client.lack_memory();
             return None;
         };
-        let released = self.released(had, &applied.freed);
+        let released = self.released(had, &told.applied.freed);
         self.let_go_of(had);
         self.tell_act(surface, act, serial, released);
-        Some(applied)
+        Some(told.applied)
     }
 
     /// wl_surface.set_buffer_transform to one of the eight.

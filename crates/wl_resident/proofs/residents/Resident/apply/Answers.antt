@@ -50,10 +50,10 @@ returns-clause-applies g c = λ client r on names object kept shows only comes i
     let told = c.tell_act.ensures.told after.peer peer in
     let same : kept_of c.let_go_of.new.self.owned.shell number ≡ changing number (kept_after c.args.serial act) kept number =
     ap (λ o. kept_of o.shell number) c.let_go_of.ensures.owned ∙ ap (λ (k : ℕ → Option Kept). k number) (shell ∙ ap (λ n. changing number (kept_after n act) kept) (sym serial)) in
-    let freed = freed-changed names.surfaces v.owned.linked.surfaces v.owned.linked.family r then owned.surfaces object number named c.in-Ok.applied.freed.items c.commit.new.self.surfaces
+    let freed = freed-changed names.surfaces v.owned.linked.surfaces v.owned.linked.family r then owned.surfaces object number named c.in-Ok.told.applied.freed.items c.commit.new.self.surfaces
     c.commit.new.self.family
     (λ s. applying (asking Commit s)) (λ s. refl) refl are
-    (alone-freed names.surfaces v.owned.linked.surfaces v.owned.linked.family r.owned.surfaces owned.surfaces number c.in-Ok.applied.freed.items c.in-Ok.ensures.freed) in
+    (alone-freed names.surfaces v.owned.linked.surfaces v.owned.linked.family r.owned.surfaces owned.surfaces number c.in-Ok.told.applied.freed.items c.in-Ok.ensures.freed) in
     let at = surface_at object r.owned.surfaces in
     let released = c.released-released.ensures then is at had (subst (λ (numbers : List ℕ). IsFreedOf numbers (shown_at at) then) (sym c.deref.ensures.value) freed) in
     let telling = release_told c.released-released.result in
@@ -96,7 +96,7 @@ returns-clause-commits g c =
     c.in-Ok.ensures.ok
 
 pub returns-clause-change : goal.returns-clause-change
-returns-clause-change g c = λ alive. (c.in-Ok.applied, refl, c.in-Ok.ensures.changes)
+returns-clause-change g c = λ alive. (c.in-Ok.told.applied, refl, c.in-Ok.ensures.changes)
 
 pub returns-in_default-clause-change : goal.returns-in_default-clause-change
 returns-in_default-clause-change g c = λ alive. absurd (gone c.lack_memory.new.self.ended c.lack_memory.ensures.ended alive)

@@ -60,14 +60,14 @@ returns-clause-does g c = λ named bare client r on is only.
     let cs = callbacks_of id r in
     let calls = c.deref-2.result.now in
     let ids : calls ≡ map (λ (x : Callback). x.id) cs =
-    c.deref-2.ensures.value ∙ left-ids names.surfaces v.owned.linked.surfaces v.owned.linked.family r.owned.surfaces is.owns.surfaces c.args.surface c.in-Ok.applied.callbacks.items
+    c.deref-2.ensures.value ∙ left-ids names.surfaces v.owned.linked.surfaces v.owned.linked.family r.owned.surfaces is.owns.surfaces c.args.surface c.in-Ok.told.applied.callbacks.items
     c.in-Ok.ensures.callbacks r.callbacks waits ∙ ap (λ ns. map (λ (x : Callback). x.id) (filter (is_in ns) r.callbacks)) asked in
     let after = after_surface id r then in
     let told = c.remove_with.ensures.removes after.peer peer in
     let went = going-removed cs calls after.peer ids in
-    let freed = freed-left names.surfaces v.owned.linked.surfaces v.owned.linked.family r then is.owns.surfaces id c.args.surface named c.in-Ok.applied.freed.items c.destroy.new.self.surfaces
+    let freed = freed-left names.surfaces v.owned.linked.surfaces v.owned.linked.family r then is.owns.surfaces id c.args.surface named c.in-Ok.told.applied.freed.items c.destroy.new.self.surfaces
     c.destroy.new.self.family refl owned.surfaces
-    (left-freed names.surfaces v.owned.linked.surfaces v.owned.linked.family r.owned.surfaces is.owns.surfaces c.args.surface c.in-Ok.applied.freed.items c.in-Ok.ensures.freed) in
+    (left-freed names.surfaces v.owned.linked.surfaces v.owned.linked.family r.owned.surfaces is.owns.surfaces c.args.surface c.in-Ok.told.applied.freed.items c.in-Ok.ensures.freed) in
     let at = surface_at id r.owned.surfaces in
     let released = c.released-released.ensures then is.peer at had (subst (λ (numbers : List ℕ). IsFreedOf numbers (shown_at at) then) (sym c.deref.ensures.value) freed) in
     let events = going-told id cs calls c.released-released.result (releases r (changed_simply (DestroySurface id) r)) ids
