@@ -3,7 +3,7 @@ use Rattle.std.proofs.Common.{◌≡◌, ℕ, zero, suc, ◌+◌, ◌<◌, ◌�
 use Rattle.std.specs.Prelude.{count_by, slice_index_or}
 use Rattle.std.proofs.lemmas.Bool.{eqb-true}
 use Rattle.std.proofs.lemmas.List.{length-map}
-use Rattle.std.proofs.lemmas.List.Folds.{list_any_more}
+use Rattle.std.proofs.lemmas.List.Folds.{list_any-append, list_any_more}
 use Rattle.std.proofs.lemmas.List.Sums.{sum_by-append}
 use Rattle.wl_state.specs.declared.content.Attached.{Attached}
 use Rattle.wl_state.specs.Kept.{buffer_of}
@@ -103,6 +103,29 @@ pub number-all : (shown : List Attached) (i : ℕ) → length shown ≤ i → le
 number-all shown i most =
     let e = length-map (map buffer_of shown) (λ (b : Buffer). b.number) ∙ length-map shown buffer_of in
     omega (arith, e, most)
+
+-- ---- what is freed is among what was shown
+
+module _ (shown freed : List ℕ) (i d : ℕ) (less : i < length shown) (here : ℕ) (is_here : slice_index_or shown i d ≡ here)
+    (so_far : (number : ℕ) → is_among freed number ≡ true → is_among (take i shown) number ≡ true) where
+  one-more : (number : ℕ) → is_among (take (i + 1) shown) number ≡ (is_among (take i shown) number || (here == number))
+  one-more number = list_any_more (λ n. n == number) shown i d less ∙ ap (λ n. is_among (take i shown) number || (n == number)) is_here
+
+  pub among-more : (number : ℕ) → is_among freed number ≡ true → is_among (take (i + 1) shown) number ≡ true
+  among-more number e = one-more number ∙ ap (λ b. b || (here == number)) (so_far number e)
+
+  pub among-added : (new : List ℕ) → new ≡ freed ++ here ∷ [] → (number : ℕ) → is_among new number ≡ true → is_among (take (i + 1) shown) number ≡ true
+  among-added new added number e =
+      one-more number
+      ∙ at (is_among freed number) (here == number) refl refl
+      (sym (ap (λ (ns : List ℕ). is_among ns number) added ∙ list_any-append (λ n. n == number) freed (here ∷ [])) ∙ e)
+    where
+      at : (x y : Bool) → is_among freed number ≡ x → (here == number) ≡ y → (x || (y || false)) ≡ true → (is_among (take i shown) number || (here == number)) ≡ true
+      at true y f h is = ap (λ b. b || (here == number)) (so_far number f)
+      at false true f h is = ap (λ b. is_among (take i shown) number || b) h ∙ or-true (is_among (take i shown) number)
+      at false false f h is = absurd (cc)
+
+-- ---- and is counted once
 
 module _ (all : Numbered) (shown freed : List ℕ) (i d : ℕ) (less : i < length shown) (here : ℕ) (is_here : slice_index_or shown i d ≡ here)
     (busy : Bool) (answer : IsAny (shows_at here) all busy)

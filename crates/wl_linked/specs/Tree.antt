@@ -51,6 +51,10 @@ abbrev pub shown_by : List ℕ → Numbered → List Buffer
 shown_by [] all = []
 shown_by (n ∷ ns) all = shown_at (all n) ++ shown_by ns all
 
+-- each of the numbers is that of one of the buffers
+abbrev pub AreAmong : List ℕ → List Buffer → Type 0
+AreAmong numbers buffers = (number : ℕ) → is_among numbers number ≡ true → is_among (numbers_of buffers) number ≡ true
+
 -- The buffers that surfaces of a kind show: whatever one of them shows is among these, and each of these is as one of them shows it.
 pub record AreShown (is_such : ℕ → Bool) (all : Surfaces) (buffers : List Buffer) : Type 0 where
   pub each : (number buffer : ℕ) → is_such number ≡ true → shows_at buffer (surface_at number all) ≡ true
@@ -86,7 +90,7 @@ abbrev pub IsCommitTold : {A : Type 0} → ℕ → Surfaces → List (Change A) 
 IsCommitTold surface all changes =
     IsToldUnless (behaves_synchronised levels all surface) surface (with_change surface (asking Commit) all) changes
 
--- what that may change the shown buffers of: the surface and those that descend from it, or it alone where its commit is held
+-- the surfaces whose shown buffers that may change: the surface with those that descend from it, or it alone where its commit is held
 abbrev pub is_committed : ℕ → Surfaces → ℕ → Bool
 is_committed surface all number =
     if behaves_synchronised levels all surface then number == surface else descends_from 16 all surface number
@@ -100,7 +104,7 @@ IsDesyncTold number child all changes =
     unheld : ℕ → Surfaces → Surfaces
     unheld number all = with_link number (in_mode false) all
 
--- and the surfaces that are applied then: the child and those that descend from it
+-- and the surfaces that are applied then: the child with those that descend from it
 abbrev pub is_released : ℕ → ℕ → Surfaces → ℕ → Bool
 is_released number child all other =
     behaves_synchronised levels all child

@@ -4,7 +4,7 @@ ghost use Rattle.std.specs.Prelude.{ℕ, [], ◌≡◌, ◌==◌, ◌&&◌, not,
 ghost use Rattle.wl_family.specs.Family.{HangTogether, links_in, parents_of, stacks_in};
 ghost use Rattle.wl_linked.specs.Linked.{IsLink, Stand, numbered};
 ghost use Rattle.wl_linked.specs.Room.{HasRoom};
-ghost use Rattle.wl_linked.specs.Tree.{AreOnce, AreShown, AreToldAfter, IsCommitTold, IsDesyncTold, IsEndTold, IsTold, applied_among, is_among, is_committed, is_released, numbers_of, shown_by, stacks_among};
+ghost use Rattle.wl_linked.specs.Tree.{AreAmong, AreOnce, AreShown, AreToldAfter, IsCommitTold, IsDesyncTold, IsEndTold, IsTold, applied_among, is_among, is_committed, is_released, numbers_of, shown_by, stacks_among};
 ghost use Rattle.wl_state.specs.Kept.{buffer_of};
 ghost use Rattle.wl_state.specs.Request.{Commit};
 ghost use Rattle.wl_state.specs.Surface.{asking};
@@ -20,7 +20,8 @@ use crate::tree::{add_freed, apply_each, below, shown_of};
 use std::alloc::{AllocError, Allocator};
 use wl_surface::{Applied, Attached, BufferNo, Change, SurfaceError, SurfaceNo};
 
-/// What a call applied, and the buffers that the surfaces which it applied, held or ended showed before it, as they were attached.
+/// What a call applied, and the buffers that the surfaces which it applied, held or ended had applied and held before it, as they were
+/// attached. One that was shown more than once is there as often. Each buffer that is freed is among them (wayland.xml, wl_buffer.release).
 #[derive(Drop)]
 pub struct Told<A: Allocator> {
     pub applied: Applied<A>,
@@ -39,7 +40,7 @@ pub(crate) struct Room<A: Allocator> {
 
 impl<A: Allocator + Copy> Linked<A> {
     /// wl_surface.commit: what is pending is held and, unless the surface behaves synchronised, applied with what descends from it. What that
-    /// changes is told. Without memory nothing changes.
+    /// changes is told, and which buffers were shown before. Without memory nothing changes.
     pub fn commit(&mut self, surface: SurfaceNo) -> Result<Told<A>, SurfaceError>
         ensures ok { OnOk result ((all : Asked) → Stand self.old.surfaces self.old.family all → Stand self.new.surfaces self.new.family (committed_in surface all)) }
         ensures waits { OnOk result ((all : Asked) (cs : List Callback) → Stand self.old.surfaces self.old.family all → AreWaiting self.old.surfaces.frames (numbered all) cs
@@ -49,6 +50,7 @@ impl<A: Allocator + Copy> Linked<A> {
             → AreFreed told.applied.freed.items (numbered all) (numbered (committed_in surface all))) }
         ensures shown { IfOk result (λ told. (all : Asked) → Stand self.old.surfaces self.old.family all
             → AreShown (is_committed surface all) all (map buffer_of told.shown.items)) }
+        ensures among { IfOk result (λ told. AreAmong told.applied.freed.items (map buffer_of told.shown.items)) }
         ensures callbacks { IfOk result (λ told. told.applied.callbacks.items ≡ []) }
         ensures err { OnErr result (self.new ≡ self.old) }
         ensures cause { IfErr result (λ e. e ≡ SurfaceError.Memory) }
@@ -68,6 +70,7 @@ impl<A: Allocator + Copy> Linked<A> {
         ensures freed { IfOk result (λ told. (all : Asked) → Stand self.old.surfaces self.old.family all
             → AreFreed told.applied.freed.items (numbered all) (numbered (with_change surface (asking Commit) all))) }
         ensures shown { IfOk result (λ told. (all : Asked) → Stand self.old.surfaces self.old.family all → AreShown (λ n. n == surface) all (map buffer_of told.shown.items)) }
+        ensures among { IfOk result (λ told. AreAmong told.applied.freed.items (map buffer_of told.shown.items)) }
         ensures callbacks { IfOk result (λ told. told.applied.callbacks.items ≡ []) }
         ensures err { OnErr result (self.new ≡ self.old) }
         ensures cause { IfErr result (λ e. e ≡ SurfaceError.Memory) }
@@ -98,6 +101,7 @@ impl<A: Allocator + Copy> Linked<A> {
             → AreFreed told.applied.freed.items (numbered all) (numbered (applied_tree levels surface (with_change surface (asking Commit) all)))) }
         ensures shown { IfOk result (λ told. (all : Asked) → Stand self.old.surfaces self.old.family all
             → AreShown (descends_from 16 all surface) all (map buffer_of told.shown.items)) }
+        ensures among { IfOk result (λ told. AreAmong told.applied.freed.items (map buffer_of told.shown.items)) }
         ensures callbacks { IfOk result (λ told. told.applied.callbacks.items ≡ []) }
         ensures err { OnErr result (self.new ≡ self.old) }
         ensures cause { IfErr result (λ e. e ≡ SurfaceError.Memory) }
@@ -121,6 +125,7 @@ impl<A: Allocator + Copy> Linked<A> {
             → AreFreed told.applied.freed.items (numbered all) (numbered (desynchronised_in number all))) }
         ensures shown { IfOk result (λ told. (all : Asked) (number : ℕ) (link : Link) → IsLink all number child link → Stand self.old.surfaces self.old.family all
             → AreShown (is_released number child all) all (map buffer_of told.shown.items)) }
+        ensures among { IfOk result (λ told. AreAmong told.applied.freed.items (map buffer_of told.shown.items)) }
         ensures callbacks { IfOk result (λ told. told.applied.callbacks.items ≡ []) }
         ensures none { links_in self.old.family child ≡ None → OnOk result (self.new ≡ self.old) }
         ensures err { OnErr result (self.new ≡ self.old) }
@@ -152,6 +157,7 @@ impl<A: Allocator + Copy> Linked<A> {
             → AreFreed told.applied.freed.items (numbered all) (numbered (ended_in all link))) }
         ensures shown { IfOk result (λ told. (all : Asked) (number : ℕ) (link : Link) → IsLink all number child link → Stand self.old.surfaces self.old.family all
             → AreShown (descends_from 16 all child) all (map buffer_of told.shown.items)) }
+        ensures among { IfOk result (λ told. AreAmong told.applied.freed.items (map buffer_of told.shown.items)) }
         ensures callbacks { IfOk result (λ told. told.applied.callbacks.items ≡ []) }
         ensures none { links_in self.old.family child ≡ None → OnOk result (self.new ≡ self.old) }
         ensures err { OnErr result (self.new ≡ self.old) }
@@ -176,6 +182,7 @@ impl<A: Allocator + Copy> Linked<A> {
             → AreFreed told.applied.freed.items (numbered all) (numbered (destroyed_in surface all))) }
         ensures shown { IfOk result (λ told. (all : Asked) → Stand self.old.surfaces self.old.family all
             → AreShown (descends_from 16 all surface) all (map buffer_of told.shown.items)) }
+        ensures among { IfOk result (λ told. AreAmong told.applied.freed.items (map buffer_of told.shown.items)) }
         ensures callbacks { IfOk result (λ told. (all : Asked) (cs : List Callback) → AreWaiting self.old.surfaces.frames (numbered all) cs
             → told.applied.callbacks.items ≡ map (λ (c : Callback). c.id) (filter (is_in (frames_at (surface_at surface all))) cs)) }
         ensures err { OnErr result (self.new ≡ self.old) }
@@ -269,6 +276,7 @@ impl<A: Allocator + Copy> Linked<A> {
         ensures freed { (all : Numbered) → StandForAll self.new.surfaces all → (buffer : ℕ) (is : Bool) → IsAny (shows_at buffer) all is
             → count_by (λ n. n == buffer) result.applied.freed.items ≡ cond (is_among (numbers_of (map buffer_of room.shown.items)) buffer && not is) 1 0 }
         ensures shown { result.shown.items ≡ room.shown.items }
+        ensures among { AreAmong result.applied.freed.items (map buffer_of result.shown.items) }
         ensures callbacks { result.applied.callbacks.items ≡ [] }
         ensures links { links_in self.new.family ≡ links_in self.old.family }
         ensures places { self.new.family.places ≡ self.old.family.places }

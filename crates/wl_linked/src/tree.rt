@@ -2,7 +2,7 @@
 
 ghost use Rattle.std.specs.Prelude.{ℕ, [], ◌≡◌, ◌≤◌, ◌+◌, ◌++◌, ◌==◌, ◌&&◌, not, cond, Bool, List, length, map, count_by, vec_capacity, vec_len, IfOk, OnOk};
 ghost use Rattle.wl_family.specs.Family.{HangTogether, links_in, parents_of, stacks_in};
-ghost use Rattle.wl_linked.specs.Tree.{AreOnce, AreToldAfter, applied_among, is_among, listed, numbers_of, shown_by, stacks_among};
+ghost use Rattle.wl_linked.specs.Tree.{AreAmong, AreOnce, AreToldAfter, applied_among, is_among, listed, numbers_of, shown_by, stacks_among};
 ghost use Rattle.wl_state.specs.Kept.{buffer_of};
 ghost use Rattle.wl_surface.specs.Slots.{IsAny, Numbered, StandForAll, shows_at};
 ghost use Rattle.wl_surface.specs.Waiting.{AreWaiting, Callback};
@@ -80,8 +80,9 @@ pub(crate) fn add_freed<A: Allocator>(
 )
     requires none { freed.old.items ≡ [] }
     requires room { length shown.now ≤ vec_capacity freed.old }
-    ensures { (all : Numbered) → StandForAll surfaces.now all → (buffer : ℕ) (is : Bool) → IsAny (shows_at buffer) all is
+    ensures counted { (all : Numbered) → StandForAll surfaces.now all → (buffer : ℕ) (is : Bool) → IsAny (shows_at buffer) all is
         → count_by (λ n. n == buffer) freed.new.items ≡ cond (is_among (numbers_of (map buffer_of shown.now)) buffer && not is) 1 0 }
+    ensures among { AreAmong freed.new.items (map buffer_of shown.now) }
 {
     for buffer in shown {
         let number = buffer.number;

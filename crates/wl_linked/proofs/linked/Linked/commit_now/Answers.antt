@@ -47,7 +47,9 @@ returns-clause-freed g c = λ all stand.
     let after = (returns-clause-ok g c all stand).surfaces in
     now-freed v.surfaces c.hold.new.self new.surfaces v.family c.commit.new.self new.family all c.args.surface c.in_ok-room.room.below.items
     c.in_ok-hold.ensures.ok c.commit.ensures.stacks c.commit.ensures.places c.commit.ensures.links c.in_ok-room.ensures.those stand
-    (numbers_of (map buffer_of c.in_ok-room.room.shown.items)) c.apply_tree.result.applied.freed.items (among-shown c.in_ok-room.room.below.items (numbered all) c.in_ok-room.room.shown.items (c.in_ok-room.ensures.shown (numbered all) stand.surfaces)) (c.apply_tree.ensures.freed _ after)
+    (numbers_of (map buffer_of c.in_ok-room.room.shown.items)) c.apply_tree.result.applied.freed.items
+    (among-shown c.in_ok-room.room.below.items (numbered all) c.in_ok-room.room.shown.items (c.in_ok-room.ensures.shown (numbered all) stand.surfaces))
+    (c.apply_tree.ensures.freed _ after)
 
 pub returns-clause-shown : goal.returns-clause-shown
 returns-clause-shown g c = λ all stand.

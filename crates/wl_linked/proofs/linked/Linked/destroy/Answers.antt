@@ -48,7 +48,9 @@ returns-clause-freed g c = λ all stand.
     let after = (returns-clause-ok g c all stand).surfaces in
     destroyed-freed v.surfaces c.destroy.new.self new.surfaces v.family c.remove.new.self new.family all c.args.surface c.in_ok-room.room.below.items
     c.in_ok-room.ensures.hang stand c.in_ok-room.ensures.those
-    (numbers_of (map buffer_of c.in_ok-room.room.shown.items)) c.apply_tree-applied.result.applied.freed.items (among-shown c.in_ok-room.room.below.items (numbered all) c.in_ok-room.room.shown.items (c.in_ok-room.ensures.shown (numbered all) stand.surfaces)) (c.apply_tree-applied.ensures.freed _ after)
+    (numbers_of (map buffer_of c.in_ok-room.room.shown.items)) c.apply_tree-applied.result.applied.freed.items
+    (among-shown c.in_ok-room.room.below.items (numbered all) c.in_ok-room.room.shown.items (c.in_ok-room.ensures.shown (numbered all) stand.surfaces))
+    (c.apply_tree-applied.ensures.freed _ after)
 
 pub returns-clause-callbacks : goal.returns-clause-callbacks
 returns-clause-callbacks g c = λ all cs are. c.in_ok-gone.ensures.ids (numbered all) cs are

@@ -23,8 +23,11 @@ returns-clause-freed g c = λ all stand.
     let after = (returns-clause-ok g c all stand).surfaces in
     held-freed all c.args.surface (numbers_of (map buffer_of c.in_ok-shown.shown.items)) c.add_freed.new.freed.items
     (among-shown (c.args.surface ∷ []) (numbered all) c.in_ok-shown.shown.items (c.in_ok-shown.ensures (numbered all) stand.surfaces))
-    (λ b is any. rw c.deref.ensures.value at c.add_freed.ensures _ after b is any)
+    (λ b is any. rw c.deref.ensures.value at c.add_freed.ensures.counted _ after b is any)
 
 pub returns-clause-shown : goal.returns-clause-shown
 returns-clause-shown g c = λ all stand.
     are-shown (c.args.surface ∷ []) (λ n. n == c.args.surface) all c.in_ok-shown.shown.items (among-alone c.args.surface) (c.in_ok-shown.ensures (numbered all) stand.surfaces)
+
+pub returns-clause-among : goal.returns-clause-among
+returns-clause-among g c = λ number e. rw c.deref.ensures.value at c.add_freed.ensures.among number e

@@ -84,7 +84,9 @@ returns-clause-freed g c = λ all number link is stand.
     c.leave.ensures.stacks c.in_ok-room.ensures.those)
     (ended-those v.surfaces v.family c.leave.new.self all number c.args.child link c.in_ok-room.room.below.items is stand c.leave.ensures.links c.leave.ensures.there
     c.leave.ensures.stacks c.in_ok-room.ensures.those)
-    (numbers_of (map buffer_of c.in_ok-room.room.shown.items)) c.apply_tree.result.applied.freed.items (among-shown c.in_ok-room.room.below.items (numbered all) c.in_ok-room.room.shown.items (c.in_ok-room.ensures.shown (numbered all) stand.surfaces)) (c.apply_tree.ensures.freed _ after.surfaces))
+    (numbers_of (map buffer_of c.in_ok-room.room.shown.items)) c.apply_tree.result.applied.freed.items
+    (among-shown c.in_ok-room.room.below.items (numbered all) c.in_ok-room.room.shown.items (c.in_ok-room.ensures.shown (numbered all) stand.surfaces))
+    (c.apply_tree.ensures.freed _ after.surfaces))
 
 pub returns-clause-shown : goal.returns-clause-shown
 returns-clause-shown g c = λ all number link is stand.

@@ -100,7 +100,9 @@ returns-then-not-is_synchronised-clause-freed g c = λ all number link is stand.
     c.set_synchronised.ensures.links c.set_synchronised.ensures.places c.set_synchronised.ensures.stacks c.in_ok-room.ensures.those)
     (unheld-those v.surfaces v.family c.set_synchronised.new.self all number c.args.child link c.in_ok-room.room.below.items is stand
     c.set_synchronised.ensures.links c.set_synchronised.ensures.places c.set_synchronised.ensures.stacks c.in_ok-room.ensures.those)
-    (numbers_of (map buffer_of c.in_ok-room.room.shown.items)) c.apply_tree.result.applied.freed.items (among-shown c.in_ok-room.room.below.items (numbered all) c.in_ok-room.room.shown.items (c.in_ok-room.ensures.shown (numbered all) stand.surfaces)) (e.freed _ after.surfaces))
+    (numbers_of (map buffer_of c.in_ok-room.room.shown.items)) c.apply_tree.result.applied.freed.items
+    (among-shown c.in_ok-room.room.below.items (numbered all) c.in_ok-room.room.shown.items (c.in_ok-room.ensures.shown (numbered all) stand.surfaces))
+    (e.freed _ after.surfaces))
 
 pub returns-clause-ok : goal.returns-clause-ok
 returns-clause-ok g c = λ all number link is stand.
