@@ -10,6 +10,8 @@ mod linked;
 #[cfg(test)]
 mod repaint;
 #[cfg(test)]
+mod stacked;
+#[cfg(test)]
 mod trees;
 #[cfg(test)]
 mod windows;
