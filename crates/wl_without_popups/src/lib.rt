@@ -1,0 +1,31 @@
+//! Desktops where subsurfaces are served, and popups, positioners and the pointer are not: what is known of them, each a function that does
+//! nothing and promises it.
+#![tactic(auto)]
+
+ghost use Rattle.wl_without_popups.specs.SimpleLaws.{ChangesSimply, DemandsAreServed, DoesNoMore, RepliesSimply};
+ghost use Rattle.wl_without_popups.specs.SimpleLaws.{StacksSimply};
+
+/// A message that is accepted demands nothing of popups, positioners and pointers.
+pub fn demands_are_served()
+    ensures { DemandsAreServed }
+{}
+
+/// What is demanded changes a client that has no popups as it does where there are none: none is placed, dismissed or left without its parent.
+pub fn changes_simply()
+    ensures { ChangesSimply }
+{}
+
+/// The client is told the answer to its request and then the releases of buffers, and of no popup that is done.
+pub fn replies_simply()
+    ensures { RepliesSimply }
+{}
+
+/// Only the toplevel of a commit that maps or unmaps it, and one that goes, change the stack of toplevels.
+pub fn stacks_simply()
+    ensures { StacksSimply }
+{}
+
+/// What is demanded does no more to the desktop than to change that stack.
+pub fn does_no_more()
+    ensures { DoesNoMore }
+{}
