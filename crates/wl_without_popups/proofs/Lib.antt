@@ -1,2 +1,4 @@
+pub mod Messages
 pub mod Served
 pub mod Simple
+pub mod Windows

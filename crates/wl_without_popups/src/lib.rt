@@ -2,7 +2,8 @@
 //! nothing and promises it.
 #![tactic(auto)]
 
-ghost use Rattle.wl_without_popups.specs.SimpleLaws.{ChangesSimply, DemandsAreServed, DoesNoMore, RepliesSimply};
+ghost use Rattle.wl_without_popups.specs.NoPopupsLaws.{WindowsAreToplevels};
+ghost use Rattle.wl_without_popups.specs.SimpleLaws.{ChangesSimply, DemandsAreServed, DoesNoMore, MessagesAreSimple, RepliesSimply};
 ghost use Rattle.wl_without_popups.specs.SimpleLaws.{StacksSimply};
 
 /// A message that is accepted demands nothing of popups, positioners and pointers.
@@ -28,4 +29,14 @@ pub fn stacks_simply()
 /// What is demanded does no more to the desktop than to change that stack.
 pub fn does_no_more()
     ensures { DoesNoMore }
+{}
+
+/// A message of a client leads where what it demands leads by itself: the settling of the focus adds nothing.
+pub fn messages_are_simple()
+    ensures { MessagesAreSimple }
+{}
+
+/// The windows are those of the toplevels with their subsurfaces.
+pub fn windows_are_toplevels()
+    ensures { WindowsAreToplevels }
 {}
