@@ -1,4 +1,9 @@
+pub mod Counted
+pub mod Held
+pub mod Ids
 pub mod Messages
+pub mod Owns
 pub mod Served
 pub mod Simple
+pub mod Stays
 pub mod Windows

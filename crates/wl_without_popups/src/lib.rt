@@ -2,7 +2,7 @@
 //! nothing and promises it.
 #![tactic(auto)]
 
-ghost use Rattle.wl_without_popups.specs.NoPopupsLaws.{WindowsAreToplevels};
+ghost use Rattle.wl_without_popups.specs.NoPopupsLaws.{EmptyHasNoPopups, NoPopupsStay, WindowsAreToplevels};
 ghost use Rattle.wl_without_popups.specs.SimpleLaws.{ChangesSimply, DemandsAreServed, DoesNoMore, MessagesAreSimple, RepliesSimply};
 ghost use Rattle.wl_without_popups.specs.SimpleLaws.{StacksSimply};
 
@@ -39,4 +39,14 @@ pub fn messages_are_simple()
 /// The windows are those of the toplevels with their subsurfaces.
 pub fn windows_are_toplevels()
     ensures { WindowsAreToplevels }
+{}
+
+/// A desktop without clients has no popups.
+pub fn empty_has_no_popups()
+    ensures { EmptyHasNoPopups }
+{}
+
+/// A step leaves no popup where there was none, unless it is a motion of the pointer or a button.
+pub fn no_popups_stay()
+    ensures { NoPopupsStay }
 {}
