@@ -1,9 +1,9 @@
 -- What a client owns is known by the ids of its objects, as objects come and go.
-use Rattle.std.proofs.Common.{◌≡◌, ℕ, Bool, true, false, List, [], ◌∷◌, ◌++◌, Option, Some, None, cond, refl, ap, sym, subst, ◌∙◌, map}
-use Rattle.std.specs.Prelude.{◌==◌, not, is_some, find, filter, fold}
+use Rattle.std.proofs.Common.{◌≡◌, ℕ, Bool, true, false, List, [], ◌∷◌, ◌++◌, Option, Some, None, cond, refl, ap, sym, ◌∙◌, map}
+use Rattle.std.specs.Prelude.{◌==◌, not, is_some, filter, fold}
 use Rattle.std.specs.List.{list_any}
 use Rattle.std.specs.Option.{option_map_or}
-use Rattle.std.proofs.lemmas.Bool.{eqb-false, eqb-true}
+use Rattle.std.proofs.lemmas.Bool.{eqb-true}
 use Rattle.wl_interface.specs.declared.interface.Interface.{Interface}
 use Rattle.wl_interface.specs.declared.interface.Interface.TheVariants.{WlBuffer, WlCallback, WlRegion, WlShmPool, WlSubsurface, WlSurface}
 use Rattle.wl_peer.specs.declared.actions.Action.{Action}
@@ -20,7 +20,7 @@ use Rattle.wl_surface.specs.Trees.{destroyed_in, ended_in, links_with}
 use Rattle.wl_surface.specs.Waiting.{Callback}
 use Rattle.wl_plain.specs.Changing.{without_child}
 use Rattle.wl_plain.specs.Desktop.{Resident, Subsurface}
-use Rattle.wl_laws.specs.Apart.{AreApartBy, AreObjects}
+use Rattle.wl_laws.specs.Apart.{AreObjects}
 use Rattle.wl_laws.proofs.Lists.Keys.{differ, gone, new-elsewhere}
 use Rattle.wl_laws.proofs.Lists.Standings.{any-gone}
 use Rattle.wl_laws.proofs.Marks.Stacks.{equal-numbers}
@@ -29,7 +29,7 @@ use Rattle.wl_laws.proofs.Soundness.ObjectsHas.{has_callback, has_sub}
 use Rattle.wl_laws.proofs.Soundness.ObjectsKeys.{any-of-filter, free-none, is-false, objects-filter, objects-gone, objects-map, objects-more, objects-new, of-one, others-kept}
 use Rattle.wl_laws.proofs.Soundness.ObjectsThere.{There, there-destroyed}
 use Rattle.wl_laws.proofs.Soundness.Orderly.{IsOwn}
-use Rattle.wl_records.proofs.Toplevels.Heard.{AreHeard, heard-left, heard-more, left_of}
+use Rattle.wl_records.proofs.Toplevels.Heard.{heard-left, heard-more, left_of}
 
 -- each surface has its wl_surface, and each wl_subsurface and callback its object
 pub record AreHeld (all : Surfaces) (subs : List Subsurface) (calls : List Callback) (objects : Objects) : Type 0 where
@@ -105,7 +105,8 @@ module _ (all : Surfaces) (subs : List Subsurface) (calls : List Callback) (obje
     known = λ key there. others-kept WlSurface objects id None (of-one WlSubsurface WlSurface (objects id) refl is) key (held.known key there);
     children = objects-gone WlSubsurface has_sub objects id (filter (λ s. not (s.id == id)) subs) (any-gone (has_sub id) (λ s. not (s.id == id)) (λ s is. ap not is) subs)
         (objects-filter WlSubsurface has_sub objects (λ s. not (s.id == id)) subs held.children);
-    callbacks = objects-more WlCallback has_callback objects (with_id id None objects) calls (others-kept WlCallback objects id None (of-one WlSubsurface WlCallback (objects id) refl is)) held.callbacks;
+    callbacks = objects-more WlCallback has_callback objects (with_id id None objects) calls (others-kept WlCallback objects id None (of-one WlSubsurface WlCallback (objects id) refl is))
+        held.callbacks;
   }
 
 -- ---- callbacks go
@@ -149,7 +150,8 @@ held-destroyed surface all subs calls objects is held = record {
   children = objects-more WlSubsurface has_sub objects (with_id surface None objects) (map (without_child surface) subs)
       (others-kept WlSubsurface objects surface None (of-one WlSurface WlSubsurface (objects surface) refl is))
       (objects-map WlSubsurface has_sub objects (without_child surface) subs (λ key s e. ap (λ i. i == key) (sym (child-id surface s)) ∙ e) held.children);
-  callbacks = objects-more WlCallback has_callback objects (with_id surface None objects) calls (others-kept WlCallback objects surface None (of-one WlSurface WlCallback (objects surface) refl is)) held.callbacks;
+  callbacks = objects-more WlCallback has_callback objects (with_id surface None objects) calls
+      (others-kept WlCallback objects surface None (of-one WlSurface WlCallback (objects surface) refl is)) held.callbacks;
 }
   where
     at : (key : ℕ) → is_some (surface_at key (destroyed_in surface all)) ≡ true → (b : Bool) → (key == surface) ≡ b → is_of WlSurface (cond b None (objects key)) ≡ true

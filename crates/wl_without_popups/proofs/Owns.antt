@@ -1,24 +1,23 @@
 -- What is demanded leaves a client without popups.
-use Rattle.std.proofs.Common.{◌≡◌, ℕ, Bool, true, false, List, [], ◌∷◌, ◌++◌, Option, Some, None, cond, refl, ap, sym, subst, ◌∙◌, map, inl, inr}
-use Rattle.std.specs.Prelude.{◌==◌, not, is_some, find, filter}
-use Rattle.std.specs.List.{list_any}
+use Rattle.std.proofs.Common.{◌≡◌, ℕ, Bool, true, false, List, [], ◌∷◌, ◌++◌, Option, Some, None, cond, refl, ap, sym, ◌∙◌, map, inl, inr}
+use Rattle.std.specs.Prelude.{◌==◌, not, is_some, filter}
 use Rattle.std.specs.Option.{option_map_or}
 use Rattle.std.proofs.lemmas.Bool.{eqb-true}
-use Rattle.wl_interface.specs.declared.interface.Interface.TheVariants.{WlSubcompositor, WlSubsurface, WlSurface, XdgSurface, XdgToplevel, XdgWmBase}
+use Rattle.wl_interface.specs.declared.interface.Interface.TheVariants.{WlSubcompositor, WlSurface, XdgSurface, XdgToplevel, XdgWmBase}
 use Rattle.wl_peer.specs.Objects.{Objects, is_of, with_id}
 use Rattle.wl_peer.specs.Peer.{object_at_version}
 use Rattle.wl_state.specs.Frames.{frames_asked}
 use Rattle.wl_state.specs.Request.{Frame}
 use Rattle.wl_state.specs.Surface.{Surface, asking, with_role}
-use Rattle.wl_surface.specs.Surfaces.{Surfaces, history_in, is_used, surface_at, with_change, with_new}
+use Rattle.wl_surface.specs.Surfaces.{Surfaces, history_in, is_used, surface_at, with_change}
 use Rattle.wl_surface.specs.Trees.{committed_in, desynchronised_in, destroyed_in, linked, synchronised_in}
 use Rattle.wl_state.specs.declared.role.Role.TheVariants.{Toplevel as AsToplevel}
 use Rattle.wl_surface.specs.Waiting.{Callback}
 use Rattle.wl_shell.specs.Shell.{Effect, Stays, Unconfigured, Configures, Maps, Unmaps, XdgSurface as Xdg, xdg_at, xdg_of}
 use Rattle.wl_plain.specs.Ask.{Ask, Own, CreateSurface, AskSurface, EndObject, GetXdgSurface, DestroyXdgSurface, GetToplevel, Acknowledge, ConfigureAgain, Ignore}
 use Rattle.wl_plain.specs.Changing.{after_all, is_asked, link_with_id, mode_set, tree_committed, unlinked_at, without_callbacks, without_child}
-use Rattle.wl_plain.specs.Demand.{Demand, Asks, EndSurface, AskFrame, CommitTree, GetSubsurface, EndSubsurface, SetMode, GetPointer, MakeCursor, CreatePositioner, EndPositioner}
-use Rattle.wl_plain.specs.Demand.{SetPositioner, GetPopup, Grab, EndPopup, EndToplevel, Move}
+use Rattle.wl_plain.specs.Demand.{Demand, Asks, EndSurface, AskFrame, CommitTree, GetSubsurface, EndSubsurface, SetMode}
+use Rattle.wl_plain.specs.Demand.{EndToplevel}
 use Rattle.wl_plain.specs.Desktop.{Resident, Subsurface}
 use Rattle.wl_plain.specs.Step.{changed_by, making, toplevel_given, with_surfaces}
 use Rattle.wl_plain.specs.WlSubsurface.{has_subsurface, is_of_child}
@@ -28,10 +27,10 @@ use Rattle.wl_laws.proofs.Soundness.ObjectsKeys.{apart-less, none-found}
 use Rattle.wl_laws.proofs.Soundness.ObjectsThere.{there-changed, there-committed, there-desynchronised, there-linked, there-unlinked}
 use Rattle.wl_laws.proofs.Soundness.Orderly.{IsAllowed, IsAsked}
 use Rattle.wl_records.specs.NoMore.{AreToplevels}
-use Rattle.wl_records.proofs.Toplevels.Heard.{left_of}
 use Rattle.wl_without_popups.specs.NoPopups.{OwnsNoPopups}
 use Rattle.wl_without_popups.specs.Simple.{IsServed, changed_simply, effect_of, effect_on}
-use Rattle.wl_without_popups.proofs.Held.{AreHeld, Left, Rest, bare-new, bare-of, held-at, held-callback, held-destroyed, held-left, held-subsurface, held-surface, held-there, held-without, other-left}
+use Rattle.wl_without_popups.proofs.Held.{AreHeld, Left, Rest, bare-new, bare-of, held-at, held-callback}
+use Rattle.wl_without_popups.proofs.Held.{held-destroyed, held-left, held-subsurface, held-surface, held-there, held-without, other-left}
 use Rattle.wl_without_popups.proofs.Held.{own-held}
 use Rattle.wl_without_popups.proofs.Ids.{AreApart, apart-changed, apart-committed, apart-desynchronised, apart-destroyed, apart-linked, apart-new, apart-unlinked}
 use Rattle.wl_without_popups.proofs.Simple.{tops-kept}
@@ -80,7 +79,8 @@ given-owns : (id version xdg : ℕ) (o : Option Xdg) (r : Resident) → AreTople
     → OwnsNoPopups (making XdgToplevel id version (toplevel_given id xdg o r))
 given-owns id version xdg None r roles owns held = owns-by (making XdgToplevel id version (toplevel_given id xdg None r)) owns.apart roles owns.children owns.pointers held
 given-owns id version xdg (Some x) r roles owns held =
-    owns-by (making XdgToplevel id version (toplevel_given id xdg (Some x) r)) (apart-changed x.surface (with_role AsToplevel) (λ s. refl) r.owned.surfaces owns.apart) roles owns.children owns.pointers
+    owns-by (making XdgToplevel id version (toplevel_given id xdg (Some x) r)) (apart-changed x.surface (with_role AsToplevel) (λ s. refl) r.owned.surfaces owns.apart) roles owns.children
+    owns.pointers
     (held-there r.owned.surfaces r.subsurfaces r.callbacks (with_id id (Some (object_at_version XdgToplevel version)) r.peer.objects) held
     (with_change x.surface (with_role AsToplevel) r.owned.surfaces) (there-changed x.surface (with_role AsToplevel) r.owned.surfaces (λ s. refl)))
 

@@ -1,6 +1,6 @@
 -- What a request demands that is served where popups, positioners and pointers are not.
 use Rattle.std.proofs.Common.{◌≡◌, ℕ, List, Bool, true, false, Option, Some, None, Result, refl, subst}
-use Rattle.std.specs.Prelude.{Ok, Err, ◌&&◌, ◌||◌, if◌then◌else◌, is_some, nat_le}
+use Rattle.std.specs.Prelude.{Ok, Err, ◌||◌, if◌then◌else◌, is_some, nat_le}
 use Rattle.std.specs.List.{list_all}
 use Rattle.wl_proto.specs.declared.argument.NewId.{NewId}
 use Rattle.wl_proto.specs.declared.error.ProtoError.{ProtoError}

@@ -13,10 +13,9 @@ use Rattle.wl_plain.specs.Demand.{Demand, Asks, EndSurface, AskFrame, CommitTree
 use Rattle.wl_plain.specs.Demand.{SetPositioner, GetPopup, Grab, EndPopup, EndToplevel, Move}
 use Rattle.wl_plain.specs.Demanding.{effect_of_commit, effect_on_xdg, is_dismissed}
 use Rattle.wl_plain.specs.Desktop.{Desktop, Resident}
-use Rattle.wl_plain.specs.Happens.{done_for}
 use Rattle.wl_plain.specs.Replies.{commit_told, configure_told, own_answers, releases}
 use Rattle.wl_plain.specs.Stacked.{all_windows}
-use Rattle.wl_plain.specs.Step.{asked_so_far, changed_by, configured, configures_told, removing, role_configured, with_shell, xdg_changed}
+use Rattle.wl_plain.specs.Step.{asked_so_far, configured, configures_told, removing, role_configured, with_shell}
 use Rattle.wl_plain.specs.WlSurface.{will_show}
 use Rattle.wl_records.specs.NoMore.{AreToplevels, IsToplevel}
 use Rattle.wl_records.proofs.Toplevels.Buffers.{nothing-after}
@@ -24,8 +23,6 @@ use Rattle.wl_records.proofs.Toplevels.Changed.{none-dismissed, stage-top}
 use Rattle.wl_records.proofs.Toplevels.Judged.{IsToplevelAt, found-toplevel, none-popped}
 use Rattle.wl_records.proofs.Toplevels.Serves.{kept-still, none-done, top-effect as top-effect-there, tops-kept as tops-kept-there}
 use Rattle.wl_records.proofs.Toplevels.Simply.{Asking, DestroyToplevel}
-use Rattle.wl_without_popups.specs.NoPopups.{OwnsNoPopups}
-use Rattle.wl_without_popups.specs.ServedNext.{served_next}
 use Rattle.wl_without_popups.specs.Simple.{IsServed, answers_on, answers_simply, changed_simply, effect_for, effect_of, effect_on, stacked_on, stacked_simply}
 use Rattle.wl_without_popups.specs.SimpleLaws.{ChangesSimply, DoesNoMore, RepliesSimply, StacksSimply}
 

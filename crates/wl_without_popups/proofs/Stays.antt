@@ -11,19 +11,19 @@ use Rattle.wl_peer.specs.declared.cause.Cause.{Cause}
 use Rattle.wl_peer.specs.declared.cause.Cause.TheVariants.{Gone, Memory}
 use Rattle.wl_peer.specs.declared.refusals.ErrorCode.TheVariants.{InvalidMethod}
 use Rattle.wl_peer.specs.declared.refusals.Refusal.{Refusal}
-use Rattle.wl_peer.specs.Peer.{Errs, LacksMemory, Peer, Queues, counted, ended, sent_by, stored_at, stored_by, with_rest}
+use Rattle.wl_peer.specs.Peer.{Errs, LacksMemory, Peer, counted, ended, sent_by, stored_at, stored_by, with_rest}
 use Rattle.wl_peer.specs.Told.{Output, display_error}
 use Rattle.wl_shell.specs.Shell.{Effect, Stays, Unconfigured, Configures, Maps, Unmaps}
 use Rattle.wl_scene.specs.Pointer.{first_pointer}
 use Rattle.wl_scene.specs.Stacking.{Standing, is_of, without_client}
 use Rattle.wl_surface.specs.Frames.{frames_counting}
 use Rattle.wl_plain.specs.declared.answers.Done.{Done}
-use Rattle.wl_plain.specs.Act.{IsClosed, IsSent, IsStored, Act, Connect, Feed, Store, Leave, Tick, Send, Close, Motion, Button, closed_by, lowest}
+use Rattle.wl_plain.specs.Act.{IsClosed, IsSent, IsStored, Connect, Feed, Store, Leave, Tick, Send, Close, Motion, Button, closed_by, lowest}
 use Rattle.wl_plain.specs.Demand.{Demand, CommitTree, EndToplevel}
 use Rattle.wl_plain.specs.Demanding.{judge_all}
 use Rattle.wl_plain.specs.Desktop.{Desktop, Resident, arrival, become, become_by, client_at, client_in, empty, place, resident_of, toplevels_of, with_client, with_number, with_place}
 use Rattle.wl_plain.specs.Framing.{FramesTold, FramesToldAt, FramesToldBy, done_due}
-use Rattle.wl_plain.specs.Happens.{Happens, FeedsAt, IsFedAt, Reaches, Serves, StopsAt, frames_told, is_counting, wants_memory}
+use Rattle.wl_plain.specs.Happens.{FeedsAt, IsFedAt, Reaches, Serves, StopsAt, frames_told, is_counting, wants_memory}
 use Rattle.wl_plain.specs.Settling.{EndsAndSettles, becomes, unstruck}
 use Rattle.wl_plain.specs.Step.{with_peer}
 use Rattle.wl_laws.proofs.Isolation.Others.{left_out, on_top, one_client, one_surface}
@@ -34,17 +34,16 @@ use Rattle.wl_laws.proofs.Runs.Places.{number-other}
 use Rattle.wl_laws.proofs.Runs.Stays.{sent-status, stored-status}
 use Rattle.wl_laws.proofs.Soundness.Allowed.{allowed}
 use Rattle.wl_laws.proofs.Soundness.Orderly.{IsAllowed}
-use Rattle.wl_records.specs.NoMoreLaws.{LeavesPointer}
 use Rattle.wl_records.proofs.Marks.Framing.{told-shows}
 use Rattle.wl_records.proofs.Toplevels.Back.{erred, lacking, settled-back}
 use Rattle.wl_records.proofs.Toplevels.Messages.{told-objects}
-use Rattle.wl_records.proofs.Toplevels.Serves.{becomes-same, by-pointer}
+use Rattle.wl_records.proofs.Toplevels.Serves.{becomes-same}
 use Rattle.wl_without_popups.specs.NoPopups.{NoPopups, OwnsNoPopups, OwnsNoPopupsAt, OwnsNoPopupsBy}
 use Rattle.wl_without_popups.specs.NoPopupsLaws.{EmptyHasNoPopups, NoPopupsStay}
 use Rattle.wl_without_popups.specs.ServedNext.{served_next}
 use Rattle.wl_without_popups.specs.Simple.{AnswersSimply, Becomes, DoesSimply, IsServed, ServesSimply, TakesSimply, WantsOr, changed_simply, stacked_on, stacked_simply, told_simply}
 use Rattle.wl_without_popups.proofs.Counted.{allowed-counted}
-use Rattle.wl_without_popups.proofs.Messages.{messages_are_simple, living, only-peer, owns-there}
+use Rattle.wl_without_popups.proofs.Messages.{messages_are_simple, only-peer, owns-there}
 use Rattle.wl_without_popups.proofs.Owns.{demanded-owns, without-owns}
 use Rattle.wl_without_popups.proofs.Served.{demands_are_served}
 use Rattle.wl_without_popups.proofs.Simple.{stacked-pointer}

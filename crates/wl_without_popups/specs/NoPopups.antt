@@ -11,8 +11,8 @@ use Rattle.wl_plain.specs.WlSubsurface.{is_of_child}
 use Rattle.wl_laws.specs.Apart.{AreApartBy, AreObjects}
 use Rattle.wl_records.specs.NoMore.{AreToplevels}
 
--- A client has no popup and no wl_pointers. Its surfaces are told apart by their ids, which are those of wl_surfaces; its wl_subsurfaces and
--- its frame callbacks by theirs, which are those of wl_subsurfaces and wl_callbacks; and no two wl_subsurfaces are of one surface
+-- A client has no popup and no wl_pointers. Its surfaces are told apart by their ids, which are those of wl_surfaces; its wl_subsurfaces
+-- and its frame callbacks by theirs, which are those of wl_subsurfaces and wl_callbacks; and no two wl_subsurfaces are of one surface
 -- (wayland.xml, wl_subcompositor.get_subsurface).
 pub record OwnsNoPopups (r : Resident) : Type 0 where
   pub apart : AreApartBy (λ id s. s.id == id) r.owned.surfaces.surfaces

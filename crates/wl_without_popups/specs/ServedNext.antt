@@ -1,5 +1,5 @@
 -- What is served where subsurfaces are, and popups, positioners and the pointer are not.
-use Rattle.std.specs.Prelude.{Bool, true, false}
+use Rattle.std.specs.Prelude.{true, false}
 use Rattle.wl_proto.specs.declared.wl_seat.WlSeatRequest.TheVariants as seat
 use Rattle.wl_proto.specs.declared.xdg_surface.XdgSurfaceRequest.TheVariants as xdg
 use Rattle.wl_proto.specs.declared.xdg_wm_base.XdgWmBaseRequest.TheVariants as base

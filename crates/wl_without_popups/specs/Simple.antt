@@ -1,6 +1,6 @@
 -- What a message comes to where its client has no popups, and what becomes of the desktop where nobody points.
-use Rattle.std.specs.Prelude.{ℕ, ◌+◌, ◌-◌, ◌≡◌, Bool, true, false, Option, Some, None, Result, Ok, Err, List, [], ◌∷◌, ◌++◌, map, take, drop}
-use Rattle.std.specs.Prelude.{◌⊎◌}
+use Rattle.std.specs.Prelude.{ℕ, ◌+◌, ◌-◌, ◌≡◌, ◌⊎◌, Bool, true, false, Option, Some, None, Result, Ok, Err, List, [], ◌∷◌, ◌++◌}
+use Rattle.std.specs.Prelude.{map, take, drop}
 use Rattle.wl_wire.specs.Wire.{split_of}
 use Rattle.wl_wire.specs.declared.header.Split.{Split}
 use Rattle.wl_wire.specs.declared.header.Split.TheVariants.{Message as Whole, More, Bad}
@@ -8,8 +8,8 @@ use Rattle.wl_peer.specs.declared.refusals.ErrorCode.TheVariants.{InvalidMethod}
 use Rattle.wl_peer.specs.declared.refusals.Refusal.{Refusal}
 use Rattle.wl_peer.specs.Peer.{Errs, LacksMemory, Peer, Queues, counted, with_rest}
 use Rattle.wl_peer.specs.Told.{Said, display_error, id_deleted}
-use Rattle.wl_shell.specs.Shell.{Effect, Stays, Unconfigured, Configures, Maps, Unmaps, Waiting, Mapped, XdgSurface as Xdg, in_stage, on_commit}
-use Rattle.wl_shell.specs.Shell.{stage_of, unmapping, without_role, xdg_of}
+use Rattle.wl_shell.specs.Shell.{Effect, Stays, Unconfigured, Configures, Maps, Unmaps, Waiting, Mapped, XdgSurface as Xdg, in_stage}
+use Rattle.wl_shell.specs.Shell.{on_commit, stage_of, unmapping, without_role, xdg_of}
 use Rattle.wl_scene.specs.Stacking.{with_mapped, without_surface_of}
 use Rattle.wl_plain.specs.Changing.{callbacks_of, frame_asked, mode_set, subsurface_ended, subsurface_given, surface_ended, tree_committed}
 use Rattle.wl_plain.specs.Demand.{Demand, Asks, EndSurface, AskFrame, CommitTree, GetSubsurface, EndSubsurface, SetMode, GetPointer}
