@@ -1,8 +1,10 @@
 pub mod Counted
 pub mod Held
 pub mod Ids
+pub mod Left
 pub mod Messages
 pub mod Owns
+pub mod Pointer
 pub mod Served
 pub mod Simple
 pub mod Stays

@@ -2,7 +2,7 @@
 //! nothing and promises it.
 #![tactic(auto)]
 
-ghost use Rattle.wl_without_popups.specs.NoPopupsLaws.{EmptyHasNoPopups, NoPopupsStay, WindowsAreToplevels};
+ghost use Rattle.wl_without_popups.specs.NoPopupsLaws.{EmptyHasNoPopups, NoPopupsStay, OthersStay, WindowsAreToplevels};
 ghost use Rattle.wl_without_popups.specs.SimpleLaws.{ChangesSimply, DemandsAreServed, DoesNoMore, MessagesAreSimple, RepliesSimply};
 ghost use Rattle.wl_without_popups.specs.SimpleLaws.{StacksSimply};
 
@@ -11,7 +11,7 @@ pub fn demands_are_served()
     ensures { DemandsAreServed }
 {}
 
-/// What is demanded changes a client that has no popups as it does where there are none: none is placed, dismissed or left without its parent.
+/// What is demanded changes a client that has no popups so that none is placed, dismissed or left without its parent.
 pub fn changes_simply()
     ensures { ChangesSimply }
 {}
@@ -49,4 +49,9 @@ pub fn empty_has_no_popups()
 /// A step leaves no popup where there was none, unless it is a motion of the pointer or a button.
 pub fn no_popups_stay()
     ensures { NoPopupsStay }
+{}
+
+/// What happens that is no frame and no step of a client's leaves it as it was, with its toplevels: it is told nothing of the pointer.
+pub fn others_stay()
+    ensures { OthersStay }
 {}
