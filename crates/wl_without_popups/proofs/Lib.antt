@@ -1,0 +1,11 @@
+pub mod Counted
+pub mod Held
+pub mod Ids
+pub mod Left
+pub mod Messages
+pub mod Owns
+pub mod Pointer
+pub mod Served
+pub mod Simple
+pub mod Stays
+pub mod Windows

@@ -1,0 +1,5 @@
+pub mod NoPopups
+pub mod NoPopupsLaws
+pub mod ServedNext
+pub mod Simple
+pub mod SimpleLaws
