@@ -1,1 +1,5 @@
+pub mod Keeping
+pub mod Named
 pub mod Orderly
+pub mod Runs
+pub mod Subsurfaces

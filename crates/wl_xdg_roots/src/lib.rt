@@ -2,7 +2,8 @@
 //! xdg_wm_base.get_xdg_surface). Each law is a function that promises it.
 #![tactic(auto)]
 
-ghost use Rattle.wl_xdg_roots.specs.Roots.{LinksAreApart, LinksAreOfRequests, LinksHaveSubsurfaces, XdgSurfacesAreRoots};
+ghost use Rattle.wl_xdg_roots.specs.Roots.{LinksAreApart, LinksAreOfRequests, LinksHaveSubsurfaces};
+ghost use Rattle.wl_xdg_roots.specs.Roots.{SubsurfacesAreApart, XdgSurfacesAreRoots};
 
 /// A surface that has an xdg_surface is no subsurface.
 pub fn xdg_surfaces_are_roots()
@@ -22,4 +23,9 @@ pub fn links_are_apart()
 /// No link of a client has a number past that of its last request.
 pub fn links_are_of_requests()
     ensures { LinksAreOfRequests }
+{}
+
+/// No two wl_subsurfaces of a client have the same id, the same link or the same surface, and the surface of each is there.
+pub fn subsurfaces_are_apart()
+    ensures { SubsurfacesAreApart }
 {}
