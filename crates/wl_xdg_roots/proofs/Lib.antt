@@ -3,3 +3,4 @@ pub mod Named
 pub mod Orderly
 pub mod Runs
 pub mod Subsurfaces
+pub mod Tied

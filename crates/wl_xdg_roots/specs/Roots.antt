@@ -7,7 +7,7 @@ use Rattle.wl_peer.specs.Objects.{is_of}
 use Rattle.wl_peer.specs.Told.{Output}
 use Rattle.wl_surface.specs.Surfaces.{Link, link_at, surface_at}
 use Rattle.wl_shell.specs.Shell.{xdg_of}
-use Rattle.wl_tree_laws.specs.Hanging.{AreNumbered}
+use Rattle.wl_tree_laws.specs.Hanging.{AreNumbered, AreTied}
 use Rattle.wl_tree_laws.specs.Laws.{AreOnceLinked}
 use Rattle.wl_plain.specs.declared.answers.Done.{Done}
 use Rattle.wl_plain.specs.Act.{Act}
@@ -65,3 +65,10 @@ abbrev pub SubsurfacesAreApart : Type 0
 SubsurfacesAreApart =
     (left : LeftOut) (output : Output) (acts : List Act) (dones : List Done) (d : Desktop) → Lasts left acts dones (empty output) d
     → (c : ℕ) (r : Resident) → client_at c d ≡ Some r → AreOwnSubsurfaces r
+
+-- The links and the surfaces of a client hang together: of the links that live a surface's requests name those to its own children alone,
+-- and each is named by those of its parent, which is there; and no more counts than was committed (wayland.xml, wl_subsurface).
+abbrev pub SurfacesAreTied : Type 0
+SurfacesAreTied =
+    (left : LeftOut) (output : Output) (acts : List Act) (dones : List Done) (d : Desktop) → Lasts left acts dones (empty output) d
+    → (c : ℕ) → AreTied (owned_in d c).surfaces

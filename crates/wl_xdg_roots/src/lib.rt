@@ -3,7 +3,7 @@
 #![tactic(auto)]
 
 ghost use Rattle.wl_xdg_roots.specs.Roots.{LinksAreApart, LinksAreOfRequests, LinksHaveSubsurfaces};
-ghost use Rattle.wl_xdg_roots.specs.Roots.{SubsurfacesAreApart, XdgSurfacesAreRoots};
+ghost use Rattle.wl_xdg_roots.specs.Roots.{SubsurfacesAreApart, SurfacesAreTied, XdgSurfacesAreRoots};
 
 /// A surface that has an xdg_surface is no subsurface.
 pub fn xdg_surfaces_are_roots()
@@ -28,4 +28,9 @@ pub fn links_are_of_requests()
 /// No two wl_subsurfaces of a client have the same id, the same link or the same surface, and the surface of each is there.
 pub fn subsurfaces_are_apart()
     ensures { SubsurfacesAreApart }
+{}
+
+/// Each link that lives is named by what was asked of its parent, which is there, and by nothing that was asked of another surface.
+pub fn surfaces_are_tied()
+    ensures { SurfacesAreTied }
 {}
