@@ -45,15 +45,15 @@ LinksAreApart =
     (left : LeftOut) (output : Output) (acts : List Act) (dones : List Done) (d : Desktop) → Lasts left acts dones (empty output) d
     → (c : ℕ) → AreNumbered (owned_in d c).surfaces.links × AreOnceLinked (owned_in d c).surfaces.links
 
--- The number of a link is that of one of the requests that were made.
+-- No link of a client has a number past that of its last request.
 abbrev pub LinksAreOfRequests : Type 0
 LinksAreOfRequests =
     (left : LeftOut) (output : Output) (acts : List Act) (dones : List Done) (d : Desktop) → Lasts left acts dones (empty output) d
     → (c : ℕ) (r : Resident) → client_at c d ≡ Some r
     → (number : ℕ) (link : Link) → link_at number r.owned.surfaces ≡ Some link → number ≤ r.peer.requests
 
--- No two of a client's wl_subsurfaces have the same id, the same link or the same surface; each link is of a request that was made, and
--- each surface is there.
+-- no two of a client's wl_subsurfaces have the same id, the same link or the same surface; no link has a number past that of the last
+-- request; and each surface is there
 pub record AreOwnSubsurfaces (r : Resident) : Type 0 where
   pub ids : AreApartBy (λ id s. s.id == id) r.subsurfaces
   pub links : AreApartBy (λ number s. s.link == number) r.subsurfaces
@@ -61,6 +61,7 @@ pub record AreOwnSubsurfaces (r : Resident) : Type 0 where
   pub early : (number : ℕ) → list_any (λ s. s.link == number) r.subsurfaces ≡ true → number ≤ r.peer.requests
   pub there : (surface : ℕ) → has_subsurface surface r ≡ true → is_some (surface_at surface r.owned.surfaces) ≡ true
 
+-- The wl_subsurfaces of a client are told apart by their ids, by their links, and by their surfaces, which are there.
 abbrev pub SubsurfacesAreApart : Type 0
 SubsurfacesAreApart =
     (left : LeftOut) (output : Output) (acts : List Act) (dones : List Done) (d : Desktop) → Lasts left acts dones (empty output) d
