@@ -1,5 +1,5 @@
 -- Whose the windows of a tree are, and which surfaces have them.
-use Rattle.std.proofs.Common.{◌≡◌, ℕ, zero, suc, ◌+◌, ◌≤◌, true, Option, Some, None, List, refl, ap, sym, subst, arith}
+use Rattle.std.proofs.Common.{◌≡◌, ℕ, zero, suc, ◌+◌, ◌≤◌, true, Option, Some, None, List, refl, sym, subst, arith}
 use Rattle.wl_state.specs.Request.{Buffer, Child, Itself, Member, Request}
 use Rattle.wl_state.specs.State.{Values, offset, order, values}
 use Rattle.wl_surface.specs.Surfaces.{Surfaces, history_in}
@@ -9,6 +9,7 @@ use Rattle.wl_tree_laws.specs.Hanging.{kids_of}
 use Rattle.wl_tree_laws.specs.Laws.{AreOnceLinked}
 use Rattle.wl_tree_laws.specs.Stacks.{Kids}
 use Rattle.wl_tree_laws.proofs.Placing.{live-found}
+use Rattle.wl_laws.proofs.Soundness.Trees.{under-depth}
 use Rattle.wl_laws.specs.Soundness.{AreTrees}
 use Rattle.wl_laws.proofs.Marks.Stacks.{Each, each-map}
 use Rattle.wl_laws.proofs.Soundness.Trees.{IsUnder, Under, each-flat, tree-each}
@@ -60,19 +61,6 @@ module _ (all : Surfaces) (once : AreOnceLinked all.links) where
   under-descends (suc n) top s under =
       subst (λ x. descends_from (suc n) all top x ≡ true) under.3
       (by-parent n all top under.1.child under.1 (live-found under.0 all.links under.1 once under.2.here under.2.lives) (under-descends n top under.1.parent under.4))
-
--- so many levels deeper it stands
-level-none : (x c : ℕ) → x ≡ c → x ≡ c + 0
-level-none x c e = omega arith
-
-level-more : (x p q c n : ℕ) → q ≡ suc p → q ≡ x → p ≡ c + n → x ≡ c + suc n
-level-more x p q c n e f g = omega arith
-
-under-depth : (all : Surfaces) (trees : AreTrees all) (n top s : ℕ) → Under all n top s → trees.depth s ≡ trees.depth top + n
-under-depth all trees zero top s under = level-none (trees.depth s) (trees.depth top) (ap trees.depth under)
-under-depth all trees (suc n) top s under =
-    level-more (trees.depth s) (trees.depth under.1.parent) (trees.depth under.1.child) (trees.depth top) n (trees.below under.0 under.1 under.2) (ap trees.depth under.3)
-    (under-depth all trees n top under.1.parent under.4)
 
 low-enough : (s c n : ℕ) → s ≡ c + n → s ≤ 16 → n ≤ 17
 low-enough s c n e le = omega arith

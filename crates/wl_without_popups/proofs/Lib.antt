@@ -1,4 +1,3 @@
-pub mod Counted
 pub mod Held
 pub mod Ids
 pub mod Left

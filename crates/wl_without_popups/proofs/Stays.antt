@@ -42,7 +42,7 @@ use Rattle.wl_without_popups.specs.NoPopups.{NoPopups, OwnsNoPopups, OwnsNoPopup
 use Rattle.wl_without_popups.specs.NoPopupsLaws.{EmptyHasNoPopups, NoPopupsStay}
 use Rattle.wl_without_popups.specs.ServedNext.{served_next}
 use Rattle.wl_without_popups.specs.Simple.{AnswersSimply, Becomes, DoesSimply, IsServed, ServesSimply, TakesSimply, WantsOr, changed_simply, stacked_on, stacked_simply, told_simply}
-use Rattle.wl_without_popups.proofs.Counted.{allowed-counted}
+use Rattle.wl_laws.proofs.Soundness.Message.{allowed-counted}
 use Rattle.wl_without_popups.proofs.Messages.{messages_are_simple, only-peer, owns-there}
 use Rattle.wl_without_popups.proofs.Owns.{demanded-owns, without-owns}
 use Rattle.wl_without_popups.proofs.Served.{demands_are_served}

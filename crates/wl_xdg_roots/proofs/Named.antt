@@ -1,9 +1,8 @@
 -- What an accepted message names: the parent of a new subsurface is there, and a place is that of a link that lives.
-use Rattle.std.proofs.Common.{◌≡◌, ℕ, zero, suc, List, [], ◌∷◌, Bool, true, false, Option, Some, None, Result, refl, ap, subst, ◌∙◌, map}
+use Rattle.std.proofs.Common.{◌≡◌, ℕ, zero, suc, List, [], ◌∷◌, Bool, true, false, Option, Some, None, Result, refl, subst, map}
 use Rattle.std.specs.Prelude.{Ok, Err, pos, ◌==◌, ◌&&◌, ◌||◌, if◌then◌else◌, int_le, int_lt, is_some, length, nat_le}
 use Rattle.std.specs.List.{list_all, list_any}
-use Rattle.std.specs.Option.{option_and_then, option_map_or}
-use Rattle.std.proofs.lemmas.Bool.{eqb-true}
+use Rattle.std.specs.Option.{option_map_or}
 use Rattle.wl_wire.specs.Wire.{Field, Word, Number, Text, Block, Kind, AWord, kind_of}
 use Rattle.wl_geom.specs.declared.rect.Rect.{Rect}
 use Rattle.wl_interface.specs.declared.interface.Interface.{Interface}
@@ -40,7 +39,7 @@ use Rattle.wl_peer.specs.Requests as to
 use Rattle.wl_peer.specs.ToplevelRequest.{ToplevelRequest}
 use Rattle.wl_peer.specs.ToplevelRequest as toplevel
 use Rattle.wl_state.specs.Request.{Member, PlaceAbove, PlaceBelow, Request, SetPosition}
-use Rattle.wl_surface.specs.Surfaces.{Link, Surfaces, link_at}
+use Rattle.wl_surface.specs.Surfaces.{Link, Surfaces}
 use Rattle.wl_surface.specs.Trees.{is_bad_parent, is_too_deep}
 use Rattle.wl_shell.specs.Popups.{Popped, is_parent, is_popup_mapped, popup_at}
 use Rattle.wl_shell.specs.Positioner.{Positioner, is_anchor_rect, is_complete, is_size}
@@ -49,16 +48,16 @@ use Rattle.wl_plain.specs.Ask.{Ask, AskSurface, owns}
 use Rattle.wl_plain.specs.Demand.{Demand, Asks, GetSubsurface}
 use Rattle.wl_plain.specs.Demanding.{base_demand, committed_by, compositor_demand, demand_by, demand_of, demands, effect_of_commit, judge_all, moved_by_pointer, own_demand, surface_demand}
 use Rattle.wl_plain.specs.Demanding.{toplevel_asked, toplevel_destroyed, xdg_asked}
-use Rattle.wl_plain.specs.Desktop.{Resident, Subsurface}
+use Rattle.wl_plain.specs.Desktop.{Resident}
 use Rattle.wl_plain.specs.LeftOut.{LeftOut}
 use Rattle.wl_plain.specs.WlPointer.{is_no_cursor, pointer_demand, seat_demand}
-use Rattle.wl_plain.specs.WlSubsurface.{beside, demand_by_link, has_subsurface, is_no_subsurface, link_of_subsurface, living, placed_beside, subcompositor_demand, subsurface_at, subsurface_made}
+use Rattle.wl_plain.specs.WlSubsurface.{beside, demand_by_link, has_subsurface, is_no_subsurface, link_of_subsurface, placed_beside, subcompositor_demand, subsurface_made}
 use Rattle.wl_plain.specs.XdgPopup.{grab_of, is_no_popup, may_be_parent, popup_asked, positioner_asked, positioner_of, set_if}
 use Rattle.wl_plain.specs.XdgShell.{has_any, is_foreign, is_no_toplevel, role_of, state_asked}
+use Rattle.wl_laws.proofs.Soundness.Allowed.{link-lives}
 use Rattle.wl_laws.proofs.Soundness.AllowedHeard.{judged-hears}
 use Rattle.wl_laws.proofs.Soundness.AllowedOwn.{IsHeardBy}
 use Rattle.wl_laws.proofs.Soundness.Orderly.{IsObject, IsOfParent}
-use Rattle.wl_laws.proofs.Lists.Keys.{found-passes, some-same}
 use Rattle.wl_laws.proofs.Marks.Stacks.{and-left, and-right}
 
 -- a place that is asked is of a link of the surface that lives
@@ -133,30 +132,6 @@ subcompositor-named : (r : Resident) (object version opcode : ℕ) (fields : Lis
 subcompositor-named r object version zero fields heard = tt
 subcompositor-named r object version (suc zero) fields heard = made-named r object version fields heard
 subcompositor-named r object version (suc (suc opcode)) fields heard = absurd heard.kinds
-
--- the link of a wl_subsurface lives, by its own number
-lives-on : (r : Resident) (l m : Link) (number : ℕ) → link_at number r.owned.surfaces ≡ Some l → living l ≡ Some m → IsOfParent m.number m.parent r.owned.surfaces
-lives-on r l m number there e = at l.has_ended refl e
-  where
-    own-number : l.number ≡ number
-    own-number = eqb-true l.number number (found-passes (λ (k : Link). k.number == number) r.owned.surfaces.links l there)
-
-    at : (b : Bool) → l.has_ended ≡ b → (if b then None else Some l) ≡ Some m → IsOfParent m.number m.parent r.owned.surfaces
-    at true ended e = absurd (cc)
-    at false ended e =
-        subst (λ (k : Link). IsOfParent k.number k.parent r.owned.surfaces) (some-same l m e)
-        (l, record { here = ap (λ n. link_at n r.owned.surfaces) own-number ∙ there; lives = ended }, refl)
-
-link-lives : (r : Resident) (id : ℕ) (l : Link) → link_of_subsurface id r ≡ Some l → IsOfParent l.number l.parent r.owned.surfaces
-link-lives r id l e = at (subsurface_at id r) e
-  where
-    by : (number : ℕ) (o : Option Link) → link_at number r.owned.surfaces ≡ o → option_and_then living o ≡ Some l → IsOfParent l.number l.parent r.owned.surfaces
-    by number None there e = absurd (cc)
-    by number (Some k) there e = lives-on r k l number there e
-
-    at : (o : Option Subsurface) → option_and_then (λ (s : Subsurface). option_and_then living (link_at s.link r.owned.surfaces)) o ≡ Some l → IsOfParent l.number l.parent r.owned.surfaces
-    at None e = absurd (cc)
-    at (Some s) e = by s.link (link_at s.link r.owned.surfaces) refl e
 
 above-named : (r : Resident) (object parent number : ℕ) (o : Option Member) → AllNamed r (placed_beside object parent (PlaceAbove number) o)
 above-named r object parent number None = tt

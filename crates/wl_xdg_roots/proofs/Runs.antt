@@ -6,11 +6,11 @@ use Rattle.wl_wire.specs.Wire.{split_of}
 use Rattle.wl_wire.specs.declared.header.Split.{Split}
 use Rattle.wl_wire.specs.declared.header.Split.TheVariants.{Message, More, Bad}
 use Rattle.wl_peer.specs.declared.cause.Cause.{Cause}
-use Rattle.wl_peer.specs.declared.cause.Cause.TheVariants.{Gone, Memory, Protocol, Slow}
-use Rattle.wl_peer.specs.declared.refusals.ErrorCode.TheVariants.{InvalidMethod, NoMemory}
+use Rattle.wl_peer.specs.declared.cause.Cause.TheVariants.{Gone, Memory}
+use Rattle.wl_peer.specs.declared.refusals.ErrorCode.TheVariants.{InvalidMethod}
 use Rattle.wl_peer.specs.declared.refusals.Refusal.{Refusal}
-use Rattle.wl_peer.specs.Peer.{Errs, LacksMemory, Peer, QueuesOr, counted, ended, has_room, queued, sent_by, stored_at, stored_by, with_rest}
-use Rattle.wl_peer.specs.Told.{Output, Said, code_number, display_error, error_told}
+use Rattle.wl_peer.specs.Peer.{Errs, LacksMemory, Peer, counted, ended, sent_by, stored_at, stored_by, with_rest}
+use Rattle.wl_peer.specs.Told.{Output, Said, display_error}
 use Rattle.wl_store.specs.Stores.{write_refusal}
 use Rattle.wl_store.specs.declared.stores.StoreError.{StoreError}
 use Rattle.wl_surface.specs.Surfaces.{Surfaces, no_surfaces}
@@ -32,6 +32,7 @@ use Rattle.wl_plain.specs.Replies.{popups_done, replies}
 use Rattle.wl_plain.specs.Settling.{Midstep, Strike, becomes, leave_drawn, told_drawn, unstruck}
 use Rattle.wl_plain.specs.Stacked.{all_windows}
 use Rattle.wl_plain.specs.Step.{with_peer}
+use Rattle.wl_laws.proofs.Soundness.RunMessages.{HasEnded, erred-ended, lacking-ended}
 use Rattle.wl_laws.specs.RunLaws.{Lasts}
 use Rattle.wl_laws.proofs.Isolation.Kept.{TellsDone, TellsPointer, has-more}
 use Rattle.wl_laws.proofs.Isolation.Own.{moves-then, pressed-then, raised-client, released-then, shown-then}
@@ -76,23 +77,6 @@ no-place (suc n) (suc k) = no-place n k
 no-client : (output : Output) (c : ℕ) → client_at c (empty output) ≡ None
 no-client output zero = refl
 no-client output (suc k) = no-place 32 k
-
--- ---- one that ended
-
-abbrev HasEnded : Peer → Type 0
-HasEnded q = (cause : Cause) × (p : Peer) × (q ≡ ended cause p)
-
-erred-ended : (refusal : Refusal) (p q : Peer) → Errs refusal p q → HasEnded q
-erred-ended refusal p q h = at (has_room p.unsent (error_told refusal)) h
-  where
-    at : (b : Bool) → QueuesOr b (q ≡ ended (Protocol refusal.object (code_number refusal.code)) (queued (error_told refusal) p)) p q → HasEnded q
-    at false e = (Slow, p, e)
-    at true (inl e) = (Memory, p, e)
-    at true (inr e) = (Protocol refusal.object (code_number refusal.code), queued (error_told refusal) p, e)
-
-lacking-ended : (p q : Peer) → LacksMemory p q → HasEnded q
-lacking-ended p q (inl e) = (Memory, p, e)
-lacking-ended p q (inr e) = (Memory, queued (error_told (display_error NoMemory)) p, e.1)
 
 -- ---- what holds
 

@@ -100,7 +100,7 @@ lives-on r l m number there e = at l.has_ended refl e
         subst (λ (k : Link). IsOfParent k.number k.parent r.owned.surfaces) (some-same l m e)
         (l, record { here = ap (λ n. link_at n r.owned.surfaces) own-number ∙ there; lives = ended }, refl)
 
-link-lives : (r : Resident) (id : ℕ) (l : Link) → link_of_subsurface id r ≡ Some l → IsOfParent l.number l.parent r.owned.surfaces
+pub link-lives : (r : Resident) (id : ℕ) (l : Link) → link_of_subsurface id r ≡ Some l → IsOfParent l.number l.parent r.owned.surfaces
 link-lives r id l e = at (subsurface_at id r) e
   where
     by : (number : ℕ) (o : Option Link) → link_at number r.owned.surfaces ≡ o → option_and_then living o ≡ Some l → IsOfParent l.number l.parent r.owned.surfaces

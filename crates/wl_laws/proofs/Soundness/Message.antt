@@ -60,7 +60,7 @@ module _ (r : Resident) (rest : List ℕ) where
   asked-counted (ConfigureAgain xdg) h = h
   asked-counted Ignore h = h
 
-  allowed-counted : (demand : Demand) → IsAllowed r demand → IsAllowed Counted demand
+  pub allowed-counted : (demand : Demand) → IsAllowed r demand → IsAllowed Counted demand
   allowed-counted (Asks ask) h = asked-counted ask h
   allowed-counted (EndSurface id) h = h
   allowed-counted (AskFrame id version surface) h = h

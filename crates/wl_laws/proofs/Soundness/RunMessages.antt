@@ -39,10 +39,10 @@ MessageKeeps =
 
 -- ---- ends
 
-abbrev HasEnded : Peer → Type 0
+abbrev pub HasEnded : Peer → Type 0
 HasEnded q = (cause : Cause) × (p : Peer) × (q ≡ ended cause p)
 
-erred-ended : (refusal : Refusal) (p q : Peer) → Errs refusal p q → HasEnded q
+pub erred-ended : (refusal : Refusal) (p q : Peer) → Errs refusal p q → HasEnded q
 erred-ended refusal p q h = at (has_room p.unsent (error_told refusal)) h
   where
     at : (b : Bool) → QueuesOr b (q ≡ ended (Protocol refusal.object (code_number refusal.code)) (queued (error_told refusal) p)) p q → HasEnded q
@@ -50,7 +50,7 @@ erred-ended refusal p q h = at (has_room p.unsent (error_told refusal)) h
     at true (inl e) = (Memory, p, e)
     at true (inr e) = (Protocol refusal.object (code_number refusal.code), queued (error_told refusal) p, e)
 
-lacking-ended : (p q : Peer) → LacksMemory p q → HasEnded q
+pub lacking-ended : (p q : Peer) → LacksMemory p q → HasEnded q
 lacking-ended p q (inl e) = (Memory, p, e)
 lacking-ended p q (inr e) = (Memory, queued (error_told (display_error NoMemory)) p, e.1)
 

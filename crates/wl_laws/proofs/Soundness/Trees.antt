@@ -102,7 +102,7 @@ deeper x p q c n e f g = omega arith
 level : (x c : ℕ) → x ≡ c → x ≡ c + 0
 level x c e = omega arith
 
-under-depth : (all : Surfaces) (t : AreTrees all) (n c x : ℕ) → Under all n c x → t.depth x ≡ t.depth c + n
+pub under-depth : (all : Surfaces) (t : AreTrees all) (n c x : ℕ) → Under all n c x → t.depth x ≡ t.depth c + n
 under-depth all t zero c x u = level (t.depth x) (t.depth c) (ap t.depth u)
 under-depth all t (suc n) c x u =
     deeper (t.depth x) (t.depth u.1.parent) (t.depth u.1.child) (t.depth c) n (t.below u.0 u.1 u.2) (ap t.depth u.3) (under-depth all t n c u.1.parent u.4)
