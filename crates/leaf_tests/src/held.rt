@@ -1,7 +1,7 @@
+use crate::calls::{attach, create, damage};
 use std::alloc::{Allocator, Global};
 use wl_geom::Rect;
-use wl_store::layout;
-use wl_surface::{Applied, Attached, BufferNo, Offset, SurfaceError, Surfaces};
+use wl_surface::{Applied, BufferNo, Offset, SurfaceError, Surfaces};
 
 const CORNER: Rect = Rect {
     x: 0,
@@ -10,29 +10,43 @@ const CORNER: Rect = Rect {
     h: 1,
 };
 
-// Attaches a buffer of 5 by 8 pixels one pixel farther to the right, damages a corner, and asks for a frame.
-fn asks<A: Allocator + Copy>(
-    surfaces: &mut Surfaces<A>,
-    number: BufferNo,
-    callback: u32,
-) -> Result<(), SurfaceError> {
-    if let Ok(layout) = layout(160, 0, 5, 8, 20, 1) {
-        let buffer = Attached {
-            number,
-            object: 90,
-            store: 1,
-            layout,
-        };
-        surfaces.attach(0, Some(buffer), 1, 0);
-    }
-    surfaces.damage(0, CORNER)?;
-    surfaces.frame(0, callback)
+// Attaches a buffer one pixel farther to the right, damages a corner, and asks for a frame.
+fn asks<A: Allocator + Copy>(surfaces: &mut Surfaces<A>, number: BufferNo, callback: u32) -> bool {
+    attach(surfaces, 0, number, 1, 0);
+    damage(surfaces, CORNER) == Ok(()) && surfaces.frame(0, callback) == Ok(())
+}
+
+fn holds<A: Allocator + Copy>(surfaces: &mut Surfaces<A>) -> bool {
+    surfaces.hold(0) == Ok(())
+}
+
+// Two commits are held, and a third isn't made.
+fn holds_two<A: Allocator + Copy>(surfaces: &mut Surfaces<A>) -> bool {
+    create(surfaces) == Ok(0)
+        && asks(surfaces, 7, 30)
+        && holds(surfaces)
+        && asks(surfaces, 8, 31)
+        && holds(surfaces)
+        && asks(surfaces, 9, 32)
 }
 
 // The number of the buffer that the surface shows, and how far it has moved.
 fn shown<A: Allocator>(surfaces: &Surfaces<A>) -> Option<(BufferNo, Offset)> {
     let current = surfaces.current(0)?;
     Some((current.buffer?.number, current.offset))
+}
+
+fn next_frame<A: Allocator + Copy>(surfaces: &mut Surfaces<A>) -> Option<u32> {
+    surfaces.next_frame()
+}
+
+// Only the last buffer that is held is busy, and nothing is shown.
+fn has_applied_none<A: Allocator + Copy>(surfaces: &mut Surfaces<A>) -> bool {
+    shown(surfaces).is_none()
+        && !surfaces.is_busy(7)
+        && surfaces.is_busy(8)
+        && !surfaces.is_busy(9)
+        && next_frame(surfaces).is_none()
 }
 
 // Whether it tells of the surface, that it looks otherwise or not, and how many rectangles of it are damaged.
@@ -45,38 +59,32 @@ fn tells<A: Allocator + Copy>(surfaces: &mut Surfaces<A>, whole: bool, rects: us
     }
 }
 
-// Two commits are held, and a third isn't made.
-fn holds_two(surfaces: &mut Surfaces<Global>) -> Result<(), SurfaceError> {
-    surfaces.create()?;
-    asks(surfaces, 7, 30)?;
-    surfaces.hold(0)?;
-    asks(surfaces, 8, 31)?;
-    surfaces.hold(0)?;
-    asks(surfaces, 9, 32)
+// Both commits are applied at once, with both frames.
+fn applies_both<A: Allocator + Copy>(surfaces: &mut Surfaces<A>) -> bool {
+    tells(surfaces, true, 2)
+        && shown(surfaces) == Some((8, Offset { x: 2, y: 0 }))
+        && next_frame(surfaces) == Some(30)
+        && next_frame(surfaces) == Some(31)
+        && next_frame(surfaces).is_none()
 }
 
-fn callbacks(applied: Result<Applied<Global>, SurfaceError>) -> Option<u32> {
+fn callbacks<A: Allocator>(applied: Result<Applied<A>, SurfaceError>) -> Option<u32> {
     match applied {
         Ok(applied) => applied.callbacks.first().copied(),
         Err(_) => None,
     }
 }
 
+// Nothing is held any more, and the frame that wasn't committed goes with the surface.
+fn has_applied_all(surfaces: &mut Surfaces<Global>) -> bool {
+    tells(surfaces, false, 0)
+        && callbacks(surfaces.destroy(0)) == Some(32)
+        && surfaces.apply(0).is_none()
+}
+
 #[test]
 fn held_commits_count_once_applied(rt: HostRuntime) {
     let mut surfaces = Surfaces::new(rt.alloc());
-    assert_eq!(rt; holds_two(&mut surfaces), Ok(()));
-    assert_eq!(rt; shown(&surfaces), None);
-    assert!(rt; !surfaces.is_busy(7) && surfaces.is_busy(8) && !surfaces.is_busy(9));
-    assert_eq!(rt; surfaces.next_frame(), None);
-
-    assert!(rt; tells(&mut surfaces, true, 2));
-    assert_eq!(rt; shown(&surfaces), Some((8, Offset { x: 2, y: 0 })));
-    assert_eq!(rt; surfaces.next_frame(), Some(30));
-    assert_eq!(rt; surfaces.next_frame(), Some(31));
-    assert_eq!(rt; surfaces.next_frame(), None);
-
-    assert!(rt; tells(&mut surfaces, false, 0));
-    assert_eq!(rt; callbacks(surfaces.destroy(0)), Some(32));
-    assert!(rt; surfaces.apply(0).is_none());
+    assert!(rt; holds_two(&mut surfaces) && has_applied_none(&mut surfaces));
+    assert!(rt; applies_both(&mut surfaces) && has_applied_all(&mut surfaces));
 }

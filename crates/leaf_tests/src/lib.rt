@@ -2,6 +2,8 @@
 #![tactic(auto)]
 
 #[cfg(test)]
+mod calls;
+#[cfg(test)]
 mod held;
 #[cfg(test)]
 mod regions;
@@ -11,6 +13,8 @@ mod scenes;
 mod shells;
 #[cfg(test)]
 mod stores;
+#[cfg(test)]
+mod support;
 #[cfg(test)]
 mod surface_cases;
 #[cfg(test)]

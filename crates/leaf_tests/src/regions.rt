@@ -1,4 +1,4 @@
-use std::alloc::Allocator;
+use std::alloc::{Allocator, Global};
 use test_support::Refusing;
 use wl_geom::{Rect, Region, RegionError};
 
@@ -23,98 +23,100 @@ const FAR: Rect = Rect {
     h: 1,
 };
 
+// What is done to a region or asked of it, with what is wanted of it.
+#[derive(Clone, Copy)]
+enum Row<'a> {
+    // A rectangle is added, of this corner and size.
+    Adds(i32, i32, i32, i32),
+    Subtracts(i32, i32, i32, i32),
+    // 512 changes are made.
+    Makes512,
+    // One more change is refused.
+    MakesNoMore,
+    Changes(u32),
+    HasPoint(i32, i32, bool),
+    CoversRun(i32, i32, u32, bool),
+    HasRects(&'a [Rect]),
+    // How many rectangles it has.
+    HasSoMany(usize),
+    // A copy is the same, and has the hole.
+    IsCopied,
+}
+
+fn rect(x: i32, y: i32, w: i32, h: i32) -> Rect {
+    Rect { x, y, w, h }
+}
+
+fn add<A: Allocator + Copy>(region: &mut Region<A>, rect: Rect) -> Result<(), RegionError> {
+    region.add(rect)
+}
+
+fn subtract<A: Allocator + Copy>(region: &mut Region<A>, rect: Rect) -> Result<(), RegionError> {
+    region.subtract(rect)
+}
+
+// Does what a row says, and tells whether it is as wanted.
+fn is_met<A: Allocator + Copy>(region: &mut Region<A>, row: &Row) -> bool {
+    match *row {
+        Row::Adds(x, y, w, h) => add(region, rect(x, y, w, h)) == Ok(()),
+        Row::Subtracts(x, y, w, h) => subtract(region, rect(x, y, w, h)) == Ok(()),
+        Row::Makes512 => makes_512(region),
+        Row::MakesNoMore => makes_no_more(region),
+        Row::IsCopied => is_copied(region),
+        _ => is_seen(region, row),
+    }
+}
+
+// Whether it is as a row says that does nothing.
+fn is_seen<A: Allocator>(region: &Region<A>, row: &Row) -> bool {
+    match *row {
+        Row::Changes(wanted) => region.changes() == wanted,
+        Row::HasPoint(x, y, wanted) => region.contains(x, y) == wanted,
+        Row::CoversRun(x, y, w, wanted) => region.covers_run(x, y, w) == wanted,
+        Row::HasRects(wanted) => region.rects() == wanted,
+        Row::HasSoMany(wanted) => region.rects().len() == wanted,
+        _ => false,
+    }
+}
+
+fn are_seen<A: Allocator>(region: &Region<A>, rows: &[Row]) -> bool {
+    for row in rows {
+        if !is_seen(region, row) {
+            return false;
+        }
+    }
+    true
+}
+
 fn same<A: Allocator, B: Allocator>(a: &Region<A>, b: &Region<B>) -> bool {
     a.changes() == b.changes() && a.rects() == b.rects()
 }
 
-// Whether the region is four by four points with a hole of two by two.
-fn has_a_hole<A: Allocator>(region: &Region<A>) -> bool {
-    region.changes() == 2
-        && region.contains(0, 0)
-        && region.contains(3, 3)
-        && !region.contains(1, 1)
-        && !region.contains(2, 2)
-        && !region.contains(4, 0)
-        && !region.contains(-1, 0)
-}
-
-fn gets_a_hole<A: Allocator + Copy>(region: &mut Region<A>) -> bool {
-    !region.contains(0, 0)
-        && region.add(FOUR_BY_FOUR) == Ok(())
-        && region.subtract(HOLE) == Ok(())
-        && has_a_hole(region)
-}
+// Four by four points with a hole of two by two.
+const WITH_A_HOLE: &[Row] = &[
+    Row::Changes(2),
+    Row::HasPoint(0, 0, true),
+    Row::HasPoint(3, 3, true),
+    Row::HasPoint(1, 1, false),
+    Row::HasPoint(2, 2, false),
+    Row::HasPoint(4, 0, false),
+    Row::HasPoint(-1, 0, false),
+];
 
 fn is_copied<A: Allocator + Copy>(region: &Region<A>) -> bool {
     match region.copy() {
-        Ok(copy) => has_a_hole(&copy) && same(region, &copy),
+        Ok(copy) => same(region, &copy) && are_seen(&copy, WITH_A_HOLE),
         Err(_) => false,
     }
-}
-
-#[test]
-fn a_region_with_a_hole_and_its_copy(rt: HostRuntime) {
-    let mut region = Region::new(rt.alloc());
-    assert!(rt; gets_a_hole(&mut region) && is_copied(&region));
-    assert!(rt; FOUR_BY_FOUR.contains(3, 0) && !FOUR_BY_FOUR.contains(4, 0));
-}
-
-// What passes the last coordinate is dropped, and a point past it can't be asked for.
-#[test]
-fn the_last_column(rt: HostRuntime) {
-    let mut region = Region::new(rt.alloc());
-    assert!(rt; region.add(FAR) == Ok(()));
-    assert!(rt; region.contains(2_147_483_647, -2_147_483_648));
-    assert!(rt; !region.contains(-2_147_483_648, -2_147_483_648));
-    let kept: &[Rect] = &[Rect { w: 2, ..FAR }];
-    assert!(rt; region.rects() == kept);
-}
-
-// Adds five rectangles that are 10 wide, with a row between each two.
-fn adds_five<A: Allocator + Copy>(region: &mut Region<A>) -> bool {
-    for row in 0..5_i32 {
-        let rect = Rect {
-            x: 0,
-            y: row.saturating_mul(2),
-            w: 10,
-            h: 1,
-        };
-        if region.add(rect) != Ok(()) {
-            return false;
-        }
-    }
-    region.rects().len() == 5
-}
-
-// A column of points that is 50 high.
-fn column(x: i32, w: i32) -> Rect {
-    Rect { x, y: 0, w, h: 50 }
-}
-
-// Changes that don't meet a rectangle leave it whole.
-fn stays_five<A: Allocator + Copy>(region: &mut Region<A>) -> bool {
-    region.subtract(column(20, 5)) == Ok(())
-        && region.rects().len() == 5
-        && region.subtract(column(0, 3)) == Ok(())
-        && region.rects().len() == 5
-        && region.add(column(-1, 0)) == Ok(())
-        && region.rects().len() == 5
-        && region.changes() == 8
-}
-
-#[test]
-fn rectangles_that_are_not_met_stay_whole(rt: HostRuntime) {
-    let mut region = Region::new(rt.alloc());
-    assert!(rt; adds_five(&mut region) && stays_five(&mut region));
 }
 
 // Makes 512 changes, adds and subtracts by turns.
 fn makes_512<A: Allocator + Copy>(region: &mut Region<A>) -> bool {
     for made in 0..512_u32 {
         let done = if made % 2 == 0 {
-            region.add(FOUR_BY_FOUR)
+            add(region, FOUR_BY_FOUR)
         } else {
-            region.subtract(HOLE)
+            subtract(region, HOLE)
         };
         if done != Ok(()) || region.changes() != made + 1 {
             return false;
@@ -127,18 +129,110 @@ fn makes_512<A: Allocator + Copy>(region: &mut Region<A>) -> bool {
 fn makes_no_more<A: Allocator + Copy>(region: &mut Region<A>) -> bool {
     match region.copy() {
         Ok(before) => {
-            region.add(HOLE) == Err(RegionError::TooMany)
-                && region.subtract(FOUR_BY_FOUR) == Err(RegionError::TooMany)
+            add(region, HOLE) == Err(RegionError::TooMany)
+                && subtract(region, FOUR_BY_FOUR) == Err(RegionError::TooMany)
                 && same(region, &before)
         }
         Err(_) => false,
     }
 }
 
+const A_HOLE: &[Row] = &[
+    Row::HasPoint(0, 0, false),
+    Row::Adds(0, 0, 4, 4),
+    Row::Subtracts(1, 1, 2, 2),
+];
+
+// What passes the last coordinate is dropped, and no run that passes it is covered.
+const THE_LAST_COLUMN: &[Row] = &[
+    Row::Adds(2_147_483_646, -2_147_483_648, 2_147_483_647, 1),
+    Row::HasPoint(2_147_483_647, -2_147_483_648, true),
+    Row::HasPoint(-2_147_483_648, -2_147_483_648, false),
+    Row::HasRects(&[Rect { w: 2, ..FAR }]),
+    Row::CoversRun(2_147_483_646, -2_147_483_648, 2, true),
+    Row::CoversRun(2_147_483_646, -2_147_483_648, 3, false),
+    Row::CoversRun(2_147_483_647, -2_147_483_648, 4_294_967_295, false),
+    Row::CoversRun(2_147_483_647, 0, 0, true),
+];
+
+// Five rectangles that are 10 wide, with a row between each two. Changes that don't meet them leave them whole.
+const FIVE: &[Row] = &[
+    Row::Adds(0, 0, 10, 1),
+    Row::Adds(0, 2, 10, 1),
+    Row::Adds(0, 4, 10, 1),
+    Row::Adds(0, 6, 10, 1),
+    Row::Adds(0, 8, 10, 1),
+    Row::HasSoMany(5),
+    Row::Subtracts(20, 0, 5, 50),
+    Row::HasSoMany(5),
+    Row::Subtracts(0, 0, 3, 50),
+    Row::HasSoMany(5),
+    Row::Adds(-1, 0, 0, 50),
+    Row::HasSoMany(5),
+    Row::Changes(8),
+];
+
+// Two rectangles side by side, and a point of the first that is taken away.
+const TWO: &[Row] = &[
+    Row::CoversRun(0, 0, 0, true),
+    Row::CoversRun(0, 0, 1, false),
+    Row::Adds(0, 0, 4, 4),
+    Row::Adds(4, 0, 4, 4),
+    Row::CoversRun(0, 0, 8, true),
+    Row::CoversRun(0, 0, 9, false),
+    Row::CoversRun(-1, 0, 8, false),
+    Row::Subtracts(3, 1, 1, 1),
+    Row::CoversRun(0, 1, 8, false),
+    Row::CoversRun(0, 0, 8, true),
+    Row::CoversRun(0, 1, 3, true),
+    Row::CoversRun(4, 1, 4, true),
+];
+
+const CASES: &[(&str, &[&[Row]])] = &[
+    (
+        "a hole and its copy",
+        &[A_HOLE, WITH_A_HOLE, &[Row::IsCopied]],
+    ),
+    ("the last column", &[THE_LAST_COLUMN]),
+    ("rectangles that aren't met stay whole", &[FIVE]),
+    (
+        "the 513th change is one too many",
+        &[&[Row::Makes512, Row::MakesNoMore]],
+    ),
+    ("runs over two rectangles", &[TWO]),
+];
+
+// The part and its row that are the first not to be met.
+fn missed(region: &mut Region<Global>, parts: &[&[Row]]) -> Option<(usize, usize)> {
+    for (part, rows) in parts.iter().enumerate() {
+        for (place, row) in rows.iter().enumerate() {
+            if !is_met(region, row) {
+                return Some((part, place));
+            }
+        }
+    }
+    None
+}
+
+fn missed_by(alloc: Global, parts: &[&[Row]]) -> Option<(usize, usize)> {
+    let mut region = Region::new(alloc);
+    missed(&mut region, parts)
+}
+
+// The case, its part and the row of that which are the first not to be met.
+fn missed_case(alloc: Global, cases: &[(&str, &[&[Row]])]) -> Option<(usize, (usize, usize))> {
+    for (place, &(_, parts)) in cases.iter().enumerate() {
+        if let Some(row) = missed_by(alloc, parts) {
+            return Some((place, row));
+        }
+    }
+    None
+}
+
 #[test]
-fn the_513th_change_is_one_too_many(rt: HostRuntime) {
-    let mut region = Region::new(rt.alloc());
-    assert!(rt; makes_512(&mut region) && makes_no_more(&mut region));
+fn regions_are_as_worked(rt: HostRuntime) {
+    assert!(rt; FOUR_BY_FOUR.contains(3, 0) && !FOUR_BY_FOUR.contains(4, 0));
+    assert_eq!(rt; missed_case(rt.alloc(), CASES), None);
 }
 
 // How many of three changes and a copy are done where so many allocations are served. None where one is refused though no allocation was, or for
@@ -185,9 +279,9 @@ fn copies<A: Allocator + Copy, B: Allocator>(
 fn change<A: Allocator + Copy>(region: &mut Region<A>, most: u32) -> Option<u32> {
     for done in 0..most {
         let changed = match done {
-            0 => region.add(FOUR_BY_FOUR),
-            1 => region.add(FAR),
-            _ => region.subtract(HOLE),
+            0 => add(region, FOUR_BY_FOUR),
+            1 => add(region, FAR),
+            _ => subtract(region, HOLE),
         };
         match changed {
             Ok(()) => {}
@@ -216,45 +310,18 @@ fn each_refusal_leaves_a_region_as_it_was(rt: HostRuntime) {
     assert!(rt; adds && subtracts && copies);
 }
 
-fn rect(x: i32, y: i32, w: i32, h: i32) -> Rect {
-    Rect { x, y, w, h }
-}
-
-// Two rectangles side by side, and a point of the first that is taken away.
-fn covers_two_and_a_hole<A: Allocator + Copy>(region: &mut Region<A>) -> bool {
-    region.covers_run(0, 0, 0)
-        && !region.covers_run(0, 0, 1)
-        && region.add(rect(0, 0, 4, 4)) == Ok(())
-        && region.add(rect(4, 0, 4, 4)) == Ok(())
-        && region.covers_run(0, 0, 8)
-        && !region.covers_run(0, 0, 9)
-        && !region.covers_run(-1, 0, 8)
-        && region.subtract(rect(3, 1, 1, 1)) == Ok(())
-        && !region.covers_run(0, 1, 8)
-        && region.covers_run(0, 0, 8)
-        && region.covers_run(0, 1, 3)
-        && region.covers_run(4, 1, 4)
-}
-
-#[test]
-fn runs_over_two_rectangles(rt: HostRuntime) {
-    let mut region = Region::new(rt.alloc());
-    assert!(rt; covers_two_and_a_hole(&mut region));
-}
-
 // Whether a row of so many points covers a run of them, and none that is a point longer or begins a point before; and none at all
 // where the point in the middle is missing, but the runs on both sides of it.
-fn covers_its_width<A: Allocator + Copy>(alloc: A, w: i32) -> bool {
-    let mut region = Region::new(alloc);
+fn covers_its_width(region: &mut Region<Global>, w: i32) -> bool {
     let wide = w.unsigned_abs();
     let middle = w / 2;
-    region.add(rect(0, 7, w, 1)) == Ok(())
+    add(region, rect(0, 7, w, 1)) == Ok(())
         && region.covers_run(0, 7, wide)
         && !region.covers_run(0, 7, wide.saturating_add(1))
         && !region.covers_run(-1, 7, wide.max(1))
         && !region.covers_run(0, 6, wide.max(1))
         && !region.covers_run(0, 8, wide.max(1))
-        && region.subtract(rect(middle, 7, 1, 1)) == Ok(())
+        && subtract(region, rect(middle, 7, 1, 1)) == Ok(())
         && region.covers_run(0, 7, wide) == (w == 0)
         && region.covers_run(0, 7, middle.unsigned_abs())
         && !region.covers_run(0, 7, middle.unsigned_abs().saturating_add(1))
@@ -263,17 +330,7 @@ fn covers_its_width<A: Allocator + Copy>(alloc: A, w: i32) -> bool {
 #[test]
 fn runs_of_each_width(rt: HostRuntime) {
     for w in [0, 1, 63, 64, 65, 4096] {
-        assert!(rt; covers_its_width(rt.alloc(), w), "{w}");
+        let mut region = Region::new(rt.alloc());
+        assert!(rt; covers_its_width(&mut region, w), "{w}");
     }
-}
-
-// No run that passes the last coordinate is covered.
-#[test]
-fn runs_at_the_last_column(rt: HostRuntime) {
-    let mut region = Region::new(rt.alloc());
-    assert!(rt; region.add(FAR) == Ok(()));
-    assert!(rt; region.covers_run(2_147_483_646, -2_147_483_648, 2));
-    assert!(rt; !region.covers_run(2_147_483_646, -2_147_483_648, 3));
-    assert!(rt; !region.covers_run(2_147_483_647, -2_147_483_648, 4_294_967_295));
-    assert!(rt; region.covers_run(2_147_483_647, 0, 0));
 }

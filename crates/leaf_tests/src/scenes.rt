@@ -1,5 +1,6 @@
 use std::alloc::Allocator;
 use test_support::Refusing;
+use wl_linked::Linked;
 use wl_scene::{Owned, Scene, Surface, Window};
 use wl_shell::Shell;
 use wl_store::{Format, Layout};
@@ -27,9 +28,13 @@ fn stands<A: Allocator>(scene: &Scene<A>, k: usize, surface: Surface, x: i32, y:
     }
 }
 
+fn maps<A: Allocator + Copy>(scene: &mut Scene<A>, surface: Surface) -> bool {
+    scene.map(surface).is_ok()
+}
+
 fn maps_nine<A: Allocator + Copy>(scene: &mut Scene<A>) -> bool {
     for surface in 0..9_usize {
-        if scene.map(Surface { client: 1, surface }).is_err() {
+        if !maps(scene, Surface { client: 1, surface }) {
             return false;
         }
     }
@@ -54,7 +59,7 @@ fn each_mapping_takes_the_next_place(rt: HostRuntime) {
 }
 
 fn maps_three<A: Allocator + Copy>(scene: &mut Scene<A>) -> bool {
-    scene.map(FIRST).is_ok() && scene.map(SECOND).is_ok() && scene.map(THIRD).is_ok()
+    maps(scene, FIRST) && maps(scene, SECOND) && maps(scene, THIRD)
 }
 
 fn raises_the_first<A: Allocator + Copy>(scene: &mut Scene<A>) -> bool {
@@ -74,7 +79,7 @@ fn unmaps_the_second<A: Allocator + Copy>(scene: &mut Scene<A>) -> bool {
     scene.unmap(SECOND);
     scene.toplevels().len() == 2
         && stands(scene, 0, THIRD, -5, 7)
-        && scene.map(SECOND).is_ok()
+        && maps(scene, SECOND)
         && stands(scene, 2, SECOND, 96, 96)
 }
 
@@ -88,7 +93,7 @@ fn a_toplevel_is_raised_moved_and_unmapped(rt: HostRuntime) {
 // Maps surfaces up to the first that is refused: how many were mapped.
 fn mapped<A: Allocator + Copy>(scene: &mut Scene<A>) -> usize {
     for surface in 0..1000_usize {
-        if scene.map(Surface { client: 1, surface }).is_err() {
+        if !maps(scene, Surface { client: 1, surface }) {
             return surface;
         }
     }
@@ -97,7 +102,7 @@ fn mapped<A: Allocator + Copy>(scene: &mut Scene<A>) -> usize {
 
 // Whether nothing more is mapped, and as many as before stay.
 fn maps_no_more<A: Allocator + Copy>(scene: &mut Scene<A>, mapped: usize) -> bool {
-    scene.map(SECOND).is_err() && scene.toplevels().len() == mapped
+    !maps(scene, SECOND) && scene.toplevels().len() == mapped
 }
 
 #[test]
@@ -129,7 +134,7 @@ const SMALL: Layout = Layout {
 
 fn owning<A: Allocator + Copy>(alloc: A) -> Owned<A> {
     Owned {
-        surfaces: Surfaces::new(alloc),
+        linked: Linked::new(alloc),
         shell: Shell::new(alloc),
     }
 }
@@ -154,6 +159,26 @@ fn shows<A: Allocator + Copy>(
     surfaces.set_transform(0, transform) == Ok(()) && surfaces.commit(0).is_ok()
 }
 
+// Lends one client more, whose surface 0 shows a buffer.
+fn lends<A: Allocator + Copy>(
+    lent: &mut Vec<Option<Owned<A>>, A>,
+    alloc: A,
+    layout: Layout,
+    by: (i32, i32),
+    transform: i32,
+) -> bool {
+    let mut owned = owning(alloc);
+    let is_shown = shows(&mut owned.linked.surfaces, layout, by, transform);
+    lent.push(Some(owned)).is_ok() && is_shown
+}
+
+// Clients 1 and 3 are lent, and 2 isn't.
+fn lends_two<A: Allocator + Copy>(lent: &mut Vec<Option<Owned<A>>, A>, alloc: A) -> bool {
+    lends(lent, alloc, LARGE, (3, -5), 0)
+        && lent.push(None).is_ok()
+        && lends(lent, alloc, SMALL, (16_777_216, 0), 1)
+}
+
 fn is_window<A: Allocator>(
     scene: &Scene<A>,
     lent: &[Option<Owned<A>>],
@@ -165,7 +190,7 @@ fn is_window<A: Allocator>(
 
 // Maps surfaces 0 of clients 1, 3 and 2, of which 2 lends nothing.
 fn maps_clients<A: Allocator + Copy>(scene: &mut Scene<A>) -> bool {
-    scene.map(of(1)).is_ok() && scene.map(of(3)).is_ok() && scene.map(of(2)).is_ok()
+    maps(scene, of(1)) && maps(scene, of(3)) && maps(scene, of(2))
 }
 
 fn of(client: u32) -> Surface {
@@ -203,11 +228,8 @@ fn has_windows<A: Allocator>(scene: &Scene<A>, lent: &[Option<Owned<A>>]) -> boo
 #[test]
 fn the_windows_of_two_clients(rt: HostRuntime) {
     let alloc = rt.alloc();
-    let mut first = owning(alloc);
-    assert!(rt; shows(&mut first.surfaces, LARGE, (3, -5), 0));
-    let mut third = owning(alloc);
-    assert!(rt; shows(&mut third.surfaces, SMALL, (16_777_216, 0), 1));
-    let lent = [Some(first), None, Some(third)];
+    let mut lent = Vec::new(alloc);
+    assert!(rt; lends_two(&mut lent, alloc));
     let mut scene = Scene::new(alloc);
     assert!(rt; maps_clients(&mut scene) && has_windows(&scene, &lent));
 }

@@ -1,7 +1,7 @@
 use std::alloc::{Allocator, Global};
 use test_support::Refusing;
 use wl_geom::Rect;
-use wl_shell::{Shell, ShellAct, ShellError, Stage, XdgSurface};
+use wl_shell::{Shell, ShellAct, ShellError, Stage};
 use wl_surface::SurfaceNo;
 
 const WHOLE: Rect = Rect {
@@ -25,14 +25,38 @@ const NO_WIDTH: Rect = Rect {
     h: 10,
 };
 
-fn is_act<A: Allocator + Copy>(
+// Makes an xdg_surface of base 10.
+fn get_xdg_surface<A: Allocator + Copy>(
+    shell: &mut Shell<A>,
+    surface: SurfaceNo,
+    id: u32,
+    has_role: bool,
+    has_buffer: bool,
+) -> Result<(), ShellError> {
+    shell.get_xdg_surface(surface, id, 10, has_role, has_buffer)
+}
+
+fn get_toplevel<A: Allocator + Copy>(
+    shell: &mut Shell<A>,
+    surface: SurfaceNo,
+    id: u32,
+    has_other: bool,
+) -> Result<(), ShellError> {
+    shell.get_toplevel(surface, id, has_other)
+}
+
+// Sends a configure to the surface 1.
+fn configure<A: Allocator + Copy>(shell: &mut Shell<A>, serial: u32) -> Result<bool, ShellError> {
+    shell.configure(1, serial)
+}
+
+fn commit<A: Allocator + Copy>(
     shell: &mut Shell<A>,
     surface: SurfaceNo,
     has_buffer: bool,
     serial: u32,
-    act: ShellAct,
-) -> bool {
-    shell.on_commit(surface, has_buffer, WHOLE, (0, 0), serial) == Ok(act)
+) -> Result<ShellAct, ShellError> {
+    shell.on_commit(surface, has_buffer, WHOLE, (0, 0), serial)
 }
 
 // Whether what was refused has left the first that was made.
@@ -54,7 +78,7 @@ fn has_the_first<A: Allocator>(shell: &Shell<A>) -> bool {
 
 fn takes_63_configures<A: Allocator + Copy>(shell: &mut Shell<A>) -> bool {
     for serial in 2..65_u32 {
-        if shell.configure(1, serial) != Ok(true) {
+        if configure(shell, serial) != Ok(true) {
             return false;
         }
     }
@@ -89,17 +113,17 @@ enum Row {
 fn is_met<A: Allocator + Copy>(shell: &mut Shell<A>, row: &Row) -> bool {
     match *row {
         Row::GetsXdgSurface(id, has_role, has_buffer, wanted) => {
-            shell.get_xdg_surface(1, id, 10, has_role, has_buffer) == wanted
+            get_xdg_surface(shell, 1, id, has_role, has_buffer) == wanted
         }
         Row::GetsToplevel(id, has_other, wanted) => {
-            shell.get_toplevel(1, id, has_other) == wanted
+            get_toplevel(shell, 1, id, has_other) == wanted
         }
         Row::Asks(rect, wanted) => shell.geometry(1, rect) == wanted,
-        Row::IsConfigured(serial, wanted) => shell.configure(1, serial) == wanted,
+        Row::IsConfigured(serial, wanted) => configure(shell, serial) == wanted,
         Row::IsConfigured63 => takes_63_configures(shell),
         Row::Acknowledges(serial, wanted) => shell.ack(1, serial) == wanted,
         Row::Commits(has_buffer, serial, wanted) => {
-            shell.on_commit(1, has_buffer, WHOLE, (0, 0), serial) == wanted
+            commit(shell, 1, has_buffer, serial) == wanted
         }
         Row::DestroysToplevel => destroys_toplevel(shell),
         Row::DestroysXdgSurface(wanted) => shell.destroy_xdg_surface(1) == wanted,
@@ -112,12 +136,23 @@ fn destroys_toplevel<A: Allocator + Copy>(shell: &mut Shell<A>) -> bool {
     true
 }
 
+fn is_stage<A: Allocator>(shell: &Shell<A>, wanted: Stage) -> bool {
+    match shell.get(1) {
+        Some(kept) => kept.stage() == Some(wanted),
+        None => false,
+    }
+}
+
+fn geometry<A: Allocator>(shell: &Shell<A>) -> Option<Rect> {
+    shell.get(1)?.window_geometry()
+}
+
 // Whether it is as a row says that does nothing.
 fn is_seen<A: Allocator>(shell: &Shell<A>, row: &Row) -> bool {
     match *row {
         Row::Base(base, wanted) => shell.check_base(base) == wanted,
-        Row::IsStage(wanted) => shell.get(1).and_then(XdgSurface::stage) == Some(wanted),
-        Row::HasGeometry(wanted) => { shell.get(1).and_then(XdgSurface::window_geometry) == wanted }
+        Row::IsStage(wanted) => is_stage(shell, wanted),
+        Row::HasGeometry(wanted) => geometry(shell) == wanted,
         Row::IsThere(wanted) => shell.get(1).is_some() == wanted,
         Row::HasTheFirst => has_the_first(shell),
         _ => false,
@@ -231,7 +266,7 @@ fn shells_are_as_worked(rt: HostRuntime) {
 // Makes xdg_surfaces up to the first that is refused for want of memory: how many were made. None where another error comes.
 fn made<A: Allocator + Copy>(shell: &mut Shell<A>) -> Option<usize> {
     for surface in 0..1000_usize {
-        match shell.get_xdg_surface(surface, surface as u32, 10, false, false) {
+        match get_xdg_surface(shell, surface, surface as u32, false, false) {
             Ok(()) => {}
             Err(ShellError::Memory) => return Some(surface),
             Err(_) => return None,
@@ -247,14 +282,14 @@ fn has_only<A: Allocator + Copy>(shell: &mut Shell<A>, made: usize) -> bool {
             return false;
         }
     }
-    shell.get_xdg_surface(made, 9, 10, false, false) == Err(ShellError::Memory)
+    get_xdg_surface(shell, made, 9, false, false) == Err(ShellError::Memory)
         && shell.get(made).is_none()
 }
 
 // Whether surface 0 is still served where no memory is left.
 fn is_served<A: Allocator + Copy>(shell: &mut Shell<A>) -> bool {
-    shell.get_toplevel(0, 9, false) == Ok(())
-        && is_act(shell, 0, false, 1, ShellAct::Configure(None))
+    get_toplevel(shell, 0, 9, false) == Ok(())
+        && commit(shell, 0, false, 1) == Ok(ShellAct::Configure(None))
 }
 
 // Whether xdg_surfaces are made up to a refusal, and those stay.

@@ -1,8 +1,9 @@
+use crate::calls::{attach, commit, create, damage, destroy, set_input, set_opaque};
 use crate::surface_cases::{CASES, NO_SURFACE};
 use std::alloc::{Allocator, Global};
 use test_support::Refusing;
 use wl_geom::{Rect, Region};
-use wl_store::{Transform, layout};
+use wl_store::Transform;
 use wl_surface::{
     Applied, Attached, BufferNo, MAX_SURFACES, Offset, Role, SurfaceError, SurfaceNo, Surfaces,
 };
@@ -13,25 +14,6 @@ const FOUR_BY_FOUR: Rect = Rect {
     w: 4,
     h: 4,
 };
-
-// Attaches a buffer of 5 by 8 pixels at an offset.
-fn attach<A: Allocator + Copy>(
-    surfaces: &mut Surfaces<A>,
-    surface: SurfaceNo,
-    number: BufferNo,
-    x: i32,
-    y: i32,
-) {
-    if let Ok(layout) = layout(160, 0, 5, 8, 20, 1) {
-        let buffer = Attached {
-            number,
-            object: 90,
-            store: 1,
-            layout,
-        };
-        surfaces.attach(surface, Some(buffer), x, y);
-    }
-}
 
 fn attaches<A: Allocator + Copy>(
     surfaces: &mut Surfaces<A>,
@@ -100,19 +82,6 @@ fn takes_input<A: Allocator>(surfaces: &Surfaces<A>, x: i32, y: i32) -> bool {
     }
 }
 
-// Whether a commit is refused for want of memory.
-fn cannot_commit<A: Allocator + Copy>(surfaces: &mut Surfaces<A>) -> bool {
-    match surfaces.commit(0) {
-        Ok(_) => false,
-        Err(error) => error == SurfaceError::Memory,
-    }
-}
-
-// Whether a commit was done. What it tells is looked at in `a_commit_tells_what_it_changes`.
-fn commits<A: Allocator + Copy>(surfaces: &mut Surfaces<A>, surface: SurfaceNo) -> bool {
-    surfaces.commit(surface).is_ok()
-}
-
 fn has_no_size<A: Allocator>(surfaces: &Surfaces<A>) -> bool {
     match surfaces.current(0) {
         Some(current) => current.buffer.is_none() && current.w == 0 && current.h == 0,
@@ -156,7 +125,7 @@ fn tells<A: Allocator>(
 // Attaches at this offset, commits, and says whether the surface is at that place then.
 fn moves<A: Allocator + Copy>(surfaces: &mut Surfaces<A>, by: (i32, i32), x: i32, y: i32) -> bool {
     attach(surfaces, 0, 7, by.0, by.1);
-    commits(surfaces, 0) && is_at(surfaces, 0, x, y)
+    commit(surfaces, 0) == Ok(()) && is_at(surfaces, 0, x, y)
 }
 
 fn has_form<A: Allocator>(surfaces: &Surfaces<A>, transform: Transform, w: u32, h: u32) -> bool {
@@ -167,7 +136,7 @@ fn has_form<A: Allocator>(surfaces: &Surfaces<A>, transform: Transform, w: u32, 
 }
 
 fn sets_both<A: Allocator + Copy>(surfaces: &mut Surfaces<A>, region: Option<&Region<A>>) -> bool {
-    surfaces.set_opaque(0, region) == Ok(()) && surfaces.set_input(0, region) == Ok(())
+    set_opaque(surfaces, region) == Ok(()) && set_input(surfaces, region) == Ok(())
 }
 
 // Before a commit nothing is opaque, and input is taken everywhere.
@@ -183,21 +152,21 @@ fn is_four_by_four<A: Allocator>(surfaces: &Surfaces<A>) -> bool {
 }
 
 fn has_counted(surfaces: &mut Surfaces<Global>, region: &mut Region<Global>) -> bool {
-    surfaces.create() == Ok(0)
+    create(surfaces) == Ok(0)
         && region.add(FOUR_BY_FOUR) == Ok(())
         && is_unset(surfaces)
         && sets_both(surfaces, Some(region))
         && region.subtract(FOUR_BY_FOUR) == Ok(())
         && is_unset(surfaces)
-        && commits(surfaces, 0)
+        && commit(surfaces, 0) == Ok(())
         && is_four_by_four(surfaces)
-        && commits(surfaces, 0)
+        && commit(surfaces, 0) == Ok(())
         && is_four_by_four(surfaces)
 }
 
 fn creates_256<A: Allocator + Copy>(surfaces: &mut Surfaces<A>) -> bool {
     for number in 0..256_usize {
-        if surfaces.create() != Ok(number) {
+        if create(surfaces) != Ok(number) {
             return false;
         }
     }
@@ -260,14 +229,14 @@ pub(crate) enum Row<'a> {
 // Does what a row says, and tells whether it is as wanted.
 fn is_met<A: Allocator + Copy>(surfaces: &mut Surfaces<A>, row: &Row) -> bool {
     match *row {
-        Row::Creates(wanted) => surfaces.create() == wanted,
+        Row::Creates(wanted) => create(surfaces) == wanted,
         Row::Creates256 => creates_256(surfaces),
         Row::Attaches(surface, buffer, x, y) => attaches(surfaces, surface, buffer, x, y),
         Row::Detaches(x, y) => detaches(surfaces, x, y),
-        Row::Commits(surface) => commits(surfaces, surface),
-        Row::CannotCommit => cannot_commit(surfaces),
-        Row::Destroys(surface) => surfaces.destroy(surface).is_ok(),
-        Row::Damages => surfaces.damage(0, FOUR_BY_FOUR) == Ok(()),
+        Row::Commits(surface) => commit(surfaces, surface) == Ok(()),
+        Row::CannotCommit => commit(surfaces, 0) == Err(SurfaceError::Memory),
+        Row::Destroys(surface) => destroy(surfaces, surface) == Ok(()),
+        Row::Damages => damage(surfaces, FOUR_BY_FOUR) == Ok(()),
         Row::CommitTells(whole, rects, freed) => tells(surfaces.commit(0), whole, rects, freed),
         Row::DestroyTells(whole, rects, freed) => tells(surfaces.destroy(0), whole, rects, freed),
         Row::Turns(number, wanted) => surfaces.set_transform(0, number) == wanted,
@@ -309,8 +278,8 @@ fn are_met<A: Allocator + Copy>(surfaces: &mut Surfaces<A>, rows: &[Row]) -> boo
 // Does what a row says of no region, or of anything else.
 fn is_met_or_unset(surfaces: &mut Surfaces<Global>, row: &Row) -> bool {
     match *row {
-        Row::UnsetsOpaque => surfaces.set_opaque(0, None) == Ok(()),
-        Row::UnsetsInput => surfaces.set_input(0, None) == Ok(()),
+        Row::UnsetsOpaque => set_opaque(surfaces, None) == Ok(()),
+        Row::UnsetsInput => set_input(surfaces, None) == Ok(()),
         _ => is_met(surfaces, row),
     }
 }
@@ -402,7 +371,7 @@ const COMMITTED: &[Row] = &[
 // Makes surfaces up to the first that is refused for want of memory: how many were made. None where another error comes.
 fn made<A: Allocator + Copy>(surfaces: &mut Surfaces<A>) -> Option<SurfaceNo> {
     for number in 0..256_usize {
-        match surfaces.create() {
+        match create(surfaces) {
             Ok(made) if made == number => {}
             Err(SurfaceError::Memory) => return Some(number),
             _ => return None,
@@ -418,15 +387,12 @@ fn has_only<A: Allocator + Copy>(surfaces: &mut Surfaces<A>, made: SurfaceNo) ->
             return false;
         }
     }
-    surfaces.create() == Err(SurfaceError::Memory) && surfaces.current(made).is_none()
+    create(surfaces) == Err(SurfaceError::Memory) && surfaces.current(made).is_none()
 }
 
 // Whether surface 0 stays where there is no memory to destroy it.
 fn cannot_be_destroyed<A: Allocator + Copy>(surfaces: &mut Surfaces<A>) -> bool {
-    match surfaces.destroy(0) {
-        Ok(_) => false,
-        Err(error) => error == SurfaceError::Memory && surfaces.current(0).is_some(),
-    }
+    destroy(surfaces, 0) == Err(SurfaceError::Memory) && surfaces.current(0).is_some()
 }
 
 // Whether surfaces are made up to a refusal, and those stay.
@@ -460,19 +426,19 @@ fn a_surface_without_memory_is_not_made(rt: HostRuntime) {
 // Makes a surface, attaches buffer 7 at (1, 2), damages and commits, up to the first call that is refused for want of memory: how many of the three
 // that take memory were done. None where a call answers what it can't.
 fn done_before_a_refusal<A: Allocator + Copy>(surfaces: &mut Surfaces<A>) -> Option<u32> {
-    match surfaces.create() {
+    match create(surfaces) {
         Ok(0) => {}
         Err(SurfaceError::Memory) => return Some(0),
         _ => return None,
     }
     attach(surfaces, 0, 7, 1, 2);
-    match surfaces.damage(0, FOUR_BY_FOUR) {
+    match damage(surfaces, FOUR_BY_FOUR) {
         Ok(()) => {}
         Err(SurfaceError::Memory) => return Some(1),
         Err(_) => return None,
     }
-    match surfaces.commit(0) {
-        Ok(_) => Some(3),
+    match commit(surfaces, 0) {
+        Ok(()) => Some(3),
         Err(SurfaceError::Memory) => Some(2),
         Err(_) => None,
     }
@@ -517,7 +483,7 @@ fn damage_and_commit_without_memory(rt: HostRuntime) {
 
 fn damages<A: Allocator + Copy>(surfaces: &mut Surfaces<A>, times: u32) -> bool {
     for _ in 0..times {
-        if surfaces.damage(0, FOUR_BY_FOUR) != Ok(()) {
+        if damage(surfaces, FOUR_BY_FOUR) != Ok(()) {
             return false;
         }
     }
@@ -528,11 +494,11 @@ fn takes_no_more_memory<A: Allocator + Copy, B: Allocator>(
     surfaces: &mut Surfaces<A>,
     heap: &Refusing<B>,
 ) -> bool {
-    if surfaces.create() != Ok(0) || !damages(surfaces, 1025) {
+    if create(surfaces) != Ok(0) || !damages(surfaces, 1025) {
         return false;
     }
     let served = heap.served();
-    damages(surfaces, 9000) && heap.served() == served && commits(surfaces, 0)
+    damages(surfaces, 9000) && heap.served() == served && commit(surfaces, 0) == Ok(())
 }
 
 // More than 1,025 rectangles aren't kept: they take no memory, neither pending nor held.
@@ -545,12 +511,12 @@ fn damage_without_end(rt: HostRuntime) {
 
 // Sets both regions, up to the first that is refused for want of memory: how many were set. None where a call answers what it can't.
 fn set_both<A: Allocator + Copy>(surfaces: &mut Surfaces<A>, region: &Region<A>) -> Option<u32> {
-    match surfaces.set_opaque(0, Some(region)) {
+    match set_opaque(surfaces, Some(region)) {
         Ok(()) => {}
         Err(SurfaceError::Memory) => return Some(0),
         Err(_) => return None,
     }
-    match surfaces.set_input(0, Some(region)) {
+    match set_input(surfaces, Some(region)) {
         Ok(()) => Some(2),
         Err(SurfaceError::Memory) => Some(1),
         Err(_) => None,
@@ -567,7 +533,7 @@ fn sets_and_commits<A: Allocator + Copy, B: Allocator>(
     if heap.refused() != (set < 2) {
         return None;
     }
-    if set == 2 && commits(surfaces, 0) {
+    if set == 2 && commit(surfaces, 0) == Ok(()) {
         Some(3)
     } else {
         Some(set)
@@ -580,7 +546,7 @@ fn sets_a_region<A: Allocator + Copy, B: Allocator>(
     region: &mut Region<A>,
     heap: &Refusing<B>,
 ) -> Option<u32> {
-    if surfaces.create().is_err() || region.add(FOUR_BY_FOUR).is_err() {
+    if create(surfaces).is_err() || region.add(FOUR_BY_FOUR).is_err() {
         return Some(2);
     }
     let set = sets_and_commits(surfaces, region, heap)?;

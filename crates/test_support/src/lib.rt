@@ -10,6 +10,3 @@ mod writer;
 pub use reader::FaultyReader;
 pub use refusing::Refusing;
 pub use writer::FaultyWriter;
-
-#[cfg(test)]
-mod tests;
