@@ -2,7 +2,7 @@ use std::alloc::Allocator;
 use test_support::Refusing;
 use wl_children::{Member, Placed};
 use wl_geom::Rect;
-use wl_linked::{Applied, Attached, BufferNo, Linked, Role, SurfaceError, SurfaceNo};
+use wl_linked::{Attached, BufferNo, Linked, Role, SurfaceError, SurfaceNo, Told};
 use wl_store::layout;
 
 const ROOT: SurfaceNo = 0;
@@ -71,16 +71,28 @@ fn shown<A: Allocator>(linked: &Linked<A>, surface: SurfaceNo) -> Option<BufferN
 
 // Whether an answer tells just this: of each of these surfaces, in this order, so many rectangles, and that these buffers are freed.
 fn tells<A: Allocator>(
-    answer: Result<Applied<A>, SurfaceError>,
+    answer: Result<Told<A>, SurfaceError>,
     wanted: &[(SurfaceNo, usize)],
     freed: &[BufferNo],
 ) -> bool {
     match answer {
-        Ok(applied) => {
+        Ok(Told { applied, .. }) => {
             applied.changes.len() == wanted.len()
                 && applied.changes.iter().zip(wanted).all(|(change, row)| change.surface == row.0
                     && change.rects.len() == row.1)
                 && applied.freed.as_slice() == freed
+        }
+        Err(_) => false,
+    }
+}
+
+// Whether an answer tells that just these buffers were shown, in this order, each as it was attached.
+fn tells_shown<A: Allocator>(answer: Result<Told<A>, SurfaceError>, wanted: &[BufferNo]) -> bool {
+    match answer {
+        Ok(told) => {
+            told.shown.len() == wanted.len()
+                && told.shown.iter().zip(wanted).all(|(buffer, number)| buffer.number == *number
+                    && buffer.object == 90)
         }
         Err(_) => false,
     }
@@ -153,6 +165,25 @@ fn a_link_ends(rt: HostRuntime) {
     assert!(rt; linked.family.link(CHILD).is_none() && shown(&linked, CHILD) == Some(20));
 }
 
+// wl_buffer.release: what surfaces had applied and held before is told of those that a call applies, holds or ends, and of no others.
+#[test]
+fn what_was_shown_is_told(rt: HostRuntime) {
+    let mut linked = Linked::new(rt.alloc());
+    assert!(rt; has_child(&mut linked));
+    attach(&mut linked, CHILD, 19);
+    assert!(rt; tells_shown(linked.commit(CHILD), &[18, 18]));
+    attach(&mut linked, CHILD, 20);
+    assert!(rt; tells_shown(linked.commit(CHILD), &[18, 19]));
+    attach(&mut linked, ROOT, 11);
+    assert!(rt; tells_shown(linked.commit(ROOT), &[10, 10, 18, 20]));
+    assert!(rt; tells_shown(linked.set_desync(CHILD), &[20, 20]));
+    assert!(rt; tells_shown(linked.set_desync(CHILD), &[]));
+    assert!(rt; tells_shown(linked.remove_subsurface(CHILD), &[20, 20]));
+    assert!(rt; tells_shown(linked.remove_subsurface(CHILD), &[]));
+    assert!(rt; tells_shown(linked.destroy(ROOT), &[11, 11]));
+    assert!(rt; tells_shown(linked.destroy(ROOT), &[]));
+}
+
 // The order of a surface and its children counts once the parent is committed.
 #[test]
 fn children_are_placed(rt: HostRuntime) {
@@ -191,7 +222,7 @@ fn links_are_refused(rt: HostRuntime) {
 // What a commit of the window and of its child tells, the window's first: None where there was no memory for it.
 fn committed<A: Allocator + Copy>(linked: &mut Linked<A>, surface: SurfaceNo) -> Option<usize> {
     match linked.commit(surface) {
-        Ok(applied) => Some(applied.changes.len()),
+        Ok(told) => Some(told.applied.changes.len()),
         Err(_) => None,
     }
 }

@@ -31,6 +31,7 @@ use crate::residents::{Outcome, Resident, Stacking};
 use std::alloc::Allocator;
 use wl_client::{ErrorCode, Refusal};
 use wl_geom::Rect;
+use wl_linked::Told;
 use wl_proto::{Interface, WlSurfaceRequest};
 use wl_shell::ShellAct;
 use wl_surface::{Applied, Attached, SurfaceNo};
@@ -159,7 +160,7 @@ impl<A: Allocator + Copy> Resident<A> {
         ensures still { kept_of self.old.owned.shell surface ≡ None → IsStill self.old self.new }
     {
         let had = self.owned.linked.surfaces.buffers(surface);
-        let Ok(applied) = self.owned.linked.destroy(surface) else {
+        let Ok(Told { applied, .. }) = self.owned.linked.destroy(surface) else {
             self.client.lack_memory();
             return;
         };
@@ -265,7 +266,7 @@ impl<A: Allocator + Copy> Resident<A> {
         ensures rest { length self.new.client.rest ≤ length self.old.client.rest }
     {
         let had = self.owned.linked.surfaces.buffers(surface);
-        let Ok(applied) = self.owned.linked.commit(surface) else {
+        let Ok(Told { applied, .. }) = self.owned.linked.commit(surface) else {
             self.client.lack_memory();
             return None;
         };
