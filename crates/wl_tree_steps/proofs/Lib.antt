@@ -1,14 +1,14 @@
-mod Coming
-mod Commits
-mod Damage
-mod Descents
-mod Distinct
-mod Ends
-mod Fewer
-mod Modes
-mod Others
-mod Owners
-mod Reading
-mod Rows
-mod Standing
-mod Staying
+pub mod Coming
+pub mod Commits
+pub mod Damage
+pub mod Descents
+pub mod Distinct
+pub mod Ends
+pub mod Fewer
+pub mod Modes
+pub mod Others
+pub mod Owners
+pub mod Reading
+pub mod Rows
+pub mod Standing
+pub mod Staying
