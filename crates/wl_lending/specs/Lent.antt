@@ -1,0 +1,52 @@
+-- The windows of the output, as they are lent to be painted.
+use Rattle.std.specs.Prelude.{ℕ, List, Option, Some, None, map}
+use Rattle.std.specs.Option.{option_map}
+use Rattle.wl_geom.specs.Region.{Area}
+use Rattle.wl_store.specs.Picture.{Shown, transparent}
+use Rattle.wl_store.specs.Stores.{picture_turned}
+use Rattle.wl_store.specs.declared.transform.Transform.{Transform}
+use Rattle.wl_state.specs.Kept.{Counting, counting_of}
+use Rattle.wl_state.specs.declared.content.Attached.{Attached}
+use Rattle.wl_surface.specs.Slots.{Slots, kept_at, no_slots}
+use Rattle.wl_client.specs.View.{ClientView}
+use Rattle.wl_paint.specs.Window.{Window}
+use Rattle.wl_windows.specs.declared.window.TreeWindow.{TreeWindow}
+use Rattle.wl_stacked.specs.declared.stacked.Stacked.{Stacked}
+
+-- what is kept of a client's surfaces: nothing, where nothing is lent
+abbrev pub slots_or_none : Option Slots → Slots
+slots_or_none None = no_slots
+slots_or_none (Some slots) = slots
+
+-- the picture of a buffer of a client's, turned so: none where the client, the buffer or its store isn't there, or it passes the store's
+-- end
+abbrev pub picture_shown : Option ClientView → Transform → Option Attached → Option Shown
+picture_shown None transform buffer = None
+picture_shown (Some client) transform None = None
+picture_shown (Some client) transform (Some a) = picture_turned a.store a.layout transform client.stores
+
+abbrev pub or_transparent : Option Shown → Shown
+or_transparent None = transparent
+or_transparent (Some picture) = picture
+
+-- The window that is lent of one of a tree: what counts of its surface, at the window's corner. Where there is no picture, it is one pixel
+-- that leaves what is below it as it is; where there is no surface, nothing of that is said to be opaque (wayland.xml,
+-- wl_surface.set_opaque_region).
+abbrev pub window_kept : Option ClientView → Area → TreeWindow → Option Counting → Window
+window_kept client nowhere window None = record { x = window.x; y = window.y; picture = transparent; opaque = nowhere }
+window_kept client nowhere window (Some k) =
+    record {
+      x = window.x;
+      y = window.y;
+      picture = or_transparent (picture_shown client k.transform k.buffer);
+      opaque = k.opaque;
+    }
+
+-- that of a window of the output, by the clients and what is kept of their surfaces
+abbrev pub window_lent : (ℕ → Option ClientView) → (ℕ → Slots) → Area → Stacked → Window
+window_lent clients slots nowhere s =
+    window_kept (clients s.client) nowhere s.window (option_map counting_of (kept_at (slots s.client) s.window.surface))
+
+-- those of all windows of the output, from the bottom
+abbrev pub windows_lent : (ℕ → Option ClientView) → (ℕ → Slots) → Area → List Stacked → List Window
+windows_lent clients slots nowhere stacked = map (window_lent clients slots nowhere) stacked

@@ -1,0 +1,4 @@
+pub mod Lent
+pub mod Painting
+pub mod Stacked
+pub mod StackedLaws

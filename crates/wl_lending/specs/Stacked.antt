@@ -1,0 +1,47 @@
+-- Which windows of the desktop those stand for that are kept of the output.
+use Rattle.std.specs.Prelude.{ℕ, ◌≡◌, ◌==◌, ◌&&◌, Bool, List, [], ◌∷◌, Some}
+use Rattle.std.specs.List.{All}
+use Rattle.wl_peer.specs.Objects.{ById}
+use Rattle.wl_scene.specs.Windows.{Window}
+use Rattle.wl_windows.specs.Windows.{told_of}
+use Rattle.wl_windows.specs.declared.window.TreeWindow.{TreeWindow}
+use Rattle.wl_stacked.specs.declared.stacked.Stacked.{Stacked}
+
+-- ---- names
+
+-- what is told of a window whose surface goes by this number
+abbrev pub told_as : ℕ → Window → TreeWindow
+told_as number w = record (told_of w) { surface = number }
+
+-- the same by the numbers of the surfaces
+abbrev pub told_by : (ℕ → ℕ) → Window → TreeWindow
+told_by f w = told_as (f w.surface) w
+
+-- no number is that of two surfaces
+abbrev pub AreNumberedOnce : ById ℕ → Type 0
+AreNumberedOnce numbers = (a b number : ℕ) → numbers a ≡ Some number → numbers b ≡ Some number → a ≡ b
+
+-- the surface of each window has this number
+abbrev pub AreNumberedBy : ById ℕ → (ℕ → ℕ) → List Window → Type 0
+AreNumberedBy numbers f ws = All (λ w. numbers w.surface ≡ Some (f w.surface)) ws
+
+-- ---- windows
+
+-- the root of the window's tree is this surface of this client
+abbrev pub has_root : ℕ → ℕ → Window → Bool
+has_root client root w = (client == w.owner.client) && (root == w.owner.root)
+
+-- A window that is kept stands for one of the desktop: both are of one client, the root of its tree and its surface go by their numbers,
+-- and it tells where the window stands, how large it is, and how its buffer is turned (wayland.xml, wl_surface.set_buffer_transform).
+pub record IsStacked (numbers : ℕ → ById ℕ) (s : Stacked) (w : Window) : Type 0 where
+  pub client : s.client ≡ w.owner.client
+  pub root : numbers s.client w.owner.root ≡ Some s.root
+  pub surface : numbers s.client w.surface ≡ Some s.window.surface
+  pub told : s.window ≡ told_as s.window.surface w
+
+-- so do all of them, one by one from the bottom
+abbrev pub AreStacked : (ℕ → ById ℕ) → List Stacked → List Window → Type 0
+AreStacked numbers [] [] = Unit {0}
+AreStacked numbers (s ∷ ss) (w ∷ ws) = IsStacked numbers s w × AreStacked numbers ss ws
+AreStacked numbers [] (w ∷ ws) = ⊥
+AreStacked numbers (s ∷ ss) [] = ⊥

@@ -1,0 +1,58 @@
+//! How what is kept of the windows of the output goes on standing for those of the desktop.
+
+ghost use Rattle.wl_lending.specs.StackedLaws.{BothAreStacked, FirstAreStacked, StackedAreTold, StackedClientGone, StackedPushed, StackedRemoved, StackedRenumbered, StackedReplaced, StackedTreeGone, TreeIsStacked, TreeIsThere};
+
+/// Of what stands for windows one above another, the first stand for the first and the others for the others.
+pub fn first_are_stacked()
+    ensures { FirstAreStacked }
+{}
+
+/// One above another, what stands for these windows and what stands for those stand for both.
+pub fn both_are_stacked()
+    ensures { BothAreStacked }
+{}
+
+/// What stands for windows stands for them by other numbers that are the same for their roots and surfaces.
+pub fn stacked_renumbered()
+    ensures { StackedRenumbered }
+{}
+
+/// A window of a tree is kept where the desktop has one.
+pub fn tree_is_there()
+    ensures { TreeIsThere }
+{}
+
+/// What is kept of the windows of a tree stands for them.
+pub fn tree_is_stacked()
+    ensures { TreeIsStacked }
+{}
+
+/// What is kept of a client's windows tells them by the numbers of their surfaces.
+pub fn stacked_are_told()
+    ensures { StackedAreTold }
+{}
+
+/// It goes on standing for the windows where others of a tree come to its place.
+pub fn stacked_replaced()
+    ensures { StackedReplaced }
+{}
+
+/// It does where the windows of a tree come on top.
+pub fn stacked_pushed()
+    ensures { StackedPushed }
+{}
+
+/// It does where the windows of a tree go.
+pub fn stacked_removed()
+    ensures { StackedRemoved }
+{}
+
+/// It stands for those below a tree and above it where the tree's go.
+pub fn stacked_tree_gone()
+    ensures { StackedTreeGone }
+{}
+
+/// It goes on standing for the windows where those of a client go.
+pub fn stacked_client_gone()
+    ensures { StackedClientGone }
+{}

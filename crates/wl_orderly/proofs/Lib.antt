@@ -1,0 +1,9 @@
+pub mod Children
+pub mod Clients
+pub mod Desktops
+pub mod Judged
+pub mod Kept
+pub mod Steps
+pub mod Subsurfaces
+pub mod Told
+pub mod Whole
