@@ -1,0 +1,14 @@
+mod Demands
+mod Empty
+mod Fresh
+mod Kept
+mod Links
+mod Marks
+mod Messages
+mod Named
+mod Naming
+mod Rows
+mod Shown
+mod Stacks
+mod There
+mod Tree
