@@ -1,8 +1,11 @@
 -- Whatever is done to a client's surfaces and to their links, their ids stay, but for one that comes or goes.
 use Rattle.std.proofs.Common.{◌≡◌, ℕ, zero, suc, Bool, true, false, List, [], ◌∷◌, Option, Some, None, cond, length, map, refl, ap, sym, ◌∙◌}
 use Rattle.std.specs.Prelude.{◌==◌, ◌&&◌, ◌||◌, find, is_some, not, filter, fold}
+use Rattle.std.proofs.lemmas.Grind.{flat_map-append}
+use Rattle.std.proofs.lemmas.List.{append-nil}
 use Rattle.wl_state.specs.declared.role.Role.TheVariants.{Subsurface}
 use Rattle.wl_state.specs.Request.{AddChild, Buffer, Commit}
+use Rattle.wl_state.specs.Frames.{frames_of}
 use Rattle.wl_state.specs.State.{Values, pending}
 use Rattle.wl_state.specs.Surface.{Surface, applying, asking, with_role}
 use Rattle.wl_surface.specs.Surfaces.{Link, Surfaces, link_at, surface_at, with_change}
@@ -145,6 +148,25 @@ ids-unlinked link all = keys-unlinked id_of (λ s. refl) link all
 pub ids-without-links : (surface : ℕ) (all : Surfaces) → HasSameIds all (fold ended_in all (links_with surface all))
 ids-without-links surface all = keys-without-links id_of (λ s. refl) surface all
 
+-- what is read of the one of an id
+found-key : {X : Type 0} (key : Surface → X) (named : X → ℕ) → ((s : Surface) → named (key s) ≡ s.id) → (id : ℕ) (xs ys : List Surface) → map key ys ≡ map key xs → (s : Surface)
+    → find (has_id id) xs ≡ Some s → (t : Surface) × (find (has_id id) ys ≡ Some t) × (key t ≡ key s)
+found-key key named reads id [] ys same s found = absurd (cc)
+found-key key named reads id (x ∷ xs) [] same s found = absurd (cc)
+found-key {X} key named reads id (x ∷ xs) (y ∷ ys) same s found =
+    let first : key y ≡ key x = cc in
+    let rest : map key ys ≡ map key xs = cc in
+    at (x.id == id) refl found first (found-key key named reads id xs ys rest s)
+  where
+    at : (b : Bool) → (x.id == id) ≡ b → cond b (Some x) (find (has_id id) xs) ≡ Some s → key y ≡ key x
+        → (find (has_id id) xs ≡ Some s → (t : Surface) × (find (has_id id) ys ≡ Some t) × (key t ≡ key s))
+        → (t : Surface) × (cond (y.id == id) (Some y) (find (has_id id) ys) ≡ Some t) × (key t ≡ key s)
+    at true here e first later =
+        (y, ap (λ b. cond b (Some y) (find (has_id id) ys)) (ap (λ i. i == id) (sym (reads y) ∙ ap named first ∙ reads x) ∙ here), first ∙ ap key (some-same x s e))
+    at false here e first later =
+        let it = later e in
+        (it.0, ap (λ b. cond b (Some y) (find (has_id id) ys)) (ap (λ i. i == id) (sym (reads y) ∙ ap named first ∙ reads x) ∙ here) ∙ it.1, it.2)
+
 -- ---- pending buffers
 
 -- the id of a surface and its pending buffer
@@ -170,25 +192,39 @@ pub waits-without-links : (surface : ℕ) (all : Surfaces) → KeepsWaiting all 
 waits-without-links surface all = keys-without-links waiting (λ s. refl) surface all
 
 -- so the one of an id has the pending buffer that it had
-found-waiting : (id : ℕ) (xs ys : List Surface) → map waiting ys ≡ map waiting xs → (s : Surface) → find (has_id id) xs ≡ Some s → (t : Surface) × (find (has_id id) ys ≡ Some t) × (waiting t ≡ waiting s)
-found-waiting id [] ys same s found = absurd (cc)
-found-waiting id (x ∷ xs) [] same s found = absurd (cc)
-found-waiting id (x ∷ xs) (y ∷ ys) same s found =
-    let first : waiting y ≡ waiting x = cc in
-    let rest : map waiting ys ≡ map waiting xs = cc in
-    at (x.id == id) refl found first (found-waiting id xs ys rest s)
-  where
-    at : (b : Bool) → (x.id == id) ≡ b → cond b (Some x) (find (has_id id) xs) ≡ Some s → waiting y ≡ waiting x
-        → (find (has_id id) xs ≡ Some s → (t : Surface) × (find (has_id id) ys ≡ Some t) × (waiting t ≡ waiting s))
-        → (t : Surface) × (cond (y.id == id) (Some y) (find (has_id id) ys) ≡ Some t) × (waiting t ≡ waiting s)
-    at true here e first later =
-        (y, ap (λ b. cond b (Some y) (find (has_id id) ys)) (ap (λ (w : ℕ × Option Buffer). w.0 == id) first ∙ here), first ∙ ap waiting (some-same x s e))
-    at false here e first later =
-        let it = later e in
-        (it.0, ap (λ b. cond b (Some y) (find (has_id id) ys)) (ap (λ (w : ℕ × Option Buffer). w.0 == id) first ∙ here) ∙ it.1, it.2)
-
 pub same-waiting : (all new : Surfaces) → KeepsWaiting all new → (id : ℕ) (s : Surface) → surface_at id all ≡ Some s
     → (t : Surface) × (surface_at id new ≡ Some t) × ((pending t.history).buffer ≡ (pending s.history).buffer)
 same-waiting all new same id s found =
-    let it = found-waiting id all.surfaces new.surfaces same s found in
+    let it = found-key waiting (λ w. w.0) (λ s. refl) id all.surfaces new.surfaces same s found in
     (it.0, it.1, ap (λ (w : ℕ × Option Buffer). w.1) it.2)
+
+-- ---- frames
+
+-- the id of a surface and the frames that were asked of it
+abbrev pub framing : Surface → ℕ × List ℕ
+framing s = (s.id, frames_of s.history.requests)
+
+abbrev pub KeepsFraming : Surfaces → Surfaces → Type 0
+KeepsFraming all new = map framing new.surfaces ≡ map framing all.surfaces
+
+commit-frames : (s : Surface) → framing (asking Commit s) ≡ framing s
+commit-frames s = ap (λ ns. (s.id, ns)) (flat_map-append _ s.history.requests (Commit ∷ []) ∙ append-nil (frames_of s.history.requests))
+
+pub frames-committed : (surface : ℕ) (all : Surfaces) → KeepsFraming all (committed_in surface all)
+frames-committed surface all = keys-committed framing (λ s. refl) commit-frames surface all
+
+pub frames-desynchronised : (number : ℕ) (all : Surfaces) → KeepsFraming all (desynchronised_in number all)
+frames-desynchronised number all = keys-desynchronised framing (λ s. refl) number all
+
+pub frames-unlinked : (link : Option ℕ) (all : Surfaces) → KeepsFraming all (unlinked_at link all)
+frames-unlinked link all = keys-unlinked framing (λ s. refl) link all
+
+pub frames-without-links : (surface : ℕ) (all : Surfaces) → KeepsFraming all (fold ended_in all (links_with surface all))
+frames-without-links surface all = keys-without-links framing (λ s. refl) surface all
+
+-- so the one of an id was asked for the frames that it was asked for
+pub same-framing : (all new : Surfaces) → KeepsFraming all new → (id : ℕ) (t : Surface) → surface_at id new ≡ Some t
+    → (s : Surface) × (surface_at id all ≡ Some s) × (frames_of s.history.requests ≡ frames_of t.history.requests)
+same-framing all new same id t found =
+    let it = found-key framing (λ w. w.0) (λ s. refl) id new.surfaces all.surfaces (sym same) t found in
+    (it.0, it.1, ap (λ (w : ℕ × List ℕ). w.1) it.2)
