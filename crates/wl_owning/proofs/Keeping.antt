@@ -15,3 +15,4 @@ pub mod OwningTrees
 pub mod OwningXdg
 pub mod Releases
 pub mod Roots
+pub mod Trees

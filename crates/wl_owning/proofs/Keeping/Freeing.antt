@@ -43,7 +43,7 @@ pub any-counted : {X : Type 0} (p : X → Bool) (xs : List X) (b : Bool) → cou
 any-counted p xs b e = any-kept p xs b (length-filter p xs ∙ e)
 
 -- an element of one of two lists
-left-in : {X : Type 0} (xs ys : List X) (x : X) → Contains xs x → Contains (xs ++ ys) x
+pub left-in : {X : Type 0} (xs ys : List X) (x : X) → Contains xs x → Contains (xs ++ ys) x
 left-in [] ys x c = let none : c.0 < 0 = c.1 in absurd (omega arith)
 left-in {X} (z ∷ xs) ys x c = at c.0 c.1 c.2 (λ inner. left-in xs ys x inner)
   where
@@ -51,11 +51,11 @@ left-in {X} (z ∷ xs) ys x c = at c.0 c.1 c.2 (λ inner. left-in xs ys x inner)
     at zero less here rest = subst (λ (y : X). Contains (z ∷ (xs ++ ys)) y) here (first-in z (xs ++ ys))
     at (suc k) less here rest = later-in z (xs ++ ys) x (rest (k, omega (arith, less), here))
 
-right-in : {X : Type 0} (xs ys : List X) (x : X) → Contains ys x → Contains (xs ++ ys) x
+pub right-in : {X : Type 0} (xs ys : List X) (x : X) → Contains ys x → Contains (xs ++ ys) x
 right-in [] ys x c = c
 right-in (z ∷ xs) ys x c = later-in z (xs ++ ys) x (right-in xs ys x c)
 
-either-in : {X : Type 0} (xs ys : List X) (x : X) → Contains (xs ++ ys) x → Contains xs x ⊎ Contains ys x
+pub either-in : {X : Type 0} (xs ys : List X) (x : X) → Contains (xs ++ ys) x → Contains xs x ⊎ Contains ys x
 either-in [] ys x c = inr c
 either-in {X} (z ∷ xs) ys x c = at c.0 c.1 c.2 (λ inner. either-in xs ys x inner)
   where
@@ -76,7 +76,7 @@ flat-in {X} {Y} f (x ∷ xs) y c = by (either-in (f x) (flat_map f xs) y c) (λ 
     by (inl here) rest = (x, first-in x xs, here)
     by (inr there) rest = let it = rest there in (it.0, later-in x xs it.0 it.1, it.2)
 
-in-flat : {X Y : Type 0} (f : X → List Y) (xs : List X) (x : X) (y : Y) → Contains xs x → Contains (f x) y → Contains (flat_map f xs) y
+pub in-flat : {X Y : Type 0} (f : X → List Y) (xs : List X) (x : X) (y : Y) → Contains xs x → Contains (f x) y → Contains (flat_map f xs) y
 in-flat f [] x y c d = let none : c.0 < 0 = c.1 in absurd (omega arith)
 in-flat {X} {Y} f (z ∷ xs) x y c d = at c.0 c.1 c.2 (λ inner. in-flat f xs x y inner d)
   where
@@ -92,7 +92,7 @@ listed-in (Some x) b c = at c.0 c.1 c.2
     at zero less here = ap Some here
     at (suc k) less here = absurd (omega (arith, less))
 
-found-in : {X : Type 0} (p : X → Bool) (xs : List X) (x : X) → find p xs ≡ Some x → Contains xs x
+pub found-in : {X : Type 0} (p : X → Bool) (xs : List X) (x : X) → find p xs ≡ Some x → Contains xs x
 found-in p [] x e = absurd (cc)
 found-in p (y ∷ ys) x e = at (p y) e (λ later. found-in p ys x later)
   where
