@@ -68,7 +68,7 @@ either-in {X} (z ∷ xs) ys x c = at c.0 c.1 c.2 (λ inner. either-in xs ys x in
     at (suc k) less here rest = by (rest (k, omega (arith, less), here))
 
 -- an element of a flattened list is one of an element's
-flat-in : {X Y : Type 0} (f : X → List Y) (xs : List X) (y : Y) → Contains (flat_map f xs) y → (x : X) × Contains xs x × Contains (f x) y
+pub flat-in : {X Y : Type 0} (f : X → List Y) (xs : List X) (y : Y) → Contains (flat_map f xs) y → (x : X) × Contains xs x × Contains (f x) y
 flat-in f [] y c = let none : c.0 < 0 = c.1 in absurd (omega arith)
 flat-in {X} {Y} f (x ∷ xs) y c = by (either-in (f x) (flat_map f xs) y c) (λ inner. flat-in f xs y inner)
   where
@@ -115,7 +115,7 @@ or-last false c e = e
 -- ---- the buffers that are looked at
 
 -- each of them was shown
-freed-in : (numbers : List ℕ) (shown : List Buffer) (b : Buffer) → Contains (freed_of numbers shown) b → Contains shown b × (list_any (λ n. n == b.number) numbers ≡ true)
+pub freed-in : (numbers : List ℕ) (shown : List Buffer) (b : Buffer) → Contains (freed_of numbers shown) b → Contains shown b × (list_any (λ n. n == b.number) numbers ≡ true)
 freed-in [] shown b c = let none : c.0 < 0 = c.1 in absurd (omega arith)
 freed-in (n ∷ ns) shown b c = by (either-in (listed (find (λ b. b.number == n) shown)) (freed_of ns shown) b c) (λ inner. freed-in ns shown b inner)
   where
@@ -129,7 +129,7 @@ freed-in (n ∷ ns) shown b c = by (either-in (listed (find (λ b. b.number == n
     by (inr there) rest = let it = rest there in (it.0, or-last (n == b.number) (list_any (λ m. m == b.number) ns) it.1)
 
 -- and one of each number that was shown is among them
-freed-has : (numbers : List ℕ) (shown : List Buffer) (number : ℕ) → list_any (λ n. n == number) numbers ≡ true → has_number number shown ≡ true → has_number number (freed_of numbers shown) ≡ true
+pub freed-has : (numbers : List ℕ) (shown : List Buffer) (number : ℕ) → list_any (λ n. n == number) numbers ≡ true → has_number number shown ≡ true → has_number number (freed_of numbers shown) ≡ true
 freed-has [] shown number any has = absurd (cc)
 freed-has (n ∷ ns) shown number any has = at (n == number) refl any (λ later. freed-has ns shown number later has)
   where
